@@ -1,0 +1,49 @@
+-- Jobs: operations in order, in branches of which the first open one is taken.
+use Rattle.std.specs.Prelude.{ℕ, Bool, true, not, nat_le, nat_lt, List, [], ◌∷◌, ◌++◌, Option, Some, None}
+use Rattle.std.specs.List.{find}
+use Rattle.dstm_model.specs.declared.op.Which.{Which}
+use Rattle.dstm_model.specs.declared.op.Cond.{Cond}
+use Rattle.dstm_model.specs.declared.op.Cond.TheVariants as cond
+use Rattle.dstm_model.specs.declared.op.Op.{Op}
+use Rattle.dstm_model.specs.declared.op.Op.TheVariants.{Await, OrElse}
+use Rattle.dstm_model.specs.declared.reply.Reply.{Reply}
+use Rattle.dstm_model.specs.Store.{Store, apply, balance_of, is_member}
+
+-- the replies of operations that are applied one after the other, and the store after them
+pub record JobOutcome : Type 0 where
+  pub replies : List Reply
+  pub store : Store
+
+abbrev pub apply_all : List Op → Store → JobOutcome
+apply_all [] store = record { replies = []; store = store }
+apply_all (op ∷ ops) store =
+    let rest = apply_all ops (apply op store).store in
+    record { replies = (apply op store).reply ∷ rest.replies; store = rest.store }
+
+-- an operation put in front of the first branch
+abbrev pub onto_first : Op → List (List Op) → List (List Op)
+onto_first op [] = (op ∷ []) ∷ []
+onto_first op (branch ∷ branches) = (op ∷ branch) ∷ branches
+
+-- the branches of a job: the pieces between its separators
+abbrev pub branches_of : List Op → List (List Op)
+branches_of [] = [] ∷ []
+branches_of (OrElse ∷ ops) = [] ∷ branches_of ops
+branches_of (op ∷ ops) = onto_first op (branches_of ops)
+
+abbrev pub holds_in : Cond → Store → Bool
+holds_in (cond.Balance account least) store = nat_le least (balance_of account store)
+holds_in (cond.Key w key) store = is_member w key store
+
+-- a branch is open if it does not begin with a condition, or with one that holds
+abbrev pub is_open : Store → List Op → Bool
+is_open store (Await c ∷ ops) = holds_in c store
+is_open store ops = true
+
+-- what a job does: what its first open branch does, or nothing where it is blocked
+abbrev pub run_branch : Option (List Op) → Store → Option JobOutcome
+run_branch None store = None
+run_branch (Some ops) store = Some (apply_all ops store)
+
+abbrev pub apply_job : List Op → Store → Option JobOutcome
+apply_job ops store = run_branch (find (is_open store) (branches_of ops)) store

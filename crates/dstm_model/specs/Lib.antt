@@ -1,0 +1,4 @@
+pub mod Map
+pub mod Layout
+pub mod Store
+pub mod Job

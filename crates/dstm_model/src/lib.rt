@@ -1,0 +1,24 @@
+//! What a transactional memory holds and what one thread would make of it: values, laws on maps,
+//! layouts, operations with their replies, and the plain store that every run is measured against.
+#![tactic(auto)]
+
+mod job;
+mod layout;
+mod op;
+mod reply;
+mod state;
+mod store;
+mod value;
+
+pub use job::{Ops, Replies};
+pub use layout::{
+    AMOUNT_LIMIT, KEY_LIMIT, Layout, MAX_ACCOUNTS, MAX_LIST_NODES, MAX_OPENING, MAX_TREE_NODES,
+};
+pub use op::{Cond, Op, Which};
+pub use reply::Reply;
+pub use state::{Item, Items, Numbers, State};
+pub use store::PlainStore;
+pub use value::{AnyLaw, Law, Val};
+
+#[cfg(test)]
+mod tests;
