@@ -2,3 +2,4 @@ pub mod Map
 pub mod Layout
 pub mod Store
 pub mod Job
+pub mod Objects

@@ -127,6 +127,12 @@ abbrev pub IsTransfer : Op → Type 0
 IsTransfer (Transfer source target amount) = Unit {0}
 IsTransfer op = ⊥
 
+-- an operation that is applied by itself, and not as a part of a job
+abbrev pub IsPlain : Op → Type 0
+IsPlain (Await c) = ⊥
+IsPlain OrElse = ⊥
+IsPlain op = Unit {0}
+
 -- ---- what a store holds, as it is reported
 
 abbrev pub item_of : ℕ × ℕ → Item

@@ -1,9 +1,9 @@
 ghost use Rattle.std.specs.Prelude.{◌≡◌, ◌<◌, ◌≤◌, ◌^◌, sum, map, length, slice_index, IfOk, OnErr};
 ghost use Rattle.dstm_model.specs.Layout.{IsValid, FitsLayout};
-ghost use Rattle.dstm_model.specs.Store.{Store, opening_store, apply, credit, debit, IsTransfer, state_of, item_of};
+ghost use Rattle.dstm_model.specs.Store.{Store, opening_store, apply, insert, remove, put, is_member, value_of, value_reply, yes_or_no, credit, debit, IsPlain, state_of, item_of};
 
 use crate::layout::Layout;
-use crate::op::Op;
+use crate::op::{Op, Which};
 use crate::reply::Reply;
 use crate::state::{Item, Items, Numbers, State};
 use std::alloc::{AllocError, Global};
@@ -55,12 +55,12 @@ impl PlainStore {
         })
     }
 
-    /// Applies one operation and answers its reply. Until the other operations are built it must be
-    /// a transfer.
+    /// Applies one operation and answers its reply. Conditions and separators belong to jobs.
     pub fn apply(&mut self, op: &Op) -> Result<Reply, AllocError>
         requires fits { FitsLayout self.old.layout op.now }
-        requires transfer { IsTransfer op.now }
+        requires plain { IsPlain op.now }
         ensures ok { IfOk result (λ reply. apply op.now self.old ≡ record { reply = reply; store = self.new }) }
+        ensures layout { self.new.layout ≡ self.old.layout }
         ensures err { OnErr result (self.new ≡ self.old) }
     {
         match *op {
@@ -69,7 +69,14 @@ impl PlainStore {
                 target,
                 amount,
             } => Ok(self.transfer(source, target, amount)),
-            _ => unreachable!(),
+            Op::Balance { account } => Ok(Reply::Number(self.balances[account as usize])),
+            Op::Total => Ok(Reply::Number(self.total)),
+            Op::Insert { which, key } => self.insert(which, key),
+            Op::Remove { which, key } => Ok(self.remove(which, key)),
+            Op::Member { which, key } => Ok(yes_or_no(self.contains(which, key))),
+            Op::Put { key, value } => self.put(key, value),
+            Op::Get { key } => Ok(self.get(key)),
+            Op::Await(_) | Op::OrElse => unreachable!(),
         }
     }
 
@@ -90,7 +97,8 @@ impl PlainStore {
     fn transfer(&mut self, source: u32, target: u32, amount: u64) -> Reply
         requires source { source < self.old.layout.accounts }
         requires target { target < self.old.layout.accounts }
-        ensures { apply (Op.Transfer source target amount) self.old ≡ record { reply = result; store = self.new } }
+        ensures outcome { apply (Op.Transfer source target amount) self.old ≡ record { reply = result; store = self.new } }
+        ensures layout { self.new.layout ≡ self.old.layout }
     {
         let source = source as usize;
         let target = target as usize;
@@ -101,6 +109,97 @@ impl PlainStore {
         pay(&mut self.balances, source, target, amount);
         Reply::Moved
     }
+
+    fn insert(&mut self, which: Which, key: u32) -> Result<Reply, AllocError>
+        ensures ok { IfOk result (λ reply. insert which key self.old ≡ record { reply = reply; store = self.new }) }
+        ensures layout { self.new.layout ≡ self.old.layout }
+        ensures err { OnErr result (self.new ≡ self.old) }
+    {
+        match which {
+            Which::List => self.insert_key(key),
+            Which::Tree => self.insert_item(key),
+        }
+    }
+
+    fn insert_key(&mut self, key: u32) -> Result<Reply, AllocError>
+        ensures ok { IfOk result (λ reply. insert Which.List key self.old ≡ record { reply = reply; store = self.new }) }
+        ensures layout { self.new.layout ≡ self.old.layout }
+        ensures err { OnErr result (self.new ≡ self.old) }
+    {
+        if self.list.contains(&key) {
+            return Ok(Reply::No);
+        }
+        if self.list.len() == self.layout.list as usize {
+            return Ok(Reply::Full);
+        }
+        self.list.insert(key)?;
+        Ok(Reply::Yes)
+    }
+
+    fn insert_item(&mut self, key: u32) -> Result<Reply, AllocError>
+        ensures ok { IfOk result (λ reply. insert Which.Tree key self.old ≡ record { reply = reply; store = self.new }) }
+        ensures layout { self.new.layout ≡ self.old.layout }
+        ensures err { OnErr result (self.new ≡ self.old) }
+    {
+        if self.tree.contains_key(&key) {
+            return Ok(Reply::No);
+        }
+        if self.tree.len() == self.layout.tree as usize {
+            return Ok(Reply::Full);
+        }
+        self.tree.insert(key, 0)?;
+        Ok(Reply::Yes)
+    }
+
+    fn remove(&mut self, which: Which, key: u32) -> Reply
+        ensures outcome { remove which key self.old ≡ record { reply = result; store = self.new } }
+        ensures layout { self.new.layout ≡ self.old.layout }
+    {
+        match which {
+            Which::List => yes_or_no(self.list.remove(&key)),
+            Which::Tree => yes_or_no(self.tree.remove(&key).is_some()),
+        }
+    }
+
+    fn contains(&self, which: Which, key: u32) -> bool
+        ensures { result ≡ is_member which key self.now }
+    {
+        match which {
+            Which::List => self.list.contains(&key),
+            Which::Tree => self.tree.contains_key(&key),
+        }
+    }
+
+    fn put(&mut self, key: u32, value: u64) -> Result<Reply, AllocError>
+        ensures ok { IfOk result (λ reply. put key value self.old ≡ record { reply = reply; store = self.new }) }
+        ensures layout { self.new.layout ≡ self.old.layout }
+        ensures err { OnErr result (self.new ≡ self.old) }
+    {
+        if self.tree.contains_key(&key) {
+            self.tree.insert(key, value)?;
+            return Ok(Reply::No);
+        }
+        if self.tree.len() == self.layout.tree as usize {
+            return Ok(Reply::Full);
+        }
+        self.tree.insert(key, value)?;
+        Ok(Reply::Yes)
+    }
+
+    fn get(&self, key: u32) -> Reply
+        ensures { result ≡ value_reply (value_of key self.now.items) }
+    {
+        match self.tree.get(&key).copied() {
+            Some(value) => Reply::Number(value),
+            None => Reply::Absent,
+        }
+    }
+}
+
+fn yes_or_no(yes: bool) -> Reply
+    ensures { result ≡ yes_or_no yes }
+{
+    if yes { Reply::Yes } else { Reply::No }
 }
 
 // Takes an amount from one balance and adds it to another.

@@ -1,0 +1,36 @@
+-- How a failure is told: by the status of the program and by a line of text.
+use Rattle.std.specs.Prelude.{ℕ, ◌⊎◌, ◌==◌, if◌then◌else◌, List, [], ◌++◌, Option, codes, decimal}
+use Rattle.std.specs.Io.KnownBytes.{Appends}
+use Rattle.dstm_io.specs.Count.{Rises}
+use Rattle.dstm_workload.specs.Answers.{text_of}
+use Rattle.dstm_cli.specs.declared.failure.Failure.{Failure}
+use Rattle.dstm_cli.specs.declared.failure.Failure.TheVariants.{Usage, ReadFault, TooLong, Refused, WriteFault, Memory}
+
+abbrev pub status_of : Failure → ℕ
+status_of Usage = 1
+status_of TooLong = 2
+status_of (Refused refused) = 2
+status_of ReadFault = 3
+status_of WriteFault = 4
+status_of Memory = 5
+
+abbrev pub message_of : Failure → List ℕ
+message_of Usage = codes "usage: dstm run, check, gen or demo\n"
+message_of TooLong = codes "dstm: input too long\n"
+message_of (Refused refused) = codes "dstm: line " ++ decimal refused.line ++ codes ": " ++ text_of refused.why ++ codes "\n"
+message_of ReadFault = codes "dstm: read fault\n"
+message_of WriteFault = codes "dstm: write fault\n"
+message_of Memory = codes "dstm: out of memory\n"
+
+-- a sink took the text, or its count of faults rose
+abbrev pub TakesOrFaults : Option (List ℕ) → Option (List ℕ) → ℕ → ℕ → List ℕ → Type 0
+TakesOrFaults old new faults_old faults_new text = Appends old new text ⊎ Rises faults_old faults_new
+
+-- the line that goes with a status other than 2, of which there are many
+abbrev pub message_with : ℕ → List ℕ
+message_with status =
+    if status == 1 then message_of Usage
+    else if status == 3 then message_of ReadFault
+    else if status == 4 then message_of WriteFault
+    else if status == 5 then message_of Memory
+    else []

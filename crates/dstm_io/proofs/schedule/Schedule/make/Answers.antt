@@ -1,0 +1,6 @@
+use Rattle.std.proofs.lemmas.List.Sorted.{IsNonDecreasingBy-from_sort}
+use Rattle.dstm_io.proofs.schedule.Schedule.make.Goals as goal
+
+pub invariant_of-result : goal.invariant_of-result
+invariant_of-result c =
+    record { rising = IsNonDecreasingBy-from_sort (λ x. x) _ c.sort_unstable.ensures.sorted }

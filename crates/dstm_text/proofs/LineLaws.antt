@@ -1,0 +1,59 @@
+-- How pieces, lines and fields come off the front of a text.
+use Rattle.std.proofs.Common.{◌≡◌, ℕ, ◌+◌, ◌<◌, true, false, List, [], ◌∷◌, ◌++◌, length, take, drop, get_or, Option, Some, None, unwrap_or, option_copied, Bor, eqb, cond, IfNone, refl, sym, ap, ◌∙◌, arith}
+use Rattle.std.proofs.lemmas.Bool.{false_from_ne_true}
+use Rattle.std.proofs.lemmas.List.{take-append-drop, drop_more, get_or-take, length-take-le}
+use Rattle.std.proofs.lemmas.List.Elements.{All-from_get_or}
+use Rattle.std.proofs.lemmas.List.Splits.{slice_split_none, slice_split_at}
+use Rattle.std.specs.List.{All, onto_first}
+use Rattle.memchr.specs.Find.{Nowhere, NoneBefore, Passes, is_byte}
+use Rattle.dstm_text.specs.Lines.{pieces, pieces_left, without_empty_end, lines_of, line_feed}
+
+-- a text without the separator is one piece
+pub pieces_none : (c : ℕ) (bs : List ℕ) → Nowhere (Passes (is_byte c) bs) 0 (length bs) → pieces c bs ≡ bs ∷ []
+pieces_none c bs none =
+    slice_split_none (λ b. eqb b c) bs
+    (All-from_get_or (λ b. eqb b c ≡ false) bs 0 (λ i lt. false_from_ne_true _ (none i (omega arith) lt)))
+
+-- the first piece ends at the first separator
+pub pieces_at : (c : ℕ) (bs : List ℕ) (k : ℕ) → NoneBefore (Passes (is_byte c) bs) 0 (length bs) k → Passes (is_byte c) bs k →
+    pieces c bs ≡ take k bs ∷ pieces c (drop (k + 1) bs)
+pieces_at c bs k first here =
+    let lt : k < length bs = first.high in
+    let cut : bs ≡ take k bs ++ (get_or bs k 0 ∷ drop (k + 1) bs) =
+    sym (take-append-drop k bs) ∙ ap (λ (r : List ℕ). take k bs ++ r) (drop_more bs k 0 lt) in
+    let clear : All (λ b. eqb b c ≡ false) (take k bs) =
+    All-from_get_or (λ b. eqb b c ≡ false) (take k bs) 0 (λ i at.
+    let below : i < k = omega (arith, length-take-le k bs (omega arith)) in
+    ap (λ b. eqb b c) (get_or-take k bs i 0 below) ∙ false_from_ne_true _ (first.before i (omega arith) below)) in
+    ap (pieces c) cut ∙ slice_split_at (λ b. eqb b c) (take k bs) (get_or bs k 0) (drop (k + 1) bs) clear here
+
+onto_first_cons : (b : ℕ) (ps : List (List ℕ)) → (q : List ℕ) × (qs : List (List ℕ)) × (onto_first b ps ≡ q ∷ qs)
+onto_first_cons b [] = (b ∷ [], [], refl)
+onto_first_cons b (p ∷ ps) = (b ∷ p, ps, refl)
+
+-- there is a piece
+pub pieces_cons : (c : ℕ) (bs : List ℕ) → (q : List ℕ) × (qs : List (List ℕ)) × (pieces c bs ≡ q ∷ qs)
+pieces_cons c [] = ([], [], refl)
+pieces_cons c (b ∷ bs) =
+    elim (eqb b c) as (λ t. (q : List ℕ) × (qs : List (List ℕ)) × (cond t ([] ∷ pieces c bs) (onto_first b (pieces c bs)) ≡ q ∷ qs)) [
+      | true ↦ ([], pieces c bs, refl)
+      | false ↦ onto_first_cons b (pieces c bs)
+    ]
+
+line_of_all : (bs : List ℕ) → 0 < length bs → without_empty_end (bs ∷ []) ≡ bs ∷ []
+line_of_all [] h = absurd (omega arith)
+line_of_all (b ∷ bs) h = refl
+
+-- the first line of a text that is not empty, and the text after it
+pub lines_cut : (bs line : List ℕ) (rest : Option (Bor (List ℕ))) (none next : Bor (List ℕ)) → next ≡ unwrap_or rest none →
+    0 < length bs → none.now ≡ [] →
+    pieces line_feed bs ≡ line ∷ pieces_left line_feed (option_copied rest) → IfNone rest (line ≡ bs) →
+    lines_of bs ≡ line ∷ lines_of next.now
+lines_cut bs line None none next is some empty cut whole =
+    ap without_empty_end cut ∙ ap (λ (l : List ℕ). without_empty_end (l ∷ [])) whole ∙ line_of_all bs some
+    ∙ ap (λ (l : List ℕ). l ∷ []) (sym whole) ∙ ap (λ (l : List ℕ). line ∷ lines_of l) (sym (ap (λ (b : Bor (List ℕ)). b.now) is ∙ empty))
+lines_cut bs line (Some rest) none next is some empty cut whole =
+    let more = pieces_cons line_feed rest.now in
+    ap without_empty_end (cut ∙ ap (λ (ps : List (List ℕ)). line ∷ ps) more.2)
+    ∙ ap (λ (ps : List (List ℕ)). line ∷ without_empty_end ps) (sym more.2)
+    ∙ ap (λ (b : Bor (List ℕ)). line ∷ lines_of b.now) (sym is)

@@ -1,0 +1,21 @@
+-- Plain decimals: one spelling for each number.
+use Rattle.std.specs.Prelude.{ℕ, ◌^◌, Bool, false, not, ◌==◌, ◌&&◌, ◌||◌, nat_le, List, [], ◌∷◌, Option, Some, None, Result, Ok, Err, if◌then◌else◌}
+use Rattle.std.specs.Str.{all_ascii_digits}
+use Rattle.std.specs.Str.Parse.{digits_value}
+use Rattle.dstm_text.specs.Lines.{is_empty}
+use Rattle.dstm_text.specs.declared.number.DecimalError.{DecimalError}
+use Rattle.dstm_text.specs.declared.number.DecimalError.TheVariants.{NotPlain, TooLarge}
+
+-- `0`, or a digit from 1 to 9 and further digits
+abbrev pub is_plain : List ℕ → Bool
+is_plain [] = false
+is_plain (d ∷ ds) = all_ascii_digits (d ∷ ds) && (not (d == 48) || is_empty ds)
+
+-- the number that a field spells, of any size
+abbrev pub number_of : List ℕ → Option ℕ
+number_of field = if is_plain field then Some (digits_value 10 field) else None
+
+-- the number where there is one that 64 bits hold
+abbrev pub in_64_bits : Option ℕ → Result ℕ DecimalError
+in_64_bits None = Err NotPlain
+in_64_bits (Some n) = if nat_le (2 ^ 64) n then Err TooLarge else Ok n

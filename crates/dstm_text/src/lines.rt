@@ -1,0 +1,134 @@
+ghost use Rattle.std.specs.Prelude.{◌≡◌, List, [], ◌∷◌, IfSome, IfNone, option_copied};
+ghost use Rattle.dstm_text.specs.Lines.{pieces, pieces_left, lines_of, fields_of};
+
+use memchr::memchr;
+use std::marker::Model;
+
+/// The pieces of a text around each place of a separator: at least one, and some may be empty.
+/// Contracts see the pieces that are still to come.
+#[derive(Drop)]
+pub struct Pieces<'a> {
+    separator: u8,
+    // What follows the last separator found, until the last piece is given.
+    rest: Option<&'a [u8]>,
+}
+
+impl<'a> Model for Pieces<'a> {
+    ghost use Rattle.std.specs.Prelude.{List, ℕ, option_copied};
+    ghost use Rattle.dstm_text.specs.Lines.{pieces_left};
+
+    ghost Value = { List (List ℕ) };
+
+    ghost view = { λ p. pieces_left p.separator (option_copied p.rest) };
+}
+
+impl<'a> Pieces<'a> {
+    pub fn new(bytes: &'a [u8], separator: u8) -> Pieces<'a>
+        ensures { result ≡ pieces separator bytes.now }
+    {
+        Pieces {
+            separator,
+            rest: Some(bytes),
+        }
+    }
+
+    /// Takes the next piece.
+    pub fn next(&mut self) -> Option<&'a [u8]>
+        ensures some { IfSome result (λ piece. self.old ≡ piece.now ∷ self.new) }
+        ensures none { IfNone result (self.old ≡ []) }
+        ensures ended { IfNone result (self.new ≡ []) }
+    {
+        let rest = self.rest?;
+        let (piece, rest) = first_piece(rest, self.separator);
+        self.rest = rest;
+        Some(piece)
+    }
+}
+
+/// The lines of a text, without their line feeds. Contracts see the lines that are still to come.
+#[derive(Drop)]
+pub struct Lines<'a> {
+    rest: &'a [u8],
+}
+
+impl<'a> Model for Lines<'a> {
+    ghost use Rattle.std.specs.Prelude.{List, ℕ};
+    ghost use Rattle.dstm_text.specs.Lines.{lines_of};
+
+    ghost Value = { List (List ℕ) };
+
+    ghost view = { λ l. lines_of l.rest.now };
+}
+
+impl<'a> Lines<'a> {
+    pub fn new(bytes: &'a [u8]) -> Lines<'a>
+        ensures { result ≡ lines_of bytes.now }
+    {
+        Lines { rest: bytes }
+    }
+
+    /// Takes the next line.
+    pub fn next(&mut self) -> Option<&'a [u8]>
+        ensures some { IfSome result (λ line. self.old ≡ line.now ∷ self.new) }
+        ensures none { IfNone result (self.old ≡ []) }
+        ensures ended { IfNone result (self.new ≡ []) }
+    {
+        if self.rest.is_empty() {
+            return None;
+        }
+        let (line, rest) = first_piece(self.rest, b'\n');
+        self.rest = rest.unwrap_or(&[]);
+        Some(line)
+    }
+}
+
+/// The fields of a line: its runs of bytes other than space. Contracts see the fields that are
+/// still to come.
+#[derive(Drop)]
+pub struct Fields<'a> {
+    pieces: Pieces<'a>,
+}
+
+impl<'a> Model for Fields<'a> {
+    ghost use Rattle.std.specs.Prelude.{List, ℕ};
+    ghost use Rattle.dstm_text.specs.Lines.{non_empty};
+
+    ghost Value = { List (List ℕ) };
+
+    ghost view = { λ f. non_empty f.pieces };
+}
+
+impl<'a> Fields<'a> {
+    pub fn new(line: &'a [u8]) -> Fields<'a>
+        ensures { result ≡ fields_of line.now }
+    {
+        Fields {
+            pieces: Pieces::new(line, b' '),
+        }
+    }
+
+    /// Takes the next field.
+    pub fn next(&mut self) -> Option<&'a [u8]>
+        ensures some { IfSome result (λ field. self.old ≡ field.now ∷ self.new) }
+        ensures none { IfNone result (self.old ≡ []) }
+        ensures ended { IfNone result (self.new ≡ []) }
+    {
+        while let Some(piece) = self.pieces.next() {
+            if !piece.is_empty() {
+                return Some(piece);
+            }
+        }
+        None
+    }
+}
+
+// The first piece, and what follows its separator, if there is one.
+fn first_piece(bytes: &[u8], separator: u8) -> (&[u8], Option<&[u8]>)
+    ensures pieces { pieces separator bytes.now ≡ result.0.now ∷ pieces_left separator (option_copied result.1) }
+    ensures whole { IfNone result.1 (result.0.now ≡ bytes.now) }
+{
+    match memchr(separator, bytes) {
+        Some(at) => (&bytes[..at], Some(&bytes[at + 1..])),
+        None => (bytes, None),
+    }
+}

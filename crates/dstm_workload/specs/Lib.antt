@@ -1,0 +1,3 @@
+pub mod Workload
+pub mod Answers
+pub mod Reading

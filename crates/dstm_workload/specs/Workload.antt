@@ -1,0 +1,49 @@
+-- Which workloads are valid.
+use Rattle.std.specs.Prelude.{ℕ, ◌<◌, ◌≤◌, List, [], ◌∷◌, length, map, All}
+use Rattle.std.specs.List.Sorted.{IsStrictlyIncreasing}
+use Rattle.dstm_model.specs.Layout.{IsValid, FitsLayout}
+use Rattle.dstm_model.specs.Job.{branches_of}
+use Rattle.dstm_model.specs.declared.op.Op.{Op}
+use Rattle.dstm_model.specs.declared.op.Op.TheVariants.{Put, Get, Await, OrElse}
+use Rattle.dstm_workload.specs.declared.workload.Job.{Job}
+use Rattle.dstm_workload.specs.declared.workload.Workload.{Workload}
+use Rattle.dstm_workload.specs.declared.workload.TheConstants.{MAX_WORKERS, MAX_JOBS, MAX_OPS, VERSIONS}
+
+-- the version has this operation
+abbrev pub HasOp : ℕ → Op → Type 0
+HasOp version (Put key value) = 2 ≤ version
+HasOp version (Get key) = 2 ≤ version
+HasOp version (Await c) = 3 ≤ version
+HasOp version OrElse = 3 ≤ version
+HasOp version op = Unit {0}
+
+abbrev pub IsNoAwait : Op → Type 0
+IsNoAwait (Await c) = ⊥
+IsNoAwait op = Unit {0}
+
+-- a branch has an operation, and awaits nothing behind its first one
+abbrev pub IsBranch : List Op → Type 0
+IsBranch [] = ⊥
+IsBranch (op ∷ ops) = All IsNoAwait ops
+
+-- a job of a workload
+pub record IsJob (workload : Workload) (job : Job) : Type 0 where
+  pub worker : job.worker < workload.workers
+  pub few : length job.ops ≤ MAX_OPS
+  pub fits : All (FitsLayout workload.layout) job.ops
+  pub version : All (HasOp workload.version) job.ops
+  pub branches : All IsBranch (branches_of job.ops)
+
+abbrev pub lines_of_jobs : List Job → List ℕ
+lines_of_jobs jobs = map (λ job. job.line) jobs
+
+-- a valid workload
+pub record IsValidWorkload (workload : Workload) : Type 0 where
+  pub oldest : 1 ≤ workload.version
+  pub newest : workload.version ≤ VERSIONS
+  pub some_worker : 1 ≤ workload.workers
+  pub workers : workload.workers ≤ MAX_WORKERS
+  pub layout : IsValid workload.layout
+  pub few : length workload.jobs ≤ MAX_JOBS
+  pub rising : IsStrictlyIncreasing (lines_of_jobs workload.jobs)
+  pub each : All (IsJob workload) workload.jobs
