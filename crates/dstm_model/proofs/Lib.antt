@@ -1,1 +1,4 @@
+pub mod Applying
+pub mod Branches
 pub mod Transfers
+pub mod Objects

@@ -16,6 +16,14 @@ use Rattle.dstm_model.specs.Store.{Store, apply}
 abbrev pub structure_objects : ℕ → ℕ
 structure_objects n = if n == 0 then 0 else n + 2
 
+-- the parts of a structure whose objects begin at `begin`: its head or root is the first, the head of its
+-- free chain the second, and its nodes are numbered from 1
+abbrev pub free_object : ℕ → ℕ
+free_object begin = begin + 1
+
+abbrev pub node_object : ℕ → ℕ → ℕ
+node_object begin i = begin + 1 + i
+
 -- where the list's objects begin, and those of the tree
 abbrev pub list_begin : Layout → ℕ
 list_begin layout = layout.accounts
@@ -34,11 +42,12 @@ plain n = record { low = n; high = 0 }
 -- the accounts hold the store's balances, whose sum is that of the opening balances
 pub record IsBank (layout : Layout) (map : List Val) (store : Store) : Type 0 where
   pub accounts : length store.balances ≡ layout.accounts
-  pub values : (account : ℕ) → account < layout.accounts → value_at map account ≡ plain (slice_index store.balances account)
+  pub values : (a : ℕ) → a < layout.accounts → value_at map a ≡ plain (slice_index store.balances a)
   pub total : sum store.balances ≡ layout.accounts * layout.opening
 
 -- whatever store the map before stands for, the reply is that of the operation on it, and the map after
 -- stands for the store after. `StandsFor` is of the whole store, or of one structure.
 abbrev pub Does : (List Val → Store → Type 0) → Op → List Val → List Val → Reply → Type 0
 Does StandsFor op before after reply =
-    (store : Store) → StandsFor before store → (reply ≡ (apply op store).reply) × StandsFor after (apply op store).store
+    (store : Store) → StandsFor before store →
+    (reply ≡ (apply op store).reply) × StandsFor after (apply op store).store

@@ -1,9 +1,11 @@
-ghost use Rattle.std.specs.Prelude.{◌≡◌, ◌<◌, ◌≤◌, ◌^◌, sum, map, length, slice_index, IfOk, OnErr};
-ghost use Rattle.dstm_model.specs.Layout.{IsValid, FitsLayout};
+ghost use Rattle.std.specs.Prelude.{◌≡◌, ℕ, ◌<◌, ◌≤◌, ◌^◌, sum, map, length, slice_index, All, ◌∷◌, take, drop, position, IfOk, OnErr, IfNone, IfSome, option_map, option_copied};
+ghost use Rattle.dstm_model.specs.Job.{apply_all, apply_job, open_branch, branches_of, branches_left, is_open, is_separator, holds_in, AppliesSome, AppliesSomeOfBranch};
+ghost use Rattle.dstm_model.specs.Layout.{IsValid, FitsLayout, FitsCond};
 ghost use Rattle.dstm_model.specs.Store.{Store, opening_store, apply, insert, remove, put, is_member, value_of, value_reply, yes_or_no, credit, debit, IsPlain, state_of, item_of};
 
+use crate::job::{Ops, Replies};
 use crate::layout::Layout;
-use crate::op::{Op, Which};
+use crate::op::{Cond, Op, Which};
 use crate::reply::Reply;
 use crate::state::{Item, Items, Numbers, State};
 use std::alloc::{AllocError, Global};
@@ -80,6 +82,23 @@ impl PlainStore {
         }
     }
 
+    /// Applies a job: the operations of its first open branch, among which a condition answers yes.
+    /// `None` says that no branch is open.
+    pub fn apply_job(&mut self, ops: &Ops) -> Result<Option<Replies>, AllocError>
+        requires { All (FitsLayout self.old.layout) ops.now }
+        ensures ok { IfOk result (λ replies. apply_job ops.now self.old ≡ option_map (λ rs. record { replies = rs; store = self.new }) replies) }
+        ensures blocked { IfOk result (λ replies. IfNone replies (self.new ≡ self.old)) }
+        ensures layout { self.new.layout ≡ self.old.layout }
+
+        // Where memory runs out, the first operations of the branch may have been applied.
+        ensures err { OnErr result (AppliesSomeOfBranch ops.now self.old self.new) }
+    {
+        match self.open_branch(ops.as_slice()) {
+            Some(branch) => Ok(Some(self.apply_all(branch)?)),
+            None => Ok(None),
+        }
+    }
+
     /// What the store holds.
     pub fn state(&self, alloc: Global) -> Result<State, AllocError>
         ensures { IfOk result (λ state. state ≡ state_of self.now) }
@@ -92,6 +111,70 @@ impl PlainStore {
             list: Numbers::from_vec(list),
             tree: Items::from_vec(tree),
         })
+    }
+
+    fn open_branch<'a>(&self, ops: &'a [Op]) -> Option<&'a [Op]>
+        requires { All (FitsLayout self.now.layout) ops.now }
+        ensures found { option_copied result ≡ open_branch ops.now self.now }
+        ensures fits { IfSome result (λ branch. All (FitsLayout self.now.layout) branch.now) }
+        ensures short { IfSome result (λ branch. length branch.now ≤ length ops.now) }
+    {
+        let mut rest = Some(ops);
+        while let Some(ops) = rest {
+            let (branch, after) = first_branch(ops);
+            if self.is_open(branch) {
+                return Some(branch);
+            }
+            rest = after;
+        }
+        None
+    }
+
+    fn is_open(&self, branch: &[Op]) -> bool
+        requires { All (FitsLayout self.now.layout) branch.now }
+        ensures { result ≡ is_open self.now branch.now }
+    {
+        match branch {
+            [Op::Await(cond), ..] => self.holds(*cond),
+            _ => true,
+        }
+    }
+
+    fn holds(&self, cond: Cond) -> bool
+        requires { FitsCond self.now.layout cond }
+        ensures { result ≡ holds_in cond self.now }
+    {
+        match cond {
+            Cond::Balance { account, least } => least <= self.balances[account as usize],
+            Cond::Key { which, key } => self.contains(which, key),
+        }
+    }
+
+    fn apply_all(&mut self, ops: &[Op]) -> Result<Replies, AllocError>
+        requires fits { All (FitsLayout self.old.layout) ops.now }
+        requires short { length ops.now ≤ 8 }
+        ensures ok { IfOk result (λ replies. apply_all ops.now self.old ≡ record { replies = replies; store = self.new }) }
+        ensures layout { self.new.layout ≡ self.old.layout }
+        ensures err { OnErr result (AppliesSome ops.now self.old self.new) }
+    {
+        let mut replies = Replies::new();
+        for op in ops {
+            replies.push(self.apply_in_branch(op)?);
+        }
+        Ok(replies)
+    }
+
+    // Applies one operation of a branch that is taken: its condition was seen to hold.
+    fn apply_in_branch(&mut self, op: &Op) -> Result<Reply, AllocError>
+        requires { FitsLayout self.old.layout op.now }
+        ensures ok { IfOk result (λ reply. apply op.now self.old ≡ record { reply = reply; store = self.new }) }
+        ensures layout { self.new.layout ≡ self.old.layout }
+        ensures err { OnErr result (self.new ≡ self.old) }
+    {
+        match op {
+            Op::Await(_) | Op::OrElse => Ok(Reply::Yes),
+            _ => self.apply(op),
+        }
     }
 
     fn transfer(&mut self, source: u32, target: u32, amount: u64) -> Reply
@@ -200,6 +283,31 @@ fn yes_or_no(yes: bool) -> Reply
     ensures { result ≡ yes_or_no yes }
 {
     if yes { Reply::Yes } else { Reply::No }
+}
+
+// The first branch of a job's operations, and what follows its separator, if there is one.
+fn first_branch(ops: &[Op]) -> (&[Op], Option<&[Op]>)
+    ensures branches { branches_of ops.now ≡ result.0.now ∷ branches_left (option_copied result.1) }
+    ensures first { (n : ℕ) × (result.0.now ≡ take n ops.now) }
+    ensures after { IfSome result.1 (λ after. (n : ℕ) × (after.now ≡ drop n ops.now)) }
+{
+    match separator(ops) {
+        Some(at) => (&ops[..at], Some(&ops[at + 1..])),
+        None => (ops, None),
+    }
+}
+
+// The place of the first separator.
+fn separator(ops: &[Op]) -> Option<usize>
+    ensures { result ≡ position is_separator ops.now }
+{
+    ops.iter().position(is_separator)
+}
+
+fn is_separator(op: &Op) -> bool
+    ensures { result ≡ is_separator op.now }
+{
+    matches!(op, Op::OrElse)
 }
 
 // Takes an amount from one balance and adds it to another.

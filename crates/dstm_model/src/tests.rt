@@ -52,3 +52,51 @@ fn lists_keep_their_order(rt: HostRuntime) -> Result<(), Fail> {
     assert_eq!(rt; numbers.as_slice(), [5, 6].as_slice());
     Ok(())
 }
+
+#[test]
+fn jobs_take_their_first_open_branch(rt: HostRuntime) -> Result<(), Fail> {
+    let layout = Layout {
+        accounts: 2,
+        opening: 100,
+        list: 1,
+        tree: 0,
+    };
+    let mut store = PlainStore::opening(rt.alloc(), &layout)?;
+    let mut ops = Ops::new();
+    ops.push(Op::Await(Cond::Balance {
+        account: 0,
+        least: 150,
+    }));
+    ops.push(Op::Total);
+    assert!(rt; store.apply_job(&ops)?.is_none());
+    ops.push(Op::OrElse);
+    ops.push(Op::Transfer {
+        source: 1,
+        target: 0,
+        amount: 60,
+    });
+    ops.push(Op::OrElse);
+    ops.push(Op::Balance { account: 1 });
+    let moved = store.apply_job(&ops)?.ok_or("an open branch")?;
+    assert_eq!(rt; moved.as_slice(), [Reply::Moved].as_slice());
+    let told = store.apply_job(&ops)?.ok_or("an open branch")?;
+    assert_eq!(rt;
+        told.as_slice(),
+        [Reply::Yes, Reply::Number(200)].as_slice()
+    );
+    let state = store.state(rt.alloc())?;
+    assert_eq!(rt; state.bank.as_slice(), [160, 40].as_slice());
+    let mut waits = Ops::new();
+    waits.push(Op::Await(Cond::Key {
+        which: Which::List,
+        key: 5,
+    }));
+    assert!(rt; store.apply_job(&waits)?.is_none());
+    store.apply(&Op::Insert {
+        which: Which::List,
+        key: 5,
+    })?;
+    let there = store.apply_job(&waits)?.ok_or("an open branch")?;
+    assert_eq!(rt; there.as_slice(), [Reply::Yes].as_slice());
+    Ok(())
+}

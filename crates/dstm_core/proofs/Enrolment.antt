@@ -1,0 +1,104 @@
+-- Who has a number: a caller enrols first, and makes no other event on the word that counts the callers.
+use Rattle.std.proofs.Common.{◌+◌, ◌∙◌, ◌≡◌, ◌≢◌, ◌==◌, ◌⊎◌, ◌∷◌, ℕ, inl, inr, List, [], refl, ap, arith, sym, true, false, is_some, None}
+use Rattle.std.proofs.lemmas.Bool.{cond_both, cases_Bool}
+use Rattle.dstm_core.specs.declared.event.Event.{Event}
+use Rattle.dstm_core.specs.declared.event.Kind.{Kind}
+use Rattle.dstm_core.specs.declared.event.Kind.TheVariants.{Enrol, Rank, Install, LookSelf, Validating as ToValidating, Pause, Resume}
+use Rattle.dstm_core.specs.declared.state.Phase.{Phase}
+use Rattle.dstm_core.specs.declared.state.Phase.TheVariants.{Outside}
+use Rattle.dstm_core.specs.declared.shape.Shape.{Shape}
+use Rattle.dstm_core.specs.Rules.{MayRank, after, target, AllowedAs}
+use Rattle.dstm_core.specs.Runs.{local}
+use Rattle.dstm_core.specs.State.{LocalState, first, given}
+use Rattle.dstm_core.specs.Traces.{events_of}
+use Rattle.dstm_core.specs.Words.{place}
+use Rattle.dstm_core.specs.Words.Word.{CallersWord}
+use Rattle.dstm_core.proofs.Places.{same_place}
+use Rattle.dstm_core.proofs.Static.{Static, Inside}
+
+-- a caller's first event is an Enrol
+pub enrols : (s : Shape) (e : Event) (k : Kind) → AllowedAs k s first e →
+    (k ≡ Enrol) × (e.place ≡ place s CallersWord) × (e.put ≡ e.found + 1)
+enrols s e Enrol a = (refl, a.0, a.1.1)
+enrols s e k a = absurd (grind arith)
+
+not_callers : (s : Shape) (l : LocalState) (e : Event) (k : Kind) → k ≢ Enrol → target k s l e ≡ CallersWord → ⊥
+not_callers s l e Enrol n q = n refl
+not_callers s l e k n q = cc
+
+-- an event of another kind lies elsewhere
+pub lies_elsewhere : (s : Shape) (l : LocalState) (e : Event) (k : Kind) → k ≢ Enrol → AllowedAs k s l e →
+    e.place ≢ place s CallersWord
+lies_elsewhere s l e k n a q =
+    not_callers s l e k n (same_place s (target k s l e) CallersWord a.3 tt (sym a.0 ∙ q))
+
+enrol_first : (s : Shape) (l : LocalState) (e : Event) (k : Kind) → k ≡ Enrol → AllowedAs k s l e →
+    l.number ≡ None
+enrol_first s l e Enrol q a = a.2
+enrol_first s l e k q a = absurd (cc)
+
+-- and so does each event of a caller that has a number
+pub elsewhere : (s : Shape) (l : LocalState) (e : Event) (k : Kind) → is_some l.number ≡ true →
+    AllowedAs k s l e →
+    e.place ≢ place s CallersWord
+elsewhere s l e k n a = lies_elsewhere s l e k (λ q. let none = enrol_first s l e k q a in cc) a
+
+-- a number once found is kept
+number_kept : (s : Shape) (l : LocalState) (e : Event) (k : Kind) → k ≢ Enrol →
+    (after k s l e).number ≡ l.number
+number_kept s l e Enrol n = absurd (n refl)
+number_kept s l e Install n =
+    cond_both (e.found == e.expected) _ _ (λ (m : LocalState). m.number ≡ l.number) (λ _. refl) (λ _. refl)
+number_kept s l e LookSelf n =
+    cond_both (e.found == given l.phase) _ _ (λ (m : LocalState). m.number ≡ l.number) (λ _. refl) (λ _. refl)
+number_kept s l e ToValidating n =
+    cond_both (e.found == 1) _ _ (λ (m : LocalState). m.number ≡ l.number) (λ _. refl) (λ _. refl)
+number_kept s l e Pause n =
+    cond_both (e.found == 1) _ _ (λ (m : LocalState). m.number ≡ l.number) (λ _. refl) (λ _. refl)
+number_kept s l e Resume n =
+    cond_both (e.found == 2) _ _ (λ (m : LocalState). m.number ≡ l.number) (λ _. refl) (λ _. refl)
+number_kept s l e k n = refl
+
+-- without a number there is no attempt, and no event but an Enrol
+outside : (s : Shape) (c : ℕ) (l : LocalState) → Static s c l → is_some l.number ≡ false → l.phase ≡ Outside
+outside s c l t q = go t.active
+  where
+    go : (l.phase ≡ Outside) ⊎ Inside c l.number l.begun → l.phase ≡ Outside
+    go (inl x) = x
+    go (inr x) = let some = x.0 in absurd (cc)
+
+rank_outside : (p : Phase) (s : Shape) (l : LocalState) (n : ℕ) → p ≡ Outside → MayRank p s l n →
+    is_some l.number ≡ true
+rank_outside Outside s l n q m = m.0
+rank_outside p s l n q m = absurd (cc)
+
+without : (s : Shape) (c : ℕ) (l : LocalState) (e : Event) (k : Kind) → k ≢ Enrol → Static s c l →
+    is_some l.number ≡ false → AllowedAs k s l e → ⊥
+without s c l e Enrol n t q a = n refl
+without s c l e Rank n t q a = let out = outside s c l t q in
+    (let may = rank_outside l.phase s l e.put out a.2 in cc)
+without s c l e k n t q a = let out = outside s c l t q in grind arith
+
+numbered : (s : Shape) (c : ℕ) (l : LocalState) (e : Event) (k : Kind) → k ≢ Enrol → Static s c l →
+    AllowedAs k s l e → is_some (after k s l e).number ≡ true
+numbered s c l e k n t a = go (cases_Bool (is_some l.number))
+  where
+    go : (is_some l.number ≡ true) ⊎ (is_some l.number ≡ false) → is_some (after k s l e).number ≡ true
+    go (inl q) = ap is_some (number_kept s l e k n) ∙ q
+    go (inr q) = absurd (without s c l e k n t q a)
+
+-- a caller that made an event has a number
+pub has_number : (s : Shape) (c : ℕ) (l : LocalState) (e : Event) (k : Kind) → Static s c l →
+    AllowedAs k s l e → is_some (after k s l e).number ≡ true
+has_number s c l e Enrol t a = refl
+has_number s c l e k t a = numbered s c l e k (λ z. cc) t a
+
+-- a caller's state is made by its own events
+pub local-events_of : (s : Shape) (es : List Event) (c : ℕ) → local s (events_of c es) c ≡ local s es c
+local-events_of s [] c = refl
+local-events_of s (e ∷ es) c = go (cases_Bool (e.caller == c)) (local-events_of s es c)
+  where
+    go : (e.caller == c ≡ true) ⊎ (e.caller == c ≡ false) → local s (events_of c es) c ≡ local s es c →
+        local s (events_of c (e ∷ es)) c ≡ local s (e ∷ es) c
+    go (inl q) ih = rw (q, q) (ap (λ l. after e.kind s l e) ih)
+    go (inr q) ih = rw q ih

@@ -1,0 +1,416 @@
+-- What holds of a caller's state, whatever the others do.
+use Rattle.std.proofs.Common.{Bool, ◌≡◌, ◌≢◌, ◌+◌, ◌-◌, ◌*◌, ◌<◌, ◌≤◌, ◌==◌, ◌⊎◌, ◌∷◌, ◌++◌, ℕ, inl, inr, List, [], refl, ap, arith, sym, true, Option, Some, None, is_some, suc, zero, length, subst, length-append, slice_get}
+use Rattle.std.proofs.lemmas.Bool.Decides.{nat_tests}
+use Rattle.std.proofs.lemmas.Bool.{cond_both, eqb-true, eq-eqb, ne_eqb, cases_eq}
+use Rattle.dstm_core.specs.declared.event.Kind.TheVariants.{Enrol, Begin, LookObj, LookOwner, LookStatus, LookOld, LookNew, PutOwner, PutOld, Install, LookNumber, LookSelf, PutNew, Draw, Commit, Kill, Quit, LookRank, Pause, Resume, LookHigh, PutHigh, Release, Validating as ToValidating}
+use Rattle.dstm_core.specs.declared.state.Phase.TheVariants.{Outside, Running, Paused, Validating, Drawn}
+use Rattle.dstm_core.specs.declared.state.Phase.{Phase}
+use Rattle.dstm_core.specs.declared.shape.Shape.{Shape}
+use Rattle.dstm_core.specs.declared.event.Event.{Event}
+use Rattle.dstm_core.specs.declared.state.Resolution.{Resolution}
+use Rattle.dstm_core.specs.declared.event.Kind.{Kind}
+use Rattle.dstm_core.specs.declared.state.Write.{Write}
+use Rattle.dstm_core.specs.State.{LocalState, or_zero, next_locator, given, version, is_resolved, or_unresolved, res, keep_resolved, or_write}
+use Rattle.dstm_core.specs.Rules.{leave, install, after, AllowedAs}
+use Rattle.dstm_core.specs.Runs.{local, Core}
+
+-- a resolution is of an object of the shape
+abbrev pub InShape : Shape → Option Resolution → Type 0
+InShape s None = Unit {0}
+InShape s (Some r) = r.object < s.objects
+
+-- locators one after the other
+abbrev pub Numbered : ℕ → List Write → Type 0
+Numbered n [] = Unit {0}
+Numbered n (w ∷ ws) = (w.locator ≡ n) × Numbered (n + 1) ws
+
+numbered-snoc : (n : ℕ) (ws : List Write) (w : Write) → Numbered n ws → w.locator ≡ n + length ws →
+    Numbered n (ws ++ w ∷ [])
+numbered-snoc n [] w h e = (omega arith, tt)
+numbered-snoc n (v ∷ ws) w h e = (h.0, numbered-snoc (n + 1) ws w h.1 (omega arith))
+
+pub numbered-get : (n : ℕ) (ws : List Write) (i : ℕ) → Numbered n ws → i < length ws →
+    (or_write (slice_get ws i)).locator ≡ n + i
+numbered-get n [] i h l = absurd (omega arith)
+numbered-get n (w ∷ ws) zero h l = omega arith
+numbered-get n (w ∷ ws) (suc i) h l = omega (arith, numbered-get (n + 1) ws i h.1 (omega arith))
+
+length-snoc : (ws : List Write) (w : Write) → length (ws ++ w ∷ []) ≡ length ws + 1
+length-snoc ws w = omega (arith, length-append {A = Write} ws (w ∷ []))
+
+-- the caller has its number, and has begun an attempt
+abbrev pub Inside : ℕ → Option ℕ → ℕ → Type 0
+Inside c number begun = (number ≡ Some c) × (0 < begun)
+
+-- what holds of the parts of a caller's state: its number, phase, attempts begun, locators installed, resolution,
+-- what the first unused locator holds, the writes, how many are put, and whether the next one's high part is
+pub record StaticBy (s : Shape) (c : ℕ) (n : Option ℕ) (p : Phase) (b i : ℕ) (r : Option Resolution)
+    (o d : Option ℕ) (ws : List Write) (k : ℕ) (h : Bool) : Type 0 where
+  pub number : (n ≡ None) ⊎ (n ≡ Some c)
+  pub active : (p ≡ Outside) ⊎ Inside c n b
+  pub begun : b ≤ s.attempts
+  pub installed : i ≤ s.locators
+  pub object : InShape s r
+  pub held : is_some o ≡ true → i < s.locators
+  pub held_old : is_some d ≡ true → i < s.locators
+  pub count : length ws ≤ i
+  pub written : k ≤ length ws
+  pub high : h ≡ true → k < length ws
+  pub numbered : Numbered (c * s.locators + (i - length ws)) ws
+
+-- what holds of a caller's state alone
+abbrev pub Static : Shape → ℕ → LocalState → Type 0
+Static s c l = StaticBy s c l.number l.phase l.begun l.installed l.resolution
+    l.held_owner l.held_old l.writes l.written l.high_put
+
+pub res-in_shape : (s : Shape) (l : LocalState) → InShape s l.resolution → is_some l.resolution ≡ true →
+    (res l).object < s.objects
+res-in_shape s l h i = go l.resolution h i
+  where
+    go : (r : Option Resolution) → InShape s r → is_some r ≡ true → (or_unresolved r).object < s.objects
+    go None h i = absurd (cc)
+    go (Some r) h i = h
+
+kept_resolved : (s : Shape) (r : Option Resolution) → InShape s r → InShape s (keep_resolved r)
+kept_resolved s None h = tt
+kept_resolved s (Some r) h = cond_both (is_resolved r) (Some r) None (InShape s) (λ _. h) (λ _. tt)
+
+-- the guard of a look at a resolution says that there is one
+pub has_owner : (r : Option Resolution) → is_some (or_unresolved r).owner ≡ true → is_some r ≡ true
+has_owner None h = h
+has_owner (Some r) h = refl
+
+pub has_word : (r : Option Resolution) → 0 < (or_unresolved r).word → is_some r ≡ true
+has_word None h = absurd (omega arith)
+has_word (Some r) h = refl
+
+pub has_status : (r : Option Resolution) (n : ℕ) → or_zero (or_unresolved r).status ≡ suc n → is_some r ≡ true
+has_status None n h = absurd (cc)
+has_status (Some r) n h = refl
+
+pub has_high : (r : Option Resolution) → is_some (or_unresolved r).high ≡ true → is_some r ≡ true
+has_high None h = h
+has_high (Some r) h = refl
+
+pub has_version : (r : Option Resolution) → 0 < or_zero (version (or_unresolved r)) → is_some r ≡ true
+has_version None h = absurd (omega arith)
+has_version (Some r) h = refl
+
+pub running : (s : Shape) (c : ℕ) (l : LocalState) → Static s c l → l.phase ≢ Outside →
+    Inside c l.number l.begun
+running s c l t h = go t.active
+  where
+    go : (l.phase ≡ Outside) ⊎ Inside c l.number l.begun → Inside c l.number l.begun
+    go (inl e) = absurd (h e)
+    go (inr x) = x
+
+-- the same state in another phase
+in_phase : (s : Shape) (c : ℕ) (l : LocalState) (p : Phase) → Static s c l →
+    (p ≡ Outside) ⊎ Inside c l.number l.begun → Static s c (record l { phase = p })
+in_phase s c l p t h = record {
+  number = t.number;
+  active = h;
+  begun = t.begun;
+  installed = t.installed;
+  object = t.object;
+  held = t.held;
+  held_old = t.held_old;
+  count = t.count;
+  written = t.written;
+  high = t.high;
+  numbered = t.numbered;
+}
+
+left : (s : Shape) (c : ℕ) (l : LocalState) → Static s c l → Static s c (leave l)
+left s c l t = in_phase s c l Outside t (inl refl)
+
+entered : (s : Shape) (c : ℕ) (l : LocalState) (p : Phase) → Static s c l → l.phase ≢ Outside →
+    Static s c (record l { phase = p })
+entered s c l p t h = in_phase s c l p t (inr (running s c l t h))
+
+-- the same state with another resolution
+with_resolution : (s : Shape) (c : ℕ) (l : LocalState) (r : Option Resolution) → Static s c l → InShape s r →
+    Static s c (record l { resolution = r })
+with_resolution s c l r t h = record {
+  number = t.number;
+  active = t.active;
+  begun = t.begun;
+  installed = t.installed;
+  object = h;
+  held = t.held;
+  held_old = t.held_old;
+  count = t.count;
+  written = t.written;
+  high = t.high;
+  numbered = t.numbered;
+}
+
+-- more was found out of the object that is being resolved
+looked : (s : Shape) (c : ℕ) (l : LocalState) (r : Resolution) → Static s c l → is_some l.resolution ≡ true →
+    r.object ≡ (res l).object → Static s c (record l { resolution = Some r })
+looked s c l r t h same = with_resolution s c l (Some r) t (rw same (res-in_shape s l t.object h))
+
+installs : (s : Shape) (c : ℕ) (l : LocalState) (e : Event) → Static s c l → AllowedAs Install s l e →
+    Static s c (install s l)
+installs s c l e t a =
+    let below : l.installed < s.locators = t.held (ap is_some a.2.4) in
+    let w : Write =
+    record { object = (res l).object; locator = next_locator s l; old = or_zero (version (res l)) } in
+    let long : length (l.writes ++ w ∷ []) ≡ length l.writes + 1 = length-snoc l.writes w in
+    let inside : Inside c l.number l.begun = running s c l t (λ h. cc) in
+    let number : or_zero l.number ≡ c = ap or_zero inside.0 in
+    let count = t.count in
+    let base : c * s.locators + (l.installed + 1 - length (l.writes ++ w ∷ []))
+    ≡ c * s.locators + (l.installed - length l.writes) = rw long (omega arith) in
+    let own : or_zero l.number * s.locators + l.installed ≡ c * s.locators + l.installed =
+    ap (λ n. n * s.locators + l.installed) number in
+    record {
+      number = t.number;
+      active = t.active;
+      begun = t.begun;
+      installed = omega arith;
+      object = tt;
+      held = λ h. absurd (cc);
+      held_old = λ h. absurd (cc);
+      count = rw long (omega arith);
+      written = let written = t.written in rw long (omega arith);
+      high = λ h. let high = t.high h in rw long (omega arith);
+      numbered = rw base (numbered-snoc _ l.writes w t.numbered (omega arith));
+    }
+
+pub static_step : (s : Shape) (c : ℕ) (l : LocalState) (e : Event) (k : Kind) → Static s c l →
+    (k ≡ Enrol → e.found ≡ c) → AllowedAs k s l e → Static s c (after k s l e)
+static_step s c l e Enrol t n a = record {
+  number = inr (ap Some (n refl));
+  active = grind (arith);
+  begun = t.begun;
+  installed = t.installed;
+  object = t.object;
+  held = t.held;
+  held_old = t.held_old;
+  count = t.count;
+  written = t.written;
+  high = t.high;
+  numbered = t.numbered;
+}
+static_step s c l e Begin t n a = record {
+  number = t.number;
+  active = inr (grind (arith), omega arith);
+  begun = omega arith;
+  installed = t.installed;
+  object = tt;
+  held = t.held;
+  held_old = t.held_old;
+  count = omega arith;
+  written = omega arith;
+  high = λ h. absurd (cc);
+  numbered = tt;
+}
+static_step s c l e LookObj t n a = with_resolution s c l _ t a.3
+static_step s c l e LookOwner t n a = looked s c l _ t (has_word l.resolution a.2.2) refl
+static_step s c l e LookStatus t n a = looked s c l _ t (has_owner l.resolution a.2.2) refl
+static_step s c l e LookRank t n a = looked s c l _ t (has_owner l.resolution a.2.2) refl
+static_step s c l e LookOld t n a = looked s c l _ t (has_status l.resolution 4 a.2.2) refl
+static_step s c l e LookHigh t n a = looked s c l _ t (has_version l.resolution a.2.2) refl
+static_step s c l e LookNew t n a = looked s c l _ t (has_high l.resolution a.2.2) refl
+static_step s c l e Kill t n a = looked s c l _ t (has_owner l.resolution a.2.2) refl
+static_step s c l e PutOwner t n a = record {
+  number = t.number;
+  active = t.active;
+  begun = t.begun;
+  installed = t.installed;
+  object = t.object;
+  held = λ _. a.2.2;
+  held_old = t.held_old;
+  count = t.count;
+  written = t.written;
+  high = t.high;
+  numbered = t.numbered;
+}
+static_step s c l e PutOld t n a = record {
+  number = t.number;
+  active = t.active;
+  begun = t.begun;
+  installed = t.installed;
+  object = t.object;
+  held = t.held;
+  held_old = λ _. t.held (ap is_some a.2.4);
+  count = t.count;
+  written = t.written;
+  high = t.high;
+  numbered = t.numbered;
+}
+static_step s c l e Install t n a =
+    cond_both (e.found == e.expected) _ _ (Static s c) (λ _. installs s c l e t a)
+    (λ _. with_resolution s c l None t tt)
+static_step s c l e LookNumber t n a = with_resolution s c l _ t (kept_resolved s l.resolution t.object)
+static_step s c l e LookSelf t n a =
+    cond_both (e.found == given l.phase) _ _ (Static s c) (λ _. t) (λ _. left s c l t)
+static_step s c l e Release t n a = with_resolution s c l None t tt
+static_step s c l e PutHigh t n a = record {
+  number = t.number;
+  active = inr (running s c l t (λ h. grind arith));
+  begun = t.begun;
+  installed = t.installed;
+  object = t.object;
+  held = t.held;
+  held_old = t.held_old;
+  count = t.count;
+  written = t.written;
+  high = λ _. a.2.2;
+  numbered = t.numbered;
+}
+static_step s c l e PutNew t n a = record {
+  number = t.number;
+  active = inr (running s c l t (λ h. grind arith));
+  begun = t.begun;
+  installed = t.installed;
+  object = t.object;
+  held = t.held;
+  held_old = t.held_old;
+  count = t.count;
+  written = omega arith;
+  high = λ h. absurd (cc);
+  numbered = t.numbered;
+}
+static_step s c l e ToValidating t n a = cond_both (e.found == 1) _ _ (Static s c)
+    (λ _. entered s c l Validating t (λ h. grind arith)) (λ _. left s c l t)
+static_step s c l e Draw t n a = entered s c l Drawn t (λ h. cc)
+static_step s c l e Commit t n a = left s c l t
+static_step s c l e Quit t n a = left s c l t
+static_step s c l e Pause t n a =
+    cond_both (e.found == 1) _ _ (Static s c) (λ _. entered s c l Paused t (λ h. cc)) (λ _. left s c l t)
+static_step s c l e Resume t n a =
+    cond_both (e.found == 2) _ _ (Static s c) (λ _. entered s c l Running t (λ h. cc)) (λ _. left s c l t)
+static_step s c l e k t n a = t
+
+-- each caller's state, in a core run
+pub static : (s : Shape) (es : List Event) → Core s es → (c : ℕ) → Static s c (local s es c)
+static s [] core c = record {
+  number = inl refl;
+  active = inl refl;
+  begun = omega arith;
+  installed = omega arith;
+  object = tt;
+  held = λ h. absurd (cc);
+  held_old = λ h. absurd (cc);
+  count = omega arith;
+  written = omega arith;
+  high = λ h. absurd (cc);
+  numbered = tt;
+}
+static s (e ∷ es) core c = cond_both (e.caller == c) _ _ (Static s c)
+    (λ same. let P : ℕ → Type 0 = λ n. Static s n (after e.kind s (local s es n) e) in
+    subst P (eqb-true e.caller c same)
+    (static_step s e.caller (local s es e.caller) e e.kind (static s es core.0 e.caller)
+    core.1.enrolled core.1.allowed))
+    (λ _. static s es core.0 c)
+
+-- attempts and locators are only ever added
+pub begun_step : (s : Shape) (l : LocalState) (e : Event) (k : Kind) → l.begun ≤ (after k s l e).begun
+begun_step s l e Begin = omega arith
+begun_step s l e Install =
+    cond_both (e.found == e.expected) _ _ (λ (m : LocalState). l.begun ≤ m.begun) (λ _. omega arith)
+    (λ _. omega arith)
+begun_step s l e LookSelf =
+    cond_both (e.found == given l.phase) _ _ (λ (m : LocalState). l.begun ≤ m.begun) (λ _. omega arith)
+    (λ _. omega arith)
+begun_step s l e ToValidating =
+    cond_both (e.found == 1) _ _ (λ (m : LocalState). l.begun ≤ m.begun) (λ _. omega arith) (λ _. omega arith)
+begun_step s l e Pause =
+    cond_both (e.found == 1) _ _ (λ (m : LocalState). l.begun ≤ m.begun) (λ _. omega arith) (λ _. omega arith)
+begun_step s l e Resume =
+    cond_both (e.found == 2) _ _ (λ (m : LocalState). l.begun ≤ m.begun) (λ _. omega arith) (λ _. omega arith)
+begun_step s l e k = omega arith
+
+pub installed_step : (s : Shape) (l : LocalState) (e : Event) (k : Kind) →
+    l.installed ≤ (after k s l e).installed
+installed_step s l e Install =
+    cond_both (e.found == e.expected) _ _ (λ (m : LocalState). l.installed ≤ m.installed) (λ _. omega arith)
+    (λ _. omega arith)
+installed_step s l e LookSelf =
+    cond_both (e.found == given l.phase) _ _ (λ (m : LocalState). l.installed ≤ m.installed) (λ _. omega arith)
+    (λ _. omega arith)
+installed_step s l e ToValidating =
+    cond_both (e.found == 1) _ _ (λ (m : LocalState). l.installed ≤ m.installed) (λ _. omega arith)
+    (λ _. omega arith)
+installed_step s l e Pause =
+    cond_both (e.found == 1) _ _ (λ (m : LocalState). l.installed ≤ m.installed) (λ _. omega arith)
+    (λ _. omega arith)
+installed_step s l e Resume =
+    cond_both (e.found == 2) _ _ (λ (m : LocalState). l.installed ≤ m.installed) (λ _. omega arith)
+    (λ _. omega arith)
+installed_step s l e k = omega arith
+
+pub begun_more : (s : Shape) (es : List Event) (e : Event) (c : ℕ) →
+    (local s es c).begun ≤ (local s (e ∷ es) c).begun
+begun_more s es e c =
+    cond_both (e.caller == c) _ _ (λ (m : LocalState). (local s es c).begun ≤ m.begun)
+    (λ _. begun_step s (local s es c) e e.kind) (λ _. omega arith)
+
+pub installed_more : (s : Shape) (es : List Event) (e : Event) (c : ℕ) →
+    (local s es c).installed ≤ (local s (e ∷ es) c).installed
+installed_more s es e c =
+    cond_both (e.caller == c) _ _ (λ (m : LocalState). (local s es c).installed ≤ m.installed)
+    (λ _. installed_step s (local s es c) e e.kind) (λ _. omega arith)
+
+-- the caller's own state after its event, and that of another
+pub local_own : (s : Shape) (es : List Event) (e : Event) →
+    local s (e ∷ es) e.caller ≡ after e.kind s (local s es e.caller) e
+local_own s es e = rw (eq-eqb e.caller e.caller refl)
+
+pub local_other : (s : Shape) (es : List Event) (e : Event) (c : ℕ) → e.caller ≢ c →
+    local s (e ∷ es) c ≡ local s es c
+local_other s es e c h = rw (ne_eqb e.caller c h)
+
+-- a fact of each caller's state, from that of the caller that steps and those of the others
+pub callers : (s : Shape) (es : List Event) (e : Event) (P : ℕ → LocalState → Type 0) →
+    P e.caller (after e.kind s (local s es e.caller) e) → ((c : ℕ) → e.caller ≢ c → P c (local s es c)) →
+    (c : ℕ) → P c (local s (e ∷ es) c)
+callers s es e P own other c = go (cases_eq e.caller c)
+  where
+    go : (e.caller ≡ c) ⊎ (e.caller ≡ c → ⊥) → P c (local s (e ∷ es) c)
+    go (inl h) = subst (λ n. P n (local s (e ∷ es) n)) h (subst (P e.caller) (sym (local_own s es e)) own)
+    go (inr h) = subst (P c) (sym (local_other s es e c h)) (other c h)
+
+-- the locators installed grow at a successful Install alone
+pub installed_how : (s : Shape) (l : LocalState) (e : Event) (k : Kind) →
+    ((after k s l e).installed ≡ l.installed)
+    ⊎ ((k ≡ Install) × (e.found ≡ e.expected) × ((after k s l e).installed ≡ l.installed + 1))
+installed_how s l e Install = grind (arith, nat_tests)
+installed_how s l e LookSelf =
+    inl (cond_both (e.found == given l.phase) _ _ (λ (m : LocalState). m.installed ≡ l.installed) (λ _. refl)
+    (λ _. refl))
+installed_how s l e ToValidating =
+    inl (cond_both (e.found == 1) _ _ (λ (m : LocalState). m.installed ≡ l.installed) (λ _. refl) (λ _. refl))
+installed_how s l e Pause =
+    inl (cond_both (e.found == 1) _ _ (λ (m : LocalState). m.installed ≡ l.installed) (λ _. refl) (λ _. refl))
+installed_how s l e Resume =
+    inl (cond_both (e.found == 2) _ _ (λ (m : LocalState). m.installed ≡ l.installed) (λ _. refl) (λ _. refl))
+installed_how s l e k = inl refl
+
+-- what the first unused locator holds stays, but at a put on it
+pub held_how : (s : Shape) (l : LocalState) (e : Event) (k : Kind) (a : ℕ) → k ≢ PutOwner →
+    (after k s l e).held_owner ≡ Some a → (l.held_owner ≡ Some a) × ((after k s l e).installed ≡ l.installed)
+held_how s l e PutOwner a h q = absurd (h refl)
+held_how s l e Install a h q = grind (arith, nat_tests)
+held_how s l e LookSelf a h q = grind (arith, nat_tests)
+held_how s l e ToValidating a h q = grind (arith, nat_tests)
+held_how s l e Pause a h q = grind (arith, nat_tests)
+held_how s l e Resume a h q = grind (arith, nat_tests)
+held_how s l e k a h q = (q, refl)
+
+pub held_old_how : (s : Shape) (l : LocalState) (e : Event) (k : Kind) (a : ℕ) → k ≢ PutOld →
+    (after k s l e).held_old ≡ Some a → (l.held_old ≡ Some a) × ((after k s l e).installed ≡ l.installed)
+held_old_how s l e PutOld a h q = absurd (h refl)
+held_old_how s l e Install a h q = grind (arith, nat_tests)
+held_old_how s l e LookSelf a h q = grind (arith, nat_tests)
+held_old_how s l e ToValidating a h q = grind (arith, nat_tests)
+held_old_how s l e Pause a h q = grind (arith, nat_tests)
+held_old_how s l e Resume a h q = grind (arith, nat_tests)
+held_old_how s l e k a h q = (q, refl)
+
+pub installed_up : (s : Shape) (l : LocalState) (e : Event) (k : Kind) → k ≡ Install → e.found ≡ e.expected →
+    (after k s l e).installed ≡ l.installed + 1
+installed_up s l e Install q h = rw (eq-eqb e.found e.expected h)
+installed_up s l e k q h = absurd (cc)

@@ -1,0 +1,9 @@
+pub mod Words
+pub mod Traces
+pub mod State
+pub mod Rules
+pub mod Runs
+pub mod Histories
+pub mod Laws
+pub mod Tracking
+pub mod Replays

@@ -1,0 +1,23 @@
+-- The replay of a trace, which is given with its oldest event first.
+use Rattle.std.specs.Prelude.{◌≡◌, ℕ, ◌+◌, ◌<◌, List, length, reverse, take, slice_index, slice_index_or}
+use Rattle.dstm_core.specs.declared.event.Event.{Event}
+use Rattle.dstm_core.specs.declared.shape.Shape.{Shape}
+use Rattle.dstm_core.specs.Runs.{local, Core}
+use Rattle.dstm_core.specs.Tracking.{Tracked}
+use Rattle.dstm_core.specs.Traces.{at}
+use Rattle.dstm_core.specs.Words.{word_count}
+
+-- event i is the first that breaks the run: the events before it are a core run, and with it they are none
+pub record IsFirstBroken (shape : Shape) (trace : List Event) (i : ℕ) : Type 0 where
+  pub within : i < length trace
+  pub before : Core shape (reverse (take i trace))
+  pub broken : ¬ Core shape (reverse (take (i + 1) trace))
+
+-- the words and the callers' states are those after some events, the newest first
+pub record Stands (shape : Shape) (words : List ℕ) (callers : List Tracked) (log : List Event) : Type 0 where
+  pub all_words : length words ≡ word_count shape
+  pub each_word : (p : ℕ) → p < word_count shape → slice_index words p ≡ at log p
+  pub all_callers : length callers ≡ shape.callers
+  pub each_caller :
+      (c : ℕ) (d : Tracked) → c < shape.callers
+      → slice_index_or callers c d ≡ record { shape = shape; state = local shape log c }

@@ -1,0 +1,30 @@
+//! The core of the memory as an abstract machine: the words of a table, the events on them, and
+//! the rules by which a caller may make its next event.
+#![tactic(auto)]
+
+mod access;
+mod event;
+pub mod laws;
+mod local;
+mod located;
+mod reads;
+mod resolution;
+mod shape;
+mod state;
+mod status;
+mod table;
+mod verdict;
+mod writes;
+
+pub use event::{Event, Kind};
+pub use local::Local;
+pub use shape::{
+    MAX_ATTEMPTS, MAX_CALLERS, MAX_LOCATORS, MAX_OBJECTS, MAX_RANK, MAX_WORDS, Manager, Shape,
+};
+pub use state::{Phase, Read, Resolution, Write};
+pub use status::Status;
+pub use table::replay;
+pub use verdict::Replay;
+
+#[cfg(test)]
+mod tests;

@@ -1,0 +1,10 @@
+//! Contention managers: what an attempt does about an enemy, another attempt that has an object open
+//! for writing.
+#![tactic(auto)]
+
+mod decider;
+pub mod laws;
+#[cfg(test)]
+mod tests;
+
+pub use decider::{Choice, Decider};

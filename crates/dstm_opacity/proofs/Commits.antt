@@ -1,0 +1,247 @@
+-- The prefix at a sight's place holds the entry of each Commit that stands before the attempt's Begin.
+use Rattle.std.proofs.Common.{◌*◌, ◌++◌, ◌<◌, ◌==◌, ◌∙◌, ◌∷◌, ◌≡◌, ◌≢◌, ◌⊎◌, Bool, List, Some, [], ap, append_assoc, arith, inl, inr, refl, subst, sym, true, ℕ}
+use Rattle.std.proofs.lemmas.Bool.{cond_both, eq-eqb}
+use Rattle.std.proofs.lemmas.List.{reverse-append}
+use Rattle.std.proofs.lemmas.List.Elements.{Contains-append_left, Contains-push}
+use Rattle.std.specs.List.{Contains}
+use Rattle.std.specs.Prelude.{reverse}
+use Rattle.dstm_model.specs.Map.{Entry}
+use Rattle.dstm_model.specs.declared.value.Val.{Val}
+use Rattle.dstm_core.specs.Histories.{entry_of, history, is_draw, pass_place, prefix_at, will_of}
+use Rattle.dstm_core.specs.Rules.{AllowedAs, after}
+use Rattle.dstm_core.specs.Runs.{Core, local}
+use Rattle.dstm_core.specs.State.{LocalState, given, own_attempt}
+use Rattle.dstm_core.specs.Traces.{word}
+use Rattle.dstm_core.specs.Words.{place}
+use Rattle.dstm_core.specs.Words.Word.{StatusWord}
+use Rattle.dstm_core.specs.declared.event.Event.{Event}
+use Rattle.dstm_core.specs.declared.event.Kind.{Kind}
+use Rattle.dstm_core.specs.declared.event.Kind.TheVariants.{Begin, Check, Commit, Draw, Install, LookSelf, Pause, PutHigh, PutNew, Quit, Resume, Validating as ToValidating}
+use Rattle.dstm_core.specs.declared.shape.Shape.{Shape}
+use Rattle.dstm_core.specs.declared.state.Phase.TheVariants.{Drawn, Outside, Running}
+use Rattle.dstm_core.proofs.Columns.{own_in}
+use Rattle.dstm_core.proofs.Places.{put_at}
+use Rattle.dstm_core.proofs.Static.{callers, static}
+use Rattle.dstm_core.proofs.Statuses.{finished_stays}
+use Rattle.dstm_opacity.proofs.Begins.{before_attempt, begun_before, pass_begun}
+use Rattle.dstm_opacity.proofs.Draws.{commit_may}
+use Rattle.dstm_opacity.proofs.KeptLaw.{entry_same}
+use Rattle.dstm_opacity.proofs.Numbers.{Past, core_before, pass_past, past_more, past_past}
+use Rattle.dstm_opacity.proofs.Orders.{history_more, reverse_cons}
+use Rattle.dstm_opacity.proofs.Passes.{check_after}
+use Rattle.dstm_opacity.proofs.SinceDraw.{drawn_may}
+use Rattle.dstm_opacity.specs.Laws.{HoldCommitsBefore, IsBeginOf, IsCommit}
+
+-- the Draw of an attempt that has drawn and is under way, whose reads and writes have stayed since
+pub record DrawOf (s : Shape) (es : List Event) (l : LocalState) : Type 0 where
+  pub before : List Event
+  pub draw : Event
+  pub past : Past (draw ∷ before) es
+  pub kind : is_draw draw.kind ≡ true
+  pub reads : (local s before draw.caller).reads ≡ l.reads
+  pub writes : (local s before draw.caller).writes ≡ l.writes
+  pub own : own_attempt s (local s before draw.caller) ≡ own_attempt s l
+
+-- the phase that says so comes of a Draw, or was there
+drawn_back : (s : Shape) (l : LocalState) (e : Event) (k : Kind) → (after k s l e).phase ≡ Drawn →
+    (k ≡ Draw) ⊎ (l.phase ≡ Drawn)
+drawn_back s l e Draw h = inl refl
+drawn_back s l e Install h =
+    inr (cond_both (e.found == e.expected) _ _ (λ (m : LocalState). m.phase ≡ Drawn → l.phase ≡ Drawn)
+    (λ _ q. q) (λ _ q. q) h)
+drawn_back s l e LookSelf h =
+    inr (cond_both (e.found == given l.phase) _ _ (λ (m : LocalState). m.phase ≡ Drawn → l.phase ≡ Drawn)
+    (λ _ q. q) (λ _ q. absurd (cc)) h)
+drawn_back s l e ToValidating h =
+    inr (cond_both (e.found == 1) _ _ (λ (m : LocalState). m.phase ≡ Drawn → l.phase ≡ Drawn)
+    (λ _ q. absurd (cc)) (λ _ q. absurd (cc)) h)
+drawn_back s l e Pause h =
+    inr (cond_both (e.found == 1) _ _ (λ (m : LocalState). m.phase ≡ Drawn → l.phase ≡ Drawn)
+    (λ _ q. absurd (cc)) (λ _ q. absurd (cc)) h)
+drawn_back s l e Resume h =
+    inr (cond_both (e.found == 2) _ _ (λ (m : LocalState). m.phase ≡ Drawn → l.phase ≡ Drawn)
+    (λ _ q. absurd (cc)) (λ _ q. absurd (cc)) h)
+drawn_back s l e Begin h = absurd (cc)
+drawn_back s l e PutHigh h = absurd (cc)
+drawn_back s l e PutNew h = absurd (cc)
+drawn_back s l e Commit h = absurd (cc)
+drawn_back s l e Quit h = absurd (cc)
+drawn_back s l e k h = inr h
+
+-- what keeps an attempt drawn is a Check
+still_drawn : (s : Shape) (l : LocalState) (e : Event) (k : Kind) →
+    (k ≡ Check) ⊎ ((k ≡ Commit) ⊎ (k ≡ Quit)) → (after k s l e).phase ≡ Drawn → k ≡ Check
+still_drawn s l e k (inl q) h = q
+still_drawn s l e Commit (inr q) h = absurd (cc)
+still_drawn s l e Quit (inr q) h = absurd (cc)
+still_drawn s l e k (inr (inl q)) h = absurd (cc)
+still_drawn s l e k (inr (inr q)) h = absurd (cc)
+
+draw_keeps : (s : Shape) (l : LocalState) (e : Event) (k : Kind) → k ≡ Draw →
+    ((after k s l e).reads ≡ l.reads) × ((after k s l e).writes ≡ l.writes)
+    × (own_attempt s (after k s l e) ≡ own_attempt s l) × (is_draw k ≡ true)
+draw_keeps s l e Draw q = (refl, refl, refl, refl)
+draw_keeps s l e k q = absurd (cc)
+
+-- an attempt that has drawn and is under way has its Draw in the run
+pub draw_of : (s : Shape) (es : List Event) → Core s es → (c : ℕ) → (local s es c).phase ≡ Drawn →
+    DrawOf s es (local s es c)
+draw_of s [] core c h = absurd (cc)
+draw_of s (e ∷ es) core c h =
+    callers s es e (λ c l. l.phase ≡ Drawn → DrawOf s (e ∷ es) l)
+    (λ h. at_own (drawn_back s (local s es e.caller) e e.kind h) h (λ q. draw_of s es core.0 e.caller q))
+    (λ c d h. longer (local s es c) (draw_of s es core.0 c h)) c h
+  where
+    longer : (l : LocalState) → DrawOf s es l → DrawOf s (e ∷ es) l
+    longer l d = record {
+      before = d.before;
+      draw = d.draw;
+      past = past_more (d.draw ∷ d.before) es e d.past;
+      kind = d.kind;
+      reads = d.reads;
+      writes = d.writes;
+      own = d.own;
+    }
+
+    checked : DrawOf s es (local s es e.caller) → e.kind ≡ Check →
+        DrawOf s (e ∷ es) (after e.kind s (local s es e.caller) e)
+    checked d k =
+        let x = check_after s (local s es e.caller) e e.kind k core.1.allowed in
+        record {
+          before = d.before;
+          draw = d.draw;
+          past = past_more (d.draw ∷ d.before) es e d.past;
+          kind = d.kind;
+          reads = d.reads ∙ sym x.2;
+          writes = d.writes ∙ sym x.5;
+          own = d.own ∙ sym x.6;
+        }
+
+    at_own : (e.kind ≡ Draw) ⊎ ((local s es e.caller).phase ≡ Drawn) →
+        (after e.kind s (local s es e.caller) e).phase ≡ Drawn →
+        ((local s es e.caller).phase ≡ Drawn → DrawOf s es (local s es e.caller)) →
+        DrawOf s (e ∷ es) (after e.kind s (local s es e.caller) e)
+    at_own (inl k) h ih =
+        let x = draw_keeps s (local s es e.caller) e e.kind k in
+        record {
+          before = es;
+          draw = e;
+          past = record { more = []; is = refl };
+          kind = x.3;
+          reads = sym x.0;
+          writes = sym x.1;
+          own = sym x.2;
+        }
+    at_own (inr q) h ih =
+        let may =
+        drawn_may s e.caller (local s es e.caller) e e.kind
+        (static s es core.0 e.caller) q core.1.allowed in
+        checked (ih q) (still_drawn s (local s es e.caller) e e.kind may h)
+
+-- the entry of a Draw is in the prefixes of the history after it
+pub in_prefix : (s : Shape) (start : List Val) (will : ℕ → Bool) (run before es : List Event) (d : Event) →
+    Past (d ∷ before) es → is_draw d.kind ≡ true → will (own_attempt s (local s before d.caller)) ≡ true →
+    Contains (reverse (history s start will run es)) (entry_of s start run (local s before d.caller))
+in_prefix s start will run before es d p k w =
+    subst (λ xs. Contains (reverse (history s start will run xs)) x) p.is there
+  where
+    x : Entry
+    x = entry_of s start run (local s before d.caller)
+
+    older : List Entry
+    older = history s start will run before
+
+    newest : reverse (history s start will run (d ∷ before)) ≡ reverse older ++ x ∷ []
+    newest = rw (k, w) (reverse_cons x older)
+
+    there : Contains (reverse (history s start will run (p.more ++ d ∷ before))) x
+    there =
+        let more = history_more s start will run p.more (d ∷ before) in
+        subst (λ xs. Contains xs x)
+        (sym (ap reverse more.1 ∙ reverse-append more.0 (history s start will run (d ∷ before))))
+        (Contains-append_left (reverse (history s start will run (d ∷ before))) (reverse more.0) x
+        (subst (λ xs. Contains xs x) (sym newest) (Contains-push (reverse older) x)))
+
+-- a Commit that succeeds
+commit_puts : (s : Shape) (l : LocalState) (e : Event) (k : Kind) → k ≡ Commit → e.found ≡ e.expected →
+    AllowedAs k s l e → (e.place ≡ place s (StatusWord (own_attempt s l))) × (e.put ≡ 4)
+commit_puts s l e Commit q h a = (a.0, a.1.1 ∙ rw (eq-eqb e.found 3 (h ∙ a.1.0)) refl)
+commit_puts s l e k q h a = absurd (cc)
+
+committed_will : (s : Shape) (run es : List Event) (e : Event) → Past (e ∷ es) run → Core s run → IsCommit e →
+    will_of s run (own_attempt s (local s es e.caller)) ≡ true
+committed_will s run es e p core k = eq-eqb (word s run (StatusWord a)) 4 later
+  where
+    a : ℕ
+    a = own_attempt s (local s es e.caller)
+
+    core_e : Core s (e ∷ es)
+    core_e = core_before s (e ∷ es) run p core
+
+    out : (local s es e.caller).phase ≢ Outside
+    out = λ z. let y = commit_may s (local s es e.caller) e e.kind k.kind core_e.1.allowed in cc
+
+    below : own_attempt s (local s es e.caller) < s.callers * s.attempts
+    below = own_in s e.caller (local s es e.caller) (static s es core_e.0 e.caller) core_e.1.caller out
+
+    now : word s (e ∷ es) (StatusWord (own_attempt s (local s es e.caller))) ≡ 4
+    now =
+        let puts = commit_puts s (local s es e.caller) e e.kind k.kind k.succeeds core_e.1.allowed in
+        put_at es e _ puts.0 ∙ puts.1
+
+    later : word s run (StatusWord (own_attempt s (local s es e.caller))) ≡ 4
+    later = subst (λ xs. word s xs (StatusWord (own_attempt s (local s es e.caller))) ≡ 4) p.is
+        (finished_stays s p.more (e ∷ es) (own_attempt s (local s es e.caller))
+        (subst (Core s) (sym p.is) core) below (let y = now in omega arith) ∙ now)
+
+-- so the entry of a Commit is in the prefixes after it
+pub commit_in_prefix : (s : Shape) (start : List Val) (run q es : List Event) (e : Event) → Core s run →
+    Past (e ∷ es) q → Past q run → IsCommit e →
+    Contains (reverse (history s start (will_of s run) run q)) (entry_of s start run (local s es e.caller))
+commit_in_prefix s start run q es e core p r k =
+    subst (Contains (reverse (history s start (will_of s run) run q)))
+    (entry_same s start run (local s es e.caller) (local s d.before d.draw.caller) d.reads d.writes)
+    (in_prefix s start (will_of s run) run d.before q d.draw place d.kind will)
+  where
+    past : Past (e ∷ es) run
+    past = past_past (e ∷ es) q run p r
+
+    core_e : Core s (e ∷ es)
+    core_e = core_before s (e ∷ es) run (past_past (e ∷ es) q run p r) core
+
+    d : DrawOf s es (local s es e.caller)
+    d = draw_of s es core_e.0 e.caller (commit_may s (local s es e.caller) e e.kind k.kind core_e.1.allowed)
+
+    place : Past (d.draw ∷ d.before) q
+    place = past_past (d.draw ∷ d.before) (e ∷ es) q (past_more (d.draw ∷ d.before) es e d.past) p
+
+    will : will_of s run (own_attempt s (local s d.before d.draw.caller)) ≡ true
+    will = ap (will_of s run) d.own ∙ committed_will s run es e (past_past (e ∷ es) q run p r) core k
+
+-- the prefix at the place of a pass holds each Commit before the attempt's Begin
+pub commits_held : (s : Shape) (start : List Val) (run es : List Event) (c n : ℕ) → Core s run → Past es run →
+    (local s es c).phase ≡ Running → (local s es c).pass ≡ Some n →
+    HoldCommitsBefore s start run es c (prefix_at s start run (pass_place c es))
+commits_held s start run es c n core p ph pass = λ since between early f commit is own done.
+    commit_in_prefix s start run (pass_place c es) early commit core
+    (before_attempt s es (pass_place c es) (commit ∷ early) c (pass_past c es)
+    (commit_past since between early f commit is)
+    (less since between early f commit is own))
+    (past_past (pass_place c es) es run (pass_past c es) p) done
+  where
+    commit_past : (since between early : List Event) (f commit : Event) →
+        es ≡ since ++ f ∷ (between ++ commit ∷ early) → Past (commit ∷ early) es
+    commit_past since between early f commit is = record {
+      more = since ++ f ∷ between;
+      is = append_assoc since (f ∷ between) (commit ∷ early) ∙ sym is;
+    }
+
+    less : (since between early : List Event) (f commit : Event) →
+        es ≡ since ++ f ∷ (between ++ commit ∷ early) → IsBeginOf c f →
+        (local s (commit ∷ early) c).begun < (local s (pass_place c es) c).begun
+    less since between early f commit is own =
+        let here = pass_begun s es (core_before s es run p core) c n ph pass in
+        let raised = begun_before s since between (commit ∷ early) f c own in
+        let at_es : (local s (commit ∷ early) c).begun < (local s es c).begun =
+        subst (λ xs. (local s (commit ∷ early) c).begun < (local s xs c).begun) (sym is) raised in
+        omega arith

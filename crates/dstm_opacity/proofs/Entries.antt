@@ -1,0 +1,109 @@
+-- Each entry of a history names objects of the shape, and each at most once.
+use Rattle.std.proofs.Common.{◌&&◌, ◌++◌, ◌<◌, ◌==◌, ◌∷◌, ◌≡◌, ◌≢◌, ◌⊎◌, Bool, List, None, Some, [], false, inl, inr, true, ℕ}
+use Rattle.std.proofs.lemmas.Bool.{and_parts, cases_Bool, eqb-false}
+use Rattle.std.proofs.lemmas.List.Elements.{All-nil, All-push}
+use Rattle.std.specs.List.{All}
+use Rattle.std.specs.Prelude.{reverse}
+use Rattle.dstm_model.specs.Map.{IsEntry, IsUnnamed, NamesOnce}
+use Rattle.dstm_model.specs.declared.value.Val.{Val}
+use Rattle.dstm_core.specs.Histories.{entry_of, history, is_draw, new_values, old_values, read_values}
+use Rattle.dstm_core.specs.Runs.{Core, local}
+use Rattle.dstm_core.specs.State.{own_attempt, read_of, write_of}
+use Rattle.dstm_core.specs.declared.event.Event.{Event}
+use Rattle.dstm_core.specs.declared.shape.Shape.{Shape}
+use Rattle.dstm_core.specs.declared.state.Phase.TheVariants.{Outside}
+use Rattle.dstm_core.specs.declared.state.Read.{Read}
+use Rattle.dstm_core.specs.declared.state.Write.{Write}
+use Rattle.dstm_opacity.proofs.Draws.{draw_may}
+use Rattle.dstm_opacity.proofs.Orders.{reverse_cons}
+use Rattle.dstm_opacity.proofs.Recorded.{ReadsNamed, reads}
+use Rattle.dstm_opacity.proofs.Tidy.{Apart, ReadsOnce, WritesOnce, read_apart, tidy}
+use Rattle.dstm_opacity.proofs.Written.{WritesOk, written}
+
+write_apart : (o : ℕ) (w : Write) (ws : List Write) → write_of o (w ∷ ws) ≡ None →
+    (w.object ≢ o) × (write_of o ws ≡ None)
+write_apart o w ws h = go (cases_Bool (w.object == o))
+  where
+    go : (w.object == o ≡ true) ⊎ (w.object == o ≡ false) → (w.object ≢ o) × (write_of o ws ≡ None)
+    go (inl q) = let z : Some w ≡ None = rw q at h in absurd (cc)
+    go (inr q) = (eqb-false w.object o q, rw q at h)
+
+unnamed_reads : (s : Shape) (start : List Val) (run : List Event) (o : ℕ) (rs : List Read) →
+    read_of o rs ≡ None → IsUnnamed o (read_values s start run rs)
+unnamed_reads s start run o [] h = tt
+unnamed_reads s start run o (r ∷ rs) h =
+    let x = read_apart o r rs h in (x.0, unnamed_reads s start run o rs x.1)
+
+unnamed_old : (s : Shape) (start : List Val) (run : List Event) (o : ℕ) (ws : List Write) →
+    write_of o ws ≡ None → IsUnnamed o (old_values s start run ws)
+unnamed_old s start run o [] h = tt
+unnamed_old s start run o (w ∷ ws) h =
+    let x = write_apart o w ws h in (x.0, unnamed_old s start run o ws x.1)
+
+unnamed_new : (s : Shape) (run : List Event) (o : ℕ) (ws : List Write) → write_of o ws ≡ None →
+    IsUnnamed o (new_values s run ws)
+unnamed_new s run o [] h = tt
+unnamed_new s run o (w ∷ ws) h = let x = write_apart o w ws h in (x.0, unnamed_new s run o ws x.1)
+
+unnamed-append : (o : ℕ) (xs ys : List (ℕ × Val)) → IsUnnamed o xs → IsUnnamed o ys → IsUnnamed o (xs ++ ys)
+unnamed-append o [] ys h k = k
+unnamed-append o (x ∷ xs) ys h k = (h.0, unnamed-append o xs ys h.1 k)
+
+old_once : (s : Shape) (start : List Val) (run es : List Event) (own : ℕ) (ws : List Write) → WritesOnce ws →
+    WritesOk s es own ws → NamesOnce s.objects (old_values s start run ws)
+old_once s start run es own [] h k = tt
+old_once s start run es own (w ∷ ws) h k =
+    (k.0.object, unnamed_old s start run w.object ws h.0, old_once s start run es own ws h.1 k.1)
+
+new_once : (s : Shape) (run es : List Event) (own : ℕ) (ws : List Write) → WritesOnce ws →
+    WritesOk s es own ws → NamesOnce s.objects (new_values s run ws)
+new_once s run es own [] h k = tt
+new_once s run es own (w ∷ ws) h k =
+    (k.0.object, unnamed_new s run w.object ws h.0, new_once s run es own ws h.1 k.1)
+
+reads_once : (s : Shape) (start : List Val) (run es : List Event) (rs : List Read) (ws : List Write) →
+    ReadsOnce rs → ReadsNamed s es rs → Apart ws rs → NamesOnce s.objects (old_values s start run ws) →
+    NamesOnce s.objects (read_values s start run rs ++ old_values s start run ws)
+reads_once s start run es [] ws h n a k = k
+reads_once s start run es (r ∷ rs) ws h n a k = (
+  n.0,
+  unnamed-append r.object (read_values s start run rs) (old_values s start run ws)
+      (unnamed_reads s start run r.object rs h.0) (unnamed_old s start run r.object ws a.0),
+  reads_once s start run es rs ws h.1 n.2 a.1 k,
+)
+
+-- the entry of an attempt under way
+pub entry_once : (s : Shape) (start : List Val) (run es : List Event) (c : ℕ) → Core s es → c < s.callers →
+    (local s es c).phase ≢ Outside → IsEntry s.objects (entry_of s start run (local s es c))
+entry_once s start run es c core lt out =
+    let t = tidy s es core c in let ok = written s es core c lt out in
+    let own = own_attempt s (local s es c) in
+    record {
+      reads = reads_once s start run es (local s es c).reads (local s es c).writes t.reads (reads s es core c)
+          t.apart (old_once s start run es own (local s es c).writes t.writes ok);
+      writes = new_once s run es own (local s es c).writes t.writes ok;
+    }
+
+-- each entry of the history
+pub entries_once : (s : Shape) (start : List Val) (will : ℕ → Bool) (run es : List Event) → Core s es →
+    All (IsEntry s.objects) (reverse (history s start will run es))
+entries_once s start will run [] core = All-nil (IsEntry s.objects)
+entries_once s start will run (e ∷ es) core =
+    go (cases_Bool (is_draw e.kind && will (own_attempt s (local s es e.caller))))
+    (entries_once s start will run es core.0)
+  where
+    entry : is_draw e.kind ≡ true → IsEntry s.objects (entry_of s start run (local s es e.caller))
+    entry d =
+        let v = draw_may s (local s es e.caller) e e.kind d core.1.allowed in
+        entry_once s start run es e.caller core.0 core.1.caller (λ z. cc)
+
+    go : (is_draw e.kind && will (own_attempt s (local s es e.caller)) ≡ true)
+        ⊎ (is_draw e.kind && will (own_attempt s (local s es e.caller)) ≡ false) →
+        All (IsEntry s.objects) (reverse (history s start will run es)) →
+        All (IsEntry s.objects) (reverse (history s start will run (e ∷ es)))
+    go (inl q) ih =
+        let two = and_parts (is_draw e.kind) (will (own_attempt s (local s es e.caller))) q in
+        rw (q, reverse_cons (entry_of s start run (local s es e.caller)) (history s start will run es))
+        (All-push (IsEntry s.objects) (reverse (history s start will run es))
+        (entry_of s start run (local s es e.caller)) ih (entry two.0))
+    go (inr q) ih = rw q ih

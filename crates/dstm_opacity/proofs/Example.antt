@@ -1,0 +1,134 @@
+-- The example is a core run.
+use Rattle.std.proofs.Common.{◌≡◌, ◌<◌, ◌∷◌, List, [], inl, inr, refl, arith}
+use Rattle.dstm_model.specs.declared.value.Val.{Val}
+use Rattle.dstm_core.specs.declared.event.Event.{Event}
+use Rattle.dstm_core.specs.declared.event.Kind.TheVariants.{Enrol}
+use Rattle.dstm_core.specs.declared.shape.Shape.{Shape}
+use Rattle.dstm_core.specs.Histories.{Lawful}
+use Rattle.dstm_core.specs.Rules.{AllowedAs}
+use Rattle.dstm_core.specs.Runs.{Core, Fits, local}
+use Rattle.dstm_core.specs.Traces.{at}
+use Rattle.dstm_opacity.specs.Example.{SomeRun, before_commit, before_sight, reader_checks, reader_commit, reader_draws, run, shape, sight, start, then, writer_again, writer_commits}
+
+-- each of some events, the oldest first, fits the run before it
+abbrev AllFit : List Event → List Event → Type 0
+AllFit before [] = Unit {0}
+AllFit before (e ∷ events) = Fits shape before e × AllFit (e ∷ before) events
+
+core_then : (before events : List Event) → Core shape before → AllFit before events →
+    Core shape (then before events)
+core_then before [] core h = core
+core_then before (e ∷ events) core h = core_then (e ∷ before) events (core, h.0) h.1
+
+-- an event that is no Enrol, and one that is
+fit : {before : List Event} {e : Event} → e.found ≡ at before e.place → e.caller < shape.callers →
+    (e.kind ≡ Enrol → ⊥) → AllowedAs e.kind shape (local shape before e.caller) e → Fits shape before e
+fit linked caller other allowed = record {
+  linked = linked;
+  caller = caller;
+  enrolled = λ q. absurd (other q);
+  allowed = allowed;
+}
+
+enrol : {before : List Event} {e : Event} → e.found ≡ at before e.place → e.caller < shape.callers →
+    e.found ≡ e.caller → AllowedAs e.kind shape (local shape before e.caller) e → Fits shape before e
+enrol linked caller number allowed = record {
+  linked = linked;
+  caller = caller;
+  enrolled = λ q. number;
+  allowed = allowed;
+}
+
+infixr 30 ◌also◌
+◌also◌ : {A B : Type 0} → A → B → A × B
+◌also◌ x y = (x, y)
+
+writer_commits-fit : AllFit [] writer_commits
+writer_commits-fit =
+    enrol refl (omega arith) refl (refl, (refl, refl), refl, tt) also
+    fit refl (omega arith) (λ q. cc) (refl, (refl, refl), (refl, refl, omega arith, inl refl), omega arith) also
+    fit refl (omega arith) (λ q. cc) (refl, (refl, refl), (refl, refl, refl), omega arith) also
+    fit refl (omega arith) (λ q. cc) (refl, (refl, refl), (refl, refl, omega arith), omega arith) also
+    fit refl (omega arith) (λ q. cc) (refl, (refl, refl), (refl, refl, refl, refl, refl), omega arith) also
+    fit refl (omega arith) (λ q. cc) (refl, (refl, refl), (refl, refl, refl, refl, refl, refl), omega arith) also
+    fit refl (omega arith) (λ q. cc) (refl, (refl, refl), (inl refl, refl, omega arith, refl), omega arith) also
+    fit refl (omega arith) (λ q. cc) (refl, (refl, refl), (refl, refl, omega arith, refl), omega arith) also
+    fit refl (omega arith) (λ q. cc) (refl, (refl, refl), (inr (refl, refl), refl), omega arith) also
+    fit refl (omega arith) (λ q. cc) (refl, (refl, refl), (refl, refl), tt) also
+    fit refl (omega arith) (λ q. cc) (refl, (refl, refl), (refl, refl, inl refl), omega arith) also
+    tt
+
+reader_checks-fit : AllFit (then [] writer_commits) reader_checks
+reader_checks-fit =
+    enrol refl (omega arith) refl (refl, (refl, refl), refl, tt) also
+    fit refl (omega arith) (λ q. cc) (refl, (refl, refl), (refl, refl, omega arith, inl refl), omega arith) also
+    fit refl (omega arith) (λ q. cc) (refl, (refl, refl), (refl, refl, refl), omega arith) also
+    fit refl (omega arith) (λ q. cc) (refl, (refl, refl), (refl, refl, omega arith), omega arith) also
+    fit refl (omega arith) (λ q. cc) (refl, (refl, refl), (inl refl, refl, refl, omega arith), omega arith) also
+    fit refl (omega arith) (λ q. cc) (refl, (refl, refl), (refl, refl, omega arith), omega arith) also
+    fit refl (omega arith) (λ q. cc) (refl, (refl, refl), (refl, refl, refl), omega arith) also
+    fit refl (omega arith) (λ q. cc) (refl, (refl, refl), (refl, refl), tt) also
+    fit refl (omega arith) (λ q. cc) (refl, (refl, refl), (inl (refl, refl), refl, omega arith), omega arith) also
+    tt
+
+sight-fits : Fits shape before_sight sight
+sight-fits = fit refl (omega arith) (λ q. cc) (refl, (refl, refl), (refl, refl, refl, inl refl), omega arith)
+
+reader_draws-fit : AllFit (sight ∷ before_sight) reader_draws
+reader_draws-fit =
+    fit refl (omega arith) (λ q. cc) (refl, (refl, refl), (inl (refl, refl), refl), omega arith) also
+    fit refl (omega arith) (λ q. cc) (refl, (refl, refl), (refl, refl), tt) also
+    tt
+
+reader_commit-fits : Fits shape before_commit reader_commit
+reader_commit-fits = fit refl (omega arith) (λ q. cc) (refl, (refl, refl), (refl, refl, inr refl), omega arith)
+
+writer_again-fit : AllFit (reader_commit ∷ before_commit) writer_again
+writer_again-fit =
+    fit refl (omega arith) (λ q. cc) (refl, (refl, refl), (refl, refl, omega arith, inl refl), omega arith) also
+    fit refl (omega arith) (λ q. cc) (refl, (refl, refl), (refl, refl, refl), omega arith) also
+    fit refl (omega arith) (λ q. cc) (refl, (refl, refl), (refl, refl, omega arith), omega arith) also
+    fit refl (omega arith) (λ q. cc) (refl, (refl, refl), (inl refl, refl, refl, omega arith), omega arith) also
+    fit refl (omega arith) (λ q. cc) (refl, (refl, refl), (refl, refl, omega arith), omega arith) also
+    fit refl (omega arith) (λ q. cc) (refl, (refl, refl), (refl, refl, refl), omega arith) also
+    fit refl (omega arith) (λ q. cc) (refl, (refl, refl), (refl, refl, omega arith), omega arith) also
+    fit refl (omega arith) (λ q. cc) (refl, (refl, refl), (refl, refl, refl, refl, refl), omega arith) also
+    fit refl (omega arith) (λ q. cc) (refl, (refl, refl), (refl, refl, refl, refl, refl, refl), omega arith) also
+    fit refl (omega arith) (λ q. cc) (refl, (refl, refl), (inl refl, refl, omega arith, refl), omega arith) also
+    fit refl (omega arith) (λ q. cc) (refl, (refl, refl), (refl, refl, omega arith, refl), omega arith) also
+    fit refl (omega arith) (λ q. cc) (refl, (refl, refl), (inr (refl, refl), refl), omega arith) also
+    fit refl (omega arith) (λ q. cc) (refl, (refl, refl), (refl, refl), tt) also
+    fit refl (omega arith) (λ q. cc) (refl, (refl, refl), (refl, refl, inl refl), omega arith) also
+    tt
+
+run_fits : Core shape run
+run_fits =
+    let written = core_then [] writer_commits tt writer_commits-fit in
+    let checked = core_then (then [] writer_commits) reader_checks written reader_checks-fit in
+    let drawn = core_then (sight ∷ before_sight) reader_draws (checked, sight-fits) reader_draws-fit in
+    core_then (reader_commit ∷ before_commit) writer_again (drawn, reader_commit-fits) writer_again-fit
+
+-- each run is one of the law that holds for every map
+any_lawful : (s : Shape) (values : List Val) (es : List Event) → Lawful s values (λ map. Unit {0}) es
+any_lawful s values [] = tt
+any_lawful s values (e ∷ es) = (any_lawful s values es, λ _ _ map _ _ _. tt)
+
+-- what the example shows
+pub some_run : SomeRun
+some_run = record {
+  valid = record {
+    objects = omega arith;
+    some_caller = omega arith;
+    callers = omega arith;
+    some_attempt = omega arith;
+    attempts = omega arith;
+    some_locators = omega arith;
+    locators = omega arith;
+    words = omega arith;
+  };
+  is_run = record { values = refl; core = run_fits; law = any_lawful shape start run };
+  has_history = refl;
+  has_sight = record { kind = refl; found = refl };
+  one_read = refl;
+  none_checked = refl;
+}

@@ -1,0 +1,125 @@
+-- The state after every prefix of a history is lawful.
+use Rattle.std.proofs.Common.{◌&&◌, ◌++◌, ◌∙◌, ◌∷◌, ◌≡◌, ◌≢◌, ◌⊎◌, List, [], ap, append_assoc, inl, inr, length, refl, subst, sym, true, ℕ}
+use Rattle.std.proofs.lemmas.Bool.{and_parts, cond_both}
+use Rattle.dstm_model.specs.Map.{with_writes}
+use Rattle.dstm_model.specs.declared.value.Val.{Val}
+use Rattle.dstm_core.specs.Histories.{KeepsLaw, Lawful, entry_of, history, is_draw, pass_place, will_of}
+use Rattle.dstm_core.specs.Runs.{Core, local}
+use Rattle.dstm_core.specs.State.{own_attempt}
+use Rattle.dstm_core.specs.declared.event.Event.{Event}
+use Rattle.dstm_core.specs.declared.event.Kind.{Kind}
+use Rattle.dstm_core.specs.declared.event.Kind.TheVariants.{PutHigh, PutNew}
+use Rattle.dstm_core.specs.declared.shape.Shape.{Shape}
+use Rattle.dstm_core.specs.declared.state.Phase.TheVariants.{Outside, Validating}
+use Rattle.dstm_core.proofs.Statuses.{core_past}
+use Rattle.dstm_opacity.proofs.Draws.{draw_may, drawn_yes}
+use Rattle.dstm_opacity.proofs.KeptLaw.{law_ok}
+use Rattle.dstm_opacity.proofs.Legal.{legal_entry}
+use Rattle.dstm_opacity.proofs.Numbers.{pass_past}
+use Rattle.dstm_opacity.proofs.Recorded.{reads, reads_more}
+use Rattle.dstm_opacity.proofs.States.{map_after, state_length}
+use Rattle.dstm_opacity.proofs.Values.{WritesKept, entry_later, entry_stays, kept_from, kept_more, puts_value}
+use Rattle.dstm_opacity.proofs.Written.{written}
+
+put_draw : (k : Kind) → puts_value k ≡ true → is_draw k ≡ true → ⊥
+unfolding puts_value
+put_draw PutNew q d = cc
+put_draw PutHigh q d = cc
+put_draw k q d = cc
+
+lawful_past : (s : Shape) (start : List Val) (holds : List Val → Type 0) (more es : List Event) →
+    Lawful s start holds (more ++ es) → Lawful s start holds es
+lawful_past s start holds [] es l = l
+lawful_past s start holds (e ∷ more) es l = lawful_past s start holds more es l.0
+
+law_entry : (s : Shape) (start : List Val) (holds : List Val → Type 0) (es : List Event) (d : Event)
+    (more : List Event) → length start ≡ s.objects → Core s (more ++ d ∷ es) → Lawful s start holds es →
+    is_draw d.kind ≡ true → will_of s (more ++ d ∷ es) (own_attempt s (local s es d.caller)) ≡ true →
+    holds (map_after start (history s start (will_of s (more ++ d ∷ es)) (more ++ d ∷ es) es)) →
+    holds (with_writes (map_after start (history s start (will_of s (more ++ d ∷ es)) (more ++ d ∷ es) es))
+    (entry_of s start (more ++ d ∷ es) (local s es d.caller)).writes)
+law_entry s start holds es d more long core law k w h =
+    go (law_ok s start holds es core_d.0 law d.caller core_d.1.caller (inr (inl v)))
+  where
+    core_d : Core s (d ∷ es)
+    core_d = core_past s more (d ∷ es) core
+
+    v : (local s es d.caller).phase ≡ Validating
+    v = draw_may s (local s es d.caller) d d.kind k core_d.1.allowed
+
+    out : (local s es d.caller).phase ≢ Outside
+    out = λ z. let y = v in cc
+
+    kept : WritesKept s es (own_attempt s (local s es d.caller)) (local s es d.caller).writes
+    kept = kept_from s es (own_attempt s (local s es d.caller)) (local s es d.caller).writes
+        (written s es core_d.0 d.caller core_d.1.caller out)
+
+    not_put : is_draw d.kind ≡ true → puts_value d.kind ≡ true → ⊥
+    not_put x y = put_draw d.kind y x
+
+    now : entry_of s start (d ∷ es) (local s es d.caller) ≡ entry_of s start es (local s es d.caller)
+    now = entry_stays s start es d (own_attempt s (local s es d.caller)) (local s es d.caller) core_d
+        (reads s es core_d.0 d.caller) kept (λ z. absurd (not_put k z))
+
+    later : entry_of s start (more ++ d ∷ es) (local s es d.caller) ≡ entry_of s start (d ∷ es)
+        (local s es d.caller)
+    later = (entry_later s start (d ∷ es) more (own_attempt s (local s es d.caller)) (local s es d.caller) core
+        (drawn_yes s es d k)
+        (reads_more s es d (local s es d.caller).reads core_d (reads s es core_d.0 d.caller))
+        (kept_more s es d (own_attempt s (local s es d.caller)) (local s es d.caller).writes core_d kept)).0
+
+    go : ((local s es d.caller).writes ≡ [])
+        ⊎ KeepsLaw holds s.objects (entry_of s start es (local s es d.caller)) →
+        holds (with_writes (map_after start (history s start (will_of s (more ++ d ∷ es)) (more ++ d ∷ es) es))
+        (entry_of s start (more ++ d ∷ es) (local s es d.caller)).writes)
+    go (inl x) = rw x h
+    go (inr x) =
+        (subst (KeepsLaw holds s.objects) (sym (later ∙ now)) x)
+        (map_after start (history s start (will_of s (more ++ d ∷ es)) (more ++ d ∷ es) es))
+        (state_length (history s start (will_of s (more ++ d ∷ es)) (more ++ d ∷ es) es) start ∙ long) h
+        (legal_entry s start es d more long core k w)
+
+-- the state after the entries of each past is lawful
+pub lawful_from : (s : Shape) (start : List Val) (holds : List Val → Type 0) (run : List Event) →
+    length start ≡ s.objects → Core s run → Lawful s start holds run → holds start → (es more : List Event) →
+    more ++ es ≡ run → holds (map_after start (history s start (will_of s run) run es))
+lawful_from s start holds run long core law h [] more q = h
+lawful_from s start holds run long core law h (d ∷ es) more q =
+    add (lawful_from s start holds run long core law h es (more ++ d ∷ []) (append_assoc more (d ∷ []) es ∙ q))
+  where
+    law_q : Lawful s start holds es
+    law_q = (lawful_past s start holds more (d ∷ es) (subst (Lawful s start holds) (sym q) law)).0
+
+    entry : is_draw d.kind ≡ true → will_of s run (own_attempt s (local s es d.caller)) ≡ true →
+        holds (map_after start (history s start (will_of s run) run es)) →
+        holds (with_writes (map_after start (history s start (will_of s run) run es))
+        (entry_of s start run (local s es d.caller)).writes)
+    entry = subst
+        (λ r. is_draw d.kind ≡ true → will_of s r (own_attempt s (local s es d.caller)) ≡ true →
+        holds (map_after start (history s start (will_of s r) r es)) →
+        holds (with_writes (map_after start (history s start (will_of s r) r es))
+        (entry_of s start r (local s es d.caller)).writes)) q
+        (law_entry s start holds es d more long (subst (Core s) (sym q) core) law_q)
+
+    add : holds (map_after start (history s start (will_of s run) run es)) →
+        holds (map_after start (history s start (will_of s run) run (d ∷ es)))
+    add ih = cond_both (is_draw d.kind && will_of s run (own_attempt s (local s es d.caller)))
+        (entry_of s start run (local s es d.caller) ∷ history s start (will_of s run) run es)
+        (history s start (will_of s run) run es) (λ x. holds (map_after start x))
+        (λ z. let two = and_parts (is_draw d.kind) (will_of s run (own_attempt s (local s es d.caller))) z in
+        entry two.0 two.1 ih) (λ _. ih)
+
+-- the state after every prefix of the history is lawful: a prefix has the draws of a part of the run
+pub law_at_every_prefix : (s : Shape) (start : List Val) (holds : List Val → Type 0) (more es : List Event) →
+    length start ≡ s.objects → Core s (more ++ es) → Lawful s start holds (more ++ es) → holds start →
+    holds (map_after start (history s start (will_of s (more ++ es)) (more ++ es) es))
+law_at_every_prefix s start holds more es long core law h =
+    lawful_from s start holds (more ++ es) long core law h es more refl
+
+-- the state after the prefix at a sight's place is lawful
+pub pass_lawful : (s : Shape) (start : List Val) (holds : List Val → Type 0) (more es : List Event) (c : ℕ) →
+    length start ≡ s.objects → Core s (more ++ es) → Lawful s start holds (more ++ es) → holds start →
+    holds (map_after start (history s start (will_of s (more ++ es)) (more ++ es) (pass_place c es)))
+pass_lawful s start holds more es c long core law h = let p = pass_past c es in
+    lawful_from s start holds (more ++ es) long core law h (pass_place c es) (more ++ p.more)
+    (append_assoc more p.more (pass_place c es) ∙ ap (λ xs. more ++ xs) p.is)

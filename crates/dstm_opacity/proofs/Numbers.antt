@@ -1,0 +1,139 @@
+-- Between two moments at which the counter of numbers is the same no attempt draws.
+use Rattle.std.proofs.Common.{◌&&◌, ◌++◌, ◌+◌, ◌<◌, ◌==◌, ◌∙◌, ◌∷◌, ◌≡◌, ◌≤◌, ◌⊎◌, Bool, List, [], ap, append_assoc, arith, inl, inr, refl, subst, sym, true, ℕ}
+use Rattle.std.proofs.lemmas.Bool.{cond_both}
+use Rattle.dstm_core.specs.Histories.{is_draw, is_look_number, pass_place}
+use Rattle.dstm_core.specs.Rules.{AllowedAs}
+use Rattle.dstm_core.specs.Runs.{Core, local}
+use Rattle.dstm_core.specs.Traces.{at, word}
+use Rattle.dstm_core.specs.Words.Word.{NumbersWord}
+use Rattle.dstm_core.specs.declared.event.Event.{Event}
+use Rattle.dstm_core.specs.declared.event.Kind.{Kind}
+use Rattle.dstm_core.specs.declared.event.Kind.TheVariants.{Draw}
+use Rattle.dstm_core.specs.declared.shape.Shape.{Shape}
+use Rattle.dstm_core.specs.declared.state.Read.{Read}
+use Rattle.dstm_core.proofs.Basic.{Names}
+use Rattle.dstm_core.proofs.Columns.{numbers, step}
+use Rattle.dstm_core.proofs.Locators.{no_return}
+use Rattle.dstm_core.proofs.Places.{put_at}
+use Rattle.dstm_core.proofs.Statuses.{core_past}
+use Rattle.dstm_opacity.proofs.Current.{Foretells, foretells_past, version_quiet}
+use Rattle.dstm_opacity.proofs.States.{Agreed}
+use Rattle.dstm_opacity.proofs.Versions.{version_at}
+
+-- q is a past of es: what es was some events ago
+pub record Past (q es : List Event) : Type 0 where
+  pub more : List Event
+  pub is : more ++ q ≡ es
+
+-- a past stays one
+pub past_more : (q es : List Event) (e : Event) → Past q es → Past q (e ∷ es)
+past_more q es e p = record { more = e ∷ p.more; is = ap (λ xs. e ∷ xs) p.is }
+
+-- a past of a past is one
+pub past_past : (p q es : List Event) → Past p q → Past q es → Past p es
+past_past p q es a b = record {
+  more = b.more ++ a.more;
+  is = append_assoc b.more a.more p ∙ ap (λ xs. b.more ++ xs) a.is ∙ b.is;
+}
+
+-- the place of a pass is one
+pub pass_past : (c : ℕ) (es : List Event) → Past (pass_place c es) es
+pass_past c [] = record { more = []; is = refl }
+pass_past c (e ∷ es) =
+    cond_both ((e.caller == c) && is_look_number e.kind) es (pass_place c es) (λ q. Past q (e ∷ es))
+    (λ _. record { more = e ∷ []; is = refl }) (λ _. past_more (pass_place c es) es e (pass_past c es))
+
+-- what holds of a run holds of its pasts
+pub core_before : (s : Shape) (q es : List Event) → Past q es → Core s es → Core s q
+core_before s q es p core = core_past s p.more q (subst (Core s) (sym p.is) core)
+
+-- the same of what the run foretells
+pub foretells_before : (s : Shape) (will : ℕ → Bool) (q es : List Event) → Past q es → Core s es →
+    Foretells s will es → Foretells s will q
+foretells_before s will q es p core f =
+    go p.more (subst (Core s) (sym p.is) core) (subst (Foretells s will) (sym p.is) f)
+  where
+    go : (more : List Event) → Core s (more ++ q) → Foretells s will (more ++ q) → Foretells s will q
+    go [] core f = f
+    go (e ∷ more) core f = go more core.0 (foretells_past s will (more ++ q) e core f)
+
+-- a word that an object had at a past, and has now, it had all the while
+pub no_return_past : (s : Shape) (q es : List Event) (o x : ℕ) → Past q es → Core s es → o < s.objects →
+    Names s q x → at es o ≡ x → at q o ≡ x
+no_return_past s q es o x p core h n w =
+    no_return s p.more q o x (subst (Core s) (sym p.is) core) h n (subst (λ xs. at xs o ≡ x) (sym p.is) w)
+
+-- a draw raises the counter
+draw_up : (s : Shape) (es : List Event) (e : Event) → Core s (e ∷ es) → is_draw e.kind ≡ true →
+    word s (e ∷ es) NumbersWord ≡ word s es NumbersWord + 1
+draw_up s es e core d = go e.kind d core.1.allowed
+  where
+    go : (k : Kind) → is_draw k ≡ true → AllowedAs k s (local s es e.caller) e →
+        word s (e ∷ es) NumbersWord ≡ word s es NumbersWord + 1
+    go Draw d a = put_at es e _ a.0 ∙ a.1.1 ∙ ap (λ n. n + 1) (core.1.linked ∙ ap (at es) a.0)
+    go k d a = absurd (cc)
+
+-- the counter never falls
+pub numbers_up : (s : Shape) (es : List Event) (e : Event) → Core s (e ∷ es) →
+    word s es NumbersWord ≤ word s (e ∷ es) NumbersWord
+numbers_up s es e core = go (numbers s es e (step s es e core))
+  where
+    go : (word s (e ∷ es) NumbersWord ≡ word s es NumbersWord)
+        ⊎ ((e.kind ≡ Draw) × (word s (e ∷ es) NumbersWord ≡ word s es NumbersWord + 1)) →
+        word s es NumbersWord ≤ word s (e ∷ es) NumbersWord
+    go (inl x) = omega arith
+    go (inr x) = let y = x.1 in omega arith
+
+-- nor over several events
+pub numbers_later : (s : Shape) (more q : List Event) → Core s (more ++ q) →
+    word s q NumbersWord ≤ word s (more ++ q) NumbersWord
+numbers_later s [] q core = omega arith
+numbers_later s (e ∷ more) q core = let a = numbers_later s more q core.0 in
+    let b = numbers_up s (more ++ q) e core in omega arith
+
+-- what a Draw finds
+draw_finds : (s : Shape) (es : List Event) (e : Event) → Core s (e ∷ es) → e.kind ≡ Draw →
+    e.found ≡ word s es NumbersWord
+draw_finds s es e core d = go e.kind d core.1.allowed
+  where
+    go : (k : Kind) → k ≡ Draw → AllowedAs k s (local s es e.caller) e → e.found ≡ word s es NumbersWord
+    go Draw d a = core.1.linked ∙ ap (at es) a.0
+    go k d a = absurd (cc)
+
+-- of two draws the later finds the greater number
+pub numbers_rise : (s : Shape) (between es : List Event) (d e : Event) → Core s (e ∷ (between ++ d ∷ es)) →
+    d.kind ≡ Draw → e.kind ≡ Draw → d.found < e.found
+numbers_rise s between es d e core k j =
+    let core_d = core_past s between (d ∷ es) core.0 in
+    let early = draw_finds s es d core_d k in let late = draw_finds s (between ++ d ∷ es) e core j in
+    let up = draw_up s es d core_d (ap is_draw k) in let on = numbers_later s between (d ∷ es) core.0 in
+    omega arith
+
+-- where the counter has stayed, there was no draw
+pub no_draw : (s : Shape) (es : List Event) (e : Event) (n : ℕ) → Core s (e ∷ es) → n ≤ word s es NumbersWord →
+    n ≡ word s (e ∷ es) NumbersWord → (is_draw e.kind ≡ true → ⊥) × (n ≡ word s es NumbersWord)
+no_draw s es e n core b q =
+    ((λ d. let u = draw_up s es e core d in omega arith), (let u = numbers_up s es e core in omega arith))
+
+-- where the counter has stayed, each object's current version is the same
+pub version_same : (s : Shape) (will : ℕ → Bool) (more q : List Event) (o : ℕ) → Core s (more ++ q) →
+    word s q NumbersWord ≡ word s (more ++ q) NumbersWord →
+    version_at s will (more ++ q) o ≡ version_at s will q o
+version_same s will [] q o core n = refl
+version_same s will (e ∷ more) q o core n =
+    let d = no_draw s (more ++ q) e (word s q NumbersWord) core (numbers_later s more q core.0) n in
+    version_quiet s will (more ++ q) e o (λ z _. d.0 z) ∙ version_same s will more q o core.0 d.1
+
+-- reads that are current stay so where no version changes
+pub agreed_same : (s : Shape) (will : ℕ → Bool) (p q : List Event) (rs : List Read) →
+    ((o : ℕ) → version_at s will p o ≡ version_at s will q o) → Agreed s will q rs → Agreed s will p rs
+agreed_same s will p q [] h a = tt
+agreed_same s will p q (r ∷ rs) h a = (h r.object ∙ a.0, agreed_same s will p q rs h a.1)
+
+-- the same from a past on
+pub version_past : (s : Shape) (will : ℕ → Bool) (q es : List Event) (o : ℕ) → Past q es → Core s es →
+    word s q NumbersWord ≡ word s es NumbersWord → version_at s will es o ≡ version_at s will q o
+version_past s will q es o p core n =
+    subst (λ xs. version_at s will xs o ≡ version_at s will q o) p.is
+    (version_same s will p.more q o (subst (Core s) (sym p.is) core)
+    (subst (λ xs. word s q NumbersWord ≡ word s xs NumbersWord) (sym p.is) n))

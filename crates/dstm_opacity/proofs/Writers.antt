@@ -1,0 +1,159 @@
+-- Committed writers of one object commit in the order in which they install.
+use Rattle.std.proofs.Common.{◌*◌, ◌++◌, ◌+◌, ◌-◌, ◌<◌, ◌∙◌, ◌∷◌, ◌≡◌, ◌≤◌, ◌⊎◌, List, Some, [], ap, arith, inl, inr, is_some, refl, subst, sym, true, ℕ}
+use Rattle.dstm_core.specs.Rules.{target}
+use Rattle.dstm_core.specs.Runs.{Core, local}
+use Rattle.dstm_core.specs.State.{LocalState, is_resolved, next_locator, or_zero, own_attempt, res, version}
+use Rattle.dstm_core.specs.Traces.{at, word}
+use Rattle.dstm_core.specs.Words.{place}
+use Rattle.dstm_core.specs.Words.Word.{OldWord, OwnerWord, StatusWord}
+use Rattle.dstm_core.specs.declared.event.Event.{Event}
+use Rattle.dstm_core.specs.declared.event.Kind.TheVariants.{Commit, Install, Pause, Quit, Resume, Validating as ToValidating}
+use Rattle.dstm_core.specs.declared.shape.Shape.{Shape}
+use Rattle.dstm_core.specs.declared.state.Phase.TheVariants.{Running}
+use Rattle.dstm_core.proofs.Basic.{install_may, install_put}
+use Rattle.dstm_core.proofs.Columns.{Installed, StatusMove, StatusMoved, begins, kills, moves, objects, own_in, statuses, step}
+use Rattle.dstm_core.proofs.Locators.{installed_stays, no_locator_twice}
+use Rattle.dstm_core.proofs.Places.{put_at}
+use Rattle.dstm_core.proofs.Static.{static}
+use Rattle.dstm_core.proofs.Statuses.{core_past, finished_stays, finished_step}
+use Rattle.dstm_opacity.proofs.Recorded.{replaces}
+use Rattle.dstm_opacity.proofs.Versions.{Named, by_abort, by_commit, by_zero}
+use Rattle.dstm_opacity.proofs.Written.{WriteOk, write_new}
+
+-- a locator stays in its object until its owner is finished
+replaced_finished : (s : Shape) (more es : List Event) (d : Event) → Core s (more ++ d ∷ es) →
+    d.kind ≡ Install → d.found ≡ d.expected →
+    (at (more ++ d ∷ es) d.place ≡ d.put)
+    ⊎ (4 ≤ word s (more ++ d ∷ es) (StatusWord (own_attempt s (local s es d.caller))))
+replaced_finished s [] es d core k h = inl (put_at es d d.place refl)
+replaced_finished s (e ∷ more) es d core k h = go (replaced_finished s more es d core.0 k h)
+  where
+    core_d : Core s (d ∷ es)
+    core_d = core_past s more (d ∷ es) core.0
+
+    made : WriteOk s (d ∷ es) (own_attempt s (local s es d.caller))
+        (record {
+          object = (res (local s es d.caller)).object;
+          locator = next_locator s
+              (local s es d.caller);
+          old = or_zero (version (res (local s es d.caller)));
+        })
+    made = write_new s es d core_d k h
+
+    may : ((local s es d.caller).phase ≡ Running)
+        × ((local s es d.caller).held_owner ≡ Some (own_attempt s (local s es d.caller)))
+        × ((local s es d.caller).held_old ≡ version (res (local s es d.caller)))
+        × (is_some (local s es d.caller).resolution ≡ true) × (is_resolved (res (local s es d.caller)) ≡ true)
+    may = install_may s (local s es d.caller) d d.kind k core_d.1.allowed
+
+    own_below : own_attempt s (local s es d.caller) < s.callers * s.attempts
+    own_below =
+        own_in s d.caller (local s es d.caller) (static s es core_d.0 d.caller) core_d.1.caller
+        (λ z. let y = may.0 in cc)
+
+    place_is : d.place ≡ (res (local s es d.caller)).object
+    place_is = core_d.1.allowed.0 ∙ ap (λ k. place s (target k s (local s es d.caller) d)) k
+
+    put_is : d.put ≡ next_locator s (local s es d.caller) + 1
+    put_is = install_put s (local s es d.caller) d d.kind k h core_d.1.allowed
+
+    stays : 4 ≤ word s (more ++ d ∷ es) (StatusWord (own_attempt s (local s es d.caller))) →
+        4 ≤ word s (e ∷ (more ++ d ∷ es)) (StatusWord (own_attempt s (local s es d.caller)))
+    stays z =
+        let y = finished_step s (more ++ d ∷ es) e (own_attempt s (local s es d.caller)) core own_below z in
+        omega arith
+
+    owner_is : word s (more ++ d ∷ es) (OwnerWord (d.put - 1)) ≡ own_attempt s (local s es d.caller)
+    owner_is =
+        (installed_stays s more es d core.0 k h).0
+        ∙ ap (λ m. word s (d ∷ es) (OwnerWord m)) (let y = put_is in omega arith) ∙ made.owner
+
+    done : Named s (more ++ d ∷ es) d.put (word s (more ++ d ∷ es) (OldWord (e.put - 1))) →
+        4 ≤ word s (more ++ d ∷ es) (StatusWord (own_attempt s (local s es d.caller)))
+    done (by_zero p q) = let y = put_is in absurd (omega arith)
+    done (by_commit p u st q) = let y = ap (λ a. word s (more ++ d ∷ es) (StatusWord a)) owner_is in omega arith
+    done (by_abort p u st q) = let y = ap (λ a. word s (more ++ d ∷ es) (StatusWord a)) owner_is in omega arith
+
+    step_on : at (more ++ d ∷ es) d.place ≡ d.put →
+        (at (e ∷ (more ++ d ∷ es)) d.place ≡ at (more ++ d ∷ es) d.place)
+        ⊎ Installed s (more ++ d ∷ es) e d.place →
+        (at (e ∷ (more ++ d ∷ es)) d.place ≡ d.put)
+        ⊎ (4 ≤ word s (e ∷ (more ++ d ∷ es)) (StatusWord (own_attempt s (local s es d.caller))))
+    step_on z (inl y) = inl (y ∙ z)
+    step_on z (inr i) =
+        let r = replaces s (more ++ d ∷ es) e core i.how.kind (i.how.found ∙ sym i.how.expected) in
+        inr (stays
+        (done (subst (λ n. Named s (more ++ d ∷ es) n (word s (more ++ d ∷ es) (OldWord (e.put - 1))))
+        (sym i.was ∙ z) r.named)))
+
+    go : (at (more ++ d ∷ es) d.place ≡ d.put)
+        ⊎ (4 ≤ word s (more ++ d ∷ es) (StatusWord (own_attempt s (local s es d.caller)))) →
+        (at (e ∷ (more ++ d ∷ es)) d.place ≡ d.put)
+        ⊎ (4 ≤ word s (e ∷ (more ++ d ∷ es)) (StatusWord (own_attempt s (local s es d.caller))))
+    go (inl z) =
+        step_on z
+        (objects s (more ++ d ∷ es) e d.place (step s (more ++ d ∷ es) e core) (rw place_is made.object))
+    go (inr z) = inr (stays z)
+
+not_install : (s : Shape) (l : LocalState) (e : Event) (a : ℕ) → StatusMove s l e a → e.kind ≡ Install → ⊥
+not_install s l e a (begins b) k = let x = b.kind in cc
+not_install s l e a (moves m) k = go m.how
+  where
+    go : ((e.kind ≡ ToValidating) × (e.put ≡ 3)) ⊎ ((e.kind ≡ Commit) × (e.put ≡ 4))
+        ⊎ ((e.kind ≡ Quit) × (e.put ≡ 5)) ⊎ ((e.kind ≡ Pause) × (e.put ≡ 2))
+        ⊎ ((e.kind ≡ Resume) × (e.put ≡ 1)) → ⊥
+    go (inl x) = let y = x.0 in cc
+    go (inr (inl x)) = let y = x.0 in cc
+    go (inr (inr (inl x))) = let y = x.0 in cc
+    go (inr (inr (inr (inl x)))) = let y = x.0 in cc
+    go (inr (inr (inr (inr x)))) = let y = x.0 in cc
+not_install s l e a (kills b) k = let x = b.kind in cc
+
+-- of two committed writers of an object the earlier to install commits before the other installs
+pub writers_in_draw_order : (s : Shape) (later more es : List Event) (e d : Event) →
+    Core s (later ++ e ∷ (more ++ d ∷ es)) → e.kind ≡ Install → e.found ≡ e.expected → d.kind ≡ Install →
+    d.found ≡ d.expected → e.place ≡ d.place →
+    word s (later ++ e ∷ (more ++ d ∷ es)) (StatusWord (own_attempt s (local s es d.caller))) ≡ 4 →
+    word s (more ++ d ∷ es) (StatusWord (own_attempt s (local s es d.caller))) ≡ 4
+writers_in_draw_order s later more es e d core k h j i same done =
+    go (replaced_finished s (e ∷ more) es d core_e j i)
+  where
+    core_e : Core s (e ∷ (more ++ d ∷ es))
+    core_e = core_past s later (e ∷ (more ++ d ∷ es)) core
+
+    core_d : Core s (d ∷ es)
+    core_d = core_past s more (d ∷ es) core_e.0
+
+    may : ((local s es d.caller).phase ≡ Running)
+        × ((local s es d.caller).held_owner ≡ Some (own_attempt s (local s es d.caller)))
+        × ((local s es d.caller).held_old ≡ version (res (local s es d.caller)))
+        × (is_some (local s es d.caller).resolution ≡ true) × (is_resolved (res (local s es d.caller)) ≡ true)
+    may = install_may s (local s es d.caller) d d.kind j core_d.1.allowed
+
+    own_below : own_attempt s (local s es d.caller) < s.callers * s.attempts
+    own_below =
+        own_in s d.caller (local s es d.caller) (static s es core_d.0 d.caller) core_d.1.caller
+        (λ z. let y = may.0 in cc)
+
+    before : 4 ≤ word s (e ∷ (more ++ d ∷ es)) (StatusWord (own_attempt s (local s es d.caller))) →
+        (word s (e ∷ (more ++ d ∷ es)) (StatusWord (own_attempt s (local s es d.caller))) ≡ word s
+        (more ++ d ∷ es) (StatusWord (own_attempt s (local s es d.caller))))
+        ⊎ StatusMoved s (more ++ d ∷ es) e (own_attempt s (local s es d.caller)) →
+        word s (more ++ d ∷ es) (StatusWord (own_attempt s (local s es d.caller))) ≡ 4
+    before z (inl y) =
+        sym y ∙ sym
+        (finished_stays s later (e ∷ (more ++ d ∷ es)) (own_attempt s (local s es d.caller)) core own_below z)
+        ∙ done
+    before z (inr y) =
+        absurd (not_install s (local s (more ++ d ∷ es) e.caller) e
+        (own_attempt s (local s es d.caller)) y.how k)
+
+    go : (at (e ∷ (more ++ d ∷ es)) d.place ≡ d.put)
+        ⊎ (4 ≤ word s (e ∷ (more ++ d ∷ es)) (StatusWord (own_attempt s (local s es d.caller)))) →
+        word s (more ++ d ∷ es) (StatusWord (own_attempt s (local s es d.caller))) ≡ 4
+    go (inl z) =
+        absurd (no_locator_twice s more es e d core_e k h j i
+        (sym (put_at (more ++ d ∷ es) e d.place same) ∙ z))
+    go (inr z) =
+        before z (statuses s (more ++ d ∷ es) e (own_attempt s (local s es d.caller))
+        (step s (more ++ d ∷ es) e core_e) own_below)
