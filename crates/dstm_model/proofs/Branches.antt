@@ -1,6 +1,6 @@
 -- The branches of a job as the pieces around its separators.
-use Rattle.std.proofs.Common.{◌≡◌, ℕ, ◌+◌, ◌<◌, ltb, cond, true, false, List, [], ◌∷◌, length, take, drop, get_or, Option, Some, None, position, refl, ap, ◌∙◌, sym, arith, ⊎_elim}
-use Rattle.std.specs.List.{slice_split, onto_first as onto_first_piece, position_or_len, All}
+use Rattle.std.proofs.Common.{◌≡◌, ℕ, ◌+◌, ltb, false, List, [], ◌∷◌, length, take, drop, Some, None, position, refl, ap, ◌∙◌, sym, arith, ⊎_elim}
+use Rattle.std.specs.List.{slice_split, onto_first as onto_first_piece, position_or_len}
 use Rattle.std.proofs.lemmas.Bool.{ltb-true, ltb-false, cases_Bool, cond-true, cond-false}
 use Rattle.std.proofs.lemmas.Option.{same_Some}
 use Rattle.std.proofs.lemmas.List.Splits.{slice_split_first, slice_split_none}

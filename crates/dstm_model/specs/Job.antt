@@ -1,7 +1,6 @@
 -- Jobs: operations in order, in branches of which the first open one is taken.
 use Rattle.std.specs.Prelude.{◌≡◌, ℕ, Bool, true, false, nat_le, List, [], ◌∷◌, take, Option, Some, None, IsSomeAnd}
 use Rattle.std.specs.List.{find}
-use Rattle.dstm_model.specs.declared.op.Which.{Which}
 use Rattle.dstm_model.specs.declared.op.Cond.{Cond}
 use Rattle.dstm_model.specs.declared.op.Cond.TheVariants as cond
 use Rattle.dstm_model.specs.declared.op.Op.{Op}

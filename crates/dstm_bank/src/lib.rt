@@ -1,0 +1,133 @@
+//! The bank's operations on a memory. The first objects are the accounts, and each holds its balance in
+//! the low part of its value.
+#![tactic(auto)]
+
+ghost use Rattle.std.specs.Prelude.{◌≡◌, ◌≢◌, ℕ, ◌<◌, ◌≤◌, List, IsTrue, false, IsSome, Some, IfOk, OnOk, IfErr};
+ghost use Rattle.dstm_model.specs.declared.value.Val.{Val};
+ghost use Rattle.dstm_model.specs.Layout.{IsValid, FitsLayout};
+ghost use Rattle.dstm_model.specs.Store.{Store};
+ghost use Rattle.dstm_model.specs.Objects.{objects_of, IsBank, Does};
+ghost use Rattle.dstm_mem.specs.Memory.{with_set};
+
+use dstm_mem::Mem;
+use dstm_model::{Layout, Op, Reply, Val};
+
+/// Moves an amount from one account to another. The source is opened for writing at once, the target only
+/// where the source can pay; an account that pays itself is only read.
+pub fn transfer<M: Mem>(
+    mem: &mut M,
+    layout: &Layout,
+    source: u32,
+    target: u32,
+    amount: u64,
+) -> Result<Reply, M::Err>
+    requires valid { IsValid layout.now }
+    requires fits { FitsLayout layout.now (Op.Transfer source target amount) }
+    requires objects { M.objects mem.old ≡ objects_of layout.now }
+    requires live { IsTrue (M.is_live mem.old) }
+    requires lawful { (map : List Val) → M.Admits mem.old map →
+        (store : Store) × IsBank layout.now (with_set map (M.written mem.old)) store }
+
+    ensures does { IfOk result (λ reply. (map : List Val) → M.Admits mem.new map →
+        Does (IsBank layout.now) (Op.Transfer source target amount)
+        (with_set map (M.written mem.old)) (with_set map (M.written mem.new)) reply) }
+    ensures sets { OnOk result ((p : ℕ) → p ≢ source → p ≢ target → M.written mem.new p ≡ M.written mem.old p) }
+    ensures opens { OnOk result ((p : ℕ) → p ≢ source → p ≢ target →
+        (M.held mem.new p ≡ M.held mem.old p) × (M.is_opened mem.new p ≡ M.is_opened mem.old p)) }
+    ensures poor { IfOk result (λ reply. reply ≡ Reply.Poor → (p : ℕ) → p ≢ source →
+        (M.held mem.new p ≡ M.held mem.old p) × (M.is_opened mem.new p ≡ M.is_opened mem.old p)) }
+
+    ensures place { M.place mem.new ≡ M.place mem.old }
+    ensures objects { M.objects mem.new ≡ M.objects mem.old }
+    ensures narrows { (map : List Val) → M.Admits mem.new map → M.Admits mem.old map }
+    ensures admits { OnOk result ((map : List Val) × M.Admits mem.new map) }
+    ensures live { OnOk result (IsTrue (M.is_live mem.new)) }
+    ensures ended { IfErr result (λ e. (M.is_live mem.new ≡ false) × (M.error mem.new ≡ Some e)) }
+{
+    if source == target {
+        let balance = mem.open_read(source)?.low;
+        return Ok(if balance < amount {
+            Reply::Poor
+        } else {
+            Reply::Moved
+        });
+    }
+    let from = mem.open_write(source)?.low;
+    if from < amount {
+        return Ok(Reply::Poor);
+    }
+    let to = mem.open_write(target)?.low;
+    let less = Val {
+        low: from - amount,
+        high: 0,
+    };
+    let more = Val {
+        low: to + amount,
+        high: 0,
+    };
+    mem.set(source, less);
+    mem.set(target, more);
+    Ok(Reply::Moved)
+}
+
+/// Tells an account's balance.
+pub fn balance<M: Mem>(mem: &mut M, layout: &Layout, account: u32) -> Result<Reply, M::Err>
+    requires valid { IsValid layout.now }
+    requires fits { FitsLayout layout.now (Op.Balance account) }
+    requires objects { M.objects mem.old ≡ objects_of layout.now }
+    requires live { IsTrue (M.is_live mem.old) }
+    requires lawful { (map : List Val) → M.Admits mem.old map →
+        (store : Store) × IsBank layout.now (with_set map (M.written mem.old)) store }
+
+    ensures does { IfOk result (λ reply. (map : List Val) → M.Admits mem.new map →
+        Does (IsBank layout.now) (Op.Balance account)
+        (with_set map (M.written mem.old)) (with_set map (M.written mem.new)) reply) }
+    ensures sets { OnOk result ((p : ℕ) → M.written mem.new p ≡ M.written mem.old p) }
+    ensures opens { OnOk result ((p : ℕ) → p ≢ account →
+        (M.held mem.new p ≡ M.held mem.old p) × (M.is_opened mem.new p ≡ M.is_opened mem.old p)) }
+
+    ensures place { M.place mem.new ≡ M.place mem.old }
+    ensures objects { M.objects mem.new ≡ M.objects mem.old }
+    ensures narrows { (map : List Val) → M.Admits mem.new map → M.Admits mem.old map }
+    ensures admits { OnOk result ((map : List Val) × M.Admits mem.new map) }
+    ensures live { OnOk result (IsTrue (M.is_live mem.new)) }
+    ensures ended { IfErr result (λ e. (M.is_live mem.new ≡ false) × (M.error mem.new ≡ Some e)) }
+{
+    let value = mem.open_read(account)?;
+    Ok(Reply::Number(value.low))
+}
+
+/// Tells the sum of all balances. It reads every account, though the law alone would tell the sum: it is
+/// the audit that users expect it to be.
+pub fn total<M: Mem>(mem: &mut M, layout: &Layout) -> Result<Reply, M::Err>
+    requires valid { IsValid layout.now }
+    requires fits { FitsLayout layout.now Op.Total }
+    requires objects { M.objects mem.old ≡ objects_of layout.now }
+    requires live { IsTrue (M.is_live mem.old) }
+    requires lawful { (map : List Val) → M.Admits mem.old map →
+        (store : Store) × IsBank layout.now (with_set map (M.written mem.old)) store }
+
+    ensures does { IfOk result (λ reply. (map : List Val) → M.Admits mem.new map →
+        Does (IsBank layout.now) Op.Total
+        (with_set map (M.written mem.old)) (with_set map (M.written mem.new)) reply) }
+    ensures audits { OnOk result ((a : ℕ) → a < layout.now.accounts → IsSome (M.held mem.new a)) }
+    ensures sets { OnOk result ((p : ℕ) → M.written mem.new p ≡ M.written mem.old p) }
+    ensures opens { OnOk result ((p : ℕ) → layout.now.accounts ≤ p →
+        (M.held mem.new p ≡ M.held mem.old p) × (M.is_opened mem.new p ≡ M.is_opened mem.old p)) }
+
+    ensures place { M.place mem.new ≡ M.place mem.old }
+    ensures objects { M.objects mem.new ≡ M.objects mem.old }
+    ensures narrows { (map : List Val) → M.Admits mem.new map → M.Admits mem.old map }
+    ensures admits { OnOk result ((map : List Val) × M.Admits mem.new map) }
+    ensures live { OnOk result (IsTrue (M.is_live mem.new)) }
+    ensures ended { IfErr result (λ e. (M.is_live mem.new ≡ false) × (M.error mem.new ≡ Some e)) }
+{
+    let mut sum: u64 = 0;
+    for account in 0..layout.accounts {
+        sum += mem.open_read(account)?.low;
+    }
+    Ok(Reply::Number(sum))
+}
+
+#[cfg(test)]
+mod tests;

@@ -1,0 +1,2 @@
+pub mod WithSet
+pub mod Pairs

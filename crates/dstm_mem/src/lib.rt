@@ -1,0 +1,14 @@
+//! The memory that a transaction's body runs on: what a call on it means, the body as a trait, and a
+//! memory of one thread.
+#![tactic(auto)]
+
+mod body;
+mod flat;
+mod memory;
+
+pub use body::Body;
+pub use flat::{FlatMem, Never};
+pub use memory::Mem;
+
+#[cfg(test)]
+mod tests;
