@@ -8,7 +8,7 @@ use dstm_model::Val;
 use std::alloc::{AllocError, Global};
 
 /// The error of a memory whose calls never give up.
-#[derive(Clone, Copy, Debug, PartialEq, Eq)]
+#[derive(Drop)]
 pub enum Never {}
 
 // What was done with one object.
