@@ -11,5 +11,8 @@ pub mod Counts
 pub mod Enrolment
 pub mod Prefixes
 pub mod Ranges
-pub mod Dropped
 pub mod Replaying
+pub mod Opened
+pub mod Indices
+pub mod Reading
+pub mod Indexing

@@ -7,3 +7,4 @@ pub mod Histories
 pub mod Laws
 pub mod Tracking
 pub mod Replays
+pub mod Indexed

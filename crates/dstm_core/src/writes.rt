@@ -17,6 +17,7 @@ ghost use Rattle.dstm_core.specs.State.{write_of};
 
 use crate::state::Write;
 use std::alloc::{AllocError, Global};
+use std::collections::BTreeSet;
 use std::marker::Model;
 
 /// The objects that an attempt has opened for writing, the oldest first, and how many of them have
@@ -24,15 +25,23 @@ use std::marker::Model;
 #[derive(Drop)]
 pub(crate) struct Writes {
     items: Vec<Write>,
+    // The objects of all these writes.
+    objects: BTreeSet<u64>,
     written: usize,
 }
 
 impl Model for Writes {
+    ghost use Rattle.std.specs.Prelude.{◌≡◌, ℕ, is_some};
+    ghost use Rattle.std.specs.BTreeSet.{contains};
+    ghost use Rattle.std.specs.Ordering.{nat_cmp};
+    ghost use Rattle.dstm_core.specs.State.{write_of};
     ghost use Rattle.dstm_core.specs.Tracking.{Worklist};
 
     ghost Value = { Worklist };
 
     ghost view = { λ w. record { writes = w.items.items; written = w.written } };
+
+    ghost invariant = { λ w. (o : ℕ) → contains nat_cmp w.objects o ≡ is_some (write_of o w.items.items) };
 }
 
 impl Writes {
@@ -41,6 +50,7 @@ impl Writes {
     {
         Writes {
             items: Vec::new(alloc),
+            objects: BTreeSet::new(alloc),
             written: 0,
         }
     }
@@ -49,12 +59,7 @@ impl Writes {
     pub(crate) fn lack(&self, object: u64) -> bool
         ensures { IsTrue result ↔ (write_of object self.now.writes ≡ None) }
     {
-        for write in &self.items {
-            if write.object == object {
-                return false;
-            }
-        }
-        true
+        !self.objects.contains(&object)
     }
 
     /// The write whose value is put next.
@@ -92,6 +97,10 @@ impl Writes {
         ensures err { OnErr result (self.new ≡ self.old) }
     {
         self.items.push(write)?;
+        if let Err(full) = self.objects.insert(write.object) {
+            self.items.pop();
+            return Err(full.into());
+        }
         Ok(())
     }
 
@@ -100,6 +109,7 @@ impl Writes {
         ensures { self.new ≡ record { writes = []; written = 0 } }
     {
         self.items.clear();
+        self.objects.clear();
         self.written = 0;
     }
 }

@@ -1,0 +1,12 @@
+//! The words that threads share. Each load, store, exchange and add on them is one event, the last one of
+//! the log that its seat has seen, and that log is a core run.
+#![tactic(auto)]
+
+mod view;
+mod words;
+
+pub use view::{CoreSeat, Old, Terms, View};
+pub use words::Words;
+
+#[cfg(test)]
+mod tests;
