@@ -1,0 +1,10 @@
+//! Generated workloads: what a seed stands for, as large as it is asked for.
+#![tactic(auto)]
+
+mod random_words;
+mod workload;
+
+pub use workload::generate;
+
+#[cfg(test)]
+mod tests;
