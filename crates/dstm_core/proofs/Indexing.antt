@@ -1,5 +1,5 @@
 -- What the index of the reads tells of them, and that it stands after each change.
-use Rattle.std.proofs.Common.{◌≡◌, ◌≢◌, ◌==◌, ◌+◌, ◌<◌, ◌≤◌, ◌||◌, ◌&&◌, ◌++◌, ◌⊎◌, ◌∙◌, ℕ, List, [], ◌∷◌, Bool, true, false, not, cond, length, eqb, ltb, Option, Some, None, is_some, IsTrue, Ok, Err, Result, ◌↔◌, get_or, inl, inr, suc, zero, refl, ap, sym, subst, arith}
+use Rattle.std.proofs.Common.{◌≡◌, ◌≢◌, ◌==◌, ◌+◌, ◌<◌, ◌≤◌, ◌||◌, ◌++◌, ◌⊎◌, ◌∙◌, ℕ, List, [], ◌∷◌, Bool, true, false, not, cond, length, ltb, Option, Some, None, is_some, IsTrue, Ok, Err, Result, ◌↔◌, get_or, inl, inr, suc, zero, refl, ap, sym, subst, arith}
 use Rattle.std.proofs.lemmas.Bool.Decides.{nat_tests}
 use Rattle.std.proofs.lemmas.Grind.{common_steps}
 use Rattle.std.specs.BTreeMap.{is_at}
@@ -10,16 +10,17 @@ use Rattle.std.specs.Result.{OnErr}
 use Rattle.std.specs.Set.{remove_key}
 use Rattle.std.proofs.lemmas.List.{length-map}
 use Rattle.std.proofs.lemmas.List.Sums.{count_by-le-length}
-use Rattle.std.proofs.lemmas.Option.{slice_get_past, slice_get_within, slice_get_read, get_or_from_slice_get}
+use Rattle.std.proofs.lemmas.Option.{slice_get_within, slice_get_read, get_or_from_slice_get}
 use Rattle.dstm_core.specs.declared.state.Read.{Read}
 use Rattle.dstm_core.specs.Indexed.{IsIndexed, is_among, count_before, read_at, reads_at, place_of}
-use Rattle.dstm_core.specs.State.{read_of, drop_read, or_read}
+use Rattle.dstm_core.specs.State.{read_of, or_read}
 use Rattle.dstm_core.specs.Tracking.{Checklist}
-use Rattle.dstm_core.proofs.Reading.{OneOf, NoneOf, Before, insert_last, remove_last, reads_old, reads_more, count-push, one_found, one_dropped, none_dropped, among-push, read_at_old, read_at_last}
+use Rattle.dstm_core.proofs.Reading.{same_or_not, OneOf, NoneOf, insert_last, remove_last, one_found, among-push, read_at_old, read_at_last}
 
 -- two lists of reads of which as many are checked
 pub same_list : (rs ts : List Read) (m n : ℕ) → rs ≡ ts → m ≡ n →
-    let a : Checklist = record { reads = rs; checked = m } in let b : Checklist = record { reads = ts; checked = n } in a ≡ b
+    let a : Checklist = record { reads = rs; checked = m } in
+    let b : Checklist = record { reads = ts; checked = n } in a ≡ b
 same_list rs ts m n e f = cc
 
 pub count_zero : (ks : List ℕ) → count_before 0 ks ≡ 0
@@ -27,7 +28,8 @@ count_zero [] = refl
 count_zero (k ∷ ks) = let rest = count_zero ks in grind (arith, nat_tests, common_steps)
 
 -- an object with a place has one read, which stands there
-pub of_one : (rs : List Read) (ks : List ℕ) (es : List (ℕ × ℕ)) (c o p : ℕ) → IsIndexed rs ks es c → place_of o es ≡ Some p → OneOf o rs ks p
+pub of_one : (rs : List Read) (ks : List ℕ) (es : List (ℕ × ℕ)) (c o p : ℕ) → IsIndexed rs ks es c →
+    place_of o es ≡ Some p → OneOf o rs ks p
 of_one rs ks es c o p x h = record {
   among = (x.placed o p h).0;
   object = (x.placed o p h).1;
@@ -36,7 +38,8 @@ of_one rs ks es c o p x h = record {
 }
 
 -- and one without a place has none
-pub of_none : (rs : List Read) (ks : List ℕ) (es : List (ℕ × ℕ)) (c o : ℕ) → IsIndexed rs ks es c → place_of o es ≡ None → NoneOf o rs ks
+pub of_none : (rs : List Read) (ks : List ℕ) (es : List (ℕ × ℕ)) (c o : ℕ) → IsIndexed rs ks es c →
+    place_of o es ≡ None → NoneOf o rs ks
 of_none rs ks es c o x h = λ q a e.
     let there : place_of o es ≡ Some q = subst (λ (n : ℕ). place_of n es ≡ Some q) e (x.found q a) in cc
 
@@ -44,7 +47,8 @@ cases : (o : Option ℕ) → (o ≡ None) ⊎ ((p : ℕ) × (o ≡ Some p))
 cases None = inl refl
 cases (Some p) = inr (p, refl)
 
-pub free : (rs : List Read) (ks : List ℕ) (es : List (ℕ × ℕ)) (c o : ℕ) → IsIndexed rs ks es c → read_of o (reads_at rs ks) ≡ None → place_of o es ≡ None
+pub free : (rs : List Read) (ks : List ℕ) (es : List (ℕ × ℕ)) (c o : ℕ) → IsIndexed rs ks es c →
+    read_of o (reads_at rs ks) ≡ None → place_of o es ≡ None
 free rs ks es c o x h = go (cases (place_of o es))
   where
     go : (place_of o es ≡ None) ⊎ ((p : ℕ) × (place_of o es ≡ Some p)) → place_of o es ≡ None
@@ -55,23 +59,22 @@ longer : (rs : List Read) (r : Read) → length (rs ++ r ∷ []) ≡ length rs +
 longer rs r = grind (arith, common_steps)
 
 -- one read more that is recorded, and at none of the places
-pub indexed_more : (rs : List Read) (ks : List ℕ) (es : List (ℕ × ℕ)) (c : ℕ) (r : Read) → IsIndexed rs ks es c → IsIndexed (rs ++ r ∷ []) ks es c
+pub indexed_more : (rs : List Read) (ks : List ℕ) (es : List (ℕ × ℕ)) (c : ℕ) (r : Read) →
+    IsIndexed rs ks es c → IsIndexed (rs ++ r ∷ []) ks es c
 indexed_more rs ks es c r x = record {
   within = λ p a. let old = x.within p a in omega (arith, longer rs r);
   placed = λ o p h.
       let old = x.placed o p h in
       (old.0, ap (λ (q : Read). q.object) (read_at_old rs r p (x.within p old.0)) ∙ old.1);
   found = λ p a.
-      subst (λ (q : Read). place_of q.object es ≡ Some p) (sym (read_at_old rs r p (x.within p a))) (x.found p a);
+      subst (λ (q : Read). place_of q.object es ≡ Some p) (sym (read_at_old rs r p (x.within p a)))
+      (x.found p a);
   begins = let old = x.begins in omega (arith, longer rs r);
 }
 
 split : (a b : Bool) → (a || b) ≡ true → (a ≡ true) ⊎ (b ≡ true)
 split true b h = inl refl
 split false b h = inr h
-
-same_or_not : (a b : ℕ) → (a ≡ b) ⊎ (a ≢ b)
-same_or_not a b = grind arith
 
 at_yes : (o q : ℕ) → o ≡ q → is_at (nat_cmp o) q ≡ true
 at_yes o q h = grind (arith, nat_tests)
@@ -83,14 +86,17 @@ at_no o q h = grind (arith, nat_tests)
 abbrev pub Gives : ℕ → Option ℕ → List (ℕ × ℕ) → List (ℕ × ℕ) → Type 0
 Gives o place old new = (q : ℕ) → place_of q new ≡ cond (is_at (nat_cmp o) q) place (place_of q old)
 
-gives_here : (o : ℕ) (place : Option ℕ) (old new : List (ℕ × ℕ)) (q : ℕ) → Gives o place old new → o ≡ q → place_of q new ≡ place
+gives_here : (o : ℕ) (place : Option ℕ) (old new : List (ℕ × ℕ)) (q : ℕ) → Gives o place old new → o ≡ q →
+    place_of q new ≡ place
 gives_here o place old new q g h = let test = at_yes o q h in rw test at (g q)
 
-gives_other : (o : ℕ) (place : Option ℕ) (old new : List (ℕ × ℕ)) (q : ℕ) → Gives o place old new → o ≢ q → place_of q new ≡ place_of q old
+gives_other : (o : ℕ) (place : Option ℕ) (old new : List (ℕ × ℕ)) (q : ℕ) → Gives o place old new → o ≢ q →
+    place_of q new ≡ place_of q old
 gives_other o place old new q g h = let test = at_no o q h in rw test at (g q)
 
 -- one read more, at its place
-pub indexed_push : (rs : List Read) (ks : List ℕ) (es new : List (ℕ × ℕ)) (c : ℕ) (r : Read) → IsIndexed rs ks es c
+pub indexed_push : (rs : List Read) (ks : List ℕ) (es new : List (ℕ × ℕ)) (c : ℕ) (r : Read) →
+    IsIndexed rs ks es c
     → place_of r.object es ≡ None → Gives r.object (Some (length rs)) es new
     → IsIndexed (rs ++ r ∷ []) (ks ++ length rs ∷ []) new c
 indexed_push rs ks es new c r x none g = record {
@@ -114,7 +120,8 @@ indexed_push rs ks es new c r x none g = record {
         let same : length rs ≡ p = cc in
         let there : (p == length rs) ≡ true = grind (arith, nat_tests) in (
           among-push p (length rs) ks ∙ grind (arith, nat_tests),
-          ap (λ (q : ℕ). (read_at (rs ++ r ∷ []) q).object) (sym same) ∙ ap (λ (q : Read). q.object) (read_at_last rs r) ∙ e,
+          ap (λ (q : ℕ). (read_at (rs ++ r ∷ []) q).object) (sym same)
+              ∙ ap (λ (q : Read). q.object) (read_at_last rs r) ∙ e,
         )
     placed o p (inr n) h =
         let old = x.placed o p (sym (gives_other r.object (Some (length rs)) es new o g n) ∙ h) in
@@ -123,7 +130,8 @@ indexed_push rs ks es new c r x none g = record {
           ap (λ (q : Read). q.object) (read_at_old rs r p (x.within p old.0)) ∙ old.1,
         )
 
-    found : (p : ℕ) → (is_among p ks ≡ true) ⊎ ((p == length rs) ≡ true) → place_of (read_at (rs ++ r ∷ []) p).object new ≡ Some p
+    found : (p : ℕ) → (is_among p ks ≡ true) ⊎ ((p == length rs) ≡ true) →
+        place_of (read_at (rs ++ r ∷ []) p).object new ≡ Some p
     found p (inl a) =
         let old = x.found p a in
         let other : r.object ≢ (read_at rs p).object =
@@ -137,7 +145,8 @@ indexed_push rs ks es new c r x none g = record {
         ∙ gives_here r.object (Some (length rs)) es new r.object g refl ∙ ap Some (sym e)
 
 -- without the place of an object's read
-pub indexed_less : (rs : List Read) (ks less : List ℕ) (es new : List (ℕ × ℕ)) (c o p : ℕ) → IsIndexed rs ks es c
+pub indexed_less : (rs : List Read) (ks less : List ℕ) (es new : List (ℕ × ℕ)) (c o p : ℕ) →
+    IsIndexed rs ks es c
     → place_of o es ≡ Some p → Gives o None es new
     → ((q : ℕ) → is_among q less ≡ cond (is_at (nat_cmp p) q) false (is_among q ks))
     → IsIndexed rs less new 0
@@ -154,13 +163,16 @@ indexed_less rs ks less es new c o p x here g gone = record {
 
     was : (q : ℕ) → is_among q less ≡ true → is_among q ks ≡ true
     was q a =
-        let test = at_no p q (not_here q a) in let same : is_among q less ≡ is_among q ks = rw test at (gone q) in sym same ∙ a
+        let test = at_no p q (not_here q a) in
+        let same : is_among q less ≡ is_among q ks = rw test at (gone q) in sym same ∙ a
 
-    placed : (n q : ℕ) → (o ≡ n) ⊎ (o ≢ n) → place_of n new ≡ Some q → (is_among q less ≡ true) × ((read_at rs q).object ≡ n)
+    placed : (n q : ℕ) → (o ≡ n) ⊎ (o ≢ n) → place_of n new ≡ Some q →
+        (is_among q less ≡ true) × ((read_at rs q).object ≡ n)
     placed n q (inl e) h = let none = gives_here o None es new n g e in absurd (cc)
     placed n q (inr m) h =
         let old = x.placed n q (sym (gives_other o None es new n g m) ∙ h) in
-        let other : p ≢ q = λ e. m (sym (x.placed o p here).1 ∙ ap (λ (k : ℕ). (read_at rs k).object) e ∙ old.1) in
+        let other : p ≢ q =
+        λ e. m (sym (x.placed o p here).1 ∙ ap (λ (k : ℕ). (read_at rs k).object) e ∙ old.1) in
         let test = at_no p q other in
         let same : is_among q less ≡ is_among q ks = rw test at (gone q) in
         (same ∙ old.0, old.1)
@@ -174,22 +186,26 @@ indexed_less rs ks less es new c o p x here g gone = record {
         gives_other o None es new (read_at rs q).object g other ∙ old
 
 -- the same places and entries, and nothing checked
-pub indexed_restart : (rs : List Read) (ks : List ℕ) (es new : List (ℕ × ℕ)) (c : ℕ) → IsIndexed rs ks es c → new ≡ es → IsIndexed rs ks new 0
+pub indexed_restart : (rs : List Read) (ks : List ℕ) (es new : List (ℕ × ℕ)) (c : ℕ) → IsIndexed rs ks es c →
+    new ≡ es → IsIndexed rs ks new 0
 indexed_restart rs ks es new c x e =
-    let old : IsIndexed rs ks es 0 = record { within = x.within; placed = x.placed; found = x.found; begins = omega arith } in
+    let old : IsIndexed rs ks es 0 =
+    record { within = x.within; placed = x.placed; found = x.found; begins = omega arith } in
     subst (λ (m : List (ℕ × ℕ)). IsIndexed rs ks m 0) (sym e) old
 
 -- ---- what the code found
 
 pub read_is : (rs : List Read) (p : ℕ) (r : Read) → p < length rs → r ≡ get_or rs p r → r ≡ read_at rs p
-read_is rs p r h e = sym (get_or_from_slice_get rs p r (or_read None) (slice_get_read rs (length rs) p r refl h e))
+read_is rs p r h e =
+    sym (get_or_from_slice_get rs p r (or_read None) (slice_get_read rs (length rs) p r refl h e))
 
 past : (xs : List ℕ) (i : ℕ) → slice_get xs i ≡ None → length xs ≤ i
 past [] i h = omega arith
 past (x ∷ xs) zero h = absurd (cc)
 past (x ∷ xs) (suc i) h = let rest = past xs i h in grind (arith, common_steps)
 
-pub all_checked : (rs : List Read) (ks : List ℕ) (c : ℕ) (o : Option ℕ) (b : Bool) → o ≡ slice_get ks (count_before c ks)
+pub all_checked : (rs : List Read) (ks : List ℕ) (c : ℕ) (o : Option ℕ) (b : Bool) →
+    o ≡ slice_get ks (count_before c ks)
     → is_some o ≡ not b → IsTrue b ↔ (count_before c ks ≡ length (reads_at rs ks))
 all_checked rs ks c None true e t = (
   (λ _. let few = count_by-le-length (λ (q : ℕ). ltb q c) ks in
@@ -200,16 +216,19 @@ all_checked rs ks c None false e t = absurd (cc)
 all_checked rs ks c (Some p) true e t = absurd (cc)
 all_checked rs ks c (Some p) false e t = (
   (λ h. absurd (cc)),
-  (λ h. let within = slice_get_within ks (count_before c ks) p (sym e) in absurd (omega (arith, length-map ks (read_at rs), h))),
+  (λ h. let within = slice_get_within ks (count_before c ks) p (sym e) in
+      absurd (omega (arith, length-map ks (read_at rs), h))),
 )
 
 -- ---- a place inserted, and removed again
 
-pub put_last : (rs : List Read) (ks put : List ℕ) (es : List (ℕ × ℕ)) (c n : ℕ) → IsIndexed rs ks es c → n ≡ length rs
+pub put_last : (rs : List Read) (ks put : List ℕ) (es : List (ℕ × ℕ)) (c n : ℕ) → IsIndexed rs ks es c →
+    n ≡ length rs
     → put ≡ insert_key nat_cmp ks n → put ≡ ks ++ length rs ∷ []
 put_last rs ks put es c n x e h = h ∙ ap (insert_key nat_cmp ks) e ∙ insert_last (length rs) ks x.within
 
-pub put_back : (rs : List Read) (ks put back : List ℕ) (es : List (ℕ × ℕ)) (c n : ℕ) → IsIndexed rs ks es c → n ≡ length rs
+pub put_back : (rs : List Read) (ks put back : List ℕ) (es : List (ℕ × ℕ)) (c n : ℕ) → IsIndexed rs ks es c →
+    n ≡ length rs
     → put ≡ insert_key nat_cmp ks n → back ≡ remove_key (is_at (nat_cmp n)) put → back ≡ ks
 put_back rs ks put back es c n x e h g =
     g ∙ ap (λ (m : ℕ). remove_key (is_at (nat_cmp m)) put) e

@@ -1,22 +1,17 @@
 -- Places in order: which is the next, what is left without one, and with one more.
-use Rattle.std.proofs.Common.{◌≡◌, ◌≢◌, ◌==◌, ◌+◌, ◌<◌, ◌≤◌, ◌||◌, ◌++◌, ◌⊎◌, ◌∙◌, ℕ, List, [], ◌∷◌, Bool, true, false, cond, length, map, ltb, eqb, count_by, get_or, Option, Some, None, Bor, inl, inr, suc, zero, refl, ap, sym, arith}
+use Rattle.std.proofs.Common.{◌≡◌, ◌==◌, ◌+◌, ◌<◌, ◌≤◌, ◌⊎◌, ◌∙◌, ℕ, List, [], ◌∷◌, Option, Some, None, Bor, inl, inr, suc, zero, refl, ap, sym, arith}
 use Rattle.std.proofs.lemmas.Bool.Decides.{nat_tests}
-use Rattle.std.proofs.lemmas.Bool.{cases_eq}
 use Rattle.std.proofs.lemmas.Grind.{common_steps}
 use Rattle.std.proofs.lemmas.Map.Keys.{sorted_head, sorted_tail}
 use Rattle.std.specs.BTreeMap.{is_at}
 use Rattle.std.specs.BTreeMap.Range.{range_contains}
 use Rattle.std.specs.declared.ops.Bound.TheVariants.{Included, Unbounded}
 use Rattle.std.specs.declared.cmp.Ordering.TheVariants.{Less}
-use Rattle.std.specs.BTreeSet.{insert_key}
-use Rattle.std.specs.List.{AllByRecursion, filter, list_any, slice_get}
+use Rattle.std.specs.List.{AllByRecursion, filter, slice_get}
 use Rattle.std.specs.List.Sorted.{IsStrictlySortedBy}
 use Rattle.std.specs.Option.{IfSome, MatchOption, option_copied}
 use Rattle.std.specs.Ordering.{nat_cmp}
-use Rattle.std.specs.Set.{remove_key}
-use Rattle.dstm_core.specs.declared.state.Read.{Read}
-use Rattle.dstm_core.specs.Indexed.{is_among, count_before, read_at, reads_at}
-use Rattle.dstm_core.specs.State.{read_of, drop_read}
+use Rattle.dstm_core.specs.Indexed.{count_before}
 
 -- a place stands at another one only if the two are one
 pub is_at_is : (p q : ℕ) → is_at (nat_cmp p) q ≡ (p == q)
@@ -26,7 +21,8 @@ is_at_is p q = grind (arith, nat_tests)
 above : (k y : ℕ) → nat_cmp k y ≡ Less → k < y
 above k y e = grind (arith, nat_tests)
 
-none_before : (c : ℕ) (ks : List ℕ) (k : ℕ) → c ≤ k + 1 → AllByRecursion (λ y. nat_cmp k y ≡ Less) ks → count_before c ks ≡ 0
+none_before : (c : ℕ) (ks : List ℕ) (k : ℕ) → c ≤ k + 1 → AllByRecursion (λ y. nat_cmp k y ≡ Less) ks →
+    count_before c ks ≡ 0
 none_before c [] k h a = refl
 none_before c (y ∷ ks) k h a =
     let up = above k y a.0 in let others = none_before c ks k h a.1 in grind (arith, nat_tests)
@@ -52,7 +48,8 @@ from_yes : (c k : ℕ) (ks : List ℕ) → c ≤ k → from c (k ∷ ks) ≡ k �
 from_yes c k ks h = grind (arith, nat_tests)
 
 -- the next place is the first that does not stand before c
-pub next_is : (c : ℕ) (ks : List ℕ) → IsStrictlySortedBy nat_cmp ks → slice_get ks (count_before c ks) ≡ slice_get (from c ks) 0
+pub next_is : (c : ℕ) (ks : List ℕ) → IsStrictlySortedBy nat_cmp ks →
+    slice_get ks (count_before c ks) ≡ slice_get (from c ks) 0
 next_is c [] s = refl
 next_is c (k ∷ ks) s = go (below_or k c) (next_is c ks (sorted_tail nat_cmp k ks s))
   where
@@ -60,21 +57,25 @@ next_is c (k ∷ ks) s = go (below_or k c) (next_is c ks (sorted_tail nat_cmp k 
         → slice_get (k ∷ ks) (count_before c (k ∷ ks)) ≡ slice_get (from c (k ∷ ks)) 0
     go (inl h) e = rw (count_yes c k ks h, from_no c k ks h) e
     go (inr h) e =
-        let none : count_before c (k ∷ ks) ≡ 0 = count_no c k ks h ∙ none_before c ks k (omega arith) (sorted_head nat_cmp k ks s) in
+        let none : count_before c (k ∷ ks) ≡ 0 = count_no c k ks h
+        ∙ none_before c ks k (omega arith) (sorted_head nat_cmp k ks s) in
         rw (none, from_yes c k ks h) refl
 
-later : (k p : ℕ) (ks : List ℕ) (i : ℕ) → AllByRecursion (λ y. nat_cmp k y ≡ Less) ks → slice_get ks i ≡ Some p → k < p
+later : (k p : ℕ) (ks : List ℕ) (i : ℕ) → AllByRecursion (λ y. nat_cmp k y ≡ Less) ks →
+    slice_get ks i ≡ Some p → k < p
 later k p [] i a e = absurd (cc)
 later k p (y ∷ ks) zero a e = let up = above k y a.0 in let same : y ≡ p = cc in omega arith
 later k p (y ∷ ks) (suc i) a e = later k p ks i a.1 e
 
 -- once the next place is passed, one place more stands before
-pub next_count : (c p : ℕ) (ks : List ℕ) → IsStrictlySortedBy nat_cmp ks → slice_get ks (count_before c ks) ≡ Some p
+pub next_count : (c p : ℕ) (ks : List ℕ) → IsStrictlySortedBy nat_cmp ks →
+    slice_get ks (count_before c ks) ≡ Some p
     → count_before (p + 1) ks ≡ count_before c ks + 1
 next_count c p [] s e = absurd (cc)
 next_count c p (k ∷ ks) s e = go (below_or k c) (next_count c p ks (sorted_tail nat_cmp k ks s))
   where
-    go : (k < c) ⊎ (c ≤ k) → (slice_get ks (count_before c ks) ≡ Some p → count_before (p + 1) ks ≡ count_before c ks + 1)
+    go : (k < c) ⊎ (c ≤ k) →
+        (slice_get ks (count_before c ks) ≡ Some p → count_before (p + 1) ks ≡ count_before c ks + 1)
         → count_before (p + 1) (k ∷ ks) ≡ count_before c (k ∷ ks) + 1
     go (inl h) f =
         let rest : slice_get ks (count_before c ks) ≡ Some p = rw (count_yes c k ks h) at e in
@@ -84,14 +85,16 @@ next_count c p (k ∷ ks) s e = go (below_or k c) (next_count c p ks (sorted_tai
         let all = f rest in
         omega arith
     go (inr h) f =
-        let none : count_before c (k ∷ ks) ≡ 0 = count_no c k ks h ∙ none_before c ks k (omega arith) (sorted_head nat_cmp k ks s) in
+        let none : count_before c (k ∷ ks) ≡ 0 = count_no c k ks h
+        ∙ none_before c ks k (omega arith) (sorted_head nat_cmp k ks s) in
         let first : Some k ≡ Some p = rw (none) at e in
         let same : k ≡ p = cc in
         let one = count_yes (p + 1) k ks (omega arith) in
         let rest = none_before (p + 1) ks k (omega arith) (sorted_head nat_cmp k ks s) in
         omega arith
 
-pub next_counts : (c : ℕ) (ks : List ℕ) (o : Option ℕ) → IsStrictlySortedBy nat_cmp ks → o ≡ slice_get ks (count_before c ks)
+pub next_counts : (c : ℕ) (ks : List ℕ) (o : Option ℕ) → IsStrictlySortedBy nat_cmp ks →
+    o ≡ slice_get ks (count_before c ks)
     → IfSome o (λ p. count_before (p + 1) ks ≡ count_before c ks + 1)
 next_counts c ks None s e = tt
 next_counts c ks (Some p) s e = next_count c p ks s (sym e)

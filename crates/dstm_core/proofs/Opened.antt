@@ -1,6 +1,5 @@
 -- The objects opened for writing.
-use Rattle.std.proofs.Common.{◌≡◌, ◌==◌, ◌||◌, ◌++◌, ℕ, List, [], ◌∷◌, Bool, true, false, cond, is_some, Some, None, refl, arith}
-use Rattle.std.proofs.lemmas.Grind.{common_steps}
+use Rattle.std.proofs.Common.{◌≡◌, ◌==◌, ◌||◌, ◌++◌, ℕ, List, [], ◌∷◌, Bool, true, false, cond, is_some, Some, None, refl}
 use Rattle.dstm_core.specs.declared.state.Write.{Write}
 use Rattle.dstm_core.specs.State.{write_of}
 
@@ -15,6 +14,7 @@ is_open-push o [] w = last (w.object == o)
 is_open-push o (v ∷ ws) w = front (v.object == o) (is_open-push o ws w)
   where
     front : (b : Bool) → is_some (write_of o (ws ++ w ∷ [])) ≡ (is_some (write_of o ws) || (w.object == o))
-        → is_some (cond b (Some v) (write_of o (ws ++ w ∷ []))) ≡ (is_some (cond b (Some v) (write_of o ws)) || (w.object == o))
+        → is_some (cond b (Some v) (write_of o (ws ++ w ∷ []))) ≡
+        (is_some (cond b (Some v) (write_of o ws)) || (w.object == o))
     front true e = refl
     front false e = e

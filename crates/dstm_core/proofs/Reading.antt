@@ -1,19 +1,16 @@
 -- The reads at some places: with one more, without one, and the one of an object.
-use Rattle.std.proofs.Common.{◌≡◌, ◌≢◌, ◌==◌, ◌+◌, ◌<◌, ◌≤◌, ◌||◌, ◌++◌, ◌⊎◌, ◌∙◌, ℕ, List, [], ◌∷◌, Bool, true, false, cond, length, map, ltb, eqb, count_by, get_or, Option, Some, None, inl, inr, suc, zero, refl, ap, sym, arith, append_assoc}
+use Rattle.std.proofs.Common.{◌≡◌, ◌≢◌, ◌==◌, ◌<◌, ◌≤◌, ◌||◌, ◌++◌, ◌⊎◌, ◌∙◌, ℕ, List, [], ◌∷◌, true, false, length, Some, None, inl, inr, refl, ap, sym, arith}
 use Rattle.std.proofs.lemmas.Bool.Decides.{nat_tests}
-use Rattle.std.proofs.lemmas.Bool.{cases_eq}
 use Rattle.std.proofs.lemmas.Grind.{common_steps}
 use Rattle.std.proofs.Math.ListN.{get_or-append}
 use Rattle.std.proofs.Math.Seq.{get_or-append_seam}
 use Rattle.std.specs.BTreeMap.{is_at}
 use Rattle.std.specs.BTreeSet.{insert_key}
-use Rattle.std.specs.List.{list_any}
 use Rattle.std.specs.Ordering.{nat_cmp}
 use Rattle.std.specs.Set.{remove_key}
 use Rattle.dstm_core.specs.declared.state.Read.{Read}
 use Rattle.dstm_core.specs.Indexed.{is_among, count_before, read_at, reads_at}
 use Rattle.dstm_core.specs.State.{read_of, drop_read, or_read}
-use Rattle.dstm_core.proofs.Indices.{is_at_is}
 
 -- ---- places
 
@@ -40,16 +37,19 @@ insert_past k n ks h = grind (arith, nat_tests)
 pub insert_last : (n : ℕ) (ks : List ℕ) → Before ks n → insert_key nat_cmp ks n ≡ ks ++ n ∷ []
 insert_last n [] h = refl
 insert_last n (k ∷ ks) h =
-    insert_past k n ks (h k (among_head k ks)) ∙ ap (λ (xs : List ℕ). k ∷ xs) (insert_last n ks (before_tail k n ks h))
+    insert_past k n ks (h k (among_head k ks))
+    ∙ ap (λ (xs : List ℕ). k ∷ xs) (insert_last n ks (before_tail k n ks h))
 
-remove_past : (k n : ℕ) (ks : List ℕ) → k < n → remove_key (is_at (nat_cmp n)) (k ∷ ks) ≡ k ∷ remove_key (is_at (nat_cmp n)) ks
+remove_past : (k n : ℕ) (ks : List ℕ) → k < n →
+    remove_key (is_at (nat_cmp n)) (k ∷ ks) ≡ k ∷ remove_key (is_at (nat_cmp n)) ks
 remove_past k n ks h = grind (arith, nat_tests)
 
 -- and removed again
 pub remove_last : (n : ℕ) (ks : List ℕ) → Before ks n → remove_key (is_at (nat_cmp n)) (ks ++ n ∷ []) ≡ ks
 remove_last n [] h = grind (arith, nat_tests)
 remove_last n (k ∷ ks) h =
-    remove_past k n (ks ++ n ∷ []) (h k (among_head k ks)) ∙ ap (λ (xs : List ℕ). k ∷ xs) (remove_last n ks (before_tail k n ks h))
+    remove_past k n (ks ++ n ∷ []) (h k (among_head k ks))
+    ∙ ap (λ (xs : List ℕ). k ∷ xs) (remove_last n ks (before_tail k n ks h))
 
 pub among-push : (p n : ℕ) (ks : List ℕ) → is_among p (ks ++ n ∷ []) ≡ (is_among p ks || (p == n))
 among-push p n [] = grind (arith, nat_tests)
@@ -67,16 +67,19 @@ read_at_old rs r p h = get_or-append rs (r ∷ []) (or_read None) p h
 pub read_at_last : (rs : List Read) (r : Read) → read_at (rs ++ r ∷ []) (length rs) ≡ r
 read_at_last rs r = get_or-append_seam rs r [] (or_read None)
 
-reads-push : (rs : List Read) (ks : List ℕ) (n : ℕ) → reads_at rs (ks ++ n ∷ []) ≡ reads_at rs ks ++ read_at rs n ∷ []
+reads-push : (rs : List Read) (ks : List ℕ) (n : ℕ) →
+    reads_at rs (ks ++ n ∷ []) ≡ reads_at rs ks ++ read_at rs n ∷ []
 reads-push rs [] n = refl
 reads-push rs (k ∷ ks) n = ap (λ (xs : List Read). read_at rs k ∷ xs) (reads-push rs ks n)
 
 -- one read more that is recorded changes nothing at the places of the others
-pub reads_old : (rs : List Read) (r : Read) (ks : List ℕ) → Before ks (length rs) → reads_at (rs ++ r ∷ []) ks ≡ reads_at rs ks
+pub reads_old : (rs : List Read) (r : Read) (ks : List ℕ) → Before ks (length rs) →
+    reads_at (rs ++ r ∷ []) ks ≡ reads_at rs ks
 reads_old rs r [] h = refl
 reads_old rs r (k ∷ ks) h =
     let here : read_at (rs ++ r ∷ []) k ≡ read_at rs k = read_at_old rs r k (h k (among_head k ks)) in
-    let rest : reads_at (rs ++ r ∷ []) ks ≡ reads_at rs ks = reads_old rs r ks (before_tail k (length rs) ks h) in
+    let rest : reads_at (rs ++ r ∷ []) ks ≡ reads_at rs ks =
+    reads_old rs r ks (before_tail k (length rs) ks h) in
     cc
 
 -- at its own place it is the last one
@@ -89,7 +92,7 @@ reads_more rs r ks h =
 
 -- ---- the read of an object
 
-same_or_not : (a b : ℕ) → (a ≡ b) ⊎ (a ≢ b)
+pub same_or_not : (a b : ℕ) → (a ≡ b) ⊎ (a ≢ b)
 same_or_not a b = grind arith
 
 -- no read at some places is of the object
@@ -114,24 +117,29 @@ none_found o rs (k ∷ ks) h =
     let here = test_no (read_at rs k).object o (h k (among_head k ks)) in
     rw here (none_found o rs ks (λ q a. h q (among_tail q k ks a)))
 
-pub none_dropped : (o : ℕ) (rs : List Read) (ks : List ℕ) → NoneOf o rs ks → drop_read o (reads_at rs ks) ≡ reads_at rs ks
+pub none_dropped : (o : ℕ) (rs : List Read) (ks : List ℕ) → NoneOf o rs ks →
+    drop_read o (reads_at rs ks) ≡ reads_at rs ks
 none_dropped o rs [] h = refl
 none_dropped o rs (k ∷ ks) h =
     let here = test_no (read_at rs k).object o (h k (among_head k ks)) in
-    rw here (ap (λ (xs : List Read). read_at rs k ∷ xs) (none_dropped o rs ks (λ q a. h q (among_tail q k ks a))))
+    rw here (ap (λ (xs : List Read). read_at rs k ∷ xs)
+    (none_dropped o rs ks (λ q a. h q (among_tail q k ks a))))
 
-one_tail : (o : ℕ) (rs : List Read) (k : ℕ) (ks : List ℕ) (p : ℕ) → OneOf o rs (k ∷ ks) p → (read_at rs k).object ≢ o → OneOf o rs ks p
+one_tail : (o : ℕ) (rs : List Read) (k : ℕ) (ks : List ℕ) (p : ℕ) → OneOf o rs (k ∷ ks) p →
+    (read_at rs k).object ≢ o → OneOf o rs ks p
 one_tail o rs k ks p h n = record {
   among = among_other p k ks h.among (λ e. n (ap (λ (q : ℕ). (read_at rs q).object) (sym e) ∙ h.object));
   object = h.object;
   alone = λ q a. h.alone q (among_tail q k ks a);
 }
 
-pub one_found : (o : ℕ) (rs : List Read) (ks : List ℕ) (p : ℕ) → OneOf o rs ks p → read_of o (reads_at rs ks) ≡ Some (read_at rs p)
+pub one_found : (o : ℕ) (rs : List Read) (ks : List ℕ) (p : ℕ) → OneOf o rs ks p →
+    read_of o (reads_at rs ks) ≡ Some (read_at rs p)
 one_found o rs [] p h = absurd (let a = h.among in cc)
 one_found o rs (k ∷ ks) p h = go (same_or_not (read_at rs k).object o) (one_found o rs ks p)
   where
-    go : ((read_at rs k).object ≡ o) ⊎ ((read_at rs k).object ≢ o) → (OneOf o rs ks p → read_of o (reads_at rs ks) ≡ Some (read_at rs p))
+    go : ((read_at rs k).object ≡ o) ⊎ ((read_at rs k).object ≢ o) →
+        (OneOf o rs ks p → read_of o (reads_at rs ks) ≡ Some (read_at rs p))
         → read_of o (reads_at rs (k ∷ ks)) ≡ Some (read_at rs p)
     go (inl e) f =
         let here = test_yes (read_at rs k).object o e in
@@ -141,7 +149,8 @@ one_found o rs (k ∷ ks) p h = go (same_or_not (read_at rs k).object o) (one_fo
 remove_here : (p k : ℕ) (ks : List ℕ) → k ≡ p → remove_key (is_at (nat_cmp p)) (k ∷ ks) ≡ ks
 remove_here p k ks h = grind (arith, nat_tests)
 
-remove_other : (p k : ℕ) (ks : List ℕ) → p ≢ k → remove_key (is_at (nat_cmp p)) (k ∷ ks) ≡ k ∷ remove_key (is_at (nat_cmp p)) ks
+remove_other : (p k : ℕ) (ks : List ℕ) → p ≢ k →
+    remove_key (is_at (nat_cmp p)) (k ∷ ks) ≡ k ∷ remove_key (is_at (nat_cmp p)) ks
 remove_other p k ks h = grind (arith, nat_tests)
 
 -- without the place of an object's read, that read is dropped
@@ -160,4 +169,5 @@ one_dropped o rs (k ∷ ks) p h = go (same_or_not (read_at rs k).object o) (one_
     go (inr n) f =
         let here = test_no (read_at rs k).object o n in
         let other : p ≢ k = λ e. n (ap (λ (q : ℕ). (read_at rs q).object) (sym e) ∙ h.object) in
-        rw (here, remove_other p k ks other) (ap (λ (xs : List Read). read_at rs k ∷ xs) (f (one_tail o rs k ks p h n)))
+        rw (here, remove_other p k ks other)
+        (ap (λ (xs : List Read). read_at rs k ∷ xs) (f (one_tail o rs k ks p h n)))

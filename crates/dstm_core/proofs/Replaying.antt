@@ -1,18 +1,18 @@
 -- The first event that breaks a run is one alone, and there is none in a core run.
-use Rattle.std.proofs.Common.{IsTrue, Bool, true, false, ◌≡◌, ◌+◌, ◌-◌, ◌<◌, ◌≤◌, ◌↔◌, ◌⊎◌, ◌++◌, ◌∙◌, ℕ, List, [], ◌∷◌, length, take, drop, reverse, get_or, inl, inr, refl, ap, sym, subst, arith}
+use Rattle.std.proofs.Common.{IsTrue, Bool, true, false, ◌≡◌, ◌+◌, ◌<◌, ◌≤◌, ◌↔◌, ◌⊎◌, ◌++◌, ◌∙◌, ℕ, List, [], ◌∷◌, length, take, drop, reverse, get_or, inl, inr, ap, sym, subst, arith}
 use Rattle.std.proofs.lemmas.Grind.{common_steps}
 use Rattle.std.proofs.lemmas.List.{reverse-append, take-append-drop}
 use Rattle.std.proofs.Math.Seq.{take-suc}
 use Rattle.dstm_core.specs.declared.event.Event.{Event}
 use Rattle.dstm_core.specs.declared.shape.Shape.{Shape}
-use Rattle.dstm_core.specs.declared.verdict.Replay.{Replay}
 use Rattle.dstm_core.specs.declared.verdict.Replay.TheVariants.{Run, Broken}
-use Rattle.dstm_core.specs.Replays.{IsFirstBroken, Stands}
+use Rattle.dstm_core.specs.Replays.{IsFirstBroken, Stands, Judged}
 use Rattle.dstm_core.specs.Tracking.{Tracked}
 use Rattle.dstm_core.specs.Runs.{Core, Fits}
 
 -- one event more, and the log has it as its newest
-pub next_log : (t : List Event) (i : ℕ) (d : Event) → i < length t → reverse (take (i + 1) t) ≡ get_or t i d ∷ reverse (take i t)
+pub next_log : (t : List Event) (i : ℕ) (d : Event) → i < length t →
+    reverse (take (i + 1) t) ≡ get_or t i d ∷ reverse (take i t)
 next_log t i d h = grind (arith, take-suc t i d h, reverse-append (take i t) (get_or t i d ∷ []), common_steps)
 
 -- what stands before some events of a core run is a core run
@@ -21,7 +21,8 @@ core_before s [] before c = c
 core_before s (e ∷ later) before c = core_before s later before c.0
 
 -- fewer events of a core run are a core run
-pub core_fewer : (s : Shape) (t : List Event) (i j : ℕ) → i ≤ j → Core s (reverse (take j t)) → Core s (reverse (take i t))
+pub core_fewer : (s : Shape) (t : List Event) (i j : ℕ) → i ≤ j → Core s (reverse (take j t)) →
+    Core s (reverse (take i t))
 core_fewer s t i j h c =
     let parts : reverse (take j t) ≡ reverse (drop i (take j t)) ++ reverse (take i t) =
     grind (arith, take-append-drop i (take j t), reverse-append (take i t) (drop i (take j t)), common_steps) in
@@ -31,7 +32,8 @@ compare : (i j : ℕ) → (i < j) ⊎ (j < i) ⊎ (i ≡ j)
 compare i j = grind arith
 
 -- all events of a trace
-pub core_whole : (s : Shape) (t : List Event) (i : ℕ) → length t ≤ i → Core s (reverse (take i t)) → Core s (reverse t)
+pub core_whole : (s : Shape) (t : List Event) (i : ℕ) → length t ≤ i → Core s (reverse (take i t)) →
+    Core s (reverse t)
 core_whole s t i h c =
     let all : take i t ≡ t = grind (arith, common_steps) in subst (λ (u : List Event). Core s (reverse u)) all c
 
@@ -49,35 +51,36 @@ pub none_broken : (s : Shape) (t : List Event) (i : ℕ) → Core s (reverse t) 
 none_broken s t i c p =
     let all : take (length t) t ≡ t = grind (arith, common_steps) in
     let within = p.within in
-    p.broken (core_fewer s t (i + 1) (length t) (omega arith) (subst (λ (u : List Event). Core s (reverse u)) (sym all) c))
-
--- what a step of the replay tells of an event
-abbrev pub Judged : Shape → List Event → Event → Bool → List ℕ → List Tracked → Type 0
-Judged s log e fits words callers =
-    (IsTrue fits ↔ Fits s log e) × (IsTrue fits → Stands s words callers (e ∷ log))
+    p.broken (core_fewer s t (i + 1) (length t) (omega arith)
+    (subst (λ (u : List Event). Core s (reverse u)) (sym all) c))
 
 -- the events so far are a core run, after which the table stands
-pub record Replayed (s : Shape) (t : List Event) (i : ℕ) (words : List ℕ) (callers : List Tracked) : Type 0 where
+pub record Replayed (s : Shape) (t : List Event) (i : ℕ) (words : List ℕ)
+    (callers : List Tracked) : Type 0 where
   pub core : Core s (reverse (take i t))
   pub stands : Stands s words callers (reverse (take i t))
 
 -- an event that fits
-pub one_more : (s : Shape) (t : List Event) (i : ℕ) (e : Event) (fits : Bool) (words : List ℕ) (callers : List Tracked)
+pub one_more : (s : Shape) (t : List Event) (i : ℕ) (e : Event) (fits : Bool) (words : List ℕ)
+    (callers : List Tracked)
     → i < length t → e ≡ get_or t i e → fits ≡ true → Core s (reverse (take i t))
     → Judged s (reverse (take i t)) e fits words callers → Replayed s t (i + 1) words callers
 one_more s t i e fits words callers within is held core said =
-    let log : reverse (take (i + 1) t) ≡ e ∷ reverse (take i t) = next_log t i e within ∙ ap (λ (d : Event). d ∷ reverse (take i t)) (sym is) in
+    let log : reverse (take (i + 1) t) ≡ e ∷ reverse (take i t) = next_log t i e within
+    ∙ ap (λ (d : Event). d ∷ reverse (take i t)) (sym is) in
     record {
       core = subst (Core s) (sym log) (core, said.0.0 held);
       stands = subst (Stands s words callers) (sym log) (said.1 held);
     }
 
 -- an event that does not fit
-pub breaks : (s : Shape) (t : List Event) (i : ℕ) (e : Event) (fits : Bool) (words : List ℕ) (callers : List Tracked)
+pub breaks : (s : Shape) (t : List Event) (i : ℕ) (e : Event) (fits : Bool) (words : List ℕ)
+    (callers : List Tracked)
     → i < length t → e ≡ get_or t i e → fits ≡ false → Core s (reverse (take i t))
     → Judged s (reverse (take i t)) e fits words callers → IsFirstBroken s t i
 breaks s t i e fits words callers within is fell core said =
-    let log : reverse (take (i + 1) t) ≡ e ∷ reverse (take i t) = next_log t i e within ∙ ap (λ (d : Event). d ∷ reverse (take i t)) (sym is) in
+    let log : reverse (take (i + 1) t) ≡ e ∷ reverse (take i t) = next_log t i e within
+    ∙ ap (λ (d : Event). d ∷ reverse (take i t)) (sym is) in
     record {
       within = within;
       before = core;
@@ -85,13 +88,16 @@ breaks s t i e fits words callers within is fell core said =
     }
 
 -- the answers to a trace with a first broken event
-pub broken_run : (s : Shape) (t : List Event) (i : ℕ) → IsFirstBroken s t i → (Broken i ≡ Run) ↔ Core s (reverse t)
+pub broken_run : (s : Shape) (t : List Event) (i : ℕ) → IsFirstBroken s t i →
+    (Broken i ≡ Run) ↔ Core s (reverse t)
 broken_run s t i p = ((λ e. absurd (cc)), (λ c. absurd (none_broken s t i c p)))
 
-pub broken_at : (s : Shape) (t : List Event) (i : ℕ) → IsFirstBroken s t i → (k : ℕ) → (Broken i ≡ Broken k) ↔ IsFirstBroken s t k
+pub broken_at : (s : Shape) (t : List Event) (i : ℕ) → IsFirstBroken s t i → (k : ℕ) →
+    (Broken i ≡ Broken k) ↔ IsFirstBroken s t k
 broken_at s t i p k =
     ((λ e. let same : i ≡ k = cc in subst (IsFirstBroken s t) same p), (λ q. ap Broken (one_first s t i k p q)))
 
 -- and to a core run
-pub run_at : (s : Shape) (t : List Event) → Core s (reverse t) → (k : ℕ) → (Run ≡ Broken k) ↔ IsFirstBroken s t k
+pub run_at : (s : Shape) (t : List Event) → Core s (reverse t) → (k : ℕ) →
+    (Run ≡ Broken k) ↔ IsFirstBroken s t k
 run_at s t c k = ((λ e. absurd (cc)), (λ q. absurd (none_broken s t k c q)))

@@ -1,8 +1,8 @@
 -- The replay of a trace, which is given with its oldest event first.
-use Rattle.std.specs.Prelude.{◌≡◌, ℕ, ◌+◌, ◌<◌, List, length, reverse, take, slice_index, slice_index_or}
+use Rattle.std.specs.Prelude.{◌≡◌, ◌↔◌, Bool, IsTrue, ◌∷◌, ℕ, ◌+◌, ◌<◌, List, length, reverse, take, slice_index, slice_index_or}
 use Rattle.dstm_core.specs.declared.event.Event.{Event}
 use Rattle.dstm_core.specs.declared.shape.Shape.{Shape}
-use Rattle.dstm_core.specs.Runs.{local, Core}
+use Rattle.dstm_core.specs.Runs.{local, Core, Fits}
 use Rattle.dstm_core.specs.Tracking.{Tracked}
 use Rattle.dstm_core.specs.Traces.{at}
 use Rattle.dstm_core.specs.Words.{word_count}
@@ -21,3 +21,15 @@ pub record Stands (shape : Shape) (words : List ℕ) (callers : List Tracked) (l
   pub each_caller :
       (c : ℕ) (d : Tracked) → c < shape.callers
       → slice_index_or callers c d ≡ record { shape = shape; state = local shape log c }
+
+-- the answer on an event after a log tells whether it fits; if it does, the table stands after both
+abbrev pub Judged : Shape → List Event → Event → Bool → List ℕ → List Tracked → Type 0
+Judged shape log event fits words callers =
+    (IsTrue fits ↔ Fits shape log event) × (IsTrue fits → Stands shape words callers (event ∷ log))
+
+-- and so it is for every log after which the table stood
+abbrev pub Judges : List ℕ → List Tracked → Event → Bool → List ℕ → List Tracked → Type 0
+Judges words callers event fits new_words new_callers =
+    (shape : Shape) (log : List Event)
+    → Stands shape words callers log
+    → Judged shape log event fits new_words new_callers

@@ -1,5 +1,5 @@
 -- What the code keeps of a caller: its shape and its state, and the parts of that state that are containers.
-use Rattle.std.specs.Prelude.{ℕ, ◌+◌, List, [], ◌∷◌, ◌++◌, None, true}
+use Rattle.std.specs.Prelude.{◌≡◌, ℕ, ◌+◌, List, [], ◌∷◌, ◌++◌, None, true}
 use Rattle.dstm_core.specs.declared.event.Event.{Event}
 use Rattle.dstm_core.specs.declared.event.Kind.{Kind}
 use Rattle.dstm_core.specs.declared.shape.Shape.{Shape}
@@ -8,6 +8,11 @@ use Rattle.dstm_core.specs.declared.state.Resolution.{Resolution}
 use Rattle.dstm_core.specs.declared.state.Write.{Write}
 use Rattle.dstm_core.specs.Rules.{after, AllowedAs}
 use Rattle.dstm_core.specs.State.{LocalState, or_zero, version, drop_read}
+use Rattle.dstm_core.specs.Words.{Word, HasWord, place}
+
+-- the place is that of the word, and the shape has the word
+abbrev pub IsPlaceOf : Shape → Word → ℕ → Type 0
+IsPlaceOf shape word at = (at ≡ place shape word) × HasWord shape word
 
 -- a caller of a table of this shape
 pub record Tracked : Type 0 where

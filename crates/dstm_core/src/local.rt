@@ -115,9 +115,9 @@ impl Local {
         })
     }
 
-    /// Moves on by the caller's next event, and answers whether the rules allow it. Which caller
-    /// makes the event and what an event finds are not its to judge, nor is the law on the values
-    /// put.
+    /// Moves on by the caller's next event where the rules allow it, and answers whether they do.
+    /// Where they do not, and where memory is wanting, nothing changes. Which caller makes the
+    /// event and what an event finds are not its to judge, nor is the law on the values put.
     pub fn next(&mut self, event: &Event) -> Result<bool, AllocError>
         ensures allowed { IfOk result (λ yes. IsTrue yes ↔ Allows event.now.kind self.old event.now) }
         ensures moved { IfOk result (λ yes. self.new ≡ (if yes then moved event.now.kind self.old event.now else self.old)) }

@@ -1,9 +1,7 @@
-ghost use Rattle.std.specs.Prelude.{◌≡◌, ◌↔◌, ◌<◌, ℕ, IsTrue, IfOk, List, [], ◌∷◌, length, reverse, slice_index};
-ghost use Rattle.dstm_core.specs.declared.event.Event.{Event as AnEvent};
-ghost use Rattle.dstm_core.specs.declared.shape.Shape.{Shape as AShape};
+ghost use Rattle.std.specs.Prelude.{◌≡◌, ◌↔◌, ◌<◌, ℕ, IsTrue, IfOk, [], length, reverse, slice_index};
 ghost use Rattle.dstm_core.specs.declared.event.Kind.TheVariants.{Enrol};
-ghost use Rattle.dstm_core.specs.Replays.{IsFirstBroken, Stands};
-ghost use Rattle.dstm_core.specs.Runs.{Core, Fits};
+ghost use Rattle.dstm_core.specs.Replays.{IsFirstBroken, Judges, Stands};
+ghost use Rattle.dstm_core.specs.Runs.{Core};
 ghost use Rattle.dstm_core.specs.Words.{IsValid};
 
 use crate::event::{Event, Kind};
@@ -14,7 +12,8 @@ use std::alloc::{AllocError, Global};
 
 /// Replays a trace, and answers whether it is a core run of the shape, the law on the values put
 /// aside: each event finds what the last one on its word put, an Enrol finds its caller's number,
-/// and the rules allow its caller each event.
+/// and the rules allow its caller each event. It keeps all words of a table, and takes logarithmic
+/// time for each event.
 pub fn replay(alloc: Global, shape: &Shape, trace: &[Event]) -> Result<Replay, AllocError>
     requires { IsValid shape.now }
     ensures run { IfOk result (λ answer. (answer ≡ Replay.Run) ↔ Core shape.now (reverse trace.now)) }
@@ -54,10 +53,8 @@ impl Table {
     fn step(&mut self, event: &Event) -> Result<bool, AllocError>
         ensures { IfOk result
             (λ fits.
-            (shape : AShape) (log : List AnEvent)
-            → Stands shape self.old.words.items self.old.callers.items log
-            → (IsTrue fits ↔ Fits shape log event.now)
-            × (IsTrue fits → Stands shape self.new.words.items self.new.callers.items (event.now ∷ log))) }
+            Judges self.old.words.items self.old.callers.items event.now fits
+            self.new.words.items self.new.callers.items) }
     {
         if !self.is_linked(event) {
             return Ok(false);

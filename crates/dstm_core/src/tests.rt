@@ -291,3 +291,50 @@ fn an_older_caller_that_resumed_is_not_killed(rt: HostRuntime) -> Result<(), Fai
     assert_eq!(rt; changed, Replay::Broken(34));
     Ok(())
 }
+
+#[test]
+fn words_stand_at_their_places(rt: HostRuntime) -> Result<(), Fail> {
+    assert!(rt; GREEDY.is_valid());
+    let few_locators = Shape {
+        locators: 1,
+        ..GREEDY
+    };
+    assert!(rt; !few_locators.is_valid());
+    assert_eq!(rt; GREEDY.words(), 35);
+    let places = [
+        GREEDY.object(1),
+        GREEDY.status(2),
+        GREEDY.rank(2),
+        GREEDY.owner(5),
+        GREEDY.old_cell(5),
+        GREEDY.new_cell(5),
+        GREEDY.high_cell(5),
+        GREEDY.callers_place(),
+        GREEDY.numbers_place(),
+        GREEDY.stamps_place(),
+    ];
+    assert_eq!(rt; places, [1, 4, 7, 13, 19, 25, 31, 32, 33, 34]);
+    assert_eq!(rt; Status::of(4), Some(Status::Committed));
+    assert_eq!(rt; Status::of(6), None);
+    assert_eq!(rt; Status::Aborted.code(), 5);
+    Ok(())
+}
+
+// A number that no run gives is taken, and names no attempt of the shape.
+#[test]
+fn a_caller_out_of_the_shape_begins_nothing(rt: HostRuntime) -> Result<(), Fail> {
+    let mut caller = Local::start(rt.alloc(), &GREEDY)?;
+    let events = [
+        (
+            (0, Kind::Enrol, 32, u64::MAX - 1, u64::MAX - 1, u64::MAX),
+            true,
+        ),
+        ((0, Kind::Enrol, 32, 0, 0, 1), false),
+        ((0, Kind::Stamp, 34, 0, 0, 1), true),
+        ((0, Kind::Rank, 5, 0, 0, 0), false),
+    ];
+    for (row, allowed) in events {
+        assert_eq!(rt; caller.next(&event_of(row))?, allowed);
+    }
+    Ok(())
+}

@@ -1,5 +1,4 @@
-use Rattle.std.proofs.Common.{◌≡◌, ◌∙◌, ap, sym, slice_get}
-use Rattle.dstm_core.specs.Indexed.{count_before}
+use Rattle.std.proofs.Common.{◌∙◌, ap, sym, slice_get}
 use Rattle.dstm_core.proofs.Indices.{next_is, next_counts, first_given}
 use Rattle.dstm_core.proofs.reads.next_place.Goals as goal
 

@@ -1,13 +1,13 @@
-use Rattle.std.proofs.Common.{◌≡◌, ◌<◌, ◌∙◌, ap, sym, length, Some, None, arith}
+use Rattle.std.proofs.Common.{◌≡◌, ◌∙◌, ap, sym, Some, None, arith}
 use Rattle.dstm_core.specs.Indexed.{place_of}
-use Rattle.dstm_core.specs.State.{read_of}
 use Rattle.dstm_core.proofs.Indexing.{of_one, of_none, read_is}
 use Rattle.dstm_core.proofs.Reading.{one_found, none_found}
 use Rattle.dstm_core.proofs.reads.Reads.find.Goals as goal
 
 pub index-requires : goal.index-requires
 index-requires c =
-    let there : place_of c.args.object c.self.inside.places.entries ≡ Some c.in-Some.place.now = sym c.in-Some.ensures.value in
+    let there : place_of c.args.object c.self.inside.places.entries ≡ Some c.in-Some.place.now =
+    sym c.in-Some.ensures.value in
     let among = (c.self.invariant.placed c.args.object c.in-Some.place.now there).0 in
     let within = c.self.invariant.within c.in-Some.place.now among in
     omega (arith, within, c.self.inside.recorded.ok)

@@ -1,5 +1,5 @@
-use Rattle.std.proofs.Common.{◌≡◌, ◌∙◌, ◌++◌, ◌∷◌, [], ap, sym, refl, subst, length, ℕ, List, Some, None, arith}
-use Rattle.dstm_core.specs.Indexed.{IsIndexed, reads_at, count_before}
+use Rattle.std.proofs.Common.{◌≡◌, sym, refl, subst, length, ℕ, Some, None, arith}
+use Rattle.dstm_core.specs.Indexed.{reads_at}
 use Rattle.dstm_core.specs.State.{read_of}
 use Rattle.dstm_core.specs.Tracking.{Checklist}
 use Rattle.dstm_core.proofs.Indexing.{Gives, free, indexed_more, indexed_push, put_last, put_back, same_list, err_any}
@@ -57,7 +57,8 @@ invariant_of-self-in_default c =
     put_last rs ks c.insert.new.self.keys es c.self.inside.cursor c.len-place.result c.self.invariant n
     c.in_ok-insert.ensures.keys in
     let gives : Gives c.args.read.object (Some (length rs)) es c.insert-2.new.self.entries =
-    subst (λ (m : ℕ). Gives c.args.read.object (Some m) es c.insert-2.new.self.entries) n c.in_default.ensures.updates.0 in
+    subst (λ (m : ℕ). Gives c.args.read.object
+    (Some m) es c.insert-2.new.self.entries) n c.in_default.ensures.updates.0 in
     rw (c.in_ok-push.ensures.items, put)
     (indexed_push rs ks es c.insert-2.new.self.entries c.self.inside.cursor c.args.read c.self.invariant
     (free rs ks es c.self.inside.cursor c.args.read.object c.self.invariant absent) gives)

@@ -1,4 +1,4 @@
-use Rattle.std.proofs.Common.{◌≡◌, ◌∙◌, ap, sym, refl, Some, None, arith}
+use Rattle.std.proofs.Common.{◌≡◌, ◌∙◌, ap, sym, Some, None}
 use Rattle.dstm_core.specs.Indexed.{place_of, reads_at}
 use Rattle.dstm_core.proofs.Indexing.{of_one, of_none, indexed_restart, indexed_less, same_list, count_zero}
 use Rattle.dstm_core.proofs.Reading.{one_dropped, none_dropped}
