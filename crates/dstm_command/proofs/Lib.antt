@@ -1,0 +1,5 @@
+pub mod OptionRows
+pub mod OptionTurns
+pub mod OptionWords
+pub mod OptionParses
+pub mod NumberParses

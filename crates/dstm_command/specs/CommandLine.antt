@@ -1,0 +1,139 @@
+-- What the words of a command line ask for.
+use Rattle.std.specs.Prelude.{ℕ, ◌&&◌, ◌||◌, ◌==◌, Bool, true, false, not, List, [], ◌∷◌, Option, None, Some, is_some, option_map, option_and_then, codes, nat_le, if◌then◌else◌}
+use Rattle.std.specs.List.{list_any}
+use Rattle.std.specs.Str.{bytes_eq}
+use Rattle.dstm_core.specs.declared.shape.Manager.{Manager}
+use Rattle.dstm_core.specs.declared.shape.Manager.TheVariants.{Polite, Karma, Polka, Greedy}
+use Rattle.dstm_text.specs.Number.{number_of}
+use Rattle.dstm_command.specs.declared.command.Command.{Command}
+use Rattle.dstm_command.specs.declared.command.Command.TheVariants.{Run, Check, Gen, Demo}
+use Rattle.dstm_command.specs.declared.command.GenSpec.{GenSpec}
+use Rattle.dstm_command.specs.declared.command.RunOptions.{RunOptions}
+
+abbrev pub Text : Type 0
+Text = List ℕ
+
+-- ---- values
+
+-- the plain decimal from `least` to `most` that a text spells
+abbrev pub number_in : ℕ → ℕ → Text → Option ℕ
+number_in least most text =
+    option_and_then (λ n. if nat_le least n && nat_le n most then Some n else None) (number_of text)
+
+-- a seed is any number of 64 bits
+abbrev pub seed_of : Text → Option ℕ
+seed_of = number_in 0 18446744073709551615
+
+abbrev pub manager_of : Text → Option Manager
+manager_of text =
+    if bytes_eq (codes "polite") text then Some Polite
+    else (if bytes_eq (codes "karma") text then Some Karma
+    else (if bytes_eq (codes "polka") text then Some Polka
+    else (if bytes_eq (codes "greedy") text then Some Greedy else None)))
+
+-- ---- the options of `run`
+
+-- what stands in a word before its first `=` (61), and what follows that, if there is one
+abbrev pub parts : Text → Text × Option Text
+parts [] = ([], None)
+parts (b ∷ bs) = if b == 61 then ([], Some bs) else (b ∷ (parts bs).0, (parts bs).1)
+
+-- the options that words give, with their values as texts
+pub record Options : Type 0 where
+  pub manager : Option Text
+  pub seed : Option Text
+  pub all_write : Bool
+
+abbrev pub no_options : Options
+no_options = record { manager = None; seed = None; all_write = false }
+
+-- `--manager` and `--seed` have a value, the flag `--all-write` has none; each is given at most once
+abbrev pub with_manager : Options → Option Text → Option Options
+with_manager o None = None
+with_manager o (Some text) =
+    if is_some o.manager then None else Some (record o { manager = Some text })
+
+abbrev pub with_seed : Options → Option Text → Option Options
+with_seed o None = None
+with_seed o (Some text) = if is_some o.seed then None else Some (record o { seed = Some text })
+
+abbrev pub with_all_write : Options → Option Text → Option Options
+with_all_write o None = if o.all_write then None else Some (record o { all_write = true })
+with_all_write o (Some text) = None
+
+-- the options with one more, of this name and value
+abbrev pub with_option : Options → Text → Option Text → Option Options
+with_option o name value =
+    if bytes_eq (codes "--manager") name then with_manager o value
+    else (if bytes_eq (codes "--seed") name then with_seed o value
+    else (if bytes_eq (codes "--all-write") name then with_all_write o value else None))
+
+abbrev pub takes_value : Text → Bool
+takes_value name = bytes_eq (codes "--manager") name || bytes_eq (codes "--seed") name
+
+-- an option that takes a value and has none behind `=`: the next word is its value
+abbrev pub wants_next : Text × Option Text → Bool
+wants_next word = takes_value word.0 && not (is_some word.1)
+
+-- the options that the words give, after those given before them
+abbrev pub options_from : Options → List Text → Option Options
+options_from o [] = Some o
+options_from o (word ∷ []) = with_option o (parts word).0 (parts word).1
+options_from o (word ∷ next ∷ rest) = if wants_next (parts word)
+    then option_and_then (λ p. options_from p rest) (with_option o (parts word).0 (Some next))
+    else option_and_then (λ p. options_from p (next ∷ rest))
+    (with_option o (parts word).0 (parts word).1)
+
+-- what a value says, or the default where there is none
+abbrev pub value_or : {X : Type 0} → X → (Text → Option X) → Option Text → Option X
+value_or default read None = Some default
+value_or default read (Some text) = read text
+
+abbrev pub run_with : Manager → ℕ → Bool → RunOptions
+run_with manager seed all_write =
+    record { manager = manager; seed = seed; all_write = all_write }
+
+-- the options with their values read: without one polka, the seed 0, and reads opened for reading
+abbrev pub run_of : Options → Option RunOptions
+run_of o = option_and_then (λ manager.
+    option_map (λ seed. run_with manager seed o.all_write) (value_or 0 seed_of o.seed))
+    (value_or Polka manager_of o.manager)
+
+-- ---- commands
+
+abbrev pub spec_with : ℕ → ℕ → ℕ → GenSpec
+spec_with seed count workers = record { seed = seed; count = count; workers = workers }
+
+-- a seed, a count from 0 to 20,000 and from 1 to 32 workers
+abbrev pub spec_of : Text → Text → Text → Option GenSpec
+spec_of seed count workers = option_and_then (λ s. option_and_then (λ c.
+    option_map (λ w. spec_with s c w) (number_in 1 32 workers))
+    (number_in 0 20000 count)) (seed_of seed)
+
+-- `SEED COUNT WORKERS`
+abbrev pub spec_in : List Text → Option GenSpec
+spec_in (seed ∷ count ∷ workers ∷ []) = spec_of seed count workers
+spec_in _ = None
+
+abbrev pub check_in : List Text → Option Command
+check_in [] = Some Check
+check_in (word ∷ words) = None
+
+abbrev pub command_named : Text → List Text → Option Command
+command_named name words =
+    if bytes_eq (codes "run") name
+    then option_map Run (option_and_then run_of (options_from no_options words))
+    else (if bytes_eq (codes "check") name then check_in words
+    else (if bytes_eq (codes "gen") name then option_map Gen (spec_in words)
+    else (if bytes_eq (codes "demo") name then option_map Demo (spec_in words) else None)))
+
+-- the word is `--`
+abbrev pub is_two_hyphens : Text → Bool
+is_two_hyphens word = bytes_eq word (codes "--")
+
+-- the command of a line whose first word is the program's name; a line with a word `--` has none
+abbrev pub command_of : List Text → Option Command
+command_of [] = None
+command_of (program ∷ []) = None
+command_of (program ∷ name ∷ words) =
+    if list_any is_two_hyphens words then None else command_named name words

@@ -1,0 +1,53 @@
+ghost use Rattle.std.specs.Prelude.{◌≡◌, false, map, Some, None, codes, IfOk, IsErrOf, string_bytes, List, ℕ};
+ghost use Rattle.std.specs.List.{list_any};
+ghost use Rattle.clap.specs.Words.{app_of, first_value, found_of};
+ghost use Rattle.dstm_command.specs.CommandLine.{is_two_hyphens, spec_in, spec_of};
+ghost use Rattle.dstm_command.specs.Parsers.{numbers_app};
+
+use crate::parser::matches;
+use crate::values::{read_number, read_seed};
+use crate::{GenSpec, WordsError};
+use clap::{Arg, ArgMatches, Command};
+use std::alloc::{AllocError, Global};
+
+const MAX_COUNT: u32 = 20_000;
+
+const MAX_WORKERS: u32 = 32;
+
+// The numbers of `gen` and `demo`.
+pub(crate) fn read_numbers(alloc: Global, words: &[String]) -> Result<GenSpec, WordsError>
+    requires { list_any is_two_hyphens (map string_bytes words.now) ≡ false }
+    ensures ok { IfOk result (λ numbers. spec_in (map string_bytes words.now) ≡ Some numbers) }
+    ensures usage { IsErrOf result WordsError.Usage → spec_in (map string_bytes words.now) ≡ None }
+{
+    let matches = matches(numbers_command(alloc)?, words)?;
+    numbers_matched(&matches).ok_or(WordsError::Usage)
+}
+
+fn numbers_command<'a>(alloc: Global) -> Result<Command<'a>, AllocError>
+    ensures { IfOk result (λ command. app_of command ≡ numbers_app) }
+{
+    let seed = Arg::new(alloc, "seed").required(true);
+    let count = Arg::new(alloc, "count").required(true);
+    let workers = Arg::new(alloc, "workers").required(true);
+    Command::new(alloc, "gen")
+        .no_binary_name(true)
+        .disable_help_flag(true)
+        .arg(seed)?
+        .arg(count)?
+        .arg(workers)
+}
+
+fn numbers_matched(matches: &ArgMatches) -> Option<GenSpec>
+    ensures { (seed count workers : List ℕ) →
+        first_value (found_of matches.now) (codes "seed") ≡ Some seed →
+        first_value (found_of matches.now) (codes "count") ≡ Some count →
+        first_value (found_of matches.now) (codes "workers") ≡ Some workers →
+        result ≡ spec_of seed count workers }
+{
+    Some(GenSpec {
+        seed: read_seed(matches.get_str("seed")?)?,
+        count: read_number(matches.get_str("count")?, 0, MAX_COUNT)?,
+        workers: read_number(matches.get_str("workers")?, 1, MAX_WORKERS)?,
+    })
+}

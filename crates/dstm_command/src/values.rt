@@ -1,0 +1,31 @@
+ghost use Rattle.std.specs.Prelude.{◌≡◌};
+ghost use Rattle.dstm_command.specs.CommandLine.{manager_of, number_in, seed_of};
+
+use dstm_core::Manager;
+use dstm_text::decimal;
+
+pub(crate) fn read_manager(text: &str) -> Option<Manager>
+    ensures { result ≡ manager_of text.now }
+{
+    match text {
+        "polite" => Some(Manager::Polite),
+        "karma" => Some(Manager::Karma),
+        "polka" => Some(Manager::Polka),
+        "greedy" => Some(Manager::Greedy),
+        _ => None,
+    }
+}
+
+pub(crate) fn read_seed(text: &str) -> Option<u64>
+    ensures { result ≡ seed_of text.now }
+{
+    decimal(text.as_bytes()).ok()
+}
+
+// The plain decimal from `least` to `most` that a text spells.
+pub(crate) fn read_number(text: &str, least: u32, most: u32) -> Option<u32>
+    ensures { result ≡ number_in least most text.now }
+{
+    let number = u32::try_from(read_seed(text)?).ok()?;
+    (least <= number && number <= most).then_some(number)
+}

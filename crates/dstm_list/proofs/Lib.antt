@@ -1,0 +1,6 @@
+pub mod Keys
+pub mod Numbers
+pub mod Steps
+pub mod Objects
+pub mod Operations
+pub mod Lists

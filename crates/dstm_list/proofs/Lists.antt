@@ -1,0 +1,128 @@
+-- A map stands for one set of keys only, and the opening values stand for the empty one.
+use Rattle.std.proofs.Common.{◌≡◌, ℕ, zero, suc, ◌+◌, ◌<◌, List, [], ◌∷◌, ◌++◌, length, arith, refl, sym, ◌∙◌, ap, subst, inl, inr}
+use Rattle.std.proofs.lemmas.Bool.{cases_eq}
+use Rattle.std.specs.Prelude.{IsPermutation}
+use Rattle.std.specs.List.{AllByRecursion as Each}
+use Rattle.std.proofs.lemmas.List.{length-append, length-map}
+use Rattle.std.proofs.lemmas.List.Sorted.{IsPermutation-refl, IsPermutation-sym, IsPermutation-cons, IsPermutation-trans, IsPermutation-to_front}
+use Rattle.dstm_model.specs.declared.value.Val.{Val}
+use Rattle.dstm_model.specs.declared.layout.Layout.{Layout}
+use Rattle.dstm_model.specs.Layout.{IsValid}
+use Rattle.dstm_model.specs.Map.{value_at}
+use Rattle.dstm_model.specs.Store.{Store, opening_store}
+use Rattle.dstm_model.specs.Objects.{list_begin, free_object, node_object, plain}
+use Rattle.dstm_list.specs.List.{Cell, IsList, IsChain, IsFreeChain, numbers_of, keys_of, first, nodes_to, node}
+use Rattle.dstm_list.proofs.Numbers.{IsNumber, as_many, each-left}
+use Rattle.dstm_list.proofs.Steps.{used_within, first_within}
+
+-- ---- one set of keys
+
+same_keys : (n begin : ℕ) (values : List Val) (cells others : List Cell) → n < 2048 →
+    Each (IsNumber n) (numbers_of cells) → Each (IsNumber n) (numbers_of others) →
+    first (numbers_of cells) ≡ first (numbers_of others) →
+    IsChain begin values cells → IsChain begin values others → keys_of cells ≡ keys_of others
+same_keys n begin values [] [] small used also is_first chain other = refl
+same_keys n begin values [] (d ∷ ds) small used also is_first chain other = absurd (omega (arith, is_first, also.0.0))
+same_keys n begin values (c ∷ cs) [] small used also is_first chain other = absurd (omega (arith, is_first, used.0.0))
+same_keys n begin values (c ∷ cs) (d ∷ ds) small used also is_first chain other =
+    let low : (node c.key (first (numbers_of cs))).low ≡ (node d.key (first (numbers_of ds))).low =
+    ap (λ v. v.low) (sym chain.0 ∙ ap (λ i. value_at values (node_object begin i)) is_first ∙ other.0) in
+    let next_c = first_within n (numbers_of cs) used.1 in
+    let next_d = first_within n (numbers_of ds) also.1 in
+    let key : c.key ≡ d.key = omega (arith, low, next_c, next_d, small) in
+    let next : first (numbers_of cs) ≡ first (numbers_of ds) = omega (arith, low, next_c, next_d, small) in
+    ap (λ k. k ∷ keys_of cs) key
+    ∙ ap (λ ks. d.key ∷ ks) (same_keys n begin values cs ds small used.1 also.1 next chain.1 other.1)
+
+no_keys : {layout : Layout} {values : List Val} {store : Store} → layout.list ≡ 0 → (list : IsList layout values store) →
+    length list.cells ≡ 0
+no_keys {layout} none list =
+    let all = as_many layout.list (numbers_of list.cells ++ list.free) (IsPermutation-sym _ _ list.once) in
+    let used = length-append (numbers_of list.cells) list.free in
+    let numbers = length-map list.cells (λ (c : Cell). c.number) in
+    omega (arith, all, used, numbers, none)
+
+empty : (cells : List Cell) → length cells ≡ 0 → keys_of cells ≡ []
+empty [] none = refl
+empty (c ∷ cs) none = absurd (omega (arith, none))
+
+pub keys-unique : {layout : Layout} {values : List Val} {one two : Store} → IsValid layout →
+    IsList layout values one → IsList layout values two → one.keys ≡ two.keys
+keys-unique {layout} {values} valid a b =
+    let n = layout.list in
+    let used = each-left (IsNumber n) (numbers_of a.cells) a.free (used_within a) in
+    let also = each-left (IsNumber n) (numbers_of b.cells) b.free (used_within b) in
+    elim (cases_eq n 0) [
+      | inl none ↦ a.keys ∙ empty a.cells (no_keys none a) ∙ sym (b.keys ∙ empty b.cells (no_keys none b))
+      | inr some ↦
+          let declared : 0 < n = omega (arith, some) in
+          let is_first : first (numbers_of a.cells) ≡ first (numbers_of b.cells) =
+          ap (λ v. v.low) (sym (a.head declared) ∙ b.head declared) in
+          a.keys
+          ∙ same_keys n (list_begin layout) values a.cells b.cells (omega (arith, valid.list)) used also is_first a.chain b.chain
+          ∙ sym b.keys
+    ]
+
+-- ---- the opening values
+
+-- no key is there, and the nodes are free in the order of their numbers
+pub record IsOpening (layout : Layout) (values : List Val) : Type 0 where
+  pub head : value_at values (list_begin layout) ≡ plain 0
+  pub free : value_at values (free_object (list_begin layout)) ≡ plain 1
+  pub nodes : (i : ℕ) → 0 < i → i < layout.list → value_at values (node_object (list_begin layout) i) ≡ plain (i + 1)
+  pub last : value_at values (node_object (list_begin layout) layout.list) ≡ plain 0
+
+-- n numbers from k on
+abbrev from_on : ℕ → ℕ → List ℕ
+from_on k zero = []
+from_on k (suc n) = k ∷ from_on (suc k) n
+
+from_on-push : (k n : ℕ) → from_on k (suc n) ≡ from_on k n ++ (k + n) ∷ []
+from_on-push k zero = ap (λ i. i ∷ []) (omega arith)
+from_on-push k (suc n) =
+    let next : suc k + n ≡ k + suc n = omega arith in
+    ap (λ is. k ∷ is) (from_on-push (suc k) n ∙ ap (λ i. from_on (suc k) n ++ i ∷ []) next)
+
+all_from_one : (n : ℕ) → IsPermutation (from_on 1 n) (nodes_to n)
+all_from_one zero = IsPermutation-refl []
+all_from_one (suc n) =
+    let last : 1 + n ≡ suc n = omega arith in
+    let pushed = from_on-push 1 n ∙ ap (λ i. from_on 1 n ++ i ∷ []) last in
+    subst (λ is. IsPermutation is (suc n ∷ nodes_to n)) (sym pushed)
+    (IsPermutation-trans _ _ _ (IsPermutation-to_front (from_on 1 n) (suc n))
+    (IsPermutation-cons (suc n) (from_on 1 n) (nodes_to n) (all_from_one n)))
+
+free_chain : (layout : Layout) (values : List Val) → IsOpening layout values → (k n : ℕ) → 0 < k → k + n ≡ layout.list + 1 →
+    IsFreeChain (list_begin layout) values (from_on k n)
+free_chain layout values opening k zero some all = tt
+free_chain layout values opening k (suc zero) some all =
+    let last : k ≡ layout.list = omega (arith, all) in
+    (ap (λ i. value_at values (node_object (list_begin layout) i)) last ∙ opening.last, tt)
+free_chain layout values opening k (suc (suc n)) some all =
+    let next : k + 1 ≡ suc k = omega arith in (
+      opening.nodes k some (omega (arith, all)) ∙ ap plain next,
+      free_chain layout values opening (suc k) (suc n) (omega arith) (omega (arith, all)),
+    )
+
+first_from : (k n : ℕ) → 0 < n → first (from_on k n) ≡ k
+first_from k zero some = absurd (omega (arith, some))
+first_from k (suc n) some = refl
+
+pub list-opening : (layout : Layout) (values : List Val) → (0 < layout.list → IsOpening layout values) →
+    IsList layout values (opening_store layout)
+list-opening layout values opening = record {
+  cells = [];
+  free = from_on 1 layout.list;
+  capacity = refl;
+  keys = refl;
+  rising = λ k below. absurd (omega (arith, below));
+  head = λ declared. (opening declared).head;
+  chain = tt;
+  free_head = λ declared. (opening declared).free ∙ ap plain (sym (first_from 1 layout.list declared));
+  free_chain = elim (cases_eq layout.list 0) [
+    | inl none ↦ subst (λ n. IsFreeChain (list_begin layout) values (from_on 1 n)) (sym none) tt
+    | inr some ↦
+        free_chain layout values (opening (omega (arith, some))) 1 layout.list (omega arith) (omega arith)
+  ];
+  once = all_from_one layout.list;
+}

@@ -1,0 +1,325 @@
+-- What the list's operations do to maps that stand for a list. No memory stands in these lemmas.
+use Rattle.std.proofs.Common.{◌≡◌, ◌≢◌, ℕ, ◌+◌, ◌<◌, ◌≤◌, List, [], ◌∷◌, ◌++◌, length, slice_set, Bool, true, false, ◌==◌, arith, refl, sym, ◌∙◌, ap, subst}
+use Rattle.std.specs.Prelude.{Option, Some, None, is_some, IsPermutation}
+use Rattle.std.specs.List.{AllByRecursion as Each}
+use Rattle.std.specs.List.Sorted.{IsStrictlyIncreasing}
+use Rattle.std.proofs.lemmas.Bool.{ne_eqb, eq-eqb}
+use Rattle.std.proofs.lemmas.List.{length-map, length-append}
+use Rattle.std.proofs.lemmas.List.Sorted.{IsPermutation-sym, IsPermutation-trans}
+use Rattle.dstm_model.specs.declared.value.Val.{Val}
+use Rattle.dstm_model.specs.declared.layout.Layout.{Layout}
+use Rattle.dstm_model.specs.declared.op.Which.TheVariants as which
+use Rattle.dstm_model.specs.declared.op.Op.TheVariants.{Insert, Remove, Member}
+use Rattle.dstm_model.specs.declared.reply.Reply.TheVariants.{Yes, No, Full}
+use Rattle.dstm_model.specs.Layout.{IsValid}
+use Rattle.dstm_model.specs.Map.{value_at}
+use Rattle.dstm_model.specs.Store.{Store, has_key, with_key, without_key, yes_or_no}
+use Rattle.dstm_model.specs.Objects.{Does, list_begin, tree_begin, free_object, node_object, plain}
+use Rattle.dstm_list.specs.declared.node.Node.{Node}
+use Rattle.dstm_list.specs.declared.walk.Place.{Place}
+use Rattle.dstm_list.specs.List.{Cell, IsList, IsChain, IsFreeChain, IsOfList, numbers_of, keys_of, first, node, next_of, nodes_to}
+use Rattle.dstm_list.specs.Place.{IsPlace, IsFirst, AllLess, AllGreater, link_after, key_after}
+use Rattle.dstm_list.proofs.Keys.{Rise, increasing-of_Rise, Rise-insert, Rise-remove, has_key-behind, has_key-greater, has_key-first, with_key-between, without_key-first, without_key-absent}
+use Rattle.dstm_list.proofs.Numbers.{IsNumber, as_many, split-used, split-free, within, each-right}
+use Rattle.dstm_list.proofs.Objects.{Changed-of_sets, Kept-of_same, objects_apart, relinked, IsChain-same, IsFreeChain-same}
+use Rattle.dstm_list.proofs.Steps.{IsChain-right, rise_of, used_within, first_within, node-of_list}
+
+-- the place is the key's, in each list that the map stands for
+abbrev pub Finds : Layout → List Val → ℕ → Place → Type 0
+Finds layout values key place =
+    (store : Store) (list : IsList layout values store) → IsPlace (list_begin layout) key place list.cells
+
+-- ---- whether the key is there
+
+has_key-at : (key : ℕ) (found : Option Node) (behind ahead : List Cell) → AllLess key behind → IsFirst key found ahead →
+    has_key key (keys_of (behind ++ ahead)) ≡ is_some found
+has_key-at key None behind ahead less here = has_key-behind key behind ahead less ∙ has_key-greater key ahead here
+has_key-at key (Some found) behind [] less here = absurd here
+has_key-at key (Some found) behind (c ∷ cs) less here =
+    has_key-behind key behind (c ∷ cs) less ∙ has_key-first key c cs here.0
+
+pub has_key-found : {layout : Layout} {values : List Val} {store : Store} {key : ℕ} {place : Place}
+    (list : IsList layout values store) → IsPlace (list_begin layout) key place list.cells →
+    has_key key store.keys ≡ is_some place.node
+has_key-found {key = key} {place = place} list found =
+    let stands = found.stands in
+    ap (has_key key) (list.keys ∙ ap keys_of stands.split)
+    ∙ has_key-at key place.node stands.behind stands.ahead stands.lesser found.here
+
+pub does-member : {layout : Layout} {values : List Val} (key : ℕ) (place : Place) (b : Bool) →
+    Finds layout values key place → is_some place.node ≡ b →
+    Does (IsList layout) (Member which.List key) values values (yes_or_no b)
+does-member key place b finds is store list =
+    (ap yes_or_no (sym (has_key-found list (finds store list) ∙ is)), list)
+
+-- ---- a key that is there is not inserted, and one that is absent is not removed
+
+pub does-no_insert : {layout : Layout} {values : List Val} (key : ℕ) (place : Place) →
+    Finds layout values key place → is_some place.node ≡ true →
+    Does (IsList layout) (Insert which.List key) values values No
+does-no_insert key place finds is store list =
+    let has : has_key key store.keys ≡ true = has_key-found list (finds store list) ∙ is in
+    rw has (refl, list)
+
+pub does-no_remove : {layout : Layout} {values : List Val} (key : ℕ) (place : Place) →
+    Finds layout values key place → place.node ≡ None →
+    Does (IsList layout) (Remove which.List key) values values No
+does-no_remove {layout} {values} key place finds is store list =
+    let found = finds store list in
+    let stands = found.stands in
+    let has : has_key key store.keys ≡ false = has_key-found list found ∙ ap is_some is in
+    let greater : AllGreater key stands.ahead = subst (λ o. IsFirst key o stands.ahead) is found.here in
+    let keys = list.keys ∙ ap keys_of stands.split in
+    let kept : without_key key store.keys ≡ store.keys =
+    ap (without_key key) keys ∙ without_key-absent key stands.behind stands.ahead stands.lesser greater ∙ sym keys in (
+      ap yes_or_no (sym has),
+      subst (λ (ks : List ℕ). IsList layout values (record store { keys = ks })) (sym kept) list,
+    )
+
+-- ---- the parts of a list
+
+-- a list whose chains are these
+pub record Parts (layout : Layout) (values : List Val) (store : Store) (cells : List Cell) (free : List ℕ) : Type 0 where
+  pub capacity : store.layout.list ≡ layout.list
+  pub keys : store.keys ≡ keys_of cells
+  pub rise : Rise 0 cells
+  pub head : value_at values (list_begin layout) ≡ node 0 (first (numbers_of cells))
+  pub chain : IsChain (list_begin layout) values cells
+  pub free_head : value_at values (free_object (list_begin layout)) ≡ plain (first free)
+  pub free_chain : IsFreeChain (list_begin layout) values free
+  pub once : IsPermutation (nodes_to layout.list) (numbers_of cells ++ free)
+
+node-zero : (n : ℕ) → node 0 n ≡ plain n
+node-zero n = ap plain (omega arith)
+
+parts_of : {layout : Layout} {values : List Val} {store : Store} → 0 < layout.list → (list : IsList layout values store) →
+    Parts layout values store list.cells list.free
+parts_of declared list = record {
+  capacity = list.capacity;
+  keys = list.keys;
+  rise = rise_of list;
+  head = list.head declared ∙ sym (node-zero (first (numbers_of list.cells)));
+  chain = list.chain;
+  free_head = list.free_head declared;
+  free_chain = list.free_chain;
+  once = IsPermutation-sym _ _ list.once;
+}
+
+list_of : {layout : Layout} {values : List Val} {store : Store} (cells : List Cell) (free : List ℕ) →
+    Parts layout values store cells free → IsList layout values store
+list_of cells free parts = record {
+  cells = cells;
+  free = free;
+  capacity = parts.capacity;
+  keys = parts.keys;
+  rising = subst IsStrictlyIncreasing (sym parts.keys) (increasing-of_Rise 0 cells parts.rise);
+  head = λ _. parts.head ∙ node-zero (first (numbers_of cells));
+  chain = parts.chain;
+  free_head = λ _. parts.free_head;
+  free_chain = parts.free_chain;
+  once = IsPermutation-sym _ _ parts.once;
+}
+
+-- the keys are as many as the nodes that are not free
+used-free : {layout : Layout} {values : List Val} {store : Store} {cells : List Cell} {free : List ℕ} →
+    Parts layout values store cells free → length store.keys + length free ≡ layout.list
+used-free {layout} {store = store} {cells = cells} {free = free} parts =
+    let all = as_many layout.list (numbers_of cells ++ free) parts.once in
+    let used = length-append (numbers_of cells) free in
+    let numbers = length-map cells (λ (c : Cell). c.number) in
+    let keys = ap length parts.keys ∙ length-map cells (λ (c : Cell). c.key) in
+    omega (arith, all, used, numbers, keys)
+
+-- the number in the head of the free chain is that of the first free node
+pub first_free : {layout : Layout} {values : List Val} {store : Store} (n : ℕ) → IsValid layout → 0 < layout.list →
+    (list : IsList layout values store) → n ≡ next_of (value_at values (free_object (list_begin layout))) →
+    (n ≡ first list.free) × (n ≤ layout.list)
+first_free {layout} n valid declared list is =
+    let in_range = each-right (IsNumber layout.list) (numbers_of list.cells) list.free (used_within list) in
+    let small = first_within layout.list list.free in_range in
+    let low = ap (λ v. v.low) (list.free_head declared) in
+    (omega (arith, is, low, small, valid.list), omega (arith, is, low, small, valid.list))
+
+none_free : (n : ℕ) (free : List ℕ) → Each (IsNumber n) free → first free ≡ 0 → length free ≡ 0
+none_free n [] each none = refl
+none_free n (i ∷ is) each none = absurd (omega (arith, each.0.0, none))
+
+some_free : (n : ℕ) (free : List ℕ) → n ≡ first free → n ≢ 0 → (rest : List ℕ) × (free ≡ n ∷ rest)
+some_free n [] is some = absurd (some is)
+some_free n (i ∷ is) same some = (is, ap (λ j. j ∷ is) (sym same))
+
+pub does-full : {layout : Layout} {values : List Val} (key n : ℕ) (place : Place) → IsValid layout → 0 < layout.list →
+    Finds layout values key place → is_some place.node ≡ false →
+    n ≡ next_of (value_at values (free_object (list_begin layout))) → n ≡ 0 →
+    Does (IsList layout) (Insert which.List key) values values Full
+does-full {layout} key n place valid declared finds is free none store list =
+    let has : has_key key store.keys ≡ false = has_key-found list (finds store list) ∙ is in
+    let in_range = each-right (IsNumber layout.list) (numbers_of list.cells) list.free (used_within list) in
+    let no_free = none_free layout.list list.free in_range (sym (first_free n valid declared list free).0 ∙ none) in
+    let all = used-free (parts_of declared list) in
+    let full : (length store.keys == store.layout.list) ≡ true =
+    eq-eqb (length store.keys) store.layout.list (omega (arith, all, no_free, list.capacity)) in
+    rw (has, full) (refl, list)
+
+-- ---- a key goes in
+
+-- the map with node i linked in, which holds this key and links to `next`, where the link holds the key `last`
+abbrev pub with_node : List Val → ℕ → ℕ → ℕ → ℕ → ℕ → ℕ → Val → List Val
+with_node values begin i key next link last rest =
+    slice_set (slice_set (slice_set values (node_object begin i) (node key next)) (free_object begin) rest) link (node last i)
+
+inserted : {layout : Layout} {values : List Val} {store : Store} (c : Cell) (behind ahead : List Cell) (free : List ℕ)
+    (link : ℕ) (rest : Val) → 0 < layout.list → tree_begin layout ≤ length values →
+    Parts layout values store (behind ++ ahead) (c.number ∷ free) → AllLess c.key behind → AllGreater c.key ahead →
+    link ≡ link_after (list_begin layout) (list_begin layout) behind → IsOfList layout link →
+    value_at values (node_object (list_begin layout) c.number) ≡ rest →
+    Parts layout
+    (with_node values (list_begin layout) c.number c.key (first (numbers_of ahead)) link (key_after 0 behind) rest)
+    (record store { keys = with_key c.key store.keys }) (behind ++ c ∷ ahead) free
+inserted {layout} {values} {store} c behind ahead free link rest declared in_map parts less greater is_link link_in had =
+    let n = layout.list in
+    let begin = list_begin layout in
+    let i = c.number in
+    let once = IsPermutation-trans _ _ _ parts.once (split-free behind ahead i free) in
+    let number_in = (within n (i ∷ (numbers_of behind ++ (numbers_of ahead ++ free))) once).0.1 in
+    let differ = objects_apart n begin i behind ahead free once in
+    let node_in = node-of_list layout i declared number_in in
+    let free_in = node-of_list layout 0 declared (omega arith) in
+    let changed = Changed-of_sets values (node_object begin i) (free_object begin) link
+    (node c.key (first (numbers_of ahead))) rest (node (key_after 0 behind) i)
+    (omega (arith, node_in.1, in_map)) (omega (arith, free_in.1, in_map)) (omega (arith, link_in.1, in_map))
+    differ.first_second (λ e. differ.first_third (e ∙ is_link)) (λ e. differ.second_third (e ∙ is_link)) in
+    let after = with_node values begin i c.key (first (numbers_of ahead)) link (key_after 0 behind) rest in
+    let kept = Kept-of_same n begin i values after behind ahead free once
+    (λ p px py pz. changed.same p px py (λ e. pz (e ∙ is_link))) in
+    let linked = relinked begin values after behind ahead (c ∷ ahead) begin 0 parts.head parts.chain kept.before
+    (ap (value_at after) (sym is_link) ∙ changed.third_is)
+    (changed.first_is, IsChain-same begin values after ahead kept.ahead_same (IsChain-right begin values behind ahead parts.chain)) in
+    record {
+      capacity = parts.capacity;
+      keys = ap (with_key c.key) parts.keys ∙ with_key-between c behind ahead less greater;
+      rise = Rise-insert 0 c behind ahead (omega arith) less greater parts.rise;
+      head = linked.0;
+      chain = linked.1;
+      free_head = changed.second_is ∙ sym had ∙ parts.free_chain.0;
+      free_chain = IsFreeChain-same begin values after free kept.free_same parts.free_chain.1;
+      once = IsPermutation-trans _ _ _ once (IsPermutation-sym _ _ (split-used behind c ahead free));
+    }
+
+greater_of : (key : ℕ) (found : Option Node) (cells : List Cell) → is_some found ≡ false → IsFirst key found cells →
+    AllGreater key cells
+greater_of key None cells is here = here
+greater_of key (Some found) cells is here = absurd (cc is)
+
+pub does-insert : {layout : Layout} {values : List Val} (key n : ℕ) (place : Place) (rest : Val) → IsValid layout →
+    0 < layout.list → tree_begin layout ≤ length values → Finds layout values key place → is_some place.node ≡ false →
+    IsOfList layout place.link → n ≡ next_of (value_at values (free_object (list_begin layout))) → n ≢ 0 →
+    value_at values (node_object (list_begin layout) n) ≡ rest →
+    Does (IsList layout) (Insert which.List key) values
+    (with_node values (list_begin layout) n key place.before.next place.link place.before.key rest) Yes
+does-insert {layout} {values} key n place rest valid declared in_map finds is link_in free some had store list =
+    let found = finds store list in
+    let stands = found.stands in
+    let has : has_key key store.keys ≡ false = has_key-found list found ∙ is in
+    let (tail, free_is) = some_free n list.free (first_free n valid declared list free).0 some in
+    let c : Cell = record { number = n; key = key } in
+    let parts = subst (λ is. Parts layout values store (stands.behind ++ stands.ahead) is) free_is
+    (subst (λ cs. Parts layout values store cs list.free) stands.split (parts_of declared list)) in
+    let all = used-free parts in
+    let room : (length store.keys == store.layout.list) ≡ false =
+    ne_eqb (length store.keys) store.layout.list (λ e. omega (arith, all, e, list.capacity)) in
+    let after = inserted c stands.behind stands.ahead tail place.link rest declared in_map parts stands.lesser
+    (greater_of key place.node stands.ahead is found.here) stands.link link_in had in
+    rw (has, room, stands.next, stands.last) (refl, list_of (stands.behind ++ c ∷ stands.ahead) tail after)
+
+-- ---- a key goes out
+
+-- the map with node i put on the free chain, where the link holds the key `last` and links to `next`
+abbrev pub without_node : List Val → ℕ → ℕ → ℕ → ℕ → ℕ → Val → List Val
+without_node values begin i next link last rest =
+    slice_set (slice_set (slice_set values (free_object begin) (node 0 i)) (node_object begin i) rest) link (node last next)
+
+removed : {layout : Layout} {values : List Val} {store : Store} (c : Cell) (behind ahead : List Cell) (free : List ℕ)
+    (link : ℕ) (rest : Val) → 0 < layout.list → tree_begin layout ≤ length values →
+    Parts layout values store (behind ++ c ∷ ahead) free → AllLess c.key behind →
+    link ≡ link_after (list_begin layout) (list_begin layout) behind → IsOfList layout link →
+    value_at values (free_object (list_begin layout)) ≡ rest →
+    Parts layout
+    (without_node values (list_begin layout) c.number (first (numbers_of ahead)) link (key_after 0 behind) rest)
+    (record store { keys = without_key c.key store.keys }) (behind ++ ahead) (c.number ∷ free)
+removed {layout} {values} {store} c behind ahead free link rest declared in_map parts less is_link link_in had =
+    let n = layout.list in
+    let begin = list_begin layout in
+    let i = c.number in
+    let once = IsPermutation-trans _ _ _ parts.once (split-used behind c ahead free) in
+    let number_in = (within n (i ∷ (numbers_of behind ++ (numbers_of ahead ++ free))) once).0.1 in
+    let differ = objects_apart n begin i behind ahead free once in
+    let node_in = node-of_list layout i declared number_in in
+    let free_in = node-of_list layout 0 declared (omega arith) in
+    let changed = Changed-of_sets values (free_object begin) (node_object begin i) link
+    (node 0 i) rest (node (key_after 0 behind) (first (numbers_of ahead)))
+    (omega (arith, free_in.1, in_map)) (omega (arith, node_in.1, in_map)) (omega (arith, link_in.1, in_map))
+    (λ e. differ.first_second (sym e)) (λ e. differ.second_third (e ∙ is_link)) (λ e. differ.first_third (e ∙ is_link)) in
+    let after = without_node values begin i (first (numbers_of ahead)) link (key_after 0 behind) rest in
+    let kept = Kept-of_same n begin i values after behind ahead free once
+    (λ p px py pz. changed.same p py px (λ e. pz (e ∙ is_link))) in
+    let chain = IsChain-right begin values behind (c ∷ ahead) parts.chain in
+    let linked = relinked begin values after behind (c ∷ ahead) ahead begin 0 parts.head parts.chain kept.before
+    (ap (value_at after) (sym is_link) ∙ changed.third_is)
+    (IsChain-same begin values after ahead kept.ahead_same chain.1) in
+    record {
+      capacity = parts.capacity;
+      keys = ap (without_key c.key) parts.keys ∙ without_key-first c behind ahead less;
+      rise = Rise-remove 0 c behind ahead parts.rise;
+      head = linked.0;
+      chain = linked.1;
+      free_head = changed.first_is ∙ node-zero i;
+      free_chain = (
+        changed.second_is ∙ sym had ∙ parts.free_head,
+        IsFreeChain-same begin values after free kept.free_same parts.free_chain,
+      );
+      once = IsPermutation-trans _ _ _ once (IsPermutation-sym _ _ (split-free behind ahead i free));
+    }
+
+-- the cell that holds the key
+record IsCell (key : ℕ) (next : ℕ) (cells : List Cell) : Type 0 where
+  cell : Cell
+  rest : List Cell
+  cells_are : cells ≡ cell ∷ rest
+  key_is : key ≡ cell.key
+  next_is : next ≡ first (numbers_of rest)
+
+first_cell : (key : ℕ) (found : Node) (cells : List Cell) → IsFirst key (Some found) cells → IsCell key found.next cells
+first_cell key found [] here = absurd here
+first_cell key found (c ∷ cs) here =
+    record { cell = c; rest = cs; cells_are = refl; key_is = sym here.0; next_is = here.1 }
+
+pub does-remove : {layout : Layout} {values : List Val} (key : ℕ) (place : Place) (found : Node) (rest : Val) →
+    0 < layout.list → tree_begin layout ≤ length values → Finds layout values key place → place.node ≡ Some found →
+    IsOfList layout place.link → value_at values (free_object (list_begin layout)) ≡ rest →
+    Does (IsList layout) (Remove which.List key) values
+    (without_node values (list_begin layout) place.before.next found.next place.link place.before.key rest) Yes
+does-remove {layout} {values} key place found rest declared in_map finds is link_in had store list =
+    let at = finds store list in
+    let stands = at.stands in
+    let has : has_key key store.keys ≡ true = has_key-found list at ∙ ap is_some is in
+    let here = first_cell key found stands.ahead (subst (λ o. IsFirst key o stands.ahead) is at.here) in
+    let c = here.cell in
+    let parts = subst (λ cs. Parts layout values store (stands.behind ++ cs) list.free) here.cells_are
+    (subst (λ cs. Parts layout values store cs list.free) stands.split (parts_of declared list)) in
+    let number : place.before.next ≡ c.number = stands.next ∙ ap (λ cs. first (numbers_of cs)) here.cells_are in
+    let after = removed c stands.behind here.rest list.free place.link rest declared in_map parts
+    (subst (λ k. AllLess k stands.behind) here.key_is stands.lesser) stands.link link_in had in
+    let begin = list_begin layout in
+    let link = place.link in
+    let maps : without_node values begin place.before.next found.next link place.before.key rest
+    ≡ without_node values begin c.number (first (numbers_of here.rest)) link (key_after 0 stands.behind) rest =
+    ap (λ i. without_node values begin i found.next link place.before.key rest) number
+    ∙ ap (λ next. without_node values begin c.number next link place.before.key rest) here.next_is
+    ∙ ap (λ last. without_node values begin c.number (first (numbers_of here.rest)) link last rest) stands.last in
+    let now = without_node values begin c.number (first (numbers_of here.rest)) link (key_after 0 stands.behind) rest in
+    let still = subst (λ k. IsList layout now (record store { keys = without_key k store.keys })) (sym here.key_is)
+    (list_of (stands.behind ++ here.rest) (c.number ∷ list.free) after) in (
+      ap yes_or_no (sym has),
+      subst (λ now. IsList layout now (record store { keys = without_key key store.keys })) (sym maps) still,
+    )

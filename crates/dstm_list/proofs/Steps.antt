@@ -1,0 +1,237 @@
+-- A walk along the list to a key's place. No memory stands in these lemmas.
+use Rattle.std.proofs.Common.{◌≡◌, ◌≢◌, ℕ, ◌+◌, ◌-◌, ◌<◌, ◌≤◌, List, [], ◌∷◌, ◌++◌, true, false, cond, ◌==◌, arith, refl, sym, ◌∙◌, ap, subst, inl, inr}
+use Rattle.std.specs.Prelude.{Some, None}
+use Rattle.std.specs.List.{AllByRecursion as Each}
+use Rattle.std.specs.List.Sorted.{IsStrictlyIncreasing}
+use Rattle.std.proofs.lemmas.Bool.{ne_eqb, eq-eqb, cases_eq}
+use Rattle.std.proofs.lemmas.List.{append_assoc, map-append}
+use Rattle.std.proofs.lemmas.List.Sorted.{IsPermutation-sym}
+use Rattle.dstm_model.specs.declared.value.Val.{Val}
+use Rattle.dstm_model.specs.declared.layout.Layout.{Layout}
+use Rattle.dstm_model.specs.Layout.{IsValid}
+use Rattle.dstm_model.specs.Map.{value_at}
+use Rattle.dstm_model.specs.Store.{Store}
+use Rattle.dstm_model.specs.Objects.{list_begin, node_object}
+use Rattle.dstm_model.proofs.Objects.{structure_objects-declared}
+use Rattle.dstm_list.specs.declared.node.Node.{Node}
+use Rattle.dstm_list.specs.List.{Cell, IsList, IsChain, IsOfList, numbers_of, first, node, key_of, next_of}
+use Rattle.dstm_list.specs.Place.{Stands, IsPlace, IsFirst, AllLess, AllGreater, link_after, key_after}
+use Rattle.dstm_list.proofs.Keys.{Rise, Rise-of_increasing, Rise-after, Rise-next, AllGreater-of_Rise}
+use Rattle.dstm_list.proofs.Numbers.{IsNumber, within, each-left, each-right}
+
+-- ---- the list's objects
+
+pub head-of_list : (layout : Layout) → 0 < layout.list → IsOfList layout (list_begin layout)
+head-of_list layout declared = (omega arith, omega (arith, structure_objects-declared layout.list declared))
+
+pub node-of_list : (layout : Layout) (i : ℕ) → 0 < layout.list → i ≤ layout.list →
+    IsOfList layout (node_object (list_begin layout) i)
+node-of_list layout i declared h = (omega arith, omega (arith, structure_objects-declared layout.list declared, h))
+
+-- ---- numbers on the chains
+
+pub used_within : {layout : Layout} {values : List Val} {store : Store} (list : IsList layout values store) →
+    Each (IsNumber layout.list) (numbers_of list.cells ++ list.free)
+used_within {layout} list =
+    within layout.list (numbers_of list.cells ++ list.free) (IsPermutation-sym _ _ list.once)
+
+pub first_within : (n : ℕ) (is : List ℕ) → Each (IsNumber n) is → first is ≤ n
+first_within n [] each = omega arith
+first_within n (i ∷ is) each = each.0.1
+
+pub IsChain-right : (begin : ℕ) (values : List Val) (behind ahead : List Cell) →
+    IsChain begin values (behind ++ ahead) → IsChain begin values ahead
+IsChain-right begin values [] ahead chain = chain
+IsChain-right begin values (c ∷ cs) ahead chain = IsChain-right begin values cs ahead chain.1
+
+-- the numbers ahead of a walk
+ahead_within : {layout : Layout} {values : List Val} {store : Store} {key object : ℕ} {before : Node}
+    (list : IsList layout values store) (stands : Stands (list_begin layout) key object before list.cells) →
+    Each (IsNumber layout.list) (numbers_of stands.ahead)
+ahead_within {layout} list stands =
+    let cells_within = each-left (IsNumber layout.list) (numbers_of list.cells) list.free (used_within list) in
+    let numbers : numbers_of list.cells ≡ numbers_of stands.behind ++ numbers_of stands.ahead =
+    ap numbers_of stands.split ∙ map-append (λ (c : Cell). c.number) stands.behind stands.ahead in
+    each-right (IsNumber layout.list) (numbers_of stands.behind) (numbers_of stands.ahead)
+    (subst (Each (IsNumber layout.list)) numbers cells_within)
+
+-- ---- steps of a walk
+
+pub stands-start : {layout : Layout} {values : List Val} {store : Store} (key : ℕ) (before : Node) →
+    IsValid layout → 0 < layout.list → (list : IsList layout values store) →
+    before.key ≡ key_of (value_at values (list_begin layout)) →
+    before.next ≡ next_of (value_at values (list_begin layout)) →
+    Stands (list_begin layout) key (list_begin layout) before list.cells
+stands-start {layout} {values} key before valid declared list before_key before_next =
+    let low : (value_at values (list_begin layout)).low ≡ first (numbers_of list.cells) =
+    ap (λ x. x.low) (list.head declared) in
+    let small = first_within layout.list (numbers_of list.cells)
+    (each-left (IsNumber layout.list) (numbers_of list.cells) list.free (used_within list)) in
+    record {
+      behind = [];
+      ahead = list.cells;
+      split = refl;
+      lesser = tt;
+      link = refl;
+      last = omega (arith, before_key, low, small, valid.list);
+      next = omega (arith, before_next, low, small, valid.list);
+    }
+
+-- the next node that a walk links to
+pub next_within : {layout : Layout} {values : List Val} {store : Store} {key object : ℕ} {before : Node}
+    (list : IsList layout values store) (stands : Stands (list_begin layout) key object before list.cells) →
+    before.next ≤ layout.list
+next_within {layout} list stands =
+    let h = first_within layout.list (numbers_of stands.ahead) (ahead_within list stands) in
+    omega (arith, h, stands.next)
+
+-- the cell in the node that comes next
+pub record IsNext (cells : List Cell) (number : ℕ) (next : Node) : Type 0 where
+  pub cell : Cell
+  pub rest : List Cell
+  pub cells_are : cells ≡ cell ∷ rest
+  pub number_is : cell.number ≡ number
+  pub key : cell.key ≡ next.key
+  pub next_is : next.next ≡ first (numbers_of rest)
+
+next_in : (n begin : ℕ) (values : List Val) (number : ℕ) (next : Node) (cells : List Cell) → n < 2048 →
+    number ≢ 0 → number ≡ first (numbers_of cells) → Each (IsNumber n) (numbers_of cells) →
+    IsChain begin values cells → next.key ≡ key_of (value_at values (node_object begin number)) →
+    next.next ≡ next_of (value_at values (node_object begin number)) → IsNext cells number next
+next_in n begin values number next [] small some is_first each chain next_key next_next = absurd (some is_first)
+next_in n begin values number next (c ∷ cs) small some is_first each chain next_key next_next =
+    let low : (value_at values (node_object begin number)).low ≡ (node c.key (first (numbers_of cs))).low =
+    ap (λ x. x.low) (ap (λ i. value_at values (node_object begin i)) is_first ∙ chain.0) in
+    let next_small = first_within n (numbers_of cs) each.1 in
+    record {
+      cell = c;
+      rest = cs;
+      cells_are = refl;
+      number_is = sym is_first;
+      key = omega (arith, next_key, low, next_small, small);
+      next_is = omega (arith, next_next, low, next_small, small);
+    }
+
+pub stands-next : {layout : Layout} {values : List Val} {store : Store} {key object : ℕ} {before : Node}
+    (next : Node) → IsValid layout → (list : IsList layout values store)
+    (stands : Stands (list_begin layout) key object before list.cells) → before.next ≢ 0 →
+    next.key ≡ key_of (value_at values (node_object (list_begin layout) before.next)) →
+    next.next ≡ next_of (value_at values (node_object (list_begin layout) before.next)) →
+    IsNext stands.ahead before.next next
+stands-next {layout} {values} {before = before} next valid list stands some next_key next_next =
+    next_in layout.list (list_begin layout) values before.next next stands.ahead (omega (arith, valid.list)) some
+    stands.next (ahead_within list stands)
+    (IsChain-right (list_begin layout) values stands.behind stands.ahead
+    (subst (IsChain (list_begin layout) values) stands.split list.chain))
+    next_key next_next
+
+-- the same, where the walk looked at a map that has the same values
+pub stands-seen : {layout : Layout} {values : List Val} {store : Store} {key object : ℕ} {before : Node}
+    (now : List Val) (at : ℕ) (next : Node) → IsValid layout → (list : IsList layout values store)
+    (stands : Stands (list_begin layout) key object before list.cells) → before.next ≢ 0 →
+    now ≡ values → at ≡ node_object (list_begin layout) before.next →
+    next.key ≡ key_of (value_at now at) → next.next ≡ next_of (value_at now at) → IsNext stands.ahead before.next next
+stands-seen {values = values} now at next valid list stands some same at_node next_key next_next =
+    let seen = ap (λ x. value_at x at) same ∙ ap (λ o. value_at values o) at_node in
+    stands-next next valid list stands some (next_key ∙ ap key_of seen) (next_next ∙ ap next_of seen)
+
+AllLess-push : (key : ℕ) (cells : List Cell) (c : Cell) → AllLess key cells → c.key < key → AllLess key (cells ++ c ∷ [])
+AllLess-push key [] c less h = (h, tt)
+AllLess-push key (d ∷ ds) c less h = (less.0, AllLess-push key ds c less.1 h)
+
+link_after-push : (begin object : ℕ) (cells : List Cell) (c : Cell) →
+    link_after begin object (cells ++ c ∷ []) ≡ node_object begin c.number
+link_after-push begin object [] c = refl
+link_after-push begin object (d ∷ ds) c = link_after-push begin (node_object begin d.number) ds c
+
+key_after-push : (key : ℕ) (cells : List Cell) (c : Cell) → key_after key (cells ++ c ∷ []) ≡ c.key
+key_after-push key [] c = refl
+key_after-push key (d ∷ ds) c = key_after-push d.key ds c
+
+pub stands-on : {begin key object : ℕ} {before : Node} {cells : List Cell} (next : Node)
+    (stands : Stands begin key object before cells) → IsNext stands.ahead before.next next → next.key < key →
+    Stands begin key (node_object begin before.next) next cells
+stands-on {begin} {key} next stands ahead less =
+    let c = ahead.cell in
+    record {
+      behind = stands.behind ++ c ∷ [];
+      ahead = ahead.rest;
+      split = stands.split ∙ ap (λ cs. stands.behind ++ cs) ahead.cells_are
+          ∙ sym (append_assoc stands.behind (c ∷ []) ahead.rest);
+      lesser = AllLess-push key stands.behind c stands.lesser (omega (arith, ahead.key, less));
+      link = ap (node_object begin) (sym ahead.number_is) ∙ sym (link_after-push begin begin stands.behind c);
+      last = sym (key_after-push 0 stands.behind c ∙ ahead.key);
+      next = ahead.next_is;
+    }
+
+-- ---- the key's place
+
+pub rise_of : {layout : Layout} {values : List Val} {store : Store} (list : IsList layout values store) → Rise 0 list.cells
+rise_of list = Rise-of_increasing list.cells (subst IsStrictlyIncreasing list.keys list.rising)
+
+pub place-found : {begin key object : ℕ} {before : Node} {cells : List Cell} (next : Node)
+    (stands : Stands begin key object before cells) → IsNext stands.ahead before.next next → next.key ≡ key →
+    IsPlace begin key (record { link = object; before = before; node = Some next }) cells
+place-found {key = key} next stands ahead same = record {
+  stands = stands;
+  here = subst (IsFirst key (Some next)) (sym ahead.cells_are) (ahead.key ∙ same, ahead.next_is);
+}
+
+pub place-passed : {layout : Layout} {values : List Val} {store : Store} {key object : ℕ} {before : Node}
+    (next : Node) (list : IsList layout values store)
+    (stands : Stands (list_begin layout) key object before list.cells) →
+    IsNext stands.ahead before.next next → key < next.key →
+    IsPlace (list_begin layout) key (record { link = object; before = before; node = None }) list.cells
+place-passed {key = key} next list stands ahead greater =
+    let c = ahead.cell in
+    let cells = stands.split ∙ ap (λ cs. stands.behind ++ cs) ahead.cells_are in
+    let rise = subst (Rise 0) cells (rise_of list) in
+    let passed : key < c.key = omega (arith, ahead.key, greater) in
+    let all : AllGreater key (c ∷ ahead.rest) =
+    (passed, AllGreater-of_Rise key (c.key + 1) ahead.rest (omega (arith, passed)) (Rise-after 0 stands.behind c ahead.rest rise)) in
+    record { stands = stands; here = subst (AllGreater key) (sym ahead.cells_are) all }
+
+nothing : (n key : ℕ) (cells : List Cell) → Each (IsNumber n) (numbers_of cells) → first (numbers_of cells) ≡ 0 →
+    AllGreater key cells
+nothing n key [] each none = tt
+nothing n key (c ∷ cs) each none = absurd (omega (arith, each.0.0, none))
+
+pub place-end : {layout : Layout} {values : List Val} {store : Store} {key object : ℕ} {before : Node}
+    (list : IsList layout values store) (stands : Stands (list_begin layout) key object before list.cells) →
+    before.next ≡ 0 →
+    IsPlace (list_begin layout) key (record { link = object; before = before; node = None }) list.cells
+place-end {layout} {key = key} list stands none =
+    record { stands = stands; here = nothing layout.list key stands.ahead (ahead_within list stands) (sym stands.next ∙ none) }
+
+-- ---- the walk ends
+
+-- how many keys may still come behind a walk for `key` that stands at `object` with this key
+abbrev pub left : ℕ → ℕ → ℕ → ℕ → ℕ
+left begin key object last = cond (object == begin) (key + 1) (key - last)
+
+later : (least : ℕ) (behind : List Cell) (c : Cell) (cs : List Cell) (begin object last : ℕ) →
+    Rise least (behind ++ c ∷ cs) → object ≡ link_after begin begin behind → object ≢ begin →
+    last ≡ key_after 0 behind → last < c.key
+later least [] c cs begin object last rise link inner is_last = absurd (inner link)
+later least (d ∷ ds) c cs begin object last rise link inner is_last =
+    omega (arith, is_last, Rise-next least d ds c cs rise)
+
+pub left-less : {layout : Layout} {values : List Val} {store : Store} {key object : ℕ} {before : Node}
+    (next : Node) (list : IsList layout values store)
+    (stands : Stands (list_begin layout) key object before list.cells) →
+    IsNext stands.ahead before.next next → next.key < key →
+    left (list_begin layout) key (node_object (list_begin layout) before.next) next.key
+    < left (list_begin layout) key object before.key
+left-less {layout} {key = key} {object = object} {before = before} next list stands ahead less =
+    let begin = list_begin layout in
+    let after : (node_object begin before.next == begin) ≡ false = ne_eqb _ _ (λ e. omega (arith, e)) in
+    let rise = subst (Rise 0) (stands.split ∙ ap (λ cs. stands.behind ++ cs) ahead.cells_are) (rise_of list) in
+    elim (cases_eq object begin) [
+      | inl same ↦
+          let at : (object == begin) ≡ true = eq-eqb object begin same in
+          rw (after, at) (omega (arith, less))
+      | inr inner ↦
+          let at : (object == begin) ≡ false = ne_eqb object begin inner in
+          let rises = later 0 stands.behind ahead.cell ahead.rest begin object before.key rise stands.link inner stands.last in
+          rw (after, at) (omega (arith, less, rises, ahead.key))
+    ]

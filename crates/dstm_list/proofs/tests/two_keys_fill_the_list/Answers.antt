@@ -1,0 +1,28 @@
+use Rattle.std.proofs.Common.{◌≡◌, ℕ, zero, suc, ◌+◌, ◌<◌, List, [], ◌∷◌, arith, refl, sym, ◌∙◌, subst}
+use Rattle.dstm_model.specs.declared.value.Val.{Val}
+use Rattle.dstm_model.specs.declared.layout.Layout.{Layout}
+use Rattle.dstm_model.specs.Map.{value_at}
+use Rattle.dstm_model.specs.Store.{opening_store}
+use Rattle.dstm_model.specs.Objects.{node_object, plain}
+use Rattle.dstm_mem.proofs.WithSet.{with_set-nothing}
+use Rattle.dstm_list.specs.List.{IsList}
+use Rattle.dstm_list.proofs.Lists.{list-opening}
+use Rattle.dstm_list.proofs.tests.two_keys_fill_the_list.Goals as goal
+
+abbrev layout : Layout
+layout = record { accounts = 1; opening = 100; list = 2; tree = 0 }
+
+abbrev values : List Val
+values = plain 100 ∷ (plain 0 ∷ (plain 1 ∷ (plain 2 ∷ (plain 0 ∷ []))))
+
+nodes : (i : ℕ) → 0 < i → i < 2 → value_at values (node_object 1 i) ≡ plain (i + 1)
+nodes zero some below = absurd (omega (arith, some))
+nodes (suc zero) some below = refl
+nodes (suc (suc i)) some below = absurd (omega (arith, below))
+
+pub answer-requires-clause-lawful : goal.answer-requires-clause-lawful
+answer-requires-clause-lawful g c map is_map =
+    let made = c.in_ok-mem.ensures in
+    let start = with_set-nothing map _ made.unwritten ∙ (made.admits map).0 is_map ∙ c.in_ok-values.ensures.items in
+    let list = list-opening layout values (λ _. record { head = refl; free = refl; nodes = nodes; last = refl }) in
+    (opening_store layout, subst (λ x. IsList layout x (opening_store layout)) (sym start) list)

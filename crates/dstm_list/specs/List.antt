@@ -1,0 +1,83 @@
+-- The list's part of a map: its words, the two chains of its nodes, and what it says that they stand for
+-- the list's keys.
+use Rattle.std.specs.Prelude.{◌≡◌, ◌≢◌, ℕ, zero, suc, ◌+◌, ◌*◌, ◌/◌, ◌%◌, ◌<◌, ◌≤◌, List, [], ◌∷◌, ◌++◌, map, IsPermutation}
+use Rattle.std.specs.List.Sorted.{IsStrictlyIncreasing}
+use Rattle.dstm_model.specs.declared.value.Val.{Val}
+use Rattle.dstm_model.specs.declared.layout.Layout.{Layout}
+use Rattle.dstm_model.specs.Map.{value_at}
+use Rattle.dstm_model.specs.Store.{Store}
+use Rattle.dstm_model.specs.Objects.{list_begin, tree_begin, free_object, node_object, plain}
+use Rattle.dstm_list.specs.declared.node.TheConstants.{LINK_LIMIT}
+
+-- what a node holds: its key and the number of the next node, 0 where there is none. The heads of the
+-- two chains and the free nodes hold such a number alone.
+abbrev pub node : ℕ → ℕ → Val
+node key next = plain (key * LINK_LIMIT + next)
+
+abbrev pub key_of : Val → ℕ
+key_of v = v.low / LINK_LIMIT
+
+abbrev pub next_of : Val → ℕ
+next_of v = v.low % LINK_LIMIT
+
+-- a node that is in the list
+pub record Cell : Type 0 where
+  pub number : ℕ
+  pub key : ℕ
+
+abbrev pub numbers_of : List Cell → List ℕ
+numbers_of cells = map (λ c. c.number) cells
+
+abbrev pub keys_of : List Cell → List ℕ
+keys_of cells = map (λ c. c.key) cells
+
+-- the first of some numbers, 0 where there is none
+abbrev pub first : List ℕ → ℕ
+first [] = 0
+first (i ∷ is) = i
+
+-- each node of the list holds its key and the number of the next one
+abbrev pub IsChain : ℕ → List Val → List Cell → Type 0
+IsChain begin values [] = Unit {0}
+IsChain begin values (c ∷ cs) =
+    (value_at values (node_object begin c.number) ≡ node c.key (first (numbers_of cs))) × IsChain begin values cs
+
+-- each free node holds the number of the next one
+abbrev pub IsFreeChain : ℕ → List Val → List ℕ → Type 0
+IsFreeChain begin values [] = Unit {0}
+IsFreeChain begin values (i ∷ is) =
+    (value_at values (node_object begin i) ≡ plain (first is)) × IsFreeChain begin values is
+
+-- the numbers of n nodes
+abbrev pub nodes_to : ℕ → List ℕ
+nodes_to zero = []
+nodes_to (suc n) = suc n ∷ nodes_to n
+
+-- The map stands for the list's keys: they are in the nodes on the chain from the head, in rising order,
+-- every other node is on the free chain, and none is on a chain twice. A list that is not declared has no
+-- objects and no keys.
+pub record IsList (layout : Layout) (values : List Val) (store : Store) : Type 0 where
+  pub cells : List Cell
+  pub free : List ℕ
+  pub capacity : store.layout.list ≡ layout.list
+  pub keys : store.keys ≡ keys_of cells
+  pub rising : IsStrictlyIncreasing store.keys
+  pub head : 0 < layout.list → value_at values (list_begin layout) ≡ plain (first (numbers_of cells))
+  pub chain : IsChain (list_begin layout) values cells
+  pub free_head : 0 < layout.list → value_at values (free_object (list_begin layout)) ≡ plain (first free)
+  pub free_chain : IsFreeChain (list_begin layout) values free
+  pub once : IsPermutation (numbers_of cells ++ free) (nodes_to layout.list)
+
+-- the list's objects
+abbrev pub IsOfList : Layout → ℕ → Type 0
+IsOfList layout o = (list_begin layout ≤ o) × (o < tree_begin layout)
+
+-- nothing differs but at the list's objects
+abbrev pub SameOutside : {A : Type 0} → Layout → (ℕ → A) → (ℕ → A) → Type 0
+SameOutside layout old new = (p : ℕ) → ¬ IsOfList layout p → new p ≡ old p
+
+-- nothing differs but at the head of the free chain and at most two objects more: a node and its link
+abbrev pub SameButThree : {A : Type 0} → Layout → (ℕ → A) → (ℕ → A) → Type 0
+SameButThree layout old new =
+    (link : ℕ) × ((number : ℕ) ×
+    ((p : ℕ) → p ≢ link → p ≢ node_object (list_begin layout) number → p ≢ free_object (list_begin layout) → new p ≡ old p))

@@ -1,0 +1,47 @@
+-- Where a walk along the list stands, and the place of a key.
+use Rattle.std.specs.Prelude.{◌≡◌, ℕ, ◌<◌, List, [], ◌∷◌, ◌++◌, Option, Some, None}
+use Rattle.dstm_model.specs.Objects.{node_object}
+use Rattle.dstm_list.specs.declared.node.Node.{Node}
+use Rattle.dstm_list.specs.declared.walk.Place.{Place}
+use Rattle.dstm_list.specs.List.{Cell, numbers_of, first}
+
+-- the object that links to what comes after these cells: that of the last one, or the given one where
+-- there is none
+abbrev pub link_after : ℕ → ℕ → List Cell → ℕ
+link_after begin object [] = object
+link_after begin object (c ∷ cs) = link_after begin (node_object begin c.number) cs
+
+-- the key of the last cell, or the given one where there is none
+abbrev pub key_after : ℕ → List Cell → ℕ
+key_after key [] = key
+key_after key (c ∷ cs) = key_after c.key cs
+
+abbrev pub AllLess : ℕ → List Cell → Type 0
+AllLess key [] = Unit {0}
+AllLess key (c ∷ cs) = (c.key < key) × AllLess key cs
+
+abbrev pub AllGreater : ℕ → List Cell → Type 0
+AllGreater key [] = Unit {0}
+AllGreater key (c ∷ cs) = (key < c.key) × AllGreater key cs
+
+-- a walk for a key that has lesser keys behind it, at the object with this node, which links to the cells
+-- ahead
+pub record Stands (begin key object : ℕ) (before : Node) (cells : List Cell) : Type 0 where
+  pub behind : List Cell
+  pub ahead : List Cell
+  pub split : cells ≡ behind ++ ahead
+  pub lesser : AllLess key behind
+  pub link : object ≡ link_after begin begin behind
+  pub last : before.key ≡ key_after 0 behind
+  pub next : before.next ≡ first (numbers_of ahead)
+
+-- the key is in the first cell, whose node this is, or it is in none and all keys are greater
+abbrev pub IsFirst : ℕ → Option Node → List Cell → Type 0
+IsFirst key None cells = AllGreater key cells
+IsFirst key (Some node) [] = ⊥
+IsFirst key (Some node) (c ∷ cs) = (c.key ≡ key) × (node.next ≡ first (numbers_of cs))
+
+-- the place of a key among the cells
+pub record IsPlace (begin key : ℕ) (place : Place) (cells : List Cell) : Type 0 where
+  pub stands : Stands begin key place.link place.before cells
+  pub here : IsFirst key place.node stands.ahead

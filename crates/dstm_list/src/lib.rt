@@ -1,0 +1,151 @@
+//! The set of keys as a linked list on a memory: a head with the number of the first node, nodes with a key
+//! and the number of the next, in rising order of the keys, and a chain of the nodes that are free.
+#![tactic(auto)]
+
+ghost use Rattle.std.specs.Prelude.{◌≡◌, ◌≢◌, ℕ, ◌<◌, List, IsTrue, false, Some, IfOk, OnOk, IfErr};
+ghost use Rattle.dstm_model.specs.declared.value.Val.{Val};
+ghost use Rattle.dstm_model.specs.declared.op.Which.TheVariants as which;
+ghost use Rattle.dstm_model.specs.Layout.{IsValid, FitsLayout};
+ghost use Rattle.dstm_model.specs.Store.{Store};
+ghost use Rattle.dstm_model.specs.Objects.{objects_of, Does};
+ghost use Rattle.dstm_mem.specs.Memory.{with_set};
+ghost use Rattle.dstm_list.specs.List.{IsList, SameOutside, SameButThree};
+
+mod node;
+mod object;
+mod walk;
+
+use crate::node::Node;
+use crate::object::{look, node_object, replace};
+use crate::walk::find;
+use dstm_mem::Mem;
+use dstm_model::{Layout, Op, Reply};
+
+/// Adds a key. Where the reply is Yes it sets the node that was the first free one, the head of the free
+/// chain, and the head or the node that now links to the new node; else it sets nothing.
+pub fn insert<M: Mem>(mem: &mut M, layout: &Layout, key: u32) -> Result<Reply, M::Err>
+    requires valid { IsValid layout.now }
+    requires fits { FitsLayout layout.now (Op.Insert which.List key) }
+    requires objects { M.objects mem.old ≡ objects_of layout.now }
+    requires live { IsTrue (M.is_live mem.old) }
+    requires lawful { (map : List Val) → M.Admits mem.old map →
+        (store : Store) × IsList layout.now (with_set map (M.written mem.old)) store }
+
+    ensures does { IfOk result (λ reply. (map : List Val) → M.Admits mem.new map →
+        Does (IsList layout.now) (Op.Insert which.List key)
+        (with_set map (M.written mem.old)) (with_set map (M.written mem.new)) reply) }
+    ensures unchanged { IfOk result (λ reply. reply ≢ Reply.Yes → (p : ℕ) → M.written mem.new p ≡ M.written mem.old p) }
+    ensures sets { OnOk result (SameOutside layout.now (M.written mem.old) (M.written mem.new)) }
+    ensures few { OnOk result (SameButThree layout.now (M.written mem.old) (M.written mem.new)) }
+    ensures holds { OnOk result (SameOutside layout.now (M.held mem.old) (M.held mem.new)) }
+    ensures opens { OnOk result (SameOutside layout.now (M.is_opened mem.old) (M.is_opened mem.new)) }
+
+    ensures place { M.place mem.new ≡ M.place mem.old }
+    ensures objects { M.objects mem.new ≡ M.objects mem.old }
+    ensures narrows { (map : List Val) → M.Admits mem.new map → M.Admits mem.old map }
+    ensures admits { OnOk result ((map : List Val) × M.Admits mem.new map) }
+    ensures live { OnOk result (IsTrue (M.is_live mem.new)) }
+    ensures ended { IfErr result (λ e. (M.is_live mem.new ≡ false) × (M.error mem.new ≡ Some e)) }
+{
+    let place = find(mem, layout, key)?;
+    if place.node.is_some() {
+        return Ok(Reply::No);
+    }
+    let free = node_object(layout, 0);
+    let number = look(mem, layout, free)?.next;
+    if number == 0 {
+        return Ok(Reply::Full);
+    }
+    let object = node_object(layout, number);
+    let node = Node {
+        key: u64::from(key),
+        next: place.before.next,
+    };
+    let linked = Node {
+        key: place.before.key,
+        next: number,
+    };
+    let rest = replace(mem, layout, object, node.value())?;
+    replace(mem, layout, free, rest)?;
+    replace(mem, layout, place.link, linked.value())?;
+    Ok(Reply::Yes)
+}
+
+/// Takes a key out. Where the reply is Yes it sets the key's node, the head of the free chain, and the head
+/// or the node that linked to the key's node; else it sets nothing.
+pub fn remove<M: Mem>(mem: &mut M, layout: &Layout, key: u32) -> Result<Reply, M::Err>
+    requires valid { IsValid layout.now }
+    requires fits { FitsLayout layout.now (Op.Remove which.List key) }
+    requires objects { M.objects mem.old ≡ objects_of layout.now }
+    requires live { IsTrue (M.is_live mem.old) }
+    requires lawful { (map : List Val) → M.Admits mem.old map →
+        (store : Store) × IsList layout.now (with_set map (M.written mem.old)) store }
+
+    ensures does { IfOk result (λ reply. (map : List Val) → M.Admits mem.new map →
+        Does (IsList layout.now) (Op.Remove which.List key)
+        (with_set map (M.written mem.old)) (with_set map (M.written mem.new)) reply) }
+    ensures unchanged { IfOk result (λ reply. reply ≢ Reply.Yes → (p : ℕ) → M.written mem.new p ≡ M.written mem.old p) }
+    ensures sets { OnOk result (SameOutside layout.now (M.written mem.old) (M.written mem.new)) }
+    ensures few { OnOk result (SameButThree layout.now (M.written mem.old) (M.written mem.new)) }
+    ensures holds { OnOk result (SameOutside layout.now (M.held mem.old) (M.held mem.new)) }
+    ensures opens { OnOk result (SameOutside layout.now (M.is_opened mem.old) (M.is_opened mem.new)) }
+
+    ensures place { M.place mem.new ≡ M.place mem.old }
+    ensures objects { M.objects mem.new ≡ M.objects mem.old }
+    ensures narrows { (map : List Val) → M.Admits mem.new map → M.Admits mem.old map }
+    ensures admits { OnOk result ((map : List Val) × M.Admits mem.new map) }
+    ensures live { OnOk result (IsTrue (M.is_live mem.new)) }
+    ensures ended { IfErr result (λ e. (M.is_live mem.new ≡ false) × (M.error mem.new ≡ Some e)) }
+{
+    let place = find(mem, layout, key)?;
+    let Some(node) = place.node else {
+        return Ok(Reply::No);
+    };
+    let free = node_object(layout, 0);
+    let object = node_object(layout, place.before.next);
+    let freed = Node {
+        key: 0,
+        next: place.before.next,
+    };
+    let linked = Node {
+        key: place.before.key,
+        next: node.next,
+    };
+    let rest = replace(mem, layout, free, freed.value())?;
+    replace(mem, layout, object, rest)?;
+    replace(mem, layout, place.link, linked.value())?;
+    Ok(Reply::Yes)
+}
+
+/// Tells whether a key is there.
+pub fn member<M: Mem>(mem: &mut M, layout: &Layout, key: u32) -> Result<Reply, M::Err>
+    requires valid { IsValid layout.now }
+    requires fits { FitsLayout layout.now (Op.Member which.List key) }
+    requires objects { M.objects mem.old ≡ objects_of layout.now }
+    requires live { IsTrue (M.is_live mem.old) }
+    requires lawful { (map : List Val) → M.Admits mem.old map →
+        (store : Store) × IsList layout.now (with_set map (M.written mem.old)) store }
+
+    ensures does { IfOk result (λ reply. (map : List Val) → M.Admits mem.new map →
+        Does (IsList layout.now) (Op.Member which.List key)
+        (with_set map (M.written mem.old)) (with_set map (M.written mem.new)) reply) }
+    ensures sets { OnOk result ((p : ℕ) → M.written mem.new p ≡ M.written mem.old p) }
+    ensures holds { OnOk result (SameOutside layout.now (M.held mem.old) (M.held mem.new)) }
+    ensures opens { OnOk result (SameOutside layout.now (M.is_opened mem.old) (M.is_opened mem.new)) }
+
+    ensures place { M.place mem.new ≡ M.place mem.old }
+    ensures objects { M.objects mem.new ≡ M.objects mem.old }
+    ensures narrows { (map : List Val) → M.Admits mem.new map → M.Admits mem.old map }
+    ensures admits { OnOk result ((map : List Val) × M.Admits mem.new map) }
+    ensures live { OnOk result (IsTrue (M.is_live mem.new)) }
+    ensures ended { IfErr result (λ e. (M.is_live mem.new ≡ false) × (M.error mem.new ≡ Some e)) }
+{
+    let place = find(mem, layout, key)?;
+    if place.node.is_some() {
+        return Ok(Reply::Yes);
+    }
+    Ok(Reply::No)
+}
+
+#[cfg(test)]
+mod tests;
