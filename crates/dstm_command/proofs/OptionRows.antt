@@ -54,7 +54,8 @@ module _ (p : Row → Bool) (new : Row) where
   find_old [] e = ap (λ b. cond b (Some new) None) e
   find_old (r ∷ rows) e = ap (λ o. cond (p r) (Some r) o) (find_old rows e)
 
-  pub find_new : (rows : List Row) → list_any p rows ≡ false → p new ≡ true → find p (rows ++ new ∷ []) ≡ Some new
+  pub find_new : (rows : List Row) → list_any p rows ≡ false → p new ≡ true →
+      find p (rows ++ new ∷ []) ≡ Some new
   find_new [] none e = ap (λ b. cond b (Some new) None) e
   find_new (r ∷ rows) none e =
       let parts = or_false (p r) _ none in
@@ -73,20 +74,25 @@ module _ (p : Row → Bool) (new : Row) where
       or_true false = refl
 
 -- at an id that has no row
-pub no_row : (id : Text) (change : Row → List Row) (missing rows : List Row) → has_row id rows ≡ false → at_row id change missing rows ≡ rows ++ missing
+pub no_row : (id : Text) (change : Row → List Row) (missing rows : List Row) → has_row id rows ≡ false →
+    at_row id change missing rows ≡ rows ++ missing
 no_row id change missing [] none = refl
 no_row id change missing (r ∷ rows) none =
     let parts = or_false (bytes_eq r.id id) _ none in
-    ap (λ b. cond b (change r ++ rows) (r ∷ at_row id change missing rows)) parts.0 ∙ ap (λ rs. r ∷ rs) (no_row id change missing rows parts.1)
+    ap (λ b. cond b (change r ++ rows) (r ∷ at_row id change missing rows)) parts.0
+    ∙ ap (λ rs. r ∷ rs) (no_row id change missing rows parts.1)
 
-pub new_values : (id : Text) (how : Reading) (s : ValueSource) (values : List Text) (rows : List Row) → has_row id rows ≡ false
+pub new_values : (id : Text) (how : Reading) (s : ValueSource) (values : List Text) (rows : List Row) →
+    has_row id rows ≡ false
     → with_values id how s values rows ≡ rows ++ row_with id how s values ∷ []
 new_values id how s values rows none = no_row id (more_values s values) _ rows none
 
-pub used_values : (id : Text) (how : Reading) (s : ValueSource) (values : List Text) (rows : List Row) → has_row id rows ≡ false
+pub used_values : (id : Text) (how : Reading) (s : ValueSource) (values : List Text) (rows : List Row) →
+    has_row id rows ≡ false
     → with_values id how s values (without id rows) ≡ rows ++ row_with id how s values ∷ []
 used_values id how s values rows none =
-    ap (with_values id how s values) (no_row id (λ _. []) [] rows none ∙ append-nil rows) ∙ new_values id how s values rows none
+    ap (with_values id how s values) (no_row id (λ _. []) [] rows none ∙ append-nil rows)
+    ∙ new_values id how s values rows none
 
 -- ---- what the rows show
 
@@ -109,56 +115,76 @@ value_row k text = row_with (name_of k) (reading_by (valued k)) CommandLine (tex
 abbrev flag_row : Row
 flag_row = row_with (codes "all-write") (reading_by flag) CommandLine (codes "true" ∷ [])
 
-shows_value : (k : Valued) (text : Text) (rows : List Row) (o : Options) → Shows rows o → has_row (name_of k) rows ≡ false
+shows_value : (k : Valued) (text : Text) (rows : List Row) (o : Options) → Shows rows o →
+    has_row (name_of k) rows ≡ false
     → Shows (rows ++ value_row k text ∷ []) (put o k text)
 shows_value of_manager text rows o h none = record {
-  value = λ j. elim j as (λ j. first_of (name_of j) (rows ++ value_row of_manager text ∷ []) ≡ value_in (put o of_manager text) j) [
-    | of_manager ↦ ap first_in (find_new (named (codes "manager")) (value_row of_manager text) rows none refl)
-    | of_seed ↦ ap first_in (find_old (named (codes "seed")) (value_row of_manager text) rows refl) ∙ h.value of_seed
-  ];
-  has = λ j. elim j as (λ j. has_row (name_of j) (rows ++ value_row of_manager text ∷ []) ≡ is_some (value_in (put o of_manager text) j)) [
-    | of_manager ↦ any_new (named (codes "manager")) (value_row of_manager text) rows refl
-    | of_seed ↦ any_old (named (codes "seed")) (value_row of_manager text) rows refl ∙ h.has of_seed
-  ];
+  value = λ j. elim j as
+      (λ j. first_of (name_of j) (rows ++ value_row of_manager text ∷ []) ≡ value_in
+      (put o of_manager text) j) [
+        | of_manager ↦ ap first_in (find_new (named (codes "manager")) (value_row of_manager text) rows none refl)
+        | of_seed ↦ ap first_in (find_old (named (codes "seed")) (value_row of_manager text) rows refl)
+            ∙ h.value of_seed
+      ];
+  has = λ j. elim j as
+      (λ j. has_row (name_of j) (rows ++ value_row of_manager text ∷ []) ≡ is_some
+      (value_in (put o of_manager text) j)) [
+        | of_manager ↦ any_new (named (codes "manager")) (value_row of_manager text) rows refl
+        | of_seed ↦ any_old (named (codes "seed")) (value_row of_manager text) rows refl ∙ h.has of_seed
+      ];
   has_flag = any_old (named (codes "all-write")) (value_row of_manager text) rows refl ∙ h.has_flag;
-  flag = λ e. ap (option_and_then row_text) (find_old (named (codes "all-write")) (value_row of_manager text) rows refl) ∙ h.flag e;
+  flag = λ e. ap (option_and_then row_text)
+      (find_old (named (codes "all-write")) (value_row of_manager text) rows refl) ∙ h.flag e;
 }
 shows_value of_seed text rows o h none = record {
-  value = λ j. elim j as (λ j. first_of (name_of j) (rows ++ value_row of_seed text ∷ []) ≡ value_in (put o of_seed text) j) [
-    | of_manager ↦ ap first_in (find_old (named (codes "manager")) (value_row of_seed text) rows refl) ∙ h.value of_manager
-    | of_seed ↦ ap first_in (find_new (named (codes "seed")) (value_row of_seed text) rows none refl)
-  ];
-  has = λ j. elim j as (λ j. has_row (name_of j) (rows ++ value_row of_seed text ∷ []) ≡ is_some (value_in (put o of_seed text) j)) [
-    | of_manager ↦ any_old (named (codes "manager")) (value_row of_seed text) rows refl ∙ h.has of_manager
-    | of_seed ↦ any_new (named (codes "seed")) (value_row of_seed text) rows refl
-  ];
+  value = λ j. elim j as
+      (λ j. first_of (name_of j) (rows ++ value_row of_seed text ∷ []) ≡ value_in (put o of_seed text) j) [
+        | of_manager ↦ ap first_in (find_old (named (codes "manager")) (value_row of_seed text) rows refl)
+            ∙ h.value of_manager
+        | of_seed ↦ ap first_in (find_new (named (codes "seed")) (value_row of_seed text) rows none refl)
+      ];
+  has = λ j. elim j as
+      (λ j. has_row (name_of j) (rows ++ value_row of_seed text ∷ []) ≡ is_some
+      (value_in (put o of_seed text) j)) [
+        | of_manager ↦ any_old (named (codes "manager")) (value_row of_seed text) rows refl ∙ h.has of_manager
+        | of_seed ↦ any_new (named (codes "seed")) (value_row of_seed text) rows refl
+      ];
   has_flag = any_old (named (codes "all-write")) (value_row of_seed text) rows refl ∙ h.has_flag;
-  flag = λ e. ap (option_and_then row_text) (find_old (named (codes "all-write")) (value_row of_seed text) rows refl) ∙ h.flag e;
+  flag = λ e. ap (option_and_then row_text)
+      (find_old (named (codes "all-write")) (value_row of_seed text) rows refl) ∙ h.flag e;
 }
 
 shows_flag : (rows : List Row) (o : Options) → Shows rows o → has_row (codes "all-write") rows ≡ false
     → Shows (rows ++ flag_row ∷ []) (record o { all_write = true })
 shows_flag rows o h none = record {
-  value = λ j. elim j as (λ j. first_of (name_of j) (rows ++ flag_row ∷ []) ≡ value_in (record o { all_write = true }) j) [
-    | of_manager ↦ ap first_in (find_old (named (codes "manager")) flag_row rows refl) ∙ h.value of_manager
-    | of_seed ↦ ap first_in (find_old (named (codes "seed")) flag_row rows refl) ∙ h.value of_seed
-  ];
-  has = λ j. elim j as (λ j. has_row (name_of j) (rows ++ flag_row ∷ []) ≡ is_some (value_in (record o { all_write = true }) j)) [
-    | of_manager ↦ any_old (named (codes "manager")) flag_row rows refl ∙ h.has of_manager
-    | of_seed ↦ any_old (named (codes "seed")) flag_row rows refl ∙ h.has of_seed
-  ];
+  value = λ j. elim j as
+      (λ j. first_of (name_of j) (rows ++ flag_row ∷ []) ≡ value_in (record o { all_write = true }) j) [
+        | of_manager ↦ ap first_in (find_old (named (codes "manager")) flag_row rows refl) ∙ h.value of_manager
+        | of_seed ↦ ap first_in (find_old (named (codes "seed")) flag_row rows refl) ∙ h.value of_seed
+      ];
+  has = λ j. elim j as
+      (λ j. has_row (name_of j) (rows ++ flag_row ∷ []) ≡ is_some
+      (value_in (record o { all_write = true }) j)) [
+        | of_manager ↦ any_old (named (codes "manager")) flag_row rows refl ∙ h.has of_manager
+        | of_seed ↦ any_old (named (codes "seed")) flag_row rows refl ∙ h.has of_seed
+      ];
   has_flag = any_new (named (codes "all-write")) flag_row rows refl;
   flag = λ _. ap (option_and_then row_text) (find_new (named (codes "all-write")) flag_row rows none refl);
 }
 
 -- a use of an option, and of the flag, that was not used before
-pub uses_value : (k : Valued) (text : Text) (rows : List Row) (o : Options) → Shows rows o → has_row (name_of k) rows ≡ false
+pub uses_value : (k : Valued) (text : Text) (rows : List Row) (o : Options) → Shows rows o →
+    has_row (name_of k) rows ≡ false
     → Shows (used (valued k) (text ∷ []) rows) (put o k text)
 uses_value of_manager text rows o h none =
-    subst (λ r. Shows r (put o of_manager text)) (sym (used_values (codes "manager") _ _ (text ∷ []) rows none)) (shows_value of_manager text rows o h none)
+    subst (λ r. Shows r (put o of_manager text)) (sym (used_values (codes "manager") _ _ (text ∷ []) rows none))
+    (shows_value of_manager text rows o h none)
 uses_value of_seed text rows o h none =
-    subst (λ r. Shows r (put o of_seed text)) (sym (used_values (codes "seed") _ _ (text ∷ []) rows none)) (shows_value of_seed text rows o h none)
+    subst (λ r. Shows r (put o of_seed text)) (sym (used_values (codes "seed") _ _ (text ∷ []) rows none))
+    (shows_value of_seed text rows o h none)
 
-pub uses_flag : (rows : List Row) (o : Options) → Shows rows o → has_row (codes "all-write") rows ≡ false → Shows (used flag [] rows) (record o { all_write = true })
+pub uses_flag : (rows : List Row) (o : Options) → Shows rows o → has_row (codes "all-write") rows ≡ false →
+    Shows (used flag [] rows) (record o { all_write = true })
 uses_flag rows o h none =
-    subst (λ r. Shows r (record o { all_write = true })) (sym (used_values (codes "all-write") _ _ (codes "true" ∷ []) rows none)) (shows_flag rows o h none)
+    subst (λ r. Shows r (record o { all_write = true }))
+    (sym (used_values (codes "all-write") _ _ (codes "true" ∷ []) rows none)) (shows_flag rows o h none)

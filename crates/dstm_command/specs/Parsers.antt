@@ -7,7 +7,8 @@ use Rattle.clap.specs.declared.builder.action.ArgAction.TheVariants.{Set, SetTru
 -- no program's name among the words, and no help
 abbrev pub bare_app : Text → App
 bare_app name =
-    on_top (λ s. record s { disable_help_flag = true }) (on_top (λ s. record s { no_binary_name = true }) (new_app name))
+    on_top (λ s. record s { disable_help_flag = true })
+    (on_top (λ s. record s { no_binary_name = true }) (new_app name))
 
 abbrev pub value_option : Text → Rule
 value_option name = record (new_rule name) { long = Some name; action = Some Set }

@@ -13,10 +13,16 @@ returns c =
     let count_is : rule_of c.required-count.result ≡ required_value (codes "count") = search rules in
     let workers_is : rule_of c.required-workers.result ≡ required_value (codes "workers") = search rules in
     let bare_is : app_of c.disable_help_flag.result ≡ bare_app (codes "gen") =
-    ap app_of_fields (c.disable_help_flag.ensures ∙ ap (λ (f : Command-F Command). record f { disable_help_flag = true }) c.no_binary_name.ensures)
-    ∙ ap (λ (a : App). on_top (λ s. record s { disable_help_flag = true }) (on_top (λ s. record s { no_binary_name = true }) a)) c.new-4.ensures.app in
-    let one_is : app_of c.in_ok-arg.field-0 ≡ with_rule (bare_app (codes "gen")) (required_value (codes "seed")) =
+    ap app_of_fields
+    (c.disable_help_flag.ensures
+    ∙ ap (λ (f : Command-F Command). record f { disable_help_flag = true }) c.no_binary_name.ensures)
+    ∙ ap (λ (a : App). on_top (λ s. record s { disable_help_flag = true })
+    (on_top (λ s. record s { no_binary_name = true }) a)) c.new-4.ensures.app in
+    let one_is : app_of c.in_ok-arg.field-0 ≡ with_rule (bare_app (codes "gen"))
+    (required_value (codes "seed")) =
     c.in_ok-arg.ensures.shape (search rules) ∙ ap₂ with_rule bare_is seed_is in
-    let two_are : app_of c.in_ok-arg-2.field-0 ≡ with_rule (with_rule (bare_app (codes "gen")) (required_value (codes "seed"))) (required_value (codes "count")) =
+    let two_are : app_of c.in_ok-arg-2.field-0 ≡ with_rule
+    (with_rule (bare_app (codes "gen")) (required_value (codes "seed"))) (required_value (codes "count")) =
     c.in_ok-arg-2.ensures.shape (search rules) ∙ ap₂ with_rule one_is count_is in
-    IfOk-weaker c.arg-3.result _ _ (λ command h. h.shape (search rules) ∙ ap₂ with_rule two_are workers_is) c.arg-3.ensures
+    IfOk-weaker c.arg-3.result _ _
+    (λ command h. h.shape (search rules) ∙ ap₂ with_rule two_are workers_is) c.arg-3.ensures

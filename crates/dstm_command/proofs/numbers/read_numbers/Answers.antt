@@ -11,7 +11,8 @@ returns c =
     let words : List Text = map string_bytes c.args.words.now in
     let app_is = c.in_ok-numbers_command.ensures in
     let given : Option GenSpec = spec_in words in
-    let same : c.numbers_matched.result ≡ given = result_is words (found_of c.in_ok-matches.matches) c.numbers_matched.result c.requires
+    let same : c.numbers_matched.result ≡ given =
+    result_is words (found_of c.in_ok-matches.matches) c.numbers_matched.result c.requires
     (subst (λ (a : App). fault_of a words ≡ []) app_is c.in_ok-matches.ensures.taken)
     (c.in_ok-matches.ensures.ok ∙ ap (λ (a : App). matches_of a words) app_is) c.numbers_matched.ensures in
     record {
@@ -22,4 +23,6 @@ returns c =
 pub returns-in_err-matches-clause-usage : goal.returns-in_err-matches-clause-usage
 returns-in_err-matches-clause-usage c = λ usage.
     let words : List Text = map string_bytes c.args.words.now in
-    none_read words c.requires (subst (λ (a : App). fault_of a words ≢ []) c.in_ok-numbers_command.ensures (c.in_err-matches.ensures.usage (let h = c.from_residual-in_err-matches.ensures in search rules)))
+    none_read words c.requires
+    (subst (λ (a : App). fault_of a words ≢ []) c.in_ok-numbers_command.ensures
+    (c.in_err-matches.ensures.usage (let h = c.from_residual-in_err-matches.ensures in search rules)))

@@ -10,7 +10,8 @@ returns c =
     let words : List Text = map string_bytes c.args.words.now in
     let app_is = c.in_ok-options_command.ensures in
     let given : Option RunOptions = option_and_then run_of (options_from no_options words) in
-    let same : c.options_matched.result ≡ given = result_is words (found_of c.in_ok-matches.matches) c.options_matched.result c.requires
+    let same : c.options_matched.result ≡ given =
+    result_is words (found_of c.in_ok-matches.matches) c.options_matched.result c.requires
     (subst (λ (a : App). fault_of a words ≡ []) app_is c.in_ok-matches.ensures.taken)
     (c.in_ok-matches.ensures.ok ∙ ap (λ (a : App). matches_of a words) app_is) c.options_matched.ensures in
     record {
@@ -21,4 +22,6 @@ returns c =
 pub returns-in_err-matches-clause-usage : goal.returns-in_err-matches-clause-usage
 returns-in_err-matches-clause-usage c = λ usage.
     let words : List Text = map string_bytes c.args.words.now in
-    none_read words c.requires (subst (λ (a : App). fault_of a words ≢ []) c.in_ok-options_command.ensures (c.in_err-matches.ensures.usage (let h = c.from_residual-in_err-matches.ensures in search rules)))
+    none_read words c.requires
+    (subst (λ (a : App). fault_of a words ≢ []) c.in_ok-options_command.ensures
+    (c.in_err-matches.ensures.usage (let h = c.from_residual-in_err-matches.ensures in search rules)))
