@@ -60,7 +60,8 @@ Rise least (c ∷ cs) = (least ≤ c.key) × Rise (c.key + 1) cs
 tail_increasing : (k : ℕ) (ks : List ℕ) → IsStrictlyIncreasing (k ∷ ks) → IsStrictlyIncreasing ks
 tail_increasing k ks rising i below =
     let e : suc i + 1 ≡ suc (i + 1) = omega arith in
-    let step : slice_index (k ∷ ks) (suc i) < slice_index (k ∷ ks) (suc i + 1) = rising (suc i) (omega (arith, below)) in
+    let step : slice_index (k ∷ ks) (suc i) < slice_index (k ∷ ks) (suc i + 1) =
+    rising (suc i) (omega (arith, below)) in
     subst (λ j. slice_index ks i < slice_index (k ∷ ks) j) e step
 
 rise_from : (least : ℕ) (c : Cell) (cs : List Cell) → least ≤ c.key → IsStrictlyIncreasing (keys_of (c ∷ cs)) →
@@ -74,7 +75,8 @@ pub Rise-of_increasing : (cells : List Cell) → IsStrictlyIncreasing (keys_of c
 Rise-of_increasing [] rising = tt
 Rise-of_increasing (c ∷ cs) rising = rise_from 0 c cs (omega arith) rising
 
-pub increasing-of_Rise : (least : ℕ) (cells : List Cell) → Rise least cells → IsStrictlyIncreasing (keys_of cells)
+pub increasing-of_Rise : (least : ℕ) (cells : List Cell) → Rise least cells →
+    IsStrictlyIncreasing (keys_of cells)
 increasing-of_Rise least [] rise i below = absurd (omega (arith, below))
 increasing-of_Rise least (c ∷ []) rise i below = absurd (omega (arith, below))
 increasing-of_Rise least (c ∷ (d ∷ ds)) rise zero below =
@@ -90,7 +92,8 @@ pub Rise-after : (least : ℕ) (behind : List Cell) (c : Cell) (cs : List Cell) 
 Rise-after least [] c cs rise = rise.1
 Rise-after least (d ∷ ds) c cs rise = Rise-after (d.key + 1) ds c cs rise.1
 
-pub AllGreater-of_Rise : (key least : ℕ) (cells : List Cell) → key < least → Rise least cells → AllGreater key cells
+pub AllGreater-of_Rise : (key least : ℕ) (cells : List Cell) → key < least → Rise least cells →
+    AllGreater key cells
 AllGreater-of_Rise key least [] low rise = tt
 AllGreater-of_Rise key least (c ∷ cs) low rise =
     (omega (arith, low, rise.0), AllGreater-of_Rise key (c.key + 1) cs (omega (arith, low, rise.0)) rise.1)
@@ -100,7 +103,8 @@ pub Rise-next : (least : ℕ) (d : Cell) (ds : List Cell) (c : Cell) (cs : List 
 Rise-next least d [] c cs rise = omega (arith, rise.1.0)
 Rise-next least d (e ∷ es) c cs rise = Rise-next (d.key + 1) e es c cs rise.1
 
-from_greater : (key least : ℕ) (cells : List Cell) → AllGreater key cells → Rise least cells → Rise (key + 1) cells
+from_greater : (key least : ℕ) (cells : List Cell) → AllGreater key cells → Rise least cells →
+    Rise (key + 1) cells
 from_greater key least [] greater rise = tt
 from_greater key least (c ∷ cs) greater rise = (omega (arith, greater.0), rise.1)
 

@@ -1,8 +1,10 @@
--- A map stands for one set of keys only, and the opening values stand for the empty one.
+-- A map stands for one set of keys only, also where other objects change; the opening values stand for the
+-- empty set.
 use Rattle.std.proofs.Common.{◌≡◌, ℕ, zero, suc, ◌+◌, ◌<◌, List, [], ◌∷◌, ◌++◌, length, arith, refl, sym, ◌∙◌, ap, subst, inl, inr}
 use Rattle.std.proofs.lemmas.Bool.{cases_eq}
 use Rattle.std.specs.Prelude.{IsPermutation}
 use Rattle.std.specs.List.{AllByRecursion as Each}
+use Rattle.std.specs.List.Sorted.{IsStrictlyIncreasing}
 use Rattle.std.proofs.lemmas.List.{length-append, length-map}
 use Rattle.std.proofs.lemmas.List.Sorted.{IsPermutation-refl, IsPermutation-sym, IsPermutation-cons, IsPermutation-trans, IsPermutation-to_front}
 use Rattle.dstm_model.specs.declared.value.Val.{Val}
@@ -11,9 +13,10 @@ use Rattle.dstm_model.specs.Layout.{IsValid}
 use Rattle.dstm_model.specs.Map.{value_at}
 use Rattle.dstm_model.specs.Store.{Store, opening_store}
 use Rattle.dstm_model.specs.Objects.{list_begin, free_object, node_object, plain}
-use Rattle.dstm_list.specs.List.{Cell, IsList, IsChain, IsFreeChain, numbers_of, keys_of, first, nodes_to, node}
-use Rattle.dstm_list.proofs.Numbers.{IsNumber, as_many, each-left}
-use Rattle.dstm_list.proofs.Steps.{used_within, first_within}
+use Rattle.dstm_list.specs.List.{Cell, IsList, IsChain, IsFreeChain, IsOfList, numbers_of, keys_of, first, nodes_to, node}
+use Rattle.dstm_list.proofs.Numbers.{IsNumber, as_many, each-map, each-left, each-right}
+use Rattle.dstm_list.proofs.Objects.{IsChain-same, IsFreeChain-same}
+use Rattle.dstm_list.proofs.Steps.{head-of_list, node-of_list, used_within, first_within}
 
 -- ---- one set of keys
 
@@ -22,8 +25,10 @@ same_keys : (n begin : ℕ) (values : List Val) (cells others : List Cell) → n
     first (numbers_of cells) ≡ first (numbers_of others) →
     IsChain begin values cells → IsChain begin values others → keys_of cells ≡ keys_of others
 same_keys n begin values [] [] small used also is_first chain other = refl
-same_keys n begin values [] (d ∷ ds) small used also is_first chain other = absurd (omega (arith, is_first, also.0.0))
-same_keys n begin values (c ∷ cs) [] small used also is_first chain other = absurd (omega (arith, is_first, used.0.0))
+same_keys n begin values [] (d ∷ ds) small used also is_first chain other =
+    absurd (omega (arith, is_first, also.0.0))
+same_keys n begin values (c ∷ cs) [] small used also is_first chain other =
+    absurd (omega (arith, is_first, used.0.0))
 same_keys n begin values (c ∷ cs) (d ∷ ds) small used also is_first chain other =
     let low : (node c.key (first (numbers_of cs))).low ≡ (node d.key (first (numbers_of ds))).low =
     ap (λ v. v.low) (sym chain.0 ∙ ap (λ i. value_at values (node_object begin i)) is_first ∙ other.0) in
@@ -34,7 +39,8 @@ same_keys n begin values (c ∷ cs) (d ∷ ds) small used also is_first chain ot
     ap (λ k. k ∷ keys_of cs) key
     ∙ ap (λ ks. d.key ∷ ks) (same_keys n begin values cs ds small used.1 also.1 next chain.1 other.1)
 
-no_keys : {layout : Layout} {values : List Val} {store : Store} → layout.list ≡ 0 → (list : IsList layout values store) →
+no_keys : {layout : Layout} {values : List Val} {store : Store} → layout.list ≡ 0 →
+    (list : IsList layout values store) →
     length list.cells ≡ 0
 no_keys {layout} none list =
     let all = as_many layout.list (numbers_of list.cells ++ list.free) (IsPermutation-sym _ _ list.once) in
@@ -59,9 +65,40 @@ keys-unique {layout} {values} valid a b =
           let is_first : first (numbers_of a.cells) ≡ first (numbers_of b.cells) =
           ap (λ v. v.low) (sym (a.head declared) ∙ b.head declared) in
           a.keys
-          ∙ same_keys n (list_begin layout) values a.cells b.cells (omega (arith, valid.list)) used also is_first a.chain b.chain
+          ∙ same_keys n (list_begin layout) values a.cells b.cells
+          (omega (arith, valid.list)) used also is_first a.chain b.chain
           ∙ sym b.keys
     ]
+
+-- ---- a map in which the list's objects are unchanged
+
+pub list-kept : {layout : Layout} {values : List Val} {store : Store} (after : List Val) (other : Store) →
+    IsList layout values store → other.layout ≡ store.layout → other.keys ≡ store.keys →
+    ((p : ℕ) → IsOfList layout p → value_at after p ≡ value_at values p) → IsList layout after other
+list-kept {layout} {values} after other list layouts keys same =
+    let n = layout.list in
+    let begin = list_begin layout in
+    let numbers = numbers_of list.cells in
+    let Keeps = λ (i : ℕ). value_at after (node_object begin i) ≡ value_at values (node_object begin i) in
+    let kept = each-map (IsNumber n) Keeps
+    (λ i h. same (node_object begin i) (node-of_list layout i (omega (arith, h.0, h.1)) h.1))
+    (numbers ++ list.free) (used_within list) in
+    record {
+      cells = list.cells;
+      free = list.free;
+      capacity = ap (λ l. l.list) layouts ∙ list.capacity;
+      keys = keys ∙ list.keys;
+      rising = subst IsStrictlyIncreasing (sym keys) list.rising;
+      head = λ declared. same begin (head-of_list layout declared) ∙ list.head declared;
+      chain = IsChain-same begin values after list.cells (each-left Keeps numbers list.free kept) list.chain;
+      free_head = λ declared.
+          let free = node-of_list layout 0 declared (omega arith) in
+          same (free_object begin) (omega (arith, free), omega (arith, free)) ∙ list.free_head declared;
+      free_chain =
+          IsFreeChain-same begin values after list.free
+          (each-right Keeps numbers list.free kept) list.free_chain;
+      once = list.once;
+    }
 
 -- ---- the opening values
 
@@ -69,7 +106,8 @@ keys-unique {layout} {values} valid a b =
 pub record IsOpening (layout : Layout) (values : List Val) : Type 0 where
   pub head : value_at values (list_begin layout) ≡ plain 0
   pub free : value_at values (free_object (list_begin layout)) ≡ plain 1
-  pub nodes : (i : ℕ) → 0 < i → i < layout.list → value_at values (node_object (list_begin layout) i) ≡ plain (i + 1)
+  pub nodes : (i : ℕ) → 0 < i → i < layout.list →
+      value_at values (node_object (list_begin layout) i) ≡ plain (i + 1)
   pub last : value_at values (node_object (list_begin layout) layout.list) ≡ plain 0
 
 -- n numbers from k on
@@ -92,7 +130,8 @@ all_from_one (suc n) =
     (IsPermutation-trans _ _ _ (IsPermutation-to_front (from_on 1 n) (suc n))
     (IsPermutation-cons (suc n) (from_on 1 n) (nodes_to n) (all_from_one n)))
 
-free_chain : (layout : Layout) (values : List Val) → IsOpening layout values → (k n : ℕ) → 0 < k → k + n ≡ layout.list + 1 →
+free_chain : (layout : Layout) (values : List Val) → IsOpening layout values → (k n : ℕ) → 0 < k →
+    k + n ≡ layout.list + 1 →
     IsFreeChain (list_begin layout) values (from_on k n)
 free_chain layout values opening k zero some all = tt
 free_chain layout values opening k (suc zero) some all =

@@ -68,21 +68,25 @@ as_many n is once = length_permutation (nodes_to n) is once ∙ length-nodes_to 
 
 pub others : (i : ℕ) (is : List ℕ) → IsDistinct eqb (i ∷ is) → Each (λ j. j ≢ i) is
 others i is distinct =
-    each-map (λ j. eqb i j ≡ false) (λ j. j ≢ i) (λ j h e. eqb-false i j h (sym e)) is (IsDistinct-head eqb i is distinct)
+    each-map (λ j. eqb i j ≡ false) (λ j. j ≢ i) (λ j h e. eqb-false i j h (sym e)) is
+    (IsDistinct-head eqb i is distinct)
 
 -- ---- a node that moves from one chain to the other
 
 pub split-used : (behind : List Cell) (c : Cell) (ahead : List Cell) (free : List ℕ) →
-    IsPermutation (numbers_of (behind ++ c ∷ ahead) ++ free) (c.number ∷ (numbers_of behind ++ (numbers_of ahead ++ free)))
+    IsPermutation (numbers_of (behind ++ c ∷ ahead) ++ free)
+    (c.number ∷ (numbers_of behind ++ (numbers_of ahead ++ free)))
 split-used behind c ahead free =
-    let joined : numbers_of (behind ++ c ∷ ahead) ++ free ≡ numbers_of behind ++ c.number ∷ (numbers_of ahead ++ free) =
+    let joined : numbers_of (behind ++ c ∷ ahead) ++ free ≡ numbers_of behind ++ c.number ∷
+    (numbers_of ahead ++ free) =
     ap (λ is. is ++ free) (map-append (λ (d : Cell). d.number) behind (c ∷ ahead))
     ∙ append_assoc (numbers_of behind) (c.number ∷ numbers_of ahead) free in
     subst (λ is. IsPermutation is (c.number ∷ (numbers_of behind ++ (numbers_of ahead ++ free)))) (sym joined)
     (IsPermutation-middle (numbers_of behind) c.number (numbers_of ahead ++ free))
 
 pub split-free : (behind ahead : List Cell) (i : ℕ) (free : List ℕ) →
-    IsPermutation (numbers_of (behind ++ ahead) ++ i ∷ free) (i ∷ (numbers_of behind ++ (numbers_of ahead ++ free)))
+    IsPermutation (numbers_of (behind ++ ahead) ++ i ∷ free)
+    (i ∷ (numbers_of behind ++ (numbers_of ahead ++ free)))
 split-free behind ahead i free =
     let joined : numbers_of (behind ++ ahead) ++ free ≡ numbers_of behind ++ (numbers_of ahead ++ free) =
     ap (λ is. is ++ free) (map-append (λ (d : Cell). d.number) behind ahead)

@@ -50,9 +50,11 @@ with_set-again map old new o p v u before sets is object_is value_is =
 -- ---- chains whose objects are unchanged
 
 abbrev pub Same : ℕ → List Val → List Val → List ℕ → Type 0
-Same begin values after is = Each (λ i. value_at after (node_object begin i) ≡ value_at values (node_object begin i)) is
+Same begin values after is =
+    Each (λ i. value_at after (node_object begin i) ≡ value_at values (node_object begin i)) is
 
-pub IsChain-same : (begin : ℕ) (values after : List Val) (cells : List Cell) → Same begin values after (numbers_of cells) →
+pub IsChain-same : (begin : ℕ) (values after : List Val) (cells : List Cell) →
+    Same begin values after (numbers_of cells) →
     IsChain begin values cells → IsChain begin after cells
 IsChain-same begin values after [] same chain = tt
 IsChain-same begin values after (c ∷ cs) same chain =
@@ -68,7 +70,8 @@ IsFreeChain-same begin values after (i ∷ is) same chain =
 abbrev pub SameBefore : ℕ → List Val → List Val → ℕ → List Cell → Type 0
 SameBefore begin values after object [] = Unit {0}
 SameBefore begin values after object (c ∷ cs) =
-    (value_at after object ≡ value_at values object) × SameBefore begin values after (node_object begin c.number) cs
+    (value_at after object ≡ value_at values object)
+    × SameBefore begin values after (node_object begin c.number) cs
 
 -- the cells behind the link, and others after it
 pub relinked : (begin : ℕ) (values after : List Val) (behind ahead new : List Cell) (object key : ℕ) →
@@ -76,10 +79,13 @@ pub relinked : (begin : ℕ) (values after : List Val) (behind ahead new : List 
     IsChain begin values (behind ++ ahead) → SameBefore begin values after object behind →
     value_at after (link_after begin object behind) ≡ node (key_after key behind) (first (numbers_of new)) →
     IsChain begin after new →
-    (value_at after object ≡ node key (first (numbers_of (behind ++ new)))) × IsChain begin after (behind ++ new)
+    (value_at after object ≡ node key (first (numbers_of (behind ++ new))))
+    × IsChain begin after (behind ++ new)
 relinked begin values after [] ahead new object key at chain same link rest = (link, rest)
 relinked begin values after (c ∷ cs) ahead new object key at chain same link rest =
-    let inner = relinked begin values after cs ahead new (node_object begin c.number) c.key chain.0 chain.1 same.1 link rest in
+    let inner =
+    relinked begin values after cs ahead new
+    (node_object begin c.number) c.key chain.0 chain.1 same.1 link rest in
     (same.0 ∙ at, inner)
 
 -- ---- objects apart
@@ -89,7 +95,8 @@ Avoids begin object is = Each (λ i. node_object begin i ≢ object) is
 
 pub avoids-node : (begin i : ℕ) (is : List ℕ) → Each (λ j. j ≢ i) is → Avoids begin (node_object begin i) is
 avoids-node begin i is each =
-    each-map (λ j. j ≢ i) (λ j. node_object begin j ≢ node_object begin i) (λ j h e. h (omega (arith, e))) is each
+    each-map (λ j. j ≢ i) (λ j. node_object begin j ≢ node_object begin i)
+    (λ j h e. h (omega (arith, e))) is each
 
 -- what holds of an object and of those of some cells holds of the link after them
 pub at_link : (P : ℕ → Type 0) (begin object : ℕ) (cells : List Cell) → P object →
@@ -97,7 +104,8 @@ pub at_link : (P : ℕ → Type 0) (begin object : ℕ) (cells : List Cell) → 
 at_link P begin object [] here each = here
 at_link P begin object (c ∷ cs) here each = at_link P begin (node_object begin c.number) cs each.0 each.1
 
-avoids_link : (begin object : ℕ) (behind : List Cell) (is : List ℕ) → Avoids begin object (numbers_of behind ++ is) →
+avoids_link : (begin object : ℕ) (behind : List Cell) (is : List ℕ) →
+    Avoids begin object (numbers_of behind ++ is) →
     IsDistinct eqb (numbers_of behind ++ is) → Avoids begin (link_after begin object behind) is
 avoids_link begin object [] is each distinct = each
 avoids_link begin object (c ∷ cs) is each distinct =
@@ -112,14 +120,18 @@ before_link begin object c (d ∷ ds) each e = before_link begin object d ds eac
 
 same_before : (begin : ℕ) (values after : List Val) (x y object : ℕ) (cells : List Cell) (is : List ℕ) →
     ((p : ℕ) → p ≢ x → p ≢ y → p ≢ link_after begin object cells → value_at after p ≡ value_at values p) →
-    object ≢ x → object ≢ y → Each (λ i. (node_object begin i ≢ x) × (node_object begin i ≢ y)) (numbers_of cells) →
+    object ≢ x → object ≢ y →
+    Each (λ i. (node_object begin i ≢ x) × (node_object begin i ≢ y)) (numbers_of cells) →
     Avoids begin object (numbers_of cells ++ is) → IsDistinct eqb (numbers_of cells ++ is) →
     SameBefore begin values after object cells
 same_before begin values after x y object [] is same ox oy each avoids distinct = tt
 same_before begin values after x y object (c ∷ cs) is same ox oy each avoids distinct =
     let inner = node_object begin c.number in
-    let inner_avoids = avoids-node begin c.number (numbers_of cs ++ is) (others c.number (numbers_of cs ++ is) distinct) in
-    let last = before_link begin object c cs (each-left (λ i. node_object begin i ≢ object) (numbers_of (c ∷ cs)) is avoids) in (
+    let inner_avoids =
+    avoids-node begin c.number (numbers_of cs ++ is) (others c.number (numbers_of cs ++ is) distinct) in
+    let last =
+    before_link begin object c cs
+    (each-left (λ i. node_object begin i ≢ object) (numbers_of (c ∷ cs)) is avoids) in (
       same object ox oy last,
       same_before begin values after x y inner cs is same each.0.0 each.0.1 each.1 inner_avoids
           (IsDistinct-tail eqb c.number (numbers_of cs ++ is) distinct),
@@ -139,7 +151,8 @@ pub record Apart (x y z : ℕ) : Type 0 where
   pub first_third : x ≢ z
   pub second_third : y ≢ z
 
-avoids_head : (n begin object : ℕ) (is : List ℕ) → object ≤ free_object begin → Each (IsNumber n) is → Avoids begin object is
+avoids_head : (n begin object : ℕ) (is : List ℕ) → object ≤ free_object begin → Each (IsNumber n) is →
+    Avoids begin object is
 avoids_head n begin object is low each =
     each-map (IsNumber n) (λ i. node_object begin i ≢ object) (λ i h e. omega (arith, h.0, e, low)) is each
 
@@ -158,7 +171,8 @@ objects_apart n begin i behind ahead free once =
     let link_x : link_after begin begin behind ≢ x =
     at_link (λ p. p ≢ x) begin begin behind (λ e. omega (arith, e)) other in
     let link_y : link_after begin begin behind ≢ y =
-    at_link (λ p. p ≢ y) begin begin behind (λ e. omega (arith, e)) (avoids_head n begin y (numbers_of behind) (omega arith) behind_range) in
+    at_link (λ p. p ≢ y) begin begin behind (λ e. omega (arith, e))
+    (avoids_head n begin y (numbers_of behind) (omega arith) behind_range) in
     record {
       first_second = λ e. omega (arith, e, in_range.0.0);
       first_third = λ e. link_x (sym e);
@@ -189,11 +203,14 @@ Kept-of_same n begin i values after behind ahead free once same =
     let Pxy = λ (j : ℕ). Px j × Py j in
     let not_xy = each-zip Px Py numbers not_x not_y in
     let clear = each-zip Pxy Pz rest (each-right Pxy (numbers_of behind) rest not_xy) not_z in
-    let kept = each-map (λ j. Pxy j × Pz j) (λ j. value_at after (node_object begin j) ≡ value_at values (node_object begin j))
+    let kept =
+    each-map (λ j. Pxy j × Pz j)
+    (λ j. value_at after (node_object begin j) ≡ value_at values (node_object begin j))
     (λ j h. same (node_object begin j) h.0.0 h.0.1 h.1) rest clear in
     let Keeps = λ (j : ℕ). value_at after (node_object begin j) ≡ value_at values (node_object begin j) in
     record {
-      before = same_before begin values after x y begin behind rest same (λ e. omega (arith, e)) (λ e. omega (arith, e))
+      before = same_before begin values after x y begin behind rest same (λ e. omega (arith, e))
+          (λ e. omega (arith, e))
           (each-left Pxy (numbers_of behind) rest not_xy) not_begin tail;
       ahead_same = each-left Keeps (numbers_of ahead) free kept;
       free_same = each-right Keeps (numbers_of ahead) free kept;

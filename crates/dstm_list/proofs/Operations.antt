@@ -31,9 +31,11 @@ Finds layout values key place =
 
 -- ---- whether the key is there
 
-has_key-at : (key : ℕ) (found : Option Node) (behind ahead : List Cell) → AllLess key behind → IsFirst key found ahead →
+has_key-at : (key : ℕ) (found : Option Node) (behind ahead : List Cell) → AllLess key behind →
+    IsFirst key found ahead →
     has_key key (keys_of (behind ++ ahead)) ≡ is_some found
-has_key-at key None behind ahead less here = has_key-behind key behind ahead less ∙ has_key-greater key ahead here
+has_key-at key None behind ahead less here =
+    has_key-behind key behind ahead less ∙ has_key-greater key ahead here
 has_key-at key (Some found) behind [] less here = absurd here
 has_key-at key (Some found) behind (c ∷ cs) less here =
     has_key-behind key behind (c ∷ cs) less ∙ has_key-first key c cs here.0
@@ -71,7 +73,8 @@ does-no_remove {layout} {values} key place finds is store list =
     let greater : AllGreater key stands.ahead = subst (λ o. IsFirst key o stands.ahead) is found.here in
     let keys = list.keys ∙ ap keys_of stands.split in
     let kept : without_key key store.keys ≡ store.keys =
-    ap (without_key key) keys ∙ without_key-absent key stands.behind stands.ahead stands.lesser greater ∙ sym keys in (
+    ap (without_key key) keys ∙ without_key-absent key stands.behind stands.ahead stands.lesser greater
+    ∙ sym keys in (
       ap yes_or_no (sym has),
       subst (λ (ks : List ℕ). IsList layout values (record store { keys = ks })) (sym kept) list,
     )
@@ -79,7 +82,8 @@ does-no_remove {layout} {values} key place finds is store list =
 -- ---- the parts of a list
 
 -- a list whose chains are these
-pub record Parts (layout : Layout) (values : List Val) (store : Store) (cells : List Cell) (free : List ℕ) : Type 0 where
+pub record Parts (layout : Layout) (values : List Val) (store : Store) (cells : List Cell)
+    (free : List ℕ) : Type 0 where
   pub capacity : store.layout.list ≡ layout.list
   pub keys : store.keys ≡ keys_of cells
   pub rise : Rise 0 cells
@@ -92,7 +96,8 @@ pub record Parts (layout : Layout) (values : List Val) (store : Store) (cells : 
 node-zero : (n : ℕ) → node 0 n ≡ plain n
 node-zero n = ap plain (omega arith)
 
-parts_of : {layout : Layout} {values : List Val} {store : Store} → 0 < layout.list → (list : IsList layout values store) →
+parts_of : {layout : Layout} {values : List Val} {store : Store} → 0 < layout.list →
+    (list : IsList layout values store) →
     Parts layout values store list.cells list.free
 parts_of declared list = record {
   capacity = list.capacity;
@@ -131,7 +136,8 @@ used-free {layout} {store = store} {cells = cells} {free = free} parts =
     omega (arith, all, used, numbers, keys)
 
 -- the number in the head of the free chain is that of the first free node
-pub first_free : {layout : Layout} {values : List Val} {store : Store} (n : ℕ) → IsValid layout → 0 < layout.list →
+pub first_free : {layout : Layout} {values : List Val} {store : Store} (n : ℕ) → IsValid layout →
+    0 < layout.list →
     (list : IsList layout values store) → n ≡ next_of (value_at values (free_object (list_begin layout))) →
     (n ≡ first list.free) × (n ≤ layout.list)
 first_free {layout} n valid declared list is =
@@ -148,14 +154,16 @@ some_free : (n : ℕ) (free : List ℕ) → n ≡ first free → n ≢ 0 → (re
 some_free n [] is some = absurd (some is)
 some_free n (i ∷ is) same some = (is, ap (λ j. j ∷ is) (sym same))
 
-pub does-full : {layout : Layout} {values : List Val} (key n : ℕ) (place : Place) → IsValid layout → 0 < layout.list →
+pub does-full : {layout : Layout} {values : List Val} (key n : ℕ) (place : Place) → IsValid layout →
+    0 < layout.list →
     Finds layout values key place → is_some place.node ≡ false →
     n ≡ next_of (value_at values (free_object (list_begin layout))) → n ≡ 0 →
     Does (IsList layout) (Insert which.List key) values values Full
 does-full {layout} key n place valid declared finds is free none store list =
     let has : has_key key store.keys ≡ false = has_key-found list (finds store list) ∙ is in
     let in_range = each-right (IsNumber layout.list) (numbers_of list.cells) list.free (used_within list) in
-    let no_free = none_free layout.list list.free in_range (sym (first_free n valid declared list free).0 ∙ none) in
+    let no_free =
+    none_free layout.list list.free in_range (sym (first_free n valid declared list free).0 ∙ none) in
     let all = used-free (parts_of declared list) in
     let full : (length store.keys == store.layout.list) ≡ true =
     eq-eqb (length store.keys) store.layout.list (omega (arith, all, no_free, list.capacity)) in
@@ -166,15 +174,19 @@ does-full {layout} key n place valid declared finds is free none store list =
 -- the map with node i linked in, which holds this key and links to `next`, where the link holds the key `last`
 abbrev pub with_node : List Val → ℕ → ℕ → ℕ → ℕ → ℕ → ℕ → Val → List Val
 with_node values begin i key next link last rest =
-    slice_set (slice_set (slice_set values (node_object begin i) (node key next)) (free_object begin) rest) link (node last i)
+    slice_set (slice_set (slice_set values (node_object begin i) (node key next)) (free_object begin) rest) link
+    (node last i)
 
-inserted : {layout : Layout} {values : List Val} {store : Store} (c : Cell) (behind ahead : List Cell) (free : List ℕ)
+inserted : {layout : Layout} {values : List Val} {store : Store} (c : Cell) (behind ahead : List Cell)
+    (free : List ℕ)
     (link : ℕ) (rest : Val) → 0 < layout.list → tree_begin layout ≤ length values →
-    Parts layout values store (behind ++ ahead) (c.number ∷ free) → AllLess c.key behind → AllGreater c.key ahead →
+    Parts layout values store (behind ++ ahead) (c.number ∷ free) → AllLess c.key behind →
+    AllGreater c.key ahead →
     link ≡ link_after (list_begin layout) (list_begin layout) behind → IsOfList layout link →
     value_at values (node_object (list_begin layout) c.number) ≡ rest →
     Parts layout
-    (with_node values (list_begin layout) c.number c.key (first (numbers_of ahead)) link (key_after 0 behind) rest)
+    (with_node values (list_begin layout) c.number c.key (first (numbers_of ahead)) link
+    (key_after 0 behind) rest)
     (record store { keys = with_key c.key store.keys }) (behind ++ c ∷ ahead) free
 inserted {layout} {values} {store} c behind ahead free link rest declared in_map parts less greater is_link link_in had =
     let n = layout.list in
@@ -193,8 +205,11 @@ inserted {layout} {values} {store} c behind ahead free link rest declared in_map
     let kept = Kept-of_same n begin i values after behind ahead free once
     (λ p px py pz. changed.same p px py (λ e. pz (e ∙ is_link))) in
     let linked = relinked begin values after behind ahead (c ∷ ahead) begin 0 parts.head parts.chain kept.before
-    (ap (value_at after) (sym is_link) ∙ changed.third_is)
-    (changed.first_is, IsChain-same begin values after ahead kept.ahead_same (IsChain-right begin values behind ahead parts.chain)) in
+    (ap (value_at after) (sym is_link) ∙ changed.third_is) (
+      changed.first_is,
+      IsChain-same begin values after ahead kept.ahead_same
+          (IsChain-right begin values behind ahead parts.chain),
+    ) in
     record {
       capacity = parts.capacity;
       keys = ap (with_key c.key) parts.keys ∙ with_key-between c behind ahead less greater;
@@ -206,13 +221,16 @@ inserted {layout} {values} {store} c behind ahead free link rest declared in_map
       once = IsPermutation-trans _ _ _ once (IsPermutation-sym _ _ (split-used behind c ahead free));
     }
 
-greater_of : (key : ℕ) (found : Option Node) (cells : List Cell) → is_some found ≡ false → IsFirst key found cells →
+greater_of : (key : ℕ) (found : Option Node) (cells : List Cell) → is_some found ≡ false →
+    IsFirst key found cells →
     AllGreater key cells
 greater_of key None cells is here = here
 greater_of key (Some found) cells is here = absurd (cc is)
 
-pub does-insert : {layout : Layout} {values : List Val} (key n : ℕ) (place : Place) (rest : Val) → IsValid layout →
-    0 < layout.list → tree_begin layout ≤ length values → Finds layout values key place → is_some place.node ≡ false →
+pub does-insert : {layout : Layout} {values : List Val} (key n : ℕ) (place : Place) (rest : Val) →
+    IsValid layout →
+    0 < layout.list → tree_begin layout ≤ length values → Finds layout values key place →
+    is_some place.node ≡ false →
     IsOfList layout place.link → n ≡ next_of (value_at values (free_object (list_begin layout))) → n ≢ 0 →
     value_at values (node_object (list_begin layout) n) ≡ rest →
     Does (IsList layout) (Insert which.List key) values
@@ -237,9 +255,11 @@ does-insert {layout} {values} key n place rest valid declared in_map finds is li
 -- the map with node i put on the free chain, where the link holds the key `last` and links to `next`
 abbrev pub without_node : List Val → ℕ → ℕ → ℕ → ℕ → ℕ → Val → List Val
 without_node values begin i next link last rest =
-    slice_set (slice_set (slice_set values (free_object begin) (node 0 i)) (node_object begin i) rest) link (node last next)
+    slice_set (slice_set (slice_set values (free_object begin) (node 0 i)) (node_object begin i) rest) link
+    (node last next)
 
-removed : {layout : Layout} {values : List Val} {store : Store} (c : Cell) (behind ahead : List Cell) (free : List ℕ)
+removed : {layout : Layout} {values : List Val} {store : Store} (c : Cell) (behind ahead : List Cell)
+    (free : List ℕ)
     (link : ℕ) (rest : Val) → 0 < layout.list → tree_begin layout ≤ length values →
     Parts layout values store (behind ++ c ∷ ahead) free → AllLess c.key behind →
     link ≡ link_after (list_begin layout) (list_begin layout) behind → IsOfList layout link →
@@ -259,7 +279,8 @@ removed {layout} {values} {store} c behind ahead free link rest declared in_map 
     let changed = Changed-of_sets values (free_object begin) (node_object begin i) link
     (node 0 i) rest (node (key_after 0 behind) (first (numbers_of ahead)))
     (omega (arith, free_in.1, in_map)) (omega (arith, node_in.1, in_map)) (omega (arith, link_in.1, in_map))
-    (λ e. differ.first_second (sym e)) (λ e. differ.second_third (e ∙ is_link)) (λ e. differ.first_third (e ∙ is_link)) in
+    (λ e. differ.first_second (sym e)) (λ e. differ.second_third (e ∙ is_link))
+    (λ e. differ.first_third (e ∙ is_link)) in
     let after = without_node values begin i (first (numbers_of ahead)) link (key_after 0 behind) rest in
     let kept = Kept-of_same n begin i values after behind ahead free once
     (λ p px py pz. changed.same p py px (λ e. pz (e ∙ is_link))) in
@@ -289,13 +310,15 @@ record IsCell (key : ℕ) (next : ℕ) (cells : List Cell) : Type 0 where
   key_is : key ≡ cell.key
   next_is : next ≡ first (numbers_of rest)
 
-first_cell : (key : ℕ) (found : Node) (cells : List Cell) → IsFirst key (Some found) cells → IsCell key found.next cells
+first_cell : (key : ℕ) (found : Node) (cells : List Cell) → IsFirst key (Some found) cells →
+    IsCell key found.next cells
 first_cell key found [] here = absurd here
 first_cell key found (c ∷ cs) here =
     record { cell = c; rest = cs; cells_are = refl; key_is = sym here.0; next_is = here.1 }
 
 pub does-remove : {layout : Layout} {values : List Val} (key : ℕ) (place : Place) (found : Node) (rest : Val) →
-    0 < layout.list → tree_begin layout ≤ length values → Finds layout values key place → place.node ≡ Some found →
+    0 < layout.list → tree_begin layout ≤ length values → Finds layout values key place →
+    place.node ≡ Some found →
     IsOfList layout place.link → value_at values (free_object (list_begin layout)) ≡ rest →
     Does (IsList layout) (Remove which.List key) values
     (without_node values (list_begin layout) place.before.next found.next place.link place.before.key rest) Yes
@@ -316,9 +339,13 @@ does-remove {layout} {values} key place found rest declared in_map finds is link
     ≡ without_node values begin c.number (first (numbers_of here.rest)) link (key_after 0 stands.behind) rest =
     ap (λ i. without_node values begin i found.next link place.before.key rest) number
     ∙ ap (λ next. without_node values begin c.number next link place.before.key rest) here.next_is
-    ∙ ap (λ last. without_node values begin c.number (first (numbers_of here.rest)) link last rest) stands.last in
-    let now = without_node values begin c.number (first (numbers_of here.rest)) link (key_after 0 stands.behind) rest in
-    let still = subst (λ k. IsList layout now (record store { keys = without_key k store.keys })) (sym here.key_is)
+    ∙ ap (λ last. without_node values begin c.number
+    (first (numbers_of here.rest)) link last rest) stands.last in
+    let now =
+    without_node values begin c.number (first (numbers_of here.rest)) link
+    (key_after 0 stands.behind) rest in
+    let still =
+    subst (λ k. IsList layout now (record store { keys = without_key k store.keys })) (sym here.key_is)
     (list_of (stands.behind ++ here.rest) (c.number ∷ list.free) after) in (
       ap yes_or_no (sym has),
       subst (λ now. IsList layout now (record store { keys = without_key key store.keys })) (sym maps) still,

@@ -26,7 +26,8 @@ head-of_list layout declared = (omega arith, omega (arith, structure_objects-dec
 
 pub node-of_list : (layout : Layout) (i : ℕ) → 0 < layout.list → i ≤ layout.list →
     IsOfList layout (node_object (list_begin layout) i)
-node-of_list layout i declared h = (omega arith, omega (arith, structure_objects-declared layout.list declared, h))
+node-of_list layout i declared h =
+    (omega arith, omega (arith, structure_objects-declared layout.list declared, h))
 
 -- ---- numbers on the chains
 
@@ -119,7 +120,8 @@ pub stands-next : {layout : Layout} {values : List Val} {store : Store} {key obj
     next.next ≡ next_of (value_at values (node_object (list_begin layout) before.next)) →
     IsNext stands.ahead before.next next
 stands-next {layout} {values} {before = before} next valid list stands some next_key next_next =
-    next_in layout.list (list_begin layout) values before.next next stands.ahead (omega (arith, valid.list)) some
+    next_in layout.list (list_begin layout) values before.next next stands.ahead
+    (omega (arith, valid.list)) some
     stands.next (ahead_within list stands)
     (IsChain-right (list_begin layout) values stands.behind stands.ahead
     (subst (IsChain (list_begin layout) values) stands.split list.chain))
@@ -130,12 +132,14 @@ pub stands-seen : {layout : Layout} {values : List Val} {store : Store} {key obj
     (now : List Val) (at : ℕ) (next : Node) → IsValid layout → (list : IsList layout values store)
     (stands : Stands (list_begin layout) key object before list.cells) → before.next ≢ 0 →
     now ≡ values → at ≡ node_object (list_begin layout) before.next →
-    next.key ≡ key_of (value_at now at) → next.next ≡ next_of (value_at now at) → IsNext stands.ahead before.next next
+    next.key ≡ key_of (value_at now at) → next.next ≡ next_of (value_at now at) →
+    IsNext stands.ahead before.next next
 stands-seen {values = values} now at next valid list stands some same at_node next_key next_next =
     let seen = ap (λ x. value_at x at) same ∙ ap (λ o. value_at values o) at_node in
     stands-next next valid list stands some (next_key ∙ ap key_of seen) (next_next ∙ ap next_of seen)
 
-AllLess-push : (key : ℕ) (cells : List Cell) (c : Cell) → AllLess key cells → c.key < key → AllLess key (cells ++ c ∷ [])
+AllLess-push : (key : ℕ) (cells : List Cell) (c : Cell) → AllLess key cells → c.key < key →
+    AllLess key (cells ++ c ∷ [])
 AllLess-push key [] c less h = (h, tt)
 AllLess-push key (d ∷ ds) c less h = (less.0, AllLess-push key ds c less.1 h)
 
@@ -166,7 +170,8 @@ stands-on {begin} {key} next stands ahead less =
 
 -- ---- the key's place
 
-pub rise_of : {layout : Layout} {values : List Val} {store : Store} (list : IsList layout values store) → Rise 0 list.cells
+pub rise_of : {layout : Layout} {values : List Val} {store : Store} (list : IsList layout values store) →
+    Rise 0 list.cells
 rise_of list = Rise-of_increasing list.cells (subst IsStrictlyIncreasing list.keys list.rising)
 
 pub place-found : {begin key object : ℕ} {before : Node} {cells : List Cell} (next : Node)
@@ -187,11 +192,15 @@ place-passed {key = key} next list stands ahead greater =
     let cells = stands.split ∙ ap (λ cs. stands.behind ++ cs) ahead.cells_are in
     let rise = subst (Rise 0) cells (rise_of list) in
     let passed : key < c.key = omega (arith, ahead.key, greater) in
-    let all : AllGreater key (c ∷ ahead.rest) =
-    (passed, AllGreater-of_Rise key (c.key + 1) ahead.rest (omega (arith, passed)) (Rise-after 0 stands.behind c ahead.rest rise)) in
+    let all : AllGreater key (c ∷ ahead.rest) = (
+      passed,
+      AllGreater-of_Rise key (c.key + 1) ahead.rest (omega (arith, passed))
+          (Rise-after 0 stands.behind c ahead.rest rise),
+    ) in
     record { stands = stands; here = subst (AllGreater key) (sym ahead.cells_are) all }
 
-nothing : (n key : ℕ) (cells : List Cell) → Each (IsNumber n) (numbers_of cells) → first (numbers_of cells) ≡ 0 →
+nothing : (n key : ℕ) (cells : List Cell) → Each (IsNumber n) (numbers_of cells) →
+    first (numbers_of cells) ≡ 0 →
     AllGreater key cells
 nothing n key [] each none = tt
 nothing n key (c ∷ cs) each none = absurd (omega (arith, each.0.0, none))
@@ -201,7 +210,11 @@ pub place-end : {layout : Layout} {values : List Val} {store : Store} {key objec
     before.next ≡ 0 →
     IsPlace (list_begin layout) key (record { link = object; before = before; node = None }) list.cells
 place-end {layout} {key = key} list stands none =
-    record { stands = stands; here = nothing layout.list key stands.ahead (ahead_within list stands) (sym stands.next ∙ none) }
+    record {
+      stands = stands;
+      here = nothing layout.list key stands.ahead (ahead_within list stands)
+          (sym stands.next ∙ none);
+    }
 
 -- ---- the walk ends
 
@@ -232,6 +245,7 @@ left-less {layout} {key = key} {object = object} {before = before} next list sta
           rw (after, at) (omega (arith, less))
       | inr inner ↦
           let at : (object == begin) ≡ false = ne_eqb object begin inner in
-          let rises = later 0 stands.behind ahead.cell ahead.rest begin object before.key rise stands.link inner stands.last in
+          let rises =
+          later 0 stands.behind ahead.cell ahead.rest begin object before.key rise stands.link inner stands.last in
           rw (after, at) (omega (arith, less, rises, ahead.key))
     ]

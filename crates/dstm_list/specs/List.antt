@@ -40,7 +40,8 @@ first (i ∷ is) = i
 abbrev pub IsChain : ℕ → List Val → List Cell → Type 0
 IsChain begin values [] = Unit {0}
 IsChain begin values (c ∷ cs) =
-    (value_at values (node_object begin c.number) ≡ node c.key (first (numbers_of cs))) × IsChain begin values cs
+    (value_at values (node_object begin c.number) ≡ node c.key (first (numbers_of cs)))
+    × IsChain begin values cs
 
 -- each free node holds the number of the next one
 abbrev pub IsFreeChain : ℕ → List Val → List ℕ → Type 0
@@ -80,4 +81,5 @@ SameOutside layout old new = (p : ℕ) → ¬ IsOfList layout p → new p ≡ ol
 abbrev pub SameButThree : {A : Type 0} → Layout → (ℕ → A) → (ℕ → A) → Type 0
 SameButThree layout old new =
     (link : ℕ) × ((number : ℕ) ×
-    ((p : ℕ) → p ≢ link → p ≢ node_object (list_begin layout) number → p ≢ free_object (list_begin layout) → new p ≡ old p))
+    ((p : ℕ) → p ≢ link → p ≢ node_object (list_begin layout) number → p ≢ free_object (list_begin layout) →
+    new p ≡ old p))

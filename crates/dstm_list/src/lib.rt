@@ -34,7 +34,8 @@ pub fn insert<M: Mem>(mem: &mut M, layout: &Layout, key: u32) -> Result<Reply, M
     ensures does { IfOk result (λ reply. (map : List Val) → M.Admits mem.new map →
         Does (IsList layout.now) (Op.Insert which.List key)
         (with_set map (M.written mem.old)) (with_set map (M.written mem.new)) reply) }
-    ensures unchanged { IfOk result (λ reply. reply ≢ Reply.Yes → (p : ℕ) → M.written mem.new p ≡ M.written mem.old p) }
+    ensures unchanged { IfOk result (λ reply. reply ≢ Reply.Yes →
+        (p : ℕ) → M.written mem.new p ≡ M.written mem.old p) }
     ensures sets { OnOk result (SameOutside layout.now (M.written mem.old) (M.written mem.new)) }
     ensures few { OnOk result (SameButThree layout.now (M.written mem.old) (M.written mem.new)) }
     ensures holds { OnOk result (SameOutside layout.now (M.held mem.old) (M.held mem.new)) }
@@ -84,7 +85,8 @@ pub fn remove<M: Mem>(mem: &mut M, layout: &Layout, key: u32) -> Result<Reply, M
     ensures does { IfOk result (λ reply. (map : List Val) → M.Admits mem.new map →
         Does (IsList layout.now) (Op.Remove which.List key)
         (with_set map (M.written mem.old)) (with_set map (M.written mem.new)) reply) }
-    ensures unchanged { IfOk result (λ reply. reply ≢ Reply.Yes → (p : ℕ) → M.written mem.new p ≡ M.written mem.old p) }
+    ensures unchanged { IfOk result (λ reply. reply ≢ Reply.Yes →
+        (p : ℕ) → M.written mem.new p ≡ M.written mem.old p) }
     ensures sets { OnOk result (SameOutside layout.now (M.written mem.old) (M.written mem.new)) }
     ensures few { OnOk result (SameButThree layout.now (M.written mem.old) (M.written mem.new)) }
     ensures holds { OnOk result (SameOutside layout.now (M.held mem.old) (M.held mem.new)) }

@@ -20,7 +20,8 @@ returns-then-is_some-clause-does g c map admitted =
     let done = c.in_ok-place.ensures in
     subst (λ after. Does (IsList layout) (Insert which.List c.args.key) (with_set map old) after No)
     (sym (with_set-same map old (M.written c.find.new.mem) done.sets))
-    (does-no_insert c.args.key c.in_ok-place.place (done.finds map admitted) (sym c.is_some.ensures ∙ c.if-is_some.true))
+    (does-no_insert c.args.key c.in_ok-place.place (done.finds map admitted)
+    (sym c.is_some.ensures ∙ c.if-is_some.true))
 
 -- no node is free
 pub returns-then-number-eq0-clause-does : goal.returns-then-number-eq0-clause-does
@@ -32,13 +33,15 @@ returns-then-number-eq0-clause-does g c map admitted =
     let done = c.in_ok-place.ensures in
     let looked = c.in_ok-number.ensures in
     let same_find = with_set-same map old (M.written c.find.new.mem) done.sets in
-    let free_is : c.node_object-free.result ≡ free_object (list_begin layout) = omega (arith, c.node_object-free.ensures) in
+    let free_is : c.node_object-free.result ≡ free_object (list_begin layout) =
+    omega (arith, c.node_object-free.ensures) in
     let free = looked.next map admitted
     ∙ ap next_of (ap (λ x. value_at x c.node_object-free.result) same_find ∙ ap (value_at before) free_is) in
     subst (λ after. Does (IsList layout) (Insert which.List c.args.key) before after Full)
     (sym (with_set-same map old (M.written c.look.new.mem) (λ p. looked.sets p ∙ done.sets p)))
     (does-full c.args.key c.in_ok-number.field-0.next c.in_ok-place.place c.requires.valid c.requires.fits.0
-    (done.finds map (looked.narrows map admitted)) (sym c.is_some.ensures ∙ c.if-is_some.false) free c.if-number-eq0.true)
+    (done.finds map (looked.narrows map admitted))
+    (sym c.is_some.ensures ∙ c.if-is_some.false) free c.if-number-eq0.true)
 
 pub replace-requires-clause-list : goal.replace-requires-clause-list
 replace-requires-clause-list g c =
@@ -51,7 +54,8 @@ replace-requires-clause-list g c =
     let in_find = looked.narrows map admitted in
     let (store, list) = c.requires.lawful map (done.narrows map in_find) in
     let same_find = with_set-same map (M.written start) (M.written c.find.new.mem) done.sets in
-    let free_is : c.node_object-free.result ≡ free_object (list_begin layout) = omega (arith, c.node_object-free.ensures) in
+    let free_is : c.node_object-free.result ≡ free_object (list_begin layout) =
+    omega (arith, c.node_object-free.ensures) in
     let free = looked.next map admitted ∙ ap next_of (ap (λ x. value_at x c.node_object-free.result) same_find
     ∙ ap (value_at (with_set map (M.written start))) free_is) in
     subst (IsOfList layout) (sym c.node_object-object.ensures)
@@ -77,7 +81,8 @@ returns-clause-does g c map admitted =
     let in_find = looked.narrows map in_look in
     let before = with_set map (M.written start) in
     let same_find = with_set-same map (M.written start) (M.written c.find.new.mem) done.sets in
-    let same = with_set-same map (M.written start) (M.written c.look.new.mem) (λ p. looked.sets p ∙ done.sets p) in
+    let same =
+    with_set-same map (M.written start) (M.written c.look.new.mem) (λ p. looked.sets p ∙ done.sets p) in
     let size = g.met.M.Mem.admitted_length start map (done.narrows map in_find) in
     let in_map : tree_begin layout ≤ length before =
     omega (arith, size, c.requires.objects, length-with_set map (M.written start)) in
@@ -86,15 +91,21 @@ returns-clause-does g c map admitted =
     ∙ ap next_of (ap (λ x. value_at x c.node_object-free.result) same_find ∙ ap (value_at before) free_is) in
     let had = ap (value_at before) (sym c.node_object-object.ensures)
     ∙ ap (λ x. value_at x c.node_object-object.result) (sym same) ∙ one.had map in_one in
-    let filled = with_set-again map (M.written c.look.new.mem) (M.written c.replace.new.mem) c.node_object-object.result
+    let filled =
+    with_set-again map (M.written c.look.new.mem) (M.written c.replace.new.mem) c.node_object-object.result
     (node_object begin i) c.value.result (node c.args.key place.before.next) before one.written same
     c.node_object-object.ensures (c.value.ensures ∙ ap (λ k. node k place.before.next) c.from.ensures) in
-    let taken = with_set-again map (M.written c.replace.new.mem) (M.written c.replace-2.new.mem) c.node_object-free.result
-    (free_object begin) rest rest (slice_set before (node_object begin i) (node c.args.key place.before.next)) two.written
+    let taken =
+    with_set-again map (M.written c.replace.new.mem)
+    (M.written c.replace-2.new.mem) c.node_object-free.result
+    (free_object begin) rest rest
+    (slice_set before (node_object begin i) (node c.args.key place.before.next)) two.written
     filled free_is refl in
-    let linked = with_set-again map (M.written c.replace-2.new.mem) (M.written c.replace-3.new.mem) place.link place.link
+    let linked =
+    with_set-again map (M.written c.replace-2.new.mem) (M.written c.replace-3.new.mem) place.link place.link
     c.value-2.result (node place.before.key i)
-    (slice_set (slice_set before (node_object begin i) (node c.args.key place.before.next)) (free_object begin) rest)
+    (slice_set (slice_set before (node_object begin i) (node c.args.key place.before.next))
+    (free_object begin) rest)
     three.written taken refl c.value-2.ensures in
     subst (λ after. Does (IsList layout) (Insert which.List c.args.key) before after Yes) (sym linked)
     (does-insert c.args.key i place rest c.requires.valid c.requires.fits.0 in_map (done.finds map in_find)
@@ -104,7 +115,8 @@ pub returns-then-is_some-clause-few : goal.returns-then-is_some-clause-few
 returns-then-is_some-clause-few g c = (0, (0, λ p _ _ _. c.in_ok-place.ensures.sets p))
 
 pub returns-then-number-eq0-clause-few : goal.returns-then-number-eq0-clause-few
-returns-then-number-eq0-clause-few g c = (0, (0, λ p _ _ _. c.in_ok-number.ensures.sets p ∙ c.in_ok-place.ensures.sets p))
+returns-then-number-eq0-clause-few g c =
+    (0, (0, λ p _ _ _. c.in_ok-number.ensures.sets p ∙ c.in_ok-place.ensures.sets p))
 
 pub returns-clause-few : goal.returns-clause-few
 returns-clause-few g c =

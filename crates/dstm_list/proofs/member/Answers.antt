@@ -17,7 +17,8 @@ returns-then-is_some-clause-does g c map admitted =
     let done = c.in_ok-place.ensures in
     subst (λ after. Does (IsList layout) (Member which.List c.args.key) (with_set map old) after Yes)
     (sym (with_set-same map old (M.written c.find.new.mem) done.sets))
-    (does-member c.args.key c.in_ok-place.place true (done.finds map admitted) (sym c.is_some.ensures ∙ c.if-is_some.true))
+    (does-member c.args.key c.in_ok-place.place true (done.finds map admitted)
+    (sym c.is_some.ensures ∙ c.if-is_some.true))
 
 pub returns-clause-does : goal.returns-clause-does
 returns-clause-does g c map admitted =
@@ -27,4 +28,5 @@ returns-clause-does g c map admitted =
     let done = c.in_ok-place.ensures in
     subst (λ after. Does (IsList layout) (Member which.List c.args.key) (with_set map old) after No)
     (sym (with_set-same map old (M.written c.find.new.mem) done.sets))
-    (does-member c.args.key c.in_ok-place.place false (done.finds map admitted) (sym c.is_some.ensures ∙ c.if-is_some.false))
+    (does-member c.args.key c.in_ok-place.place false (done.finds map admitted)
+    (sym c.is_some.ensures ∙ c.if-is_some.false))

@@ -57,17 +57,23 @@ returns-clause-does g c map admitted =
     let free_is : c.node_object-free.result ≡ free_object begin = omega (arith, c.node_object-free.ensures) in
     let had = ap (value_at before) (sym free_is) ∙ ap (λ x. value_at x c.node_object-free.result) (sym same)
     ∙ one.had map in_one in
-    let freed = with_set-again map (M.written c.find.new.mem) (M.written c.replace.new.mem) c.node_object-free.result
+    let freed =
+    with_set-again map (M.written c.find.new.mem) (M.written c.replace.new.mem) c.node_object-free.result
     (free_object begin) c.value.result (node 0 i) before one.written same free_is c.value.ensures in
-    let filled = with_set-again map (M.written c.replace.new.mem) (M.written c.replace-2.new.mem) c.node_object-object.result
+    let filled =
+    with_set-again map (M.written c.replace.new.mem)
+    (M.written c.replace-2.new.mem) c.node_object-object.result
     (node_object begin i) rest rest (slice_set before (free_object begin) (node 0 i)) two.written freed
     c.node_object-object.ensures refl in
-    let linked = with_set-again map (M.written c.replace-2.new.mem) (M.written c.replace-3.new.mem) place.link place.link
+    let linked =
+    with_set-again map (M.written c.replace-2.new.mem) (M.written c.replace-3.new.mem) place.link place.link
     c.value-2.result (node place.before.key found.next)
-    (slice_set (slice_set before (free_object begin) (node 0 i)) (node_object begin i) rest) three.written filled
+    (slice_set (slice_set before (free_object begin) (node 0 i))
+    (node_object begin i) rest) three.written filled
     refl c.value-2.ensures in
     subst (λ after. Does (IsList layout) (Remove which.List c.args.key) before after Yes) (sym linked)
-    (does-remove c.args.key place found rest c.requires.fits.0 in_map (done.finds map in_find) c.in-Some.is done.link had)
+    (does-remove c.args.key place found rest c.requires.fits.0 in_map
+    (done.finds map in_find) c.in-Some.is done.link had)
 
 pub returns-in_default-clause-few : goal.returns-in_default-clause-few
 returns-in_default-clause-few g c = (0, (0, λ p _ _ _. c.in_ok-place.ensures.sets p))

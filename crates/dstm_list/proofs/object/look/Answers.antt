@@ -11,7 +11,8 @@ returns-clause-key g c map admitted =
     let opened = c.in_ok-value.ensures in
     let size = laws.admitted_length c.args.mem.now map (opened.narrows map admitted) in
     let found = value_at-opened map (M.written c.args.mem.now) (M.written mem) (M.held mem) c.args.object
-    c.in_ok-value.value (omega (arith, size, c.requires.objects, c.requires.list)) (laws.admitted_agrees mem map admitted)
+    c.in_ok-value.value (omega (arith, size, c.requires.objects, c.requires.list))
+    (laws.admitted_agrees mem map admitted)
     opened.written opened.value in
     c.of.ensures.key ∙ ap key_of (sym found)
 
@@ -23,14 +24,17 @@ returns-clause-next g c map admitted =
     let opened = c.in_ok-value.ensures in
     let size = laws.admitted_length c.args.mem.now map (opened.narrows map admitted) in
     let found = value_at-opened map (M.written c.args.mem.now) (M.written mem) (M.held mem) c.args.object
-    c.in_ok-value.value (omega (arith, size, c.requires.objects, c.requires.list)) (laws.admitted_agrees mem map admitted)
+    c.in_ok-value.value (omega (arith, size, c.requires.objects, c.requires.list))
+    (laws.admitted_agrees mem map admitted)
     opened.written opened.value in
     c.of.ensures.next ∙ ap next_of (sym found)
 
 pub returns-clause-holds : goal.returns-clause-holds
 returns-clause-holds g c p outside =
-    c.in_ok-value.ensures.held.others p (λ e. outside (subst (IsOfList c.args.layout.now) (sym e) c.requires.list))
+    c.in_ok-value.ensures.held.others p
+    (λ e. outside (subst (IsOfList c.args.layout.now) (sym e) c.requires.list))
 
 pub returns-clause-opens : goal.returns-clause-opens
 returns-clause-opens g c p outside =
-    c.in_ok-value.ensures.opened.others p (λ e. outside (subst (IsOfList c.args.layout.now) (sym e) c.requires.list))
+    c.in_ok-value.ensures.opened.others p
+    (λ e. outside (subst (IsOfList c.args.layout.now) (sym e) c.requires.list))

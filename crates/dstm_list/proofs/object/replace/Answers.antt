@@ -12,7 +12,8 @@ returns-clause-had g c map admitted =
     let in_opened = (c.set.ensures.admits map).0 admitted in
     let size = laws.admitted_length c.args.mem.now map (opened.narrows map in_opened) in
     value_at-opened map (M.written c.args.mem.now) (M.written mem) (M.held mem) c.args.object
-    c.in_ok-had.had (omega (arith, size, c.requires.objects, c.requires.list)) (laws.admitted_agrees mem map in_opened)
+    c.in_ok-had.had (omega (arith, size, c.requires.objects, c.requires.list))
+    (laws.admitted_agrees mem map in_opened)
     opened.written opened.value
 
 pub returns-clause-written : goal.returns-clause-written
@@ -25,15 +26,18 @@ returns-clause-written g c =
 
 pub returns-clause-sets : goal.returns-clause-sets
 returns-clause-sets g c p outside =
-    let other = λ (e : p ≡ c.args.object). outside (subst (IsOfList c.args.layout.now) (sym e) c.requires.list) in
+    let other =
+    λ (e : p ≡ c.args.object). outside (subst (IsOfList c.args.layout.now) (sym e) c.requires.list) in
     c.set.ensures.written.others p other ∙ c.in_ok-had.ensures.written p
 
 pub returns-clause-holds : goal.returns-clause-holds
 returns-clause-holds g c p outside =
-    let other = λ (e : p ≡ c.args.object). outside (subst (IsOfList c.args.layout.now) (sym e) c.requires.list) in
+    let other =
+    λ (e : p ≡ c.args.object). outside (subst (IsOfList c.args.layout.now) (sym e) c.requires.list) in
     c.set.ensures.held p ∙ c.in_ok-had.ensures.held.others p other
 
 pub returns-clause-opens : goal.returns-clause-opens
 returns-clause-opens g c p outside =
-    let other = λ (e : p ≡ c.args.object). outside (subst (IsOfList c.args.layout.now) (sym e) c.requires.list) in
+    let other =
+    λ (e : p ≡ c.args.object). outside (subst (IsOfList c.args.layout.now) (sym e) c.requires.list) in
     c.set.ensures.opened p ∙ c.in_ok-had.ensures.opened.others p other

@@ -24,11 +24,13 @@ nodes (suc (suc (suc i))) some below = absurd (omega (arith, below))
 pub steps-init : goal.steps-init
 steps-init g c =
     let made = c.in_ok-mem.ensures in
-    let list = list-opening layout values (λ _. record { head = refl; free = refl; nodes = nodes; last = refl }) in
+    let list =
+    list-opening layout values (λ _. record { head = refl; free = refl; nodes = nodes; last = refl }) in
     record {
       small = omega arith;
       objects = made.objects ∙ ap length c.in_ok-values.ensures.items;
       lawful = λ map is_map.
-          let start = with_set-nothing map _ made.unwritten ∙ (made.admits map).0 is_map ∙ c.in_ok-values.ensures.items in
+          let start = with_set-nothing map _ made.unwritten ∙ (made.admits map).0 is_map
+          ∙ c.in_ok-values.ensures.items in
           (opening_store layout, subst (λ x. IsList layout x (opening_store layout)) (sym start) list);
     }

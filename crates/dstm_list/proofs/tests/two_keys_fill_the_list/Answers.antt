@@ -23,6 +23,8 @@ nodes (suc (suc i)) some below = absurd (omega (arith, below))
 pub answer-requires-clause-lawful : goal.answer-requires-clause-lawful
 answer-requires-clause-lawful g c map is_map =
     let made = c.in_ok-mem.ensures in
-    let start = with_set-nothing map _ made.unwritten ∙ (made.admits map).0 is_map ∙ c.in_ok-values.ensures.items in
-    let list = list-opening layout values (λ _. record { head = refl; free = refl; nodes = nodes; last = refl }) in
+    let start = with_set-nothing map _ made.unwritten ∙ (made.admits map).0 is_map
+    ∙ c.in_ok-values.ensures.items in
+    let list =
+    list-opening layout values (λ _. record { head = refl; free = refl; nodes = nodes; last = refl }) in
     (opening_store layout, subst (λ x. IsList layout x (opening_store layout)) (sym start) list)

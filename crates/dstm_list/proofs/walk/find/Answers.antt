@@ -43,8 +43,11 @@ returns-then-node-from-clause-finds g c map admitted store list =
     let node = c.in_ok-node.node in
     let stands = so_far.stands map (opened.narrows map admitted) store list in
     let same = with_set-same map (M.written c.args.mem.now) (M.written c.loop-before.mem) so_far.sets in
-    let ahead = stands-seen (with_set map (M.written c.loop-before.mem)) c.node_object-object.result node c.requires.valid
-    list stands c.loop-before-test.true same c.node_object-object.ensures (opened.key map admitted) (opened.next map admitted) in
+    let ahead =
+    stands-seen
+    (with_set map (M.written c.loop-before.mem)) c.node_object-object.result node c.requires.valid
+    list stands c.loop-before-test.true same c.node_object-object.ensures (opened.key map admitted)
+    (opened.next map admitted) in
     place-found node stands ahead (c.if-node-from.true ∙ c.from.ensures)
 
 pub returns-then-node-from-2-clause-finds : goal.returns-then-node-from-2-clause-finds
@@ -55,8 +58,11 @@ returns-then-node-from-2-clause-finds g c map admitted store list =
     let node = c.in_ok-node.node in
     let stands = so_far.stands map (opened.narrows map admitted) store list in
     let same = with_set-same map (M.written c.args.mem.now) (M.written c.loop-before.mem) so_far.sets in
-    let ahead = stands-seen (with_set map (M.written c.loop-before.mem)) c.node_object-object.result node c.requires.valid
-    list stands c.loop-before-test.true same c.node_object-object.ensures (opened.key map admitted) (opened.next map admitted) in
+    let ahead =
+    stands-seen
+    (with_set map (M.written c.loop-before.mem)) c.node_object-object.result node c.requires.valid
+    list stands c.loop-before-test.true same c.node_object-object.ensures (opened.key map admitted)
+    (opened.next map admitted) in
     place-passed node list stands ahead (omega (arith, c.if-node-from-2.true, c.from-in-loop-before.ensures))
 
 pub loop-before-smaller : goal.loop-before-smaller
@@ -71,10 +77,19 @@ loop-before-smaller g c =
     let (store, list) = c.requires.lawful map (so_far.narrows map in_loop) in
     let stands = so_far.stands map in_loop store list in
     let same = with_set-same map (M.written c.args.mem.now) (M.written c.loop-before.mem) so_far.sets in
-    let ahead = stands-seen (with_set map (M.written c.loop-before.mem)) c.node_object-object.result node c.requires.valid
-    list stands c.loop-before-test.true same c.node_object-object.ensures (opened.key map admitted) (opened.next map admitted) in
+    let ahead =
+    stands-seen
+    (with_set map (M.written c.loop-before.mem)) c.node_object-object.result node c.requires.valid
+    list stands c.loop-before-test.true same c.node_object-object.ensures (opened.key map admitted)
+    (opened.next map admitted) in
     let less : node.key < c.args.key =
-    omega (arith, c.if-node-from.false, c.from.ensures, c.if-node-from-2.false, c.from-in-loop-before.ensures) in
+    omega (
+      arith,
+      c.if-node-from.false,
+      c.from.ensures,
+      c.if-node-from-2.false,
+      c.from-in-loop-before.ensures,
+    ) in
     subst (λ o. left begin c.args.key o node.key < left begin c.args.key c.loop-before.link c.loop-before.before.key)
     (sym c.node_object-object.ensures) (left-less node list stands ahead less)
 
@@ -89,7 +104,13 @@ loop-before-preserved g c =
     let (some_store, some_list) = c.requires.lawful some (so_far.narrows some allowed) in
     let within = next_within some_list (so_far.stands some allowed some_store some_list) in
     let less : node.key < c.args.key =
-    omega (arith, c.if-node-from.false, c.from.ensures, c.if-node-from-2.false, c.from-in-loop-before.ensures) in
+    omega (
+      arith,
+      c.if-node-from.false,
+      c.from.ensures,
+      c.if-node-from-2.false,
+      c.from-in-loop-before.ensures,
+    ) in
     record {
       live = opened.live;
       place = opened.place ∙ so_far.place;
@@ -104,8 +125,11 @@ loop-before-preserved g c =
       stands = λ map admitted store list.
           let stands = so_far.stands map (opened.narrows map admitted) store list in
           let same = with_set-same map (M.written c.args.mem.now) (M.written c.loop-before.mem) so_far.sets in
-          let ahead = stands-seen (with_set map (M.written c.loop-before.mem)) c.node_object-object.result node c.requires.valid
-          list stands c.loop-before-test.true same c.node_object-object.ensures (opened.key map admitted) (opened.next map admitted) in
+          let ahead =
+          stands-seen
+          (with_set map (M.written c.loop-before.mem)) c.node_object-object.result node c.requires.valid
+          list stands c.loop-before-test.true same c.node_object-object.ensures (opened.key map admitted)
+          (opened.next map admitted) in
           subst (λ o. Stands (list_begin layout) c.args.key o node list.cells)
           (sym c.node_object-object.ensures) (stands-on node stands ahead less);
     }
