@@ -1,2 +1,4 @@
-pub mod Text
+pub mod Answers
 pub mod Lawful
+pub mod Reading
+pub mod Text

@@ -1,6 +1,7 @@
-ghost use Rattle.std.specs.Prelude.{◌≡◌};
+ghost use Rattle.std.specs.Prelude.{◌≡◌, [], ◌∷◌, ◌++◌, OnOk, OnErr};
 
 use dstm_model::{Items, Numbers, Replies};
+use std::alloc::AllocFailed;
 use std::marker::Model;
 
 /// What one committed transaction answered.
@@ -38,6 +39,13 @@ impl Rows {
         ensures { result ≡ items.items }
     {
         Rows { items }
+    }
+
+    pub fn push(&mut self, row: Row) -> Result<(), AllocFailed<Row>>
+        ensures ok { OnOk result (self.new ≡ self.old ++ row ∷ []) }
+        ensures err { OnErr result (self.new ≡ self.old) }
+    {
+        self.items.push(row)
     }
 
     pub fn as_slice(&self) -> &[Row]

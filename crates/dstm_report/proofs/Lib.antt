@@ -1,0 +1,4 @@
+pub mod LineCount
+pub mod Onto
+pub mod RoundTrip
+pub mod Words
