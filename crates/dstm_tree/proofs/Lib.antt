@@ -1,0 +1,17 @@
+pub mod Items
+pub mod Sizes
+pub mod Nodes
+pub mod Search
+pub mod Kept
+pub mod Attach
+pub mod Leaves
+pub mod Placing
+pub mod Whole
+pub mod Changed
+pub mod Lift
+pub mod Falls
+pub mod Close
+pub mod Least
+pub mod Removing
+pub mod Taking
+pub mod Opening

@@ -1,0 +1,94 @@
+-- How many nodes a tree and a free chain have, where each of n numbers stands in one of them, once.
+use Rattle.std.proofs.Common.{◌≡◌, ℕ, zero, suc, ◌+◌, ◌<◌, ◌≤◌, List, [], ◌∷◌, length, arith, refl, ap, inl, inr, eq-eqb, length-append}
+use Rattle.std.specs.Prelude.{cond, ◌==◌, count_by}
+use Rattle.std.proofs.lemmas.Bool.{cases_eq, ne_eqb}
+use Rattle.std.proofs.lemmas.List.Sums.{sum_by-cons}
+use Rattle.dstm_model.specs.declared.value.Val.{Val}
+use Rattle.dstm_model.specs.declared.layout.Layout.{Layout}
+use Rattle.dstm_tree.specs.Tree.{Tree, leaf, node, items_of, count_of}
+use Rattle.dstm_tree.specs.Objects.{Holds, IsChain}
+
+-- f 1 + .. + f n
+total : ℕ → (ℕ → ℕ) → ℕ
+total zero f = 0
+total (suc n) f = total n f + f (suc n)
+
+total-add : (n : ℕ) (f g : ℕ → ℕ) → total n (λ i. f i + g i) ≡ total n f + total n g
+unfolding total
+total-add zero f g = refl
+total-add (suc n) f g = omega (arith, total-add n f g)
+
+total-same : (n : ℕ) (f g : ℕ → ℕ) → ((i : ℕ) → 0 < i → i ≤ n → f i ≡ g i) → total n f ≡ total n g
+unfolding total
+total-same zero f g same = refl
+total-same (suc n) f g same =
+    let here : f (suc n) ≡ g (suc n) = same (suc n) (omega arith) (omega arith) in
+    let before = total-same n f g (λ i least most. same i least (omega (arith, most))) in
+    omega (arith, here, before)
+
+total-none : (n : ℕ) → total n (λ i. 0) ≡ 0
+unfolding total
+total-none zero = refl
+total-none (suc n) = omega (arith, total-none n)
+
+total-ones : (n : ℕ) → total n (λ i. 1) ≡ n
+unfolding total
+total-ones zero = refl
+total-ones (suc n) = omega (arith, total-ones n)
+
+-- how many of one node have number i
+abbrev mark : ℕ → ℕ → ℕ
+mark j i = cond (j == i) 1 0
+
+total-mark : (n j : ℕ) → 0 < j → j ≤ n → total n (mark j) ≡ 1
+unfolding total
+total-mark zero j least most = absurd (omega (arith, least, most))
+total-mark (suc n) j least most =
+    elim (cases_eq j (suc n)) [
+      | inl same ↦
+          let before : total n (mark j) ≡ total n (λ i. 0) =
+          total-same n (mark j) (λ i. 0) (λ i _ below. ap (λ b. cond b 1 0) (ne_eqb j i (λ e. omega (arith, e, same, below)))) in
+          let none : total n (λ i. 0) ≡ 0 = total-none n in
+          let here : mark j (suc n) ≡ 1 = ap (λ b. cond b 1 0) (eq-eqb j (suc n) same) in
+          omega (arith, before, none, here)
+      | inr other ↦
+          let here : mark j (suc n) ≡ 0 = ap (λ b. cond b 1 0) (ne_eqb j (suc n) other) in
+          omega (arith, total-mark n j least (omega (arith, most, other)), here)
+    ]
+
+total-tree : (layout : Layout) (map : List Val) (t : Tree) → Holds layout map t → total layout.tree (λ i. count_of i t) ≡ length (items_of t)
+total-tree layout map leaf nodes = total-none layout.tree
+total-tree layout map (node n red l k v r) nodes =
+    let size = layout.tree in
+    let root = total-mark size n nodes.0 nodes.1 in
+    let left = total-tree layout map l nodes.3 in
+    let right = total-tree layout map r nodes.4 in
+    let outer = total-add size (λ i. cond (n == i) 1 0 + count_of i l) (λ i. count_of i r) in
+    let inner = total-add size (λ i. cond (n == i) 1 0) (λ i. count_of i l) in
+    omega (arith, root, left, right, outer, inner, length-append (items_of l) ((k, v) ∷ items_of r))
+
+total-chain : (layout : Layout) (map : List Val) (free : List ℕ) → IsChain layout map free →
+    total layout.tree (λ i. count_by (λ j. j == i) free) ≡ length free
+total-chain layout map [] chain = total-none layout.tree
+total-chain layout map (n ∷ free) chain =
+    let size = layout.tree in
+    let first = total-mark size n chain.0 chain.1 in
+    let rest = total-chain layout map free chain.3 in
+    let split = total-same size (λ i. count_by (λ j. j == i) (n ∷ free)) (λ i. cond (n == i) 1 0 + count_by (λ j. j == i) free)
+    (λ i _ _. sum_by-cons (λ j. cond (j == i) 1 0) n free) in
+    omega (arith, first, rest, split, total-add size (λ i. cond (n == i) 1 0) (λ i. count_by (λ j. j == i) free))
+
+pub size_all : (layout : Layout) (map : List Val) (t : Tree) (free : List ℕ) → Holds layout map t → IsChain layout map free →
+    ((i : ℕ) → 0 < i → i ≤ layout.tree → count_of i t + count_by (λ j. j == i) free ≡ 1) →
+    length (items_of t) + length free ≡ layout.tree
+size_all layout map t free nodes chain once =
+    let size = layout.tree in
+    let all = total-same size (λ i. count_of i t + count_by (λ j. j == i) free) (λ i. 1) once in
+    omega (
+      arith,
+      all,
+      total-ones size,
+      total-add size (λ i. count_of i t) (λ i. count_by (λ j. j == i) free),
+      total-tree layout map t nodes,
+      total-chain layout map free chain,
+    )

@@ -1,0 +1,5 @@
+pub mod Tree
+pub mod Objects
+pub mod Node
+pub mod Place
+pub mod Remove

@@ -1,0 +1,801 @@
+ghost use Rattle.std.specs.Prelude.{◌≡◌, ℕ, ◌<◌, ◌≤◌, List, IsTrue, false, Some, IfSome, IfOk, OnOk, IfErr, slice_set};
+ghost use Rattle.dstm_model.specs.declared.value.Val.{Val};
+ghost use Rattle.dstm_model.specs.Map.{value_at};
+ghost use Rattle.dstm_model.specs.Layout.{IsValid, FitsLayout};
+ghost use Rattle.dstm_model.specs.Store.{Store};
+ghost use Rattle.dstm_model.specs.Objects.{objects_of, tree_begin, plain, Does};
+ghost use Rattle.dstm_mem.specs.Memory.{with_set};
+ghost use Rattle.dstm_tree.specs.Objects.{root_of, free_of, object_of, IsTree};
+ghost use Rattle.dstm_tree.specs.Node.{HasTree, FitsNode, Subtree, tree_of, val_of};
+ghost use Rattle.dstm_tree.specs.Remove.{LeftGap, RightGap, LeftFall, RightFall, ClosesLeft, ClosesRight, LiftsLeft, LiftsRight, FindsRed, Hoists, TakesLeast, Removes, RemovesIf, Root};
+
+use crate::cells::{
+    free_object, node_object, read, read_node, read_root, root_object, write, write_node,
+};
+use crate::node::Node;
+use dstm_mem::Mem;
+use dstm_model::{Layout, Op, Reply, Val, Which};
+
+/// Takes a key out, if it is there. Its node becomes the first free one.
+pub fn remove<M: Mem>(mem: &mut M, layout: &Layout, key: u32) -> Result<Reply, M::Err>
+    requires valid { IsValid layout.now }
+    requires fits { FitsLayout layout.now (Op.Remove Which.Tree key) }
+    requires objects { M.objects mem.old ≡ objects_of layout.now }
+    requires live { IsTrue (M.is_live mem.old) }
+    requires lawful { (map : List Val) → M.Admits mem.old map →
+        (store : Store) × IsTree layout.now (with_set map (M.written mem.old)) store }
+
+    ensures does { IfOk result (λ reply. (map : List Val) → M.Admits mem.new map →
+        Does (IsTree layout.now) (Op.Remove Which.Tree key)
+        (with_set map (M.written mem.old)) (with_set map (M.written mem.new)) reply) }
+    ensures outside { OnOk result ((p : ℕ) → p < tree_begin layout.now →
+        (M.written mem.new p ≡ M.written mem.old p) × (M.held mem.new p ≡ M.held mem.old p)
+        × (M.is_opened mem.new p ≡ M.is_opened mem.old p)) }
+
+    ensures place { M.place mem.new ≡ M.place mem.old }
+    ensures objects { M.objects mem.new ≡ M.objects mem.old }
+    ensures narrows { (map : List Val) → M.Admits mem.new map → M.Admits mem.old map }
+    ensures admits { OnOk result ((map : List Val) × M.Admits mem.new map) }
+    ensures live { OnOk result (IsTrue (M.is_live mem.new)) }
+    ensures ended { IfErr result (λ e. (M.is_live mem.new ≡ false) × (M.error mem.new ≡ Some e)) }
+{
+    let root = read_root(mem, layout)?;
+    let found = remove_below(mem, layout, root, key, layout.tree)?;
+    let Some(removed) = found else {
+        return Ok(Reply::No);
+    };
+    give_back(mem, layout, removed.number)?;
+    update_root(mem, layout, root, removed.cut.root)?;
+    Ok(Reply::Yes)
+}
+
+// Puts a node in front of the free chain.
+fn give_back<M: Mem>(mem: &mut M, layout: &Layout, number: u16) -> Result<(), M::Err>
+    requires within { number ≤ layout.now.tree }
+    requires tree { HasTree layout.now }
+    requires objects { M.objects mem.old ≡ objects_of layout.now }
+    requires live { IsTrue (M.is_live mem.old) }
+
+    ensures writes { OnOk result ((map : List Val) → M.Admits mem.new map →
+        with_set map (M.written mem.new) ≡
+        slice_set (slice_set (with_set map (M.written mem.old)) (object_of layout.now number)
+        (value_at (with_set map (M.written mem.old)) (free_of layout.now))) (free_of layout.now) (plain number)) }
+    ensures outside { OnOk result ((p : ℕ) → p < tree_begin layout.now →
+        (M.written mem.new p ≡ M.written mem.old p) × (M.held mem.new p ≡ M.held mem.old p)
+        × (M.is_opened mem.new p ≡ M.is_opened mem.old p)) }
+
+    ensures place { M.place mem.new ≡ M.place mem.old }
+    ensures objects { M.objects mem.new ≡ M.objects mem.old }
+    ensures narrows { (map : List Val) → M.Admits mem.new map → M.Admits mem.old map }
+    ensures admits { OnOk result ((map : List Val) × M.Admits mem.new map) }
+    ensures live { OnOk result (IsTrue (M.is_live mem.new)) }
+    ensures ended { IfErr result (λ e. (M.is_live mem.new ≡ false) × (M.error mem.new ≡ Some e)) }
+{
+    let first = read(mem, layout, free_object(layout))?;
+    write(mem, layout, node_object(layout, number), first)?;
+    let name = Val {
+        low: u64::from(number),
+        high: 0,
+    };
+    write(mem, layout, free_object(layout), name)?;
+    Ok(())
+}
+
+// Names the root, unless it is named as it is to be.
+fn update_root<M: Mem>(mem: &mut M, layout: &Layout, held: u16, root: u16) -> Result<(), M::Err>
+    requires tree { HasTree layout.now }
+    requires objects { M.objects mem.old ≡ objects_of layout.now }
+    requires live { IsTrue (M.is_live mem.old) }
+    requires admits { (map : List Val) × M.Admits mem.old map }
+
+    ensures writes { OnOk result ((map : List Val) → M.Admits mem.new map →
+        value_at (with_set map (M.written mem.old)) (root_of layout.now) ≡ plain held →
+        with_set map (M.written mem.new) ≡
+        slice_set (with_set map (M.written mem.old)) (root_of layout.now) (plain root)) }
+    ensures outside { OnOk result ((p : ℕ) → p < tree_begin layout.now →
+        (M.written mem.new p ≡ M.written mem.old p) × (M.held mem.new p ≡ M.held mem.old p)
+        × (M.is_opened mem.new p ≡ M.is_opened mem.old p)) }
+
+    ensures place { M.place mem.new ≡ M.place mem.old }
+    ensures objects { M.objects mem.new ≡ M.objects mem.old }
+    ensures narrows { (map : List Val) → M.Admits mem.new map → M.Admits mem.old map }
+    ensures admits { OnOk result ((map : List Val) × M.Admits mem.new map) }
+    ensures live { OnOk result (IsTrue (M.is_live mem.new)) }
+    ensures ended { IfErr result (λ e. (M.is_live mem.new ≡ false) × (M.error mem.new ≡ Some e)) }
+{
+    if root == held {
+        return Ok(());
+    }
+    let name = Val {
+        low: u64::from(root),
+        high: 0,
+    };
+    write(mem, layout, root_object(layout), name)?;
+    Ok(())
+}
+
+// What is left of a subtree.
+#[derive(Clone, Copy, Debug)]
+pub(crate) struct Cut {
+    // The number of its root, 0 where nothing is left.
+    pub(crate) root: u16,
+    // On each way down from it there is one black node less than before.
+    pub(crate) fell: bool,
+}
+
+// The node with the least key, which was taken out of a subtree, and what is left of it.
+#[derive(Clone, Copy, Debug)]
+pub(crate) struct Least {
+    pub(crate) node: Node,
+    pub(crate) cut: Cut,
+}
+
+// The number of a node that was taken out of a subtree, and what is left of it.
+#[derive(Clone, Copy, Debug)]
+pub(crate) struct Removed {
+    pub(crate) number: u16,
+    pub(crate) cut: Cut,
+}
+
+// Reads a child, if there is one, and answers it if it is red.
+fn read_red<M: Mem>(mem: &mut M, layout: &Layout, number: u16) -> Result<Option<Node>, M::Err>
+    requires number { number ≤ layout.now.tree }
+    requires tree { HasTree layout.now }
+    requires objects { M.objects mem.old ≡ objects_of layout.now }
+    requires live { IsTrue (M.is_live mem.old) }
+    requires admits { (map : List Val) × M.Admits mem.old map }
+
+    ensures finds { IfOk result (λ found. (map : List Val) → M.Admits mem.new map →
+        FindsRed layout.now (with_set map (M.written mem.old)) number found) }
+    ensures fits { IfOk result (λ found. IfSome found (λ node. FitsNode layout.now node)) }
+    ensures sets { OnOk result ((p : ℕ) → M.written mem.new p ≡ M.written mem.old p) }
+    ensures outside { OnOk result ((p : ℕ) → p < tree_begin layout.now →
+        (M.written mem.new p ≡ M.written mem.old p) × (M.held mem.new p ≡ M.held mem.old p)
+        × (M.is_opened mem.new p ≡ M.is_opened mem.old p)) }
+
+    ensures place { M.place mem.new ≡ M.place mem.old }
+    ensures objects { M.objects mem.new ≡ M.objects mem.old }
+    ensures narrows { (map : List Val) → M.Admits mem.new map → M.Admits mem.old map }
+    ensures admits { OnOk result ((map : List Val) × M.Admits mem.new map) }
+    ensures live { OnOk result (IsTrue (M.is_live mem.new)) }
+    ensures ended { IfErr result (λ e. (M.is_live mem.new ≡ false) × (M.error mem.new ≡ Some e)) }
+{
+    if number == 0 {
+        return Ok(None);
+    }
+    let node = read_node(mem, layout, number)?;
+    if node.red {
+        return Ok(Some(node));
+    }
+    Ok(None)
+}
+
+// Writes a node, unless it is held as it is to be.
+fn update_node<M: Mem>(mem: &mut M, layout: &Layout, held: Node, node: Node) -> Result<(), M::Err>
+    requires fits { FitsNode layout.now node }
+    requires number { held.number ≡ node.number }
+    requires tree { HasTree layout.now }
+    requires objects { M.objects mem.old ≡ objects_of layout.now }
+    requires live { IsTrue (M.is_live mem.old) }
+    requires admits { (map : List Val) × M.Admits mem.old map }
+
+    ensures writes { OnOk result ((map : List Val) → M.Admits mem.new map →
+        value_at (with_set map (M.written mem.old)) (object_of layout.now node.number) ≡ val_of held →
+        with_set map (M.written mem.new) ≡
+        slice_set (with_set map (M.written mem.old)) (object_of layout.now node.number) (val_of node)) }
+    ensures outside { OnOk result ((p : ℕ) → p < tree_begin layout.now →
+        (M.written mem.new p ≡ M.written mem.old p) × (M.held mem.new p ≡ M.held mem.old p)
+        × (M.is_opened mem.new p ≡ M.is_opened mem.old p)) }
+
+    ensures place { M.place mem.new ≡ M.place mem.old }
+    ensures objects { M.objects mem.new ≡ M.objects mem.old }
+    ensures narrows { (map : List Val) → M.Admits mem.new map → M.Admits mem.old map }
+    ensures admits { OnOk result ((map : List Val) × M.Admits mem.new map) }
+    ensures live { OnOk result (IsTrue (M.is_live mem.new)) }
+    ensures ended { IfErr result (λ e. (M.is_live mem.new ≡ false) × (M.error mem.new ≡ Some e)) }
+{
+    if node == held {
+        return Ok(());
+    }
+    write_node(mem, layout, node)?;
+    Ok(())
+}
+
+// Writes a node and its two children.
+fn arrange<M: Mem>(
+    mem: &mut M,
+    layout: &Layout,
+    one: Node,
+    top: Node,
+    other: Node,
+) -> Result<(), M::Err>
+    requires one { FitsNode layout.now one }
+    requires top { FitsNode layout.now top }
+    requires other { FitsNode layout.now other }
+    requires tree { HasTree layout.now }
+    requires objects { M.objects mem.old ≡ objects_of layout.now }
+    requires live { IsTrue (M.is_live mem.old) }
+
+    ensures writes { OnOk result ((map : List Val) → M.Admits mem.new map →
+        with_set map (M.written mem.new) ≡
+        slice_set (slice_set (slice_set (with_set map (M.written mem.old))
+        (object_of layout.now one.number) (val_of one))
+        (object_of layout.now other.number) (val_of other))
+        (object_of layout.now top.number) (val_of top)) }
+    ensures outside { OnOk result ((p : ℕ) → p < tree_begin layout.now →
+        (M.written mem.new p ≡ M.written mem.old p) × (M.held mem.new p ≡ M.held mem.old p)
+        × (M.is_opened mem.new p ≡ M.is_opened mem.old p)) }
+
+    ensures place { M.place mem.new ≡ M.place mem.old }
+    ensures objects { M.objects mem.new ≡ M.objects mem.old }
+    ensures narrows { (map : List Val) → M.Admits mem.new map → M.Admits mem.old map }
+    ensures admits { OnOk result ((map : List Val) × M.Admits mem.new map) }
+    ensures live { OnOk result (IsTrue (M.is_live mem.new)) }
+    ensures ended { IfErr result (λ e. (M.is_live mem.new ≡ false) × (M.error mem.new ≡ Some e)) }
+{
+    write_node(mem, layout, one)?;
+    write_node(mem, layout, other)?;
+    write_node(mem, layout, top)?;
+    Ok(())
+}
+
+// Balances a node whose left subtree has fallen, and whose other child, the sibling, is black.
+fn lift_left<M: Mem>(
+    mem: &mut M,
+    layout: &Layout,
+    held: Node,
+    parent: Node,
+    sibling: Node,
+) -> Result<Cut, M::Err>
+    requires parent { FitsNode layout.now parent }
+    requires sibling { FitsNode layout.now sibling }
+    requires number { held.number ≡ parent.number }
+    requires tree { HasTree layout.now }
+    requires objects { M.objects mem.old ≡ objects_of layout.now }
+    requires live { IsTrue (M.is_live mem.old) }
+    requires lawful { (map : List Val) → M.Admits mem.old map →
+        LeftFall layout.now (with_set map (M.written mem.old)) held parent sibling }
+    requires admits { (map : List Val) × M.Admits mem.old map }
+
+    ensures does { IfOk result (λ cut. (map : List Val) → M.Admits mem.new map →
+        LiftsLeft layout.now held parent sibling (with_set map (M.written mem.old)) (with_set map (M.written mem.new)) cut) }
+    ensures outside { OnOk result ((p : ℕ) → p < tree_begin layout.now →
+        (M.written mem.new p ≡ M.written mem.old p) × (M.held mem.new p ≡ M.held mem.old p)
+        × (M.is_opened mem.new p ≡ M.is_opened mem.old p)) }
+
+    ensures place { M.place mem.new ≡ M.place mem.old }
+    ensures objects { M.objects mem.new ≡ M.objects mem.old }
+    ensures narrows { (map : List Val) → M.Admits mem.new map → M.Admits mem.old map }
+    ensures admits { OnOk result ((map : List Val) × M.Admits mem.new map) }
+    ensures live { OnOk result (IsTrue (M.is_live mem.new)) }
+    ensures ended { IfErr result (λ e. (M.is_live mem.new ≡ false) × (M.error mem.new ≡ Some e)) }
+{
+    let far = read_red(mem, layout, sibling.right)?;
+    if let Some(outer) = far {
+        let low = Node {
+            red: false,
+            right: sibling.left,
+            ..parent
+        };
+        let top = Node {
+            red: parent.red,
+            left: parent.number,
+            ..sibling
+        };
+        arrange(
+            mem,
+            layout,
+            low,
+            top,
+            Node {
+                red: false,
+                ..outer
+            },
+        )?;
+        return Ok(Cut {
+            root: top.number,
+            fell: false,
+        });
+    }
+    let near = read_red(mem, layout, sibling.left)?;
+    if let Some(inner) = near {
+        let low = Node {
+            red: false,
+            right: inner.left,
+            ..parent
+        };
+        let top = Node {
+            red: parent.red,
+            left: parent.number,
+            right: sibling.number,
+            ..inner
+        };
+        arrange(
+            mem,
+            layout,
+            low,
+            top,
+            Node {
+                left: inner.right,
+                ..sibling
+            },
+        )?;
+        return Ok(Cut {
+            root: top.number,
+            fell: false,
+        });
+    }
+    write_node(
+        mem,
+        layout,
+        Node {
+            red: true,
+            ..sibling
+        },
+    )?;
+    update_node(
+        mem,
+        layout,
+        held,
+        Node {
+            red: false,
+            ..parent
+        },
+    )?;
+    Ok(Cut {
+        root: parent.number,
+        fell: !parent.red,
+    })
+}
+
+// Balances a node whose right subtree has fallen, and whose other child, the sibling, is black.
+fn lift_right<M: Mem>(
+    mem: &mut M,
+    layout: &Layout,
+    held: Node,
+    parent: Node,
+    sibling: Node,
+) -> Result<Cut, M::Err>
+    requires parent { FitsNode layout.now parent }
+    requires sibling { FitsNode layout.now sibling }
+    requires number { held.number ≡ parent.number }
+    requires tree { HasTree layout.now }
+    requires objects { M.objects mem.old ≡ objects_of layout.now }
+    requires live { IsTrue (M.is_live mem.old) }
+    requires lawful { (map : List Val) → M.Admits mem.old map →
+        RightFall layout.now (with_set map (M.written mem.old)) held parent sibling }
+    requires admits { (map : List Val) × M.Admits mem.old map }
+
+    ensures does { IfOk result (λ cut. (map : List Val) → M.Admits mem.new map →
+        LiftsRight layout.now held parent sibling (with_set map (M.written mem.old)) (with_set map (M.written mem.new)) cut) }
+    ensures outside { OnOk result ((p : ℕ) → p < tree_begin layout.now →
+        (M.written mem.new p ≡ M.written mem.old p) × (M.held mem.new p ≡ M.held mem.old p)
+        × (M.is_opened mem.new p ≡ M.is_opened mem.old p)) }
+
+    ensures place { M.place mem.new ≡ M.place mem.old }
+    ensures objects { M.objects mem.new ≡ M.objects mem.old }
+    ensures narrows { (map : List Val) → M.Admits mem.new map → M.Admits mem.old map }
+    ensures admits { OnOk result ((map : List Val) × M.Admits mem.new map) }
+    ensures live { OnOk result (IsTrue (M.is_live mem.new)) }
+    ensures ended { IfErr result (λ e. (M.is_live mem.new ≡ false) × (M.error mem.new ≡ Some e)) }
+{
+    let far = read_red(mem, layout, sibling.left)?;
+    if let Some(outer) = far {
+        let low = Node {
+            red: false,
+            left: sibling.right,
+            ..parent
+        };
+        let top = Node {
+            red: parent.red,
+            right: parent.number,
+            ..sibling
+        };
+        arrange(
+            mem,
+            layout,
+            low,
+            top,
+            Node {
+                red: false,
+                ..outer
+            },
+        )?;
+        return Ok(Cut {
+            root: top.number,
+            fell: false,
+        });
+    }
+    let near = read_red(mem, layout, sibling.right)?;
+    if let Some(inner) = near {
+        let low = Node {
+            red: false,
+            left: inner.right,
+            ..parent
+        };
+        let top = Node {
+            red: parent.red,
+            right: parent.number,
+            left: sibling.number,
+            ..inner
+        };
+        arrange(
+            mem,
+            layout,
+            low,
+            top,
+            Node {
+                right: inner.left,
+                ..sibling
+            },
+        )?;
+        return Ok(Cut {
+            root: top.number,
+            fell: false,
+        });
+    }
+    write_node(
+        mem,
+        layout,
+        Node {
+            red: true,
+            ..sibling
+        },
+    )?;
+    update_node(
+        mem,
+        layout,
+        held,
+        Node {
+            red: false,
+            ..parent
+        },
+    )?;
+    Ok(Cut {
+        root: parent.number,
+        fell: !parent.red,
+    })
+}
+
+// Balances a node whose left subtree may have fallen: the node as it is held, and as it is to be.
+fn close_left<M: Mem>(
+    mem: &mut M,
+    layout: &Layout,
+    held: Node,
+    parent: Node,
+    fell: bool,
+) -> Result<Cut, M::Err>
+    requires parent { FitsNode layout.now parent }
+    requires number { held.number ≡ parent.number }
+    requires tree { HasTree layout.now }
+    requires objects { M.objects mem.old ≡ objects_of layout.now }
+    requires live { IsTrue (M.is_live mem.old) }
+    requires lawful { (map : List Val) → M.Admits mem.old map →
+        LeftGap layout.now (with_set map (M.written mem.old)) held parent fell }
+    requires admits { (map : List Val) × M.Admits mem.old map }
+
+    ensures does { IfOk result (λ cut. (map : List Val) → M.Admits mem.new map →
+        ClosesLeft layout.now held parent fell (with_set map (M.written mem.old)) (with_set map (M.written mem.new)) cut) }
+    ensures outside { OnOk result ((p : ℕ) → p < tree_begin layout.now →
+        (M.written mem.new p ≡ M.written mem.old p) × (M.held mem.new p ≡ M.held mem.old p)
+        × (M.is_opened mem.new p ≡ M.is_opened mem.old p)) }
+
+    ensures place { M.place mem.new ≡ M.place mem.old }
+    ensures objects { M.objects mem.new ≡ M.objects mem.old }
+    ensures narrows { (map : List Val) → M.Admits mem.new map → M.Admits mem.old map }
+    ensures admits { OnOk result ((map : List Val) × M.Admits mem.new map) }
+    ensures live { OnOk result (IsTrue (M.is_live mem.new)) }
+    ensures ended { IfErr result (λ e. (M.is_live mem.new ≡ false) × (M.error mem.new ≡ Some e)) }
+{
+    if !fell {
+        update_node(mem, layout, held, parent)?;
+        return Ok(Cut {
+            root: parent.number,
+            fell: false,
+        });
+    }
+    let sibling = read_node(mem, layout, parent.right)?;
+    if !sibling.red {
+        let cut = lift_left(mem, layout, held, parent, sibling)?;
+        return Ok(cut);
+    }
+    let near = read_node(mem, layout, sibling.left)?;
+    let below = Node {
+        red: true,
+        right: sibling.left,
+        ..parent
+    };
+    let cut = lift_left(mem, layout, held, below, near)?;
+    write_node(
+        mem,
+        layout,
+        Node {
+            red: false,
+            left: cut.root,
+            ..sibling
+        },
+    )?;
+    Ok(Cut {
+        root: sibling.number,
+        fell: false,
+    })
+}
+
+// Balances a node whose right subtree may have fallen: the node as it is held, and as it is to be.
+fn close_right<M: Mem>(
+    mem: &mut M,
+    layout: &Layout,
+    held: Node,
+    parent: Node,
+    fell: bool,
+) -> Result<Cut, M::Err>
+    requires parent { FitsNode layout.now parent }
+    requires number { held.number ≡ parent.number }
+    requires tree { HasTree layout.now }
+    requires objects { M.objects mem.old ≡ objects_of layout.now }
+    requires live { IsTrue (M.is_live mem.old) }
+    requires lawful { (map : List Val) → M.Admits mem.old map →
+        RightGap layout.now (with_set map (M.written mem.old)) held parent fell }
+    requires admits { (map : List Val) × M.Admits mem.old map }
+
+    ensures does { IfOk result (λ cut. (map : List Val) → M.Admits mem.new map →
+        ClosesRight layout.now held parent fell (with_set map (M.written mem.old)) (with_set map (M.written mem.new)) cut) }
+    ensures outside { OnOk result ((p : ℕ) → p < tree_begin layout.now →
+        (M.written mem.new p ≡ M.written mem.old p) × (M.held mem.new p ≡ M.held mem.old p)
+        × (M.is_opened mem.new p ≡ M.is_opened mem.old p)) }
+
+    ensures place { M.place mem.new ≡ M.place mem.old }
+    ensures objects { M.objects mem.new ≡ M.objects mem.old }
+    ensures narrows { (map : List Val) → M.Admits mem.new map → M.Admits mem.old map }
+    ensures admits { OnOk result ((map : List Val) × M.Admits mem.new map) }
+    ensures live { OnOk result (IsTrue (M.is_live mem.new)) }
+    ensures ended { IfErr result (λ e. (M.is_live mem.new ≡ false) × (M.error mem.new ≡ Some e)) }
+{
+    if !fell {
+        update_node(mem, layout, held, parent)?;
+        return Ok(Cut {
+            root: parent.number,
+            fell: false,
+        });
+    }
+    let sibling = read_node(mem, layout, parent.left)?;
+    if !sibling.red {
+        let cut = lift_right(mem, layout, held, parent, sibling)?;
+        return Ok(cut);
+    }
+    let near = read_node(mem, layout, sibling.right)?;
+    let below = Node {
+        red: true,
+        left: sibling.right,
+        ..parent
+    };
+    let cut = lift_right(mem, layout, held, below, near)?;
+    write_node(
+        mem,
+        layout,
+        Node {
+            red: false,
+            right: cut.root,
+            ..sibling
+        },
+    )?;
+    Ok(Cut {
+        root: sibling.number,
+        fell: false,
+    })
+}
+
+// The only child of a node of this colour takes the node's place.
+fn hoist<M: Mem>(mem: &mut M, layout: &Layout, child: u16, red: bool) -> Result<Cut, M::Err>
+    requires within { child ≤ layout.now.tree }
+    requires tree { HasTree layout.now }
+    requires objects { M.objects mem.old ≡ objects_of layout.now }
+    requires live { IsTrue (M.is_live mem.old) }
+    requires admits { (map : List Val) × M.Admits mem.old map }
+
+    ensures does { IfOk result (λ cut. (map : List Val) → M.Admits mem.new map →
+        Hoists layout.now child red (with_set map (M.written mem.old)) (with_set map (M.written mem.new)) cut) }
+    ensures outside { OnOk result ((p : ℕ) → p < tree_begin layout.now →
+        (M.written mem.new p ≡ M.written mem.old p) × (M.held mem.new p ≡ M.held mem.old p)
+        × (M.is_opened mem.new p ≡ M.is_opened mem.old p)) }
+
+    ensures place { M.place mem.new ≡ M.place mem.old }
+    ensures objects { M.objects mem.new ≡ M.objects mem.old }
+    ensures narrows { (map : List Val) → M.Admits mem.new map → M.Admits mem.old map }
+    ensures admits { OnOk result ((map : List Val) × M.Admits mem.new map) }
+    ensures live { OnOk result (IsTrue (M.is_live mem.new)) }
+    ensures ended { IfErr result (λ e. (M.is_live mem.new ≡ false) × (M.error mem.new ≡ Some e)) }
+{
+    if child == 0 {
+        return Ok(Cut {
+            root: 0,
+            fell: !red,
+        });
+    }
+    let node = read_node(mem, layout, child)?;
+    write_node(mem, layout, Node { red: false, ..node })?;
+    Ok(Cut {
+        root: child,
+        fell: false,
+    })
+}
+
+// Takes the node with the least key out of the subtree whose root is numbered `at`, and which has at most
+// `depth` nodes. The node itself is left as it is.
+fn take_least<M: Mem>(mem: &mut M, layout: &Layout, at: u16, depth: u32) -> Result<Least, M::Err>
+    requires some { 0 < at }
+    requires within { at ≤ layout.now.tree }
+    requires tree { HasTree layout.now }
+    requires objects { M.objects mem.old ≡ objects_of layout.now }
+    requires live { IsTrue (M.is_live mem.old) }
+    requires lawful { (map : List Val) → M.Admits mem.old map →
+        Subtree layout.now (with_set map (M.written mem.old)) at depth }
+
+    ensures does { IfOk result (λ least. (map : List Val) → M.Admits mem.new map →
+        (h : Subtree layout.now (with_set map (M.written mem.old)) at depth) →
+        TakesLeast layout.now h.low h.high h.tree (with_set map (M.written mem.old)) (with_set map (M.written mem.new)) least) }
+    ensures fits { IfOk result (λ least. FitsNode layout.now least.node) }
+    ensures outside { OnOk result ((p : ℕ) → p < tree_begin layout.now →
+        (M.written mem.new p ≡ M.written mem.old p) × (M.held mem.new p ≡ M.held mem.old p)
+        × (M.is_opened mem.new p ≡ M.is_opened mem.old p)) }
+
+    ensures place { M.place mem.new ≡ M.place mem.old }
+    ensures objects { M.objects mem.new ≡ M.objects mem.old }
+    ensures narrows { (map : List Val) → M.Admits mem.new map → M.Admits mem.old map }
+    ensures admits { OnOk result ((map : List Val) × M.Admits mem.new map) }
+    ensures live { OnOk result (IsTrue (M.is_live mem.new)) }
+    ensures ended { IfErr result (λ e. (M.is_live mem.new ≡ false) × (M.error mem.new ≡ Some e)) }
+{
+    let node = read_node(mem, layout, at)?;
+    if node.left == 0 {
+        let cut = hoist(mem, layout, node.right, node.red)?;
+        return Ok(Least { node, cut });
+    }
+    let below = take_least(mem, layout, node.left, depth - 1)?;
+    let parent = Node {
+        left: below.cut.root,
+        ..node
+    };
+    let cut = close_left(mem, layout, node, parent, below.cut.fell)?;
+    Ok(Least {
+        node: below.node,
+        cut,
+    })
+}
+
+// Takes the key of a node out of its subtree. Where the node has two children, it gets the next key, and the
+// node of that one is taken out.
+fn remove_root<M: Mem>(
+    mem: &mut M,
+    layout: &Layout,
+    node: Node,
+    depth: u32,
+) -> Result<Removed, M::Err>
+    requires fits { FitsNode layout.now node }
+    requires tree { HasTree layout.now }
+    requires objects { M.objects mem.old ≡ objects_of layout.now }
+    requires live { IsTrue (M.is_live mem.old) }
+    requires lawful { (map : List Val) → M.Admits mem.old map →
+        Root layout.now (with_set map (M.written mem.old)) node depth }
+    requires admits { (map : List Val) × M.Admits mem.old map }
+
+    ensures does { IfOk result (λ removed. (map : List Val) → M.Admits mem.new map →
+        (h : Root layout.now (with_set map (M.written mem.old)) node depth) →
+        Removes layout.now node.key h.low h.high (tree_of node h.left h.right)
+        (with_set map (M.written mem.old)) (with_set map (M.written mem.new)) removed) }
+    ensures outside { OnOk result ((p : ℕ) → p < tree_begin layout.now →
+        (M.written mem.new p ≡ M.written mem.old p) × (M.held mem.new p ≡ M.held mem.old p)
+        × (M.is_opened mem.new p ≡ M.is_opened mem.old p)) }
+
+    ensures place { M.place mem.new ≡ M.place mem.old }
+    ensures objects { M.objects mem.new ≡ M.objects mem.old }
+    ensures narrows { (map : List Val) → M.Admits mem.new map → M.Admits mem.old map }
+    ensures admits { OnOk result ((map : List Val) × M.Admits mem.new map) }
+    ensures live { OnOk result (IsTrue (M.is_live mem.new)) }
+    ensures ended { IfErr result (λ e. (M.is_live mem.new ≡ false) × (M.error mem.new ≡ Some e)) }
+{
+    if node.left == 0 {
+        let cut = hoist(mem, layout, node.right, node.red)?;
+        return Ok(Removed {
+            number: node.number,
+            cut,
+        });
+    }
+    if node.right == 0 {
+        let cut = hoist(mem, layout, node.left, node.red)?;
+        return Ok(Removed {
+            number: node.number,
+            cut,
+        });
+    }
+    let least = take_least(mem, layout, node.right, depth)?;
+    let parent = Node {
+        key: least.node.key,
+        value: least.node.value,
+        right: least.cut.root,
+        ..node
+    };
+    let cut = close_right(mem, layout, node, parent, least.cut.fell)?;
+    Ok(Removed {
+        number: least.node.number,
+        cut,
+    })
+}
+
+// Takes a key out of the subtree whose root is numbered `at`, and which has at most `depth` nodes.
+fn remove_below<M: Mem>(
+    mem: &mut M,
+    layout: &Layout,
+    at: u16,
+    key: u32,
+    depth: u32,
+) -> Result<Option<Removed>, M::Err>
+    requires within { at ≤ layout.now.tree }
+    requires tree { HasTree layout.now }
+    requires objects { M.objects mem.old ≡ objects_of layout.now }
+    requires live { IsTrue (M.is_live mem.old) }
+    requires lawful { (map : List Val) → M.Admits mem.old map →
+        Subtree layout.now (with_set map (M.written mem.old)) at depth }
+    requires admits { (map : List Val) × M.Admits mem.old map }
+
+    ensures does { IfOk result (λ removed. (map : List Val) → M.Admits mem.new map →
+        (h : Subtree layout.now (with_set map (M.written mem.old)) at depth) →
+        RemovesIf layout.now key h.low h.high h.tree (with_set map (M.written mem.old)) (with_set map (M.written mem.new)) removed) }
+    ensures outside { OnOk result ((p : ℕ) → p < tree_begin layout.now →
+        (M.written mem.new p ≡ M.written mem.old p) × (M.held mem.new p ≡ M.held mem.old p)
+        × (M.is_opened mem.new p ≡ M.is_opened mem.old p)) }
+
+    ensures place { M.place mem.new ≡ M.place mem.old }
+    ensures objects { M.objects mem.new ≡ M.objects mem.old }
+    ensures narrows { (map : List Val) → M.Admits mem.new map → M.Admits mem.old map }
+    ensures admits { OnOk result ((map : List Val) × M.Admits mem.new map) }
+    ensures live { OnOk result (IsTrue (M.is_live mem.new)) }
+    ensures ended { IfErr result (λ e. (M.is_live mem.new ≡ false) × (M.error mem.new ≡ Some e)) }
+{
+    if at == 0 {
+        return Ok(None);
+    }
+    let node = read_node(mem, layout, at)?;
+    if key < node.key {
+        let below = remove_below(mem, layout, node.left, key, depth - 1)?;
+        let Some(removed) = below else {
+            return Ok(None);
+        };
+        let cut = close_left(
+            mem,
+            layout,
+            node,
+            Node {
+                left: removed.cut.root,
+                ..node
+            },
+            removed.cut.fell,
+        )?;
+        return Ok(Some(Removed {
+            number: removed.number,
+            cut,
+        }));
+    }
+    if key > node.key {
+        let below = remove_below(mem, layout, node.right, key, depth - 1)?;
+        let Some(removed) = below else {
+            return Ok(None);
+        };
+        let cut = close_right(
+            mem,
+            layout,
+            node,
+            Node {
+                right: removed.cut.root,
+                ..node
+            },
+            removed.cut.fell,
+        )?;
+        return Ok(Some(Removed {
+            number: removed.number,
+            cut,
+        }));
+    }
+    let removed = remove_root(mem, layout, node, depth - 1)?;
+    Ok(Some(removed))
+}
