@@ -1,4 +1,4 @@
-ghost use Rattle.std.specs.Prelude.{◌≡◌, ℕ, ◌<◌, ◌≤◌, ◌^◌, sum, map, length, slice_index, All, ◌∷◌, take, drop, position, IfOk, OnErr, IfNone, IfSome, option_map, option_copied};
+ghost use Rattle.std.specs.Prelude.{◌≡◌, ℕ, ◌<◌, ◌≤◌, ◌^◌, sum, map, length, slice_index, All, ◌∷◌, take, drop, position, ◌↔◌, IsTrue, IfOk, OnErr, None, IfNone, IfSome, option_map, option_copied};
 ghost use Rattle.dstm_model.specs.Job.{apply_all, apply_job, open_branch, branches_of, branches_left, is_open, is_separator, holds_in, AppliesSome, AppliesSomeOfBranch};
 ghost use Rattle.dstm_model.specs.Layout.{IsValid, FitsLayout, FitsCond};
 ghost use Rattle.dstm_model.specs.Store.{Store, opening_store, apply, insert, remove, put, is_member, value_of, value_reply, yes_or_no, credit, debit, IsPlain, state_of, item_of};
@@ -97,6 +97,14 @@ impl PlainStore {
             Some(branch) => Ok(Some(self.apply_all(branch)?)),
             None => Ok(None),
         }
+    }
+
+    /// Tells whether no branch of a job is open.
+    pub fn is_blocked(&self, ops: &Ops) -> bool
+        requires { All (FitsLayout self.now.layout) ops.now }
+        ensures { IsTrue result ↔ (apply_job ops.now self.now ≡ None) }
+    {
+        self.open_branch(ops.as_slice()).is_none()
     }
 
     /// What the store holds.

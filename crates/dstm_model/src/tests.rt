@@ -92,6 +92,7 @@ fn jobs_take_their_first_open_branch(rt: HostRuntime) -> Result<(), Fail> {
         key: 5,
     }));
     assert!(rt; store.apply_job(&waits)?.is_none());
+    assert!(rt; store.is_blocked(&waits));
     store.apply(&Op::Insert {
         which: Which::List,
         key: 5,
