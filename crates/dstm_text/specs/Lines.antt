@@ -1,6 +1,7 @@
 -- How a text falls into lines, and a line into fields.
 use Rattle.std.specs.Prelude.{ℕ, Bool, true, false, not, ◌==◌, List, [], ◌∷◌, filter, Option, None, Some, if◌then◌else◌}
 use Rattle.std.specs.List.{slice_split}
+use Rattle.std.specs.Str.{bytes_eq}
 
 -- the byte that ends a line, and the one that stands between fields
 abbrev pub line_feed : ℕ
@@ -32,6 +33,13 @@ without_empty_end (p ∷ q ∷ ps) = p ∷ without_empty_end (q ∷ ps)
 -- further line
 abbrev pub lines_of : List ℕ → List (List ℕ)
 lines_of bytes = without_empty_end (pieces line_feed bytes)
+
+-- the lines before the first one that is `mark`, or all, and the lines behind that one, if there is one
+abbrev pub split_lines : List ℕ → List (List ℕ) → List (List ℕ) × Option (List (List ℕ))
+split_lines mark [] = ([], None)
+split_lines mark (line ∷ lines) =
+    if bytes_eq line mark then ([], Some lines)
+    else (line ∷ (split_lines mark lines).0, (split_lines mark lines).1)
 
 abbrev pub non_empty : List (List ℕ) → List (List ℕ)
 non_empty ps = filter (λ p. not (is_empty p)) ps

@@ -1,4 +1,4 @@
-ghost use Rattle.std.specs.Prelude.{◌≡◌, List, [], ◌∷◌, IfSome, IfNone, option_copied};
+ghost use Rattle.std.specs.Prelude.{◌≡◌, ◌≤◌, ◌<◌, ◌^◌, List, [], ◌∷◌, length, IfSome, IfNone, option_copied};
 ghost use Rattle.dstm_text.specs.Lines.{pieces, pieces_left, lines_of, fields_of};
 
 use memchr::memchr;
@@ -62,7 +62,8 @@ impl<'a> Model for Lines<'a> {
 
 impl<'a> Lines<'a> {
     pub fn new(bytes: &'a [u8]) -> Lines<'a>
-        ensures { result ≡ lines_of bytes.now }
+        ensures value { result ≡ lines_of bytes.now }
+        ensures few { length result ≤ length bytes.now }
     {
         Lines { rest: bytes }
     }
@@ -79,6 +80,18 @@ impl<'a> Lines<'a> {
         let (line, rest) = first_piece(self.rest, b'\n');
         self.rest = rest.unwrap_or(&[]);
         Some(line)
+    }
+
+    /// How many lines are still to come.
+    pub fn count(mut self) -> u64
+        requires { length self < 2 ^ 64 }
+        ensures { result ≡ length self.entry }
+    {
+        let mut count = 0;
+        while self.next().is_some() {
+            count += 1;
+        }
+        count
     }
 }
 

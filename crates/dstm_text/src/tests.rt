@@ -22,6 +22,28 @@ fn texts_fall_into_lines_and_fields(rt: HostRuntime) -> Result<(), Fail> {
     let mut ended = Lines::new(b"end\n");
     assert_eq!(rt; ended.next().ok_or("a line")?, b"end".as_slice());
     assert!(rt; ended.next().is_none());
+    assert_eq!(rt; Lines::new(b"one\n\nthree").count(), 3);
+    Ok(())
+}
+
+#[test]
+fn a_text_is_split_at_a_line(rt: HostRuntime) -> Result<(), Fail> {
+    let nothing = b"".as_slice();
+    let table = [
+        ("one\n---\ntwo\n", "one\n", Some("two\n")),
+        ("---\n---\n", "", Some("---\n")),
+        ("one\n---", "one\n", Some("")),
+        ("one\n--- \n ---\n", "one\n--- \n ---\n", None),
+        ("one---\n", "one---\n", None),
+        ("", "", None),
+    ];
+    for (text, before, behind) in table {
+        let (front, rest) = split_at_line(text.as_bytes(), b"---");
+        assert_eq!(rt; front, before.as_bytes(), "in {text:?}");
+        assert_eq!(rt; rest.is_some(), behind.is_some(), "in {text:?}");
+        let rest = rest.unwrap_or(nothing);
+        assert_eq!(rt; rest, behind.unwrap_or("").as_bytes(), "in {text:?}");
+    }
     Ok(())
 }
 

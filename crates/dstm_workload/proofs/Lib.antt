@@ -1,1 +1,11 @@
-pub mod ReadingLaws
+pub mod OpsLoop
+pub mod ReadLaws
+pub mod EntryLaws
+pub mod KnownLaws
+pub mod OpLaws
+pub mod ValidLaws
+pub mod WriteLaws
+pub mod LinesAgain
+pub mod OpsAgain
+pub mod TextAgain
+pub mod RefusedLaws

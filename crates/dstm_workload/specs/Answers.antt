@@ -1,7 +1,8 @@
 -- What a reader answers, beside what its text stands for.
 use Rattle.std.specs.Prelude.{◌≡◌, ℕ, List, Result, Ok, Err, codes}
 use Rattle.dstm_workload.specs.declared.refused.Why.{Why}
-use Rattle.dstm_workload.specs.declared.refused.Why.TheVariants.{Header, NotBuilt}
+use Rattle.dstm_workload.specs.declared.refused.Why.TheVariants.{Header, Bytes, Unknown, Missing, Extra, Number}
+use Rattle.dstm_workload.specs.declared.refused.Why.TheVariants.{OutOfRange, Twice, Late, Undeclared, TooMany}
 use Rattle.dstm_workload.specs.declared.refused.Refused.{Refused}
 use Rattle.dstm_workload.specs.declared.refused.WorkloadError.{WorkloadError}
 use Rattle.dstm_workload.specs.declared.refused.WorkloadError.TheVariants as errors
@@ -9,7 +10,16 @@ use Rattle.dstm_workload.specs.declared.refused.WorkloadError.TheVariants as err
 -- how a reason is printed
 abbrev pub text_of : Why → List ℕ
 text_of Header = codes "header"
-text_of NotBuilt = codes "not built"
+text_of Bytes = codes "bytes"
+text_of Unknown = codes "unknown"
+text_of Missing = codes "missing"
+text_of Extra = codes "extra"
+text_of Number = codes "number"
+text_of OutOfRange = codes "out of range"
+text_of Twice = codes "twice"
+text_of Late = codes "late"
+text_of Undeclared = codes "undeclared"
+text_of TooMany = codes "too many"
 
 abbrev pub refused : ℕ → Why → Refused
 refused line why = record { line = line; why = why }

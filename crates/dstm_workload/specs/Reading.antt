@@ -1,119 +1,116 @@
--- Which texts are read as which workload: one worker's transfers between the accounts of a bank.
-use Rattle.std.specs.Prelude.{◌≡◌, ℕ, All, ◌+◌, ◌-◌, ◌++◌, nat_lt, nat_le, ◌&&◌, List, [], ◌∷◌, Option, Some, None, Result, Ok, Err, codes, if◌then◌else◌}
+-- Which texts are read as which workload, and where the others are refused.
+use Rattle.std.specs.Prelude.{◌≡◌, IsOk, ℕ, ◌+◌, Bool, false, not, List, [], ◌∷◌, ◌++◌, length, map, filter}
+use Rattle.std.specs.Prelude.{Option, Some, None, Result, Ok, Err, unwrap_or, slice_index_or, codes}
+use Rattle.std.specs.List.{filter_map}
+use Rattle.std.specs.Option.{option_map}
 use Rattle.std.specs.Str.{bytes_eq}
-use Rattle.dstm_model.specs.declared.layout.Layout.{Layout}
-use Rattle.dstm_model.specs.declared.layout.TheConstants.{MAX_ACCOUNTS, MAX_OPENING, AMOUNT_LIMIT}
-use Rattle.dstm_model.specs.Store.{IsTransfer}
-use Rattle.dstm_model.specs.declared.op.Op.{Op}
-use Rattle.dstm_model.specs.declared.op.Op.TheVariants.{Transfer}
-use Rattle.dstm_text.specs.Lines.{pieces, space}
+use Rattle.dstm_text.specs.Lines.{fields_of}
 use Rattle.dstm_text.specs.Number.{number_of}
-use Rattle.dstm_workload.specs.declared.refused.Why.TheVariants.{Header, NotBuilt}
+use Rattle.dstm_workload.specs.declared.refused.Why.{Why}
+use Rattle.dstm_workload.specs.declared.refused.Why.TheVariants.{Header}
 use Rattle.dstm_workload.specs.declared.refused.Refused.{Refused}
+use Rattle.dstm_workload.specs.declared.known.Bank.{Bank}
+use Rattle.dstm_workload.specs.declared.known.Known.{Known}
+use Rattle.dstm_workload.specs.declared.known.Entry.{Entry}
 use Rattle.dstm_workload.specs.declared.workload.Job.{Job}
 use Rattle.dstm_workload.specs.declared.workload.Workload.{Workload}
-use Rattle.dstm_workload.specs.declared.reading.TheConstants.{FIRST_LINE, LAST_LINE}
 use Rattle.dstm_workload.specs.Answers.{refused}
+use Rattle.dstm_workload.specs.Known.{layout_of, jobs_in}
+use Rattle.dstm_workload.specs.Entries.{is_comment, header_of, entry_of, worker_count}
 
-infixl 10 ◌>>=◌
-abbrev pub ◌>>=◌ : {A B : Type 0} → Option A → (A → Option B) → Option B
-None >>= f = None
-(Some x) >>= f = f x
+-- ---- what lines have told, found among all of them
 
--- ---- a line's words stand one by one; each reading answers what was read and the words after it
+-- the fields of the lines that are no comments
+abbrev pub told_lines : List (List ℕ) → List (List (List ℕ))
+told_lines lines = map fields_of (filter (λ line. not (is_comment line)) lines)
 
--- the word is this one
-abbrev pub after_word : List ℕ → List (List ℕ) → Option (List (List ℕ))
-after_word text [] = None
-after_word text (word ∷ words) = if bytes_eq word text then Some words else None
+abbrev pub begins_with : List ℕ → List (List ℕ) → Bool
+begins_with name [] = false
+begins_with name (field ∷ fields) = bytes_eq field name
 
-abbrev pub in_range : ℕ → ℕ → Option ℕ → Option ℕ
-in_range least most None = None
-in_range least most (Some n) = if nat_le least n && nat_le n most then Some n else None
+-- the lines that begin with this word
+abbrev pub lines_with : List ℕ → List (List ℕ) → List (List (List ℕ))
+lines_with name lines = filter (begins_with name) (told_lines lines)
 
--- the word is a number of this range
-abbrev pub number_at : ℕ → ℕ → List (List ℕ) → Option (ℕ × List (List ℕ))
-number_at least most [] = None
-number_at least most (word ∷ words) = do
-  n ← in_range least most (number_of word)
-  Some (n, words)
+abbrev pub first_of : {A : Type 0} → List A → Option A
+first_of [] = None
+first_of (x ∷ xs) = Some x
 
--- no word is left
-abbrev pub at_end : List (List ℕ) → Option (List (List ℕ))
-at_end [] = Some []
-at_end (word ∷ words) = None
+-- the number that the field at a place spells
+abbrev pub number_in : ℕ → List (List ℕ) → ℕ
+number_in place fields = unwrap_or (number_of (slice_index_or fields place [])) 0
 
--- an answer, seen by view, is what was read
-abbrev pub IsRead : {X Y : Type 0} → Option X → (X → Y) → Option Y → Type 0
-IsRead None view read = read ≡ None
-IsRead (Some x) view read = read ≡ Some (view x)
+-- the number that stands behind a word, in the first line that begins with it
+abbrev pub size_told : List ℕ → List (List ℕ) → Option ℕ
+size_told name lines = option_map (number_in 1) (first_of (lines_with name lines))
 
--- `bank N B`
-unfoldable pub bank_of : List (List ℕ) → Option Layout
-bank_of words = do
-  word ← after_word (codes "bank") words
-  n ← number_at 1 MAX_ACCOUNTS word
-  b ← number_at 0 MAX_OPENING n.1
-  end ← at_end b.1
-  Some (record { accounts = n.0; opening = b.0; list = 0; tree = 0 })
+abbrev pub bank_in : List (List ℕ) → Bank
+bank_in fields = record { accounts = number_in 1 fields; opening = number_in 2 fields }
 
--- `tx 0 transfer A B X`
-unfoldable pub transfer_of : ℕ → List (List ℕ) → Option Op
-transfer_of accounts words = do
-  tx ← after_word (codes "tx") words
-  worker ← after_word (codes "0") tx
-  word ← after_word (codes "transfer") worker
-  a ← number_at 0 (accounts - 1) word
-  b ← number_at 0 (accounts - 1) a.1
-  x ← number_at 0 (AMOUNT_LIMIT - 1) b.1
-  end ← at_end x.1
-  Some (Transfer a.0 b.0 x.0)
+abbrev pub known_of : List (List ℕ) → Known
+known_of lines = record {
+  version = first_of (filter_map header_of (told_lines lines));
+  workers = size_told (codes "workers") lines;
+  bank = option_map bank_in (first_of (lines_with (codes "bank") lines));
+  list = size_told (codes "list") lines;
+  tree = size_told (codes "tree") lines;
+  transactions = length (lines_with (codes "tx") lines);
+}
 
--- ---- the lines, of which the first is the header and the second the bank
+-- ---- the workload
 
-abbrev pub job_with : ℕ → Option Op → Result Job Refused
-job_with line None = Err (refused line NotBuilt)
-job_with line (Some op) = Ok (record { line = line; worker = 0; ops = op ∷ [] })
+-- what each line tells, given the lines before it, in the place of the line after those
+abbrev pub line_tells : List (List ℕ) → List ℕ → Result (Option Entry) Why
+line_tells before line = entry_of (known_of before) (length before + 1) line
 
--- the job of a line; there are at most MAX_JOBS
-abbrev pub job_of : ℕ → ℕ → List ℕ → Result Job Refused
-job_of accounts line text = job_with line (if nat_lt line (LAST_LINE) then transfer_of accounts (pieces space text) else None)
-
--- a job before those of the lines after it
 abbrev pub onto : List Job → Result (List Job) Refused → Result (List Job) Refused
 onto jobs (Ok more) = Ok (jobs ++ more)
 onto jobs (Err r) = Err r
 
-abbrev pub followed_by : Result Job Refused → Result (List Job) Refused → Result (List Job) Refused
-followed_by (Ok job) more = onto (job ∷ []) more
-followed_by (Err r) more = Err r
+-- a line's jobs before those of the lines after it, or where it is refused
+abbrev pub followed_by : ℕ → Result (Option Entry) Why → Result (List Job) Refused → Result (List Job) Refused
+followed_by line (Ok told) more = onto (jobs_in told) more
+followed_by line (Err why) more = Err (refused line why)
 
--- the jobs of the lines from the one with this number on, or the first of these lines that is none
-abbrev pub jobs_of : ℕ → ℕ → List (List ℕ) → Result (List Job) Refused
-jobs_of accounts line [] = Ok []
-jobs_of accounts line (text ∷ texts) = followed_by (job_of accounts line text) (jobs_of accounts (line + 1) texts)
+-- the jobs of the lines that follow others, or the first of them that is refused
+abbrev pub jobs_after : List (List ℕ) → List (List ℕ) → Result (List Job) Refused
+jobs_after before [] = Ok []
+jobs_after before (line ∷ lines) =
+    followed_by (length before + 1) (line_tells before line) (jobs_after (before ++ line ∷ []) lines)
 
-abbrev pub workload_with : Layout → Result (List Job) Refused → Result Workload Refused
-workload_with layout (Ok jobs) = Ok (record { version = 1; workers = 1; layout = layout; jobs = jobs })
-workload_with layout (Err r) = Err r
+abbrev pub workload_with : ℕ → Option ℕ → Known → List Job → Result Workload Refused
+workload_with last None known jobs = Err (refused (last + 1) Header)
+workload_with last (Some version) known jobs =
+    Ok (record { version = version; workers = worker_count known; layout = layout_of known; jobs = jobs })
 
-abbrev pub no_structures : Layout
-no_structures = record { accounts = 0; opening = 0; list = 0; tree = 0 }
-
-abbrev pub with_bank : Option Layout → List (List ℕ) → Result Workload Refused
-with_bank None texts = Err (refused 2 NotBuilt)
-with_bank (Some layout) texts = workload_with layout (jobs_of layout.accounts FIRST_LINE texts)
-
--- the lines after the header
-abbrev pub after_header : List (List ℕ) → Result Workload Refused
-after_header [] = workload_with no_structures (Ok [])
-after_header (text ∷ texts) = with_bank (bank_of (pieces space text)) texts
+abbrev pub made_of : List (List ℕ) → Result (List Job) Refused → Result Workload Refused
+made_of lines (Ok jobs) = workload_with (length lines) (known_of lines).version (known_of lines) jobs
+made_of lines (Err r) = Err r
 
 -- what the lines of a text stand for
 abbrev pub workload_of : List (List ℕ) → Result Workload Refused
-workload_of [] = Err (refused 1 Header)
-workload_of (text ∷ texts) = if bytes_eq text (codes "dstm 1") then after_header texts else Err (refused 1 Header)
+workload_of lines = made_of lines (jobs_after [] lines)
 
--- every operation of every job is a transfer
-abbrev pub HasTransfersOnly : Workload → Type 0
-HasTransfersOnly workload = All (λ job. All IsTransfer job.ops) workload.jobs
+-- ---- the first line that is refused
+
+-- each of these lines, which follow others, is read
+abbrev pub AreRead : List (List ℕ) → List (List ℕ) → Type 0
+AreRead before [] = Unit {0}
+AreRead before (line ∷ lines) = IsOk (line_tells before line) × AreRead (before ++ line ∷ []) lines
+
+-- one of the lines that follow others has the reason, given all lines before it, and those before it
+-- are read
+pub record IsFirstRefused (before lines : List (List ℕ)) (r : Refused) : Type 0 where
+  pub front : List (List ℕ)
+  pub line : List ℕ
+  pub after : List (List ℕ)
+  pub are : lines ≡ front ++ line ∷ after
+  pub place : r.line ≡ length (before ++ front) + 1
+  pub reason : line_tells (before ++ front) line ≡ Err r.why
+  pub earlier : AreRead before front
+
+-- all lines are read, and none is a header
+pub record HasNoHeader (lines : List (List ℕ)) (r : Refused) : Type 0 where
+  pub read : AreRead [] lines
+  pub none : (known_of lines).version ≡ None
+  pub is : r ≡ refused (length lines + 1) Header

@@ -1,5 +1,5 @@
 -- Which workloads are valid.
-use Rattle.std.specs.Prelude.{ℕ, ◌<◌, ◌≤◌, List, [], ◌∷◌, length, map, All}
+use Rattle.std.specs.Prelude.{ℕ, ◌<◌, ◌^◌, ◌≤◌, List, [], ◌∷◌, length, map, All}
 use Rattle.std.specs.List.Sorted.{IsStrictlyIncreasing}
 use Rattle.dstm_model.specs.Layout.{IsValid, FitsLayout}
 use Rattle.dstm_model.specs.Job.{branches_of}
@@ -17,6 +17,11 @@ HasOp version (Await c) = 3 ≤ version
 HasOp version OrElse = 3 ≤ version
 HasOp version op = Unit {0}
 
+-- a value that is put is a number of 64 bits
+abbrev pub HasValue : Op → Type 0
+HasValue (Put key value) = value < 2 ^ 64
+HasValue op = Unit {0}
+
 abbrev pub IsNoAwait : Op → Type 0
 IsNoAwait (Await c) = ⊥
 IsNoAwait op = Unit {0}
@@ -32,6 +37,7 @@ pub record IsJob (workload : Workload) (job : Job) : Type 0 where
   pub few : length job.ops ≤ MAX_OPS
   pub fits : All (FitsLayout workload.layout) job.ops
   pub version : All (HasOp workload.version) job.ops
+  pub values : All HasValue job.ops
   pub branches : All IsBranch (branches_of job.ops)
 
 abbrev pub lines_of_jobs : List Job → List ℕ

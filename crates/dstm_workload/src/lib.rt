@@ -1,13 +1,21 @@
 //! Workloads and their texts.
 #![tactic(auto)]
 
+mod declarations;
+mod entry;
+mod fields;
+mod known;
+mod operations;
 mod reading;
 mod refused;
+mod word;
 mod workload;
+mod writing;
 
-pub use reading::read_workload;
+pub use reading::{first_refusal, read_workload};
 pub use refused::{Refused, Why, WorkloadError};
 pub use workload::{Job, Jobs, MAX_JOBS, MAX_OPS, MAX_WORKERS, VERSIONS, Workload};
+pub use writing::write_workload;
 
 #[cfg(test)]
 mod tests;

@@ -7,10 +7,28 @@ use std::alloc::{AllocError, AllocFailed};
 /// Why a line of a workload's text is refused.
 #[derive(Clone, Copy, Debug, PartialEq, Eq)]
 pub enum Why {
-    /// The text does not begin with its header.
+    /// It has to be the header, and is not.
     Header,
-    /// The line has a form that is not built yet.
-    NotBuilt,
+    /// It holds a byte that no line may hold.
+    Bytes,
+    /// A word stands where it cannot.
+    Unknown,
+    /// A field is not there.
+    Missing,
+    /// A field is too many.
+    Extra,
+    /// A field is not a plain decimal.
+    Number,
+    /// A number is not in its range.
+    OutOfRange,
+    /// It declares what is declared already.
+    Twice,
+    /// It declares something behind a transaction.
+    Late,
+    /// It works on what is not declared.
+    Undeclared,
+    /// There are too many operations or transactions.
+    TooMany,
 }
 
 impl Why {
@@ -20,7 +38,16 @@ impl Why {
     {
         match self {
             Why::Header => b"header",
-            Why::NotBuilt => b"not built",
+            Why::Bytes => b"bytes",
+            Why::Unknown => b"unknown",
+            Why::Missing => b"missing",
+            Why::Extra => b"extra",
+            Why::Number => b"number",
+            Why::OutOfRange => b"out of range",
+            Why::Twice => b"twice",
+            Why::Late => b"late",
+            Why::Undeclared => b"undeclared",
+            Why::TooMany => b"too many",
         }
     }
 }

@@ -1,77 +1,266 @@
 use super::*;
-use dstm_model::Op;
+use dstm_model::{Cond, Op, Which};
+use std::process::Abort;
 use std::test::Fail;
 
 #[test]
-fn transfers_are_read(rt: HostRuntime) -> Result<(), Fail> {
-    let text =
-        b"dstm 1\nbank 4096 1000000000\ntx 0 transfer 0 4095 9999999999999\ntx 0 transfer 7 7 0";
+fn workloads_are_read(rt: HostRuntime) -> Result<(), Fail> {
+    let text = b"# a comment\n\n  dstm   3\ntree 7\nworkers 2\nbank 2 100\nlist 1\n\
+        tx 1 transfer 0 1 9999999999999 ; total ; balance 1\n#\xff\n\
+        tx 0 await tree 5 ; insert list 1048574 orelse put 5 18446744073709551615 ; get 5";
     let workload = read_workload(rt.alloc(), text)?;
-    assert_eq!(rt; workload.version, 1);
-    assert_eq!(rt; workload.workers, 1);
-    assert_eq!(rt; workload.layout.accounts, 4096);
-    assert_eq!(rt; workload.layout.opening, 1_000_000_000);
+    assert_eq!(rt; workload.version, 3);
+    assert_eq!(rt; workload.workers, 2);
+    assert_eq!(rt; workload.layout.accounts, 2);
+    assert_eq!(rt; workload.layout.opening, 100);
+    assert_eq!(rt; workload.layout.list, 1);
+    assert_eq!(rt; workload.layout.tree, 7);
     let jobs = workload.jobs.as_slice();
     assert_eq!(rt; jobs.len(), 2);
-    assert_eq!(rt; jobs[0].line, 3);
-    assert_eq!(rt; jobs[1].line, 4);
+    assert_eq!(rt; jobs[0].line, 8);
+    assert_eq!(rt; jobs[0].worker, 1);
+    assert_eq!(rt; jobs[1].line, 10);
     assert_eq!(rt; jobs[1].worker, 0);
     let transfer = Op::Transfer {
         source: 0,
-        target: 4095,
+        target: 1,
         amount: 9_999_999_999_999,
     };
-    assert_eq!(rt; jobs[0].ops.as_slice(), [transfer].as_slice());
-    let empty = read_workload(rt.alloc(), b"dstm 1\n")?;
-    assert_eq!(rt; empty.layout.accounts, 0);
+    let ops = [transfer, Op::Total, Op::Balance { account: 1 }];
+    assert_eq!(rt; jobs[0].ops.as_slice(), ops.as_slice());
+    let awaited = Cond::Key {
+        which: Which::Tree,
+        key: 5,
+    };
+    let insert = Op::Insert {
+        which: Which::List,
+        key: 1_048_574,
+    };
+    let put = Op::Put {
+        key: 5,
+        value: u64::MAX,
+    };
+    let ops = [
+        Op::Await(awaited),
+        insert,
+        Op::OrElse,
+        put,
+        Op::Get { key: 5 },
+    ];
+    assert_eq!(rt; jobs[1].ops.as_slice(), ops.as_slice());
+    let empty = read_workload(rt.alloc(), b"dstm 1")?;
+    assert_eq!(rt; empty.workers, 1);
     assert_eq!(rt; empty.jobs.as_slice().len(), 0);
+    first_refusal();
     Ok(())
 }
 
 #[test]
 fn other_texts_are_refused(rt: HostRuntime) {
+    // The texts, and the lines and reasons for which they are refused.
     let table = [
         (b"".as_slice(), 1, Why::Header),
-        (b"dstm 1 ".as_slice(), 1, Why::Header),
-        (b"\ndstm 1".as_slice(), 1, Why::Header),
-        (b"dstm 1\nlist 1".as_slice(), 2, Why::NotBuilt),
-        (b"dstm 1\nbank 2  100".as_slice(), 2, Why::NotBuilt),
-        (b"dstm 1\nbank 0 100".as_slice(), 2, Why::NotBuilt),
+        (b"# dstm 1\n \n".as_slice(), 3, Why::Header),
+        (b"dstm 1 1".as_slice(), 1, Why::Header),
+        (b"dstm 01".as_slice(), 1, Why::Header),
+        (b"dstm 4".as_slice(), 1, Why::Header),
+        (b"list 1\ndstm 1".as_slice(), 1, Why::Header),
+        (b"dstm\t1".as_slice(), 1, Why::Bytes),
+        (b"dstm 1\r\n".as_slice(), 1, Why::Bytes),
+        (b"dstm 1\n\nqueue\x7f 3".as_slice(), 3, Why::Bytes),
+        (b"dstm 1\ndstm 1".as_slice(), 2, Why::Unknown),
+        (b"dstm 1\nbank".as_slice(), 2, Why::Missing),
+        (b"dstm 1\nbank ;".as_slice(), 2, Why::Number),
+        (b"dstm 1\nbank 2".as_slice(), 2, Why::Missing),
+        (b"dstm 1\nbank 4097 x".as_slice(), 2, Why::OutOfRange),
         (
-            b"dstm 1\nbank 2 100\ntx 0 transfer 0 2 5\n".as_slice(),
-            3,
-            Why::NotBuilt,
+            b"dstm 1\nbank 4096 1000000001".as_slice(),
+            2,
+            Why::OutOfRange,
         ),
+        (b"dstm 1\nlist 1025".as_slice(), 2, Why::OutOfRange),
+        (b"dstm 1\ntree 65536".as_slice(), 2, Why::OutOfRange),
+        (b"dstm 1\nlist 0 0".as_slice(), 2, Why::OutOfRange),
+        (b"dstm 1\nworkers 2 2".as_slice(), 2, Why::Extra),
         (
-            b"dstm 1\nbank 2 100\ntx 1 transfer 0 1 5\n".as_slice(),
-            3,
-            Why::NotBuilt,
-        ),
-        (
-            b"dstm 1\nbank 2 100\ntx 0 transfer 0 1 5\n\n".as_slice(),
+            b"dstm 1\nbank 1 1\ntx 0 total\nbank 1 1".as_slice(),
             4,
-            Why::NotBuilt,
+            Why::Late,
         ),
         (
-            b"dstm 1\nbank 2 100\ntx 0 transfer 0 1 10000000000000".as_slice(),
+            b"dstm 1\nbank 1 1\ntx 0 total\nlist".as_slice(),
+            4,
+            Why::Late,
+        ),
+        (b"dstm 1\ntx".as_slice(), 2, Why::Missing),
+        (b"dstm 1\ntx ;".as_slice(), 2, Why::Number),
+        (b"dstm 1\ntx 1".as_slice(), 2, Why::OutOfRange),
+        (
+            b"dstm 1\ntx 99999999999999999999 x".as_slice(),
+            2,
+            Why::OutOfRange,
+        ),
+        (b"dstm 1\ntx 0 ;".as_slice(), 2, Why::Missing),
+        (b"dstm 1\ntx 0 total x".as_slice(), 2, Why::Undeclared),
+        (b"dstm 2\ntx 0 get 5".as_slice(), 2, Why::Undeclared),
+        (b"dstm 2\ntx 0 put".as_slice(), 2, Why::Undeclared),
+        (b"dstm 1\ntree 1\ntx 0 put 5 9".as_slice(), 3, Why::Unknown),
+        (
+            b"dstm 2\ntree 1\ntx 0 put 5 18446744073709551616".as_slice(),
             3,
-            Why::NotBuilt,
+            Why::OutOfRange,
         ),
         (
-            b"dstm 1\nbank 2 100\ntx 0 transfer 0 01 5\nx".as_slice(),
+            b"dstm 2\ntree 1\ntx 0 await tree 1".as_slice(),
             3,
-            Why::NotBuilt,
+            Why::Unknown,
+        ),
+        (
+            b"dstm 2\ntree 1\ntx 0 get 1 orelse get 1".as_slice(),
+            3,
+            Why::Extra,
+        ),
+        (
+            b"dstm 1\nbank 2 1\ntx 0 transfer 0 1 10000000000000".as_slice(),
+            3,
+            Why::OutOfRange,
+        ),
+        (
+            b"dstm 1\nlist 2\ntx 0 member list 1048575".as_slice(),
+            3,
+            Why::OutOfRange,
         ),
     ];
     for (text, line, why) in table {
-        match read_workload(rt.alloc(), text) {
-            Err(WorkloadError::Refused(refused)) => {
-                assert_eq!(rt; refused.line, line);
-                assert_eq!(rt; refused.why, why);
-            }
-            _ => panic!(rt; "not refused: {text:?}"),
-        }
+        expect_refused(&rt, text, line, why);
     }
-    assert_eq!(rt; Why::Header.text(), b"header".as_slice());
-    assert_eq!(rt; Why::NotBuilt.text(), b"not built".as_slice());
+}
+
+#[test]
+fn lines_of_operations_are_refused(rt: HostRuntime) -> Result<(), Fail> {
+    let bank = b"dstm 1\nbank 2 100\n".as_slice();
+    let all = b"dstm 3\nbank 2 100\nlist 1\n".as_slice();
+    let table = [
+        (bank, b"tx 0".as_slice(), Why::Missing),
+        (bank, b"tx 0 total ;".as_slice(), Why::Missing),
+        (bank, b"tx 0 total 5".as_slice(), Why::Extra),
+        (bank, b"tx 0 balance 2".as_slice(), Why::OutOfRange),
+        (bank, b"tx 0 balance 01".as_slice(), Why::Number),
+        (bank, b"tx 0 balance ;".as_slice(), Why::Missing),
+        (bank, b"tx 0 insert list 3".as_slice(), Why::Undeclared),
+        (bank, b"tx 0 insert heap 3".as_slice(), Why::Unknown),
+        (bank, b"tx 0 insert ;".as_slice(), Why::Missing),
+        (bank, b"tx 0 transfer 0 1 5;".as_slice(), Why::Number),
+        (bank, b"bank 2 100".as_slice(), Why::Twice),
+        (bank, b"queue 3".as_slice(), Why::Unknown),
+        (bank, b"workers 33".as_slice(), Why::OutOfRange),
+        (
+            bank,
+            b"tx 0 total ; total ; total ; total ; total ; total ; total ; total ; x".as_slice(),
+            Why::TooMany,
+        ),
+        (
+            bank,
+            b"tx 0 total ; total ; total ; total ; total ; total ; total ; total x".as_slice(),
+            Why::Extra,
+        ),
+        (
+            all,
+            b"tx 0 total ; total ; total ; total ; total ; total ; total orelse x".as_slice(),
+            Why::TooMany,
+        ),
+        (
+            all,
+            b"tx 0 total ; total ; total ; total ; total ; total ; total ; total orelse x".as_slice(),
+            Why::TooMany,
+        ),
+        (
+            all,
+            b"tx 0 total ; total ; total ; total ; total ; total orelse x".as_slice(),
+            Why::Unknown,
+        ),
+        (all, b"tx 0 orelse".as_slice(), Why::Missing),
+        (all, b"tx 0 total orelse".as_slice(), Why::Missing),
+        (all, b"tx 0 total orelse ; total".as_slice(), Why::Missing),
+        (all, b"tx 0 total ; await list 1".as_slice(), Why::Unknown),
+        (all, b"tx 0 total await".as_slice(), Why::Extra),
+        (all, b"tx 0 await".as_slice(), Why::Missing),
+        (all, b"tx 0 await orelse".as_slice(), Why::Missing),
+        (all, b"tx 0 await ;".as_slice(), Why::Missing),
+        (all, b"tx 0 await total".as_slice(), Why::Unknown),
+        (all, b"tx 0 await tree 1".as_slice(), Why::Undeclared),
+        (all, b"tx 0 await balance 0 orelse".as_slice(), Why::Number),
+        (
+            all,
+            b"tx 0 await balance 0 10000000000000".as_slice(),
+            Why::OutOfRange,
+        ),
+        (all, b"tx 0 insert orelse 1".as_slice(), Why::Unknown),
+        (all, b"tx 0 balance orelse".as_slice(), Why::Number),
+        (all, b"tx 0 balance await".as_slice(), Why::Number),
+    ];
+    for (declarations, line, why) in table {
+        let number = if declarations == bank { 3 } else { 4 };
+        let mut text = Vec::from_slice(rt.alloc(), declarations)?;
+        text.extend_from_slice(line)?;
+        expect_refused(&rt, text.as_slice(), number, why);
+    }
+    Ok(())
+}
+
+#[test]
+fn transactions_are_counted(rt: HostRuntime) -> Result<(), Fail> {
+    let mut text = Vec::from_slice(rt.alloc(), b"dstm 1\nbank 1 1\n")?;
+    for _ in 0..MAX_JOBS {
+        text.extend_from_slice(b"tx 0 total\n")?;
+    }
+    let workload = read_workload(rt.alloc(), text.as_slice())?;
+    assert_eq!(rt; workload.jobs.as_slice().len(), MAX_JOBS);
+    text.extend_from_slice(b"tx")?;
+    expect_refused(&rt, text.as_slice(), 20_003, Why::TooMany);
+    Ok(())
+}
+
+#[test]
+fn workloads_are_written(rt: HostRuntime) -> Result<(), Fail> {
+    // Texts, and what is written of the workloads that they stand for.
+    let table = [
+        (
+            b"dstm 1\nbank 2 100\ntx 0 transfer 0 1 80 ; transfer 0 1 80".as_slice(),
+            b"dstm 1\nworkers 1\nbank 2 100\ntx 0 transfer 0 1 80 ; transfer 0 1 80\n".as_slice(),
+        ),
+        (b"dstm 2".as_slice(), b"dstm 2\nworkers 1\n".as_slice()),
+        (
+            b"dstm 3\ntree 7\nlist 1\nbank 1 0\nworkers 2\n\n\
+                tx 1  await  tree 5 ; insert list 0 orelse put 5 18446744073709551615 ; get 5\n\
+                tx 0 await balance 0 9 orelse total ; member tree 1 ; remove list 2"
+                .as_slice(),
+            b"dstm 3\nworkers 2\nbank 1 0\nlist 1\ntree 7\n\
+                tx 1 await tree 5 ; insert list 0 orelse put 5 18446744073709551615 ; get 5\n\
+                tx 0 await balance 0 9 orelse total ; member tree 1 ; remove list 2\n"
+                .as_slice(),
+        ),
+    ];
+    for (text, want) in table {
+        let workload = read_workload(rt.alloc(), text)?;
+        let written = write_workload(rt.alloc(), &workload)?;
+        assert_eq!(rt; written.as_slice(), want);
+    }
+    Ok(())
+}
+
+#[test]
+fn reasons_are_printed(rt: HostRuntime) {
+    assert_eq!(rt; Why::OutOfRange.text(), b"out of range".as_slice());
+    assert_eq!(rt; Why::TooMany.text(), b"too many".as_slice());
+}
+
+fn expect_refused<R: Abort + AllocGlobal>(rt: &R, text: &[u8], line: u64, why: Why) {
+    match read_workload(rt.alloc(), text) {
+        Err(WorkloadError::Refused(refused)) => {
+            assert_eq!(rt; refused.line, line, "{text:?}");
+            assert_eq!(rt; refused.why, why, "{text:?}");
+        }
+        _ => panic!(rt; "not refused: {text:?}"),
+    }
 }

@@ -12,7 +12,8 @@ returns-in_err-number c =
     let whole = value_take_le ds (i + 1) in
     let so_far = c.loop-digit.invariant.value in
     let SpellsIt : Option ℕ → Type 0 = λ r. SomeIff r (digits_value 10 ds < 2 ^ 64) (digits_value 10 ds) in
-    subst SpellsIt (sym c.from_residual.ensures) (λ small. c.in_err-number.ensures (omega (arith, more.0, whole, so_far)))
+    subst SpellsIt (sym c.from_residual.ensures)
+    (λ small. c.in_err-number.ensures (omega (arith, more.0, whole, so_far)))
 
 pub loop-digit-preserved : goal.loop-digit-preserved
 loop-digit-preserved c =

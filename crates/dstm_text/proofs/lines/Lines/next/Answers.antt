@@ -9,4 +9,5 @@ returns-clause-some c =
     let some : 0 < length bytes = omega (arith, eqb-false (length bytes) 0 (sym c.if-is_empty.ensures)) in
     let cut = c.first_piece in
     sym c.self.view_is
-    ∙ lines_cut bytes cut.result.0.now cut.result.1 _ c.unwrap_or-self-inside.result c.unwrap_or-self-inside.ensures some refl cut.ensures.pieces cut.ensures.whole
+    ∙ lines_cut bytes cut.result.0.now cut.result.1 _ c.unwrap_or-self-inside.result
+    c.unwrap_or-self-inside.ensures some refl cut.ensures.pieces cut.ensures.whole

@@ -1,0 +1,130 @@
+-- What one line tells, given what the lines before it have told.
+use Rattle.std.specs.Prelude.{ℕ, ◌-◌, ◌==◌, Bool, true, false, ◌&&◌, nat_lt, nat_le, List, [], ◌∷◌, Option}
+use Rattle.std.specs.Prelude.{Some, None, Result, Ok, Err, is_some, unwrap_or, codes, if◌then◌else◌}
+use Rattle.std.specs.Str.{bytes_eq}
+use Rattle.std.specs.List.{list_all}
+use Rattle.dstm_model.specs.declared.layout.TheConstants.{MAX_ACCOUNTS, MAX_OPENING, MAX_LIST_NODES, MAX_TREE_NODES}
+use Rattle.dstm_text.specs.Lines.{fields_of}
+use Rattle.dstm_text.specs.Number.{number_of}
+use Rattle.dstm_workload.specs.declared.refused.Why.{Why}
+use Rattle.dstm_workload.specs.declared.refused.Why.TheVariants.{Header, Bytes, Unknown, Missing, Twice, Late, TooMany}
+use Rattle.dstm_workload.specs.declared.word.Word.{Word}
+use Rattle.dstm_workload.specs.declared.word.Word.TheVariants as word
+use Rattle.dstm_workload.specs.declared.known.Known.{Known}
+use Rattle.dstm_workload.specs.declared.known.Entry.{Entry}
+use Rattle.dstm_workload.specs.declared.known.Entry.TheVariants as entry
+use Rattle.dstm_workload.specs.declared.workload.TheConstants.{MAX_WORKERS, MAX_JOBS, MAX_OPS, VERSIONS}
+use Rattle.dstm_workload.specs.Words.{word_of}
+use Rattle.dstm_workload.specs.Fields.{◌>>=◌, number_at, end_at}
+use Rattle.dstm_workload.specs.Operations.{ops_at}
+
+-- a line that begins with `#`
+abbrev pub is_comment : List ℕ → Bool
+is_comment [] = false
+is_comment (b ∷ line) = b == 35
+
+-- a byte that a line may hold
+abbrev pub is_printable : ℕ → Bool
+is_printable b = nat_le 32 b && nat_le b 126
+
+-- the version of the header with these fields: `dstm` and 1, 2 or 3
+abbrev pub version_in : Option ℕ → Option ℕ
+version_in None = None
+version_in (Some n) = if nat_le 1 n && nat_le n VERSIONS then Some n else None
+
+abbrev pub header_of : List (List ℕ) → Option ℕ
+header_of (name ∷ version ∷ []) =
+    if bytes_eq name (codes "dstm") then version_in (number_of version) else None
+header_of fields = None
+
+abbrev pub header_at : Option ℕ → Result Entry Why
+header_at None = Err Header
+header_at (Some version) = Ok (entry.Version version)
+
+-- ---- declarations
+
+-- a declaration may come: there is no transaction yet, and it was not made before
+abbrev pub free_for : Known → Bool → Result Bool Why
+free_for known declared =
+    if nat_lt 0 known.transactions then Err Late else if declared then Err Twice else Ok true
+
+unfoldable pub workers_at : Known → List (List ℕ) → Result Entry Why
+workers_at known fields = do
+  free ← free_for known (is_some known.workers)
+  n ← number_at 1 MAX_WORKERS fields
+  end ← end_at n.1
+  Ok (entry.Workers n.0)
+
+unfoldable pub bank_at : Known → List (List ℕ) → Result Entry Why
+bank_at known fields = do
+  free ← free_for known (is_some known.bank)
+  n ← number_at 1 MAX_ACCOUNTS fields
+  b ← number_at 0 MAX_OPENING n.1
+  end ← end_at b.1
+  Ok (entry.Bank (record { accounts = n.0; opening = b.0 }))
+
+unfoldable pub list_at : Known → List (List ℕ) → Result Entry Why
+list_at known fields = do
+  free ← free_for known (is_some known.list)
+  n ← number_at 1 MAX_LIST_NODES fields
+  end ← end_at n.1
+  Ok (entry.List n.0)
+
+unfoldable pub tree_at : Known → List (List ℕ) → Result Entry Why
+tree_at known fields = do
+  free ← free_for known (is_some known.tree)
+  n ← number_at 1 MAX_TREE_NODES fields
+  end ← end_at n.1
+  Ok (entry.Tree n.0)
+
+-- ---- transactions
+
+-- how many workers there are
+abbrev pub worker_count : Known → ℕ
+worker_count known = unwrap_or known.workers 1
+
+abbrev pub room_for_job : Known → Result Bool Why
+room_for_job known = if nat_lt known.transactions MAX_JOBS then Ok true else Err TooMany
+
+unfoldable pub transaction_at : ℕ → Known → ℕ → List (List ℕ) → Result Entry Why
+transaction_at version known line fields = do
+  room ← room_for_job known
+  worker ← number_at 0 (worker_count known - 1) fields
+  ops ← ops_at version known MAX_OPS 0 true worker.1
+  Ok (entry.Transaction (record { line = line; worker = worker.0; ops = ops }))
+
+-- ---- lines
+
+abbrev pub body_of : ℕ → Known → ℕ → List (List ℕ) → Option Word → Result Entry Why
+body_of version known line fields (Some word.Workers) = workers_at known fields
+body_of version known line fields (Some word.Bank) = bank_at known fields
+body_of version known line fields (Some word.List) = list_at known fields
+body_of version known line fields (Some word.Tree) = tree_at known fields
+body_of version known line fields (Some word.Tx) = transaction_at version known line fields
+body_of version known line fields (Some other) = Err Unknown
+body_of version known line fields None = Err Unknown
+
+-- a line behind the header
+unfoldable pub body_at : ℕ → Known → ℕ → List (List ℕ) → Result Entry Why
+body_at version known line [] = Err Missing
+body_at version known line (field ∷ fields) = body_of version known line fields (word_of version field)
+
+abbrev pub told_by : Option ℕ → Known → ℕ → List (List ℕ) → Result Entry Why
+told_by None known line fields = header_at (header_of fields)
+told_by (Some version) known line fields = body_at version known line fields
+
+abbrev pub something : Result Entry Why → Result (Option Entry) Why
+something (Ok e) = Ok (Some e)
+something (Err why) = Err why
+
+-- what a line tells, if it has fields
+abbrev pub fields_tell : Known → ℕ → List ℕ → List (List ℕ) → Result (Option Entry) Why
+fields_tell known line text [] = Ok None
+fields_tell known line text (field ∷ fields) =
+    if list_all is_printable text
+    then something (told_by known.version known line (field ∷ fields))
+    else Err Bytes
+
+-- what the line with this number tells; a comment and a line without fields tell nothing
+unfoldable pub entry_of : Known → ℕ → List ℕ → Result (Option Entry) Why
+entry_of known line text = if is_comment text then Ok None else fields_tell known line text (fields_of text)
