@@ -1,4 +1,9 @@
+pub mod Equality
+pub mod LineByLine
 pub mod LineCount
+pub mod OneRowMore
 pub mod Onto
 pub mod RoundTrip
+pub mod Turns
 pub mod Words
+pub mod Following

@@ -1,7 +1,7 @@
 -- What has been read in front of what is read behind it.
-use Rattle.std.proofs.Common.{◌≡◌, ℕ, ◌-◌, ◌+◌, ◌<◌, ◌&&◌, true, ltb, List, [], ◌∷◌, ◌++◌, length, Option, Some, None, codes, refl, ap, sym, ◌∙◌, append_assoc, arith}
-use Rattle.std.specs.Str.{bytes_eq}
-use Rattle.std.proofs.lemmas.Bool.{and_from, lt-ltb, cond-true}
+use Rattle.std.proofs.Common.{◌≡◌, ℕ, ◌-◌, ◌<◌, ltb, List, [], ◌∷◌, ◌++◌, length, Option, Some, None}
+use Rattle.std.proofs.Common.{refl, ap, sym, ◌∙◌, append_assoc, arith}
+use Rattle.std.proofs.lemmas.Bool.{lt-ltb, cond-true}
 use Rattle.std.proofs.lemmas.List.{length_push}
 use Rattle.dstm_model.specs.declared.reply.Reply.{Reply}
 use Rattle.dstm_report.specs.Reading.{◌>>=◌, further_reply, further_replies}
@@ -14,7 +14,8 @@ pub onto_nil : {X : Type 0} (read : Option (List X)) → onto [] read ≡ read
 onto_nil None = refl
 onto_nil (Some xs) = refl
 
-pub onto_more : {X : Type 0} (xs : List X) (x : X) (read : Option (List X)) → onto (xs ++ x ∷ []) read ≡ onto xs (onto (x ∷ []) read)
+pub onto_more : {X : Type 0} (xs : List X) (x : X) (read : Option (List X)) →
+    onto (xs ++ x ∷ []) read ≡ onto xs (onto (x ∷ []) read)
 onto_more xs x None = refl
 onto_more {X} xs x (Some ys) = ap (λ (l : List X). Some l) (append_assoc xs (x ∷ []) ys)
 
@@ -31,8 +32,10 @@ further_more version done mark word words reply few is_reply =
     let room = 8 - length done in
     let next = further_replies version (room - 1) words in
     let less : 8 - length (done ++ reply ∷ []) ≡ room - 1 = omega (arith, length_push done reply) in
-    let read : further_replies version room (mark ∷ word ∷ words) ≡ (further_reply version mark word >>= λ r. (next >>= λ rs. Some (r ∷ rs))) =
+    let read : further_replies version room (mark ∷ word ∷ words) ≡
+    (further_reply version mark word >>= λ r. (next >>= λ rs. Some (r ∷ rs))) =
     cond-true (ltb 0 room) _ None (lt-ltb 0 room (omega arith)) in
     ap (λ n. onto (done ++ reply ∷ []) (further_replies version n words)) less
     ∙ onto_more done reply next
-    ∙ ap (onto done) (sym (read ∙ ap (λ (o : Option Reply). o >>= λ r. (next >>= λ rs. Some (r ∷ rs))) is_reply ∙ bind_onto reply next))
+    ∙ ap (onto done) (sym (read ∙ ap (λ (o : Option Reply). o >>= λ r. (next >>= λ rs. Some (r ∷ rs))) is_reply
+    ∙ bind_onto reply next))

@@ -1,26 +1,34 @@
 -- The text of a report that its version can hold is read as that report.
-use Rattle.std.proofs.Common.{◌≡◌, ℕ, ◌+◌, ◌-◌, ◌<◌, ◌≤◌, true, false, eqb, ltb, leb, cond, List, [], ◌∷◌, ◌++◌, map, length, Option, Some, None, Result, Ok, codes, decimal, refl, ap, sym, subst, ◌∙◌, append_assoc, arith, ⊎_elim}
+use Rattle.std.proofs.Common.{◌≡◌, ℕ, ◌+◌, ◌-◌, ◌<◌, ◌≤◌, true, false, eqb, ltb, cond, List, [], ◌∷◌, ◌++◌, map}
+use Rattle.std.proofs.Common.{length, get_or, Option, Some, None, Ok, codes, decimal, refl, ap, sym, subst, ◌∙◌}
+use Rattle.std.proofs.Common.{append_assoc, arith, ⊎_elim}
 use Rattle.std.specs.Prelude.{IfSome}
 use Rattle.std.specs.List.{All, flat_map}
 use Rattle.std.specs.Option.{option_map, option_or}
-use Rattle.std.specs.Str.{bytes_eq}
 use Rattle.std.specs.Char.{is_ascii_digit}
 use Rattle.std.proofs.lemmas.Bool.{cases_Bool, cond-true, cond-false, le-leb, lt-ltb, eq-eqb, eqb-true}
 use Rattle.std.proofs.lemmas.List.{append-nil}
 use Rattle.std.proofs.lemmas.List.Elements.{All-head, All-tail}
 use Rattle.dstm_model.specs.declared.reply.Reply.{Reply}
-use Rattle.dstm_model.specs.declared.reply.Reply.TheVariants.{Moved, Poor, Number, Yes, No, Full, Absent, Never}
+use Rattle.dstm_model.specs.declared.reply.Reply.TheVariants.{Number, Absent, Never}
 use Rattle.dstm_model.specs.declared.state.Item.{Item}
-use Rattle.dstm_text.specs.Lines.{pieces, space, lines_of}
+use Rattle.dstm_text.specs.Lines.{pieces, lines_of}
 use Rattle.dstm_report.specs.declared.draft.Draft.{Draft}
 use Rattle.dstm_report.specs.declared.draft.Part.{Part}
 use Rattle.dstm_report.specs.declared.draft.Part.TheVariants as part
 use Rattle.dstm_report.specs.declared.draft.TheConstants.{MAX_NUMBER, MAX_WORKER, MAX_REPLIES, COLON, DOT}
 use Rattle.dstm_report.specs.declared.report.Row.{Row}
 use Rattle.dstm_report.specs.declared.report.Report.{Report}
-use Rattle.dstm_report.specs.Reading.{◌>>=◌, number_in, number_at, pair_of, both_numbers, place_at, known_reply, number_reply, reply_of, further_reply, further_replies, replies_of, row_of, numbers_of, item_of, items_of, count_of, part_of, rank, can_follow, with_row, with_bank, with_list, with_tree, with_count, add_part, add_words, add_line, or_line, finished, then_on, completed, header_of, is_version, blank, report_of, HasReply, HasRow, HasItem, IsNumber, IsHeld}
-use Rattle.dstm_report.specs.Text.{field, line, reply_text, further_text, replies_text, row_text, number_field, numbers_text, item_text, item_field, items_text, report_text}
-use Rattle.dstm_report.proofs.Words.{is_free, free-append, pieces_word, pieces_last, lines_of-line, Printed, decimal_free, decimal_ne, number_in-decimal}
+use Rattle.dstm_report.specs.Reading.{◌>>=◌, number_in, number_at, pair_of, both_numbers, place_at, known_reply}
+use Rattle.dstm_report.specs.Reading.{number_reply, reply_of, further_replies, replies_of, row_of}
+use Rattle.dstm_report.specs.Reading.{numbers_of, item_of, items_of, count_of, part_of, rank, can_follow, with_row}
+use Rattle.dstm_report.specs.Reading.{with_bank, with_list, with_tree, with_count, add_part, add_words, add_line}
+use Rattle.dstm_report.specs.Reading.{or_line, then_on, completed, header_of, is_version, blank, report_of}
+use Rattle.dstm_report.specs.Reading.{HasReply, HasRow, HasItem, IsNumber, IsHeld}
+use Rattle.dstm_report.specs.Text.{field, line, reply_text, further_text, replies_text, row_text, number_field}
+use Rattle.dstm_report.specs.Text.{numbers_text, item_text, item_field, items_text, report_text}
+use Rattle.dstm_report.proofs.Words.{is_free, free-append, pieces_word, pieces_last, lines_of-line, Printed}
+use Rattle.dstm_report.proofs.Words.{decimal_free, decimal_ne, number_in-decimal}
 
 bind_read : {A B : Type 0} (o : Option A) (f : A → Option B) (x : A) → o ≡ Some x → (o >>= f) ≡ f x
 bind_read {A} {B} o f x e = ap (λ (p : Option A). p >>= f) e
@@ -33,21 +41,26 @@ record IsWord (word : List ℕ) : Type 0 where
   in_words : is_free 32 word ≡ true
 
 word-append : (a b : List ℕ) → IsWord a → IsWord b → IsWord (a ++ b)
-word-append a b first second =
-    record { in_line = free-append 10 a b first.in_line second.in_line; in_words = free-append 32 a b first.in_words second.in_words }
+word-append a b first second = record {
+  in_line = free-append 10 a b first.in_line second.in_line;
+  in_words = free-append 32 a b first.in_words second.in_words;
+}
 
 decimal_word : Printed → (n : ℕ) → n ≤ MAX_NUMBER → IsWord (decimal n)
-decimal_word printed n small = record { in_line = decimal_free printed 10 n refl small; in_words = decimal_free printed 32 n refl small }
+decimal_word printed n small =
+    record { in_line = decimal_free printed 10 n refl small; in_words = decimal_free printed 32 n refl small }
 
 number_at-decimal : Printed → (most n : ℕ) (words : List (List ℕ)) → n ≤ most → most ≤ MAX_NUMBER →
     number_at most (decimal n ∷ words) ≡ Some (n, words)
-number_at-decimal printed most n words small range = bind_read (number_in most (decimal n)) _ n (number_in-decimal printed most n small range)
+number_at-decimal printed most n words small range =
+    bind_read (number_in most (decimal n)) _ n (number_in-decimal printed most n small range)
 
 -- two numbers with a separator between them
 abbrev pair_word : ℕ → ℕ → ℕ → List ℕ
 pair_word c a b = decimal a ++ (c ∷ []) ++ decimal b
 
-pair_read : Printed → (c a b : ℕ) → is_ascii_digit c ≡ false → a ≤ MAX_NUMBER → b ≤ MAX_NUMBER → pair_of c (pair_word c a b) ≡ Some (a, b)
+pair_read : Printed → (c a b : ℕ) → is_ascii_digit c ≡ false → a ≤ MAX_NUMBER → b ≤ MAX_NUMBER →
+    pair_of c (pair_word c a b) ≡ Some (a, b)
 pair_read printed c a b none small_a small_b =
     ap (λ (text : List ℕ). both_numbers (pieces c text)) (append_assoc (decimal a) (c ∷ []) (decimal b))
     ∙ ap both_numbers (pieces_word c (decimal a) (decimal b) (decimal_free printed c a none small_a)
@@ -72,9 +85,11 @@ unknown_number printed version n small =
     let never = decimal_ne printed n 110 (codes "ever") refl small in
     rw (ok, poor, yes, no, full, absent, never) refl
 
-reply_read : Printed → (version : ℕ) (reply : Reply) → HasReply version reply → reply_of version (reply_text reply) ≡ Some reply
+reply_read : Printed → (version : ℕ) (reply : Reply) → HasReply version reply →
+    reply_of version (reply_text reply) ≡ Some reply
 reply_read printed version (Number n) has =
-    ap (λ (o : Option Reply). option_or o (number_reply (number_in MAX_NUMBER (decimal n)))) (unknown_number printed version n has)
+    ap (λ (o : Option Reply). option_or o (number_reply (number_in MAX_NUMBER (decimal n))))
+    (unknown_number printed version n has)
     ∙ ap number_reply (number_in-decimal printed MAX_NUMBER n has (omega arith))
 reply_read printed version Absent has = rw (le-leb 2 version has) refl
 reply_read printed version Never has = rw (le-leb 3 version has) refl
@@ -85,25 +100,31 @@ abbrev further_words : List Reply → List (List ℕ)
 further_words [] = []
 further_words (reply ∷ replies) = codes ";" ∷ reply_text reply ∷ further_words replies
 
-further_pieces : Printed → (version : ℕ) (word : List ℕ) (replies : List Reply) → IsWord word → All (HasReply version) replies →
+further_pieces : Printed → (version : ℕ) (word : List ℕ) (replies : List Reply) → IsWord word →
+    All (HasReply version) replies →
     pieces 32 (word ++ flat_map further_text replies) ≡ word ∷ further_words replies
-further_pieces printed version word [] is_word has = ap (pieces 32) (append-nil word) ∙ pieces_last 32 word is_word.in_words
+further_pieces printed version word [] is_word has =
+    ap (pieces 32) (append-nil word) ∙ pieces_last 32 word is_word.in_words
 further_pieces printed version word (reply ∷ replies) is_word has =
     let here = All-head (HasReply version) reply replies has in
     let rest = reply_text reply ++ flat_map further_text replies in
     pieces_word 32 word (59 ∷ 32 ∷ rest) is_word.in_words
     ∙ ap (λ (ps : List (List ℕ)). word ∷ ps) (pieces_word 32 (59 ∷ []) rest refl
     ∙ ap (λ (ps : List (List ℕ)). codes ";" ∷ ps)
-    (further_pieces printed version (reply_text reply) replies (reply_is_word printed version reply here) (All-tail (HasReply version) reply replies has)))
+    (further_pieces printed version (reply_text reply) replies (reply_is_word printed version reply here)
+    (All-tail (HasReply version) reply replies has)))
 
-further_free : Printed → (version : ℕ) (replies : List Reply) → All (HasReply version) replies → is_free 10 (flat_map further_text replies) ≡ true
+further_free : Printed → (version : ℕ) (replies : List Reply) → All (HasReply version) replies →
+    is_free 10 (flat_map further_text replies) ≡ true
 further_free printed version [] has = refl
 further_free printed version (reply ∷ replies) has =
     let here = reply_is_word printed version reply (All-head (HasReply version) reply replies has) in
-    free-append 10 (further_text reply) (flat_map further_text replies) (free-append 10 (codes " ; ") (reply_text reply) refl here.in_line)
+    free-append 10 (further_text reply) (flat_map further_text replies)
+    (free-append 10 (codes " ; ") (reply_text reply) refl here.in_line)
     (further_free printed version replies (All-tail (HasReply version) reply replies has))
 
-further_read : Printed → (version room : ℕ) (replies : List Reply) → All (HasReply version) replies → length replies ≤ room →
+further_read : Printed → (version room : ℕ) (replies : List Reply) → All (HasReply version) replies →
+    length replies ≤ room →
     further_replies version room (further_words replies) ≡ Some replies
 further_read printed version room [] has few = refl
 further_read printed version room (reply ∷ replies) has few =
@@ -114,14 +135,17 @@ further_read printed version room (reply ∷ replies) has few =
     ∙ ap (λ (o : Option (List Reply)). o >>= λ rs. Some (reply ∷ rs))
     (further_read printed version (room - 1) replies (All-tail (HasReply version) reply replies has) (omega arith))
 
-replies_read : Printed → (version : ℕ) (reply : Reply) (replies : List Reply) → All (HasReply version) (reply ∷ replies) →
-    length (reply ∷ replies) ≤ MAX_REPLIES → replies_of version (reply_text reply ∷ further_words replies) ≡ Some (reply ∷ replies)
+replies_read : Printed → (version : ℕ) (reply : Reply) (replies : List Reply) →
+    All (HasReply version) (reply ∷ replies) →
+    length (reply ∷ replies) ≤ MAX_REPLIES →
+    replies_of version (reply_text reply ∷ further_words replies) ≡ Some (reply ∷ replies)
 replies_read printed version reply replies has few =
     let next = further_replies version (MAX_REPLIES - 1) (further_words replies) in
     ap (λ (o : Option Reply). o >>= λ r. (next >>= λ rs. Some (r ∷ rs)))
     (reply_read printed version reply (All-head (HasReply version) reply replies has))
     ∙ ap (λ (o : Option (List Reply)). o >>= λ rs. Some (reply ∷ rs))
-    (further_read printed version (MAX_REPLIES - 1) replies (All-tail (HasReply version) reply replies has) (omega arith))
+    (further_read printed version (MAX_REPLIES - 1) replies (All-tail (HasReply version) reply replies has)
+    (omega arith))
 
 -- ---- rows
 
@@ -132,52 +156,64 @@ row_line row =
 
 abbrev row_words : Row → Reply → List Reply → List (List ℕ)
 row_words row reply replies =
-    decimal row.line ∷ decimal row.worker ∷ pair_word DOT row.round row.number ∷ reply_text reply ∷ further_words replies
+    decimal row.line ∷ decimal row.worker ∷ pair_word DOT row.round row.number ∷ reply_text reply
+    ∷ further_words replies
 
 four_words : (a b c d : List ℕ) → ((a ++ (32 ∷ b)) ++ (32 ∷ c)) ++ (32 ∷ d) ≡ a ++ (32 ∷ (b ++ (32 ∷ (c ++ (32 ∷ d)))))
 four_words a b c d = append_assoc (a ++ (32 ∷ b)) (32 ∷ c) (32 ∷ d) ∙ append_assoc a (32 ∷ b) ((32 ∷ c) ++ (32 ∷ d))
 
 pair_is_word : Printed → (c a b : ℕ) → IsWord (c ∷ []) → a ≤ MAX_NUMBER → b ≤ MAX_NUMBER → IsWord (pair_word c a b)
 pair_is_word printed c a b mark small_a small_b =
-    word-append (decimal a ++ (c ∷ [])) (decimal b) (word-append (decimal a) (c ∷ []) (decimal_word printed a small_a) mark) (decimal_word printed b small_b)
+    word-append (decimal a ++ (c ∷ [])) (decimal b)
+    (word-append (decimal a) (c ∷ []) (decimal_word printed a small_a) mark) (decimal_word printed b small_b)
 
 place_is_word : Printed → (version : ℕ) (row : Row) → HasRow version row → IsWord (pair_word DOT row.round row.number)
 place_is_word printed version row has =
     pair_is_word printed DOT row.round row.number (record { in_line = refl; in_words = refl }) has.round has.number
 
-row_pieces : Printed → (version : ℕ) (row : Row) (reply : Reply) (replies : List Reply) → HasRow version row → row.replies ≡ reply ∷ replies →
+row_pieces : Printed → (version : ℕ) (row : Row) (reply : Reply) (replies : List Reply) → HasRow version row →
+    row.replies ≡ reply ∷ replies →
     pieces 32 (row_line row) ≡ row_words row reply replies
 row_pieces printed version row reply replies has is =
     let place = pair_word DOT row.round row.number in
     let told = reply_text reply ++ flat_map further_text replies in
     let all = subst (λ (rs : List Reply). All (HasReply version) rs) is has.replies in
-    ap (λ (rs : List Reply). pieces 32 (decimal row.line ++ field (decimal row.worker) ++ field place ++ field (replies_text rs))) is
+    ap (λ (rs : List Reply). pieces 32
+    (decimal row.line ++ field (decimal row.worker) ++ field place ++ field (replies_text rs))) is
     ∙ ap (pieces 32) (four_words (decimal row.line) (decimal row.worker) place told)
     ∙ pieces_word 32 (decimal row.line) _ (decimal_word printed row.line has.line).in_words
-    ∙ ap (λ (ps : List (List ℕ)). decimal row.line ∷ ps) (pieces_word 32 (decimal row.worker) _ (decimal_word printed row.worker (omega (arith, has.worker))).in_words
-    ∙ ap (λ (ps : List (List ℕ)). decimal row.worker ∷ ps) (pieces_word 32 place told (place_is_word printed version row has).in_words
+    ∙ ap (λ (ps : List (List ℕ)). decimal row.line ∷ ps)
+    (pieces_word 32 (decimal row.worker) _ (decimal_word printed row.worker (omega (arith, has.worker))).in_words
+    ∙ ap (λ (ps : List (List ℕ)). decimal row.worker ∷ ps)
+    (pieces_word 32 place told (place_is_word printed version row has).in_words
     ∙ ap (λ (ps : List (List ℕ)). place ∷ ps)
-    (further_pieces printed version (reply_text reply) replies (reply_is_word printed version reply (All-head (HasReply version) reply replies all))
+    (further_pieces printed version (reply_text reply) replies
+    (reply_is_word printed version reply (All-head (HasReply version) reply replies all))
     (All-tail (HasReply version) reply replies all))))
 
-row_read : Printed → (version : ℕ) (row : Row) (reply : Reply) (replies : List Reply) → HasRow version row → row.replies ≡ reply ∷ replies →
+row_read : Printed → (version : ℕ) (row : Row) (reply : Reply) (replies : List Reply) → HasRow version row →
+    row.replies ≡ reply ∷ replies →
     row_of version (row_words row reply replies) ≡ Some row
 unfolding row_of
 row_read printed version row reply replies has is =
     let words = reply_text reply ∷ further_words replies in
     let place = pair_word DOT row.round row.number in
     let all = subst (λ (rs : List Reply). All (HasReply version) rs) is has.replies in
-    let few : length (reply ∷ replies) ≤ MAX_REPLIES = subst (λ (rs : List Reply). length rs ≤ MAX_REPLIES) is has.few in
+    let few : length (reply ∷ replies) ≤ MAX_REPLIES =
+    subst (λ (rs : List Reply). length rs ≤ MAX_REPLIES) is has.few in
     bind_read (number_at MAX_NUMBER (row_words row reply replies)) _ (row.line, decimal row.worker ∷ place ∷ words)
     (number_at-decimal printed MAX_NUMBER row.line (decimal row.worker ∷ place ∷ words) has.line (omega arith))
     ∙ bind_read (number_at MAX_WORKER (decimal row.worker ∷ place ∷ words)) _ (row.worker, place ∷ words)
     (number_at-decimal printed MAX_WORKER row.worker (place ∷ words) has.worker (omega arith))
     ∙ bind_read (place_at (place ∷ words)) _ ((row.round, row.number), words)
-    (bind_read (pair_of DOT place) _ (row.round, row.number) (pair_read printed DOT row.round row.number refl has.round has.number))
+    (bind_read (pair_of DOT place) _ (row.round, row.number)
+    (pair_read printed DOT row.round row.number refl has.round has.number))
     ∙ bind_read (replies_of version words) _ (reply ∷ replies) (replies_read printed version reply replies all few)
-    ∙ ap (λ (rs : List Reply). Some (record { line = row.line; worker = row.worker; round = row.round; number = row.number; replies = rs })) (sym is)
+    ∙ ap (λ (rs : List Reply). Some
+    (record { line = row.line; worker = row.worker; round = row.round; number = row.number; replies = rs })) (sym is)
 
-row_free : Printed → (version : ℕ) (row : Row) (reply : Reply) (replies : List Reply) → HasRow version row → row.replies ≡ reply ∷ replies →
+row_free : Printed → (version : ℕ) (row : Row) (reply : Reply) (replies : List Reply) → HasRow version row →
+    row.replies ≡ reply ∷ replies →
     is_free 10 (row_line row) ≡ true
 row_free printed version row reply replies has is =
     let place = pair_word DOT row.round row.number in
@@ -194,7 +230,8 @@ row_free printed version row reply replies has is =
     (subst (λ (rs : List Reply). is_free 10 (replies_text rs) ≡ true) (sym is) told)
 
 -- a row has a first reply
-first_reply : (version : ℕ) (row : Row) → HasRow version row → (reply : Reply) × (replies : List Reply) × (row.replies ≡ reply ∷ replies)
+first_reply : (version : ℕ) (row : Row) → HasRow version row →
+    (reply : Reply) × (replies : List Reply) × (row.replies ≡ reply ∷ replies)
 first_reply version row has = some_first row.replies has.some
   where
     some_first : (rs : List Reply) → 1 ≤ length rs → (reply : Reply) × (replies : List Reply) × (rs ≡ reply ∷ replies)
@@ -203,42 +240,55 @@ first_reply version row has = some_first row.replies has.some
 
 -- ---- what a structure holds
 
-numbers_pieces : Printed → (word : List ℕ) (numbers : List ℕ) → IsWord word → All IsNumber numbers →
-    pieces 32 (word ++ flat_map number_field numbers) ≡ word ∷ map decimal numbers
-numbers_pieces printed word [] is_word all = ap (pieces 32) (append-nil word) ∙ pieces_last 32 word is_word.in_words
-numbers_pieces printed word (n ∷ numbers) is_word all =
-    pieces_word 32 word (decimal n ++ flat_map number_field numbers) is_word.in_words
+fields_pieces : {X : Type 0} (text : X → List ℕ) (word : List ℕ) (xs : List X) → IsWord word →
+    All (λ x. IsWord (text x)) xs →
+    pieces 32 (word ++ flat_map (λ x. field (text x)) xs) ≡ word ∷ map text xs
+fields_pieces text word [] is_word all = ap (pieces 32) (append-nil word) ∙ pieces_last 32 word is_word.in_words
+fields_pieces {X} text word (x ∷ xs) is_word all =
+    let Word : X → Type 0 = λ y. IsWord (text y) in
+    pieces_word 32 word (text x ++ flat_map (λ y. field (text y)) xs) is_word.in_words
     ∙ ap (λ (ps : List (List ℕ)). word ∷ ps)
-    (numbers_pieces printed (decimal n) numbers (decimal_word printed n (All-head IsNumber n numbers all)) (All-tail IsNumber n numbers all))
+    (fields_pieces text (text x) xs (All-head Word x xs all) (All-tail Word x xs all))
 
-numbers_free : Printed → (numbers : List ℕ) → All IsNumber numbers → is_free 10 (flat_map number_field numbers) ≡ true
-numbers_free printed [] all = refl
-numbers_free printed (n ∷ numbers) all =
-    free-append 10 (number_field n) (flat_map number_field numbers) (decimal_word printed n (All-head IsNumber n numbers all)).in_line
-    (numbers_free printed numbers (All-tail IsNumber n numbers all))
+fields_free : {X : Type 0} (text : X → List ℕ) (xs : List X) → All (λ x. IsWord (text x)) xs →
+    is_free 10 (flat_map (λ x. field (text x)) xs) ≡ true
+fields_free text [] all = refl
+fields_free {X} text (x ∷ xs) all =
+    let Word : X → Type 0 = λ y. IsWord (text y) in
+    free-append 10 (field (text x)) (flat_map (λ y. field (text y)) xs) (All-head Word x xs all).in_line
+    (fields_free text xs (All-tail Word x xs all))
+
+number_words : Printed → (numbers : List ℕ) → All IsNumber numbers → All (λ n. IsWord (decimal n)) numbers
+number_words printed numbers all k d lt = decimal_word printed (get_or numbers k d) (all k d lt)
 
 numbers_read : Printed → (numbers : List ℕ) → All IsNumber numbers → numbers_of (map decimal numbers) ≡ Some numbers
 numbers_read printed [] all = refl
 numbers_read printed (n ∷ numbers) all =
-    bind_read (number_in MAX_NUMBER (decimal n)) _ n (number_in-decimal printed MAX_NUMBER n (All-head IsNumber n numbers all) (omega arith))
-    ∙ bind_read (numbers_of (map decimal numbers)) _ numbers (numbers_read printed numbers (All-tail IsNumber n numbers all))
+    bind_read (number_in MAX_NUMBER (decimal n)) _ n
+    (number_in-decimal printed MAX_NUMBER n (All-head IsNumber n numbers all) (omega arith))
+    ∙ bind_read (numbers_of (map decimal numbers)) _ numbers
+    (numbers_read printed numbers (All-tail IsNumber n numbers all))
 
 item_is_word : Printed → (version : ℕ) (item : Item) → HasItem version item → IsWord (item_text version item)
 item_is_word printed version item has =
     ⊎_elim
-    (λ yes. subst IsWord (sym (cond-true (eqb version 1) (decimal item.key) _ yes)) (decimal_word printed item.key has.key))
+    (λ yes. subst IsWord (sym (cond-true (eqb version 1) (decimal item.key) _ yes))
+    (decimal_word printed item.key has.key))
     (λ no. subst IsWord (sym (cond-false (eqb version 1) (decimal item.key) (pair_word COLON item.key item.value) no))
     (pair_is_word printed COLON item.key item.value (record { in_line = refl; in_words = refl }) has.key has.value))
     (cases_Bool (eqb version 1))
 
-item_read : Printed → (version : ℕ) (item : Item) → HasItem version item → item_of version (item_text version item) ≡ Some item
+item_read : Printed → (version : ℕ) (item : Item) → HasItem version item →
+    item_of version (item_text version item) ≡ Some item
 item_read printed version item has =
     ⊎_elim
     (λ yes.
     ap (item_of version) (cond-true (eqb version 1) (decimal item.key) _ yes)
     ∙ cond-true (eqb version 1) _ _ yes
-    ∙ ap (option_map (λ (key : ℕ). record { key = key; value = 0 })) (number_in-decimal printed MAX_NUMBER item.key has.key (omega arith))
-    ∙ ap (λ (value : ℕ). Some (record { key = item.key; value = value })) (sym (has.keys_alone (eqb-true version 1 yes))))
+    ∙ ap (option_map (λ (key : ℕ). record { key = key; value = 0 }))
+    (number_in-decimal printed MAX_NUMBER item.key has.key (omega arith))
+    ∙ ap (λ (value : ℕ). Some (record { key = item.key; value = value }))
+    (sym (has.keys_alone (eqb-true version 1 yes))))
     (λ no.
     ap (item_of version) (cond-false (eqb version 1) (decimal item.key) (pair_word COLON item.key item.value) no)
     ∙ cond-false (eqb version 1) _ _ no
@@ -246,27 +296,18 @@ item_read printed version item has =
     (pair_read printed COLON item.key item.value refl has.key has.value))
     (cases_Bool (eqb version 1))
 
-items_pieces : Printed → (version : ℕ) (word : List ℕ) (items : List Item) → IsWord word → All (HasItem version) items →
-    pieces 32 (word ++ flat_map (item_field version) items) ≡ word ∷ map (item_text version) items
-items_pieces printed version word [] is_word all = ap (pieces 32) (append-nil word) ∙ pieces_last 32 word is_word.in_words
-items_pieces printed version word (item ∷ items) is_word all =
-    pieces_word 32 word (item_text version item ++ flat_map (item_field version) items) is_word.in_words
-    ∙ ap (λ (ps : List (List ℕ)). word ∷ ps)
-    (items_pieces printed version (item_text version item) items (item_is_word printed version item (All-head (HasItem version) item items all))
-    (All-tail (HasItem version) item items all))
+item_words : Printed → (version : ℕ) (items : List Item) → All (HasItem version) items →
+    All (λ item. IsWord (item_text version item)) items
+item_words printed version items all k d lt = item_is_word printed version (get_or items k d) (all k d lt)
 
-items_free : Printed → (version : ℕ) (items : List Item) → All (HasItem version) items → is_free 10 (flat_map (item_field version) items) ≡ true
-items_free printed version [] all = refl
-items_free printed version (item ∷ items) all =
-    free-append 10 (item_field version item) (flat_map (item_field version) items)
-    (item_is_word printed version item (All-head (HasItem version) item items all)).in_line
-    (items_free printed version items (All-tail (HasItem version) item items all))
-
-items_read : Printed → (version : ℕ) (items : List Item) → All (HasItem version) items → items_of version (map (item_text version) items) ≡ Some items
+items_read : Printed → (version : ℕ) (items : List Item) → All (HasItem version) items →
+    items_of version (map (item_text version) items) ≡ Some items
 items_read printed version [] all = refl
 items_read printed version (item ∷ items) all =
-    bind_read (item_of version (item_text version item)) _ item (item_read printed version item (All-head (HasItem version) item items all))
-    ∙ bind_read (items_of version (map (item_text version) items)) _ items (items_read printed version items (All-tail (HasItem version) item items all))
+    bind_read (item_of version (item_text version item)) _ item
+    (item_read printed version item (All-head (HasItem version) item items all))
+    ∙ bind_read (items_of version (map (item_text version) items)) _ items
+    (items_read printed version items (All-tail (HasItem version) item items all))
 
 -- ---- the lines of the text
 
@@ -291,27 +332,34 @@ rows_lines printed version (row ∷ rows) rest all =
     let has = All-head (HasRow version) row rows all in
     let first = first_reply version row has in
     ap lines_of (append_assoc (row_text row) (flat_map row_text rows) rest)
-    ∙ lines_of-line (row_line row) (flat_map row_text rows ++ rest) (row_free printed version row first.0 first.1 has first.2)
-    ∙ ap (λ (ls : List (List ℕ)). row_line row ∷ ls) (rows_lines printed version rows rest (All-tail (HasRow version) row rows all))
+    ∙ lines_of-line (row_line row) (flat_map row_text rows ++ rest)
+    (row_free printed version row first.0 first.1 has first.2)
+    ∙ ap (λ (ls : List (List ℕ)). row_line row ∷ ls)
+    (rows_lines printed version rows rest (All-tail (HasRow version) row rows all))
 
-numbers_lines_of : Printed → (name : List ℕ) (numbers : Option (List ℕ)) (rest : List ℕ) → IsWord name → IfSome numbers (All IsNumber) →
+numbers_lines_of : Printed → (name : List ℕ) (numbers : Option (List ℕ)) (rest : List ℕ) → IsWord name →
+    IfSome numbers (All IsNumber) →
     lines_of (numbers_text name numbers ++ rest) ≡ numbers_lines name numbers ++ lines_of rest
 numbers_lines_of printed name None rest is_word all = refl
 numbers_lines_of printed name (Some numbers) rest is_word all =
     lines_of-line (name ++ flat_map number_field numbers) rest
-    (free-append 10 name (flat_map number_field numbers) is_word.in_line (numbers_free printed numbers all))
+    (free-append 10 name (flat_map number_field numbers) is_word.in_line
+    (fields_free decimal numbers (number_words printed numbers all)))
 
 items_lines_of : Printed → (version : ℕ) (name : List ℕ) (items : Option (List Item)) (rest : List ℕ) → IsWord name →
-    IfSome items (All (HasItem version)) → lines_of (items_text version name items ++ rest) ≡ items_lines version name items ++ lines_of rest
+    IfSome items (All (HasItem version)) →
+    lines_of (items_text version name items ++ rest) ≡ items_lines version name items ++ lines_of rest
 items_lines_of printed version name None rest is_word all = refl
 items_lines_of printed version name (Some items) rest is_word all =
     lines_of-line (name ++ flat_map (item_field version) items) rest
-    (free-append 10 name (flat_map (item_field version) items) is_word.in_line (items_free printed version items all))
+    (free-append 10 name (flat_map (item_field version) items) is_word.in_line
+    (fields_free (item_text version) items (item_words printed version items all)))
 
 end_lines : Printed → (count : ℕ) → count ≤ MAX_NUMBER → lines_of (line (end_text count)) ≡ end_text count ∷ []
 end_lines printed count small =
     ap lines_of (sym (append-nil (line (end_text count))))
-    ∙ lines_of-line (end_text count) [] (free-append 10 (codes "end") (field (decimal count)) refl (decimal_word printed count small).in_line)
+    ∙ lines_of-line (end_text count) []
+    (free-append 10 (codes "end") (field (decimal count)) refl (decimal_word printed count small).in_line)
 
 six_parts : (a b c d e f : List ℕ) → ((((a ++ b) ++ c) ++ d) ++ e) ++ f ≡ a ++ (b ++ (c ++ (d ++ (e ++ f))))
 six_parts a b c d e f = simp append_assoc
@@ -321,7 +369,8 @@ lines_behind_header report =
     map row_line report.rows ++ (numbers_lines (codes "bank") report.bank ++ (numbers_lines (codes "list") report.list
     ++ (items_lines report.version (codes "tree") report.tree ++ (end_text report.count ∷ []))))
 
-report_lines : Printed → (report : Report) → IsHeld report → lines_of (report_text report) ≡ header_line report.version ∷ lines_behind_header report
+report_lines : Printed → (report : Report) → IsHeld report →
+    lines_of (report_text report) ≡ header_line report.version ∷ lines_behind_header report
 report_lines printed report held =
     let rows = flat_map row_text report.rows in
     let bank = numbers_text (codes "bank") report.bank in
@@ -330,39 +379,48 @@ report_lines printed report held =
     let end = line (end_text report.count) in
     ap lines_of (six_parts (line (header_line report.version)) rows bank list tree end)
     ∙ lines_of-line (header_line report.version) (rows ++ (bank ++ (list ++ (tree ++ end))))
-    (free-append 10 (codes "dstm report") (field (decimal report.version)) refl (decimal_word printed report.version held.version).in_line)
+    (free-append 10 (codes "dstm report") (field (decimal report.version)) refl
+    (decimal_word printed report.version held.version).in_line)
     ∙ ap (λ (ls : List (List ℕ)). header_line report.version ∷ ls)
     (rows_lines printed report.version report.rows (bank ++ (list ++ (tree ++ end))) held.rows
     ∙ ap (λ (ls : List (List ℕ)). map row_line report.rows ++ ls)
-    (numbers_lines_of printed (codes "bank") report.bank (list ++ (tree ++ end)) (record { in_line = refl; in_words = refl }) held.bank
+    (numbers_lines_of printed (codes "bank") report.bank (list ++ (tree ++ end))
+    (record { in_line = refl; in_words = refl }) held.bank
     ∙ ap (λ (ls : List (List ℕ)). numbers_lines (codes "bank") report.bank ++ ls)
-    (numbers_lines_of printed (codes "list") report.list (tree ++ end) (record { in_line = refl; in_words = refl }) held.list
+    (numbers_lines_of printed (codes "list") report.list (tree ++ end)
+    (record { in_line = refl; in_words = refl }) held.list
     ∙ ap (λ (ls : List (List ℕ)). numbers_lines (codes "list") report.list ++ ls)
-    (items_lines_of printed report.version (codes "tree") report.tree end (record { in_line = refl; in_words = refl }) held.tree
+    (items_lines_of printed report.version (codes "tree") report.tree end
+    (record { in_line = refl; in_words = refl }) held.tree
     ∙ ap (λ (ls : List (List ℕ)). items_lines report.version (codes "tree") report.tree ++ ls)
     (end_lines printed report.count held.count)))))
 
 -- ---- the lines complete the report
 
 abbrev draft_at : Part → ℕ → List Row → Option (List ℕ) → Option (List ℕ) → Option (List Item) → Draft
-draft_at p version rows bank list tree =
-    record { part = p; report = record { version = version; rows = rows; bank = bank; list = list; tree = tree; count = 0 } }
+draft_at p version rows bank list tree = record {
+  part = p;
+  report = record { version = version; rows = rows; bank = bank; list = list; tree = tree; count = 0 };
+}
 
 -- wherever the lines begin, they complete the draft to this report
 Completes : List (List ℕ) → Draft → Report → Type 0
 Completes texts draft report = (n : ℕ) → completed texts n draft ≡ Ok report
 
-add_more : (text : List ℕ) (texts : List (List ℕ)) (draft more : Draft) (report : Report) → add_line text draft ≡ Some more →
+add_more : (text : List ℕ) (texts : List (List ℕ)) (draft more : Draft) (report : Report) →
+    add_line text draft ≡ Some more →
     Completes texts more report → Completes (text ∷ texts) draft report
 unfolding Completes
 add_more text texts draft more report added completes n =
     ap (λ (o : Option Draft). then_on (or_line n o) (completed texts (n + 1))) added ∙ completes (n + 1)
 
-rows_complete : Printed → (version : ℕ) (rows done : List Row) (texts : List (List ℕ)) (report : Report) → All (HasRow version) rows →
+rows_complete : Printed → (version : ℕ) (rows done : List Row) (texts : List (List ℕ)) (report : Report) →
+    All (HasRow version) rows →
     Completes texts (draft_at part.Rows version (done ++ rows) None None None) report →
     Completes (map row_line rows ++ texts) (draft_at part.Rows version done None None None) report
 rows_complete printed version [] done texts report all completes =
-    subst (λ (rs : List Row). Completes texts (draft_at part.Rows version rs None None None) report) (append-nil done) completes
+    subst (λ (rs : List Row). Completes texts (draft_at part.Rows version rs None None None) report)
+    (append-nil done) completes
 rows_complete printed version (row ∷ rows) done texts report all completes =
     let has = All-head (HasRow version) row rows all in
     let first = first_reply version row has in
@@ -375,44 +433,59 @@ rows_complete printed version (row ∷ rows) done texts report all completes =
     let is_row : part_of (decimal row.line) ≡ part.Rows = rw (no_bank, no_list, no_tree, no_end) refl in
     let added : add_line (row_line row) draft ≡ Some (with_row draft row) =
     ap (λ (ps : List (List ℕ)). add_words ps draft) (row_pieces printed version row first.0 first.1 has first.2)
-    ∙ ap (λ (p : Part). cond (can_follow part.Rows p) (add_part p words (decimal row.worker ∷ pair_word DOT row.round row.number ∷ reply_text first.0 ∷ further_words first.1) draft) None) is_row
+    ∙ ap (λ (p : Part). cond (can_follow part.Rows p)
+    (add_part p words
+    (decimal row.worker ∷ pair_word DOT row.round row.number ∷ reply_text first.0 ∷ further_words first.1) draft)
+    None) is_row
     ∙ ap (option_map (with_row draft)) (row_read printed version row first.0 first.1 has first.2) in
     add_more (row_line row) (map row_line rows ++ texts) draft (with_row draft row) report added
     (rows_complete printed version rows (done ++ row ∷ []) texts report (All-tail (HasRow version) row rows all)
     (subst (λ (rs : List Row). Completes texts (draft_at part.Rows version rs None None None) report)
     (sym (append_assoc done (row ∷ []) rows)) completes))
 
-bank_completes : Printed → (version : ℕ) (rows : List Row) (bank : Option (List ℕ)) (texts : List (List ℕ)) (report : Report) →
-    IfSome bank (All IsNumber) → ((p : Part) → rank p < 2 → Completes texts (draft_at p version rows bank None None) report) →
+bank_completes : Printed → (version : ℕ) (rows : List Row) (bank : Option (List ℕ)) (texts : List (List ℕ))
+    (report : Report) →
+    IfSome bank (All IsNumber) → ((p : Part) → rank p < 2 →
+    Completes texts (draft_at p version rows bank None None) report) →
     Completes (numbers_lines (codes "bank") bank ++ texts) (draft_at part.Rows version rows None None None) report
 bank_completes printed version rows None texts report all completes = completes part.Rows (omega arith)
 bank_completes printed version rows (Some numbers) texts report all completes =
     let draft = draft_at part.Rows version rows None None None in
     add_more (codes "bank" ++ flat_map number_field numbers) texts draft (with_bank draft numbers) report
-    (ap (λ (ps : List (List ℕ)). add_words ps draft) (numbers_pieces printed (codes "bank") numbers (record { in_line = refl; in_words = refl }) all)
+    (ap (λ (ps : List (List ℕ)). add_words ps draft)
+    (fields_pieces decimal (codes "bank") numbers (record { in_line = refl; in_words = refl })
+    (number_words printed numbers all))
     ∙ ap (option_map (with_bank draft)) (numbers_read printed numbers all))
     (completes part.Bank (omega arith))
 
-list_completes : Printed → (version : ℕ) (rows : List Row) (bank list : Option (List ℕ)) (p : Part) (texts : List (List ℕ)) (report : Report) →
-    IfSome list (All IsNumber) → rank p < 2 → ((q : Part) → rank q < 3 → Completes texts (draft_at q version rows bank list None) report) →
+list_completes : Printed → (version : ℕ) (rows : List Row) (bank list : Option (List ℕ)) (p : Part)
+    (texts : List (List ℕ)) (report : Report) →
+    IfSome list (All IsNumber) → rank p < 2 →
+    ((q : Part) → rank q < 3 → Completes texts (draft_at q version rows bank list None) report) →
     Completes (numbers_lines (codes "list") list ++ texts) (draft_at p version rows bank None None) report
 list_completes printed version rows bank None p texts report all before completes = completes p (omega arith)
 list_completes printed version rows bank (Some numbers) p texts report all before completes =
     let draft = draft_at p version rows bank None None in
     add_more (codes "list" ++ flat_map number_field numbers) texts draft (with_list draft numbers) report
-    (ap (λ (ps : List (List ℕ)). add_words ps draft) (numbers_pieces printed (codes "list") numbers (record { in_line = refl; in_words = refl }) all)
+    (ap (λ (ps : List (List ℕ)). add_words ps draft)
+    (fields_pieces decimal (codes "list") numbers (record { in_line = refl; in_words = refl })
+    (number_words printed numbers all))
     ∙ cond-true (ltb (rank p) 2) _ None (lt-ltb (rank p) 2 before)
     ∙ ap (option_map (with_list draft)) (numbers_read printed numbers all))
     (completes part.List (omega arith))
 
-tree_completes : Printed → (version : ℕ) (rows : List Row) (bank list : Option (List ℕ)) (tree : Option (List Item)) (p : Part) (texts : List (List ℕ)) (report : Report) →
-    IfSome tree (All (HasItem version)) → rank p < 3 → ((q : Part) → rank q < 4 → Completes texts (draft_at q version rows bank list tree) report) →
+tree_completes : Printed → (version : ℕ) (rows : List Row) (bank list : Option (List ℕ)) (tree : Option (List Item))
+    (p : Part) (texts : List (List ℕ)) (report : Report) →
+    IfSome tree (All (HasItem version)) → rank p < 3 →
+    ((q : Part) → rank q < 4 → Completes texts (draft_at q version rows bank list tree) report) →
     Completes (items_lines version (codes "tree") tree ++ texts) (draft_at p version rows bank list None) report
 tree_completes printed version rows bank list None p texts report all before completes = completes p (omega arith)
 tree_completes printed version rows bank list (Some items) p texts report all before completes =
     let draft = draft_at p version rows bank list None in
     add_more (codes "tree" ++ flat_map (item_field version) items) texts draft (with_tree draft items) report
-    (ap (λ (ps : List (List ℕ)). add_words ps draft) (items_pieces printed version (codes "tree") items (record { in_line = refl; in_words = refl }) all)
+    (ap (λ (ps : List (List ℕ)). add_words ps draft)
+    (fields_pieces (item_text version) (codes "tree") items (record { in_line = refl; in_words = refl })
+    (item_words printed version items all))
     ∙ cond-true (ltb (rank p) 3) _ None (lt-ltb (rank p) 3 before)
     ∙ ap (option_map (with_tree draft)) (items_read printed version items all))
     (completes part.Tree (omega arith))
@@ -420,26 +493,31 @@ tree_completes printed version rows bank list (Some items) p texts report all be
 count_read : Printed → (count : ℕ) → count ≤ MAX_NUMBER → count_of (decimal count ∷ []) ≡ Some count
 unfolding count_of
 count_read printed count small =
-    bind_read (number_at MAX_NUMBER (decimal count ∷ [])) _ (count, []) (number_at-decimal printed MAX_NUMBER count [] small (omega arith))
+    bind_read (number_at MAX_NUMBER (decimal count ∷ [])) _ (count, [])
+    (number_at-decimal printed MAX_NUMBER count [] small (omega arith))
 
 ended : (report : Report) (p : Part) →
-    Completes [] (with_count (draft_at p report.version report.rows report.bank report.list report.tree) report.count) report
+    Completes [] (with_count (draft_at p report.version report.rows report.bank report.list report.tree) report.count)
+    report
 unfolding Completes
 ended report p n = refl
 
 end_completes : Printed → (report : Report) (p : Part) → report.count ≤ MAX_NUMBER → rank p < 4 →
-    Completes (end_text report.count ∷ []) (draft_at p report.version report.rows report.bank report.list report.tree) report
+    Completes (end_text report.count ∷ [])
+    (draft_at p report.version report.rows report.bank report.list report.tree) report
 end_completes printed report p small before =
     let draft = draft_at p report.version report.rows report.bank report.list report.tree in
     add_more (end_text report.count) [] draft (with_count draft report.count) report
     (ap (λ (ps : List (List ℕ)). add_words ps draft)
     (pieces_word 32 (codes "end") (decimal report.count) refl
-    ∙ ap (λ (ps : List (List ℕ)). codes "end" ∷ ps) (pieces_last 32 (decimal report.count) (decimal_word printed report.count small).in_words))
+    ∙ ap (λ (ps : List (List ℕ)). codes "end" ∷ ps)
+    (pieces_last 32 (decimal report.count) (decimal_word printed report.count small).in_words))
     ∙ cond-true (ltb (rank p) 4) _ None (lt-ltb (rank p) 4 before)
     ∙ ap (option_map (with_count draft)) (count_read printed report.count small))
     (ended report p)
 
-header_read : Printed → (version : ℕ) → version ≤ MAX_NUMBER → header_of (pieces 32 (header_line version)) ≡ Some version
+header_read : Printed → (version : ℕ) → version ≤ MAX_NUMBER →
+    header_of (pieces 32 (header_line version)) ≡ Some version
 unfolding header_of
 header_read printed version small =
     let last = pieces_last 32 (decimal version) (decimal_word printed version small).in_words in
@@ -448,9 +526,11 @@ header_read printed version small =
     ∙ ap (λ (ps : List (List ℕ)). codes "dstm" ∷ ps) (pieces_word 32 (codes "report") (decimal version) refl
     ∙ ap (λ (ps : List (List ℕ)). codes "report" ∷ ps) last) in
     ap header_of words
-    ∙ bind_read (number_at MAX_NUMBER (decimal version ∷ [])) _ (version, []) (number_at-decimal printed MAX_NUMBER version [] small (omega arith))
+    ∙ bind_read (number_at MAX_NUMBER (decimal version ∷ [])) _ (version, [])
+    (number_at-decimal printed MAX_NUMBER version [] small (omega arith))
 
-all_complete : Printed → (report : Report) → IsHeld report → Completes (lines_behind_header report) (blank report.version) report
+all_complete : Printed → (report : Report) → IsHeld report →
+    Completes (lines_behind_header report) (blank report.version) report
 all_complete printed report held =
     let bank = numbers_lines (codes "bank") report.bank in
     let list = numbers_lines (codes "list") report.list in
@@ -458,13 +538,17 @@ all_complete printed report held =
     let end = end_text report.count ∷ [] in
     rows_complete printed report.version report.rows [] (bank ++ (list ++ (tree ++ end))) report held.rows
     (bank_completes printed report.version report.rows report.bank (list ++ (tree ++ end)) report held.bank
-    (λ p before. list_completes printed report.version report.rows report.bank report.list p (tree ++ end) report held.list before
-    (λ q behind. tree_completes printed report.version report.rows report.bank report.list report.tree q end report held.tree behind
+    (λ p before. list_completes printed report.version report.rows report.bank report.list p
+    (tree ++ end) report held.list before
+    (λ q behind. tree_completes printed report.version report.rows report.bank report.list report.tree q end report
+    held.tree behind
     (λ r last. end_completes printed report r held.count last))))
 
-pub reads_back : Printed → (report : Report) → IsHeld report → report_of report.version (lines_of (report_text report)) ≡ Ok report
+pub reads_back : Printed → (report : Report) → IsHeld report →
+    report_of report.version (lines_of (report_text report)) ≡ Ok report
 unfolding Completes
 reads_back printed report held =
     ap (report_of report.version) (report_lines printed report held)
-    ∙ cond-true _ _ _ (ap (is_version report.version) (header_read printed report.version held.version) ∙ eq-eqb report.version report.version refl)
+    ∙ cond-true _ _ _ (ap (is_version report.version) (header_read printed report.version held.version)
+    ∙ eq-eqb report.version report.version refl)
     ∙ all_complete printed report held 2

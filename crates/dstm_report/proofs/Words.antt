@@ -1,13 +1,16 @@
 -- Words and lines as the pieces of what is printed.
-use Rattle.std.proofs.Common.{◌≡◌, ℕ, ◌+◌, ◌<◌, ◌≤◌, ◌^◌, Bool, true, false, not, ◌&&◌, eqb, leb, cond, List, [], ◌∷◌, ◌++◌, length, Option, Some, None, codes, decimal, refl, ap, sym, subst, ◌∙◌, append_assoc, arith, ⊎_elim}
-use Rattle.std.specs.List.{list_all, slice_split, onto_first}
+use Rattle.std.proofs.Common.{◌≡◌, ℕ, ◌<◌, ◌≤◌, ◌^◌, Bool, true, false, not, ◌&&◌, eqb, leb, List, [], ◌∷◌}
+use Rattle.std.proofs.Common.{◌++◌, Some, None, decimal, refl, ap, sym, ◌∙◌, append_assoc}
+use Rattle.std.proofs.Common.{arith, ⊎_elim}
+use Rattle.std.specs.List.{list_all, onto_first}
 use Rattle.std.specs.Char.{is_ascii_digit}
 use Rattle.std.specs.Str.{bytes_eq, all_ascii_digits}
-use Rattle.std.proofs.lemmas.Bool.{false≢true, and_parts, and_from, and_left, not-true, not_from_false, false_from_ne_true, eqb-true, eq-eqb, cases_Bool, cond-true, cond-false, le-leb}
+use Rattle.std.proofs.lemmas.Bool.{false≢true, and_parts, and_from, and_left, not-true, not_from_false}
+use Rattle.std.proofs.lemmas.Bool.{false_from_ne_true, eqb-true, eq-eqb, cases_Bool, cond-true, cond-false, le-leb}
 use Rattle.std.proofs.lemmas.List.Folds.{list_all-append}
 use Rattle.std.proofs.lemmas.List.Splits.{slice_split-cons_no, slice_split-cons_yes}
 use Rattle.std.specs.Str.Parse.{digits_value}
-use Rattle.dstm_text.specs.Lines.{pieces, without_empty_end, lines_of, line_feed}
+use Rattle.dstm_text.specs.Lines.{pieces, without_empty_end, lines_of}
 use Rattle.dstm_text.specs.Number.{is_plain, number_of}
 use Rattle.dstm_report.specs.declared.draft.TheConstants.{MAX_NUMBER}
 use Rattle.dstm_report.specs.Reading.{number_in, up_to}
@@ -25,11 +28,13 @@ other : (c b : ℕ) (rest : Bool) → (not (eqb b c) && rest) ≡ true → (eqb 
 other c b rest free = let parts = and_parts (not (eqb b c)) rest free in (not-true (eqb b c) parts.0, parts.1)
 
 -- a word ends at the separator
-pub pieces_word : (c : ℕ) (word rest : List ℕ) → is_free c word ≡ true → pieces c (word ++ c ∷ rest) ≡ word ∷ pieces c rest
+pub pieces_word : (c : ℕ) (word rest : List ℕ) → is_free c word ≡ true →
+    pieces c (word ++ c ∷ rest) ≡ word ∷ pieces c rest
 pieces_word c [] rest free = slice_split-cons_yes (λ b. eqb b c) c rest (eq-eqb c c refl)
 pieces_word c (b ∷ word) rest free =
     let parts = other c b (is_free c word) free in
-    slice_split-cons_no (λ x. eqb x c) b (word ++ c ∷ rest) parts.0 ∙ ap (onto_first b) (pieces_word c word rest parts.1)
+    slice_split-cons_no (λ x. eqb x c) b (word ++ c ∷ rest) parts.0
+    ∙ ap (onto_first b) (pieces_word c word rest parts.1)
 
 pub pieces_last : (c : ℕ) (word : List ℕ) → is_free c word ≡ true → pieces c word ≡ word ∷ []
 pieces_last c [] free = refl
@@ -48,7 +53,9 @@ some_piece c [] = ([], [], refl)
 some_piece c (b ∷ bytes) =
     ⊎_elim
     (λ yes. ([], pieces c bytes, slice_split-cons_yes (λ x. eqb x c) b bytes yes))
-    (λ no. let more = pieces_some (pieces c bytes) b in (more.0, more.1, slice_split-cons_no (λ x. eqb x c) b bytes no ∙ more.2))
+    (λ no.
+    let more = pieces_some (pieces c bytes) b in
+    (more.0, more.1, slice_split-cons_no (λ x. eqb x c) b bytes no ∙ more.2))
     (cases_Bool (eqb b c))
 
 -- a line comes off the front of a text
@@ -74,7 +81,10 @@ decimal_digits printed n small =
     let word = decimal n in
     ⊎_elim
     (λ plain. plain_digits word plain)
-    (λ no. absurd (let e : None ≡ Some n = sym (cond-false (is_plain word) (Some (digits_value 10 word)) None no) ∙ printed n (omega arith) in let never : ⊥ = cc in never))
+    (λ no.
+    let e : None ≡ Some n =
+    sym (cond-false (is_plain word) (Some (digits_value 10 word)) None no) ∙ printed n (omega arith) in
+    absurd (let never : ⊥ = cc in never))
     (cases_Bool (is_plain word))
 
 digits_free : (c : ℕ) (word : List ℕ) → is_ascii_digit c ≡ false → all_ascii_digits word ≡ true → is_free c word ≡ true
@@ -82,20 +92,24 @@ digits_free c [] none all = refl
 digits_free c (d ∷ word) none all =
     let parts = and_parts (is_ascii_digit d) (all_ascii_digits word) all in
     and_from _ _
-    (not_from_false _ (false_from_ne_true (eqb d c) (λ same. false≢true (sym none ∙ ap is_ascii_digit (sym (eqb-true d c same)) ∙ parts.0))))
+    (not_from_false _ (false_from_ne_true (eqb d c)
+    (λ same. false≢true (sym none ∙ ap is_ascii_digit (sym (eqb-true d c same)) ∙ parts.0))))
     (digits_free c word none parts.1)
 
 pub decimal_free : Printed → (c n : ℕ) → is_ascii_digit c ≡ false → n ≤ MAX_NUMBER → is_free c (decimal n) ≡ true
 decimal_free printed c n none small = digits_free c (decimal n) none (decimal_digits printed n small)
 
-digits_ne : (word : List ℕ) (x : ℕ) (xs : List ℕ) → is_ascii_digit x ≡ false → all_ascii_digits word ≡ true → bytes_eq word (x ∷ xs) ≡ false
+digits_ne : (word : List ℕ) (x : ℕ) (xs : List ℕ) → is_ascii_digit x ≡ false → all_ascii_digits word ≡ true →
+    bytes_eq word (x ∷ xs) ≡ false
 digits_ne [] x xs none all = refl
 digits_ne (d ∷ word) x xs none all =
     let parts = and_parts (is_ascii_digit d) (all_ascii_digits word) all in
-    and_left _ _ (false_from_ne_true (eqb d x) (λ same. false≢true (sym none ∙ ap is_ascii_digit (sym (eqb-true d x same)) ∙ parts.0)))
+    and_left _ _ (false_from_ne_true (eqb d x)
+    (λ same. false≢true (sym none ∙ ap is_ascii_digit (sym (eqb-true d x same)) ∙ parts.0)))
 
 -- a number is no word that begins with another byte than a digit
-pub decimal_ne : Printed → (n x : ℕ) (xs : List ℕ) → is_ascii_digit x ≡ false → n ≤ MAX_NUMBER → bytes_eq (decimal n) (x ∷ xs) ≡ false
+pub decimal_ne : Printed → (n x : ℕ) (xs : List ℕ) → is_ascii_digit x ≡ false → n ≤ MAX_NUMBER →
+    bytes_eq (decimal n) (x ∷ xs) ≡ false
 decimal_ne printed n x xs none small = digits_ne (decimal n) x xs none (decimal_digits printed n small)
 
 pub number_in-decimal : Printed → (most n : ℕ) → n ≤ most → most ≤ MAX_NUMBER → number_in most (decimal n) ≡ Some n

@@ -1,6 +1,7 @@
 -- Which reports are lawful for a workload: those that one thread could have given.
-use Rattle.std.specs.Prelude.{◌≡◌, ℕ, ◌<◌, ◌⊎◌, ◌==◌, Bool, not, if◌then◌else◌, List, [], ◌∷◌, ◌++◌, length, filter, find, Option, Some, None, IfSome}
-use Rattle.std.specs.List.{list_any}
+use Rattle.std.specs.Prelude.{◌≡◌, ℕ, ◌+◌, ◌<◌, ◌⊎◌, ◌==◌, Bool, not, if◌then◌else◌, List, [], ◌∷◌, ◌++◌, length, take}
+use Rattle.std.specs.Prelude.{filter, find, Option, Some, None, IfSome}
+use Rattle.std.specs.List.{list_any, slice_get}
 use Rattle.dstm_model.specs.declared.reply.Reply.{Reply}
 use Rattle.dstm_model.specs.declared.reply.Reply.TheVariants.{Never}
 use Rattle.dstm_model.specs.Store.{Store, opening_store, state_of}
@@ -9,6 +10,8 @@ use Rattle.dstm_workload.specs.declared.workload.Job.{Job}
 use Rattle.dstm_workload.specs.declared.workload.Workload.{Workload}
 use Rattle.dstm_report.specs.declared.report.Row.{Row}
 use Rattle.dstm_report.specs.declared.report.Report.{Report}
+use Rattle.dstm_report.specs.declared.verdict.Verdict.{Verdict}
+use Rattle.dstm_report.specs.declared.verdict.Verdict.TheVariants.{Lawful, NotLawful}
 
 -- ---- which job is next
 
@@ -59,12 +62,17 @@ last_row (row ∷ next ∷ rows) = last_row (next ∷ rows)
 -- the first job left of each worker is blocked
 abbrev pub AllBlocked : Workload → List Row → Type 0
 AllBlocked workload before =
-    (worker : ℕ) → IfSome (first_job worker (jobs_left workload.jobs before)) (λ job. apply_job job.ops (store_after workload before) ≡ None)
+    (worker : ℕ) → IfSome (first_job worker (jobs_left workload.jobs before))
+    (λ job. apply_job job.ops (store_after workload before) ≡ None)
 
--- the replies that a job gives; where it is blocked, `never` alone, and only where no worker can go on
+-- the replies that a job gives; where it is blocked, `never` alone, and only where this holds
+abbrev pub AnswersWhere : Type 0 → Option JobOutcome → List Reply → Type 0
+AnswersWhere Stuck (Some outcome) replies = replies ≡ outcome.replies
+AnswersWhere Stuck None replies = (replies ≡ Never ∷ []) × Stuck
+
+-- a job is given up only where no worker can go on
 abbrev pub IsAnswer : Workload → List Row → Option JobOutcome → List Reply → Type 0
-IsAnswer workload before (Some outcome) replies = replies ≡ outcome.replies
-IsAnswer workload before None replies = (replies ≡ Never ∷ []) × AllBlocked workload before
+IsAnswer workload before outcome replies = AnswersWhere (AllBlocked workload before) outcome replies
 
 -- a row stands rightly behind the rows before it
 pub record IsGoodRow (workload : Workload) (before : List Row) (row : Row) : Type 0 where
@@ -78,7 +86,8 @@ pub record IsGoodRow (workload : Workload) (before : List Row) (row : Row) : Typ
 -- each of these rows stands rightly behind those before it
 abbrev pub RowsAreGood : Workload → List Row → List Row → Type 0
 RowsAreGood workload before [] = Unit {0}
-RowsAreGood workload before (row ∷ rows) = IsGoodRow workload before row × RowsAreGood workload (before ++ row ∷ []) rows
+RowsAreGood workload before (row ∷ rows) =
+    IsGoodRow workload before row × RowsAreGood workload (before ++ row ∷ []) rows
 
 -- ---- reports
 
@@ -96,3 +105,47 @@ pub record IsLawful (workload : Workload) (report : Report) : Type 0 where
   pub count : report.count ≡ length report.rows
   -- every job is named
   pub whole : length report.rows ≡ length workload.jobs
+
+-- ---- the lines of a report's text
+
+-- how many lines stand for a structure
+abbrev pub shown : {A : Type 0} → Option A → ℕ
+shown None = 0
+shown (Some content) = 1
+
+-- where the lines behind the rows stand; the rows stand from line 2 on
+abbrev pub bank_line : Report → ℕ
+bank_line report = length report.rows + 2
+
+abbrev pub list_line : Report → ℕ
+list_line report = bank_line report + shown report.bank
+
+abbrev pub tree_line : Report → ℕ
+tree_line report = list_line report + shown report.list
+
+abbrev pub end_line : Report → ℕ
+end_line report = tree_line report + shown report.tree
+
+-- a line is good if what stands there, or has to stand there, is right
+pub record IsGoodLine (workload : Workload) (report : Report) (line : ℕ) : Type 0 where
+  pub header : line ≡ 1 → report.version ≡ workload.version
+  pub row : (i : ℕ) (row : Row) → slice_get report.rows i ≡ Some row → line ≡ i + 2 →
+      IsGoodRow workload (take i report.rows) row
+  pub bank : line ≡ bank_line report →
+      report.bank ≡ declared_as workload.layout.accounts (state_of (store_after workload report.rows)).bank
+  pub list : line ≡ list_line report →
+      report.list ≡ declared_as workload.layout.list (state_of (store_after workload report.rows)).list
+  pub tree : line ≡ tree_line report →
+      report.tree ≡ declared_as workload.layout.tree (state_of (store_after workload report.rows)).tree
+  pub count : line ≡ end_line report → report.count ≡ length report.rows
+  pub whole : line ≡ end_line report → length report.rows ≡ length workload.jobs
+
+-- the first line that is not good
+pub record IsFirstBadLine (workload : Workload) (report : Report) (line : ℕ) : Type 0 where
+  pub bad : ¬ (IsGoodLine workload report line)
+  pub first : (earlier : ℕ) → earlier < line → IsGoodLine workload report earlier
+
+-- a verdict tells whether the report is lawful, and where it is not
+abbrev pub Tells : Workload → Report → Verdict → Type 0
+Tells workload report Lawful = IsLawful workload report
+Tells workload report (NotLawful line) = IsFirstBadLine workload report line

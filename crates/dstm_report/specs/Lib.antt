@@ -1,4 +1,5 @@
 pub mod Answers
 pub mod Lawful
 pub mod Reading
+pub mod Replaying
 pub mod Text

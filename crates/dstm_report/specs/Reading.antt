@@ -1,5 +1,6 @@
 -- Which texts are read as which report of a version, and at which line the others are refused.
-use Rattle.std.specs.Prelude.{◌≡◌, ℕ, ◌+◌, ◌^◌, ◌-◌, ◌<◌, ◌≤◌, ◌==◌, Bool, false, nat_lt, nat_le, ◌&&◌, if◌then◌else◌, List, [], ◌∷◌, ◌++◌, length, Option, Some, None, IfSome, Result, Ok, Err, All, codes}
+use Rattle.std.specs.Prelude.{◌≡◌, ℕ, ◌+◌, ◌-◌, ◌≤◌, ◌==◌, Bool, false, nat_lt, nat_le, ◌&&◌, if◌then◌else◌}
+use Rattle.std.specs.Prelude.{List, [], ◌∷◌, ◌++◌, length, Option, Some, None, IfSome, Result, Ok, Err, All, codes}
 use Rattle.std.specs.Option.{option_map, option_or}
 use Rattle.std.specs.Str.{bytes_eq}
 use Rattle.dstm_model.specs.declared.reply.Reply.{Reply}
@@ -237,12 +238,16 @@ is_version version (Some n) = n == version
 
 -- nothing but the header was read
 abbrev pub blank : ℕ → Draft
-blank version = record { part = part.Rows; report = record { version = version; rows = []; bank = None; list = None; tree = None; count = 0 } }
+blank version = record {
+  part = part.Rows;
+  report = record { version = version; rows = []; bank = None; list = None; tree = None; count = 0 };
+}
 
 -- what the lines of a text stand for in a version
 abbrev pub report_of : ℕ → List (List ℕ) → Result Report ℕ
 report_of version [] = Err 1
-report_of version (text ∷ texts) = if is_version version (header_of (pieces space text)) then completed texts 2 (blank version) else Err 1
+report_of version (text ∷ texts) =
+    if is_version version (header_of (pieces space text)) then completed texts 2 (blank version) else Err 1
 
 -- ---- what a version can hold
 

@@ -1,16 +1,21 @@
 //! Reports: what a run did, in the order in which its transactions committed.
 #![tactic(auto)]
 
+mod checking;
 mod draft;
 mod error;
 mod reading;
 mod rendering;
+mod replay;
 mod report;
+mod verdict;
 
+pub use checking::{check, line_by_line};
 pub use error::ReportError;
 pub use reading::{read_back, read_report};
 pub use rendering::render;
 pub use report::{Report, Row, Rows};
+pub use verdict::Verdict;
 
 #[cfg(test)]
 mod tests;

@@ -3,7 +3,10 @@ ghost use Rattle.dstm_text.specs.Lines.{lines_of, pieces, space};
 ghost use Rattle.dstm_report.specs.declared.report.Report.{Report as TheReport};
 ghost use Rattle.dstm_report.specs.Text.{report_text};
 ghost use Rattle.dstm_report.specs.Answers.{Gives, GivesBy, IsRead};
-ghost use Rattle.dstm_report.specs.Reading.{after_word, number_in, number_at, at_end, pair_of, place_at, known_reply, reply_of, further_reply, replies_of, row_of, numbers_of, item_of, items_of, count_of, part_of, rank, can_follow, add_part, add_line, or_line, finished, header_of, is_version, blank, report_of, IsHeld};
+ghost use Rattle.dstm_report.specs.Reading.{after_word, number_in, number_at, at_end, pair_of, place_at, known_reply};
+ghost use Rattle.dstm_report.specs.Reading.{reply_of, further_reply, replies_of, row_of, numbers_of, item_of, items_of};
+ghost use Rattle.dstm_report.specs.Reading.{count_of, part_of, rank, can_follow, add_part, add_line, or_line, finished};
+ghost use Rattle.dstm_report.specs.Reading.{header_of, is_version, blank, report_of, IsHeld};
 
 use crate::draft::{COLON, DOT, Draft, MAX_NUMBER, MAX_REPLIES, MAX_WORKER, Part};
 use crate::error::ReportError;
@@ -35,7 +38,8 @@ pub fn read_report(alloc: Global, version: u32, bytes: &[u8]) -> Result<Report, 
 
 /// The law of printing and reading: a report that its version can hold is read from its text.
 pub fn read_back()
-    ensures { (report : TheReport) → IsHeld report → report_of report.version (lines_of (report_text report)) ≡ Ok report }
+    ensures { (report : TheReport) → IsHeld report →
+        report_of report.version (lines_of (report_text report)) ≡ Ok report }
 {
     one_spelling();
 }

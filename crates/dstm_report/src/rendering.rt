@@ -1,6 +1,7 @@
 ghost use Rattle.std.specs.Prelude.{◌≡◌, ◌++◌, IfOk, OnOk, codes, decimal};
 ghost use Rattle.std.specs.List.{flat_map};
-ghost use Rattle.dstm_report.specs.Text.{further_text, number_field, item_field, reply_text, replies_text, row_text, numbers_text, item_text, items_text, report_text};
+ghost use Rattle.dstm_report.specs.Text.{further_text, number_field, item_field, reply_text, replies_text, row_text};
+ghost use Rattle.dstm_report.specs.Text.{numbers_text, item_text, items_text, report_text};
 
 use crate::report::{Report, Row};
 use dstm_model::{Item, Items, Numbers, Reply};

@@ -1,5 +1,7 @@
 use super::*;
 use dstm_model::{Item, Items, Numbers, Replies, Reply};
+use dstm_workload::read_workload;
+use std::alloc::Global;
 use std::test::Fail;
 
 #[test]
@@ -33,13 +35,14 @@ fn every_line(rt: HostRuntime) -> Result<(), Fail> {
     };
     assert_eq!(rt; report.rows.as_slice().len(), 1);
     let text = render(alloc, &report)?;
-    let expected =
-        "dstm report 3\n3 1 2.7 ok ; poor ; 42 ; true ; false ; full ; none ; never\nbank 70 130\nlist\ntree 5:8\nend 1\n";
+    let expected = "dstm report 3\n3 1 2.7 ok ; poor ; 42 ; true ; false ; full ; none ; never\n\
+            bank 70 130\nlist\ntree 5:8\nend 1\n";
     assert_eq!(rt; text.as_slice(), expected.as_bytes());
     let again = read_report(alloc, 3, text.as_slice())?;
     let text = render(alloc, &again)?;
     assert_eq!(rt; text.as_slice(), expected.as_bytes());
     read_back();
+    line_by_line();
     Ok(())
 }
 
@@ -116,4 +119,118 @@ fn lines_in_their_places(rt: HostRuntime) {
         };
         assert_eq!(rt; line, want, "in {text:?}");
     }
+}
+
+// The first bad line of a report for a workload; 0 where it is lawful.
+fn first_bad_line(alloc: Global, workload: &str, version: u32, lines: &str) -> Result<u64, Fail> {
+    let workload = read_workload(alloc, workload.as_bytes())?;
+    let text = format!(in alloc; "dstm report {version}\n{lines}")?;
+    let report = read_report(alloc, version, text.as_bytes())?;
+    match check(alloc, &workload, &report)? {
+        Verdict::Lawful => Ok(0),
+        Verdict::NotLawful(line) => Ok(line),
+    }
+}
+
+#[test]
+fn verdicts(rt: HostRuntime) -> Result<(), Fail> {
+    // One worker waits for money that the other one sends.
+    let waiting =
+        "dstm 3\nworkers 2\nbank 2 100\ntx 0 await balance 1 150 ; transfer 1 0 150\ntx 1 transfer 0 1 60";
+    let table = [
+        ("5 1 0.0 ok\n4 0 0.1 true ; ok\nbank 190 10\nend 2", 0),
+        ("5 1 0.7 ok\n4 0 1.0 true ; ok\nbank 190 10\nend 2", 0),
+        // a job is given up while another worker can go
+        ("4 0 0.0 never\n5 1 0.1 ok\nbank 40 160\nend 2", 2),
+        // the number, then the round, does not rise
+        ("5 1 0.1 ok\n4 0 0.1 true ; ok\nbank 190 10\nend 2", 3),
+        ("5 1 1.0 ok\n4 0 0.5 true ; ok\nbank 190 10\nend 2", 3),
+        // another's job, no worker, no job, and a job twice
+        ("5 0 0.0 ok\nbank 40 160\nend 1", 2),
+        ("5 2 0.0 ok\nbank 40 160\nend 1", 2),
+        ("6 1 0.0 ok\nbank 40 160\nend 1", 2),
+        ("5 1 0.0 ok\n5 1 0.1 ok\nbank 40 160\nend 2", 3),
+        // other replies
+        ("5 1 0.0 poor\nbank 100 100\nend 1", 2),
+        ("5 1 0.0 ok\n4 0 0.1 never\nbank 40 160\nend 2", 3),
+        // the state is another, is not told, and is told of what is not there
+        ("5 1 0.0 ok\n4 0 0.1 true ; ok\nbank 190 11\nend 2", 4),
+        ("5 1 0.0 ok\n4 0 0.1 true ; ok\nend 2", 4),
+        ("5 1 0.0 ok\n4 0 0.1 true ; ok\nlist\nend 2", 4),
+        ("5 1 0.0 ok\n4 0 0.1 true ; ok\nbank 190 10\ntree\nend 2", 5),
+        // a job is left, and the count is another
+        ("5 1 0.0 ok\nbank 40 160\nend 1", 4),
+        ("5 1 0.0 ok\n4 0 0.1 true ; ok\nbank 190 10\nend 3", 5),
+    ];
+    for (lines, want) in table {
+        assert_eq!(rt;
+            first_bad_line(rt.alloc(), waiting, 3, lines)?,
+            want,
+            "in {lines}"
+        );
+    }
+    Ok(())
+}
+
+#[test]
+fn verdicts_of_all_versions(rt: HostRuntime) -> Result<(), Fail> {
+    let poor = "dstm 1\nbank 2 100\ntx 0 transfer 0 1 80 ; transfer 0 1 80";
+    let two = "dstm 1\nworkers 2\nbank 2 100\ntx 0 transfer 0 1 30\ntx 1 transfer 1 0 10";
+    let turns = "dstm 1\nlist 2\ntx 0 insert list 9\ntx 0 insert list 5";
+    let values =
+        "dstm 2\ntree 2\ntx 0 put 5 9 ; put 5 8 ; get 5 ; get 6\ntx 0 insert tree 6 ; put 7 1";
+    let stuck = "dstm 3\nbank 1 5\ntx 0 await balance 0 6\ntx 0 balance 0";
+    let branches =
+        "dstm 3\nbank 2 100\ntx 0 await balance 0 150 ; transfer 0 1 1 orelse transfer 1 0 60\n\
+            tx 0 await balance 0 150 ; total";
+    let table = [
+        (poor, 1, "3 0 0.0 ok ; poor\nbank 20 180\nend 1", 0),
+        (poor, 1, "3 0 0.0 ok ; ok\nbank 20 180\nend 1", 2),
+        (poor, 2, "3 0 0.0 ok ; poor\nbank 20 180\nend 1", 1),
+        (two, 1, "5 1 0.0 ok\n4 0 0.1 ok\nbank 80 120\nend 2", 0),
+        (two, 1, "5 1 0.1 ok\n4 0 0.1 ok\nbank 80 120\nend 2", 3),
+        (turns, 1, "3 0 0.0 true\n4 0 0.1 true\nlist 5 9\nend 2", 0),
+        (turns, 1, "3 0 0.0 true\n4 0 0.1 true\nlist 9 5\nend 2", 4),
+        (turns, 1, "4 0 0.0 true\n3 0 0.1 true\nlist 5 9\nend 2", 2),
+        (
+            values,
+            2,
+            "3 0 0.0 true ; false ; 8 ; none\n4 0 0.1 true ; full\ntree 5:8 6:0\nend 2",
+            0,
+        ),
+        (
+            values,
+            2,
+            "3 0 0.0 true ; false ; 8 ; none\n4 0 0.1 true ; full\ntree 5:8 6:1\nend 2",
+            4,
+        ),
+        (stuck, 3, "3 0 1.0 never\n4 0 1.1 5\nbank 5\nend 2", 0),
+        (
+            stuck,
+            3,
+            "3 0 1.0 never ; never\n4 0 1.1 5\nbank 5\nend 2",
+            2,
+        ),
+        (stuck, 3, "3 0 1.0 true\n4 0 1.1 5\nbank 5\nend 2", 2),
+        (
+            branches,
+            3,
+            "3 0 0.0 ok\n4 0 0.1 true ; 200\nbank 160 40\nend 2",
+            0,
+        ),
+        (
+            branches,
+            3,
+            "3 0 0.0 true ; ok\n4 0 0.1 true ; 200\nbank 160 40\nend 2",
+            2,
+        ),
+    ];
+    for (workload, version, lines, want) in table {
+        assert_eq!(rt;
+            first_bad_line(rt.alloc(), workload, version, lines)?,
+            want,
+            "in {lines}"
+        );
+    }
+    Ok(())
 }

@@ -1,4 +1,4 @@
-use Rattle.std.proofs.Common.{◌≡◌, ◌-◌, List, ℕ, ◌∷◌, length, ap, sym, ◌∙◌, arith}
+use Rattle.std.proofs.Common.{◌-◌, List, ℕ, ◌∷◌, length, ap, sym, ◌∙◌, arith}
 use Rattle.std.proofs.lemmas.List.{length_push}
 use Rattle.dstm_model.specs.declared.reply.Reply.{Reply}
 use Rattle.dstm_report.specs.Reading.{further_replies}
@@ -17,7 +17,8 @@ loop-mark-preserved c =
     let count = ap length c.as_slice.ensures.value in
     record {
       read = ap (λ (d : List Reply). onto d (further_replies version (8 - length d) left)) c.push-in-Some.ensures
-          ∙ further_more version done mark word left reply (omega (arith, count)) (sym c.further_reply.ensures ∙ c.in_ok-reply-2.was)
+          ∙ further_more version done mark word left reply (omega (arith, count))
+          (sym c.further_reply.ensures ∙ c.in_ok-reply-2.was)
           ∙ ap (λ (ws : List (List ℕ)). onto done (further_replies version (8 - length done) ws)) (sym words)
           ∙ c.loop-mark.invariant.read;
       few = omega (arith, count, length_push done reply, ap length c.push-in-Some.ensures);

@@ -1,4 +1,4 @@
-use Rattle.std.proofs.Common.{◌≡◌, ◌-◌, ◌≤◌, ◌<◌, length}
+use Rattle.std.proofs.Common.{◌≡◌, ◌-◌, ◌≤◌, length}
 use Rattle.dstm_report.specs.Reading.{further_replies, replies_of}
 use Rattle.dstm_report.proofs.Onto.{onto}
 use Rattle.dstm_report.proofs.reading.replies.Given as goal
