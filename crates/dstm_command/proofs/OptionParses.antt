@@ -1,5 +1,5 @@
 -- What a whole parse of `run`'s options gives, and when it fails.
-use Rattle.std.proofs.Common.{◌≡◌, ◌≢◌, ◌∙◌, Bool, true, false, if◌then◌else◌, List, [], ◌∷◌, Option, Some, None, is_some, is_ok, slice_get, ◌||◌, option_and_then, Result, IfOk, IsErrOf, ok_or, codes, fold, bytes_eq, refl, sym, ap, ap₂, subst, true≢false}
+use Rattle.std.proofs.Common.{◌≡◌, ◌≢◌, ◌∙◌, Bool, true, false, if◌then◌else◌, List, [], ◌∷◌, Option, Some, None, is_some, is_ok, slice_get, ◌||◌, option_and_then, Result, IfOk, IfSome, IsErrOf, ok_or, codes, fold, bytes_eq, refl, sym, ap, ap₂, subst, true≢false}
 use Rattle.std.specs.List.{list_any}
 use Rattle.clap.specs.Matches.{first_value, one_text}
 use Rattle.clap.specs.Walk.{Row, Text, first_of, has_row, idle, nothing_held, one_of, reading_by, row_text, with_default, with_values}
@@ -163,3 +163,9 @@ pub answer_usage : {X : Type 0} (r x : Option X) (res : Result X WordsError) →
     IsErrOf res Usage → x ≡ None
 answer_usage None x res is same usage = sym same
 answer_usage (Some v) x res is same usage = absurd (true≢false (ap is_ok (sym is ∙ usage)))
+
+-- what holds of the value holds of the answer
+pub answer_holds : {X : Type 0} (P : X → Type 0) (r : Option X) (res : Result X WordsError) → res ≡ ok_or r Usage →
+    IfSome r P → IfOk res P
+answer_holds P (Some v) res is holds = subst (λ res. IfOk res P) (sym is) holds
+answer_holds P None res is holds = subst (λ res. IfOk res P) (sym is) tt

@@ -1,5 +1,5 @@
 -- What the words of a command line ask for.
-use Rattle.std.specs.Prelude.{ℕ, ◌&&◌, ◌||◌, ◌==◌, Bool, true, false, not, List, [], ◌∷◌, Option, None, Some, is_some, option_map, option_and_then, codes, nat_le, if◌then◌else◌}
+use Rattle.std.specs.Prelude.{ℕ, ◌≤◌, ◌&&◌, ◌||◌, ◌==◌, Bool, true, false, not, List, [], ◌∷◌, Option, None, Some, is_some, option_map, option_and_then, codes, nat_le, if◌then◌else◌}
 use Rattle.std.specs.List.{list_any}
 use Rattle.std.specs.Str.{bytes_eq}
 use Rattle.dstm_core.specs.declared.shape.Manager.{Manager}
@@ -126,6 +126,18 @@ command_named name words =
     else (if bytes_eq (codes "check") name then check_in words
     else (if bytes_eq (codes "gen") name then option_map Gen (spec_in words)
     else (if bytes_eq (codes "demo") name then option_map Demo (spec_in words) else None)))
+
+-- a generated workload has at most 20,000 transactions, and from 1 to 32 workers
+pub record IsSmall (spec : GenSpec) : Type 0 where
+  pub few_transactions : spec.count ≤ 20000
+  pub some_worker : 1 ≤ spec.workers
+  pub few_workers : spec.workers ≤ 32
+
+-- what a command generates is small
+abbrev pub IsSmallCommand : Command → Type 0
+IsSmallCommand (Gen spec) = IsSmall spec
+IsSmallCommand (Demo spec) = IsSmall spec
+IsSmallCommand command = Unit {0}
 
 -- the word is `--`
 abbrev pub is_two_hyphens : Text → Bool

@@ -1,7 +1,7 @@
-ghost use Rattle.std.specs.Prelude.{◌≡◌, false, map, Some, None, codes, IfOk, IsErrOf, string_bytes, List, ℕ};
+ghost use Rattle.std.specs.Prelude.{◌≡◌, false, map, Some, None, codes, IfOk, IsErrOf, string_bytes, List, ℕ, IfSome};
 ghost use Rattle.std.specs.List.{list_any};
 ghost use Rattle.clap.specs.Words.{app_of, first_value, found_of};
-ghost use Rattle.dstm_command.specs.CommandLine.{is_two_hyphens, spec_in, spec_of};
+ghost use Rattle.dstm_command.specs.CommandLine.{is_two_hyphens, spec_in, spec_of, IsSmall};
 ghost use Rattle.dstm_command.specs.Parsers.{numbers_app};
 
 use crate::parser::matches;
@@ -19,6 +19,7 @@ pub(crate) fn read_numbers(alloc: Global, words: &[String]) -> Result<GenSpec, W
     requires { list_any is_two_hyphens (map string_bytes words.now) ≡ false }
     ensures ok { IfOk result (λ numbers. spec_in (map string_bytes words.now) ≡ Some numbers) }
     ensures usage { IsErrOf result WordsError.Usage → spec_in (map string_bytes words.now) ≡ None }
+    ensures small { IfOk result IsSmall }
 {
     let matches = matches(numbers_command(alloc)?, words)?;
     numbers_matched(&matches).ok_or(WordsError::Usage)
@@ -39,11 +40,12 @@ fn numbers_command<'a>(alloc: Global) -> Result<Command<'a>, AllocError>
 }
 
 fn numbers_matched(matches: &ArgMatches) -> Option<GenSpec>
-    ensures { (seed count workers : List ℕ) →
+    ensures read { (seed count workers : List ℕ) →
         first_value (found_of matches.now) (codes "seed") ≡ Some seed →
         first_value (found_of matches.now) (codes "count") ≡ Some count →
         first_value (found_of matches.now) (codes "workers") ≡ Some workers →
         result ≡ spec_of seed count workers }
+    ensures small { IfSome result IsSmall }
 {
     Some(GenSpec {
         seed: read_seed(matches.get_str("seed")?)?,

@@ -1,4 +1,4 @@
-ghost use Rattle.std.specs.Prelude.{◌≡◌};
+ghost use Rattle.std.specs.Prelude.{◌≡◌, ◌≤◌, IfSome};
 ghost use Rattle.dstm_command.specs.CommandLine.{manager_of, number_in, seed_of};
 
 use dstm_core::Manager;
@@ -24,7 +24,9 @@ pub(crate) fn read_seed(text: &str) -> Option<u64>
 
 // The plain decimal from `least` to `most` that a text spells.
 pub(crate) fn read_number(text: &str, least: u32, most: u32) -> Option<u32>
-    ensures { result ≡ number_in least most text.now }
+    ensures read { result ≡ number_in least most text.now }
+    ensures least { IfSome result (λ number. least ≤ number) }
+    ensures most { IfSome result (λ number. number ≤ most) }
 {
     let number = u32::try_from(read_seed(text)?).ok()?;
     (least <= number && number <= most).then_some(number)

@@ -1,6 +1,6 @@
 ghost use Rattle.std.specs.Prelude.{◌≡◌, false, map, Some, None, IfOk, IsErrOf, string_bytes};
 ghost use Rattle.std.specs.List.{list_any};
-ghost use Rattle.dstm_command.specs.CommandLine.{command_named, command_of, is_two_hyphens};
+ghost use Rattle.dstm_command.specs.CommandLine.{command_named, command_of, is_two_hyphens, IsSmallCommand};
 
 use crate::numbers::read_numbers;
 use crate::options::read_options;
@@ -11,6 +11,7 @@ use std::alloc::Global;
 pub fn read_words(alloc: Global, words: &[String]) -> Result<Command, WordsError>
     ensures ok { IfOk result (λ command. command_of (map string_bytes words.now) ≡ Some command) }
     ensures usage { IsErrOf result WordsError.Usage → command_of (map string_bytes words.now) ≡ None }
+    ensures small { IfOk result IsSmallCommand }
 {
     let [_, name, rest @ ..] = words else {
         return Err(WordsError::Usage);
@@ -27,6 +28,7 @@ fn read_command(alloc: Global, name: &str, words: &[String]) -> Result<Command, 
         command_named name.now (map string_bytes words.now) ≡ Some command) }
     ensures usage { IsErrOf result WordsError.Usage →
         command_named name.now (map string_bytes words.now) ≡ None }
+    ensures small { IfOk result IsSmallCommand }
 {
     match name {
         "run" => Ok(Command::Run(read_options(alloc, words)?)),

@@ -6,13 +6,13 @@ use Rattle.std.proofs.lemmas.List.Elements.{All-nil, All-cons, All-head, All-tai
 use Rattle.std.proofs.lemmas.List.FromFn.{length-map-range_with_len, get_or-map-range_with_len}
 use Rattle.std.proofs.lemmas.Simd.{map-map}
 use Rattle.dstm_model.specs.declared.op.Op.{Op}
-use Rattle.dstm_model.specs.declared.op.Op.TheVariants.{Transfer, Balance, Total, Insert, Remove, Member, OrElse}
+use Rattle.dstm_model.specs.declared.op.Op.TheVariants.{Transfer, Balance, Total, Insert, Remove, Member, Put, OrElse}
 use Rattle.dstm_model.specs.declared.op.Which.TheVariants as which
 use Rattle.dstm_model.specs.Job.{branches_of, onto_first, is_separator}
 use Rattle.dstm_model.specs.Layout.{IsValid, FitsLayout}
 use Rattle.dstm_workload.specs.declared.workload.Job.{Job}
 use Rattle.dstm_workload.specs.declared.workload.TheConstants.{MAX_JOBS, MAX_WORKERS}
-use Rattle.dstm_workload.specs.Workload.{HasOp, IsNoAwait, IsBranch, IsJob, IsValidWorkload, lines_of_jobs}
+use Rattle.dstm_workload.specs.Workload.{HasOp, HasValue, IsNoAwait, IsBranch, IsJob, IsValidWorkload, lines_of_jobs}
 use Rattle.dstm_gen.specs.Words.{skip}
 use Rattle.dstm_gen.specs.Generated.{job_place, generated_layout, op_with, ops_count, op_at, ops_of, job_at, jobs_of, generated}
 
@@ -78,6 +78,11 @@ branches_are ops some all =
 
 -- ---- jobs
 
+-- the first version puts no values
+no_values : (op : Op) → HasOp 1 op → HasValue op
+no_values (Put key value) version = absurd (omega (arith, version))
+no_values op version = tt
+
 length-ops_of : (words : ℕ → ℕ) → length (ops_of words) ≡ ops_count words
 length-ops_of words = length-map-range_with_len (op_at words) 0 (ops_count words)
 
@@ -93,6 +98,7 @@ job_at-valid words count workers i some =
       few = omega (arith, size);
       fits = All-weaker IsPlain (FitsLayout generated_layout) (λ op h. h.fits) ops all;
       version = All-weaker IsPlain (HasOp 1) (λ op h. h.version) ops all;
+      values = All-weaker IsPlain HasValue (λ op h. no_values op h.version) ops all;
       branches = branches_are ops (omega (arith, size)) all;
     }
 

@@ -1,8 +1,8 @@
 use Rattle.std.proofs.Common.{◌≡◌, ◌≢◌, ◌∙◌, ap, List, [], map, string_bytes, subst, Option, rules}
 use Rattle.clap.specs.Words.{App, fault_of, found_of, matches_of}
-use Rattle.dstm_command.specs.CommandLine.{spec_in, Text}
+use Rattle.dstm_command.specs.CommandLine.{spec_in, IsSmall, Text}
 use Rattle.dstm_command.specs.declared.command.GenSpec.{GenSpec}
-use Rattle.dstm_command.proofs.OptionParses.{answer_ok, answer_usage}
+use Rattle.dstm_command.proofs.OptionParses.{answer_ok, answer_usage, answer_holds}
 use Rattle.dstm_command.proofs.NumberParses.{none_read, result_is}
 use Rattle.dstm_command.proofs.numbers.read_numbers.Goals as goal
 
@@ -14,10 +14,11 @@ returns c =
     let same : c.numbers_matched.result ≡ given =
     result_is words (found_of c.in_ok-matches.matches) c.numbers_matched.result c.requires
     (subst (λ (a : App). fault_of a words ≡ []) app_is c.in_ok-matches.ensures.taken)
-    (c.in_ok-matches.ensures.ok ∙ ap (λ (a : App). matches_of a words) app_is) c.numbers_matched.ensures in
+    (c.in_ok-matches.ensures.ok ∙ ap (λ (a : App). matches_of a words) app_is) c.numbers_matched.ensures.read in
     record {
       ok = answer_ok c.numbers_matched.result given c.ok_or.result c.ok_or.ensures.value same;
       usage = answer_usage c.numbers_matched.result given c.ok_or.result c.ok_or.ensures.value same;
+      small = answer_holds IsSmall c.numbers_matched.result c.ok_or.result c.ok_or.ensures.value c.numbers_matched.ensures.small;
     }
 
 pub returns-in_err-matches-clause-usage : goal.returns-in_err-matches-clause-usage
