@@ -1,6 +1,5 @@
-pub mod Applying
 pub mod Rising
-pub mod RowsSoFar
-pub mod Runnable
-pub mod Appended
-pub mod Endings
+pub mod Turns
+pub mod Totals
+pub mod Ends
+pub mod Demo

@@ -1,82 +1,185 @@
--- What the commands read and write.
-use Rattle.std.specs.Prelude.{◌≡◌, ◌⊎◌, ℕ, String, ◌<◌, ◌≤◌, Bool, true, false, List, [], ◌∷◌, length, Option, Some, None, IfSome, Result, Ok, Err, codes}
-use Rattle.std.specs.Str.{bytes_eq}
-use Rattle.std.specs.Global.{Global}
-use Rattle.std.specs.String.{string_bytes}
+-- What the commands read, what they write, and with which status they end.
+use Rattle.std.specs.Prelude.{◌≡◌, ℕ, ◌+◌, ◌<◌, Bool, true, false, nat_le, if◌then◌else◌, List, [], ◌++◌, length, sum, Option, Some, None, IfSome, Result, Ok, Err, IsOk, codes, decimal}
 use Rattle.std.specs.Io.KnownBytes.{Appends, Keeps}
 use Rattle.dstm_io.specs.Count.{Rises}
 use Rattle.dstm_io.specs.Sink.{AppendsPart}
-use Rattle.dstm_text.specs.Lines.{lines_of}
+use Rattle.dstm_text.specs.Lines.{lines_of, split_lines}
+use Rattle.dstm_command.specs.declared.command.Command.{Command}
+use Rattle.dstm_command.specs.declared.command.Command.TheVariants.{Run, Check, Gen, Demo}
+use Rattle.dstm_command.specs.declared.command.GenSpec.{GenSpec}
+use Rattle.dstm_gen.specs.Words.{words_of_seed}
+use Rattle.dstm_gen.specs.Generated.{generated}
 use Rattle.dstm_workload.specs.declared.workload.Workload.{Workload}
 use Rattle.dstm_workload.specs.declared.refused.Refused.{Refused as Refusal}
 use Rattle.dstm_workload.specs.Reading.{workload_of}
+use Rattle.dstm_workload.specs.Writing.{text_of_workload}
 use Rattle.dstm_report.specs.declared.report.Report.{Report}
+use Rattle.dstm_report.specs.declared.verdict.Verdict.{Verdict}
+use Rattle.dstm_report.specs.declared.verdict.Verdict.TheVariants.{Lawful, NotLawful}
+use Rattle.dstm_report.specs.Reading.{report_of}
 use Rattle.dstm_report.specs.Text.{report_text}
-use Rattle.dstm_report.specs.Lawful.{IsLawful}
-use Rattle.dstm_cli.specs.declared.command.TheConstants.{INPUT_LIMIT}
+use Rattle.dstm_report.specs.Lawful.{IsLawful, Tells}
+use Rattle.dstm_cli.specs.declared.input.TheConstants.{RUN_LIMIT, CHECK_LIMIT}
 use Rattle.dstm_cli.specs.declared.failure.Failure.{Failure}
-use Rattle.dstm_cli.specs.Failure.{message_of}
-use Rattle.dstm_cli.specs.declared.failure.Failure.TheVariants.{Usage, ReadFault, TooLong, Refused, WriteFault, Memory}
+use Rattle.dstm_cli.specs.declared.failure.Failure.TheVariants.{Usage, ReadFault, TooLong, Refused, NoReport, ReportForm, WriteFault, Memory}
 
--- the words are the program's name and `run`
-abbrev pub is_run : List (String Global) → Bool
-is_run (program ∷ command ∷ []) = bytes_eq (string_bytes command) (codes "run")
-is_run words = false
+-- ---- what a command reads
 
--- ---- what a run makes of its input
+-- what the lines of an input stand for, if it has at most so many bytes
+abbrev pub read_within : {A : Type 0} → ℕ → (List (List ℕ) → Result A Failure) → List ℕ → Result A Failure
+read_within limit read input = if nat_le (length input) limit then read (lines_of input) else Err TooLong
+
+abbrev pub or_refused : Result Workload Refusal → Result Workload Failure
+or_refused (Ok workload) = Ok workload
+or_refused (Err refused) = Err (Refused refused)
+
+-- `run` reads a workload
+abbrev pub run_input : List ℕ → Result Workload Failure
+run_input = read_within RUN_LIMIT (λ lines. or_refused (workload_of lines))
+
+-- a report beside its workload
+abbrev pub beside : Workload → Result Report ℕ → Result (Workload × Report) Failure
+beside workload (Ok report) = Ok (workload, report)
+beside workload (Err line) = Err (ReportForm line)
+
+-- the report on a workload, among so many lines in all, where these stand behind the line `---`
+abbrev pub reported : ℕ → Option (List (List ℕ)) → Workload → Result (Workload × Report) Failure
+reported count None workload = Err (NoReport (count + 1))
+reported count (Some behind) workload = beside workload (report_of workload.version behind)
+
+abbrev pub then_reported : ℕ → Option (List (List ℕ)) → Result Workload Refusal → Result (Workload × Report) Failure
+then_reported count behind (Ok workload) = reported count behind workload
+then_reported count behind (Err refused) = Err (Refused refused)
+
+-- a workload and a report on it, before and behind the first line `---`
+abbrev pub case_of : List (List ℕ) → Result (Workload × Report) Failure
+case_of lines =
+    then_reported (length lines) (split_lines (codes "---") lines).1 (workload_of (split_lines (codes "---") lines).0)
+
+-- `check` reads a workload and a report on it
+abbrev pub check_input : List ℕ → Result (Workload × Report) Failure
+check_input = read_within CHECK_LIMIT case_of
+
+-- the command reads an input
+abbrev pub reads_input : Option Command → Bool
+reads_input (Some (Run options)) = true
+reads_input (Some Check) = true
+reads_input command = false
+
+-- the command refuses an input for this reason: there is too much of it, or it does not stand for what is read
+abbrev pub Refuses : Option Command → List ℕ → Failure → Type 0
+Refuses (Some (Run options)) input failure = run_input input ≡ Err failure
+Refuses (Some Check) input failure = check_input input ≡ Err failure
+Refuses command input failure = ⊥
+
+-- ---- what a command writes
 
 -- the text is that of a report that is lawful for the workload
 abbrev pub IsReportOf : Workload → List ℕ → Type 0
 IsReportOf workload text = (report : Report) × (IsLawful workload report × (text ≡ report_text report))
 
--- the input stands for a workload, and the text is that of a lawful report for it
-abbrev pub IsAnswer : List ℕ → List ℕ → Type 0
-IsAnswer input text =
-    (length input ≤ INPUT_LIMIT)
-    × ((workload : Workload) × ((workload_of (lines_of input) ≡ Ok workload) × IsReportOf workload text))
+abbrev pub verdict_text : Verdict → List ℕ
+verdict_text Lawful = codes "lawful\n"
+verdict_text (NotLawful line) = codes "not lawful: line " ++ decimal line ++ codes "\n"
 
--- the input is refused for this reason: it is too long, or one of its lines cannot stand
-abbrev pub IsRefusedFor : List ℕ → Failure → Type 0
-IsRefusedFor input TooLong = INPUT_LIMIT < length input
-IsRefusedFor input (Refused refused) = (length input ≤ INPUT_LIMIT) × (workload_of (lines_of input) ≡ Err refused)
-IsRefusedFor input failure = ⊥
+abbrev pub verdict_status : Verdict → ℕ
+verdict_status Lawful = 0
+verdict_status (NotLawful line) = 6
 
--- the input stands for a workload
-abbrev pub IsWorkload : List ℕ → Type 0
-IsWorkload input = (length input ≤ INPUT_LIMIT) × ((workload : Workload) × (workload_of (lines_of input) ≡ Ok workload))
+abbrev pub workload_for : GenSpec → Workload
+workload_for spec = generated (words_of_seed spec.seed) spec.count spec.workers
 
--- ---- how a run ends, over a source whose bytes `left` are known, or unknown
+abbrev pub demo_text : ℕ → ℕ → Verdict → List ℕ
+demo_text count total verdict =
+    codes "transactions " ++ decimal count ++ codes "\ntotal " ++ decimal total ++ codes "\n" ++ verdict_text verdict
 
--- reading failed
-abbrev pub FailsToRead : Option (List ℕ) → ℕ → ℕ → Failure → Type 0
-FailsToRead left faults_old faults_new ReadFault = Rises faults_old faults_new
-FailsToRead left faults_old faults_new TooLong = IfSome left (λ input. IsRefusedFor input TooLong)
-FailsToRead left faults_old faults_new Memory = Unit {0}
-FailsToRead left faults_old faults_new failure = ⊥
+-- The text of `demo`. There is a lawful report for the generated workload, and its balances have this sum.
+pub record IsDemo (spec : GenSpec) (text : List ℕ) : Type 0 where
+  pub report : Report
+  pub lawful : IsLawful (workload_for spec) report
+  pub balances : IfSome report.bank (λ bank. sum bank ≡ 8000)
+  pub is : text ≡ demo_text spec.count 8000 Lawful
 
--- the input was read, and has no answer
-abbrev pub FailsToAnswer : List ℕ → Failure → Type 0
-FailsToAnswer input (Refused refused) = workload_of (lines_of input) ≡ Err refused
-FailsToAnswer input Memory = Unit {0}
-FailsToAnswer input failure = ⊥
+-- All bytes that were left before are taken, and this holds of them. A source may not tell them: then nothing is said.
+abbrev pub OfAll : Option (List ℕ) × Option (List ℕ) → (List ℕ → Type 0) → Type 0
+OfAll left P = IfSome left.0 (λ input. (left.1 ≡ Some []) × P input)
 
--- How a run ends. Of the source, `left` are the bytes before and after, of the sink, `taken`; each is unknown where the
--- source or the sink does not tell. Counts of faults, too, are before and after.
-abbrev pub EndsAs : Bool → Option (List ℕ) × Option (List ℕ) → ℕ × ℕ → Option (List ℕ) × Option (List ℕ) → ℕ × ℕ → Result Unit Failure → Type 0
-EndsAs is_command left read_faults taken write_faults (Ok done) =
-    (is_command ≡ true)
-    × IfSome left.0 (λ input. (left.1 ≡ Some []) × ((text : List ℕ) × (IsAnswer input text × Appends taken.0 taken.1 text)))
-EndsAs is_command left read_faults taken write_faults (Err Usage) =
-    (is_command ≡ false) × Keeps left.0 left.1 × (read_faults.1 ≡ read_faults.0) × Keeps taken.0 taken.1
-EndsAs is_command left read_faults taken write_faults (Err ReadFault) =
-    (is_command ≡ true) × Rises read_faults.0 read_faults.1 × Keeps taken.0 taken.1
-EndsAs is_command left read_faults taken write_faults (Err WriteFault) =
-    (is_command ≡ true) × Rises write_faults.0 write_faults.1
-    × IfSome left.0 (λ input. (text : List ℕ) × (IsAnswer input text × AppendsPart taken.0 taken.1 text))
-EndsAs is_command left read_faults taken write_faults (Err Memory) = (is_command ≡ true) × Keeps taken.0 taken.1
-EndsAs is_command left read_faults taken write_faults (Err failure) =
-    (is_command ≡ true) × IfSome left.0 (λ input. IsRefusedFor input failure) × Keeps taken.0 taken.1
+-- the input stands for a workload, and the text is that of a lawful report on it
+abbrev pub HasRun : Option (List ℕ) × Option (List ℕ) → List ℕ → Type 0
+HasRun left text = (workload : Workload) × (IsReportOf workload text × OfAll left (λ input. run_input input ≡ Ok workload))
 
--- what is told of a refused input
-abbrev pub IsToldOf : List ℕ → List ℕ → Type 0
-IsToldOf input text = (failure : Failure) × (IsRefusedFor input failure × (text ≡ message_of failure))
+-- the input stands for a workload and a report, and the text and the status are those of the verdict on it
+abbrev pub HasJudged : Option (List ℕ) × Option (List ℕ) → List ℕ → ℕ → Type 0
+HasJudged left text status =
+    (verdict : Verdict) × ((text ≡ verdict_text verdict) × (status ≡ verdict_status verdict)
+    × ((case : Workload × Report) × (Tells case.0 case.1 verdict × OfAll left (λ input. check_input input ≡ Ok case))))
+
+-- The command writes this text, and then ends with this status. Of its source, `left` are the bytes before and after.
+abbrev pub Answers : Option Command → Option (List ℕ) × Option (List ℕ) → List ℕ → ℕ → Type 0
+Answers None left text status = ⊥
+Answers (Some (Run options)) left text status = (status ≡ 0) × HasRun left text
+Answers (Some Check) left text status = HasJudged left text status
+Answers (Some (Gen spec)) left text status = (status ≡ 0) × (text ≡ text_of_workload (workload_for spec))
+Answers (Some (Demo spec)) left text status = (status ≡ 0) × IsDemo spec text
+
+-- ---- when a command answers
+
+-- the bytes are known, and this holds of them
+abbrev pub IsKnown : Option (List ℕ) → (List ℕ → Type 0) → Type 0
+IsKnown None P = ⊥
+IsKnown (Some input) P = P input
+
+-- the command reads nothing, or its input stands for what it reads
+abbrev pub CanAnswer : Option Command → Option (List ℕ) → Type 0
+CanAnswer None left = ⊥
+CanAnswer (Some (Run options)) left = IsKnown left (λ input. IsOk (run_input input))
+CanAnswer (Some Check) left = IsKnown left (λ input. IsOk (check_input input))
+CanAnswer (Some (Gen spec)) left = Unit {0}
+CanAnswer (Some (Demo spec)) left = Unit {0}
+
+-- How a command ends. Of its source, `left` are the bytes before and after, of the sink, `taken`; each is unknown where
+-- the source or the sink does not tell. Counts of faults, too, are before and after.
+abbrev pub EndsAs : Option Command → Option (List ℕ) × Option (List ℕ) → ℕ × ℕ → Option (List ℕ) × Option (List ℕ) → ℕ × ℕ → Result ℕ Failure → Type 0
+EndsAs command left read_faults taken write_faults (Ok status) =
+    (text : List ℕ) × (Answers command left text status × Appends taken.0 taken.1 text)
+EndsAs command left read_faults taken write_faults (Err Usage) = (command ≡ None) × Keeps taken.0 taken.1
+EndsAs command left read_faults taken write_faults (Err ReadFault) =
+    (reads_input command ≡ true) × Rises read_faults.0 read_faults.1 × Keeps taken.0 taken.1
+EndsAs command left read_faults taken write_faults (Err WriteFault) =
+    Rises write_faults.0 write_faults.1
+    × ((text : List ℕ) × ((status : ℕ) × (Answers command left text status × AppendsPart taken.0 taken.1 text)))
+EndsAs command left read_faults taken write_faults (Err Memory) = Keeps taken.0 taken.1
+EndsAs command left read_faults taken write_faults (Err failure) =
+    (reads_input command ≡ true) × IfSome left.0 (λ input. Refuses command input failure) × Keeps taken.0 taken.1
+
+-- ---- how the parts of a command fail
+
+-- reading an input of at most so many bytes fails so
+abbrev pub FailsToRead : ℕ → Option (List ℕ) → ℕ × ℕ → Failure → Type 0
+FailsToRead limit left read_faults ReadFault = Rises read_faults.0 read_faults.1
+FailsToRead limit left read_faults TooLong = IfSome left (λ input. limit < length input)
+FailsToRead limit left read_faults Memory = Unit {0}
+FailsToRead limit left read_faults failure = ⊥
+
+-- an input that was read has no answer, or memory ran out
+abbrev pub FailsToAnswer : {A : Type 0} → Result A Failure → Failure → Type 0
+FailsToAnswer read (Refused refused) = read ≡ Err (Refused refused)
+FailsToAnswer read (NoReport line) = read ≡ Err (NoReport line)
+FailsToAnswer read (ReportForm line) = read ≡ Err (ReportForm line)
+FailsToAnswer read Memory = Unit {0}
+FailsToAnswer read failure = ⊥
+
+-- a command that reads its input so fails so
+abbrev pub FailsOn : {A : Type 0} → (List ℕ → Result A Failure) → Option (List ℕ) → ℕ × ℕ → Failure → Type 0
+FailsOn read left read_faults Usage = ⊥
+FailsOn read left read_faults ReadFault = Rises read_faults.0 read_faults.1
+FailsOn read left read_faults WriteFault = ⊥
+FailsOn read left read_faults Memory = Unit {0}
+FailsOn read left read_faults failure = IfSome left (λ input. read input ≡ Err failure)
+
+-- a command fails so before it writes
+abbrev pub FailsFor : Command → Option (List ℕ) → ℕ × ℕ → Failure → Type 0
+FailsFor (Run options) left read_faults failure = FailsOn run_input left read_faults failure
+FailsFor Check left read_faults failure = FailsOn check_input left read_faults failure
+FailsFor (Gen spec) left read_faults failure = failure ≡ Memory
+FailsFor (Demo spec) left read_faults failure = failure ≡ Memory

@@ -1,15 +1,25 @@
 -- How a failure is told: by the status of the program and by a line of text.
 use Rattle.std.specs.Prelude.{ℕ, ◌⊎◌, ◌==◌, if◌then◌else◌, List, [], ◌++◌, Option, codes, decimal}
 use Rattle.std.specs.Io.KnownBytes.{Appends}
+use Rattle.dstm_command.specs.declared.command.WordsError.{WordsError}
+use Rattle.dstm_command.specs.declared.command.WordsError.TheVariants as words
 use Rattle.dstm_io.specs.Count.{Rises}
+use Rattle.dstm_io.specs.declared.transfer.ReadError.{ReadError}
+use Rattle.dstm_io.specs.declared.transfer.ReadError.TheVariants as reads
+use Rattle.dstm_report.specs.declared.error.ReportError.{ReportError}
+use Rattle.dstm_report.specs.declared.error.ReportError.TheVariants as reports
+use Rattle.dstm_workload.specs.declared.refused.WorkloadError.{WorkloadError}
+use Rattle.dstm_workload.specs.declared.refused.WorkloadError.TheVariants as workloads
 use Rattle.dstm_workload.specs.Answers.{text_of}
 use Rattle.dstm_cli.specs.declared.failure.Failure.{Failure}
-use Rattle.dstm_cli.specs.declared.failure.Failure.TheVariants.{Usage, ReadFault, TooLong, Refused, WriteFault, Memory}
+use Rattle.dstm_cli.specs.declared.failure.Failure.TheVariants.{Usage, ReadFault, TooLong, Refused, NoReport, ReportForm, WriteFault, Memory}
 
 abbrev pub status_of : Failure → ℕ
 status_of Usage = 1
 status_of TooLong = 2
 status_of (Refused refused) = 2
+status_of (NoReport line) = 2
+status_of (ReportForm line) = 2
 status_of ReadFault = 3
 status_of WriteFault = 4
 status_of Memory = 5
@@ -18,6 +28,8 @@ abbrev pub message_of : Failure → List ℕ
 message_of Usage = codes "usage: dstm run, check, gen or demo\n"
 message_of TooLong = codes "dstm: input too long\n"
 message_of (Refused refused) = codes "dstm: line " ++ decimal refused.line ++ codes ": " ++ text_of refused.why ++ codes "\n"
+message_of (NoReport line) = codes "dstm: line " ++ decimal line ++ codes ": no report\n"
+message_of (ReportForm line) = codes "dstm: report line " ++ decimal line ++ codes ": form\n"
 message_of ReadFault = codes "dstm: read fault\n"
 message_of WriteFault = codes "dstm: write fault\n"
 message_of Memory = codes "dstm: out of memory\n"
@@ -26,7 +38,7 @@ message_of Memory = codes "dstm: out of memory\n"
 abbrev pub TakesOrFaults : Option (List ℕ) → Option (List ℕ) → ℕ → ℕ → List ℕ → Type 0
 TakesOrFaults old new faults_old faults_new text = Appends old new text ⊎ Rises faults_old faults_new
 
--- the line that goes with a status other than 2, of which there are many
+-- the line that goes with a status other than 2, of which there are many; none goes with 0 and 6
 abbrev pub message_with : ℕ → List ℕ
 message_with status =
     if status == 1 then message_of Usage
@@ -34,3 +46,22 @@ message_with status =
     else if status == 4 then message_of WriteFault
     else if status == 5 then message_of Memory
     else []
+
+-- ---- the failures that the errors of the crates below become
+
+abbrev pub of_words : WordsError → Failure
+of_words words.Usage = Usage
+of_words (words.Memory e) = Memory
+
+abbrev pub of_read : ReadError → Failure
+of_read reads.Fault = ReadFault
+of_read reads.TooLong = TooLong
+of_read (reads.Memory e) = Memory
+
+abbrev pub of_workload : WorkloadError → Failure
+of_workload (workloads.Refused refused) = Refused refused
+of_workload (workloads.Memory e) = Memory
+
+abbrev pub of_report : ReportError → Failure
+of_report (reports.Form line) = ReportForm line
+of_report (reports.Memory e) = Memory

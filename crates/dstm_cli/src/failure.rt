@@ -1,11 +1,14 @@
-ghost use Rattle.std.specs.Prelude.{◌≡◌, ◌⊎◌, OnOk};
+ghost use Rattle.std.specs.Prelude.{◌≡◌, ◌⊎◌, ◌++◌, decimal, OnOk, OnErr};
 ghost use Rattle.std.specs.Io.KnownBytes.{Appends};
 ghost use Rattle.dstm_io.specs.Count.{Rises};
 ghost use Rattle.dstm_cli.specs.Failure.{status_of, message_of, TakesOrFaults};
 
-use dstm_io::{Sink, WriteFault, write_all};
-use dstm_workload::Refused;
+use dstm_command::WordsError;
+use dstm_io::{ReadError, Sink, WriteFault, write_all};
+use dstm_report::ReportError;
+use dstm_workload::{Refused, WorkloadError};
 use itoa::Buffer;
+use std::alloc::AllocError;
 
 /// Why a command did not end with its whole output written.
 #[derive(Clone, Copy, Debug, PartialEq, Eq)]
@@ -16,12 +19,95 @@ pub enum Failure {
     ReadFault,
     /// There is more input than the command takes.
     TooLong,
-    /// The input is no workload.
+    /// The input, or what stands before its line `---`, is no workload.
     Refused(Refused),
+    /// No line is `---`: a report has to stand at this line, the one behind the last.
+    NoReport(u64),
+    /// What stands behind the line `---` is no report; the first line that cannot stand in its place, from 1.
+    ReportForm(u64),
     /// The output met a fault; a prefix of the text was written.
     WriteFault,
     /// There was no memory.
     Memory,
+}
+
+impl From<WordsError> for Failure {
+    ghost use Rattle.std.specs.Prelude.{◌≡◌};
+    ghost use Rattle.dstm_cli.specs.Failure.{of_words};
+
+    ghost from_gives = { λ error failure. failure ≡ of_words error };
+
+    fn from(error: WordsError) -> Failure {
+        match error {
+            WordsError::Usage => Failure::Usage,
+            WordsError::Memory(_) => Failure::Memory,
+        }
+    }
+}
+
+impl From<ReadError> for Failure {
+    ghost use Rattle.std.specs.Prelude.{◌≡◌};
+    ghost use Rattle.dstm_cli.specs.Failure.{of_read};
+
+    ghost from_gives = { λ error failure. failure ≡ of_read error };
+
+    fn from(error: ReadError) -> Failure {
+        match error {
+            ReadError::Fault => Failure::ReadFault,
+            ReadError::TooLong => Failure::TooLong,
+            ReadError::Memory(_) => Failure::Memory,
+        }
+    }
+}
+
+impl From<WorkloadError> for Failure {
+    ghost use Rattle.std.specs.Prelude.{◌≡◌};
+    ghost use Rattle.dstm_cli.specs.Failure.{of_workload};
+
+    ghost from_gives = { λ error failure. failure ≡ of_workload error };
+
+    fn from(error: WorkloadError) -> Failure {
+        match error {
+            WorkloadError::Refused(refused) => Failure::Refused(refused),
+            WorkloadError::Memory(_) => Failure::Memory,
+        }
+    }
+}
+
+impl From<ReportError> for Failure {
+    ghost use Rattle.std.specs.Prelude.{◌≡◌};
+    ghost use Rattle.dstm_cli.specs.Failure.{of_report};
+
+    ghost from_gives = { λ error failure. failure ≡ of_report error };
+
+    fn from(error: ReportError) -> Failure {
+        match error {
+            ReportError::Form(line) => Failure::ReportForm(line),
+            ReportError::Memory(_) => Failure::Memory,
+        }
+    }
+}
+
+impl From<AllocError> for Failure {
+    ghost use Rattle.std.specs.Prelude.{◌≡◌};
+    ghost use Rattle.dstm_cli.specs.declared.failure.Failure.TheVariants as failures;
+
+    ghost from_gives = { λ error failure. failure ≡ failures.Memory };
+
+    fn from(_: AllocError) -> Failure {
+        Failure::Memory
+    }
+}
+
+impl From<WriteFault> for Failure {
+    ghost use Rattle.std.specs.Prelude.{◌≡◌};
+    ghost use Rattle.dstm_cli.specs.declared.failure.Failure.TheVariants as failures;
+
+    ghost from_gives = { λ error failure. failure ≡ failures.WriteFault };
+
+    fn from(_: WriteFault) -> Failure {
+        Failure::WriteFault
+    }
 }
 
 impl Failure {
@@ -31,7 +117,10 @@ impl Failure {
     {
         match self {
             Failure::Usage => 1,
-            Failure::TooLong | Failure::Refused(_) => 2,
+            Failure::TooLong
+            | Failure::Refused(_)
+            | Failure::NoReport(_)
+            | Failure::ReportForm(_) => 2,
             Failure::ReadFault => 3,
             Failure::WriteFault => 4,
             Failure::Memory => 5,
@@ -48,6 +137,13 @@ impl Failure {
             Failure::ReadFault => write_all(err, b"dstm: read fault\n"),
             Failure::TooLong => write_all(err, b"dstm: input too long\n"),
             Failure::Refused(refused) => write_refused(err, refused),
+            Failure::NoReport(line) => write_around(err, b"dstm: line ", line, b": no report\n"),
+            Failure::ReportForm(line) => write_around(
+                err,
+                b"dstm: report line ",
+                line,
+                b": form\n",
+            ),
             Failure::WriteFault => write_all(err, b"dstm: write fault\n"),
             Failure::Memory => write_all(err, b"dstm: out of memory\n"),
         }
@@ -56,13 +152,28 @@ impl Failure {
 
 fn write_refused<E: Sink>(err: &mut E, refused: Refused) -> Result<(), WriteFault>
     ensures taken { OnOk result (Appends (E.taken err.old) (E.taken err.new) (message_of (Failure.Refused refused))) }
-    ensures fault { TakesOrFaults (E.taken err.old) (E.taken err.new) (E.faults err.old) (E.faults err.new) (message_of (Failure.Refused refused)) }
+    ensures fault { OnErr result (Rises (E.faults err.old) (E.faults err.new)) }
 {
-    let mut buffer = Buffer::new();
-    write_all(err, b"dstm: line ")?;
-    write_all(err, buffer.format(refused.line).as_bytes())?;
-    write_all(err, b": ")?;
+    write_around(err, b"dstm: line ", refused.line, b": ")?;
     write_all(err, refused.why.text())?;
     write_all(err, b"\n")?;
+    Ok(())
+}
+
+// Writes a number between two texts.
+fn write_around<E: Sink>(
+    err: &mut E,
+    before: &[u8],
+    number: u64,
+    behind: &[u8],
+) -> Result<(), WriteFault>
+    ensures taken { OnOk result (Appends (E.taken err.old) (E.taken err.new) (before.now ++ decimal number ++ behind.now)) }
+    ensures no_fault { OnOk result (E.faults err.new ≡ E.faults err.old) }
+    ensures fault { OnErr result (Rises (E.faults err.old) (E.faults err.new)) }
+{
+    let mut buffer = Buffer::new();
+    write_all(err, before)?;
+    write_all(err, buffer.format(number).as_bytes())?;
+    write_all(err, behind)?;
     Ok(())
 }

@@ -3,10 +3,13 @@
 
 mod command;
 mod failure;
+mod input;
+mod output;
 mod running;
 
-pub use command::{INPUT_LIMIT, dstm};
+pub use command::dstm;
 pub use failure::Failure;
+pub use input::{CHECK_LIMIT, RUN_LIMIT};
 
 #[cfg(test)]
 mod tests;

@@ -1,12 +1,24 @@
 use super::*;
 use dstm_io::{MemorySink, MemorySource};
 use std::alloc::{AllocError, Global};
+use std::process::Abort;
 use std::test::Fail;
 
-// Where reads and writes fail.
-const NOWHERE: &[u64] = &[];
+// The calls of a source and of `out` that fail, and how many bytes `out` has room for.
+#[derive(Clone, Copy)]
+struct Devices<'a> {
+    read_fails: &'a [u64],
+    write_fails: &'a [u64],
+    room: usize,
+}
 
-// What a run answered and wrote.
+const SOUND: Devices<'static> = Devices {
+    read_fails: &[],
+    write_fails: &[],
+    room: 100_000,
+};
+
+// What a call answered and wrote.
 #[derive(Drop)]
 struct Ran {
     status: u8,
@@ -16,21 +28,20 @@ struct Ran {
 
 fn run_on(
     alloc: Global,
-    words: &[&str],
+    line: &str,
     input: &[u8],
-    read_fails: &[u64],
-    write_fails: &[u64],
+    devices: Devices<'_>,
 ) -> Result<Ran, AllocError> {
-    let mut all = Vec::new(alloc);
-    for word in words {
-        all.push(String::from_str(alloc, word)?)?;
+    let mut words = Vec::new(alloc);
+    for word in line.split(' ') {
+        words.push(String::from_str(alloc, word)?)?;
     }
-    let mut source = MemorySource::make(alloc, input, read_fails)?;
-    let mut out = MemorySink::make(alloc, write_fails)?;
-    let mut err = MemorySink::make(alloc, NOWHERE)?;
-    out.reserve(1000)?;
-    err.reserve(1000)?;
-    let status = dstm(alloc, &all, &mut source, &mut out, &mut err);
+    let mut source = MemorySource::make(alloc, input, devices.read_fails)?;
+    let mut out = MemorySink::make(alloc, devices.write_fails)?;
+    let mut err = MemorySink::make(alloc, &[])?;
+    out.reserve(devices.room)?;
+    err.reserve(100)?;
+    let status = dstm(alloc, &words, &mut source, &mut out, &mut err);
     Ok(Ran {
         status,
         out: Vec::from_slice(alloc, out.taken())?,
@@ -38,94 +49,354 @@ fn run_on(
     })
 }
 
+fn expect(
+    rt: &impl Abort,
+    alloc: Global,
+    line: &str,
+    input: &[u8],
+    want: (u8, &str, &str),
+) -> Result<(), AllocError> {
+    let ran = run_on(alloc, line, input, SOUND)?;
+    assert_eq!(rt;
+        ran.out.as_slice(),
+        want.1.as_bytes(),
+        "{line} on {input:?}"
+    );
+    assert_eq!(rt;
+        ran.err.as_slice(),
+        want.2.as_bytes(),
+        "{line} on {input:?}"
+    );
+    assert_eq!(rt; ran.status, want.0, "{line} on {input:?}");
+    Ok(())
+}
+
 const FIRST: &str = "dstm 1\nbank 2 100\ntx 0 transfer 0 1 30\n";
 
+const FIRST_REPORT: &str = "dstm report 1\n3 0 0.0 ok\nbank 70 130\nend 1\n";
+
+const TWO_TRANSFERS: &str = "dstm 1\nbank 2 100\ntx 0 transfer 0 1 80 ; transfer 0 1 80\n";
+
+const ONE_KEY: &str = "dstm 1\nlist 1\ntx 0 insert list 5\ntx 0 insert list 5\n\
+    tx 0 insert list 6\ntx 0 remove list 5\ntx 0 insert list 6\n";
+
+const SEVEN_KEYS: &str = "dstm 1\ntree 7\ntx 0 insert tree 1\ntx 0 insert tree 2\n\
+    tx 0 insert tree 3\ntx 0 insert tree 4\ntx 0 insert tree 5\ntx 0 insert tree 6\n\
+    tx 0 insert tree 7\ntx 0 remove tree 4\n";
+
+const AWAITS: &str = "dstm 3\nworkers 2\nbank 2 100\n\
+    tx 0 await balance 1 150 ; transfer 1 0 150\ntx 1 transfer 0 1 60\n";
+
 #[test]
-fn inputs(rt: HostRuntime) -> Result<(), Fail> {
+fn workloads_are_run(rt: HostRuntime) -> Result<(), Fail> {
     let rows = [
+        (FIRST, FIRST_REPORT),
+        ("dstm 1\nbank 2 100\ntx 0 transfer 0 1 30", FIRST_REPORT),
+        ("dstm 1\n", "dstm report 1\nend 0\n"),
         (
-            FIRST,
-            0,
-            "dstm report 1\n3 0 0.0 ok\nbank 70 130\nend 1\n",
-            "",
+            TWO_TRANSFERS,
+            "dstm report 1\n3 0 0.0 ok ; poor\nbank 20 180\nend 1\n",
         ),
-        ("dstm 1\n", 0, "dstm report 1\nend 0\n", ""),
-        ("", 2, "", "dstm: line 1: header\n"),
         (
-            "dstm 1\nbank 2 100\ntx 0 transfer 0 0 100\ntx 0 transfer 0 0 101",
-            0,
+            "dstm 1\nbank 2 100\ntx 0 transfer 0 0 100\ntx 0 transfer 0 0 101\n",
             "dstm report 1\n3 0 0.0 ok\n4 0 0.1 poor\nbank 100 100\nend 2\n",
-            "",
         ),
-        ("dstm 1\nlist 1\n", 2, "", "dstm: line 2: not built\n"),
         (
-            "dstm 1\nbank 2 100\ntx 0 transfer 0 2 1\n",
-            2,
-            "",
-            "dstm: line 3: not built\n",
+            ONE_KEY,
+            "dstm report 1\n3 0 0.0 true\n4 0 0.1 false\n5 0 0.2 full\n6 0 0.3 true\n7 0 0.4 true\n\
+             list 6\nend 5\n",
+        ),
+        (
+            SEVEN_KEYS,
+            "dstm report 1\n3 0 0.0 true\n4 0 0.1 true\n5 0 0.2 true\n6 0 0.3 true\n7 0 0.4 true\n\
+             8 0 0.5 true\n9 0 0.6 true\n10 0 0.7 true\ntree 1 2 3 5 6 7\nend 8\n",
+        ),
+        (
+            "dstm 1\ntree 1\ntx 0 insert tree 1048574\n",
+            "dstm report 1\n3 0 0.0 true\ntree 1048574\nend 1\n",
+        ),
+        (
+            "dstm 2\ntree 2\ntx 0 put 5 9\ntx 0 put 5 8\ntx 0 get 5 ; get 6\n\
+             tx 0 insert tree 5 ; insert tree 6 ; put 7 1\ntx 0 get 6\n",
+            "dstm report 2\n3 0 0.0 true\n4 0 0.1 false\n5 0 0.2 8 ; none\n\
+             6 0 0.3 false ; true ; full\n7 0 0.4 0\ntree 5:8 6:0\nend 5\n",
+        ),
+        (
+            "dstm 3\nbank 1 5\ntx 0 await balance 0 6\ntx 0 balance 0\n",
+            "dstm report 3\n3 0 0.0 never\n4 0 0.1 5\nbank 5\nend 2\n",
+        ),
+        (
+            "dstm 3\nbank 2 100\n\
+             tx 0 await balance 0 150 ; transfer 0 1 1 orelse transfer 1 0 60\n\
+             tx 0 await balance 0 150 ; total\n",
+            "dstm report 3\n3 0 0.0 ok\n4 0 0.1 true ; 200\nbank 160 40\nend 2\n",
+        ),
+        (
+            AWAITS,
+            "dstm report 3\n5 1 0.0 ok\n4 0 0.1 true ; ok\nbank 190 10\nend 2\n",
         ),
     ];
-    for (input, status, out, err) in rows {
-        let ran = run_on(
+    for (input, report) in rows {
+        expect(
+            &rt,
             rt.alloc(),
-            &["dstm", "run"],
+            "dstm run",
             input.as_bytes(),
-            NOWHERE,
-            NOWHERE,
+            (0, report, ""),
         )?;
-        assert_eq!(rt; ran.status, status, "on {input:?}");
-        assert_eq!(rt; ran.out.as_slice(), out.as_bytes(), "on {input:?}");
-        assert_eq!(rt; ran.err.as_slice(), err.as_bytes(), "on {input:?}");
+    }
+    let large = run_on(
+        rt.alloc(),
+        "dstm run",
+        b"dstm 1\nbank 4096 1000000000\ntx 0 total\n",
+        SOUND,
+    )?;
+    assert_eq!(rt; large.status, 0);
+    assert!(rt;
+        large
+            .out
+            .starts_with(b"dstm report 1\n3 0 0.0 4096000000000\nbank 1000000000 ")
+    );
+    Ok(())
+}
+
+#[test]
+fn workloads_are_refused(rt: HostRuntime) -> Result<(), Fail> {
+    let rows = [
+        ("", "1: header"),
+        ("dstm 1\nworkers 1\ntx 1 total\n", "3: out of range"),
+        ("dstm 1\nworkers 1\ntx 0 total\n", "3: undeclared"),
+        ("dstm 1\nbank 2 100\ntx 0 transfer 0 1", "3: missing"),
+        (
+            "dstm 1\ntree 1\ntx 0 insert tree 1048575\n",
+            "3: out of range",
+        ),
+        ("dstm 1\ntree 1\ntx 0 put 5 9\n", "3: unknown"),
+        ("dstm 2\ntx 0 get 5\n", "2: undeclared"),
+        ("dstm 4\n", "1: header"),
+        ("dstm 1\nbank 2 100\ntx 0\n", "3: missing"),
+        ("dstm 1\nbank 2 100\ntx 0 total ;\n", "3: missing"),
+        ("dstm 1\nbank 2 100\ntx 0 total 5\n", "3: extra"),
+        ("dstm 1\nbank 2 100\ntx 0 balance 2\n", "3: out of range"),
+        ("dstm 1\nbank 2 100\ntx 0 balance 01\n", "3: number"),
+        ("dstm 1\nbank 2 100\ntx 0 insert list 3\n", "3: undeclared"),
+        ("dstm 1\nbank 2 100\ntx 0 insert heap 3\n", "3: unknown"),
+        ("dstm 1\nbank 2 100\ntx 0 transfer 0 1 5;\n", "3: number"),
+        ("dstm 1\nbank 2 100\nbank 2 100\n", "3: twice"),
+        ("dstm 1\nbank 2 100\nqueue 3\n", "3: unknown"),
+        ("dstm 1\nbank 2 100\nworkers 33\n", "3: out of range"),
+        (
+            "dstm 1\nbank 1 5\ntx 0 total ; total ; total ; total ; total ; total ; total ; total ; total\n",
+            "3: too many",
+        ),
+        ("dstm 1\r\n", "1: bytes"),
+    ];
+    for (input, refusal) in rows {
+        let told = format!(in rt.alloc(); "dstm: line {refusal}\n")?;
+        expect(
+            &rt,
+            rt.alloc(),
+            "dstm run",
+            input.as_bytes(),
+            (2, "", &told),
+        )?;
     }
     Ok(())
 }
 
 #[test]
-fn failing_devices(rt: HostRuntime) -> Result<(), Fail> {
-    let words = ["dstm", "run"];
-    let read = run_on(rt.alloc(), &words, FIRST.as_bytes(), &[1], NOWHERE)?;
-    assert_eq!(rt; read.status, 3);
-    assert_eq!(rt; read.out.len(), 0);
-    assert_eq!(rt; read.err.as_slice(), b"dstm: read fault\n".as_slice());
-    let written = run_on(rt.alloc(), &words, FIRST.as_bytes(), NOWHERE, &[0])?;
-    assert_eq!(rt; written.status, 4);
-    assert_eq!(rt; written.out.len(), 0);
-    assert_eq!(rt; written.err.as_slice(), b"dstm: write fault\n".as_slice());
-    Ok(())
-}
+fn inputs_of_any_bytes_and_size(rt: HostRuntime) -> Result<(), Fail> {
+    let comment = (0, "dstm report 1\nend 0\n", "");
+    expect(&rt, rt.alloc(), "dstm run", b"#\xC8\ndstm  1", comment)?;
 
-#[test]
-fn other_words(rt: HostRuntime) -> Result<(), Fail> {
-    let usage = b"usage: dstm run, check, gen or demo\n".as_slice();
-    let none = run_on(rt.alloc(), &["dstm"], FIRST.as_bytes(), NOWHERE, NOWHERE)?;
-    assert_eq!(rt; none.status, 1);
-    assert_eq!(rt; none.err.as_slice(), usage);
-    let help = run_on(
-        rt.alloc(),
-        &["dstm", "help"],
-        FIRST.as_bytes(),
-        NOWHERE,
-        NOWHERE,
-    )?;
-    assert_eq!(rt; help.status, 1);
-    assert_eq!(rt; help.err.as_slice(), usage);
-    let more = run_on(
-        rt.alloc(),
-        &["dstm", "run", "run"],
-        FIRST.as_bytes(),
-        NOWHERE,
-        NOWHERE,
-    )?;
-    assert_eq!(rt; more.status, 1);
-    assert_eq!(rt; more.out.len(), 0);
-    Ok(())
-}
+    let mut input = Vec::from_slice(rt.alloc(), b"dstm 1\nbank ")?;
+    input.resize(input.len() + 1_000, b'9')?;
+    input.extend_from_slice(b" 5\n")?;
+    let large = (2, "", "dstm: line 2: out of range\n");
+    expect(&rt, rt.alloc(), "dstm run", &input, large)?;
 
-#[test]
-fn input_over_the_limit(rt: HostRuntime) -> Result<(), Fail> {
-    let long = vec![in rt.alloc(); b'#'; 4_194_305]?;
-    let ran = run_on(rt.alloc(), &["dstm", "run"], &long, NOWHERE, NOWHERE)?;
+    let mut input = Vec::from_slice(rt.alloc(), b"dstm 1\nbank 1 5\ntx 0")?;
+    input.resize(input.len() + 4_000_000, b' ')?;
+    let ran = run_on(rt.alloc(), "dstm run", &input, SOUND)?;
+    assert_eq!(rt; ran.status, 2);
+    assert_eq!(rt; ran.err.as_slice(), b"dstm: line 3: missing\n".as_slice());
+
+    let mut input = vec![in rt.alloc(); b'#'; 4_194_304]?;
+    let ran = run_on(rt.alloc(), "dstm run", &input, SOUND)?;
+    assert_eq!(rt; ran.status, 2);
+    assert_eq!(rt; ran.err.as_slice(), b"dstm: line 2: header\n".as_slice());
+    input.push(b'#')?;
+    let ran = run_on(rt.alloc(), "dstm run", &input, SOUND)?;
     assert_eq!(rt; ran.status, 2);
     assert_eq!(rt; ran.err.as_slice(), b"dstm: input too long\n".as_slice());
+    let ran = run_on(rt.alloc(), "dstm check", &input, SOUND)?;
+    assert_eq!(rt; ran.status, 2);
+    assert_eq!(rt; ran.err.as_slice(), b"dstm: line 2: header\n".as_slice());
+    Ok(())
+}
+
+#[test]
+fn reports_are_checked(rt: HostRuntime) -> Result<(), Fail> {
+    let two_workers = "dstm 1\nworkers 2\nbank 2 100\ntx 0 transfer 0 1 30\ntx 1 transfer 1 0 10\n";
+    let rows = [
+        (
+            TWO_TRANSFERS,
+            "---\ndstm report 1\n3 0 0.0 ok ; ok\nbank 20 180\nend 1\n",
+            (6, "not lawful: line 2\n", ""),
+        ),
+        (
+            TWO_TRANSFERS,
+            "---\ndstm report 1\n3 0 0.0 ok ; poor\nbank 20 180\nend 1\n",
+            (0, "lawful\n", ""),
+        ),
+        (
+            TWO_TRANSFERS,
+            "---\ndstm report 1\n3 0 0.0 ok ; poor\nbank 20 180\n",
+            (2, "", "dstm: report line 4: form\n"),
+        ),
+        (TWO_TRANSFERS, "", (2, "", "dstm: line 4: no report\n")),
+        (
+            two_workers,
+            "---\ndstm report 1\n5 1 0.0 ok\n4 0 0.1 ok\nbank 80 120\nend 2\n",
+            (0, "lawful\n", ""),
+        ),
+        (
+            two_workers,
+            "---\ndstm report 1\n5 1 0.1 ok\n4 0 0.1 ok\nbank 80 120\nend 2\n",
+            (6, "not lawful: line 3\n", ""),
+        ),
+        (
+            "dstm 2\n",
+            "---\ndstm report 1\nend 0\n",
+            (2, "", "dstm: report line 1: form\n"),
+        ),
+        (
+            "dstm 1\n",
+            "---\ndstm report 1\n---\nend 0\n",
+            (2, "", "dstm: report line 2: form\n"),
+        ),
+        ("dstm 1\n", "---", (2, "", "dstm: report line 1: form\n")),
+        ("dstm 7\n", "---\n", (2, "", "dstm: line 1: header\n")),
+        (
+            AWAITS,
+            "---\ndstm report 3\n4 0 0.0 never\n5 1 0.1 ok\nbank 40 160\nend 2\n",
+            (6, "not lawful: line 2\n", ""),
+        ),
+        (
+            "dstm 3\nbank 1 5\ntx 0 await balance 0 6\ntx 0 balance 0\n",
+            "---\ndstm report 3\n3 0 1.0 never\n4 0 1.1 5\nbank 5\nend 2\n",
+            (0, "lawful\n", ""),
+        ),
+    ];
+    for (workload, report, want) in rows {
+        let input = format!(in rt.alloc(); "{workload}{report}")?;
+        expect(&rt, rt.alloc(), "dstm check", input.as_bytes(), want)?;
+    }
+    Ok(())
+}
+
+#[test]
+fn words_of_the_line(rt: HostRuntime) -> Result<(), Fail> {
+    let refused = [
+        "dstm",
+        "dstm --help",
+        "dstm help",
+        "dstm run run",
+        "dstm run --",
+        "dstm run --manager tabu",
+        "dstm run --seed 07",
+        "dstm run --seed 1 --seed 1",
+        "dstm gen 7 20001 1",
+        "dstm demo 7 1 0",
+    ];
+    let usage = (1, "", "usage: dstm run, check, gen or demo\n");
+    for line in refused {
+        expect(&rt, rt.alloc(), line, FIRST.as_bytes(), usage)?;
+    }
+    let options = "dstm run --manager=karma --all-write";
+    expect(
+        &rt,
+        rt.alloc(),
+        options,
+        FIRST.as_bytes(),
+        (0, FIRST_REPORT, ""),
+    )?;
+    Ok(())
+}
+
+#[test]
+fn generated_workloads(rt: HostRuntime) -> Result<(), Fail> {
+    let empty = "dstm 1\nworkers 1\nbank 8 1000\nlist 64\ntree 1023\n";
+    expect(&rt, rt.alloc(), "dstm gen 7 0 1", b"", (0, empty, ""))?;
+
+    // The lines come from a program of its own, in Python, that has PCG's generator XSH RR 64/32.
+    let three = "dstm 1\nworkers 2\nbank 8 1000\nlist 64\ntree 1023\n\
+        tx 0 remove list 29 ; total\ntx 1 balance 4\ntx 0 transfer 0 4 186\n";
+    expect(&rt, rt.alloc(), "dstm gen 7 3 2", b"", (0, three, ""))?;
+
+    let none = (0, "transactions 0\ntotal 8000\nlawful\n", "");
+    expect(&rt, rt.alloc(), "dstm demo 7 0 1", b"", none)?;
+    let many = (0, "transactions 20000\ntotal 8000\nlawful\n", "");
+    expect(&rt, rt.alloc(), "dstm demo 7 20000 8", b"", many)?;
+    Ok(())
+}
+
+#[test]
+fn failing_devices(rt: HostRuntime) -> Result<(), Fail> {
+    let input = TWO_TRANSFERS.as_bytes();
+    let report = b"dstm report 1\n3 0 0.0 ok ; poor\nbank 20 180\nend 1\n".as_slice();
+    // A run reads twice, the second time to see the end, and writes once.
+    for call in 0..2 {
+        let devices = Devices {
+            read_fails: &[call],
+            ..SOUND
+        };
+        let ran = run_on(rt.alloc(), "dstm run", input, devices)?;
+        assert_eq!(rt; ran.status, 3);
+        assert!(rt; ran.out.is_empty());
+        assert_eq!(rt; ran.err.as_slice(), b"dstm: read fault\n".as_slice());
+    }
+    for room in 0..report.len() {
+        let devices = Devices { room, ..SOUND };
+        let ran = run_on(rt.alloc(), "dstm run", input, devices)?;
+        assert_eq!(rt; ran.status, 4);
+        assert_eq!(rt; ran.out.as_slice(), &report[..room]);
+        assert_eq!(rt; ran.err.as_slice(), b"dstm: write fault\n".as_slice());
+    }
+    let devices = Devices {
+        read_fails: &[2],
+        write_fails: &[1],
+        room: report.len(),
+    };
+    let ran = run_on(rt.alloc(), "dstm run", input, devices)?;
+    assert_eq!(rt; ran.status, 0);
+    assert_eq!(rt; ran.out.as_slice(), report);
+    let devices = Devices {
+        write_fails: &[0],
+        ..SOUND
+    };
+    let ran = run_on(rt.alloc(), "dstm run", input, devices)?;
+    assert_eq!(rt; ran.status, 4);
+    assert!(rt; ran.out.is_empty());
+    Ok(())
+}
+
+#[test]
+fn cut_inputs(rt: HostRuntime) -> Result<(), Fail> {
+    for input in [ONE_KEY.as_bytes(), SEVEN_KEYS.as_bytes()] {
+        for length in 0..input.len() {
+            let cut = &input[..length];
+            let ran = run_on(rt.alloc(), "dstm run", cut, SOUND)?;
+            if ran.status == 2 {
+                assert!(rt; ran.out.is_empty());
+                continue;
+            }
+            assert_eq!(rt; ran.status, 0);
+            let mut case = Vec::from_slice(rt.alloc(), cut)?;
+            case.extend_from_slice(b"\n---\n")?;
+            case.extend_from_slice(&ran.out)?;
+            expect(&rt, rt.alloc(), "dstm check", &case, (0, "lawful\n", ""))?;
+        }
+    }
     Ok(())
 }

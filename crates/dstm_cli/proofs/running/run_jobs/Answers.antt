@@ -1,5 +1,7 @@
-use Rattle.dstm_cli.proofs.Runnable.{runnable}
+use Rattle.std.proofs.Common.{rules}
+use Rattle.dstm_cli.proofs.Totals.{told_total}
 use Rattle.dstm_cli.proofs.running.run_jobs.Goals as goal
 
-pub run_rows-requires-clause-runnable : goal.run_rows-requires-clause-runnable
-run_rows-requires-clause-runnable c = runnable c.args.workload.now c.requires.valid c.requires.transfers
+pub returns-clause-balances : goal.returns-clause-balances
+returns-clause-balances c =
+    told_total c.args.workload.now c.in_ok-rows.rows.items _ c.requires (search rules)
