@@ -1,0 +1,6 @@
+pub mod Parts
+pub mod OpeningValues
+pub mod Jobs
+pub mod Walks
+pub mod Unfolded
+pub mod One

@@ -1,0 +1,27 @@
+-- What a job does on a map: all its operations in order.
+use Rattle.std.specs.Prelude.{◌≡◌, List, All}
+use Rattle.dstm_model.specs.declared.value.Val.{Val}
+use Rattle.dstm_model.specs.declared.reply.Reply.{Reply}
+use Rattle.dstm_model.specs.Layout.{IsValid, FitsLayout}
+use Rattle.dstm_model.specs.Store.{Store, IsPlain}
+use Rattle.dstm_model.specs.Job.{apply_all}
+use Rattle.dstm_store.specs.declared.job.JobTask.{JobTask}
+use Rattle.dstm_store.specs.Whole.{StandsFor}
+
+-- a job: what it was made to do, and the replies that it keeps
+pub record Job : Type 0 where
+  pub task : JobTask
+  pub replies : List Reply
+
+-- the layout is valid, and each operation fits it and is applied by itself
+pub record CanRun (task : JobTask) : Type 0 where
+  pub valid : IsValid task.layout
+  pub fits : All (FitsLayout task.layout) task.ops
+  pub plain : All IsPlain task.ops
+
+-- whatever store the map before stands for, the replies are those of the operations in order on it, and
+-- the map after stands for the store that they leave
+abbrev pub DoesAll : JobTask → List Val → List Val → List Reply → Type 0
+DoesAll task before after replies =
+    (store : Store) → StandsFor task.layout before store →
+    (replies ≡ (apply_all task.ops store).replies) × StandsFor task.layout after (apply_all task.ops store).store

@@ -1,0 +1,127 @@
+ghost use Rattle.std.specs.Prelude.{◌≡◌, List, [], All, IsTrue, false, Some, IfOk, OnOk, IfErr};
+ghost use Rattle.dstm_model.specs.declared.value.Val.{Val};
+ghost use Rattle.dstm_model.specs.Layout.{IsValid, FitsLayout};
+ghost use Rattle.dstm_model.specs.Store.{IsPlain};
+ghost use Rattle.dstm_model.specs.Objects.{objects_of};
+ghost use Rattle.dstm_mem.specs.Memory.{with_set};
+ghost use Rattle.dstm_store.specs.Whole.{IsLawful};
+ghost use Rattle.dstm_store.specs.Job.{CanRun, DoesAll};
+
+use crate::law::StoreLaw;
+use crate::run::run_op;
+use dstm_mem::{Body, Mem};
+use dstm_model::{Layout, Ops, Replies};
+use std::marker::Model;
+
+/// What a job is made to do: these operations, on a store of this layout.
+#[derive(Debug, Drop)]
+pub struct JobTask {
+    pub layout: Layout,
+    pub ops: Ops,
+}
+
+/// The body of one job. It keeps the replies of the last run that ended without an error.
+#[derive(Debug, Drop)]
+pub struct JobBody {
+    task: JobTask,
+    replies: Replies,
+}
+
+impl Model for JobBody {
+    ghost use Rattle.dstm_store.specs.Job.{Job, CanRun};
+
+    ghost Value = { Job };
+
+    ghost view = { λ job. record { task = job.task; replies = job.replies } };
+
+    ghost invariant = { λ job. CanRun job.task };
+}
+
+impl JobBody {
+    /// The body of a job that did not run yet.
+    pub fn make(layout: &Layout, ops: &Ops) -> JobBody
+        requires valid { IsValid layout.now }
+        requires fits { All (FitsLayout layout.now) ops.now }
+        requires plain { All IsPlain ops.now }
+        ensures layout { result.task.layout ≡ layout.now }
+        ensures ops { result.task.ops ≡ ops.now }
+        ensures replies { result.replies ≡ [] }
+    {
+        let task = JobTask {
+            layout: *layout,
+            ops: copy_of(ops),
+        };
+        JobBody {
+            task,
+            replies: Replies::new(),
+        }
+    }
+
+    /// The replies of the last run that ended without an error, in the order of the operations; before
+    /// it there are none.
+    pub fn replies(&self) -> Replies
+        ensures { result ≡ self.now.replies }
+    {
+        let mut replies = Replies::new();
+        for reply in self.replies.as_slice() {
+            replies.push(*reply);
+        }
+        replies
+    }
+}
+
+impl Body<StoreLaw> for JobBody {
+    ghost use Rattle.dstm_store.specs.Job.{DoesAll};
+
+    type Task = JobTask;
+
+    ghost law = { λ job. record { layout = job.task.layout } };
+
+    ghost task = { λ job. job.task };
+
+    ghost right = { λ job before after. DoesAll job.task before after job.replies };
+
+    fn run<M: Mem>(&mut self, mem: &mut M) -> Result<(), M::Err> {
+        self.replies = run_all(mem, &self.task)?;
+        Ok(())
+    }
+}
+
+// Runs the operations of a task in order, and answers their replies.
+fn run_all<M: Mem>(mem: &mut M, task: &JobTask) -> Result<Replies, M::Err>
+    requires task { CanRun task.now }
+    requires objects { M.objects mem.old ≡ objects_of task.now.layout }
+    requires live { IsTrue (M.is_live mem.old) }
+    requires lawful { (map : List Val) → M.Admits mem.old map →
+        IsLawful task.now.layout (with_set map (M.written mem.old)) }
+    requires admits { (map : List Val) × M.Admits mem.old map }
+
+    ensures does { IfOk result (λ replies. (map : List Val) → M.Admits mem.new map →
+        DoesAll task.now (with_set map (M.written mem.old)) (with_set map (M.written mem.new)) replies) }
+    ensures lawful { OnOk result ((map : List Val) → M.Admits mem.new map →
+        IsLawful task.now.layout (with_set map (M.written mem.new))) }
+
+    ensures place { M.place mem.new ≡ M.place mem.old }
+    ensures objects { M.objects mem.new ≡ M.objects mem.old }
+    ensures narrows { (map : List Val) → M.Admits mem.new map → M.Admits mem.old map }
+    ensures admits { OnOk result ((map : List Val) × M.Admits mem.new map) }
+    ensures live { OnOk result (IsTrue (M.is_live mem.new)) }
+    ensures ended { IfErr result (λ e. (M.is_live mem.new ≡ false) × (M.error mem.new ≡ Some e)) }
+{
+    let mut replies = Replies::new();
+    for op in task.ops.as_slice() {
+        let reply = run_op(mem, &task.layout, op)?;
+        replies.push(reply);
+    }
+    Ok(replies)
+}
+
+fn copy_of(ops: &Ops) -> Ops
+    ensures { result ≡ ops.now }
+{
+    let mut copy = Ops::new();
+    for op in ops.as_slice() {
+        copy.push(*op);
+    }
+    copy
+}

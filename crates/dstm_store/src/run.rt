@@ -1,0 +1,71 @@
+ghost use Rattle.std.specs.Prelude.{◌≡◌, List, IsTrue, false, Some, IfOk, OnOk, IfErr};
+ghost use Rattle.dstm_model.specs.declared.value.Val.{Val};
+ghost use Rattle.dstm_model.specs.Layout.{IsValid, FitsLayout};
+ghost use Rattle.dstm_model.specs.Store.{IsPlain};
+ghost use Rattle.dstm_model.specs.Objects.{objects_of, Does};
+ghost use Rattle.dstm_mem.specs.Memory.{with_set};
+ghost use Rattle.dstm_store.specs.Whole.{StandsFor, IsLawful};
+
+use dstm_mem::Mem;
+use dstm_model::{Layout, Op, Reply, Which};
+
+/// Runs one operation, on the structure that it is about.
+pub fn run_op<M: Mem>(mem: &mut M, layout: &Layout, op: &Op) -> Result<Reply, M::Err>
+    requires valid { IsValid layout.now }
+    requires fits { FitsLayout layout.now op.now }
+    requires plain { IsPlain op.now }
+    requires objects { M.objects mem.old ≡ objects_of layout.now }
+    requires live { IsTrue (M.is_live mem.old) }
+    requires lawful { (map : List Val) → M.Admits mem.old map →
+        IsLawful layout.now (with_set map (M.written mem.old)) }
+
+    ensures does { IfOk result (λ reply. (map : List Val) → M.Admits mem.new map →
+        Does (StandsFor layout.now) op.now
+        (with_set map (M.written mem.old)) (with_set map (M.written mem.new)) reply) }
+    ensures lawful { OnOk result ((map : List Val) → M.Admits mem.new map →
+        IsLawful layout.now (with_set map (M.written mem.new))) }
+
+    ensures place { M.place mem.new ≡ M.place mem.old }
+    ensures objects { M.objects mem.new ≡ M.objects mem.old }
+    ensures narrows { (map : List Val) → M.Admits mem.new map → M.Admits mem.old map }
+    ensures admits { OnOk result ((map : List Val) × M.Admits mem.new map) }
+    ensures live { OnOk result (IsTrue (M.is_live mem.new)) }
+    ensures ended { IfErr result (λ e. (M.is_live mem.new ≡ false) × (M.error mem.new ≡ Some e)) }
+{
+    match *op {
+        Op::Transfer {
+            source,
+            target,
+            amount,
+        } => dstm_bank::transfer(mem, layout, source, target, amount),
+        Op::Balance { account } => dstm_bank::balance(mem, layout, account),
+        Op::Total => dstm_bank::total(mem, layout),
+        Op::Insert {
+            which: Which::List,
+            key,
+        } => dstm_list::insert(mem, layout, key),
+        Op::Remove {
+            which: Which::List,
+            key,
+        } => dstm_list::remove(mem, layout, key),
+        Op::Member {
+            which: Which::List,
+            key,
+        } => dstm_list::member(mem, layout, key),
+        Op::Insert {
+            which: Which::Tree,
+            key,
+        } => dstm_tree::insert(mem, layout, key),
+        Op::Remove {
+            which: Which::Tree,
+            key,
+        } => dstm_tree::remove(mem, layout, key),
+        Op::Member {
+            which: Which::Tree,
+            key,
+        } => dstm_tree::member(mem, layout, key),
+        Op::Put { key, value } => dstm_tree::put(mem, layout, key, value),
+        Op::Get { key } => dstm_tree::get(mem, layout, key),
+        Op::Await(_) | Op::OrElse => unreachable!(),
+    }
+}

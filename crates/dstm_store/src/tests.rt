@@ -1,0 +1,434 @@
+ghost use Rattle.std.specs.Prelude.{◌≡◌, ◌<◌, List, All, IsTrue, IfOk};
+ghost use Rattle.dstm_model.specs.declared.value.Val.{Val};
+ghost use Rattle.dstm_model.specs.Layout.{IsValid, FitsLayout, FitsKey};
+ghost use Rattle.dstm_model.specs.Store.{IsPlain};
+ghost use Rattle.dstm_model.specs.Objects.{objects_of};
+ghost use Rattle.dstm_mem.specs.Memory.{with_set};
+ghost use Rattle.dstm_store.specs.Whole.{IsLawful};
+ghost use Rattle.dstm_store.specs.Job.{DoesAll};
+
+use super::*;
+use dstm_mem::{Body, FlatMem, Mem};
+use dstm_model::{
+    AMOUNT_LIMIT, Item, KEY_LIMIT, Law, Layout, Op, Ops, PlainStore, Replies, Reply, State, Val,
+    Which,
+};
+use std::alloc::{AllocError, Global};
+use std::test::Fail;
+
+// ---- a store on a memory of one thread
+
+// Tells whether an operation is one that may be run.
+fn fits(layout: &Layout, op: &Op) -> bool
+    ensures fits { IsTrue result → FitsLayout layout.now op.now }
+    ensures plain { IsTrue result → IsPlain op.now }
+{
+    match *op {
+        Op::Transfer {
+            source,
+            target,
+            amount,
+        } => source < layout.accounts && target < layout.accounts && amount < AMOUNT_LIMIT,
+        Op::Balance { account } => account < layout.accounts,
+        Op::Total => layout.accounts > 0,
+        Op::Insert { which, key } => fits_key(layout, which, key),
+        Op::Remove { which, key } => fits_key(layout, which, key),
+        Op::Member { which, key } => fits_key(layout, which, key),
+        Op::Put { key, .. } => fits_key(layout, Which::Tree, key),
+        Op::Get { key } => fits_key(layout, Which::Tree, key),
+        Op::Await(_) | Op::OrElse => false,
+    }
+}
+
+fn fits_key(layout: &Layout, which: Which, key: u32) -> bool
+    ensures { IsTrue result → FitsKey layout.now which key }
+{
+    let room = match which {
+        Which::List => layout.list,
+        Which::Tree => layout.tree,
+    };
+    room > 0 && key < KEY_LIMIT
+}
+
+// The answer to an operation, and Never to one that may not be run.
+fn answer(mem: &mut FlatMem, layout: &Layout, op: &Op) -> Reply
+    requires valid { IsValid layout.now }
+    requires objects { ⟦<FlatMem as Mem>⟧.objects mem.old ≡ objects_of layout.now }
+    requires lawful { (map : List Val) → ⟦<FlatMem as Mem>⟧.Admits mem.old map →
+        IsLawful layout.now (with_set map (⟦<FlatMem as Mem>⟧.written mem.old)) }
+    ensures objects { ⟦<FlatMem as Mem>⟧.objects mem.new ≡ objects_of layout.now }
+    ensures lawful { (map : List Val) → ⟦<FlatMem as Mem>⟧.Admits mem.new map →
+        IsLawful layout.now (with_set map (⟦<FlatMem as Mem>⟧.written mem.new)) }
+{
+    if !fits(layout, op) {
+        return Reply::Never;
+    }
+    match run_op(mem, layout, op) {
+        Ok(reply) => reply,
+        Err(never) => match never {},
+    }
+}
+
+// The memory that holds the opening values.
+fn opened(alloc: Global, layout: &Layout) -> Result<FlatMem, AllocError>
+    requires { IsValid layout.now }
+    ensures objects { IfOk result (λ mem. ⟦<FlatMem as Mem>⟧.objects mem ≡ objects_of layout.now) }
+    ensures lawful { IfOk result (λ mem. (map : List Val) → ⟦<FlatMem as Mem>⟧.Admits mem map →
+        IsLawful layout.now (with_set map (⟦<FlatMem as Mem>⟧.written mem))) }
+{
+    let values = opening(alloc, layout)?;
+    let mem = FlatMem::make(alloc, values)?;
+    Ok(mem)
+}
+
+// The answers to operations one after the other, and what the store holds then.
+fn run_each(alloc: Global, layout: &Layout, ops: &[Op]) -> Result<(Vec<Reply>, State), AllocError>
+    requires { IsValid layout.now }
+{
+    let mut mem = opened(alloc, layout)?;
+    let mut replies = Vec::new(alloc);
+    for op in ops {
+        let reply = answer(&mut mem, layout, op);
+        replies.push(reply)?;
+    }
+    let values = mem.values();
+    let state = read_state(alloc, layout, &values)?;
+    Ok((replies, state))
+}
+
+#[test]
+fn accounts_and_a_list(rt: HostRuntime) -> Result<(), Fail> {
+    let layout = Layout {
+        accounts: 2,
+        opening: 100,
+        list: 2,
+        tree: 0,
+    };
+    let values = opening(rt.alloc(), &layout)?;
+    let lows = values
+        .iter()
+        .map(|value| value.low)
+        .collect::<Vec<u64>>(rt.alloc())?;
+    assert_eq!(rt; lows.as_slice(), [100, 100, 0, 1, 2, 0].as_slice());
+    let ops = [
+        Op::Transfer {
+            source: 0,
+            target: 1,
+            amount: 30,
+        },
+        list_insert(9),
+        list_insert(4),
+        list_insert(6),
+    ];
+    let (replies, state) = run_each(rt.alloc(), &layout, &ops)?;
+    let wanted = [Reply::Moved, Reply::Yes, Reply::Yes, Reply::Full];
+    assert_eq!(rt; replies.as_slice(), wanted.as_slice());
+    assert_eq!(rt; state.bank.as_slice(), [70, 130].as_slice());
+    assert_eq!(rt; state.list.as_slice(), [4, 9].as_slice());
+    assert_eq!(rt; state.tree.as_slice().len(), 0);
+    Ok(())
+}
+
+#[test]
+fn a_tree_that_was_full(rt: HostRuntime) -> Result<(), Fail> {
+    let layout = Layout {
+        accounts: 0,
+        opening: 0,
+        list: 0,
+        tree: 3,
+    };
+    let which = Which::Tree;
+    let ops = [
+        tree_insert(2),
+        tree_insert(1),
+        tree_insert(3),
+        tree_insert(4),
+        Op::Remove { which, key: 2 },
+        tree_insert(4),
+    ];
+    let (replies, state) = run_each(rt.alloc(), &layout, &ops)?;
+    let wanted = [
+        Reply::Yes,
+        Reply::Yes,
+        Reply::Yes,
+        Reply::Full,
+        Reply::Yes,
+        Reply::Yes,
+    ];
+    assert_eq!(rt; replies.as_slice(), wanted.as_slice());
+    let items = [item(1, 0), item(3, 0), item(4, 0)];
+    assert_eq!(rt; state.tree.as_slice(), items.as_slice());
+    assert_eq!(rt; state.bank.as_slice().len(), 0);
+    assert_eq!(rt; state.list.as_slice().len(), 0);
+    Ok(())
+}
+
+fn list_insert(key: u32) -> Op {
+    Op::Insert {
+        which: Which::List,
+        key,
+    }
+}
+
+fn tree_insert(key: u32) -> Op {
+    Op::Insert {
+        which: Which::Tree,
+        key,
+    }
+}
+
+fn item(key: u64, value: u64) -> Item {
+    Item { key, value }
+}
+
+// ---- beside the plain store
+
+// What the plain store answers to operations one after the other, and what it holds then.
+fn run_plain(alloc: Global, layout: &Layout, ops: &[Op]) -> Result<(Vec<Reply>, State), AllocError>
+    requires { IsValid layout.now }
+{
+    let mut store = PlainStore::opening(alloc, layout)?;
+    let mut replies = Vec::new(alloc);
+    for op in ops {
+        let reply = if fits(layout, op) {
+            store.apply(op)?
+        } else {
+            Reply::Never
+        };
+        replies.push(reply)?;
+    }
+    let state = store.state(alloc)?;
+    Ok((replies, state))
+}
+
+// An operation on one of three accounts, or on one of ten keys.
+fn pick(seed: u32) -> Op {
+    let key = seed / 256 % 10;
+    let which = if seed / 4_096 % 2 == 0 {
+        Which::List
+    } else {
+        Which::Tree
+    };
+    match seed / 65_536 % 9 {
+        0 => Op::Transfer {
+            source: key % 3,
+            target: key / 3 % 3,
+            amount: u64::from(seed % 60),
+        },
+        1 => Op::Balance { account: key % 3 },
+        2 => Op::Total,
+        3 => Op::Member { which, key },
+        4 => Op::Remove { which, key },
+        5 => Op::Put {
+            key,
+            value: u64::from(seed),
+        },
+        6 => Op::Get { key },
+        _ => Op::Insert { which, key },
+    }
+}
+
+#[test]
+fn operations_answer_as_the_plain_store_does(rt: HostRuntime) -> Result<(), Fail> {
+    let layout = Layout {
+        accounts: 3,
+        opening: 50,
+        list: 5,
+        tree: 6,
+    };
+    let mut ops = Vec::new(rt.alloc());
+    let mut seed: u32 = 1;
+    for _step in 0..400 {
+        seed = seed.wrapping_mul(1_103_515_245).wrapping_add(12_345);
+        ops.push(pick(seed))?;
+    }
+    let (replies, state) = run_each(rt.alloc(), &layout, &ops)?;
+    let (wanted, holds) = run_plain(rt.alloc(), &layout, &ops)?;
+    assert_eq!(rt; replies.as_slice(), wanted.as_slice());
+    assert_eq!(rt; state.bank.as_slice(), holds.bank.as_slice());
+    assert_eq!(rt; state.list.as_slice(), holds.list.as_slice());
+    assert_eq!(rt; state.tree.as_slice(), holds.tree.as_slice());
+    Ok(())
+}
+
+// ---- jobs
+
+#[test]
+fn the_law_can_be_cited(_rt: HostRuntime) {
+    stands_for_one();
+}
+
+// Runs any body on lawful values, and answers the values that it leaves.
+fn run_flat<L: Law, B: Body<L>>(
+    alloc: Global,
+    values: Vec<Val>,
+    body: &mut B,
+) -> Result<Vec<Val>, AllocError>
+    requires { L.holds (B.law body.old) values.items }
+    ensures law { B.law body.new ≡ B.law body.old }
+    ensures task { B.task body.new ≡ B.task body.old }
+    ensures lawful { IfOk result (λ after. L.holds (B.law body.new) after.items) }
+    ensures right { IfOk result (λ after. B.right body.new values.items after.items) }
+{
+    let mut mem = FlatMem::make(alloc, values)?;
+    match body.run(&mut mem) {
+        Ok(()) => Ok(mem.values()),
+        Err(never) => match never {},
+    }
+}
+
+// Runs a job on lawful values, and answers its replies and the values that it leaves.
+fn run_job(
+    alloc: Global,
+    layout: &Layout,
+    values: Vec<Val>,
+    ops: &Ops,
+) -> Result<(Replies, Vec<Val>), AllocError>
+    requires valid { IsValid layout.now }
+    requires fits { All (FitsLayout layout.now) ops.now }
+    requires plain { All IsPlain ops.now }
+    requires lawful { IsLawful layout.now values.items }
+    ensures lawful { IfOk result (λ done. IsLawful layout.now done.1.items) }
+    ensures right { IfOk result (λ done.
+        DoesAll (record { layout = layout.now; ops = ops.now }) values.items done.1.items done.0) }
+{
+    let mut body = JobBody::make(layout, ops);
+    let after = run_flat::<StoreLaw, JobBody>(alloc, values, &mut body)?;
+    Ok((body.replies(), after))
+}
+
+// The first operations that may be run, at most eight.
+fn ops_of(layout: &Layout, list: &[Op]) -> Ops
+    ensures fits { All (FitsLayout layout.now) result }
+    ensures plain { All IsPlain result }
+{
+    let mut ops = Ops::new();
+    for op in list {
+        let is_full = ops.as_slice().len() == 8;
+        if is_full || !fits(layout, op) {
+            return ops;
+        }
+        ops.push(*op);
+    }
+    ops
+}
+
+// The answers of jobs one after the other, and what the store holds then.
+fn run_jobs(
+    alloc: Global,
+    layout: &Layout,
+    jobs: &[&[Op]],
+) -> Result<(Vec<Reply>, State), AllocError>
+    requires { IsValid layout.now }
+{
+    let mut values = opening(alloc, layout)?;
+    let mut replies = Vec::new(alloc);
+    for job in jobs {
+        let ops = ops_of(layout, job);
+        let (answered, after) = run_job(alloc, layout, values, &ops)?;
+        values = after;
+        replies.extend_from_slice(answered.as_slice())?;
+    }
+    let state = read_state(alloc, layout, &values)?;
+    Ok((replies, state))
+}
+
+#[test]
+fn jobs_on_a_list_of_one_key(rt: HostRuntime) -> Result<(), Fail> {
+    let layout = Layout {
+        accounts: 0,
+        opening: 0,
+        list: 1,
+        tree: 0,
+    };
+    let remove = Op::Remove {
+        which: Which::List,
+        key: 5,
+    };
+    let (first, again, other) = ([list_insert(5)], [list_insert(5)], [list_insert(6)]);
+    let (taken, last) = ([remove], [list_insert(6)]);
+    let jobs = [
+        first.as_slice(),
+        again.as_slice(),
+        other.as_slice(),
+        taken.as_slice(),
+        last.as_slice(),
+    ];
+    let (replies, state) = run_jobs(rt.alloc(), &layout, &jobs)?;
+    let wanted = [Reply::Yes, Reply::No, Reply::Full, Reply::Yes, Reply::Yes];
+    assert_eq!(rt; replies.as_slice(), wanted.as_slice());
+    assert_eq!(rt; state.list.as_slice(), [6].as_slice());
+    Ok(())
+}
+
+#[test]
+fn a_job_of_all_keys(rt: HostRuntime) -> Result<(), Fail> {
+    let layout = Layout {
+        accounts: 0,
+        opening: 0,
+        list: 0,
+        tree: 7,
+    };
+    let insert = [
+        tree_insert(1),
+        tree_insert(2),
+        tree_insert(3),
+        tree_insert(4),
+        tree_insert(5),
+        tree_insert(6),
+        tree_insert(7),
+    ];
+    let remove = [Op::Remove {
+        which: Which::Tree,
+        key: 4,
+    }];
+    let jobs = [insert.as_slice(), remove.as_slice()];
+    let (replies, state) = run_jobs(rt.alloc(), &layout, &jobs)?;
+    assert_eq!(rt; replies.as_slice(), [Reply::Yes; 8].as_slice());
+    let items = [
+        item(1, 0),
+        item(2, 0),
+        item(3, 0),
+        item(5, 0),
+        item(6, 0),
+        item(7, 0),
+    ];
+    assert_eq!(rt; state.tree.as_slice(), items.as_slice());
+    Ok(())
+}
+
+#[test]
+fn jobs_that_put_and_get(rt: HostRuntime) -> Result<(), Fail> {
+    let layout = Layout {
+        accounts: 0,
+        opening: 0,
+        list: 0,
+        tree: 2,
+    };
+    let added = [Op::Put { key: 5, value: 9 }];
+    let replaced = [Op::Put { key: 5, value: 8 }];
+    let looked = [Op::Get { key: 5 }, Op::Get { key: 6 }];
+    let filled = [tree_insert(5), tree_insert(6), Op::Put { key: 7, value: 1 }];
+    let last = [Op::Get { key: 6 }];
+    let jobs = [
+        added.as_slice(),
+        replaced.as_slice(),
+        looked.as_slice(),
+        filled.as_slice(),
+        last.as_slice(),
+    ];
+    let (replies, state) = run_jobs(rt.alloc(), &layout, &jobs)?;
+    let wanted = [
+        Reply::Yes,
+        Reply::No,
+        Reply::Number(8),
+        Reply::Absent,
+        Reply::No,
+        Reply::Yes,
+        Reply::Full,
+        Reply::Number(0),
+    ];
+    assert_eq!(rt; replies.as_slice(), wanted.as_slice());
+    assert_eq!(rt; state.tree.as_slice(), [item(5, 8), item(6, 0)].as_slice());
+    Ok(())
+}
