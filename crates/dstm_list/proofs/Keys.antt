@@ -1,6 +1,7 @@
 -- The keys of cells: what a look-up finds past lesser and before greater ones, what an insertion and a
 -- removal make of them, and their rising order.
-use Rattle.std.proofs.Common.{◌≡◌, ℕ, zero, suc, ◌+◌, ◌<◌, ◌≤◌, List, [], ◌∷◌, ◌++◌, true, false, arith, refl, sym, ap, subst}
+use Rattle.std.proofs.Common.{◌≡◌, ℕ, zero, suc, ◌+◌, ◌<◌, ◌≤◌, List, [], ◌∷◌, ◌++◌, true, false, arith, refl, sym, ap}
+use Rattle.std.proofs.Common.{subst}
 use Rattle.std.specs.Prelude.{slice_index}
 use Rattle.std.specs.List.Sorted.{IsStrictlyIncreasing}
 use Rattle.std.proofs.lemmas.Bool.{le-ltb, lt-ltb, ne_eqb, eq-eqb}

@@ -1,19 +1,22 @@
 -- A map stands for one set of keys only, also where other objects change; the opening values stand for the
 -- empty set.
-use Rattle.std.proofs.Common.{◌≡◌, ℕ, zero, suc, ◌+◌, ◌<◌, List, [], ◌∷◌, ◌++◌, length, arith, refl, sym, ◌∙◌, ap, subst, inl, inr}
+use Rattle.std.proofs.Common.{◌≡◌, ℕ, zero, suc, ◌+◌, ◌<◌, ◌≤◌, List, [], ◌∷◌, ◌++◌, length, arith, refl, sym, ◌∙◌, ap}
+use Rattle.std.proofs.Common.{subst, inl, inr}
 use Rattle.std.proofs.lemmas.Bool.{cases_eq}
 use Rattle.std.specs.Prelude.{IsPermutation}
 use Rattle.std.specs.List.{AllByRecursion as Each}
 use Rattle.std.specs.List.Sorted.{IsStrictlyIncreasing}
 use Rattle.std.proofs.lemmas.List.{length-append, length-map}
-use Rattle.std.proofs.lemmas.List.Sorted.{IsPermutation-refl, IsPermutation-sym, IsPermutation-cons, IsPermutation-trans, IsPermutation-to_front}
+use Rattle.std.proofs.lemmas.List.Sorted.{IsPermutation-refl, IsPermutation-sym, IsPermutation-cons}
+use Rattle.std.proofs.lemmas.List.Sorted.{IsPermutation-trans, IsPermutation-to_front}
 use Rattle.dstm_model.specs.declared.value.Val.{Val}
 use Rattle.dstm_model.specs.declared.layout.Layout.{Layout}
 use Rattle.dstm_model.specs.Layout.{IsValid}
 use Rattle.dstm_model.specs.Map.{value_at}
 use Rattle.dstm_model.specs.Store.{Store, opening_store}
 use Rattle.dstm_model.specs.Objects.{list_begin, free_object, node_object, plain}
-use Rattle.dstm_list.specs.List.{Cell, IsList, IsChain, IsFreeChain, IsOfList, numbers_of, keys_of, first, nodes_to, node}
+use Rattle.dstm_list.specs.List.{Cell, IsList, IsChain, IsFreeChain, IsOfList, numbers_of, keys_of, first, nodes_to}
+use Rattle.dstm_list.specs.List.{node}
 use Rattle.dstm_list.proofs.Numbers.{IsNumber, as_many, each-map, each-left, each-right}
 use Rattle.dstm_list.proofs.Objects.{IsChain-same, IsFreeChain-same}
 use Rattle.dstm_list.proofs.Steps.{head-of_list, node-of_list, used_within, first_within}
@@ -39,18 +42,23 @@ same_keys n begin values (c ∷ cs) (d ∷ ds) small used also is_first chain ot
     ap (λ k. k ∷ keys_of cs) key
     ∙ ap (λ ks. d.key ∷ ks) (same_keys n begin values cs ds small used.1 also.1 next chain.1 other.1)
 
-no_keys : {layout : Layout} {values : List Val} {store : Store} → layout.list ≡ 0 →
-    (list : IsList layout values store) →
-    length list.cells ≡ 0
-no_keys {layout} none list =
+-- the nodes that are in the list are at most as many as all nodes
+pub used_most : {layout : Layout} {values : List Val} {store : Store} (list : IsList layout values store) →
+    length list.cells ≤ layout.list
+used_most {layout} list =
     let all = as_many layout.list (numbers_of list.cells ++ list.free) (IsPermutation-sym _ _ list.once) in
     let used = length-append (numbers_of list.cells) list.free in
     let numbers = length-map list.cells (λ (c : Cell). c.number) in
-    omega (arith, all, used, numbers, none)
+    omega (arith, all, used, numbers)
 
-empty : (cells : List Cell) → length cells ≡ 0 → keys_of cells ≡ []
+pub empty : (cells : List Cell) → length cells ≡ 0 → keys_of cells ≡ []
 empty [] none = refl
 empty (c ∷ cs) none = absurd (omega (arith, none))
+
+-- a list that is not declared has no keys
+pub no_keys : {layout : Layout} {values : List Val} {store : Store} → layout.list ≡ 0 →
+    IsList layout values store → store.keys ≡ []
+no_keys none list = list.keys ∙ empty list.cells (omega (arith, used_most list, none))
 
 pub keys-unique : {layout : Layout} {values : List Val} {one two : Store} → IsValid layout →
     IsList layout values one → IsList layout values two → one.keys ≡ two.keys
@@ -59,7 +67,7 @@ keys-unique {layout} {values} valid a b =
     let used = each-left (IsNumber n) (numbers_of a.cells) a.free (used_within a) in
     let also = each-left (IsNumber n) (numbers_of b.cells) b.free (used_within b) in
     elim (cases_eq n 0) [
-      | inl none ↦ a.keys ∙ empty a.cells (no_keys none a) ∙ sym (b.keys ∙ empty b.cells (no_keys none b))
+      | inl none ↦ no_keys none a ∙ sym (no_keys none b)
       | inr some ↦
           let declared : 0 < n = omega (arith, some) in
           let is_first : first (numbers_of a.cells) ≡ first (numbers_of b.cells) =

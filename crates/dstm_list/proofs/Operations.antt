@@ -1,5 +1,6 @@
 -- What the list's operations do to maps that stand for a list. No memory stands in these lemmas.
-use Rattle.std.proofs.Common.{◌≡◌, ◌≢◌, ℕ, ◌+◌, ◌<◌, ◌≤◌, List, [], ◌∷◌, ◌++◌, length, slice_set, Bool, true, false, ◌==◌, arith, refl, sym, ◌∙◌, ap, subst}
+use Rattle.std.proofs.Common.{◌≡◌, ◌≢◌, ℕ, ◌+◌, ◌<◌, ◌≤◌, List, [], ◌∷◌, ◌++◌, length, slice_set, Bool, true, false}
+use Rattle.std.proofs.Common.{◌==◌, arith, refl, sym, ◌∙◌, ap, subst}
 use Rattle.std.specs.Prelude.{Option, Some, None, is_some, IsPermutation}
 use Rattle.std.specs.List.{AllByRecursion as Each}
 use Rattle.std.specs.List.Sorted.{IsStrictlyIncreasing}
@@ -17,11 +18,14 @@ use Rattle.dstm_model.specs.Store.{Store, has_key, with_key, without_key, yes_or
 use Rattle.dstm_model.specs.Objects.{Does, list_begin, tree_begin, free_object, node_object, plain}
 use Rattle.dstm_list.specs.declared.node.Node.{Node}
 use Rattle.dstm_list.specs.declared.walk.Place.{Place}
-use Rattle.dstm_list.specs.List.{Cell, IsList, IsChain, IsFreeChain, IsOfList, numbers_of, keys_of, first, node, next_of, nodes_to}
+use Rattle.dstm_list.specs.List.{Cell, IsList, IsChain, IsFreeChain, IsOfList, numbers_of, keys_of, first, node}
+use Rattle.dstm_list.specs.List.{next_of, nodes_to}
 use Rattle.dstm_list.specs.Place.{IsPlace, IsFirst, AllLess, AllGreater, link_after, key_after}
-use Rattle.dstm_list.proofs.Keys.{Rise, increasing-of_Rise, Rise-insert, Rise-remove, has_key-behind, has_key-greater, has_key-first, with_key-between, without_key-first, without_key-absent}
+use Rattle.dstm_list.proofs.Keys.{Rise, increasing-of_Rise, Rise-insert, Rise-remove, has_key-behind, has_key-greater}
+use Rattle.dstm_list.proofs.Keys.{has_key-first, with_key-between, without_key-first, without_key-absent}
 use Rattle.dstm_list.proofs.Numbers.{IsNumber, as_many, split-used, split-free, within, each-right}
-use Rattle.dstm_list.proofs.Objects.{Changed-of_sets, Kept-of_same, objects_apart, relinked, IsChain-same, IsFreeChain-same}
+use Rattle.dstm_list.proofs.Objects.{Changed-of_sets, Kept-of_same, objects_apart, relinked, IsChain-same}
+use Rattle.dstm_list.proofs.Objects.{IsFreeChain-same}
 use Rattle.dstm_list.proofs.Steps.{IsChain-right, rise_of, used_within, first_within, node-of_list}
 
 -- the place is the key's, in each list that the map stands for
@@ -146,7 +150,7 @@ first_free {layout} n valid declared list is =
     let low = ap (λ v. v.low) (list.free_head declared) in
     (omega (arith, is, low, small, valid.list), omega (arith, is, low, small, valid.list))
 
-none_free : (n : ℕ) (free : List ℕ) → Each (IsNumber n) free → first free ≡ 0 → length free ≡ 0
+pub none_free : (n : ℕ) (free : List ℕ) → Each (IsNumber n) free → first free ≡ 0 → length free ≡ 0
 none_free n [] each none = refl
 none_free n (i ∷ is) each none = absurd (omega (arith, each.0.0, none))
 
@@ -188,7 +192,8 @@ inserted : {layout : Layout} {values : List Val} {store : Store} (c : Cell) (beh
     (with_node values (list_begin layout) c.number c.key (first (numbers_of ahead)) link
     (key_after 0 behind) rest)
     (record store { keys = with_key c.key store.keys }) (behind ++ c ∷ ahead) free
-inserted {layout} {values} {store} c behind ahead free link rest declared in_map parts less greater is_link link_in had =
+inserted {layout} {values} {store} c behind ahead free link rest declared in_map parts less greater is_link link_in
+    had =
     let n = layout.list in
     let begin = list_begin layout in
     let i = c.number in

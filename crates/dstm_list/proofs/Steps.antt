@@ -1,5 +1,6 @@
 -- A walk along the list to a key's place. No memory stands in these lemmas.
-use Rattle.std.proofs.Common.{◌≡◌, ◌≢◌, ℕ, ◌+◌, ◌-◌, ◌<◌, ◌≤◌, List, [], ◌∷◌, ◌++◌, true, false, cond, ◌==◌, arith, refl, sym, ◌∙◌, ap, subst, inl, inr}
+use Rattle.std.proofs.Common.{◌≡◌, ◌≢◌, ℕ, ◌+◌, ◌-◌, ◌<◌, ◌≤◌, List, [], ◌∷◌, ◌++◌, true, false, cond, ◌==◌, arith}
+use Rattle.std.proofs.Common.{refl, sym, ◌∙◌, ap, subst, inl, inr}
 use Rattle.std.specs.Prelude.{Some, None}
 use Rattle.std.specs.List.{AllByRecursion as Each}
 use Rattle.std.specs.List.Sorted.{IsStrictlyIncreasing}
@@ -95,7 +96,7 @@ pub record IsNext (cells : List Cell) (number : ℕ) (next : Node) : Type 0 wher
   pub key : cell.key ≡ next.key
   pub next_is : next.next ≡ first (numbers_of rest)
 
-next_in : (n begin : ℕ) (values : List Val) (number : ℕ) (next : Node) (cells : List Cell) → n < 2048 →
+pub next_in : (n begin : ℕ) (values : List Val) (number : ℕ) (next : Node) (cells : List Cell) → n < 2048 →
     number ≢ 0 → number ≡ first (numbers_of cells) → Each (IsNumber n) (numbers_of cells) →
     IsChain begin values cells → next.key ≡ key_of (value_at values (node_object begin number)) →
     next.next ≡ next_of (value_at values (node_object begin number)) → IsNext cells number next

@@ -15,11 +15,12 @@ mod node;
 mod object;
 mod walk;
 
-use crate::node::Node;
-use crate::object::{look, node_object, replace};
+use crate::object::{look, replace};
 use crate::walk::find;
 use dstm_mem::Mem;
 use dstm_model::{Layout, Op, Reply};
+pub use node::Node;
+pub use object::node_object;
 
 /// Adds a key. Where the reply is Yes it sets the node that was the first free one, the head of the free
 /// chain, and the head or the node that now links to the new node; else it sets nothing.

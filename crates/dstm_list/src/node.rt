@@ -18,6 +18,7 @@ pub struct Node {
 impl Node {
     ghost use Rattle.dstm_list.specs.List.{node, key_of, next_of};
 
+    /// What the value of an object stands for.
     pub fn of(value: Val) -> Node
         ensures key { result.key ≡ key_of value }
         ensures next { result.next ≡ next_of value }
@@ -28,6 +29,7 @@ impl Node {
         }
     }
 
+    /// The value that stands for it.
     pub fn value(self) -> Val
         ensures { result ≡ node self.key self.next }
     {

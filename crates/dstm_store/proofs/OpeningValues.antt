@@ -1,12 +1,11 @@
 -- The opening values stand for the opening store.
 use Rattle.std.proofs.Common.{◌≡◌, ℕ, zero, suc, ◌+◌, ◌<◌, ◌≤◌, List, [], ◌∷◌, ◌++◌, map, replicate, length, arith}
 use Rattle.std.proofs.Common.{refl, sym, ◌∙◌, ap, inl, inr}
-use Rattle.std.specs.Prelude.{cond}
 use Rattle.std.specs.List.{range_with_len}
-use Rattle.std.proofs.lemmas.Bool.{cases_eq, eq-eqb, ne_eqb}
+use Rattle.std.proofs.lemmas.Bool.{cases_eq}
 use Rattle.std.proofs.lemmas.List.{length-replicate, length-append, get_or-replicate, get_or_append_left}
 use Rattle.std.proofs.lemmas.List.{get_or-append-add, append_assoc}
-use Rattle.std.proofs.lemmas.List.FromFn.{length-map-range_with_len, get_or-map-range_with_len}
+use Rattle.std.proofs.lemmas.List.FromFn.{length-map-range_with_len, get_or-map-range_with_len, map-range_with_len_more}
 use Rattle.std.proofs.lemmas.List.Folds.{sum_by-replicate}
 use Rattle.dstm_model.specs.declared.value.Val.{Val}
 use Rattle.dstm_model.specs.declared.layout.Layout.{Layout}
@@ -16,21 +15,11 @@ use Rattle.dstm_model.specs.Objects.{objects_of, structure_objects, list_begin, 
 use Rattle.dstm_model.specs.Objects.{node_object, IsBank, plain}
 use Rattle.dstm_model.proofs.Objects.{structure_objects-declared}
 use Rattle.dstm_list.proofs.Lists.{IsOpening, list-opening}
-use Rattle.dstm_tree.proofs.Opening.{next_of, IsTree-opening}
+use Rattle.dstm_tree.proofs.Opening.{next_of, next-last, next-more, IsTree-opening}
 use Rattle.dstm_store.specs.Whole.{StandsFor}
 use Rattle.dstm_store.specs.Opening.{opening_structure, opening_values}
 
 -- ---- the free nodes so far
-
-range-more : (a n : ℕ) → range_with_len a (suc n) ≡ range_with_len a n ++ (a + n) ∷ []
-range-more a zero = ap (λ i. i ∷ []) (omega arith)
-range-more a (suc n) =
-    let next : a + 1 + n ≡ a + suc n = omega arith in
-    ap (λ is. a ∷ is) (range-more (a + 1) n ∙ ap (λ i. range_with_len (a + 1) n ++ i ∷ []) next)
-
-map-push : (is : List ℕ) (i : ℕ) → map plain (is ++ i ∷ []) ≡ map plain is ++ plain i ∷ []
-map-push [] i = refl
-map-push (j ∷ js) i = ap (λ vs. plain j ∷ vs) (map-push js i)
 
 -- the head, and the objects that name the nodes up to n
 abbrev pub names_to : ℕ → List Val
@@ -39,25 +28,14 @@ names_to n = plain 0 ∷ map plain (range_with_len 1 n)
 pub names_to-more : (before : List Val) (n : ℕ) →
     (before ++ names_to n) ++ plain (n + 1) ∷ [] ≡ before ++ names_to (n + 1)
 names_to-more before n =
-    let one_more : n + 1 ≡ suc n = omega arith in
-    let pushed : map plain (range_with_len 1 n) ++ plain (n + 1) ∷ [] ≡ map plain (range_with_len 1 (n + 1)) =
-    ap (λ i. map plain (range_with_len 1 n) ++ plain i ∷ []) (omega arith)
-    ∙ sym (ap (λ k. map plain (range_with_len 1 k)) one_more ∙ ap (map plain) (range-more 1 n)
-    ∙ map-push (range_with_len 1 n) (1 + n)) in
     append_assoc before (names_to n) (plain (n + 1) ∷ [])
-    ∙ ap (λ vs. before ++ plain 0 ∷ vs) pushed
+    ∙ ap (λ vs. before ++ plain 0 ∷ vs) (sym (map-range_with_len_more plain 1 n (n + 1) (omega arith)))
 
 pub opening_structure-some : (n : ℕ) → 0 < n → opening_structure n ≡ names_to n ++ plain 0 ∷ []
 opening_structure-some zero some = absurd (omega (arith, some))
 opening_structure-some (suc n) some = refl
 
 -- ---- the values of a structure
-
-next-last : (n k : ℕ) → k ≡ n → next_of n k ≡ 0
-next-last n k e = ap (λ b. cond b 0 (k + 1)) (eq-eqb k n e)
-
-next-more : (n k : ℕ) → (k ≡ n → ⊥) → next_of n k ≡ k + 1
-next-more n k e = ap (λ b. cond b 0 (k + 1)) (ne_eqb k n e)
 
 length-opening_structure : (n : ℕ) → length (opening_structure n) ≡ structure_objects n
 length-opening_structure zero = refl

@@ -1,19 +1,20 @@
 -- A walk along the list, which reads its keys, and the balances of the accounts.
-use Rattle.std.proofs.Common.{◌≡◌, ◌≢◌, ℕ, ◌+◌, ◌/◌, ◌%◌, ◌<◌, ◌≤◌, List, [], ◌∷◌, ◌++◌, length, map, take, arith}
-use Rattle.std.proofs.Common.{refl, sym, ◌∙◌, ap, append_assoc, append-nil}
+use Rattle.std.proofs.Common.{◌≡◌, ◌≢◌, ℕ, ◌+◌, ◌<◌, ◌≤◌, List, [], ◌∷◌, ◌++◌, length, map, take, arith}
+use Rattle.std.proofs.Common.{refl, sym, ◌∙◌, ap, subst, append_assoc, append-nil}
 use Rattle.std.specs.List.{AllByRecursion as Each}
-use Rattle.std.proofs.lemmas.List.{length-append, length-map, length-take-le, ext_get_or, get_or-map, get_or-take}
-use Rattle.std.proofs.lemmas.List.Sorted.{IsPermutation-sym}
+use Rattle.std.proofs.lemmas.List.{length-map, length-take-le, ext_get_or, get_or-map, get_or-take}
 use Rattle.dstm_model.specs.declared.value.Val.{Val}
 use Rattle.dstm_model.specs.declared.layout.Layout.{Layout}
+use Rattle.dstm_model.specs.Layout.{IsValid}
 use Rattle.dstm_model.specs.Map.{value_at, no_value}
 use Rattle.dstm_model.specs.Store.{Store}
 use Rattle.dstm_model.specs.Objects.{IsBank, list_begin, node_object}
-use Rattle.dstm_model.proofs.Objects.{structure_objects-declared}
-use Rattle.dstm_list.specs.List.{Cell, IsList, IsChain, numbers_of, keys_of, first, node}
-use Rattle.dstm_list.proofs.Numbers.{IsNumber, as_many, each-left}
-use Rattle.dstm_list.proofs.Steps.{used_within, first_within}
-use Rattle.dstm_store.specs.Whole.{StandsFor}
+use Rattle.dstm_list.specs.declared.node.Node.{Node}
+use Rattle.dstm_list.specs.List.{Cell, IsList, IsChain, numbers_of, keys_of, first, key_of, next_of}
+use Rattle.dstm_list.proofs.Numbers.{IsNumber, each-left}
+use Rattle.dstm_list.proofs.Steps.{used_within, first_within, next_in}
+use Rattle.dstm_list.proofs.Operations.{none_free}
+use Rattle.dstm_list.proofs.Lists.{used_most, empty}
 
 -- ---- the accounts
 
@@ -42,95 +43,63 @@ pub record Walk (begin n : ℕ) (values : List Val) (keys : List ℕ) (at i : �
   pub within : Each (IsNumber n) (numbers_of ahead)
   pub left : i + length ahead ≤ n
 
-pub walk-start : (layout : Layout) (values : List Val) (store : Store) (at : ℕ) → 0 < layout.list →
-    (list : IsList layout values store) → at ≡ (value_at values (list_begin layout)).low →
+pub walk-start : (layout : Layout) (values : List Val) (store : Store) (at : ℕ) → IsValid layout → 0 < layout.list →
+    (list : IsList layout values store) → at ≡ next_of (value_at values (list_begin layout)) →
     Walk (list_begin layout) layout.list values [] at 0 list.cells
-walk-start layout values store at declared list is =
-    let all = as_many layout.list (numbers_of list.cells ++ list.free) (IsPermutation-sym _ _ list.once) in
-    let used = length-append (numbers_of list.cells) list.free in
-    let numbers = length-map list.cells (λ (c : Cell). c.number) in
+walk-start layout values store at valid declared list is =
+    let numbers = numbers_of list.cells in
+    let in_range = each-left (IsNumber layout.list) numbers list.free (used_within list) in
+    let head = ap (λ v. v.low) (list.head declared) in
     record {
       ahead = list.cells;
       keys_are = refl;
-      next = is ∙ ap (λ v. v.low) (list.head declared);
+      next = omega (arith, is, head, first_within layout.list numbers in_range, valid.list);
       chain = list.chain;
-      within = each-left (IsNumber layout.list) (numbers_of list.cells) list.free (used_within list);
-      left = omega (arith, all, used, numbers);
+      within = in_range;
+      left = omega (arith, used_most list);
     }
 
--- node `at` has an object
-pub walk-within : (layout : Layout) (values : List Val) (store : Store)
-    (stands : StandsFor layout values store) → 0 < layout.list →
-    {keys : List ℕ} {at i : ℕ} {cells : List Cell} → Walk (list_begin layout) layout.list values keys at i cells →
-    layout.accounts + 1 + at < length values
-walk-within layout values store stands declared walk =
-    omega (
-      arith,
-      walk.next,
-      first_within layout.list (numbers_of walk.ahead) walk.within,
-      stands.objects,
-      structure_objects-declared layout.list declared,
-    )
+-- the next node is one of the layout's
+pub walk-within : {begin n : ℕ} {values : List Val} {keys : List ℕ} {at i : ℕ} {cells : List Cell} →
+    Walk begin n values keys at i cells → at ≤ n
+walk-within {n = n} walk = omega (arith, walk.next, first_within n (numbers_of walk.ahead) walk.within)
 
-ended : (n : ℕ) (ahead : List Cell) → Each (IsNumber n) (numbers_of ahead) → first (numbers_of ahead) ≡ 0 →
-    keys_of ahead ≡ []
-ended n [] within none = refl
-ended n (c ∷ cs) within none = absurd (omega (arith, none, within.0.0))
+-- a walk with nothing ahead has read all keys
+all_read : {begin n : ℕ} {values : List Val} {keys : List ℕ} {at i : ℕ} {cells : List Cell}
+    (walk : Walk begin n values keys at i cells) → length walk.ahead ≡ 0 → keys ≡ keys_of cells
+all_read {keys = keys} walk none =
+    sym (walk.keys_are ∙ ap (λ ks. keys ++ ks) (empty walk.ahead none) ∙ append-nil keys)
 
-none_left : (ahead : List Cell) → length ahead ≡ 0 → keys_of ahead ≡ []
-none_left [] none = refl
-none_left (c ∷ cs) none = absurd (omega (arith, none))
-
--- a walk that has come to the end has read all keys
+-- as one has that has come to the end
 pub walk-end : {begin n : ℕ} {values : List Val} {keys : List ℕ} {at i : ℕ} {cells : List Cell} →
     Walk begin n values keys at i cells → at ≡ 0 → keys ≡ keys_of cells
-walk-end {n = n} {keys = keys} walk none =
-    sym (walk.keys_are ∙ ap (λ ks. keys ++ ks) (ended n walk.ahead walk.within (sym walk.next ∙ none))
-    ∙ append-nil keys)
+walk-end {n = n} walk none =
+    let ahead = numbers_of walk.ahead in
+    let no_numbers = none_free n ahead walk.within (sym walk.next ∙ none) in
+    all_read walk (omega (arith, no_numbers, length-map walk.ahead (λ (c : Cell). c.number)))
 
--- a walk of as many steps as there are nodes has read all keys
+-- and one of as many steps as there are nodes
 pub walk-all : {begin n : ℕ} {values : List Val} {keys : List ℕ} {at i : ℕ} {cells : List Cell} →
     Walk begin n values keys at i cells → n ≤ i → keys ≡ keys_of cells
-walk-all {keys = keys} walk all =
-    let none : length walk.ahead ≡ 0 = omega (arith, walk.left, all) in
-    sym (walk.keys_are ∙ ap (λ ks. keys ++ ks) (none_left walk.ahead none) ∙ append-nil keys)
-
-step : (begin n : ℕ) (values : List Val) (keys : List ℕ) (at i : ℕ) (cells : List Cell) (low : ℕ)
-    (ahead : List Cell) → n < 2048 →
-    keys_of cells ≡ keys ++ keys_of ahead → at ≡ first (numbers_of ahead) → IsChain begin values ahead →
-    Each (IsNumber n) (numbers_of ahead) → i + length ahead ≤ n → at ≢ 0 →
-    low ≡ (value_at values (node_object begin at)).low →
-    Walk begin n values (keys ++ (low / 2048) ∷ []) (low % 2048) (i + 1) cells
-step begin n values keys at i cells low [] small keys_are next chain within left some is = absurd (some next)
-step begin n values keys at i cells low (c ∷ cs) small keys_are next chain within left some is =
-    let ahead = first (numbers_of cs) in
-    let in_range = first_within n (numbers_of cs) within.1 in
-    let word : low ≡ (node c.key ahead).low =
-    is ∙ ap (λ v. v.low) (ap (λ a. value_at values (node_object begin a)) next ∙ chain.0) in
-    let key : c.key ≡ low / 2048 = omega (arith, word, in_range, small) in
-    record {
-      ahead = cs;
-      keys_are = keys_are ∙ ap (λ k. keys ++ k ∷ keys_of cs) key ∙ sym (append_assoc keys ((low / 2048) ∷ [])
-          (keys_of cs));
-      next = omega (arith, word, in_range, small);
-      chain = chain.1;
-      within = within.1;
-      left = omega (arith, left);
-    }
+walk-all walk all = all_read walk (omega (arith, walk.left, all))
 
 -- the next node
-pub walk-next : (begin n : ℕ) (values : List Val) (keys : List ℕ) (at i : ℕ) (cells : List Cell) (low : ℕ) →
-    n < 2048 →
-    Walk begin n values keys at i cells → at ≢ 0 → low ≡ (value_at values (node_object begin at)).low →
-    Walk begin n values (keys ++ (low / 2048) ∷ []) (low % 2048) (i + 1) cells
-walk-next begin n values keys at i cells low small walk some is =
-    step begin n values keys at i cells low walk.ahead small walk.keys_are walk.next walk.chain walk.within walk.left some is
-
--- a list that is not declared has no keys
-pub no_keys : (layout : Layout) (values : List Val) (store : Store) → layout.list ≡ 0 → IsList layout values store →
-    store.keys ≡ []
-no_keys layout values store none list =
-    let all = as_many layout.list (numbers_of list.cells ++ list.free) (IsPermutation-sym _ _ list.once) in
-    let used = length-append (numbers_of list.cells) list.free in
-    let numbers = length-map list.cells (λ (c : Cell). c.number) in
-    list.keys ∙ none_left list.cells (omega (arith, all, used, numbers, none))
+pub walk-next : (begin n : ℕ) (values : List Val) (keys : List ℕ) (at i : ℕ) (cells : List Cell) (x : Node) →
+    n < 2048 → Walk begin n values keys at i cells → at ≢ 0 →
+    x.key ≡ key_of (value_at values (node_object begin at)) →
+    x.next ≡ next_of (value_at values (node_object begin at)) →
+    Walk begin n values (keys ++ x.key ∷ []) x.next (i + 1) cells
+walk-next begin n values keys at i cells x small walk some key next =
+    let step = next_in n begin values at x walk.ahead small some walk.next walk.within walk.chain key next in
+    let in_range = subst (λ cs. Each (IsNumber n) (numbers_of cs)) step.cells_are walk.within in
+    let chain = subst (IsChain begin values) step.cells_are walk.chain in
+    record {
+      ahead = step.rest;
+      keys_are = walk.keys_are ∙ ap (λ cs. keys ++ keys_of cs) step.cells_are
+          ∙ ap (λ k. keys ++ k ∷ keys_of step.rest) step.key
+          ∙ sym (append_assoc keys (x.key ∷ []) (keys_of step.rest));
+      next = step.next_is;
+      chain = chain.1;
+      within = in_range.1;
+      left = omega (arith, walk.left, ap length step.cells_are);
+    }

@@ -1,4 +1,3 @@
 pub mod Whole
 pub mod Opening
 pub mod Job
-pub mod Below

@@ -1,20 +1,13 @@
 ghost use Rattle.std.specs.Prelude.{◌≡◌, ◌++◌, map, length, IfOk, OnOk};
 ghost use Rattle.dstm_model.specs.Layout.{IsValid};
-ghost use Rattle.dstm_model.specs.Objects.{objects_of, tree_begin};
+ghost use Rattle.dstm_model.specs.Objects.{objects_of};
 ghost use Rattle.dstm_model.specs.Store.{Store, state_of, item_of};
 ghost use Rattle.dstm_tree.specs.Tree.{items_of};
+ghost use Rattle.dstm_tree.specs.Node.{HasTree, Subtree};
 ghost use Rattle.dstm_store.specs.Whole.{StandsFor, IsLawful};
-ghost use Rattle.dstm_store.specs.Below.{Below};
 
 use dstm_model::{Item, Items, Layout, Numbers, State, Val};
 use std::alloc::{AllocError, Global};
-
-// The number of the next node of the list is below this; in a node's value it stands below the key.
-const LIST_LINK_LIMIT: u64 = 2_048;
-
-// The number of a child in the tree is below this; in a node's value the right one stands below the left
-// one, and that one below the key and the colour.
-const TREE_LINK_LIMIT: u64 = 65_536;
 
 /// What the store holds that the values stand for.
 pub fn read_state(alloc: Global, layout: &Layout, values: &[Val]) -> Result<State, AllocError>
@@ -60,15 +53,16 @@ fn read_list(alloc: Global, layout: &Layout, values: &[Val]) -> Result<Vec<u64>,
     if layout.list == 0 {
         return Ok(keys);
     }
-    let begin = layout.accounts as usize;
-    let mut at = values[begin].low;
+    let head = values[layout.accounts as usize];
+    let mut at = dstm_list::Node::of(head).next;
     for _step in 0..layout.list {
         if at == 0 {
             return Ok(keys);
         }
-        let node = values[begin + 1 + at as usize].low;
-        keys.push(node / LIST_LINK_LIMIT)?;
-        at = node % LIST_LINK_LIMIT;
+        let object = dstm_list::node_object(layout, at);
+        let node = dstm_list::Node::of(values[object as usize]);
+        keys.push(node.key)?;
+        at = node.next;
     }
     Ok(keys)
 }
@@ -84,7 +78,7 @@ fn read_tree(alloc: Global, layout: &Layout, values: &[Val]) -> Result<Vec<Item>
     if layout.tree == 0 {
         return Ok(items);
     }
-    let root = values[tree_begin(layout)].low;
+    let root = values[dstm_tree::root_object(layout) as usize].low as u16;
     read_below(layout, values, root, layout.tree, &mut items)?;
     Ok(items)
 }
@@ -93,38 +87,27 @@ fn read_tree(alloc: Global, layout: &Layout, values: &[Val]) -> Result<Vec<Item>
 fn read_below(
     layout: &Layout,
     values: &[Val],
-    at: u64,
+    at: u16,
     depth: u32,
     items: &mut Vec<Item>,
 ) -> Result<(), AllocError>
-    requires valid { IsValid layout.now }
+    requires tree { HasTree layout.now }
     requires objects { length values.now ≡ objects_of layout.now }
-    requires stands { Below layout.now values.now at depth }
-    ensures { OnOk result ((below : Below layout.now values.now at depth) →
+    requires stands { Subtree layout.now values.now at depth }
+    ensures { OnOk result ((below : Subtree layout.now values.now at depth) →
         items.new.items ≡ items.old.items ++ map item_of (items_of below.tree)) }
 {
     if at == 0 {
         return Ok(());
     }
-    let node = values[tree_begin(layout) + 1 + at as usize];
-    let upper = node.low / TREE_LINK_LIMIT;
-    let left = upper % TREE_LINK_LIMIT;
-    let right = node.low % TREE_LINK_LIMIT;
+    let object = dstm_tree::node_object(layout, at);
+    let node = dstm_tree::Node::of(at, values[object as usize]);
     let item = Item {
-        key: upper / TREE_LINK_LIMIT / 2,
-        value: node.high,
+        key: u64::from(node.key),
+        value: node.value,
     };
-    read_below(layout, values, left, depth - 1, items)?;
+    read_below(layout, values, node.left, depth - 1, items)?;
     items.push(item)?;
-    read_below(layout, values, right, depth - 1, items)?;
+    read_below(layout, values, node.right, depth - 1, items)?;
     Ok(())
-}
-
-// The first of the tree's objects, which names its root.
-fn tree_begin(layout: &Layout) -> usize
-    requires { IsValid layout.now }
-    ensures { result ≡ tree_begin layout.now }
-{
-    let list = if layout.list == 0 { 0 } else { layout.list + 2 };
-    (layout.accounts + list) as usize
 }

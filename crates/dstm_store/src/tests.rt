@@ -8,7 +8,7 @@ ghost use Rattle.dstm_store.specs.Whole.{IsLawful};
 ghost use Rattle.dstm_store.specs.Job.{DoesAll};
 
 use super::*;
-use dstm_mem::{Body, FlatMem, Mem};
+use dstm_mem::{Body, FlatMem, Mem, Never};
 use dstm_model::{
     AMOUNT_LIMIT, Item, KEY_LIMIT, Law, Layout, Op, Ops, PlainStore, Replies, Reply, State, Val,
     Which,
@@ -430,5 +430,110 @@ fn jobs_that_put_and_get(rt: HostRuntime) -> Result<(), Fail> {
     ];
     assert_eq!(rt; replies.as_slice(), wanted.as_slice());
     assert_eq!(rt; state.tree.as_slice(), [item(5, 8), item(6, 0)].as_slice());
+    Ok(())
+}
+
+// ---- how many objects an operation opens
+
+// A memory that counts the calls that open an object.
+#[derive(Drop)]
+struct Counting {
+    mem: FlatMem,
+    opens: u32,
+}
+
+impl Mem for Counting {
+    ghost use Rattle.std.specs.Prelude.{List, length};
+    ghost use Rattle.std.proofs.Common.{ap, subst, sym};
+    ghost use Rattle.dstm_model.specs.declared.value.Val.{Val};
+    ghost use Rattle.dstm_mem.specs.Memory.{AgreesWith};
+    ghost use Rattle.dstm_mem.specs.Flat.{held_in, held_in-agrees};
+
+    type Err = Never;
+
+    ghost Place = { List Val };
+
+    ghost place = { λ m. ⟦<FlatMem as Mem>⟧.place m.mem };
+
+    ghost objects = { λ m. ⟦<FlatMem as Mem>⟧.objects m.mem };
+
+    ghost held = { λ m. ⟦<FlatMem as Mem>⟧.held m.mem };
+
+    ghost written = { λ m. ⟦<FlatMem as Mem>⟧.written m.mem };
+
+    ghost is_opened = { λ m. ⟦<FlatMem as Mem>⟧.is_opened m.mem };
+
+    ghost is_live = { λ m. ⟦<FlatMem as Mem>⟧.is_live m.mem };
+
+    ghost error = { λ m. ⟦<FlatMem as Mem>⟧.error m.mem };
+
+    ghost Admits = { λ m. ⟦<FlatMem as Mem>⟧.Admits m.mem };
+
+    fn open_read(&mut self, o: u32) -> Result<Val, Never> {
+        self.opens = self.opens.saturating_add(1);
+        self.mem.open_read(o)
+    }
+
+    fn open_write(&mut self, o: u32) -> Result<Val, Never> {
+        self.opens = self.opens.saturating_add(1);
+        self.mem.open_write(o)
+    }
+
+    fn set(&mut self, o: u32, v: Val) {
+        self.mem.set(o, v);
+    }
+
+    ghost admitted_length = { λ m map e. ap length e };
+
+    ghost admitted_agrees = { λ m map e. subst (λ x. AgreesWith x (held_in m.mem.values.items m.mem.notes.items))
+        (sym e) (held_in-agrees m.mem.values.items m.mem.notes.items) };
+}
+
+// The most objects that one of these operations opens, run one after the other.
+fn most_opens(mem: &mut Counting, layout: &Layout, ops: &[Op]) -> u32
+    requires valid { IsValid layout.now }
+    requires objects { ⟦<Counting as Mem>⟧.objects mem.old ≡ objects_of layout.now }
+    requires lawful { (map : List Val) → ⟦<Counting as Mem>⟧.Admits mem.old map →
+        IsLawful layout.now (with_set map (⟦<Counting as Mem>⟧.written mem.old)) }
+{
+    let mut most = 0;
+    for op in ops {
+        if !fits(layout, op) {
+            return u32::MAX;
+        }
+        mem.opens = 0;
+        match run_op(mem, layout, op) {
+            Ok(_) => most = most.max(mem.opens),
+            Err(never) => match never {},
+        }
+    }
+    most
+}
+
+// Every key of a tree of 1,023 nodes is put in, and then all are taken out. The tree's height is at most 20.
+#[test]
+fn few_objects_of_a_large_tree_are_opened(rt: HostRuntime) -> Result<(), Fail> {
+    let layout = Layout {
+        accounts: 0,
+        opening: 0,
+        list: 0,
+        tree: 1_023,
+    };
+    let mut mem = Counting {
+        mem: opened(rt.alloc(), &layout)?,
+        opens: 0,
+    };
+    let mut ops = Vec::new(rt.alloc());
+    for step in 0..1_023 {
+        ops.push(tree_insert(step * 37 % 1_023))?;
+    }
+    for step in 0..1_023 {
+        ops.push(Op::Remove {
+            which: Which::Tree,
+            key: step * 101 % 1_023,
+        })?;
+    }
+    let most = most_opens(&mut mem, &layout, &ops);
+    assert!(rt; most <= 40, "{most}");
     Ok(())
 }

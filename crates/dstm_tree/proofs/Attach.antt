@@ -1,5 +1,6 @@
 -- What was placed below a node is placed at the node.
-use Rattle.std.proofs.Common.{◌≡◌, ℕ, ◌+◌, ◌<◌, ◌≤◌, Bool, true, false, List, ◌∷◌, ◌++◌, length, slice_set, arith, refl, sym, ◌∙◌, ap, subst, append_assoc}
+use Rattle.std.proofs.Common.{◌≡◌, ℕ, ◌+◌, ◌<◌, ◌≤◌, Bool, true, false, List, ◌∷◌, ◌++◌, length, slice_set, arith, refl}
+use Rattle.std.proofs.Common.{sym, ◌∙◌, ap, subst, append_assoc}
 use Rattle.std.specs.Prelude.{cond, if◌then◌else◌, IsSome}
 use Rattle.dstm_model.specs.declared.value.Val.{Val}
 use Rattle.dstm_model.specs.declared.layout.Layout.{Layout}
@@ -10,35 +11,44 @@ use Rattle.dstm_tree.specs.declared.node.Node.{Node}
 use Rattle.dstm_tree.specs.Tree.{Tree, node, number_of, is_red, items_of, count_of, black_height, IsOrdered}
 use Rattle.dstm_tree.specs.Objects.{object_of, node_value, Holds}
 use Rattle.dstm_tree.specs.Node.{HasTree, tree_of, val_of}
-use Rattle.dstm_tree.specs.Place.{Request, free_count, red_tree, black_tree, Keeps, Grows, IsFull, Replaces, AddsBelow, AddsRoot, AddsPair, Parent}
+use Rattle.dstm_tree.specs.Place.{Request, free_count, red_tree, black_tree, Keeps, Grows, IsFull, Replaces, AddsBelow}
+use Rattle.dstm_tree.specs.Place.{AddsRoot, AddsPair, Parent}
 use Rattle.dstm_tree.proofs.Items.{value_of-left, value_of-right, with_item-left, with_item-right}
-use Rattle.dstm_tree.proofs.Kept.{mark, mark-self, unmarked, Holds-kept, node_value-same, writes, Holds-written, Keeps-part, Keeps-written}
+use Rattle.dstm_tree.proofs.Kept.{mark, mark-self, unmarked, Holds-kept, node_value-same, writes, Holds-written}
+use Rattle.dstm_tree.proofs.Kept.{Keeps-part, Keeps-written}
 
 -- ---- a tree grows as one of its subtrees does
 
-pub Grows-left : (q : Request) (low high : ℕ) (p : Node) (l r l' : Tree) (free rest : List ℕ) → IsOrdered low high (tree_of p l r) →
+pub Grows-left : (q : Request) (low high : ℕ) (p : Node) (l r l' : Tree) (free rest : List ℕ) →
+    IsOrdered low high (tree_of p l r) →
     q.key < p.key → Grows q low p.key l free l' rest → Grows q low high (tree_of p l r) free (tree_of p l' r) rest
 Grows-left q low high p l r l' free rest order less h = record {
   absent = value_of-left q.key low high p.key p.value l r order.0 order.1 less ∙ h.absent;
-  items = ap (λ xs. xs ++ (p.key, p.value) ∷ items_of r) h.items ∙ sym (with_item-left q.key q.value p.key p.value l r less);
+  items = ap (λ xs. xs ++ (p.key, p.value) ∷ items_of r) h.items ∙
+      sym (with_item-left q.key q.value p.key p.value l r less);
   counts = λ i. omega (arith, h.counts i);
   height = ap (λ n. n + cond p.red 0 1) h.height;
   order = (h.order, order.1);
 }
 
-pub Grows-right : (q : Request) (low high : ℕ) (p : Node) (l r r' : Tree) (free rest : List ℕ) → IsOrdered low high (tree_of p l r) →
-    p.key < q.key → Grows q (p.key + 1) high r free r' rest → Grows q low high (tree_of p l r) free (tree_of p l r') rest
+pub Grows-right : (q : Request) (low high : ℕ) (p : Node) (l r r' : Tree) (free rest : List ℕ) →
+    IsOrdered low high (tree_of p l r) →
+    p.key < q.key → Grows q (p.key + 1) high r free r' rest → Grows q low high (tree_of p l r) free (tree_of p l r')
+    rest
 Grows-right q low high p l r r' free rest order greater h = record {
   absent = value_of-right q.key low p.key p.value l r order.0 greater ∙ h.absent;
-  items = ap (λ xs. items_of l ++ (p.key, p.value) ∷ xs) h.items ∙ sym (with_item-right q.key q.value low p.key p.value l r order.0 greater);
+  items = ap (λ xs. items_of l ++ (p.key, p.value) ∷ xs) h.items ∙
+      sym (with_item-right q.key q.value low p.key p.value l r order.0 greater);
   counts = λ i. omega (arith, h.counts i);
   height = refl;
   order = (order.0, h.order);
 }
 
 -- another tree with the same items
-pub Grows-shape : (q : Request) (low high : ℕ) (t : Tree) (free : List ℕ) (u v : Tree) (rest : List ℕ) → Grows q low high t free u rest →
-    items_of v ≡ items_of u → ((i : ℕ) → count_of i v ≡ count_of i u) → black_height v ≡ black_height u → IsOrdered low high v →
+pub Grows-shape : (q : Request) (low high : ℕ) (t : Tree) (free : List ℕ) (u v : Tree) (rest : List ℕ) →
+    Grows q low high t free u rest →
+    items_of v ≡ items_of u → ((i : ℕ) → count_of i v ≡ count_of i u) → black_height v ≡ black_height u →
+    IsOrdered low high v →
     Grows q low high t free v rest
 Grows-shape q low high t free u v rest h items counts height order = record {
   absent = h.absent;
@@ -50,19 +60,24 @@ Grows-shape q low high t free u v rest h items counts height order = record {
 
 -- ---- the other subtree stays
 
-pub right_kept : (layout : Layout) (start after : List Val) (low high : ℕ) (p : Node) (l r : Tree) (free rest : List ℕ) →
+pub right_kept : (layout : Layout) (start after : List Val) (low high : ℕ) (p : Node) (l r : Tree) (free rest : List ℕ)
+    →
     Parent layout start low high p l r free → Keeps layout start after l free rest → Holds layout after r
 right_kept layout start after low high p l r free rest h keeps =
-    Holds-kept layout start after r (λ i least most some. keeps.nodes i least most (omega (arith, h.once i least most, some))) h.nodes.4
+    Holds-kept layout start after r (λ i least most some. keeps.nodes i least most
+    (omega (arith, h.once i least most, some))) h.nodes.4
 
 pub left_kept : (layout : Layout) (start after : List Val) (low high : ℕ) (p : Node) (l r : Tree) (free rest : List ℕ) →
     Parent layout start low high p l r free → Keeps layout start after r free rest → Holds layout after l
 left_kept layout start after low high p l r free rest h keeps =
-    Holds-kept layout start after l (λ i least most some. keeps.nodes i least most (omega (arith, h.once i least most, some))) h.nodes.3
+    Holds-kept layout start after l (λ i least most some. keeps.nodes i least most
+    (omega (arith, h.once i least most, some))) h.nodes.3
 
 -- the node itself has its old value as long as only a subtree was changed
-pub node_kept : (layout : Layout) (start after : List Val) (low high : ℕ) (p : Node) (l r part : Tree) (free rest : List ℕ) →
-    Parent layout start low high p l r free → ((i : ℕ) → mark p.number i + count_of i part ≤ count_of i (tree_of p l r)) →
+pub node_kept : (layout : Layout) (start after : List Val) (low high : ℕ) (p : Node) (l r part : Tree)
+    (free rest : List ℕ) →
+    Parent layout start low high p l r free → ((i : ℕ) → mark p.number i + count_of i part ≤ count_of i
+    (tree_of p l r)) →
     Keeps layout start after part free rest →
     value_at after (object_of layout p.number) ≡ node_value p.key p.red (number_of l) (number_of r) p.value
 node_kept layout start after low high p l r part free rest h within keeps =
@@ -94,7 +109,8 @@ black_over false t red only = refl
 
 -- ---- the left side
 
-pub left-full : (q : Request) (low high : ℕ) (p : Node) (l r : Tree) (free : List ℕ) (start after : List Val) → IsOrdered low high (tree_of p l r) →
+pub left-full : (q : Request) (low high : ℕ) (p : Node) (l r : Tree) (free : List ℕ) (start after : List Val) →
+    IsOrdered low high (tree_of p l r) →
     q.key < p.key → IsFull q l free start after → IsFull q (tree_of p l r) free start after
 left-full q low high p l r free start after order less h = record {
   absent = value_of-left q.key low high p.key p.value l r order.0 order.1 less ∙ h.absent;
@@ -102,11 +118,13 @@ left-full q low high p l r free start after order less h = record {
   same = h.same;
 }
 
-choose : (b : Bool) (f : List (ℕ × ℕ) → List (ℕ × ℕ)) (xs ys : List (ℕ × ℕ)) → (if b then f xs else f ys) ≡ f (if b then xs else ys)
+choose : (b : Bool) (f : List (ℕ × ℕ) → List (ℕ × ℕ)) (xs ys : List (ℕ × ℕ)) →
+    (if b then f xs else f ys) ≡ f (if b then xs else ys)
 choose true f xs ys = refl
 choose false f xs ys = refl
 
-pub left-found : (layout : Layout) (q : Request) (low high : ℕ) (p : Node) (l r : Tree) (free : List ℕ) (start after : List Val) →
+pub left-found : (layout : Layout) (q : Request) (low high : ℕ) (p : Node) (l r : Tree) (free : List ℕ)
+    (start after : List Val) →
     Parent layout start low high p l r free → q.key < p.key → Replaces layout q low p.key l free start after →
     Replaces layout q low high (tree_of p l r) free start after
 left-found layout q low high p l r free start after h less found =
@@ -114,9 +132,12 @@ left-found layout q low high p l r free start after h less found =
     let with = with_item q.key q.value in
     record {
       tree = tree_of p found.tree r;
-      present = subst (λ o. IsSome o) (sym (value_of-left q.key low high p.key p.value l r h.order.0 h.order.1 less)) found.present;
-      items = ap (λ xs. xs ++ zs) found.items ∙ sym (choose q.replaces (λ xs. xs ++ zs) (with (items_of l)) (items_of l))
-          ∙ ap (λ xs. if q.replaces then xs else (items_of l ++ zs)) (sym (with_item-left q.key q.value p.key p.value l r less));
+      present = subst (λ o. IsSome o) (sym (value_of-left q.key low high p.key p.value l r h.order.0 h.order.1 less))
+          found.present;
+      items = ap (λ xs. xs ++ zs) found.items ∙ sym (choose q.replaces (λ xs. xs ++ zs) (with (items_of l))
+          (items_of l))
+          ∙ ap (λ xs. if q.replaces then xs else (items_of l ++ zs))
+          (sym (with_item-left q.key q.value p.key p.value l r less));
       counts = λ i. omega (arith, found.counts i);
       height = ap (λ n. n + cond p.red 0 1) found.height;
       order = (found.order, h.order.1);
@@ -126,7 +147,8 @@ left-found layout q low high p l r free start after h less found =
         h.nodes.0,
         h.nodes.1,
         node_kept layout start after low high p l r l free free h (λ i. omega arith) found.keeps
-            ∙ node_value-same p.key p.value p.red p.red (number_of l) (number_of found.tree) (number_of r) (number_of r) refl (sym found.root) refl,
+            ∙ node_value-same p.key p.value p.red p.red (number_of l) (number_of found.tree) (number_of r)
+            (number_of r) refl (sym found.root) refl,
         found.nodes,
         right_kept layout start after low high p l r free free h found.keeps,
       );
@@ -139,7 +161,8 @@ left-found layout q low high p l r free start after h less found =
       keeps = Keeps-part layout start after l (tree_of p l r) free free (λ i. omega arith) found.keeps;
     }
 
-pub left-added : (layout : Layout) (q : Request) (low high : ℕ) (p : Node) (l r : Tree) (free : List ℕ) (start after : List Val) →
+pub left-added : (layout : Layout) (q : Request) (low high : ℕ) (p : Node) (l r : Tree) (free : List ℕ)
+    (start after : List Val) →
     Parent layout start low high p l r free → q.key < p.key → AddsBelow layout q low p.key l free start after →
     AddsBelow layout q low high (tree_of p l r) free start after
 left-added layout q low high p l r free start after h less added = record {
@@ -153,7 +176,8 @@ left-added layout q low high p l r free start after h less added = record {
     h.nodes.0,
     h.nodes.1,
     node_kept layout start after low high p l r l free added.rest h (λ i. omega arith) added.keeps
-        ∙ node_value-same p.key p.value p.red p.red (number_of l) (number_of added.tree) (number_of r) (number_of r) refl (sym added.root) refl,
+        ∙ node_value-same p.key p.value p.red p.red (number_of l) (number_of added.tree) (number_of r) (number_of r)
+        refl (sym added.root) refl,
     added.nodes,
     right_kept layout start after low high p l r free added.rest h added.keeps,
   );
@@ -166,8 +190,10 @@ left-added layout q low high p l r free start after h less added = record {
 }
 
 -- a red node under a red one
-pub left-pair : (layout : Layout) (q : Request) (low high : ℕ) (p : Node) (l r : Tree) (free : List ℕ) (start after : List Val) (x : Node) →
-    Parent layout start low high p l r free → q.key < p.key → p.red ≡ true → AddsRoot layout q low p.key l free start after x →
+pub left-pair : (layout : Layout) (q : Request) (low high : ℕ) (p : Node) (l r : Tree) (free : List ℕ)
+    (start after : List Val) (x : Node) →
+    Parent layout start low high p l r free → q.key < p.key → p.red ≡ true →
+    AddsRoot layout q low p.key l free start after x →
     AddsPair layout q low high (tree_of p l r) free start after x (record p { left = x.right })
 left-pair layout q low high p l r free start after x h less red added = record {
   left = added.left;
@@ -175,7 +201,8 @@ left-pair layout q low high p l r free start after x h less red added = record {
   right = r;
   rest = added.rest;
   grows = subst
-      (λ c. Grows q low high (tree_of p l r) free (node p.number c (red_tree x added.left added.right) p.key p.value r) added.rest) red
+      (λ c. Grows q low high (tree_of p l r) free (node p.number c (red_tree x added.left added.right) p.key p.value r)
+      added.rest) red
       (Grows-left q low high p l r (red_tree x added.left added.right) free added.rest h.order less added.grows);
   keeps = Keeps-part layout start after l (tree_of p l r) free added.rest (λ i. omega arith) added.keeps;
   was_red = red;
@@ -198,10 +225,13 @@ left-pair layout q low high p l r free start after x h less red added = record {
 }
 
 -- a red node under a black one
-pub left-hung : (layout : Layout) (q : Request) (low high : ℕ) (p : Node) (l r : Tree) (free : List ℕ) (start before after : List Val) (x : Node) →
-    HasTree layout → length before ≡ objects_of layout → x.number ≤ layout.tree → Parent layout start low high p l r free → q.key < p.key →
+pub left-hung : (layout : Layout) (q : Request) (low high : ℕ) (p : Node) (l r : Tree) (free : List ℕ)
+    (start before after : List Val) (x : Node) →
+    HasTree layout → length before ≡ objects_of layout → x.number ≤ layout.tree →
+    Parent layout start low high p l r free → q.key < p.key →
     p.red ≡ false → AddsRoot layout q low p.key l free start before x →
-    after ≡ slice_set (slice_set before (object_of layout x.number) (val_of x)) (object_of layout p.number) (val_of (record p { left = x.number })) →
+    after ≡ slice_set (slice_set before (object_of layout x.number) (val_of x)) (object_of layout p.number)
+    (val_of (record p { left = x.number })) →
     AddsBelow layout q low high (tree_of p l r) free start after
 left-hung layout q low high p l r free start before after x has size in_x h less black added is =
     let child = red_tree x added.left added.right in
@@ -209,7 +239,8 @@ left-hung layout q low high p l r free start before after x has size in_x h less
     let vx = val_of x in
     let vp = val_of (record p { left = x.number }) in
     let once : (i : ℕ) → 0 < i → i ≤ layout.tree →
-    mark p.number i + (mark x.number i + count_of i added.left + count_of i added.right) + count_of i r + free_count i added.rest ≤ 1 =
+    mark p.number i + (mark x.number i + count_of i added.left + count_of i added.right) + count_of i r + free_count i
+    added.rest ≤ 1 =
     λ i least most. omega (arith, grows.counts i, h.once i least most) in
     let apart : x.number ≡ p.number → ⊥ =
     unmarked p.number x.number (omega (arith, once x.number added.number in_x, mark-self x.number)) in
@@ -218,7 +249,8 @@ left-hung layout q low high p l r free start before after x has size in_x h less
       tree = tree_of p child r;
       rest = added.rest;
       grows = grows;
-      keeps = Keeps-written layout start before after x.number vx p.number vp (tree_of p l r) free added.rest w added.number h.nodes.0
+      keeps = Keeps-written layout start before after x.number vx p.number vp (tree_of p l r) free added.rest w
+          added.number h.nodes.0
           (λ i. omega (arith, grows.counts i)) (λ i least most. omega (arith, once i least most))
           (Keeps-part layout start before l (tree_of p l r) free added.rest (λ i. omega arith) added.keeps);
       root = refl;
@@ -226,14 +258,18 @@ left-hung layout q low high p l r free start before after x has size in_x h less
       nodes = (
         h.nodes.0,
         h.nodes.1,
-        w.second ∙ node_value-same p.key p.value p.red p.red x.number x.number p.right (number_of r) refl refl (sym h.right_is),
+        w.second ∙ node_value-same p.key p.value p.red p.red x.number x.number p.right (number_of r) refl refl
+            (sym h.right_is),
         (
           added.number,
           in_x,
-          w.first ∙ node_value-same x.key x.value x.red true x.left (number_of added.left) x.right (number_of added.right)
+          w.first ∙ node_value-same x.key x.value x.red true x.left (number_of added.left) x.right
+              (number_of added.right)
               added.red (sym added.left_is) (sym added.right_is),
-          Holds-written layout before after x.number vx p.number vp added.left w (λ i least most. omega (arith, once i least most)) added.nodes_left,
-          Holds-written layout before after x.number vx p.number vp added.right w (λ i least most. omega (arith, once i least most)) added.nodes_right,
+          Holds-written layout before after x.number vx p.number vp added.left w
+              (λ i least most. omega (arith, once i least most)) added.nodes_left,
+          Holds-written layout before after x.number vx p.number vp added.right w
+              (λ i least most. omega (arith, once i least most)) added.nodes_right,
         ),
         Holds-written layout before after x.number vx p.number vp r w (λ i least most. omega (arith, once i least most))
             (right_kept layout start before low high p l r free added.rest h added.keeps),
@@ -242,8 +278,10 @@ left-hung layout q low high p l r free start before after x has size in_x h less
     }
 
 -- two red nodes under a black one: a rotation
-pub left-rotated : (layout : Layout) (q : Request) (low high : ℕ) (p : Node) (l r : Tree) (free : List ℕ) (start before after : List Val) (x y : Node) →
-    HasTree layout → length before ≡ objects_of layout → x.number ≤ layout.tree → Parent layout start low high p l r free → q.key < p.key →
+pub left-rotated : (layout : Layout) (q : Request) (low high : ℕ) (p : Node) (l r : Tree) (free : List ℕ)
+    (start before after : List Val) (x y : Node) →
+    HasTree layout → length before ≡ objects_of layout → x.number ≤ layout.tree →
+    Parent layout start low high p l r free → q.key < p.key →
     AddsPair layout q low p.key l free start before x y →
     after ≡ slice_set (slice_set before (object_of layout x.number) (val_of (record x { red = false })))
     (object_of layout p.number) (val_of (record p { left = y.right })) →
@@ -255,8 +293,10 @@ left-rotated layout q low high p l r free start before after x y has size in_x h
     let lesser = black_tree x added.left added.middle in
     let greater = black_tree p added.right r in
     let order = old.order in
-    let grows = Grows-shape q low high (tree_of p l r) free (tree_of p child r) (red_tree y lesser greater) added.rest old
-    (sym (append_assoc (items_of (red_tree x added.left added.middle)) ((y.key, y.value) ∷ items_of added.right) ((p.key, p.value) ∷ items_of r)))
+    let grows = Grows-shape q low high (tree_of p l r) free (tree_of p child r) (red_tree y lesser greater) added.rest
+    old
+    (sym (append_assoc (items_of (red_tree x added.left added.middle)) ((y.key, y.value) ∷ items_of added.right)
+    ((p.key, p.value) ∷ items_of r)))
     (λ i. omega arith)
     (omega (arith, blacks-black p.red black))
     ((order.0.0, (order.0.1, order.1))) in
@@ -274,7 +314,8 @@ left-rotated layout q low high p l r free start before after x y has size in_x h
       right = greater;
       rest = added.rest;
       grows = grows;
-      keeps = Keeps-written layout start before after x.number vx p.number vp (tree_of p l r) free added.rest w added.lesser h.nodes.0
+      keeps = Keeps-written layout start before after x.number vx p.number vp (tree_of p l r) free added.rest w
+          added.lesser h.nodes.0
           (λ i. omega (arith, grows.counts i)) (λ i least most. omega (arith, once i least most))
           (Keeps-part layout start before l (tree_of p l r) free added.rest (λ i. omega arith) added.keeps);
       red = added.greater_red;
@@ -284,17 +325,21 @@ left-rotated layout q low high p l r free start before after x y has size in_x h
       nodes_left = (
         added.lesser,
         in_x,
-        w.first ∙ node_value-same x.key x.value false false x.left (number_of added.left) x.right (number_of added.middle)
+        w.first ∙ node_value-same x.key x.value false false x.left (number_of added.left) x.right
+            (number_of added.middle)
             refl (sym added.left_is) (sym added.middle_is),
-        Holds-written layout before after x.number vx p.number vp added.left w (λ i least most. omega (arith, once i least most)) added.nodes_left,
-        Holds-written layout before after x.number vx p.number vp added.middle w (λ i least most. omega (arith, once i least most)) added.nodes_middle,
+        Holds-written layout before after x.number vx p.number vp added.left w
+            (λ i least most. omega (arith, once i least most)) added.nodes_left,
+        Holds-written layout before after x.number vx p.number vp added.middle w
+            (λ i least most. omega (arith, once i least most)) added.nodes_middle,
       );
       nodes_right = (
         h.nodes.0,
         h.nodes.1,
         w.second ∙ node_value-same p.key p.value p.red false y.right (number_of added.right) p.right (number_of r)
             black (sym added.right_is) (sym h.right_is),
-        Holds-written layout before after x.number vx p.number vp added.right w (λ i least most. omega (arith, once i least most)) added.nodes_right,
+        Holds-written layout before after x.number vx p.number vp added.right w
+            (λ i least most. omega (arith, once i least most)) added.nodes_right,
         Holds-written layout before after x.number vx p.number vp r w (λ i least most. omega (arith, once i least most))
             (right_kept layout start before low high p l r free added.rest h added.keeps),
       );
@@ -313,7 +358,8 @@ left-rotated layout q low high p l r free start before after x y has size in_x h
 
 -- ---- the right side
 
-pub right-full : (q : Request) (low high : ℕ) (p : Node) (l r : Tree) (free : List ℕ) (start after : List Val) → IsOrdered low high (tree_of p l r) →
+pub right-full : (q : Request) (low high : ℕ) (p : Node) (l r : Tree) (free : List ℕ) (start after : List Val) →
+    IsOrdered low high (tree_of p l r) →
     p.key < q.key → IsFull q r free start after → IsFull q (tree_of p l r) free start after
 right-full q low high p l r free start after order greater h = record {
   absent = value_of-right q.key low p.key p.value l r order.0 greater ∙ h.absent;
@@ -321,7 +367,8 @@ right-full q low high p l r free start after order greater h = record {
   same = h.same;
 }
 
-pub right-found : (layout : Layout) (q : Request) (low high : ℕ) (p : Node) (l r : Tree) (free : List ℕ) (start after : List Val) →
+pub right-found : (layout : Layout) (q : Request) (low high : ℕ) (p : Node) (l r : Tree) (free : List ℕ)
+    (start after : List Val) →
     Parent layout start low high p l r free → p.key < q.key → Replaces layout q (p.key + 1) high r free start after →
     Replaces layout q low high (tree_of p l r) free start after
 right-found layout q low high p l r free start after h greater found =
@@ -329,9 +376,11 @@ right-found layout q low high p l r free start after h greater found =
     let with = with_item q.key q.value in
     record {
       tree = tree_of p l found.tree;
-      present = subst (λ o. IsSome o) (sym (value_of-right q.key low p.key p.value l r h.order.0 greater)) found.present;
+      present = subst (λ o. IsSome o) (sym (value_of-right q.key low p.key p.value l r h.order.0 greater))
+          found.present;
       items = ap over found.items ∙ sym (choose q.replaces over (with (items_of r)) (items_of r))
-          ∙ ap (λ xs. if q.replaces then xs else (over (items_of r))) (sym (with_item-right q.key q.value low p.key p.value l r h.order.0 greater));
+          ∙ ap (λ xs. if q.replaces then xs else (over (items_of r)))
+          (sym (with_item-right q.key q.value low p.key p.value l r h.order.0 greater));
       counts = λ i. omega (arith, found.counts i);
       height = refl;
       order = (h.order.0, found.order);
@@ -341,7 +390,8 @@ right-found layout q low high p l r free start after h greater found =
         h.nodes.0,
         h.nodes.1,
         node_kept layout start after low high p l r r free free h (λ i. omega arith) found.keeps
-            ∙ node_value-same p.key p.value p.red p.red (number_of l) (number_of l) (number_of r) (number_of found.tree) refl refl (sym found.root),
+            ∙ node_value-same p.key p.value p.red p.red (number_of l) (number_of l) (number_of r)
+            (number_of found.tree) refl refl (sym found.root),
         left_kept layout start after low high p l r free free h found.keeps,
         found.nodes,
       );
@@ -354,7 +404,8 @@ right-found layout q low high p l r free start after h greater found =
       keeps = Keeps-part layout start after r (tree_of p l r) free free (λ i. omega arith) found.keeps;
     }
 
-pub right-added : (layout : Layout) (q : Request) (low high : ℕ) (p : Node) (l r : Tree) (free : List ℕ) (start after : List Val) →
+pub right-added : (layout : Layout) (q : Request) (low high : ℕ) (p : Node) (l r : Tree) (free : List ℕ)
+    (start after : List Val) →
     Parent layout start low high p l r free → p.key < q.key → AddsBelow layout q (p.key + 1) high r free start after →
     AddsBelow layout q low high (tree_of p l r) free start after
 right-added layout q low high p l r free start after h greater added = record {
@@ -368,7 +419,8 @@ right-added layout q low high p l r free start after h greater added = record {
     h.nodes.0,
     h.nodes.1,
     node_kept layout start after low high p l r r free added.rest h (λ i. omega arith) added.keeps
-        ∙ node_value-same p.key p.value p.red p.red (number_of l) (number_of l) (number_of r) (number_of added.tree) refl refl (sym added.root),
+        ∙ node_value-same p.key p.value p.red p.red (number_of l) (number_of l) (number_of r) (number_of added.tree)
+        refl refl (sym added.root),
     left_kept layout start after low high p l r free added.rest h added.keeps,
     added.nodes,
   );
@@ -380,8 +432,10 @@ right-added layout q low high p l r free start after h greater added = record {
   );
 }
 
-pub right-pair : (layout : Layout) (q : Request) (low high : ℕ) (p : Node) (l r : Tree) (free : List ℕ) (start after : List Val) (x : Node) →
-    Parent layout start low high p l r free → p.key < q.key → p.red ≡ true → AddsRoot layout q (p.key + 1) high r free start after x →
+pub right-pair : (layout : Layout) (q : Request) (low high : ℕ) (p : Node) (l r : Tree) (free : List ℕ)
+    (start after : List Val) (x : Node) →
+    Parent layout start low high p l r free → p.key < q.key → p.red ≡ true →
+    AddsRoot layout q (p.key + 1) high r free start after x →
     AddsPair layout q low high (tree_of p l r) free start after (record p { right = x.left }) x
 right-pair layout q low high p l r free start after x h greater red added =
     let child = red_tree x added.left added.right in
@@ -391,7 +445,8 @@ right-pair layout q low high p l r free start after x h greater red added =
       middle = added.left;
       right = added.right;
       rest = added.rest;
-      grows = Grows-shape q low high (tree_of p l r) free (tree_of p l child) (red_tree x (red_tree p l added.left) added.right) added.rest old
+      grows = Grows-shape q low high (tree_of p l r) free (tree_of p l child)
+          (red_tree x (red_tree p l added.left) added.right) added.rest old
           (append_assoc (items_of l) ((p.key, p.value) ∷ items_of added.left) ((x.key, x.value) ∷ items_of added.right))
           (λ i. omega arith)
           (omega (arith, blacks-red p.red red))
@@ -416,10 +471,13 @@ right-pair layout q low high p l r free start after x h greater red added =
       right_balanced = added.balanced.3;
     }
 
-pub right-hung : (layout : Layout) (q : Request) (low high : ℕ) (p : Node) (l r : Tree) (free : List ℕ) (start before after : List Val) (x : Node) →
-    HasTree layout → length before ≡ objects_of layout → x.number ≤ layout.tree → Parent layout start low high p l r free → p.key < q.key →
+pub right-hung : (layout : Layout) (q : Request) (low high : ℕ) (p : Node) (l r : Tree) (free : List ℕ)
+    (start before after : List Val) (x : Node) →
+    HasTree layout → length before ≡ objects_of layout → x.number ≤ layout.tree →
+    Parent layout start low high p l r free → p.key < q.key →
     p.red ≡ false → AddsRoot layout q (p.key + 1) high r free start before x →
-    after ≡ slice_set (slice_set before (object_of layout x.number) (val_of x)) (object_of layout p.number) (val_of (record p { right = x.number })) →
+    after ≡ slice_set (slice_set before (object_of layout x.number) (val_of x)) (object_of layout p.number)
+    (val_of (record p { right = x.number })) →
     AddsBelow layout q low high (tree_of p l r) free start after
 right-hung layout q low high p l r free start before after x has size in_x h greater black added is =
     let child = red_tree x added.left added.right in
@@ -427,7 +485,8 @@ right-hung layout q low high p l r free start before after x has size in_x h gre
     let vx = val_of x in
     let vp = val_of (record p { right = x.number }) in
     let once : (i : ℕ) → 0 < i → i ≤ layout.tree →
-    mark p.number i + count_of i l + (mark x.number i + count_of i added.left + count_of i added.right) + free_count i added.rest ≤ 1 =
+    mark p.number i + count_of i l + (mark x.number i + count_of i added.left + count_of i added.right) + free_count i
+    added.rest ≤ 1 =
     λ i least most. omega (arith, grows.counts i, h.once i least most) in
     let apart : x.number ≡ p.number → ⊥ =
     unmarked p.number x.number (omega (arith, once x.number added.number in_x, mark-self x.number)) in
@@ -436,7 +495,8 @@ right-hung layout q low high p l r free start before after x has size in_x h gre
       tree = tree_of p l child;
       rest = added.rest;
       grows = grows;
-      keeps = Keeps-written layout start before after x.number vx p.number vp (tree_of p l r) free added.rest w added.number h.nodes.0
+      keeps = Keeps-written layout start before after x.number vx p.number vp (tree_of p l r) free added.rest w
+          added.number h.nodes.0
           (λ i. omega (arith, grows.counts i)) (λ i least most. omega (arith, once i least most))
           (Keeps-part layout start before r (tree_of p l r) free added.rest (λ i. omega arith) added.keeps);
       root = refl;
@@ -444,23 +504,29 @@ right-hung layout q low high p l r free start before after x has size in_x h gre
       nodes = (
         h.nodes.0,
         h.nodes.1,
-        w.second ∙ node_value-same p.key p.value p.red p.red p.left (number_of l) x.number x.number refl (sym h.left_is) refl,
+        w.second ∙ node_value-same p.key p.value p.red p.red p.left (number_of l) x.number x.number refl
+            (sym h.left_is) refl,
         Holds-written layout before after x.number vx p.number vp l w (λ i least most. omega (arith, once i least most))
             (left_kept layout start before low high p l r free added.rest h added.keeps),
         (
           added.number,
           in_x,
-          w.first ∙ node_value-same x.key x.value x.red true x.left (number_of added.left) x.right (number_of added.right)
+          w.first ∙ node_value-same x.key x.value x.red true x.left (number_of added.left) x.right
+              (number_of added.right)
               added.red (sym added.left_is) (sym added.right_is),
-          Holds-written layout before after x.number vx p.number vp added.left w (λ i least most. omega (arith, once i least most)) added.nodes_left,
-          Holds-written layout before after x.number vx p.number vp added.right w (λ i least most. omega (arith, once i least most)) added.nodes_right,
+          Holds-written layout before after x.number vx p.number vp added.left w
+              (λ i least most. omega (arith, once i least most)) added.nodes_left,
+          Holds-written layout before after x.number vx p.number vp added.right w
+              (λ i least most. omega (arith, once i least most)) added.nodes_right,
         ),
       );
       balanced = (h.balanced.0 ∙ sym added.grows.height, λ red. absurd (cc (red, black)), h.balanced.2, added.balanced);
     }
 
-pub right-rotated : (layout : Layout) (q : Request) (low high : ℕ) (p : Node) (l r : Tree) (free : List ℕ) (start before after : List Val) (x y : Node) →
-    HasTree layout → length before ≡ objects_of layout → y.number ≤ layout.tree → Parent layout start low high p l r free → p.key < q.key →
+pub right-rotated : (layout : Layout) (q : Request) (low high : ℕ) (p : Node) (l r : Tree) (free : List ℕ)
+    (start before after : List Val) (x y : Node) →
+    HasTree layout → length before ≡ objects_of layout → y.number ≤ layout.tree →
+    Parent layout start low high p l r free → p.key < q.key →
     AddsPair layout q (p.key + 1) high r free start before x y →
     after ≡ slice_set (slice_set before (object_of layout y.number) (val_of (record y { red = false })))
     (object_of layout p.number) (val_of (record p { right = x.left })) →
@@ -472,10 +538,12 @@ right-rotated layout q low high p l r free start before after x y has size in_y 
     let lesser = black_tree p l added.left in
     let greater = black_tree y added.middle added.right in
     let order = old.order in
-    let grows = Grows-shape q low high (tree_of p l r) free (tree_of p l child) (red_tree x lesser greater) added.rest old
+    let grows = Grows-shape q low high (tree_of p l r) free (tree_of p l child) (red_tree x lesser greater) added.rest
+    old
     (append_assoc (items_of l) ((p.key, p.value) ∷ items_of added.left) ((x.key, x.value) ∷ items_of greater)
     ∙ ap (λ xs. items_of l ++ (p.key, p.value) ∷ xs)
-    (sym (append_assoc (items_of added.left) ((x.key, x.value) ∷ items_of added.middle) ((y.key, y.value) ∷ items_of added.right))))
+    (sym (append_assoc (items_of added.left) ((x.key, x.value) ∷ items_of added.middle)
+    ((y.key, y.value) ∷ items_of added.right))))
     (λ i. omega arith)
     (omega (arith, blacks-black p.red black))
     ((order.0, order.1.0.0), (order.1.0.1, order.1.1)) in
@@ -493,7 +561,8 @@ right-rotated layout q low high p l r free start before after x y has size in_y 
       right = greater;
       rest = added.rest;
       grows = grows;
-      keeps = Keeps-written layout start before after y.number vy p.number vp (tree_of p l r) free added.rest w added.greater h.nodes.0
+      keeps = Keeps-written layout start before after y.number vy p.number vp (tree_of p l r) free added.rest w
+          added.greater h.nodes.0
           (λ i. omega (arith, grows.counts i)) (λ i least most. omega (arith, once i least most))
           (Keeps-part layout start before r (tree_of p l r) free added.rest (λ i. omega arith) added.keeps);
       red = added.lesser_red;
@@ -507,15 +576,19 @@ right-rotated layout q low high p l r free start before after x y has size in_y 
             black (sym h.left_is) (sym added.left_is),
         Holds-written layout before after y.number vy p.number vp l w (λ i least most. omega (arith, once i least most))
             (left_kept layout start before low high p l r free added.rest h added.keeps),
-        Holds-written layout before after y.number vy p.number vp added.left w (λ i least most. omega (arith, once i least most)) added.nodes_left,
+        Holds-written layout before after y.number vy p.number vp added.left w
+            (λ i least most. omega (arith, once i least most)) added.nodes_left,
       );
       nodes_right = (
         added.greater,
         in_y,
-        w.first ∙ node_value-same y.key y.value false false y.left (number_of added.middle) y.right (number_of added.right)
+        w.first ∙ node_value-same y.key y.value false false y.left (number_of added.middle) y.right
+            (number_of added.right)
             refl (sym added.middle_is_too) (sym added.right_is),
-        Holds-written layout before after y.number vy p.number vp added.middle w (λ i least most. omega (arith, once i least most)) added.nodes_middle,
-        Holds-written layout before after y.number vy p.number vp added.right w (λ i least most. omega (arith, once i least most)) added.nodes_right,
+        Holds-written layout before after y.number vy p.number vp added.middle w
+            (λ i least most. omega (arith, once i least most)) added.nodes_middle,
+        Holds-written layout before after y.number vy p.number vp added.right w
+            (λ i least most. omega (arith, once i least most)) added.nodes_right,
       );
       balanced = (
         omega (arith, h.balanced.0, added.grows.height, added.left_height),

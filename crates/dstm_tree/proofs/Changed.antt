@@ -15,7 +15,8 @@ use Rattle.dstm_tree.proofs.Kept.{mark, unmarked, Holds-kept, object_within}
 
 -- ---- a child is looked at
 
-pub missing_child : (layout : Layout) (map : List Val) (t : Tree) (number : ℕ) → number ≡ 0 → number_of t ≡ number → Holds layout map t → is_red t ≡ false
+pub missing_child : (layout : Layout) (map : List Val) (t : Tree) (number : ℕ) → number ≡ 0 → number_of t ≡ number →
+    Holds layout map t → is_red t ≡ false
 missing_child layout map leaf number none root nodes = refl
 missing_child layout map (node n red l k v r) number none root nodes = absurd (omega (arith, none, root, nodes.0))
 
@@ -27,10 +28,12 @@ pub record Shape (t : Tree) (x : Node) : Type 0 where
   pub right_is : number_of right ≡ x.right
   pub tree : t ≡ tree_of x left right
 
-pub shape : (layout : Layout) (before after : List Val) (t : Tree) (number : ℕ) (x : Node) → HasTree layout → IsRead layout before after number x →
+pub shape : (layout : Layout) (before after : List Val) (t : Tree) (number : ℕ) (x : Node) → HasTree layout →
+    IsRead layout before after number x →
     (number ≡ 0 → ⊥) → number_of t ≡ number → Holds layout before t → Shape t x
 shape layout before after t number x has read some root nodes =
-    let found = root_is layout before t x (omega (arith, has.valid.tree)) (root ∙ sym read.number) (λ e. some (sym read.number ∙ e))
+    let found = root_is layout before t x (omega (arith, has.valid.tree)) (root ∙ sym read.number)
+    (λ e. some (sym read.number ∙ e))
     read.left read.right nodes (ap (λ i. value_at before (object_of layout i)) read.number ∙ read.value) in
     record { left = found.0; right = found.1.0; left_is = found.1.1.0; right_is = found.1.1.1; tree = found.1.1.2 }
 
@@ -54,7 +57,8 @@ pub record Wrote (layout : Layout) (before after : List Val) (n : ℕ) (v : Val)
   pub value : value_at after (object_of layout n) ≡ v
   pub changes : Changes layout before after (mark n)
 
-pub wrote : (layout : Layout) (before after : List Val) (n : ℕ) (v : Val) → HasTree layout → length before ≡ objects_of layout → 0 < n →
+pub wrote : (layout : Layout) (before after : List Val) (n : ℕ) (v : Val) → HasTree layout →
+    length before ≡ objects_of layout → 0 < n →
     n ≤ layout.tree → after ≡ slice_set before (object_of layout n) v → Wrote layout before after n v
 wrote layout before after n v has size some in_n is =
     let o = object_of layout n in
@@ -70,11 +74,13 @@ wrote layout before after n v has size some in_n is =
       };
     }
 
-pub length-written : (layout : Layout) (before after : List Val) (o : ℕ) (v : Val) → length before ≡ objects_of layout → after ≡ slice_set before o v →
+pub length-written : (layout : Layout) (before after : List Val) (o : ℕ) (v : Val) →
+    length before ≡ objects_of layout → after ≡ slice_set before o v →
     length after ≡ objects_of layout
 length-written layout before after o v size is = ap length is ∙ length-set before o v ∙ size
 
-pub Changes-more : (layout : Layout) (one two three : List Val) (f g : ℕ → ℕ) → Changes layout one two f → Changes layout two three g →
+pub Changes-more : (layout : Layout) (one two three : List Val) (f g : ℕ → ℕ) → Changes layout one two f →
+    Changes layout two three g →
     Changes layout one three (λ i. f i + g i)
 Changes-more layout one two three f g a b = record {
   root = b.root ∙ a.root;
@@ -82,7 +88,8 @@ Changes-more layout one two three f g a b = record {
   nodes = λ i least most none. b.nodes i least most (omega (arith, none)) ∙ a.nodes i least most (omega (arith, none));
 }
 
-pub Changes-within : (layout : Layout) (one two : List Val) (f g : ℕ → ℕ) → ((i : ℕ) → g i ≡ 0 → f i ≡ 0) → Changes layout one two f →
+pub Changes-within : (layout : Layout) (one two : List Val) (f g : ℕ → ℕ) → ((i : ℕ) → g i ≡ 0 → f i ≡ 0) →
+    Changes layout one two f →
     Changes layout one two g
 Changes-within layout one two f g within h = record {
   root = h.root;
@@ -98,23 +105,27 @@ Changes-none layout one two f same = record {
 }
 
 -- a tree none of whose nodes is touched
-pub Holds-untouched : (layout : Layout) (before after : List Val) (t : Tree) (f : ℕ → ℕ) → Changes layout before after f →
+pub Holds-untouched : (layout : Layout) (before after : List Val) (t : Tree) (f : ℕ → ℕ) →
+    Changes layout before after f →
     ((i : ℕ) → 0 < i → i ≤ layout.tree → 0 < count_of i t → f i ≡ 0) → Holds layout before t → Holds layout after t
 Holds-untouched layout before after t f h apart nodes =
     Holds-kept layout before after t (λ i least most some. h.nodes i least most (apart i least most some)) nodes
 
 -- ---- three nodes are written
 
-pub record Arranged (layout : Layout) (before after : List Val) (x : ℕ) (vx : Val) (y : ℕ) (vy : Val) (z : ℕ) (vz : Val) : Type 0 where
+pub record Arranged (layout : Layout) (before after : List Val) (x : ℕ) (vx : Val) (y : ℕ) (vy : Val) (z : ℕ)
+    (vz : Val) : Type 0 where
   pub first : value_at after (object_of layout x) ≡ vx
   pub second : value_at after (object_of layout y) ≡ vy
   pub third : value_at after (object_of layout z) ≡ vz
   pub changes : Changes layout before after (λ i. mark x i + mark y i + mark z i)
 
-pub arranged : (layout : Layout) (before after : List Val) (x : ℕ) (vx : Val) (y : ℕ) (vy : Val) (z : ℕ) (vz : Val) → HasTree layout →
+pub arranged : (layout : Layout) (before after : List Val) (x : ℕ) (vx : Val) (y : ℕ) (vy : Val) (z : ℕ) (vz : Val) →
+    HasTree layout →
     length before ≡ objects_of layout → 0 < x → x ≤ layout.tree → 0 < y → y ≤ layout.tree → 0 < z → z ≤ layout.tree →
     mark y x ≡ 0 → mark z x ≡ 0 → mark z y ≡ 0 →
-    after ≡ slice_set (slice_set (slice_set before (object_of layout x) vx) (object_of layout y) vy) (object_of layout z) vz →
+    after ≡ slice_set (slice_set (slice_set before (object_of layout x) vx) (object_of layout y) vy)
+    (object_of layout z) vz →
     Arranged layout before after x vx y vy z vz
 arranged layout before after x vx y vy z vz has size some_x in_x some_y in_y some_z in_z xy xz yz is =
     let one = slice_set before (object_of layout x) vx in

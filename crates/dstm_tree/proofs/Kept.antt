@@ -1,5 +1,6 @@
 -- What stays as it was where some nodes are written.
-use Rattle.std.proofs.Common.{◌≡◌, ℕ, ◌+◌, ◌<◌, ◌≤◌, Bool, List, [], ◌∷◌, length, slice_set, arith, refl, sym, ◌∙◌, ap, eq-eqb}
+use Rattle.std.proofs.Common.{◌≡◌, ℕ, ◌+◌, ◌<◌, ◌≤◌, Bool, List, [], ◌∷◌, length, slice_set, arith, refl, sym, ◌∙◌, ap}
+use Rattle.std.proofs.Common.{eq-eqb}
 use Rattle.std.specs.Prelude.{cond, ◌==◌}
 use Rattle.std.proofs.lemmas.List.{get_or-set_same, get_or-set_other, length-set}
 use Rattle.std.proofs.lemmas.List.Sums.{sum_by-cons}
@@ -29,7 +30,8 @@ pub free_count-first : (i n : ℕ) (free : List ℕ) → free_count i (n ∷ fre
 free_count-first i n free = sum_by-cons (λ j. cond (j == i) 1 0) n free
 
 pub Holds-kept : (layout : Layout) (before after : List Val) (t : Tree) →
-    ((i : ℕ) → 0 < i → i ≤ layout.tree → 0 < count_of i t → value_at after (object_of layout i) ≡ value_at before (object_of layout i)) →
+    ((i : ℕ) → 0 < i → i ≤ layout.tree → 0 < count_of i t → value_at after (object_of layout i) ≡ value_at before
+    (object_of layout i)) →
     Holds layout before t → Holds layout after t
 Holds-kept layout before after leaf same nodes = tt
 Holds-kept layout before after (node n red l k v r) same nodes =
@@ -42,7 +44,8 @@ Holds-kept layout before after (node n red l k v r) same nodes =
     )
 
 pub IsChain-kept : (layout : Layout) (before after : List Val) (free : List ℕ) →
-    ((i : ℕ) → 0 < i → i ≤ layout.tree → 0 < free_count i free → value_at after (object_of layout i) ≡ value_at before (object_of layout i)) →
+    ((i : ℕ) → 0 < i → i ≤ layout.tree → 0 < free_count i free →
+    value_at after (object_of layout i) ≡ value_at before (object_of layout i)) →
     IsChain layout before free → IsChain layout after free
 IsChain-kept layout before after [] same chain = tt
 IsChain-kept layout before after (n ∷ free) same chain = (
@@ -59,7 +62,8 @@ node_value-same k v red red' a a' b b' same_colour same_left same_right =
     ap (λ c. node_value k c a b v) same_colour ∙ ap (λ x. node_value k red' x b v) same_left
     ∙ ap (λ y. node_value k red' a' y v) same_right
 
-pub object_within : (layout : Layout) (i : ℕ) → HasTree layout → i ≤ layout.tree → object_of layout i < objects_of layout
+pub object_within : (layout : Layout) (i : ℕ) → HasTree layout → i ≤ layout.tree →
+    object_of layout i < objects_of layout
 object_within layout i h within = omega (arith, within, structure_objects-declared layout.tree h.declared)
 
 -- ---- two nodes are written
@@ -68,7 +72,8 @@ object_within layout i h within = omega (arith, within, structure_objects-declar
 pub record Writes (layout : Layout) (before after : List Val) (x : ℕ) (vx : Val) (y : ℕ) (vy : Val) : Type 0 where
   pub first : value_at after (object_of layout x) ≡ vx
   pub second : value_at after (object_of layout y) ≡ vy
-  pub others : (o : ℕ) → (o ≡ object_of layout x → ⊥) → (o ≡ object_of layout y → ⊥) → value_at after o ≡ value_at before o
+  pub others : (o : ℕ) → (o ≡ object_of layout x → ⊥) → (o ≡ object_of layout y → ⊥) →
+      value_at after o ≡ value_at before o
 
 pub writes : (layout : Layout) (before after : List Val) (x : ℕ) (vx : Val) (y : ℕ) (vy : Val) → HasTree layout →
     length before ≡ objects_of layout → x ≤ layout.tree → y ≤ layout.tree → (x ≡ y → ⊥) →
@@ -82,7 +87,8 @@ writes layout before after x vx y vy h size in_x in_y apart is =
     let within_y : oy < length mid = omega (arith, size, object_within layout y h in_y, length-set before ox vx) in
     let other : ox ≡ oy → ⊥ = λ e. apart (omega (arith, e)) in
     record {
-      first = ap (λ m. value_at m ox) is ∙ get_or-set_other mid oy ox vy no_value other ∙ get_or-set_same before ox vx no_value within_x;
+      first = ap (λ m. value_at m ox) is ∙ get_or-set_other mid oy ox vy no_value other ∙
+          get_or-set_same before ox vx no_value within_x;
       second = ap (λ m. value_at m oy) is ∙ get_or-set_same mid oy vy no_value within_y;
       others = λ o not_x not_y. ap (λ m. value_at m o) is ∙ get_or-set_other mid oy o vy no_value not_y
           ∙ get_or-set_other before ox o vx no_value not_x;
@@ -93,7 +99,8 @@ object_apart layout i n apart e = apart (omega (arith, e))
 
 -- a tree without the two nodes
 pub Holds-written : (layout : Layout) (before after : List Val) (x : ℕ) (vx : Val) (y : ℕ) (vy : Val) (t : Tree) →
-    Writes layout before after x vx y vy → ((i : ℕ) → 0 < i → i ≤ layout.tree → mark x i + mark y i + count_of i t ≤ 1) →
+    Writes layout before after x vx y vy → ((i : ℕ) → 0 < i → i ≤ layout.tree → mark x i + mark y i + count_of i t ≤ 1)
+    →
     Holds layout before t → Holds layout after t
 Holds-written layout before after x vx y vy t w once nodes =
     Holds-kept layout before after t
@@ -116,15 +123,18 @@ IsFree-written layout before after x vx y vy free w some_x some_y once h = recor
 
 -- what a larger tree keeps where a part of it kept it, and where then the two nodes were written
 pub Keeps-part : (layout : Layout) (start after : List Val) (part whole : Tree) (free rest : List ℕ) →
-    ((i : ℕ) → count_of i part ≤ count_of i whole) → Keeps layout start after part free rest → Keeps layout start after whole free rest
+    ((i : ℕ) → count_of i part ≤ count_of i whole) → Keeps layout start after part free rest →
+    Keeps layout start after whole free rest
 Keeps-part layout start after part whole free rest within h = record {
   root = h.root;
   nodes = λ i least most none. h.nodes i least most (omega (arith, none, within i));
   chain = h.chain;
 }
 
-pub Keeps-written : (layout : Layout) (start before after : List Val) (x : ℕ) (vx : Val) (y : ℕ) (vy : Val) (t : Tree) (free rest : List ℕ) →
-    Writes layout before after x vx y vy → 0 < x → 0 < y → ((i : ℕ) → mark x i + mark y i ≤ count_of i t + free_count i free) →
+pub Keeps-written : (layout : Layout) (start before after : List Val) (x : ℕ) (vx : Val) (y : ℕ) (vy : Val) (t : Tree)
+    (free rest : List ℕ) →
+    Writes layout before after x vx y vy → 0 < x → 0 < y → ((i : ℕ) →
+    mark x i + mark y i ≤ count_of i t + free_count i free) →
     ((i : ℕ) → 0 < i → i ≤ layout.tree → mark x i + mark y i + free_count i rest ≤ 1) →
     Keeps layout start before t free rest → Keeps layout start after t free rest
 Keeps-written layout start before after x vx y vy t free rest w some_x some_y within once h = record {

@@ -1,14 +1,16 @@
 -- A subtree loses a node.
-use Rattle.std.proofs.Common.{◌≡◌, ℕ, ◌+◌, ◌-◌, ◌<◌, ◌≤◌, Bool, true, false, List, ◌∷◌, ◌++◌, length, slice_set, arith, refl, sym, ◌∙◌, ap, subst, length-append}
+use Rattle.std.proofs.Common.{◌≡◌, ℕ, ◌+◌, ◌-◌, ◌<◌, ◌≤◌, Bool, true, false, List, ◌∷◌, ◌++◌, length, slice_set, arith}
+use Rattle.std.proofs.Common.{refl, sym, ◌∙◌, ap, subst, length-append}
 use Rattle.std.specs.Prelude.{not}
 use Rattle.dstm_model.specs.declared.value.Val.{Val}
 use Rattle.dstm_model.specs.declared.layout.Layout.{Layout}
 use Rattle.dstm_model.specs.Map.{value_at}
 use Rattle.dstm_model.specs.Objects.{objects_of}
 use Rattle.dstm_tree.specs.declared.node.Node.{Node}
-use Rattle.dstm_tree.specs.declared.removal.Cut.{Cut}
+use Rattle.dstm_tree.specs.declared.balance.Cut.{Cut}
 use Rattle.dstm_tree.specs.declared.removal.Least.{Least}
-use Rattle.dstm_tree.specs.Tree.{Tree, leaf, node, number_of, is_red, items_of, count_of, black_height, IsOrdered, IsBalanced}
+use Rattle.dstm_tree.specs.Tree.{Tree, leaf, node, number_of, is_red, items_of, count_of, black_height, IsOrdered}
+use Rattle.dstm_tree.specs.Tree.{IsBalanced}
 use Rattle.dstm_tree.specs.Objects.{object_of, Holds}
 use Rattle.dstm_tree.specs.Node.{HasTree, IsRead, Subtree, tree_of, val_of}
 use Rattle.dstm_tree.specs.Place.{black_tree}
@@ -21,7 +23,8 @@ use Rattle.dstm_tree.proofs.Changed.{Shape, shape, wrote, Changes-more, Changes-
 
 -- ---- a child takes its parent's place
 
-pub leaf_is : (layout : Layout) (map : List Val) (t : Tree) (n : ℕ) → number_of t ≡ n → n ≡ 0 → Holds layout map t → t ≡ leaf
+pub leaf_is : (layout : Layout) (map : List Val) (t : Tree) (n : ℕ) → number_of t ≡ n → n ≡ 0 → Holds layout map t →
+    t ≡ leaf
 leaf_is layout map leaf n number none nodes = refl
 leaf_is layout map (node m red l k v r) n number none nodes = absurd (omega (arith, number, none, nodes.0))
 
@@ -54,11 +57,13 @@ not_both : (red : Bool) → (red ≡ true → true ≡ false) → red ≡ false
 not_both true only = absurd (cc (only refl))
 not_both false only = refl
 
-pub hoist-some : (layout : Layout) (before mid after : List Val) (child : ℕ) (red : Bool) (x : Node) → HasTree layout → length before ≡ objects_of layout →
+pub hoist-some : (layout : Layout) (before mid after : List Val) (child : ℕ) (red : Bool) (x : Node) → HasTree layout →
+    length before ≡ objects_of layout →
     (child ≡ 0 → ⊥) → IsRead layout before mid child x →
     after ≡ slice_set mid (object_of layout x.number) (val_of (record x { red = false })) →
     Hoists layout child red before after (record { root = child; fell = false })
-hoist-some layout before mid after child red x has size some read is low high t number nodes once order balanced height colour =
+hoist-some layout before mid after child red x has size some read is low high t number nodes once order balanced height
+    colour =
     let found = shape layout before mid t child x has read some number nodes in
     let l = found.left in
     let r = found.right in
@@ -72,8 +77,10 @@ hoist-some layout before mid after child red x has size some read is low high t 
     let once_is : (i : ℕ) → 0 < i → i ≤ layout.tree → mark x.number i + count_of i l + count_of i r ≤ 1 =
     λ i least most. subst (λ u. count_of i u ≤ 1) found.tree (once i least most) in
     let is_set = is ∙ ap (λ m. slice_set m (object_of layout x.number) (val_of (record x { red = false }))) read.same in
-    let w = wrote layout before after x.number (val_of (record x { red = false })) has size nodes_is.0 nodes_is.1 is_set in
-    let cut : IsCut layout low high full (blackness red) red before after (record { root = child; fell = false }) = record {
+    let w = wrote layout before after x.number (val_of (record x { red = false })) has size nodes_is.0 nodes_is.1
+    is_set in
+    let cut : IsCut layout low high full (blackness red) red before after (record { root = child; fell = false }) =
+    record {
       tree = black_tree x l r;
       root = read.number;
       items = refl;
@@ -85,21 +92,29 @@ hoist-some layout before mid after child red x has size some read is low high t 
       nodes = (
         nodes_is.0,
         nodes_is.1,
-        w.value ∙ node_value-same x.key x.value false false x.left (number_of l) x.right (number_of r) refl (sym found.left_is) (sym found.right_is),
-        Holds-untouched layout before after l (mark x.number) w.changes (λ i least most s. omega (arith, once_is i least most, s)) nodes_is.3,
-        Holds-untouched layout before after r (mark x.number) w.changes (λ i least most s. omega (arith, once_is i least most, s)) nodes_is.4,
+        w.value ∙ node_value-same x.key x.value false false x.left (number_of l) x.right (number_of r) refl
+            (sym found.left_is) (sym found.right_is),
+        Holds-untouched layout before after l (mark x.number) w.changes
+            (λ i least most s. omega (arith, once_is i least most, s)) nodes_is.3,
+        Holds-untouched layout before after r (mark x.number) w.changes
+            (λ i least most s. omega (arith, once_is i least most, s)) nodes_is.4,
       );
-      keeps = Changes-within layout before after (mark x.number) (λ i. count_of i full) (λ i none. omega (arith, none)) w.changes;
+      keeps = Changes-within layout before after (mark x.number) (λ i. count_of i full) (λ i none. omega (arith, none))
+          w.changes;
     } in
-    subst (λ u. IsCut layout low high u (blackness red) red before after (record { root = child; fell = false })) (sym found.tree) cut
+    subst (λ u. IsCut layout low high u (blackness red) red before after (record { root = child; fell = false }))
+    (sym found.tree) cut
 
 -- ---- a subtree of a node lost one, and then the node is balanced
 
-unfoldable pub root_of_subtree : (layout : Layout) (before mid : List Val) (at depth : ℕ) (x : Node) → HasTree layout → IsRead layout before mid at x → (at ≡ 0 → ⊥) →
+unfoldable pub root_of_subtree : (layout : Layout) (before mid : List Val) (at depth : ℕ) (x : Node) → HasTree layout →
+    IsRead layout before mid at x → (at ≡ 0 → ⊥) →
     (h : Subtree layout before at depth) → Shape h.tree x
-root_of_subtree layout before mid at depth x has read some h = shape layout before mid h.tree at x has read some h.root h.nodes
+root_of_subtree layout before mid at depth x has read some h =
+    shape layout before mid h.tree at x has read some h.root h.nodes
 
-unfoldable pub root_here : (layout : Layout) (before mid : List Val) (at depth : ℕ) (x : Node) → HasTree layout → IsRead layout before mid at x → (at ≡ 0 → ⊥) →
+unfoldable pub root_here : (layout : Layout) (before mid : List Val) (at depth : ℕ) (x : Node) → HasTree layout →
+    IsRead layout before mid at x → (at ≡ 0 → ⊥) →
     (h : Subtree layout before at depth) → Root layout before x (depth - 1)
 unfolding root_of_subtree
 root_here layout before mid at depth x has read some h =
@@ -120,7 +135,8 @@ root_here layout before mid at depth x has read some h =
       size = omega (arith, size, length-append (items_of found.left) ((x.key, x.value) ∷ items_of found.right));
     }
 
-unfoldable pub gap_left : (layout : Layout) (before two : List Val) (x : Node) (depth low : ℕ) (cut : Cut) (h : Root layout before x depth) →
+unfoldable pub gap_left : (layout : Layout) (before two : List Val) (x : Node) (depth low : ℕ) (cut : Cut)
+    (h : Root layout before x depth) →
     Became layout low x.key h.left before two cut → LeftGap layout two x (record x { left = cut.root }) cut.fell
 gap_left layout before two x depth low cut h b = record {
   low = low;
@@ -129,7 +145,8 @@ gap_left layout before two x depth low cut h b = record {
   right = h.right;
   left_is = b.root;
   right_is = h.right_is;
-  held_is = b.keeps.nodes x.number h.nodes.0 h.nodes.1 (omega (arith, h.once x.number h.nodes.0 h.nodes.1, mark-self x.number)) ∙ h.held_is;
+  held_is = b.keeps.nodes x.number h.nodes.0 h.nodes.1 (omega
+      (arith, h.once x.number h.nodes.0 h.nodes.1, mark-self x.number)) ∙ h.held_is;
   number = h.nodes.0;
   within = h.nodes.1;
   nodes_left = b.nodes;
@@ -144,7 +161,8 @@ gap_left layout before two x depth low cut h b = record {
   balanced_right = h.balanced.3;
 }
 
-unfoldable pub gap_right : (layout : Layout) (before two : List Val) (x : Node) (depth k v : ℕ) (cut : Cut) (h : Root layout before x depth) →
+unfoldable pub gap_right : (layout : Layout) (before two : List Val) (x : Node) (depth k v : ℕ) (cut : Cut)
+    (h : Root layout before x depth) →
     IsOrdered h.low k h.left → Became layout (k + 1) h.high h.right before two cut →
     RightGap layout two x (record x { key = k; value = v; right = cut.root }) cut.fell
 gap_right layout before two x depth k v cut h order_left b = record {
@@ -154,7 +172,8 @@ gap_right layout before two x depth k v cut h order_left b = record {
   right = b.tree;
   left_is = h.left_is;
   right_is = b.root;
-  held_is = b.keeps.nodes x.number h.nodes.0 h.nodes.1 (omega (arith, h.once x.number h.nodes.0 h.nodes.1, mark-self x.number)) ∙ h.held_is;
+  held_is = b.keeps.nodes x.number h.nodes.0 h.nodes.1 (omega
+      (arith, h.once x.number h.nodes.0 h.nodes.1, mark-self x.number)) ∙ h.held_is;
   number = h.nodes.0;
   within = h.nodes.1;
   nodes_left = Holds-untouched layout before two h.left (λ i. count_of i h.right) b.keeps
@@ -169,9 +188,11 @@ gap_right layout before two x depth k v cut h order_left b = record {
   balanced_right = b.balanced;
 }
 
-unfoldable pub became_left : (layout : Layout) (before two after : List Val) (x : Node) (depth low : ℕ) (cut end : Cut) (h : Root layout before x depth)
+unfoldable pub became_left : (layout : Layout) (before two after : List Val) (x : Node) (depth low : ℕ) (cut end : Cut)
+    (h : Root layout before x depth)
     (b : Became layout low x.key h.left before two cut) →
-    IsCut layout low h.high (tree_of (record x { left = cut.root }) b.tree h.right) (black_height h.right + blackness x.red) x.red two after end →
+    IsCut layout low h.high (tree_of (record x { left = cut.root }) b.tree h.right)
+    (black_height h.right + blackness x.red) x.red two after end →
     Became layout low h.high (tree_of x h.left h.right) before after end
 became_left layout before two after x depth low cut end h b c = record {
   tree = c.tree;
@@ -182,14 +203,18 @@ became_left layout before two after x depth low cut end h b c = record {
   colour = c.colour;
   balanced = c.balanced;
   nodes = c.nodes;
-  keeps = Changes-within layout before after (λ i. count_of i h.left + count_of i (tree_of (record x { left = cut.root }) b.tree h.right))
+  keeps = Changes-within layout before after (λ i. count_of i h.left + count_of i
+      (tree_of (record x { left = cut.root }) b.tree h.right))
       (λ i. count_of i (tree_of x h.left h.right)) (λ i none. omega (arith, none, b.fewer i))
-      (Changes-more layout before two after (λ i. count_of i h.left) (λ i. count_of i (tree_of (record x { left = cut.root }) b.tree h.right)) b.keeps c.keeps);
+      (Changes-more layout before two after (λ i. count_of i h.left)
+      (λ i. count_of i (tree_of (record x { left = cut.root }) b.tree h.right)) b.keeps c.keeps);
 }
 
-unfoldable pub became_right : (layout : Layout) (before two after : List Val) (x : Node) (depth k v : ℕ) (cut end : Cut) (h : Root layout before x depth)
+unfoldable pub became_right : (layout : Layout) (before two after : List Val) (x : Node) (depth k v : ℕ)
+    (cut end : Cut) (h : Root layout before x depth)
     (b : Became layout (k + 1) h.high h.right before two cut) →
-    IsCut layout h.low h.high (tree_of (record x { key = k; value = v; right = cut.root }) h.left b.tree) (black_height h.left + blackness x.red) x.red two after end →
+    IsCut layout h.low h.high (tree_of (record x { key = k; value = v; right = cut.root }) h.left b.tree)
+    (black_height h.left + blackness x.red) x.red two after end →
     Became layout h.low h.high (tree_of x h.left h.right) before after end
 became_right layout before two after x depth k v cut end h b c =
     let s = tree_of (record x { key = k; value = v; right = cut.root }) h.left b.tree in
@@ -213,7 +238,8 @@ widen_high low high more (node n red l k v r) order above = (order.0, widen_high
 
 -- ---- the least key
 
-pub take-least-here : (layout : Layout) (before mid after : List Val) (at depth : ℕ) (x : Node) (cut : Cut) → HasTree layout → IsRead layout before mid at x → (at ≡ 0 → ⊥) →
+pub take-least-here : (layout : Layout) (before mid after : List Val) (at depth : ℕ) (x : Node) (cut : Cut) →
+    HasTree layout → IsRead layout before mid at x → (at ≡ 0 → ⊥) →
     x.left ≡ 0 → Hoists layout x.right x.red mid after cut → (h : Subtree layout before at depth) →
     TakesLeast layout h.low h.high h.tree before after (record { node = x; cut = cut })
 unfolding root_here root_of_subtree
@@ -225,9 +251,11 @@ take-least-here layout before mid after at depth x cut has read some none does h
     let height_is : black_height r.right ≡ 0 = sym r.balanced.0 ∙ ap black_height is_leaf in
     let order_left = subst (IsOrdered h.low x.key) is_leaf r.order.0 in
     let does_it = subst (λ m. Hoists layout x.right x.red m after cut) read.same does in
-    let c = does_it (x.key + 1) h.high r.right r.right_is r.nodes.4 (λ i least most. omega (arith, r.once i least most)) r.order.1 r.balanced.3 height_is
+    let c = does_it (x.key + 1) h.high r.right r.right_is r.nodes.4
+    (λ i least most. omega (arith, r.once i least most)) r.order.1 r.balanced.3 height_is
     (λ red. (r.balanced.1 red).1) in
-    let made : TakesLeast layout h.low h.high (tree_of x leaf r.right) before after (record { node = x; cut = cut }) = record {
+    let made : TakesLeast layout h.low h.high (tree_of x leaf r.right) before after (record { node = x; cut = cut }) =
+    record {
       became = record {
         tree = c.tree;
         root = c.root;
@@ -237,7 +265,8 @@ take-least-here layout before mid after at depth x cut has read some none does h
         colour = c.colour;
         balanced = c.balanced;
         nodes = c.nodes;
-        keeps = Changes-within layout before after (λ i. count_of i r.right) (λ i. count_of i (tree_of x leaf r.right)) (λ i none_i. omega (arith, none_i)) c.keeps;
+        keeps = Changes-within layout before after (λ i. count_of i r.right) (λ i. count_of i (tree_of x leaf r.right))
+            (λ i none_i. omega (arith, none_i)) c.keeps;
       };
       items = ap (λ xs. (x.key, x.value) ∷ xs) (sym c.items);
       counts = λ i. omega (arith, c.counts i);
@@ -248,7 +277,8 @@ take-least-here layout before mid after at depth x cut has read some none does h
     subst (λ t. TakesLeast layout h.low h.high t before after (record { node = x; cut = cut })) (sym tree_is) made
 
 -- the subtrees of the root, as subtrees
-unfoldable pub left_part : (layout : Layout) (map : List Val) (x : Node) (depth : ℕ) (h : Root layout map x depth) → Subtree layout map x.left depth
+unfoldable pub left_part : (layout : Layout) (map : List Val) (x : Node) (depth : ℕ) (h : Root layout map x depth) →
+    Subtree layout map x.left depth
 left_part layout map x depth h = record {
   tree = h.left;
   low = h.low;
@@ -261,7 +291,8 @@ left_part layout map x depth h = record {
   size = omega (arith, h.size);
 }
 
-unfoldable pub right_part : (layout : Layout) (map : List Val) (x : Node) (depth : ℕ) (h : Root layout map x depth) → Subtree layout map x.right depth
+unfoldable pub right_part : (layout : Layout) (map : List Val) (x : Node) (depth : ℕ) (h : Root layout map x depth) →
+    Subtree layout map x.right depth
 right_part layout map x depth h = record {
   tree = h.right;
   low = x.key + 1;
@@ -279,15 +310,20 @@ abbrev pub TakesLeastOf : Layout → ℕ → ℕ → List Val → List Val → L
 TakesLeastOf layout at depth before after least =
     (h : Subtree layout before at depth) → TakesLeast layout h.low h.high h.tree before after least
 
-pub gap_after_least : (layout : Layout) (before two : List Val) (x : Node) (depth : ℕ) (least : Least) (h : Root layout before x depth) →
-    TakesLeastOf layout x.left depth before two least → LeftGap layout two x (record x { left = least.cut.root }) least.cut.fell
+pub gap_after_least : (layout : Layout) (before two : List Val) (x : Node) (depth : ℕ) (least : Least)
+    (h : Root layout before x depth) →
+    TakesLeastOf layout x.left depth before two least → LeftGap layout two x (record x { left = least.cut.root })
+    least.cut.fell
 unfolding left_part
 gap_after_least layout before two x depth least h does =
-    gap_left layout before two x depth (least.node.key + 1) least.cut h (does (left_part layout before x depth h)).became
+    gap_left layout before two x depth (least.node.key + 1) least.cut h
+    (does (left_part layout before x depth h)).became
 
-pub take-least-below : (layout : Layout) (before mid two after : List Val) (at depth : ℕ) (x : Node) (least : Least) (cut : Cut) → HasTree layout →
+pub take-least-below : (layout : Layout) (before mid two after : List Val) (at depth : ℕ) (x : Node) (least : Least)
+    (cut : Cut) → HasTree layout →
     IsRead layout before mid at x → (at ≡ 0 → ⊥) → TakesLeastOf layout x.left (depth - 1) before two least →
-    ClosesLeft layout x (record x { left = least.cut.root }) least.cut.fell two after cut → (h : Subtree layout before at depth) →
+    ClosesLeft layout x (record x { left = least.cut.root }) least.cut.fell two after cut →
+    (h : Subtree layout before at depth) →
     TakesLeast layout h.low h.high h.tree before after (record { node = least.node; cut = cut })
 unfolding root_here root_of_subtree left_part gap_left became_left
 take-least-below layout before mid two after at depth x least cut has read some does closes h =
@@ -296,23 +332,29 @@ take-least-below layout before mid two after at depth x least cut has read some 
     let b = does (left_part layout before x (depth - 1) r) in
     let c = closes (gap_left layout before two x (depth - 1) (least.node.key + 1) least.cut r b.became) in
     let became = became_left layout before two after x (depth - 1) (least.node.key + 1) least.cut cut r b.became c in
-    let made : TakesLeast layout h.low h.high (tree_of x r.left r.right) before after (record { node = least.node; cut = cut }) = record {
+    let made : TakesLeast layout h.low h.high (tree_of x r.left r.right) before after
+    (record { node = least.node; cut = cut }) = record {
       became = became;
-      items = ap (λ xs. xs ++ (x.key, x.value) ∷ items_of r.right) b.items ∙ ap (λ xs. (least.node.key, least.node.value) ∷ xs) (sym c.items);
+      items = ap (λ xs. xs ++ (x.key, x.value) ∷ items_of r.right) b.items ∙
+          ap (λ xs. (least.node.key, least.node.value) ∷ xs) (sym c.items);
       counts = λ i. omega (arith, c.counts i, b.counts i);
       at_least = b.at_least;
       number = b.number;
       within = b.within;
     } in
-    subst (λ t. TakesLeast layout h.low h.high t before after (record { node = least.node; cut = cut })) (sym found.tree) made
+    subst (λ t. TakesLeast layout h.low h.high t before after (record { node = least.node; cut = cut }))
+    (sym found.tree) made
 
-pub left_within : (layout : Layout) (map : List Val) (x : Node) (depth : ℕ) → Root layout map x depth → x.left ≤ layout.tree
+pub left_within : (layout : Layout) (map : List Val) (x : Node) (depth : ℕ) → Root layout map x depth →
+    x.left ≤ layout.tree
 left_within layout map x depth h = omega (arith, number_le layout map h.left h.nodes.3, h.left_is)
 
-pub right_within : (layout : Layout) (map : List Val) (x : Node) (depth : ℕ) → Root layout map x depth → x.right ≤ layout.tree
+pub right_within : (layout : Layout) (map : List Val) (x : Node) (depth : ℕ) → Root layout map x depth →
+    x.right ≤ layout.tree
 right_within layout map x depth h = omega (arith, number_le layout map h.right h.nodes.4, h.right_is)
 
-pub depth_some : (layout : Layout) (before mid : List Val) (at depth : ℕ) (x : Node) → HasTree layout → IsRead layout before mid at x → (at ≡ 0 → ⊥) →
+pub depth_some : (layout : Layout) (before mid : List Val) (at depth : ℕ) (x : Node) → HasTree layout →
+    IsRead layout before mid at x → (at ≡ 0 → ⊥) →
     Subtree layout before at depth → 0 < depth
 depth_some layout before mid at depth x has read some h =
     let found = root_of_subtree layout before mid at depth x has read some h in

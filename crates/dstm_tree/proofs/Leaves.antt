@@ -18,8 +18,10 @@ low_of v n e = ap (λ (x : Val). x.low) e
 
 pub taken : (layout : Layout) (before after : List Val) (head next : Val) (free : List ℕ) → (head.low ≡ 0 → ⊥) →
     value_at before (free_of layout) ≡ head → value_at before (object_of layout head.low) ≡ next →
-    after ≡ slice_set before (free_of layout) next → IsFree layout before free → IsTaken layout before after free head.low
-taken layout before after head next [] some found_head found_next is h = absurd (some (low_of head 0 (sym found_head ∙ h.unused)))
+    after ≡ slice_set before (free_of layout) next → IsFree layout before free →
+    IsTaken layout before after free head.low
+taken layout before after head next [] some found_head found_next is h =
+    absurd (some (low_of head 0 (sym found_head ∙ h.unused)))
 taken layout before after head next (i ∷ rest) some found_head found_next is h =
     let first : head.low ≡ i = low_of head i (sym found_head ∙ h.unused) in
     let next_is : next ≡ plain (first_of rest) =
@@ -34,16 +36,20 @@ pub leaf-full : (layout : Layout) (q : Request) (before after : List Val) (free 
 leaf-full layout q before after [] number none h t = record { absent = refl; none = refl; same = t.1 }
 leaf-full layout q before after (i ∷ rest) number none h t = absurd (omega (arith, h.chain.0, t.0, none))
 
-pub leaf-root : (layout : Layout) (q : Request) (low high : ℕ) (before after : List Val) (free : List ℕ) (x : Node) → HasTree layout →
+pub leaf-root : (layout : Layout) (q : Request) (low high : ℕ) (before after : List Val) (free : List ℕ) (x : Node) →
+    HasTree layout →
     length before ≡ objects_of layout → low ≤ q.key → q.key < high → (x.number ≡ 0 → ⊥) →
     x.red ≡ true → x.key ≡ q.key → x.value ≡ q.value → 0 ≡ x.left → 0 ≡ x.right →
-    IsFree layout before free → IsTaken layout before after free x.number → AddsRoot layout q low high leaf free before after x
-leaf-root layout q low high before after [] x has size at_least below some red key value left right h t = absurd (some t.0)
+    IsFree layout before free → IsTaken layout before after free x.number →
+    AddsRoot layout q low high leaf free before after x
+leaf-root layout q low high before after [] x has size at_least below some red key value left right h t =
+    absurd (some t.0)
 leaf-root layout q low high before after (i ∷ rest) x has size at_least below some red key value left right h t =
     let free_word = free_of layout in
     let within : free_word < length before = omega (arith, size, structure_objects-declared layout.tree has.declared) in
     let other : (o : ℕ) → (o ≡ free_word → ⊥) → value_at after o ≡ value_at before o =
-    λ o apart. ap (λ m. value_at m o) t.1 ∙ get_or-set_other before free_word o (plain (first_of rest)) no_value apart in
+    λ o apart. ap (λ m. value_at m o) t.1 ∙ get_or-set_other before free_word o (plain (first_of rest)) no_value
+    apart in
     record {
       left = leaf;
       right = leaf;
@@ -59,8 +65,10 @@ leaf-root layout q low high before after (i ∷ rest) x has size at_least below 
         root = other (root_of layout) (λ e. omega (arith, e));
         nodes = λ n least most none. other (object_of layout n) (λ e. omega (arith, e, least));
         chain = record {
-          unused = ap (λ m. value_at m free_word) t.1 ∙ get_or-set_same before free_word (plain (first_of rest)) no_value within;
-          chain = IsChain-kept layout before after rest (λ n least most some_n. other (object_of layout n) (λ e. omega (arith, e, least))) h.chain.3;
+          unused = ap (λ m. value_at m free_word) t.1 ∙ get_or-set_same before free_word (plain (first_of rest))
+              no_value within;
+          chain = IsChain-kept layout before after rest (λ n least most some_n. other (object_of layout n)
+              (λ e. omega (arith, e, least))) h.chain.3;
         };
       };
       red = red;

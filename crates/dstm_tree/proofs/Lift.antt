@@ -1,5 +1,6 @@
 -- A subtree that has fallen is lifted: a rotation, or a red sibling.
-use Rattle.std.proofs.Common.{◌≡◌, ℕ, ◌+◌, ◌<◌, ◌≤◌, Bool, true, false, List, ◌∷◌, ◌++◌, length, slice_set, arith, refl, sym, ◌∙◌, ap, append_assoc}
+use Rattle.std.proofs.Common.{◌≡◌, ℕ, ◌+◌, ◌<◌, ◌≤◌, Bool, true, false, List, ◌∷◌, ◌++◌, length, slice_set, arith, refl}
+use Rattle.std.proofs.Common.{sym, ◌∙◌, ap, append_assoc}
 use Rattle.std.specs.Prelude.{not}
 use Rattle.dstm_model.specs.declared.value.Val.{Val}
 use Rattle.dstm_model.specs.declared.layout.Layout.{Layout}
@@ -23,16 +24,26 @@ fallen_is_black true e = absurd (cc e)
 fallen_is_black false e = refl
 
 -- the node's left subtree fell, and the child of the sibling on the far side is red
-pub lift-left-far : (layout : Layout) (before after : List Val) (p s o : Node) (low high : ℕ) (l a b c : Tree) → HasTree layout →
-    length before ≡ objects_of layout → 0 < p.number → p.number ≤ layout.tree → Holds layout before l → Holds layout before (black_tree s a (red_tree o b c)) →
-    ((i : ℕ) → 0 < i → i ≤ layout.tree → count_of i (tree_of p l (black_tree s a (red_tree o b c))) ≤ 1) → IsOrdered low high (tree_of p l (black_tree s a (red_tree o b c))) →
-    black_height l + 1 ≡ black_height (black_tree s a (red_tree o b c)) → IsBalanced l → IsBalanced (black_tree s a (red_tree o b c)) →
+pub lift-left-far : (layout : Layout) (before after : List Val) (p s o : Node) (low high : ℕ) (l a b c : Tree) →
+    HasTree layout →
+    length before ≡ objects_of layout → 0 < p.number → p.number ≤ layout.tree → Holds layout before l →
+    Holds layout before (black_tree s a (red_tree o b c)) →
+    ((i : ℕ) → 0 < i → i ≤ layout.tree → count_of i (tree_of p l (black_tree s a (red_tree o b c))) ≤ 1) →
+    IsOrdered low high (tree_of p l (black_tree s a (red_tree o b c))) →
+    black_height l + 1 ≡ black_height (black_tree s a (red_tree o b c)) → IsBalanced l →
+    IsBalanced (black_tree s a (red_tree o b c)) →
     number_of l ≡ p.left → number_of a ≡ s.left → o.number ≡ s.right → number_of b ≡ o.left → number_of c ≡ o.right →
-    after ≡ slice_set (slice_set (slice_set before (object_of layout p.number) (val_of (record p { red = false; right = s.left })))
-    (object_of layout o.number) (val_of (record o { red = false }))) (object_of layout s.number) (val_of (record s { red = p.red; left = p.number })) →
-    IsCut layout low high (tree_of p l (black_tree s a (red_tree o b c))) (black_height (black_tree s a (red_tree o b c)) + blackness p.red) p.red before after (record { root = s.number; fell = false })
-lift-left-far layout before after p s o low high l a b c has size some_p in_p nodes_l nodes once order heights bal_l bal l_is a_is o_is b_is c_is is =
-    let once_is : (i : ℕ) → 0 < i → i ≤ layout.tree → mark p.number i + count_of i l + (mark s.number i + count_of i a + (mark o.number i + count_of i b + count_of i c)) ≤ 1 = once in
+    after ≡ slice_set (slice_set (slice_set before (object_of layout p.number)
+    (val_of (record p { red = false; right = s.left })))
+    (object_of layout o.number) (val_of (record o { red = false }))) (object_of layout s.number)
+    (val_of (record s { red = p.red; left = p.number })) →
+    IsCut layout low high (tree_of p l (black_tree s a (red_tree o b c)))
+    (black_height (black_tree s a (red_tree o b c)) + blackness p.red) p.red before after
+    (record { root = s.number; fell = false })
+lift-left-far layout before after p s o low high l a b c has size some_p in_p nodes_l nodes once order heights bal_l
+    bal l_is a_is o_is b_is c_is is =
+    let once_is : (i : ℕ) → 0 < i → i ≤ layout.tree → mark p.number i + count_of i l +
+    (mark s.number i + count_of i a + (mark o.number i + count_of i b + count_of i c)) ≤ 1 = once in
     let some_s = nodes.0 in
     let in_s = nodes.1 in
     let some_o = nodes.4.0 in
@@ -43,7 +54,8 @@ lift-left-far layout before after p s o low high l a b c has size some_p in_p no
     let self_p = mark-self p.number in
     let self_o = mark-self o.number in
     let self_s = mark-self s.number in
-    let w = arranged layout before after p.number (val_of (record p { red = false; right = s.left })) o.number (val_of (record o { red = false })) s.number (val_of (record s { red = p.red; left = p.number }))
+    let w = arranged layout before after p.number (val_of (record p { red = false; right = s.left })) o.number
+    (val_of (record o { red = false })) s.number (val_of (record s { red = p.red; left = p.number }))
     has size some_p in_p some_o in_o some_s in_s (omega (arith, at_p, self_p)) (omega (arith, at_p, self_p))
     (omega (arith, at_o, self_o)) is in
     let touched = λ (i : ℕ). mark p.number i + mark o.number i + mark s.number i in
@@ -68,32 +80,50 @@ lift-left-far layout before after p s o low high l a b c has size some_p in_p no
         (
           some_p,
           in_p,
-          w.first ∙ node_value-same p.key p.value false false p.left (number_of l) s.left (number_of a) refl (sym l_is) (sym a_is),
-          Holds-untouched layout before after l touched w.changes (λ i least most some. omega (arith, once_is i least most, some)) nodes_l,
-          Holds-untouched layout before after a touched w.changes (λ i least most some. omega (arith, once_is i least most, some)) nodes.3,
+          w.first ∙ node_value-same p.key p.value false false p.left (number_of l) s.left (number_of a) refl (sym l_is)
+              (sym a_is),
+          Holds-untouched layout before after l touched w.changes
+              (λ i least most some. omega (arith, once_is i least most, some)) nodes_l,
+          Holds-untouched layout before after a touched w.changes
+              (λ i least most some. omega (arith, once_is i least most, some)) nodes.3,
         ),
         (
           some_o,
           in_o,
-          w.second ∙ node_value-same o.key o.value false false o.left (number_of b) o.right (number_of c) refl (sym b_is) (sym c_is),
-          Holds-untouched layout before after b touched w.changes (λ i least most some. omega (arith, once_is i least most, some)) nodes.4.3,
-          Holds-untouched layout before after c touched w.changes (λ i least most some. omega (arith, once_is i least most, some)) nodes.4.4,
+          w.second ∙ node_value-same o.key o.value false false o.left (number_of b) o.right (number_of c) refl
+              (sym b_is) (sym c_is),
+          Holds-untouched layout before after b touched w.changes
+              (λ i least most some. omega (arith, once_is i least most, some)) nodes.4.3,
+          Holds-untouched layout before after c touched w.changes
+              (λ i least most some. omega (arith, once_is i least most, some)) nodes.4.4,
         ),
       );
-      keeps = Changes-within layout before after touched (λ i. mark p.number i + count_of i l + (mark s.number i + count_of i a + (mark o.number i + count_of i b + count_of i c))) (λ i none. omega (arith, none)) w.changes;
+      keeps = Changes-within layout before after touched (λ i. mark p.number i + count_of i l +
+          (mark s.number i + count_of i a + (mark o.number i + count_of i b + count_of i c)))
+          (λ i none. omega (arith, none)) w.changes;
     }
 
 -- the same where the child on the near side is red
-pub lift-left-near : (layout : Layout) (before after : List Val) (p s o : Node) (low high : ℕ) (l a b c : Tree) → HasTree layout →
-    length before ≡ objects_of layout → 0 < p.number → p.number ≤ layout.tree → Holds layout before l → Holds layout before (black_tree s (red_tree o a b) c) →
-    ((i : ℕ) → 0 < i → i ≤ layout.tree → count_of i (tree_of p l (black_tree s (red_tree o a b) c)) ≤ 1) → IsOrdered low high (tree_of p l (black_tree s (red_tree o a b) c)) →
-    black_height l + 1 ≡ black_height (black_tree s (red_tree o a b) c) → IsBalanced l → IsBalanced (black_tree s (red_tree o a b) c) →
+pub lift-left-near : (layout : Layout) (before after : List Val) (p s o : Node) (low high : ℕ) (l a b c : Tree) →
+    HasTree layout →
+    length before ≡ objects_of layout → 0 < p.number → p.number ≤ layout.tree → Holds layout before l →
+    Holds layout before (black_tree s (red_tree o a b) c) →
+    ((i : ℕ) → 0 < i → i ≤ layout.tree → count_of i (tree_of p l (black_tree s (red_tree o a b) c)) ≤ 1) →
+    IsOrdered low high (tree_of p l (black_tree s (red_tree o a b) c)) →
+    black_height l + 1 ≡ black_height (black_tree s (red_tree o a b) c) → IsBalanced l →
+    IsBalanced (black_tree s (red_tree o a b) c) →
     number_of l ≡ p.left → s.red ≡ false → number_of c ≡ s.right → number_of a ≡ o.left → number_of b ≡ o.right →
-    after ≡ slice_set (slice_set (slice_set before (object_of layout p.number) (val_of (record p { red = false; right = o.left })))
-    (object_of layout s.number) (val_of (record s { left = o.right }))) (object_of layout o.number) (val_of (record o { red = p.red; left = p.number; right = s.number })) →
-    IsCut layout low high (tree_of p l (black_tree s (red_tree o a b) c)) (black_height (black_tree s (red_tree o a b) c) + blackness p.red) p.red before after (record { root = o.number; fell = false })
-lift-left-near layout before after p s o low high l a b c has size some_p in_p nodes_l nodes once order heights bal_l bal l_is black c_is a_is b_is is =
-    let once_is : (i : ℕ) → 0 < i → i ≤ layout.tree → mark p.number i + count_of i l + (mark s.number i + (mark o.number i + count_of i a + count_of i b) + count_of i c) ≤ 1 = once in
+    after ≡ slice_set (slice_set (slice_set before (object_of layout p.number)
+    (val_of (record p { red = false; right = o.left })))
+    (object_of layout s.number) (val_of (record s { left = o.right }))) (object_of layout o.number)
+    (val_of (record o { red = p.red; left = p.number; right = s.number })) →
+    IsCut layout low high (tree_of p l (black_tree s (red_tree o a b) c))
+    (black_height (black_tree s (red_tree o a b) c) + blackness p.red) p.red before after
+    (record { root = o.number; fell = false })
+lift-left-near layout before after p s o low high l a b c has size some_p in_p nodes_l nodes once order heights bal_l
+    bal l_is black c_is a_is b_is is =
+    let once_is : (i : ℕ) → 0 < i → i ≤ layout.tree → mark p.number i + count_of i l +
+    (mark s.number i + (mark o.number i + count_of i a + count_of i b) + count_of i c) ≤ 1 = once in
     let some_s = nodes.0 in
     let in_s = nodes.1 in
     let some_o = nodes.3.0 in
@@ -104,7 +134,9 @@ lift-left-near layout before after p s o low high l a b c has size some_p in_p n
     let self_p = mark-self p.number in
     let self_o = mark-self o.number in
     let self_s = mark-self s.number in
-    let w = arranged layout before after p.number (val_of (record p { red = false; right = o.left })) s.number (val_of (record s { left = o.right })) o.number (val_of (record o { red = p.red; left = p.number; right = s.number }))
+    let w = arranged layout before after p.number (val_of (record p { red = false; right = o.left })) s.number
+    (val_of (record s { left = o.right })) o.number (val_of (record o
+    { red = p.red; left = p.number; right = s.number }))
     has size some_p in_p some_s in_s some_o in_o (omega (arith, at_p, self_p)) (omega (arith, at_p, self_p))
     (omega (arith, at_s, self_s)) is in
     let touched = λ (i : ℕ). mark p.number i + mark s.number i + mark o.number i in
@@ -131,32 +163,50 @@ lift-left-near layout before after p s o low high l a b c has size some_p in_p n
         (
           some_p,
           in_p,
-          w.first ∙ node_value-same p.key p.value false false p.left (number_of l) o.left (number_of a) refl (sym l_is) (sym a_is),
-          Holds-untouched layout before after l touched w.changes (λ i least most some. omega (arith, once_is i least most, some)) nodes_l,
-          Holds-untouched layout before after a touched w.changes (λ i least most some. omega (arith, once_is i least most, some)) nodes.3.3,
+          w.first ∙ node_value-same p.key p.value false false p.left (number_of l) o.left (number_of a) refl (sym l_is)
+              (sym a_is),
+          Holds-untouched layout before after l touched w.changes
+              (λ i least most some. omega (arith, once_is i least most, some)) nodes_l,
+          Holds-untouched layout before after a touched w.changes
+              (λ i least most some. omega (arith, once_is i least most, some)) nodes.3.3,
         ),
         (
           some_s,
           in_s,
-          w.second ∙ node_value-same s.key s.value s.red false o.right (number_of b) s.right (number_of c) black (sym b_is) (sym c_is),
-          Holds-untouched layout before after b touched w.changes (λ i least most some. omega (arith, once_is i least most, some)) nodes.3.4,
-          Holds-untouched layout before after c touched w.changes (λ i least most some. omega (arith, once_is i least most, some)) nodes.4,
+          w.second ∙ node_value-same s.key s.value s.red false o.right (number_of b) s.right (number_of c) black
+              (sym b_is) (sym c_is),
+          Holds-untouched layout before after b touched w.changes
+              (λ i least most some. omega (arith, once_is i least most, some)) nodes.3.4,
+          Holds-untouched layout before after c touched w.changes
+              (λ i least most some. omega (arith, once_is i least most, some)) nodes.4,
         ),
       );
-      keeps = Changes-within layout before after touched (λ i. mark p.number i + count_of i l + (mark s.number i + (mark o.number i + count_of i a + count_of i b) + count_of i c)) (λ i none. omega (arith, none)) w.changes;
+      keeps = Changes-within layout before after touched (λ i. mark p.number i + count_of i l +
+          (mark s.number i + (mark o.number i + count_of i a + count_of i b) + count_of i c))
+          (λ i none. omega (arith, none)) w.changes;
     }
 
 -- the node's right subtree fell, and the child of the sibling on the far side is red
-pub lift-right-far : (layout : Layout) (before after : List Val) (p s o : Node) (low high : ℕ) (r a b c : Tree) → HasTree layout →
-    length before ≡ objects_of layout → 0 < p.number → p.number ≤ layout.tree → Holds layout before r → Holds layout before (black_tree s (red_tree o b c) a) →
-    ((i : ℕ) → 0 < i → i ≤ layout.tree → count_of i (tree_of p (black_tree s (red_tree o b c) a) r) ≤ 1) → IsOrdered low high (tree_of p (black_tree s (red_tree o b c) a) r) →
-    black_height r + 1 ≡ black_height (black_tree s (red_tree o b c) a) → IsBalanced r → IsBalanced (black_tree s (red_tree o b c) a) →
+pub lift-right-far : (layout : Layout) (before after : List Val) (p s o : Node) (low high : ℕ) (r a b c : Tree) →
+    HasTree layout →
+    length before ≡ objects_of layout → 0 < p.number → p.number ≤ layout.tree → Holds layout before r →
+    Holds layout before (black_tree s (red_tree o b c) a) →
+    ((i : ℕ) → 0 < i → i ≤ layout.tree → count_of i (tree_of p (black_tree s (red_tree o b c) a) r) ≤ 1) →
+    IsOrdered low high (tree_of p (black_tree s (red_tree o b c) a) r) →
+    black_height r + 1 ≡ black_height (black_tree s (red_tree o b c) a) → IsBalanced r →
+    IsBalanced (black_tree s (red_tree o b c) a) →
     number_of r ≡ p.right → number_of a ≡ s.right → o.number ≡ s.left → number_of b ≡ o.left → number_of c ≡ o.right →
-    after ≡ slice_set (slice_set (slice_set before (object_of layout p.number) (val_of (record p { red = false; left = s.right })))
-    (object_of layout o.number) (val_of (record o { red = false }))) (object_of layout s.number) (val_of (record s { red = p.red; right = p.number })) →
-    IsCut layout low high (tree_of p (black_tree s (red_tree o b c) a) r) (black_height (black_tree s (red_tree o b c) a) + blackness p.red) p.red before after (record { root = s.number; fell = false })
-lift-right-far layout before after p s o low high r a b c has size some_p in_p nodes_r nodes once order heights bal_r bal r_is a_is o_is b_is c_is is =
-    let once_is : (i : ℕ) → 0 < i → i ≤ layout.tree → mark p.number i + (mark s.number i + (mark o.number i + count_of i b + count_of i c) + count_of i a) + count_of i r ≤ 1 = once in
+    after ≡ slice_set (slice_set (slice_set before (object_of layout p.number)
+    (val_of (record p { red = false; left = s.right })))
+    (object_of layout o.number) (val_of (record o { red = false }))) (object_of layout s.number)
+    (val_of (record s { red = p.red; right = p.number })) →
+    IsCut layout low high (tree_of p (black_tree s (red_tree o b c) a) r)
+    (black_height (black_tree s (red_tree o b c) a) + blackness p.red) p.red before after
+    (record { root = s.number; fell = false })
+lift-right-far layout before after p s o low high r a b c has size some_p in_p nodes_r nodes once order heights bal_r
+    bal r_is a_is o_is b_is c_is is =
+    let once_is : (i : ℕ) → 0 < i → i ≤ layout.tree → mark p.number i +
+    (mark s.number i + (mark o.number i + count_of i b + count_of i c) + count_of i a) + count_of i r ≤ 1 = once in
     let some_s = nodes.0 in
     let in_s = nodes.1 in
     let some_o = nodes.3.0 in
@@ -167,14 +217,16 @@ lift-right-far layout before after p s o low high r a b c has size some_p in_p n
     let self_p = mark-self p.number in
     let self_o = mark-self o.number in
     let self_s = mark-self s.number in
-    let w = arranged layout before after p.number (val_of (record p { red = false; left = s.right })) o.number (val_of (record o { red = false })) s.number (val_of (record s { red = p.red; right = p.number }))
+    let w = arranged layout before after p.number (val_of (record p { red = false; left = s.right })) o.number
+    (val_of (record o { red = false })) s.number (val_of (record s { red = p.red; right = p.number }))
     has size some_p in_p some_o in_o some_s in_s (omega (arith, at_p, self_p)) (omega (arith, at_p, self_p))
     (omega (arith, at_o, self_o)) is in
     let touched = λ (i : ℕ). mark p.number i + mark o.number i + mark s.number i in
     record {
       tree = node s.number p.red (black_tree o b c) s.key s.value (black_tree p a r);
       root = refl;
-      items = sym (append_assoc (items_of (red_tree o b c)) ((s.key, s.value) ∷ items_of a) ((p.key, p.value) ∷ items_of r));
+      items = sym (append_assoc (items_of (red_tree o b c)) ((s.key, s.value) ∷ items_of a)
+          ((p.key, p.value) ∷ items_of r));
       counts = λ i. omega arith;
       order = (order.0.0, (order.0.1, order.1));
       height_is = omega (arith, heights, bal.0);
@@ -192,32 +244,50 @@ lift-right-far layout before after p s o low high r a b c has size some_p in_p n
         (
           some_o,
           in_o,
-          w.second ∙ node_value-same o.key o.value false false o.left (number_of b) o.right (number_of c) refl (sym b_is) (sym c_is),
-          Holds-untouched layout before after b touched w.changes (λ i least most some. omega (arith, once_is i least most, some)) nodes.3.3,
-          Holds-untouched layout before after c touched w.changes (λ i least most some. omega (arith, once_is i least most, some)) nodes.3.4,
+          w.second ∙ node_value-same o.key o.value false false o.left (number_of b) o.right (number_of c) refl
+              (sym b_is) (sym c_is),
+          Holds-untouched layout before after b touched w.changes
+              (λ i least most some. omega (arith, once_is i least most, some)) nodes.3.3,
+          Holds-untouched layout before after c touched w.changes
+              (λ i least most some. omega (arith, once_is i least most, some)) nodes.3.4,
         ),
         (
           some_p,
           in_p,
-          w.first ∙ node_value-same p.key p.value false false s.right (number_of a) p.right (number_of r) refl (sym a_is) (sym r_is),
-          Holds-untouched layout before after a touched w.changes (λ i least most some. omega (arith, once_is i least most, some)) nodes.4,
-          Holds-untouched layout before after r touched w.changes (λ i least most some. omega (arith, once_is i least most, some)) nodes_r,
+          w.first ∙ node_value-same p.key p.value false false s.right (number_of a) p.right (number_of r) refl
+              (sym a_is) (sym r_is),
+          Holds-untouched layout before after a touched w.changes
+              (λ i least most some. omega (arith, once_is i least most, some)) nodes.4,
+          Holds-untouched layout before after r touched w.changes
+              (λ i least most some. omega (arith, once_is i least most, some)) nodes_r,
         ),
       );
-      keeps = Changes-within layout before after touched (λ i. mark p.number i + (mark s.number i + (mark o.number i + count_of i b + count_of i c) + count_of i a) + count_of i r) (λ i none. omega (arith, none)) w.changes;
+      keeps = Changes-within layout before after touched (λ i. mark p.number i +
+          (mark s.number i + (mark o.number i + count_of i b + count_of i c) + count_of i a) + count_of i r)
+          (λ i none. omega (arith, none)) w.changes;
     }
 
 -- the same where the child on the near side is red
-pub lift-right-near : (layout : Layout) (before after : List Val) (p s o : Node) (low high : ℕ) (r a b c : Tree) → HasTree layout →
-    length before ≡ objects_of layout → 0 < p.number → p.number ≤ layout.tree → Holds layout before r → Holds layout before (black_tree s c (red_tree o a b)) →
-    ((i : ℕ) → 0 < i → i ≤ layout.tree → count_of i (tree_of p (black_tree s c (red_tree o a b)) r) ≤ 1) → IsOrdered low high (tree_of p (black_tree s c (red_tree o a b)) r) →
-    black_height r + 1 ≡ black_height (black_tree s c (red_tree o a b)) → IsBalanced r → IsBalanced (black_tree s c (red_tree o a b)) →
+pub lift-right-near : (layout : Layout) (before after : List Val) (p s o : Node) (low high : ℕ) (r a b c : Tree) →
+    HasTree layout →
+    length before ≡ objects_of layout → 0 < p.number → p.number ≤ layout.tree → Holds layout before r →
+    Holds layout before (black_tree s c (red_tree o a b)) →
+    ((i : ℕ) → 0 < i → i ≤ layout.tree → count_of i (tree_of p (black_tree s c (red_tree o a b)) r) ≤ 1) →
+    IsOrdered low high (tree_of p (black_tree s c (red_tree o a b)) r) →
+    black_height r + 1 ≡ black_height (black_tree s c (red_tree o a b)) → IsBalanced r →
+    IsBalanced (black_tree s c (red_tree o a b)) →
     number_of r ≡ p.right → s.red ≡ false → number_of c ≡ s.left → number_of a ≡ o.left → number_of b ≡ o.right →
-    after ≡ slice_set (slice_set (slice_set before (object_of layout p.number) (val_of (record p { red = false; left = o.right })))
-    (object_of layout s.number) (val_of (record s { right = o.left }))) (object_of layout o.number) (val_of (record o { red = p.red; right = p.number; left = s.number })) →
-    IsCut layout low high (tree_of p (black_tree s c (red_tree o a b)) r) (black_height (black_tree s c (red_tree o a b)) + blackness p.red) p.red before after (record { root = o.number; fell = false })
-lift-right-near layout before after p s o low high r a b c has size some_p in_p nodes_r nodes once order heights bal_r bal r_is black c_is a_is b_is is =
-    let once_is : (i : ℕ) → 0 < i → i ≤ layout.tree → mark p.number i + (mark s.number i + count_of i c + (mark o.number i + count_of i a + count_of i b)) + count_of i r ≤ 1 = once in
+    after ≡ slice_set (slice_set (slice_set before (object_of layout p.number)
+    (val_of (record p { red = false; left = o.right })))
+    (object_of layout s.number) (val_of (record s { right = o.left }))) (object_of layout o.number)
+    (val_of (record o { red = p.red; right = p.number; left = s.number })) →
+    IsCut layout low high (tree_of p (black_tree s c (red_tree o a b)) r)
+    (black_height (black_tree s c (red_tree o a b)) + blackness p.red) p.red before after
+    (record { root = o.number; fell = false })
+lift-right-near layout before after p s o low high r a b c has size some_p in_p nodes_r nodes once order heights bal_r
+    bal r_is black c_is a_is b_is is =
+    let once_is : (i : ℕ) → 0 < i → i ≤ layout.tree → mark p.number i +
+    (mark s.number i + count_of i c + (mark o.number i + count_of i a + count_of i b)) + count_of i r ≤ 1 = once in
     let some_s = nodes.0 in
     let in_s = nodes.1 in
     let some_o = nodes.4.0 in
@@ -228,7 +298,9 @@ lift-right-near layout before after p s o low high r a b c has size some_p in_p 
     let self_p = mark-self p.number in
     let self_o = mark-self o.number in
     let self_s = mark-self s.number in
-    let w = arranged layout before after p.number (val_of (record p { red = false; left = o.right })) s.number (val_of (record s { right = o.left })) o.number (val_of (record o { red = p.red; right = p.number; left = s.number }))
+    let w = arranged layout before after p.number (val_of (record p { red = false; left = o.right })) s.number
+    (val_of (record s { right = o.left })) o.number (val_of (record o
+    { red = p.red; right = p.number; left = s.number }))
     has size some_p in_p some_s in_s some_o in_o (omega (arith, at_p, self_p)) (omega (arith, at_p, self_p))
     (omega (arith, at_s, self_s)) is in
     let touched = λ (i : ℕ). mark p.number i + mark s.number i + mark o.number i in
@@ -236,7 +308,8 @@ lift-right-near layout before after p s o low high r a b c has size some_p in_p 
       tree = node o.number p.red (black_tree s c a) o.key o.value (black_tree p b r);
       root = refl;
       items = append_assoc (items_of c) ((s.key, s.value) ∷ items_of a) ((o.key, o.value) ∷ items_of (black_tree p b r))
-          ∙ sym (append_assoc (items_of c) ((s.key, s.value) ∷ items_of (red_tree o a b)) ((p.key, p.value) ∷ items_of r)
+          ∙ sym (append_assoc (items_of c) ((s.key, s.value) ∷ items_of (red_tree o a b))
+          ((p.key, p.value) ∷ items_of r)
           ∙ ap (λ xs. items_of c ++ (s.key, s.value) ∷ xs)
           (append_assoc (items_of a) ((o.key, o.value) ∷ items_of b) ((p.key, p.value) ∷ items_of r)));
       counts = λ i. omega arith;
@@ -256,40 +329,56 @@ lift-right-near layout before after p s o low high r a b c has size some_p in_p 
         (
           some_s,
           in_s,
-          w.second ∙ node_value-same s.key s.value s.red false s.left (number_of c) o.left (number_of a) black (sym c_is) (sym a_is),
-          Holds-untouched layout before after c touched w.changes (λ i least most some. omega (arith, once_is i least most, some)) nodes.3,
-          Holds-untouched layout before after a touched w.changes (λ i least most some. omega (arith, once_is i least most, some)) nodes.4.3,
+          w.second ∙ node_value-same s.key s.value s.red false s.left (number_of c) o.left (number_of a) black
+              (sym c_is) (sym a_is),
+          Holds-untouched layout before after c touched w.changes
+              (λ i least most some. omega (arith, once_is i least most, some)) nodes.3,
+          Holds-untouched layout before after a touched w.changes
+              (λ i least most some. omega (arith, once_is i least most, some)) nodes.4.3,
         ),
         (
           some_p,
           in_p,
-          w.first ∙ node_value-same p.key p.value false false o.right (number_of b) p.right (number_of r) refl (sym b_is) (sym r_is),
-          Holds-untouched layout before after b touched w.changes (λ i least most some. omega (arith, once_is i least most, some)) nodes.4.4,
-          Holds-untouched layout before after r touched w.changes (λ i least most some. omega (arith, once_is i least most, some)) nodes_r,
+          w.first ∙ node_value-same p.key p.value false false o.right (number_of b) p.right (number_of r) refl
+              (sym b_is) (sym r_is),
+          Holds-untouched layout before after b touched w.changes
+              (λ i least most some. omega (arith, once_is i least most, some)) nodes.4.4,
+          Holds-untouched layout before after r touched w.changes
+              (λ i least most some. omega (arith, once_is i least most, some)) nodes_r,
         ),
       );
-      keeps = Changes-within layout before after touched (λ i. mark p.number i + (mark s.number i + count_of i c + (mark o.number i + count_of i a + count_of i b)) + count_of i r) (λ i none. omega (arith, none)) w.changes;
+      keeps = Changes-within layout before after touched (λ i. mark p.number i +
+          (mark s.number i + count_of i c + (mark o.number i + count_of i a + count_of i b)) + count_of i r)
+          (λ i none. omega (arith, none)) w.changes;
     }
 
 -- both children of the sibling are black
-pub lift-left-none : (layout : Layout) (before mid after : List Val) (held p s : Node) (low high : ℕ) (l a b : Tree) → HasTree layout →
-    length before ≡ objects_of layout → 0 < p.number → p.number ≤ layout.tree → value_at before (object_of layout p.number) ≡ val_of held →
+pub lift-left-none : (layout : Layout) (before mid after : List Val) (held p s : Node) (low high : ℕ) (l a b : Tree) →
+    HasTree layout →
+    length before ≡ objects_of layout → 0 < p.number → p.number ≤ layout.tree →
+    value_at before (object_of layout p.number) ≡ val_of held →
     Holds layout before l → Holds layout before (black_tree s a b) →
-    ((i : ℕ) → 0 < i → i ≤ layout.tree → count_of i (tree_of p l (black_tree s a b)) ≤ 1) → IsOrdered low high (tree_of p l (black_tree s a b)) →
-    black_height l + 1 ≡ black_height (black_tree s a b) → IsBalanced l → IsBalanced (black_tree s a b) → is_red a ≡ false → is_red b ≡ false →
+    ((i : ℕ) → 0 < i → i ≤ layout.tree → count_of i (tree_of p l (black_tree s a b)) ≤ 1) →
+    IsOrdered low high (tree_of p l (black_tree s a b)) →
+    black_height l + 1 ≡ black_height (black_tree s a b) → IsBalanced l → IsBalanced (black_tree s a b) →
+    is_red a ≡ false → is_red b ≡ false →
     number_of l ≡ p.left → s.number ≡ p.right → number_of a ≡ s.left → number_of b ≡ s.right →
     mid ≡ slice_set before (object_of layout s.number) (val_of (record s { red = true })) →
     (value_at mid (object_of layout p.number) ≡ val_of held →
     after ≡ slice_set mid (object_of layout p.number) (val_of (record p { red = false }))) →
-    IsCut layout low high (tree_of p l (black_tree s a b)) (black_height (black_tree s a b) + blackness p.red) p.red before after (record { root = p.number; fell = not p.red })
-lift-left-none layout before mid after held p s low high l a b has size some_p in_p held_is nodes_l nodes once order heights bal_l bal red_a red_b l_is s_is a_is b_is is_mid is =
-    let once_is : (i : ℕ) → 0 < i → i ≤ layout.tree → mark p.number i + count_of i l + (mark s.number i + count_of i a + count_of i b) ≤ 1 = once in
+    IsCut layout low high (tree_of p l (black_tree s a b)) (black_height (black_tree s a b) + blackness p.red) p.red
+    before after (record { root = p.number; fell = not p.red })
+lift-left-none layout before mid after held p s low high l a b has size some_p in_p held_is nodes_l nodes once order
+    heights bal_l bal red_a red_b l_is s_is a_is b_is is_mid is =
+    let once_is : (i : ℕ) → 0 < i → i ≤ layout.tree → mark p.number i + count_of i l +
+    (mark s.number i + count_of i a + count_of i b) ≤ 1 = once in
     let some_s = nodes.0 in
     let in_s = nodes.1 in
     let apart_s : mark s.number p.number ≡ 0 = omega (arith, once_is p.number some_p in_p, mark-self p.number) in
     let apart_p : mark p.number s.number ≡ 0 = omega (arith, once_is s.number some_s in_s, mark-self s.number) in
     let one = wrote layout before mid s.number (val_of (record s { red = true })) has size some_s in_s is_mid in
-    let size_mid = length-written layout before mid (object_of layout s.number) (val_of (record s { red = true })) size is_mid in
+    let size_mid = length-written layout before mid (object_of layout s.number) (val_of (record s { red = true })) size
+    is_mid in
     let two = wrote layout mid after p.number (val_of (record p { red = false })) has size_mid some_p in_p
     (is (one.changes.nodes p.number some_p in_p apart_s ∙ held_is)) in
     let touched = λ (i : ℕ). mark s.number i + mark p.number i in
@@ -311,38 +400,53 @@ lift-left-none layout before mid after held p s low high l a b has size some_p i
       nodes = (
         some_p,
         in_p,
-        two.value ∙ node_value-same p.key p.value false false p.left (number_of l) p.right s.number refl (sym l_is) (sym s_is),
-        Holds-untouched layout before after l touched changes (λ i least most some. omega (arith, once_is i least most, some)) nodes_l,
+        two.value ∙ node_value-same p.key p.value false false p.left (number_of l) p.right s.number refl (sym l_is)
+            (sym s_is),
+        Holds-untouched layout before after l touched changes (λ i least most some. omega
+            (arith, once_is i least most, some)) nodes_l,
         (
           some_s,
           in_s,
-          two.changes.nodes s.number some_s in_s apart_p ∙ one.value ∙ node_value-same s.key s.value true true s.left (number_of a) s.right (number_of b) refl (sym a_is) (sym b_is),
-          Holds-untouched layout before after a touched changes (λ i least most some. omega (arith, once_is i least most, some)) nodes.3,
-          Holds-untouched layout before after b touched changes (λ i least most some. omega (arith, once_is i least most, some)) nodes.4,
+          two.changes.nodes s.number some_s in_s apart_p ∙ one.value ∙
+              node_value-same s.key s.value true true s.left (number_of a) s.right (number_of b) refl (sym a_is)
+              (sym b_is),
+          Holds-untouched layout before after a touched changes (λ i least most some. omega
+              (arith, once_is i least most, some)) nodes.3,
+          Holds-untouched layout before after b touched changes (λ i least most some. omega
+              (arith, once_is i least most, some)) nodes.4,
         ),
       );
-      keeps = Changes-within layout before after touched (λ i. mark p.number i + count_of i l + (mark s.number i + count_of i a + count_of i b)) (λ i none. omega (arith, none)) changes;
+      keeps = Changes-within layout before after touched (λ i. mark p.number i + count_of i l +
+          (mark s.number i + count_of i a + count_of i b)) (λ i none. omega (arith, none)) changes;
     }
 
 -- both children of the sibling are black
-pub lift-right-none : (layout : Layout) (before mid after : List Val) (held p s : Node) (low high : ℕ) (r a b : Tree) → HasTree layout →
-    length before ≡ objects_of layout → 0 < p.number → p.number ≤ layout.tree → value_at before (object_of layout p.number) ≡ val_of held →
+pub lift-right-none : (layout : Layout) (before mid after : List Val) (held p s : Node) (low high : ℕ) (r a b : Tree) →
+    HasTree layout →
+    length before ≡ objects_of layout → 0 < p.number → p.number ≤ layout.tree →
+    value_at before (object_of layout p.number) ≡ val_of held →
     Holds layout before r → Holds layout before (black_tree s b a) →
-    ((i : ℕ) → 0 < i → i ≤ layout.tree → count_of i (tree_of p (black_tree s b a) r) ≤ 1) → IsOrdered low high (tree_of p (black_tree s b a) r) →
-    black_height r + 1 ≡ black_height (black_tree s b a) → IsBalanced r → IsBalanced (black_tree s b a) → is_red a ≡ false → is_red b ≡ false →
+    ((i : ℕ) → 0 < i → i ≤ layout.tree → count_of i (tree_of p (black_tree s b a) r) ≤ 1) →
+    IsOrdered low high (tree_of p (black_tree s b a) r) →
+    black_height r + 1 ≡ black_height (black_tree s b a) → IsBalanced r → IsBalanced (black_tree s b a) →
+    is_red a ≡ false → is_red b ≡ false →
     number_of r ≡ p.right → s.number ≡ p.left → number_of a ≡ s.right → number_of b ≡ s.left →
     mid ≡ slice_set before (object_of layout s.number) (val_of (record s { red = true })) →
     (value_at mid (object_of layout p.number) ≡ val_of held →
     after ≡ slice_set mid (object_of layout p.number) (val_of (record p { red = false }))) →
-    IsCut layout low high (tree_of p (black_tree s b a) r) (black_height (black_tree s b a) + blackness p.red) p.red before after (record { root = p.number; fell = not p.red })
-lift-right-none layout before mid after held p s low high r a b has size some_p in_p held_is nodes_r nodes once order heights bal_r bal red_a red_b r_is s_is a_is b_is is_mid is =
-    let once_is : (i : ℕ) → 0 < i → i ≤ layout.tree → mark p.number i + (mark s.number i + count_of i b + count_of i a) + count_of i r ≤ 1 = once in
+    IsCut layout low high (tree_of p (black_tree s b a) r) (black_height (black_tree s b a) + blackness p.red) p.red
+    before after (record { root = p.number; fell = not p.red })
+lift-right-none layout before mid after held p s low high r a b has size some_p in_p held_is nodes_r nodes once order
+    heights bal_r bal red_a red_b r_is s_is a_is b_is is_mid is =
+    let once_is : (i : ℕ) → 0 < i → i ≤ layout.tree → mark p.number i + (mark s.number i + count_of i b + count_of i a)
+    + count_of i r ≤ 1 = once in
     let some_s = nodes.0 in
     let in_s = nodes.1 in
     let apart_s : mark s.number p.number ≡ 0 = omega (arith, once_is p.number some_p in_p, mark-self p.number) in
     let apart_p : mark p.number s.number ≡ 0 = omega (arith, once_is s.number some_s in_s, mark-self s.number) in
     let one = wrote layout before mid s.number (val_of (record s { red = true })) has size some_s in_s is_mid in
-    let size_mid = length-written layout before mid (object_of layout s.number) (val_of (record s { red = true })) size is_mid in
+    let size_mid = length-written layout before mid (object_of layout s.number) (val_of (record s { red = true })) size
+    is_mid in
     let two = wrote layout mid after p.number (val_of (record p { red = false })) has size_mid some_p in_p
     (is (one.changes.nodes p.number some_p in_p apart_s ∙ held_is)) in
     let touched = λ (i : ℕ). mark s.number i + mark p.number i in
@@ -364,17 +468,24 @@ lift-right-none layout before mid after held p s low high r a b has size some_p 
       nodes = (
         some_p,
         in_p,
-        two.value ∙ node_value-same p.key p.value false false p.left s.number p.right (number_of r) refl (sym s_is) (sym r_is),
+        two.value ∙ node_value-same p.key p.value false false p.left s.number p.right (number_of r) refl (sym s_is)
+            (sym r_is),
         (
           some_s,
           in_s,
-          two.changes.nodes s.number some_s in_s apart_p ∙ one.value ∙ node_value-same s.key s.value true true s.left (number_of b) s.right (number_of a) refl (sym b_is) (sym a_is),
-          Holds-untouched layout before after b touched changes (λ i least most some. omega (arith, once_is i least most, some)) nodes.3,
-          Holds-untouched layout before after a touched changes (λ i least most some. omega (arith, once_is i least most, some)) nodes.4,
+          two.changes.nodes s.number some_s in_s apart_p ∙ one.value ∙
+              node_value-same s.key s.value true true s.left (number_of b) s.right (number_of a) refl (sym b_is)
+              (sym a_is),
+          Holds-untouched layout before after b touched changes (λ i least most some. omega
+              (arith, once_is i least most, some)) nodes.3,
+          Holds-untouched layout before after a touched changes (λ i least most some. omega
+              (arith, once_is i least most, some)) nodes.4,
         ),
-        Holds-untouched layout before after r touched changes (λ i least most some. omega (arith, once_is i least most, some)) nodes_r,
+        Holds-untouched layout before after r touched changes (λ i least most some. omega
+            (arith, once_is i least most, some)) nodes_r,
       );
-      keeps = Changes-within layout before after touched (λ i. mark p.number i + (mark s.number i + count_of i b + count_of i a) + count_of i r) (λ i none. omega (arith, none)) changes;
+      keeps = Changes-within layout before after touched (λ i. mark p.number i +
+          (mark s.number i + count_of i b + count_of i a) + count_of i r) (λ i none. omega (arith, none)) changes;
     }
 
 pub no_black_is_red : (red : Bool) → not red ≡ false → red ≡ true

@@ -1,5 +1,6 @@
 -- The map in which the tree is empty and each node is free, in rising order.
-use Rattle.std.proofs.Common.{◌≡◌, ℕ, zero, suc, ◌+◌, ◌<◌, ◌≤◌, List, [], ◌∷◌, arith, refl, sym, ◌∙◌, ap, subst, inl, inr, eq-eqb}
+use Rattle.std.proofs.Common.{◌≡◌, ℕ, zero, suc, ◌+◌, ◌<◌, ◌≤◌, List, [], ◌∷◌, arith, refl, sym, ◌∙◌, ap, inl, inr}
+use Rattle.std.proofs.Common.{eq-eqb}
 use Rattle.std.specs.Prelude.{cond, if◌then◌else◌, ◌==◌}
 use Rattle.std.proofs.lemmas.Bool.{cases_eq, ne_eqb}
 use Rattle.dstm_model.specs.declared.value.Val.{Val}
@@ -10,7 +11,7 @@ use Rattle.dstm_model.specs.Store.{Store}
 use Rattle.dstm_tree.specs.Tree.{leaf}
 use Rattle.dstm_tree.specs.Objects.{root_of, free_of, object_of, first_of, IsChain, IsTree}
 use Rattle.dstm_tree.specs.Place.{free_count}
-use Rattle.dstm_tree.proofs.Kept.{mark, free_count-first, unmarked}
+use Rattle.dstm_tree.proofs.Kept.{mark, free_count-first}
 
 -- what follows node i of n
 abbrev pub next_of : ℕ → ℕ → ℕ
@@ -25,10 +26,10 @@ first : (k n : ℕ) → first_of (numbers k (suc n)) ≡ k
 unfolding numbers
 first k n = refl
 
-next-last : (n k : ℕ) → k ≡ n → next_of n k ≡ 0
+pub next-last : (n k : ℕ) → k ≡ n → next_of n k ≡ 0
 next-last n k e = ap (λ b. cond b 0 (k + 1)) (eq-eqb k n e)
 
-next-more : (n k : ℕ) → (k ≡ n → ⊥) → next_of n k ≡ k + 1
+pub next-more : (n k : ℕ) → (k ≡ n → ⊥) → next_of n k ≡ k + 1
 next-more n k e = ap (λ b. cond b 0 (k + 1)) (ne_eqb k n e)
 
 first_is : (k n all : ℕ) → k + n ≡ all → first_of (numbers (k + 1) n) ≡ next_of all k
@@ -36,7 +37,8 @@ unfolding numbers
 first_is k zero all total = sym (next-last all k (omega (arith, total)))
 first_is k (suc n) all total = sym (next-more all k (λ e. omega (arith, e, total)))
 
-chain : (layout : Layout) (map : List Val) → ((i : ℕ) → 0 < i → i ≤ layout.tree → value_at map (object_of layout i) ≡ plain (next_of layout.tree i)) →
+chain : (layout : Layout) (map : List Val) → ((i : ℕ) → 0 < i → i ≤ layout.tree →
+    value_at map (object_of layout i) ≡ plain (next_of layout.tree i)) →
     (k n : ℕ) → 0 < k → k + n ≡ layout.tree + 1 → IsChain layout map (numbers k n)
 unfolding numbers
 chain layout map nodes k zero some total = tt
@@ -65,13 +67,21 @@ once k (suc n) i least most =
           omega (arith, one, free_count-first i k (numbers (k + 1) n), none_below (k + 1) n i (omega (arith, same)))
       | inr other ↦
           let none : mark k i ≡ 0 = ap (λ b. cond b 1 0) (ne_eqb k i other) in
-          omega (arith, none, free_count-first i k (numbers (k + 1) n), once (k + 1) n i (omega (arith, least, other)) (omega (arith, most)))
+          omega (
+            arith,
+            none,
+            free_count-first i k (numbers (k + 1) n),
+            once (k + 1) n i (omega (arith, least, other))
+                (omega (arith, most)),
+          )
     ]
 
 -- the opening values are those of an empty tree
-pub IsTree-opening : (layout : Layout) (map : List Val) (store : Store) → store.items ≡ [] → store.layout.tree ≡ layout.tree →
+pub IsTree-opening : (layout : Layout) (map : List Val) (store : Store) → store.items ≡ [] →
+    store.layout.tree ≡ layout.tree →
     value_at map (root_of layout) ≡ plain 0 → value_at map (free_of layout) ≡ plain (next_of layout.tree 0) →
-    ((i : ℕ) → 0 < i → i ≤ layout.tree → value_at map (object_of layout i) ≡ plain (next_of layout.tree i)) → IsTree layout map store
+    ((i : ℕ) → 0 < i → i ≤ layout.tree → value_at map (object_of layout i) ≡ plain (next_of layout.tree i)) →
+    IsTree layout map store
 IsTree-opening layout map store empty capacity root free nodes = record {
   tree = leaf;
   free = numbers 1 layout.tree;

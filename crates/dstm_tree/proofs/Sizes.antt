@@ -1,5 +1,6 @@
 -- How many nodes a tree and a free chain have, where each of n numbers stands in one of them, once.
-use Rattle.std.proofs.Common.{◌≡◌, ℕ, zero, suc, ◌+◌, ◌<◌, ◌≤◌, List, [], ◌∷◌, length, arith, refl, ap, inl, inr, eq-eqb, length-append}
+use Rattle.std.proofs.Common.{◌≡◌, ℕ, zero, suc, ◌+◌, ◌<◌, ◌≤◌, List, [], ◌∷◌, length, arith, refl, ap, inl, inr}
+use Rattle.std.proofs.Common.{eq-eqb, length-append}
 use Rattle.std.specs.Prelude.{cond, ◌==◌, count_by}
 use Rattle.std.proofs.lemmas.Bool.{cases_eq, ne_eqb}
 use Rattle.std.proofs.lemmas.List.Sums.{sum_by-cons}
@@ -47,7 +48,8 @@ total-mark (suc n) j least most =
     elim (cases_eq j (suc n)) [
       | inl same ↦
           let before : total n (mark j) ≡ total n (λ i. 0) =
-          total-same n (mark j) (λ i. 0) (λ i _ below. ap (λ b. cond b 1 0) (ne_eqb j i (λ e. omega (arith, e, same, below)))) in
+          total-same n (mark j) (λ i. 0) (λ i _ below. ap (λ b. cond b 1 0)
+          (ne_eqb j i (λ e. omega (arith, e, same, below)))) in
           let none : total n (λ i. 0) ≡ 0 = total-none n in
           let here : mark j (suc n) ≡ 1 = ap (λ b. cond b 1 0) (eq-eqb j (suc n) same) in
           omega (arith, before, none, here)
@@ -56,7 +58,8 @@ total-mark (suc n) j least most =
           omega (arith, total-mark n j least (omega (arith, most, other)), here)
     ]
 
-total-tree : (layout : Layout) (map : List Val) (t : Tree) → Holds layout map t → total layout.tree (λ i. count_of i t) ≡ length (items_of t)
+total-tree : (layout : Layout) (map : List Val) (t : Tree) → Holds layout map t →
+    total layout.tree (λ i. count_of i t) ≡ length (items_of t)
 total-tree layout map leaf nodes = total-none layout.tree
 total-tree layout map (node n red l k v r) nodes =
     let size = layout.tree in
@@ -74,11 +77,13 @@ total-chain layout map (n ∷ free) chain =
     let size = layout.tree in
     let first = total-mark size n chain.0 chain.1 in
     let rest = total-chain layout map free chain.3 in
-    let split = total-same size (λ i. count_by (λ j. j == i) (n ∷ free)) (λ i. cond (n == i) 1 0 + count_by (λ j. j == i) free)
+    let split = total-same size (λ i. count_by (λ j. j == i) (n ∷ free))
+    (λ i. cond (n == i) 1 0 + count_by (λ j. j == i) free)
     (λ i _ _. sum_by-cons (λ j. cond (j == i) 1 0) n free) in
     omega (arith, first, rest, split, total-add size (λ i. cond (n == i) 1 0) (λ i. count_by (λ j. j == i) free))
 
-pub size_all : (layout : Layout) (map : List Val) (t : Tree) (free : List ℕ) → Holds layout map t → IsChain layout map free →
+pub size_all : (layout : Layout) (map : List Val) (t : Tree) (free : List ℕ) → Holds layout map t →
+    IsChain layout map free →
     ((i : ℕ) → 0 < i → i ≤ layout.tree → count_of i t + count_by (λ j. j == i) free ≡ 1) →
     length (items_of t) + length free ≡ layout.tree
 size_all layout map t free nodes chain once =

@@ -1,5 +1,6 @@
 -- What it means to place a key in a subtree.
-use Rattle.std.specs.Prelude.{◌≡◌, ℕ, ◌+◌, ◌<◌, ◌≤◌, ◌==◌, Bool, true, false, if◌then◌else◌, List, [], ◌∷◌, length, None, is_some, IsSome, count_by, slice_set}
+use Rattle.std.specs.Prelude.{◌≡◌, ℕ, ◌+◌, ◌<◌, ◌≤◌, ◌==◌, Bool, true, false, if◌then◌else◌, List, [], ◌∷◌, length}
+use Rattle.std.specs.Prelude.{None, is_some, IsSome, count_by, slice_set}
 use Rattle.dstm_model.specs.declared.value.Val.{Val}
 use Rattle.dstm_model.specs.declared.layout.Layout.{Layout}
 use Rattle.dstm_model.specs.Map.{value_at}
@@ -10,7 +11,8 @@ use Rattle.dstm_model.specs.Objects.{plain}
 use Rattle.dstm_tree.specs.declared.node.Node.{Node}
 use Rattle.dstm_tree.specs.declared.place.Placed.{Placed}
 use Rattle.dstm_tree.specs.declared.place.Placed.TheVariants.{Full, Found, Added, Root, Pair}
-use Rattle.dstm_tree.specs.Tree.{Tree, leaf, node, number_of, is_red, items_of, count_of, black_height, IsOrdered, IsBalanced}
+use Rattle.dstm_tree.specs.Tree.{Tree, leaf, node, number_of, is_red, items_of, count_of, black_height, IsOrdered}
+use Rattle.dstm_tree.specs.Tree.{IsBalanced}
 use Rattle.dstm_tree.specs.Objects.{root_of, free_of, object_of, Holds, first_of, IsChain, IsTree}
 use Rattle.dstm_tree.specs.Node.{FitsNode, Subtree, tree_of}
 
@@ -82,7 +84,8 @@ pub record IsFull (q : Request) (t : Tree) (free : List ℕ) (before after : Lis
   pub same : after ≡ before
 
 -- the key is there, with the new value where that replaces the old one
-pub record Replaces (layout : Layout) (q : Request) (low high : ℕ) (t : Tree) (free : List ℕ) (before after : List Val) : Type 0 where
+pub record Replaces (layout : Layout) (q : Request) (low high : ℕ) (t : Tree) (free : List ℕ)
+    (before after : List Val) : Type 0 where
   pub tree : Tree
   pub present : IsSome (value_of q.key (items_of t))
   pub items : items_of tree ≡ (if q.replaces then with_item q.key q.value (items_of t) else items_of t)
@@ -96,7 +99,8 @@ pub record Replaces (layout : Layout) (q : Request) (low high : ℕ) (t : Tree) 
   pub keeps : Keeps layout before after t free free
 
 -- the key was added and the root stayed
-pub record AddsBelow (layout : Layout) (q : Request) (low high : ℕ) (t : Tree) (free : List ℕ) (before after : List Val) : Type 0 where
+pub record AddsBelow (layout : Layout) (q : Request) (low high : ℕ) (t : Tree) (free : List ℕ)
+    (before after : List Val) : Type 0 where
   pub tree : Tree
   pub rest : List ℕ
   pub grows : Grows q low high t free tree rest
@@ -107,7 +111,8 @@ pub record AddsBelow (layout : Layout) (q : Request) (low high : ℕ) (t : Tree)
   pub balanced : IsBalanced tree
 
 -- the key was added under a red root that is not written yet
-pub record AddsRoot (layout : Layout) (q : Request) (low high : ℕ) (t : Tree) (free : List ℕ) (before after : List Val) (x : Node) : Type 0 where
+pub record AddsRoot (layout : Layout) (q : Request) (low high : ℕ) (t : Tree) (free : List ℕ) (before after : List Val)
+    (x : Node) : Type 0 where
   pub left : Tree
   pub right : Tree
   pub rest : List ℕ
@@ -123,7 +128,8 @@ pub record AddsRoot (layout : Layout) (q : Request) (low high : ℕ) (t : Tree) 
 
 -- the key was added, and two red nodes stand one over the other, not written yet: the one with the lesser
 -- key, and the other. The tree between them is named by both.
-pub record AddsPair (layout : Layout) (q : Request) (low high : ℕ) (t : Tree) (free : List ℕ) (before after : List Val) (x y : Node) : Type 0 where
+pub record AddsPair (layout : Layout) (q : Request) (low high : ℕ) (t : Tree) (free : List ℕ) (before after : List Val)
+    (x y : Node) : Type 0 where
   pub left : Tree
   pub middle : Tree
   pub right : Tree
@@ -163,7 +169,8 @@ FitsPlaced layout (Pair x y) = FitsNode layout x × FitsNode layout y
 FitsPlaced layout p = Unit {0}
 
 -- a node with its subtrees, and the free nodes, before a key is placed below it
-pub record Parent (layout : Layout) (map : List Val) (low high : ℕ) (p : Node) (left right : Tree) (free : List ℕ) : Type 0 where
+pub record Parent (layout : Layout) (map : List Val) (low high : ℕ) (p : Node) (left right : Tree)
+    (free : List ℕ) : Type 0 where
   pub left_is : number_of left ≡ p.left
   pub right_is : number_of right ≡ p.right
   pub nodes : Holds layout map (tree_of p left right)
@@ -174,13 +181,15 @@ pub record Parent (layout : Layout) (map : List Val) (low high : ℕ) (p : Node)
 -- what was placed on the left of a node is placed at the node
 abbrev pub AttachesLeft : Layout → Node → Placed → List Val → List Val → Placed → Type 0
 AttachesLeft layout p below before after placed =
-    (start : List Val) (q : Request) (low high : ℕ) (left right : Tree) (free : List ℕ) → Parent layout start low high p left right free →
+    (start : List Val) (q : Request) (low high : ℕ) (left right : Tree) (free : List ℕ) →
+    Parent layout start low high p left right free →
     q.key < p.key → IsPlaced layout q low p.key left free start before below →
     IsPlaced layout q low high (tree_of p left right) free start after placed
 
 abbrev pub AttachesRight : Layout → Node → Placed → List Val → List Val → Placed → Type 0
 AttachesRight layout p below before after placed =
-    (start : List Val) (q : Request) (low high : ℕ) (left right : Tree) (free : List ℕ) → Parent layout start low high p left right free →
+    (start : List Val) (q : Request) (low high : ℕ) (left right : Tree) (free : List ℕ) →
+    Parent layout start low high p left right free →
     p.key < q.key → IsPlaced layout q (p.key + 1) high right free start before below →
     IsPlaced layout q low high (tree_of p left right) free start after placed
 

@@ -1,11 +1,12 @@
 -- What it means to take a key out of a subtree.
-use Rattle.std.specs.Prelude.{◌≡◌, ℕ, ◌+◌, ◌<◌, ◌≤◌, ◌==◌, Bool, true, false, if◌then◌else◌, List, ◌∷◌, length, Option, None, Some, IsSome}
+use Rattle.std.specs.Prelude.{◌≡◌, ℕ, ◌+◌, ◌<◌, ◌≤◌, ◌==◌, Bool, true, false, if◌then◌else◌, List, ◌∷◌, length, Option}
+use Rattle.std.specs.Prelude.{None, Some, IsSome}
 use Rattle.dstm_model.specs.declared.value.Val.{Val}
 use Rattle.dstm_model.specs.declared.layout.Layout.{Layout}
 use Rattle.dstm_model.specs.Map.{value_at}
 use Rattle.dstm_model.specs.Store.{value_of, without_item}
 use Rattle.dstm_tree.specs.declared.node.Node.{Node}
-use Rattle.dstm_tree.specs.declared.removal.Cut.{Cut}
+use Rattle.dstm_tree.specs.declared.balance.Cut.{Cut}
 use Rattle.dstm_tree.specs.declared.removal.Least.{Least}
 use Rattle.dstm_tree.specs.declared.removal.Removed.{Removed}
 use Rattle.dstm_tree.specs.Tree.{Tree, number_of, is_red, items_of, count_of, black_height, IsOrdered, IsBalanced}
@@ -30,7 +31,8 @@ blackness red = if red then 0 else 1
 
 -- what stands for the tree s, which may not be balanced: a balanced tree of its nodes and items, whose height
 -- is the one given or has fallen by one, and whose root is red only if `red` is true
-pub record IsCut (layout : Layout) (low high : ℕ) (s : Tree) (height : ℕ) (red : Bool) (before after : List Val) (cut : Cut) : Type 0 where
+pub record IsCut (layout : Layout) (low high : ℕ) (s : Tree) (height : ℕ) (red : Bool) (before after : List Val)
+    (cut : Cut) : Type 0 where
   pub tree : Tree
   pub root : number_of tree ≡ cut.root
   pub items : items_of tree ≡ items_of s
@@ -118,13 +120,15 @@ ClosesRight layout held p fell before after cut =
 abbrev pub LiftsLeft : Layout → Node → Node → Node → List Val → List Val → Cut → Type 0
 LiftsLeft layout held p s before after cut =
     (h : LeftFall layout before held p s) →
-    IsCut layout h.gap.low h.gap.high (tree_of p h.gap.left h.gap.right) (black_height h.gap.right + blackness p.red) p.red before after cut
+    IsCut layout h.gap.low h.gap.high (tree_of p h.gap.left h.gap.right) (black_height h.gap.right + blackness p.red)
+    p.red before after cut
     × (cut.fell ≡ true → p.red ≡ false)
 
 abbrev pub LiftsRight : Layout → Node → Node → Node → List Val → List Val → Cut → Type 0
 LiftsRight layout held p s before after cut =
     (h : RightFall layout before held p s) →
-    IsCut layout h.gap.low h.gap.high (tree_of p h.gap.left h.gap.right) (black_height h.gap.left + blackness p.red) p.red before after cut
+    IsCut layout h.gap.low h.gap.high (tree_of p h.gap.left h.gap.right) (black_height h.gap.left + blackness p.red)
+    p.red before after cut
     × (cut.fell ≡ true → p.red ≡ false)
 
 -- a red child was found
@@ -162,16 +166,18 @@ abbrev pub one_at : ℕ → ℕ → ℕ
 one_at number i = if number == i then 1 else 0
 
 -- the first item was taken out
-pub record TakesLeast (layout : Layout) (low high : ℕ) (t : Tree) (before after : List Val) (least : Least) : Type 0 where
-  pub became : Became layout (least.node.key + 1) high t before after least.cut
-  pub items : items_of t ≡ (least.node.key, least.node.value) ∷ items_of became.tree
-  pub counts : (i : ℕ) → one_at least.node.number i + count_of i became.tree ≡ count_of i t
-  pub at_least : low ≤ least.node.key
-  pub number : 0 < least.node.number
-  pub within : least.node.number ≤ layout.tree
+pub record TakesLeast (layout : Layout) (low high : ℕ) (t : Tree) (before after : List Val) (least : Least) : Type 0
+  where
+    pub became : Became layout (least.node.key + 1) high t before after least.cut
+    pub items : items_of t ≡ (least.node.key, least.node.value) ∷ items_of became.tree
+    pub counts : (i : ℕ) → one_at least.node.number i + count_of i became.tree ≡ count_of i t
+    pub at_least : low ≤ least.node.key
+    pub number : 0 < least.node.number
+    pub within : least.node.number ≤ layout.tree
 
 -- a key was taken out, and with it one node
-pub record Removes (layout : Layout) (key low high : ℕ) (t : Tree) (before after : List Val) (removed : Removed) : Type 0 where
+pub record Removes (layout : Layout) (key low high : ℕ) (t : Tree) (before after : List Val) (removed : Removed) : Type
+    0 where
   pub became : Became layout low high t before after removed.cut
   pub present : IsSome (value_of key (items_of t))
   pub items : items_of became.tree ≡ without_item key (items_of t)

@@ -39,7 +39,8 @@ black_height (node n red l k v r) = black_height l + (if red then 0 else 1)
 abbrev pub IsBalanced : Tree → Type 0
 IsBalanced leaf = Unit {0}
 IsBalanced (node n red l k v r) =
-    (black_height l ≡ black_height r) × (red ≡ true → (is_red l ≡ false) × (is_red r ≡ false)) × IsBalanced l × IsBalanced r
+    (black_height l ≡ black_height r) × (red ≡ true → (is_red l ≡ false) × (is_red r ≡ false)) × IsBalanced l ×
+    IsBalanced r
 
 -- a red-black tree, whose keys are below `limit`
 pub record IsRedBlack (limit : ℕ) (tree : Tree) : Type 0 where

@@ -8,12 +8,12 @@ ghost use Rattle.dstm_tree.specs.Objects.{root_of, free_of, object_of, IsTree};
 ghost use Rattle.dstm_tree.specs.Tree.{number_of};
 ghost use Rattle.dstm_tree.specs.Node.{HasTree, FitsNode, IsRead, val_of};
 
-use crate::node::{Node, decode, encode};
+use crate::node::{Node, encode};
 use dstm_mem::Mem;
 use dstm_model::{Layout, Val};
 
-// The first of the tree's objects, which names the root.
-pub(crate) fn root_object(layout: &Layout) -> u32
+/// The first of the tree's objects, which names the root.
+pub fn root_object(layout: &Layout) -> u32
     requires { HasTree layout.now }
     ensures object { result ≡ root_of layout.now }
     ensures exists { result < objects_of layout.now }
@@ -31,8 +31,8 @@ pub(crate) fn free_object(layout: &Layout) -> u32
     root_object(layout) + 1
 }
 
-// The object of a node.
-pub(crate) fn node_object(layout: &Layout, number: u16) -> u32
+/// The object of a node.
+pub fn node_object(layout: &Layout, number: u16) -> u32
     requires tree { HasTree layout.now }
     requires number { number ≤ layout.now.tree }
     ensures object { result ≡ object_of layout.now number }
@@ -146,7 +146,7 @@ pub(crate) fn read_node<M: Mem>(mem: &mut M, layout: &Layout, number: u16) -> Re
     ensures ended { IfErr result (λ e. (M.is_live mem.new ≡ false) × (M.error mem.new ≡ Some e)) }
 {
     let value = read(mem, layout, node_object(layout, number))?;
-    Ok(decode(number, value))
+    Ok(Node::of(number, value))
 }
 
 // Opens a node for writing and sets it.

@@ -5,7 +5,8 @@ ghost use Rattle.dstm_model.specs.Store.{Store};
 ghost use Rattle.dstm_model.specs.Objects.{objects_of, tree_begin, Does};
 ghost use Rattle.dstm_mem.specs.Memory.{with_set};
 ghost use Rattle.dstm_tree.specs.Node.{HasTree, FitsNode};
-ghost use Rattle.dstm_tree.specs.Place.{Request, IsFree, IsTaken, CanPlace, IsPlaced, FitsPlaced, AttachesLeft, AttachesRight, PlacesLeaf, Answers};
+ghost use Rattle.dstm_tree.specs.Place.{Request, IsFree, IsTaken, CanPlace, IsPlaced, FitsPlaced, AttachesLeft};
+ghost use Rattle.dstm_tree.specs.Place.{AttachesRight, PlacesLeaf, Answers};
 ghost use Rattle.dstm_tree.specs.Objects.{IsTree};
 
 use crate::cells::{
@@ -182,7 +183,8 @@ fn attach_left<M: Mem>(
     requires admits { (map : List Val) × M.Admits mem.old map }
 
     ensures does { IfOk result (λ placed. (map : List Val) → M.Admits mem.new map →
-        AttachesLeft layout.now parent below (with_set map (M.written mem.old)) (with_set map (M.written mem.new)) placed) }
+        AttachesLeft layout.now parent below
+        (with_set map (M.written mem.old)) (with_set map (M.written mem.new)) placed) }
     ensures fits { IfOk result (λ placed. FitsPlaced layout.now placed) }
     ensures outside { OnOk result ((p : ℕ) → p < tree_begin layout.now →
         (M.written mem.new p ≡ M.written mem.old p) × (M.held mem.new p ≡ M.held mem.old p)
@@ -261,7 +263,8 @@ fn attach_right<M: Mem>(
     requires admits { (map : List Val) × M.Admits mem.old map }
 
     ensures does { IfOk result (λ placed. (map : List Val) → M.Admits mem.new map →
-        AttachesRight layout.now parent below (with_set map (M.written mem.old)) (with_set map (M.written mem.new)) placed) }
+        AttachesRight layout.now parent below
+        (with_set map (M.written mem.old)) (with_set map (M.written mem.new)) placed) }
     ensures fits { IfOk result (λ placed. FitsPlaced layout.now placed) }
     ensures outside { OnOk result ((p : ℕ) → p < tree_begin layout.now →
         (M.written mem.new p ≡ M.written mem.old p) × (M.held mem.new p ≡ M.held mem.old p)
@@ -345,7 +348,8 @@ fn place_below<M: Mem>(
 
     ensures does { IfOk result (λ placed. (map : List Val) → M.Admits mem.new map →
         (h : CanPlace layout.now (with_set map (M.written mem.old)) at depth key) →
-        IsPlaced layout.now (record { key = key; value = value; replaces = replaces }) h.sub.low h.sub.high h.sub.tree h.free
+        IsPlaced layout.now (record { key = key; value = value; replaces = replaces })
+        h.sub.low h.sub.high h.sub.tree h.free
         (with_set map (M.written mem.old)) (with_set map (M.written mem.new)) placed) }
     ensures fits { IfOk result (λ placed. FitsPlaced layout.now placed) }
     ensures outside { OnOk result ((p : ℕ) → p < tree_begin layout.now →

@@ -4,7 +4,8 @@ use Rattle.dstm_mem.specs.Memory.{with_set}
 use Rattle.dstm_mem.proofs.WithSet.{with_set-same}
 use Rattle.dstm_list.specs.List.{IsOfList}
 use Rattle.dstm_list.specs.Place.{Stands}
-use Rattle.dstm_list.proofs.Steps.{left, head-of_list, node-of_list, next_within, stands-start, stands-seen, stands-on, place-found, place-passed, place-end, left-less}
+use Rattle.dstm_list.proofs.Steps.{left, head-of_list, node-of_list, next_within, stands-start, stands-seen, stands-on}
+use Rattle.dstm_list.proofs.Steps.{place-found, place-passed, place-end, left-less}
 use Rattle.dstm_list.proofs.walk.find.Goals as goal
 
 pub loop-before-init : goal.loop-before-init

@@ -1,4 +1,4 @@
-use Rattle.std.proofs.Common.{length, ◌<◌, ◌+◌}
+use Rattle.std.proofs.Common.{◌≤◌}
 use Rattle.dstm_model.specs.Store.{Store}
 use Rattle.dstm_model.specs.Objects.{list_begin}
 use Rattle.dstm_store.specs.Whole.{StandsFor}
@@ -7,7 +7,7 @@ use Rattle.dstm_store.proofs.read.read_list.Given as goal
 
 abbrev pub invariant-loop-step : goal.invariant-loop-step
 invariant-loop-step l = record {
-  within : l.layout.accounts + 1 + l.at < length l.values;
+  within : l.at ≤ l.layout.list;
   walk : (store : Store) → (stands : StandsFor l.layout l.values store) →
       Walk (list_begin l.layout) l.layout.list l.values l.keys.items l.at l._step stands.list.cells;
 }

@@ -11,4 +11,5 @@ returns-clause-reads g c map admitted =
     let opened = c.in_ok-value.ensures in
     let size = laws.admitted_length start map (opened.narrows map admitted) in
     value_at-opened map (M.written start) (M.written mem) (M.held mem) c.args.object c.in_ok-value.value
-    (omega (arith, size, c.requires.objects, c.requires.exists)) (laws.admitted_agrees mem map admitted) opened.written opened.value
+    (omega (arith, size, c.requires.objects, c.requires.exists)) (laws.admitted_agrees mem map admitted) opened.written
+    opened.value

@@ -10,9 +10,10 @@ returns-clause-reads g c map admitted =
     let start = c.args.mem.now in
     let read = c.in_ok-value.ensures in
     record {
-      number = c.decode.ensures.number;
-      value = ap (value_at (with_set map (M.written start))) (sym c.node_object.ensures.object) ∙ read.reads map admitted ∙ sym c.decode.ensures.value;
-      left = c.decode.ensures.left;
-      right = c.decode.ensures.right;
+      number = c.of.ensures.number;
+      value = ap (value_at (with_set map (M.written start))) (sym c.node_object.ensures.object) ∙
+          read.reads map admitted ∙ sym c.of.ensures.value;
+      left = c.of.ensures.left;
+      right = c.of.ensures.right;
       same = with_set-same map (M.written start) (M.written c.read.new.mem) read.sets;
     }

@@ -18,12 +18,18 @@ overflow_cast-result g c =
     let (store, t) = c.requires.lawful map (read.narrows map admitted) in
     let is_root = root_number c.in_ok-value.value (number_of t.tree)
     (sym (read.reads map admitted) ∙ ap (value_at before) c.root_object.ensures.object ∙ t.root) in
-    Fits-of_lt {w = w16} (omega (arith, is_root, number_le c.args.layout.now before t.tree t.nodes, c.requires.tree.valid.tree))
+    Fits-of_lt {w = w16} (omega (
+      arith,
+      is_root,
+      number_le c.args.layout.now before t.tree t.nodes,
+      c.requires.tree.valid.tree,
+    ))
 
 pub returns-clause-reads : goal.returns-clause-reads
 returns-clause-reads g c map admitted store t =
     root_number c.in_ok-value.value (number_of t.tree)
-    (sym (c.in_ok-value.ensures.reads map admitted) ∙ ap (value_at (with_set map (g.M.Mem.written c.args.mem.now))) c.root_object.ensures.object ∙ t.root)
+    (sym (c.in_ok-value.ensures.reads map admitted) ∙ ap (value_at (with_set map (g.M.Mem.written c.args.mem.now)))
+    c.root_object.ensures.object ∙ t.root)
 
 pub returns-clause-within : goal.returns-clause-within
 returns-clause-within g c =
@@ -32,5 +38,6 @@ returns-clause-within g c =
     let (store, t) = c.requires.lawful map (read.narrows map admitted) in
     let is_root : number_of t.tree ≡ c.in_ok-value.value.low =
     root_number c.in_ok-value.value (number_of t.tree)
-    (sym (read.reads map admitted) ∙ ap (value_at (with_set map (g.M.Mem.written c.args.mem.now))) c.root_object.ensures.object ∙ t.root) in
+    (sym (read.reads map admitted) ∙ ap (value_at (with_set map (g.M.Mem.written c.args.mem.now)))
+    c.root_object.ensures.object ∙ t.root) in
     omega (arith, is_root, number_le c.args.layout.now (with_set map (g.M.Mem.written c.args.mem.now)) t.tree t.nodes)

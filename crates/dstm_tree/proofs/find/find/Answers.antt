@@ -6,7 +6,8 @@ use Rattle.dstm_mem.specs.Memory.{with_set}
 use Rattle.dstm_mem.proofs.WithSet.{with_set-same}
 use Rattle.dstm_tree.specs.Objects.{IsTree}
 use Rattle.dstm_tree.specs.Node.{HasTree, IsRead}
-use Rattle.dstm_tree.proofs.Search.{Searches, search-start, read_root, search-end, search-past, search-found, search-next, search-within}
+use Rattle.dstm_tree.proofs.Search.{Searches, search-start, read_root, search-end, search-past, search-found}
+use Rattle.dstm_tree.proofs.Search.{search-next, search-within}
 use Rattle.dstm_tree.proofs.find.find.Goals as goal
 use Rattle.dstm_tree.proofs.find.find.Goals.{then-key-node-2, else-key-node-2}
 
@@ -25,7 +26,8 @@ loop-step-init g c =
       opens = λ p h. ((root.outside p h).1, (root.outside p h).2);
       within = root.within;
       searches = λ map admitted store t.
-          search-start layout (with_set map (M.written c.args.mem.now)) c.in_ok-at.at (layout.tree - 0) c.args.key store t
+          search-start layout (with_set map (M.written c.args.mem.now)) c.in_ok-at.at (layout.tree - 0) c.args.key
+          store t
           (root.reads map admitted store t) (omega arith);
     }
 
@@ -64,7 +66,8 @@ loop-step-preserved g c =
       | then-key-node-2 w ↦ inl (w.if-key-node-2.true, w.at-is)
       | else-key-node-2 w ↦ inr (w.if-key-node-2.false, w.at-is)
     ] in
-    let searches = λ (map : List Val) (admitted : M.Admits c.read_node.new.mem map) (store : Store) (t : IsTree layout (with_set map start) store).
+    let searches = λ (map : List Val) (admitted : M.Admits c.read_node.new.mem map) (store : Store)
+    (t : IsTree layout (with_set map start) store).
     let before = with_set map start in
     let after = with_set map (M.written c.read_node.new.mem) in
     let h = so_far.searches map (read.narrows map admitted) store t in

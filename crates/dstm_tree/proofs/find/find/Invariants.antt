@@ -20,6 +20,7 @@ invariant-loop-step g l =
       opens : (p : ℕ) → p < tree_begin l.layout →
           (M.held l.mem p ≡ M.held l.fn.mem p) × (M.is_opened l.mem p ≡ M.is_opened l.fn.mem p);
       within : l.at ≤ l.layout.tree;
-      searches : (map : List Val) → M.Admits l.mem map → (store : Store) → IsTree l.layout (with_set map (M.written l.fn.mem)) store →
+      searches : (map : List Val) → M.Admits l.mem map → (store : Store) →
+          IsTree l.layout (with_set map (M.written l.fn.mem)) store →
           Searches l.layout (with_set map (M.written l.fn.mem)) l.at (l.layout.tree - l._step) l.key store.items;
     }

@@ -9,7 +9,8 @@ returns-in-Some-clause-does g c map admitted store t =
     let M = g.M.Mem in
     let found = c.in_ok-found.ensures in (
       ap value_reply (sym c.in-Some.is ∙ found.finds map admitted store t),
-      subst (λ m. IsTree c.args.layout.now m store) (sym (with_set-same map (M.written c.args.mem.now) (M.written c.find.new.mem) found.sets)) t,
+      subst (λ m. IsTree c.args.layout.now m store) (sym (with_set-same map (M.written c.args.mem.now)
+          (M.written c.find.new.mem) found.sets)) t,
     )
 
 pub returns-in-None-clause-does : goal.returns-in-None-clause-does
@@ -17,5 +18,6 @@ returns-in-None-clause-does g c map admitted store t =
     let M = g.M.Mem in
     let found = c.in_ok-found.ensures in (
       ap value_reply (sym c.in-None.is ∙ found.finds map admitted store t),
-      subst (λ m. IsTree c.args.layout.now m store) (sym (with_set-same map (M.written c.args.mem.now) (M.written c.find.new.mem) found.sets)) t,
+      subst (λ m. IsTree c.args.layout.now m store) (sym (with_set-same map (M.written c.args.mem.now)
+          (M.written c.find.new.mem) found.sets)) t,
     )

@@ -18,5 +18,6 @@ returns-clause-does g c map admitted store t =
       | else-is_some w ↦ w.result-is ∙ ap yes_or_no (sym w.if-is_some.false ∙ is)
     ] in (
       reply,
-      subst (λ m. IsTree c.args.layout.now m store) (sym (with_set-same map (M.written c.args.mem.now) (M.written c.find.new.mem) found.sets)) t,
+      subst (λ m. IsTree c.args.layout.now m store) (sym (with_set-same map (M.written c.args.mem.now)
+          (M.written c.find.new.mem) found.sets)) t,
     )

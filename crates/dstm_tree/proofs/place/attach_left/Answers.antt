@@ -29,10 +29,12 @@ returns-in_ok-write_node-in-Root-2-clause-does g c map admitted start q low high
     let size = length-with_set map (M.written c.args.mem.now)
     ∙ g.met.M.Mem.admitted_length c.args.mem.now map (one.narrows map in_one) ∙ c.requires.objects in
     let is = two.writes map admitted
-    ∙ ap (λ m. slice_set m (object_of layout parent.number) (val_of (record parent { left = child.number }))) (one.writes map in_one) in
+    ∙ ap (λ m. slice_set m (object_of layout parent.number) (val_of (record parent { left = child.number })))
+    (one.writes map in_one) in
     let added = subst (IsPlaced layout q low c.args.parent.key left free start before) c.in-Root.is below in
     let fits = subst (FitsPlaced layout) c.in-Root.is c.requires.below in
-    left-hung layout q low high parent left right free start before after child c.requires.tree size fits.number h less c.if-parent.false added is
+    left-hung layout q low high parent left right free start before after child c.requires.tree size fits.number h less
+    c.if-parent.false added is
 
 pub returns-in_ok-write_node-in-Pair-2-clause-does : goal.returns-in_ok-write_node-in-Pair-2-clause-does
 returns-in_ok-write_node-in-Pair-2-clause-does g c map admitted start q low high left right free h less below =
@@ -49,10 +51,12 @@ returns-in_ok-write_node-in-Pair-2-clause-does g c map admitted start q low high
     let size = length-with_set map (M.written c.args.mem.now)
     ∙ g.met.M.Mem.admitted_length c.args.mem.now map (one.narrows map in_one) ∙ c.requires.objects in
     let is = two.writes map admitted
-    ∙ ap (λ m. slice_set m (object_of layout parent.number) (val_of (record parent { left = greater.right }))) (one.writes map in_one) in
+    ∙ ap (λ m. slice_set m (object_of layout parent.number) (val_of (record parent { left = greater.right })))
+    (one.writes map in_one) in
     let added = subst (IsPlaced layout q low c.args.parent.key left free start before) c.in-Pair.is below in
     let fits = subst (FitsPlaced layout) c.in-Pair.is c.requires.below in
-    left-rotated layout q low high parent left right free start before after lesser greater c.requires.tree size fits.0.number h less added is
+    left-rotated layout q low high parent left right free start before after lesser greater c.requires.tree size
+    fits.0.number h less added is
 
 pub returns-in-Full-clause-does : goal.returns-in-Full-clause-does
 returns-in-Full-clause-does g c map admitted start q low high left right free h less below =

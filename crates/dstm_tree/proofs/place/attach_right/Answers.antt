@@ -13,7 +13,8 @@ returns-then-parent-clause-does g c map admitted start q low high left right fre
     let layout = c.args.layout.now in
     let parent = c.args.parent in
     let added = subst (IsPlaced layout q (c.args.parent.key + 1) high right free start before) c.in-Root.is below in
-    right-pair layout q low high parent left right free start before c.in-Root.child h greater_key c.if-parent.true added
+    right-pair layout q low high parent left right free start before c.in-Root.child h greater_key c.if-parent.true
+    added
 
 pub returns-in_ok-write_node-in-Root-2-clause-does : goal.returns-in_ok-write_node-in-Root-2-clause-does
 returns-in_ok-write_node-in-Root-2-clause-does g c map admitted start q low high left right free h greater_key below =
@@ -29,10 +30,12 @@ returns-in_ok-write_node-in-Root-2-clause-does g c map admitted start q low high
     let size = length-with_set map (M.written c.args.mem.now)
     ∙ g.met.M.Mem.admitted_length c.args.mem.now map (one.narrows map in_one) ∙ c.requires.objects in
     let is = two.writes map admitted
-    ∙ ap (λ m. slice_set m (object_of layout parent.number) (val_of (record parent { right = child.number }))) (one.writes map in_one) in
+    ∙ ap (λ m. slice_set m (object_of layout parent.number) (val_of (record parent { right = child.number })))
+    (one.writes map in_one) in
     let added = subst (IsPlaced layout q (c.args.parent.key + 1) high right free start before) c.in-Root.is below in
     let fits = subst (FitsPlaced layout) c.in-Root.is c.requires.below in
-    right-hung layout q low high parent left right free start before after child c.requires.tree size fits.number h greater_key c.if-parent.false added is
+    right-hung layout q low high parent left right free start before after child c.requires.tree size fits.number h
+    greater_key c.if-parent.false added is
 
 pub returns-in_ok-write_node-in-Pair-2-clause-does : goal.returns-in_ok-write_node-in-Pair-2-clause-does
 returns-in_ok-write_node-in-Pair-2-clause-does g c map admitted start q low high left right free h greater_key below =
@@ -49,25 +52,30 @@ returns-in_ok-write_node-in-Pair-2-clause-does g c map admitted start q low high
     let size = length-with_set map (M.written c.args.mem.now)
     ∙ g.met.M.Mem.admitted_length c.args.mem.now map (one.narrows map in_one) ∙ c.requires.objects in
     let is = two.writes map admitted
-    ∙ ap (λ m. slice_set m (object_of layout parent.number) (val_of (record parent { right = lesser.left }))) (one.writes map in_one) in
+    ∙ ap (λ m. slice_set m (object_of layout parent.number) (val_of (record parent { right = lesser.left })))
+    (one.writes map in_one) in
     let added = subst (IsPlaced layout q (c.args.parent.key + 1) high right free start before) c.in-Pair.is below in
     let fits = subst (FitsPlaced layout) c.in-Pair.is c.requires.below in
-    right-rotated layout q low high parent left right free start before after lesser greater c.requires.tree size fits.1.number h greater_key added is
+    right-rotated layout q low high parent left right free start before after lesser greater c.requires.tree size
+    fits.1.number h greater_key added is
 
 pub returns-in-Full-clause-does : goal.returns-in-Full-clause-does
 returns-in-Full-clause-does g c map admitted start q low high left right free h greater_key below =
     let before = with_set map (g.M.Mem.written c.args.mem.now) in
-    let full = subst (IsPlaced c.args.layout.now q (c.args.parent.key + 1) high right free start before) c.in-Full.is below in
+    let full = subst (IsPlaced c.args.layout.now q (c.args.parent.key + 1) high right free start before) c.in-Full.is
+    below in
     right-full q low high c.args.parent left right free start before h.order greater_key full
 
 pub returns-in-Found-clause-does : goal.returns-in-Found-clause-does
 returns-in-Found-clause-does g c map admitted start q low high left right free h greater_key below =
     let before = with_set map (g.M.Mem.written c.args.mem.now) in
-    let found = subst (IsPlaced c.args.layout.now q (c.args.parent.key + 1) high right free start before) c.in-Found.is below in
+    let found = subst (IsPlaced c.args.layout.now q (c.args.parent.key + 1) high right free start before) c.in-Found.is
+    below in
     right-found c.args.layout.now q low high c.args.parent left right free start before h greater_key found
 
 pub returns-in-Added-clause-does : goal.returns-in-Added-clause-does
 returns-in-Added-clause-does g c map admitted start q low high left right free h greater_key below =
     let before = with_set map (g.M.Mem.written c.args.mem.now) in
-    let added = subst (IsPlaced c.args.layout.now q (c.args.parent.key + 1) high right free start before) c.in-Added.is below in
+    let added = subst (IsPlaced c.args.layout.now q (c.args.parent.key + 1) high right free start before) c.in-Added.is
+    below in
     right-added c.args.layout.now q low high c.args.parent left right free start before h greater_key added

@@ -5,7 +5,8 @@ use Rattle.dstm_mem.specs.Memory.{with_set}
 use Rattle.dstm_mem.proofs.WithSet.{with_set-same, length-with_set}
 use Rattle.dstm_tree.specs.Objects.{root_of}
 use Rattle.dstm_tree.specs.Place.{Request, IsPlaced, FitsPlaced}
-use Rattle.dstm_tree.proofs.Whole.{can_root, whole_is_placed, whole-full, whole-found, whole-added, whole-root, whole-pair}
+use Rattle.dstm_tree.proofs.Whole.{can_root, whole_is_placed, whole-full, whole-found, whole-added, whole-root}
+use Rattle.dstm_tree.proofs.Whole.{whole-pair}
 use Rattle.dstm_tree.proofs.place.place.Goals as goal
 
 pub place_below-requires : goal.place_below-requires
@@ -21,8 +22,10 @@ place_below-requires g c =
       live = read.live;
       lawful = λ map admitted.
           let (store, t) = c.requires.lawful map (read.narrows map admitted) in
-          can_root c.args.layout.now (with_set map start) (with_set map (M.written c.read_root.new.mem)) store t c.in_ok-root.root c.args.key
-          c.requires.key (read.reads map admitted store t) (with_set-same map start (M.written c.read_root.new.mem) read.sets);
+          can_root c.args.layout.now (with_set map start) (with_set map (M.written c.read_root.new.mem)) store t
+          c.in_ok-root.root c.args.key
+          c.requires.key (read.reads map admitted store t) (with_set-same map start (M.written c.read_root.new.mem)
+          read.sets);
     }
 
 pub unreachable-requires : goal.unreachable-requires
@@ -38,8 +41,10 @@ unreachable-requires g c =
     let start = M.written c.args.mem.now in
     let before = with_set map start in
     let after = with_set map (M.written c.place_below.new.mem) in
-    let placed = whole_is_placed layout q before (with_set map (M.written c.read_root.new.mem)) after store t c.in_ok-root.root c.in_ok-placed.placed
-    c.requires.key (one.reads map in_one store t) (with_set-same map start (M.written c.read_root.new.mem) one.sets) (two.does map admitted) in
+    let placed = whole_is_placed layout q before (with_set map (M.written c.read_root.new.mem)) after store t
+    c.in_ok-root.root c.in_ok-placed.placed
+    c.requires.key (one.reads map in_one store t) (with_set-same map start (M.written c.read_root.new.mem) one.sets)
+    (two.does map admitted) in
     whole-pair layout q before after store t c.in-Pair.field-0 c.in-Pair.field-1
     (subst (IsPlaced layout q 0 KEY_LIMIT t.tree t.free before after) c.in-Pair.is placed)
 
@@ -54,9 +59,12 @@ returns-in-Full-clause-does g c map admitted store t =
     let start = M.written c.args.mem.now in
     let before = with_set map start in
     let after = with_set map (M.written c.place_below.new.mem) in
-    let placed = whole_is_placed layout q before (with_set map (M.written c.read_root.new.mem)) after store t c.in_ok-root.root c.in_ok-placed.placed
-    c.requires.key (one.reads map in_one store t) (with_set-same map start (M.written c.read_root.new.mem) one.sets) (two.does map admitted) in
-    whole-full layout q before after store t (subst (IsPlaced layout q 0 KEY_LIMIT t.tree t.free before after) c.in-Full.is placed)
+    let placed = whole_is_placed layout q before (with_set map (M.written c.read_root.new.mem)) after store t
+    c.in_ok-root.root c.in_ok-placed.placed
+    c.requires.key (one.reads map in_one store t) (with_set-same map start (M.written c.read_root.new.mem) one.sets)
+    (two.does map admitted) in
+    whole-full layout q before after store t (subst (IsPlaced layout q 0 KEY_LIMIT t.tree t.free before after)
+    c.in-Full.is placed)
 
 pub returns-in-Found-clause-does : goal.returns-in-Found-clause-does
 returns-in-Found-clause-does g c map admitted store t =
@@ -69,9 +77,12 @@ returns-in-Found-clause-does g c map admitted store t =
     let start = M.written c.args.mem.now in
     let before = with_set map start in
     let after = with_set map (M.written c.place_below.new.mem) in
-    let placed = whole_is_placed layout q before (with_set map (M.written c.read_root.new.mem)) after store t c.in_ok-root.root c.in_ok-placed.placed
-    c.requires.key (one.reads map in_one store t) (with_set-same map start (M.written c.read_root.new.mem) one.sets) (two.does map admitted) in
-    whole-found layout q before after store t (subst (IsPlaced layout q 0 KEY_LIMIT t.tree t.free before after) c.in-Found.is placed)
+    let placed = whole_is_placed layout q before (with_set map (M.written c.read_root.new.mem)) after store t
+    c.in_ok-root.root c.in_ok-placed.placed
+    c.requires.key (one.reads map in_one store t) (with_set-same map start (M.written c.read_root.new.mem) one.sets)
+    (two.does map admitted) in
+    whole-found layout q before after store t (subst (IsPlaced layout q 0 KEY_LIMIT t.tree t.free before after)
+    c.in-Found.is placed)
 
 pub returns-in-Added-clause-does : goal.returns-in-Added-clause-does
 returns-in-Added-clause-does g c map admitted store t =
@@ -84,9 +95,12 @@ returns-in-Added-clause-does g c map admitted store t =
     let start = M.written c.args.mem.now in
     let before = with_set map start in
     let after = with_set map (M.written c.place_below.new.mem) in
-    let placed = whole_is_placed layout q before (with_set map (M.written c.read_root.new.mem)) after store t c.in_ok-root.root c.in_ok-placed.placed
-    c.requires.key (one.reads map in_one store t) (with_set-same map start (M.written c.read_root.new.mem) one.sets) (two.does map admitted) in
-    whole-added layout q before after store t (subst (IsPlaced layout q 0 KEY_LIMIT t.tree t.free before after) c.in-Added.is placed)
+    let placed = whole_is_placed layout q before (with_set map (M.written c.read_root.new.mem)) after store t
+    c.in_ok-root.root c.in_ok-placed.placed
+    c.requires.key (one.reads map in_one store t) (with_set-same map start (M.written c.read_root.new.mem) one.sets)
+    (two.does map admitted) in
+    whole-added layout q before after store t (subst (IsPlaced layout q 0 KEY_LIMIT t.tree t.free before after)
+    c.in-Added.is placed)
 
 pub returns-in_ok-write-in-Root-clause-does : goal.returns-in_ok-write-in-Root-clause-does
 returns-in_ok-write-in-Root-clause-does g c map admitted store t =
@@ -105,14 +119,17 @@ returns-in_ok-write-in-Root-clause-does g c map admitted store t =
     let before = with_set map start in
     let mid = with_set map (M.written c.place_below.new.mem) in
     let after = with_set map (M.written c.write.new.mem) in
-    let placed = whole_is_placed layout q before (with_set map (M.written c.read_root.new.mem)) mid store t c.in_ok-root.root c.in_ok-placed.placed
-    c.requires.key (one.reads map in_one store t) (with_set-same map start (M.written c.read_root.new.mem) one.sets) (two.does map in_two) in
+    let placed = whole_is_placed layout q before (with_set map (M.written c.read_root.new.mem)) mid store t
+    c.in_ok-root.root c.in_ok-placed.placed
+    c.requires.key (one.reads map in_one store t) (with_set-same map start (M.written c.read_root.new.mem) one.sets)
+    (two.does map in_two) in
     let added = subst (IsPlaced layout q 0 KEY_LIMIT t.tree t.free before mid) c.in-Root.is placed in
     let fits = subst (FitsPlaced layout) c.in-Root.is two.fits in
     let size = length-with_set map (M.written c.place_below.new.mem)
     ∙ g.met.M.Mem.admitted_length c.args.mem.now map (one.narrows map in_one) ∙ c.requires.objects in
     let is = four.writes map admitted
     ∙ ap (λ n. slice_set (with_set map (M.written c.write_node.new.mem)) c.root_object.result (plain n)) c.from.ensures
-    ∙ ap (λ o. slice_set (with_set map (M.written c.write_node.new.mem)) o (plain node.number)) c.root_object.ensures.object
+    ∙ ap (λ o. slice_set (with_set map (M.written c.write_node.new.mem)) o (plain node.number))
+    c.root_object.ensures.object
     ∙ ap (λ m. slice_set m (root_of layout) (plain node.number)) (three.writes map in_three) in
     whole-root layout q before mid after store t node c.requires.tree size fits.number added is

@@ -14,6 +14,8 @@ returns-clause-does g c map admitted replaces low high free at_least below h =
     let size = length-with_set map (M.written start)
     ∙ g.met.M.Mem.admitted_length start map (taken.narrows map admitted) ∙ c.requires.objects in
     let number = c.in_ok-number.number in
-    leaf-root c.args.layout.now (record { key = c.args.key; value = c.args.value; replaces = replaces }) low high before after free
+    leaf-root c.args.layout.now (record { key = c.args.key; value = c.args.value; replaces = replaces }) low high
+    before after free
     (record { number = number; red = _; key = c.args.key; value = c.args.value; left = 0; right = 0 })
-    c.requires.tree size at_least below c.if-number-eq0.false refl refl refl refl refl h (taken.takes map admitted free h)
+    c.requires.tree size at_least below c.if-number-eq0.false refl refl refl refl refl h
+    (taken.takes map admitted free h)

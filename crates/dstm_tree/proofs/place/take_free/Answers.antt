@@ -23,4 +23,5 @@ returns-clause-takes g c map admitted free h =
     ∙ ap (λ m. value_at m c.node_object.result) (sym still) ∙ two.reads map in_two in
     let is = three.writes map admitted ∙ ap (λ m. slice_set m c.free_object-2.result c.in_ok-next.next) still_too
     ∙ ap (λ o. slice_set before o c.in_ok-next.next) c.free_object-2.ensures.object in
-    taken c.args.layout.now before after c.in_ok-head.head c.in_ok-next.next free c.if-first-eq0.false head_is next_is is h
+    taken c.args.layout.now before after c.in_ok-head.head c.in_ok-next.next free c.if-first-eq0.false head_is next_is
+    is h

@@ -20,7 +20,10 @@ returns-clause-writes g c map admitted =
     let first_is = sym (one.reads map in_one) ∙ ap (value_at before) c.free_object.ensures.object in
     three.writes map admitted
     ∙ ap (λ n. slice_set (with_set map (M.written c.write.new.mem)) c.free_object-2.result (plain n)) c.from.ensures
-    ∙ ap (λ o. slice_set (with_set map (M.written c.write.new.mem)) o (plain c.args.number)) c.free_object-2.ensures.object
+    ∙ ap (λ o. slice_set (with_set map (M.written c.write.new.mem)) o (plain c.args.number))
+    c.free_object-2.ensures.object
     ∙ ap (λ m. slice_set m (free_of layout) (plain c.args.number))
-    (two.writes map in_two ∙ ap (λ m. slice_set m c.node_object.result c.in_ok-first.first) (with_set-same map start (M.written c.read.new.mem) one.sets)
-    ∙ ap (λ o. slice_set before o c.in_ok-first.first) c.node_object.ensures.object ∙ ap (slice_set before (object_of layout c.args.number)) first_is)
+    (two.writes map in_two ∙ ap (λ m. slice_set m c.node_object.result c.in_ok-first.first)
+    (with_set-same map start (M.written c.read.new.mem) one.sets)
+    ∙ ap (λ o. slice_set before o c.in_ok-first.first) c.node_object.ensures.object ∙
+    ap (slice_set before (object_of layout c.args.number)) first_is)

@@ -6,7 +6,8 @@ use Rattle.dstm_tree.proofs.removal.hoist.Goals as goal
 
 pub returns-then-child-eq0-clause-does : goal.returns-then-child-eq0-clause-does
 returns-then-child-eq0-clause-does g c map admitted =
-    hoist-none c.args.layout.now (with_set map (g.M.Mem.written c.args.mem.now)) c.args.child c.args.red c.if-child-eq0.true
+    hoist-none c.args.layout.now (with_set map (g.M.Mem.written c.args.mem.now)) c.args.child c.args.red
+    c.if-child-eq0.true
 
 pub returns-clause-does : goal.returns-clause-does
 returns-clause-does g c map admitted =
@@ -15,6 +16,9 @@ returns-clause-does g c map admitted =
     let one = c.in_ok-node.ensures in
     let two = c.in_ok-write_node.ensures in
     let in_one = two.narrows map admitted in
-    let size = length-with_set map start ∙ g.met.M.Mem.admitted_length c.args.mem.now map (one.narrows map in_one) ∙ c.requires.objects in
-    hoist-some c.args.layout.now (with_set map start) (with_set map (M.written c.read_node.new.mem)) (with_set map (M.written c.write_node.new.mem))
-    c.args.child c.args.red c.in_ok-node.node c.requires.tree size c.if-child-eq0.false (one.reads map in_one) (two.writes map admitted)
+    let size = length-with_set map start ∙ g.met.M.Mem.admitted_length c.args.mem.now map (one.narrows map in_one) ∙
+    c.requires.objects in
+    hoist-some c.args.layout.now (with_set map start) (with_set map (M.written c.read_node.new.mem))
+    (with_set map (M.written c.write_node.new.mem))
+    c.args.child c.args.red c.in_ok-node.node c.requires.tree size c.if-child-eq0.false (one.reads map in_one)
+    (two.writes map admitted)

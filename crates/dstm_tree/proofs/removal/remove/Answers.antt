@@ -19,7 +19,8 @@ remove_below-requires g c =
       live = one.live;
       lawful = λ map admitted.
           let (store, t) = c.requires.lawful map (one.narrows map admitted) in
-          part_at_root c.args.layout.now (with_set map start) (with_set map (M.written c.read_root.new.mem)) store t c.in_ok-root.root
+          part_at_root c.args.layout.now (with_set map start) (with_set map (M.written c.read_root.new.mem)) store t
+          c.in_ok-root.root
           (one.reads map admitted store t) (with_set-same map start (M.written c.read_root.new.mem) one.sets);
       admits = one.admits;
     }
@@ -36,8 +37,10 @@ give_back-requires-clause-within g c =
     let (store, t) = c.requires.lawful map (one.narrows map in_one) in
     let before = with_set map start in
     let after = with_set map (M.written c.remove_below.new.mem) in
-    let found = removed_at_root layout c.args.key before (with_set map (M.written c.read_root.new.mem)) after store t c.in_ok-root.root c.in_ok-found.found
-    (one.reads map in_one store t) (with_set-same map start (M.written c.read_root.new.mem) one.sets) (two.does map admitted) in
+    let found = removed_at_root layout c.args.key before (with_set map (M.written c.read_root.new.mem)) after store t
+    c.in_ok-root.root c.in_ok-found.found
+    (one.reads map in_one store t) (with_set-same map start (M.written c.read_root.new.mem) one.sets)
+    (two.does map admitted) in
     let removed : Removes layout c.args.key 0 KEY_LIMIT t.tree before after c.in-Some.removed =
     subst (RemovesIf layout c.args.key 0 KEY_LIMIT t.tree before after) c.in-Some.is found in
     removed.within
@@ -52,9 +55,12 @@ returns-in_default-clause-does g c map admitted store t =
     let in_one = two.narrows map admitted in
     let before = with_set map start in
     let after = with_set map (M.written c.remove_below.new.mem) in
-    let found = removed_at_root layout c.args.key before (with_set map (M.written c.read_root.new.mem)) after store t c.in_ok-root.root c.in_ok-found.found
-    (one.reads map in_one store t) (with_set-same map start (M.written c.read_root.new.mem) one.sets) (two.does map admitted) in
-    whole-none layout c.args.key before after store t (subst (RemovesIf layout c.args.key 0 KEY_LIMIT t.tree before after) c.in_default.is found)
+    let found = removed_at_root layout c.args.key before (with_set map (M.written c.read_root.new.mem)) after store t
+    c.in_ok-root.root c.in_ok-found.found
+    (one.reads map in_one store t) (with_set-same map start (M.written c.read_root.new.mem) one.sets)
+    (two.does map admitted) in
+    whole-none layout c.args.key before after store t (subst (RemovesIf layout c.args.key 0 KEY_LIMIT t.tree before
+    after) c.in_default.is found)
 
 pub returns-clause-does : goal.returns-clause-does
 returns-clause-does g c map admitted store t =
@@ -73,11 +79,13 @@ returns-clause-does g c map admitted store t =
     let two_map = with_set map (M.written c.give_back.new.mem) in
     let after = with_set map (M.written c.update_root.new.mem) in
     let root_is = one.reads map in_one store t in
-    let found = removed_at_root layout c.args.key before (with_set map (M.written c.read_root.new.mem)) mid store t c.in_ok-root.root c.in_ok-found.found
+    let found = removed_at_root layout c.args.key before (with_set map (M.written c.read_root.new.mem)) mid store t
+    c.in_ok-root.root c.in_ok-found.found
     root_is (with_set-same map start (M.written c.read_root.new.mem) one.sets) (two.does map in_two) in
     let removed = subst (RemovesIf layout c.args.key 0 KEY_LIMIT t.tree before mid) c.in-Some.is found in
     let has : HasTree layout = record { valid = c.requires.valid; declared = c.requires.fits.0 } in
     let size = length-with_set map (M.written c.remove_below.new.mem)
     ∙ g.met.M.Mem.admitted_length c.args.mem.now map (one.narrows map in_one) ∙ c.requires.objects in
-    whole-removed layout c.args.key before mid two_map after store t c.in-Some.removed c.in_ok-root.root has size root_is removed
+    whole-removed layout c.args.key before mid two_map after store t c.in-Some.removed c.in_ok-root.root has size
+    root_is removed
     (three.writes map in_three) (four.writes map admitted)

@@ -11,5 +11,6 @@ use Rattle.dstm_tree.proofs.tests.a_full_tree_has_room_again_after_a_removal.Giv
 abbrev pub invariant-loop-key : goal.invariant-loop-key
 invariant-loop-key g l = record {
   objects : length l.mem.values.items ≡ objects_of LAYOUT;
-  lawful : (map : List Val) → map ≡ l.mem.values.items → (store : Store) × IsTree LAYOUT (with_set map (written_in l.mem.notes.items)) store;
+  lawful : (map : List Val) → map ≡ l.mem.values.items → (store : Store) ×
+      IsTree LAYOUT (with_set map (written_in l.mem.notes.items)) store;
 }

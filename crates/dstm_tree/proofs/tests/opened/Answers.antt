@@ -5,7 +5,7 @@ use Rattle.dstm_model.specs.Map.{value_at}
 use Rattle.dstm_model.specs.Store.{opening_store}
 use Rattle.dstm_model.specs.Objects.{plain}
 use Rattle.dstm_mem.proofs.WithSet.{with_set-nothing}
-use Rattle.dstm_tree.specs.Objects.{object_of, IsTree}
+use Rattle.dstm_tree.specs.Objects.{IsTree}
 use Rattle.dstm_tree.proofs.Opening.{next_of, IsTree-opening}
 use Rattle.dstm_tree.proofs.tests.opened.Goals as goal
 
@@ -44,5 +44,6 @@ returns-clause-lawful c map is_map =
       c.free-10.ensures,
     ) in
     let start = with_set-nothing map _ made.unwritten ∙ (made.admits map).0 is_map ∙ items in
-    let t : IsTree eight values (opening_store eight) = IsTree-opening eight values (opening_store eight) refl refl refl refl nodes in
+    let t : IsTree eight values (opening_store eight) = IsTree-opening eight values (opening_store eight) refl refl
+    refl refl nodes in
     (opening_store eight, subst (λ x. IsTree eight x (opening_store eight)) (sym start) t)

@@ -11,5 +11,6 @@ use Rattle.dstm_tree.proofs.tests.operations_answer_as_a_map_does.Given as goal
 abbrev pub invariant-loop-step : goal.invariant-loop-step
 invariant-loop-step g l = record {
   objects : length l.mem.values.items ≡ objects_of LAYOUT;
-  lawful : (map : List Val) → map ≡ l.mem.values.items → (store : Store) × IsTree LAYOUT (with_set map (written_in l.mem.notes.items)) store;
+  lawful : (map : List Val) → map ≡ l.mem.values.items → (store : Store) ×
+      IsTree LAYOUT (with_set map (written_in l.mem.notes.items)) store;
 }

@@ -4,7 +4,7 @@ use Rattle.dstm_model.specs.Map.{no_value}
 use Rattle.dstm_mem.specs.Memory.{with_set}
 use Rattle.dstm_tree.specs.Objects.{object_of}
 use Rattle.dstm_tree.specs.Node.{val_of}
-use Rattle.dstm_tree.proofs.removal.update_node.Goals as goal
+use Rattle.dstm_tree.proofs.balance.update_node.Goals as goal
 
 pub returns-then-eq-clause-writes : goal.returns-then-eq-clause-writes
 returns-then-eq-clause-writes g c map admitted held =

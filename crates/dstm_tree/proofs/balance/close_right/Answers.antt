@@ -3,22 +3,26 @@ use Rattle.dstm_mem.specs.Memory.{with_set}
 use Rattle.dstm_mem.proofs.WithSet.{with_set-same, length-with_set}
 use Rattle.dstm_tree.specs.Remove.{RightGap, RightFall, ClosesRight}
 use Rattle.dstm_tree.proofs.Lift.{fallen_is_black, no_black_is_red}
-use Rattle.dstm_tree.proofs.Close.{close-right-kept, close-right-black, close-right-red, sibling_within_right, fall_right, near_within_red_right, fall_below_right}
-use Rattle.dstm_tree.proofs.removal.close_right.Goals as goal
+use Rattle.dstm_tree.proofs.Close.{close-right-kept, close-right-black, close-right-red, sibling_within_right}
+use Rattle.dstm_tree.proofs.Close.{fall_right, near_within_red_right, fall_below_right}
+use Rattle.dstm_tree.proofs.balance.close_right.Goals as goal
 
 pub returns-then-not-fell-clause-does : goal.returns-then-not-fell-clause-does
 returns-then-not-fell-clause-does g c map admitted =
     let M = g.M.Mem in
     let start = M.written c.args.mem.now in
     let one = c.in_ok-update_node.ensures in
-    let size = length-with_set map start ∙ g.met.M.Mem.admitted_length c.args.mem.now map (one.narrows map admitted) ∙ c.requires.objects in
-    close-right-kept c.args.layout.now (with_set map start) c.args.held c.args.parent (with_set map (M.written c.update_node.new.mem)) c.args.fell
+    let size = length-with_set map start ∙ g.met.M.Mem.admitted_length c.args.mem.now map (one.narrows map admitted) ∙
+    c.requires.objects in
+    close-right-kept c.args.layout.now (with_set map start) c.args.held c.args.parent
+    (with_set map (M.written c.update_node.new.mem)) c.args.fell
     c.requires.tree size c.if-not-fell.true (one.writes map admitted)
 
 pub read_node-requires-clause-number : goal.read_node-requires-clause-number
 read_node-requires-clause-number g c =
     let (map, admitted) = c.requires.admits in
-    sibling_within_right c.args.layout.now (with_set map (g.M.Mem.written c.args.mem.now)) c.args.held c.args.parent c.args.fell
+    sibling_within_right c.args.layout.now (with_set map (g.M.Mem.written c.args.mem.now)) c.args.held c.args.parent
+    c.args.fell
     (c.requires.lawful map admitted)
 
 pub lift_right-requires-clause-lawful : goal.lift_right-requires-clause-lawful
@@ -30,9 +34,12 @@ lift_right-requires-clause-lawful g c map admitted =
     let mid = with_set map (M.written c.read_node.new.mem) in
     let one = c.in_ok-sibling.ensures in
     let sibling = c.in_ok-sibling.sibling in
-    let gap = subst (RightGap layout before c.args.held c.args.parent) c.if-not-fell.false (c.requires.lawful map (one.narrows map admitted)) in
-    subst (λ m. RightFall layout m c.args.held c.args.parent sibling) (sym (with_set-same map start (M.written c.read_node.new.mem) one.sets))
-    (fall_right layout before c.args.held c.args.parent mid sibling c.requires.tree (one.reads map admitted) (fallen_is_black c.in_ok-sibling.sibling.red c.if-not-sibling.true) gap)
+    let gap = subst (RightGap layout before c.args.held c.args.parent) c.if-not-fell.false
+    (c.requires.lawful map (one.narrows map admitted)) in
+    subst (λ m. RightFall layout m c.args.held c.args.parent sibling)
+    (sym (with_set-same map start (M.written c.read_node.new.mem) one.sets))
+    (fall_right layout before c.args.held c.args.parent mid sibling c.requires.tree (one.reads map admitted)
+    (fallen_is_black c.in_ok-sibling.sibling.red c.if-not-sibling.true) gap)
 
 pub returns-then-not-sibling-clause-does : goal.returns-then-not-sibling-clause-does
 returns-then-not-sibling-clause-does g c map admitted =
@@ -44,8 +51,10 @@ returns-then-not-sibling-clause-does g c map admitted =
     let one = c.in_ok-sibling.ensures in
     let two = c.in_ok-cut.ensures in
     subst (λ b. ClosesRight layout c.args.held c.args.parent b before after c.in_ok-cut.cut) (sym c.if-not-fell.false)
-    (close-right-black layout before c.args.held c.args.parent mid after c.in_ok-sibling.sibling c.in_ok-cut.cut c.requires.tree
-    (one.reads map (two.narrows map admitted)) (fallen_is_black c.in_ok-sibling.sibling.red c.if-not-sibling.true) (two.does map admitted))
+    (close-right-black layout before c.args.held c.args.parent mid after c.in_ok-sibling.sibling c.in_ok-cut.cut
+    c.requires.tree
+    (one.reads map (two.narrows map admitted)) (fallen_is_black c.in_ok-sibling.sibling.red c.if-not-sibling.true)
+    (two.does map admitted))
 
 pub read_node-requires-2-clause-number : goal.read_node-requires-2-clause-number
 read_node-requires-2-clause-number g c =
@@ -54,8 +63,10 @@ read_node-requires-2-clause-number g c =
     let one = c.in_ok-sibling.ensures in
     let (map, admitted) = one.admits in
     let before = with_set map (M.written c.args.mem.now) in
-    let gap = subst (RightGap layout before c.args.held c.args.parent) c.if-not-fell.false (c.requires.lawful map (one.narrows map admitted)) in
-    near_within_red_right layout before c.args.held c.args.parent (with_set map (M.written c.read_node.new.mem)) c.in_ok-sibling.sibling c.requires.tree
+    let gap = subst (RightGap layout before c.args.held c.args.parent) c.if-not-fell.false
+    (c.requires.lawful map (one.narrows map admitted)) in
+    near_within_red_right layout before c.args.held c.args.parent (with_set map (M.written c.read_node.new.mem))
+    c.in_ok-sibling.sibling c.requires.tree
     (one.reads map admitted) (no_black_is_red c.in_ok-sibling.sibling.red c.if-not-sibling.false) gap
 
 pub lift_right-requires-2-clause-lawful : goal.lift_right-requires-2-clause-lawful
@@ -70,10 +81,12 @@ lift_right-requires-2-clause-lawful g c map admitted =
     let two = c.in_ok-near.ensures in
     let in_one = two.narrows map admitted in
     let s = c.in_ok-sibling.sibling in
-    let gap = subst (RightGap layout before c.args.held c.args.parent) c.if-not-fell.false (c.requires.lawful map (one.narrows map in_one)) in
+    let gap = subst (RightGap layout before c.args.held c.args.parent) c.if-not-fell.false
+    (c.requires.lawful map (one.narrows map in_one)) in
     subst (λ m. RightFall layout m c.args.held (record c.args.parent { red = true; left = s.right }) c.in_ok-near.near)
     (sym (with_set-same map start (M.written c.read_node-2.new.mem) (λ i. two.sets i ∙ one.sets i)))
-    (fall_below_right layout before c.args.held c.args.parent mid two_map s c.in_ok-near.near c.requires.tree (one.reads map in_one) (no_black_is_red c.in_ok-sibling.sibling.red c.if-not-sibling.false)
+    (fall_below_right layout before c.args.held c.args.parent mid two_map s c.in_ok-near.near c.requires.tree
+    (one.reads map in_one) (no_black_is_red c.in_ok-sibling.sibling.red c.if-not-sibling.false)
     (two.reads map admitted) gap)
 
 pub returns-clause-does : goal.returns-clause-does
@@ -96,6 +109,9 @@ returns-clause-does g c map admitted =
     let s = c.in_ok-sibling.sibling in
     let size = length-with_set map (M.written c.lift_right-2.new.mem)
     ∙ g.met.M.Mem.admitted_length c.args.mem.now map (one.narrows map in_one) ∙ c.requires.objects in
-    subst (λ b. ClosesRight layout c.args.held c.args.parent b before after (record { root = s.number; fell = false })) (sym c.if-not-fell.false)
-    (close-right-red layout before c.args.held c.args.parent mid two_map three_map after s c.in_ok-near.near c.in_ok-cut-2.cut c.requires.tree size
-    (one.reads map in_one) (no_black_is_red c.in_ok-sibling.sibling.red c.if-not-sibling.false) (two.reads map in_two) (three.does map in_three) (four.writes map admitted))
+    subst (λ b. ClosesRight layout c.args.held c.args.parent b before after (record { root = s.number; fell = false }))
+    (sym c.if-not-fell.false)
+    (close-right-red layout before c.args.held c.args.parent mid two_map three_map after s c.in_ok-near.near
+    c.in_ok-cut-2.cut c.requires.tree size
+    (one.reads map in_one) (no_black_is_red c.in_ok-sibling.sibling.red c.if-not-sibling.false) (two.reads map in_two)
+    (three.does map in_three) (four.writes map admitted))

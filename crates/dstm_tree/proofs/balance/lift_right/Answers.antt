@@ -4,14 +4,16 @@ use Rattle.dstm_mem.proofs.WithSet.{with_set-same, length-with_set}
 use Rattle.dstm_tree.specs.Objects.{object_of}
 use Rattle.dstm_tree.specs.Node.{val_of}
 use Rattle.dstm_tree.specs.Remove.{SeesRed}
-use Rattle.dstm_tree.proofs.Falls.{far_within_left, near_within_left, see_far_left, see_near_left, lifts_far_left, lifts_near_left, lifts_none_left}
-use Rattle.dstm_tree.proofs.removal.lift_left.Goals as goal
+use Rattle.dstm_tree.proofs.Falls.{far_within_right, near_within_right, see_far_right, see_near_right, lifts_far_right}
+use Rattle.dstm_tree.proofs.Falls.{lifts_near_right, lifts_none_right}
+use Rattle.dstm_tree.proofs.balance.lift_right.Goals as goal
 
 pub read_red-requires : goal.read_red-requires
 read_red-requires g c =
     let (map, admitted) = c.requires.admits in
     record {
-      number = far_within_left c.args.layout.now (with_set map (g.M.Mem.written c.args.mem.now)) c.args.held c.args.parent c.args.sibling
+      number = far_within_right c.args.layout.now (with_set map (g.M.Mem.written c.args.mem.now)) c.args.held
+          c.args.parent c.args.sibling
           (c.requires.lawful map admitted);
       tree = c.requires.tree;
       objects = c.requires.objects;
@@ -24,7 +26,8 @@ read_red-requires-2 g c =
     let (map, admitted) = c.requires.admits in
     let far = c.in_ok-far.ensures in
     record {
-      number = near_within_left c.args.layout.now (with_set map (g.M.Mem.written c.args.mem.now)) c.args.held c.args.parent c.args.sibling
+      number = near_within_right c.args.layout.now (with_set map (g.M.Mem.written c.args.mem.now)) c.args.held
+          c.args.parent c.args.sibling
           (c.requires.lawful map admitted);
       tree = c.requires.tree;
       objects = far.objects ∙ c.requires.objects;
@@ -47,13 +50,17 @@ returns-in-Some-clause-does g c map admitted h =
     let in_far = three.narrows map admitted in
     let in_start = far.narrows map in_far in
     let same = with_set-same map start (M.written c.read_red.new.mem) far.sets in
-    let sees = see_far_left layout before c.args.held p s before c.in_ok-far.far refl (far.finds map in_far) h in
+    let sees = see_far_right layout before c.args.held p s before c.in_ok-far.far refl (far.finds map in_far) h in
     let red = subst (SeesRed h.far) c.in-Some.is sees in
-    let size = length-with_set map start ∙ g.met.M.Mem.admitted_length c.args.mem.now map in_start ∙ c.requires.objects in
+    let size = length-with_set map start ∙ g.met.M.Mem.admitted_length c.args.mem.now map in_start ∙
+    c.requires.objects in
     let is = three.writes map admitted
-    ∙ ap (λ m. slice_set (slice_set (slice_set m (object_of layout p.number) (val_of (record p { red = false; right = s.left })))
-    (object_of layout o.number) (val_of (record o { red = false }))) (object_of layout s.number) (val_of (record s { red = p.red; left = p.number }))) same in
-    lifts_far_left layout before c.args.held p s (with_set map (M.written c.arrange.new.mem)) o c.requires.tree size h red is
+    ∙ ap (λ m. slice_set (slice_set (slice_set m (object_of layout p.number)
+    (val_of (record p { red = false; left = s.right })))
+    (object_of layout o.number) (val_of (record o { red = false }))) (object_of layout s.number)
+    (val_of (record s { red = p.red; right = p.number }))) same in
+    lifts_far_right layout before c.args.held p s (with_set map (M.written c.arrange.new.mem)) o c.requires.tree size h
+    red is
 
 pub returns-in-Some-near-clause-does : goal.returns-in-Some-near-clause-does
 returns-in-Some-near-clause-does g c map admitted h =
@@ -71,13 +78,18 @@ returns-in-Some-near-clause-does g c map admitted h =
     let in_far = near.narrows map in_near in
     let same = with_set-same map start (M.written c.read_red.new.mem) far.sets in
     let same_too = with_set-same map start (M.written c.read_red-2.new.mem) (λ i. near.sets i ∙ far.sets i) in
-    let sees = see_near_left layout before c.args.held p s (with_set map (M.written c.read_red.new.mem)) c.in_ok-near.near same (near.finds map in_near) h in
+    let sees = see_near_right layout before c.args.held p s (with_set map (M.written c.read_red.new.mem))
+    c.in_ok-near.near same (near.finds map in_near) h in
     let red = subst (SeesRed h.near) c.in-Some-near.is sees in
-    let size = length-with_set map start ∙ g.met.M.Mem.admitted_length c.args.mem.now map (far.narrows map in_far) ∙ c.requires.objects in
+    let size = length-with_set map start ∙ g.met.M.Mem.admitted_length c.args.mem.now map (far.narrows map in_far) ∙
+    c.requires.objects in
     let is = three.writes map admitted
-    ∙ ap (λ m. slice_set (slice_set (slice_set m (object_of layout p.number) (val_of (record p { red = false; right = o.left })))
-    (object_of layout s.number) (val_of (record s { left = o.right }))) (object_of layout o.number) (val_of (record o { red = p.red; left = p.number; right = s.number }))) same_too in
-    lifts_near_left layout before c.args.held p s (with_set map (M.written c.arrange-in-Some-near.new.mem)) o c.requires.tree size h red is
+    ∙ ap (λ m. slice_set (slice_set (slice_set m (object_of layout p.number)
+    (val_of (record p { red = false; left = o.right })))
+    (object_of layout s.number) (val_of (record s { right = o.left }))) (object_of layout o.number)
+    (val_of (record o { red = p.red; right = p.number; left = s.number }))) same_too in
+    lifts_near_right layout before c.args.held p s (with_set map (M.written c.arrange-in-Some-near.new.mem)) o
+    c.requires.tree size h red is
 
 pub returns-clause-does : goal.returns-clause-does
 returns-clause-does g c map admitted h =
@@ -96,12 +108,15 @@ returns-clause-does g c map admitted h =
     let in_far = near.narrows map in_near in
     let same = with_set-same map start (M.written c.read_red.new.mem) far.sets in
     let same_too = with_set-same map start (M.written c.read_red-2.new.mem) (λ i. near.sets i ∙ far.sets i) in
-    let sees_far = see_far_left layout before c.args.held p s before c.in_ok-far.far refl (far.finds map in_far) h in
-    let sees_near = see_near_left layout before c.args.held p s (with_set map (M.written c.read_red.new.mem)) c.in_ok-near.near same (near.finds map in_near) h in
+    let sees_far = see_far_right layout before c.args.held p s before c.in_ok-far.far refl (far.finds map in_far) h in
+    let sees_near = see_near_right layout before c.args.held p s (with_set map (M.written c.read_red.new.mem))
+    c.in_ok-near.near same (near.finds map in_near) h in
     let black_far = subst (SeesRed h.far) c.in_default.is sees_far in
     let black_near = subst (SeesRed h.near) c.in_default-near.is sees_near in
-    let size = length-with_set map start ∙ g.met.M.Mem.admitted_length c.args.mem.now map (far.narrows map in_far) ∙ c.requires.objects in
+    let size = length-with_set map start ∙ g.met.M.Mem.admitted_length c.args.mem.now map (far.narrows map in_far) ∙
+    c.requires.objects in
     let is_mid = three.writes map in_three
     ∙ ap (λ m. slice_set m (object_of layout s.number) (val_of (record s { red = true }))) same_too in
-    lifts_none_left layout before c.args.held p s (with_set map (M.written c.write_node.new.mem)) (with_set map (M.written c.update_node.new.mem))
+    lifts_none_right layout before c.args.held p s (with_set map (M.written c.write_node.new.mem))
+    (with_set map (M.written c.update_node.new.mem))
     c.requires.tree size h black_near black_far is_mid (four.writes map admitted)
