@@ -5,7 +5,7 @@ ghost use Rattle.dstm_report.specs.Text.{numbers_text, item_text, items_text, re
 
 use crate::report::{Report, Row};
 use dstm_model::{Item, Items, Numbers, Reply};
-use itoa::Buffer;
+use dstm_text::push_decimal;
 use std::alloc::{AllocError, Global};
 
 /// The text of a report, as docs/FORMATS.md shows it.
@@ -13,31 +13,23 @@ pub fn render(alloc: Global, report: &Report) -> Result<Vec<u8>, AllocError>
     ensures { IfOk result (λ text. text.items ≡ report_text report.now) }
 {
     let mut out = Vec::from_slice(alloc, b"dstm report ")?;
-    push_number(&mut out, u64::from(report.version))?;
+    push_decimal(&mut out, u64::from(report.version))?;
     out.push(b'\n')?;
     push_rows(&mut out, report.rows.as_slice())?;
     push_numbers(&mut out, b"bank", &report.bank)?;
     push_numbers(&mut out, b"list", &report.list)?;
     push_items(&mut out, report.version, &report.tree)?;
     out.extend_from_slice(b"end ")?;
-    push_number(&mut out, report.count)?;
+    push_decimal(&mut out, report.count)?;
     out.push(b'\n')?;
     Ok(out)
-}
-
-fn push_number(out: &mut Vec<u8>, number: u64) -> Result<(), AllocError>
-    ensures { OnOk result (out.new.items ≡ out.old.items ++ decimal number) }
-{
-    let mut buffer = Buffer::new();
-    out.extend_from_slice(buffer.format(number).as_bytes())?;
-    Ok(())
 }
 
 fn push_field(out: &mut Vec<u8>, number: u64) -> Result<(), AllocError>
     ensures { OnOk result (out.new.items ≡ out.old.items ++ number_field number) }
 {
     out.push(b' ')?;
-    push_number(out, number)
+    push_decimal(out, number)
 }
 
 fn push_reply(out: &mut Vec<u8>, reply: Reply) -> Result<(), AllocError>
@@ -46,7 +38,7 @@ fn push_reply(out: &mut Vec<u8>, reply: Reply) -> Result<(), AllocError>
     match reply {
         Reply::Moved => out.extend_from_slice(b"ok"),
         Reply::Poor => out.extend_from_slice(b"poor"),
-        Reply::Number(number) => push_number(out, number),
+        Reply::Number(number) => push_decimal(out, number),
         Reply::Yes => out.extend_from_slice(b"true"),
         Reply::No => out.extend_from_slice(b"false"),
         Reply::Full => out.extend_from_slice(b"full"),
@@ -72,11 +64,11 @@ fn push_replies(out: &mut Vec<u8>, replies: &[Reply]) -> Result<(), AllocError>
 fn push_row(out: &mut Vec<u8>, row: &Row) -> Result<(), AllocError>
     ensures { OnOk result (out.new.items ≡ out.old.items ++ row_text row.now) }
 {
-    push_number(out, row.line)?;
+    push_decimal(out, row.line)?;
     push_field(out, u64::from(row.worker))?;
     push_field(out, row.round)?;
     out.push(b'.')?;
-    push_number(out, row.number)?;
+    push_decimal(out, row.number)?;
     out.push(b' ')?;
     push_replies(out, row.replies.as_slice())?;
     out.push(b'\n')?;
@@ -109,10 +101,10 @@ fn push_numbers(out: &mut Vec<u8>, name: &[u8], numbers: &Option<Numbers>) -> Re
 fn push_item(out: &mut Vec<u8>, version: u32, item: &Item) -> Result<(), AllocError>
     ensures { OnOk result (out.new.items ≡ out.old.items ++ item_text version item.now) }
 {
-    push_number(out, item.key)?;
+    push_decimal(out, item.key)?;
     if version != 1 {
         out.push(b':')?;
-        push_number(out, item.value)?;
+        push_decimal(out, item.value)?;
     }
     Ok(())
 }
