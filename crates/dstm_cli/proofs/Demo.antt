@@ -28,12 +28,14 @@ record IsRun (spec : GenSpec) (report : Report) : Type 0 where
   balances : IfSome report.bank (λ bank. sum bank ≡ 8000)
 
 demo : (spec : GenSpec) (report : Report) (total : ℕ) (verdict : Verdict) (text : List ℕ) → IsRun spec report →
-    IfSome report.bank (λ bank. total ≡ sum bank) → verdict ≡ Lawful → text ≡ demo_text report.count total verdict → IsDemo spec text
+    IfSome report.bank (λ bank. total ≡ sum bank) → verdict ≡ Lawful → text ≡ demo_text report.count total verdict →
+    IsDemo spec text
 demo spec report total verdict text run told lawful is =
     let jobs = transactions (words_of_seed spec.seed) spec.count spec.workers in
     let count : report.count ≡ spec.count = run.lawful.count ∙ run.lawful.whole ∙ jobs in
     let sums : total ≡ 8000 =
-    is_told report.bank (store_after (workload_for spec) report.rows).balances total 8000 run.lawful.bank run.balances told in
+    is_told report.bank (store_after (workload_for spec) report.rows).balances total 8000 run.lawful.bank run.balances
+    told in
     record {
       report = report;
       lawful = run.lawful;
@@ -45,10 +47,12 @@ demo spec report total verdict text run told lawful is =
 pub is_demo : (spec : GenSpec) (workload : Workload) (report : Report) (total : ℕ) (verdict : Verdict) (text : List ℕ) →
     workload ≡ workload_for spec → IsLawful workload report →
     IfSome report.bank (λ bank. sum bank ≡ workload.layout.accounts * workload.layout.opening) →
-    IfSome report.bank (λ bank. total ≡ sum bank) → verdict ≡ Lawful → text ≡ demo_text report.count total verdict → IsDemo spec text
+    IfSome report.bank (λ bank. total ≡ sum bank) → verdict ≡ Lawful → text ≡ demo_text report.count total verdict →
+    IsDemo spec text
 is_demo spec workload report total verdict text generated lawful balances told judged is =
     demo spec report total verdict text
     (record {
       lawful = subst (λ (w : Workload). IsLawful w report) generated lawful;
-      balances = subst (λ (w : Workload). IfSome report.bank (λ bank. sum bank ≡ w.layout.accounts * w.layout.opening)) generated balances;
+      balances = subst (λ (w : Workload). IfSome report.bank (λ bank. sum bank ≡ w.layout.accounts * w.layout.opening))
+          generated balances;
     }) told judged is

@@ -1,6 +1,8 @@
 -- How a command ends, over what is known of its source and its sinks.
-use Rattle.std.proofs.Common.{◌≡◌, ◌≢◌, ℕ, true, List, Option, Some, None, Result, Ok, Err, is_ok, IfSome, refl, sym, ap, subst, ◌∙◌, ◌⊎◌, ◌<◌, inl, inr, true≢false, arith}
-use Rattle.std.specs.Prelude.{IsOk}
+use Rattle.std.proofs.Common.{◌≡◌, ◌≢◌, ℕ, true, List, Option, Some, None, Result, Ok, Err, is_ok, IfSome, refl, sym}
+use Rattle.std.proofs.Common.{ap, subst, ◌∙◌, ◌⊎◌, ◌<◌, inl, inr, true≢false, arith}
+use Rattle.std.specs.Prelude.{IsOk, OnOk, OnErr}
+use Rattle.std.specs.Io.KnownBytes.{Appends}
 use Rattle.std.proofs.KnownBytes.{Appends-nil}
 use Rattle.dstm_io.specs.Count.{Rises}
 use Rattle.dstm_command.specs.declared.command.Command.{Command}
@@ -8,9 +10,18 @@ use Rattle.dstm_command.specs.declared.command.Command.TheVariants.{Run, Check, 
 use Rattle.dstm_report.specs.declared.verdict.Verdict.{Verdict}
 use Rattle.dstm_report.specs.declared.verdict.Verdict.TheVariants.{Lawful, NotLawful}
 use Rattle.dstm_cli.specs.declared.failure.Failure.{Failure}
-use Rattle.dstm_cli.specs.declared.failure.Failure.TheVariants.{Usage, ReadFault, TooLong, Refused, NoReport, ReportForm, WriteFault, Memory}
+use Rattle.dstm_cli.specs.declared.failure.Failure.TheVariants.{Usage, ReadFault, TooLong, Refused, NoReport}
+use Rattle.dstm_cli.specs.declared.failure.Failure.TheVariants.{ReportForm, WriteFault, Memory}
 use Rattle.dstm_cli.specs.Failure.{status_of, message_of, message_with, TakesOrFaults}
-use Rattle.dstm_cli.specs.Command.{run_input, check_input, reads_input, Refuses, verdict_status, Answers, CanAnswer, EndsAs}
+use Rattle.dstm_cli.specs.Command.{run_input, check_input, reads_input, Refuses, verdict_status, Answers, CanAnswer}
+use Rattle.dstm_cli.specs.Ending.{EndsAs}
+
+-- a sink took a text, or its count of faults rose
+pub takes_or_faults : {A E : Type 0} (result : Result A E) (old new : Option (List ℕ)) (before after : ℕ)
+    (text : List ℕ) →
+    OnOk result (Appends old new text) → OnErr result (Rises before after) → TakesOrFaults old new before after text
+takes_or_faults (Ok done) old new before after text taken fault = inl taken
+takes_or_faults (Err error) old new before after text taken fault = inr fault
 
 -- the line of a failure is that of its status
 pub told : (failure : Failure) (old new : Option (List ℕ)) (faults_old faults_new : ℕ) → status_of failure ≢ 2 →
@@ -56,7 +67,8 @@ ok-err : {A E : Type 0} (result : Result A E) (a : A) (e : E) → result ≡ Ok 
 ok-err result a e ok err = true≢false (ap is_ok (sym ok ∙ err))
 
 -- its input is not refused
-not_refused : (command : Option Command) (input : List ℕ) (after : Option (List ℕ)) (text : List ℕ) (status : ℕ) (failure : Failure) →
+not_refused : (command : Option Command) (input : List ℕ) (after : Option (List ℕ)) (text : List ℕ) (status : ℕ)
+    (failure : Failure) →
     Answers command (Some input, after) text status → Refuses command input failure → ⊥
 not_refused None input after text status failure answers refuses = absurd answers
 not_refused (Some (Run options)) input after text status failure answers refuses =
@@ -66,8 +78,10 @@ not_refused (Some Check) input after text status failure answers refuses =
 not_refused (Some (Gen spec)) input after text status failure answers refuses = absurd refuses
 not_refused (Some (Demo spec)) input after text status failure answers refuses = absurd refuses
 
-pub answered-refuses : (command : Option Command) (left after : Option (List ℕ)) (text : List ℕ) (status : ℕ) (R : Type 0) →
-    Answers command (left, after) text status → IfSome left (λ input. (failure : Failure) → Refuses command input failure → R)
+pub answered-refuses : (command : Option Command) (left after : Option (List ℕ)) (text : List ℕ) (status : ℕ)
+    (R : Type 0) →
+    Answers command (left, after) text status → IfSome left (λ input. (failure : Failure) →
+    Refuses command input failure → R)
 answered-refuses command None after text status R answers = tt
 answered-refuses command (Some input) after text status R answers =
     λ failure refuses. absurd (not_refused command input after text status failure answers refuses)
@@ -75,7 +89,8 @@ answered-refuses command (Some input) after text status R answers =
 -- ---- a command that fails
 
 -- what is refused is answered by 2, if not by 5 or 3
-pub failed-refuses : (command : Option Command) (left after : Option (List ℕ)) (read_faults : ℕ × ℕ) (taken : Option (List ℕ) × Option (List ℕ)) (write_faults : ℕ × ℕ) (failure : Failure) →
+pub failed-refuses : (command : Option Command) (left after : Option (List ℕ)) (read_faults : ℕ × ℕ)
+    (taken : Option (List ℕ) × Option (List ℕ)) (write_faults : ℕ × ℕ) (failure : Failure) →
     EndsAs command (left, after) read_faults taken write_faults (Err failure) →
     IfSome left (λ input. (f : Failure) → Refuses command input f →
     (status_of failure ≡ 2) ⊎ (status_of failure ≡ 5) ⊎ Rises read_faults.0 read_faults.1)
@@ -108,15 +123,18 @@ refused-not (Some (Gen spec)) (Some input) failure can reads refuses = absurd re
 refused-not (Some (Demo spec)) (Some input) failure can reads refuses = absurd refuses
 
 -- what can be answered is answered, unless a fault is counted or memory runs out
-pub failed-complete : (command : Option Command) (left : Option (List ℕ) × Option (List ℕ)) (read_faults : ℕ × ℕ) (taken : Option (List ℕ) × Option (List ℕ)) (write_faults : ℕ × ℕ) (failure : Failure) →
+pub failed-complete : (command : Option Command) (left : Option (List ℕ) × Option (List ℕ)) (read_faults : ℕ × ℕ)
+    (taken : Option (List ℕ) × Option (List ℕ)) (write_faults : ℕ × ℕ) (failure : Failure) →
     EndsAs command left read_faults taken write_faults (Err failure) → CanAnswer command left.0 →
     (status_of failure ≡ 0) ⊎ (status_of failure ≡ 6) ⊎ (status_of failure ≡ 5)
     ⊎ Rises read_faults.0 read_faults.1 ⊎ Rises write_faults.0 write_faults.1
-failed-complete command left read_faults taken write_faults Usage ends can = absurd (subst (λ (c : Option Command). CanAnswer c left.0) ends.0 can)
+failed-complete command left read_faults taken write_faults Usage ends can =
+    absurd (subst (λ (c : Option Command). CanAnswer c left.0) ends.0 can)
 failed-complete command left read_faults taken write_faults ReadFault ends can = inr (inr (inr (inl ends.1)))
 failed-complete command left read_faults taken write_faults WriteFault ends can = inr (inr (inr (inr ends.0)))
 failed-complete command left read_faults taken write_faults Memory ends can = inr (inr (inl refl))
-failed-complete command left read_faults taken write_faults TooLong ends can = absurd (refused-not command left.0 TooLong can ends.0 ends.1)
+failed-complete command left read_faults taken write_faults TooLong ends can =
+    absurd (refused-not command left.0 TooLong can ends.0 ends.1)
 failed-complete command left read_faults taken write_faults (Refused refused) ends can =
     absurd (refused-not command left.0 (Refused refused) can ends.0 ends.1)
 failed-complete command left read_faults taken write_faults (NoReport line) ends can =

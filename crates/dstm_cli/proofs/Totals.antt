@@ -1,5 +1,6 @@
 -- No operation changes the sum of the balances.
-use Rattle.std.proofs.Common.{◌≡◌, ℕ, ◌*◌, ◌<◌, ◌≤◌, Bool, true, false, cond, eqb, List, [], ◌∷◌, length, sum, get_or, Option, Some, None, refl, ap, sym, ◌∙◌, subst, arith}
+use Rattle.std.proofs.Common.{◌≡◌, ℕ, ◌*◌, ◌<◌, ◌≤◌, Bool, true, false, cond, eqb, List, [], ◌∷◌, length, sum, get_or}
+use Rattle.std.proofs.Common.{Option, Some, None, refl, ap, sym, ◌∙◌, subst, arith}
 use Rattle.std.specs.Prelude.{IfSome, nat_lt, is_some}
 use Rattle.std.specs.List.{AllByRecursion, find}
 use Rattle.std.proofs.lemmas.Bool.{ltb-false}
@@ -12,7 +13,8 @@ use Rattle.dstm_model.specs.declared.op.Op.{Op}
 use Rattle.dstm_model.specs.declared.op.Op.TheVariants.{Transfer, Insert, Remove, Put, OrElse}
 use Rattle.dstm_model.specs.declared.reply.Reply.TheVariants.{Moved, Poor, Yes, No, Full}
 use Rattle.dstm_model.specs.Layout.{FitsLayout}
-use Rattle.dstm_model.specs.Store.{Store, Outcome, opening_store, apply, answer, balance_of, has_key, with_key, without_key, value_of, with_item, without_item, debit, credit}
+use Rattle.dstm_model.specs.Store.{Store, Outcome, opening_store, apply, answer, balance_of, has_key, with_key}
+use Rattle.dstm_model.specs.Store.{without_key, value_of, with_item, without_item, debit, credit}
 use Rattle.dstm_model.specs.Job.{apply_all, run_branch, open_branch, branches_of, onto_first, is_open}
 use Rattle.dstm_model.proofs.Transfers.{sum-moved}
 use Rattle.dstm_workload.specs.declared.workload.Job.{Job}
@@ -28,7 +30,8 @@ pub record Holds (layout : Layout) (total : ℕ) (store : Store) : Type 0 where
   pub total_is : sum store.balances ≡ total
 
 -- a store with the same balances
-same : (layout : Layout) (total : ℕ) (store after : Store) → after.layout ≡ store.layout → after.balances ≡ store.balances →
+same : (layout : Layout) (total : ℕ) (store after : Store) → after.layout ≡ store.layout →
+    after.balances ≡ store.balances →
     Holds layout total store → Holds layout total after
 same layout total store after layout_same balances_same h = record {
   layout_is = layout_same ∙ h.layout_is;
@@ -42,7 +45,8 @@ chosen : (layout : Layout) (total : ℕ) (b : Bool) (one other : Outcome) → (b
 chosen layout total true one other if_true if_false = if_true refl
 chosen layout total false one other if_true if_false = if_false refl
 
-moves : (layout : Layout) (total s t x : ℕ) (store : Store) → s < layout.accounts → t < layout.accounts → x ≤ balance_of s store →
+moves : (layout : Layout) (total s t x : ℕ) (store : Store) → s < layout.accounts → t < layout.accounts →
+    x ≤ balance_of s store →
     Holds layout total store → Holds layout total (record store { balances = credit t x (debit s x store.balances) })
 moves layout total s t x store in_s in_t enough h =
     let balances = store.balances in
@@ -53,11 +57,14 @@ moves layout total s t x store in_s in_t enough h =
       total_is = sum-moved balances s t x (omega (arith, h.accounts)) (omega (arith, h.accounts)) enough ∙ h.total_is;
     }
 
-inserts : (layout : Layout) (total : ℕ) (there full : Bool) (store after : Store) → after.layout ≡ store.layout → after.balances ≡ store.balances →
-    Holds layout total store → Holds layout total (cond there (answer No store) (cond full (answer Full store) (answer Yes after))).store
+inserts : (layout : Layout) (total : ℕ) (there full : Bool) (store after : Store) → after.layout ≡ store.layout →
+    after.balances ≡ store.balances →
+    Holds layout total store → Holds layout total (cond there (answer No store)
+    (cond full (answer Full store) (answer Yes after))).store
 inserts layout total there full store after layout_same balances_same h =
     chosen layout total there (answer No store) (cond full (answer Full store) (answer Yes after)) (λ _. h)
-    (λ _. chosen layout total full (answer Full store) (answer Yes after) (λ _. h) (λ _. same layout total store after layout_same balances_same h))
+    (λ _. chosen layout total full (answer Full store) (answer Yes after) (λ _. h)
+    (λ _. same layout total store after layout_same balances_same h))
 
 keeps : (layout : Layout) (total : ℕ) (op : Op) (store : Store) → FitsLayout layout op → Holds layout total store →
     Holds layout total (apply op store).store
@@ -71,17 +78,21 @@ keeps layout total (Insert which.List key) store fits h =
 keeps layout total (Insert which.Tree key) store fits h =
     inserts layout total (is_some (value_of key store.items)) (eqb (length store.items) store.layout.tree) store
     (record store { items = with_item key 0 store.items }) refl refl h
-keeps layout total (Remove which.List key) store fits h = same layout total store (record store { keys = without_key key store.keys }) refl refl h
-keeps layout total (Remove which.Tree key) store fits h = same layout total store (record store { items = without_item key store.items }) refl refl h
+keeps layout total (Remove which.List key) store fits h = same layout total store
+    (record store { keys = without_key key store.keys }) refl refl h
+keeps layout total (Remove which.Tree key) store fits h = same layout total store
+    (record store { items = without_item key store.items }) refl refl h
 keeps layout total (Put key value) store fits h =
     let after : Store = record store { items = with_item key value store.items } in
     let put = same layout total store after refl refl h in
     chosen layout total (is_some (value_of key store.items)) (answer No after)
     (cond (eqb (length store.items) store.layout.tree) (answer Full store) (answer Yes after)) (λ _. put)
-    (λ _. chosen layout total (eqb (length store.items) store.layout.tree) (answer Full store) (answer Yes after) (λ _. h) (λ _. put))
+    (λ _. chosen layout total (eqb (length store.items) store.layout.tree) (answer Full store) (answer Yes after)
+    (λ _. h) (λ _. put))
 keeps layout total op store fits h = h
 
-keeps_all : (layout : Layout) (total : ℕ) (ops : List Op) (store : Store) → AllByRecursion (FitsLayout layout) ops → Holds layout total store →
+keeps_all : (layout : Layout) (total : ℕ) (ops : List Op) (store : Store) → AllByRecursion (FitsLayout layout) ops →
+    Holds layout total store →
     Holds layout total (apply_all ops store).store
 keeps_all layout total [] store fits h = h
 keeps_all layout total (op ∷ ops) store fits h =
@@ -90,7 +101,8 @@ keeps_all layout total (op ∷ ops) store fits h =
 -- ---- branches
 
 onto_first-fits : (layout : Layout) (op : Op) (branches : List (List Op)) → FitsLayout layout op →
-    AllByRecursion (AllByRecursion (FitsLayout layout)) branches → AllByRecursion (AllByRecursion (FitsLayout layout)) (onto_first op branches)
+    AllByRecursion (AllByRecursion (FitsLayout layout)) branches →
+    AllByRecursion (AllByRecursion (FitsLayout layout)) (onto_first op branches)
 onto_first-fits layout op [] fits h = ((fits, tt), tt)
 onto_first-fits layout op (branch ∷ branches) fits h = ((fits, h.0), h.1)
 
@@ -98,32 +110,38 @@ branches_fit : (layout : Layout) (ops : List Op) → AllByRecursion (FitsLayout 
     AllByRecursion (AllByRecursion (FitsLayout layout)) (branches_of ops)
 branches_fit layout [] fits = (tt, tt)
 branches_fit layout (OrElse ∷ ops) fits = (tt, branches_fit layout ops fits.1)
-branches_fit layout (op ∷ ops) fits = onto_first-fits layout op (branches_of ops) fits.0 (branches_fit layout ops fits.1)
+branches_fit layout (op ∷ ops) fits = onto_first-fits layout op (branches_of ops) fits.0
+    (branches_fit layout ops fits.1)
 
 found : {X : Type 0} (P : X → Type 0) (p : X → Bool) (xs : List X) → AllByRecursion P xs → IfSome (find p xs) P
 found P p [] h = tt
 found P p (x ∷ xs) h =
     elim (p x) as (λ b. IfSome (cond b (Some x) (find p xs)) P) [ true ↦ h.0 | false ↦ found P p xs h.1 ]
 
-keeps_branch : (layout : Layout) (total : ℕ) (branch : Option (List Op)) (store : Store) → IfSome branch (AllByRecursion (FitsLayout layout)) →
+keeps_branch : (layout : Layout) (total : ℕ) (branch : Option (List Op)) (store : Store) →
+    IfSome branch (AllByRecursion (FitsLayout layout)) →
     Holds layout total store → Holds layout total (store_left (run_branch branch store) store)
 keeps_branch layout total None store fits h = h
 keeps_branch layout total (Some ops) store fits h = keeps_all layout total ops store fits h
 
-keeps_job : (layout : Layout) (total : ℕ) (job : Option Job) (store : Store) → IfSome job (λ j. AllByRecursion (FitsLayout layout) j.ops) →
+keeps_job : (layout : Layout) (total : ℕ) (job : Option Job) (store : Store) →
+    IfSome job (λ j. AllByRecursion (FitsLayout layout) j.ops) →
     Holds layout total store → Holds layout total (after_job job store)
 keeps_job layout total None store fits h = h
 keeps_job layout total (Some job) store fits h =
     keeps_branch layout total (open_branch job.ops store) store
-    (found (AllByRecursion (FitsLayout layout)) (is_open store) (branches_of job.ops) (branches_fit layout job.ops fits)) h
+    (found (AllByRecursion (FitsLayout layout)) (is_open store) (branches_of job.ops)
+    (branches_fit layout job.ops fits)) h
 
 keeps_rows : (layout : Layout) (total : ℕ) (jobs : List Job) (rows : List Row) (store : Store) →
-    AllByRecursion (λ j. AllByRecursion (FitsLayout layout) j.ops) jobs → Holds layout total store → Holds layout total (after_rows jobs rows store)
+    AllByRecursion (λ j. AllByRecursion (FitsLayout layout) j.ops) jobs → Holds layout total store →
+    Holds layout total (after_rows jobs rows store)
 keeps_rows layout total jobs [] store fits h = h
 keeps_rows layout total jobs (row ∷ rows) store fits h =
     let job = find (λ j. eqb j.line row.line) jobs in
     keeps_rows layout total jobs rows (after_job job store) fits
-    (keeps_job layout total job store (found (λ (j : Job). AllByRecursion (FitsLayout layout) j.ops) (λ j. eqb j.line row.line) jobs fits) h)
+    (keeps_job layout total job store (found (λ (j : Job). AllByRecursion (FitsLayout layout) j.ops)
+    (λ j. eqb j.line row.line) jobs fits) h)
 
 -- the balances after any rows have the sum that they were opened with
 pub total_stays : (workload : Workload) (rows : List Row) → IsValidWorkload workload →
@@ -132,7 +150,12 @@ total_stays workload rows valid =
     let layout = workload.layout in
     let total = layout.accounts * layout.opening in
     let opened : Holds layout total (opening_store layout) =
-    record { layout_is = refl; accounts = length-replicate layout.accounts layout.opening; total_is = sum_by-replicate (λ (x : ℕ). x) layout.accounts layout.opening } in
+    record {
+      layout_is = refl;
+      accounts = length-replicate layout.accounts layout.opening;
+      total_is =
+          sum_by-replicate (λ (x : ℕ). x) layout.accounts layout.opening;
+    } in
     let fits : AllByRecursion (λ j. AllByRecursion (FitsLayout layout) j.ops) workload.jobs =
     recursion_from_All (λ (j : Job). AllByRecursion (FitsLayout layout) j.ops) workload.jobs
     (λ k d lt. recursion_from_All (FitsLayout layout) (get_or workload.jobs k d).ops (valid.each k d lt).fits) in
@@ -144,7 +167,8 @@ pub told_total : (workload : Workload) (rows : List Row) (bank : Option (List �
     IfSome bank (λ balances. sum balances ≡ workload.layout.accounts * workload.layout.opening)
 told_total workload rows bank valid is =
     let balances = (store_after workload rows).balances in
-    let P : Option (List ℕ) → Type 0 = λ told. IfSome told (λ bs. sum bs ≡ workload.layout.accounts * workload.layout.opening) in
+    let P : Option (List ℕ) → Type 0 = λ told. IfSome told (λ bs. sum bs ≡ workload.layout.accounts *
+    workload.layout.opening) in
     subst P (sym is)
     (elim (eqb workload.layout.accounts 0) as (λ b. P (cond b None (Some balances))) [
       | true ↦ tt

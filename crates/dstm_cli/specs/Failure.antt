@@ -12,7 +12,8 @@ use Rattle.dstm_workload.specs.declared.refused.WorkloadError.{WorkloadError}
 use Rattle.dstm_workload.specs.declared.refused.WorkloadError.TheVariants as workloads
 use Rattle.dstm_workload.specs.Answers.{text_of}
 use Rattle.dstm_cli.specs.declared.failure.Failure.{Failure}
-use Rattle.dstm_cli.specs.declared.failure.Failure.TheVariants.{Usage, ReadFault, TooLong, Refused, NoReport, ReportForm, WriteFault, Memory}
+use Rattle.dstm_cli.specs.declared.failure.Failure.TheVariants.{Usage, ReadFault, TooLong, Refused, NoReport}
+use Rattle.dstm_cli.specs.declared.failure.Failure.TheVariants.{ReportForm, WriteFault, Memory}
 
 abbrev pub status_of : Failure → ℕ
 status_of Usage = 1
@@ -27,7 +28,8 @@ status_of Memory = 5
 abbrev pub message_of : Failure → List ℕ
 message_of Usage = codes "usage: dstm run, check, gen or demo\n"
 message_of TooLong = codes "dstm: input too long\n"
-message_of (Refused refused) = codes "dstm: line " ++ decimal refused.line ++ codes ": " ++ text_of refused.why ++ codes "\n"
+message_of (Refused refused) = codes "dstm: line " ++ decimal refused.line ++ codes ": " ++ text_of refused.why ++
+    codes "\n"
 message_of (NoReport line) = codes "dstm: line " ++ decimal line ++ codes ": no report\n"
 message_of (ReportForm line) = codes "dstm: report line " ++ decimal line ++ codes ": form\n"
 message_of ReadFault = codes "dstm: read fault\n"

@@ -1,3 +1,4 @@
 pub mod Running
 pub mod Failure
 pub mod Command
+pub mod Ending

@@ -1,5 +1,6 @@
 -- Taking turns on one store: which job of which worker goes next, and what it answers.
-use Rattle.std.specs.Prelude.{◌≡◌, ℕ, ◌+◌, ◌<◌, ◌≤◌, ◌==◌, Bool, List, [], ◌∷◌, length, filter, drop, slice_get, slice_index, Option, Some, None, IfSome}
+use Rattle.std.specs.Prelude.{◌≡◌, ℕ, ◌+◌, ◌<◌, ◌≤◌, ◌==◌, Bool, List, [], ◌∷◌, length, filter, drop, slice_get}
+use Rattle.std.specs.Prelude.{slice_index, Option, Some, None, IfSome}
 use Rattle.dstm_model.specs.declared.reply.Reply.{Reply}
 use Rattle.dstm_model.specs.declared.reply.Reply.TheVariants.{Never}
 use Rattle.dstm_model.specs.Job.{JobOutcome, apply_job}
@@ -38,7 +39,8 @@ AnswersTurn jobs cursors before None replies after =
     (replies ≡ Never ∷ []) × (after ≡ before) × AreBlocked jobs cursors before
 
 -- the turn of a worker that has a job left
-pub record IsTurn (jobs : List Job) (cursors : List ℕ) (before : Store) (worker : ℕ) (replies : List Reply) (after : Store) : Type 0 where
+pub record IsTurn (jobs : List Job) (cursors : List ℕ) (before : Store) (worker : ℕ) (replies : List Reply)
+    (after : Store) : Type 0 where
   pub worker_in : worker < length cursors
   pub place_in : slice_index cursors worker < length jobs
   pub answer : IfSome (slice_get jobs (slice_index cursors worker))
@@ -47,7 +49,8 @@ pub record IsTurn (jobs : List Job) (cursors : List ℕ) (before : Store) (worke
 -- a job, where there is one, answers these replies and leaves this store; where it is blocked it answers nothing
 abbrev pub IsTried : Option Job → Store → Store → Option (List Reply) → Type 0
 IsTried None before after replies = (replies ≡ None) × (after ≡ before)
-IsTried (Some job) before after (Some replies) = apply_job job.ops before ≡ Some (record { replies = replies; store = after })
+IsTried (Some job) before after (Some replies) = apply_job job.ops before ≡ Some
+    (record { replies = replies; store = after })
 IsTried (Some job) before after None = (apply_job job.ops before ≡ None) × (after ≡ before)
 
 -- some worker has a job left

@@ -1,11 +1,11 @@
-ghost use Rattle.std.specs.Prelude.{List, ℕ, ◌≡◌, ◌≢◌, ◌⊎◌, ◌≤◌, map, string_bytes, false, [], Some, None, IfSome, IfOk};
+ghost use Rattle.std.specs.Prelude.{List, ℕ, ◌≡◌, ◌≢◌, ◌⊎◌, ◌≤◌, false, [], Some, None, IfSome, IfOk};
 ghost use Rattle.std.specs.Io.KnownBytes.{Appends, Keeps};
 ghost use Rattle.dstm_io.specs.Count.{Rises};
 ghost use Rattle.dstm_io.specs.Sink.{AppendsPart};
-ghost use Rattle.dstm_command.specs.CommandLine.{command_of};
 ghost use Rattle.dstm_cli.specs.declared.failure.Failure.{Failure as TheFailure};
 ghost use Rattle.dstm_cli.specs.Failure.{message_of, message_with, TakesOrFaults};
-ghost use Rattle.dstm_cli.specs.Command.{reads_input, Refuses, Answers, CanAnswer, EndsAs};
+ghost use Rattle.dstm_cli.specs.Command.{asked, reads_input, Refuses, Answers, CanAnswer};
+ghost use Rattle.dstm_cli.specs.Ending.{EndsAs};
 
 use crate::failure::Failure;
 use crate::output::output_of;
@@ -38,24 +38,25 @@ pub fn dstm<S: Source, K: Sink, E: Sink>(
 
     // 0 and 6: `out` took the text that the command answers, whole.
     ensures done { (result ≡ 0) ⊎ (result ≡ 6) → (text : List ℕ) × (
-        Answers (command_of (map string_bytes words.now)) (S.left source.old, S.left source.new) text result
+        Answers (asked words.now) (S.left source.old, S.left source.new) text result
         × Appends (K.taken out.old) (K.taken out.new) text) }
 
     // 1: only where the words are no command.
-    ensures usage { result ≡ 1 → command_of (map string_bytes words.now) ≡ None }
-    ensures unread { reads_input (command_of (map string_bytes words.now)) ≡ false →
+    ensures usage { result ≡ 1 → asked words.now ≡ None }
+    ensures unread { reads_input (asked words.now) ≡ false →
         Keeps (S.left source.old) (S.left source.new) × (S.faults source.new ≡ S.faults source.old) }
 
     // 2: only where the command refuses the input, for the reason that is told.
     ensures refused { result ≡ 2 → IfSome (S.left source.old) (λ input. (failure : TheFailure) × (
-        Refuses (command_of (map string_bytes words.now)) input failure
-        × TakesOrFaults (E.taken err.old) (E.taken err.new) (E.faults err.old) (E.faults err.new) (message_of failure))) }
+        Refuses (asked words.now) input failure
+        × TakesOrFaults (E.taken err.old) (E.taken err.new) (E.faults err.old) (E.faults err.new)
+        (message_of failure))) }
 
     // 3 and 4: only where a count of faults rose.
     ensures read_fault { result ≡ 3 → Rises (S.faults source.old) (S.faults source.new) }
     ensures write_fault { result ≡ 4 → Rises (K.faults out.old) (K.faults out.new) }
     ensures part { result ≡ 4 → (text : List ℕ) × ((status : ℕ) × (
-        Answers (command_of (map string_bytes words.now)) (S.left source.old, S.left source.new) text status
+        Answers (asked words.now) (S.left source.old, S.left source.new) text status
         × AppendsPart (K.taken out.old) (K.taken out.new) text)) }
 
     // The other statuses leave `out` as it was.
@@ -67,11 +68,11 @@ pub fn dstm<S: Source, K: Sink, E: Sink>(
 
     // Unless memory runs out or a fault is counted, no command is answered by 1, what is refused by 2, and the
     // rest by 0 or 6.
-    ensures no_command { command_of (map string_bytes words.now) ≡ None → (result ≡ 1) ⊎ (result ≡ 5) }
+    ensures no_command { asked words.now ≡ None → (result ≡ 1) ⊎ (result ≡ 5) }
     ensures refuses { IfSome (S.left source.old) (λ input. (failure : TheFailure) →
-        Refuses (command_of (map string_bytes words.now)) input failure →
+        Refuses (asked words.now) input failure →
         (result ≡ 2) ⊎ (result ≡ 5) ⊎ Rises (S.faults source.old) (S.faults source.new)) }
-    ensures complete { CanAnswer (command_of (map string_bytes words.now)) (S.left source.old) →
+    ensures complete { CanAnswer (asked words.now) (S.left source.old) →
         (result ≡ 0) ⊎ (result ≡ 6) ⊎ (result ≡ 5)
         ⊎ Rises (S.faults source.old) (S.faults source.new) ⊎ Rises (K.faults out.old) (K.faults out.new) }
 {
@@ -90,10 +91,11 @@ fn obey<S: Source, K: Sink>(
     source: &mut S,
     out: &mut K,
 ) -> Result<u8, Failure>
-    ensures ending { EndsAs (command_of (map string_bytes words.now)) (S.left source.old, S.left source.new)
-        (S.faults source.old, S.faults source.new) (K.taken out.old, K.taken out.new) (K.faults out.old, K.faults out.new) result }
+    ensures ending { EndsAs (asked words.now) (S.left source.old, S.left source.new)
+        (S.faults source.old, S.faults source.new) (K.taken out.old, K.taken out.new)
+        (K.faults out.old, K.faults out.new) result }
     ensures written { IfOk result (λ status. (status ≡ 0) ⊎ (status ≡ 6)) }
-    ensures unread { reads_input (command_of (map string_bytes words.now)) ≡ false →
+    ensures unread { reads_input (asked words.now) ≡ false →
         Keeps (S.left source.old) (S.left source.new) × (S.faults source.new ≡ S.faults source.old) }
 {
     let command = read_words(alloc, words)?;

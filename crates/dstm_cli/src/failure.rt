@@ -1,7 +1,7 @@
 ghost use Rattle.std.specs.Prelude.{◌≡◌, ◌⊎◌, ◌++◌, decimal, OnOk, OnErr};
 ghost use Rattle.std.specs.Io.KnownBytes.{Appends};
 ghost use Rattle.dstm_io.specs.Count.{Rises};
-ghost use Rattle.dstm_cli.specs.Failure.{status_of, message_of, TakesOrFaults};
+ghost use Rattle.dstm_cli.specs.Failure.{status_of, message_of};
 
 use dstm_command::WordsError;
 use dstm_io::{ReadError, Sink, WriteFault, write_all};
@@ -130,7 +130,7 @@ impl Failure {
     /// Writes one line that says what failed. It takes no memory.
     pub fn write_to<E: Sink>(self, err: &mut E) -> Result<(), WriteFault>
         ensures taken { OnOk result (Appends (E.taken err.old) (E.taken err.new) (message_of self)) }
-        ensures fault { TakesOrFaults (E.taken err.old) (E.taken err.new) (E.faults err.old) (E.faults err.new) (message_of self) }
+        ensures fault { OnErr result (Rises (E.faults err.old) (E.faults err.new)) }
     {
         match self {
             Failure::Usage => write_all(err, b"usage: dstm run, check, gen or demo\n"),
@@ -167,7 +167,8 @@ fn write_around<E: Sink>(
     number: u64,
     behind: &[u8],
 ) -> Result<(), WriteFault>
-    ensures taken { OnOk result (Appends (E.taken err.old) (E.taken err.new) (before.now ++ decimal number ++ behind.now)) }
+    ensures taken { OnOk result (Appends (E.taken err.old) (E.taken err.new)
+        (before.now ++ decimal number ++ behind.now)) }
     ensures no_fault { OnOk result (E.faults err.new ≡ E.faults err.old) }
     ensures fault { OnErr result (Rises (E.faults err.old) (E.faults err.new)) }
 {

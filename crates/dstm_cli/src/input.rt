@@ -1,7 +1,8 @@
 ghost use Rattle.std.specs.Prelude.{◌≡◌, ◌≤◌, ◌<◌, ◌^◌, length, vec_len, Ok, IfOk, IfErr};
 ghost use Rattle.dstm_io.specs.Source.{TakesAll};
 ghost use Rattle.dstm_workload.specs.Workload.{IsValidWorkload};
-ghost use Rattle.dstm_cli.specs.Command.{check_input, FailsToRead, FailsToAnswer};
+ghost use Rattle.dstm_cli.specs.Command.{check_input};
+ghost use Rattle.dstm_cli.specs.Ending.{FailsToRead, FailsToAnswer};
 
 use crate::failure::Failure;
 use dstm_io::{Source, read_all};

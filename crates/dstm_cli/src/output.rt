@@ -1,4 +1,5 @@
-ghost use Rattle.std.specs.Prelude.{◌≡◌, ◌≤◌, ◌<◌, ◌^◌, ◌++◌, ◌∷◌, [], length, sum, false, Some, Ok, IfSome, IfOk, IfErr, OnOk};
+ghost use Rattle.std.specs.Prelude.{◌≡◌, ◌≤◌, ◌<◌, ◌^◌, ◌++◌, ◌∷◌, [], length, sum, false, Some, Ok, IfSome, IfOk};
+ghost use Rattle.std.specs.Prelude.{IfErr, OnOk};
 ghost use Rattle.std.specs.Io.KnownBytes.{Keeps};
 ghost use Rattle.dstm_command.specs.CommandLine.{IsSmall, IsSmallCommand};
 ghost use Rattle.dstm_workload.specs.declared.workload.Workload.{Workload as TheWorkload};
@@ -18,10 +19,8 @@ ghost use Rattle.dstm_cli.specs.Command.{
   HasRun,
   HasJudged,
   Answers,
-  FailsOn,
-  FailsFor,
-  FailsToAnswer,
 };
+ghost use Rattle.dstm_cli.specs.Ending.{FailsOn, FailsFor, FailsToAnswer};
 
 use crate::failure::Failure;
 use crate::input::{CHECK_LIMIT, RUN_LIMIT, read_case, read_input};

@@ -1,4 +1,5 @@
-ghost use Rattle.std.specs.Prelude.{List, ◌≡◌, ℕ, ◌<◌, ◌≤◌, ◌-◌, ◌*◌, sum, [], ◌∷◌, All, length, drop, filter, slice_get, slice_index, Some, None, IfOk, IfNone, IfSome, IfErr, OnOk};
+ghost use Rattle.std.specs.Prelude.{List, ◌≡◌, ℕ, ◌<◌, ◌≤◌, ◌-◌, ◌*◌, sum, [], ◌∷◌, All, length, drop, filter};
+ghost use Rattle.std.specs.Prelude.{slice_get, slice_index, Some, None, IfOk, IfNone, IfSome, IfErr, OnOk};
 ghost use Rattle.dstm_model.specs.Job.{apply_job};
 ghost use Rattle.dstm_model.specs.Layout.{FitsLayout};
 ghost use Rattle.dstm_workload.specs.Workload.{IsValidWorkload};
@@ -47,7 +48,8 @@ fn run_rows(
 ) -> Result<Vec<Row>, AllocError>
     requires valid { IsValidWorkload workload.now }
     requires opening { store.old ≡ store_after workload.now [] }
-    ensures { IfOk result (λ rows. (cursors : List ℕ) × Stands workload.now rows.items cursors (length workload.now.jobs) store.new) }
+    ensures { IfOk result (λ rows. (cursors : List ℕ) × Stands workload.now rows.items cursors
+        (length workload.now.jobs) store.new) }
 {
     let jobs = workload.jobs.as_slice();
     let mut cursors = first_cursors(alloc, jobs, workload.workers)?;
@@ -71,7 +73,8 @@ fn run_rows(
 // Where each worker's first job stands.
 fn first_cursors(alloc: Global, jobs: &[Job], workers: u32) -> Result<Vec<usize>, AllocError>
     ensures count { IfOk result (λ cursors. length cursors.items ≡ workers) }
-    ensures first { IfOk result (λ cursors. (v : ℕ) → v < workers → IsCursor jobs.now jobs.now v (slice_index cursors.items v)) }
+    ensures first { IfOk result (λ cursors. (v : ℕ) → v < workers →
+        IsCursor jobs.now jobs.now v (slice_index cursors.items v)) }
 {
     let mut cursors = Vec::with_capacity(alloc, workers as usize)?;
     for worker in 0..workers {

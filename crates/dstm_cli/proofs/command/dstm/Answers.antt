@@ -1,27 +1,32 @@
-use Rattle.std.proofs.Common.{◌≡◌, ◌⊎◌, ℕ, map, string_bytes, subst, sym, ◌∙◌, inl, inr, ⊎_elim, arith}
+use Rattle.std.proofs.Common.{◌≡◌, ◌⊎◌, ℕ, subst, sym, ◌∙◌, inl, inr, ⊎_elim, arith}
 use Rattle.std.specs.Prelude.{IfSome}
 use Rattle.dstm_io.specs.Count.{Rises}
-use Rattle.dstm_command.specs.CommandLine.{command_of}
 use Rattle.dstm_cli.specs.declared.failure.Failure.{Failure}
-use Rattle.dstm_cli.specs.Failure.{message_with, TakesOrFaults}
-use Rattle.dstm_cli.specs.Command.{Refuses}
-use Rattle.dstm_cli.proofs.Ends.{told, told_nothing, between, answered-refuses, failed-refuses, failed-complete}
+use Rattle.dstm_cli.specs.Failure.{message_of, message_with, TakesOrFaults}
+use Rattle.dstm_cli.specs.Command.{asked, Refuses}
+use Rattle.dstm_cli.proofs.Ends.{takes_or_faults, told, told_nothing, between, answered-refuses, failed-refuses}
+use Rattle.dstm_cli.proofs.Ends.{failed-complete}
 use Rattle.dstm_cli.proofs.command.dstm.Goals as goal
 
 pub returns-in-Ok-clause-usage : goal.returns-in-Ok-clause-usage
-returns-in-Ok-clause-usage g c is = absurd (between c.in-Ok.status 1 c.in-Ok.ensures.written is (omega arith) (omega arith))
+returns-in-Ok-clause-usage g c is = absurd (between c.in-Ok.status 1 c.in-Ok.ensures.written is (omega arith)
+    (omega arith))
 
 pub returns-in-Ok-clause-refused : goal.returns-in-Ok-clause-refused
-returns-in-Ok-clause-refused g c is = absurd (between c.in-Ok.status 2 c.in-Ok.ensures.written is (omega arith) (omega arith))
+returns-in-Ok-clause-refused g c is = absurd (between c.in-Ok.status 2 c.in-Ok.ensures.written is (omega arith)
+    (omega arith))
 
 pub returns-in-Ok-clause-read_fault : goal.returns-in-Ok-clause-read_fault
-returns-in-Ok-clause-read_fault g c is = absurd (between c.in-Ok.status 3 c.in-Ok.ensures.written is (omega arith) (omega arith))
+returns-in-Ok-clause-read_fault g c is = absurd (between c.in-Ok.status 3 c.in-Ok.ensures.written is (omega arith)
+    (omega arith))
 
 pub returns-in-Ok-clause-write_fault : goal.returns-in-Ok-clause-write_fault
-returns-in-Ok-clause-write_fault g c is = absurd (between c.in-Ok.status 4 c.in-Ok.ensures.written is (omega arith) (omega arith))
+returns-in-Ok-clause-write_fault g c is = absurd (between c.in-Ok.status 4 c.in-Ok.ensures.written is (omega arith)
+    (omega arith))
 
 pub returns-in-Ok-clause-part : goal.returns-in-Ok-clause-part
-returns-in-Ok-clause-part g c is = absurd (between c.in-Ok.status 4 c.in-Ok.ensures.written is (omega arith) (omega arith))
+returns-in-Ok-clause-part g c is = absurd (between c.in-Ok.status 4 c.in-Ok.ensures.written is (omega arith)
+    (omega arith))
 
 pub returns-in-Ok-clause-unwritten : goal.returns-in-Ok-clause-unwritten
 returns-in-Ok-clause-unwritten g c not_done no_fault lawful = absurd (⊎_elim not_done lawful c.in-Ok.ensures.written)
@@ -32,9 +37,10 @@ returns-in-Ok-clause-told g c other =
 
 pub returns-in-Ok-clause-refuses : goal.returns-in-Ok-clause-refuses
 returns-in-Ok-clause-refuses g c =
-    answered-refuses (command_of (map string_bytes c.args.words.now)) (g.S.Source.left c.args.source.now) (g.S.Source.left c.obey.new.source)
+    answered-refuses (asked c.args.words.now) (g.S.Source.left c.args.source.now) (g.S.Source.left c.obey.new.source)
     c.in-Ok.ensures.ending.0 c.in-Ok.status
-    ((c.in-Ok.status ≡ 2) ⊎ (c.in-Ok.status ≡ 5) ⊎ Rises (g.S.Source.faults c.args.source.now) (g.S.Source.faults c.obey.new.source))
+    ((c.in-Ok.status ≡ 2) ⊎ (c.in-Ok.status ≡ 5) ⊎ Rises (g.S.Source.faults c.args.source.now)
+    (g.S.Source.faults c.obey.new.source))
     c.in-Ok.ensures.ending.1.0
 
 pub returns-in-Ok-clause-complete : goal.returns-in-Ok-clause-complete
@@ -47,23 +53,27 @@ returns-in-Err-clause-told g c other =
     let faults = g.E.Sink.faults c.args.err.now in
     let faults_after = g.E.Sink.faults c.write_to.new.err in
     subst (λ (status : ℕ). TakesOrFaults old new faults faults_after (message_with status)) (sym c.status.ensures)
-    (told c.in-Err.failure old new faults faults_after (λ is. other (c.status.ensures ∙ is)) c.write_to.ensures.fault)
+    (told c.in-Err.failure old new faults faults_after (λ is. other (c.status.ensures ∙ is))
+    (takes_or_faults c.write_to.result old new faults faults_after (message_of c.in-Err.failure)
+    c.write_to.ensures.taken c.write_to.ensures.fault))
 
 pub returns-in-Err-clause-refuses : goal.returns-in-Err-clause-refuses
 returns-in-Err-clause-refuses g c =
-    let command = command_of (map string_bytes c.args.words.now) in
+    let command = asked c.args.words.now in
     let left = g.S.Source.left c.args.source.now in
     let before = g.S.Source.faults c.args.source.now in
     let after = g.S.Source.faults c.obey.new.source in
-    subst (λ (status : ℕ). IfSome left (λ input. (f : Failure) → Refuses command input f → (status ≡ 2) ⊎ (status ≡ 5) ⊎ Rises before after))
+    subst (λ (status : ℕ). IfSome left (λ input. (f : Failure) → Refuses command input f → (status ≡ 2) ⊎
+    (status ≡ 5) ⊎ Rises before after))
     (sym c.status.ensures)
     (failed-refuses command left (g.S.Source.left c.obey.new.source) (before, after)
-    (g.K.Sink.taken c.args.out.now, g.K.Sink.taken c.obey.new.out) (g.K.Sink.faults c.args.out.now, g.K.Sink.faults c.obey.new.out)
+    (g.K.Sink.taken c.args.out.now, g.K.Sink.taken c.obey.new.out)
+    (g.K.Sink.faults c.args.out.now, g.K.Sink.faults c.obey.new.out)
     c.in-Err.failure c.in-Err.ensures.ending)
 
 pub returns-in-Err-clause-complete : goal.returns-in-Err-clause-complete
 returns-in-Err-clause-complete g c can =
-    let command = command_of (map string_bytes c.args.words.now) in
+    let command = asked c.args.words.now in
     let before = g.S.Source.faults c.args.source.now in
     let after = g.S.Source.faults c.obey.new.source in
     let faults = g.K.Sink.faults c.args.out.now in

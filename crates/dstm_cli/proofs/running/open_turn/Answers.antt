@@ -18,7 +18,8 @@ returns-in-Some-clause-turn c =
     let after = c.try_job.new.store in
     turn_of jobs cursors c.args.store.now after worker c.in-Some.replies c.loop-worker-test.true
     (subst (λ (s : Store). IsTried job s after (Some c.in-Some.replies)) c.loop-worker.invariant.store
-    (subst (λ (r : Option (List Reply)). IsTried job c.loop-worker.store after r) c.in-Some.is c.in_ok-turn.ensures.tried))
+    (subst (λ (r : Option (List Reply)). IsTried job c.loop-worker.store after r) c.in-Some.is
+    c.in_ok-turn.ensures.tried))
 
 pub loop-worker-preserved : goal.loop-worker-preserved
 loop-worker-preserved c =
@@ -30,9 +31,11 @@ loop-worker-preserved c =
     let after = c.try_job.new.store in
     let tried : IsTried job before after None =
     subst (λ (s : Store). IsTried job s after None) c.loop-worker.invariant.store
-    (subst (λ (r : Option (List Reply)). IsTried job c.loop-worker.store after r) c.in_default.is c.in_ok-turn.ensures.tried) in
+    (subst (λ (r : Option (List Reply)). IsTried job c.loop-worker.store after r) c.in_default.is
+    c.in_ok-turn.ensures.tried) in
     let here = blocked_of job before after tried in
-    let IsBlocked : ℕ → Type 0 = λ v. IfSome (slice_get jobs (slice_index cursors v)) (λ j. apply_job j.ops before ≡ None) in
+    let IsBlocked : ℕ → Type 0 = λ v. IfSome (slice_get jobs (slice_index cursors v))
+    (λ j. apply_job j.ops before ≡ None) in
     record {
       store = here.1;
       blocked = below_more IsBlocked worker c.loop-worker.invariant.blocked here.0;

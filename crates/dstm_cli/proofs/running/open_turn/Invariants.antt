@@ -6,5 +6,6 @@ use Rattle.dstm_cli.proofs.running.open_turn.Given as goal
 abbrev pub invariant-loop-worker : goal.invariant-loop-worker
 invariant-loop-worker l = record {
   store : l.store ≡ l.fn.store;
-  blocked : (v : ℕ) → v < l.worker → IfSome (slice_get l.jobs (slice_index l.cursors v)) (λ job. apply_job job.ops l.fn.store ≡ None);
+  blocked : (v : ℕ) → v < l.worker → IfSome (slice_get l.jobs (slice_index l.cursors v))
+      (λ job. apply_job job.ops l.fn.store ≡ None);
 }
