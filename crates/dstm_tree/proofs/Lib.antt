@@ -15,3 +15,4 @@ pub mod Least
 pub mod Removing
 pub mod Taking
 pub mod Opening
+pub mod Heights

@@ -1,5 +1,5 @@
 -- Trees of numbered nodes, and what makes one a red-black tree.
-use Rattle.std.specs.Prelude.{◌≡◌, ℕ, ◌+◌, ◌≤◌, ◌==◌, Bool, true, false, if◌then◌else◌, List, [], ◌∷◌, ◌++◌}
+use Rattle.std.specs.Prelude.{◌≡◌, ℕ, ◌+◌, ◌≤◌, ◌==◌, Bool, true, false, max, if◌then◌else◌, List, [], ◌∷◌, ◌++◌}
 
 -- a node has a number, a colour, and a key with its value between the trees on its left and on its right
 pub data Tree : Type 0 where
@@ -34,6 +34,11 @@ IsOrdered low high (node n red l k v r) = IsOrdered low k l × IsOrdered (k + 1)
 abbrev pub black_height : Tree → ℕ
 black_height leaf = 0
 black_height (node n red l k v r) = black_height l + (if red then 0 else 1)
+
+-- how many nodes stand on the longest way down
+abbrev pub height : Tree → ℕ
+height leaf = 0
+height (node n red l k v r) = max (height l) (height r) + 1
 
 -- on all ways from a node to a missing child there are as many black nodes, and no red node has a red child
 abbrev pub IsBalanced : Tree → Type 0

@@ -4,12 +4,14 @@
 mod balance;
 mod cells;
 mod find;
+mod law;
 mod node;
 mod place;
 mod removal;
 
 pub use cells::{node_object, root_object};
 pub use find::{get, member};
+pub use law::height_is_logarithmic;
 pub use node::Node;
 pub use place::{insert, put};
 pub use removal::remove;

@@ -246,3 +246,8 @@ fn a_key_has_the_value_that_was_put_last(rt: HostRuntime) -> Result<(), Fail> {
     assert_eq!(rt; values.get(4), Some(&free(4)));
     Ok(())
 }
+
+#[test]
+fn the_law_of_heights_can_be_cited(_rt: HostRuntime) {
+    height_is_logarithmic();
+}
