@@ -1,19 +1,14 @@
 -- What the demo tells of a run of a generated workload.
-use Rattle.std.proofs.Common.{◌≡◌, ℕ, ◌*◌, List, length, sum, Option, Some, IfSome, ap, subst, ◌∙◌}
-use Rattle.std.proofs.lemmas.List.FromFn.{length-map-range_with_len}
+use Rattle.std.proofs.Common.{◌≡◌, ℕ, ◌*◌, List, sum, Option, Some, IfSome, ap, subst, ◌∙◌}
 use Rattle.dstm_command.specs.declared.command.GenSpec.{GenSpec}
 use Rattle.dstm_gen.specs.Words.{words_of_seed}
-use Rattle.dstm_gen.specs.Generated.{job_at, jobs_of}
+use Rattle.dstm_gen.proofs.Validity.{length-jobs_of}
 use Rattle.dstm_workload.specs.declared.workload.Workload.{Workload}
 use Rattle.dstm_report.specs.declared.report.Report.{Report}
 use Rattle.dstm_report.specs.declared.verdict.Verdict.{Verdict}
 use Rattle.dstm_report.specs.declared.verdict.Verdict.TheVariants.{Lawful}
 use Rattle.dstm_report.specs.Lawful.{IsLawful, store_after}
 use Rattle.dstm_cli.specs.Command.{workload_for, demo_text, IsDemo}
-
-transactions : (words : ℕ → ℕ) (count workers : ℕ) → length (jobs_of words count workers) ≡ count
-unfolding jobs_of
-transactions words count workers = length-map-range_with_len (job_at words workers) 0 count
 
 -- the sum that is told, where there is a bank
 is_told : (bank : Option (List ℕ)) (balances : List ℕ) (total all : ℕ) → bank ≡ Some balances →
@@ -31,7 +26,7 @@ demo : (spec : GenSpec) (report : Report) (total : ℕ) (verdict : Verdict) (tex
     IfSome report.bank (λ bank. total ≡ sum bank) → verdict ≡ Lawful → text ≡ demo_text report.count total verdict →
     IsDemo spec text
 demo spec report total verdict text run told lawful is =
-    let jobs = transactions (words_of_seed spec.seed) spec.count spec.workers in
+    let jobs = length-jobs_of (words_of_seed spec.seed) spec.count spec.workers in
     let count : report.count ≡ spec.count = run.lawful.count ∙ run.lawful.whole ∙ jobs in
     let sums : total ≡ 8000 =
     is_told report.bank (store_after (workload_for spec) report.rows).balances total 8000 run.lawful.bank run.balances

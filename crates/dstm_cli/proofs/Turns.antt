@@ -1,11 +1,11 @@
 -- A run on one store, row by row: where it stands after each turn.
 use Rattle.std.proofs.Common.{◌≡◌, ◌≢◌, ℕ, ◌+◌, ◌<◌, ◌≤◌, Bool, eqb, not, List, [], ◌∷◌, ◌++◌, length, take, drop}
-use Rattle.std.proofs.Common.{get_or, Option, Some, None, refl, ap, sym, ◌∙◌, inl, inr, subst, append_assoc, slice_set}
+use Rattle.std.proofs.Common.{get_or, Option, Some, None, refl, ap, sym, ◌∙◌, inl, inr, subst, slice_set}
 use Rattle.std.proofs.Common.{slice_index, arith}
 use Rattle.std.specs.Prelude.{IfSome, slice_get}
 use Rattle.std.specs.List.{AllByRecursion, All, find}
 use Rattle.std.proofs.lemmas.Bool.{eq-eqb, cases_eq, cases_lt}
-use Rattle.std.proofs.lemmas.List.{drop_more, take-append-drop, length_push, append-nil, length-set, get_or-set_same}
+use Rattle.std.proofs.lemmas.List.{drop_more, take-append-drop, length_push, length-set, get_or-set_same}
 use Rattle.std.proofs.lemmas.List.{get_or-set_other}
 use Rattle.std.proofs.Math.ListN.{drop_of_length-le}
 use Rattle.std.proofs.lemmas.List.Elements.{recursion_from_All}
@@ -18,8 +18,9 @@ use Rattle.dstm_workload.specs.declared.workload.Job.{Job}
 use Rattle.dstm_workload.specs.declared.workload.Workload.{Workload}
 use Rattle.dstm_workload.specs.Workload.{IsValidWorkload}
 use Rattle.dstm_report.specs.declared.report.Row.{Row}
-use Rattle.dstm_report.specs.Lawful.{jobs_left, after_rows, after_job, store_left, store_after, last_row, IsBefore}
-use Rattle.dstm_report.specs.Lawful.{IsAnswer, IsGoodRow, RowsAreGood, AllBlocked}
+use Rattle.dstm_report.specs.Lawful.{jobs_left, after_job, store_left, store_after, last_row, IsBefore}
+use Rattle.dstm_report.specs.Lawful.{IsAnswer, AllBlocked}
+use Rattle.dstm_report.proofs.OneRowMore.{RowsAreGood-push, after_rows-push}
 use Rattle.dstm_cli.specs.Running.{is_of, jobs_of, IsPlaceOf, IsCursor, AreBlocked, AnswersTurn, IsTurn, IsTried}
 use Rattle.dstm_cli.specs.Running.{IsSomeLeft, Stands}
 use Rattle.dstm_cli.proofs.Rising.{Rise, rise_of, Rise-filter, Rise-after, others, others-above, jobs_left-push}
@@ -27,23 +28,6 @@ use Rattle.dstm_cli.proofs.Rising.{jobs_left-none, find-line, one_line, first_of
 use Rattle.dstm_cli.proofs.Rising.{jobs_of-others, length-others, find-none, each-filter}
 
 -- ---- rows behind rows
-
-RowsAreGood-push : (workload : Workload) (before rows : List Row) (row : Row) → RowsAreGood workload before rows →
-    IsGoodRow workload (before ++ rows) row → RowsAreGood workload before (rows ++ row ∷ [])
-RowsAreGood-push workload before [] row good next =
-    (subst (λ (b : List Row). IsGoodRow workload b row) (append-nil before) next, tt)
-RowsAreGood-push workload before (first ∷ rows) row good next = (
-  good.0,
-  RowsAreGood-push workload (before ++ first ∷ []) rows row good.1
-      (subst (λ (b : List Row). IsGoodRow workload b row) (sym (append_assoc before (first ∷ []) rows)) next),
-)
-
-after_rows-push : (jobs : List Job) (rows : List Row) (row : Row) (store : Store) →
-    after_rows jobs (rows ++ row ∷ []) store ≡ after_job (find (λ job. eqb job.line row.line) jobs)
-    (after_rows jobs rows store)
-after_rows-push jobs [] row store = refl
-after_rows-push jobs (first ∷ rows) row store =
-    after_rows-push jobs rows row (after_job (find (λ job. eqb job.line first.line) jobs) store)
 
 last_row-push : (rows : List Row) (row : Row) → last_row (rows ++ row ∷ []) ≡ Some row
 last_row-push [] row = refl

@@ -102,7 +102,7 @@ job_at-valid words count workers i some =
       branches = branches_are ops (omega (arith, size)) all;
     }
 
-length-jobs_of : (words : ℕ → ℕ) (count workers : ℕ) → length (jobs_of words count workers) ≡ count
+pub length-jobs_of : (words : ℕ → ℕ) (count workers : ℕ) → length (jobs_of words count workers) ≡ count
 unfolding jobs_of
 length-jobs_of words count workers = length-map-range_with_len (job_at words workers) 0 count
 

@@ -1,17 +1,18 @@
 -- Words and lines as the pieces of what is printed.
-use Rattle.std.proofs.Common.{◌≡◌, ℕ, ◌<◌, ◌≤◌, ◌^◌, Bool, true, false, not, ◌&&◌, eqb, leb, List, [], ◌∷◌}
+use Rattle.std.proofs.Common.{◌≡◌, ℕ, ◌<◌, ◌≤◌, ◌^◌, Bool, true, false, not, eqb, leb, List, [], ◌∷◌}
 use Rattle.std.proofs.Common.{◌++◌, Some, None, decimal, refl, ap, sym, ◌∙◌, append_assoc}
 use Rattle.std.proofs.Common.{arith, ⊎_elim}
-use Rattle.std.specs.List.{list_all, onto_first}
+use Rattle.std.specs.List.{list_all}
 use Rattle.std.specs.Char.{is_ascii_digit}
 use Rattle.std.specs.Str.{bytes_eq, all_ascii_digits}
 use Rattle.std.proofs.lemmas.Bool.{false≢true, and_parts, and_from, and_left, not-true, not_from_false}
-use Rattle.std.proofs.lemmas.Bool.{false_from_ne_true, eqb-true, eq-eqb, cases_Bool, cond-true, cond-false, le-leb}
+use Rattle.std.proofs.lemmas.Bool.{false_from_ne_true, eqb-true, cases_Bool, cond-true, cond-false, le-leb}
 use Rattle.std.proofs.lemmas.List.Folds.{list_all-append}
-use Rattle.std.proofs.lemmas.List.Splits.{slice_split-cons_no, slice_split-cons_yes}
+use Rattle.std.proofs.lemmas.List.Sums.{AllPass-from_list_all}
 use Rattle.std.specs.Str.Parse.{digits_value}
-use Rattle.dstm_text.specs.Lines.{pieces, without_empty_end, lines_of}
+use Rattle.dstm_text.specs.Lines.{pieces, lines_of}
 use Rattle.dstm_text.specs.Number.{is_plain, number_of}
+use Rattle.dstm_text.proofs.LineLaws.{IsFreeOf, pieces-append, pieces-one, lines_of-append}
 use Rattle.dstm_report.specs.declared.draft.TheConstants.{MAX_NUMBER}
 use Rattle.dstm_report.specs.Reading.{number_in, up_to}
 use Rattle.dstm_report.specs.Text.{line}
@@ -24,47 +25,21 @@ is_free c word = list_all (λ b. not (eqb b c)) word
 pub free-append : (c : ℕ) (a b : List ℕ) → is_free c a ≡ true → is_free c b ≡ true → is_free c (a ++ b) ≡ true
 free-append c a b left right = list_all-append (λ x. not (eqb x c)) a b ∙ and_from _ _ left right
 
-other : (c b : ℕ) (rest : Bool) → (not (eqb b c) && rest) ≡ true → (eqb b c ≡ false) × (rest ≡ true)
-other c b rest free = let parts = and_parts (not (eqb b c)) rest free in (not-true (eqb b c) parts.0, parts.1)
+free_of : (c : ℕ) (word : List ℕ) → is_free c word ≡ true → IsFreeOf c word
+free_of c word free k d lt = not-true _ (AllPass-from_list_all (λ b. not (eqb b c)) word free k d lt)
 
 -- a word ends at the separator
 pub pieces_word : (c : ℕ) (word rest : List ℕ) → is_free c word ≡ true →
     pieces c (word ++ c ∷ rest) ≡ word ∷ pieces c rest
-pieces_word c [] rest free = slice_split-cons_yes (λ b. eqb b c) c rest (eq-eqb c c refl)
-pieces_word c (b ∷ word) rest free =
-    let parts = other c b (is_free c word) free in
-    slice_split-cons_no (λ x. eqb x c) b (word ++ c ∷ rest) parts.0
-    ∙ ap (onto_first b) (pieces_word c word rest parts.1)
+pieces_word c word rest free = pieces-append c word rest (free_of c word free)
 
 pub pieces_last : (c : ℕ) (word : List ℕ) → is_free c word ≡ true → pieces c word ≡ word ∷ []
-pieces_last c [] free = refl
-pieces_last c (b ∷ word) free =
-    let parts = other c b (is_free c word) free in
-    slice_split-cons_no (λ x. eqb x c) b word parts.0 ∙ ap (onto_first b) (pieces_last c word parts.1)
-
--- ---- lines
-
-pieces_some : (ps : List (List ℕ)) (b : ℕ) → (q : List ℕ) × (qs : List (List ℕ)) × (onto_first b ps ≡ q ∷ qs)
-pieces_some [] b = (b ∷ [], [], refl)
-pieces_some (p ∷ ps) b = (b ∷ p, ps, refl)
-
-some_piece : (c : ℕ) (bytes : List ℕ) → (q : List ℕ) × (qs : List (List ℕ)) × (pieces c bytes ≡ q ∷ qs)
-some_piece c [] = ([], [], refl)
-some_piece c (b ∷ bytes) =
-    ⊎_elim
-    (λ yes. ([], pieces c bytes, slice_split-cons_yes (λ x. eqb x c) b bytes yes))
-    (λ no.
-    let more = pieces_some (pieces c bytes) b in
-    (more.0, more.1, slice_split-cons_no (λ x. eqb x c) b bytes no ∙ more.2))
-    (cases_Bool (eqb b c))
+pieces_last c word free = pieces-one c word (free_of c word free)
 
 -- a line comes off the front of a text
 pub lines_of-line : (text rest : List ℕ) → is_free 10 text ≡ true → lines_of (line text ++ rest) ≡ text ∷ lines_of rest
 lines_of-line text rest free =
-    let cut = ap (pieces 10) (append_assoc text (10 ∷ []) rest) ∙ pieces_word 10 text rest free in
-    let more = some_piece 10 rest in
-    ap without_empty_end (cut ∙ ap (λ (ps : List (List ℕ)). text ∷ ps) more.2)
-    ∙ ap (λ (ps : List (List ℕ)). text ∷ without_empty_end ps) (sym more.2)
+    ap lines_of (append_assoc text (10 ∷ []) rest) ∙ lines_of-append text rest (free_of 10 text free)
 
 -- ---- numbers
 
