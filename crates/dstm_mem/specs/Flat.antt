@@ -1,6 +1,6 @@
 -- What a memory of one thread has noted of each object.
 use Rattle.std.specs.Prelude.{◌≡◌, ℕ, List, Option, IfSome, Bool, true, false, slice_index_or}
-use Rattle.std.proofs.Common.{refl}
+use Rattle.std.proofs.Common.{◌↔◌, refl, subst, sym}
 use Rattle.std.specs.Bool.{then_some}
 use Rattle.dstm_model.specs.declared.value.Val.{Val}
 use Rattle.dstm_model.specs.Map.{value_at}
@@ -25,3 +25,11 @@ some_is false x = tt
 
 pub held_in-agrees : (values : List Val) (notes : List Note) → AgreesWith values (held_in values notes)
 held_in-agrees values notes o = some_is (note_at notes o).is_read (value_at values o)
+
+-- the one map, and it has every value that is held
+pub flat_admits : (values : List Val) (notes : List Note) (map : List Val) →
+    (map ≡ values) ↔ ((map ≡ values) × AgreesWith map (held_in values notes))
+flat_admits values notes map = (
+  (λ same. (same, subst (λ m. AgreesWith m (held_in values notes)) (sym same) (held_in-agrees values notes))),
+  (λ both. both.0),
+)

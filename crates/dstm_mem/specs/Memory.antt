@@ -1,6 +1,6 @@
 -- What a memory holds and what is set in it. Both are partial functions by object: `None` where there is
 -- no value. A map is the list of the objects' values.
-use Rattle.std.specs.Prelude.{◌≡◌, ◌≢◌, ℕ, suc, List, [], ◌∷◌, ◌==◌, Bool, Option, Some, IsSome, IfSome, IsTrue, unwrap_or}
+use Rattle.std.specs.Prelude.{◌≡◌, ◌≢◌, ℕ, suc, List, [], ◌∷◌, ◌==◌, Bool, Option, None, Some, IsSome, IfSome, IsTrue, unwrap_or}
 use Rattle.std.specs.Map.{lookup}
 use Rattle.dstm_model.specs.declared.value.Val.{Val}
 use Rattle.dstm_model.specs.Map.{value_at}
@@ -22,6 +22,11 @@ AgreesWith map held = (o : ℕ) → IfSome (held o) (λ v. value_at map o ≡ v)
 pub record HoldsAlso (o : ℕ) (old new : ℕ → Option Val) : Type 0 where
   pub held : IsSome (new o)
   pub kept : (p : ℕ) → IsSome (old p) → new p ≡ old p
+  pub others : (p : ℕ) → p ≢ o → new p ≡ old p
+
+-- object o is held no more, and every other object is as before
+pub record HoldsWithout (o : ℕ) (old new : ℕ → Option Val) : Type 0 where
+  pub gone : new o ≡ None
   pub others : (p : ℕ) → p ≢ o → new p ≡ old p
 
 -- object o has this value, and every other object is as before

@@ -4,6 +4,7 @@ ghost use Rattle.dstm_mem.specs.Memory.{with_set};
 ghost use Rattle.dstm_mem.specs.Flat.{written_in};
 
 use crate::memory::Mem;
+use crate::release::Release;
 use dstm_model::Val;
 use std::alloc::{AllocError, Global};
 
@@ -78,6 +79,26 @@ impl Mem for FlatMem {
 
     ghost admitted_agrees = { λ m map e. subst (λ x. AgreesWith x (held_in m.values.items m.notes.items)) (sym e)
         (held_in-agrees m.values.items m.notes.items) };
+}
+
+impl Release for FlatMem {
+    ghost use Rattle.dstm_mem.specs.Flat.{flat_admits};
+    ghost use Rattle.std.proofs.Common.{◌∙◌};
+
+    ghost Began = { λ m map. map ≡ m.values.items };
+
+    fn is_read(&self, o: u32) -> bool {
+        let note = &self.notes[o as usize];
+        note.is_read && !note.is_opened
+    }
+
+    fn release(&mut self, o: u32) {
+        self.notes[o as usize].is_read = false;
+    }
+
+    ghost admits_exactly = { λ m map live. flat_admits m.values.items m.notes.items map };
+
+    ghost began_stays = { λ m n map same began. began ∙ same };
 }
 
 impl FlatMem {

@@ -5,10 +5,12 @@
 mod body;
 mod flat;
 mod memory;
+mod release;
 
 pub use body::Body;
 pub use flat::{FlatMem, Never};
 pub use memory::Mem;
+pub use release::{LooseBody, Release};
 
 #[cfg(test)]
 mod tests;

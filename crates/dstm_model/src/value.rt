@@ -8,8 +8,8 @@ pub struct Val {
     pub high: u64,
 }
 
-/// Says which maps are lawful. A table that threads share carries its law, hence the bounds.
-pub trait Law: Drop + Send + Sync {
+/// Says which maps are lawful.
+pub trait Law: Drop {
     /// The map, the value of object `o` at place `o`, is lawful.
     ghost holds: { Self → List Val → Type 0 };
 }

@@ -68,7 +68,7 @@ fn visit<L: Law>(words: &Words<L>, shape: &Shape, seat: CoreSeat<L>) -> (u64, Co
 }
 
 // Two callers on two threads.
-fn side_by_side<L: Law, R: Threads + Sync>(
+fn side_by_side<L: Law + Send + Sync, R: Threads + Sync>(
     rt: &R,
     words: &Words<L>,
     shape: &Shape,

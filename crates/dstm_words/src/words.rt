@@ -61,8 +61,20 @@ impl<L: Law> Words<L> {
             law: Snapshot::of(&law),
             start: Snapshot::of(&first),
         };
-        let zeros = vec![in alloc; 0u64; shape.words() as usize]?;
-        let (table, seat) = Table::of_words(alloc, zeros.as_slice(), &terms)?;
+        Words::of_terms(alloc, &terms)
+    }
+
+    /// A new table that was told this.
+    pub fn of_terms(alloc: Global, terms: &Terms<L>) -> Result<(Words<L>, CoreSeat<L>), AllocError>
+        requires valid { IsValid terms.now.shape }
+        requires values { length terms.now.start.value.items ≡ terms.now.shape.objects }
+        requires lawful { L.holds terms.now.law.value terms.now.start.value.items }
+        ensures terms { IfOk result (λ t. t.0.terms ≡ terms.now) }
+        ensures seat { IfOk result (λ t. IsOf t.0 t.1) }
+        ensures new { IfOk result (λ t. view_of t.1 ≡ founder terms.now) }
+    {
+        let zeros = vec![in alloc; 0u64; terms.shape.words() as usize]?;
+        let (table, seat) = Table::of_words(alloc, zeros.as_slice(), terms)?;
         Ok((Words { table }, seat))
     }
 

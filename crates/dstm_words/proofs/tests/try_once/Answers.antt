@@ -11,7 +11,7 @@ use Rattle.dstm_words.proofs.Seats.{state_after}
 use Rattle.dstm_words.proofs.tests.try_once.Goals as goal
 
 pub exchange-status-requires-clause-allowed : goal.exchange-status-requires-clause-allowed
-exchange-status-requires-clause-allowed g c _ _ found below =
+exchange-status-requires-clause-allowed g c found below =
     let terms = c.args.words.now.terms in
     let active = c.code-active.result in
     let place = c.status-status.result in
