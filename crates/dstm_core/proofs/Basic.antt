@@ -6,7 +6,7 @@ use Rattle.dstm_core.specs.declared.event.Kind.TheVariants.{Begin, LookObj, Look
 use Rattle.dstm_core.specs.declared.state.Phase.TheVariants.{Outside, Running}
 use Rattle.dstm_core.specs.Words.Word.{OwnerWord, OldWord}
 use Rattle.dstm_core.specs.declared.shape.Shape.{Shape}
-use Rattle.dstm_core.specs.declared.event.Event.{Event}
+use Rattle.dstm_core.specs.Events.{Event}
 use Rattle.dstm_core.specs.declared.state.Resolution.{Resolution}
 use Rattle.dstm_core.specs.declared.event.Kind.{Kind}
 use Rattle.dstm_core.specs.State.{LocalState, or_zero, own_attempt, next_locator, given, version, is_resolved, or_unresolved, res, keep_resolved}

@@ -8,7 +8,7 @@ use Rattle.dstm_core.specs.declared.event.Kind.TheVariants.{Enrol, Begin, PutOwn
 use Rattle.dstm_core.specs.declared.state.Phase.TheVariants.{Outside, Running, Putting}
 use Rattle.dstm_core.specs.Words.Word.{CallersWord, StampsWord, ObjectWord, StatusWord, OwnerWord, OldWord, LowWord, HighWord, NumbersWord}
 use Rattle.dstm_core.specs.declared.shape.Shape.{Shape}
-use Rattle.dstm_core.specs.declared.event.Event.{Event}
+use Rattle.dstm_core.specs.Events.{Event}
 use Rattle.dstm_core.specs.declared.event.Kind.{Kind}
 use Rattle.dstm_core.specs.State.{LocalState, or_zero, next_attempt, own_attempt, next_locator, given, res, next_write}
 use Rattle.dstm_core.specs.Rules.{target, AllowedAs}

@@ -1,7 +1,7 @@
 -- How far the counting words rise, and that no add on them wraps.
 use Rattle.std.proofs.Common.{◌≡◌, ◌≢◌, ◌+◌, ◌-◌, ◌*◌, ◌^◌, ◌<◌, ◌≤◌, ◌==◌, ◌⊎◌, ◌∷◌, ◌∙◌, ℕ, zero, suc, inl, inr, List, [], refl, ap, arith, sym, subst, Bool, true, false}
 use Rattle.std.proofs.lemmas.Bool.{cond_both, cases_eq}
-use Rattle.dstm_core.specs.declared.event.Event.{Event}
+use Rattle.dstm_core.specs.Events.{Event}
 use Rattle.dstm_core.specs.declared.event.Kind.{Kind}
 use Rattle.dstm_core.specs.declared.event.Kind.TheVariants.{Enrol, Stamp, Begin, Install, LookSelf, PutHigh, PutNew, Validating as ToValidating, Draw, Commit, Quit, Pause, Resume}
 use Rattle.dstm_core.specs.declared.shape.Shape.{Shape}
@@ -11,7 +11,7 @@ use Rattle.dstm_core.specs.Rules.{access, after, AllowedAs}
 use Rattle.dstm_core.specs.Runs.{local, Core, Fits}
 use Rattle.dstm_core.specs.State.{LocalState, given}
 use Rattle.dstm_core.specs.Traces.{at, word}
-use Rattle.dstm_core.specs.Traces.Access.{Add}
+use Rattle.dstm_runs.specs.Traces.Access.{Add}
 use Rattle.dstm_core.specs.Words.{Word, place, IsValid}
 use Rattle.dstm_core.specs.declared.shape.TheConstants.{MAX_CALLERS, MAX_ATTEMPTS}
 use Rattle.std.proofs.lemmas.Nat.{mul-le}

@@ -1,7 +1,7 @@
 -- Who has a number: a caller enrols first, and makes no other event on the word that counts the callers.
 use Rattle.std.proofs.Common.{◌+◌, ◌∙◌, ◌≡◌, ◌≢◌, ◌==◌, ◌⊎◌, ◌∷◌, ℕ, inl, inr, List, [], refl, ap, arith, sym, true, false, is_some, None}
 use Rattle.std.proofs.lemmas.Bool.{cond_both, cases_Bool}
-use Rattle.dstm_core.specs.declared.event.Event.{Event}
+use Rattle.dstm_core.specs.Events.{Event}
 use Rattle.dstm_core.specs.declared.event.Kind.{Kind}
 use Rattle.dstm_core.specs.declared.event.Kind.TheVariants.{Enrol, Rank, Install, LookSelf, Validating as ToValidating, Pause, Resume}
 use Rattle.dstm_core.specs.declared.state.Phase.{Phase}

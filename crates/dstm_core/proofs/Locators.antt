@@ -3,7 +3,7 @@ use Rattle.std.proofs.Common.{◌≡◌, ◌≢◌, ◌+◌, ◌-◌, ◌*◌, �
 use Rattle.dstm_core.specs.declared.event.Kind.TheVariants.{Install}
 use Rattle.dstm_core.specs.Words.Word.{OwnerWord, OldWord}
 use Rattle.dstm_core.specs.declared.shape.Shape.{Shape}
-use Rattle.dstm_core.specs.declared.event.Event.{Event}
+use Rattle.dstm_core.specs.Events.{Event}
 use Rattle.dstm_core.specs.Traces.{at, word}
 use Rattle.dstm_core.specs.Runs.{local, Core}
 use Rattle.dstm_core.proofs.Columns.{step, Used, used_more, Installed, objects}

@@ -1,7 +1,7 @@
 -- What the laws of core runs say, from the lemmas.
 use Rattle.std.proofs.Common.{◌≤◌, ◌-◌, ◌∷◌, ◌++◌, ℕ, inl, inr, List, [], arith}
 use Rattle.dstm_model.specs.declared.value.Val.{Val}
-use Rattle.dstm_core.specs.declared.event.Event.{Event}
+use Rattle.dstm_core.specs.Events.{Event}
 use Rattle.dstm_core.specs.declared.shape.Shape.{Shape}
 use Rattle.dstm_core.specs.Histories.{CoreRun, Lawful}
 use Rattle.dstm_core.specs.Laws.{IsFinished, Installs, StaysInstalled}

@@ -3,7 +3,7 @@ use Rattle.std.proofs.Common.{IsTrue, Bool, true, false, ◌≡◌, ◌+◌, ◌
 use Rattle.std.proofs.lemmas.Grind.{common_steps}
 use Rattle.std.proofs.lemmas.List.{reverse-append, take-append-drop}
 use Rattle.std.proofs.Math.Seq.{take-suc}
-use Rattle.dstm_core.specs.declared.event.Event.{Event}
+use Rattle.dstm_core.specs.Events.{Event}
 use Rattle.dstm_core.specs.declared.shape.Shape.{Shape}
 use Rattle.dstm_core.specs.declared.verdict.Replay.TheVariants.{Run, Broken}
 use Rattle.dstm_core.specs.Replays.{IsFirstBroken, Stands, Judged}

@@ -3,7 +3,7 @@
 -- A run has its newest event first: `before` is a prefix of the run `later ++ before`.
 use Rattle.std.specs.Prelude.{◌≡◌, ◌⊎◌, ℕ, ◌+◌, ◌-◌, ◌*◌, ◌<◌, ◌≤◌, ◌==◌, ◌&&◌, Bool, true, false, not, List, [], ◌∷◌, ◌++◌, if◌then◌else◌}
 use Rattle.dstm_model.specs.declared.value.Val.{Val}
-use Rattle.dstm_core.specs.declared.event.Event.{Event}
+use Rattle.dstm_core.specs.Events.{Event}
 use Rattle.dstm_core.specs.declared.event.Kind.TheVariants.{Install}
 use Rattle.dstm_core.specs.declared.shape.Shape.{Shape}
 use Rattle.dstm_core.specs.declared.status.Status.TheVariants as status
@@ -11,7 +11,7 @@ use Rattle.dstm_core.specs.Histories.{CoreRun}
 use Rattle.dstm_core.specs.Rules.{access}
 use Rattle.dstm_core.specs.Runs.{local}
 use Rattle.dstm_core.specs.Traces.{Access, word}
-use Rattle.dstm_core.specs.Traces.Access.{Load}
+use Rattle.dstm_runs.specs.Traces.Access.{Load}
 use Rattle.dstm_core.specs.Words.{Word, place, code_of}
 use Rattle.dstm_core.specs.Words.Word.{StatusWord, OwnerWord, OldWord, LowWord, HighWord}
 

@@ -1,4 +1,5 @@
 pub mod Words
+pub mod Events
 pub mod Traces
 pub mod State
 pub mod Rules

@@ -1,6 +1,6 @@
 -- The replay of a trace, which is given with its oldest event first.
 use Rattle.std.specs.Prelude.{◌≡◌, ◌↔◌, Bool, IsTrue, ◌∷◌, ℕ, ◌+◌, ◌<◌, List, length, reverse, take, slice_index, slice_index_or}
-use Rattle.dstm_core.specs.declared.event.Event.{Event}
+use Rattle.dstm_core.specs.Events.{Event}
 use Rattle.dstm_core.specs.declared.shape.Shape.{Shape}
 use Rattle.dstm_core.specs.Runs.{local, Core, Fits}
 use Rattle.dstm_core.specs.Tracking.{Tracked}

@@ -1,7 +1,7 @@
 -- The local rules: for each kind of event the word that it aims at, what it does to that word, where it is
 -- allowed, and the caller's state after it. What an event finds is never a reason to refuse it.
 use Rattle.std.specs.Prelude.{◌≡◌, ◌≢◌, ◌⊎◌, ℕ, ◌+◌, ◌-◌, ◌<◌, ◌≤◌, ◌==◌, ◌||◌, Bool, true, false, not, min, [], ◌∷◌, ◌++◌, length, Some, None, is_some, if◌then◌else◌}
-use Rattle.dstm_core.specs.declared.event.Event.{Event}
+use Rattle.dstm_core.specs.Events.{Event}
 use Rattle.dstm_core.specs.declared.event.Kind.{Kind}
 use Rattle.dstm_core.specs.declared.event.Kind.TheVariants.{Enrol, Stamp, Rank, Begin, LookObj, LookOwner, LookStatus, LookRank, LookOld, LookHigh, LookNew, PutOwner, PutOld, Install, LookNumber, Check, LookSelf, Release, PutHigh, PutNew, Validating as ToValidating, Draw, Commit, Kill, Quit, Pause, Resume}
 use Rattle.dstm_core.specs.declared.shape.Manager.{Manager}
@@ -14,7 +14,7 @@ use Rattle.dstm_core.specs.declared.state.Resolution.{Resolution}
 use Rattle.dstm_core.specs.declared.status.Status.TheVariants as status
 use Rattle.dstm_core.specs.State.{LocalState, or_zero, next_attempt, own_attempt, next_locator, given, is_live, read_of, write_of, drop_read, is_other, next_read, next_write, res, version, is_resolved, keep_resolved, record_resolved}
 use Rattle.dstm_core.specs.Traces.{Access, Acts}
-use Rattle.dstm_core.specs.Traces.Access.{Load, Store, Exchange, Add}
+use Rattle.dstm_runs.specs.Traces.Access.{Load, Store, Exchange, Add}
 use Rattle.dstm_core.specs.Words.{Word, HasWord, place, code_of}
 use Rattle.dstm_core.specs.Words.Word.{ObjectWord, StatusWord, RankWord, OwnerWord, OldWord, LowWord, HighWord, CallersWord, NumbersWord, StampsWord}
 

@@ -1,27 +1,32 @@
--- Core runs: traces of several callers that each follow the local rules.
-use Rattle.std.specs.Prelude.{◌≡◌, ℕ, ◌<◌, ◌==◌, List, [], ◌∷◌, if◌then◌else◌}
-use Rattle.dstm_core.specs.declared.event.Event.{Event}
+-- Core runs: the runs of the machine of the memory.
+use Rattle.std.specs.Prelude.{◌≡◌, ℕ, List}
+use Rattle.dstm_runs.specs.Machines as machines
+use Rattle.dstm_runs.specs.Machines.{Machine}
+use Rattle.dstm_core.specs.declared.event.Kind.{Kind}
 use Rattle.dstm_core.specs.declared.event.Kind.TheVariants.{Enrol}
 use Rattle.dstm_core.specs.declared.shape.Shape.{Shape}
+use Rattle.dstm_core.specs.Events.{Event}
 use Rattle.dstm_core.specs.Rules.{after, AllowedAs}
 use Rattle.dstm_core.specs.State.{LocalState, first}
-use Rattle.dstm_core.specs.Traces.{at}
+
+abbrev pub core : Machine Kind Shape LocalState
+core = record {
+  initial = λ shape p. 0;
+  callers = λ shape. shape.callers;
+  first = first;
+  Enrols = λ kind. kind ≡ Enrol;
+  Allows = λ shape state event. AllowedAs event.kind shape state event;
+  after = λ shape state event. after event.kind shape state event;
+}
 
 -- a caller's state after its own events of a trace
 abbrev pub local : Shape → List Event → ℕ → LocalState
-local shape [] c = first
-local shape (event ∷ before) c =
-    if event.caller == c then after event.kind shape (local shape before c) event else local shape before c
+local shape trace c = machines.local core shape trace c
 
--- the event may come next: it finds what its word holds, and the rules allow it to its caller, which is one
--- of the shape's and has the number that its own Enrol found
-pub record Fits (shape : Shape) (before : List Event) (event : Event) : Type 0 where
-  pub linked : event.found ≡ at before event.place
-  pub caller : event.caller < shape.callers
-  pub enrolled : event.kind ≡ Enrol → event.found ≡ event.caller
-  pub allowed : AllowedAs event.kind shape (local shape before event.caller) event
+-- the event may come next
+abbrev pub Fits : Shape → List Event → Event → Type 0
+Fits shape before event = machines.Fits core shape before event
 
 -- every event fits the trace before it. A core run of a law, `CoreRun`, keeps the law besides.
 abbrev pub Core : Shape → List Event → Type 0
-Core shape [] = Unit {0}
-Core shape (event ∷ before) = Core shape before × Fits shape before event
+Core shape trace = machines.Run core shape trace

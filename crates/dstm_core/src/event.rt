@@ -58,17 +58,4 @@ pub enum Kind {
 }
 
 /// One load, store, exchange or add on one word of a table.
-#[derive(Clone, Copy, Debug, PartialEq, Eq)]
-pub struct Event {
-    /// The number of the caller that made it.
-    pub caller: u32,
-    pub kind: Kind,
-    /// The place of the word.
-    pub place: u64,
-    /// The word that an exchange expects; else the one found.
-    pub expected: u64,
-    /// The word before.
-    pub found: u64,
-    /// The word after.
-    pub put: u64,
-}
+pub type Event = dstm_runs::Event<Kind>;

@@ -2,7 +2,6 @@
 //! the rules by which a caller may make its next event.
 #![tactic(auto)]
 
-mod access;
 mod event;
 pub mod laws;
 mod local;

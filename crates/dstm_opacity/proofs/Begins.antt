@@ -4,7 +4,7 @@ use Rattle.dstm_core.specs.Histories.{is_look_number, pass_place}
 use Rattle.dstm_core.specs.Rules.{after}
 use Rattle.dstm_core.specs.Runs.{Core, local}
 use Rattle.dstm_core.specs.State.{LocalState}
-use Rattle.dstm_core.specs.declared.event.Event.{Event}
+use Rattle.dstm_core.specs.Events.{Event}
 use Rattle.dstm_core.specs.declared.event.Kind.{Kind}
 use Rattle.dstm_core.specs.declared.event.Kind.TheVariants.{Begin, Check, LookNumber}
 use Rattle.dstm_core.specs.declared.shape.Shape.{Shape}

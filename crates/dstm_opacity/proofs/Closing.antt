@@ -6,7 +6,7 @@ use Rattle.dstm_model.specs.declared.value.Val.{Val}
 use Rattle.dstm_core.specs.Histories.{current_value, current_version, history, version_value, will_of}
 use Rattle.dstm_core.specs.Runs.{Core}
 use Rattle.dstm_core.specs.Traces.{at}
-use Rattle.dstm_core.specs.declared.event.Event.{Event}
+use Rattle.dstm_core.specs.Events.{Event}
 use Rattle.dstm_core.specs.declared.shape.Shape.{Shape}
 use Rattle.dstm_core.proofs.Basic.{Names, basic}
 use Rattle.dstm_opacity.proofs.Current.{current}

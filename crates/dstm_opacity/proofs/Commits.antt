@@ -14,7 +14,7 @@ use Rattle.dstm_core.specs.State.{LocalState, given, own_attempt}
 use Rattle.dstm_core.specs.Traces.{word}
 use Rattle.dstm_core.specs.Words.{place}
 use Rattle.dstm_core.specs.Words.Word.{StatusWord}
-use Rattle.dstm_core.specs.declared.event.Event.{Event}
+use Rattle.dstm_core.specs.Events.{Event}
 use Rattle.dstm_core.specs.declared.event.Kind.{Kind}
 use Rattle.dstm_core.specs.declared.event.Kind.TheVariants.{Begin, Check, Commit, Draw, Install, LookSelf, Pause, PutHigh, PutNew, Quit, Resume, Validating as ToValidating}
 use Rattle.dstm_core.specs.declared.shape.Shape.{Shape}

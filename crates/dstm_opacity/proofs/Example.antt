@@ -1,7 +1,7 @@
 -- The example is a core run.
 use Rattle.std.proofs.Common.{◌≡◌, ◌<◌, ◌∷◌, List, [], inl, inr, refl, arith}
 use Rattle.dstm_model.specs.declared.value.Val.{Val}
-use Rattle.dstm_core.specs.declared.event.Event.{Event}
+use Rattle.dstm_core.specs.Events.{Event}
 use Rattle.dstm_core.specs.declared.event.Kind.TheVariants.{Enrol}
 use Rattle.dstm_core.specs.declared.shape.Shape.{Shape}
 use Rattle.dstm_core.specs.Histories.{Lawful}

@@ -10,7 +10,7 @@ use Rattle.dstm_core.specs.State.{LocalState, given, is_live, is_resolved, keep_
 use Rattle.dstm_core.specs.Traces.{at, word}
 use Rattle.dstm_core.specs.Words.{place}
 use Rattle.dstm_core.specs.Words.Word.{HighWord, LowWord}
-use Rattle.dstm_core.specs.declared.event.Event.{Event}
+use Rattle.dstm_core.specs.Events.{Event}
 use Rattle.dstm_core.specs.declared.event.Kind.{Kind}
 use Rattle.dstm_core.specs.declared.event.Kind.TheVariants.{Begin, Install, Kill, LookHigh, LookNew, LookNumber, LookObj, LookOld, LookOwner, LookRank, LookSelf, LookStatus, Pause, Release, Resume, Validating as ToValidating}
 use Rattle.dstm_core.specs.declared.shape.Shape.{Shape}

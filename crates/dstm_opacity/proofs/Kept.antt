@@ -8,7 +8,7 @@ use Rattle.dstm_core.specs.State.{LocalState, next_write, own_attempt}
 use Rattle.dstm_core.specs.Traces.{at, word}
 use Rattle.dstm_core.specs.Words.{place}
 use Rattle.dstm_core.specs.Words.Word.{HighWord, LowWord}
-use Rattle.dstm_core.specs.declared.event.Event.{Event}
+use Rattle.dstm_core.specs.Events.{Event}
 use Rattle.dstm_core.specs.declared.event.Kind.{Kind}
 use Rattle.dstm_core.specs.declared.event.Kind.TheVariants.{Draw, PutHigh, PutNew}
 use Rattle.dstm_core.specs.declared.shape.Shape.{Shape}

@@ -6,7 +6,7 @@ use Rattle.dstm_core.specs.Histories.{KeepsLaw, Lawful, entry_of}
 use Rattle.dstm_core.specs.Rules.{AllowedAs, MayRank, after}
 use Rattle.dstm_core.specs.Runs.{Core, local}
 use Rattle.dstm_core.specs.State.{LocalState, given, own_attempt}
-use Rattle.dstm_core.specs.declared.event.Event.{Event}
+use Rattle.dstm_core.specs.Events.{Event}
 use Rattle.dstm_core.specs.declared.event.Kind.{Kind}
 use Rattle.dstm_core.specs.declared.event.Kind.TheVariants.{Begin, Check, Commit, Draw, Enrol, Install, LookSelf, LookStatus, Pause, PutHigh, PutNew, Quit, Rank, Resume, Stamp, Validating as ToValidating}
 use Rattle.dstm_core.specs.declared.shape.Shape.{Shape}

@@ -6,7 +6,7 @@ use Rattle.dstm_core.specs.Rules.{AllowedAs}
 use Rattle.dstm_core.specs.Runs.{Core, local}
 use Rattle.dstm_core.specs.Traces.{at, word}
 use Rattle.dstm_core.specs.Words.Word.{NumbersWord}
-use Rattle.dstm_core.specs.declared.event.Event.{Event}
+use Rattle.dstm_core.specs.Events.{Event}
 use Rattle.dstm_core.specs.declared.event.Kind.{Kind}
 use Rattle.dstm_core.specs.declared.event.Kind.TheVariants.{Draw}
 use Rattle.dstm_core.specs.declared.shape.Shape.{Shape}

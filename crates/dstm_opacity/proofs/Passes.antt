@@ -8,7 +8,7 @@ use Rattle.dstm_core.specs.State.{LocalState, given, keep_resolved, next_read, o
 use Rattle.dstm_core.specs.Traces.{at, word}
 use Rattle.dstm_core.specs.Words.{place}
 use Rattle.dstm_core.specs.Words.Word.{NumbersWord}
-use Rattle.dstm_core.specs.declared.event.Event.{Event}
+use Rattle.dstm_core.specs.Events.{Event}
 use Rattle.dstm_core.specs.declared.event.Kind.{Kind}
 use Rattle.dstm_core.specs.declared.event.Kind.TheVariants.{Check, Commit, Draw, Enrol, Install, LookNumber, LookSelf, Pause, PutNew, Quit, Resume, Stamp, Validating as ToValidating}
 use Rattle.dstm_core.specs.declared.shape.Shape.{Shape}

@@ -7,7 +7,7 @@ use Rattle.dstm_core.specs.State.{LocalState, drop_read, given, is_resolved, or_
 use Rattle.dstm_core.specs.Traces.{word}
 use Rattle.dstm_core.specs.Words.{place}
 use Rattle.dstm_core.specs.Words.Word.{OldWord, OwnerWord}
-use Rattle.dstm_core.specs.declared.event.Event.{Event}
+use Rattle.dstm_core.specs.Events.{Event}
 use Rattle.dstm_core.specs.declared.event.Kind.{Kind}
 use Rattle.dstm_core.specs.declared.event.Kind.TheVariants.{Begin, Install, LookNumber, LookSelf, Pause, PutOld, Release, Resume, Validating as ToValidating}
 use Rattle.dstm_core.specs.declared.shape.Shape.{Shape}

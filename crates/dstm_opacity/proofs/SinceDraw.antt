@@ -8,7 +8,7 @@ use Rattle.dstm_core.specs.State.{LocalState, given, next_read, or_read, own_att
 use Rattle.dstm_core.specs.Traces.{at, word}
 use Rattle.dstm_core.specs.Words.{place}
 use Rattle.dstm_core.specs.Words.Word.{NumbersWord, StatusWord}
-use Rattle.dstm_core.specs.declared.event.Event.{Event}
+use Rattle.dstm_core.specs.Events.{Event}
 use Rattle.dstm_core.specs.declared.event.Kind.{Kind}
 use Rattle.dstm_core.specs.declared.event.Kind.TheVariants.{Check, Commit, Draw, Enrol, LookStatus, PutHigh, Quit, Rank, Stamp, Validating as ToValidating}
 use Rattle.dstm_core.specs.declared.shape.Shape.{Shape}

@@ -8,7 +8,7 @@ use Rattle.dstm_core.specs.Runs.{Core, local}
 use Rattle.dstm_core.specs.State.{LocalState, given, next_write, or_write, own_attempt}
 use Rattle.dstm_core.specs.Traces.{word}
 use Rattle.dstm_core.specs.Words.Word.{HighWord, LowWord, OldWord, OwnerWord, StatusWord}
-use Rattle.dstm_core.specs.declared.event.Event.{Event}
+use Rattle.dstm_core.specs.Events.{Event}
 use Rattle.dstm_core.specs.declared.event.Kind.{Kind}
 use Rattle.dstm_core.specs.declared.event.Kind.TheVariants.{PutHigh, PutNew}
 use Rattle.dstm_core.specs.declared.shape.Shape.{Shape}

@@ -3,7 +3,7 @@
 use Rattle.std.specs.Prelude.{◌≡◌, ℕ, false, List, [], ◌∷◌, length}
 use Rattle.dstm_model.specs.declared.value.Val.{Val}
 use Rattle.dstm_model.specs.Map.{Entry}
-use Rattle.dstm_core.specs.declared.event.Event.{Event}
+use Rattle.dstm_core.specs.Events.{Event}
 use Rattle.dstm_core.specs.declared.event.Kind.{Kind}
 use Rattle.dstm_core.specs.declared.event.Kind.TheVariants.{Enrol, Begin, LookObj, LookOwner, LookStatus, LookHigh, LookNew, PutOwner, PutOld, Install, LookNumber, Check, LookSelf, PutHigh, PutNew, Validating, Draw, Commit}
 use Rattle.dstm_core.specs.declared.shape.Manager.TheVariants.{Polite}

@@ -1,6 +1,6 @@
 -- What the proof of the rule needs of the local rules beside dstm_core's lemmas on Enrol.
 use Rattle.std.proofs.Common.{◌≡◌, ◌≢◌, ◌⊎◌, ℕ, ◌<◌, true, List, ◌∷◌, Some, None, is_some, ap, ◌∙◌, subst, arith, inl, inr}
-use Rattle.dstm_core.specs.declared.event.Event.{Event}
+use Rattle.dstm_core.specs.Events.{Event}
 use Rattle.dstm_core.specs.declared.event.Kind.{Kind}
 use Rattle.dstm_core.specs.declared.event.Kind.TheVariants.{Enrol}
 use Rattle.dstm_core.specs.declared.shape.Shape.{Shape}

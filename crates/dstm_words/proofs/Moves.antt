@@ -6,13 +6,13 @@ use mathlib.Core.Logic.{dite}
 use native.Mathlib.Decide.{ℕ_discrete}
 use prog.Atomic.{either}
 use Rattle.atomic_table.specs.Table.{Me, Allows}
-use Rattle.dstm_core.specs.declared.event.Event.{Event}
+use Rattle.dstm_core.specs.Events.{Event}
 use Rattle.dstm_core.specs.declared.event.Kind.{Kind}
 use Rattle.dstm_core.specs.declared.event.Kind.TheVariants.{PutNew}
 use Rattle.dstm_core.specs.Rules.{AllowedAs}
 use Rattle.dstm_core.specs.State.{first}
 use Rattle.dstm_core.specs.Traces.{Access}
-use Rattle.dstm_core.specs.Traces.Access.{Load, Store, Exchange, Add}
+use Rattle.dstm_runs.specs.Traces.Access.{Load, Store, Exchange, Add}
 use Rattle.dstm_core.specs.Words.{word_count}
 use Rattle.dstm_core.proofs.Counts.{add_fits}
 use Rattle.dstm_core.proofs.Enrolment.{enrols}

@@ -1,13 +1,13 @@
 -- What a seat knows after a step: its number, and the state of its caller.
 use Rattle.std.proofs.Common.{◌≡◌, ◌≢◌, ℕ, List, [], ◌∷◌, ◌++◌, Some, None, refl, sym, ap, ◌∙◌, subst}
 use Rattle.std.specs.Prelude.{Option, Contains}
-use Rattle.dstm_core.specs.declared.event.Event.{Event}
+use Rattle.dstm_core.specs.Events.{Event}
 use Rattle.dstm_core.specs.declared.event.Kind.{Kind}
 use Rattle.dstm_core.specs.declared.shape.Shape.{Shape}
 use Rattle.dstm_core.specs.Rules.{after}
 use Rattle.dstm_core.specs.Runs.{local}
 use Rattle.dstm_core.specs.Traces.{Access, events_of}
-use Rattle.dstm_core.specs.Traces.Access.{Load, Store, Exchange, Add}
+use Rattle.dstm_runs.specs.Traces.Access.{Load, Store, Exchange, Add}
 use Rattle.dstm_core.proofs.Enrolment.{local-events_of}
 use Rattle.dstm_core.proofs.Static.{local_own}
 use Rattle.dstm_model.specs.declared.value.Val.{Val}

@@ -3,7 +3,7 @@ use Rattle.std.specs.Prelude.{◌≡◌, ℕ, ◌+◌, ◌<◌, ◌≤◌, true,
 use lib.ListN.{get_elem?}
 use mathlib.Core.Option.{some}
 use Rattle.atomic_table.specs.Table.{State}
-use Rattle.dstm_core.specs.declared.event.Event.{Event}
+use Rattle.dstm_core.specs.Events.{Event}
 use Rattle.dstm_core.specs.Runs.{local}
 use Rattle.dstm_core.specs.Traces.{at, word, events_of}
 use Rattle.dstm_core.specs.Words.{word_count}

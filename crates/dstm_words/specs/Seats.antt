@@ -2,7 +2,7 @@
 use Rattle.std.specs.Prelude.{◌≡◌, ℕ, ◌+◌, ◌^◌, ◌<◌, List, [], ◌∷◌, ◌++◌, length, false, None, Some, Result, Ok, Err}
 use Rattle.atomic_table.specs.declared.shared.Seat.{Seat}
 use Rattle.atomic_table.specs.Seated.{TableId}
-use Rattle.dstm_core.specs.declared.event.Event.{Event}
+use Rattle.dstm_core.specs.Events.{Event}
 use Rattle.dstm_core.specs.declared.event.Kind.{Kind}
 use Rattle.dstm_core.specs.declared.event.Kind.TheVariants.{PutNew}
 use Rattle.dstm_core.specs.Histories.{KeepsLaw, entry_of}
@@ -10,7 +10,7 @@ use Rattle.dstm_core.specs.Rules.{AllowedAs}
 use Rattle.dstm_core.specs.Runs.{Fits}
 use Rattle.dstm_core.specs.State.{LocalState}
 use Rattle.dstm_core.specs.Traces.{Access, events_of}
-use Rattle.dstm_core.specs.Traces.Access.{Store}
+use Rattle.dstm_runs.specs.Traces.Access.{Store}
 use Rattle.dstm_model.specs.declared.value.Val.{Val}
 use Rattle.dstm_words.specs.declared.view.Terms.{Terms}
 use Rattle.dstm_words.specs.declared.view.View.{View}

@@ -1,6 +1,6 @@
 -- What a step tells its seat.
 use Rattle.std.specs.Prelude.{◌≡◌, ◌≢◌, ℕ, List, [], ◌∷◌, ◌++◌, All, Contains, IfSome}
-use Rattle.dstm_core.specs.declared.event.Event.{Event}
+use Rattle.dstm_core.specs.Events.{Event}
 use Rattle.dstm_core.specs.declared.event.Kind.{Kind}
 use Rattle.dstm_core.specs.Histories.{CoreRun}
 use Rattle.dstm_core.specs.Traces.{Access, events_of}

@@ -1,6 +1,6 @@
 -- What a seat knows, and how a step, a split and a join change it.
 use Rattle.std.specs.Prelude.{ℕ, ◌+◌, ◌-◌, nat_lt, min, true, false, List, [], ◌∷◌, ◌++◌, length, if◌then◌else◌, Option, Some, None}
-use Rattle.dstm_core.specs.declared.event.Event.{Event}
+use Rattle.dstm_core.specs.Events.{Event}
 use Rattle.dstm_core.specs.declared.shape.Shape.{Shape}
 use Rattle.dstm_core.specs.Runs.{local}
 use Rattle.dstm_core.specs.State.{LocalState, first}

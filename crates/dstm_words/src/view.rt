@@ -77,7 +77,7 @@ pub struct Loads<J> {
 }
 
 impl<L: Law, J: Told> Play<u8, View<L>> for Loads<J> {
-    ghost use Rattle.dstm_core.specs.Traces.Access.{Load};
+    ghost use Rattle.dstm_runs.specs.Traces.Access.{Load};
     ghost use Rattle.dstm_words.specs.Steps.{Makes};
 
     ghost then = { λ s m found n. (n.1 ≡ m.1) × Makes L.holds m.0 Load J.kind s.word found n.0 };
@@ -89,7 +89,7 @@ pub struct Stores<J> {
 }
 
 impl<L: Law, J: Told> Play<u8, View<L>> for Stores<J> {
-    ghost use Rattle.dstm_core.specs.Traces.Access.{Store};
+    ghost use Rattle.dstm_runs.specs.Traces.Access.{Store};
     ghost use Rattle.dstm_words.specs.Steps.{Makes};
 
     ghost then = { λ s m put n. (n.1 ≡ m.1)
@@ -102,7 +102,7 @@ pub struct Exchanges<J> {
 }
 
 impl<L: Law, J: Told> Play<u8, View<L>> for Exchanges<J> {
-    ghost use Rattle.dstm_core.specs.Traces.Access.{Exchange};
+    ghost use Rattle.dstm_runs.specs.Traces.Access.{Exchange};
     ghost use Rattle.dstm_words.specs.Steps.{Makes};
 
     ghost then = { λ s m found n. (n.1 ≡ m.1)
@@ -115,7 +115,7 @@ pub struct Adders<J> {
 }
 
 impl<L: Law, J: Told> Play<u8, View<L>> for Adders<J> {
-    ghost use Rattle.dstm_core.specs.Traces.Access.{Add};
+    ghost use Rattle.dstm_runs.specs.Traces.Access.{Add};
     ghost use Rattle.dstm_words.specs.Steps.{Makes};
 
     ghost then = { λ s m found n. (n.1 ≡ m.1) × Makes L.holds m.0 Add J.kind s.word found n.0 };

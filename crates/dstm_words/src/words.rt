@@ -1,7 +1,7 @@
 // The words, and the steps on them.
 ghost use Rattle.std.specs.Prelude.{◌≡◌, ◌≢◌, ℕ, ◌<◌, ◌≤◌, List, [], length, true, None, IfOk, MatchResult, vec_capacity};
 ghost use Rattle.std.specs.Mem.Slots.{slots_items, slots_len, IsFull};
-ghost use Rattle.dstm_core.specs.Traces.Access.{Load, Store, Exchange, Add};
+ghost use Rattle.dstm_runs.specs.Traces.Access.{Load, Store, Exchange, Add};
 ghost use Rattle.dstm_core.specs.Words.{IsValid};
 ghost use Rattle.dstm_words.specs.Logs.{ActsBy};
 ghost use Rattle.dstm_words.specs.Rule.{LeftBy};

@@ -1,9 +1,9 @@
 use Rattle.std.proofs.Common.{◌≡◌, ◌*◌, Some, sym, ap, ◌∙◌, subst, arith}
-use Rattle.dstm_core.specs.declared.event.Event.{Event}
+use Rattle.dstm_core.specs.Events.{Event}
 use Rattle.dstm_core.specs.declared.event.Kind.TheVariants.{Begin, LookObj, Quit}
 use Rattle.dstm_core.specs.Rules.{AllowedAs, after}
 use Rattle.dstm_core.specs.State.{LocalState, first}
-use Rattle.dstm_core.specs.Traces.Access.{Load, Store, Exchange}
+use Rattle.dstm_runs.specs.Traces.Access.{Load, Store, Exchange}
 use Rattle.dstm_core.proofs.Columns.{in_table}
 use Rattle.dstm_words.specs.Seats.{state_of}
 use Rattle.dstm_words.specs.Steps.{made}

@@ -1,6 +1,6 @@
 use Rattle.std.proofs.Common.{◌<◌, arith, sym, subst}
 use Rattle.dstm_core.specs.declared.event.Kind.{Kind}
-use Rattle.dstm_core.specs.Traces.Access.{Load}
+use Rattle.dstm_runs.specs.Traces.Access.{Load}
 use Rattle.dstm_core.specs.Words.{word_count}
 use Rattle.dstm_words.specs.Logs.{ActsBy}
 use Rattle.dstm_words.specs.Seats.{Home, IsOf, MayMake}

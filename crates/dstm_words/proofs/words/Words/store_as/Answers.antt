@@ -1,6 +1,6 @@
 use Rattle.std.proofs.Common.{◌<◌, arith, sym, subst}
 use Rattle.dstm_core.specs.declared.event.Kind.{Kind}
-use Rattle.dstm_core.specs.Traces.Access.{Store}
+use Rattle.dstm_runs.specs.Traces.Access.{Store}
 use Rattle.dstm_core.specs.Words.{word_count}
 use Rattle.dstm_words.specs.Seats.{Home, IsOf, MayMake, StoresLawfully}
 use Rattle.dstm_words.proofs.Moves.{place_inside, stores}
