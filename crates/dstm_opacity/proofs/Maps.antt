@@ -9,10 +9,7 @@ use Rattle.dstm_core.specs.Words.Word.{OldWord, OwnerWord, StatusWord}
 use Rattle.dstm_core.specs.Events.{Event}
 use Rattle.dstm_core.specs.declared.shape.Shape.{Shape}
 use Rattle.dstm_opacity.proofs.Opacity.{sight_is_seen}
-
-with_length : (ws : List (ℕ × Val)) (m : List Val) → length (with_writes m ws) ≡ length m
-with_length [] m = refl
-with_length (w ∷ ws) m = simp length-set (with_length ws m)
+use Rattle.dstm_opacity.proofs.States.{with_length}
 
 -- a state has as many objects as the first one
 pub states_keep_length : (start : List Val) (xs : List Entry) → length (state_after start xs) ≡ length start

@@ -23,7 +23,7 @@ map_after start [] = start
 map_after start (x ∷ xs) = with_writes (map_after start xs) x.writes
 
 -- writes replace values, and add none
-with_length : (ws : List (ℕ × Val)) (m : List Val) → length (with_writes m ws) ≡ length m
+pub with_length : (ws : List (ℕ × Val)) (m : List Val) → length (with_writes m ws) ≡ length m
 with_length [] m = refl
 with_length (w ∷ ws) m = simp length-set (with_length ws m)
 
