@@ -1,5 +1,5 @@
 -- A caller's own events count the attempts that it has begun and the locators that it has installed.
-use Rattle.std.proofs.Common.{Bool, ◌&&◌, ◌+◌, ◌<◌, ◌==◌, ◌∙◌, ◌∷◌, ◌++◌, ◌≡◌, ◌≢◌, ◌≤◌, ◌⊎◌, List, [], ap, arith, cond, false, inl, inr, length, refl, true, ℕ}
+use Rattle.std.proofs.Common.{Bool, ◌&&◌, ◌+◌, ◌==◌, ◌∙◌, ◌∷◌, ◌≡◌, ◌≢◌, ◌⊎◌, List, [], arith, cond, false, inl, inr, refl, true, ℕ}
 use Rattle.std.specs.Prelude.{count_by}
 use Rattle.std.proofs.lemmas.Bool.{cases_Bool}
 use Rattle.std.proofs.lemmas.List.Sums.{sum_by-cons}

@@ -1,5 +1,5 @@
 -- The words that a table leaves tell the current values.
-use Rattle.std.proofs.Common.{◌*◌, ◌+◌, ◌-◌, ◌<◌, ◌==◌, ◌∙◌, ◌∷◌, ◌≡◌, ◌≢◌, ◌⊎◌, List, ap, arith, cond, inl, inr, refl, ℕ}
+use Rattle.std.proofs.Common.{◌-◌, ◌<◌, ◌==◌, ◌∙◌, ◌≡◌, ◌≢◌, List, ap, arith, inl, inr, refl, ℕ}
 use Rattle.std.specs.Prelude.{slice_index}
 use Rattle.std.proofs.lemmas.Bool.{cond_both, eqb-false}
 use Rattle.dstm_model.specs.declared.value.Val.{Val}

@@ -1,6 +1,6 @@
 -- An attempt uses one locator for each object that it opens for writing.
-use Rattle.std.proofs.Common.{◌+◌, ◌<◌, ◌==◌, ◌∙◌, ◌∷◌, ◌++◌, ◌≡◌, ◌≢◌, ◌≤◌, ◌⊎◌, List, [], ap, arith, inl, inr, length, length-append, refl, ℕ}
-use Rattle.std.proofs.lemmas.Bool.{cases_Bool, cond_both}
+use Rattle.std.proofs.Common.{◌+◌, ◌<◌, ◌==◌, ◌∷◌, ◌++◌, ◌≡◌, ◌≢◌, ◌⊎◌, List, [], arith, inl, inr, length, length-append, refl, ℕ}
+use Rattle.std.proofs.lemmas.Bool.{cond_both}
 use Rattle.dstm_core.specs.Events.{Event}
 use Rattle.dstm_core.specs.Rules.{after}
 use Rattle.dstm_core.specs.Runs.{local}
@@ -10,7 +10,7 @@ use Rattle.dstm_core.specs.declared.event.Kind.TheVariants.{Begin, Install, Look
 use Rattle.dstm_core.specs.declared.shape.Shape.{Shape}
 use Rattle.dstm_core.specs.declared.state.Write.{Write}
 use Rattle.dstm_core.proofs.Begun.{begun_how}
-use Rattle.dstm_core.proofs.Static.{begun_more, callers, local_own}
+use Rattle.dstm_core.proofs.Static.{callers, local_own}
 
 -- the locators installed before the attempt's first
 abbrev Same : LocalState → LocalState → Type 0

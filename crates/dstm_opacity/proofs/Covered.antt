@@ -1,6 +1,6 @@
 -- As long as an attempt adds nothing to what it reads and writes, its last sight covers it.
-use Rattle.std.proofs.Common.{◌++◌, ◌+◌, ◌<◌, ◌==◌, ◌∙◌, ◌∷◌, ◌≡◌, ◌≢◌, ◌≤◌, ◌⊎◌, Bool, List, [], ap, arith, false, inl, inr, refl, subst, sym, true, ℕ}
-use Rattle.std.proofs.lemmas.Bool.{cases_Bool, cond_both, eqb-true}
+use Rattle.std.proofs.Common.{◌++◌, ◌+◌, ◌==◌, ◌∙◌, ◌∷◌, ◌≡◌, ◌≢◌, ◌⊎◌, Bool, List, [], ap, arith, false, inl, inr, refl, subst, sym, true, ℕ}
+use Rattle.std.proofs.lemmas.Bool.{cases_Bool, cond_both}
 use Rattle.std.proofs.lemmas.List.Elements.{All-head, All-tail, Contains-append_left, Contains-append_right, Contains-append_cases}
 use Rattle.std.specs.Prelude.{All, Contains}
 use Rattle.dstm_core.specs.Histories.{IsSight}

@@ -1,13 +1,10 @@
 -- The example is a core run.
-use Rattle.std.proofs.Common.{◌≡◌, ◌<◌, ◌∷◌, List, [], inl, inr, refl, arith}
+use Rattle.std.proofs.Common.{◌∷◌, List, [], inl, inr, refl, arith}
 use Rattle.dstm_model.specs.declared.value.Val.{Val}
 use Rattle.dstm_core.specs.Events.{Event}
-use Rattle.dstm_core.specs.declared.event.Kind.TheVariants.{Enrol}
 use Rattle.dstm_core.specs.declared.shape.Shape.{Shape}
 use Rattle.dstm_core.specs.Histories.{Lawful}
-use Rattle.dstm_core.specs.Rules.{AllowedAs}
-use Rattle.dstm_core.specs.Runs.{Core, Fits, local}
-use Rattle.dstm_core.specs.Traces.{at}
+use Rattle.dstm_core.specs.Runs.{Core, Fits}
 use Rattle.dstm_opacity.proofs.Fitting.{AllFit, core_then, enrol, fit, ◌also◌}
 use Rattle.dstm_opacity.specs.Example.{SomeRun, before_commit, before_sight, reader_checks, reader_commit, reader_draws, run, shape, sight, start, then, writer_again, writer_commits}
 

@@ -1,5 +1,5 @@
 -- What an attempt has seen, as a value for each object that it holds.
-use Rattle.std.proofs.Common.{◌++◌, ◌<◌, ◌==◌, ◌∙◌, ◌∷◌, ◌≡◌, ◌⊎◌, List, Option, None, Some, [], ap, arith, cond, false, inl, inr, refl, sym, true, ℕ}
+use Rattle.std.proofs.Common.{◌++◌, ◌==◌, ◌∙◌, ◌∷◌, ◌≡◌, ◌⊎◌, List, Option, None, Some, [], ap, false, inl, inr, refl, sym, true, ℕ}
 use Rattle.std.proofs.lemmas.Bool.{cases_Bool, cond_both, eqb-true}
 use Rattle.std.specs.Map.{lookup}
 use Rattle.std.specs.Prelude.{option_map}

@@ -1,5 +1,5 @@
 -- An object that is read and then opened for writing keeps its version.
-use Rattle.std.proofs.Common.{◌&&◌, ◌++◌, ◌+◌, ◌-◌, ◌<◌, ◌==◌, ◌∙◌, ◌∷◌, ◌≡◌, ◌⊎◌, Bool, List, Option, None, Some, [], ap, arith, false, inl, inr, is_some, not, refl, subst, sym, true, ℕ}
+use Rattle.std.proofs.Common.{◌&&◌, ◌++◌, ◌==◌, ◌∙◌, ◌∷◌, ◌≡◌, ◌⊎◌, Bool, List, Option, None, Some, [], ap, arith, false, inl, inr, is_some, not, refl, subst, sym, true, ℕ}
 use Rattle.std.proofs.lemmas.Bool.{and_parts, cases_Bool, cond_both, eq-eqb, eqb-true}
 use Rattle.std.specs.Prelude.{is_none}
 use Rattle.dstm_core.specs.Laws.{Installs}

@@ -1,5 +1,5 @@
 -- Maps, entries and the sights of a live attempt.
-use Rattle.std.proofs.Common.{◌++◌, ◌+◌, ◌-◌, ◌<◌, ◌==◌, ◌∙◌, ◌∷◌, ◌≡◌, ◌≢◌, ◌≤◌, ◌⊎◌, List, [], ap, arith, false, inl, inr, length, length-set, refl, subst, suc, true, zero, ℕ, if◌then◌else◌}
+use Rattle.std.proofs.Common.{◌++◌, ◌+◌, ◌-◌, ◌==◌, ◌∙◌, ◌∷◌, ◌≡◌, ◌≤◌, List, [], arith, length, refl, subst, suc, zero, ℕ, if◌then◌else◌}
 use Rattle.std.proofs.lemmas.Bool.{cond_both, eqb-false, eqb-true, ne_eqb}
 use Rattle.dstm_model.specs.Map.{Agrees, Entry, IsLegal, IsUnnamed, NamesOnce, state_after, with_writes}
 use Rattle.dstm_model.specs.declared.value.Val.{Val}

@@ -1,10 +1,10 @@
 -- What an attempt has put of its writes is their value in every later run.
-use Rattle.std.proofs.Common.{◌%◌, ◌*◌, ◌++◌, ◌+◌, ◌-◌, ◌/◌, ◌<◌, ◌∙◌, ◌∷◌, ◌≡◌, ◌≢◌, ◌≤◌, ◌⊎◌, List, [], ap, append_assoc, arith, inl, inr, length, refl, subst, sym, ℕ}
+use Rattle.std.proofs.Common.{◌*◌, ◌++◌, ◌+◌, ◌-◌, ◌<◌, ◌∙◌, ◌∷◌, ◌≡◌, ◌≢◌, ◌⊎◌, List, [], ap, append_assoc, arith, inl, inr, length, refl, subst, sym, ℕ}
 use Rattle.std.proofs.lemmas.Bool.{cases_eq}
 use Rattle.std.specs.Prelude.{slice_get}
 use Rattle.dstm_model.specs.declared.value.Val.{Val}
 use Rattle.dstm_core.specs.Histories.{new_value}
-use Rattle.dstm_core.specs.Rules.{AllowedAs, after}
+use Rattle.dstm_core.specs.Rules.{after}
 use Rattle.dstm_core.specs.Runs.{Core, core as machine, local}
 use Rattle.dstm_core.specs.State.{LocalState, next_write, or_write}
 use Rattle.dstm_core.specs.Traces.{at, events_of, word}

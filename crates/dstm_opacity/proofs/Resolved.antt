@@ -1,12 +1,11 @@
 -- Both parts found of a resolution's version are its value in every later run.
-use Rattle.std.proofs.Common.{◌++◌, ◌-◌, ◌<◌, ◌==◌, ◌∙◌, ◌∷◌, ◌≡◌, List, Option, None, Some, [], ap, arith, false, is_some, refl, sym, true, ℕ}
+use Rattle.std.proofs.Common.{◌++◌, ◌<◌, ◌==◌, ◌∙◌, ◌∷◌, ◌≡◌, List, Option, None, Some, [], ap, arith, is_some, refl, sym, ℕ}
 use Rattle.std.proofs.lemmas.Bool.{cond_both, ne_eqb}
-use Rattle.std.proofs.lemmas.Bool.Decides.{nat_tests}
 use Rattle.dstm_model.specs.declared.value.Val.{Val}
 use Rattle.dstm_core.specs.Histories.{version_value}
 use Rattle.dstm_core.specs.Rules.{AllowedAs, after}
 use Rattle.dstm_core.specs.Runs.{Core, local}
-use Rattle.dstm_core.specs.State.{LocalState, given, is_live, is_resolved, keep_resolved, or_unresolved, or_zero, res, unresolved, version, version_by}
+use Rattle.dstm_core.specs.State.{LocalState, given, is_resolved, keep_resolved, or_unresolved, or_zero, res, unresolved, version, version_by}
 use Rattle.dstm_core.specs.Traces.{at}
 use Rattle.dstm_core.specs.Events.{Event}
 use Rattle.dstm_core.specs.declared.event.Kind.{Kind}

@@ -1,5 +1,5 @@
 -- An attempt has room: for as many reads and writes as there are objects, and for a locator for each write.
-use Rattle.std.proofs.Common.{◌++◌, ◌+◌, ◌<◌, ◌∙◌, ◌∷◌, ◌≡◌, ◌≢◌, ◌≤◌, List, None, [], ap, arith, length, length-append, refl, ℕ}
+use Rattle.std.proofs.Common.{◌++◌, ◌+◌, ◌<◌, ◌∷◌, ◌≡◌, ◌≢◌, ◌≤◌, List, None, [], arith, length, length-append, refl, ℕ}
 use Rattle.dstm_model.specs.Map.{no_value}
 use Rattle.dstm_model.specs.declared.value.Val.{Val}
 use Rattle.dstm_core.specs.Histories.{old_values, read_values}
