@@ -27,7 +27,8 @@ use Rattle.dstm_opacity.proofs.Begins.{before_attempt, begun_before, pass_begun}
 use Rattle.dstm_opacity.proofs.Draws.{commit_may}
 use Rattle.dstm_opacity.proofs.KeptLaw.{entry_same}
 use Rattle.dstm_opacity.proofs.Numbers.{Past, core_before, pass_past, past_more, past_past}
-use Rattle.dstm_opacity.proofs.Orders.{history_more, reverse_cons}
+use Rattle.dstm_model.proofs.Entries.{reverse_cons}
+use Rattle.dstm_opacity.proofs.Orders.{history_more}
 use Rattle.dstm_opacity.proofs.Passes.{check_after}
 use Rattle.dstm_opacity.proofs.SinceDraw.{drawn_may}
 use Rattle.dstm_opacity.specs.Laws.{HoldCommitsBefore, IsBeginOf, IsCommit}
