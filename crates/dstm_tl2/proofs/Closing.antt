@@ -40,17 +40,17 @@ sample_agrees t holds later before c is = record {
       (seen_by t (will_of t (later ++ before)) before run tell c).seen);
   lawful = λ h. subst holds (sym here)
       (lawful_from t holds (later ++ before) is.run is.law h (sample_place c before)
-      (later ++ (sample_at t before c run).past.more) (append_assoc later (sample_at t before c run).past.more
-      (sample_place c before) ∙ ap (λ es. later ++ es) (sample_at t before c run).past.is));
+      (later ++ (sample_at t before c run).past.later) (append_assoc later (sample_at t before c run).past.later
+      (sample_place c before) ∙ ap (λ es. later ++ es) (sample_at t before c run).past.whole));
   commits = λ between early x place v.
       subst (λ es. Contains (reverse (history t (will_of t (later ++ before)) es))
       (entry_of (local t early x) (or_writes (local t early x).writes))) (sym place)
       (valid_stands t (later ++ before) early between x is.run
       (record {
-        more = later ++ (sample_at t before c run).past.more;
-        is = ap (λ es. (later ++ (sample_at t before c run).past.more) ++ es) (sym place)
-            ∙ append_assoc later (sample_at t before c run).past.more (sample_place c before)
-            ∙ ap (λ es. later ++ es) (sample_at t before c run).past.is;
+        later = later ++ (sample_at t before c run).past.later;
+        whole = ap (λ es. (later ++ (sample_at t before c run).past.later) ++ es) (sym place)
+            ∙ append_assoc later (sample_at t before c run).past.later (sample_place c before)
+            ∙ ap (λ es. later ++ es) (sample_at t before c run).past.whole;
       }) v);
 }
   where

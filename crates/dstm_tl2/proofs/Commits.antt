@@ -5,6 +5,7 @@ use Rattle.std.specs.Prelude.{reverse}
 use Rattle.std.proofs.lemmas.Bool.{cases_eq, cond_both}
 use Rattle.std.proofs.lemmas.List.Elements.{Contains-append_left, Contains-push}
 use Rattle.std.proofs.lemmas.List.{reverse-append}
+use Rattle.dstm_runs.specs.Traces.{IsPastOf}
 use Rattle.dstm_model.specs.Map.{Entry}
 use Rattle.dstm_runs.proofs.Runs as runs
 use Rattle.dstm_tl2.specs.Histories.{entry_of, history, is_draw, read_values, will_of, writes_of}
@@ -18,13 +19,12 @@ use Rattle.dstm_tl2.proofs.Foretelling.{valid_will, will_more}
 use Rattle.dstm_model.proofs.Entries.{reverse_cons}
 use Rattle.dstm_tl2.proofs.SinceDraw.{Checks, Rests, check_by}
 use Rattle.dstm_tl2.proofs.Static.{static, valid_drawn}
-use Rattle.dstm_tl2.proofs.Versions.{Past}
 
 -- the draw of an attempt that has drawn
 pub record DrawOf (t : Table) (es : List Event) (l : LocalState) (n : ℕ) : Type 0 where
   pub before : List Event
   pub draw : Event
-  pub past : Past (draw ∷ before) es
+  pub past : IsPastOf (draw ∷ before) es
   pub kind : is_draw draw.kind ≡ true
   pub found : draw.found ≡ n
   pub reads : (local t before draw.caller).reads ≡ l.reads
@@ -44,7 +44,7 @@ draw_of_step t es e c n run h ih (inr x) y =
     by (drew u) = record {
       before = es;
       draw = e;
-      past = record { more = []; is = refl };
+      past = record { later = []; whole = refl };
       kind = x.is_draw;
       found = sym x.number;
       reads = sym (ap (λ (l : LocalState). l.reads) (runs.local_own tl2 t es e) ∙ u.reads);
@@ -54,7 +54,7 @@ draw_of_step t es e c n run h ih (inl x) (inr y) =
     let d = ih x in let same = runs.local_other tl2 t es e c y in record {
       before = d.before;
       draw = d.draw;
-      past = record { more = e ∷ d.past.more; is = ap (λ l. e ∷ l) d.past.is };
+      past = record { later = e ∷ d.past.later; whole = ap (λ l. e ∷ l) d.past.whole };
       kind = d.kind;
       found = d.found;
       reads = d.reads ∙ ap (λ (l : LocalState). l.reads) (sym same);
@@ -74,7 +74,7 @@ draw_of_step t es e c n run h ih (inl x) (inl y) =
     same d r w = record {
       before = d.before;
       draw = d.draw;
-      past = record { more = e ∷ d.past.more; is = ap (λ l. e ∷ l) d.past.is };
+      past = record { later = e ∷ d.past.later; whole = ap (λ l. e ∷ l) d.past.whole };
       kind = d.kind;
       found = d.found;
       reads = d.reads ∙ sym r ∙ ap (λ (l : LocalState). l.reads) (sym now);
@@ -134,18 +134,18 @@ entry_stands t will q d more k w = go (history_more t will more (d ∷ q))
         (entry_of (local t q d.caller) (writes_of d.kind)) here)
 
 -- so does that of an attempt that is valid before
-pub valid_stands : (t : Table) (run early between : List Event) (c : ℕ) → Run t run → Past (between ++ early) run →
+pub valid_stands : (t : Table) (run early between : List Event) (c : ℕ) → Run t run → IsPastOf (between ++ early) run →
     is_valid (local t early c) ≡ true →
     Contains (reverse (history t (will_of t run) (between ++ early)))
     (entry_of (local t early c) (or_writes (local t early c).writes))
 valid_stands t run early between c r p v = go (local t early c).drawn refl (valid_drawn (local t early c) v)
   where
-    whole : p.more ++ (between ++ early) ≡ run
-    whole = p.is
+    whole : p.later ++ (between ++ early) ≡ run
+    whole = p.whole
 
     run_early : Run t early
     run_early = runs.run_past tl2 t between early
-        (runs.run_past tl2 t p.more (between ++ early) (subst (Run t) (sym p.is) r))
+        (runs.run_past tl2 t p.later (between ++ early) (subst (Run t) (sym p.whole) r))
 
     go : (d : Option ℕ) → (local t early c).drawn ≡ d → is_some (local t early c).drawn ≡ true →
         Contains (reverse (history t (will_of t run) (between ++ early)))
@@ -154,9 +154,9 @@ valid_stands t run early between c r p v = go (local t early c).drawn refl (vali
     go (Some n) q i =
         let d = draw_of t early c n run_early q in
         let will : will_of t run n ≡ true =
-        subst (λ run. will_of t run n ≡ true) p.is
-        (will_more t p.more (between ++ early) n (will_more t between early n (valid_will t early c n q v))) in
-        let stands = entry_stands t (will_of t run) d.before d.draw (between ++ d.past.more) d.kind
+        subst (λ run. will_of t run n ≡ true) p.whole
+        (will_more t p.later (between ++ early) n (will_more t between early n (valid_will t early c n q v))) in
+        let stands = entry_stands t (will_of t run) d.before d.draw (between ++ d.past.later) d.kind
         (ap (will_of t run) d.found ∙ will) in
         let same : entry_of (local t d.before d.draw.caller) (writes_of d.draw.kind) ≡ entry_of (local t early c)
         (or_writes (local t early c).writes) =
@@ -168,4 +168,4 @@ valid_stands t run early between c r p v = go (local t early c).drawn refl (vali
         subst (Contains (reverse (history t (will_of t run) (between ++ early)))) same
         (subst (λ es. Contains (reverse (history t (will_of t run) es))
         (entry_of (local t d.before d.draw.caller) (writes_of d.draw.kind)))
-        (append_assoc between d.past.more (d.draw ∷ d.before) ∙ ap (λ es. between ++ es) d.past.is) stands)
+        (append_assoc between d.past.later (d.draw ∷ d.before) ∙ ap (λ es. between ++ es) d.past.whole) stands)

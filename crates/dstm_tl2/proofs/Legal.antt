@@ -97,7 +97,7 @@ module _ (t : Table) (will : ℕ → Bool) (q : List Event) (d : Event) (run : R
   stays o b same =
       let s = sample_at t q d.caller run.0 in
       let low = version_below t will place o
-      (runs.run_past tl2 t s.past.more place (subst (Run t) (sym s.past.is) run.0)) b in
+      (runs.run_past tl2 t s.past.later place (subst (Run t) (sym s.past.whole) run.0)) b in
       sym (unchanged t will place q o s.past run.0 b (omega arith)).value
 
   agrees_from : (rs : List Read) → Seen t will place rs → ReadsOk t l.sample rs →

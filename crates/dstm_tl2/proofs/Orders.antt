@@ -5,6 +5,7 @@ use Rattle.std.specs.Prelude.{reverse}
 use Rattle.std.proofs.lemmas.Bool.{and_parts, cases_Bool}
 use Rattle.std.proofs.lemmas.List.{reverse-append, reverse-reverse}
 use Rattle.std.proofs.lemmas.List.Elements.{All-append, All-cons, All-nil}
+use Rattle.dstm_runs.specs.Traces.{IsPastOf}
 use Rattle.dstm_model.specs.declared.value.Val.{Val}
 use Rattle.dstm_model.specs.Map.{Entry, IsEntry, state_after}
 use Rattle.dstm_tl2.specs.Histories.{LawfulRun, entry_of, history, history_of, is_draw, prefix_at, will_of, writes_of}
@@ -16,17 +17,16 @@ use Rattle.dstm_model.proofs.Entries.{reverse_cons}
 use Rattle.dstm_tl2.proofs.Legal.{lawful_from, state_is}
 use Rattle.dstm_tl2.proofs.Stands.{Told}
 use Rattle.dstm_tl2.proofs.Tidy.{reads_once, writes_once}
-use Rattle.dstm_tl2.proofs.Versions.{Past}
 
 -- each part of the history that has its oldest entries is that of a past
 record PartIs (t : Table) (will : ℕ → Bool) (es : List Event) (xs : List Entry) : Type 0 where
   past : List Event
-  is_past : Past past es
+  is_past : IsPastOf past es
   is : history t will past ≡ xs
 
 part_is : (t : Table) (will : ℕ → Bool) (es : List Event) (newer xs : List Entry) →
     history t will es ≡ newer ++ xs → PartIs t will es xs
-part_is t will es [] xs h = record { past = es; is_past = record { more = []; is = refl }; is = h }
+part_is t will es [] xs h = record { past = es; is_past = record { later = []; whole = refl }; is = h }
 part_is t will [] (x ∷ newer) xs h = absurd (cc)
 part_is t will (e ∷ es) (x ∷ newer) xs h =
     go (cases_Bool (is_draw e.kind && will e.found)) (λ q. part_is t will es newer xs q)
@@ -35,7 +35,7 @@ part_is t will (e ∷ es) (x ∷ newer) xs h =
     longer : PartIs t will es xs → PartIs t will (e ∷ es) xs
     longer p = record {
       past = p.past;
-      is_past = record { more = e ∷ p.is_past.more; is = ap (λ l. e ∷ l) p.is_past.is };
+      is_past = record { later = e ∷ p.is_past.later; whole = ap (λ l. e ∷ l) p.is_past.whole };
       is = p.is;
     }
 
@@ -62,7 +62,7 @@ prefix_is_lawful t holds run prefix rest r q h =
     go p = subst holds
         (sym (state_is t (will_of t run) p.past) ∙ ap (λ xs. state_after t.start (reverse xs)) p.is
         ∙ ap (state_after t.start) (reverse-reverse prefix))
-        (lawful_from t holds run r.run r.law h p.past p.is_past.more p.is_past.is)
+        (lawful_from t holds run r.run r.law h p.past p.is_past.later p.is_past.whole)
 
 -- each entry names an object at most once among its reads, and at most once among its writes
 pub entries_once : (t : Table) (will : ℕ → Bool) (es : List Event) → Run t es → Told t will es →

@@ -1,6 +1,7 @@
 -- Versions and values after the draws of the attempts that commit: `will` tells which these are, by their numbers.
 use Rattle.std.proofs.Common.{◌&&◌, ◌≡◌, ◌≢◌, ◌<◌, ◌≤◌, ◌+◌, ◌⊎◌, ◌∷◌, ◌++◌, ◌∙◌, ℕ, inl, inr, List, [], refl, ap, arith, sym, subst, true, false, Bool, Option, Some, None, length, length-set, get_or-set_same, get_or-set_other, if◌then◌else◌}
 use Rattle.std.proofs.lemmas.Bool.{and_parts, cases_Bool, cases_eq, cond_both, eq-eqb, ne_eqb}
+use Rattle.dstm_runs.specs.Traces.{IsPastOf}
 use Rattle.dstm_model.proofs.Entries.{with_length}
 use Rattle.dstm_model.specs.declared.value.Val.{Val}
 use Rattle.dstm_model.specs.Map.{value_at, with_writes}
@@ -135,10 +136,6 @@ version_below t will (e ∷ es) o run b =
         omega arith
 
 -- a version that is at most the clock of a past was that of the past, and so was the value
-pub record Past (past es : List Event) : Type 0 where
-  pub more : List Event
-  pub is : more ++ past ≡ es
-
 pub record Unchanged (t : Table) (will : ℕ → Bool) (past es : List Event) (o : ℕ) : Type 0 where
   pub version : version_at will past o ≡ version_at will es o
   pub value : value_at (state t will past) o ≡ value_at (state t will es) o
@@ -161,9 +158,9 @@ unchanged_from t will (e ∷ more) past o run b h =
         record { version = k.version ∙ sym s.version; value = k.value ∙ sym s.value }
     go (inr s) ih = absurd (let c = clock_more t more past run.0 in omega arith)
 
-pub unchanged : (t : Table) (will : ℕ → Bool) (past es : List Event) (o : ℕ) → Past past es → Run t es →
+pub unchanged : (t : Table) (will : ℕ → Bool) (past es : List Event) (o : ℕ) → IsPastOf past es → Run t es →
     o < objects t → version_at will es o ≤ clock t past → Unchanged t will past es o
 unchanged t will past es o p run b h =
-    subst (λ es. Unchanged t will past es o) p.is
-    (unchanged_from t will p.more past o (subst (Run t) (sym p.is) run) b
-    (subst (λ es. version_at will es o ≤ clock t past) (sym p.is) h))
+    subst (λ es. Unchanged t will past es o) p.whole
+    (unchanged_from t will p.later past o (subst (Run t) (sym p.whole) run) b
+    (subst (λ es. version_at will es o ≤ clock t past) (sym p.whole) h))
