@@ -20,7 +20,6 @@ use Rattle.dstm_core.proofs.Pasts.{core_past}
 use Rattle.dstm_core.proofs.Statuses.{OwnStatus, finished_step, own_status}
 use Rattle.dstm_opacity.proofs.Current.{Foretells, foretells_past}
 use Rattle.dstm_opacity.proofs.Draws.{draw_may}
-
 use Rattle.dstm_opacity.proofs.Passes.{check_after, check_shows, not-false_true, passes, reads_at}
 use Rattle.dstm_opacity.proofs.Recorded.{ReadsNamed, reads}
 use Rattle.dstm_opacity.proofs.Sights.{foretold, will_is}

@@ -1,6 +1,6 @@
 -- How far the counting words rise, and that no add on them wraps.
-use Rattle.std.proofs.Common.{◌≡◌, ◌+◌, ◌-◌, ◌*◌, ◌^◌, ◌<◌, ◌≤◌, ◌==◌, ◌⊎◌, ◌∷◌, ℕ, zero, suc, inl, inr, List, [], ap, arith, sym, subst, true, Option, Some, None}
-use Rattle.std.proofs.lemmas.Bool.{cond_both, cases_eq}
+use Rattle.std.proofs.Common.{◌≡◌, ◌+◌, ◌-◌, ◌*◌, ◌^◌, ◌<◌, ◌≤◌, ◌==◌, ◌⊎◌, ◌∷◌, ℕ, inl, inr, List, [], ap, arith, sym, subst, true, Option, Some, None}
+use Rattle.std.proofs.lemmas.Bool.{cond_both}
 use Rattle.std.proofs.lemmas.Nat.{mul-le}
 use Rattle.dstm_runs.proofs.Runs as runs
 use Rattle.dstm_runs.proofs.Totals.{total, total-≤, total-<, total-bound}

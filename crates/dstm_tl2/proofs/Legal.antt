@@ -2,7 +2,6 @@
 use Rattle.std.proofs.Common.{◌&&◌, ◌≡◌, ◌<◌, ◌*◌, ◌⊎◌, ◌∷◌, ◌++◌, ◌∙◌, ℕ, inl, inr, List, [], refl, ap, arith, append_assoc, sym, subst, true, false, Bool, Option, Some, None, is_some}
 use Rattle.std.specs.Prelude.{is_none, reverse}
 use Rattle.std.proofs.lemmas.Bool.{and_parts, cases_Bool, cases_eq, cond_both, eq-eqb, ne_eqb}
-use Rattle.std.proofs.lemmas.List.{reverse-append}
 use Rattle.dstm_model.proofs.Entries.{legal_snoc, reverse_cons, state_snoc}
 use Rattle.dstm_model.specs.declared.value.Val.{Val}
 use Rattle.dstm_model.specs.Map.{Agrees, Entry, IsLegal, state_after, value_at, with_writes}
