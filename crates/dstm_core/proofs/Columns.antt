@@ -4,14 +4,14 @@ use Rattle.std.proofs.Math.Nat.{mul-add-div_right, div-eq_of_lt}
 use Rattle.std.proofs.lemmas.Nat.{mod-mul-add, mul-add-lt}
 use Rattle.std.proofs.lemmas.Bool.Decides.{nat_tests}
 use Rattle.std.proofs.lemmas.Bool.{cases_eq}
-use Rattle.dstm_core.specs.declared.event.Kind.TheVariants.{Enrol, Begin, PutOwner, PutOld, Install, PutNew, Draw, Commit, Kill, Quit, Stamp, Pause, Resume, PutHigh, Validating as ToValidating}
+use Rattle.dstm_core.specs.declared.event.Kind.TheVariants.{Enrol, Begin, PutOwner, PutOld, Install, PutNew, Draw, Commit, Kill, Quit, Stamp, Rank, Pause, Resume, PutHigh, Validating as ToValidating}
 use Rattle.dstm_core.specs.declared.state.Phase.TheVariants.{Outside, Running, Putting}
-use Rattle.dstm_core.specs.Words.Word.{CallersWord, StampsWord, ObjectWord, StatusWord, OwnerWord, OldWord, LowWord, HighWord, NumbersWord}
+use Rattle.dstm_core.specs.Words.Word.{CallersWord, StampsWord, ObjectWord, StatusWord, RankWord, OwnerWord, OldWord, LowWord, HighWord, NumbersWord}
 use Rattle.dstm_core.specs.declared.shape.Shape.{Shape}
 use Rattle.dstm_core.specs.Events.{Event}
 use Rattle.dstm_core.specs.declared.event.Kind.{Kind}
 use Rattle.dstm_core.specs.State.{LocalState, or_zero, next_attempt, own_attempt, next_locator, given, res, next_write}
-use Rattle.dstm_core.specs.Rules.{target, AllowedAs}
+use Rattle.dstm_core.specs.Rules.{rank_of, target, AllowedAs}
 use Rattle.dstm_core.specs.Traces.{at, word}
 use Rattle.dstm_core.specs.Runs.{local, Core, Fits}
 use Rattle.dstm_core.specs.Words.{Word, place, HasWord}
@@ -110,7 +110,7 @@ change s es e w p h = go (cases_eq e.place (place s w)) (cases_eq e.put e.found)
     })
 
 -- the words of objects change at a successful Install alone
-pub record Installs (s : Shape) (l : LocalState) (e : Event) (o : ℕ) : Type 0 where
+pub record InstallsIn (s : Shape) (l : LocalState) (e : Event) (o : ℕ) : Type 0 where
   pub kind : e.kind ≡ Install
   pub object : o ≡ (res l).object
   pub found : e.found ≡ (res l).word
@@ -118,17 +118,17 @@ pub record Installs (s : Shape) (l : LocalState) (e : Event) (o : ℕ) : Type 0 
   pub put : e.put ≡ next_locator s l + 1
 
 object_change : (s : Shape) (l : LocalState) (e : Event) (o : ℕ) (k : Kind) → e.kind ≡ k → AllowedAs k s l e →
-    target k s l e ≡ ObjectWord o → (e.put ≡ e.found) ⊎ Installs s l e o
+    target k s l e ≡ ObjectWord o → (e.put ≡ e.found) ⊎ InstallsIn s l e o
 object_change s l e o Install q a h = go (exchanged e.found (res l).word (next_locator s l + 1) e.put a.1.1)
   where
     go : (e.put ≡ e.found) ⊎ ((e.found ≡ (res l).word) × (e.put ≡ next_locator s l + 1)) →
-        (e.put ≡ e.found) ⊎ Installs s l e o
+        (e.put ≡ e.found) ⊎ InstallsIn s l e o
     go (inl x) = inl x
     go (inr x) = inr (record { kind = q; object = cc; found = x.0; expected = a.1.0; put = x.1 })
 object_change s l e o k q a h = grind arith
 
 pub record Installed (s : Shape) (es : List Event) (e : Event) (o : ℕ) : Type 0 where
-  pub how : Installs s (local s es e.caller) e o
+  pub how : InstallsIn s (local s es e.caller) e o
   pub now : at (e ∷ es) o ≡ next_locator s (local s es e.caller) + 1
   pub was : at es o ≡ (res (local s es e.caller)).word
 
@@ -136,7 +136,7 @@ pub objects : (s : Shape) (es : List Event) (e : Event) (o : ℕ) → Step s es 
     (at (e ∷ es) o ≡ at es o) ⊎ Installed s es e o
 objects s es e o p h = go (change s es e (ObjectWord o) p h)
   where
-    hit : Changed s es e (ObjectWord o) → (e.put ≡ e.found) ⊎ Installs s (local s es e.caller) e o →
+    hit : Changed s es e (ObjectWord o) → (e.put ≡ e.found) ⊎ InstallsIn s (local s es e.caller) e o →
         (at (e ∷ es) o ≡ at es o) ⊎ Installed s es e o
     hit c (inl x) = absurd (c.differs x)
     hit c (inr x) = inr (record { how = x; now = c.now ∙ x.put; was = c.was ∙ x.found })
@@ -305,6 +305,32 @@ enrolled s es e p = go (change s es e CallersWord p tt)
         Same s es e CallersWord ⊎ ((e.kind ≡ Enrol) × (word s (e ∷ es) CallersWord ≡ word s es CallersWord + 1))
     go (inl x) = inl x
     go (inr c) = hit c (caller_change s (local s es e.caller) e e.kind p.fits.allowed c.target)
+
+-- the rank of an attempt changes at a Rank alone
+pub record RankPut (s : Shape) (es : List Event) (e : Event) (a : ℕ) : Type 0 where
+  pub kind : e.kind ≡ Rank
+  pub attempt : a ≡ rank_of (local s es e.caller).phase s (local s es e.caller)
+  pub now : word s (e ∷ es) (RankWord a) ≡ e.put
+
+rank_change : (s : Shape) (l : LocalState) (e : Event) (a : ℕ) (k : Kind) → AllowedAs k s l e →
+    target k s l e ≡ RankWord a → (e.put ≡ e.found) ⊎ ((k ≡ Rank) × (a ≡ rank_of l.phase s l))
+rank_change s l e a Rank h t = inr (refl, cc)
+rank_change s l e a k h t = grind arith
+
+pub ranks : (s : Shape) (es : List Event) (e : Event) (a : ℕ) → Step s es e → a < s.callers * s.attempts →
+    Same s es e (RankWord a) ⊎ RankPut s es e a
+ranks s es e a p h = go (change s es e (RankWord a) p h)
+  where
+    hit : Changed s es e (RankWord a) →
+        (e.put ≡ e.found) ⊎ ((e.kind ≡ Rank) × (a ≡ rank_of (local s es e.caller).phase s
+        (local s es e.caller))) →
+        Same s es e (RankWord a) ⊎ RankPut s es e a
+    hit c (inl x) = absurd (c.differs x)
+    hit c (inr x) = inr (record { kind = x.0; attempt = x.1; now = c.now })
+
+    go : Same s es e (RankWord a) ⊎ Changed s es e (RankWord a) → Same s es e (RankWord a) ⊎ RankPut s es e a
+    go (inl x) = inl x
+    go (inr c) = hit c (rank_change s (local s es e.caller) e a e.kind p.fits.allowed c.target)
 
 -- a status changes as its attempt begins, as the attempt moves it, and as another attempt aborts it
 pub record Begins (s : Shape) (l : LocalState) (e : Event) (a : ℕ) : Type 0 where

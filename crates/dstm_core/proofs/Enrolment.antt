@@ -92,13 +92,3 @@ pub has_number : (s : Shape) (c : ℕ) (l : LocalState) (e : Event) (k : Kind) �
     AllowedAs k s l e → is_some (after k s l e).number ≡ true
 has_number s c l e Enrol t a = refl
 has_number s c l e k t a = numbered s c l e k (λ z. cc) t a
-
--- a caller's state is made by its own events
-pub local-events_of : (s : Shape) (es : List Event) (c : ℕ) → local s (events_of c es) c ≡ local s es c
-local-events_of s [] c = refl
-local-events_of s (e ∷ es) c = go (cases_Bool (e.caller == c)) (local-events_of s es c)
-  where
-    go : (e.caller == c ≡ true) ⊎ (e.caller == c ≡ false) → local s (events_of c es) c ≡ local s es c →
-        local s (events_of c (e ∷ es)) c ≡ local s (e ∷ es) c
-    go (inl q) ih = rw (q, q) (ap (λ l. after e.kind s l e) ih)
-    go (inr q) ih = rw q ih

@@ -14,7 +14,7 @@ use Rattle.std.proofs.lemmas.Option.{slice_get_within, slice_get_read, get_or_fr
 use Rattle.dstm_core.specs.declared.state.Read.{Read}
 use Rattle.dstm_core.specs.Indexed.{IsIndexed, is_among, count_before, read_at, reads_at, place_of}
 use Rattle.dstm_core.specs.State.{read_of, or_read}
-use Rattle.dstm_core.specs.Tracking.{Checklist}
+use Rattle.dstm_core.specs.Reads.{Checklist}
 use Rattle.dstm_core.proofs.Reading.{same_or_not, OneOf, NoneOf, insert_last, remove_last, one_found, among-push, read_at_old, read_at_last}
 
 -- two lists of reads of which as many are checked

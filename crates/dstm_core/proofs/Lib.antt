@@ -1,6 +1,7 @@
 -- Lemmas on core runs. In them s is a shape, es what stands before an event e (the newest first), c a caller,
 -- l a caller's state, k a kind, o an object, a an attempt and m a locator.
 pub mod Places
+pub mod Pasts
 pub mod Static
 pub mod Columns
 pub mod Basic
@@ -16,3 +17,7 @@ pub mod Opened
 pub mod Indices
 pub mod Reading
 pub mod Indexing
+pub mod Begun
+pub mod Underway
+pub mod Stamps
+pub mod SmallRanks

@@ -8,7 +8,7 @@ use Rattle.dstm_core.specs.Traces.{at, word}
 use Rattle.dstm_core.specs.Runs.{local, Core}
 use Rattle.dstm_core.proofs.Columns.{step, Used, used_more, Installed, objects}
 use Rattle.dstm_core.proofs.Basic.{Names, names_more, fresh, own_number, install_may, owner_stays, old_stays, used_new, install_put}
-use Rattle.dstm_core.proofs.Statuses.{core_past}
+use Rattle.dstm_core.proofs.Pasts.{core_past}
 
 -- a successful Install puts a locator's name that no earlier one has put
 pub install_fresh : (s : Shape) (es : List Event) (e : Event) → Core s (e ∷ es) → e.kind ≡ Install →

@@ -1,6 +1,6 @@
 -- Two words of a shape lie at two places.
 use Rattle.std.proofs.Common.{◌≡◌, ◌∷◌, ℕ, List, refl, ap, arith}
-use Rattle.std.proofs.lemmas.Bool.Decides.{nat_tests}
+use Rattle.dstm_runs.proofs.Runs as runs
 use Rattle.dstm_core.specs.Words.Word.{ObjectWord, StatusWord, RankWord, OwnerWord, OldWord, LowWord, HighWord, CallersWord, NumbersWord, StampsWord}
 use Rattle.dstm_core.specs.declared.shape.Shape.{Shape}
 use Rattle.dstm_core.specs.Events.{Event}
@@ -23,8 +23,8 @@ same_place s w v g h e = absurd (omega arith)
 -- an event that puts what it found, or that lies elsewhere, keeps a word
 pub kept : (es : List Event) (e : Event) (p : ℕ) → e.found ≡ at es e.place → (e.place ≡ p → e.put ≡ e.found) →
     at (e ∷ es) p ≡ at es p
-kept es e p l h = grind (arith, nat_tests)
+kept = runs.kept (λ p. 0)
 
 -- what an event puts at its word
 pub put_at : (es : List Event) (e : Event) (p : ℕ) → e.place ≡ p → at (e ∷ es) p ≡ e.put
-put_at es e p h = grind (arith, nat_tests)
+put_at = runs.put_at (λ p. 0)

@@ -7,7 +7,7 @@ use Rattle.dstm_core.specs.Histories.{CoreRun, Lawful}
 use Rattle.dstm_core.specs.Laws.{IsFinished, Installs, StaysInstalled}
 use Rattle.dstm_core.specs.Runs.{Core}
 use Rattle.dstm_core.proofs.Locators.{install_fresh, installed_stays}
-use Rattle.dstm_core.proofs.Statuses.{core_past}
+use Rattle.dstm_core.proofs.Pasts.{core_past}
 use Rattle.dstm_core.proofs.Stores.{low_once, high_once}
 
 pub lawful_past : (s : Shape) (start : List Val) (holds : List Val → Type 0) (more es : List Event) →
@@ -15,9 +15,9 @@ pub lawful_past : (s : Shape) (start : List Val) (holds : List Val → Type 0) (
 lawful_past s start holds [] es law = law
 lawful_past s start holds (e ∷ more) es law = lawful_past s start holds more es law.0
 
-pub run_past : (s : Shape) (start : List Val) (holds : List Val → Type 0) (more es : List Event) →
+pub core_run_past : (s : Shape) (start : List Val) (holds : List Val → Type 0) (more es : List Event) →
     CoreRun s start holds (more ++ es) → CoreRun s start holds es
-run_past s start holds more es run = record {
+core_run_past s start holds more es run = record {
   values = run.values;
   core = core_past s more es run.core;
   law = lawful_past s start holds more es run.law;

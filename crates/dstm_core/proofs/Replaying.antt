@@ -7,18 +7,14 @@ use Rattle.dstm_core.specs.Events.{Event}
 use Rattle.dstm_core.specs.declared.shape.Shape.{Shape}
 use Rattle.dstm_core.specs.declared.verdict.Replay.TheVariants.{Run, Broken}
 use Rattle.dstm_core.specs.Replays.{IsFirstBroken, Stands, Judged}
-use Rattle.dstm_core.specs.Tracking.{Tracked}
+use Rattle.dstm_core.specs.Local.{Tracked}
 use Rattle.dstm_core.specs.Runs.{Core, Fits}
+use Rattle.dstm_core.proofs.Pasts.{core_past}
 
 -- one event more, and the log has it as its newest
 pub next_log : (t : List Event) (i : ℕ) (d : Event) → i < length t →
     reverse (take (i + 1) t) ≡ get_or t i d ∷ reverse (take i t)
 next_log t i d h = grind (arith, take-suc t i d h, reverse-append (take i t) (get_or t i d ∷ []), common_steps)
-
--- what stands before some events of a core run is a core run
-pub core_before : (s : Shape) (later before : List Event) → Core s (later ++ before) → Core s before
-core_before s [] before c = c
-core_before s (e ∷ later) before c = core_before s later before c.0
 
 -- fewer events of a core run are a core run
 pub core_fewer : (s : Shape) (t : List Event) (i j : ℕ) → i ≤ j → Core s (reverse (take j t)) →
@@ -26,7 +22,7 @@ pub core_fewer : (s : Shape) (t : List Event) (i j : ℕ) → i ≤ j → Core s
 core_fewer s t i j h c =
     let parts : reverse (take j t) ≡ reverse (drop i (take j t)) ++ reverse (take i t) =
     grind (arith, take-append-drop i (take j t), reverse-append (take i t) (drop i (take j t)), common_steps) in
-    core_before s (reverse (drop i (take j t))) (reverse (take i t)) (subst (Core s) parts c)
+    core_past s (reverse (drop i (take j t))) (reverse (take i t)) (subst (Core s) parts c)
 
 compare : (i j : ℕ) → (i < j) ⊎ (j < i) ⊎ (i ≡ j)
 compare i j = grind arith

@@ -12,7 +12,8 @@ use Rattle.dstm_core.specs.declared.event.Kind.{Kind}
 use Rattle.dstm_core.specs.declared.state.Write.{Write}
 use Rattle.dstm_core.specs.State.{LocalState, or_zero, next_locator, given, version, is_resolved, or_unresolved, res, keep_resolved, or_write}
 use Rattle.dstm_core.specs.Rules.{leave, install, after, AllowedAs}
-use Rattle.dstm_core.specs.Runs.{local, Core}
+use Rattle.dstm_core.specs.Runs.{local, Core, core as machine}
+use Rattle.dstm_runs.proofs.Runs as runs
 
 -- a resolution is of an object of the shape
 abbrev pub InShape : Shape → Option Resolution → Type 0
@@ -357,21 +358,17 @@ installed_more s es e c =
 -- the caller's own state after its event, and that of another
 pub local_own : (s : Shape) (es : List Event) (e : Event) →
     local s (e ∷ es) e.caller ≡ after e.kind s (local s es e.caller) e
-local_own s es e = rw (eq-eqb e.caller e.caller refl)
+local_own = runs.local_own machine
 
 pub local_other : (s : Shape) (es : List Event) (e : Event) (c : ℕ) → e.caller ≢ c →
     local s (e ∷ es) c ≡ local s es c
-local_other s es e c h = rw (ne_eqb e.caller c h)
+local_other = runs.local_other machine
 
 -- a fact of each caller's state, from that of the caller that steps and those of the others
 pub callers : (s : Shape) (es : List Event) (e : Event) (P : ℕ → LocalState → Type 0) →
     P e.caller (after e.kind s (local s es e.caller) e) → ((c : ℕ) → e.caller ≢ c → P c (local s es c)) →
     (c : ℕ) → P c (local s (e ∷ es) c)
-callers s es e P own other c = go (cases_eq e.caller c)
-  where
-    go : (e.caller ≡ c) ⊎ (e.caller ≡ c → ⊥) → P c (local s (e ∷ es) c)
-    go (inl h) = subst (λ n. P n (local s (e ∷ es) n)) h (subst (P e.caller) (sym (local_own s es e)) own)
-    go (inr h) = subst (P c) (sym (local_other s es e c h)) (other c h)
+callers = runs.callers machine
 
 -- the locators installed grow at a successful Install alone
 pub installed_how : (s : Shape) (l : LocalState) (e : Event) (k : Kind) →

@@ -108,11 +108,6 @@ finished_step s es e a core h f = go (statuses s es e a st h)
     go (inl x) = x
     go (inr x) = absurd (moved x.how x.was)
 
--- a part of a core run
-pub core_past : (s : Shape) (more es : List Event) → Core s (more ++ es) → Core s es
-core_past s [] es core = core
-core_past s (e ∷ more) es core = core_past s more es core.0
-
 pub finished_stays : (s : Shape) (more es : List Event) (a : ℕ) → Core s (more ++ es) →
     a < s.callers * s.attempts → 4 ≤ word s es (StatusWord a) →
     word s (more ++ es) (StatusWord a) ≡ word s es (StatusWord a)

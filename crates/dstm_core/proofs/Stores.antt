@@ -17,7 +17,7 @@ use Rattle.dstm_core.specs.Runs.{local, Core}
 use Rattle.dstm_core.specs.Words.{place}
 use Rattle.dstm_core.proofs.Static.{numbered-get, Static, static, local_own, callers}
 use Rattle.dstm_core.proofs.Columns.{aimed, caller_of, index_of}
-use Rattle.dstm_core.proofs.Statuses.{core_past}
+use Rattle.dstm_core.proofs.Pasts.{core_past}
 
 -- the number of a caller's locators whose low new word can be put no more
 abbrev pub settled_by : Phase → LocalState → ℕ

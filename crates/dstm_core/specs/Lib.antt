@@ -6,6 +6,8 @@ pub mod Rules
 pub mod Runs
 pub mod Histories
 pub mod Laws
-pub mod Tracking
+pub mod Local
+pub mod Reads
+pub mod Writes
 pub mod Replays
 pub mod Indexed

@@ -3,7 +3,7 @@ use Rattle.std.specs.Prelude.{◌≡◌, ◌↔◌, Bool, IsTrue, ◌∷◌, ℕ
 use Rattle.dstm_core.specs.Events.{Event}
 use Rattle.dstm_core.specs.declared.shape.Shape.{Shape}
 use Rattle.dstm_core.specs.Runs.{local, Core, Fits}
-use Rattle.dstm_core.specs.Tracking.{Tracked}
+use Rattle.dstm_core.specs.Local.{Tracked}
 use Rattle.dstm_core.specs.Traces.{at}
 use Rattle.dstm_core.specs.Words.{word_count}
 

@@ -1,5 +1,5 @@
 -- One caller's state, which its own events make.
-use Rattle.std.specs.Prelude.{ℕ, ◌+◌, ◌-◌, ◌*◌, ◌==◌, ◌&&◌, Bool, false, not, nat_lt, List, [], ◌∷◌, ◌++◌, slice_get, Option, Some, None, is_some, is_none, if◌then◌else◌}
+use Rattle.std.specs.Prelude.{ℕ, ◌+◌, ◌-◌, ◌*◌, ◌==◌, ◌&&◌, Bool, true, false, not, nat_lt, List, [], ◌∷◌, ◌++◌, slice_get, Option, Some, None, is_some, is_none, if◌then◌else◌}
 use Rattle.dstm_core.specs.declared.shape.Shape.{Shape}
 use Rattle.dstm_core.specs.declared.state.Phase.{Phase}
 use Rattle.dstm_core.specs.declared.state.Phase.TheVariants.{Outside, Running, Paused, Putting, Validating, Drawn}
@@ -179,3 +179,18 @@ record_resolved (Some r) reads =
     if is_resolved r && is_none (read_of r.object reads)
     then reads ++ record { object = r.object; word = r.word; version = or_zero (version r) } ∷ []
     else reads
+
+-- ---- steps
+
+-- the state once a locator stands in the object that was resolved
+abbrev pub with_locator : LocalState → Resolution → ℕ → LocalState
+with_locator state seen locator = record state {
+  installed = state.installed + 1;
+  held_owner = None;
+  held_old = None;
+  writes =
+      state.writes ++ record { object = seen.object; locator = locator; old = or_zero (version seen) } ∷ [];
+  reads = drop_read seen.object state.reads;
+  checked = 0;
+  owed = true;
+}

@@ -1,5 +1,5 @@
 -- The words of a table: the name of each, its place, and which words a shape has.
-use Rattle.std.specs.Prelude.{ℕ, ◌+◌, ◌*◌, ◌<◌, ◌≤◌}
+use Rattle.std.specs.Prelude.{◌≡◌, ℕ, ◌+◌, ◌*◌, ◌<◌, ◌≤◌}
 use Rattle.dstm_core.specs.declared.shape.Shape.{Shape}
 use Rattle.dstm_core.specs.declared.shape.TheConstants.{MAX_OBJECTS, MAX_CALLERS, MAX_ATTEMPTS, MAX_LOCATORS, MAX_WORDS}
 use Rattle.dstm_core.specs.declared.status.Status.{Status}
@@ -48,6 +48,10 @@ place shape NumbersWord =
     shape.objects + 2 * shape.callers * shape.attempts + 4 * shape.callers * shape.locators + 1
 place shape StampsWord =
     shape.objects + 2 * shape.callers * shape.attempts + 4 * shape.callers * shape.locators + 2
+
+-- a place is that of the word, and the shape has the word
+abbrev pub IsPlaceOf : Shape → Word → ℕ → Type 0
+IsPlaceOf shape word at = (at ≡ place shape word) × HasWord shape word
 
 -- how many words a table has
 abbrev pub word_count : Shape → ℕ

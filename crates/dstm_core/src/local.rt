@@ -2,7 +2,7 @@ ghost use Rattle.std.specs.Prelude.{◌≡◌, ◌↔◌, IsTrue, IfOk, OnErr, f
 ghost use Rattle.dstm_core.specs.declared.state.Phase.TheVariants.{Running};
 ghost use Rattle.dstm_core.specs.Rules.{resolving};
 ghost use Rattle.dstm_core.specs.State.{first, given, res, next_attempt, own_attempt, next_locator};
-ghost use Rattle.dstm_core.specs.Tracking.{Allows, moved};
+ghost use Rattle.dstm_core.specs.Local.{Allows, caller_after};
 ghost use Rattle.dstm_core.specs.Words.{IsValid};
 
 mod contend;
@@ -48,7 +48,7 @@ pub struct Local {
 }
 
 impl Model for Local {
-    ghost use Rattle.dstm_core.specs.Tracking.{Tracked};
+    ghost use Rattle.dstm_core.specs.Local.{Tracked};
     ghost use Rattle.dstm_core.specs.Words.{IsValid};
 
     ghost Value = { Tracked };
@@ -120,7 +120,7 @@ impl Local {
     /// event and what an event finds are not its to judge, nor is the law on the values put.
     pub fn next(&mut self, event: &Event) -> Result<bool, AllocError>
         ensures allowed { IfOk result (λ yes. IsTrue yes ↔ Allows event.now.kind self.old event.now) }
-        ensures moved { IfOk result (λ yes. self.new ≡ (if yes then moved event.now.kind self.old event.now else self.old)) }
+        ensures after { IfOk result (λ yes. self.new ≡ (if yes then caller_after event.now.kind self.old event.now else self.old)) }
         ensures same { OnErr result (self.new ≡ self.old) }
     {
         match event.kind {

@@ -1,6 +1,5 @@
 ghost use Rattle.std.specs.Prelude.{◌↔◌, IsTrue};
-ghost use Rattle.dstm_core.specs.Tracking.{IsPlaceOf};
-ghost use Rattle.dstm_core.specs.Words.{IsValid};
+ghost use Rattle.dstm_core.specs.Words.{IsPlaceOf, IsValid};
 ghost use Rattle.dstm_core.specs.Words.Word.{
   ObjectWord,
   StatusWord,

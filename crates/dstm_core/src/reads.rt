@@ -39,7 +39,7 @@ pub(crate) struct Reads {
 
 impl Model for Reads {
     ghost use Rattle.dstm_core.specs.Indexed.{IsIndexed, reads_at, count_before};
-    ghost use Rattle.dstm_core.specs.Tracking.{Checklist};
+    ghost use Rattle.dstm_core.specs.Reads.{Checklist};
 
     ghost Value = { Checklist };
 

@@ -35,7 +35,7 @@ impl Model for Writes {
     ghost use Rattle.std.specs.BTreeSet.{contains};
     ghost use Rattle.std.specs.Ordering.{nat_cmp};
     ghost use Rattle.dstm_core.specs.State.{write_of};
-    ghost use Rattle.dstm_core.specs.Tracking.{Worklist};
+    ghost use Rattle.dstm_core.specs.Writes.{Worklist};
 
     ghost Value = { Worklist };
 

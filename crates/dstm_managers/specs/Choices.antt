@@ -67,6 +67,6 @@ takes_word Polka (Wait turns) = true
 takes_word _ _ = false
 
 -- the decider after a choice
-abbrev pub after : DeciderState → Choice → DeciderState
-after decider choice =
+abbrev pub decider_after : DeciderState → Choice → DeciderState
+decider_after decider choice =
     if takes_word decider.manager choice then without_word decider else decider

@@ -44,7 +44,7 @@ impl Model for Decider {
 }
 
 impl Decider {
-    ghost use Rattle.dstm_managers.specs.Choices.{started, next_word, without_word, kills, choice, after};
+    ghost use Rattle.dstm_managers.specs.Choices.{started, next_word, without_word, kills, choice, decider_after};
 
     /// A decider whose random words are those that `seed` gives.
     pub fn make(manager: Manager, seed: u64) -> Decider
@@ -63,7 +63,7 @@ impl Decider {
         requires live { IsTrue (is_live (code_of status)) }
         requires rounds { round ≤ 1024 }
         ensures answer { result ≡ choice self.old.manager own enemy status round (next_word self.old) }
-        ensures left { self.new ≡ after self.old result }
+        ensures left { self.new ≡ decider_after self.old result }
     {
         if self.kills(own, enemy, status, round) {
             return Choice::Kill;

@@ -10,17 +10,17 @@ use Rattle.dstm_core.specs.declared.event.Kind.TheVariants.{Begin, Check, LookNu
 use Rattle.dstm_core.specs.declared.shape.Shape.{Shape}
 use Rattle.dstm_core.specs.declared.state.Phase.TheVariants.{Running}
 use Rattle.dstm_core.proofs.Static.{begun_more, callers, local_own, static}
-use Rattle.dstm_opacity.proofs.Numbers.{Past}
+use Rattle.dstm_core.specs.Traces.{IsPastOf}
 use Rattle.dstm_opacity.proofs.Passes.{PassHow, by_check, by_look, pass_how, place_keeps, place_new, place_other}
 use Rattle.dstm_opacity.specs.Laws.{IsBeginOf}
 
 -- two pasts of one log are one past of the other
-pub pasts : (p q es : List Event) → Past p es → Past q es → Past p q ⊎ Past q p
-pasts p q es a b = go a.more b.more (a.is ∙ sym b.is)
+pub pasts : (p q es : List Event) → IsPastOf p es → IsPastOf q es → IsPastOf p q ⊎ IsPastOf q p
+pasts p q es a b = go a.later b.later (a.whole ∙ sym b.whole)
   where
-    go : (xs ys : List Event) → xs ++ p ≡ ys ++ q → Past p q ⊎ Past q p
-    go [] ys h = inr (record { more = ys; is = sym h })
-    go (x ∷ xs) [] h = inl (record { more = x ∷ xs; is = h })
+    go : (xs ys : List Event) → xs ++ p ≡ ys ++ q → IsPastOf p q ⊎ IsPastOf q p
+    go [] ys h = inr (record { later = ys; whole = sym h })
+    go (x ∷ xs) [] h = inl (record { later = x ∷ xs; whole = h })
     go (x ∷ xs) (y ∷ ys) h = go xs ys (let k : xs ++ p ≡ ys ++ q = cc in k)
 
 -- attempts begun stay begun
@@ -31,14 +31,14 @@ begun_later s (e ∷ more) es c = let a = begun_later s more es c in let b = beg
     omega arith
 
 -- what stands before a caller's present attempt began is a past of each place in that attempt
-pub before_attempt : (s : Shape) (es q b : List Event) (c : ℕ) → Past q es → Past b es →
-    (local s b c).begun < (local s q c).begun → Past b q
+pub before_attempt : (s : Shape) (es q b : List Event) (c : ℕ) → IsPastOf q es → IsPastOf b es →
+    (local s b c).begun < (local s q c).begun → IsPastOf b q
 before_attempt s es q b c p r less = go (pasts b q es r p)
   where
-    go : Past b q ⊎ Past q b → Past b q
+    go : IsPastOf b q ⊎ IsPastOf q b → IsPastOf b q
     go (inl x) = x
     go (inr x) =
-        let y = subst (λ xs. (local s q c).begun ≤ (local s xs c).begun) x.is (begun_later s x.more q c) in
+        let y = subst (λ xs. (local s q c).begun ≤ (local s xs c).begun) x.whole (begun_later s x.later q c) in
         absurd (omega arith)
 
 -- a Begin raises the count of attempts

@@ -11,7 +11,7 @@ use Rattle.dstm_core.specs.Histories.{entry_of, history, is_draw, pass_place, pr
 use Rattle.dstm_core.specs.Rules.{AllowedAs, after}
 use Rattle.dstm_core.specs.Runs.{Core, local}
 use Rattle.dstm_core.specs.State.{LocalState, given, own_attempt}
-use Rattle.dstm_core.specs.Traces.{word}
+use Rattle.dstm_core.specs.Traces.{IsPastOf, word}
 use Rattle.dstm_core.specs.Words.{place}
 use Rattle.dstm_core.specs.Words.Word.{StatusWord}
 use Rattle.dstm_core.specs.Events.{Event}
@@ -26,7 +26,9 @@ use Rattle.dstm_core.proofs.Statuses.{finished_stays}
 use Rattle.dstm_opacity.proofs.Begins.{before_attempt, begun_before, pass_begun}
 use Rattle.dstm_opacity.proofs.Draws.{commit_may}
 use Rattle.dstm_opacity.proofs.KeptLaw.{entry_same}
-use Rattle.dstm_opacity.proofs.Numbers.{Past, core_before, pass_past, past_more, past_past}
+use Rattle.dstm_core.proofs.Pasts.{core_before}
+use Rattle.dstm_runs.proofs.Pasts.{past_more, past_past}
+use Rattle.dstm_opacity.proofs.Numbers.{pass_past}
 use Rattle.dstm_opacity.proofs.Orders.{history_more, reverse_cons}
 use Rattle.dstm_opacity.proofs.Passes.{check_after}
 use Rattle.dstm_opacity.proofs.SinceDraw.{drawn_may}
@@ -36,7 +38,7 @@ use Rattle.dstm_opacity.specs.Laws.{HoldCommitsBefore, IsBeginOf, IsCommit}
 pub record DrawOf (s : Shape) (es : List Event) (l : LocalState) : Type 0 where
   pub before : List Event
   pub draw : Event
-  pub past : Past (draw ∷ before) es
+  pub past : IsPastOf (draw ∷ before) es
   pub kind : is_draw draw.kind ≡ true
   pub reads : (local s before draw.caller).reads ≡ l.reads
   pub writes : (local s before draw.caller).writes ≡ l.writes
@@ -126,7 +128,7 @@ draw_of s (e ∷ es) core c h =
         record {
           before = es;
           draw = e;
-          past = record { more = []; is = refl };
+          past = record { later = []; whole = refl };
           kind = x.3;
           reads = sym x.0;
           writes = sym x.1;
@@ -140,10 +142,10 @@ draw_of s (e ∷ es) core c h =
 
 -- the entry of a Draw is in the prefixes of the history after it
 pub in_prefix : (s : Shape) (start : List Val) (will : ℕ → Bool) (run before es : List Event) (d : Event) →
-    Past (d ∷ before) es → is_draw d.kind ≡ true → will (own_attempt s (local s before d.caller)) ≡ true →
+    IsPastOf (d ∷ before) es → is_draw d.kind ≡ true → will (own_attempt s (local s before d.caller)) ≡ true →
     Contains (reverse (history s start will run es)) (entry_of s start run (local s before d.caller))
 in_prefix s start will run before es d p k w =
-    subst (λ xs. Contains (reverse (history s start will run xs)) x) p.is there
+    subst (λ xs. Contains (reverse (history s start will run xs)) x) p.whole there
   where
     x : Entry
     x = entry_of s start run (local s before d.caller)
@@ -154,9 +156,9 @@ in_prefix s start will run before es d p k w =
     newest : reverse (history s start will run (d ∷ before)) ≡ reverse older ++ x ∷ []
     newest = rw (k, w) (reverse_cons x older)
 
-    there : Contains (reverse (history s start will run (p.more ++ d ∷ before))) x
+    there : Contains (reverse (history s start will run (p.later ++ d ∷ before))) x
     there =
-        let more = history_more s start will run p.more (d ∷ before) in
+        let more = history_more s start will run p.later (d ∷ before) in
         subst (λ xs. Contains xs x)
         (sym (ap reverse more.1 ∙ reverse-append more.0 (history s start will run (d ∷ before))))
         (Contains-append_left (reverse (history s start will run (d ∷ before))) (reverse more.0) x
@@ -168,7 +170,7 @@ commit_puts : (s : Shape) (l : LocalState) (e : Event) (k : Kind) → k ≡ Comm
 commit_puts s l e Commit q h a = (a.0, a.1.1 ∙ rw (eq-eqb e.found 3 (h ∙ a.1.0)) refl)
 commit_puts s l e k q h a = absurd (cc)
 
-committed_will : (s : Shape) (run es : List Event) (e : Event) → Past (e ∷ es) run → Core s run → IsCommit e →
+committed_will : (s : Shape) (run es : List Event) (e : Event) → IsPastOf (e ∷ es) run → Core s run → IsCommit e →
     will_of s run (own_attempt s (local s es e.caller)) ≡ true
 committed_will s run es e p core k = eq-eqb (word s run (StatusWord a)) 4 later
   where
@@ -190,20 +192,20 @@ committed_will s run es e p core k = eq-eqb (word s run (StatusWord a)) 4 later
         put_at es e _ puts.0 ∙ puts.1
 
     later : word s run (StatusWord (own_attempt s (local s es e.caller))) ≡ 4
-    later = subst (λ xs. word s xs (StatusWord (own_attempt s (local s es e.caller))) ≡ 4) p.is
-        (finished_stays s p.more (e ∷ es) (own_attempt s (local s es e.caller))
-        (subst (Core s) (sym p.is) core) below (let y = now in omega arith) ∙ now)
+    later = subst (λ xs. word s xs (StatusWord (own_attempt s (local s es e.caller))) ≡ 4) p.whole
+        (finished_stays s p.later (e ∷ es) (own_attempt s (local s es e.caller))
+        (subst (Core s) (sym p.whole) core) below (let y = now in omega arith) ∙ now)
 
 -- so the entry of a Commit is in the prefixes after it
 pub commit_in_prefix : (s : Shape) (start : List Val) (run q es : List Event) (e : Event) → Core s run →
-    Past (e ∷ es) q → Past q run → IsCommit e →
+    IsPastOf (e ∷ es) q → IsPastOf q run → IsCommit e →
     Contains (reverse (history s start (will_of s run) run q)) (entry_of s start run (local s es e.caller))
 commit_in_prefix s start run q es e core p r k =
     subst (Contains (reverse (history s start (will_of s run) run q)))
     (entry_same s start run (local s es e.caller) (local s d.before d.draw.caller) d.reads d.writes)
     (in_prefix s start (will_of s run) run d.before q d.draw place d.kind will)
   where
-    past : Past (e ∷ es) run
+    past : IsPastOf (e ∷ es) run
     past = past_past (e ∷ es) q run p r
 
     core_e : Core s (e ∷ es)
@@ -212,14 +214,14 @@ commit_in_prefix s start run q es e core p r k =
     d : DrawOf s es (local s es e.caller)
     d = draw_of s es core_e.0 e.caller (commit_may s (local s es e.caller) e e.kind k.kind core_e.1.allowed)
 
-    place : Past (d.draw ∷ d.before) q
+    place : IsPastOf (d.draw ∷ d.before) q
     place = past_past (d.draw ∷ d.before) (e ∷ es) q (past_more (d.draw ∷ d.before) es e d.past) p
 
     will : will_of s run (own_attempt s (local s d.before d.draw.caller)) ≡ true
     will = ap (will_of s run) d.own ∙ committed_will s run es e (past_past (e ∷ es) q run p r) core k
 
 -- the prefix at the place of a pass holds each Commit before the attempt's Begin
-pub commits_held : (s : Shape) (start : List Val) (run es : List Event) (c n : ℕ) → Core s run → Past es run →
+pub commits_held : (s : Shape) (start : List Val) (run es : List Event) (c n : ℕ) → Core s run → IsPastOf es run →
     (local s es c).phase ≡ Running → (local s es c).pass ≡ Some n →
     HoldCommitsBefore s start run es c (prefix_at s start run (pass_place c es))
 commits_held s start run es c n core p ph pass = λ since between early f commit is own done.
@@ -230,10 +232,10 @@ commits_held s start run es c n core p ph pass = λ since between early f commit
     (past_past (pass_place c es) es run (pass_past c es) p) done
   where
     commit_past : (since between early : List Event) (f commit : Event) →
-        es ≡ since ++ f ∷ (between ++ commit ∷ early) → Past (commit ∷ early) es
+        es ≡ since ++ f ∷ (between ++ commit ∷ early) → IsPastOf (commit ∷ early) es
     commit_past since between early f commit is = record {
-      more = since ++ f ∷ between;
-      is = append_assoc since (f ∷ between) (commit ∷ early) ∙ sym is;
+      later = since ++ f ∷ between;
+      whole = append_assoc since (f ∷ between) (commit ∷ early) ∙ sym is;
     }
 
     less : (since between early : List Event) (f commit : Event) →

@@ -17,7 +17,7 @@ use Rattle.dstm_core.proofs.Basic.{own_begun}
 use Rattle.dstm_core.proofs.Columns.{Begun, Moves, StatusMove, StatusMoved, begins, begun_still, caller_of, index_of, kills, moves, statuses, step}
 use Rattle.dstm_core.proofs.Static.{callers, static}
 use Rattle.dstm_core.proofs.Statuses.{PhaseHow, begin_may, begin_put, next_number, own_differs, phase_how}
-use Rattle.dstm_opacity.proofs.Written.{goes_on}
+use Rattle.dstm_core.proofs.Underway.{goes_on}
 
 -- the phase of an attempt that has drawn and is under way
 unfoldable pub is_drawn : Phase → Bool

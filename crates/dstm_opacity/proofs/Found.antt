@@ -18,7 +18,7 @@ use Rattle.dstm_core.specs.declared.state.Resolution.{Resolution}
 use Rattle.dstm_core.proofs.Basic.{basic}
 use Rattle.dstm_core.proofs.Places.{put_at}
 use Rattle.dstm_core.proofs.Static.{callers}
-use Rattle.dstm_core.proofs.Statuses.{core_past}
+use Rattle.dstm_core.proofs.Pasts.{core_past}
 use Rattle.dstm_opacity.proofs.Recorded.{named_settled, old_settled, settled_more}
 use Rattle.dstm_opacity.proofs.Values.{value_stays}
 use Rattle.dstm_opacity.proofs.Versions.{Settled, res_named, res_seen, seen_res}

@@ -15,7 +15,7 @@ use Rattle.dstm_core.specs.declared.shape.Shape.{Shape}
 use Rattle.dstm_core.specs.declared.state.Phase.TheVariants.{Outside}
 use Rattle.dstm_core.proofs.Columns.{HighPut, NewPut, highs, news, step}
 use Rattle.dstm_core.proofs.Places.{put_at}
-use Rattle.dstm_core.proofs.Statuses.{core_past}
+use Rattle.dstm_core.proofs.Pasts.{core_past}
 use Rattle.dstm_core.proofs.Stores.{high_word_once, new_word_once}
 use Rattle.dstm_opacity.proofs.Draws.{draw_may, drawn_yes}
 use Rattle.dstm_opacity.proofs.Recorded.{ReadsNamed, reads, reads_more}

@@ -6,7 +6,7 @@ use Rattle.dstm_core.specs.Histories.{drawn, is_draw, pass_place}
 use Rattle.dstm_core.specs.Rules.{AllowedAs, after}
 use Rattle.dstm_core.specs.Runs.{Core, local}
 use Rattle.dstm_core.specs.State.{LocalState, given, is_resolved, keep_resolved, or_read, or_unresolved, or_zero, own_attempt, read_of, record_resolved, res, version}
-use Rattle.dstm_core.specs.Traces.{word}
+use Rattle.dstm_core.specs.Traces.{IsPastOf, word}
 use Rattle.dstm_core.specs.Words.{place}
 use Rattle.dstm_core.specs.Words.Word.{NumbersWord, StatusWord}
 use Rattle.dstm_core.specs.Events.{Event}
@@ -22,7 +22,9 @@ use Rattle.dstm_core.proofs.Places.{put_at}
 use Rattle.dstm_core.proofs.Static.{has_high, has_owner, has_status, has_version, has_word}
 use Rattle.dstm_opacity.proofs.Current.{Foretells, current, meant_same, named_meant, version_quiet}
 use Rattle.dstm_opacity.proofs.Draws.{drawn_same}
-use Rattle.dstm_opacity.proofs.Numbers.{Past, agreed_same, core_before, no_draw, numbers_later, numbers_up, pass_past, past_more, version_past}
+use Rattle.dstm_core.proofs.Pasts.{core_before}
+use Rattle.dstm_runs.proofs.Pasts.{past_more}
+use Rattle.dstm_opacity.proofs.Numbers.{agreed_same, no_draw, numbers_later, numbers_up, pass_past, version_past}
 use Rattle.dstm_opacity.proofs.Recorded.{ReadsNamed, resolved_version}
 use Rattle.dstm_opacity.proofs.States.{Agreed, Cur, agreed_by_index, agreed_drop, agreed_snoc}
 use Rattle.dstm_opacity.proofs.Versions.{ResSeen, meant, owner_of, res_named, res_seen, res_seen_more, version_at}
@@ -291,15 +293,15 @@ last_own s will es e core f h p = record {
     core_q : Core s (pass_place e.caller es)
     core_q = core_before s (pass_place e.caller es) es (pass_past e.caller es) core.0
 
-    past : Past (pass_place e.caller es) (e ∷ es)
+    past : IsPastOf (pass_place e.caller es) (e ∷ es)
     past = past_more (pass_place e.caller es) es e (pass_past e.caller es)
 
     bound : (n : ℕ) → LastHow (local s es e.caller) e e.kind n → n ≤ word s (e ∷ es) NumbersWord
     bound n (by_old x) = let b = h.bound n x in let u = numbers_up s es e core in omega arith
     bound n (by_self k x) = let may = look_self_may s (local s es e.caller) e e.kind k core.1.allowed in
         let has = (p n may.0 x).number in
-        let u = subst (λ xs. word s (pass_place e.caller es) NumbersWord ≤ word s xs NumbersWord) past.is
-        (numbers_later s past.more (pass_place e.caller es) (subst (Core s) (sym past.is) core)) in
+        let u = subst (λ xs. word s (pass_place e.caller es) NumbersWord ≤ word s xs NumbersWord) past.whole
+        (numbers_later s past.later (pass_place e.caller es) (subst (Core s) (sym past.whole) core)) in
         omega arith
 
     reads : (n : ℕ) → LastHow (local s es e.caller) e e.kind n → n ≡ word s (e ∷ es) NumbersWord →

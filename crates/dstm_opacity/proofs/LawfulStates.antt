@@ -11,7 +11,8 @@ use Rattle.dstm_core.specs.declared.event.Kind.{Kind}
 use Rattle.dstm_core.specs.declared.event.Kind.TheVariants.{PutHigh, PutNew}
 use Rattle.dstm_core.specs.declared.shape.Shape.{Shape}
 use Rattle.dstm_core.specs.declared.state.Phase.TheVariants.{Outside, Validating}
-use Rattle.dstm_core.proofs.Statuses.{core_past}
+use Rattle.dstm_core.proofs.Pasts.{core_past}
+use Rattle.dstm_core.proofs.Prefixes.{lawful_past}
 use Rattle.dstm_opacity.proofs.Draws.{draw_may, drawn_yes}
 use Rattle.dstm_opacity.proofs.KeptLaw.{law_ok}
 use Rattle.dstm_opacity.proofs.Legal.{legal_entry}
@@ -26,11 +27,6 @@ unfolding puts_value
 put_draw PutNew q d = cc
 put_draw PutHigh q d = cc
 put_draw k q d = cc
-
-lawful_past : (s : Shape) (start : List Val) (holds : List Val → Type 0) (more es : List Event) →
-    Lawful s start holds (more ++ es) → Lawful s start holds es
-lawful_past s start holds [] es l = l
-lawful_past s start holds (e ∷ more) es l = lawful_past s start holds more es l.0
 
 law_entry : (s : Shape) (start : List Val) (holds : List Val → Type 0) (es : List Event) (d : Event)
     (more : List Event) → length start ≡ s.objects → Core s (more ++ d ∷ es) → Lawful s start holds es →
@@ -121,5 +117,5 @@ pub pass_lawful : (s : Shape) (start : List Val) (holds : List Val → Type 0) (
     length start ≡ s.objects → Core s (more ++ es) → Lawful s start holds (more ++ es) → holds start →
     holds (map_after start (history s start (will_of s (more ++ es)) (more ++ es) (pass_place c es)))
 pass_lawful s start holds more es c long core law h = let p = pass_past c es in
-    lawful_from s start holds (more ++ es) long core law h (pass_place c es) (more ++ p.more)
-    (append_assoc more p.more (pass_place c es) ∙ ap (λ xs. more ++ xs) p.is)
+    lawful_from s start holds (more ++ es) long core law h (pass_place c es) (more ++ p.later)
+    (append_assoc more p.later (pass_place c es) ∙ ap (λ xs. more ++ xs) p.whole)

@@ -6,17 +6,17 @@ use Rattle.dstm_model.specs.declared.value.Val.{Val}
 use Rattle.dstm_core.specs.Histories.{drawn, entry_of, history, is_draw, will_of}
 use Rattle.dstm_core.specs.Runs.{Core, local}
 use Rattle.dstm_core.specs.State.{own_attempt}
-use Rattle.dstm_core.specs.Traces.{word}
+use Rattle.dstm_core.specs.Traces.{IsPastOf, word}
 use Rattle.dstm_core.specs.Words.Word.{StatusWord}
 use Rattle.dstm_core.specs.Events.{Event}
 use Rattle.dstm_core.specs.declared.shape.Shape.{Shape}
 use Rattle.dstm_core.specs.declared.state.Phase.TheVariants.{Outside, Validating}
 use Rattle.dstm_core.proofs.Columns.{own_in}
 use Rattle.dstm_core.proofs.Static.{static}
-use Rattle.dstm_core.proofs.Statuses.{core_past}
+use Rattle.dstm_core.proofs.Pasts.{core_past}
 use Rattle.dstm_opacity.proofs.Current.{Foretells}
 use Rattle.dstm_opacity.proofs.Draws.{draw_may, drawn_phase, is_drawn}
-use Rattle.dstm_opacity.proofs.Numbers.{Past, foretells_before}
+use Rattle.dstm_opacity.proofs.Numbers.{foretells_before}
 use Rattle.dstm_opacity.proofs.Recorded.{reads}
 use Rattle.dstm_opacity.proofs.Sights.{foretold}
 use Rattle.dstm_opacity.proofs.SinceDraw.{draw_agreed}
@@ -57,8 +57,8 @@ legal_entry s start es d more long core k w =
     undrawn : drawn s es (own_attempt s (local s es d.caller)) ≡ false
     undrawn = drawn_phase s es core_d.0 d.caller core_d.1.caller out ∙ ap is_drawn v
 
-    past : Past es (more ++ d ∷ es)
-    past = record { more = more ++ d ∷ []; is = append_assoc more (d ∷ []) es }
+    past : IsPastOf es (more ++ d ∷ es)
+    past = record { later = more ++ d ∷ []; whole = append_assoc more (d ∷ []) es }
 
     told : Foretells s (will_of s (more ++ d ∷ es)) es
     told = foretells_before s (will_of s (more ++ d ∷ es)) es (more ++ d ∷ es) past core

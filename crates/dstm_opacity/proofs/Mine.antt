@@ -15,8 +15,9 @@ use Rattle.dstm_core.proofs.Basic.{basic, install_may, owner_stays}
 use Rattle.dstm_core.proofs.Columns.{Begun, Installed, Used, caller_of, index_of, objects, step}
 use Rattle.dstm_core.proofs.Static.{callers, static}
 use Rattle.dstm_core.proofs.Statuses.{PhaseHow, begin_may, begin_put, next_number, own_differs, phase_how}
+use Rattle.dstm_core.proofs.Underway.{goes_on}
 use Rattle.dstm_opacity.proofs.Versions.{owner_of}
-use Rattle.dstm_opacity.proofs.Written.{WriteOk, WritesHow, WritesOk, added, cleared, goes_on, unchanged, write_new, writes_how}
+use Rattle.dstm_opacity.proofs.Written.{WriteOk, WritesHow, WritesOk, added, cleared, unchanged, write_new, writes_how}
 
 -- an object whose word names a locator of the attempt that is under way is among its writes
 pub Mine : Shape → List Event → LocalState → Type 0

@@ -4,7 +4,7 @@ use Rattle.std.proofs.lemmas.Bool.{cond_both}
 use Rattle.dstm_core.specs.Histories.{is_draw, is_look_number, pass_place}
 use Rattle.dstm_core.specs.Rules.{AllowedAs}
 use Rattle.dstm_core.specs.Runs.{Core, local}
-use Rattle.dstm_core.specs.Traces.{at, word}
+use Rattle.dstm_core.specs.Traces.{IsPastOf, at, word}
 use Rattle.dstm_core.specs.Words.Word.{NumbersWord}
 use Rattle.dstm_core.specs.Events.{Event}
 use Rattle.dstm_core.specs.declared.event.Kind.{Kind}
@@ -15,53 +15,34 @@ use Rattle.dstm_core.proofs.Basic.{Names}
 use Rattle.dstm_core.proofs.Columns.{numbers, step}
 use Rattle.dstm_core.proofs.Locators.{no_return}
 use Rattle.dstm_core.proofs.Places.{put_at}
-use Rattle.dstm_core.proofs.Statuses.{core_past}
+use Rattle.dstm_core.proofs.Pasts.{core_past}
+use Rattle.dstm_runs.proofs.Pasts.{past_more}
 use Rattle.dstm_opacity.proofs.Current.{Foretells, foretells_past, version_quiet}
 use Rattle.dstm_opacity.proofs.States.{Agreed}
 use Rattle.dstm_opacity.proofs.Versions.{version_at}
 
--- q is a past of es: what es was some events ago
-pub record Past (q es : List Event) : Type 0 where
-  pub more : List Event
-  pub is : more ++ q ≡ es
-
--- a past stays one
-pub past_more : (q es : List Event) (e : Event) → Past q es → Past q (e ∷ es)
-past_more q es e p = record { more = e ∷ p.more; is = ap (λ xs. e ∷ xs) p.is }
-
--- a past of a past is one
-pub past_past : (p q es : List Event) → Past p q → Past q es → Past p es
-past_past p q es a b = record {
-  more = b.more ++ a.more;
-  is = append_assoc b.more a.more p ∙ ap (λ xs. b.more ++ xs) a.is ∙ b.is;
-}
-
 -- the place of a pass is one
-pub pass_past : (c : ℕ) (es : List Event) → Past (pass_place c es) es
-pass_past c [] = record { more = []; is = refl }
+pub pass_past : (c : ℕ) (es : List Event) → IsPastOf (pass_place c es) es
+pass_past c [] = record { later = []; whole = refl }
 pass_past c (e ∷ es) =
-    cond_both ((e.caller == c) && is_look_number e.kind) es (pass_place c es) (λ q. Past q (e ∷ es))
-    (λ _. record { more = e ∷ []; is = refl }) (λ _. past_more (pass_place c es) es e (pass_past c es))
+    cond_both ((e.caller == c) && is_look_number e.kind) es (pass_place c es) (λ q. IsPastOf q (e ∷ es))
+    (λ _. record { later = e ∷ []; whole = refl }) (λ _. past_more (pass_place c es) es e (pass_past c es))
 
--- what holds of a run holds of its pasts
-pub core_before : (s : Shape) (q es : List Event) → Past q es → Core s es → Core s q
-core_before s q es p core = core_past s p.more q (subst (Core s) (sym p.is) core)
-
--- the same of what the run foretells
-pub foretells_before : (s : Shape) (will : ℕ → Bool) (q es : List Event) → Past q es → Core s es →
+-- what a run foretells its pasts foretell
+pub foretells_before : (s : Shape) (will : ℕ → Bool) (q es : List Event) → IsPastOf q es → Core s es →
     Foretells s will es → Foretells s will q
 foretells_before s will q es p core f =
-    go p.more (subst (Core s) (sym p.is) core) (subst (Foretells s will) (sym p.is) f)
+    go p.later (subst (Core s) (sym p.whole) core) (subst (Foretells s will) (sym p.whole) f)
   where
     go : (more : List Event) → Core s (more ++ q) → Foretells s will (more ++ q) → Foretells s will q
     go [] core f = f
     go (e ∷ more) core f = go more core.0 (foretells_past s will (more ++ q) e core f)
 
 -- a word that an object had at a past, and has now, it had all the while
-pub no_return_past : (s : Shape) (q es : List Event) (o x : ℕ) → Past q es → Core s es → o < s.objects →
+pub no_return_past : (s : Shape) (q es : List Event) (o x : ℕ) → IsPastOf q es → Core s es → o < s.objects →
     Names s q x → at es o ≡ x → at q o ≡ x
 no_return_past s q es o x p core h n w =
-    no_return s p.more q o x (subst (Core s) (sym p.is) core) h n (subst (λ xs. at xs o ≡ x) (sym p.is) w)
+    no_return s p.later q o x (subst (Core s) (sym p.whole) core) h n (subst (λ xs. at xs o ≡ x) (sym p.whole) w)
 
 -- a draw raises the counter
 draw_up : (s : Shape) (es : List Event) (e : Event) → Core s (e ∷ es) → is_draw e.kind ≡ true →
@@ -131,9 +112,9 @@ agreed_same s will p q [] h a = tt
 agreed_same s will p q (r ∷ rs) h a = (h r.object ∙ a.0, agreed_same s will p q rs h a.1)
 
 -- the same from a past on
-pub version_past : (s : Shape) (will : ℕ → Bool) (q es : List Event) (o : ℕ) → Past q es → Core s es →
+pub version_past : (s : Shape) (will : ℕ → Bool) (q es : List Event) (o : ℕ) → IsPastOf q es → Core s es →
     word s q NumbersWord ≡ word s es NumbersWord → version_at s will es o ≡ version_at s will q o
 version_past s will q es o p core n =
-    subst (λ xs. version_at s will xs o ≡ version_at s will q o) p.is
-    (version_same s will p.more q o (subst (Core s) (sym p.is) core)
-    (subst (λ xs. word s q NumbersWord ≡ word s xs NumbersWord) (sym p.is) n))
+    subst (λ xs. version_at s will xs o ≡ version_at s will q o) p.whole
+    (version_same s will p.later q o (subst (Core s) (sym p.whole) core)
+    (subst (λ xs. word s q NumbersWord ≡ word s xs NumbersWord) (sym p.whole) n))

@@ -9,7 +9,7 @@ use Rattle.dstm_core.specs.Histories.{CoreRun, IsSight, entry_of, history, histo
 use Rattle.dstm_core.specs.Laws.{Installs}
 use Rattle.dstm_core.specs.Runs.{Core, local}
 use Rattle.dstm_core.specs.State.{own_attempt}
-use Rattle.dstm_core.specs.Traces.{word}
+use Rattle.dstm_core.specs.Traces.{IsPastOf, word}
 use Rattle.dstm_core.specs.Words.{place}
 use Rattle.dstm_core.specs.Words.Word.{StatusWord}
 use Rattle.dstm_core.specs.Events.{Event}
@@ -19,7 +19,7 @@ use Rattle.dstm_core.specs.declared.state.Phase.TheVariants.{Outside, Running}
 use Rattle.dstm_core.proofs.Basic.{install_may}
 use Rattle.dstm_core.proofs.Columns.{own_in}
 use Rattle.dstm_core.proofs.Static.{static}
-use Rattle.dstm_core.proofs.Statuses.{core_past}
+use Rattle.dstm_core.proofs.Pasts.{core_past}
 use Rattle.dstm_opacity.proofs.Closing.{closing}
 use Rattle.dstm_opacity.proofs.Commits.{commits_held}
 use Rattle.dstm_opacity.proofs.Draws.{committed_drawn, drawn_phase, is_drawn}
@@ -27,7 +27,8 @@ use Rattle.dstm_opacity.proofs.Entries.{entries_once}
 use Rattle.dstm_opacity.proofs.LastPass.{look_self_may}
 use Rattle.dstm_opacity.proofs.LawfulStates.{lawful_from}
 use Rattle.dstm_opacity.proofs.Legal.{committed_legal}
-use Rattle.dstm_opacity.proofs.Numbers.{Past, pass_past, past_past}
+use Rattle.dstm_runs.proofs.Pasts.{past_past}
+use Rattle.dstm_opacity.proofs.Numbers.{pass_past}
 use Rattle.dstm_opacity.proofs.Orders.{PartIs, history_more, legal_reversed, part_is, reverse_cons, state_reversed}
 use Rattle.dstm_opacity.proofs.Sights.{pass_agrees}
 use Rattle.dstm_opacity.proofs.States.{map_after, state_length}
@@ -48,12 +49,12 @@ pub sight_is_seen : (s : Shape) (start : List Val) (holds : List Val → Type 0)
     (prefix_at s start (more ++ e ∷ es) (pass_place e.caller es))
 sight_is_seen s start holds more es e r i = go (local s es e.caller).pass refl
   where
-    past : Past es (more ++ e ∷ es)
-    past = record { more = more ++ e ∷ []; is = append_assoc more (e ∷ []) es }
+    past : IsPastOf es (more ++ e ∷ es)
+    past = record { later = more ++ e ∷ []; whole = append_assoc more (e ∷ []) es }
 
-    at_place : Past (pass_place e.caller es) (more ++ e ∷ es)
+    at_place : IsPastOf (pass_place e.caller es) (more ++ e ∷ es)
     at_place = past_past (pass_place e.caller es) es (more ++ e ∷ es) (pass_past e.caller es)
-        (record { more = more ++ e ∷ []; is = append_assoc more (e ∷ []) es })
+        (record { later = more ++ e ∷ []; whole = append_assoc more (e ∷ []) es })
 
     may : ((local s es e.caller).phase ≡ Running) × ((local s es e.caller).stale ≡ false)
         × (is_some (local s es e.caller).pass ≡ true)
@@ -76,8 +77,8 @@ sight_is_seen s start holds more es e r i = go (local s es e.caller).pass refl
           (pass_agrees s start more es e r.values r.core i.kind i.found);
       lawful = λ h. subst holds (sym state)
           (lawful_from s start holds (more ++ e ∷ es) r.values r.core r.law h
-          (pass_place e.caller es) at_place.more
-          at_place.is);
+          (pass_place e.caller es) at_place.later
+          at_place.whole);
       commits = commits_held s start (more ++ e ∷ es) es e.caller n r.core past may.0 q;
     }
 
@@ -106,7 +107,7 @@ prefix_is_lawful s start holds run prefix rest r q h =
     go p = subst holds
         (ap (map_after start) p.is ∙ sym (state_reversed start (reverse prefix))
         ∙ ap (state_after start) (reverse-reverse prefix))
-        (lawful_from s start holds run r.values r.core r.law h p.past p.is_past.more p.is_past.is)
+        (lawful_from s start holds run r.values r.core r.law h p.past p.is_past.later p.is_past.whole)
 
 -- the prefix at a place is one
 pub place_prefix : (s : Shape) (start : List Val) (more es : List Event) →

@@ -11,7 +11,8 @@ use Rattle.dstm_core.specs.State.{LocalState, own_attempt}
 use Rattle.dstm_core.specs.Events.{Event}
 use Rattle.dstm_core.specs.declared.shape.Shape.{Shape}
 use Rattle.dstm_opacity.proofs.Legal.{Legal}
-use Rattle.dstm_opacity.proofs.Numbers.{Past, past_more}
+use Rattle.dstm_core.specs.Traces.{IsPastOf}
+use Rattle.dstm_runs.proofs.Pasts.{past_more}
 use Rattle.dstm_opacity.proofs.States.{map_after}
 
 state_snoc : (start : List Val) (xs : List Entry) (x : Entry) →
@@ -67,13 +68,13 @@ history_more s start will run (e ∷ more) es = go (history_more s start will ru
 pub record PartIs (s : Shape) (start : List Val) (will : ℕ → Bool) (run es : List Event) (xs : List Entry) :
     Type 0 where
   pub past : List Event
-  pub is_past : Past past es
+  pub is_past : IsPastOf past es
   pub is : history s start will run past ≡ xs
 
 -- so it is with every such part
 pub part_is : (s : Shape) (start : List Val) (will : ℕ → Bool) (run es : List Event) (newer xs : List Entry) →
     history s start will run es ≡ newer ++ xs → PartIs s start will run es xs
-part_is s start will run es [] xs h = record { past = es; is_past = record { more = []; is = refl }; is = h }
+part_is s start will run es [] xs h = record { past = es; is_past = record { later = []; whole = refl }; is = h }
 part_is s start will run [] (x ∷ newer) xs h = absurd (cc)
 part_is s start will run (e ∷ es) (x ∷ newer) xs h =
     go (cases_Bool (is_draw e.kind && will (own_attempt s (local s es e.caller))))

@@ -5,7 +5,7 @@ use Rattle.dstm_core.specs.Histories.{is_draw, is_look_number, pass_place}
 use Rattle.dstm_core.specs.Rules.{AllowedAs, after}
 use Rattle.dstm_core.specs.Runs.{Core, local}
 use Rattle.dstm_core.specs.State.{LocalState, given, keep_resolved, next_read, or_read, own_attempt, record_resolved}
-use Rattle.dstm_core.specs.Traces.{at, word}
+use Rattle.dstm_core.specs.Traces.{IsPastOf, at, word}
 use Rattle.dstm_core.specs.Words.{place}
 use Rattle.dstm_core.specs.Words.Word.{NumbersWord}
 use Rattle.dstm_core.specs.Events.{Event}
@@ -19,7 +19,8 @@ use Rattle.dstm_core.proofs.Static.{Static, callers, static}
 use Rattle.dstm_opacity.proofs.Current.{Foretells, current, foretells_past, named_meant}
 use Rattle.dstm_opacity.proofs.Draws.{drawn_phase, is_drawn}
 use Rattle.dstm_opacity.proofs.LastPass.{LastOk, PassHas, PassOk, agreed_record, kept_recorded, last_other, last_own}
-use Rattle.dstm_opacity.proofs.Numbers.{Past, core_before, foretells_before, no_return_past, pass_past}
+use Rattle.dstm_core.proofs.Pasts.{core_before}
+use Rattle.dstm_opacity.proofs.Numbers.{foretells_before, no_return_past, pass_past}
 use Rattle.dstm_opacity.proofs.Recorded.{ReadsNamed, reads, reads_record}
 use Rattle.dstm_opacity.proofs.States.{Cur}
 use Rattle.dstm_opacity.proofs.Versions.{Named, ResSeen, by_abort, by_commit, by_zero, meant, res_seen}
@@ -84,7 +85,7 @@ reads_at s es (r ∷ rs) zero h lt = (h.0, h.1)
 reads_at s es (r ∷ rs) (suc i) h lt = reads_at s es rs i h.2 (omega arith)
 
 -- a check that finds the recorded word shows that the version was current at q
-pub check_shows : (s : Shape) (will : ℕ → Bool) (q es : List Event) (r : Read) → Past q es → Core s es →
+pub check_shows : (s : Shape) (will : ℕ → Bool) (q es : List Event) (r : Read) → IsPastOf q es → Core s es →
     Foretells s will es → r.object < s.objects → Named s q r.word r.version → at es r.object ≡ r.word →
     Cur s will q r
 check_shows s will q es r p core f b n w = let core_q = core_before s q es p core in

@@ -15,10 +15,11 @@ use Rattle.dstm_core.specs.declared.shape.Shape.{Shape}
 use Rattle.dstm_core.specs.declared.state.Phase.TheVariants.{Outside, Running}
 use Rattle.dstm_core.proofs.Columns.{own_in}
 use Rattle.dstm_core.proofs.Static.{static}
-use Rattle.dstm_core.proofs.Statuses.{core_past, finished_stays}
+use Rattle.dstm_core.proofs.Pasts.{core_before, core_past}
+use Rattle.dstm_core.proofs.Statuses.{finished_stays}
 use Rattle.dstm_opacity.proofs.Current.{Foretells}
 use Rattle.dstm_opacity.proofs.LastPass.{look_self_may, pass_agreed}
-use Rattle.dstm_opacity.proofs.Numbers.{core_before, foretells_before, pass_past}
+use Rattle.dstm_opacity.proofs.Numbers.{foretells_before, pass_past}
 use Rattle.dstm_opacity.proofs.Passes.{passes}
 use Rattle.dstm_opacity.proofs.States.{agrees_state, map_after, old_current}
 
@@ -51,7 +52,7 @@ pass_agrees s start more es e long core k w = go (local s es e.caller).pass refl
 
     f_es : Foretells s (will_of s (more ++ e ∷ es)) es
     f_es = foretells_before s (will_of s (more ++ e ∷ es)) es (more ++ e ∷ es)
-        (record { more = more ++ e ∷ []; is = append_assoc more (e ∷ []) es }) core
+        (record { later = more ++ e ∷ []; whole = append_assoc more (e ∷ []) es }) core
         (foretold s (more ++ e ∷ es))
 
     may : ((local s es e.caller).phase ≡ Running) × ((local s es e.caller).stale ≡ false)
@@ -72,10 +73,10 @@ pass_agrees s start more es e long core k w = go (local s es e.caller).pass refl
         let a_in =
         own_in s e.caller (local s es e.caller) (static s es core_e.0 e.caller) core_e.1.caller out in
         let same =
-        finished_stays s p.more (pass_place e.caller es) (own_attempt s (local s es e.caller))
-        (subst (Core s) (sym p.is) core_e.0) a_in (omega arith) in
+        finished_stays s p.later (pass_place e.caller es) (own_attempt s (local s es e.caller))
+        (subst (Core s) (sym p.whole) core_e.0) a_in (omega arith) in
         let now : word s es (StatusWord (own_attempt s (local s es e.caller))) ≡ 5 =
-        subst (λ xs. word s xs (StatusWord (own_attempt s (local s es e.caller))) ≡ 5) p.is (same ∙ z) in
+        subst (λ xs. word s xs (StatusWord (own_attempt s (local s es e.caller))) ≡ 5) p.whole (same ∙ z) in
         let found : e.found ≡ 5 = core_e.1.linked ∙ ap (at es) may.4 ∙ now in
         let g : given (local s es e.caller).phase ≡ 1 = ap given may.0 in omega arith
 

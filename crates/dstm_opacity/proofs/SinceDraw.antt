@@ -5,7 +5,7 @@ use Rattle.dstm_core.specs.Histories.{is_draw, is_look_number, will_of}
 use Rattle.dstm_core.specs.Rules.{AllowedAs, MayRank, after}
 use Rattle.dstm_core.specs.Runs.{Core, local}
 use Rattle.dstm_core.specs.State.{LocalState, given, next_read, or_read, own_attempt}
-use Rattle.dstm_core.specs.Traces.{at, word}
+use Rattle.dstm_core.specs.Traces.{IsPastOf, at, word}
 use Rattle.dstm_core.specs.Words.{place}
 use Rattle.dstm_core.specs.Words.Word.{NumbersWord, StatusWord}
 use Rattle.dstm_core.specs.Events.{Event}
@@ -16,10 +16,11 @@ use Rattle.dstm_core.specs.declared.state.Phase.TheVariants.{Drawn}
 use Rattle.dstm_core.proofs.Columns.{exchanged, own_in}
 use Rattle.dstm_core.proofs.Places.{put_at}
 use Rattle.dstm_core.proofs.Static.{Static, local_other, local_own, static}
-use Rattle.dstm_core.proofs.Statuses.{OwnStatus, core_past, finished_step, own_status}
+use Rattle.dstm_core.proofs.Pasts.{core_past}
+use Rattle.dstm_core.proofs.Statuses.{OwnStatus, finished_step, own_status}
 use Rattle.dstm_opacity.proofs.Current.{Foretells, foretells_past}
 use Rattle.dstm_opacity.proofs.Draws.{draw_may}
-use Rattle.dstm_opacity.proofs.Numbers.{Past}
+
 use Rattle.dstm_opacity.proofs.Passes.{check_after, check_shows, not-false_true, passes, reads_at}
 use Rattle.dstm_opacity.proofs.Recorded.{ReadsNamed, reads}
 use Rattle.dstm_opacity.proofs.Sights.{foretold, will_is}
@@ -97,7 +98,7 @@ draw_begins s will q d core f k = let x = draw_after s (local s q d.caller) d d.
           (sym x.4 ∙ z ∙ x.5 ∙ ap Some (core.1.linked ∙ ap (at q) x.6)) refl;
     }
 
-draw_own : (s : Shape) (will : ℕ → Bool) (q es : List Event) (e : Event) → Past q es → Core s (e ∷ es) →
+draw_own : (s : Shape) (will : ℕ → Bool) (q es : List Event) (e : Event) → IsPastOf q es → Core s (e ∷ es) →
     Foretells s will (e ∷ es) → own_attempt s (local s q e.caller) < s.callers * s.attempts →
     ReadsNamed s q (local s q e.caller).reads → SinceDraw s will q e.caller (local s es e.caller) →
     (e.kind ≡ Check) ⊎ ((e.kind ≡ Commit) ⊎ (e.kind ≡ Quit)) → DrawState s will q e.caller (e ∷ es)
@@ -187,7 +188,7 @@ draw_own s will q es e p core f inn named d (inl k) =
         each ns i (inr z) y = let same : (local s es e.caller).checked ≡ i = omega arith in
             subst (λ j. Cur s will q (or_read (slice_get (local s es e.caller).reads j))) same (one ns)
 
-draw_step : (s : Shape) (will : ℕ → Bool) (q : List Event) (c : ℕ) (es : List Event) (e : Event) → Past q es →
+draw_step : (s : Shape) (will : ℕ → Bool) (q : List Event) (c : ℕ) (es : List Event) (e : Event) → IsPastOf q es →
     Core s (e ∷ es) → Foretells s will (e ∷ es) → c < s.callers →
     own_attempt s (local s q c) < s.callers * s.attempts → ReadsNamed s q (local s q c).reads →
     DrawState s will q c es → DrawState s will q c (e ∷ es)
@@ -220,7 +221,7 @@ draw_later s will q d [] core f k =
 draw_later s will q d (e ∷ more) core f k = let core_d = core_past s more (d ∷ q) core.0 in
     let v = draw_may s (local s q d.caller) d d.kind k core_d.1.allowed in
     draw_step s will q d.caller (more ++ d ∷ q) e
-    (record { more = more ++ d ∷ []; is = append_assoc more (d ∷ []) q }) core f core_d.1.caller
+    (record { later = more ++ d ∷ []; whole = append_assoc more (d ∷ []) q }) core f core_d.1.caller
     (own_in s d.caller (local s q d.caller) (static s q core_d.0 d.caller) core_d.1.caller (λ z. cc))
     (reads s q core_d.0 d.caller)
     (draw_later s will q d more core.0 (foretells_past s will (more ++ d ∷ q) e core f) k)

@@ -15,7 +15,8 @@ use Rattle.dstm_core.proofs.Columns.{Installed, StatusMove, StatusMoved, begins,
 use Rattle.dstm_core.proofs.Locators.{installed_stays, no_locator_twice}
 use Rattle.dstm_core.proofs.Places.{put_at}
 use Rattle.dstm_core.proofs.Static.{static}
-use Rattle.dstm_core.proofs.Statuses.{core_past, finished_stays, finished_step}
+use Rattle.dstm_core.proofs.Pasts.{core_past}
+use Rattle.dstm_core.proofs.Statuses.{finished_stays, finished_step}
 use Rattle.dstm_opacity.proofs.Recorded.{replaces}
 use Rattle.dstm_opacity.proofs.Versions.{Named, by_abort, by_commit, by_zero}
 use Rattle.dstm_opacity.proofs.Written.{WriteOk, write_new}

@@ -19,6 +19,7 @@ use Rattle.dstm_core.proofs.Locators.{install_fresh}
 use Rattle.dstm_core.proofs.Places.{put_at}
 use Rattle.dstm_core.proofs.Static.{callers, res-in_shape, static}
 use Rattle.dstm_core.proofs.Statuses.{OwnStatus, PhaseHow, at_begin, at_move, at_none, finished_step, given_live, own_status, phase_how}
+use Rattle.dstm_core.proofs.Underway.{goes_on}
 use Rattle.dstm_opacity.proofs.Recorded.{other_kind_old, replaces}
 use Rattle.dstm_opacity.proofs.Versions.{Named, by_abort, by_commit, by_zero, status_of}
 
@@ -167,13 +168,6 @@ write_new s es e core k h = let l = local s es e.caller in
           ∙ other_kind_old s es e (e.put - 1) p f.1.below (λ q. cc) ∙ r.old;
       here = inr (put_at es e _ (p.fits.allowed.0 ∙ ap (λ k. place s (target k s l e)) k) ∙ one);
     }
-
--- an attempt goes on, but at a Begin
-pub goes_on : (s : Shape) (l : LocalState) (e : Event) (k : Kind) → AllowedAs k s l e → k ≢ Begin →
-    PhaseHow s l e k → (l.phase ≢ Outside) × (own_attempt s (after k s l e) ≡ own_attempt s l)
-goes_on s l e k a n (at_begin q) = absurd (n q)
-goes_on s l e k a n (at_move m out pl put o) = (out, o)
-goes_on s l e k a n (at_none out g o m) = (out, o)
 
 written_own : (s : Shape) (es : List Event) (e : Event) → Core s (e ∷ es) →
     WritesHow s (local s es e.caller) e e.kind → PhaseHow s (local s es e.caller) e e.kind →

@@ -13,7 +13,7 @@ use Rattle.dstm_core.specs.declared.state.Phase.TheVariants.{Outside}
 use Rattle.dstm_core.specs.declared.status.Status.TheVariants as status
 use Rattle.dstm_core.specs.Histories.{CoreRun, IsSight, current_value, drawn, entry_of, history_of, pass_place, prefix_at, seen, version_value}
 use Rattle.dstm_core.specs.Laws.{Installs}
-use Rattle.dstm_core.specs.Runs.{local}
+use Rattle.dstm_core.specs.Runs.{Core, local}
 use Rattle.dstm_core.specs.State.{own_attempt, or_zero, res, version}
 use Rattle.dstm_core.specs.Traces.{at, word}
 use Rattle.dstm_core.specs.Words.{code_of}
@@ -153,28 +153,28 @@ CurrentValues {L = L} holds =
     CoreRun shape start (holds law) run →
     IsCurrent shape start run (state_after start (history_of shape start run))
 
+-- ---- what stays, in every trace that obeys the rules, whether or not it keeps a law
+
 -- the entry of an attempt that has drawn is the same in every later run
-abbrev pub EntryStays : {L : Type 0} → (L → List Val → Type 0) → Type 0
-EntryStays {L = L} holds =
-    (law : L) (shape : Shape) (start : List Val) (later before : List Event) (draw : Event) →
-    CoreRun shape start (holds law) (later ++ draw ∷ before) → draw.kind ≡ Draw →
+abbrev pub EntryStays : Type 0
+EntryStays =
+    (shape : Shape) (start : List Val) (later before : List Event) (draw : Event) →
+    Core shape (later ++ draw ∷ before) → draw.kind ≡ Draw →
     entry_of shape start (later ++ draw ∷ before) (local shape before draw.caller)
     ≡ entry_of shape start (draw ∷ before) (local shape before draw.caller)
 
 -- a part of a new value, once put, stays
-abbrev pub PutStays : {L : Type 0} → (L → List Val → Type 0) → Type 0
-PutStays {L = L} holds =
-    (law : L) (shape : Shape) (start : List Val) (later before : List Event) (event : Event) →
-    CoreRun shape start (holds law) (later ++ event ∷ before) →
-    (event.kind ≡ PutHigh) ⊎ (event.kind ≡ PutNew) →
+abbrev pub PutStays : Type 0
+PutStays =
+    (shape : Shape) (later before : List Event) (event : Event) →
+    Core shape (later ++ event ∷ before) → (event.kind ≡ PutHigh) ⊎ (event.kind ≡ PutNew) →
     at (later ++ event ∷ before) event.place ≡ event.put
 
 -- what an attempt under way has seen has the same values in every later run
-abbrev pub SeenStays : {L : Type 0} → (L → List Val → Type 0) → Type 0
-SeenStays {L = L} holds =
-    (law : L) (shape : Shape) (start : List Val) (later before : List Event) (caller : ℕ) →
-    CoreRun shape start (holds law) (later ++ before) → caller < shape.callers →
-    (local shape before caller).phase ≢ Outside →
+abbrev pub SeenStays : Type 0
+SeenStays =
+    (shape : Shape) (start : List Val) (later before : List Event) (caller : ℕ) →
+    Core shape (later ++ before) → caller < shape.callers → (local shape before caller).phase ≢ Outside →
     seen shape start (later ++ before) before caller ≡ seen shape start before before caller
 
 -- the value, in a run, of the version of the object that an event looks at
@@ -188,8 +188,8 @@ pub record IsFound (value : Val) (look : Event) : Type 0 where
   pub high : look.kind ≡ LookHigh → value.high ≡ look.found
   pub low : look.kind ≡ LookNew → value.low ≡ look.found
 
-abbrev pub FoundStays : {L : Type 0} → (L → List Val → Type 0) → Type 0
-FoundStays {L = L} holds =
-    (law : L) (shape : Shape) (start : List Val) (later before : List Event) (look : Event) →
-    CoreRun shape start (holds law) (later ++ look ∷ before) →
+abbrev pub FoundStays : Type 0
+FoundStays =
+    (shape : Shape) (start : List Val) (later before : List Event) (look : Event) →
+    Core shape (later ++ look ∷ before) →
     IsFound (looked_at shape start (later ++ look ∷ before) before look) look

@@ -1,5 +1,5 @@
-//! Laws of core runs. Each is a statement on every core run of every shape, first values and law; the
-//! functions do nothing.
+//! Laws of core runs. Each is a statement on every core run of every shape, first values and law; those on what
+//! stays need no law, and so can be cited where a law is still to be shown. The functions do nothing.
 
 ghost use Rattle.dstm_opacity.specs.Laws.{
   CommitsStand,
@@ -66,21 +66,21 @@ pub fn current_values<L: Law>()
 {}
 
 /// The entry of an attempt that has drawn its number stays the same.
-pub fn entry_stays<L: Law>()
-    ensures { EntryStays L.holds }
+pub fn entry_stays()
+    ensures { EntryStays }
 {}
 
 /// A part of a new value, once put, stays.
-pub fn put_stays<L: Law>()
-    ensures { PutStays L.holds }
+pub fn put_stays()
+    ensures { PutStays }
 {}
 
 /// The values that an attempt has seen stay the same.
-pub fn seen_stays<L: Law>()
-    ensures { SeenStays L.holds }
+pub fn seen_stays()
+    ensures { SeenStays }
 {}
 
 /// The value found of a version stays the value of that version.
-pub fn found_stays<L: Law>()
-    ensures { FoundStays L.holds }
+pub fn found_stays()
+    ensures { FoundStays }
 {}

@@ -87,10 +87,10 @@ fn assure<L: Law>()
     laws::commits_stand::<L>();
     laws::places_have_prefixes::<L>();
     laws::current_values::<L>();
-    laws::entry_stays::<L>();
-    laws::put_stays::<L>();
-    laws::seen_stays::<L>();
-    laws::found_stays::<L>();
+    laws::entry_stays();
+    laws::put_stays();
+    laws::seen_stays();
+    laws::found_stays();
 }
 
 #[test]

@@ -9,12 +9,14 @@ use Rattle.dstm_core.specs.Words.{IsValid, word_count}
 use Rattle.dstm_model.specs.declared.value.Val.{Val}
 use Rattle.dstm_words.specs.declared.view.Terms.{Terms}
 use Rattle.dstm_words.specs.declared.view.View.{View}
-use Rattle.dstm_words.specs.Logs.{IsPastOf}
+use Rattle.dstm_core.specs.Traces.{IsPastOf}
 use Rattle.dstm_words.specs.Rule.{Sees, Kept, LeftBy}
 use Rattle.dstm_words.specs.Steps.{GoesOn}
 use Rattle.dstm_words.specs.Views.{founder}
-use Rattle.dstm_words.proofs.Lists.{off, either_way, none_some, sum_at, get_or-replicate, no_number}
-use Rattle.dstm_words.proofs.Logs.{past_self, past_nil}
+use Rattle.dstm_words.proofs.Lists.{off, none_some, sum_at, get_or-replicate, no_number}
+use Rattle.std.proofs.lemmas.Bool.{cases_Bool}
+use Rattle.dstm_runs.proofs.Pasts.{past_self}
+use Rattle.dstm_words.proofs.Logs.{past_nil}
 use Rattle.dstm_words.proofs.Parting.{outs}
 
 module _ {L : Type 0} (holds : L → List Val → Type 0) (key : Terms L) where
@@ -78,7 +80,7 @@ module _ {L : Type 0} (holds : L → List Val → Type 0) (key : Terms L) where
       sym q.3 ∙ ap (λ (x : V). x.log) v_is)
       (λ (is : q.1.first ≡ false). let nil : k.log ≡ [] = sym q.3 ∙ g.empty (g.spent is not_apart) in
       nil ∙ sym (past_nil v.log (subst (IsPastOf v.log) nil f.past)))
-      (either_way q.1.first)
+      (cases_Bool q.1.first)
 
   -- what the last state says of the words
   pub left_by : (ws xs : List ℕ) (id : ℕ) (v : V) → Final (Seen (Kept holds key) id v) ws xs →

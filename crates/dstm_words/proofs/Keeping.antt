@@ -21,15 +21,18 @@ use Rattle.dstm_core.proofs.Static.{local_other}
 use Rattle.dstm_model.specs.declared.value.Val.{Val}
 use Rattle.dstm_words.specs.declared.view.Terms.{Terms}
 use Rattle.dstm_words.specs.declared.view.View.{View}
-use Rattle.dstm_words.specs.Logs.{IsPastOf}
+use Rattle.dstm_core.specs.Traces.{IsPastOf}
 use Rattle.dstm_words.specs.Rule.{enrolled, Sees, Kept}
-use Rattle.dstm_words.specs.Seats.{state_of, PutsLawfully}
+use Rattle.dstm_words.specs.Seats.{caller_state, PutsLawfully}
 use Rattle.dstm_words.specs.Steps.{AreApart, GoesOn, own_events, IsRunOf, Adds}
 use Rattle.dstm_words.specs.Views.{number_or, events_by, state_by, numbers_by, spent_by, moved}
 use Rattle.dstm_words.proofs.Lists.{some_of, none_some, inside_of, each_set, sum_set, sum_at, one_of, head_of}
 use Rattle.dstm_core.proofs.Enrolment.{enrols, lies_elsewhere}
 use Rattle.dstm_words.proofs.Locals.{has_place, no_enrol, named}
-use Rattle.dstm_words.proofs.Logs.{others_event, own_event, none_since, past_self, past_more, local_same, at_here, at_else}
+use Rattle.dstm_core.proofs.Places.{put_at}
+use Rattle.dstm_runs.proofs.Runs.{elsewhere}
+use Rattle.dstm_runs.proofs.Pasts.{past_self, past_more}
+use Rattle.dstm_words.proofs.Logs.{others_event, own_event, none_since, local_same}
 
 module _ {L : Type 0} (holds : L → List Val → Type 0) (key : Terms L) where
   abbrev pub V : Type 0
@@ -140,9 +143,9 @@ module _ {L : Type 0} (holds : L → List Val → Type 0) (key : Terms L) where
         left = λ p l. dite (ℕ_discrete p at_place)
             (λ same. ap (λ j. get_or (set s.words at_place e.put) j 0) same
             ∙ get_or-set_same s.words at_place e.put 0 (omega arith)
-            ∙ sym (at_here k.log e) ∙ ap (at log) (there ∙ sym same))
+            ∙ sym (put_at k.log e e.place refl) ∙ ap (at log) (there ∙ sym same))
             (λ away. get_or-set_other s.words at_place p e.put 0 away ∙ k.left p l
-            ∙ sym (at_else p k.log e (λ x. away (sym x ∙ there))));
+            ∙ sym (elsewhere (λ p. 0) k.log e p (λ x. away (sym x ∙ there))));
         fresh = λ n above. let a = t.known in let m = t.more in
             others_event n k.log e (λ x. omega arith) ∙ k.fresh n (omega arith);
         seats = each_set (λ j u. Sees holds key log j u) s.views id w
@@ -195,7 +198,7 @@ module _ {L : Type 0} (holds : L → List Val → Type 0) (key : Terms L) where
   -- what the seat's step may be of, at the longest log
   law_here : (s : St) (k : Kept holds key s) (id : ℕ) (v : V) (e : Event) → get_elem? s.views id ≡ some v →
       Fits key.shape k.log e → events_of e.caller k.log ≡ events_of e.caller v.log →
-      state_of key v ≡ local key.shape k.log e.caller → PutsLawfully holds key v e →
+      caller_state key v ≡ local key.shape k.log e.caller → PutsLawfully holds key v e →
       (local key.shape k.log e.caller).written + 1 ≡ length (local key.shape k.log e.caller).writes →
       KeepsLaw (holds key.law.value) key.shape.objects
       (entry_of key.shape key.start.value.items (e ∷ k.log) (local key.shape k.log e.caller))
@@ -206,8 +209,8 @@ module _ {L : Type 0} (holds : L → List Val → Type 0) (key : Terms L) where
       l.written + 1 ≡ length l.writes →
       KeepsLaw (holds key.law.value) key.shape.objects
       (entry_of key.shape key.start.value.items (e ∷ log) l) in
-      let here : Puts k.log (state_of key v) =
-      subst (λ log. Puts log (state_of key v)) past.whole (puts past.later) in
+      let here : Puts k.log (caller_state key v) =
+      subst (λ log. Puts log (caller_state key v)) past.whole (puts past.later) in
       let now : Puts k.log (local key.shape k.log e.caller) = subst (Puts k.log) state here in
       now k.run fits (none_since e.caller v.log past.later k.log past.whole same)
 
@@ -235,11 +238,11 @@ module _ {L : Type 0} (holds : L → List Val → Type 0) (key : Terms L) where
       let inside : e.place < word_count key.shape =
       has_place e.kind key.shape (local key.shape v.log m) e may in
       let still : enrolled holds key (e ∷ k.log) ≡ enrolled holds key k.log =
-      at_else cp k.log e (lies_elsewhere key.shape (local key.shape v.log m) e e.kind later may) in
+      elsewhere (λ p. 0) k.log e cp (lies_elsewhere key.shape (local key.shape v.log m) e e.kind later may) in
       let ns : numbers_by v.number e.caller v.numbers ≡ v.numbers =
       ap (λ (x : Option ℕ). numbers_by x e.caller v.numbers) is in
       let spent : spent_by v.number ≡ 0 = ap spent_by is in
-      let seen : state_of key v ≡ local key.shape k.log e.caller =
+      let seen : caller_state key v ≡ local key.shape k.log e.caller =
       ap (λ (x : Option ℕ). state_by key.shape x v.log) is ∙ state in
       let fits : Fits key.shape k.log e = record {
         linked = found ∙ ap (λ p. get_or s.words p 0) (sym there) ∙ k.left e.place inside;
@@ -283,7 +286,7 @@ module _ {L : Type 0} (holds : L → List Val → Type 0) (key : Terms L) where
       let none : events_of e.caller k.log ≡ [] = k.fresh e.caller (omega arith) in
       let state : first ≡ local key.shape k.log e.caller = sym (local_same key.shape k.log [] e.caller none) in
       let next : enrolled holds key (e ∷ k.log) ≡ e.caller + 1 =
-      ap (at (e ∷ k.log)) (sym enrol.1) ∙ at_here k.log e ∙ enrol.2 ∙ ap (λ n. n + 1) (sym caller) in
+      ap (at (e ∷ k.log)) (sym enrol.1) ∙ put_at k.log e e.place refl ∙ enrol.2 ∙ ap (λ n. n + 1) (sym caller) in
       let ns : numbers_by v.number e.caller v.numbers ≡ e.caller ∷ v.numbers =
       ap (λ (x : Option ℕ). numbers_by x e.caller v.numbers) is in
       let spent : spent_by v.number ≡ 1 = ap spent_by is in
@@ -330,7 +333,7 @@ module _ {L : Type 0} (holds : L → List Val → Type 0) (key : Terms L) where
   -- the rules let the seat's caller make it, whatever is found, and the law is kept
   abbrev pub Allowing : V → (ℕ → ℕ → Event) → Type 0
   Allowing v event = (found : ℕ) → found < 2 ^ 64 →
-      AllowedAs (event (number_or v.number found) found).kind key.shape (state_of key v)
+      AllowedAs (event (number_or v.number found) found).kind key.shape (caller_state key v)
       (event (number_or v.number found) found)
       × Lawfully v (event (number_or v.number found) found)
 

@@ -11,10 +11,6 @@ use Rattle.dstm_words.specs.Steps.{AreApart}
 pub off : false ≡ true → ⊥
 off e = true≢false (sym e)
 
-pub either_way : (b : Bool) → (b ≡ true) ⊎ (b ≡ false)
-either_way true = inl refl
-either_way false = inr refl
-
 pub some_of : {A : Type 0} (a b : A) → Some a ≡ Some b → a ≡ b
 some_of a b e = cc
 

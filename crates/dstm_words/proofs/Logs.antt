@@ -5,10 +5,10 @@ use Rattle.std.proofs.lemmas.Bool.Decides.{leb_tells}
 use Rattle.std.proofs.lemmas.List.Elements.{filter-append}
 use Rattle.dstm_core.specs.Events.{Event}
 use Rattle.dstm_core.specs.declared.shape.Shape.{Shape}
-use Rattle.dstm_core.specs.Runs.{local}
-use Rattle.dstm_core.specs.Traces.{at, events_of}
-use Rattle.dstm_core.proofs.Enrolment.{local-events_of}
-use Rattle.dstm_words.specs.Logs.{IsPastOf}
+use Rattle.dstm_core.specs.Runs.{core, local}
+use Rattle.dstm_core.specs.Traces.{events_of}
+use Rattle.dstm_runs.proofs.Runs.{local-events_of}
+use Rattle.dstm_core.specs.Traces.{IsPastOf}
 use Rattle.dstm_words.specs.Views.{longer}
 
 -- ---- the events of one caller
@@ -39,16 +39,6 @@ none_since n before later log whole same =
     nil_of (events_of n later) (omega (arith, length-append (events_of n later) (events_of n before)))
 
 -- ---- pasts
-
-pub past_self : (log : List Event) → IsPastOf log log
-past_self log = record { later = []; whole = refl }
-
-pub past_more : (before log : List Event) (e : Event) → IsPastOf before log → IsPastOf before (e ∷ log)
-past_more before log e p = record { later = e ∷ p.later; whole = ap (λ l. e ∷ l) p.whole }
-
-pub past_all : (log : List Event) → IsPastOf [] log
-past_all [] = record { later = []; whole = refl }
-past_all (e ∷ log) = past_more [] log e (past_all log)
 
 past_length : (before log : List Event) → IsPastOf before log → length before ≤ length log
 past_length before log p =
@@ -129,16 +119,10 @@ module _ (log xs ys : List Event) (p : IsPastOf xs log) (q : IsPastOf ys log) wh
       of_longer (λ l. l ≡ log) (λ _. is)
       (λ l. whole log xs p (let n : length ys ≡ length log = ap length is in omega arith))
 
--- ---- the state of one caller, and the words
+-- ---- the state of one caller
 
 -- a caller's state is the same in two logs that have the same events of it
 pub local_same : (shape : Shape) (log other : List Event) (c : ℕ) → events_of c log ≡ events_of c other →
     local shape log c ≡ local shape other c
 local_same shape log other c same =
-    sym (local-events_of shape log c) ∙ ap (λ l. local shape l c) same ∙ local-events_of shape other c
-
-pub at_here : (log : List Event) (e : Event) → at (e ∷ log) e.place ≡ e.put
-at_here log e = rw (eq-eqb e.place e.place refl) refl
-
-pub at_else : (p : ℕ) (log : List Event) (e : Event) → e.place ≢ p → at (e ∷ log) p ≡ at log p
-at_else p log e other = rw (ne_eqb e.place p other) refl
+    sym (local-events_of core shape log c) ∙ ap (λ l. local shape l c) same ∙ local-events_of core shape other c

@@ -21,7 +21,7 @@ use Rattle.dstm_words.specs.declared.view.Terms.{Terms}
 use Rattle.dstm_words.specs.declared.view.View.{View}
 use Rattle.dstm_words.specs.Logs.{event_by, ActsBy}
 use Rattle.dstm_words.specs.Rule.{Kept}
-use Rattle.dstm_words.specs.Seats.{state_of, MayMake, StoresLawfully, PutsLawfully}
+use Rattle.dstm_words.specs.Seats.{caller_state, MayMake, StoresLawfully, PutsLawfully}
 use Rattle.dstm_words.specs.Steps.{made, Makes}
 use Rattle.dstm_words.specs.Views.{number_or, state_by}
 use Rattle.dstm_words.proofs.Keeping.{steps, Lawfully}
@@ -46,7 +46,7 @@ module _ {L : Type 0} (holds : L → List Val → Type 0) (key : Terms L) where
       place < word_count key.shape
   place_inside v way kind place may =
       let e : Event = made v way kind place 0 in
-      let l : e.place < word_count key.shape = has_place kind key.shape (state_of key v) e (may 0 (lit< tt)) in
+      let l : e.place < word_count key.shape = has_place kind key.shape (caller_state key v) e (may 0 (lit< tt)) in
       let is : e.place ≡ place = (placed way (number_or v.number 0) kind place 0).1 in omega arith
 
   -- a seat with no number adds one to what it finds
@@ -114,7 +114,7 @@ module _ {L : Type 0} (holds : L → List Val → Type 0) (key : Terms L) where
       no_put : kind ≡ PutNew → ⊥
       no_put is =
           let at_any : (n : ℕ) → n < 2 ^ 64 → old ≡ n = λ n l.
-          (subst (λ k. AllowedAs k key.shape (state_of key me.0)
+          (subst (λ k. AllowedAs k key.shape (caller_state key me.0)
           (made me.0 (Exchange old new) kind place n)) is
           (may n l)).1.0 in
           let x = at_any 0 (lit< tt) in let y = at_any 1 (lit< tt) in omega arith

@@ -17,13 +17,15 @@ use Rattle.dstm_model.specs.declared.value.Val.{Val}
 use Rattle.dstm_words.specs.declared.view.Old.{Old}
 use Rattle.dstm_words.specs.declared.view.Terms.{Terms}
 use Rattle.dstm_words.specs.declared.view.View.{View}
-use Rattle.dstm_words.specs.Logs.{IsPastOf}
+use Rattle.dstm_core.specs.Traces.{IsPastOf}
 use Rattle.dstm_words.specs.Rule.{Sees, Kept}
 use Rattle.dstm_words.specs.Steps.{GoesOn, IsRunOf, Meets, Joined}
 use Rattle.dstm_words.specs.Views.{kept_part, given_part, old_of, joined, nobody, met, longer}
 use Rattle.dstm_words.proofs.Keeping.{apart_set}
-use Rattle.dstm_words.proofs.Lists.{off, either_way, none_some, inside_of, each_set, set_comm, sum_set, sum_at, sum_zero, no_number, apart_append}
-use Rattle.dstm_words.proofs.Logs.{past_self, past_all, local_same, longer_past, quiet_left, quiet_right, longer_whole_left, longer_whole_right}
+use Rattle.dstm_words.proofs.Lists.{off, none_some, inside_of, each_set, set_comm, sum_set, sum_at, sum_zero, no_number, apart_append}
+use Rattle.std.proofs.lemmas.Bool.{cases_Bool}
+use Rattle.dstm_runs.proofs.Pasts.{past_self, past_all}
+use Rattle.dstm_words.proofs.Logs.{local_same, longer_past, quiet_left, quiet_right, longer_whole_left, longer_whole_right}
 
 module _ {L : Type 0} (holds : L → List Val → Type 0) (key : Terms L) where
   abbrev V : Type 0
@@ -189,7 +191,7 @@ module _ {L : Type 0} (holds : L → List Val → Type 0) (key : Terms L) where
       (λ (is : u.first ≡ true).
       absurd (away ((k.seats j u there).first is ∙ sym ((k.seats id v at_id).first first))))
       (λ (is : u.first ≡ false). (k.seats j u there).none_out is)
-      (either_way u.first))) in
+      (cases_Bool u.first))) in
       omega arith
 
   -- what the first seat knows after it took in what a seat that is out knows

@@ -5,16 +5,16 @@ use Rattle.dstm_core.specs.Events.{Event}
 use Rattle.dstm_core.specs.declared.event.Kind.{Kind}
 use Rattle.dstm_core.specs.declared.shape.Shape.{Shape}
 use Rattle.dstm_core.specs.Rules.{after}
-use Rattle.dstm_core.specs.Runs.{local}
-use Rattle.dstm_core.specs.Traces.{Access, events_of}
+use Rattle.dstm_core.specs.Runs.{core, local}
+use Rattle.dstm_core.specs.Traces.{Access, IsPastOf, events_of}
 use Rattle.dstm_runs.specs.Traces.Access.{Load, Store, Exchange, Add}
-use Rattle.dstm_core.proofs.Enrolment.{local-events_of}
+use Rattle.dstm_runs.proofs.Runs.{local-events_of}
 use Rattle.dstm_core.proofs.Static.{local_own}
 use Rattle.dstm_model.specs.declared.value.Val.{Val}
 use Rattle.dstm_words.specs.declared.view.Terms.{Terms}
 use Rattle.dstm_words.specs.declared.view.View.{View}
-use Rattle.dstm_words.specs.Logs.{event_by, IsPastOf}
-use Rattle.dstm_words.specs.Seats.{state_of}
+use Rattle.dstm_words.specs.Logs.{event_by}
+use Rattle.dstm_words.specs.Seats.{caller_state}
 use Rattle.dstm_words.specs.Steps.{made, own_events, Adds, Makes, Joined}
 use Rattle.dstm_words.specs.Views.{number_or, events_by, state_by, numbers_by}
 use Rattle.dstm_words.proofs.Lists.{apart_of}
@@ -31,7 +31,7 @@ made_as Add c kind place found = (refl, refl)
 -- a caller's state is that of its own events
 state_of_events : (shape : Shape) (o : Option ℕ) (log : List Event) (found : ℕ) →
     local shape (events_by o log) (number_or o found) ≡ state_by shape o log
-state_of_events shape (Some c) log found = local-events_of shape log c
+state_of_events shape (Some c) log found = local-events_of core shape log c
 state_of_events shape None log found = refl
 
 module _ {L : Type 0} (holds : L → List Val → Type 0) where
@@ -43,18 +43,18 @@ module _ {L : Type 0} (holds : L → List Val → Type 0) where
   -- the state of the seat's caller after its event
   pub state_after : (terms : Terms L) (v w : View L) (way : Access) (kind : Kind) (place found : ℕ) →
       Makes holds v way kind place found w →
-      state_of terms w ≡ after kind terms.shape (state_of terms v) (made v way kind place found)
+      caller_state terms w ≡ after kind terms.shape (caller_state terms v) (made v way kind place found)
   state_after terms v w way kind place found m =
       let c : ℕ = number_or v.number found in
       let e : Event = made v way kind place found in
       let parts = made_as way c kind place found in
-      let here : state_of terms w ≡ local terms.shape w.log e.caller =
+      let here : caller_state terms w ≡ local terms.shape w.log e.caller =
       ap (λ o. state_by terms.shape o w.log) (ap (λ x. x.number) m.view) in
       let events : local terms.shape w.log e.caller ≡ after e.kind terms.shape
       (local terms.shape (own_events v) e.caller) e =
-      sym (local-events_of terms.shape w.log e.caller) ∙ ap (λ l. local terms.shape l e.caller) m.mine
+      sym (local-events_of core terms.shape w.log e.caller) ∙ ap (λ l. local terms.shape l e.caller) m.mine
       ∙ local_own terms.shape (own_events v) e in
-      let before : local terms.shape (own_events v) e.caller ≡ state_of terms v =
+      let before : local terms.shape (own_events v) e.caller ≡ caller_state terms v =
       ap (local terms.shape (own_events v)) parts.0 ∙ state_of_events terms.shape v.number v.log found in
       here ∙ events ∙ ap (λ k. after k terms.shape (local terms.shape (own_events v) e.caller) e) parts.1
       ∙ ap (λ l. after kind terms.shape l e) before

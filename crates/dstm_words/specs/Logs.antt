@@ -1,5 +1,5 @@
--- Logs, which have their newest event first: how they go on, and the events of each way to act on a word.
-use Rattle.std.specs.Prelude.{◌≡◌, ℕ, ◌+◌, ◌==◌, List, ◌++◌, if◌then◌else◌}
+-- The events of each way to act on a word.
+use Rattle.std.specs.Prelude.{◌≡◌, ℕ, ◌+◌, ◌==◌, if◌then◌else◌}
 use Rattle.dstm_core.specs.Events.{Event}
 use Rattle.dstm_core.specs.declared.event.Kind.{Kind}
 use Rattle.dstm_core.specs.declared.shape.Shape.{Shape}
@@ -7,11 +7,6 @@ use Rattle.dstm_core.specs.Rules.{access}
 use Rattle.dstm_core.specs.State.{LocalState}
 use Rattle.dstm_core.specs.Traces.{Access}
 use Rattle.dstm_runs.specs.Traces.Access.{Load, Store, Exchange, Add}
-
--- the log went on from what stood before
-pub record IsPastOf (before log : List Event) : Type 0 where
-  pub later : List Event
-  pub whole : later ++ before ≡ log
 
 -- an event by its parts
 abbrev pub event_of : ℕ → Kind → ℕ → ℕ → ℕ → ℕ → Event

@@ -11,7 +11,7 @@ use Rattle.dstm_core.specs.Words.Word.{CallersWord}
 use Rattle.dstm_model.specs.declared.value.Val.{Val}
 use Rattle.dstm_words.specs.declared.view.Terms.{Terms}
 use Rattle.dstm_words.specs.declared.view.View.{View}
-use Rattle.dstm_words.specs.Logs.{IsPastOf}
+use Rattle.dstm_core.specs.Traces.{IsPastOf}
 use Rattle.dstm_words.specs.Steps.{AreApart, GoesOn, IsRunOf}
 
 module _ {L : Type 0} (holds : L → List Val → Type 0) where

@@ -45,23 +45,23 @@ module _ {L : Type 0} where
   CanEnrol v = (v.number ≡ None) × (0 < v.enrolments)
 
   -- the state of the seat's caller
-  abbrev pub state_of : Terms L → View L → LocalState
-  state_of terms v = state_by terms.shape v.number v.log
+  abbrev pub caller_state : Terms L → View L → LocalState
+  caller_state terms v = state_by terms.shape v.number v.log
 
   -- the local rules let the seat's caller make this event, whatever is found
   abbrev pub MayMake : Terms L → View L → Access → Kind → ℕ → Type 0
   MayMake terms v way kind place =
       (found : ℕ) → found < 2 ^ 64 →
-      AllowedAs kind terms.shape (state_of terms v) (made v way kind place found)
+      AllowedAs kind terms.shape (caller_state terms v) (made v way kind place found)
 
   -- an entry whose last new value the event puts keeps the law, whatever others did since the seat's last step
   abbrev pub PutsLawfully : (L → List Val → Type 0) → Terms L → View L → Event → Type 0
   PutsLawfully holds terms v event =
       (between : List Event) → let log = between ++ v.log in
       IsRunOf holds terms log → Fits terms.shape log event → events_of event.caller between ≡ [] →
-      (state_of terms v).written + 1 ≡ length (state_of terms v).writes →
+      (caller_state terms v).written + 1 ≡ length (caller_state terms v).writes →
       KeepsLaw (holds terms.law.value) terms.shape.objects
-      (entry_of terms.shape terms.start.value.items (event ∷ log) (state_of terms v))
+      (entry_of terms.shape terms.start.value.items (event ∷ log) (caller_state terms v))
 
   -- a store that puts a new value keeps the law, whatever is found
   abbrev pub StoresLawfully : (L → List Val → Type 0) → Terms L → View L → Kind → ℕ → ℕ → Type 0

@@ -3,13 +3,13 @@ use Rattle.std.specs.Prelude.{◌≡◌, ◌≢◌, ℕ, List, [], ◌∷◌, �
 use Rattle.dstm_core.specs.Events.{Event}
 use Rattle.dstm_core.specs.declared.event.Kind.{Kind}
 use Rattle.dstm_core.specs.Histories.{CoreRun}
-use Rattle.dstm_core.specs.Traces.{Access, events_of}
+use Rattle.dstm_core.specs.Traces.{Access, IsPastOf, events_of}
 use Rattle.dstm_core.specs.Words.{IsValid}
 use Rattle.dstm_model.specs.declared.value.Val.{Val}
 use Rattle.dstm_words.specs.declared.view.Old.{Old}
 use Rattle.dstm_words.specs.declared.view.Terms.{Terms}
 use Rattle.dstm_words.specs.declared.view.View.{View}
-use Rattle.dstm_words.specs.Logs.{IsPastOf, event_by}
+use Rattle.dstm_words.specs.Logs.{event_by}
 use Rattle.dstm_words.specs.Views.{number_or, events_by, moved, met, joined}
 
 -- no number stands twice in a list

@@ -1,7 +1,7 @@
 ghost use Rattle.std.specs.Prelude.{◌≡◌, ◌≢◌, ◌<◌, ◌≤◌, [], ◌∷◌, Some, true};
 ghost use Rattle.dstm_core.specs.State.{first};
 ghost use Rattle.dstm_core.specs.Words.{IsValid};
-ghost use Rattle.dstm_words.specs.Seats.{view_of, state_of, CanEnrol, IsOf, IsOut};
+ghost use Rattle.dstm_words.specs.Seats.{view_of, caller_state, CanEnrol, IsOf, IsOut};
 
 use super::*;
 use dstm_core::{Kind, Manager, Shape, Status};
@@ -22,7 +22,7 @@ fn enrol<L: Law>(words: &Words<L>, shape: &Shape, seat: &mut CoreSeat<L>) -> u64
     requires new { CanEnrol (view_of seat.old) }
     ensures seat { IsOf words.now seat.new }
     ensures number { result < shape.now.callers }
-    ensures state { state_of words.now.terms (view_of seat.new) ≡ record first { number = Some result } }
+    ensures state { caller_state words.now.terms (view_of seat.new) ≡ record first { number = Some result } }
     ensures named { (view_of seat.new).number ≡ Some result }
     ensures numbers { (view_of seat.new).numbers ≡ result ∷ (view_of seat.old).numbers }
     ensures kept { IsOut (view_of seat.old) → IsOut (view_of seat.new) }
@@ -36,7 +36,7 @@ fn try_once<L: Law>(words: &Words<L>, shape: &Shape, seat: &mut CoreSeat<L>, num
     requires polite { (shape.now.manager ≡ Manager.Polite) × (0 < shape.now.objects) }
     requires seat { IsOf words.now seat.old }
     requires number { number < shape.now.callers }
-    requires state { state_of words.now.terms (view_of seat.old) ≡ record first { number = Some number } }
+    requires state { caller_state words.now.terms (view_of seat.old) ≡ record first { number = Some number } }
     requires named { (view_of seat.old).number ≡ Some number }
     ensures seat { IsOf words.now seat.new }
     ensures numbers { (view_of seat.new).numbers ≡ (view_of seat.old).numbers }

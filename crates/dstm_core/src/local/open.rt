@@ -15,8 +15,8 @@ ghost use Rattle.std.specs.Prelude.{
 };
 ghost use Rattle.dstm_core.specs.declared.state.Phase.TheVariants.{Running};
 ghost use Rattle.dstm_core.specs.declared.event.Kind.TheVariants.{PutOwner, PutOld, Install};
-ghost use Rattle.dstm_core.specs.State.{res, own_attempt, is_resolved};
-ghost use Rattle.dstm_core.specs.Tracking.{Allows, moved, with_locator};
+ghost use Rattle.dstm_core.specs.State.{res, own_attempt, is_resolved, with_locator};
+ghost use Rattle.dstm_core.specs.Local.{Allows, caller_after};
 
 use super::Local;
 use crate::event::Event;
@@ -27,7 +27,7 @@ use std::alloc::AllocError;
 impl Local {
     pub(super) fn put_owner(&mut self, event: &Event) -> bool
         ensures allowed { IsTrue result ↔ Allows PutOwner self.old event.now }
-        ensures moved { self.new ≡ (if result then moved PutOwner self.old event.now else self.old) }
+        ensures after { self.new ≡ (if result then caller_after PutOwner self.old event.now else self.old) }
     {
         let may = self.runs() && self.installed < self.shape.locators.into();
         if !(may
@@ -44,7 +44,7 @@ impl Local {
 
     pub(super) fn put_old(&mut self, event: &Event) -> bool
         ensures allowed { IsTrue result ↔ Allows PutOld self.old event.now }
-        ensures moved { self.new ≡ (if result then moved PutOld self.old event.now else self.old) }
+        ensures after { self.new ≡ (if result then caller_after PutOld self.old event.now else self.old) }
     {
         let version = self.found_out().version().unwrap_or(0);
         if !(self.may_link()
@@ -61,7 +61,7 @@ impl Local {
 
     pub(super) fn install(&mut self, event: &Event) -> Result<bool, AllocError>
         ensures allowed { IfOk result (λ yes. IsTrue yes ↔ Allows Install self.old event.now) }
-        ensures moved { IfOk result (λ yes. self.new ≡ (if yes then moved Install self.old event.now else self.old)) }
+        ensures after { IfOk result (λ yes. self.new ≡ (if yes then caller_after Install self.old event.now else self.old)) }
         ensures same { OnErr result (self.new ≡ self.old) }
     {
         let seen = self.found_out();

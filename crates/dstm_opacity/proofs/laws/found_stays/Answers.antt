@@ -2,4 +2,4 @@ use Rattle.dstm_opacity.proofs.Found.{found_stays}
 use Rattle.dstm_opacity.proofs.laws.found_stays.Goals as goal
 
 pub returns : goal.returns
-returns g c = λ law shape start later before look run. found_stays shape start later before look run.core
+returns c = λ shape start later before look core. found_stays shape start later before look core

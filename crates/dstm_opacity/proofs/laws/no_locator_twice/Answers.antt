@@ -1,6 +1,6 @@
 use Rattle.std.proofs.Common.{sym, ◌∷◌, ◌++◌}
 use Rattle.dstm_core.proofs.Locators.{no_locator_twice}
-use Rattle.dstm_core.proofs.Statuses.{core_past}
+use Rattle.dstm_core.proofs.Pasts.{core_past}
 use Rattle.dstm_opacity.proofs.laws.no_locator_twice.Goals as goal
 
 pub returns : goal.returns

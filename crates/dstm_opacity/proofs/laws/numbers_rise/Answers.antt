@@ -1,5 +1,5 @@
 use Rattle.std.proofs.Common.{◌∷◌, ◌++◌}
-use Rattle.dstm_core.proofs.Statuses.{core_past}
+use Rattle.dstm_core.proofs.Pasts.{core_past}
 use Rattle.dstm_opacity.proofs.Numbers.{numbers_rise}
 use Rattle.dstm_opacity.proofs.laws.numbers_rise.Goals as goal
 

@@ -5,7 +5,7 @@ use Rattle.dstm_core.specs.Rules.{AllowedAs, after}
 use Rattle.dstm_core.specs.State.{LocalState, first}
 use Rattle.dstm_runs.specs.Traces.Access.{Load, Store, Exchange}
 use Rattle.dstm_core.proofs.Columns.{in_table}
-use Rattle.dstm_words.specs.Seats.{state_of}
+use Rattle.dstm_words.specs.Seats.{caller_state}
 use Rattle.dstm_words.specs.Steps.{made}
 use Rattle.dstm_words.proofs.Seats.{state_after}
 use Rattle.dstm_words.proofs.tests.try_once.Goals as goal
@@ -21,10 +21,10 @@ exchange-status-requires-clause-allowed g c found below =
     let enrolled : LocalState = record first { number = Some c.args.number } in
     let begin : Event = made v (Store active) Begin place c.store.ensures.event.0 in
     let look : Event = made begun Load LookObj c.object.result c.load-word.result in
-    let running : state_of terms begun ≡ after Begin terms.shape enrolled begin =
+    let running : caller_state terms begun ≡ after Begin terms.shape enrolled begin =
     state_after g.L.Law.holds terms v begun (Store active) Begin place _ c.store.ensures.event.1
     ∙ ap (λ l. after Begin terms.shape l begin) c.requires.state in
-    let now : state_of terms looked ≡ after LookObj terms.shape (after Begin terms.shape enrolled begin) look =
+    let now : caller_state terms looked ≡ after LookObj terms.shape (after Begin terms.shape enrolled begin) look =
     state_after g.L.Law.holds terms begun looked Load LookObj c.object.result _ c.load-word.ensures.event
     ∙ ap (λ l. after LookObj terms.shape l look) running in
     let quit : Event = made looked (Exchange active c.code-aborted.result) Quit place found in

@@ -1,7 +1,7 @@
 use Rattle.std.proofs.Common.{◌≡◌, sym, refl, subst, length, ℕ, Some, None, arith}
 use Rattle.dstm_core.specs.Indexed.{reads_at}
 use Rattle.dstm_core.specs.State.{read_of}
-use Rattle.dstm_core.specs.Tracking.{Checklist}
+use Rattle.dstm_core.specs.Reads.{Checklist}
 use Rattle.dstm_core.proofs.Indexing.{Gives, free, indexed_more, indexed_push, put_last, put_back, same_list, err_any}
 use Rattle.dstm_core.proofs.Reading.{reads_old, reads_more, count-push}
 use Rattle.dstm_core.proofs.reads.Reads.push.Goals as goal

@@ -1,0 +1,16 @@
+-- What stands before some events of a core run is a core run.
+use Rattle.std.proofs.Common.{◌++◌, List}
+use Rattle.dstm_runs.proofs.Pasts.{run_before}
+use Rattle.dstm_runs.proofs.Runs as runs
+use Rattle.dstm_core.specs.declared.shape.Shape.{Shape}
+use Rattle.dstm_core.specs.Events.{Event}
+use Rattle.dstm_core.specs.Runs.{Core, core as machine}
+use Rattle.dstm_core.specs.Traces.{IsPastOf}
+
+-- by the events that follow
+pub core_past : (s : Shape) (more es : List Event) → Core s (more ++ es) → Core s es
+core_past = runs.run_past machine
+
+-- by a past
+pub core_before : (s : Shape) (q es : List Event) → IsPastOf q es → Core s es → Core s q
+core_before = run_before machine

@@ -1,0 +1,22 @@
+-- A caller as the code keeps it: with the shape of its table.
+use Rattle.dstm_core.specs.Events.{Event}
+use Rattle.dstm_core.specs.declared.event.Kind.{Kind}
+use Rattle.dstm_core.specs.declared.shape.Shape.{Shape}
+use Rattle.dstm_core.specs.Rules.{after, AllowedAs}
+use Rattle.dstm_core.specs.State.{LocalState}
+
+-- a caller of a table of this shape
+pub record Tracked : Type 0 where
+  pub shape : Shape
+  pub state : LocalState
+
+-- the rules allow the caller this event
+abbrev pub Allows : Kind → Tracked → Event → Type 0
+Allows kind caller event = AllowedAs kind caller.shape caller.state event
+
+-- the caller after the event
+abbrev pub caller_after : Kind → Tracked → Event → Tracked
+caller_after kind caller event = record {
+  shape = caller.shape;
+  state = after kind caller.shape caller.state event;
+}
