@@ -1,0 +1,141 @@
+-- Ranks of attempts are at most the greatest one, under the managers where they rise.
+use Rattle.std.proofs.Common.{◌*◌, ◌<◌, ◌==◌, ◌∙◌, ◌∷◌, ◌≡◌, ◌≤◌, ◌⊎◌, List, Option, None, Some, [], ap, arith, false, inl, inr, refl, sym, true, ℕ}
+use Rattle.std.proofs.lemmas.Bool.{cond_both}
+use Rattle.dstm_core.specs.Rules.{AllowedAs, MayRank, Rises, after}
+use Rattle.dstm_core.specs.Runs.{Core, local}
+use Rattle.dstm_core.specs.State.{LocalState, given, is_resolved, keep_resolved, or_unresolved, or_zero, res}
+use Rattle.dstm_core.specs.Traces.{at, word}
+use Rattle.dstm_core.specs.Words.Word.{RankWord}
+use Rattle.dstm_core.specs.Events.{Event}
+use Rattle.dstm_core.specs.declared.event.Kind.{Kind}
+use Rattle.dstm_core.specs.declared.event.Kind.TheVariants.{Begin, Install, Kill, LookHigh, LookNew, LookNumber, LookObj, LookOld, LookOwner, LookRank, LookSelf, LookStatus, Pause, Rank, Release, Resume, Stamp, Validating as ToValidating}
+use Rattle.dstm_core.specs.declared.shape.Manager.{Manager}
+use Rattle.dstm_core.specs.declared.shape.Manager.TheVariants.{Greedy, Karma, Polka, Polite}
+use Rattle.dstm_core.specs.declared.shape.Shape.{Shape}
+use Rattle.dstm_core.specs.declared.shape.TheConstants.{MAX_RANK}
+use Rattle.dstm_core.specs.declared.state.Phase.{Phase}
+use Rattle.dstm_core.specs.declared.state.Phase.TheVariants.{Outside, Running}
+use Rattle.dstm_core.specs.declared.state.Resolution.{Resolution}
+use Rattle.dstm_core.proofs.Columns.{Same, step}
+use Rattle.dstm_core.proofs.Static.{callers}
+use Rattle.dstm_managers.specs.Meetings.{IsRank}
+use Rattle.dstm_progress.proofs.Ranks.{RankPut, StampHow, at_begin, at_enrol, at_other, at_rank, at_stamp, ranks, stamp_how}
+
+-- a rank that was found is small
+abbrev pub FoundSmall : Option Resolution → Type 0
+FoundSmall None = Unit {0}
+FoundSmall (Some r) = or_zero r.rank ≤ MAX_RANK
+
+-- all ranks of a run are
+pub record AreSmall (s : Shape) (es : List Event) : Type 0 where
+  pub words : (a : ℕ) → a < s.callers * s.attempts → word s es (RankWord a) ≤ MAX_RANK
+  pub own : (c : ℕ) → (local s es c).rank ≤ MAX_RANK
+  pub found : (c : ℕ) → FoundSmall (local s es c).resolution
+
+greedy_not : (s : Shape) → Rises s.manager → s.manager ≡ Greedy → ⊥
+greedy_not s (inl k) q = cc
+greedy_not s (inr k) q = cc
+
+-- what a Rank stores is small
+rank_put : (s : Shape) (l : LocalState) (e : Event) (p : Phase) → Rises s.manager → l.rank ≤ MAX_RANK →
+    MayRank p s l e.put → e.put ≤ MAX_RANK
+rank_put s l e Outside g h a = go a.2
+  where
+    go : (Rises s.manager × ((e.put ≡ 0) ⊎ ((l.committed ≡ false) × (e.put ≡ l.rank))))
+        ⊎ ((s.manager ≡ Greedy) × (e.put ≡ l.rank) × (l.stands ≡ true)) → e.put ≤ MAX_RANK
+    go (inl x) = first x.1
+      where
+        first : (e.put ≡ 0) ⊎ ((l.committed ≡ false) × (e.put ≡ l.rank)) → e.put ≤ MAX_RANK
+        first (inl y) = omega arith
+        first (inr y) = let z = y.1 in omega arith
+    go (inr x) = absurd (greedy_not s g x.0)
+rank_put s l e Running g h a = let x = a.3 in omega arith
+rank_put s l e p g h a = absurd a
+
+rank_stored : (s : Shape) (l : LocalState) (e : Event) (k : Kind) → k ≡ Rank → Rises s.manager →
+    l.rank ≤ MAX_RANK → AllowedAs k s l e → e.put ≤ MAX_RANK
+rank_stored s l e Rank q g h a = rank_put s l e l.phase g h a.2
+rank_stored s l e k q g h a = absurd (cc)
+
+stamp_greedy : (s : Shape) (l : LocalState) (e : Event) (k : Kind) → k ≡ Stamp → AllowedAs k s l e →
+    s.manager ≡ Greedy
+stamp_greedy s l e Stamp q a = a.2.2
+stamp_greedy s l e k q a = absurd (cc)
+
+own_small : (s : Shape) (l : LocalState) (e : Event) (k : Kind) → Rises s.manager → AllowedAs k s l e →
+    l.rank ≤ MAX_RANK → StampHow s l e k → (after k s l e).rank ≤ MAX_RANK
+own_small s l e k g a h (at_enrol q n rd st rk ph) = rw rk h
+own_small s l e k g a h (at_stamp q rd st rk ph) = absurd (greedy_not s g (stamp_greedy s l e k q a))
+own_small s l e k g a h (at_rank q st rk ph n b) = rw rk (rank_stored s l e k q g h a)
+own_small s l e k g a h (at_begin q r rd st rk) = rw rk h
+own_small s l e k g a h (at_other b r t rd rk n be st inside out) = rw rk h
+
+small_res : (r : Option Resolution) → FoundSmall r → or_zero (or_unresolved r).rank ≤ MAX_RANK
+small_res None h = omega arith
+small_res (Some r) h = h
+
+small_kept : (r : Option Resolution) → FoundSmall r → FoundSmall (keep_resolved r)
+small_kept None h = tt
+small_kept (Some r) h = cond_both (is_resolved r) (Some r) None FoundSmall (λ _. h) (λ _. tt)
+
+found_small : (s : Shape) (es : List Event) (l : LocalState) (e : Event) (k : Kind) → AllowedAs k s l e →
+    e.found ≡ at es e.place → ((a : ℕ) → a < s.callers * s.attempts → word s es (RankWord a) ≤ MAX_RANK) →
+    FoundSmall l.resolution → FoundSmall (after k s l e).resolution
+found_small s es l e Begin a f w h = tt
+found_small s es l e LookObj a f w h = omega arith
+found_small s es l e LookOwner a f w h = small_res l.resolution h
+found_small s es l e LookStatus a f w h = small_res l.resolution h
+found_small s es l e LookRank a f w h =
+    let x = w (or_zero (res l).owner) a.3 in let y : e.found ≡ word s es (RankWord (or_zero (res l).owner)) =
+    f ∙ ap (at es) a.0 in rw y x
+found_small s es l e LookOld a f w h = small_res l.resolution h
+found_small s es l e LookHigh a f w h = small_res l.resolution h
+found_small s es l e LookNew a f w h = small_res l.resolution h
+found_small s es l e Kill a f w h = small_res l.resolution h
+found_small s es l e Install a f w h =
+    cond_both (e.found == e.expected) _ _ (λ (m : LocalState). FoundSmall m.resolution) (λ _. tt) (λ _. tt)
+found_small s es l e LookNumber a f w h = small_kept l.resolution h
+found_small s es l e LookSelf a f w h =
+    cond_both (e.found == given l.phase) _ _ (λ (m : LocalState). FoundSmall m.resolution) (λ _. h) (λ _. h)
+found_small s es l e ToValidating a f w h =
+    cond_both (e.found == 1) _ _ (λ (m : LocalState). FoundSmall m.resolution) (λ _. h) (λ _. h)
+found_small s es l e Pause a f w h =
+    cond_both (e.found == 1) _ _ (λ (m : LocalState). FoundSmall m.resolution) (λ _. h) (λ _. h)
+found_small s es l e Resume a f w h =
+    cond_both (e.found == 2) _ _ (λ (m : LocalState). FoundSmall m.resolution) (λ _. h) (λ _. h)
+found_small s es l e Release a f w h = tt
+found_small s es l e k a f w h = h
+
+pub are_small : (s : Shape) (es : List Event) → Rises s.manager → Core s es → AreSmall s es
+are_small s [] g core = record { words = λ a b. omega arith; own = λ c. omega arith; found = λ c. tt }
+are_small s (e ∷ es) g core = next (are_small s es g core.0)
+  where
+    next : AreSmall s es → AreSmall s (e ∷ es)
+    next h = record {
+      words = λ a b. words a b (ranks s es e a (step s es e core) b);
+      own = callers s es e (λ c l. l.rank ≤ MAX_RANK)
+          (own_small s (local s es e.caller) e e.kind g core.1.allowed (h.own e.caller)
+          (stamp_how s (local s es e.caller) e e.kind core.1.allowed)) (λ c _. h.own c);
+      found = callers s es e (λ c l. FoundSmall l.resolution)
+          (found_small s es (local s es e.caller) e e.kind core.1.allowed core.1.linked h.words
+          (h.found e.caller))
+          (λ c _. h.found c);
+    }
+      where
+        words : (a : ℕ) → a < s.callers * s.attempts → Same s es e (RankWord a) ⊎ RankPut s es e a →
+            word s (e ∷ es) (RankWord a) ≤ MAX_RANK
+        words a b (inl x) = let y = h.words a b in omega arith
+        words a b (inr x) =
+            let y = rank_stored s (local s es e.caller) e e.kind x.kind g (h.own e.caller) core.1.allowed in
+            let z = x.now in omega arith
+
+-- a rank that was found is one that an attempt can have
+pub found_is_rank : (s : Shape) (es : List Event) → Core s es → (c : ℕ) →
+    IsRank s.manager (or_zero (res (local s es c)).rank)
+found_is_rank s es core c = go s.manager refl
+  where
+    go : (m : Manager) → m ≡ s.manager → IsRank m (or_zero (res (local s es c)).rank)
+    go Polite q = tt
+    go Greedy q = tt
+    go Karma q = small_res (local s es c).resolution ((are_small s es (inl (sym q)) core).found c)
+    go Polka q = small_res (local s es c).resolution ((are_small s es (inr (sym q)) core).found c)
