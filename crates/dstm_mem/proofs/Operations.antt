@@ -1,9 +1,10 @@
 -- Operations one after the other on the same memory.
-use Rattle.std.proofs.Common.{refl, ◌∙◌, ap, subst, inl, inr, sym, IsTrue}
-use Rattle.std.specs.Prelude.{List, Ok, Err, IsSome}
+use Rattle.std.proofs.Common.{ℕ, refl, ◌∙◌, ap, subst, inl, inr, sym, IsTrue}
+use Rattle.std.specs.Prelude.{List, Result, Ok, Err, OnOk, IfOk, IsSome}
 use Rattle.dstm_model.specs.declared.value.Val.{Val}
 use Rattle.dstm_mem.specs.declared.memory.Mem.{Ghosts}
-use Rattle.dstm_mem.specs.Operations.{Leads, OnlyReads, OpensToSet}
+use Rattle.dstm_mem.specs.Memory.{with_set}
+use Rattle.dstm_mem.specs.Operations.{IsReady, Leads, OnlyReads, OpensToSet}
 
 module _ {S E : Type 0} (M : Ghosts S E) where
   -- what a live memory with a map is without any call
@@ -84,3 +85,18 @@ module _ {S E : Type 0} (M : Ghosts S E) where
               ]
         ];
   }
+
+  -- an operation after which each map stands for something again leaves the memory ready for the next
+  pub ready-after : {A B : Type 0} (n : ℕ) (P : List Val → A → Type 0) (old new : S) (r : Result B E) →
+      IsReady M n P old → Leads M old new r →
+      IfOk r (λ x. (map : List Val) → M.Admits new map → (a : A) → P (with_set map (M.written old)) a →
+          (b : A) × P (with_set map (M.written new)) b) →
+      OnOk r (IsReady M n P new)
+  ready-after n P old new (Ok x) ready leads stands = record {
+    objects = leads.objects ∙ ready.objects;
+    live = leads.live;
+    lawful = λ map admitted.
+        let (a, is) = ready.lawful map (leads.narrows map admitted) in
+        stands map admitted a is;
+  }
+  ready-after n P old new (Err e) ready leads stands = tt
