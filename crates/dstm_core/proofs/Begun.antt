@@ -22,12 +22,14 @@ use Rattle.dstm_core.proofs.Statuses.{begin_may, begin_put, next_number}
 pub begun_how : (s : Shape) (l : LocalState) (e : Event) (k : Kind) →
     ((k ≡ Begin) × ((after k s l e).begun ≡ l.begun + 1)) ⊎ ((k ≢ Begin) × ((after k s l e).begun ≡ l.begun))
 begun_how s l e Begin = inl (refl, refl)
-begun_how s l e Install = inr
-    ((λ q. cc),
-    cond_both (e.found == e.expected) _ _ (λ (m : LocalState). m.begun ≡ l.begun) (λ _. refl) (λ _. refl))
-begun_how s l e LookSelf = inr
-    ((λ q. cc),
-    cond_both (e.found == given l.phase) _ _ (λ (m : LocalState). m.begun ≡ l.begun) (λ _. refl) (λ _. refl))
+begun_how s l e Install = inr (
+  (λ q. cc),
+  cond_both (e.found == e.expected) _ _ (λ (m : LocalState). m.begun ≡ l.begun) (λ _. refl) (λ _. refl),
+)
+begun_how s l e LookSelf = inr (
+  (λ q. cc),
+  cond_both (e.found == given l.phase) _ _ (λ (m : LocalState). m.begun ≡ l.begun) (λ _. refl) (λ _. refl),
+)
 begun_how s l e ToValidating = inr
     ((λ q. cc), cond_both (e.found == 1) _ _ (λ (m : LocalState). m.begun ≡ l.begun) (λ _. refl) (λ _. refl))
 begun_how s l e Pause = inr

@@ -1,5 +1,5 @@
 -- Who has a number: a caller enrols first, and makes no other event on the word that counts the callers.
-use Rattle.std.proofs.Common.{◌+◌, ◌∙◌, ◌≡◌, ◌≢◌, ◌==◌, ◌⊎◌, ◌∷◌, ℕ, inl, inr, List, [], refl, ap, arith, sym, true, false, is_some, None}
+use Rattle.std.proofs.Common.{◌+◌, ◌∙◌, ◌≡◌, ◌≢◌, ◌==◌, ◌⊎◌, ℕ, inl, inr, refl, ap, arith, sym, true, false, is_some, None}
 use Rattle.std.proofs.lemmas.Bool.{cond_both, cases_Bool}
 use Rattle.dstm_core.specs.Events.{Event}
 use Rattle.dstm_core.specs.declared.event.Kind.{Kind}
@@ -8,9 +8,7 @@ use Rattle.dstm_core.specs.declared.state.Phase.{Phase}
 use Rattle.dstm_core.specs.declared.state.Phase.TheVariants.{Outside}
 use Rattle.dstm_core.specs.declared.shape.Shape.{Shape}
 use Rattle.dstm_core.specs.Rules.{MayRank, after, target, AllowedAs}
-use Rattle.dstm_core.specs.Runs.{local}
 use Rattle.dstm_core.specs.State.{LocalState, first, given}
-use Rattle.dstm_core.specs.Traces.{events_of}
 use Rattle.dstm_core.specs.Words.{place}
 use Rattle.dstm_core.specs.Words.Word.{CallersWord}
 use Rattle.dstm_core.proofs.Places.{same_place}

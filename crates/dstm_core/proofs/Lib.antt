@@ -21,3 +21,7 @@ pub mod Begun
 pub mod Underway
 pub mod Stamps
 pub mod SmallRanks
+pub mod Counted
+pub mod Spare
+pub mod LeftWords
+pub mod PutOnce

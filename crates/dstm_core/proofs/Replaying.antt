@@ -1,5 +1,5 @@
 -- The first event that breaks a run is one alone, and there is none in a core run.
-use Rattle.std.proofs.Common.{IsTrue, Bool, true, false, ◌≡◌, ◌+◌, ◌<◌, ◌≤◌, ◌↔◌, ◌⊎◌, ◌++◌, ◌∙◌, ℕ, List, [], ◌∷◌, length, take, drop, reverse, get_or, inl, inr, ap, sym, subst, arith}
+use Rattle.std.proofs.Common.{Bool, true, false, ◌≡◌, ◌+◌, ◌<◌, ◌≤◌, ◌↔◌, ◌⊎◌, ◌++◌, ◌∙◌, ℕ, List, [], ◌∷◌, length, take, drop, reverse, get_or, inl, inr, ap, sym, subst, arith}
 use Rattle.std.proofs.lemmas.Grind.{common_steps}
 use Rattle.std.proofs.lemmas.List.{reverse-append, take-append-drop}
 use Rattle.std.proofs.Math.Seq.{take-suc}
@@ -8,7 +8,7 @@ use Rattle.dstm_core.specs.declared.shape.Shape.{Shape}
 use Rattle.dstm_core.specs.declared.verdict.Replay.TheVariants.{Run, Broken}
 use Rattle.dstm_core.specs.Replays.{IsFirstBroken, Stands, Judged}
 use Rattle.dstm_core.specs.Local.{Tracked}
-use Rattle.dstm_core.specs.Runs.{Core, Fits}
+use Rattle.dstm_core.specs.Runs.{Core}
 use Rattle.dstm_core.proofs.Pasts.{core_past}
 
 -- one event more, and the log has it as its newest

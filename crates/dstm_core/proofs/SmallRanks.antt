@@ -1,5 +1,5 @@
 -- Ranks are small under the managers where they rise.
-use Rattle.std.proofs.Common.{◌*◌, ◌<◌, ◌==◌, ◌∙◌, ◌∷◌, ◌≡◌, ◌≤◌, ◌⊎◌, List, Option, None, Some, [], ap, arith, false, inl, inr, refl, sym, true, ℕ}
+use Rattle.std.proofs.Common.{◌*◌, ◌<◌, ◌==◌, ◌∙◌, ◌∷◌, ◌≡◌, ◌≤◌, ◌⊎◌, List, Option, None, Some, [], ap, arith, false, inl, inr, true, ℕ}
 use Rattle.std.proofs.lemmas.Bool.{cond_both}
 use Rattle.dstm_core.specs.Events.{Event}
 use Rattle.dstm_core.specs.Rules.{AllowedAs, MayRank, Rises, after}
@@ -8,7 +8,7 @@ use Rattle.dstm_core.specs.State.{LocalState, given, is_resolved, keep_resolved,
 use Rattle.dstm_core.specs.Traces.{at, word}
 use Rattle.dstm_core.specs.Words.Word.{RankWord}
 use Rattle.dstm_core.specs.declared.event.Kind.{Kind}
-use Rattle.dstm_core.specs.declared.event.Kind.TheVariants.{Begin, Install, Kill, LookHigh, LookNew, LookNumber, LookObj, LookOld, LookOwner, LookRank, LookSelf, LookStatus, Pause, Rank, Release, Resume, Stamp, Validating as ToValidating}
+use Rattle.dstm_core.specs.declared.event.Kind.TheVariants.{Begin, Install, Kill, LookHigh, LookNew, LookNumber, LookObj, LookOld, LookOwner, LookRank, LookSelf, LookStatus, Pause, Rank, Release, Resume, Validating as ToValidating}
 use Rattle.dstm_core.specs.declared.shape.Manager.TheVariants.{Greedy}
 use Rattle.dstm_core.specs.declared.shape.Shape.{Shape}
 use Rattle.dstm_core.specs.declared.shape.TheConstants.{MAX_RANK}

@@ -1,11 +1,11 @@
 -- Stamps and ranks: how a caller's state changes in what is about its stamp, which stamps stand, and what the rank
 -- words hold.
-use Rattle.std.proofs.Common.{Bool, ◌%◌, ◌*◌, ◌+◌, ◌-◌, ◌/◌, ◌<◌, ◌==◌, ◌∙◌, ◌∷◌, ◌≡◌, ◌≢◌, ◌≤◌, ◌⊎◌, List, None, Some, [], ap, arith, false, inl, inr, is_some, length, refl, subst, sym, true, ℕ}
-use Rattle.std.proofs.lemmas.Bool.{cases_Bool, cases_eq, cond_both}
+use Rattle.std.proofs.Common.{◌*◌, ◌+◌, ◌-◌, ◌/◌, ◌<◌, ◌==◌, ◌∙◌, ◌∷◌, ◌≡◌, ◌≢◌, ◌≤◌, ◌⊎◌, List, None, [], ap, arith, false, inl, inr, is_some, length, refl, sym, true, ℕ}
+use Rattle.std.proofs.lemmas.Bool.{cases_Bool, cond_both}
 use Rattle.dstm_core.specs.Events.{Event}
-use Rattle.dstm_core.specs.Rules.{AllowedAs, MayRank, after, is_outside, rank_of, target}
+use Rattle.dstm_core.specs.Rules.{AllowedAs, MayRank, after, is_outside, rank_of}
 use Rattle.dstm_core.specs.Runs.{Core, local}
-use Rattle.dstm_core.specs.State.{LocalState, given, next_attempt, own_attempt}
+use Rattle.dstm_core.specs.State.{LocalState, given, own_attempt}
 use Rattle.dstm_core.specs.Traces.{at, word}
 use Rattle.dstm_core.specs.Words.{place}
 use Rattle.dstm_core.specs.Words.Word.{RankWord, StampsWord}
@@ -16,10 +16,10 @@ use Rattle.dstm_core.specs.declared.shape.Shape.{Shape}
 use Rattle.dstm_core.specs.declared.state.Phase.{Phase}
 use Rattle.dstm_core.specs.declared.state.Phase.TheVariants.{Outside, Running, Putting}
 use Rattle.dstm_core.proofs.Basic.{own_place}
-use Rattle.dstm_core.proofs.Columns.{Begun, RankPut, Same, Step, caller_of, in_table, index_of, ranks, stamps, step}
+use Rattle.dstm_core.proofs.Columns.{RankPut, Same, Step, caller_of, in_table, ranks, stamps, step}
 use Rattle.dstm_core.proofs.Places.{put_at}
-use Rattle.dstm_core.proofs.Static.{Static, callers, running, static}
-use Rattle.dstm_core.proofs.Statuses.{next_number}
+use Rattle.dstm_core.proofs.Static.{callers, running, static}
+use Rattle.dstm_core.proofs.Statuses.{begun_up, next_number}
 
 -- ---- Greedy's own kinds
 
@@ -65,10 +65,6 @@ pub stamp_may : (s : Shape) (l : LocalState) (e : Event) (k : Kind) → k ≡ St
     (l.phase ≡ Outside) × (e.place ≡ place s StampsWord) × (e.put ≡ e.found + 1)
 stamp_may s l e Stamp q a = (a.2.0, a.0, a.1.1)
 stamp_may s l e k q a = absurd (cc)
-
-begin_up : (s : Shape) (l : LocalState) (e : Event) (k : Kind) → k ≡ Begin → (after k s l e).begun ≡ l.begun + 1
-begin_up s l e Begin q = refl
-begin_up s l e k q = absurd (cc)
 
 -- how the part of a caller's state changes that is about its stamp
 pub data StampHow (s : Shape) (l : LocalState) (e : Event) (k : Kind) : Type 0 where
@@ -466,7 +462,7 @@ stored_own s es e g core (at_begin k r rd st rk) h = record {
   first = λ q. absurd (cc);
   own = λ q.
       let n : (after e.kind s (local s es e.caller) e).begun - 1 ≡ (local s es e.caller).begun =
-      let up = begin_up s (local s es e.caller) e e.kind k in omega arith in
+      let up = begun_up s (local s es e.caller) e e.kind k in omega arith in
       rw (n, rk)
       ((stored_stays s es e e.caller core core.1.caller (inr (λ z. cc)) h).first (go r));
 }

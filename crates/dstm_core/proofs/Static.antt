@@ -1,7 +1,7 @@
 -- What holds of a caller's state, whatever the others do.
-use Rattle.std.proofs.Common.{Bool, ◌≡◌, ◌≢◌, ◌+◌, ◌-◌, ◌*◌, ◌<◌, ◌≤◌, ◌==◌, ◌⊎◌, ◌∷◌, ◌++◌, ℕ, inl, inr, List, [], refl, ap, arith, sym, true, Option, Some, None, is_some, suc, zero, length, subst, length-append, slice_get}
+use Rattle.std.proofs.Common.{Bool, ◌≡◌, ◌≢◌, ◌+◌, ◌-◌, ◌*◌, ◌<◌, ◌≤◌, ◌==◌, ◌⊎◌, ◌∷◌, ◌++◌, ℕ, inl, inr, List, [], refl, ap, arith, true, Option, Some, None, is_some, suc, zero, length, subst, length-append, slice_get}
 use Rattle.std.proofs.lemmas.Bool.Decides.{nat_tests}
-use Rattle.std.proofs.lemmas.Bool.{cond_both, eqb-true, eq-eqb, ne_eqb, cases_eq}
+use Rattle.std.proofs.lemmas.Bool.{cond_both, eqb-true, eq-eqb}
 use Rattle.dstm_core.specs.declared.event.Kind.TheVariants.{Enrol, Begin, LookObj, LookOwner, LookStatus, LookOld, LookNew, PutOwner, PutOld, Install, LookNumber, LookSelf, PutNew, Draw, Commit, Kill, Quit, LookRank, Pause, Resume, LookHigh, PutHigh, Release, Validating as ToValidating}
 use Rattle.dstm_core.specs.declared.state.Phase.TheVariants.{Outside, Running, Paused, Validating, Drawn}
 use Rattle.dstm_core.specs.declared.state.Phase.{Phase}

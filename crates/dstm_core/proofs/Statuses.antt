@@ -31,7 +31,7 @@ pub begin_may : (s : Shape) (l : LocalState) (e : Event) (k : Kind) → k ≡ Be
 begin_may s l e Begin q a = (a.2.0, a.2.1, a.2.2)
 begin_may s l e k q a = absurd (cc)
 
-begun_up : (s : Shape) (l : LocalState) (e : Event) (k : Kind) → k ≡ Begin → (after k s l e).begun ≡ l.begun + 1
+pub begun_up : (s : Shape) (l : LocalState) (e : Event) (k : Kind) → k ≡ Begin → (after k s l e).begun ≡ l.begun + 1
 begun_up s l e Begin q = refl
 begun_up s l e k q = absurd (cc)
 

@@ -27,7 +27,7 @@ settled_by p l = l.installed - length l.writes + l.written
 abbrev pub settled : LocalState → ℕ
 settled l = settled_by l.phase l
 
-settled_in : (p : Phase) (l : LocalState) → p ≢ Outside →
+pub settled_in : (p : Phase) (l : LocalState) → p ≢ Outside →
     settled_by p l ≡ l.installed - length l.writes + l.written
 settled_in Outside l h = absurd (h refl)
 settled_in p l h = refl
@@ -116,7 +116,7 @@ settled_step s c l e Commit t a = settled_out s c l (after Commit s l e) t refl 
 settled_step s c l e Quit t a = settled_out s c l (after Quit s l e) t refl refl
 settled_step s c l e k t a = settled_same l (after k s l e) refl refl refl refl
 
-settled_later : (s : Shape) (more es : List Event) (c : ℕ) → Core s (more ++ es) →
+pub settled_later : (s : Shape) (more es : List Event) (c : ℕ) → Core s (more ++ es) →
     settled (local s es c) ≤ settled (local s (more ++ es) c)
 settled_later s [] es c core = omega arith
 settled_later s (e ∷ more) es c core = let a = settled_later s more es c core.0 in
@@ -125,7 +125,7 @@ settled_later s (e ∷ more) es c core = let a = settled_later s more es c core.
     (static s (more ++ es) core.0 e.caller) core.1.allowed) (λ c _. omega arith) c in omega arith
 
 -- a PutNew puts the first locator that can be put, which can be put no more after it
-put_new_settles : (s : Shape) (c : ℕ) (l : LocalState) (e : Event) (k : Kind) → k ≡ PutNew → Static s c l →
+pub put_new_settles : (s : Shape) (c : ℕ) (l : LocalState) (e : Event) (k : Kind) → k ≡ PutNew → Static s c l →
     AllowedAs k s l e →
     (e.place ≡ place s (LowWord (c * s.locators + settled l))) × (settled (after k s l e) ≡ settled l + 1)
     × (settled l < s.locators)
@@ -171,7 +171,7 @@ high_settled_by p l = l.installed - length l.writes + l.written + one_if l.high_
 abbrev pub high_settled : LocalState → ℕ
 high_settled l = high_settled_by l.phase l
 
-high_in : (p : Phase) (l : LocalState) → p ≢ Outside →
+pub high_in : (p : Phase) (l : LocalState) → p ≢ Outside →
     high_settled_by p l ≡ l.installed - length l.writes + l.written + one_if l.high_put
 high_in Outside l h = absurd (h refl)
 high_in p l h = refl
@@ -267,7 +267,7 @@ high_step s c l e Commit t a = high_out s c l (after Commit s l e) t refl refl
 high_step s c l e Quit t a = high_out s c l (after Quit s l e) t refl refl
 high_step s c l e k t a = high_same l (after k s l e) refl refl refl refl refl
 
-high_later : (s : Shape) (more es : List Event) (c : ℕ) → Core s (more ++ es) →
+pub high_later : (s : Shape) (more es : List Event) (c : ℕ) → Core s (more ++ es) →
     high_settled (local s es c) ≤ high_settled (local s (more ++ es) c)
 high_later s [] es c core = omega arith
 high_later s (e ∷ more) es c core = let a = high_later s more es c core.0 in
@@ -275,7 +275,7 @@ high_later s (e ∷ more) es c core = let a = high_later s more es c core.0 in
     (high_step s e.caller (local s (more ++ es) e.caller) e e.kind
     (static s (more ++ es) core.0 e.caller) core.1.allowed) (λ c _. omega arith) c in omega arith
 
-put_high_settles : (s : Shape) (c : ℕ) (l : LocalState) (e : Event) (k : Kind) → k ≡ PutHigh → Static s c l →
+pub put_high_settles : (s : Shape) (c : ℕ) (l : LocalState) (e : Event) (k : Kind) → k ≡ PutHigh → Static s c l →
     AllowedAs k s l e →
     (e.place ≡ place s (HighWord (c * s.locators + high_settled l)))
     × (high_settled (after k s l e) ≡ high_settled l + 1) × (high_settled l < s.locators)

@@ -11,3 +11,5 @@ pub mod Reads
 pub mod Writes
 pub mod Replays
 pub mod Indexed
+pub mod Counts
+pub mod Left

@@ -11,6 +11,7 @@ use Rattle.dstm_core.specs.declared.shape.Shape.{Shape}
 use Rattle.dstm_core.specs.declared.state.Phase.TheVariants.{Running}
 use Rattle.dstm_core.proofs.Static.{begun_more, callers, local_own, static}
 use Rattle.dstm_core.specs.Traces.{IsPastOf}
+use Rattle.dstm_core.proofs.Statuses.{begun_up}
 use Rattle.dstm_opacity.proofs.Passes.{PassHow, by_check, by_look, pass_how, place_keeps, place_new, place_other}
 use Rattle.dstm_opacity.specs.Laws.{IsBeginOf}
 
@@ -41,12 +42,6 @@ before_attempt s es q b c p r less = go (pasts b q es r p)
         let y = subst (λ xs. (local s q c).begun ≤ (local s xs c).begun) x.whole (begun_later s x.later q c) in
         absurd (omega arith)
 
--- a Begin raises the count of attempts
-begin_raises : (s : Shape) (l : LocalState) (e : Event) (k : Kind) → k ≡ Begin →
-    (after k s l e).begun ≡ l.begun + 1
-begin_raises s l e Begin q = refl
-begin_raises s l e k q = absurd (cc)
-
 -- before a Begin of a caller fewer attempts of it had begun
 pub begun_before : (s : Shape) (since between b : List Event) (e : Event) (c : ℕ) → IsBeginOf c e →
     (local s b c).begun < (local s (since ++ e ∷ (between ++ b)) c).begun
@@ -56,7 +51,7 @@ begun_before s since between b e c k =
     let here : (local s (e ∷ (between ++ b)) c).begun ≡ (local s (between ++ b) c).begun + 1 =
     subst (λ n. (local s (e ∷ (between ++ b)) n).begun ≡ (local s (between ++ b) n).begun + 1) k.own
     (ap (λ (l : LocalState). l.begun) (local_own s (between ++ b) e)
-    ∙ begin_raises s (local s (between ++ b) e.caller) e e.kind k.kind) in
+    ∙ begun_up s (local s (between ++ b) e.caller) e e.kind k.kind) in
     omega arith
 
 -- a pass lies in one attempt

@@ -34,7 +34,7 @@ unnamed_reads s start run o [] h = tt
 unnamed_reads s start run o (r ∷ rs) h =
     let x = read_apart o r rs h in (x.0, unnamed_reads s start run o rs x.1)
 
-unnamed_old : (s : Shape) (start : List Val) (run : List Event) (o : ℕ) (ws : List Write) →
+pub unnamed_old : (s : Shape) (start : List Val) (run : List Event) (o : ℕ) (ws : List Write) →
     write_of o ws ≡ None → IsUnnamed o (old_values s start run ws)
 unnamed_old s start run o [] h = tt
 unnamed_old s start run o (w ∷ ws) h =
@@ -49,7 +49,7 @@ unnamed-append : (o : ℕ) (xs ys : List (ℕ × Val)) → IsUnnamed o xs → Is
 unnamed-append o [] ys h k = k
 unnamed-append o (x ∷ xs) ys h k = (h.0, unnamed-append o xs ys h.1 k)
 
-old_once : (s : Shape) (start : List Val) (run es : List Event) (own : ℕ) (ws : List Write) → WritesOnce ws →
+pub old_once : (s : Shape) (start : List Val) (run es : List Event) (own : ℕ) (ws : List Write) → WritesOnce ws →
     WritesOk s es own ws → NamesOnce s.objects (old_values s start run ws)
 old_once s start run es own [] h k = tt
 old_once s start run es own (w ∷ ws) h k =

@@ -29,7 +29,7 @@ abbrev pub HighFits : Option Resolution → Type 0
 HighFits None = Unit {0}
 HighFits (Some r) = is_some r.high ≡ true → 0 < or_zero (version r)
 
-high_of : (o : Option Resolution) → HighFits o → is_some (or_unresolved o).high ≡ true →
+pub high_of : (o : Option Resolution) → HighFits o → is_some (or_unresolved o).high ≡ true →
     0 < or_zero (version (or_unresolved o))
 high_of None h i = absurd (cc)
 high_of (Some r) h i = h i
@@ -39,7 +39,7 @@ high_kept None h = tt
 high_kept (Some r) h = cond_both (is_resolved r) (Some r) None HighFits (λ _. h) (λ _. tt)
 
 -- while the owner is not found finished no version is known but the first value
-version_unknown : (word : ℕ) (st old : Option ℕ) → or_zero st < 4 → or_zero (version_by word st old) ≡ 0
+pub version_unknown : (word : ℕ) (st old : Option ℕ) → or_zero st < 4 → or_zero (version_by word st old) ≡ 0
 version_unknown word st old h = go (cases_Bool (word == 0))
   where
     go : (word == 0 ≡ true) ⊎ (word == 0 ≡ false) → or_zero (version_by word st old) ≡ 0
@@ -47,7 +47,7 @@ version_unknown word st old h = go (cases_Bool (word == 0))
     go (inr q) = rw (q, ne_eqb (or_zero st) 4 (λ z. omega arith), ne_eqb (or_zero st) 5 (λ z. omega arith)) refl
 
 -- the version of an aborted owner's locator is the old one
-version_aborted : (word : ℕ) (st old : Option ℕ) → or_zero st ≡ 5 → 0 < or_zero (version_by word st old) →
+pub version_aborted : (word : ℕ) (st old : Option ℕ) → or_zero st ≡ 5 → 0 < or_zero (version_by word st old) →
     (word == 0 ≡ false) × (0 < or_zero old)
 version_aborted word st old h p = go (cases_Bool (word == 0))
   where
@@ -55,12 +55,16 @@ version_aborted word st old h p = go (cases_Bool (word == 0))
     go (inl q) = let z : 0 < 0 = rw q at p in absurd (omega arith)
     go (inr q) = (q, rw (q, ne_eqb (or_zero st) 4 (λ z. omega arith), eq-eqb (or_zero st) 5 h) at p)
 
-version_old : (word : ℕ) (st old : Option ℕ) → or_zero st ≡ 5 → word == 0 ≡ false → version_by word st old ≡ old
+pub version_old : (word : ℕ) (st old : Option ℕ) → or_zero st ≡ 5 → word == 0 ≡ false → version_by word st old ≡ old
 version_old word st old h q = rw (q, ne_eqb (or_zero st) 4 (λ z. omega arith), eq-eqb (or_zero st) 5 h) refl
 
-some_of : (o : Option ℕ) → 0 < or_zero o → o ≡ Some (or_zero o)
+pub some_of : (o : Option ℕ) → 0 < or_zero o → o ≡ Some (or_zero o)
 some_of None h = absurd (omega arith)
 some_of (Some n) h = refl
+
+-- a status that is live is below that of a commit
+pub live_below : (n : ℕ) → is_live n ≡ true → n < 4
+live_below n q = grind (arith, nat_tests)
 
 high_own : (s : Shape) (es : List Event) (e : Event) → Core s (e ∷ es) → (k : Kind) →
     AllowedAs k s (local s es e.caller) e → HighFits (local s es e.caller).resolution →
@@ -100,9 +104,6 @@ high_own s es e core Kill a h = λ i.
     let r = res (local s es e.caller) in
     let live = live_below (or_zero r.status) a.2.3 in
     let none = version_unknown r.word r.status r.old live in absurd (omega arith)
-  where
-    live_below : (n : ℕ) → is_live n ≡ true → n < 4
-    live_below n q = grind (arith, nat_tests)
 high_own s es e core Release a h = tt
 high_own s es e core Pause a h =
     cond_both (e.found == 1) _ _ (λ (l : LocalState). HighFits l.resolution) (λ _. h) (λ _. h)
@@ -141,7 +142,7 @@ look_new_may s l e LookNew q a = (a.0, a.1.1, a.2.2)
 look_new_may s l e k q a = absurd (cc)
 
 -- the version that a caller looks at, where a locator has it, is settled
-look_settled : (s : Shape) (es : List Event) (c : ℕ) → Core s es → 0 < or_zero (version (res (local s es c))) →
+pub look_settled : (s : Shape) (es : List Event) (c : ℕ) → Core s es → 0 < or_zero (version (res (local s es c))) →
     Settled s es (or_zero (version (res (local s es c))))
 look_settled s es c core p =
     named_settled s es (res (local s es c)).word (or_zero (version (res (local s es c))))

@@ -23,12 +23,12 @@ use Rattle.dstm_opacity.proofs.Values.{WritesKept, entry_later, kept_from, kept_
 use Rattle.dstm_opacity.proofs.Written.{written}
 
 -- a PutNew and a PutHigh aim at words of the shape
-low_aim : (s : Shape) (l : LocalState) (e : Event) (k : Kind) → k ≡ PutNew → AllowedAs k s l e →
+pub low_aim : (s : Shape) (l : LocalState) (e : Event) (k : Kind) → k ≡ PutNew → AllowedAs k s l e →
     (e.place ≡ place s (LowWord (next_write l).locator)) × ((next_write l).locator < s.callers * s.locators)
 low_aim s l e PutNew q a = (a.0, a.3)
 low_aim s l e k q a = absurd (cc)
 
-high_aim : (s : Shape) (l : LocalState) (e : Event) (k : Kind) → k ≡ PutHigh → AllowedAs k s l e →
+pub high_aim : (s : Shape) (l : LocalState) (e : Event) (k : Kind) → k ≡ PutHigh → AllowedAs k s l e →
     (e.place ≡ place s (HighWord (next_write l).locator)) × ((next_write l).locator < s.callers * s.locators)
 high_aim s l e PutHigh q a = (a.0, a.3)
 high_aim s l e k q a = absurd (cc)

@@ -28,3 +28,10 @@ pub mod Found
 pub mod Kept
 pub mod Opacity
 pub mod Example
+pub mod Resolved
+pub mod KeptVersions
+pub mod OwnPuts
+pub mod Held
+pub mod Covered
+pub mod Maps
+pub mod Room

@@ -1,7 +1,7 @@
 -- What a caller that is in an attempt has installed.
 use Rattle.std.proofs.Common.{◌*◌, ◌++◌, ◌+◌, ◌-◌, ◌<◌, ◌==◌, ◌∙◌, ◌∷◌, ◌≡◌, ◌≢◌, ◌⊎◌, List, [], ap, arith, false, inl, inr, refl, subst, sym, true, ℕ}
 use Rattle.std.proofs.lemmas.Bool.{cases_Bool, cond_both, eqb-false, eqb-true}
-use Rattle.dstm_core.specs.Rules.{AllowedAs, after, target}
+use Rattle.dstm_core.specs.Rules.{after, target}
 use Rattle.dstm_core.specs.Runs.{Core, local}
 use Rattle.dstm_core.specs.State.{LocalState, given, next_locator, or_zero, own_attempt, res, version}
 use Rattle.dstm_core.specs.Traces.{at, word}
@@ -18,7 +18,7 @@ use Rattle.dstm_core.proofs.Columns.{Installed, Used, objects, own_in, step, use
 use Rattle.dstm_core.proofs.Locators.{install_fresh}
 use Rattle.dstm_core.proofs.Places.{put_at}
 use Rattle.dstm_core.proofs.Static.{callers, res-in_shape, static}
-use Rattle.dstm_core.proofs.Statuses.{OwnStatus, PhaseHow, at_begin, at_move, at_none, finished_step, given_live, own_status, phase_how}
+use Rattle.dstm_core.proofs.Statuses.{OwnStatus, PhaseHow, finished_step, given_live, own_status, phase_how}
 use Rattle.dstm_core.proofs.Underway.{goes_on}
 use Rattle.dstm_opacity.proofs.Recorded.{other_kind_old, replaces}
 use Rattle.dstm_opacity.proofs.Versions.{Named, by_abort, by_commit, by_zero, status_of}

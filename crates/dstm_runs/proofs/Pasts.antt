@@ -1,5 +1,5 @@
 -- The pasts of a trace.
-use Rattle.std.proofs.Common.{◌≡◌, List, [], ◌∷◌, ◌++◌, refl, ap, ◌∙◌, append_assoc, subst, sym}
+use Rattle.std.proofs.Common.{List, [], ◌∷◌, ◌++◌, refl, ap, ◌∙◌, append_assoc, subst, sym}
 use Rattle.dstm_runs.specs.declared.event.Event.{Event}
 use Rattle.dstm_runs.specs.Machines.{Machine, Run}
 use Rattle.dstm_runs.specs.Traces.{IsPastOf}

@@ -10,21 +10,10 @@ use Rattle.dstm_core.specs.State.{LocalState}
 use Rattle.dstm_core.specs.Words.{Word, HasWord, place, word_count}
 use Rattle.dstm_core.specs.Words.Word.{ObjectWord, StatusWord, RankWord, OwnerWord, OldWord, LowWord, HighWord, CallersWord, NumbersWord, StampsWord}
 use Rattle.dstm_core.proofs.Enrolment.{has_number}
+use Rattle.dstm_core.proofs.LeftWords.{place_in}
 use Rattle.dstm_core.proofs.Static.{static, local_own}
 
--- the words of a shape lie in its table
-place_in : (s : Shape) (w : Word) → HasWord s w → place s w < word_count s
-place_in s (ObjectWord o) h = omega arith
-place_in s (StatusWord a) h = omega arith
-place_in s (RankWord a) h = omega arith
-place_in s (OwnerWord l) h = omega arith
-place_in s (OldWord l) h = omega arith
-place_in s (LowWord l) h = omega arith
-place_in s (HighWord l) h = omega arith
-place_in s CallersWord h = omega arith
-place_in s NumbersWord h = omega arith
-place_in s StampsWord h = omega arith
-
+-- an event lies in the table
 pub has_place : (k : Kind) (s : Shape) (l : LocalState) (e : Event) → AllowedAs k s l e → e.place < word_count s
 has_place k s l e a = let p = a.0 in let x = place_in s (target k s l e) a.3 in omega arith
 
