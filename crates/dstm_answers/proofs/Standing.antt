@@ -8,7 +8,7 @@ use Rattle.dstm_core.specs.Histories.{CoreRun, history_of}
 use Rattle.dstm_core.specs.Runs.{local}
 use Rattle.dstm_core.specs.Events.{Event}
 use Rattle.dstm_core.specs.declared.shape.Shape.{Shape}
-use Rattle.dstm_opacity.proofs.Numbers.{core_before}
+use Rattle.dstm_core.proofs.Pasts.{core_before}
 use Rattle.dstm_opacity.proofs.Opacity.{history_is_serial, prefix_is_lawful}
 use Rattle.dstm_opacity.proofs.Orders.{reverse_cons}
 use Rattle.dstm_answers.specs.Committed.{Committed, attempt_of, by_caller, committed_in, done_by, has_committed}
@@ -89,8 +89,8 @@ done_stands s start holds later before c x run h = record {
         (stands_later s start (later ++ before) later before c x
         (subst (Stands x)
         (sym (same_told s start (later ++ before) before before run.core
-        (core_before s before (later ++ before) (record { more = later; is = refl }) run.core)
-        (record { more = later; is = refl }) (record { more = []; is = refl }) c)) h)))
+        (core_before s before (later ++ before) (record { later = later; whole = refl }) run.core)
+        (record { later = later; whole = refl }) (record { later = []; whole = refl }) c)) h)))
 
     first : List Entry
     first = reverse (map (λ (y : Committed). y.entry) stands.older)

@@ -6,7 +6,7 @@ use Rattle.dstm_model.specs.declared.value.Val.{Val}
 use Rattle.dstm_core.specs.Histories.{entry_of, history, is_draw, history_of, will_of}
 use Rattle.dstm_core.specs.Runs.{Core, local}
 use Rattle.dstm_core.specs.State.{or_zero, own_attempt}
-use Rattle.dstm_core.specs.Traces.{events_of}
+use Rattle.dstm_core.specs.Traces.{IsPastOf, events_of}
 use Rattle.dstm_core.specs.Events.{Event}
 use Rattle.dstm_core.specs.declared.event.Kind.{Kind}
 use Rattle.dstm_core.specs.declared.event.Kind.TheVariants.{Commit, Draw}
@@ -15,7 +15,8 @@ use Rattle.dstm_opacity.proofs.Commits.{DrawOf, draw_of}
 use Rattle.dstm_opacity.proofs.Draws.{commit_may}
 use Rattle.dstm_opacity.proofs.Kept.{drawn_entry_stays}
 use Rattle.dstm_opacity.proofs.KeptLaw.{entry_same}
-use Rattle.dstm_opacity.proofs.Numbers.{Past, core_before, past_past}
+use Rattle.dstm_core.proofs.Pasts.{core_before}
+use Rattle.dstm_runs.proofs.Pasts.{past_past}
 use Rattle.dstm_answers.specs.Committed.{Committed, attempt_of, committed, committed_in, done_by, has_committed, is_commit}
 
 -- the entries are the history
@@ -47,28 +48,28 @@ draws Draw h = refl
 draws k h = absurd (cc)
 
 -- the entry of an attempt that commits is that of its Draw, in each run
-entry_at : (s : Shape) (start : List Val) (run es : List Event) (e : Event) → Past (e ∷ es) run → Core s run →
+entry_at : (s : Shape) (start : List Val) (run es : List Event) (e : Event) → IsPastOf (e ∷ es) run → Core s run →
     (d : DrawOf s es (local s es e.caller)) →
     entry_of s start run (local s es e.caller)
     ≡ entry_of s start (d.draw ∷ d.before) (local s d.before d.draw.caller)
 entry_at s start run es e p core d =
     sym (entry_same s start run (local s es e.caller) (local s d.before d.draw.caller) d.reads d.writes)
     ∙ subst (λ xs. entry_of s start xs (local s d.before d.draw.caller)
-    ≡ entry_of s start (d.draw ∷ d.before) (local s d.before d.draw.caller)) here.is
-    (drawn_entry_stays s start here.more d.before d.draw (subst (Core s) (sym here.is) core) (draws d.draw.kind d.kind))
+    ≡ entry_of s start (d.draw ∷ d.before) (local s d.before d.draw.caller)) here.whole
+    (drawn_entry_stays s start here.later d.before d.draw (subst (Core s) (sym here.whole) core) (draws d.draw.kind d.kind))
   where
-    here : Past (d.draw ∷ d.before) run
+    here : IsPastOf (d.draw ∷ d.before) run
     here = past_past (d.draw ∷ d.before) es run d.past
-        (past_past es (e ∷ es) run (record { more = e ∷ []; is = refl }) p)
+        (past_past es (e ∷ es) run (record { later = e ∷ []; whole = refl }) p)
 
 -- two runs that go on from the same events tell the same of them
-pub same_told : (s : Shape) (start : List Val) (run one es : List Event) → Core s run → Core s one → Past es run →
-    Past es one → (c : ℕ) → done_by s start run es c ≡ done_by s start one es c
+pub same_told : (s : Shape) (start : List Val) (run one es : List Event) → Core s run → Core s one → IsPastOf es run →
+    IsPastOf es one → (c : ℕ) → done_by s start run es c ≡ done_by s start one es c
 same_told s start run one [] core other p q c = refl
 same_told s start run one (e ∷ es) core other p q c =
     go
-    (same_told s start run one es core other (past_past es (e ∷ es) run (record { more = e ∷ []; is = refl }) p)
-    (past_past es (e ∷ es) one (record { more = e ∷ []; is = refl }) q) c)
+    (same_told s start run one es core other (past_past es (e ∷ es) run (record { later = e ∷ []; whole = refl }) p)
+    (past_past es (e ∷ es) one (record { later = e ∷ []; whole = refl }) q) c)
     (cases_Bool ((e.caller == c) && has_committed e))
   where
     entry : e.caller ≡ c → is_commit e.kind ≡ true →
@@ -115,10 +116,10 @@ told_stays s start later before c core h =
     (nothing (events_of c later) (events_of c before)
     (sym (filter-append (λ (e : Event). e.caller == c) later before) ∙ h))
     ∙ same_told s start (later ++ before) before before core (core_before s before (later ++ before) past core) past
-    (record { more = []; is = refl }) c
+    (record { later = []; whole = refl }) c
   where
-    past : Past before (later ++ before)
-    past = record { more = later; is = refl }
+    past : IsPastOf before (later ++ before)
+    past = record { later = later; whole = refl }
 
 -- no event of these is a Commit that succeeded
 abbrev pub NoneCommits : List Event → Type 0
@@ -145,10 +146,10 @@ pub call_adds_none : (s : Shape) (start : List Val) (later before : List Event) 
 call_adds_none s start later before c events core own none =
     none_told s start (later ++ before) later before c (subst NoneCommits (sym same) none)
     ∙ same_told s start (later ++ before) before before core (core_before s before (later ++ before) past core) past
-    (record { more = []; is = refl }) c
+    (record { later = []; whole = refl }) c
   where
-    past : Past before (later ++ before)
-    past = record { more = later; is = refl }
+    past : IsPastOf before (later ++ before)
+    past = record { later = later; whole = refl }
 
     cancel : (xs ys zs : List Event) → xs ++ zs ≡ ys ++ zs → xs ≡ ys
     cancel [] ys zs h = sym (nothing ys zs (sym h))

@@ -6,7 +6,7 @@ use Rattle.dstm_core.specs.Histories.{entry_of, is_draw, will_of}
 use Rattle.dstm_core.specs.Rules.{AllowedAs, after}
 use Rattle.dstm_core.specs.Runs.{Core, local}
 use Rattle.dstm_core.specs.State.{LocalState, given, own_attempt}
-use Rattle.dstm_core.specs.Traces.{at, word}
+use Rattle.dstm_core.specs.Traces.{IsPastOf, at, word}
 use Rattle.dstm_core.specs.Words.{place}
 use Rattle.dstm_core.specs.Words.Word.{StatusWord}
 use Rattle.dstm_core.specs.Events.{Event}
@@ -19,7 +19,8 @@ use Rattle.dstm_core.proofs.Columns.{own_in}
 use Rattle.dstm_core.proofs.Places.{put_at}
 use Rattle.dstm_core.proofs.Static.{Static, callers, static}
 use Rattle.dstm_core.proofs.Statuses.{OwnStatus, finished_stays, own_status}
-use Rattle.dstm_opacity.proofs.Numbers.{Past, core_before, past_past}
+use Rattle.dstm_core.proofs.Pasts.{core_before}
+use Rattle.dstm_runs.proofs.Pasts.{past_past}
 use Rattle.dstm_opacity.proofs.SinceDraw.{drawn_may}
 use Rattle.dstm_answers.specs.Committed.{Committed, attempt_of, by_caller, committed, committed_in, done_by, has_committed, is_commit}
 
@@ -175,13 +176,13 @@ quit_puts s l e Quit q a = a.1.1
 quit_puts s l e k q a = absurd (cc)
 
 -- a status that is finished after an event is so in the run
-later_is : (s : Shape) (run es : List Event) (e : Event) (a n : ℕ) → Past (e ∷ es) run → Core s run →
+later_is : (s : Shape) (run es : List Event) (e : Event) (a n : ℕ) → IsPastOf (e ∷ es) run → Core s run →
     a < s.callers * s.attempts → 4 ≤ n → word s (e ∷ es) (StatusWord a) ≡ n →
     will_of s run a ≡ (n == 4)
 later_is s run es e a n p core lt big h =
     ap (λ m. m == 4)
-    (subst (λ xs. word s xs (StatusWord a) ≡ n) p.is
-    (finished_stays s p.more (e ∷ es) a (subst (Core s) (sym p.is) core) lt (let y = h in omega arith) ∙ h))
+    (subst (λ xs. word s xs (StatusWord a) ≡ n) p.whole
+    (finished_stays s p.later (e ∷ es) a (subst (Core s) (sym p.whole) core) lt (let y = h in omega arith) ∙ h))
 
 -- a caller's own attempt, at one of its events that are aimed at its status
 record AtOwn (s : Shape) (es : List Event) (e : Event) : Type 0 where
@@ -204,7 +205,7 @@ at_own s es e core out pl = record {
     go (inl x) = inl (was ∙ x)
     go (inr x) = inr (was ∙ x)
 
-ends : (s : Shape) (run es : List Event) (e : Event) → Past (e ∷ es) run → Core s run →
+ends : (s : Shape) (run es : List Event) (e : Event) → IsPastOf (e ∷ es) run → Core s run →
     Ends s (will_of s run) (local s es e.caller) e e.kind
 ends s run es e p core = record { commits = commits; fails = fails; quits = quits }
   where
@@ -268,7 +269,7 @@ other_done : (b : Bool) (x : Committed) (xs : List Committed) → b ≡ false �
 other_done false x xs h = refl
 other_done true x xs h = absurd (cc)
 
-told : (s : Shape) (start : List Val) (run es : List Event) → Core s run → Past es run → (c : ℕ) →
+told : (s : Shape) (start : List Val) (run es : List Event) → Core s run → IsPastOf es run → (c : ℕ) →
     by_caller c (committed s start (will_of s run) run es)
     ≡ pending s start run (will_of s run) c (local s es c) ++ done_by s start run es c
 told s start run [] core p c = refl
@@ -281,8 +282,8 @@ told s start run (e ∷ es) core p c =
     here : Core s (e ∷ es)
     here = core_before s (e ∷ es) run p core
 
-    past : Past es run
-    past = past_past es (e ∷ es) run (record { more = e ∷ []; is = refl }) p
+    past : IsPastOf es run
+    past = past_past es (e ∷ es) run (record { later = e ∷ []; whole = refl }) p
 
     own : by_caller e.caller (committed s start (will_of s run) run es)
         ≡ pending s start run (will_of s run) e.caller (local s es e.caller) ++ done_by s start run es e.caller →
@@ -326,7 +327,7 @@ is_known s (e ∷ es) core c h =
 pub each_is_told : (s : Shape) (start : List Val) (run : List Event) → Core s run → (c : ℕ) →
     by_caller c (committed_in s start run) ≡ done_by s start run run c
 each_is_told s start run core c =
-    told s start run run core (record { more = []; is = refl }) c
+    told s start run run core (record { later = []; whole = refl }) c
     ∙ ap (λ xs. xs ++ done_by s start run run c) none
   where
     none : pending s start run (will_of s run) c (local s run c) ≡ []

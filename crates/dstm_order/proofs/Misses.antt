@@ -12,16 +12,8 @@ use Rattle.dstm_core.specs.declared.state.Phase.TheVariants.{Paused}
 use Rattle.dstm_core.specs.State.{LocalState}
 use Rattle.rand_pcg.specs.Lcg.{Lcg}
 use Rattle.dstm_order.specs.Calls.{state_after, effort_of}
+use Rattle.dstm_order.specs.Passes.{is_miss, misses, EveryMissCounts}
 use Rattle.dstm_order.specs.Efforts.{Effort, effort_after, is_turn, turn_in, turn, turns_of, chosen, when_asked}
-
-abbrev pub is_miss : Kind → Event → Bool
-is_miss Install e = not (e.found == e.expected)
-is_miss Kill e = not (e.found == e.expected)
-is_miss k e = false
-
-abbrev pub misses : List Event → ℕ
-misses [] = 0
-misses (e ∷ es) = if is_miss e.kind e then misses es + 1 else misses es
 
 exchange_missed : (c : Effort) (e : Event) →
     (if e.found == e.expected then c else record c { missed = c.missed + 1 }).missed
@@ -46,7 +38,7 @@ missed_after LookStatus m l c e = cond_both (is_turn LookStatus l) (turn_in l.ph
     (λ (x : Effort). x.missed ≡ c.missed) (λ _. turn_missed l.phase m l c) (λ _. refl)
 missed_after k m l c e = refl
 
-pub missed_is : (s : Shape) (l : LocalState) (g : Lcg) (es : List Event) → (effort_of s l g es).missed ≡ misses es
+pub missed_is : EveryMissCounts
 missed_is s l g [] = refl
 missed_is s l g (e ∷ es) =
     missed_after e.kind s.manager (state_after s l es) (effort_of s l g es) e

@@ -12,7 +12,7 @@ use Rattle.dstm_core.specs.State.{LocalState, or_zero, res}
 use Rattle.dstm_core.specs.Words.{code_of}
 use Rattle.dstm_managers.specs.declared.decider.Choice.{Choice}
 use Rattle.dstm_managers.specs.declared.decider.Choice.TheVariants as decision
-use Rattle.dstm_managers.specs.Choices.{DeciderState, choice, next_word, after as decided}
+use Rattle.dstm_managers.specs.Choices.{DeciderState, choice, next_word, decider_after as decided}
 use Rattle.rand_pcg.specs.Lcg.{Lcg}
 use Rattle.dstm_order.specs.declared.TheConstants.{MAX_PATIENCE}
 

@@ -1,4 +1,5 @@
-//! Runs that follow the order of steps. Each is a statement on the definitions; the functions do nothing.
+//! Laws of the order of steps, and runs that follow it. Each is a statement on the definitions; the functions do
+//! nothing.
 
 ghost use Rattle.std.specs.Prelude.{◌≡◌, true, [], ◌∷◌};
 ghost use Rattle.dstm_core.specs.declared.event.Kind.TheVariants.{LookNumber, Check, Quit};
@@ -7,7 +8,30 @@ ghost use Rattle.dstm_core.specs.declared.state.Phase.TheVariants.{Outside};
 ghost use Rattle.dstm_core.specs.Runs.{local};
 ghost use Rattle.dstm_order.specs.Calls.{stale_object};
 ghost use Rattle.dstm_order.specs.Counts.{counts_of};
+ghost use Rattle.dstm_order.specs.Passes.{EveryPassIsComplete, EveryCommitIsValidated, EveryOpenEndsInPass, EveryMissCounts};
 ghost use Rattle.dstm_order.specs.Drive.{small, opens_ranked, opens_unranked, meets_guest, row, rows_of, three, reads_three, two, overtaken, first_kinds, kinds_of};
+
+/// A call that has come to a LookSelf has just made a complete pass: LookNumber, then, unless the number is the one with
+/// which the last complete pass began, one Check of each recorded read, in order, each of which found the recorded word.
+pub fn passes_are_complete()
+    ensures { EveryPassIsComplete }
+{}
+
+/// A commit that has come to its Commit has just drawn a number, and made the same checks after it.
+pub fn commits_are_validated()
+    ensures { EveryCommitIsValidated }
+{}
+
+/// An open that has not left its attempt ends with a complete pass, and where ranks rise with a Rank after it, which
+/// raises the rank by one.
+pub fn opens_end_in_a_pass()
+    ensures { EveryOpenEndsInPass }
+{}
+
+/// A call counts each of its exchanges of an object or of an enemy's status that failed.
+pub fn misses_are_counted()
+    ensures { EveryMissCounts }
+{}
 
 /// A caller opens an object for writing and commits, beside a guest that was to do the same and stopped: after
 /// each of the guest's events, the last one first. Before its Install nobody meets it; from then on its attempt

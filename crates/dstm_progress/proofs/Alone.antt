@@ -19,7 +19,8 @@ use Rattle.dstm_core.proofs.Columns.{Installed, Kills, Same, StatusMove, StatusM
 use Rattle.dstm_core.proofs.Places.{put_at}
 use Rattle.dstm_core.proofs.Static.{InShape, has_high, has_owner, has_status, has_version, has_word, local_own, res-in_shape, static}
 use Rattle.dstm_opacity.proofs.Versions.{owner_of, status_of}
-use Rattle.dstm_progress.proofs.Oldest.{looked_apart, not_begin, own_same, owner_same, paused_how, status_or_killed}
+use Rattle.dstm_core.proofs.Underway.{not_begin, own_same, status_or_killed}
+use Rattle.dstm_progress.proofs.Oldest.{looked_apart, owner_same, paused_how}
 use Rattle.dstm_progress.proofs.Ranks.{owner_known}
 
 -- ---- reads that are as they were recorded

@@ -13,7 +13,7 @@ use Rattle.dstm_core.specs.declared.event.Kind.TheVariants.{Begin, Quit}
 use Rattle.dstm_core.specs.declared.shape.Manager.TheVariants.{Greedy}
 use Rattle.dstm_core.specs.declared.shape.Shape.{Shape}
 use Rattle.dstm_core.specs.declared.state.Phase.TheVariants.{Outside, Paused}
-use Rattle.dstm_core.proofs.Statuses.{core_past}
+use Rattle.dstm_core.proofs.Pasts.{core_past}
 use Rattle.dstm_order.specs.Calls.{IsCall, answer, answer_of, cause, effort_of, has_quit, is_quit, newest_of, stale_object, state_after}
 use Rattle.dstm_order.specs.Efforts.{Effort, effort_after, no_effort}
 use Rattle.dstm_order.specs.Order.{IsDue, due, next_or_first}
@@ -27,7 +27,7 @@ use Rattle.dstm_progress.specs.Oldest.{IsOldest, OldestAnswers}
 use Rattle.dstm_progress.proofs.Calls.{append_assoc_events, inside_phase, left_by, newest_no_quit, nothing_due, quit_not_due}
 use Rattle.dstm_progress.proofs.Oldest.{Safe, stays_safe}
 use Rattle.dstm_progress.proofs.Own.{AreAllowed, allowed_split, call_begun, calls_begun, newest_own, own_allowed, own_state, state_both}
-use Rattle.dstm_progress.proofs.Underway.{is_outside_now}
+use Rattle.dstm_core.proofs.Underway.{is_outside_now}
 use Rattle.dstm_progress.proofs.Writers.{never_stale}
 
 -- ---- the answer of a call, by its newest event

@@ -8,7 +8,7 @@ use Rattle.dstm_core.specs.declared.shape.Manager.{Manager}
 use Rattle.dstm_core.specs.declared.shape.Shape.{Shape}
 use Rattle.dstm_core.specs.declared.state.Phase.TheVariants.{Outside, Running, Paused}
 use Rattle.dstm_core.proofs.Static.{local_own, static}
-use Rattle.dstm_core.proofs.Statuses.{core_past}
+use Rattle.dstm_core.proofs.Pasts.{core_past}
 use Rattle.dstm_model.specs.declared.value.Val.{Val}
 use Rattle.dstm_order.specs.Calls.{IsCall, Obeys, due_after, effort_of, newest_of, state_after}
 use Rattle.dstm_order.specs.Efforts.{Effort, effort_after, no_effort}
@@ -23,7 +23,7 @@ use Rattle.dstm_progress.proofs.Alone.{Undisturbed, install_succeeds, kill_succe
 use Rattle.dstm_progress.proofs.Calls.{GoesOn, IsFresh, append_assoc_events, are_of_split, begins_awake, begins_undisturbed, calls_go, due_next, fresh_begin, goes_on_step, local_after, missed_after, no_pause_due, no_quit_due, nothing_due, own_status_found, unmet_more}
 use Rattle.dstm_progress.proofs.Room.{Blank, Stage, Still, base, closes, drawing, ended, installing, numbering, opening, opens, owning, passed, passing, puts_left, putting, releasing, resolving, tail, validating}
 use Rattle.dstm_order.proofs.Rows.{Resolves, checking_by, pass_by, putting_by, resolving_by}
-use Rattle.dstm_progress.proofs.SmallRanks.{found_is_rank}
+use Rattle.dstm_order.proofs.EnemyRanks.{found_is_rank}
 use Rattle.dstm_progress.proofs.Stages.{Facts, stage_step}
 
 -- ---- a call begins and ends at rest

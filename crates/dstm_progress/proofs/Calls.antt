@@ -19,7 +19,8 @@ use Rattle.dstm_core.specs.declared.state.Phase.TheVariants.{Outside, Running, P
 use Rattle.dstm_core.proofs.Basic.{Names, OwnerIs, basic, res_known}
 use Rattle.dstm_core.proofs.Places.{put_at}
 use Rattle.dstm_core.proofs.Static.{has_owner, local_own, local_other}
-use Rattle.dstm_core.proofs.Statuses.{begin_put, core_past}
+use Rattle.dstm_core.proofs.Pasts.{core_past}
+use Rattle.dstm_core.proofs.Statuses.{begin_put}
 use Rattle.dstm_model.specs.declared.value.Val.{Val}
 use Rattle.dstm_opacity.proofs.Versions.{owner_of, status_of}
 use Rattle.dstm_order.specs.Calls.{Obeys, effort_of, newest_of, state_after}
@@ -33,7 +34,7 @@ use Rattle.rand_pcg.specs.Lcg.{Lcg}
 use Rattle.dstm_progress.specs.Alone.{AloneCommits, AreCalls, AreOf, IsAlone, IsUnmet, Made, all_events, generator_after}
 use Rattle.dstm_progress.proofs.Alone.{ResNow, Undisturbed, awake_step, install_succeeds, kill_succeeds, now_res, undisturbed_step}
 use Rattle.dstm_order.proofs.Rows.{Resolves, checking_by, checks_by, pass_by, passed_by, put_by, putting_by, resolving_by}
-use Rattle.dstm_progress.proofs.Underway.{is_outside_now, live_under_way}
+use Rattle.dstm_core.proofs.Underway.{is_outside_now, live_under_way}
 
 -- ---- what the table never asks of an attempt that is alone
 

@@ -7,7 +7,7 @@ use Rattle.dstm_core.specs.Events.{Event}
 use Rattle.dstm_core.specs.declared.event.Kind.TheVariants.{Quit}
 use Rattle.dstm_core.specs.declared.shape.Shape.{Shape}
 use Rattle.dstm_core.specs.declared.state.Phase.TheVariants.{Outside}
-use Rattle.dstm_core.proofs.Statuses.{core_past}
+use Rattle.dstm_core.proofs.Pasts.{core_past}
 use Rattle.dstm_order.specs.Calls.{Obeys, answer, answer_of, cause, effort_of, newest_of, state_after}
 use Rattle.dstm_order.specs.Efforts.{Effort, effort_after, no_effort}
 use Rattle.dstm_order.specs.Order.{IsDue, due}
@@ -20,7 +20,7 @@ use Rattle.dstm_progress.specs.Alone.{AloneAnswers, AreCalls, AreOf, Made, all_e
 use Rattle.dstm_progress.proofs.Alone.{Undisturbed, install_succeeds, kill_succeeds, undisturbed_step}
 use Rattle.dstm_progress.proofs.Answers.{none_committed, none_inside, quit_effort, quit_is, quit_keeps, some_cause}
 use Rattle.dstm_progress.proofs.Calls.{append_assoc_events, are_of_split, begins_undisturbed, left_by, local_after, missed_after, nothing_due, own_status_found}
-use Rattle.dstm_progress.proofs.Underway.{is_outside_now}
+use Rattle.dstm_core.proofs.Underway.{is_outside_now}
 
 -- an event of an attempt that is alone, where it goes on
 inside_step : (s : Shape) (es : List Event) (e : Event) (c : ℕ) (f : Effort) → e.caller ≡ c → Core s (e ∷ es) →

@@ -21,13 +21,16 @@ use Rattle.dstm_core.proofs.Basic.{Names, ResBasic, basic, owner_stays, res_know
 use Rattle.dstm_core.proofs.Columns.{Kills, Moves, Step, StatusMove, StatusMoved, begins, kills, moves, own_in, statuses, step}
 use Rattle.dstm_core.proofs.Places.{put_at}
 use Rattle.dstm_core.proofs.Static.{begun_more, callers, local_other, local_own, static}
-use Rattle.dstm_core.proofs.Statuses.{OwnStatus, begin_may, begin_put, core_past, given_live, own_differs, own_status, phase_how}
+use Rattle.dstm_core.proofs.Pasts.{core_past}
+use Rattle.dstm_core.proofs.Statuses.{OwnStatus, begin_may, begin_put, given_live, own_differs, own_status, phase_how}
 use Rattle.dstm_opacity.proofs.Mine.{meant_mine, mine}
 use Rattle.dstm_opacity.proofs.Versions.{owner_of, status_of}
-use Rattle.dstm_opacity.proofs.Written.{goes_on}
 use Rattle.dstm_progress.specs.Oldest.{IsOldest, OldestSafe}
-use Rattle.dstm_progress.proofs.Ranks.{StampHow, at_begin as stamp_begin, at_enrol, at_other, at_rank, at_stamp, found_rank, own_rank, owner_known, owner_rank_stays, rank_found, rank_may, rank_of_owner, stamp_how, stamp_may, standing}
-use Rattle.dstm_progress.proofs.Underway.{begun_how, live_under_way}
+use Rattle.dstm_core.proofs.Stamps.{StampHow, at_begin as stamp_begin, at_enrol, at_other, at_rank, at_stamp, own_rank, rank_may, stamp_how, stamp_may, standing}
+use Rattle.dstm_core.proofs.Underway.{goes_on, not_begin, own_same, status_or_killed}
+use Rattle.dstm_progress.proofs.Ranks.{found_rank, owner_known, owner_rank_stays, rank_found, rank_of_owner}
+use Rattle.dstm_core.proofs.Begun.{begun_how}
+use Rattle.dstm_core.proofs.Underway.{live_under_way}
 
 -- ---- the oldest stays the oldest
 
@@ -38,7 +41,7 @@ pub under_way_keeps : (s : Shape) (l : LocalState) (e : Event) (k : Kind) → s.
     ((after k s l e).stands ≡ l.stands) × ((after k s l e).rank ≡ l.rank)
 under_way_keeps s l e k g a (at_enrol q n rd st rk ph) h i = (st, rk)
 under_way_keeps s l e k g a (at_stamp q rd st rk ph) h i = absurd (h (stamp_may s l e k q a).0)
-under_way_keeps s l e k g a (at_rank q st rk ph n b) h i = absurd (h (rank_may s l e k q g a).outside)
+under_way_keeps s l e k g a (at_rank q rd st rk ph n b) h i = absurd (h (rank_may s l e k q g a).outside)
 under_way_keeps s l e k g a (stamp_begin q r rd st rk) h i = absurd (h (begin_may s l e k q a).0)
 under_way_keeps s l e k g a (at_other b r t rd rk n be st inside out) h i = ((inside i).1, rk)
 
@@ -57,7 +60,7 @@ stood s es e g p h = go (stamp_how s (local s es e.caller) e e.kind p.fits.allow
     go (at_enrol q n rd st rk ph) = inl (sym st ∙ h, rk)
     go (at_stamp q rd st rk ph) =
         inr (rk ∙ p.fits.linked ∙ ap (at es) (stamp_may s (local s es e.caller) e e.kind q p.fits.allowed).1)
-    go (at_rank q st rk ph n b) =
+    go (at_rank q rd st rk ph n b) =
         inl (sym st ∙ h, rk ∙ (rank_may s (local s es e.caller) e e.kind q g p.fits.allowed).put)
     go (stamp_begin q r rd st rk) = inl (sym st ∙ h, rk)
     go (at_other b r t rd rk n be st inside out) = inl (st h, rk)
@@ -182,7 +185,7 @@ younger s es c x g core b o (inr z) pos apart live =
     let other : d ≢ c = λ q. apart (sym way.1 ∙ ap (λ n. own_attempt s (local s es n)) q) in
     let less = o.least d way.2 other st in
     let here : rank_of_owner s es x ≡ (local s es d).rank =
-    ap (λ a. word s es (RankWord a)) (sym way.1) ∙ own_rank s es g core d way.2 way.0 in
+    ap (λ a. word s es (RankWord a)) (sym way.1) ∙ own_rank s es (λ q. cc) core d way.2 way.0 in
     rw here less
 
 is_live_below : (n : ℕ) → is_live n ≡ true → n < 4
@@ -371,7 +374,7 @@ no_kill s es e c g core b i f k was = go may.3 (cases_eq e.caller c)
         let o = owner_known s es (res (local s es e.caller)).word (res (local s es e.caller)).owner r.1 may.1 in
         let n = found_rank s es (local s es e.caller).resolution (rank_found s es g core.0 e.caller)
         (or_zero (res (local s es e.caller)).rank) (some_zero (res (local s es e.caller)).rank may.2) in
-        n.1 ∙ ap (λ a. word s es (RankWord a)) (sym o.1 ∙ sym k.attempt) ∙ own_rank s es g core.0 c b i
+        n.1 ∙ ap (λ a. word s es (RankWord a)) (sym o.1 ∙ sym k.attempt) ∙ own_rank s es (λ q. cc) core.0 c b i
 
     go : ((local s es e.caller).rank < or_zero (res (local s es e.caller)).rank)
         ⊎ (or_zero (res (local s es e.caller)).status ≡ 2) → (e.caller ≡ c) ⊎ (e.caller ≡ c → ⊥) → ⊥
@@ -380,85 +383,6 @@ no_kill s es e c g core b i f k was = go may.3 (cases_eq e.caller c)
     go (inl less) (inr d) =
         let st = (standing s es g core.0 e.caller).inside (λ z. let y = may.0 in cc) in
         let x = rank in let y = f.oldest.least e.caller core.1.caller d st in omega arith
-
-quit_leaves : (s : Shape) (l : LocalState) (e : Event) (k : Kind) → k ≡ Quit → (after k s l e).phase ≡ Outside
-quit_leaves s l e Quit q = refl
-quit_leaves s l e k q = absurd (cc)
-
-pub not_begin : (s : Shape) (es : List Event) (e : Event) → Core s (e ∷ es) →
-    (local s es e.caller).phase ≢ Outside →
-    e.kind ≢ Begin
-not_begin s es e core h k = h (begin_may s (local s es e.caller) e e.kind k core.1.allowed).0
-
--- an attempt under way has the same number after an event
-pub own_same : (s : Shape) (es : List Event) (e : Event) (c : ℕ) → Core s (e ∷ es) → c < s.callers →
-    (local s es c).phase ≢ Outside → (local s (e ∷ es) c).phase ≢ Outside →
-    own_attempt s (local s (e ∷ es) c) ≡ own_attempt s (local s es c)
-own_same s es e c core b h i = callers s es e
-    (λ c l. c < s.callers → (local s es c).phase ≢ Outside → l.phase ≢ Outside →
-    own_attempt s l ≡ own_attempt s (local s es c))
-    (λ b h i. (goes_on s (local s es e.caller) e e.kind core.1.allowed (not_begin s es e core h)
-    (phase_how s e.caller (local s es e.caller) e e.kind (static s es core.0 e.caller) core.1.allowed i)).1)
-    (λ c d b h i. refl) c b h i
-
--- the status of an attempt under way is the one given last, unless another attempt aborts it
-pub status_or_killed : (s : Shape) (es : List Event) (e : Event) (c : ℕ) → Core s (e ∷ es) → c < s.callers →
-    (local s es c).phase ≢ Outside → (local s (e ∷ es) c).phase ≢ Outside →
-    word s es (StatusWord (own_attempt s (local s es c))) ≡ given (local s es c).phase →
-    (word s (e ∷ es) (StatusWord (own_attempt s (local s (e ∷ es) c))) ≡ given (local s (e ∷ es) c).phase)
-    ⊎ (Kills s (local s es e.caller) e (own_attempt s (local s es c))
-    × (word s es (StatusWord (own_attempt s (local s es c))) ≡ e.found))
-status_or_killed s es e c core b h i before = go (own_status s (e ∷ es) core c b i)
-  where
-    a : ℕ
-    a = own_attempt s (local s es c)
-
-    st : Step s es e
-    st = step s es e core
-
-    quits : Moves s (local s es e.caller) e (own_attempt s (local s es c)) → e.kind ≡ Quit → ⊥
-    quits m k =
-        let same : e.caller ≡ c =
-        own_differs s e.caller c (local s es e.caller) (local s es c) st.own
-        (static s es core.0 c) st.fits.caller b
-        m.inside h (sym m.attempt) in
-        i (ap (λ n. (local s (e ∷ es) n).phase) (sym same) ∙ ap (λ (l : LocalState). l.phase) (local_own s es e)
-        ∙ quit_leaves s (local s es e.caller) e e.kind k)
-
-    moved : Moves s (local s es e.caller) e (own_attempt s (local s es c)) → e.put ≡ 5 →
-        ((e.kind ≡ ToValidating) × (e.put ≡ 3)) ⊎ ((e.kind ≡ Commit) × (e.put ≡ 4))
-        ⊎ ((e.kind ≡ Quit) × (e.put ≡ 5)) ⊎ ((e.kind ≡ Pause) × (e.put ≡ 2))
-        ⊎ ((e.kind ≡ Resume) × (e.put ≡ 1)) → ⊥
-    moved m p (inl x) = let y = x.1 in omega arith
-    moved m p (inr (inl x)) = let y = x.1 in omega arith
-    moved m p (inr (inr (inl x))) = quits m x.0
-    moved m p (inr (inr (inr (inl x)))) = let y = x.1 in omega arith
-    moved m p (inr (inr (inr (inr x)))) = let y = x.1 in omega arith
-
-    by_move : StatusMove s (local s es e.caller) e (own_attempt s (local s es c)) → e.put ≡ 5 →
-        Kills s (local s es e.caller) e (own_attempt s (local s es c))
-    by_move (begins x) p = absurd (let y = x.put in omega arith)
-    by_move (moves x) p = absurd (moved x p x.how)
-    by_move (kills x) p = x
-
-    at_word : word s (e ∷ es) (StatusWord (own_attempt s (local s es c))) ≡ 5 →
-        (word s (e ∷ es) (StatusWord (own_attempt s (local s es c))) ≡ word s es (StatusWord (own_attempt s
-        (local s es c))))
-        ⊎ StatusMoved s es e (own_attempt s (local s es c)) →
-        Kills s (local s es e.caller) e (own_attempt s (local s es c))
-        × (word s es (StatusWord (own_attempt s (local s es c))) ≡ e.found)
-    at_word n (inl x) = absurd (let g = (given_live (local s es c).phase h).1 in let y = before in omega arith)
-    at_word n (inr x) = (by_move x.how (sym x.now ∙ n), x.was)
-
-    go : OwnStatus s (e ∷ es) (local s (e ∷ es) c) →
-        (word s (e ∷ es) (StatusWord (own_attempt s (local s (e ∷ es) c))) ≡ given (local s (e ∷ es) c).phase)
-        ⊎ (Kills s (local s es e.caller) e (own_attempt s (local s es c))
-        × (word s es (StatusWord (own_attempt s (local s es c))) ≡ e.found))
-    go (inl x) = inl x
-    go (inr x) = inr (at_word (ap (λ n. word s (e ∷ es) (StatusWord n)) (sym (own_same s es e c core b h i))
-        ∙ x)
-        (statuses s es e (own_attempt s (local s es c)) st (own_in s c (local s es c)
-        (static s es core.0 c) b h)))
 
 -- ---- what began as the oldest stays safe
 

@@ -16,7 +16,7 @@ use Rattle.dstm_order.specs.Tasks.Task.{Doing}
 use Rattle.rand_pcg.specs.Lcg.{Lcg}
 use Rattle.dstm_progress.specs.Alone.{AreCalls, Made, all_events, generator_after}
 use Rattle.dstm_progress.proofs.Calls.{nothing_due}
-use Rattle.dstm_progress.proofs.Underway.{begun_how}
+use Rattle.dstm_core.proofs.Begun.{begun_how}
 
 -- ---- the own events of a caller
 
