@@ -17,6 +17,7 @@ use Rattle.dstm_core.proofs.Columns.{numbers, step}
 use Rattle.dstm_core.proofs.Places.{put_at}
 use Rattle.dstm_answers.specs.Committed.{Committed, by_caller, committed, committed_in}
 use Rattle.dstm_answers.specs.Laws.{AreBelow, NumbersFall}
+use Rattle.dstm_opacity.proofs.Numbers.{numbers_up}
 
 below_more : (n m : ℕ) (xs : List Committed) → n ≤ m → AreBelow n xs → AreBelow m xs
 below_more n m [] h b = tt
@@ -26,11 +27,6 @@ draw_adds : (s : Shape) (l : LocalState) (e : Event) (k : Kind) → is_draw k �
     (e.place ≡ place s NumbersWord) × (e.put ≡ e.found + 1)
 draw_adds s l e Draw q a = (a.0, a.1.1)
 draw_adds s l e k q a = absurd (cc)
-
-count_up : (s : Shape) (es : List Event) (e : Event) → Core s (e ∷ es) →
-    word s es NumbersWord ≤ word s (e ∷ es) NumbersWord
-count_up s es e core =
-    elim (numbers s es e (step s es e core)) [ inl x ↦ omega (arith, x) | inr x ↦ omega (arith, x.1) ]
 
 -- what commits among some events has numbers that were drawn among these
 falls : (s : Shape) (start : List Val) (will : ℕ → Bool) (run es : List Event) → Core s es →
@@ -42,7 +38,7 @@ falls s start will run (e ∷ es) core =
   where
     old : AreBelow (word s es NumbersWord) (committed s start will run es) →
         AreBelow (word s (e ∷ es) NumbersWord) (committed s start will run es)
-    old b = below_more _ _ (committed s start will run es) (count_up s es e core) b
+    old b = below_more _ _ (committed s start will run es) (numbers_up s es e core) b
 
     go : AreBelow (word s es NumbersWord) (committed s start will run es)
         × NumbersFall (committed s start will run es) →

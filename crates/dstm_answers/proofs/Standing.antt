@@ -10,11 +10,11 @@ use Rattle.dstm_core.specs.Events.{Event}
 use Rattle.dstm_core.specs.declared.shape.Shape.{Shape}
 use Rattle.dstm_core.proofs.Pasts.{core_before}
 use Rattle.dstm_opacity.proofs.Opacity.{history_is_serial, prefix_is_lawful}
-use Rattle.dstm_opacity.proofs.Orders.{reverse_cons}
 use Rattle.dstm_answers.specs.Committed.{Committed, attempt_of, by_caller, committed_in, done_by, has_committed}
 use Rattle.dstm_answers.specs.Laws.{Stands, StandsIn}
 use Rattle.dstm_answers.proofs.Stays.{entries_are_history, same_told}
 use Rattle.dstm_answers.proofs.Told.{each_is_told}
+use Rattle.dstm_model.proofs.Entries.{reverse_cons, states_keep_length}
 
 stands_cons : (x y : Committed) (xs : List Committed) → Stands x xs → Stands x (y ∷ xs)
 stands_cons x y xs h = record { newer = y ∷ h.newer; older = h.older; is = ap (λ zs. y ∷ zs) h.is }
@@ -57,14 +57,6 @@ map_append : (xs ys : List Committed) →
 map_append [] ys = refl
 map_append (x ∷ xs) ys = ap (λ zs. x.entry ∷ zs) (map_append xs ys)
 
-with_length : (ws : List (ℕ × Val)) (m : List Val) → length (with_writes m ws) ≡ length m
-with_length [] m = refl
-with_length (w ∷ ws) m = simp length-set (with_length ws m)
-
-state_length : (xs : List Entry) (m : List Val) → length (state_after m xs) ≡ length m
-state_length [] m = refl
-state_length (x ∷ xs) m = state_length xs (with_writes m x.writes) ∙ with_length x.writes m
-
 legal_at : (m : List Val) (before : List Entry) (x : Entry) (after : List Entry) → IsLegal m (before ++ x ∷ after) →
     Agrees (state_after m before) x.reads
 legal_at m [] x after h = h.0
@@ -77,7 +69,7 @@ done_stands s start holds later before c x run h = record {
   before = first;
   after = last;
   is = split;
-  objects = state_length first start ∙ run.values;
+  objects = states_keep_length start first ∙ run.values;
   reads = legal_at start first x.entry last
       (subst (IsLegal start) split (history_is_serial s start holds (later ++ before) run).legal);
   lawful = λ ok. prefix_is_lawful s start holds (later ++ before) first (x.entry ∷ last) run split ok;

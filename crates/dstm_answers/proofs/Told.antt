@@ -23,6 +23,7 @@ use Rattle.dstm_core.proofs.Pasts.{core_before}
 use Rattle.dstm_runs.proofs.Pasts.{past_past}
 use Rattle.dstm_opacity.proofs.SinceDraw.{drawn_may}
 use Rattle.dstm_answers.specs.Committed.{Committed, attempt_of, by_caller, committed, committed_in, done_by, has_committed, is_commit}
+use Rattle.dstm_opacity.proofs.Commits.{drawn_back}
 
 -- the attempt has drawn its number and is under way
 abbrev pub at_drawn : Phase → Bool
@@ -73,32 +74,6 @@ record Ends (s : Shape) (will : ℕ → Bool) (l : LocalState) (e : Event) (k : 
   commits : k ≡ Commit → e.found == 3 ≡ true → will (own_attempt s l) ≡ true
   fails : k ≡ Commit → e.found == 3 ≡ false → will (own_attempt s l) ≡ false
   quits : k ≡ Quit → l.phase ≡ Drawn → will (own_attempt s l) ≡ false
-
--- a phase that says that a number was drawn comes of a Draw, or was there
-drawn_back : (s : Shape) (l : LocalState) (e : Event) (k : Kind) → (after k s l e).phase ≡ Drawn →
-    (k ≡ Draw) ⊎ (l.phase ≡ Drawn)
-drawn_back s l e Draw h = inl refl
-drawn_back s l e Install h =
-    inr (cond_both (e.found == e.expected) _ _ (λ (m : LocalState). m.phase ≡ Drawn → l.phase ≡ Drawn)
-    (λ _ q. q) (λ _ q. q) h)
-drawn_back s l e LookSelf h =
-    inr (cond_both (e.found == given l.phase) _ _ (λ (m : LocalState). m.phase ≡ Drawn → l.phase ≡ Drawn)
-    (λ _ q. q) (λ _ q. absurd (cc)) h)
-drawn_back s l e ToValidating h =
-    inr (cond_both (e.found == 1) _ _ (λ (m : LocalState). m.phase ≡ Drawn → l.phase ≡ Drawn)
-    (λ _ q. absurd (cc)) (λ _ q. absurd (cc)) h)
-drawn_back s l e Pause h =
-    inr (cond_both (e.found == 1) _ _ (λ (m : LocalState). m.phase ≡ Drawn → l.phase ≡ Drawn)
-    (λ _ q. absurd (cc)) (λ _ q. absurd (cc)) h)
-drawn_back s l e Resume h =
-    inr (cond_both (e.found == 2) _ _ (λ (m : LocalState). m.phase ≡ Drawn → l.phase ≡ Drawn)
-    (λ _ q. absurd (cc)) (λ _ q. absurd (cc)) h)
-drawn_back s l e Begin h = absurd (cc)
-drawn_back s l e PutHigh h = absurd (cc)
-drawn_back s l e PutNew h = absurd (cc)
-drawn_back s l e Commit h = absurd (cc)
-drawn_back s l e Quit h = absurd (cc)
-drawn_back s l e k h = inr h
 
 -- a Draw makes an attempt pending, its end takes it off, and nothing else changes this
 own_step : (s : Shape) (start : List Val) (run : List Event) (will : ℕ → Bool) (c : ℕ) (l : LocalState) (e : Event)

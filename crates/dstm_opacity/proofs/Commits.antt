@@ -46,7 +46,7 @@ pub record DrawOf (s : Shape) (es : List Event) (l : LocalState) : Type 0 where
   pub own : own_attempt s (local s before draw.caller) ≡ own_attempt s l
 
 -- the phase that says so comes of a Draw, or was there
-drawn_back : (s : Shape) (l : LocalState) (e : Event) (k : Kind) → (after k s l e).phase ≡ Drawn →
+pub drawn_back : (s : Shape) (l : LocalState) (e : Event) (k : Kind) → (after k s l e).phase ≡ Drawn →
     (k ≡ Draw) ⊎ (l.phase ≡ Drawn)
 drawn_back s l e Draw h = inl refl
 drawn_back s l e Install h =

@@ -16,6 +16,7 @@ use Rattle.dstm_core.proofs.Basic.{basic, install_may}
 use Rattle.dstm_core.proofs.Static.{callers, has_high, has_owner, has_status, has_version, has_word}
 use Rattle.dstm_opacity.proofs.Recorded.{ReadsNamed, reads, resolved_version}
 use Rattle.dstm_opacity.proofs.Versions.{Named, by_abort, by_commit, by_zero, res_named, res_seen}
+use Rattle.dstm_opacity.proofs.LastPass.{none_from}
 
 -- of an object that is read the word found last is the one recorded
 abbrev WordsAgreeBy : Bool → List Read → Option Resolution → Type 0
@@ -49,16 +50,12 @@ recorded : (o : Option Resolution) (rs : List Read) → WordsAgreeBy false rs o 
 recorded None rs h r s i q = absurd (cc)
 recorded (Some x) rs h r s i q = go (cases_Bool (is_resolved x && is_none (read_of x.object rs)))
   where
-    none : (o : Option Read) → is_none o ≡ true → o ≡ None
-    none None q = refl
-    none (Some y) q = absurd (cc)
-
     go : (is_resolved x && is_none (read_of x.object rs) ≡ true)
         ⊎ (is_resolved x && is_none (read_of x.object rs) ≡ false) → r.word ≡ x.word
     go (inl z) =
         let two = and_parts (is_resolved x) (is_none (read_of x.object rs)) z in
         ap (λ (y : Read). y.word)
-        (read_of-new x.object rs _ r refl (none (read_of x.object rs) two.1) (rw z at q))
+        (read_of-new x.object rs _ r refl (none_from (read_of x.object rs) two.1) (rw z at q))
     go (inr z) = h r refl refl (rw z at q)
 
 kept : (o : Option Resolution) (rs : List Read) → WordsAgreeBy false rs o → WordsAgreeBy false rs (keep_resolved o)

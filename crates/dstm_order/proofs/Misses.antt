@@ -25,7 +25,7 @@ exchange_missed c e = go (e.found == e.expected)
     go true = refl
     go false = refl
 
-turn_missed : (p : Phase) (m : Manager) (l : LocalState) (c : Effort) → (turn_in p m l c).missed ≡ c.missed
+pub turn_missed : (p : Phase) (m : Manager) (l : LocalState) (c : Effort) → (turn_in p m l c).missed ≡ c.missed
 turn_missed Paused m l c = refl
 turn_missed p m l c = cond_both (c.left == 0) (turn (turns_of (chosen m l c)) (when_asked m l c)) (turn c.left c)
     (λ (x : Effort). x.missed ≡ c.missed) (λ _. refl) (λ _. refl)

@@ -1,7 +1,7 @@
 -- Passes and last validations: what stands before the event that ends one.
 use Rattle.std.proofs.Common.{◌≡◌, ◌≢◌, ◌⊎◌, ℕ, ◌+◌, ◌<◌, ◌==◌, ◌||◌, ◌∙◌, Bool, true, false, not, List, [], ◌∷◌, ◌++◌, length, Some, None, refl, ap, sym, subst, inl, inr, arith, add-one}
 use Rattle.std.specs.Prelude.{Option, if◌then◌else◌, slice_get}
-use Rattle.std.proofs.lemmas.Bool.{cond_both, eqb-true}
+use Rattle.std.proofs.lemmas.Bool.{cond_both, eqb-true, or_parts}
 use Rattle.dstm_core.specs.Events.{Event}
 use Rattle.dstm_core.specs.declared.event.Kind.{Kind}
 use Rattle.dstm_core.specs.declared.event.Kind.TheVariants.{Enrol, Stamp, Rank, Begin, LookObj, LookOwner, LookStatus, LookRank, LookOld, LookHigh, LookNew, PutOwner, PutOld, Install, LookNumber, Check, LookSelf, Release, PutHigh, PutNew, Validating as ToValidating, Draw, Commit, Kill, Quit, Pause, Resume}
@@ -101,10 +101,6 @@ goes Done = false
 goes (Step Quit n) = false
 goes (Step k n) = true
 
-or_false : (a b : Bool) → (a || b) ≡ false → (a ≡ false) × (b ≡ false)
-or_false true b h = absurd (cc)
-or_false false b h = (refl, h)
-
 pub goes_on : (w : Work) (s : Shape) (newest : Option Event) (l : LocalState) (c : Effort) (d : Due) →
     due (Doing w) s newest l c ≡ d → goes d ≡ true → GoesOn w s newest l c d
 goes_on w s newest l c d q h =
@@ -112,7 +108,7 @@ goes_on w s newest l c d q h =
     (λ _ p. let x = ap goes p in absurd (cc))
     (λ _. cond_both (l.stale || c.missed == MAX_MISSED) (just Quit) table Goal
     (λ _ p. let x = ap goes p in absurd (cc))
-    (λ r p. record { agreed = (or_false l.stale (c.missed == MAX_MISSED) r).0; table = p })) q
+    (λ r p. record { agreed = (or_parts l.stale (c.missed == MAX_MISSED) r).0; table = p })) q
   where
     table : Due
     table = next_or_first newest w s.manager l c
@@ -139,7 +135,7 @@ check_needed number last l n other q =
     cond_both (l.checked == length l.reads || is_same l.last_pass (number l)) (just last) (just Check)
     (λ d. d ≡ Step Check n → is_same l.last_pass (number l) ≡ false)
     (λ _ p. absurd (other (cc)))
-    (λ r _. (or_false (l.checked == length l.reads) (is_same l.last_pass (number l)) r).1) q
+    (λ r _. (or_parts (l.checked == length l.reads) (is_same l.last_pass (number l)) r).1) q
 
 -- what stands at the end: an event that finds a number, and the checks made since
 pub record Chain (first last : Kind) (number : LocalState → Option ℕ) (s : Shape) (l : LocalState) (w : Work) (g : Lcg)

@@ -22,6 +22,8 @@ use Rattle.dstm_opacity.proofs.Versions.{owner_of, status_of}
 use Rattle.dstm_core.proofs.Underway.{not_begin, own_same, status_or_killed}
 use Rattle.dstm_progress.proofs.Oldest.{looked_apart, owner_same, paused_how}
 use Rattle.dstm_progress.proofs.Ranks.{owner_known}
+use Rattle.dstm_opacity.proofs.Tidy.{drop_keeps, read_of-none, read_apart}
+use Rattle.dstm_opacity.proofs.LastPass.{none_from}
 
 -- ---- reads that are as they were recorded
 
@@ -30,20 +32,6 @@ abbrev pub AreNow : Shape → List Event → List Read → Type 0
 AreNow s es [] = Unit {0}
 AreNow s es (r ∷ rs) =
     (r.object < s.objects) × (at es r.object ≡ r.word) × (read_of r.object rs ≡ None) × AreNow s es rs
-
--- an object that is not read is not the first one's
-not_first : (p : ℕ) (r : Read) (rs : List Read) → read_of p (r ∷ rs) ≡ None →
-    (r.object ≢ p) × (read_of p rs ≡ None)
-not_first p r rs h = go (cases_Bool (r.object == p))
-  where
-    go : (r.object == p ≡ true) ⊎ (r.object == p ≡ false) → (r.object ≢ p) × (read_of p rs ≡ None)
-    go (inl q) = absurd (let x : Some r ≡ None = rw q at h in cc)
-    go (inr q) = ((λ z. absurd (let x = eq-eqb r.object p z in cc)), rw q at h)
-
-first_not : (p : ℕ) (r : Read) (rs : List Read) → r.object ≢ p → read_of p rs ≡ None → read_of p (r ∷ rs) ≡ None
-first_not p r rs n h =
-    cond_both (r.object == p) (Some r) (read_of p rs) (λ (o : Option Read). o ≡ None)
-    (λ q. absurd (n (eqb-true r.object p q))) (λ _. h)
 
 pub now_keep : (s : Shape) (es : List Event) (e : Event) (rs : List Read) →
     ((o : ℕ) → o < s.objects → at (e ∷ es) o ≡ at es o) → AreNow s es rs → AreNow s (e ∷ es) rs
@@ -55,21 +43,15 @@ now_but : (s : Shape) (es : List Event) (e : Event) (p : ℕ) (rs : List Read) �
     ((o : ℕ) → o < s.objects → o ≢ p → at (e ∷ es) o ≡ at es o) → read_of p rs ≡ None → AreNow s es rs →
     AreNow s (e ∷ es) rs
 now_but s es e p [] same n h = tt
-now_but s es e p (r ∷ rs) same n h = let x = not_first p r rs n in
+now_but s es e p (r ∷ rs) same n h = let x = read_apart p r rs n in
     (h.0, same r.object h.0 x.0 ∙ h.1, h.2, now_but s es e p rs same x.1 h.3)
-
-unread_drop : (p q : ℕ) (rs : List Read) → read_of q rs ≡ None → read_of q (drop_read p rs) ≡ None
-unread_drop p q [] h = refl
-unread_drop p q (r ∷ rs) h = let x = not_first q r rs h in
-    cond_both (r.object == p) rs (r ∷ drop_read p rs) (λ (ys : List Read). read_of q ys ≡ None) (λ _. x.1)
-    (λ _. first_not q r (drop_read p rs) x.0 (unread_drop p q rs x.1))
 
 now_drop : (s : Shape) (es : List Event) (p : ℕ) (rs : List Read) → AreNow s es rs →
     AreNow s es (drop_read p rs)
 now_drop s es p [] h = tt
 now_drop s es p (r ∷ rs) h =
     cond_both (r.object == p) rs (r ∷ drop_read p rs) (AreNow s es) (λ _. h.3)
-    (λ _. (h.0, h.1, unread_drop p r.object rs h.2, now_drop s es p rs h.3))
+    (λ _. (h.0, h.1, drop_keeps p r.object rs h.2, now_drop s es p rs h.3))
 
 -- an object whose read was dropped is not read
 dropped : (s : Shape) (es : List Event) (p : ℕ) (rs : List Read) → AreNow s es rs →
@@ -80,19 +62,19 @@ dropped s es p (r ∷ rs) h = go (cases_Bool (r.object == p)) (dropped s es p rs
     go : (r.object == p ≡ true) ⊎ (r.object == p ≡ false) → read_of p (drop_read p rs) ≡ None →
         read_of p (if r.object == p then rs else r ∷ drop_read p rs) ≡ None
     go (inl q) ih = rw q (ap (λ o. read_of o rs) (sym (eqb-true r.object p q)) ∙ h.2)
-    go (inr q) ih = rw q (first_not p r (drop_read p rs) (λ z. absurd (let x = eq-eqb r.object p z in cc)) ih)
+    go (inr q) ih = rw q (read_of-none p r (drop_read p rs) (λ z. absurd (let x = eq-eqb r.object p z in cc)) ih)
 
 now_snoc : (s : Shape) (es : List Event) (rs : List Read) (x : Read) → AreNow s es rs → x.object < s.objects →
     at es x.object ≡ x.word → read_of x.object rs ≡ None → AreNow s es (rs ++ x ∷ [])
 now_snoc s es [] x h b w n = (b, w, refl, tt)
-now_snoc s es (r ∷ rs) x h b w n = let y = not_first x.object r rs n in
+now_snoc s es (r ∷ rs) x h b w n = let y = read_apart x.object r rs n in
     (h.0, h.1, unread_snoc r.object rs x h.2 (λ z. y.0 (sym z)), now_snoc s es rs x h.3 b w y.1)
   where
     unread_snoc : (q : ℕ) (rs : List Read) (x : Read) → read_of q rs ≡ None → x.object ≢ q →
         read_of q (rs ++ x ∷ []) ≡ None
-    unread_snoc q [] x h n = first_not q x [] n refl
-    unread_snoc q (r ∷ rs) x h n = let y = not_first q r rs h in
-        first_not q r (rs ++ x ∷ []) y.0 (unread_snoc q rs x y.1 n)
+    unread_snoc q [] x h n = read_of-none q x [] n refl
+    unread_snoc q (r ∷ rs) x h n = let y = read_apart q r rs h in
+        read_of-none q r (rs ++ x ∷ []) y.0 (unread_snoc q rs x y.1 n)
 
 now_get : (s : Shape) (es : List Event) (rs : List Read) (i : ℕ) → AreNow s es rs → i < length rs →
     at es (or_read (slice_get rs i)).object ≡ (or_read (slice_get rs i)).word
@@ -135,12 +117,8 @@ pub now_record : (s : Shape) (es : List Event) (own : ℕ) (o : Option Resolutio
 now_record s es own None rs b n h = h
 now_record s es own (Some r) rs b n h =
     cond_both (is_resolved r && is_none (read_of r.object rs)) _ rs (AreNow s es)
-    (λ q. now_snoc s es rs _ h b n.0 (is_none_none (read_of r.object rs)
+    (λ q. now_snoc s es rs _ h b n.0 (none_from (read_of r.object rs)
     (and_parts (is_resolved r) (is_none (read_of r.object rs)) q).1)) (λ _. h)
-  where
-    is_none_none : (x : Option Read) → is_none x ≡ true → x ≡ None
-    is_none_none None q = refl
-    is_none_none (Some y) q = absurd (cc)
 
 -- ---- an attempt that is alone
 

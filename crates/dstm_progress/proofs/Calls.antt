@@ -35,6 +35,8 @@ use Rattle.dstm_progress.specs.Alone.{AloneCommits, AreCalls, AreOf, IsAlone, Is
 use Rattle.dstm_progress.proofs.Alone.{ResNow, Undisturbed, awake_step, install_succeeds, kill_succeeds, now_res, undisturbed_step}
 use Rattle.dstm_order.proofs.Rows.{Resolves, checking_by, checks_by, pass_by, passed_by, put_by, putting_by, resolving_by}
 use Rattle.dstm_core.proofs.Underway.{is_outside_now, live_under_way}
+use Rattle.dstm_opacity.proofs.Found.{live_below}
+use Rattle.dstm_order.proofs.Misses.{turn_missed}
 
 -- ---- what the table never asks of an attempt that is alone
 
@@ -167,26 +169,13 @@ left_by s l e k a f i o = absurd (i o)
 
 -- ---- no exchange counts as failed
 
-turn_in_missed : (p : Phase) (m : Manager) (l : LocalState) (c : Effort) → (turn_in p m l c).missed ≡ c.missed
-turn_in_missed Paused m l c = refl
-turn_in_missed Outside m l c =
-    cond_both (c.left == 0) _ _ (λ (x : Effort). x.missed ≡ c.missed) (λ _. refl) (λ _. refl)
-turn_in_missed Running m l c =
-    cond_both (c.left == 0) _ _ (λ (x : Effort). x.missed ≡ c.missed) (λ _. refl) (λ _. refl)
-turn_in_missed Putting m l c =
-    cond_both (c.left == 0) _ _ (λ (x : Effort). x.missed ≡ c.missed) (λ _. refl) (λ _. refl)
-turn_in_missed Validating m l c =
-    cond_both (c.left == 0) _ _ (λ (x : Effort). x.missed ≡ c.missed) (λ _. refl) (λ _. refl)
-turn_in_missed Drawn m l c =
-    cond_both (c.left == 0) _ _ (λ (x : Effort). x.missed ≡ c.missed) (λ _. refl) (λ _. refl)
-
 pub missed_after : (k : Kind) (m : Manager) (l : LocalState) (c : Effort) (e : Event) →
     (k ≡ Install → e.found ≡ e.expected) → (k ≡ Kill → e.found ≡ e.expected) →
     (effort_after k m l c e).missed ≡ c.missed
 missed_after LookObj m l c e f g = refl
 missed_after LookStatus m l c e f g =
     cond_both (is_some (res l).status) _ _ (λ (x : Effort). x.missed ≡ c.missed)
-    (λ _. turn_in_missed l.phase m l c)
+    (λ _. turn_missed l.phase m l c)
     (λ _. refl)
 missed_after Install m l c e f g = rw (eq-eqb e.found e.expected (f refl)) refl
 missed_after Kill m l c e f g = rw (eq-eqb e.found e.expected (g refl)) refl
@@ -210,9 +199,6 @@ no_events s (e ∷ es) c d h n =
 status_some : (o : Option ℕ) → is_live (or_zero o) ≡ true → o ≡ Some (or_zero o)
 status_some None h = absurd (cc)
 status_some (Some n) h = refl
-
-live_less : (n : ℕ) → is_live n ≡ true → n < 4
-live_less n h = grind (arith, nat_tests)
 
 pub no_pause_due : (s : Shape) (es : List Event) (e : Event) → Core s (e ∷ es) → IsUnmet s e.caller es →
     Undisturbed s es e.caller → e.kind ≢ Pause
@@ -254,7 +240,7 @@ no_pause_due s es e core (inr h) u k = go may now r.0
         at_name st (inr z) =
             let x = (res (local s es e.caller)).word in
             let owner = (basic s es core.0).owner (x - 1) z.1 in
-            let less = live_less (or_zero (res (local s es e.caller)).status) may.2 in
+            let less = live_below (or_zero (res (local s es e.caller)).status) may.2 in
             let live : status_of s es x < 4 = let y = st.1 in omega arith in
             let way = live_under_way s es core.0 (owner_of s es x) owner.begun live in
             way.0 (no_events s es e.caller (owner_of s es x / s.attempts) h

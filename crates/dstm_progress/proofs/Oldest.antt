@@ -31,6 +31,8 @@ use Rattle.dstm_core.proofs.Underway.{goes_on, not_begin, own_same, status_or_ki
 use Rattle.dstm_progress.proofs.Ranks.{found_rank, owner_known, owner_rank_stays, rank_found, rank_of_owner}
 use Rattle.dstm_core.proofs.Begun.{begun_how}
 use Rattle.dstm_core.proofs.Underway.{live_under_way}
+use Rattle.dstm_opacity.proofs.Found.{live_below}
+use Rattle.dstm_opacity.proofs.Begins.{begun_later}
 
 -- ---- the oldest stays the oldest
 
@@ -188,9 +190,6 @@ younger s es c x g core b o (inr z) pos apart live =
     ap (λ a. word s es (RankWord a)) (sym way.1) ∙ own_rank s es (λ q. cc) core d way.2 way.0 in
     rw here less
 
-is_live_below : (n : ℕ) → is_live n ≡ true → n < 4
-is_live_below n h = grind (arith, nat_tests)
-
 kill_put : (found expected put : ℕ) → put ≡ cond (found == expected) 5 found → (put ≡ 5) ⊎ (put ≡ found)
 kill_put found expected put h = grind (arith, nat_tests)
 
@@ -222,7 +221,7 @@ elder_own s es e g core f LookStatus n a i h =
         rw (owner_rank_stays s es e (res l).word g core r.0 o.0)
             (younger s es e.caller (res l).word g core.0 core.1.caller f.oldest r.0 o.0 (known.0 o.0)
             (let w : status_of s es (res l).word ≡ e.found = ap (λ m. word s es (StatusWord m)) (sym o.1)
-            ∙ ap (at es) (sym a.0) ∙ sym core.1.linked in let y = is_live_below e.found q in omega arith)),
+            ∙ ap (at es) (sym a.0) ∙ sym core.1.linked in let y = live_below e.found q in omega arith)),
       )),
     )
 elder_own s es e g core f Kill n a i h =
@@ -237,7 +236,7 @@ elder_own s es e g core f Kill n a i h =
             (younger s es e.caller (res l).word g core.0 core.1.caller f.oldest r.0 o.0 (known.0 o.0)
             (let w : status_of s es (res l).word ≡ e.found = ap (λ m. word s es (StatusWord m)) (sym o.1)
             ∙ ap (at es) (sym a.0) ∙ sym core.1.linked in
-            let y = is_live_below e.put q in
+            let y = live_below e.put q in
             rw w (go y (kill_put e.found (or_zero (res l).status) e.put a.1.1)))),
       )),
     )
@@ -480,12 +479,6 @@ still_under_way s es e c n core lt q i = (
     go lt q i (inl x) = absurd (let y = x.1 in omega arith)
     go lt q i (inr x) = (goes_on s (local s es e.caller) e e.kind core.1.allowed x.0
         (phase_how s e.caller (local s es e.caller) e e.kind (static s es core.0 e.caller) core.1.allowed i)).0
-
-pub begun_later : (s : Shape) (more es : List Event) (c : ℕ) →
-    (local s es c).begun ≤ (local s (more ++ es) c).begun
-begun_later s [] es c = omega arith
-begun_later s (e ∷ more) es c =
-    let a = begun_later s more es c in let b = begun_more s (more ++ es) e c in omega arith
 
 -- an attempt that began as the oldest is safe as long as it is under way
 pub stays_safe : (s : Shape) (later : List Event) (begin : Event) (before : List Event) → s.manager ≡ Greedy →

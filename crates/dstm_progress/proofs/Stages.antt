@@ -26,6 +26,7 @@ use Rattle.dstm_order.specs.Tasks.{Work}
 use Rattle.dstm_order.specs.Tasks.Work.{Reading, Writing, Releasing, Rechecking, Committing}
 use Rattle.dstm_progress.proofs.Calls.{not_paused}
 use Rattle.dstm_progress.proofs.Room.{Blank, NextStage, Stage, Still, Unread, base, closes, conflict_falls, drawing, ended, installing, left_of, looking, looking_done, looking_finished, looking_high, looking_new, looking_owned, looking_ranked, looking_seen, looking_versioned, numbering, one_if, opening, opens, owning, passed, passing, puts_left, putting, releasing, resolving, tail, turns_whole, unchecked, validating}
+use Rattle.dstm_core.proofs.Static.{length-snoc}
 
 -- what is known of an event of a call on an attempt that is alone
 pub record Facts (s : Shape) (l : LocalState) (e : Event) : Type 0 where
@@ -363,9 +364,6 @@ owning_step s w l f n e op st un rm k = subst (NextStage s w e l f n) (sym k) (r
   falls = omega arith;
 })
 
-length_more : (ws : List Write) (x : Write) → length (ws ++ x ∷ []) ≡ length ws + 1
-length_more ws x = omega (arith, length-append {A = Write} ws (x ∷ []))
-
 installing_step : (s : Shape) (w : Work) (l : LocalState) (f : Effort) (n : ℕ) (e : Event) → opens w ≡ true →
     Still l → Unread l → 6 ≤ n → e.kind ≡ Install → e.found ≡ e.expected → NextStage s w e l f n e.kind
 installing_step s w l f n e op st un rm k ok =
@@ -381,7 +379,7 @@ installing_step s w l f n e op st un rm k ok =
   where
     more : tail w ≡ 1 → 2 + tail w + 1 + puts_left (install s l) ≤ n + puts_left l
     more t =
-        let x : length (install s l).writes ≡ length l.writes + 1 = length_more l.writes (record {
+        let x : length (install s l).writes ≡ length l.writes + 1 = length-snoc l.writes (record {
           object = (res l).object;
           locator = next_locator s l;
           old = or_zero (version (res l));
