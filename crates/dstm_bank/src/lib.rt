@@ -74,7 +74,7 @@ pub fn balance<M: Mem>(mem: &mut M, layout: &Layout, account: u32) -> Result<Rep
     ensures does { IfOk result (λ reply. (map : List Val) → M.Admits mem.new map →
         Does (IsBank layout.now) (Op.Balance account)
         (with_set map (M.written mem.old)) (with_set map (M.written mem.new)) reply) }
-    ensures reads { OnOk result (OnlyReads M.Mem mem.old mem.new) }
+    ensures looks { OnOk result (OnlyReads M.Mem mem.old mem.new) }
     ensures opens { OnOk result ((p : ℕ) → p ≢ account →
         (M.held mem.new p ≡ M.held mem.old p) × (M.is_opened mem.new p ≡ M.is_opened mem.old p)) }
     ensures leads { Leads M.Mem mem.old mem.new result }
@@ -94,7 +94,7 @@ pub fn total<M: Mem>(mem: &mut M, layout: &Layout) -> Result<Reply, M::Err>
         Does (IsBank layout.now) Op.Total
         (with_set map (M.written mem.old)) (with_set map (M.written mem.new)) reply) }
     ensures audits { OnOk result ((a : ℕ) → a < layout.now.accounts → IsSome (M.held mem.new a)) }
-    ensures reads { OnOk result (OnlyReads M.Mem mem.old mem.new) }
+    ensures looks { OnOk result (OnlyReads M.Mem mem.old mem.new) }
     ensures opens { OnOk result ((p : ℕ) → layout.now.accounts ≤ p →
         (M.held mem.new p ≡ M.held mem.old p) × (M.is_opened mem.new p ≡ M.is_opened mem.old p)) }
     ensures leads { Leads M.Mem mem.old mem.new result }

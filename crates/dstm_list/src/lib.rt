@@ -113,7 +113,7 @@ pub fn member<M: Mem>(mem: &mut M, layout: &Layout, key: u32) -> Result<Reply, M
     ensures does { IfOk result (λ reply. (map : List Val) → M.Admits mem.new map →
         Does (IsList layout.now) (Op.Member which.List key)
         (with_set map (M.written mem.old)) (with_set map (M.written mem.new)) reply) }
-    ensures reads { OnOk result (OnlyReads M.Mem mem.old mem.new) }
+    ensures looks { OnOk result (OnlyReads M.Mem mem.old mem.new) }
     ensures holds { OnOk result (SameOutside layout.now (M.held mem.old) (M.held mem.new)) }
     ensures opens { OnOk result (SameOutside layout.now (M.is_opened mem.old) (M.is_opened mem.new)) }
 

@@ -30,7 +30,7 @@ pub fn look<M: Mem>(mem: &mut M, layout: &Layout, object: u32) -> Result<Node, M
         node.key ≡ key_of (value_at (with_set map (M.written mem.old)) object)) }
     ensures next { IfOk result (λ node. (map : List Val) → M.Admits mem.new map →
         node.next ≡ next_of (value_at (with_set map (M.written mem.old)) object)) }
-    ensures reads { OnOk result (OnlyReads M.Mem mem.old mem.new) }
+    ensures looks { OnOk result (OnlyReads M.Mem mem.old mem.new) }
     ensures holds { OnOk result (SameOutside layout.now (M.held mem.old) (M.held mem.new)) }
     ensures opens { OnOk result (SameOutside layout.now (M.is_opened mem.old) (M.is_opened mem.new)) }
 

@@ -34,7 +34,7 @@ pub fn find<M: Mem>(mem: &mut M, layout: &Layout, key: u32) -> Result<Place, M::
         (list : IsList layout.now (with_set map (M.written mem.old)) store) →
         IsPlace (list_begin layout.now) key found list.cells) }
     ensures link { IfOk result (λ found. IsOfList layout.now found.link) }
-    ensures reads { OnOk result (OnlyReads M.Mem mem.old mem.new) }
+    ensures looks { OnOk result (OnlyReads M.Mem mem.old mem.new) }
     ensures holds { OnOk result (SameOutside layout.now (M.held mem.old) (M.held mem.new)) }
     ensures opens { OnOk result (SameOutside layout.now (M.is_opened mem.old) (M.is_opened mem.new)) }
 

@@ -28,7 +28,7 @@ overflow_add-sum g c =
       within = c.loop-account-test.true;
       value = value_at-opened map (M.written start) (M.written mem) (M.held mem) c.loop-account.account c.in_ok-sum.field-0
           (omega (arith, size, c.requires.ready.objects)) (laws.admitted_agrees mem map admitted)
-          (λ p. opened.written p ∙ so_far.reads.sets p) opened.value;
+          (λ p. opened.written p ∙ so_far.looks.sets p) opened.value;
     } in
     let (store, bank) = c.requires.ready.lawful map in_start in
     let fits = sum_first-fits c.requires.valid bank has in
@@ -59,9 +59,9 @@ loop-account-preserved g c =
       holds = λ p some.
           let same = so_far.holds p some in
           opened.held.kept p (subst IsSome (sym same) some) ∙ same;
-      reads = record {
-        sets = λ p. opened.written p ∙ so_far.reads.sets p;
-        opens = λ off p. opened.unmarked (ap M.all_write so_far.place ∙ off) p ∙ so_far.reads.opens off p;
+      looks = record {
+        sets = λ p. opened.written p ∙ so_far.looks.sets p;
+        opens = λ off p. opened.unmarked (ap M.all_write so_far.place ∙ off) p ∙ so_far.looks.opens off p;
       };
       opens = λ p h. (
         opened.held.others p (other_than p h) ∙ (so_far.opens p h).0,
@@ -74,7 +74,7 @@ loop-account-preserved g c =
             within = below;
             value = value_at-opened map (M.written start) (M.written mem) (M.held mem) account c.in_ok-sum.field-0
                 (omega (arith, size, c.requires.ready.objects)) (laws.admitted_agrees mem map admitted)
-                (λ p. opened.written p ∙ so_far.reads.sets p) opened.value;
+                (λ p. opened.written p ∙ so_far.looks.sets p) opened.value;
           } in
           ap (λ n. n + c.in_ok-sum.field-0.low) (so_far.sums map in_loop store bank) ∙ sym (sum_first-more bank has);
     }
@@ -87,5 +87,5 @@ returns-clause-does g c map admitted =
     let old = M.written c.args.mem.now in
     let before = with_set map old in
     subst (λ after. Does (IsBank layout) Total before after (Number c.loop-account.sum))
-    (sym (with_set-same map old (M.written c.loop-account.mem) so_far.reads.sets))
+    (sym (with_set-same map old (M.written c.loop-account.mem) so_far.looks.sets))
     (does-total layout before c.loop-account.account c.loop-account.sum c.loop-account-test.false (so_far.sums map admitted))

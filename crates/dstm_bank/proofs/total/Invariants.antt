@@ -18,7 +18,7 @@ invariant-loop-account g l =
       admits : 0 < l.account → (map : List Val) × M.Admits l.mem map;
       audits : (a : ℕ) → a < l.account → IsSome (M.held l.mem a);
       holds : (p : ℕ) → IsSome (M.held l.fn.mem p) → M.held l.mem p ≡ M.held l.fn.mem p;
-      reads : OnlyReads M l.fn.mem l.mem;
+      looks : OnlyReads M l.fn.mem l.mem;
       opens : (p : ℕ) → l.layout.accounts ≤ p →
           (M.held l.mem p ≡ M.held l.fn.mem p) × (M.is_opened l.mem p ≡ M.is_opened l.fn.mem p);
       sums : (map : List Val) → M.Admits l.mem map →

@@ -19,7 +19,7 @@ returns-then-is_some-clause-does g c map admitted =
     let old = M.written c.args.mem.now in
     let done = c.in_ok-place.ensures in
     subst (λ after. Does (IsList layout) (Insert which.List c.args.key) (with_set map old) after No)
-    (sym (with_set-same map old (M.written c.find.new.mem) done.reads.sets))
+    (sym (with_set-same map old (M.written c.find.new.mem) done.looks.sets))
     (does-no_insert c.args.key c.in_ok-place.place (done.finds map admitted)
     (sym c.is_some.ensures ∙ c.if-is_some.true))
 
@@ -32,13 +32,13 @@ returns-then-number-eq0-clause-does g c map admitted =
     let before = with_set map old in
     let done = c.in_ok-place.ensures in
     let looked = c.in_ok-number.ensures in
-    let same_find = with_set-same map old (M.written c.find.new.mem) done.reads.sets in
+    let same_find = with_set-same map old (M.written c.find.new.mem) done.looks.sets in
     let free_is : c.node_object-free.result ≡ free_object (list_begin layout) =
     omega (arith, c.node_object-free.ensures) in
     let free = looked.next map admitted
     ∙ ap next_of (ap (λ x. value_at x c.node_object-free.result) same_find ∙ ap (value_at before) free_is) in
     subst (λ after. Does (IsList layout) (Insert which.List c.args.key) before after Full)
-    (sym (with_set-same map old (M.written c.look.new.mem) (λ p. looked.reads.sets p ∙ done.reads.sets p)))
+    (sym (with_set-same map old (M.written c.look.new.mem) (λ p. looked.looks.sets p ∙ done.looks.sets p)))
     (does-full c.args.key c.in_ok-number.field-0.next c.in_ok-place.place c.requires.valid c.requires.fits.0
     (done.finds map (looked.leads.narrows map admitted))
     (sym c.is_some.ensures ∙ c.if-is_some.false) free c.if-number-eq0.true)
@@ -53,7 +53,7 @@ replace-requires-clause-list g c =
     let (map, admitted) = looked.leads.admits in
     let in_find = looked.leads.narrows map admitted in
     let (store, list) = c.requires.ready.lawful map (done.leads.narrows map in_find) in
-    let same_find = with_set-same map (M.written start) (M.written c.find.new.mem) done.reads.sets in
+    let same_find = with_set-same map (M.written start) (M.written c.find.new.mem) done.looks.sets in
     let free_is : c.node_object-free.result ≡ free_object (list_begin layout) =
     omega (arith, c.node_object-free.ensures) in
     let free = looked.next map admitted ∙ ap next_of (ap (λ x. value_at x c.node_object-free.result) same_find
@@ -80,9 +80,9 @@ returns-clause-does g c map admitted =
     let in_look = one.leads.narrows map in_one in
     let in_find = looked.leads.narrows map in_look in
     let before = with_set map (M.written start) in
-    let same_find = with_set-same map (M.written start) (M.written c.find.new.mem) done.reads.sets in
+    let same_find = with_set-same map (M.written start) (M.written c.find.new.mem) done.looks.sets in
     let same =
-    with_set-same map (M.written start) (M.written c.look.new.mem) (λ p. looked.reads.sets p ∙ done.reads.sets p) in
+    with_set-same map (M.written start) (M.written c.look.new.mem) (λ p. looked.looks.sets p ∙ done.looks.sets p) in
     let size = g.met.M.Mem.admitted_length start map (done.leads.narrows map in_find) in
     let in_map : tree_begin layout ≤ length before =
     omega (arith, size, c.requires.ready.objects, length-with_set map (M.written start)) in
@@ -112,11 +112,11 @@ returns-clause-does g c map admitted =
     (sym c.is_some.ensures ∙ c.if-is_some.false) done.link free c.if-number-eq0.false had)
 
 pub returns-then-is_some-clause-few : goal.returns-then-is_some-clause-few
-returns-then-is_some-clause-few g c = (0, (0, λ p _ _ _. c.in_ok-place.ensures.reads.sets p))
+returns-then-is_some-clause-few g c = (0, (0, λ p _ _ _. c.in_ok-place.ensures.looks.sets p))
 
 pub returns-then-number-eq0-clause-few : goal.returns-then-number-eq0-clause-few
 returns-then-number-eq0-clause-few g c =
-    (0, (0, λ p _ _ _. c.in_ok-number.ensures.reads.sets p ∙ c.in_ok-place.ensures.reads.sets p))
+    (0, (0, λ p _ _ _. c.in_ok-number.ensures.looks.sets p ∙ c.in_ok-place.ensures.looks.sets p))
 
 pub returns-clause-few : goal.returns-clause-few
 returns-clause-few g c =
@@ -129,8 +129,8 @@ returns-clause-few g c =
             c.in_ok-replace-2.ensures.written.others p not_link
             ∙ c.in_ok-replace.ensures.written.others p (λ e. not_free (e ∙ free_is))
             ∙ c.in_ok-rest.ensures.written.others p (λ e. not_node (e ∙ c.node_object-object.ensures))
-            ∙ c.in_ok-number.ensures.reads.sets p
-            ∙ c.in_ok-place.ensures.reads.sets p,
+            ∙ c.in_ok-number.ensures.looks.sets p
+            ∙ c.in_ok-place.ensures.looks.sets p,
       ),
     )
 
@@ -144,7 +144,7 @@ returns-clause-marks g c =
     let at_look = leads-then M done.leads looked.leads in
     let at_one = leads-then M at_look one.leads in
     let at_two = leads-then M at_one two.leads in
-    let before = opens_to_set-of_reads M (only_reads-then M done.leads done.reads looked.reads) in
+    let before = opens_to_set-of_reads M (only_reads-then M done.leads done.looks looked.looks) in
     opens_to_set-then M at_two
     (opens_to_set-then M at_one (opens_to_set-then M at_look before one.marks) two.marks)
     c.in_ok-replace-2.ensures.marks

@@ -18,7 +18,7 @@ returns-in_default-clause-does g c map admitted =
     let old = M.written c.args.mem.now in
     let done = c.in_ok-place.ensures in
     subst (λ after. Does (IsList layout) (Remove which.List c.args.key) (with_set map old) after No)
-    (sym (with_set-same map old (M.written c.find.new.mem) done.reads.sets))
+    (sym (with_set-same map old (M.written c.find.new.mem) done.looks.sets))
     (does-no_remove c.args.key c.in_ok-place.place (done.finds map admitted) c.in_default.is)
 
 pub replace-requires-2-clause-list : goal.replace-requires-2-clause-list
@@ -49,7 +49,7 @@ returns-clause-does g c map admitted =
     let in_one = two.leads.narrows map (three.leads.narrows map admitted) in
     let in_find = one.leads.narrows map in_one in
     let before = with_set map (M.written start) in
-    let same = with_set-same map (M.written start) (M.written c.find.new.mem) done.reads.sets in
+    let same = with_set-same map (M.written start) (M.written c.find.new.mem) done.looks.sets in
     let size = g.met.M.Mem.admitted_length start map (done.leads.narrows map in_find) in
     let in_map : tree_begin layout ≤ length before =
     omega (arith, size, c.requires.ready.objects, length-with_set map (M.written start)) in
@@ -75,7 +75,7 @@ returns-clause-does g c map admitted =
     (done.finds map in_find) c.in-Some.is done.link had)
 
 pub returns-in_default-clause-few : goal.returns-in_default-clause-few
-returns-in_default-clause-few g c = (0, (0, λ p _ _ _. c.in_ok-place.ensures.reads.sets p))
+returns-in_default-clause-few g c = (0, (0, λ p _ _ _. c.in_ok-place.ensures.looks.sets p))
 
 pub returns-clause-few : goal.returns-clause-few
 returns-clause-few g c =
@@ -88,6 +88,6 @@ returns-clause-few g c =
             c.in_ok-replace-2.ensures.written.others p not_link
             ∙ c.in_ok-replace.ensures.written.others p (λ e. not_node (e ∙ c.node_object-object.ensures))
             ∙ c.in_ok-rest.ensures.written.others p (λ e. not_free (e ∙ free_is))
-            ∙ c.in_ok-place.ensures.reads.sets p,
+            ∙ c.in_ok-place.ensures.looks.sets p,
       ),
     )

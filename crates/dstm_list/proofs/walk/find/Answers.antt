@@ -15,7 +15,7 @@ loop-before-init g c =
     record {
       leads = opened.leads;
       link = head-of_list c.args.layout.now c.requires.declared;
-      reads = opened.reads;
+      looks = opened.looks;
       holds = opened.holds;
       opens = opened.opens;
       stands = λ map admitted store list.
@@ -40,7 +40,7 @@ returns-then-node-from-clause-finds g c map admitted store list =
     let opened = c.in_ok-node.ensures in
     let node = c.in_ok-node.node in
     let stands = so_far.stands map (opened.leads.narrows map admitted) store list in
-    let same = with_set-same map (M.written c.args.mem.now) (M.written c.loop-before.mem) so_far.reads.sets in
+    let same = with_set-same map (M.written c.args.mem.now) (M.written c.loop-before.mem) so_far.looks.sets in
     let ahead =
     stands-seen
     (with_set map (M.written c.loop-before.mem)) c.node_object-object.result node c.requires.valid
@@ -55,7 +55,7 @@ returns-then-node-from-2-clause-finds g c map admitted store list =
     let opened = c.in_ok-node.ensures in
     let node = c.in_ok-node.node in
     let stands = so_far.stands map (opened.leads.narrows map admitted) store list in
-    let same = with_set-same map (M.written c.args.mem.now) (M.written c.loop-before.mem) so_far.reads.sets in
+    let same = with_set-same map (M.written c.args.mem.now) (M.written c.loop-before.mem) so_far.looks.sets in
     let ahead =
     stands-seen
     (with_set map (M.written c.loop-before.mem)) c.node_object-object.result node c.requires.valid
@@ -74,7 +74,7 @@ loop-before-smaller g c =
     let in_loop = opened.leads.narrows map admitted in
     let (store, list) = c.requires.ready.lawful map (so_far.leads.narrows map in_loop) in
     let stands = so_far.stands map in_loop store list in
-    let same = with_set-same map (M.written c.args.mem.now) (M.written c.loop-before.mem) so_far.reads.sets in
+    let same = with_set-same map (M.written c.args.mem.now) (M.written c.loop-before.mem) so_far.looks.sets in
     let ahead =
     stands-seen
     (with_set map (M.written c.loop-before.mem)) c.node_object-object.result node c.requires.valid
@@ -113,12 +113,12 @@ loop-before-preserved g c =
       leads = leads-then M so_far.leads opened.leads;
       link = subst (IsOfList layout) (sym c.node_object-object.ensures)
           (node-of_list layout c.loop-before.before.next c.requires.declared within);
-      reads = only_reads-then M so_far.leads so_far.reads opened.reads;
+      looks = only_reads-then M so_far.leads so_far.looks opened.looks;
       holds = λ p outside. opened.holds p outside ∙ so_far.holds p outside;
       opens = λ p outside. opened.opens p outside ∙ so_far.opens p outside;
       stands = λ map admitted store list.
           let stands = so_far.stands map (opened.leads.narrows map admitted) store list in
-          let same = with_set-same map (M.written c.args.mem.now) (M.written c.loop-before.mem) so_far.reads.sets in
+          let same = with_set-same map (M.written c.args.mem.now) (M.written c.loop-before.mem) so_far.looks.sets in
           let ahead =
           stands-seen
           (with_set map (M.written c.loop-before.mem)) c.node_object-object.result node c.requires.valid

@@ -16,7 +16,7 @@ invariant-loop-before g l =
     record {
       leads : Leads M l.fn.mem l.mem (Ok l.before);
       link : IsOfList l.layout l.link;
-      reads : OnlyReads M l.fn.mem l.mem;
+      looks : OnlyReads M l.fn.mem l.mem;
       holds : SameOutside l.layout (M.held l.fn.mem) (M.held l.mem);
       opens : SameOutside l.layout (M.is_opened l.fn.mem) (M.is_opened l.mem);
       stands : (map : List Val) → M.Admits l.mem map →
