@@ -8,42 +8,10 @@ use Rattle.dstm_core.specs.Histories.{Lawful}
 use Rattle.dstm_core.specs.Rules.{AllowedAs}
 use Rattle.dstm_core.specs.Runs.{Core, Fits, local}
 use Rattle.dstm_core.specs.Traces.{at}
+use Rattle.dstm_opacity.proofs.Fitting.{AllFit, core_then, enrol, fit, ◌also◌}
 use Rattle.dstm_opacity.specs.Example.{SomeRun, before_commit, before_sight, reader_checks, reader_commit, reader_draws, run, shape, sight, start, then, writer_again, writer_commits}
 
--- each of some events, the oldest first, fits the run before it
-abbrev AllFit : List Event → List Event → Type 0
-AllFit before [] = Unit {0}
-AllFit before (e ∷ events) = Fits shape before e × AllFit (e ∷ before) events
-
-core_then : (before events : List Event) → Core shape before → AllFit before events →
-    Core shape (then before events)
-core_then before [] core h = core
-core_then before (e ∷ events) core h = core_then (e ∷ before) events (core, h.0) h.1
-
--- an event that is no Enrol, and one that is
-fit : {before : List Event} {e : Event} → e.found ≡ at before e.place → e.caller < shape.callers →
-    (e.kind ≡ Enrol → ⊥) → AllowedAs e.kind shape (local shape before e.caller) e → Fits shape before e
-fit linked caller other allowed = record {
-  linked = linked;
-  caller = caller;
-  enrolled = λ q. absurd (other q);
-  allowed = allowed;
-}
-
-enrol : {before : List Event} {e : Event} → e.found ≡ at before e.place → e.caller < shape.callers →
-    e.found ≡ e.caller → AllowedAs e.kind shape (local shape before e.caller) e → Fits shape before e
-enrol linked caller number allowed = record {
-  linked = linked;
-  caller = caller;
-  enrolled = λ q. number;
-  allowed = allowed;
-}
-
-infixr 30 ◌also◌
-◌also◌ : {A B : Type 0} → A → B → A × B
-◌also◌ x y = (x, y)
-
-writer_commits-fit : AllFit [] writer_commits
+writer_commits-fit : AllFit shape [] writer_commits
 writer_commits-fit =
     enrol refl (omega arith) refl (refl, (refl, refl), refl, tt) also
     fit refl (omega arith) (λ q. cc) (refl, (refl, refl), (refl, refl, omega arith, inl refl), omega arith) also
@@ -58,7 +26,7 @@ writer_commits-fit =
     fit refl (omega arith) (λ q. cc) (refl, (refl, refl), (refl, refl, inl refl), omega arith) also
     tt
 
-reader_checks-fit : AllFit (then [] writer_commits) reader_checks
+reader_checks-fit : AllFit shape (then [] writer_commits) reader_checks
 reader_checks-fit =
     enrol refl (omega arith) refl (refl, (refl, refl), refl, tt) also
     fit refl (omega arith) (λ q. cc) (refl, (refl, refl), (refl, refl, omega arith, inl refl), omega arith) also
@@ -74,7 +42,7 @@ reader_checks-fit =
 sight-fits : Fits shape before_sight sight
 sight-fits = fit refl (omega arith) (λ q. cc) (refl, (refl, refl), (refl, refl, refl, inl refl), omega arith)
 
-reader_draws-fit : AllFit (sight ∷ before_sight) reader_draws
+reader_draws-fit : AllFit shape (sight ∷ before_sight) reader_draws
 reader_draws-fit =
     fit refl (omega arith) (λ q. cc) (refl, (refl, refl), (inl (refl, refl), refl), omega arith) also
     fit refl (omega arith) (λ q. cc) (refl, (refl, refl), (refl, refl), tt) also
@@ -83,7 +51,7 @@ reader_draws-fit =
 reader_commit-fits : Fits shape before_commit reader_commit
 reader_commit-fits = fit refl (omega arith) (λ q. cc) (refl, (refl, refl), (refl, refl, inr refl), omega arith)
 
-writer_again-fit : AllFit (reader_commit ∷ before_commit) writer_again
+writer_again-fit : AllFit shape (reader_commit ∷ before_commit) writer_again
 writer_again-fit =
     fit refl (omega arith) (λ q. cc) (refl, (refl, refl), (refl, refl, omega arith, inl refl), omega arith) also
     fit refl (omega arith) (λ q. cc) (refl, (refl, refl), (refl, refl, refl), omega arith) also
@@ -103,10 +71,10 @@ writer_again-fit =
 
 run_fits : Core shape run
 run_fits =
-    let written = core_then [] writer_commits tt writer_commits-fit in
-    let checked = core_then (then [] writer_commits) reader_checks written reader_checks-fit in
-    let drawn = core_then (sight ∷ before_sight) reader_draws (checked, sight-fits) reader_draws-fit in
-    core_then (reader_commit ∷ before_commit) writer_again (drawn, reader_commit-fits) writer_again-fit
+    let written = core_then shape [] writer_commits tt writer_commits-fit in
+    let checked = core_then shape (then [] writer_commits) reader_checks written reader_checks-fit in
+    let drawn = core_then shape (sight ∷ before_sight) reader_draws (checked, sight-fits) reader_draws-fit in
+    core_then shape (reader_commit ∷ before_commit) writer_again (drawn, reader_commit-fits) writer_again-fit
 
 -- each run is one of the law that holds for every map
 any_lawful : (s : Shape) (values : List Val) (es : List Event) → Lawful s values (λ map. Unit {0}) es

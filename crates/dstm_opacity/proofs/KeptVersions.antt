@@ -14,6 +14,7 @@ use Rattle.dstm_core.specs.declared.state.Read.{Read}
 use Rattle.dstm_core.specs.declared.state.Resolution.{Resolution}
 use Rattle.dstm_core.proofs.Basic.{basic, install_may}
 use Rattle.dstm_core.proofs.Static.{callers, has_high, has_owner, has_status, has_version, has_word}
+use Rattle.dstm_opacity.proofs.LastPass.{none_from}
 use Rattle.dstm_opacity.proofs.Recorded.{ReadsNamed, reads, resolved_version}
 use Rattle.dstm_opacity.proofs.Versions.{Named, by_abort, by_commit, by_zero, res_named, res_seen}
 use Rattle.dstm_opacity.proofs.LastPass.{none_from}

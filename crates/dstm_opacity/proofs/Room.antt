@@ -50,9 +50,11 @@ one_more_write s es c o core b out lt none =
     let ok = written s es core c b out in
     omega (
       arith,
-      few_are_named s.objects ((o, no_value) ∷ old_values s [] [] l.writes)
-          (lt, unnamed_old s [] [] o l.writes none,
-          old_once s [] [] es (own_attempt s l) l.writes (tidy s es core c).writes ok),
+      few_are_named s.objects ((o, no_value) ∷ old_values s [] [] l.writes) (
+        lt,
+        unnamed_old s [] [] o l.writes none,
+        old_once s [] [] es (own_attempt s l) l.writes (tidy s es core c).writes ok,
+      ),
       old_values-length s [] [] l.writes,
     )
 

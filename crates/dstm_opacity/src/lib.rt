@@ -8,12 +8,19 @@
 
 pub mod laws;
 
+ghost use Rattle.dstm_opacity.specs.Contest.{SomeContest};
 ghost use Rattle.dstm_opacity.specs.Example.{SomeRun};
 
 /// There is a core run with two committed writers of one object and a reader that commits by the
 /// number alone, so the laws speak of something.
 pub fn some_run()
     ensures { SomeRun }
+{}
+
+/// There is a core run of a law that not every map obeys, under Karma: one attempt aborts another, a rank
+/// rises, a read is let go, and the attempt that is left commits.
+pub fn some_contest()
+    ensures { SomeContest }
 {}
 
 #[cfg(test)]

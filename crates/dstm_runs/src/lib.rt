@@ -8,3 +8,6 @@ mod machine;
 
 pub use event::Event;
 pub use machine::Machine;
+
+#[cfg(test)]
+mod tests;
