@@ -2,12 +2,12 @@
 use Rattle.std.proofs.Common.{◌&&◌, ◌+◌, ◌<◌, ◌≡◌, ◌∷◌, Bool, List, [], ap, arith, drop, false, cond, inl, inr, length, refl, take, true, ℕ, ◌⊎◌}
 use Rattle.std.proofs.lemmas.Bool.{cases_Bool}
 use Rattle.dstm_model.specs.declared.value.Val.{Val}
-use Rattle.dstm_model.specs.Map.{with_writes}
+use Rattle.dstm_model.specs.Map.{with_writes, KeepsLaw}
 use Rattle.dstm_core.specs.Events.{Event}
 use Rattle.dstm_core.specs.declared.event.Kind.{Kind}
 use Rattle.dstm_core.specs.declared.event.Kind.TheVariants.{PutNew}
 use Rattle.dstm_core.specs.declared.shape.Shape.{Shape}
-use Rattle.dstm_core.specs.Histories.{KeepsLaw, Lawful, entry_of}
+use Rattle.dstm_core.specs.Histories.{Lawful, entry_of}
 use Rattle.dstm_core.specs.Runs.{Core, Fits, local}
 use Rattle.dstm_opacity.proofs.Fitting.{AllFit, core_then, enrol, fit, ◌also◌}
 use Rattle.dstm_opacity.specs.Contest.{SomeContest, before_release, lawful, release, rival_commits, rival_kills, rival_reads, run, shape, start, writer_leaves, writer_opens}

@@ -17,7 +17,6 @@ use Rattle.dstm_core.proofs.Static.{callers, has_high, has_owner, has_status, ha
 use Rattle.dstm_opacity.proofs.LastPass.{none_from}
 use Rattle.dstm_opacity.proofs.Recorded.{ReadsNamed, reads, resolved_version}
 use Rattle.dstm_opacity.proofs.Versions.{Named, by_abort, by_commit, by_zero, res_named, res_seen}
-use Rattle.dstm_opacity.proofs.LastPass.{none_from}
 
 -- of an object that is read the word found last is the one recorded
 abbrev WordsAgreeBy : Bool → List Read → Option Resolution → Type 0

@@ -14,24 +14,7 @@ use Rattle.dstm_order.specs.Tasks.Work.{Committing, Writing}
 use Rattle.dstm_progress.specs.Alone.{IsAlone}
 use Rattle.dstm_progress.specs.Example.{SomeAttempts, before, begun, begun_oldest, committed, newest, opened, or_event, the_calls}
 use Rattle.dstm_progress.specs.Oldest.{IsOldest}
-
-fit : {s : Shape} {log : List Event} {e : Event} → e.found ≡ at log e.place → e.caller < s.callers →
-    (e.kind ≡ Enrol → ⊥) → AllowedAs e.kind s (local s log e.caller) e → Fits s log e
-fit linked caller other allowed = record {
-  linked = linked;
-  caller = caller;
-  enrolled = λ q. absurd (other q);
-  allowed = allowed;
-}
-
-enrol : {s : Shape} {log : List Event} {e : Event} → e.found ≡ at log e.place → e.caller < s.callers →
-    e.found ≡ e.caller → AllowedAs e.kind s (local s log e.caller) e → Fits s log e
-enrol linked caller number allowed = record {
-  linked = linked;
-  caller = caller;
-  enrolled = λ q. number;
-  allowed = allowed;
-}
+use Rattle.dstm_opacity.proofs.Fitting.{enrol, fit}
 
 core_begun : Core (small Karma) begun
 core_begun = (
