@@ -2,12 +2,12 @@
 //! the low part of its value.
 #![tactic(auto)]
 
-ghost use Rattle.std.specs.Prelude.{◌≡◌, ◌≢◌, ℕ, ◌<◌, ◌≤◌, List, IsTrue, false, IsSome, Some, IfOk, OnOk, IfErr};
+ghost use Rattle.std.specs.Prelude.{◌≡◌, ◌≢◌, ℕ, ◌<◌, ◌≤◌, List, IsSome, IfOk, OnOk};
 ghost use Rattle.dstm_model.specs.declared.value.Val.{Val};
 ghost use Rattle.dstm_model.specs.Layout.{IsValid, FitsLayout};
-ghost use Rattle.dstm_model.specs.Store.{Store};
 ghost use Rattle.dstm_model.specs.Objects.{objects_of, IsBank, Does};
 ghost use Rattle.dstm_mem.specs.Memory.{with_set};
+ghost use Rattle.dstm_mem.specs.Operations.{IsReady, Leads, OnlyReads, OpensToSet};
 
 use dstm_mem::Mem;
 use dstm_model::{Layout, Op, Reply, Val};
@@ -23,10 +23,7 @@ pub fn transfer<M: Mem>(
 ) -> Result<Reply, M::Err>
     requires valid { IsValid layout.now }
     requires fits { FitsLayout layout.now (Op.Transfer source target amount) }
-    requires objects { M.objects mem.old ≡ objects_of layout.now }
-    requires live { IsTrue (M.is_live mem.old) }
-    requires lawful { (map : List Val) → M.Admits mem.old map →
-        (store : Store) × IsBank layout.now (with_set map (M.written mem.old)) store }
+    requires ready { IsReady M.Mem (objects_of layout.now) (IsBank layout.now) mem.old }
 
     ensures does { IfOk result (λ reply. (map : List Val) → M.Admits mem.new map →
         Does (IsBank layout.now) (Op.Transfer source target amount)
@@ -36,13 +33,11 @@ pub fn transfer<M: Mem>(
         (M.held mem.new p ≡ M.held mem.old p) × (M.is_opened mem.new p ≡ M.is_opened mem.old p)) }
     ensures poor { IfOk result (λ reply. reply ≡ Reply.Poor → (p : ℕ) → p ≢ source →
         (M.held mem.new p ≡ M.held mem.old p) × (M.is_opened mem.new p ≡ M.is_opened mem.old p)) }
-
-    ensures place { M.place mem.new ≡ M.place mem.old }
-    ensures objects { M.objects mem.new ≡ M.objects mem.old }
-    ensures narrows { (map : List Val) → M.Admits mem.new map → M.Admits mem.old map }
-    ensures admits { OnOk result ((map : List Val) × M.Admits mem.new map) }
-    ensures live { OnOk result (IsTrue (M.is_live mem.new)) }
-    ensures ended { IfErr result (λ e. (M.is_live mem.new ≡ false) × (M.error mem.new ≡ Some e)) }
+    ensures unchanged { IfOk result (λ reply. reply ≡ Reply.Poor →
+        (p : ℕ) → M.written mem.new p ≡ M.written mem.old p) }
+    ensures moved { IfOk result (λ reply. reply ≡ Reply.Moved → OpensToSet M.Mem mem.old mem.new) }
+    ensures itself { source ≡ target → OnOk result (OnlyReads M.Mem mem.old mem.new) }
+    ensures leads { Leads M.Mem mem.old mem.new result }
 {
     if source == target {
         let balance = mem.open_read(source)?.low;
@@ -74,24 +69,15 @@ pub fn transfer<M: Mem>(
 pub fn balance<M: Mem>(mem: &mut M, layout: &Layout, account: u32) -> Result<Reply, M::Err>
     requires valid { IsValid layout.now }
     requires fits { FitsLayout layout.now (Op.Balance account) }
-    requires objects { M.objects mem.old ≡ objects_of layout.now }
-    requires live { IsTrue (M.is_live mem.old) }
-    requires lawful { (map : List Val) → M.Admits mem.old map →
-        (store : Store) × IsBank layout.now (with_set map (M.written mem.old)) store }
+    requires ready { IsReady M.Mem (objects_of layout.now) (IsBank layout.now) mem.old }
 
     ensures does { IfOk result (λ reply. (map : List Val) → M.Admits mem.new map →
         Does (IsBank layout.now) (Op.Balance account)
         (with_set map (M.written mem.old)) (with_set map (M.written mem.new)) reply) }
-    ensures sets { OnOk result ((p : ℕ) → M.written mem.new p ≡ M.written mem.old p) }
+    ensures looks { OnOk result (OnlyReads M.Mem mem.old mem.new) }
     ensures opens { OnOk result ((p : ℕ) → p ≢ account →
         (M.held mem.new p ≡ M.held mem.old p) × (M.is_opened mem.new p ≡ M.is_opened mem.old p)) }
-
-    ensures place { M.place mem.new ≡ M.place mem.old }
-    ensures objects { M.objects mem.new ≡ M.objects mem.old }
-    ensures narrows { (map : List Val) → M.Admits mem.new map → M.Admits mem.old map }
-    ensures admits { OnOk result ((map : List Val) × M.Admits mem.new map) }
-    ensures live { OnOk result (IsTrue (M.is_live mem.new)) }
-    ensures ended { IfErr result (λ e. (M.is_live mem.new ≡ false) × (M.error mem.new ≡ Some e)) }
+    ensures leads { Leads M.Mem mem.old mem.new result }
 {
     let value = mem.open_read(account)?;
     Ok(Reply::Number(value.low))
@@ -102,25 +88,16 @@ pub fn balance<M: Mem>(mem: &mut M, layout: &Layout, account: u32) -> Result<Rep
 pub fn total<M: Mem>(mem: &mut M, layout: &Layout) -> Result<Reply, M::Err>
     requires valid { IsValid layout.now }
     requires fits { FitsLayout layout.now Op.Total }
-    requires objects { M.objects mem.old ≡ objects_of layout.now }
-    requires live { IsTrue (M.is_live mem.old) }
-    requires lawful { (map : List Val) → M.Admits mem.old map →
-        (store : Store) × IsBank layout.now (with_set map (M.written mem.old)) store }
+    requires ready { IsReady M.Mem (objects_of layout.now) (IsBank layout.now) mem.old }
 
     ensures does { IfOk result (λ reply. (map : List Val) → M.Admits mem.new map →
         Does (IsBank layout.now) Op.Total
         (with_set map (M.written mem.old)) (with_set map (M.written mem.new)) reply) }
     ensures audits { OnOk result ((a : ℕ) → a < layout.now.accounts → IsSome (M.held mem.new a)) }
-    ensures sets { OnOk result ((p : ℕ) → M.written mem.new p ≡ M.written mem.old p) }
+    ensures looks { OnOk result (OnlyReads M.Mem mem.old mem.new) }
     ensures opens { OnOk result ((p : ℕ) → layout.now.accounts ≤ p →
         (M.held mem.new p ≡ M.held mem.old p) × (M.is_opened mem.new p ≡ M.is_opened mem.old p)) }
-
-    ensures place { M.place mem.new ≡ M.place mem.old }
-    ensures objects { M.objects mem.new ≡ M.objects mem.old }
-    ensures narrows { (map : List Val) → M.Admits mem.new map → M.Admits mem.old map }
-    ensures admits { OnOk result ((map : List Val) × M.Admits mem.new map) }
-    ensures live { OnOk result (IsTrue (M.is_live mem.new)) }
-    ensures ended { IfErr result (λ e. (M.is_live mem.new ≡ false) × (M.error mem.new ≡ Some e)) }
+    ensures leads { Leads M.Mem mem.old mem.new result }
 {
     let mut sum: u64 = 0;
     for account in 0..layout.accounts {

@@ -1,10 +1,14 @@
 -- How a command ends, over what is known of its source and its sinks.
 use Rattle.std.proofs.Common.{◌≡◌, ◌≢◌, ℕ, true, List, Option, Some, None, Result, Ok, Err, is_ok, IfSome, refl, sym}
-use Rattle.std.proofs.Common.{ap, subst, ◌∙◌, ◌⊎◌, ◌<◌, inl, inr, true≢false, arith}
+use Rattle.std.proofs.Common.{ap, subst, ◌∙◌, ◌⊎◌, ◌<◌, ◌+◌, ◌++◌, length, take, append_assoc, inl, inr, true≢false, arith}
+use Rattle.std.proofs.Common.{length-append}
+use Rattle.std.proofs.lemmas.List.{take-append-le}
+use Rattle.std.proofs.Math.Seq.{take-append-add}
 use Rattle.std.specs.Prelude.{IsOk, OnOk, OnErr}
 use Rattle.std.specs.Io.KnownBytes.{Appends}
-use Rattle.std.proofs.KnownBytes.{Appends-nil}
+use Rattle.std.proofs.KnownBytes.{Appends-trans}
 use Rattle.dstm_io.specs.Count.{Rises}
+use Rattle.dstm_io.specs.Sink.{AppendsPart}
 use Rattle.dstm_command.specs.declared.command.Command.{Command}
 use Rattle.dstm_command.specs.declared.command.Command.TheVariants.{Run, Check, Gen, Demo}
 use Rattle.dstm_report.specs.declared.verdict.Verdict.{Verdict}
@@ -12,37 +16,38 @@ use Rattle.dstm_report.specs.declared.verdict.Verdict.TheVariants.{Lawful, NotLa
 use Rattle.dstm_cli.specs.declared.failure.Failure.{Failure}
 use Rattle.dstm_cli.specs.declared.failure.Failure.TheVariants.{Usage, ReadFault, TooLong, Refused, NoReport}
 use Rattle.dstm_cli.specs.declared.failure.Failure.TheVariants.{ReportForm, WriteFault, Memory}
-use Rattle.dstm_cli.specs.Failure.{status_of, message_of, message_with, TakesOrFaults}
+use Rattle.dstm_cli.specs.Failure.{status_of, TakesOrFaults}
 use Rattle.dstm_cli.specs.Command.{run_input, check_input, reads_input, Refuses, verdict_status, Answers, CanAnswer}
-use Rattle.dstm_cli.specs.Ending.{EndsAs}
+use Rattle.dstm_cli.specs.Ending.{Happened, EndsAs}
 
--- a sink took a text, or its count of faults rose
+-- a sink took a text, or met a fault
 pub takes_or_faults : {A E : Type 0} (result : Result A E) (old new : Option (List ℕ)) (before after : ℕ)
     (text : List ℕ) →
-    OnOk result (Appends old new text) → OnErr result (Rises before after) → TakesOrFaults old new before after text
-takes_or_faults (Ok done) old new before after text taken fault = inl taken
-takes_or_faults (Err error) old new before after text taken fault = inr fault
+    OnOk result (Appends old new text) → OnOk result (after ≡ before) →
+    OnErr result (AppendsPart old new text) → OnErr result (Rises before after) → TakesOrFaults old new before after text
+takes_or_faults (Ok done) old new before after text taken no_fault part fault = inl (taken, no_fault)
+takes_or_faults (Err error) old new before after text taken no_fault part fault = inr (part, fault)
 
--- the line of a failure is that of its status
-pub told : (failure : Failure) (old new : Option (List ℕ)) (faults_old faults_new : ℕ) → status_of failure ≢ 2 →
-    TakesOrFaults old new faults_old faults_new (message_of failure) →
-    TakesOrFaults old new faults_old faults_new (message_with (status_of failure))
-told Usage old new before after other h = h
-told TooLong old new before after other h = absurd (other refl)
-told (Refused refused) old new before after other h = absurd (other refl)
-told (NoReport line) old new before after other h = absurd (other refl)
-told (ReportForm line) old new before after other h = absurd (other refl)
-told ReadFault old new before after other h = h
-told WriteFault old new before after other h = h
-told Memory old new before after other h = h
+pub on_err : {A E : Type 0} (result : Result A E) (P : Type 0) → P → OnErr result P
+on_err (Ok done) P holds = tt
+on_err (Err error) P holds = holds
 
--- no line goes with 0 and 6
-pub told_nothing : (status : ℕ) (taken : Option (List ℕ)) (faults : ℕ) → (status ≡ 0) ⊎ (status ≡ 6) →
-    TakesOrFaults taken taken faults faults (message_with status)
-told_nothing status taken faults (inl is) =
-    subst (λ n. TakesOrFaults taken taken faults faults (message_with n)) (sym is) (inl (Appends-nil taken))
-told_nothing status taken faults (inr is) =
-    subst (λ n. TakesOrFaults taken taken faults faults (message_with n)) (sym is) (inl (Appends-nil taken))
+pub on_err-then : {A E : Type 0} (result : Result A E) (P Q : Type 0) → (P → Q) → OnErr result P → OnErr result Q
+on_err-then (Ok done) P Q then h = tt
+on_err-then (Err error) P Q then h = then h
+
+-- a piece of a text was taken in part, behind what was taken whole
+pub part_behind : (a b c : Option (List ℕ)) (front piece rest text : List ℕ) → text ≡ front ++ piece ++ rest →
+    Appends a b front → AppendsPart b c piece → AppendsPart a c text
+part_behind a b c front piece rest text is whole (count, less, some) =
+    let cut : take (length front + count) text ≡ front ++ take count piece =
+    ap (take (length front + count)) (is ∙ append_assoc front piece rest)
+    ∙ take-append-add front (piece ++ rest) count ∙ ap (λ (l : List ℕ). front ++ l)
+    (take-append-le count piece rest (omega arith)) in (
+      length front + count,
+      simp (is, length-append) (omega arith),
+      subst (Appends a c) (sym cut) (Appends-trans a b c front (take count piece) whole some),
+    )
 
 -- 0 and 6 are no status between them
 pub between : (status other : ℕ) → (status ≡ 0) ⊎ (status ≡ 6) → status ≡ other → 0 < other → other < 6 → ⊥
@@ -88,23 +93,42 @@ answered-refuses command (Some input) after text status R answers =
 
 -- ---- a command that fails
 
+-- what is told with 2 is what is refused
+pub failed-reason : (command : Option Command) (what : Happened) (failure : Failure) →
+    EndsAs command what (Err failure) → status_of failure ≡ 2 →
+    IfSome what.left_before (λ input. Refuses command input failure)
+failed-reason command what Usage ends is = absurd (omega (arith, is))
+failed-reason command what ReadFault ends is = absurd (omega (arith, is))
+failed-reason command what WriteFault ends is = absurd (omega (arith, is))
+failed-reason command what Memory ends is = absurd (omega (arith, is))
+failed-reason command what TooLong ends is = ends.1
+failed-reason command what (Refused refused) ends is = ends.1
+failed-reason command what (NoReport line) ends is = ends.1
+failed-reason command what (ReportForm line) ends is = ends.1
+
 -- what is refused is answered by 2, if not by 5 or 3
-pub failed-refuses : (command : Option Command) (left after : Option (List ℕ)) (read_faults : ℕ × ℕ)
-    (taken : Option (List ℕ) × Option (List ℕ)) (write_faults : ℕ × ℕ) (failure : Failure) →
-    EndsAs command (left, after) read_faults taken write_faults (Err failure) →
+refused_so : (command : Option Command) (left : Option (List ℕ)) (what : Happened) (failure : Failure) →
+    what.left_before ≡ left → EndsAs command what (Err failure) →
     IfSome left (λ input. (f : Failure) → Refuses command input f →
-    (status_of failure ≡ 2) ⊎ (status_of failure ≡ 5) ⊎ Rises read_faults.0 read_faults.1)
-failed-refuses command None after read_faults taken write_faults failure ends = tt
-failed-refuses command (Some input) after read_faults taken write_faults Usage ends =
+    (status_of failure ≡ 2) ⊎ (status_of failure ≡ 5) ⊎ Rises what.read_faults_before what.read_faults_after)
+refused_so command None what failure is ends = tt
+refused_so command (Some input) what Usage is ends =
     λ f refuses. absurd (subst (λ (c : Option Command). Refuses c input f) ends.0 refuses)
-failed-refuses command (Some input) after read_faults taken write_faults ReadFault ends = λ f refuses. inr (inr ends.1)
-failed-refuses command (Some input) after read_faults taken write_faults WriteFault ends =
-    λ f refuses. absurd (not_refused command input after ends.1.0 ends.1.1.0 f ends.1.1.1.0 refuses)
-failed-refuses command (Some input) after read_faults taken write_faults Memory ends = λ f refuses. inr (inl refl)
-failed-refuses command (Some input) after read_faults taken write_faults TooLong ends = λ f refuses. inl refl
-failed-refuses command (Some input) after read_faults taken write_faults (Refused refused) ends = λ f refuses. inl refl
-failed-refuses command (Some input) after read_faults taken write_faults (NoReport line) ends = λ f refuses. inl refl
-failed-refuses command (Some input) after read_faults taken write_faults (ReportForm line) ends = λ f refuses. inl refl
+refused_so command (Some input) what ReadFault is ends = λ f refuses. inr (inr ends.1)
+refused_so command (Some input) what WriteFault is ends =
+    λ f refuses. absurd (not_refused command input what.left_after ends.1.0 ends.1.1.0 f
+    (subst (λ (l : Option (List ℕ)). Answers command (l, what.left_after) ends.1.0 ends.1.1.0) is ends.1.1.1.0) refuses)
+refused_so command (Some input) what Memory is ends = λ f refuses. inr (inl refl)
+refused_so command (Some input) what TooLong is ends = λ f refuses. inl refl
+refused_so command (Some input) what (Refused refused) is ends = λ f refuses. inl refl
+refused_so command (Some input) what (NoReport line) is ends = λ f refuses. inl refl
+refused_so command (Some input) what (ReportForm line) is ends = λ f refuses. inl refl
+
+pub failed-refuses : (command : Option Command) (what : Happened) (failure : Failure) →
+    EndsAs command what (Err failure) →
+    IfSome what.left_before (λ input. (f : Failure) → Refuses command input f →
+    (status_of failure ≡ 2) ⊎ (status_of failure ≡ 5) ⊎ Rises what.read_faults_before what.read_faults_after)
+failed-refuses command what failure ends = refused_so command what.left_before what failure refl ends
 
 ok-is : {A E : Type 0} (result : Result A E) (e : E) → IsOk result → result ≡ Err e → ⊥
 ok-is result e ok err = true≢false (sym ok ∙ ap is_ok err)
@@ -123,21 +147,20 @@ refused-not (Some (Gen spec)) (Some input) failure can reads refuses = absurd re
 refused-not (Some (Demo spec)) (Some input) failure can reads refuses = absurd refuses
 
 -- what can be answered is answered, unless a fault is counted or memory runs out
-pub failed-complete : (command : Option Command) (left : Option (List ℕ) × Option (List ℕ)) (read_faults : ℕ × ℕ)
-    (taken : Option (List ℕ) × Option (List ℕ)) (write_faults : ℕ × ℕ) (failure : Failure) →
-    EndsAs command left read_faults taken write_faults (Err failure) → CanAnswer command left.0 →
+pub failed-complete : (command : Option Command) (what : Happened) (failure : Failure) →
+    EndsAs command what (Err failure) → CanAnswer command what.left_before →
     (status_of failure ≡ 0) ⊎ (status_of failure ≡ 6) ⊎ (status_of failure ≡ 5)
-    ⊎ Rises read_faults.0 read_faults.1 ⊎ Rises write_faults.0 write_faults.1
-failed-complete command left read_faults taken write_faults Usage ends can =
-    absurd (subst (λ (c : Option Command). CanAnswer c left.0) ends.0 can)
-failed-complete command left read_faults taken write_faults ReadFault ends can = inr (inr (inr (inl ends.1)))
-failed-complete command left read_faults taken write_faults WriteFault ends can = inr (inr (inr (inr ends.0)))
-failed-complete command left read_faults taken write_faults Memory ends can = inr (inr (inl refl))
-failed-complete command left read_faults taken write_faults TooLong ends can =
-    absurd (refused-not command left.0 TooLong can ends.0 ends.1)
-failed-complete command left read_faults taken write_faults (Refused refused) ends can =
-    absurd (refused-not command left.0 (Refused refused) can ends.0 ends.1)
-failed-complete command left read_faults taken write_faults (NoReport line) ends can =
-    absurd (refused-not command left.0 (NoReport line) can ends.0 ends.1)
-failed-complete command left read_faults taken write_faults (ReportForm line) ends can =
-    absurd (refused-not command left.0 (ReportForm line) can ends.0 ends.1)
+    ⊎ Rises what.read_faults_before what.read_faults_after ⊎ Rises what.write_faults_before what.write_faults_after
+failed-complete command what Usage ends can =
+    absurd (subst (λ (c : Option Command). CanAnswer c what.left_before) ends.0 can)
+failed-complete command what ReadFault ends can = inr (inr (inr (inl ends.1)))
+failed-complete command what WriteFault ends can = inr (inr (inr (inr ends.0)))
+failed-complete command what Memory ends can = inr (inr (inl refl))
+failed-complete command what TooLong ends can =
+    absurd (refused-not command what.left_before TooLong can ends.0 ends.1)
+failed-complete command what (Refused refused) ends can =
+    absurd (refused-not command what.left_before (Refused refused) can ends.0 ends.1)
+failed-complete command what (NoReport line) ends can =
+    absurd (refused-not command what.left_before (NoReport line) can ends.0 ends.1)
+failed-complete command what (ReportForm line) ends can =
+    absurd (refused-not command what.left_before (ReportForm line) can ends.0 ends.1)

@@ -1,9 +1,10 @@
 -- How a failure is told: by the status of the program and by a line of text.
-use Rattle.std.specs.Prelude.{ℕ, ◌⊎◌, ◌==◌, if◌then◌else◌, List, [], ◌++◌, Option, codes, decimal}
+use Rattle.std.specs.Prelude.{◌≡◌, ℕ, ◌⊎◌, List, ◌++◌, Option, codes, decimal}
 use Rattle.std.specs.Io.KnownBytes.{Appends}
 use Rattle.dstm_command.specs.declared.command.WordsError.{WordsError}
 use Rattle.dstm_command.specs.declared.command.WordsError.TheVariants as words
 use Rattle.dstm_io.specs.Count.{Rises}
+use Rattle.dstm_io.specs.Sink.{AppendsPart}
 use Rattle.dstm_io.specs.declared.transfer.ReadError.{ReadError}
 use Rattle.dstm_io.specs.declared.transfer.ReadError.TheVariants as reads
 use Rattle.dstm_report.specs.declared.error.ReportError.{ReportError}
@@ -25,29 +26,24 @@ status_of ReadFault = 3
 status_of WriteFault = 4
 status_of Memory = 5
 
+-- the line that says what stands at a number: a text, the number, a colon and the reason
+abbrev pub numbered : List ℕ → ℕ → List ℕ → List ℕ
+numbered text number reason = text ++ decimal number ++ codes ": " ++ reason ++ codes "\n"
+
 abbrev pub message_of : Failure → List ℕ
 message_of Usage = codes "usage: dstm run, check, gen or demo\n"
 message_of TooLong = codes "dstm: input too long\n"
-message_of (Refused refused) = codes "dstm: line " ++ decimal refused.line ++ codes ": " ++ text_of refused.why ++
-    codes "\n"
-message_of (NoReport line) = codes "dstm: line " ++ decimal line ++ codes ": no report\n"
-message_of (ReportForm line) = codes "dstm: report line " ++ decimal line ++ codes ": form\n"
+message_of (Refused refused) = numbered (codes "dstm: line ") refused.line (text_of refused.why)
+message_of (NoReport line) = numbered (codes "dstm: line ") line (codes "no report")
+message_of (ReportForm line) = numbered (codes "dstm: report line ") line (codes "form")
 message_of ReadFault = codes "dstm: read fault\n"
 message_of WriteFault = codes "dstm: write fault\n"
 message_of Memory = codes "dstm: out of memory\n"
 
--- a sink took the text, or its count of faults rose
-abbrev pub TakesOrFaults : Option (List ℕ) → Option (List ℕ) → ℕ → ℕ → List ℕ → Type 0
-TakesOrFaults old new faults_old faults_new text = Appends old new text ⊎ Rises faults_old faults_new
-
--- the line that goes with a status other than 2, of which there are many; none goes with 0 and 6
-abbrev pub message_with : ℕ → List ℕ
-message_with status =
-    if status == 1 then message_of Usage
-    else if status == 3 then message_of ReadFault
-    else if status == 4 then message_of WriteFault
-    else if status == 5 then message_of Memory
-    else []
+-- a sink took the text whole; or it met a fault, and took a part of the text and nothing else
+abbrev pub TakesOrFaults : Option (List ℕ) → Option (List ℕ) → (faults_old faults_new : ℕ) → List ℕ → Type 0
+TakesOrFaults old new faults_old faults_new text =
+    (Appends old new text × (faults_new ≡ faults_old)) ⊎ (AppendsPart old new text × Rises faults_old faults_new)
 
 -- ---- the failures that the errors of the crates below become
 

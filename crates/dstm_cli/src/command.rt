@@ -1,9 +1,9 @@
-ghost use Rattle.std.specs.Prelude.{List, ℕ, ◌≡◌, ◌≢◌, ◌⊎◌, ◌≤◌, false, [], Some, None, IfSome, IfOk};
+ghost use Rattle.std.specs.Prelude.{List, ℕ, Err, ◌≡◌, ◌≢◌, ◌⊎◌, ◌≤◌, false, Some, None, IfSome, IfOk};
 ghost use Rattle.std.specs.Io.KnownBytes.{Appends, Keeps};
 ghost use Rattle.dstm_io.specs.Count.{Rises};
 ghost use Rattle.dstm_io.specs.Sink.{AppendsPart};
 ghost use Rattle.dstm_cli.specs.declared.failure.Failure.{Failure as TheFailure};
-ghost use Rattle.dstm_cli.specs.Failure.{message_of, message_with, TakesOrFaults};
+ghost use Rattle.dstm_cli.specs.Failure.{message_of, status_of, TakesOrFaults};
 ghost use Rattle.dstm_cli.specs.Command.{asked, reads_input, Refuses, Answers, CanAnswer};
 ghost use Rattle.dstm_cli.specs.Ending.{EndsAs};
 
@@ -46,13 +46,9 @@ pub fn dstm<S: Source, K: Sink, E: Sink>(
     ensures unread { reads_input (asked words.now) ≡ false →
         Keeps (S.left source.old) (S.left source.new) × (S.faults source.new ≡ S.faults source.old) }
 
-    // 2: only where the command refuses the input, for the reason that is told.
-    ensures refused { result ≡ 2 → IfSome (S.left source.old) (λ input. (failure : TheFailure) × (
-        Refuses (asked words.now) input failure
-        × TakesOrFaults (E.taken err.old) (E.taken err.new) (E.faults err.old) (E.faults err.new)
-        (message_of failure))) }
-
-    // 3 and 4: only where a count of faults rose.
+    // 3 and 4: exactly where a count of faults rose.
+    ensures no_read_fault { result ≢ 3 → S.faults source.new ≡ S.faults source.old }
+    ensures no_write_fault { result ≢ 4 → K.faults out.new ≡ K.faults out.old }
     ensures read_fault { result ≡ 3 → Rises (S.faults source.old) (S.faults source.new) }
     ensures write_fault { result ≡ 4 → Rises (K.faults out.old) (K.faults out.new) }
     ensures part { result ≡ 4 → (text : List ℕ) × ((status : ℕ) × (
@@ -62,9 +58,14 @@ pub fn dstm<S: Source, K: Sink, E: Sink>(
     // The other statuses leave `out` as it was.
     ensures unwritten { result ≢ 0 → result ≢ 4 → result ≢ 6 → Keeps (K.taken out.old) (K.taken out.new) }
 
-    // One line is told on `err`, and none with 0 and 6, unless the count of its faults rose.
-    ensures told { result ≢ 2 → TakesOrFaults (E.taken err.old) (E.taken err.new) (E.faults err.old) (E.faults err.new)
-        (message_with result) }
+    // 1 to 5: `err` took the line of one failure with this status, or met a fault and took a part of that line.
+    // With 2 it is the failure for which the command refuses the input.
+    ensures told { result ≢ 0 → result ≢ 6 → (failure : TheFailure) × ((status_of failure ≡ result)
+        × (result ≡ 2 → IfSome (S.left source.old) (λ input. Refuses (asked words.now) input failure))
+        × TakesOrFaults (E.taken err.old) (E.taken err.new) (E.faults err.old) (E.faults err.new)
+        (message_of failure)) }
+    ensures silent { (result ≡ 0) ⊎ (result ≡ 6) →
+        Keeps (E.taken err.old) (E.taken err.new) × (E.faults err.new ≡ E.faults err.old) }
 
     // Unless memory runs out or a fault is counted, no command is answered by 1, what is refused by 2, and the
     // rest by 0 or 6.
@@ -91,9 +92,18 @@ fn obey<S: Source, K: Sink>(
     source: &mut S,
     out: &mut K,
 ) -> Result<u8, Failure>
-    ensures ending { EndsAs (asked words.now) (S.left source.old, S.left source.new)
-        (S.faults source.old, S.faults source.new) (K.taken out.old, K.taken out.new)
-        (K.faults out.old, K.faults out.new) result }
+    ensures ending { EndsAs (asked words.now) (record {
+      left_before = S.left source.old;
+      left_after = S.left source.new;
+      read_faults_before = S.faults source.old;
+      read_faults_after = S.faults source.new;
+      taken_before = K.taken out.old;
+      taken_after = K.taken out.new;
+      write_faults_before = K.faults out.old;
+      write_faults_after = K.faults out.new;
+    }) result }
+    ensures no_read_fault { result ≢ Err TheFailure.ReadFault → S.faults source.new ≡ S.faults source.old }
+    ensures no_write_fault { result ≢ Err TheFailure.WriteFault → K.faults out.new ≡ K.faults out.old }
     ensures written { IfOk result (λ status. (status ≡ 0) ⊎ (status ≡ 6)) }
     ensures unread { reads_input (asked words.now) ≡ false →
         Keeps (S.left source.old) (S.left source.new) × (S.faults source.new ≡ S.faults source.old) }

@@ -1,7 +1,8 @@
-ghost use Rattle.std.specs.Prelude.{◌≡◌, ◌⊎◌, ◌++◌, decimal, OnOk, OnErr};
+ghost use Rattle.std.specs.Prelude.{◌≡◌, OnOk, OnErr};
 ghost use Rattle.std.specs.Io.KnownBytes.{Appends};
 ghost use Rattle.dstm_io.specs.Count.{Rises};
-ghost use Rattle.dstm_cli.specs.Failure.{status_of, message_of};
+ghost use Rattle.dstm_io.specs.Sink.{AppendsPart};
+ghost use Rattle.dstm_cli.specs.Failure.{status_of, message_of, numbered};
 
 use dstm_command::WordsError;
 use dstm_io::{ReadError, Sink, WriteFault, write_all};
@@ -130,51 +131,46 @@ impl Failure {
     /// Writes one line that says what failed. It takes no memory.
     pub fn write_to<E: Sink>(self, err: &mut E) -> Result<(), WriteFault>
         ensures taken { OnOk result (Appends (E.taken err.old) (E.taken err.new) (message_of self)) }
+        ensures no_fault { OnOk result (E.faults err.new ≡ E.faults err.old) }
+        ensures part { OnErr result (AppendsPart (E.taken err.old) (E.taken err.new) (message_of self)) }
         ensures fault { OnErr result (Rises (E.faults err.old) (E.faults err.new)) }
     {
         match self {
             Failure::Usage => write_all(err, b"usage: dstm run, check, gen or demo\n"),
             Failure::ReadFault => write_all(err, b"dstm: read fault\n"),
             Failure::TooLong => write_all(err, b"dstm: input too long\n"),
-            Failure::Refused(refused) => write_refused(err, refused),
-            Failure::NoReport(line) => write_around(err, b"dstm: line ", line, b": no report\n"),
-            Failure::ReportForm(line) => write_around(
+            Failure::Refused(refused) => write_numbered(
                 err,
-                b"dstm: report line ",
-                line,
-                b": form\n",
+                b"dstm: line ",
+                refused.line,
+                refused.why.text(),
             ),
+            Failure::NoReport(line) => write_numbered(err, b"dstm: line ", line, b"no report"),
+            Failure::ReportForm(line) => write_numbered(err, b"dstm: report line ", line, b"form"),
             Failure::WriteFault => write_all(err, b"dstm: write fault\n"),
             Failure::Memory => write_all(err, b"dstm: out of memory\n"),
         }
     }
 }
 
-fn write_refused<E: Sink>(err: &mut E, refused: Refused) -> Result<(), WriteFault>
-    ensures taken { OnOk result (Appends (E.taken err.old) (E.taken err.new) (message_of (Failure.Refused refused))) }
-    ensures fault { OnErr result (Rises (E.faults err.old) (E.faults err.new)) }
-{
-    write_around(err, b"dstm: line ", refused.line, b": ")?;
-    write_all(err, refused.why.text())?;
-    write_all(err, b"\n")?;
-    Ok(())
-}
-
-// Writes a number between two texts.
-fn write_around<E: Sink>(
+// Writes a line: a text, a number, a colon and a reason.
+fn write_numbered<E: Sink>(
     err: &mut E,
-    before: &[u8],
+    text: &[u8],
     number: u64,
-    behind: &[u8],
+    reason: &[u8],
 ) -> Result<(), WriteFault>
     ensures taken { OnOk result (Appends (E.taken err.old) (E.taken err.new)
-        (before.now ++ decimal number ++ behind.now)) }
+        (numbered text.now number reason.now)) }
     ensures no_fault { OnOk result (E.faults err.new ≡ E.faults err.old) }
+    ensures part { OnErr result (AppendsPart (E.taken err.old) (E.taken err.new)
+        (numbered text.now number reason.now)) }
     ensures fault { OnErr result (Rises (E.faults err.old) (E.faults err.new)) }
 {
     let mut buffer = Buffer::new();
-    write_all(err, before)?;
+    write_all(err, text)?;
     write_all(err, buffer.format(number).as_bytes())?;
-    write_all(err, behind)?;
-    Ok(())
+    write_all(err, b": ")?;
+    write_all(err, reason)?;
+    write_all(err, b"\n")
 }

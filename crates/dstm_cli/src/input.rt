@@ -1,8 +1,8 @@
-ghost use Rattle.std.specs.Prelude.{◌≡◌, ◌≤◌, ◌<◌, ◌^◌, length, vec_len, Ok, IfOk, IfErr};
+ghost use Rattle.std.specs.Prelude.{◌≡◌, ◌≢◌, ◌≤◌, ◌<◌, ◌^◌, length, vec_len, Some, Ok, Err, IfOk, IfErr};
 ghost use Rattle.dstm_io.specs.Source.{TakesAll};
 ghost use Rattle.dstm_workload.specs.Workload.{IsValidWorkload};
 ghost use Rattle.dstm_cli.specs.Command.{check_input};
-ghost use Rattle.dstm_cli.specs.Ending.{FailsToRead, FailsToAnswer};
+ghost use Rattle.dstm_cli.specs.Ending.{Fails};
 
 use crate::failure::Failure;
 use dstm_io::{Source, read_all};
@@ -33,7 +33,9 @@ pub(crate) fn read_input<S: Source>(
     requires { limit < 2 ^ 32 }
     ensures all { IfOk result (λ input. TakesAll (S.left source.old) (S.left source.new) input.items) }
     ensures short { IfOk result (λ input. vec_len input ≤ limit) }
-    ensures failed { IfErr result (FailsToRead limit (S.left source.old) (S.faults source.old, S.faults source.new)) }
+    ensures no_fault { result ≢ Err Failure.ReadFault → S.faults source.new ≡ S.faults source.old }
+    ensures failed { IfErr result (Fails (λ input failure. (failure ≡ Failure.TooLong) × (limit < length input))
+        (S.left source.old) (S.faults source.old) (S.faults source.new)) }
 {
     Ok(read_all(alloc, source, limit)?)
 }
@@ -43,7 +45,7 @@ pub(crate) fn read_case(alloc: Global, input: &[u8]) -> Result<Case, Failure>
     requires { length input.now ≤ CHECK_LIMIT }
     ensures read { IfOk result (λ case. check_input input.now ≡ Ok (case.workload, case.report)) }
     ensures valid { IfOk result (λ case. IsValidWorkload case.workload) }
-    ensures failed { IfErr result (FailsToAnswer (check_input input.now)) }
+    ensures failed { IfErr result (Fails (λ text failure. check_input text ≡ Err failure) (Some input.now) 0 0) }
 {
     let (before, behind) = split_at_line(input, b"---");
     let workload = read_workload(alloc, before)?;

@@ -1,5 +1,5 @@
-ghost use Rattle.std.specs.Prelude.{◌≡◌, ◌≤◌, ◌<◌, ◌^◌, ◌++◌, ◌∷◌, [], length, sum, false, Some, Ok, IfSome, IfOk};
-ghost use Rattle.std.specs.Prelude.{IfErr, OnOk};
+ghost use Rattle.std.specs.Prelude.{◌≡◌, ◌≤◌, ◌<◌, ◌^◌, ◌++◌, ◌∷◌, [], length, sum, false, true, Some, Ok, Err, IfSome, IfOk};
+ghost use Rattle.std.specs.Prelude.{◌≢◌, ◌⊎◌, IfErr, OnOk};
 ghost use Rattle.std.specs.Io.KnownBytes.{Keeps};
 ghost use Rattle.dstm_command.specs.CommandLine.{IsSmall, IsSmallCommand};
 ghost use Rattle.dstm_workload.specs.declared.workload.Workload.{Workload as TheWorkload};
@@ -10,6 +10,7 @@ ghost use Rattle.dstm_cli.specs.Command.{
   run_input,
   check_input,
   reads_input,
+  Refuses,
   workload_for,
   verdict_text,
   verdict_status,
@@ -20,7 +21,7 @@ ghost use Rattle.dstm_cli.specs.Command.{
   HasJudged,
   Answers,
 };
-ghost use Rattle.dstm_cli.specs.Ending.{FailsOn, FailsFor, FailsToAnswer};
+ghost use Rattle.dstm_cli.specs.Ending.{Fails};
 
 use crate::failure::Failure;
 use crate::input::{CHECK_LIMIT, RUN_LIMIT, read_case, read_input};
@@ -58,8 +59,10 @@ pub(crate) fn output_of<S: Source>(
     requires { IsSmallCommand command.now }
     ensures output { IfOk result (λ output.
         Answers (Some command.now) (S.left source.old, S.left source.new) output.text.items output.status) }
-    ensures failed { IfErr result
-        (FailsFor command.now (S.left source.old) (S.faults source.old, S.faults source.new)) }
+    ensures failed { IfErr result (λ failure. (failure ≡ Failure.Memory)
+        ⊎ ((reads_input (Some command.now) ≡ true) × Fails (Refuses (Some command.now))
+        (S.left source.old) (S.faults source.old) (S.faults source.new) failure)) }
+    ensures no_fault { result ≢ Err Failure.ReadFault → S.faults source.new ≡ S.faults source.old }
     ensures unread { reads_input (Some command.now) ≡ false →
         Keeps (S.left source.old) (S.left source.new) × (S.faults source.new ≡ S.faults source.old) }
 {
@@ -74,7 +77,9 @@ pub(crate) fn output_of<S: Source>(
 // The text of a report on the workload that a source holds.
 fn run<S: Source>(alloc: Global, source: &mut S) -> Result<Vec<u8>, Failure>
     ensures text { IfOk result (λ text. HasRun (S.left source.old, S.left source.new) text.items) }
-    ensures failed { IfErr result (FailsOn run_input (S.left source.old) (S.faults source.old, S.faults source.new)) }
+    ensures failed { IfErr result (Fails (λ input failure. run_input input ≡ Err failure)
+        (S.left source.old) (S.faults source.old) (S.faults source.new)) }
+    ensures no_fault { result ≢ Err Failure.ReadFault → S.faults source.new ≡ S.faults source.old }
 {
     let input = read_input(alloc, source, RUN_LIMIT)?;
     run_text(alloc, &input)
@@ -84,7 +89,7 @@ fn run_text(alloc: Global, input: &[u8]) -> Result<Vec<u8>, Failure>
     requires { length input.now ≤ RUN_LIMIT }
     ensures text { IfOk result (λ text.
         (workload : TheWorkload) × ((run_input input.now ≡ Ok workload) × IsReportOf workload text.items)) }
-    ensures failed { IfErr result (FailsToAnswer (run_input input.now)) }
+    ensures failed { IfErr result (Fails (λ text failure. run_input text ≡ Err failure) (Some input.now) 0 0) }
 {
     let workload = read_workload(alloc, input)?;
     let report = run_jobs(alloc, &workload)?;
@@ -95,7 +100,9 @@ fn run_text(alloc: Global, input: &[u8]) -> Result<Vec<u8>, Failure>
 fn judge<S: Source>(alloc: Global, source: &mut S) -> Result<Output, Failure>
     ensures verdict { IfOk result (λ output.
         HasJudged (S.left source.old, S.left source.new) output.text.items output.status) }
-    ensures failed { IfErr result (FailsOn check_input (S.left source.old) (S.faults source.old, S.faults source.new)) }
+    ensures failed { IfErr result (Fails (λ input failure. check_input input ≡ Err failure)
+        (S.left source.old) (S.faults source.old) (S.faults source.new)) }
+    ensures no_fault { result ≢ Err Failure.ReadFault → S.faults source.new ≡ S.faults source.old }
 {
     let input = read_input(alloc, source, CHECK_LIMIT)?;
     let verdict = verdict_on(alloc, &input)?;
@@ -111,7 +118,7 @@ fn verdict_on(alloc: Global, input: &[u8]) -> Result<Verdict, Failure>
     requires { length input.now ≤ CHECK_LIMIT }
     ensures verdict { IfOk result (λ verdict.
         (case : TheWorkload × TheReport) × ((check_input input.now ≡ Ok case) × Tells case.0 case.1 verdict)) }
-    ensures failed { IfErr result (FailsToAnswer (check_input input.now)) }
+    ensures failed { IfErr result (Fails (λ text failure. check_input text ≡ Err failure) (Some input.now) 0 0) }
 {
     let case = read_case(alloc, input)?;
     Ok(check(alloc, &case.workload, &case.report)?)

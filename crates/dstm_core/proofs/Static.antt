@@ -36,7 +36,7 @@ numbered-get n [] i h l = absurd (omega arith)
 numbered-get n (w ∷ ws) zero h l = omega arith
 numbered-get n (w ∷ ws) (suc i) h l = omega (arith, numbered-get (n + 1) ws i h.1 (omega arith))
 
-length-snoc : (ws : List Write) (w : Write) → length (ws ++ w ∷ []) ≡ length ws + 1
+pub length-snoc : (ws : List Write) (w : Write) → length (ws ++ w ∷ []) ≡ length ws + 1
 length-snoc ws w = omega (arith, length-append {A = Write} ws (w ∷ []))
 
 -- the caller has its number, and has begun an attempt

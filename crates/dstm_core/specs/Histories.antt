@@ -1,7 +1,7 @@
 -- What a run did: the values that words name, the entry of each attempt that commits, sights, and the law.
 use Rattle.std.specs.Prelude.{◌≡◌, ℕ, ◌+◌, ◌-◌, ◌==◌, ◌&&◌, Bool, true, false, List, [], ◌∷◌, ◌++◌, length, reverse, if◌then◌else◌}
 use Rattle.dstm_model.specs.declared.value.Val.{Val}
-use Rattle.dstm_model.specs.Map.{Entry, value_at, with_writes, Agrees}
+use Rattle.dstm_model.specs.Map.{Entry, value_at, KeepsLaw}
 use Rattle.dstm_core.specs.Events.{Event}
 use Rattle.dstm_core.specs.declared.event.Kind.{Kind}
 use Rattle.dstm_core.specs.declared.event.Kind.TheVariants.{LookNumber, LookSelf, PutNew, Draw}
@@ -117,11 +117,6 @@ abbrev pub seen : Shape → List Val → List Event → List Event → ℕ → L
 seen shape start run before c = (entry_of shape start run (local shape before c)).reads
 
 -- ---- the law
-
--- every lawful map of n objects that agrees with the reads of an entry is lawful with its writes
-abbrev pub KeepsLaw : (List Val → Type 0) → ℕ → Entry → Type 0
-KeepsLaw holds n entry =
-    (map : List Val) → length map ≡ n → holds map → Agrees map entry.reads → holds (with_writes map entry.writes)
 
 -- with each attempt's last PutNew its entry keeps the law
 abbrev pub Lawful : Shape → List Val → (List Val → Type 0) → List Event → Type 0

@@ -83,7 +83,7 @@ no_values : (op : Op) → HasOp 1 op → HasValue op
 no_values (Put key value) version = absurd (omega (arith, version))
 no_values op version = tt
 
-length-ops_of : (words : ℕ → ℕ) → length (ops_of words) ≡ ops_count words
+pub length-ops_of : (words : ℕ → ℕ) → length (ops_of words) ≡ ops_count words
 length-ops_of words = length-map-range_with_len (op_at words) 0 (ops_count words)
 
 job_at-valid : (words : ℕ → ℕ) (count workers i : ℕ) → 0 < workers →

@@ -1,4 +1,5 @@
-ghost use Rattle.std.specs.Prelude.{◌≡◌, ◌≤◌, ◌<◌, IfOk};
+ghost use Rattle.std.specs.Prelude.{◌≡◌, ◌≤◌, ◌<◌, ℕ, length, IfOk};
+ghost use Rattle.dstm_workload.specs.Writing.{text_of_workload, as_written};
 ghost use Rattle.dstm_workload.specs.Workload.{IsValidWorkload};
 ghost use Rattle.dstm_workload.specs.declared.workload.TheConstants.{MAX_JOBS, MAX_WORKERS};
 ghost use Rattle.dstm_gen.specs.Words.{words_of, words_of_seed};
@@ -39,6 +40,19 @@ pub fn generate(alloc: Global, seed: u64, count: u32, workers: u32) -> Result<Wo
         jobs: Jobs::from_vec(jobs),
     })
 }
+
+/// The law of lines: the jobs have the lines of the workload's text, so what is read from it is the
+/// workload itself.
+pub fn lines_of_the_text()
+    ensures { (words : ℕ → ℕ) (count workers : ℕ) →
+        as_written (generated words count workers) ≡ generated words count workers }
+{}
+
+/// The law of length: the text has at most the 4,194,304 bytes that `run` reads.
+pub fn short_text()
+    ensures { (words : ℕ → ℕ) (count workers : ℕ) → count ≤ 20000 → 1 ≤ workers → workers ≤ 32 →
+        length (text_of_workload (generated words count workers)) ≤ 4194304 }
+{}
 
 // The jobs, which the workers have in turn.
 fn jobs(

@@ -1,14 +1,12 @@
 -- Changes of three objects of the list: what stays of the chains, and what is linked anew.
-use Rattle.std.proofs.Common.{◌≡◌, ◌≢◌, ℕ, ◌<◌, ◌≤◌, List, [], ◌∷◌, ◌++◌, length, slice_set, eqb, arith, sym, ◌∙◌, ap}
-use Rattle.std.specs.Prelude.{Option, IsPermutation}
+use Rattle.std.proofs.Common.{◌≡◌, ◌≢◌, ℕ, ◌<◌, ◌≤◌, List, [], ◌∷◌, ◌++◌, length, slice_set, eqb, arith, sym, ◌∙◌}
+use Rattle.std.specs.Prelude.{IsPermutation}
 use Rattle.std.specs.List.{AllByRecursion as Each, IsDistinct}
 use Rattle.std.proofs.lemmas.List.{length-set, get_or-set_same, get_or-set_other}
 use Rattle.std.proofs.lemmas.Map.Keys.{IsDistinct-tail}
 use Rattle.dstm_model.specs.declared.value.Val.{Val}
 use Rattle.dstm_model.specs.Map.{value_at, no_value}
 use Rattle.dstm_model.specs.Objects.{free_object, node_object}
-use Rattle.dstm_mem.specs.Memory.{with_set, SetsOnly}
-use Rattle.dstm_mem.proofs.WithSet.{with_set-set}
 use Rattle.dstm_list.specs.List.{Cell, IsChain, IsFreeChain, numbers_of, first, node, nodes_to}
 use Rattle.dstm_list.specs.Place.{link_after, key_after}
 use Rattle.dstm_list.proofs.Numbers.{IsNumber, each-map, each-zip, each-left, each-right, within, apart, others}
@@ -37,15 +35,6 @@ Changed-of_sets values x y z u v w in_x in_y in_z xy xz yz =
       same = λ p px py pz. get_or-set_other two z p w no_value pz ∙ get_or-set_other one y p v no_value py
           ∙ get_or-set_other values x p u no_value px;
     }
-
--- one more set, of an object and a value that are known otherwise
-pub with_set-again : (map : List Val) (old new : ℕ → Option Val) (o p : ℕ) (v u : Val) (before : List Val) →
-    SetsOnly o v old new → with_set map old ≡ before → o ≡ p → v ≡ u → with_set map new ≡ slice_set before p u
-with_set-again map old new o p v u before sets is object_is value_is =
-    with_set-set map old new o v sets
-    ∙ ap (λ x. slice_set x o v) is
-    ∙ ap (λ q. slice_set before q v) object_is
-    ∙ ap (slice_set before p) value_is
 
 -- ---- chains whose objects are unchanged
 

@@ -2,13 +2,13 @@
 //! and the number of the next, in rising order of the keys, and a chain of the nodes that are free.
 #![tactic(auto)]
 
-ghost use Rattle.std.specs.Prelude.{◌≡◌, ◌≢◌, ℕ, ◌<◌, List, IsTrue, false, Some, IfOk, OnOk, IfErr};
+ghost use Rattle.std.specs.Prelude.{◌≡◌, ◌≢◌, List, IfOk, OnOk};
 ghost use Rattle.dstm_model.specs.declared.value.Val.{Val};
 ghost use Rattle.dstm_model.specs.declared.op.Which.TheVariants as which;
 ghost use Rattle.dstm_model.specs.Layout.{IsValid, FitsLayout};
-ghost use Rattle.dstm_model.specs.Store.{Store};
 ghost use Rattle.dstm_model.specs.Objects.{objects_of, Does};
 ghost use Rattle.dstm_mem.specs.Memory.{with_set};
+ghost use Rattle.dstm_mem.specs.Operations.{IsReady, Leads, OnlyReads, OpensToSet};
 ghost use Rattle.dstm_list.specs.List.{IsList, SameOutside, SameButThree};
 
 mod node;
@@ -27,27 +27,19 @@ pub use object::node_object;
 pub fn insert<M: Mem>(mem: &mut M, layout: &Layout, key: u32) -> Result<Reply, M::Err>
     requires valid { IsValid layout.now }
     requires fits { FitsLayout layout.now (Op.Insert which.List key) }
-    requires objects { M.objects mem.old ≡ objects_of layout.now }
-    requires live { IsTrue (M.is_live mem.old) }
-    requires lawful { (map : List Val) → M.Admits mem.old map →
-        (store : Store) × IsList layout.now (with_set map (M.written mem.old)) store }
+    requires ready { IsReady M.Mem (objects_of layout.now) (IsList layout.now) mem.old }
 
     ensures does { IfOk result (λ reply. (map : List Val) → M.Admits mem.new map →
         Does (IsList layout.now) (Op.Insert which.List key)
         (with_set map (M.written mem.old)) (with_set map (M.written mem.new)) reply) }
-    ensures unchanged { IfOk result (λ reply. reply ≢ Reply.Yes →
-        (p : ℕ) → M.written mem.new p ≡ M.written mem.old p) }
+    ensures unchanged { IfOk result (λ reply. reply ≢ Reply.Yes → OnlyReads M.Mem mem.old mem.new) }
+    ensures marks { OnOk result (OpensToSet M.Mem mem.old mem.new) }
     ensures sets { OnOk result (SameOutside layout.now (M.written mem.old) (M.written mem.new)) }
     ensures few { OnOk result (SameButThree layout.now (M.written mem.old) (M.written mem.new)) }
     ensures holds { OnOk result (SameOutside layout.now (M.held mem.old) (M.held mem.new)) }
     ensures opens { OnOk result (SameOutside layout.now (M.is_opened mem.old) (M.is_opened mem.new)) }
 
-    ensures place { M.place mem.new ≡ M.place mem.old }
-    ensures objects { M.objects mem.new ≡ M.objects mem.old }
-    ensures narrows { (map : List Val) → M.Admits mem.new map → M.Admits mem.old map }
-    ensures admits { OnOk result ((map : List Val) × M.Admits mem.new map) }
-    ensures live { OnOk result (IsTrue (M.is_live mem.new)) }
-    ensures ended { IfErr result (λ e. (M.is_live mem.new ≡ false) × (M.error mem.new ≡ Some e)) }
+    ensures leads { Leads M.Mem mem.old mem.new result }
 {
     let place = find(mem, layout, key)?;
     if place.node.is_some() {
@@ -78,27 +70,19 @@ pub fn insert<M: Mem>(mem: &mut M, layout: &Layout, key: u32) -> Result<Reply, M
 pub fn remove<M: Mem>(mem: &mut M, layout: &Layout, key: u32) -> Result<Reply, M::Err>
     requires valid { IsValid layout.now }
     requires fits { FitsLayout layout.now (Op.Remove which.List key) }
-    requires objects { M.objects mem.old ≡ objects_of layout.now }
-    requires live { IsTrue (M.is_live mem.old) }
-    requires lawful { (map : List Val) → M.Admits mem.old map →
-        (store : Store) × IsList layout.now (with_set map (M.written mem.old)) store }
+    requires ready { IsReady M.Mem (objects_of layout.now) (IsList layout.now) mem.old }
 
     ensures does { IfOk result (λ reply. (map : List Val) → M.Admits mem.new map →
         Does (IsList layout.now) (Op.Remove which.List key)
         (with_set map (M.written mem.old)) (with_set map (M.written mem.new)) reply) }
-    ensures unchanged { IfOk result (λ reply. reply ≢ Reply.Yes →
-        (p : ℕ) → M.written mem.new p ≡ M.written mem.old p) }
+    ensures unchanged { IfOk result (λ reply. reply ≢ Reply.Yes → OnlyReads M.Mem mem.old mem.new) }
+    ensures marks { OnOk result (OpensToSet M.Mem mem.old mem.new) }
     ensures sets { OnOk result (SameOutside layout.now (M.written mem.old) (M.written mem.new)) }
     ensures few { OnOk result (SameButThree layout.now (M.written mem.old) (M.written mem.new)) }
     ensures holds { OnOk result (SameOutside layout.now (M.held mem.old) (M.held mem.new)) }
     ensures opens { OnOk result (SameOutside layout.now (M.is_opened mem.old) (M.is_opened mem.new)) }
 
-    ensures place { M.place mem.new ≡ M.place mem.old }
-    ensures objects { M.objects mem.new ≡ M.objects mem.old }
-    ensures narrows { (map : List Val) → M.Admits mem.new map → M.Admits mem.old map }
-    ensures admits { OnOk result ((map : List Val) × M.Admits mem.new map) }
-    ensures live { OnOk result (IsTrue (M.is_live mem.new)) }
-    ensures ended { IfErr result (λ e. (M.is_live mem.new ≡ false) × (M.error mem.new ≡ Some e)) }
+    ensures leads { Leads M.Mem mem.old mem.new result }
 {
     let place = find(mem, layout, key)?;
     let Some(node) = place.node else {
@@ -124,24 +108,16 @@ pub fn remove<M: Mem>(mem: &mut M, layout: &Layout, key: u32) -> Result<Reply, M
 pub fn member<M: Mem>(mem: &mut M, layout: &Layout, key: u32) -> Result<Reply, M::Err>
     requires valid { IsValid layout.now }
     requires fits { FitsLayout layout.now (Op.Member which.List key) }
-    requires objects { M.objects mem.old ≡ objects_of layout.now }
-    requires live { IsTrue (M.is_live mem.old) }
-    requires lawful { (map : List Val) → M.Admits mem.old map →
-        (store : Store) × IsList layout.now (with_set map (M.written mem.old)) store }
+    requires ready { IsReady M.Mem (objects_of layout.now) (IsList layout.now) mem.old }
 
     ensures does { IfOk result (λ reply. (map : List Val) → M.Admits mem.new map →
         Does (IsList layout.now) (Op.Member which.List key)
         (with_set map (M.written mem.old)) (with_set map (M.written mem.new)) reply) }
-    ensures sets { OnOk result ((p : ℕ) → M.written mem.new p ≡ M.written mem.old p) }
+    ensures looks { OnOk result (OnlyReads M.Mem mem.old mem.new) }
     ensures holds { OnOk result (SameOutside layout.now (M.held mem.old) (M.held mem.new)) }
     ensures opens { OnOk result (SameOutside layout.now (M.is_opened mem.old) (M.is_opened mem.new)) }
 
-    ensures place { M.place mem.new ≡ M.place mem.old }
-    ensures objects { M.objects mem.new ≡ M.objects mem.old }
-    ensures narrows { (map : List Val) → M.Admits mem.new map → M.Admits mem.old map }
-    ensures admits { OnOk result ((map : List Val) × M.Admits mem.new map) }
-    ensures live { OnOk result (IsTrue (M.is_live mem.new)) }
-    ensures ended { IfErr result (λ e. (M.is_live mem.new ≡ false) × (M.error mem.new ≡ Some e)) }
+    ensures leads { Leads M.Mem mem.old mem.new result }
 {
     let place = find(mem, layout, key)?;
     if place.node.is_some() {

@@ -1,9 +1,10 @@
-ghost use Rattle.std.specs.Prelude.{◌≡◌, ◌≢◌, ℕ, ◌+◌, ◌<◌, ◌≤◌, List, IsTrue, false, Some, IfOk, OnOk, IfErr};
+ghost use Rattle.std.specs.Prelude.{◌≡◌, ◌+◌, ◌<◌, List, IsTrue, IfOk, OnOk};
 ghost use Rattle.dstm_model.specs.declared.value.Val.{Val};
 ghost use Rattle.dstm_model.specs.Layout.{IsValid};
 ghost use Rattle.dstm_model.specs.Map.{value_at};
 ghost use Rattle.dstm_model.specs.Objects.{objects_of, list_begin, node_object};
 ghost use Rattle.dstm_mem.specs.Memory.{with_set, SetsOnly};
+ghost use Rattle.dstm_mem.specs.Operations.{Leads, OnlyReads, OpensToSet};
 ghost use Rattle.dstm_list.specs.List.{IsOfList, SameOutside, key_of, next_of};
 
 use crate::node::Node;
@@ -29,16 +30,11 @@ pub fn look<M: Mem>(mem: &mut M, layout: &Layout, object: u32) -> Result<Node, M
         node.key ≡ key_of (value_at (with_set map (M.written mem.old)) object)) }
     ensures next { IfOk result (λ node. (map : List Val) → M.Admits mem.new map →
         node.next ≡ next_of (value_at (with_set map (M.written mem.old)) object)) }
-    ensures sets { OnOk result ((p : ℕ) → M.written mem.new p ≡ M.written mem.old p) }
+    ensures looks { OnOk result (OnlyReads M.Mem mem.old mem.new) }
     ensures holds { OnOk result (SameOutside layout.now (M.held mem.old) (M.held mem.new)) }
     ensures opens { OnOk result (SameOutside layout.now (M.is_opened mem.old) (M.is_opened mem.new)) }
 
-    ensures place { M.place mem.new ≡ M.place mem.old }
-    ensures objects { M.objects mem.new ≡ M.objects mem.old }
-    ensures narrows { (map : List Val) → M.Admits mem.new map → M.Admits mem.old map }
-    ensures admits { OnOk result ((map : List Val) × M.Admits mem.new map) }
-    ensures live { OnOk result (IsTrue (M.is_live mem.new)) }
-    ensures ended { IfErr result (λ e. (M.is_live mem.new ≡ false) × (M.error mem.new ≡ Some e)) }
+    ensures leads { Leads M.Mem mem.old mem.new result }
 {
     let value = mem.open_read(object)?;
     Ok(Node::of(value))
@@ -53,16 +49,12 @@ pub fn replace<M: Mem>(mem: &mut M, layout: &Layout, object: u32, value: Val) ->
     ensures had { IfOk result (λ had. (map : List Val) → M.Admits mem.new map →
         value_at (with_set map (M.written mem.old)) object ≡ had) }
     ensures written { OnOk result (SetsOnly object value (M.written mem.old) (M.written mem.new)) }
+    ensures marks { OnOk result (OpensToSet M.Mem mem.old mem.new) }
     ensures sets { OnOk result (SameOutside layout.now (M.written mem.old) (M.written mem.new)) }
     ensures holds { OnOk result (SameOutside layout.now (M.held mem.old) (M.held mem.new)) }
     ensures opens { OnOk result (SameOutside layout.now (M.is_opened mem.old) (M.is_opened mem.new)) }
 
-    ensures place { M.place mem.new ≡ M.place mem.old }
-    ensures objects { M.objects mem.new ≡ M.objects mem.old }
-    ensures narrows { (map : List Val) → M.Admits mem.new map → M.Admits mem.old map }
-    ensures admits { OnOk result ((map : List Val) × M.Admits mem.new map) }
-    ensures live { OnOk result (IsTrue (M.is_live mem.new)) }
-    ensures ended { IfErr result (λ e. (M.is_live mem.new ≡ false) × (M.error mem.new ≡ Some e)) }
+    ensures leads { Leads M.Mem mem.old mem.new result }
 {
     let had = mem.open_write(object)?;
     mem.set(object, value);

@@ -1,10 +1,8 @@
-ghost use Rattle.std.specs.Prelude.{◌≡◌, ℕ, List, IsTrue, OnOk};
-ghost use Rattle.dstm_model.specs.declared.value.Val.{Val};
+ghost use Rattle.std.specs.Prelude.{OnOk};
 ghost use Rattle.dstm_model.specs.declared.op.Which.TheVariants as which;
 ghost use Rattle.dstm_model.specs.Layout.{IsValid, FitsLayout};
-ghost use Rattle.dstm_model.specs.Store.{Store};
 ghost use Rattle.dstm_model.specs.Objects.{objects_of};
-ghost use Rattle.dstm_mem.specs.Memory.{with_set};
+ghost use Rattle.dstm_mem.specs.Operations.{IsReady};
 ghost use Rattle.dstm_list.specs.List.{IsList};
 
 use super::*;
@@ -24,14 +22,8 @@ enum Step {
 fn run_step<M: Mem>(mem: &mut M, layout: &Layout, step: Step, key: u32) -> Result<Reply, M::Err>
     requires valid { IsValid layout.now }
     requires fits { FitsLayout layout.now (Op.Member which.List key) }
-    requires objects { M.objects mem.old ≡ objects_of layout.now }
-    requires live { IsTrue (M.is_live mem.old) }
-    requires lawful { (map : List Val) → M.Admits mem.old map →
-        (store : Store) × IsList layout.now (with_set map (M.written mem.old)) store }
-    ensures lawful { OnOk result ((map : List Val) → M.Admits mem.new map →
-        (store : Store) × IsList layout.now (with_set map (M.written mem.new)) store) }
-    ensures objects { M.objects mem.new ≡ M.objects mem.old }
-    ensures live { OnOk result (IsTrue (M.is_live mem.new)) }
+    requires ready { IsReady M.Mem (objects_of layout.now) (IsList layout.now) mem.old }
+    ensures { OnOk result (IsReady M.Mem (objects_of layout.now) (IsList layout.now) mem.new) }
 {
     match step {
         Step::Insert => insert(mem, layout, key),
@@ -44,12 +36,8 @@ fn run_step<M: Mem>(mem: &mut M, layout: &Layout, step: Step, key: u32) -> Resul
 fn answer(mem: &mut FlatMem, layout: &Layout, step: Step, key: u32) -> Reply
     requires valid { IsValid layout.now }
     requires fits { FitsLayout layout.now (Op.Member which.List key) }
-    requires objects { ⟦<FlatMem as Mem>⟧.objects mem.old ≡ objects_of layout.now }
-    requires lawful { (map : List Val) → ⟦<FlatMem as Mem>⟧.Admits mem.old map →
-        (store : Store) × IsList layout.now (with_set map (⟦<FlatMem as Mem>⟧.written mem.old)) store }
-    ensures objects { ⟦<FlatMem as Mem>⟧.objects mem.new ≡ objects_of layout.now }
-    ensures lawful { (map : List Val) → ⟦<FlatMem as Mem>⟧.Admits mem.new map →
-        (store : Store) × IsList layout.now (with_set map (⟦<FlatMem as Mem>⟧.written mem.new)) store }
+    requires ready { IsReady ⟦<FlatMem as Mem>⟧ (objects_of layout.now) (IsList layout.now) mem.old }
+    ensures { IsReady ⟦<FlatMem as Mem>⟧ (objects_of layout.now) (IsList layout.now) mem.new }
 {
     match run_step(mem, layout, step, key) {
         Ok(reply) => reply,

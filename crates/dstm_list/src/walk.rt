@@ -1,9 +1,10 @@
-ghost use Rattle.std.specs.Prelude.{◌≡◌, ℕ, ◌<◌, List, IsTrue, false, Some, IfOk, OnOk, IfErr};
+ghost use Rattle.std.specs.Prelude.{◌<◌, List, IfOk, OnOk};
 ghost use Rattle.dstm_model.specs.declared.value.Val.{Val};
 ghost use Rattle.dstm_model.specs.Layout.{IsValid};
 ghost use Rattle.dstm_model.specs.Store.{Store};
 ghost use Rattle.dstm_model.specs.Objects.{objects_of, list_begin};
 ghost use Rattle.dstm_mem.specs.Memory.{with_set};
+ghost use Rattle.dstm_mem.specs.Operations.{IsReady, Leads, OnlyReads};
 ghost use Rattle.dstm_list.specs.List.{IsList, IsOfList, SameOutside};
 ghost use Rattle.dstm_list.specs.Place.{IsPlace};
 
@@ -27,25 +28,17 @@ pub struct Place {
 pub fn find<M: Mem>(mem: &mut M, layout: &Layout, key: u32) -> Result<Place, M::Err>
     requires valid { IsValid layout.now }
     requires declared { 0 < layout.now.list }
-    requires objects { M.objects mem.old ≡ objects_of layout.now }
-    requires live { IsTrue (M.is_live mem.old) }
-    requires lawful { (map : List Val) → M.Admits mem.old map →
-        (store : Store) × IsList layout.now (with_set map (M.written mem.old)) store }
+    requires ready { IsReady M.Mem (objects_of layout.now) (IsList layout.now) mem.old }
 
     ensures finds { IfOk result (λ found. (map : List Val) → M.Admits mem.new map → (store : Store) →
         (list : IsList layout.now (with_set map (M.written mem.old)) store) →
         IsPlace (list_begin layout.now) key found list.cells) }
     ensures link { IfOk result (λ found. IsOfList layout.now found.link) }
-    ensures sets { OnOk result ((p : ℕ) → M.written mem.new p ≡ M.written mem.old p) }
+    ensures looks { OnOk result (OnlyReads M.Mem mem.old mem.new) }
     ensures holds { OnOk result (SameOutside layout.now (M.held mem.old) (M.held mem.new)) }
     ensures opens { OnOk result (SameOutside layout.now (M.is_opened mem.old) (M.is_opened mem.new)) }
 
-    ensures place { M.place mem.new ≡ M.place mem.old }
-    ensures objects { M.objects mem.new ≡ M.objects mem.old }
-    ensures narrows { (map : List Val) → M.Admits mem.new map → M.Admits mem.old map }
-    ensures admits { OnOk result ((map : List Val) × M.Admits mem.new map) }
-    ensures live { OnOk result (IsTrue (M.is_live mem.new)) }
-    ensures ended { IfErr result (λ e. (M.is_live mem.new ≡ false) × (M.error mem.new ≡ Some e)) }
+    ensures leads { Leads M.Mem mem.old mem.new result }
 {
     let mut link = layout.accounts;
     let mut before = look(mem, layout, link)?;

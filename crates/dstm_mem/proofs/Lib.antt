@@ -1,2 +1,3 @@
 pub mod WithSet
+pub mod Operations
 pub mod Pairs

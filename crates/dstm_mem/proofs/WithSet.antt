@@ -1,6 +1,6 @@
--- Maps with the values that are set: their length, their values, and what an open and a set do to them.
+-- Maps with the values that are set: their length, their values, and what an open, a set and a put do to them.
 use Rattle.std.proofs.Common.{◌≡◌, ℕ, zero, suc, ◌<◌, List, [], ◌∷◌, length, slice_set, arith, refl, sym, ◌∙◌, ap}
-use Rattle.std.specs.Prelude.{Option, Some, None, unwrap_or, IfSome}
+use Rattle.std.specs.Prelude.{Option, Some, None, unwrap_or, IfSome, IsSome}
 use Rattle.std.specs.Option.{option_or}
 use Rattle.std.proofs.lemmas.List.{ext_get_or}
 use Rattle.dstm_model.specs.declared.value.Val.{Val}
@@ -77,6 +77,15 @@ with_set-set (w ∷ map) old new (suc o) v sets =
     ap (λ x. unwrap_or x w ∷ with_set map (rest new)) (sets.others 0 (λ e. absurd (omega (arith, e))))
     ∙ ap (λ vs. unwrap_or (old 0) w ∷ vs) (with_set-set map (rest old) (rest new) o v sets_rest)
 
+-- one more set, of an object and a value that are known otherwise
+pub with_set-again : (map : List Val) (old new : ℕ → Option Val) (o p : ℕ) (v u : Val) (before : List Val) →
+    SetsOnly o v old new → with_set map old ≡ before → o ≡ p → v ≡ u → with_set map new ≡ slice_set before p u
+with_set-again map old new o p v u before sets is object_is value_is =
+    with_set-set map old new o v sets
+    ∙ ap (λ x. slice_set x o v) is
+    ∙ ap (λ q. slice_set before q v) object_is
+    ∙ ap (slice_set before p) value_is
+
 answered : (w h : Option Val) (x v : Val) → IfSome h (λ y. x ≡ y) → Some v ≡ option_or w h → unwrap_or w x ≡ v
 answered None None x v agrees answer = absurd (cc answer)
 answered None (Some y) x v agrees answer = cc
@@ -90,3 +99,25 @@ value_at-opened map old new held o v within agrees same answer =
     value_at-with_set map old o within
     ∙ ap (λ w. unwrap_or w (value_at map o)) (sym (same o))
     ∙ answered (new o) (held o) (value_at map o) v (agrees o) answer
+
+-- one object: what is put is the value set, or else the map's
+put_value : (held written put : Option Val) (v : Val) → IfSome held (λ x. v ≡ x) →
+    IfSome put (λ x. Some x ≡ option_or written held) → (IsSome written → IsSome put) →
+    unwrap_or put v ≡ unwrap_or written v
+put_value held None None v agrees puts sets = refl
+put_value None None (Some x) v agrees puts sets = absurd (cc)
+put_value (Some y) None (Some x) v agrees puts sets = cc
+put_value held (Some w) None v agrees puts sets = let set = sets refl in absurd (cc)
+put_value held (Some w) (Some x) v agrees puts sets = cc
+
+-- Putting the value that is held where none is set changes nothing: an object that is opened for writing and
+-- not set has in the end the value that it had.
+pub unset_stays : (map : List Val) (held written put : ℕ → Option Val) → AgreesWith map held →
+    ((o : ℕ) → IfSome (put o) (λ v. Some v ≡ option_or (written o) (held o))) →
+    ((o : ℕ) → IsSome (written o) → IsSome (put o)) →
+    with_set map put ≡ with_set map written
+unset_stays map held written put agrees puts sets =
+    with_set-of_values (with_set map put) map written (length-with_set map put)
+    (λ o within.
+    value_at-with_set map put o within
+    ∙ put_value (held o) (written o) (put o) (value_at map o) (agrees o) (puts o) (sets o))

@@ -45,6 +45,8 @@ impl Mem for FlatMem {
 
     ghost place = { λ m. m.values.items };
 
+    ghost all_write = { λ _. false };
+
     ghost objects = { λ m. length m.values.items };
 
     ghost held = { λ m. held_in m.values.items m.notes.items };

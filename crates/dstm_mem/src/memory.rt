@@ -17,6 +17,9 @@ pub trait Mem {
     /// Which memory it is.
     ghost place: { Self → Self.Place };
 
+    /// The memory in this place opens an object for writing also where it is opened for reading.
+    ghost all_write: { Self.Place → Bool };
+
     /// How many objects there are.
     ghost objects: { Self → ℕ };
 
@@ -47,6 +50,8 @@ pub trait Mem {
         ensures held { OnOk result (HoldsAlso o (held self.old) (held self.new)) }
         ensures written { OnOk result ((p : ℕ) → written self.new p ≡ written self.old p) }
         ensures opened { OnOk result (MarksAtMost o (is_opened self.old) (is_opened self.new)) }
+        ensures unmarked { OnOk result (all_write (place self.old) ≡ false →
+            (p : ℕ) → is_opened self.new p ≡ is_opened self.old p) }
 
         ensures place { place self.new ≡ place self.old }
         ensures objects { objects self.new ≡ objects self.old }

@@ -1,11 +1,15 @@
-ghost use Rattle.std.specs.Prelude.{◌≡◌, ℕ, ◌<◌, ◌&&◌, ◌↔◌, List, is_some, not, IsTrue, false, OnOk, IfErr, None, Some};
+ghost use Rattle.std.specs.Prelude.{◌≡◌, ℕ, ◌<◌, ◌&&◌, ◌↔◌, List, is_some, not, IsSome, IsTrue, OnOk, IfErr};
 ghost use Rattle.dstm_model.specs.declared.value.Val.{Val};
 ghost use Rattle.dstm_mem.specs.Memory.{with_set, AgreesWith, HoldsWithout};
+ghost use Rattle.dstm_mem.specs.Operations.{IsFresh, Leads};
 
 use crate::memory::Mem;
 use dstm_model::Law;
 
-/// A memory whose reads can be let go.
+/// A memory whose reads can be let go. At every moment a live one admits exactly those maps, of the ones that
+/// it admitted before its first open, that have every value that it holds: both laws say it together, since
+/// before its first open it holds nothing. So a map that it admits no more where a read is added can be
+/// admitted again where that read is let go.
 pub trait Release: Mem {
     /// The maps that the memory admitted before its first open.
     ghost Began: { Self → List Val → Type 0 };
@@ -15,7 +19,7 @@ pub trait Release: Mem {
         requires exists { o < Self.objects self.now }
         ensures { result ≡ (is_some (Self.held self.now o) && not (Self.is_opened self.now o)) };
 
-    /// Lets a read go.
+    /// Lets a read go. An object that is opened later is found anew, maybe with another value.
     fn release(&mut self, o: u32)
         requires exists { o < Self.objects self.old }
         requires live { IsTrue (Self.is_live self.old) }
@@ -30,48 +34,49 @@ pub trait Release: Mem {
         ensures widens { (map : List Val) → Self.Admits self.old map → Self.Admits self.new map }
         ensures live { IsTrue (Self.is_live self.new) };
 
-    /// A live memory admits exactly those of these maps that have every value that is held.
+    /// A live memory admits exactly those of the maps that it began with that have every value that is held.
     ghost admits_exactly: { (s : Self) (map : List Val) → IsTrue (Self.is_live s) →
         Self.Admits s map ↔ (Began s map × AgreesWith map (Self.held s)) };
 
-    /// Which maps these are does not change.
+    /// The maps that a memory began with stay the same.
     ghost began_stays: { (s t : Self) (map : List Val) → Self.place s ≡ Self.place t → Began s map → Began t map };
 }
 
-/// The body of a transaction that lets reads go.
+/// The body of a transaction that lets reads go: a [`Body`](crate::Body) for these memories alone. At its end
+/// all that it promises holds of every map that has the values of the reads that are kept.
 pub trait LooseBody<L: Law> {
     /// What it was made to do, as plain data.
     type Task;
+
+    /// What it keeps of its last run that ended without an error, as plain data.
+    type Outcome;
 
     ghost law: { Self → L };
 
     ghost task: { Self → Self.Task };
 
-    /// What it keeps as its outcome is right for its task, for a transaction that starts at the first
-    /// map and leaves the second.
+    ghost outcome: { Self → Self.Outcome };
+
+    /// The outcome is right for the task, for a transaction that starts at the first map and leaves the
+    /// second.
     ghost right: { Self → List Val → List Val → Type 0 };
 
-    /// Runs the body once, on a memory in which nothing was read, set or opened. It is right for every map
-    /// that agrees with the reads that are kept.
+    /// A run that ends without an error has read this object, and keeps the read.
+    ghost audits: { Self → ℕ → Type 0 };
+
+    /// Runs the body once, on a memory in which nothing was read, set or opened for writing. A run that
+    /// ends in an error keeps the outcome of the run before.
     fn run<M: Release>(&mut self, mem: &mut M) -> Result<(), M::Err>
-        requires live { IsTrue (M.Mem.is_live mem.old) }
-        requires unread { (p : ℕ) → M.Mem.held mem.old p ≡ None }
-        requires unwritten { (p : ℕ) → M.Mem.written mem.old p ≡ None }
-        requires unopened { (p : ℕ) → M.Mem.is_opened mem.old p ≡ false }
+        requires fresh { IsFresh M.Mem mem.old }
         requires lawful { (map : List Val) → M.Mem.Admits mem.old map → L.holds (law self.old) map }
-        requires admits { (map : List Val) × M.Mem.Admits mem.old map }
 
         ensures lawful { OnOk result ((map : List Val) → M.Mem.Admits mem.new map →
             L.holds (law self.new) (with_set map (M.Mem.written mem.new))) }
         ensures right { OnOk result ((map : List Val) → M.Mem.Admits mem.new map →
             right self.new map (with_set map (M.Mem.written mem.new))) }
+        ensures audits { OnOk result ((o : ℕ) → audits self.new o → IsSome (M.Mem.held mem.new o)) }
         ensures law { law self.new ≡ law self.old }
         ensures task { task self.new ≡ task self.old }
-
-        ensures place { M.Mem.place mem.new ≡ M.Mem.place mem.old }
-        ensures objects { M.Mem.objects mem.new ≡ M.Mem.objects mem.old }
-        ensures narrows { (map : List Val) → M.Mem.Admits mem.new map → M.Mem.Admits mem.old map }
-        ensures admits { OnOk result ((map : List Val) × M.Mem.Admits mem.new map) }
-        ensures live { OnOk result (IsTrue (M.Mem.is_live mem.new)) }
-        ensures ended { IfErr result (λ e. (M.Mem.is_live mem.new ≡ false) × (M.Mem.error mem.new ≡ Some e)) };
+        ensures outcome { IfErr result (λ _. outcome self.new ≡ outcome self.old) }
+        ensures leads { Leads M.Mem mem.old mem.new result };
 }

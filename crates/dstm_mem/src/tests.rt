@@ -1,4 +1,4 @@
-ghost use Rattle.std.specs.Prelude.{◌≡◌, ℕ, ◌<◌, List, length, slice_set, IsTrue, IfOk};
+ghost use Rattle.std.specs.Prelude.{◌≡◌, ℕ, ◌<◌, List, length, slice_set, IsTrue, true, false, IfOk};
 ghost use Rattle.dstm_model.specs.declared.value.Val.{Val};
 ghost use Rattle.dstm_model.specs.Map.{value_at};
 
@@ -26,11 +26,17 @@ struct Replace {
 impl Body<NotEmpty> for Replace {
     type Task = Val;
 
+    type Outcome = Val;
+
     ghost law = { λ s. s.law };
 
     ghost task = { λ s. s.value };
 
+    ghost outcome = { λ s. s.found };
+
     ghost right = { λ s map after. (s.found ≡ value_at map 0) × (after ≡ slice_set map 0 s.value) };
+
+    ghost audits = { λ s o. o ≡ 0 };
 
     fn run<M: Mem>(&mut self, mem: &mut M) -> Result<(), M::Err> {
         self.found = mem.open_write(0)?;
@@ -66,6 +72,33 @@ fn set_and_read<M: Mem>(mem: &mut M, o: u32, value: Val) -> Result<(Val, Val), M
     mem.set(o, value);
     let after = mem.open_read(o)?;
     Ok((before, after))
+}
+
+// Opens an object for reading and lets the read go: whether it was a read before, and after.
+fn read_and_release<M: Release>(mem: &mut M, o: u32) -> Result<(bool, bool), M::Err>
+    requires exists { o < M.Mem.objects mem.old }
+    requires live { IsTrue (M.Mem.is_live mem.old) }
+    requires off { M.Mem.all_write (M.Mem.place mem.old) ≡ false }
+    requires unopened { M.Mem.is_opened mem.old o ≡ false }
+    ensures before { IfOk result (λ answers. answers.0 ≡ true) }
+    ensures after { IfOk result (λ answers. answers.1 ≡ false) }
+{
+    mem.open_read(o)?;
+    let before = mem.is_read(o);
+    mem.release(o);
+    let after = mem.is_read(o);
+    Ok((before, after))
+}
+
+#[test]
+fn a_read_is_let_go(rt: HostRuntime) -> Result<(), Fail> {
+    let five = Val { low: 5, high: 0 };
+    let mut mem = FlatMem::make(rt.alloc(), vec![in rt.alloc(); five]?)?;
+    match read_and_release(&mut mem, 0) {
+        Ok(answers) => assert_eq!(rt; answers, (true, false)),
+        Err(never) => match never {},
+    }
+    Ok(())
 }
 
 #[test]

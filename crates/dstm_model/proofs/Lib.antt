@@ -2,3 +2,4 @@ pub mod Applying
 pub mod Branches
 pub mod Transfers
 pub mod Objects
+pub mod Entries

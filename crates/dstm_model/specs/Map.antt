@@ -1,5 +1,5 @@
 -- Maps from objects to values, and the entries that transactions leave in a history.
-use Rattle.std.specs.Prelude.{◌≡◌, ◌≢◌, ℕ, ◌<◌, List, [], ◌∷◌, slice_index_or, slice_set}
+use Rattle.std.specs.Prelude.{◌≡◌, ◌≢◌, ℕ, ◌<◌, List, [], ◌∷◌, length, slice_index_or, slice_set}
 use Rattle.dstm_model.specs.declared.value.Val.{Val}
 
 -- what stands at a place that a map does not have
@@ -49,3 +49,8 @@ IsLegal map (x ∷ xs) = Agrees map x.reads × IsLegal (with_writes map x.writes
 abbrev pub state_after : List Val → List Entry → List Val
 state_after map [] = map
 state_after map (x ∷ xs) = state_after (with_writes map x.writes) xs
+
+-- every lawful map of n objects that agrees with the reads of an entry is lawful with its writes
+abbrev pub KeepsLaw : (List Val → Type 0) → ℕ → Entry → Type 0
+KeepsLaw holds n entry =
+    (map : List Val) → length map ≡ n → holds map → Agrees map entry.reads → holds (with_writes map entry.writes)

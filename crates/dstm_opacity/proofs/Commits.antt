@@ -26,10 +26,11 @@ use Rattle.dstm_core.proofs.Statuses.{finished_stays}
 use Rattle.dstm_opacity.proofs.Begins.{before_attempt, begun_before, pass_begun}
 use Rattle.dstm_opacity.proofs.Draws.{commit_may}
 use Rattle.dstm_opacity.proofs.KeptLaw.{entry_same}
+use Rattle.dstm_model.proofs.Entries.{reverse_cons}
 use Rattle.dstm_core.proofs.Pasts.{core_before}
 use Rattle.dstm_runs.proofs.Pasts.{past_more, past_past}
 use Rattle.dstm_opacity.proofs.Numbers.{pass_past}
-use Rattle.dstm_opacity.proofs.Orders.{history_more, reverse_cons}
+use Rattle.dstm_opacity.proofs.Orders.{history_more}
 use Rattle.dstm_opacity.proofs.Passes.{check_after}
 use Rattle.dstm_opacity.proofs.SinceDraw.{drawn_may}
 use Rattle.dstm_opacity.specs.Laws.{HoldCommitsBefore, IsBeginOf, IsCommit}
@@ -45,7 +46,7 @@ pub record DrawOf (s : Shape) (es : List Event) (l : LocalState) : Type 0 where
   pub own : own_attempt s (local s before draw.caller) ≡ own_attempt s l
 
 -- the phase that says so comes of a Draw, or was there
-drawn_back : (s : Shape) (l : LocalState) (e : Event) (k : Kind) → (after k s l e).phase ≡ Drawn →
+pub drawn_back : (s : Shape) (l : LocalState) (e : Event) (k : Kind) → (after k s l e).phase ≡ Drawn →
     (k ≡ Draw) ⊎ (l.phase ≡ Drawn)
 drawn_back s l e Draw h = inl refl
 drawn_back s l e Install h =

@@ -1,8 +1,9 @@
 -- An attempt that has put all its values keeps the law.
 use Rattle.std.proofs.Common.{◌+◌, ◌<◌, ◌==◌, ◌∙◌, ◌∷◌, ◌≡◌, ◌≢◌, ◌⊎◌, List, Some, [], arith, false, inl, inr, is_some, length, refl, subst, sym, true, ℕ}
 use Rattle.std.proofs.lemmas.Bool.{cases_Bool, cond_both}
+use Rattle.dstm_model.specs.Map.{KeepsLaw}
 use Rattle.dstm_model.specs.declared.value.Val.{Val}
-use Rattle.dstm_core.specs.Histories.{KeepsLaw, Lawful, entry_of}
+use Rattle.dstm_core.specs.Histories.{Lawful, entry_of}
 use Rattle.dstm_core.specs.Rules.{AllowedAs, MayRank, after}
 use Rattle.dstm_core.specs.Runs.{Core, local}
 use Rattle.dstm_core.specs.State.{LocalState, given, own_attempt}

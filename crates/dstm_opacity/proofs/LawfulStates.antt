@@ -1,9 +1,9 @@
 -- The state after every prefix of a history is lawful.
 use Rattle.std.proofs.Common.{◌&&◌, ◌++◌, ◌∙◌, ◌∷◌, ◌≡◌, ◌≢◌, ◌⊎◌, List, [], ap, append_assoc, inl, inr, length, refl, subst, sym, true, ℕ}
 use Rattle.std.proofs.lemmas.Bool.{and_parts, cond_both}
-use Rattle.dstm_model.specs.Map.{with_writes}
+use Rattle.dstm_model.specs.Map.{with_writes, KeepsLaw}
 use Rattle.dstm_model.specs.declared.value.Val.{Val}
-use Rattle.dstm_core.specs.Histories.{KeepsLaw, Lawful, entry_of, history, is_draw, pass_place, will_of}
+use Rattle.dstm_core.specs.Histories.{Lawful, entry_of, history, is_draw, pass_place, will_of}
 use Rattle.dstm_core.specs.Runs.{Core, local}
 use Rattle.dstm_core.specs.State.{own_attempt}
 use Rattle.dstm_core.specs.Events.{Event}

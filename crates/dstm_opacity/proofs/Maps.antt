@@ -9,12 +9,7 @@ use Rattle.dstm_core.specs.Words.Word.{OldWord, OwnerWord, StatusWord}
 use Rattle.dstm_core.specs.Events.{Event}
 use Rattle.dstm_core.specs.declared.shape.Shape.{Shape}
 use Rattle.dstm_opacity.proofs.Opacity.{sight_is_seen}
-use Rattle.dstm_opacity.proofs.States.{with_length}
-
--- a state has as many objects as the first one
-pub states_keep_length : (start : List Val) (xs : List Entry) → length (state_after start xs) ≡ length start
-states_keep_length m [] = refl
-states_keep_length m (x ∷ xs) = states_keep_length (with_writes m x.writes) xs ∙ with_length x.writes m
+use Rattle.dstm_model.proofs.Entries.{states_keep_length}
 
 -- an entry of a legal list agrees with the state before it, and the state after it has its writes
 pub legal_in_the_middle : (start : List Val) (prefix rest : List Entry) (x : Entry) →

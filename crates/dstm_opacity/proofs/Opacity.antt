@@ -27,9 +27,10 @@ use Rattle.dstm_opacity.proofs.Entries.{entries_once}
 use Rattle.dstm_opacity.proofs.LastPass.{look_self_may}
 use Rattle.dstm_opacity.proofs.LawfulStates.{lawful_from}
 use Rattle.dstm_opacity.proofs.Legal.{committed_legal}
+use Rattle.dstm_model.proofs.Entries.{reverse_cons}
 use Rattle.dstm_runs.proofs.Pasts.{past_past}
 use Rattle.dstm_opacity.proofs.Numbers.{pass_past}
-use Rattle.dstm_opacity.proofs.Orders.{PartIs, history_more, legal_reversed, part_is, reverse_cons, state_reversed}
+use Rattle.dstm_opacity.proofs.Orders.{PartIs, history_more, legal_reversed, part_is, state_reversed}
 use Rattle.dstm_opacity.proofs.Sights.{pass_agrees}
 use Rattle.dstm_opacity.proofs.States.{map_after, state_length}
 use Rattle.dstm_opacity.proofs.Writers.{writers_in_draw_order}

@@ -3,6 +3,7 @@ use Rattle.std.proofs.Common.{◌&&◌, ◌++◌, ◌∙◌, ◌∷◌, ◌≡�
 use Rattle.std.proofs.lemmas.Bool.{cases_Bool, cond_both}
 use Rattle.std.proofs.lemmas.List.{reverse-append}
 use Rattle.std.specs.Prelude.{reverse}
+use Rattle.dstm_model.proofs.Entries.{legal_snoc, reverse_cons, state_snoc}
 use Rattle.dstm_model.specs.Map.{Agrees, Entry, IsLegal, state_after, with_writes}
 use Rattle.dstm_model.specs.declared.value.Val.{Val}
 use Rattle.dstm_core.specs.Histories.{entry_of, history, is_draw}
@@ -15,26 +16,12 @@ use Rattle.dstm_core.specs.Traces.{IsPastOf}
 use Rattle.dstm_runs.proofs.Pasts.{past_more}
 use Rattle.dstm_opacity.proofs.States.{map_after}
 
-state_snoc : (start : List Val) (xs : List Entry) (x : Entry) →
-    state_after start (xs ++ x ∷ []) ≡ with_writes (state_after start xs) x.writes
-state_snoc start [] x = refl
-state_snoc start (y ∷ ys) x = state_snoc (with_writes start y.writes) ys x
-
--- the first entry becomes the last
-pub reverse_cons : {A : Type 0} → (x : A) (xs : List A) → reverse (x ∷ xs) ≡ reverse xs ++ x ∷ []
-reverse_cons x xs = reverse-append (x ∷ []) xs
-
 -- the map after entries in either order
 pub state_reversed : (start : List Val) (xs : List Entry) → state_after start (reverse xs) ≡ map_after start xs
 state_reversed start [] = refl
 state_reversed start (x ∷ xs) =
     ap (state_after start) (reverse_cons x xs) ∙ state_snoc start (reverse xs) x
     ∙ ap (λ m. with_writes m x.writes) (state_reversed start xs)
-
-legal_snoc : (start : List Val) (xs : List Entry) (x : Entry) → IsLegal start xs →
-    Agrees (state_after start xs) x.reads → IsLegal start (xs ++ x ∷ [])
-legal_snoc start [] x h a = (a, tt)
-legal_snoc start (y ∷ ys) x h a = (h.0, legal_snoc (with_writes start y.writes) ys x h.1 a)
 
 -- entries that are legal in one order are so in the other
 pub legal_reversed : (start : List Val) (xs : List Entry) → Legal start xs → IsLegal start (reverse xs)

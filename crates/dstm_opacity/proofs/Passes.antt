@@ -1,6 +1,6 @@
 -- What a pass has shown: the reads that it covers were current at its place.
 use Rattle.std.proofs.Common.{◌&&◌, ◌+◌, ◌<◌, ◌==◌, ◌∙◌, ◌∷◌, ◌≡◌, ◌≢◌, ◌≤◌, ◌⊎◌, Bool, List, None, Some, [], ap, arith, false, inl, inr, length, not, refl, slice_get, subst, suc, sym, true, zero, ℕ}
-use Rattle.std.proofs.lemmas.Bool.{and_parts, cases_Bool, cases_lt, cond_both, eq-eqb, eqb-true, ne_eqb}
+use Rattle.std.proofs.lemmas.Bool.{and_parts, cases_Bool, cases_lt, cond_both, eq-eqb, eqb-true, ne_eqb, not-false}
 use Rattle.dstm_core.specs.Histories.{is_draw, is_look_number, pass_place}
 use Rattle.dstm_core.specs.Rules.{AllowedAs, after}
 use Rattle.dstm_core.specs.Runs.{Core, local}
@@ -114,11 +114,6 @@ look_after : (s : Shape) (l : LocalState) (e : Event) (k : Kind) → k ≡ LookN
 look_after s l e LookNumber q a = (refl, refl, a.0, refl, refl, refl, refl, refl)
 look_after s l e k q a = absurd (cc)
 
--- not false
-pub not-false_true : (b : Bool) → not b ≡ false → b ≡ true
-not-false_true true h = refl
-not-false_true false h = absurd (cc)
-
 -- events that are no LookNumber keep the place of a pass
 pub place_keeps : (c : ℕ) (es : List Event) (e : Event) → is_look_number e.kind ≡ false →
     pass_place c (e ∷ es) ≡ pass_place c es
@@ -189,7 +184,7 @@ pass_own s will es e core f h p n (by_check k r m lt st) =
         check_shows s will (pass_place e.caller es) es (next_read (local s es e.caller))
         (pass_past e.caller es) core.0 (foretells_past s will es e core f) at_r.0 at_r.1
         (sym (ap (at es) pl) ∙ sym core.1.linked
-        ∙ eqb-true e.found (next_read (local s es e.caller)).word (not-false_true _ ns))
+        ∙ eqb-true e.found (next_read (local s es e.caller)).word (not-false _ ns))
 
     each : PassHas s will (pass_place e.caller es) (local s es e.caller) n →
         e.place ≡ (next_read (local s es e.caller)).object →

@@ -1,6 +1,6 @@
 -- What an attempt has shown since its draw: where it commits, all that it read was current at the draw.
 use Rattle.std.proofs.Common.{◌*◌, ◌++◌, ◌+◌, ◌<◌, ◌==◌, ◌∙◌, ◌∷◌, ◌≡◌, ◌≤◌, ◌⊎◌, Bool, List, Some, [], ap, append_assoc, arith, false, inl, inr, length, not, refl, slice_get, subst, sym, true, ℕ}
-use Rattle.std.proofs.lemmas.Bool.{cases_eq, cases_lt, eq-eqb, eqb-true}
+use Rattle.std.proofs.lemmas.Bool.{cases_eq, cases_lt, eq-eqb, eqb-true, not-false}
 use Rattle.dstm_core.specs.Histories.{is_draw, is_look_number, will_of}
 use Rattle.dstm_core.specs.Rules.{AllowedAs, MayRank, after}
 use Rattle.dstm_core.specs.Runs.{Core, local}
@@ -20,7 +20,7 @@ use Rattle.dstm_core.proofs.Pasts.{core_past}
 use Rattle.dstm_core.proofs.Statuses.{OwnStatus, finished_step, own_status}
 use Rattle.dstm_opacity.proofs.Current.{Foretells, foretells_past}
 use Rattle.dstm_opacity.proofs.Draws.{draw_may}
-use Rattle.dstm_opacity.proofs.Passes.{check_after, check_shows, not-false_true, passes, reads_at}
+use Rattle.dstm_opacity.proofs.Passes.{check_after, check_shows, passes, reads_at}
 use Rattle.dstm_opacity.proofs.Recorded.{ReadsNamed, reads}
 use Rattle.dstm_opacity.proofs.Sights.{foretold, will_is}
 use Rattle.dstm_opacity.proofs.States.{Agreed, Cur, agreed_by_index}
@@ -177,7 +177,7 @@ draw_own s will q es e p core f inn named d (inl k) =
             check_shows s will q es (next_read (local s es e.caller)) p core.0
             (foretells_past s will es e core f) at_r.0 at_r.1
             (sym (ap (at es) x.3) ∙ sym core.1.linked
-            ∙ eqb-true e.found (next_read (local s es e.caller)).word (not-false_true _ ns))
+            ∙ eqb-true e.found (next_read (local s es e.caller)).word (not-false _ ns))
 
         each : not (e.found == (next_read (local s es e.caller)).word) ≡ false → (i : ℕ) →
             (i < (local s es e.caller).checked) ⊎ ((local s es e.caller).checked ≤ i) →

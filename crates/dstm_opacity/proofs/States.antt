@@ -1,6 +1,7 @@
 -- The state after the entries of a history has the values of the current versions.
 use Rattle.std.proofs.Common.{◌&&◌, ◌++◌, ◌+◌, ◌<◌, ◌==◌, ◌∙◌, ◌∷◌, ◌≡◌, ◌≢◌, ◌⊎◌, Bool, List, None, Option, Some, [], ap, arith, false, get_or-set_other, get_or-set_same, inl, inr, length, length-set, refl, slice_get, suc, sym, true, ℕ}
 use Rattle.std.proofs.lemmas.Bool.{cases_Bool, cases_eq, cond_both, eq-eqb, ne_eqb}
+use Rattle.dstm_model.proofs.Entries.{with_length}
 use Rattle.dstm_model.specs.Map.{Agrees, Entry, value_at, with_writes}
 use Rattle.dstm_model.specs.declared.value.Val.{Val}
 use Rattle.dstm_core.specs.Histories.{drawn, entry_of, history, is_draw, new_value, new_values, old_values, read_values, version_value}
@@ -21,11 +22,6 @@ use Rattle.dstm_opacity.proofs.Written.{WritesOk}
 abbrev pub map_after : List Val → List Entry → List Val
 map_after start [] = start
 map_after start (x ∷ xs) = with_writes (map_after start xs) x.writes
-
--- writes replace values, and add none
-pub with_length : (ws : List (ℕ × Val)) (m : List Val) → length (with_writes m ws) ≡ length m
-with_length [] m = refl
-with_length (w ∷ ws) m = simp length-set (with_length ws m)
 
 -- the map keeps its length
 pub state_length : (xs : List Entry) (m : List Val) → length (map_after m xs) ≡ length m

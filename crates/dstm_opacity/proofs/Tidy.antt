@@ -54,7 +54,7 @@ read_apart o r rs h = go (cases_Bool (r.object == o))
     go (inl q) = let z : Some r ≡ None = rw q at h in absurd (cc)
     go (inr q) = (eqb-false r.object o q, rw q at h)
 
-read_of-none : (o : ℕ) (r : Read) (rs : List Read) → r.object ≢ o → read_of o rs ≡ None →
+pub read_of-none : (o : ℕ) (r : Read) (rs : List Read) → r.object ≢ o → read_of o rs ≡ None →
     read_of o (r ∷ rs) ≡ None
 read_of-none o r rs d h = rw (ne_eqb r.object o d) h
 
@@ -69,7 +69,7 @@ write_of-none o (v ∷ ws) w d h = go (cases_Bool (v.object == o)) (λ k. write_
     go (inr q) ih = rw q (ih (rw q at h))
 
 -- a read that another drop left
-drop_keeps : (o p : ℕ) (rs : List Read) → read_of p rs ≡ None → read_of p (drop_read o rs) ≡ None
+pub drop_keeps : (o p : ℕ) (rs : List Read) → read_of p rs ≡ None → read_of p (drop_read o rs) ≡ None
 drop_keeps o p [] h = refl
 drop_keeps o p (r ∷ rs) h = let k = read_apart p r rs h in
     cond_both (r.object == o) rs (r ∷ drop_read o rs) (λ x. read_of p x ≡ None) (λ _. k.1)

@@ -162,6 +162,18 @@ IsPlaced layout q low high t free before after Added = AddsBelow layout q low hi
 IsPlaced layout q low high t free before after (Root x) = AddsRoot layout q low high t free before after x
 IsPlaced layout q low high t free before after (Pair x y) = AddsPair layout q low high t free before after x y
 
+-- nothing is left to do, and no node was added
+abbrev pub IsSettled : Placed → Type 0
+IsSettled Full = Unit {0}
+IsSettled Found = Unit {0}
+IsSettled p = ⊥
+
+-- the tree is as it was: no node is free, or the key is there and its value stays
+abbrev pub LeavesAll : Bool → Placed → Type 0
+LeavesAll replaces Full = Unit {0}
+LeavesAll replaces Found = replaces ≡ false
+LeavesAll replaces p = ⊥
+
 -- the nodes that are still to be written can be
 abbrev pub FitsPlaced : Layout → Placed → Type 0
 FitsPlaced layout (Root x) = FitsNode layout x

@@ -1,8 +1,9 @@
-ghost use Rattle.std.specs.Prelude.{◌≡◌, ℕ, ◌<◌, ◌≤◌, List, IsTrue, false, Some, IfSome, IfOk, OnOk, IfErr, slice_set};
+ghost use Rattle.std.specs.Prelude.{◌≡◌, ℕ, ◌<◌, ◌≤◌, List, IsTrue, IfSome, IfOk, OnOk, slice_set};
 ghost use Rattle.dstm_model.specs.declared.value.Val.{Val};
 ghost use Rattle.dstm_model.specs.Map.{value_at};
 ghost use Rattle.dstm_model.specs.Objects.{objects_of, tree_begin};
 ghost use Rattle.dstm_mem.specs.Memory.{with_set};
+ghost use Rattle.dstm_mem.specs.Operations.{IsReady, Leads, OnlyReads, OpensToSet};
 ghost use Rattle.dstm_tree.specs.Objects.{object_of};
 ghost use Rattle.dstm_tree.specs.Node.{HasTree, FitsNode, val_of};
 ghost use Rattle.dstm_tree.specs.Remove.{LeftGap, RightGap, LeftFall, RightFall, ClosesLeft, ClosesRight, LiftsLeft};
@@ -33,17 +34,12 @@ fn read_red<M: Mem>(mem: &mut M, layout: &Layout, number: u16) -> Result<Option<
     ensures finds { IfOk result (λ found. (map : List Val) → M.Admits mem.new map →
         FindsRed layout.now (with_set map (M.written mem.old)) number found) }
     ensures fits { IfOk result (λ found. IfSome found (λ node. FitsNode layout.now node)) }
-    ensures sets { OnOk result ((p : ℕ) → M.written mem.new p ≡ M.written mem.old p) }
+    ensures looks { OnOk result (OnlyReads M.Mem mem.old mem.new) }
     ensures outside { OnOk result ((p : ℕ) → p < tree_begin layout.now →
         (M.written mem.new p ≡ M.written mem.old p) × (M.held mem.new p ≡ M.held mem.old p)
         × (M.is_opened mem.new p ≡ M.is_opened mem.old p)) }
 
-    ensures place { M.place mem.new ≡ M.place mem.old }
-    ensures objects { M.objects mem.new ≡ M.objects mem.old }
-    ensures narrows { (map : List Val) → M.Admits mem.new map → M.Admits mem.old map }
-    ensures admits { OnOk result ((map : List Val) × M.Admits mem.new map) }
-    ensures live { OnOk result (IsTrue (M.is_live mem.new)) }
-    ensures ended { IfErr result (λ e. (M.is_live mem.new ≡ false) × (M.error mem.new ≡ Some e)) }
+    ensures leads { Leads M.Mem mem.old mem.new result }
 {
     if number == 0 {
         return Ok(None);
@@ -71,13 +67,9 @@ fn update_node<M: Mem>(mem: &mut M, layout: &Layout, held: Node, node: Node) -> 
     ensures outside { OnOk result ((p : ℕ) → p < tree_begin layout.now →
         (M.written mem.new p ≡ M.written mem.old p) × (M.held mem.new p ≡ M.held mem.old p)
         × (M.is_opened mem.new p ≡ M.is_opened mem.old p)) }
+    ensures marks { OnOk result (OpensToSet M.Mem mem.old mem.new) }
 
-    ensures place { M.place mem.new ≡ M.place mem.old }
-    ensures objects { M.objects mem.new ≡ M.objects mem.old }
-    ensures narrows { (map : List Val) → M.Admits mem.new map → M.Admits mem.old map }
-    ensures admits { OnOk result ((map : List Val) × M.Admits mem.new map) }
-    ensures live { OnOk result (IsTrue (M.is_live mem.new)) }
-    ensures ended { IfErr result (λ e. (M.is_live mem.new ≡ false) × (M.error mem.new ≡ Some e)) }
+    ensures leads { Leads M.Mem mem.old mem.new result }
 {
     if node == held {
         return Ok(());
@@ -110,13 +102,9 @@ fn arrange<M: Mem>(
     ensures outside { OnOk result ((p : ℕ) → p < tree_begin layout.now →
         (M.written mem.new p ≡ M.written mem.old p) × (M.held mem.new p ≡ M.held mem.old p)
         × (M.is_opened mem.new p ≡ M.is_opened mem.old p)) }
+    ensures marks { OnOk result (OpensToSet M.Mem mem.old mem.new) }
 
-    ensures place { M.place mem.new ≡ M.place mem.old }
-    ensures objects { M.objects mem.new ≡ M.objects mem.old }
-    ensures narrows { (map : List Val) → M.Admits mem.new map → M.Admits mem.old map }
-    ensures admits { OnOk result ((map : List Val) × M.Admits mem.new map) }
-    ensures live { OnOk result (IsTrue (M.is_live mem.new)) }
-    ensures ended { IfErr result (λ e. (M.is_live mem.new ≡ false) × (M.error mem.new ≡ Some e)) }
+    ensures leads { Leads M.Mem mem.old mem.new result }
 {
     write_node(mem, layout, one)?;
     write_node(mem, layout, other)?;
@@ -148,13 +136,9 @@ fn lift_left<M: Mem>(
     ensures outside { OnOk result ((p : ℕ) → p < tree_begin layout.now →
         (M.written mem.new p ≡ M.written mem.old p) × (M.held mem.new p ≡ M.held mem.old p)
         × (M.is_opened mem.new p ≡ M.is_opened mem.old p)) }
+    ensures marks { OnOk result (OpensToSet M.Mem mem.old mem.new) }
 
-    ensures place { M.place mem.new ≡ M.place mem.old }
-    ensures objects { M.objects mem.new ≡ M.objects mem.old }
-    ensures narrows { (map : List Val) → M.Admits mem.new map → M.Admits mem.old map }
-    ensures admits { OnOk result ((map : List Val) × M.Admits mem.new map) }
-    ensures live { OnOk result (IsTrue (M.is_live mem.new)) }
-    ensures ended { IfErr result (λ e. (M.is_live mem.new ≡ false) × (M.error mem.new ≡ Some e)) }
+    ensures leads { Leads M.Mem mem.old mem.new result }
 {
     let far = read_red(mem, layout, sibling.right)?;
     if let Some(outer) = far {
@@ -258,13 +242,9 @@ fn lift_right<M: Mem>(
     ensures outside { OnOk result ((p : ℕ) → p < tree_begin layout.now →
         (M.written mem.new p ≡ M.written mem.old p) × (M.held mem.new p ≡ M.held mem.old p)
         × (M.is_opened mem.new p ≡ M.is_opened mem.old p)) }
+    ensures marks { OnOk result (OpensToSet M.Mem mem.old mem.new) }
 
-    ensures place { M.place mem.new ≡ M.place mem.old }
-    ensures objects { M.objects mem.new ≡ M.objects mem.old }
-    ensures narrows { (map : List Val) → M.Admits mem.new map → M.Admits mem.old map }
-    ensures admits { OnOk result ((map : List Val) × M.Admits mem.new map) }
-    ensures live { OnOk result (IsTrue (M.is_live mem.new)) }
-    ensures ended { IfErr result (λ e. (M.is_live mem.new ≡ false) × (M.error mem.new ≡ Some e)) }
+    ensures leads { Leads M.Mem mem.old mem.new result }
 {
     let far = read_red(mem, layout, sibling.left)?;
     if let Some(outer) = far {
@@ -367,13 +347,9 @@ pub(crate) fn close_left<M: Mem>(
     ensures outside { OnOk result ((p : ℕ) → p < tree_begin layout.now →
         (M.written mem.new p ≡ M.written mem.old p) × (M.held mem.new p ≡ M.held mem.old p)
         × (M.is_opened mem.new p ≡ M.is_opened mem.old p)) }
+    ensures marks { OnOk result (OpensToSet M.Mem mem.old mem.new) }
 
-    ensures place { M.place mem.new ≡ M.place mem.old }
-    ensures objects { M.objects mem.new ≡ M.objects mem.old }
-    ensures narrows { (map : List Val) → M.Admits mem.new map → M.Admits mem.old map }
-    ensures admits { OnOk result ((map : List Val) × M.Admits mem.new map) }
-    ensures live { OnOk result (IsTrue (M.is_live mem.new)) }
-    ensures ended { IfErr result (λ e. (M.is_live mem.new ≡ false) × (M.error mem.new ≡ Some e)) }
+    ensures leads { Leads M.Mem mem.old mem.new result }
 {
     if !fell {
         update_node(mem, layout, held, parent)?;
@@ -432,13 +408,9 @@ pub(crate) fn close_right<M: Mem>(
     ensures outside { OnOk result ((p : ℕ) → p < tree_begin layout.now →
         (M.written mem.new p ≡ M.written mem.old p) × (M.held mem.new p ≡ M.held mem.old p)
         × (M.is_opened mem.new p ≡ M.is_opened mem.old p)) }
+    ensures marks { OnOk result (OpensToSet M.Mem mem.old mem.new) }
 
-    ensures place { M.place mem.new ≡ M.place mem.old }
-    ensures objects { M.objects mem.new ≡ M.objects mem.old }
-    ensures narrows { (map : List Val) → M.Admits mem.new map → M.Admits mem.old map }
-    ensures admits { OnOk result ((map : List Val) × M.Admits mem.new map) }
-    ensures live { OnOk result (IsTrue (M.is_live mem.new)) }
-    ensures ended { IfErr result (λ e. (M.is_live mem.new ≡ false) × (M.error mem.new ≡ Some e)) }
+    ensures leads { Leads M.Mem mem.old mem.new result }
 {
     if !fell {
         update_node(mem, layout, held, parent)?;

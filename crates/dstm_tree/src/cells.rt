@@ -1,9 +1,10 @@
-ghost use Rattle.std.specs.Prelude.{◌≡◌, ℕ, ◌<◌, ◌≤◌, List, IsTrue, false, Some, IfOk, OnOk, IfErr, slice_set};
+ghost use Rattle.std.specs.Prelude.{◌≡◌, ℕ, ◌<◌, ◌≤◌, List, IsTrue, IfOk, OnOk, slice_set};
 ghost use Rattle.dstm_model.specs.declared.value.Val.{Val};
 ghost use Rattle.dstm_model.specs.Map.{value_at};
 ghost use Rattle.dstm_model.specs.Store.{Store};
 ghost use Rattle.dstm_model.specs.Objects.{objects_of, tree_begin};
 ghost use Rattle.dstm_mem.specs.Memory.{with_set};
+ghost use Rattle.dstm_mem.specs.Operations.{IsReady, Leads, OnlyReads, OpensToSet};
 ghost use Rattle.dstm_tree.specs.Objects.{root_of, free_of, object_of, IsTree};
 ghost use Rattle.dstm_tree.specs.Tree.{number_of};
 ghost use Rattle.dstm_tree.specs.Node.{HasTree, FitsNode, IsRead, val_of};
@@ -50,17 +51,12 @@ pub(crate) fn read<M: Mem>(mem: &mut M, layout: &Layout, object: u32) -> Result<
 
     ensures reads { IfOk result (λ value. (map : List Val) → M.Admits mem.new map →
         value_at (with_set map (M.written mem.old)) object ≡ value) }
-    ensures sets { OnOk result ((p : ℕ) → M.written mem.new p ≡ M.written mem.old p) }
+    ensures looks { OnOk result (OnlyReads M.Mem mem.old mem.new) }
     ensures outside { OnOk result ((p : ℕ) → p < tree_begin layout.now →
         (M.written mem.new p ≡ M.written mem.old p) × (M.held mem.new p ≡ M.held mem.old p)
         × (M.is_opened mem.new p ≡ M.is_opened mem.old p)) }
 
-    ensures place { M.place mem.new ≡ M.place mem.old }
-    ensures objects { M.objects mem.new ≡ M.objects mem.old }
-    ensures narrows { (map : List Val) → M.Admits mem.new map → M.Admits mem.old map }
-    ensures admits { OnOk result ((map : List Val) × M.Admits mem.new map) }
-    ensures live { OnOk result (IsTrue (M.is_live mem.new)) }
-    ensures ended { IfErr result (λ e. (M.is_live mem.new ≡ false) × (M.error mem.new ≡ Some e)) }
+    ensures leads { Leads M.Mem mem.old mem.new result }
 {
     let value = mem.open_read(object)?;
     Ok(value)
@@ -83,13 +79,9 @@ pub(crate) fn write<M: Mem>(
     ensures outside { OnOk result ((p : ℕ) → p < tree_begin layout.now →
         (M.written mem.new p ≡ M.written mem.old p) × (M.held mem.new p ≡ M.held mem.old p)
         × (M.is_opened mem.new p ≡ M.is_opened mem.old p)) }
+    ensures marks { OnOk result (OpensToSet M.Mem mem.old mem.new) }
 
-    ensures place { M.place mem.new ≡ M.place mem.old }
-    ensures objects { M.objects mem.new ≡ M.objects mem.old }
-    ensures narrows { (map : List Val) → M.Admits mem.new map → M.Admits mem.old map }
-    ensures admits { OnOk result ((map : List Val) × M.Admits mem.new map) }
-    ensures live { OnOk result (IsTrue (M.is_live mem.new)) }
-    ensures ended { IfErr result (λ e. (M.is_live mem.new ≡ false) × (M.error mem.new ≡ Some e)) }
+    ensures leads { Leads M.Mem mem.old mem.new result }
 {
     mem.open_write(object)?;
     mem.set(object, value);
@@ -99,25 +91,17 @@ pub(crate) fn write<M: Mem>(
 // Reads the number of the root.
 pub(crate) fn read_root<M: Mem>(mem: &mut M, layout: &Layout) -> Result<u16, M::Err>
     requires tree { HasTree layout.now }
-    requires objects { M.objects mem.old ≡ objects_of layout.now }
-    requires live { IsTrue (M.is_live mem.old) }
-    requires lawful { (map : List Val) → M.Admits mem.old map →
-        (store : Store) × IsTree layout.now (with_set map (M.written mem.old)) store }
+    requires ready { IsReady M.Mem (objects_of layout.now) (IsTree layout.now) mem.old }
 
     ensures reads { IfOk result (λ root. (map : List Val) → M.Admits mem.new map → (store : Store) →
         (t : IsTree layout.now (with_set map (M.written mem.old)) store) → number_of t.tree ≡ root) }
     ensures within { IfOk result (λ root. root ≤ layout.now.tree) }
-    ensures sets { OnOk result ((p : ℕ) → M.written mem.new p ≡ M.written mem.old p) }
+    ensures looks { OnOk result (OnlyReads M.Mem mem.old mem.new) }
     ensures outside { OnOk result ((p : ℕ) → p < tree_begin layout.now →
         (M.written mem.new p ≡ M.written mem.old p) × (M.held mem.new p ≡ M.held mem.old p)
         × (M.is_opened mem.new p ≡ M.is_opened mem.old p)) }
 
-    ensures place { M.place mem.new ≡ M.place mem.old }
-    ensures objects { M.objects mem.new ≡ M.objects mem.old }
-    ensures narrows { (map : List Val) → M.Admits mem.new map → M.Admits mem.old map }
-    ensures admits { OnOk result ((map : List Val) × M.Admits mem.new map) }
-    ensures live { OnOk result (IsTrue (M.is_live mem.new)) }
-    ensures ended { IfErr result (λ e. (M.is_live mem.new ≡ false) × (M.error mem.new ≡ Some e)) }
+    ensures leads { Leads M.Mem mem.old mem.new result }
 {
     let value = read(mem, layout, root_object(layout))?;
     Ok(value.low as u16)
@@ -133,17 +117,12 @@ pub(crate) fn read_node<M: Mem>(mem: &mut M, layout: &Layout, number: u16) -> Re
     ensures reads { IfOk result (λ node. (map : List Val) → M.Admits mem.new map →
         IsRead layout.now (with_set map (M.written mem.old)) (with_set map (M.written mem.new)) number node) }
     ensures fits { IfOk result (λ node. FitsNode layout.now node) }
-    ensures sets { OnOk result ((p : ℕ) → M.written mem.new p ≡ M.written mem.old p) }
+    ensures looks { OnOk result (OnlyReads M.Mem mem.old mem.new) }
     ensures outside { OnOk result ((p : ℕ) → p < tree_begin layout.now →
         (M.written mem.new p ≡ M.written mem.old p) × (M.held mem.new p ≡ M.held mem.old p)
         × (M.is_opened mem.new p ≡ M.is_opened mem.old p)) }
 
-    ensures place { M.place mem.new ≡ M.place mem.old }
-    ensures objects { M.objects mem.new ≡ M.objects mem.old }
-    ensures narrows { (map : List Val) → M.Admits mem.new map → M.Admits mem.old map }
-    ensures admits { OnOk result ((map : List Val) × M.Admits mem.new map) }
-    ensures live { OnOk result (IsTrue (M.is_live mem.new)) }
-    ensures ended { IfErr result (λ e. (M.is_live mem.new ≡ false) × (M.error mem.new ≡ Some e)) }
+    ensures leads { Leads M.Mem mem.old mem.new result }
 {
     let value = read(mem, layout, node_object(layout, number))?;
     Ok(Node::of(number, value))
@@ -162,13 +141,9 @@ pub(crate) fn write_node<M: Mem>(mem: &mut M, layout: &Layout, node: Node) -> Re
     ensures outside { OnOk result ((p : ℕ) → p < tree_begin layout.now →
         (M.written mem.new p ≡ M.written mem.old p) × (M.held mem.new p ≡ M.held mem.old p)
         × (M.is_opened mem.new p ≡ M.is_opened mem.old p)) }
+    ensures marks { OnOk result (OpensToSet M.Mem mem.old mem.new) }
 
-    ensures place { M.place mem.new ≡ M.place mem.old }
-    ensures objects { M.objects mem.new ≡ M.objects mem.old }
-    ensures narrows { (map : List Val) → M.Admits mem.new map → M.Admits mem.old map }
-    ensures admits { OnOk result ((map : List Val) × M.Admits mem.new map) }
-    ensures live { OnOk result (IsTrue (M.is_live mem.new)) }
-    ensures ended { IfErr result (λ e. (M.is_live mem.new ≡ false) × (M.error mem.new ≡ Some e)) }
+    ensures leads { Leads M.Mem mem.old mem.new result }
 {
     let value = encode(&node);
     write(mem, layout, node_object(layout, node.number), value)?;

@@ -1,9 +1,10 @@
-ghost use Rattle.std.specs.Prelude.{◌≡◌, ℕ, ◌<◌, ◌≤◌, List, IsTrue, false, Some, IfOk, OnOk, IfErr};
+ghost use Rattle.std.specs.Prelude.{◌≡◌, ℕ, ◌<◌, ◌≤◌, List, IfOk, OnOk};
 ghost use Rattle.dstm_model.specs.declared.value.Val.{Val};
 ghost use Rattle.dstm_model.specs.Layout.{IsValid, FitsLayout};
 ghost use Rattle.dstm_model.specs.Store.{Store, value_of};
 ghost use Rattle.dstm_model.specs.Objects.{objects_of, tree_begin, Does};
 ghost use Rattle.dstm_mem.specs.Memory.{with_set};
+ghost use Rattle.dstm_mem.specs.Operations.{IsReady, Leads, OnlyReads, OpensToSet};
 ghost use Rattle.dstm_tree.specs.Objects.{IsTree};
 
 use crate::cells::{read_node, read_root};
@@ -14,24 +15,16 @@ use dstm_model::{Layout, Op, Reply, Which};
 pub fn member<M: Mem>(mem: &mut M, layout: &Layout, key: u32) -> Result<Reply, M::Err>
     requires valid { IsValid layout.now }
     requires fits { FitsLayout layout.now (Op.Member Which.Tree key) }
-    requires objects { M.objects mem.old ≡ objects_of layout.now }
-    requires live { IsTrue (M.is_live mem.old) }
-    requires lawful { (map : List Val) → M.Admits mem.old map →
-        (store : Store) × IsTree layout.now (with_set map (M.written mem.old)) store }
+    requires ready { IsReady M.Mem (objects_of layout.now) (IsTree layout.now) mem.old }
 
     ensures does { IfOk result (λ reply. (map : List Val) → M.Admits mem.new map →
         Does (IsTree layout.now) (Op.Member Which.Tree key)
         (with_set map (M.written mem.old)) (with_set map (M.written mem.new)) reply) }
-    ensures sets { OnOk result ((p : ℕ) → M.written mem.new p ≡ M.written mem.old p) }
+    ensures looks { OnOk result (OnlyReads M.Mem mem.old mem.new) }
     ensures opens { OnOk result ((p : ℕ) → p < tree_begin layout.now →
         (M.held mem.new p ≡ M.held mem.old p) × (M.is_opened mem.new p ≡ M.is_opened mem.old p)) }
 
-    ensures place { M.place mem.new ≡ M.place mem.old }
-    ensures objects { M.objects mem.new ≡ M.objects mem.old }
-    ensures narrows { (map : List Val) → M.Admits mem.new map → M.Admits mem.old map }
-    ensures admits { OnOk result ((map : List Val) × M.Admits mem.new map) }
-    ensures live { OnOk result (IsTrue (M.is_live mem.new)) }
-    ensures ended { IfErr result (λ e. (M.is_live mem.new ≡ false) × (M.error mem.new ≡ Some e)) }
+    ensures leads { Leads M.Mem mem.old mem.new result }
 {
     let found = find(mem, layout, key)?;
     Ok(if found.is_some() {
@@ -45,24 +38,16 @@ pub fn member<M: Mem>(mem: &mut M, layout: &Layout, key: u32) -> Result<Reply, M
 pub fn get<M: Mem>(mem: &mut M, layout: &Layout, key: u32) -> Result<Reply, M::Err>
     requires valid { IsValid layout.now }
     requires fits { FitsLayout layout.now (Op.Get key) }
-    requires objects { M.objects mem.old ≡ objects_of layout.now }
-    requires live { IsTrue (M.is_live mem.old) }
-    requires lawful { (map : List Val) → M.Admits mem.old map →
-        (store : Store) × IsTree layout.now (with_set map (M.written mem.old)) store }
+    requires ready { IsReady M.Mem (objects_of layout.now) (IsTree layout.now) mem.old }
 
     ensures does { IfOk result (λ reply. (map : List Val) → M.Admits mem.new map →
         Does (IsTree layout.now) (Op.Get key)
         (with_set map (M.written mem.old)) (with_set map (M.written mem.new)) reply) }
-    ensures sets { OnOk result ((p : ℕ) → M.written mem.new p ≡ M.written mem.old p) }
+    ensures looks { OnOk result (OnlyReads M.Mem mem.old mem.new) }
     ensures opens { OnOk result ((p : ℕ) → p < tree_begin layout.now →
         (M.held mem.new p ≡ M.held mem.old p) × (M.is_opened mem.new p ≡ M.is_opened mem.old p)) }
 
-    ensures place { M.place mem.new ≡ M.place mem.old }
-    ensures objects { M.objects mem.new ≡ M.objects mem.old }
-    ensures narrows { (map : List Val) → M.Admits mem.new map → M.Admits mem.old map }
-    ensures admits { OnOk result ((map : List Val) × M.Admits mem.new map) }
-    ensures live { OnOk result (IsTrue (M.is_live mem.new)) }
-    ensures ended { IfErr result (λ e. (M.is_live mem.new ≡ false) × (M.error mem.new ≡ Some e)) }
+    ensures leads { Leads M.Mem mem.old mem.new result }
 {
     let found = find(mem, layout, key)?;
     match found {
@@ -75,23 +60,15 @@ pub fn get<M: Mem>(mem: &mut M, layout: &Layout, key: u32) -> Result<Reply, M::E
 fn find<M: Mem>(mem: &mut M, layout: &Layout, key: u32) -> Result<Option<u64>, M::Err>
     requires valid { IsValid layout.now }
     requires declared { 0 < layout.now.tree }
-    requires objects { M.objects mem.old ≡ objects_of layout.now }
-    requires live { IsTrue (M.is_live mem.old) }
-    requires lawful { (map : List Val) → M.Admits mem.old map →
-        (store : Store) × IsTree layout.now (with_set map (M.written mem.old)) store }
+    requires ready { IsReady M.Mem (objects_of layout.now) (IsTree layout.now) mem.old }
 
     ensures finds { IfOk result (λ found. (map : List Val) → M.Admits mem.new map → (store : Store) →
         IsTree layout.now (with_set map (M.written mem.old)) store → found ≡ value_of key store.items) }
-    ensures sets { OnOk result ((p : ℕ) → M.written mem.new p ≡ M.written mem.old p) }
+    ensures looks { OnOk result (OnlyReads M.Mem mem.old mem.new) }
     ensures opens { OnOk result ((p : ℕ) → p < tree_begin layout.now →
         (M.held mem.new p ≡ M.held mem.old p) × (M.is_opened mem.new p ≡ M.is_opened mem.old p)) }
 
-    ensures place { M.place mem.new ≡ M.place mem.old }
-    ensures objects { M.objects mem.new ≡ M.objects mem.old }
-    ensures narrows { (map : List Val) → M.Admits mem.new map → M.Admits mem.old map }
-    ensures admits { OnOk result ((map : List Val) × M.Admits mem.new map) }
-    ensures live { OnOk result (IsTrue (M.is_live mem.new)) }
-    ensures ended { IfErr result (λ e. (M.is_live mem.new ≡ false) × (M.error mem.new ≡ Some e)) }
+    ensures leads { Leads M.Mem mem.old mem.new result }
 {
     let mut at = read_root(mem, layout)?;
     for _step in 0..layout.tree {

@@ -1,12 +1,13 @@
-ghost use Rattle.std.specs.Prelude.{◌≡◌, ℕ, ◌<◌, ◌≤◌, List, IsTrue, false, Some, IfOk, OnOk, IfErr};
+ghost use Rattle.std.specs.Prelude.{◌≡◌, ◌≢◌, ℕ, ◌<◌, ◌≤◌, List, IsTrue, false, IfOk, OnOk};
 ghost use Rattle.dstm_model.specs.declared.value.Val.{Val};
 ghost use Rattle.dstm_model.specs.Layout.{IsValid, FitsLayout};
 ghost use Rattle.dstm_model.specs.Store.{Store};
 ghost use Rattle.dstm_model.specs.Objects.{objects_of, tree_begin, Does};
 ghost use Rattle.dstm_mem.specs.Memory.{with_set};
+ghost use Rattle.dstm_mem.specs.Operations.{IsReady, Leads, OnlyReads, OpensToSet};
 ghost use Rattle.dstm_tree.specs.Node.{HasTree, FitsNode};
 ghost use Rattle.dstm_tree.specs.Place.{Request, IsFree, IsTaken, CanPlace, IsPlaced, FitsPlaced, AttachesLeft};
-ghost use Rattle.dstm_tree.specs.Place.{AttachesRight, PlacesLeaf, Answers};
+ghost use Rattle.dstm_tree.specs.Place.{AttachesRight, PlacesLeaf, Answers, IsSettled, LeavesAll};
 ghost use Rattle.dstm_tree.specs.Objects.{IsTree};
 
 use crate::cells::{
@@ -21,10 +22,7 @@ use dstm_model::{KEY_LIMIT, Layout, Op, Reply, Val, Which};
 pub fn insert<M: Mem>(mem: &mut M, layout: &Layout, key: u32) -> Result<Reply, M::Err>
     requires valid { IsValid layout.now }
     requires fits { FitsLayout layout.now (Op.Insert Which.Tree key) }
-    requires objects { M.objects mem.old ≡ objects_of layout.now }
-    requires live { IsTrue (M.is_live mem.old) }
-    requires lawful { (map : List Val) → M.Admits mem.old map →
-        (store : Store) × IsTree layout.now (with_set map (M.written mem.old)) store }
+    requires ready { IsReady M.Mem (objects_of layout.now) (IsTree layout.now) mem.old }
 
     ensures does { IfOk result (λ reply. (map : List Val) → M.Admits mem.new map →
         Does (IsTree layout.now) (Op.Insert Which.Tree key)
@@ -32,13 +30,10 @@ pub fn insert<M: Mem>(mem: &mut M, layout: &Layout, key: u32) -> Result<Reply, M
     ensures outside { OnOk result ((p : ℕ) → p < tree_begin layout.now →
         (M.written mem.new p ≡ M.written mem.old p) × (M.held mem.new p ≡ M.held mem.old p)
         × (M.is_opened mem.new p ≡ M.is_opened mem.old p)) }
+    ensures unchanged { IfOk result (λ reply. reply ≢ Reply.Yes → OnlyReads M.Mem mem.old mem.new) }
+    ensures marks { OnOk result (OpensToSet M.Mem mem.old mem.new) }
 
-    ensures place { M.place mem.new ≡ M.place mem.old }
-    ensures objects { M.objects mem.new ≡ M.objects mem.old }
-    ensures narrows { (map : List Val) → M.Admits mem.new map → M.Admits mem.old map }
-    ensures admits { OnOk result ((map : List Val) × M.Admits mem.new map) }
-    ensures live { OnOk result (IsTrue (M.is_live mem.new)) }
-    ensures ended { IfErr result (λ e. (M.is_live mem.new ≡ false) × (M.error mem.new ≡ Some e)) }
+    ensures leads { Leads M.Mem mem.old mem.new result }
 {
     let reply = place(mem, layout, key, 0, false)?;
     Ok(reply)
@@ -48,10 +43,7 @@ pub fn insert<M: Mem>(mem: &mut M, layout: &Layout, key: u32) -> Result<Reply, M
 pub fn put<M: Mem>(mem: &mut M, layout: &Layout, key: u32, value: u64) -> Result<Reply, M::Err>
     requires valid { IsValid layout.now }
     requires fits { FitsLayout layout.now (Op.Put key value) }
-    requires objects { M.objects mem.old ≡ objects_of layout.now }
-    requires live { IsTrue (M.is_live mem.old) }
-    requires lawful { (map : List Val) → M.Admits mem.old map →
-        (store : Store) × IsTree layout.now (with_set map (M.written mem.old)) store }
+    requires ready { IsReady M.Mem (objects_of layout.now) (IsTree layout.now) mem.old }
 
     ensures does { IfOk result (λ reply. (map : List Val) → M.Admits mem.new map →
         Does (IsTree layout.now) (Op.Put key value)
@@ -59,13 +51,10 @@ pub fn put<M: Mem>(mem: &mut M, layout: &Layout, key: u32, value: u64) -> Result
     ensures outside { OnOk result ((p : ℕ) → p < tree_begin layout.now →
         (M.written mem.new p ≡ M.written mem.old p) × (M.held mem.new p ≡ M.held mem.old p)
         × (M.is_opened mem.new p ≡ M.is_opened mem.old p)) }
+    ensures unchanged { IfOk result (λ reply. reply ≡ Reply.Full → OnlyReads M.Mem mem.old mem.new) }
+    ensures marks { OnOk result (OpensToSet M.Mem mem.old mem.new) }
 
-    ensures place { M.place mem.new ≡ M.place mem.old }
-    ensures objects { M.objects mem.new ≡ M.objects mem.old }
-    ensures narrows { (map : List Val) → M.Admits mem.new map → M.Admits mem.old map }
-    ensures admits { OnOk result ((map : List Val) × M.Admits mem.new map) }
-    ensures live { OnOk result (IsTrue (M.is_live mem.new)) }
-    ensures ended { IfErr result (λ e. (M.is_live mem.new ≡ false) × (M.error mem.new ≡ Some e)) }
+    ensures leads { Leads M.Mem mem.old mem.new result }
 {
     let reply = place(mem, layout, key, value, true)?;
     Ok(reply)
@@ -81,10 +70,7 @@ fn place<M: Mem>(
 ) -> Result<Reply, M::Err>
     requires key { key < KEY_LIMIT }
     requires tree { HasTree layout.now }
-    requires objects { M.objects mem.old ≡ objects_of layout.now }
-    requires live { IsTrue (M.is_live mem.old) }
-    requires lawful { (map : List Val) → M.Admits mem.old map →
-        (store : Store) × IsTree layout.now (with_set map (M.written mem.old)) store }
+    requires ready { IsReady M.Mem (objects_of layout.now) (IsTree layout.now) mem.old }
 
     ensures does { IfOk result (λ reply. (map : List Val) → M.Admits mem.new map →
         Answers layout.now (record { key = key; value = value; replaces = replaces })
@@ -92,13 +78,11 @@ fn place<M: Mem>(
     ensures outside { OnOk result ((p : ℕ) → p < tree_begin layout.now →
         (M.written mem.new p ≡ M.written mem.old p) × (M.held mem.new p ≡ M.held mem.old p)
         × (M.is_opened mem.new p ≡ M.is_opened mem.old p)) }
+    ensures unchanged { IfOk result (λ reply. reply ≢ Reply.Yes → (reply ≡ Reply.No → replaces ≡ false) →
+        OnlyReads M.Mem mem.old mem.new) }
+    ensures marks { OnOk result (OpensToSet M.Mem mem.old mem.new) }
 
-    ensures place { M.place mem.new ≡ M.place mem.old }
-    ensures objects { M.objects mem.new ≡ M.objects mem.old }
-    ensures narrows { (map : List Val) → M.Admits mem.new map → M.Admits mem.old map }
-    ensures admits { OnOk result ((map : List Val) × M.Admits mem.new map) }
-    ensures live { OnOk result (IsTrue (M.is_live mem.new)) }
-    ensures ended { IfErr result (λ e. (M.is_live mem.new ≡ false) × (M.error mem.new ≡ Some e)) }
+    ensures leads { Leads M.Mem mem.old mem.new result }
 {
     let root = read_root(mem, layout)?;
     let placed = place_below(mem, layout, root, key, value, replaces, layout.tree)?;
@@ -138,10 +122,7 @@ pub(crate) enum Placed {
 // Takes the first node off the free chain, or answers 0 where there is none.
 fn take_free<M: Mem>(mem: &mut M, layout: &Layout) -> Result<u16, M::Err>
     requires tree { HasTree layout.now }
-    requires objects { M.objects mem.old ≡ objects_of layout.now }
-    requires live { IsTrue (M.is_live mem.old) }
-    requires lawful { (map : List Val) → M.Admits mem.old map →
-        (free : List ℕ) × IsFree layout.now (with_set map (M.written mem.old)) free }
+    requires ready { IsReady M.Mem (objects_of layout.now) (IsFree layout.now) mem.old }
 
     ensures takes { IfOk result (λ number. (map : List Val) → M.Admits mem.new map → (free : List ℕ) →
         IsFree layout.now (with_set map (M.written mem.old)) free →
@@ -150,13 +131,10 @@ fn take_free<M: Mem>(mem: &mut M, layout: &Layout) -> Result<u16, M::Err>
     ensures outside { OnOk result ((p : ℕ) → p < tree_begin layout.now →
         (M.written mem.new p ≡ M.written mem.old p) × (M.held mem.new p ≡ M.held mem.old p)
         × (M.is_opened mem.new p ≡ M.is_opened mem.old p)) }
+    ensures none { IfOk result (λ number. number ≡ 0 → OnlyReads M.Mem mem.old mem.new) }
+    ensures marks { OnOk result (OpensToSet M.Mem mem.old mem.new) }
 
-    ensures place { M.place mem.new ≡ M.place mem.old }
-    ensures objects { M.objects mem.new ≡ M.objects mem.old }
-    ensures narrows { (map : List Val) → M.Admits mem.new map → M.Admits mem.old map }
-    ensures admits { OnOk result ((map : List Val) × M.Admits mem.new map) }
-    ensures live { OnOk result (IsTrue (M.is_live mem.new)) }
-    ensures ended { IfErr result (λ e. (M.is_live mem.new ≡ false) × (M.error mem.new ≡ Some e)) }
+    ensures leads { Leads M.Mem mem.old mem.new result }
 {
     let head = read(mem, layout, free_object(layout))?;
     let first = head.low as u16;
@@ -189,13 +167,11 @@ fn attach_left<M: Mem>(
     ensures outside { OnOk result ((p : ℕ) → p < tree_begin layout.now →
         (M.written mem.new p ≡ M.written mem.old p) × (M.held mem.new p ≡ M.held mem.old p)
         × (M.is_opened mem.new p ≡ M.is_opened mem.old p)) }
+    ensures settled { IfOk result (λ placed. IsSettled placed →
+        (below ≡ placed) × OnlyReads M.Mem mem.old mem.new) }
+    ensures marks { OnOk result (OpensToSet M.Mem mem.old mem.new) }
 
-    ensures place { M.place mem.new ≡ M.place mem.old }
-    ensures objects { M.objects mem.new ≡ M.objects mem.old }
-    ensures narrows { (map : List Val) → M.Admits mem.new map → M.Admits mem.old map }
-    ensures admits { OnOk result ((map : List Val) × M.Admits mem.new map) }
-    ensures live { OnOk result (IsTrue (M.is_live mem.new)) }
-    ensures ended { IfErr result (λ e. (M.is_live mem.new ≡ false) × (M.error mem.new ≡ Some e)) }
+    ensures leads { Leads M.Mem mem.old mem.new result }
 {
     match below {
         Placed::Root(child) => {
@@ -269,13 +245,11 @@ fn attach_right<M: Mem>(
     ensures outside { OnOk result ((p : ℕ) → p < tree_begin layout.now →
         (M.written mem.new p ≡ M.written mem.old p) × (M.held mem.new p ≡ M.held mem.old p)
         × (M.is_opened mem.new p ≡ M.is_opened mem.old p)) }
+    ensures settled { IfOk result (λ placed. IsSettled placed →
+        (below ≡ placed) × OnlyReads M.Mem mem.old mem.new) }
+    ensures marks { OnOk result (OpensToSet M.Mem mem.old mem.new) }
 
-    ensures place { M.place mem.new ≡ M.place mem.old }
-    ensures objects { M.objects mem.new ≡ M.objects mem.old }
-    ensures narrows { (map : List Val) → M.Admits mem.new map → M.Admits mem.old map }
-    ensures admits { OnOk result ((map : List Val) × M.Admits mem.new map) }
-    ensures live { OnOk result (IsTrue (M.is_live mem.new)) }
-    ensures ended { IfErr result (λ e. (M.is_live mem.new ≡ false) × (M.error mem.new ≡ Some e)) }
+    ensures leads { Leads M.Mem mem.old mem.new result }
 {
     match below {
         Placed::Root(child) => {
@@ -355,13 +329,10 @@ fn place_below<M: Mem>(
     ensures outside { OnOk result ((p : ℕ) → p < tree_begin layout.now →
         (M.written mem.new p ≡ M.written mem.old p) × (M.held mem.new p ≡ M.held mem.old p)
         × (M.is_opened mem.new p ≡ M.is_opened mem.old p)) }
+    ensures unchanged { IfOk result (λ placed. LeavesAll replaces placed → OnlyReads M.Mem mem.old mem.new) }
+    ensures marks { OnOk result (OpensToSet M.Mem mem.old mem.new) }
 
-    ensures place { M.place mem.new ≡ M.place mem.old }
-    ensures objects { M.objects mem.new ≡ M.objects mem.old }
-    ensures narrows { (map : List Val) → M.Admits mem.new map → M.Admits mem.old map }
-    ensures admits { OnOk result ((map : List Val) × M.Admits mem.new map) }
-    ensures live { OnOk result (IsTrue (M.is_live mem.new)) }
-    ensures ended { IfErr result (λ e. (M.is_live mem.new ≡ false) × (M.error mem.new ≡ Some e)) }
+    ensures leads { Leads M.Mem mem.old mem.new result }
 {
     if at == 0 {
         let placed = place_leaf(mem, layout, key, value)?;
@@ -389,10 +360,7 @@ fn place_below<M: Mem>(
 fn place_leaf<M: Mem>(mem: &mut M, layout: &Layout, key: u32, value: u64) -> Result<Placed, M::Err>
     requires key { key < KEY_LIMIT }
     requires tree { HasTree layout.now }
-    requires objects { M.objects mem.old ≡ objects_of layout.now }
-    requires live { IsTrue (M.is_live mem.old) }
-    requires lawful { (map : List Val) → M.Admits mem.old map →
-        (free : List ℕ) × IsFree layout.now (with_set map (M.written mem.old)) free }
+    requires ready { IsReady M.Mem (objects_of layout.now) (IsFree layout.now) mem.old }
 
     ensures does { IfOk result (λ placed. (map : List Val) → M.Admits mem.new map →
         PlacesLeaf layout.now key value (with_set map (M.written mem.old)) (with_set map (M.written mem.new)) placed) }
@@ -400,13 +368,11 @@ fn place_leaf<M: Mem>(mem: &mut M, layout: &Layout, key: u32, value: u64) -> Res
     ensures outside { OnOk result ((p : ℕ) → p < tree_begin layout.now →
         (M.written mem.new p ≡ M.written mem.old p) × (M.held mem.new p ≡ M.held mem.old p)
         × (M.is_opened mem.new p ≡ M.is_opened mem.old p)) }
+    ensures unchanged { IfOk result (λ placed. IsSettled placed →
+        (placed ≡ Placed.Full) × OnlyReads M.Mem mem.old mem.new) }
+    ensures marks { OnOk result (OpensToSet M.Mem mem.old mem.new) }
 
-    ensures place { M.place mem.new ≡ M.place mem.old }
-    ensures objects { M.objects mem.new ≡ M.objects mem.old }
-    ensures narrows { (map : List Val) → M.Admits mem.new map → M.Admits mem.old map }
-    ensures admits { OnOk result ((map : List Val) × M.Admits mem.new map) }
-    ensures live { OnOk result (IsTrue (M.is_live mem.new)) }
-    ensures ended { IfErr result (λ e. (M.is_live mem.new ≡ false) × (M.error mem.new ≡ Some e)) }
+    ensures leads { Leads M.Mem mem.old mem.new result }
 {
     let number = take_free(mem, layout)?;
     if number == 0 {

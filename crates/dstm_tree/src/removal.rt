@@ -1,10 +1,11 @@
-ghost use Rattle.std.specs.Prelude.{◌≡◌, ℕ, ◌<◌, ◌≤◌, List, IsTrue, false, Some, IfOk, OnOk, IfErr, slice_set};
+ghost use Rattle.std.specs.Prelude.{◌≡◌, ◌≢◌, ℕ, ◌<◌, ◌≤◌, List, IsTrue, None, IfOk, OnOk, slice_set};
 ghost use Rattle.dstm_model.specs.declared.value.Val.{Val};
 ghost use Rattle.dstm_model.specs.Map.{value_at};
 ghost use Rattle.dstm_model.specs.Layout.{IsValid, FitsLayout};
 ghost use Rattle.dstm_model.specs.Store.{Store};
 ghost use Rattle.dstm_model.specs.Objects.{objects_of, tree_begin, plain, Does};
 ghost use Rattle.dstm_mem.specs.Memory.{with_set};
+ghost use Rattle.dstm_mem.specs.Operations.{IsReady, Leads, OnlyReads, OpensToSet};
 ghost use Rattle.dstm_tree.specs.Objects.{root_of, free_of, object_of, IsTree};
 ghost use Rattle.dstm_tree.specs.Node.{HasTree, FitsNode, Subtree, tree_of};
 ghost use Rattle.dstm_tree.specs.Remove.{Hoists, TakesLeast, Removes, RemovesIf, Root};
@@ -21,10 +22,7 @@ use dstm_model::{Layout, Op, Reply, Val, Which};
 pub fn remove<M: Mem>(mem: &mut M, layout: &Layout, key: u32) -> Result<Reply, M::Err>
     requires valid { IsValid layout.now }
     requires fits { FitsLayout layout.now (Op.Remove Which.Tree key) }
-    requires objects { M.objects mem.old ≡ objects_of layout.now }
-    requires live { IsTrue (M.is_live mem.old) }
-    requires lawful { (map : List Val) → M.Admits mem.old map →
-        (store : Store) × IsTree layout.now (with_set map (M.written mem.old)) store }
+    requires ready { IsReady M.Mem (objects_of layout.now) (IsTree layout.now) mem.old }
 
     ensures does { IfOk result (λ reply. (map : List Val) → M.Admits mem.new map →
         Does (IsTree layout.now) (Op.Remove Which.Tree key)
@@ -32,13 +30,10 @@ pub fn remove<M: Mem>(mem: &mut M, layout: &Layout, key: u32) -> Result<Reply, M
     ensures outside { OnOk result ((p : ℕ) → p < tree_begin layout.now →
         (M.written mem.new p ≡ M.written mem.old p) × (M.held mem.new p ≡ M.held mem.old p)
         × (M.is_opened mem.new p ≡ M.is_opened mem.old p)) }
+    ensures unchanged { IfOk result (λ reply. reply ≢ Reply.Yes → OnlyReads M.Mem mem.old mem.new) }
+    ensures marks { OnOk result (OpensToSet M.Mem mem.old mem.new) }
 
-    ensures place { M.place mem.new ≡ M.place mem.old }
-    ensures objects { M.objects mem.new ≡ M.objects mem.old }
-    ensures narrows { (map : List Val) → M.Admits mem.new map → M.Admits mem.old map }
-    ensures admits { OnOk result ((map : List Val) × M.Admits mem.new map) }
-    ensures live { OnOk result (IsTrue (M.is_live mem.new)) }
-    ensures ended { IfErr result (λ e. (M.is_live mem.new ≡ false) × (M.error mem.new ≡ Some e)) }
+    ensures leads { Leads M.Mem mem.old mem.new result }
 {
     let root = read_root(mem, layout)?;
     let found = remove_below(mem, layout, root, key, layout.tree)?;
@@ -64,13 +59,9 @@ fn give_back<M: Mem>(mem: &mut M, layout: &Layout, number: u16) -> Result<(), M:
     ensures outside { OnOk result ((p : ℕ) → p < tree_begin layout.now →
         (M.written mem.new p ≡ M.written mem.old p) × (M.held mem.new p ≡ M.held mem.old p)
         × (M.is_opened mem.new p ≡ M.is_opened mem.old p)) }
+    ensures marks { OnOk result (OpensToSet M.Mem mem.old mem.new) }
 
-    ensures place { M.place mem.new ≡ M.place mem.old }
-    ensures objects { M.objects mem.new ≡ M.objects mem.old }
-    ensures narrows { (map : List Val) → M.Admits mem.new map → M.Admits mem.old map }
-    ensures admits { OnOk result ((map : List Val) × M.Admits mem.new map) }
-    ensures live { OnOk result (IsTrue (M.is_live mem.new)) }
-    ensures ended { IfErr result (λ e. (M.is_live mem.new ≡ false) × (M.error mem.new ≡ Some e)) }
+    ensures leads { Leads M.Mem mem.old mem.new result }
 {
     let first = read(mem, layout, free_object(layout))?;
     write(mem, layout, node_object(layout, number), first)?;
@@ -96,13 +87,9 @@ fn update_root<M: Mem>(mem: &mut M, layout: &Layout, held: u16, root: u16) -> Re
     ensures outside { OnOk result ((p : ℕ) → p < tree_begin layout.now →
         (M.written mem.new p ≡ M.written mem.old p) × (M.held mem.new p ≡ M.held mem.old p)
         × (M.is_opened mem.new p ≡ M.is_opened mem.old p)) }
+    ensures marks { OnOk result (OpensToSet M.Mem mem.old mem.new) }
 
-    ensures place { M.place mem.new ≡ M.place mem.old }
-    ensures objects { M.objects mem.new ≡ M.objects mem.old }
-    ensures narrows { (map : List Val) → M.Admits mem.new map → M.Admits mem.old map }
-    ensures admits { OnOk result ((map : List Val) × M.Admits mem.new map) }
-    ensures live { OnOk result (IsTrue (M.is_live mem.new)) }
-    ensures ended { IfErr result (λ e. (M.is_live mem.new ≡ false) × (M.error mem.new ≡ Some e)) }
+    ensures leads { Leads M.Mem mem.old mem.new result }
 {
     if root == held {
         return Ok(());
@@ -142,13 +129,9 @@ fn hoist<M: Mem>(mem: &mut M, layout: &Layout, child: u16, red: bool) -> Result<
     ensures outside { OnOk result ((p : ℕ) → p < tree_begin layout.now →
         (M.written mem.new p ≡ M.written mem.old p) × (M.held mem.new p ≡ M.held mem.old p)
         × (M.is_opened mem.new p ≡ M.is_opened mem.old p)) }
+    ensures marks { OnOk result (OpensToSet M.Mem mem.old mem.new) }
 
-    ensures place { M.place mem.new ≡ M.place mem.old }
-    ensures objects { M.objects mem.new ≡ M.objects mem.old }
-    ensures narrows { (map : List Val) → M.Admits mem.new map → M.Admits mem.old map }
-    ensures admits { OnOk result ((map : List Val) × M.Admits mem.new map) }
-    ensures live { OnOk result (IsTrue (M.is_live mem.new)) }
-    ensures ended { IfErr result (λ e. (M.is_live mem.new ≡ false) × (M.error mem.new ≡ Some e)) }
+    ensures leads { Leads M.Mem mem.old mem.new result }
 {
     if child == 0 {
         return Ok(Cut {
@@ -183,13 +166,9 @@ fn take_least<M: Mem>(mem: &mut M, layout: &Layout, at: u16, depth: u32) -> Resu
     ensures outside { OnOk result ((p : ℕ) → p < tree_begin layout.now →
         (M.written mem.new p ≡ M.written mem.old p) × (M.held mem.new p ≡ M.held mem.old p)
         × (M.is_opened mem.new p ≡ M.is_opened mem.old p)) }
+    ensures marks { OnOk result (OpensToSet M.Mem mem.old mem.new) }
 
-    ensures place { M.place mem.new ≡ M.place mem.old }
-    ensures objects { M.objects mem.new ≡ M.objects mem.old }
-    ensures narrows { (map : List Val) → M.Admits mem.new map → M.Admits mem.old map }
-    ensures admits { OnOk result ((map : List Val) × M.Admits mem.new map) }
-    ensures live { OnOk result (IsTrue (M.is_live mem.new)) }
-    ensures ended { IfErr result (λ e. (M.is_live mem.new ≡ false) × (M.error mem.new ≡ Some e)) }
+    ensures leads { Leads M.Mem mem.old mem.new result }
 {
     let node = read_node(mem, layout, at)?;
     if node.left == 0 {
@@ -231,13 +210,9 @@ fn remove_root<M: Mem>(
     ensures outside { OnOk result ((p : ℕ) → p < tree_begin layout.now →
         (M.written mem.new p ≡ M.written mem.old p) × (M.held mem.new p ≡ M.held mem.old p)
         × (M.is_opened mem.new p ≡ M.is_opened mem.old p)) }
+    ensures marks { OnOk result (OpensToSet M.Mem mem.old mem.new) }
 
-    ensures place { M.place mem.new ≡ M.place mem.old }
-    ensures objects { M.objects mem.new ≡ M.objects mem.old }
-    ensures narrows { (map : List Val) → M.Admits mem.new map → M.Admits mem.old map }
-    ensures admits { OnOk result ((map : List Val) × M.Admits mem.new map) }
-    ensures live { OnOk result (IsTrue (M.is_live mem.new)) }
-    ensures ended { IfErr result (λ e. (M.is_live mem.new ≡ false) × (M.error mem.new ≡ Some e)) }
+    ensures leads { Leads M.Mem mem.old mem.new result }
 {
     if node.left == 0 {
         let cut = hoist(mem, layout, node.right, node.red)?;
@@ -290,13 +265,10 @@ fn remove_below<M: Mem>(
     ensures outside { OnOk result ((p : ℕ) → p < tree_begin layout.now →
         (M.written mem.new p ≡ M.written mem.old p) × (M.held mem.new p ≡ M.held mem.old p)
         × (M.is_opened mem.new p ≡ M.is_opened mem.old p)) }
+    ensures unchanged { IfOk result (λ removed. removed ≡ None → OnlyReads M.Mem mem.old mem.new) }
+    ensures marks { OnOk result (OpensToSet M.Mem mem.old mem.new) }
 
-    ensures place { M.place mem.new ≡ M.place mem.old }
-    ensures objects { M.objects mem.new ≡ M.objects mem.old }
-    ensures narrows { (map : List Val) → M.Admits mem.new map → M.Admits mem.old map }
-    ensures admits { OnOk result ((map : List Val) × M.Admits mem.new map) }
-    ensures live { OnOk result (IsTrue (M.is_live mem.new)) }
-    ensures ended { IfErr result (λ e. (M.is_live mem.new ≡ false) × (M.error mem.new ≡ Some e)) }
+    ensures leads { Leads M.Mem mem.old mem.new result }
 {
     if at == 0 {
         return Ok(None);

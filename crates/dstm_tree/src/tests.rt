@@ -1,9 +1,10 @@
-ghost use Rattle.std.specs.Prelude.{◌≡◌, ◌<◌, ℕ, List, IsTrue, IfOk, OnOk};
+ghost use Rattle.std.specs.Prelude.{◌≡◌, List, IfOk, OnOk};
 ghost use Rattle.dstm_model.specs.declared.value.Val.{Val};
 ghost use Rattle.dstm_model.specs.Layout.{IsValid, FitsLayout};
 ghost use Rattle.dstm_model.specs.Store.{Store};
 ghost use Rattle.dstm_model.specs.Objects.{objects_of, plain};
 ghost use Rattle.dstm_mem.specs.Memory.{with_set};
+ghost use Rattle.dstm_mem.specs.Operations.{IsReady};
 ghost use Rattle.dstm_tree.specs.Objects.{IsTree};
 
 use super::*;
@@ -25,14 +26,8 @@ fn run_op<M: Mem>(mem: &mut M, layout: &Layout, op: Op) -> Result<Reply, M::Err>
     requires valid { IsValid layout.now }
     requires fits { FitsLayout layout.now op }
     requires tree { FitsLayout layout.now (Op.Get 0) }
-    requires objects { M.objects mem.old ≡ objects_of layout.now }
-    requires live { IsTrue (M.is_live mem.old) }
-    requires lawful { (map : List Val) → M.Admits mem.old map →
-        (store : Store) × IsTree layout.now (with_set map (M.written mem.old)) store }
-    ensures lawful { OnOk result ((map : List Val) → M.Admits mem.new map →
-        (store : Store) × IsTree layout.now (with_set map (M.written mem.new)) store) }
-    ensures objects { M.objects mem.new ≡ M.objects mem.old }
-    ensures live { OnOk result (IsTrue (M.is_live mem.new)) }
+    requires ready { IsReady M.Mem (objects_of layout.now) (IsTree layout.now) mem.old }
+    ensures { OnOk result (IsReady M.Mem (objects_of layout.now) (IsTree layout.now) mem.new) }
 {
     match op {
         Op::Insert {
@@ -58,12 +53,8 @@ fn answer(mem: &mut FlatMem, layout: &Layout, op: Op) -> Reply
     requires valid { IsValid layout.now }
     requires fits { FitsLayout layout.now op }
     requires tree { FitsLayout layout.now (Op.Get 0) }
-    requires objects { ⟦<FlatMem as Mem>⟧.objects mem.old ≡ objects_of layout.now }
-    requires lawful { (map : List Val) → ⟦<FlatMem as Mem>⟧.Admits mem.old map →
-        (store : Store) × IsTree layout.now (with_set map (⟦<FlatMem as Mem>⟧.written mem.old)) store }
-    ensures objects { ⟦<FlatMem as Mem>⟧.objects mem.new ≡ objects_of layout.now }
-    ensures lawful { (map : List Val) → ⟦<FlatMem as Mem>⟧.Admits mem.new map →
-        (store : Store) × IsTree layout.now (with_set map (⟦<FlatMem as Mem>⟧.written mem.new)) store }
+    requires ready { IsReady ⟦<FlatMem as Mem>⟧ (objects_of layout.now) (IsTree layout.now) mem.old }
+    ensures { IsReady ⟦<FlatMem as Mem>⟧ (objects_of layout.now) (IsTree layout.now) mem.new }
 {
     match run_op(mem, layout, op) {
         Ok(reply) => reply,

@@ -2,6 +2,7 @@
 use Rattle.std.proofs.Common.{◌≡◌, ◌≢◌, ◌⊎◌, ℕ, ◌+◌, ◌^◌, ◌<◌, ◌≤◌, List, [], ◌∷◌, length, set, get_or, refl, sym, ap, ◌∙◌, subst, ⊎_elim, inl, inr, arith, length-set, get_or-set_same, get_or-set_other, Some, None}
 use Rattle.std.specs.Prelude.{Contains, All, Option, IfSome}
 use Rattle.std.proofs.lemmas.List.Elements.{All-weaker, All-nil, Contains-append_cases}
+use Rattle.dstm_model.specs.Map.{KeepsLaw}
 use lib.ListN.{get_elem?}
 use mathlib.Core.Logic.{dite}
 use mathlib.Core.Option.{some}
@@ -10,7 +11,7 @@ use Rattle.atomic_table.specs.Table.{State, Me, keeps, stepped, Allows}
 use Rattle.atomic_table.proofs.Lists.{at_set, set_here}
 use Rattle.dstm_core.specs.Events.{Event}
 use Rattle.dstm_core.specs.declared.event.Kind.TheVariants.{Enrol, PutNew}
-use Rattle.dstm_core.specs.Histories.{KeepsLaw, entry_of}
+use Rattle.dstm_core.specs.Histories.{entry_of}
 use Rattle.dstm_core.specs.Rules.{AllowedAs}
 use Rattle.dstm_core.specs.Runs.{local, Fits}
 use Rattle.dstm_core.specs.State.{LocalState, first}

@@ -1,11 +1,12 @@
 -- What the calls say of a seat and its table.
 use Rattle.std.specs.Prelude.{◌≡◌, ℕ, ◌+◌, ◌^◌, ◌<◌, List, [], ◌∷◌, ◌++◌, length, false, None, Some, Result, Ok, Err}
+use Rattle.dstm_model.specs.Map.{KeepsLaw}
 use Rattle.atomic_table.specs.declared.shared.Seat.{Seat}
 use Rattle.atomic_table.specs.Seated.{TableId}
 use Rattle.dstm_core.specs.Events.{Event}
 use Rattle.dstm_core.specs.declared.event.Kind.{Kind}
 use Rattle.dstm_core.specs.declared.event.Kind.TheVariants.{PutNew}
-use Rattle.dstm_core.specs.Histories.{KeepsLaw, entry_of}
+use Rattle.dstm_core.specs.Histories.{entry_of}
 use Rattle.dstm_core.specs.Rules.{AllowedAs}
 use Rattle.dstm_core.specs.Runs.{Fits}
 use Rattle.dstm_core.specs.State.{LocalState}

@@ -20,7 +20,7 @@ returns-clause-does g c map admitted =
     let has : HasAccount layout before c.args.account c.in_ok-value.value = record {
       within = c.requires.fits;
       value = value_at-opened map (M.written start) (M.written mem) (M.held mem) c.args.account c.in_ok-value.value
-          (omega (arith, size, c.requires.objects, c.requires.fits)) (laws.admitted_agrees mem map admitted)
+          (omega (arith, size, c.requires.ready.objects, c.requires.fits)) (laws.admitted_agrees mem map admitted)
           opened.written opened.value;
     } in
     subst (λ after. Does (IsBank layout) (Balance c.args.account) before after (Number c.in_ok-value.value.low))

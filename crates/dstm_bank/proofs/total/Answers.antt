@@ -27,10 +27,10 @@ overflow_add-sum g c =
     let has : HasAccount layout before c.loop-account.account c.in_ok-sum.field-0 = record {
       within = c.loop-account-test.true;
       value = value_at-opened map (M.written start) (M.written mem) (M.held mem) c.loop-account.account c.in_ok-sum.field-0
-          (omega (arith, size, c.requires.objects)) (laws.admitted_agrees mem map admitted)
-          (λ p. opened.written p ∙ so_far.sets p) opened.value;
+          (omega (arith, size, c.requires.ready.objects)) (laws.admitted_agrees mem map admitted)
+          (λ p. opened.written p ∙ so_far.looks.sets p) opened.value;
     } in
-    let (store, bank) = c.requires.lawful map in_start in
+    let (store, bank) = c.requires.ready.lawful map in_start in
     let fits = sum_first-fits c.requires.valid bank has in
     Fits-of_lt {w = w64} (omega (arith, fits, so_far.sums map in_loop store bank))
 
@@ -56,7 +56,13 @@ loop-account-preserved g c =
         | inl same ↦ subst (λ x. IsSome (M.held mem x)) (sym same) opened.held.held
         | inr other ↦ subst IsSome (sym (opened.held.others a other)) (so_far.audits a (omega (arith, within, other)))
       ];
-      sets = λ p. opened.written p ∙ so_far.sets p;
+      holds = λ p some.
+          let same = so_far.holds p some in
+          opened.held.kept p (subst IsSome (sym same) some) ∙ same;
+      looks = record {
+        sets = λ p. opened.written p ∙ so_far.looks.sets p;
+        opens = λ off p. opened.unmarked (ap M.all_write so_far.place ∙ off) p ∙ so_far.looks.opens off p;
+      };
       opens = λ p h. (
         opened.held.others p (other_than p h) ∙ (so_far.opens p h).0,
         opened.opened.others p (other_than p h) ∙ (so_far.opens p h).1,
@@ -67,8 +73,8 @@ loop-account-preserved g c =
           let has : HasAccount layout (with_set map (M.written start)) account c.in_ok-sum.field-0 = record {
             within = below;
             value = value_at-opened map (M.written start) (M.written mem) (M.held mem) account c.in_ok-sum.field-0
-                (omega (arith, size, c.requires.objects)) (laws.admitted_agrees mem map admitted)
-                (λ p. opened.written p ∙ so_far.sets p) opened.value;
+                (omega (arith, size, c.requires.ready.objects)) (laws.admitted_agrees mem map admitted)
+                (λ p. opened.written p ∙ so_far.looks.sets p) opened.value;
           } in
           ap (λ n. n + c.in_ok-sum.field-0.low) (so_far.sums map in_loop store bank) ∙ sym (sum_first-more bank has);
     }
@@ -81,5 +87,5 @@ returns-clause-does g c map admitted =
     let old = M.written c.args.mem.now in
     let before = with_set map old in
     subst (λ after. Does (IsBank layout) Total before after (Number c.loop-account.sum))
-    (sym (with_set-same map old (M.written c.loop-account.mem) so_far.sets))
+    (sym (with_set-same map old (M.written c.loop-account.mem) so_far.looks.sets))
     (does-total layout before c.loop-account.account c.loop-account.sum c.loop-account-test.false (so_far.sums map admitted))

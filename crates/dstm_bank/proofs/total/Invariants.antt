@@ -4,6 +4,7 @@ use Rattle.dstm_model.specs.declared.value.Val.{Val}
 use Rattle.dstm_model.specs.Store.{Store}
 use Rattle.dstm_model.specs.Objects.{IsBank}
 use Rattle.dstm_mem.specs.Memory.{with_set}
+use Rattle.dstm_mem.specs.Operations.{OnlyReads}
 use Rattle.dstm_bank.proofs.total.Given as goal
 
 abbrev pub invariant-loop-account : goal.invariant-loop-account
@@ -16,7 +17,8 @@ invariant-loop-account g l =
       narrows : (map : List Val) → M.Admits l.mem map → M.Admits l.fn.mem map;
       admits : 0 < l.account → (map : List Val) × M.Admits l.mem map;
       audits : (a : ℕ) → a < l.account → IsSome (M.held l.mem a);
-      sets : (p : ℕ) → M.written l.mem p ≡ M.written l.fn.mem p;
+      holds : (p : ℕ) → IsSome (M.held l.fn.mem p) → M.held l.mem p ≡ M.held l.fn.mem p;
+      looks : OnlyReads M l.fn.mem l.mem;
       opens : (p : ℕ) → l.layout.accounts ≤ p →
           (M.held l.mem p ≡ M.held l.fn.mem p) × (M.is_opened l.mem p ≡ M.is_opened l.fn.mem p);
       sums : (map : List Val) → M.Admits l.mem map →

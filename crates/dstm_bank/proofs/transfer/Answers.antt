@@ -25,7 +25,7 @@ returns-then-source-target-clause-does g c map admitted =
     let source : HasAccount layout before c.args.source c.in_ok-balance.field-0 = record {
       within = c.requires.fits.0;
       value = value_at-opened map (M.written start) (M.written mem) (M.held mem) c.args.source c.in_ok-balance.field-0
-          (omega (arith, size, c.requires.objects, c.requires.fits.0)) (laws.admitted_agrees mem map admitted)
+          (omega (arith, size, c.requires.ready.objects, c.requires.fits.0)) (laws.admitted_agrees mem map admitted)
           opened.written opened.value;
     } in
     let does = λ (reply : Reply). Does (IsBank layout) op before before reply in
@@ -53,7 +53,7 @@ returns-then-from-amount-clause-does g c map admitted =
     let source : HasAccount layout before c.args.source c.in_ok-from.field-0 = record {
       within = c.requires.fits.0;
       value = value_at-opened map (M.written start) (M.written mem) (M.held mem) c.args.source c.in_ok-from.field-0
-          (omega (arith, size, c.requires.objects, c.requires.fits.0)) (laws.admitted_agrees mem map admitted)
+          (omega (arith, size, c.requires.ready.objects, c.requires.fits.0)) (laws.admitted_agrees mem map admitted)
           opened.written opened.value;
     } in
     subst (λ after. Does (IsBank layout) (Transfer c.args.source c.args.target c.args.amount) before after Poor)
@@ -78,16 +78,16 @@ overflow_add-more g c =
     let source : HasAccount layout before c.args.source c.in_ok-from.field-0 = record {
       within = c.requires.fits.0;
       value = value_at-opened map (M.written start) (M.written first) (M.held first) c.args.source c.in_ok-from.field-0
-          (omega (arith, size, c.requires.objects, c.requires.fits.0)) (laws.admitted_agrees first map in_one)
+          (omega (arith, size, c.requires.ready.objects, c.requires.fits.0)) (laws.admitted_agrees first map in_one)
           one.written one.value;
     } in
     let target : HasAccount layout before c.args.target c.in_ok-to.field-0 = record {
       within = c.requires.fits.1;
       value = value_at-opened map (M.written start) (M.written second) (M.held second) c.args.target c.in_ok-to.field-0
-          (omega (arith, size, c.requires.objects, c.requires.fits.1)) (laws.admitted_agrees second map in_two)
+          (omega (arith, size, c.requires.ready.objects, c.requires.fits.1)) (laws.admitted_agrees second map in_two)
           (λ p. two.written p ∙ one.written p) two.value;
     } in
-    let (store, bank) = c.requires.lawful map in_start in
+    let (store, bank) = c.requires.ready.lawful map in_start in
     let fits = paid_fits c.args.amount c.requires.valid bank source target c.if-source-target.false c.if-from-amount.false in
     Fits-of_lt {w = w64} fits
 
@@ -111,13 +111,13 @@ returns-clause-does g c map admitted =
     let source : HasAccount layout before c.args.source c.in_ok-from.field-0 = record {
       within = c.requires.fits.0;
       value = value_at-opened map (M.written start) (M.written first) (M.held first) c.args.source c.in_ok-from.field-0
-          (omega (arith, size, c.requires.objects, c.requires.fits.0)) (laws.admitted_agrees first map in_one)
+          (omega (arith, size, c.requires.ready.objects, c.requires.fits.0)) (laws.admitted_agrees first map in_one)
           one.written one.value;
     } in
     let target : HasAccount layout before c.args.target c.in_ok-to.field-0 = record {
       within = c.requires.fits.1;
       value = value_at-opened map (M.written start) (M.written second) (M.held second) c.args.target c.in_ok-to.field-0
-          (omega (arith, size, c.requires.objects, c.requires.fits.1)) (laws.admitted_agrees second map in_two)
+          (omega (arith, size, c.requires.ready.objects, c.requires.fits.1)) (laws.admitted_agrees second map in_two)
           same two.value;
     } in
     let less = plain (c.in_ok-from.field-0.low - c.args.amount) in
@@ -128,5 +128,5 @@ returns-clause-does g c map admitted =
     let after = with_set-set map written_three (M.written c.set-2.new.self) c.args.target more four.written
     ∙ ap (λ x. slice_set x c.args.target more) paid in
     subst (λ x. Does (IsBank layout) (Transfer c.args.source c.args.target c.args.amount) before x Moved) (sym after)
-    (does-moved c.args.amount (omega (arith, size, c.requires.objects, length-with_set map (M.written start)))
+    (does-moved c.args.amount (omega (arith, size, c.requires.ready.objects, length-with_set map (M.written start)))
     source target c.if-source-target.false c.if-from-amount.false)

@@ -5,9 +5,9 @@ use Rattle.dstm_model.specs.declared.reply.Reply.TheVariants.{Yes, No, Full}
 use Rattle.dstm_model.specs.Map.{value_at}
 use Rattle.dstm_model.specs.Objects.{Does, list_begin, tree_begin, free_object, node_object}
 use Rattle.dstm_mem.specs.Memory.{with_set}
-use Rattle.dstm_mem.proofs.WithSet.{length-with_set, with_set-same}
+use Rattle.dstm_mem.proofs.Operations.{leads-then, only_reads-then, opens_to_set-of_reads, opens_to_set-then}
+use Rattle.dstm_mem.proofs.WithSet.{length-with_set, with_set-same, with_set-again}
 use Rattle.dstm_list.specs.List.{IsList, IsOfList, node, next_of}
-use Rattle.dstm_list.proofs.Objects.{with_set-again}
 use Rattle.dstm_list.proofs.Operations.{does-no_insert, does-full, does-insert, first_free}
 use Rattle.dstm_list.proofs.Steps.{node-of_list}
 use Rattle.dstm_list.proofs.insert.Goals as goal
@@ -19,7 +19,7 @@ returns-then-is_some-clause-does g c map admitted =
     let old = M.written c.args.mem.now in
     let done = c.in_ok-place.ensures in
     subst (λ after. Does (IsList layout) (Insert which.List c.args.key) (with_set map old) after No)
-    (sym (with_set-same map old (M.written c.find.new.mem) done.sets))
+    (sym (with_set-same map old (M.written c.find.new.mem) done.looks.sets))
     (does-no_insert c.args.key c.in_ok-place.place (done.finds map admitted)
     (sym c.is_some.ensures ∙ c.if-is_some.true))
 
@@ -32,15 +32,15 @@ returns-then-number-eq0-clause-does g c map admitted =
     let before = with_set map old in
     let done = c.in_ok-place.ensures in
     let looked = c.in_ok-number.ensures in
-    let same_find = with_set-same map old (M.written c.find.new.mem) done.sets in
+    let same_find = with_set-same map old (M.written c.find.new.mem) done.looks.sets in
     let free_is : c.node_object-free.result ≡ free_object (list_begin layout) =
     omega (arith, c.node_object-free.ensures) in
     let free = looked.next map admitted
     ∙ ap next_of (ap (λ x. value_at x c.node_object-free.result) same_find ∙ ap (value_at before) free_is) in
     subst (λ after. Does (IsList layout) (Insert which.List c.args.key) before after Full)
-    (sym (with_set-same map old (M.written c.look.new.mem) (λ p. looked.sets p ∙ done.sets p)))
+    (sym (with_set-same map old (M.written c.look.new.mem) (λ p. looked.looks.sets p ∙ done.looks.sets p)))
     (does-full c.args.key c.in_ok-number.field-0.next c.in_ok-place.place c.requires.valid c.requires.fits.0
-    (done.finds map (looked.narrows map admitted))
+    (done.finds map (looked.leads.narrows map admitted))
     (sym c.is_some.ensures ∙ c.if-is_some.false) free c.if-number-eq0.true)
 
 pub replace-requires-clause-list : goal.replace-requires-clause-list
@@ -50,10 +50,10 @@ replace-requires-clause-list g c =
     let start = c.args.mem.now in
     let done = c.in_ok-place.ensures in
     let looked = c.in_ok-number.ensures in
-    let (map, admitted) = looked.admits in
-    let in_find = looked.narrows map admitted in
-    let (store, list) = c.requires.lawful map (done.narrows map in_find) in
-    let same_find = with_set-same map (M.written start) (M.written c.find.new.mem) done.sets in
+    let (map, admitted) = looked.leads.admits in
+    let in_find = looked.leads.narrows map admitted in
+    let (store, list) = c.requires.ready.lawful map (done.leads.narrows map in_find) in
+    let same_find = with_set-same map (M.written start) (M.written c.find.new.mem) done.looks.sets in
     let free_is : c.node_object-free.result ≡ free_object (list_begin layout) =
     omega (arith, c.node_object-free.ensures) in
     let free = looked.next map admitted ∙ ap next_of (ap (λ x. value_at x c.node_object-free.result) same_find
@@ -76,16 +76,16 @@ returns-clause-does g c map admitted =
     let one = c.in_ok-rest.ensures in
     let two = c.in_ok-replace.ensures in
     let three = c.in_ok-replace-2.ensures in
-    let in_one = two.narrows map (three.narrows map admitted) in
-    let in_look = one.narrows map in_one in
-    let in_find = looked.narrows map in_look in
+    let in_one = two.leads.narrows map (three.leads.narrows map admitted) in
+    let in_look = one.leads.narrows map in_one in
+    let in_find = looked.leads.narrows map in_look in
     let before = with_set map (M.written start) in
-    let same_find = with_set-same map (M.written start) (M.written c.find.new.mem) done.sets in
+    let same_find = with_set-same map (M.written start) (M.written c.find.new.mem) done.looks.sets in
     let same =
-    with_set-same map (M.written start) (M.written c.look.new.mem) (λ p. looked.sets p ∙ done.sets p) in
-    let size = g.met.M.Mem.admitted_length start map (done.narrows map in_find) in
+    with_set-same map (M.written start) (M.written c.look.new.mem) (λ p. looked.looks.sets p ∙ done.looks.sets p) in
+    let size = g.met.M.Mem.admitted_length start map (done.leads.narrows map in_find) in
     let in_map : tree_begin layout ≤ length before =
-    omega (arith, size, c.requires.objects, length-with_set map (M.written start)) in
+    omega (arith, size, c.requires.ready.objects, length-with_set map (M.written start)) in
     let free_is : c.node_object-free.result ≡ free_object begin = omega (arith, c.node_object-free.ensures) in
     let free = looked.next map in_look
     ∙ ap next_of (ap (λ x. value_at x c.node_object-free.result) same_find ∙ ap (value_at before) free_is) in
@@ -112,11 +112,11 @@ returns-clause-does g c map admitted =
     (sym c.is_some.ensures ∙ c.if-is_some.false) done.link free c.if-number-eq0.false had)
 
 pub returns-then-is_some-clause-few : goal.returns-then-is_some-clause-few
-returns-then-is_some-clause-few g c = (0, (0, λ p _ _ _. c.in_ok-place.ensures.sets p))
+returns-then-is_some-clause-few g c = (0, (0, λ p _ _ _. c.in_ok-place.ensures.looks.sets p))
 
 pub returns-then-number-eq0-clause-few : goal.returns-then-number-eq0-clause-few
 returns-then-number-eq0-clause-few g c =
-    (0, (0, λ p _ _ _. c.in_ok-number.ensures.sets p ∙ c.in_ok-place.ensures.sets p))
+    (0, (0, λ p _ _ _. c.in_ok-number.ensures.looks.sets p ∙ c.in_ok-place.ensures.looks.sets p))
 
 pub returns-clause-few : goal.returns-clause-few
 returns-clause-few g c =
@@ -129,7 +129,22 @@ returns-clause-few g c =
             c.in_ok-replace-2.ensures.written.others p not_link
             ∙ c.in_ok-replace.ensures.written.others p (λ e. not_free (e ∙ free_is))
             ∙ c.in_ok-rest.ensures.written.others p (λ e. not_node (e ∙ c.node_object-object.ensures))
-            ∙ c.in_ok-number.ensures.sets p
-            ∙ c.in_ok-place.ensures.sets p,
+            ∙ c.in_ok-number.ensures.looks.sets p
+            ∙ c.in_ok-place.ensures.looks.sets p,
       ),
     )
+
+pub returns-clause-marks : goal.returns-clause-marks
+returns-clause-marks g c =
+    let M = g.M.Mem in
+    let done = c.in_ok-place.ensures in
+    let looked = c.in_ok-number.ensures in
+    let one = c.in_ok-rest.ensures in
+    let two = c.in_ok-replace.ensures in
+    let at_look = leads-then M done.leads looked.leads in
+    let at_one = leads-then M at_look one.leads in
+    let at_two = leads-then M at_one two.leads in
+    let before = opens_to_set-of_reads M (only_reads-then M done.leads done.looks looked.looks) in
+    opens_to_set-then M at_two
+    (opens_to_set-then M at_one (opens_to_set-then M at_look before one.marks) two.marks)
+    c.in_ok-replace-2.ensures.marks

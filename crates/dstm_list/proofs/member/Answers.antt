@@ -16,7 +16,7 @@ returns-then-is_some-clause-does g c map admitted =
     let old = M.written c.args.mem.now in
     let done = c.in_ok-place.ensures in
     subst (λ after. Does (IsList layout) (Member which.List c.args.key) (with_set map old) after Yes)
-    (sym (with_set-same map old (M.written c.find.new.mem) done.sets))
+    (sym (with_set-same map old (M.written c.find.new.mem) done.looks.sets))
     (does-member c.args.key c.in_ok-place.place true (done.finds map admitted)
     (sym c.is_some.ensures ∙ c.if-is_some.true))
 
@@ -27,6 +27,6 @@ returns-clause-does g c map admitted =
     let old = M.written c.args.mem.now in
     let done = c.in_ok-place.ensures in
     subst (λ after. Does (IsList layout) (Member which.List c.args.key) (with_set map old) after No)
-    (sym (with_set-same map old (M.written c.find.new.mem) done.sets))
+    (sym (with_set-same map old (M.written c.find.new.mem) done.looks.sets))
     (does-member c.args.key c.in_ok-place.place false (done.finds map admitted)
     (sym c.is_some.ensures ∙ c.if-is_some.false))

@@ -5,9 +5,8 @@ use Rattle.dstm_model.specs.declared.reply.Reply.TheVariants.{Yes, No}
 use Rattle.dstm_model.specs.Map.{value_at}
 use Rattle.dstm_model.specs.Objects.{Does, list_begin, tree_begin, free_object, node_object}
 use Rattle.dstm_mem.specs.Memory.{with_set}
-use Rattle.dstm_mem.proofs.WithSet.{length-with_set, with_set-same}
+use Rattle.dstm_mem.proofs.WithSet.{length-with_set, with_set-same, with_set-again}
 use Rattle.dstm_list.specs.List.{IsList, IsOfList, node}
-use Rattle.dstm_list.proofs.Objects.{with_set-again}
 use Rattle.dstm_list.proofs.Operations.{does-no_remove, does-remove}
 use Rattle.dstm_list.proofs.Steps.{next_within, node-of_list}
 use Rattle.dstm_list.proofs.remove.Goals as goal
@@ -19,16 +18,16 @@ returns-in_default-clause-does g c map admitted =
     let old = M.written c.args.mem.now in
     let done = c.in_ok-place.ensures in
     subst (λ after. Does (IsList layout) (Remove which.List c.args.key) (with_set map old) after No)
-    (sym (with_set-same map old (M.written c.find.new.mem) done.sets))
+    (sym (with_set-same map old (M.written c.find.new.mem) done.looks.sets))
     (does-no_remove c.args.key c.in_ok-place.place (done.finds map admitted) c.in_default.is)
 
 pub replace-requires-2-clause-list : goal.replace-requires-2-clause-list
 replace-requires-2-clause-list g c =
     let layout = c.args.layout.now in
     let done = c.in_ok-place.ensures in
-    let (map, admitted) = c.in_ok-rest.ensures.admits in
-    let in_find = c.in_ok-rest.ensures.narrows map admitted in
-    let (store, list) = c.requires.lawful map (done.narrows map in_find) in
+    let (map, admitted) = c.in_ok-rest.ensures.leads.admits in
+    let in_find = c.in_ok-rest.ensures.leads.narrows map admitted in
+    let (store, list) = c.requires.ready.lawful map (done.leads.narrows map in_find) in
     subst (IsOfList layout) (sym c.node_object-object.ensures)
     (node-of_list layout c.in_ok-place.place.before.next c.requires.fits.0
     (next_within list (done.finds map in_find store list).stands))
@@ -47,13 +46,13 @@ returns-clause-does g c map admitted =
     let one = c.in_ok-rest.ensures in
     let two = c.in_ok-replace.ensures in
     let three = c.in_ok-replace-2.ensures in
-    let in_one = two.narrows map (three.narrows map admitted) in
-    let in_find = one.narrows map in_one in
+    let in_one = two.leads.narrows map (three.leads.narrows map admitted) in
+    let in_find = one.leads.narrows map in_one in
     let before = with_set map (M.written start) in
-    let same = with_set-same map (M.written start) (M.written c.find.new.mem) done.sets in
-    let size = g.met.M.Mem.admitted_length start map (done.narrows map in_find) in
+    let same = with_set-same map (M.written start) (M.written c.find.new.mem) done.looks.sets in
+    let size = g.met.M.Mem.admitted_length start map (done.leads.narrows map in_find) in
     let in_map : tree_begin layout ≤ length before =
-    omega (arith, size, c.requires.objects, length-with_set map (M.written start)) in
+    omega (arith, size, c.requires.ready.objects, length-with_set map (M.written start)) in
     let free_is : c.node_object-free.result ≡ free_object begin = omega (arith, c.node_object-free.ensures) in
     let had = ap (value_at before) (sym free_is) ∙ ap (λ x. value_at x c.node_object-free.result) (sym same)
     ∙ one.had map in_one in
@@ -76,7 +75,7 @@ returns-clause-does g c map admitted =
     (done.finds map in_find) c.in-Some.is done.link had)
 
 pub returns-in_default-clause-few : goal.returns-in_default-clause-few
-returns-in_default-clause-few g c = (0, (0, λ p _ _ _. c.in_ok-place.ensures.sets p))
+returns-in_default-clause-few g c = (0, (0, λ p _ _ _. c.in_ok-place.ensures.looks.sets p))
 
 pub returns-clause-few : goal.returns-clause-few
 returns-clause-few g c =
@@ -89,6 +88,6 @@ returns-clause-few g c =
             c.in_ok-replace-2.ensures.written.others p not_link
             ∙ c.in_ok-replace.ensures.written.others p (λ e. not_node (e ∙ c.node_object-object.ensures))
             ∙ c.in_ok-rest.ensures.written.others p (λ e. not_free (e ∙ free_is))
-            ∙ c.in_ok-place.ensures.sets p,
+            ∙ c.in_ok-place.ensures.looks.sets p,
       ),
     )

@@ -1,4 +1,4 @@
-use Rattle.std.proofs.Common.{◌≡◌, ℕ, zero, suc, ◌<◌, [], ◌∷◌, replicate, arith, refl, sym, ◌∙◌, subst}
+use Rattle.std.proofs.Common.{rules, ◌≡◌, ℕ, zero, suc, ◌<◌, [], ◌∷◌, replicate, arith, refl, sym, ◌∙◌, subst}
 use Rattle.std.specs.Prelude.{slice_index}
 use Rattle.dstm_model.specs.declared.layout.Layout.{Layout}
 use Rattle.dstm_model.specs.Map.{value_at}
@@ -15,13 +15,18 @@ opened zero h = refl
 opened (suc zero) h = refl
 opened (suc (suc a)) h = absurd (omega (arith, h))
 
-pub answer-requires-clause-lawful : goal.answer-requires-clause-lawful
-answer-requires-clause-lawful g c map is_map =
+pub answer-requires-clause-ready : goal.answer-requires-clause-ready
+answer-requires-clause-ready g c =
     let made = c.in_ok-mem.ensures in
-    let start = with_set-nothing map _ made.unwritten ∙ (made.admits map).0 is_map ∙ c.in_ok-vec.ensures.items in
     let bank : IsBank two (plain 100 ∷ plain 100 ∷ []) (opening_store two) = record {
       accounts = refl;
       values = opened;
       total = refl;
     } in
-    (opening_store two, subst (λ x. IsBank two x (opening_store two)) (sym start) bank)
+    record {
+      objects = search rules;
+      live = made.live;
+      lawful = λ map is_map.
+          let start = with_set-nothing map _ made.unwritten ∙ (made.admits map).0 is_map ∙ c.in_ok-vec.ensures.items in
+          (opening_store two, subst (λ x. IsBank two x (opening_store two)) (sym start) bank);
+    }

@@ -1,4 +1,4 @@
-use Rattle.std.proofs.Common.{◌≡◌, ℕ, zero, suc, ◌+◌, ◌<◌, List, [], ◌∷◌, arith, refl, sym, ◌∙◌, subst}
+use Rattle.std.proofs.Common.{◌≡◌, ℕ, zero, suc, ◌+◌, ◌<◌, List, [], ◌∷◌, length, arith, ap, refl, sym, ◌∙◌, subst}
 use Rattle.dstm_model.specs.declared.value.Val.{Val}
 use Rattle.dstm_model.specs.declared.layout.Layout.{Layout}
 use Rattle.dstm_model.specs.Map.{value_at}
@@ -20,11 +20,16 @@ nodes zero some below = absurd (omega (arith, some))
 nodes (suc zero) some below = refl
 nodes (suc (suc i)) some below = absurd (omega (arith, below))
 
-pub answer-requires-clause-lawful : goal.answer-requires-clause-lawful
-answer-requires-clause-lawful g c map is_map =
+pub answer-requires-clause-ready : goal.answer-requires-clause-ready
+answer-requires-clause-ready g c =
     let made = c.in_ok-mem.ensures in
-    let start = with_set-nothing map _ made.unwritten ∙ (made.admits map).0 is_map
-    ∙ c.in_ok-values.ensures.items in
     let list =
     list-opening layout values (λ _. record { head = refl; free = refl; nodes = nodes; last = refl }) in
-    (opening_store layout, subst (λ x. IsList layout x (opening_store layout)) (sym start) list)
+    record {
+      objects = made.objects ∙ ap length c.in_ok-values.ensures.items;
+      live = made.live;
+      lawful = λ map is_map.
+          let start = with_set-nothing map _ made.unwritten ∙ (made.admits map).0 is_map
+          ∙ c.in_ok-values.ensures.items in
+          (opening_store layout, subst (λ x. IsList layout x (opening_store layout)) (sym start) list);
+    }

@@ -1,6 +1,7 @@
 use Rattle.std.proofs.Common.{◌<◌, arith, sym, ◌∙◌, subst}
 use Rattle.dstm_model.specs.Objects.{list_begin}
 use Rattle.dstm_mem.specs.Memory.{with_set}
+use Rattle.dstm_mem.proofs.Operations.{leads-then, only_reads-then}
 use Rattle.dstm_mem.proofs.WithSet.{with_set-same}
 use Rattle.dstm_list.specs.List.{IsOfList}
 use Rattle.dstm_list.specs.Place.{Stands}
@@ -12,13 +13,9 @@ pub loop-before-init : goal.loop-before-init
 loop-before-init g c =
     let opened = c.in_ok-before.ensures in
     record {
-      live = opened.live;
-      place = opened.place;
-      objects = opened.objects;
-      narrows = opened.narrows;
-      admits = opened.admits;
+      leads = opened.leads;
       link = head-of_list c.args.layout.now c.requires.declared;
-      sets = opened.sets;
+      looks = opened.looks;
       holds = opened.holds;
       opens = opened.opens;
       stands = λ map admitted store list.
@@ -30,8 +27,8 @@ pub look-requires-in-loop-before-clause-list : goal.look-requires-in-loop-before
 look-requires-in-loop-before-clause-list g c =
     let so_far = c.loop-before.invariant in
     let layout = c.args.layout.now in
-    let (map, admitted) = so_far.admits in
-    let (store, list) = c.requires.lawful map (so_far.narrows map admitted) in
+    let (map, admitted) = so_far.leads.admits in
+    let (store, list) = c.requires.ready.lawful map (so_far.leads.narrows map admitted) in
     let within = next_within list (so_far.stands map admitted store list) in
     subst (IsOfList layout) (sym c.node_object-object.ensures)
     (node-of_list layout c.loop-before.before.next c.requires.declared within)
@@ -42,8 +39,8 @@ returns-then-node-from-clause-finds g c map admitted store list =
     let so_far = c.loop-before.invariant in
     let opened = c.in_ok-node.ensures in
     let node = c.in_ok-node.node in
-    let stands = so_far.stands map (opened.narrows map admitted) store list in
-    let same = with_set-same map (M.written c.args.mem.now) (M.written c.loop-before.mem) so_far.sets in
+    let stands = so_far.stands map (opened.leads.narrows map admitted) store list in
+    let same = with_set-same map (M.written c.args.mem.now) (M.written c.loop-before.mem) so_far.looks.sets in
     let ahead =
     stands-seen
     (with_set map (M.written c.loop-before.mem)) c.node_object-object.result node c.requires.valid
@@ -57,8 +54,8 @@ returns-then-node-from-2-clause-finds g c map admitted store list =
     let so_far = c.loop-before.invariant in
     let opened = c.in_ok-node.ensures in
     let node = c.in_ok-node.node in
-    let stands = so_far.stands map (opened.narrows map admitted) store list in
-    let same = with_set-same map (M.written c.args.mem.now) (M.written c.loop-before.mem) so_far.sets in
+    let stands = so_far.stands map (opened.leads.narrows map admitted) store list in
+    let same = with_set-same map (M.written c.args.mem.now) (M.written c.loop-before.mem) so_far.looks.sets in
     let ahead =
     stands-seen
     (with_set map (M.written c.loop-before.mem)) c.node_object-object.result node c.requires.valid
@@ -73,11 +70,11 @@ loop-before-smaller g c =
     let so_far = c.loop-before.invariant in
     let opened = c.in_ok-node.ensures in
     let node = c.in_ok-node.node in
-    let (map, admitted) = opened.admits in
-    let in_loop = opened.narrows map admitted in
-    let (store, list) = c.requires.lawful map (so_far.narrows map in_loop) in
+    let (map, admitted) = opened.leads.admits in
+    let in_loop = opened.leads.narrows map admitted in
+    let (store, list) = c.requires.ready.lawful map (so_far.leads.narrows map in_loop) in
     let stands = so_far.stands map in_loop store list in
-    let same = with_set-same map (M.written c.args.mem.now) (M.written c.loop-before.mem) so_far.sets in
+    let same = with_set-same map (M.written c.args.mem.now) (M.written c.loop-before.mem) so_far.looks.sets in
     let ahead =
     stands-seen
     (with_set map (M.written c.loop-before.mem)) c.node_object-object.result node c.requires.valid
@@ -101,8 +98,8 @@ loop-before-preserved g c =
     let so_far = c.loop-before.invariant in
     let opened = c.in_ok-node.ensures in
     let node = c.in_ok-node.node in
-    let (some, allowed) = so_far.admits in
-    let (some_store, some_list) = c.requires.lawful some (so_far.narrows some allowed) in
+    let (some, allowed) = so_far.leads.admits in
+    let (some_store, some_list) = c.requires.ready.lawful some (so_far.leads.narrows some allowed) in
     let within = next_within some_list (so_far.stands some allowed some_store some_list) in
     let less : node.key < c.args.key =
     omega (
@@ -113,19 +110,15 @@ loop-before-preserved g c =
       c.from-in-loop-before.ensures,
     ) in
     record {
-      live = opened.live;
-      place = opened.place ∙ so_far.place;
-      objects = opened.objects ∙ so_far.objects;
-      narrows = λ map admitted. so_far.narrows map (opened.narrows map admitted);
-      admits = opened.admits;
+      leads = leads-then M so_far.leads opened.leads;
       link = subst (IsOfList layout) (sym c.node_object-object.ensures)
           (node-of_list layout c.loop-before.before.next c.requires.declared within);
-      sets = λ p. opened.sets p ∙ so_far.sets p;
+      looks = only_reads-then M so_far.leads so_far.looks opened.looks;
       holds = λ p outside. opened.holds p outside ∙ so_far.holds p outside;
       opens = λ p outside. opened.opens p outside ∙ so_far.opens p outside;
       stands = λ map admitted store list.
-          let stands = so_far.stands map (opened.narrows map admitted) store list in
-          let same = with_set-same map (M.written c.args.mem.now) (M.written c.loop-before.mem) so_far.sets in
+          let stands = so_far.stands map (opened.leads.narrows map admitted) store list in
+          let same = with_set-same map (M.written c.args.mem.now) (M.written c.loop-before.mem) so_far.looks.sets in
           let ahead =
           stands-seen
           (with_set map (M.written c.loop-before.mem)) c.node_object-object.result node c.requires.valid

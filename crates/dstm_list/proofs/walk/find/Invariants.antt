@@ -1,8 +1,10 @@
-use Rattle.std.proofs.Common.{◌≡◌, ℕ, List, IsTrue}
+use Rattle.std.proofs.Common.{List}
+use Rattle.std.specs.Prelude.{Ok}
 use Rattle.dstm_model.specs.declared.value.Val.{Val}
 use Rattle.dstm_model.specs.Store.{Store}
 use Rattle.dstm_model.specs.Objects.{list_begin}
 use Rattle.dstm_mem.specs.Memory.{with_set}
+use Rattle.dstm_mem.specs.Operations.{Leads, OnlyReads}
 use Rattle.dstm_list.specs.List.{IsList, IsOfList, SameOutside}
 use Rattle.dstm_list.specs.Place.{Stands}
 use Rattle.dstm_list.proofs.Steps.{left}
@@ -12,13 +14,9 @@ abbrev pub invariant-loop-before : goal.invariant-loop-before
 invariant-loop-before g l =
     let M = g.M.Mem in
     record {
-      live : IsTrue (M.is_live l.mem);
-      place : M.place l.mem ≡ M.place l.fn.mem;
-      objects : M.objects l.mem ≡ M.objects l.fn.mem;
-      narrows : (map : List Val) → M.Admits l.mem map → M.Admits l.fn.mem map;
-      admits : (map : List Val) × M.Admits l.mem map;
+      leads : Leads M l.fn.mem l.mem (Ok l.before);
       link : IsOfList l.layout l.link;
-      sets : (p : ℕ) → M.written l.mem p ≡ M.written l.fn.mem p;
+      looks : OnlyReads M l.fn.mem l.mem;
       holds : SameOutside l.layout (M.held l.fn.mem) (M.held l.mem);
       opens : SameOutside l.layout (M.is_opened l.fn.mem) (M.is_opened l.mem);
       stands : (map : List Val) → M.Admits l.mem map →

@@ -9,8 +9,8 @@ returns-clause-writes g c map admitted =
     let one = c.in_ok-write_node.ensures in
     let two = c.in_ok-write_node-2.ensures in
     let three = c.in_ok-write_node-3.ensures in
-    let in_two = three.narrows map admitted in
-    let in_one = two.narrows map in_two in
+    let in_two = three.leads.narrows map admitted in
+    let in_one = two.leads.narrows map in_two in
     three.writes map admitted
     ∙ ap (λ m. slice_set m (object_of layout c.args.top.number) (val_of c.args.top)) (two.writes map in_two)
     ∙ ap (λ m. slice_set (slice_set m (object_of layout c.args.other.number) (val_of c.args.other))

@@ -1,5 +1,6 @@
 use Rattle.std.proofs.Common.{true, false, sym, ◌∙◌, subst}
 use Rattle.dstm_mem.specs.Memory.{with_set}
+use Rattle.dstm_mem.proofs.Operations.{leads-then, only_reads-then, opens_to_set-of_reads, opens_to_set-then}
 use Rattle.dstm_mem.proofs.WithSet.{with_set-same, length-with_set}
 use Rattle.dstm_tree.specs.Remove.{LeftGap, LeftFall, ClosesLeft}
 use Rattle.dstm_tree.proofs.Lift.{fallen_is_black, no_black_is_red}
@@ -12,7 +13,7 @@ returns-then-not-fell-clause-does g c map admitted =
     let M = g.M.Mem in
     let start = M.written c.args.mem.now in
     let one = c.in_ok-update_node.ensures in
-    let size = length-with_set map start ∙ g.met.M.Mem.admitted_length c.args.mem.now map (one.narrows map admitted) ∙
+    let size = length-with_set map start ∙ g.met.M.Mem.admitted_length c.args.mem.now map (one.leads.narrows map admitted) ∙
     c.requires.objects in
     close-left-kept c.args.layout.now (with_set map start) c.args.held c.args.parent
     (with_set map (M.written c.update_node.new.mem)) c.args.fell
@@ -35,9 +36,9 @@ lift_left-requires-clause-lawful g c map admitted =
     let one = c.in_ok-sibling.ensures in
     let sibling = c.in_ok-sibling.sibling in
     let gap = subst (LeftGap layout before c.args.held c.args.parent) c.if-not-fell.false
-    (c.requires.lawful map (one.narrows map admitted)) in
+    (c.requires.lawful map (one.leads.narrows map admitted)) in
     subst (λ m. LeftFall layout m c.args.held c.args.parent sibling)
-    (sym (with_set-same map start (M.written c.read_node.new.mem) one.sets))
+    (sym (with_set-same map start (M.written c.read_node.new.mem) one.looks.sets))
     (fall_left layout before c.args.held c.args.parent mid sibling c.requires.tree (one.reads map admitted)
     (fallen_is_black c.in_ok-sibling.sibling.red c.if-not-sibling.true) gap)
 
@@ -53,7 +54,7 @@ returns-then-not-sibling-clause-does g c map admitted =
     subst (λ b. ClosesLeft layout c.args.held c.args.parent b before after c.in_ok-cut.cut) (sym c.if-not-fell.false)
     (close-left-black layout before c.args.held c.args.parent mid after c.in_ok-sibling.sibling c.in_ok-cut.cut
     c.requires.tree
-    (one.reads map (two.narrows map admitted)) (fallen_is_black c.in_ok-sibling.sibling.red c.if-not-sibling.true)
+    (one.reads map (two.leads.narrows map admitted)) (fallen_is_black c.in_ok-sibling.sibling.red c.if-not-sibling.true)
     (two.does map admitted))
 
 pub read_node-requires-2-clause-number : goal.read_node-requires-2-clause-number
@@ -61,10 +62,10 @@ read_node-requires-2-clause-number g c =
     let M = g.M.Mem in
     let layout = c.args.layout.now in
     let one = c.in_ok-sibling.ensures in
-    let (map, admitted) = one.admits in
+    let (map, admitted) = one.leads.admits in
     let before = with_set map (M.written c.args.mem.now) in
     let gap = subst (LeftGap layout before c.args.held c.args.parent) c.if-not-fell.false
-    (c.requires.lawful map (one.narrows map admitted)) in
+    (c.requires.lawful map (one.leads.narrows map admitted)) in
     near_within_red_left layout before c.args.held c.args.parent (with_set map (M.written c.read_node.new.mem))
     c.in_ok-sibling.sibling c.requires.tree
     (one.reads map admitted) (no_black_is_red c.in_ok-sibling.sibling.red c.if-not-sibling.false) gap
@@ -79,12 +80,12 @@ lift_left-requires-2-clause-lawful g c map admitted =
     let two_map = with_set map (M.written c.read_node-2.new.mem) in
     let one = c.in_ok-sibling.ensures in
     let two = c.in_ok-near.ensures in
-    let in_one = two.narrows map admitted in
+    let in_one = two.leads.narrows map admitted in
     let s = c.in_ok-sibling.sibling in
     let gap = subst (LeftGap layout before c.args.held c.args.parent) c.if-not-fell.false
-    (c.requires.lawful map (one.narrows map in_one)) in
+    (c.requires.lawful map (one.leads.narrows map in_one)) in
     subst (λ m. LeftFall layout m c.args.held (record c.args.parent { red = true; right = s.left }) c.in_ok-near.near)
-    (sym (with_set-same map start (M.written c.read_node-2.new.mem) (λ i. two.sets i ∙ one.sets i)))
+    (sym (with_set-same map start (M.written c.read_node-2.new.mem) (λ i. two.looks.sets i ∙ one.looks.sets i)))
     (fall_below_left layout before c.args.held c.args.parent mid two_map s c.in_ok-near.near c.requires.tree
     (one.reads map in_one) (no_black_is_red c.in_ok-sibling.sibling.red c.if-not-sibling.false)
     (two.reads map admitted) gap)
@@ -103,15 +104,26 @@ returns-clause-does g c map admitted =
     let two = c.in_ok-near.ensures in
     let three = c.in_ok-cut-2.ensures in
     let four = c.in_ok-write_node.ensures in
-    let in_three = four.narrows map admitted in
-    let in_two = three.narrows map in_three in
-    let in_one = two.narrows map in_two in
+    let in_three = four.leads.narrows map admitted in
+    let in_two = three.leads.narrows map in_three in
+    let in_one = two.leads.narrows map in_two in
     let s = c.in_ok-sibling.sibling in
     let size = length-with_set map (M.written c.lift_left-2.new.mem)
-    ∙ g.met.M.Mem.admitted_length c.args.mem.now map (one.narrows map in_one) ∙ c.requires.objects in
+    ∙ g.met.M.Mem.admitted_length c.args.mem.now map (one.leads.narrows map in_one) ∙ c.requires.objects in
     subst (λ b. ClosesLeft layout c.args.held c.args.parent b before after (record { root = s.number; fell = false }))
     (sym c.if-not-fell.false)
     (close-left-red layout before c.args.held c.args.parent mid two_map three_map after s c.in_ok-near.near
     c.in_ok-cut-2.cut c.requires.tree size
     (one.reads map in_one) (no_black_is_red c.in_ok-sibling.sibling.red c.if-not-sibling.false) (two.reads map in_two)
     (three.does map in_three) (four.writes map admitted))
+
+pub returns-clause-marks : goal.returns-clause-marks
+returns-clause-marks g c =
+    let M = g.M.Mem in
+    let one = c.in_ok-sibling.ensures in
+    let two = c.in_ok-near.ensures in
+    let three = c.in_ok-cut-2.ensures in
+    let at_two = leads-then M one.leads two.leads in
+    let at_three = leads-then M at_two three.leads in
+    let read = opens_to_set-of_reads M (only_reads-then M one.leads one.looks two.looks) in
+    opens_to_set-then M at_three (opens_to_set-then M at_two read three.marks) c.in_ok-write_node.ensures.marks

@@ -15,5 +15,5 @@ returns-clause-reads g c map admitted =
           read.reads map admitted ∙ sym c.of.ensures.value;
       left = c.of.ensures.left;
       right = c.of.ensures.right;
-      same = with_set-same map (M.written start) (M.written c.read.new.mem) read.sets;
+      same = with_set-same map (M.written start) (M.written c.read.new.mem) read.looks.sets;
     }

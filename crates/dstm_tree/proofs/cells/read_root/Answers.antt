@@ -12,10 +12,10 @@ root_number v n e = sym (ap (λ (x : Val). x.low) e)
 
 pub overflow_cast-result : goal.overflow_cast-result
 overflow_cast-result g c =
-    let before = with_set c.in_ok-value.ensures.admits.0 (g.M.Mem.written c.args.mem.now) in
+    let before = with_set c.in_ok-value.ensures.leads.admits.0 (g.M.Mem.written c.args.mem.now) in
     let read = c.in_ok-value.ensures in
-    let (map, admitted) = read.admits in
-    let (store, t) = c.requires.lawful map (read.narrows map admitted) in
+    let (map, admitted) = read.leads.admits in
+    let (store, t) = c.requires.ready.lawful map (read.leads.narrows map admitted) in
     let is_root = root_number c.in_ok-value.value (number_of t.tree)
     (sym (read.reads map admitted) ∙ ap (value_at before) c.root_object.ensures.object ∙ t.root) in
     Fits-of_lt {w = w16} (omega (
@@ -34,8 +34,8 @@ returns-clause-reads g c map admitted store t =
 pub returns-clause-within : goal.returns-clause-within
 returns-clause-within g c =
     let read = c.in_ok-value.ensures in
-    let (map, admitted) = read.admits in
-    let (store, t) = c.requires.lawful map (read.narrows map admitted) in
+    let (map, admitted) = read.leads.admits in
+    let (store, t) = c.requires.ready.lawful map (read.leads.narrows map admitted) in
     let is_root : number_of t.tree ≡ c.in_ok-value.value.low =
     root_number c.in_ok-value.value (number_of t.tree)
     (sym (read.reads map admitted) ∙ ap (value_at (with_set map (g.M.Mem.written c.args.mem.now)))

@@ -3,6 +3,7 @@ use Rattle.std.specs.Prelude.{◌⊎◌}
 use Rattle.dstm_model.specs.declared.value.Val.{Val}
 use Rattle.dstm_model.specs.Store.{Store}
 use Rattle.dstm_mem.specs.Memory.{with_set}
+use Rattle.dstm_mem.proofs.Operations.{leads-answers, leads-then, only_reads-then}
 use Rattle.dstm_mem.proofs.WithSet.{with_set-same}
 use Rattle.dstm_tree.specs.Objects.{IsTree}
 use Rattle.dstm_tree.specs.Node.{HasTree, IsRead}
@@ -17,12 +18,8 @@ loop-step-init g c =
     let layout = c.args.layout.now in
     let root = c.in_ok-at.ensures in
     record {
-      live = root.live;
-      place = root.place;
-      objects = root.objects;
-      narrows = root.narrows;
-      admits = root.admits;
-      sets = root.sets;
+      leads = root.leads;
+      looks = root.looks;
       opens = λ p h. ((root.outside p h).1, (root.outside p h).2);
       within = root.within;
       searches = λ map admitted store t.
@@ -44,8 +41,8 @@ returns-then-key-node-clause-finds g c map admitted store tree =
     let read = c.in_ok-node.ensures in
     let before = with_set map (M.written c.args.mem.now) in
     let after = with_set map (M.written c.read_node.new.mem) in
-    let h = so_far.searches map (read.narrows map admitted) store tree in
-    let same = with_set-same map (M.written c.args.mem.now) (M.written c.loop-step.mem) so_far.sets in
+    let h = so_far.searches map (read.leads.narrows map admitted) store tree in
+    let same = with_set-same map (M.written c.args.mem.now) (M.written c.loop-step.mem) so_far.looks.sets in
     let is_read = subst (λ m. IsRead layout m after c.loop-step.at c.in_ok-node.node) same (read.reads map admitted) in
     let has : HasTree layout = record { valid = c.requires.valid; declared = c.requires.declared } in
     let root = read_root layout before after c.loop-step.at _ c.in_ok-node.node has is_read c.if-at-eq0.false h.sub in
@@ -70,22 +67,18 @@ loop-step-preserved g c =
     (t : IsTree layout (with_set map start) store).
     let before = with_set map start in
     let after = with_set map (M.written c.read_node.new.mem) in
-    let h = so_far.searches map (read.narrows map admitted) store t in
-    let same = with_set-same map start (M.written c.loop-step.mem) so_far.sets in
+    let h = so_far.searches map (read.leads.narrows map admitted) store t in
+    let same = with_set-same map start (M.written c.loop-step.mem) so_far.looks.sets in
     let is_read = subst (λ m. IsRead layout m after c.loop-step.at node) same (read.reads map admitted) in
     let root = read_root layout before after c.loop-step.at _ node has is_read c.if-at-eq0.false h.sub in
     let left : layout.tree - c.loop-step._step - 1 ≡ layout.tree - (c.loop-step._step + 1) = omega arith in
     subst (λ d. Searches layout before next d c.args.key store.items) left
     (search-next layout before c.loop-step.at _ c.args.key next store.items node h root c.if-key-node.false way) in
-    let (map, admitted) = read.admits in
-    let (store, t) = c.requires.lawful map (so_far.narrows map (read.narrows map admitted)) in
+    let (map, admitted) = read.leads.admits in
+    let (store, t) = c.requires.ready.lawful map (so_far.leads.narrows map (read.leads.narrows map admitted)) in
     record {
-      live = read.live;
-      place = read.place ∙ so_far.place;
-      objects = read.objects ∙ so_far.objects;
-      narrows = λ m a. so_far.narrows m (read.narrows m a);
-      admits = read.admits;
-      sets = λ p. read.sets p ∙ so_far.sets p;
+      leads = leads-answers M (leads-then M so_far.leads read.leads);
+      looks = only_reads-then M so_far.leads so_far.looks read.looks;
       opens = λ p h. ((read.outside p h).1 ∙ (so_far.opens p h).0, (read.outside p h).2 ∙ (so_far.opens p h).1);
       within = search-within layout (with_set map start) next _ c.args.key store.items (searches map admitted store t);
       searches = searches;

@@ -1,8 +1,10 @@
-use Rattle.std.proofs.Common.{◌≡◌, ℕ, ◌-◌, ◌<◌, ◌≤◌, List, IsTrue}
+use Rattle.std.proofs.Common.{◌≡◌, ℕ, ◌-◌, ◌<◌, ◌≤◌, List}
+use Rattle.std.specs.Prelude.{Ok}
 use Rattle.dstm_model.specs.declared.value.Val.{Val}
 use Rattle.dstm_model.specs.Store.{Store}
 use Rattle.dstm_model.specs.Objects.{tree_begin}
 use Rattle.dstm_mem.specs.Memory.{with_set}
+use Rattle.dstm_mem.specs.Operations.{Leads, OnlyReads}
 use Rattle.dstm_tree.specs.Objects.{IsTree}
 use Rattle.dstm_tree.proofs.Search.{Searches}
 use Rattle.dstm_tree.proofs.find.find.Given as goal
@@ -11,12 +13,8 @@ abbrev pub invariant-loop-step : goal.invariant-loop-step
 invariant-loop-step g l =
     let M = g.M.Mem in
     record {
-      live : IsTrue (M.is_live l.mem);
-      place : M.place l.mem ≡ M.place l.fn.mem;
-      objects : M.objects l.mem ≡ M.objects l.fn.mem;
-      narrows : (map : List Val) → M.Admits l.mem map → M.Admits l.fn.mem map;
-      admits : (map : List Val) × M.Admits l.mem map;
-      sets : (p : ℕ) → M.written l.mem p ≡ M.written l.fn.mem p;
+      leads : Leads M l.fn.mem l.mem (Ok l.at);
+      looks : OnlyReads M l.fn.mem l.mem;
       opens : (p : ℕ) → p < tree_begin l.layout →
           (M.held l.mem p ≡ M.held l.fn.mem p) × (M.is_opened l.mem p ≡ M.is_opened l.fn.mem p);
       within : l.at ≤ l.layout.tree;

@@ -10,7 +10,7 @@ returns-in-Some-clause-does g c map admitted store t =
     let found = c.in_ok-found.ensures in (
       ap value_reply (sym c.in-Some.is ∙ found.finds map admitted store t),
       subst (λ m. IsTree c.args.layout.now m store) (sym (with_set-same map (M.written c.args.mem.now)
-          (M.written c.find.new.mem) found.sets)) t,
+          (M.written c.find.new.mem) found.looks.sets)) t,
     )
 
 pub returns-in-None-clause-does : goal.returns-in-None-clause-does
@@ -19,5 +19,5 @@ returns-in-None-clause-does g c map admitted store t =
     let found = c.in_ok-found.ensures in (
       ap value_reply (sym c.in-None.is ∙ found.finds map admitted store t),
       subst (λ m. IsTree c.args.layout.now m store) (sym (with_set-same map (M.written c.args.mem.now)
-          (M.written c.find.new.mem) found.sets)) t,
+          (M.written c.find.new.mem) found.looks.sets)) t,
     )

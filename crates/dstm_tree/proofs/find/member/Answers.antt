@@ -19,5 +19,5 @@ returns-clause-does g c map admitted store t =
     ] in (
       reply,
       subst (λ m. IsTree c.args.layout.now m store) (sym (with_set-same map (M.written c.args.mem.now)
-          (M.written c.find.new.mem) found.sets)) t,
+          (M.written c.find.new.mem) found.looks.sets)) t,
     )

@@ -19,11 +19,11 @@ pub overflow_sub-depth : goal.overflow_sub-depth
 overflow_sub-depth g t c =
     let M = g.M.Mem in
     let read = c.in_ok-node.ensures in
-    let (map, admitted) = read.admits in
+    let (map, admitted) = read.leads.admits in
     has_depth c.args.layout.now (with_set map (M.written c.args.mem.now))
     (with_set map (M.written c.read_node.new.mem)) c.args.at c.args.depth c.args.key
     c.in_ok-node.node c.requires.tree (read.reads map admitted) c.if-at-eq0.false
-    (c.requires.lawful map (read.narrows map admitted))
+    (c.requires.lawful map (read.leads.narrows map admitted))
 
 pub place_below-requires : goal.place_below-requires
 place_below-requires g t c κs within =
@@ -36,11 +36,11 @@ place_below-requires g t c κs within =
     let goes = λ (m : List Val) (a : M.Admits c.read_node.new.mem m).
     go_left layout (with_set m start) (with_set m mid) c.args.at c.args.depth c.args.key node c.requires.tree
     (read.reads m a) c.if-at-eq0.false
-    c.if-key-node.true (c.requires.lawful m (read.narrows m a)) in
-    let (map, admitted) = read.admits in
+    c.if-key-node.true (c.requires.lawful m (read.leads.narrows m a)) in
+    let (map, admitted) = read.leads.admits in
     let deep = has_depth layout (with_set map start) (with_set map mid) c.args.at c.args.depth c.args.key node
     c.requires.tree (read.reads map admitted)
-    c.if-at-eq0.false (c.requires.lawful map (read.narrows map admitted)) in
+    c.if-at-eq0.false (c.requires.lawful map (read.leads.narrows map admitted)) in
     let below = child_within layout (with_set map mid) node.left (c.args.depth - 1) c.args.key (goes map admitted) in (
       omega (arith, deep, c.decreases),
       (
@@ -53,7 +53,7 @@ place_below-requires g t c κs within =
               below,
               (
                 c.requires.tree,
-                (read.objects ∙ c.requires.objects, (read.live, goes)),
+                (read.leads.objects ∙ c.requires.objects, (read.leads.live, goes)),
               ),
             ),
           ),
@@ -69,24 +69,24 @@ returns-then-key-node-clause-does g t c map admitted =
     let one = c.in_ok-node.ensures in
     let two = c.in_ok-below.ensures in
     let three = c.in_ok-placed-2.ensures in
-    let in_two = three.narrows map admitted in
+    let in_two = three.leads.narrows map admitted in
     let q : Request = record { key = c.args.key; value = c.args.value; replaces = c.args.replaces } in
     place-left layout q c.args.at c.args.depth node (with_set map (M.written c.args.mem.now))
     (with_set map (M.written c.read_node.new.mem))
     (with_set map (M.written c.place_below.new.mem)) (with_set map (M.written c.attach_left.new.mem))
     c.in_ok-below.below c.in_ok-placed-2.placed
-    c.requires.tree (one.reads map (two.narrows map in_two)) c.if-at-eq0.false c.if-key-node.true (two.does map in_two)
+    c.requires.tree (one.reads map (two.leads.narrows map in_two)) c.if-at-eq0.false c.if-key-node.true (two.does map in_two)
     (three.does map admitted)
 
 pub overflow_sub-depth-then-key-node-2 : goal.overflow_sub-depth-then-key-node-2
 overflow_sub-depth-then-key-node-2 g t c =
     let M = g.M.Mem in
     let read = c.in_ok-node.ensures in
-    let (map, admitted) = read.admits in
+    let (map, admitted) = read.leads.admits in
     has_depth c.args.layout.now (with_set map (M.written c.args.mem.now))
     (with_set map (M.written c.read_node.new.mem)) c.args.at c.args.depth c.args.key
     c.in_ok-node.node c.requires.tree (read.reads map admitted) c.if-at-eq0.false
-    (c.requires.lawful map (read.narrows map admitted))
+    (c.requires.lawful map (read.leads.narrows map admitted))
 
 pub place_below-requires-then-key-node-2 : goal.place_below-requires-then-key-node-2
 place_below-requires-then-key-node-2 g t c κs within =
@@ -99,11 +99,11 @@ place_below-requires-then-key-node-2 g t c κs within =
     let goes = λ (m : List Val) (a : M.Admits c.read_node.new.mem m).
     go_right layout (with_set m start) (with_set m mid) c.args.at c.args.depth c.args.key node c.requires.tree
     (read.reads m a) c.if-at-eq0.false
-    c.if-key-node-2.true (c.requires.lawful m (read.narrows m a)) in
-    let (map, admitted) = read.admits in
+    c.if-key-node-2.true (c.requires.lawful m (read.leads.narrows m a)) in
+    let (map, admitted) = read.leads.admits in
     let deep = has_depth layout (with_set map start) (with_set map mid) c.args.at c.args.depth c.args.key node
     c.requires.tree (read.reads map admitted)
-    c.if-at-eq0.false (c.requires.lawful map (read.narrows map admitted)) in
+    c.if-at-eq0.false (c.requires.lawful map (read.leads.narrows map admitted)) in
     let below = child_within layout (with_set map mid) node.right (c.args.depth - 1) c.args.key (goes map admitted) in (
       omega (arith, deep, c.decreases),
       (
@@ -116,7 +116,7 @@ place_below-requires-then-key-node-2 g t c κs within =
               below,
               (
                 c.requires.tree,
-                (read.objects ∙ c.requires.objects, (read.live, goes)),
+                (read.leads.objects ∙ c.requires.objects, (read.leads.live, goes)),
               ),
             ),
           ),
@@ -132,13 +132,13 @@ returns-then-key-node-2-clause-does g t c map admitted =
     let one = c.in_ok-node.ensures in
     let two = c.in_ok-below-2.ensures in
     let three = c.in_ok-placed-3.ensures in
-    let in_two = three.narrows map admitted in
+    let in_two = three.leads.narrows map admitted in
     let q : Request = record { key = c.args.key; value = c.args.value; replaces = c.args.replaces } in
     place-right layout q c.args.at c.args.depth node (with_set map (M.written c.args.mem.now))
     (with_set map (M.written c.read_node.new.mem))
     (with_set map (M.written c.place_below-then-key-node-2.new.mem)) (with_set map (M.written c.attach_right.new.mem))
     c.in_ok-below-2.below c.in_ok-placed-3.placed
-    c.requires.tree (one.reads map (two.narrows map in_two)) c.if-at-eq0.false c.if-key-node-2.true
+    c.requires.tree (one.reads map (two.leads.narrows map in_two)) c.if-at-eq0.false c.if-key-node-2.true
     (two.does map in_two) (three.does map admitted)
 
 pub returns-then-replaces-clause-does : goal.returns-then-replaces-clause-does
@@ -147,9 +147,9 @@ returns-then-replaces-clause-does g t c map admitted =
     let layout = c.args.layout.now in
     let one = c.in_ok-node.ensures in
     let two = c.in_ok-write_node.ensures in
-    let in_one = two.narrows map admitted in
+    let in_one = two.leads.narrows map admitted in
     let start = M.written c.args.mem.now in
-    let size = length-with_set map start ∙ g.met.M.Mem.admitted_length c.args.mem.now map (one.narrows map in_one) ∙
+    let size = length-with_set map start ∙ g.met.M.Mem.admitted_length c.args.mem.now map (one.leads.narrows map in_one) ∙
     c.requires.objects in
     let q : Request = record { key = c.args.key; value = c.args.value; replaces = c.args.replaces } in
     place-replaced layout q c.args.at c.args.depth c.in_ok-node.node (with_set map start)

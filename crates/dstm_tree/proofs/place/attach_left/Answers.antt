@@ -24,10 +24,10 @@ returns-in_ok-write_node-in-Root-2-clause-does g c map admitted start q low high
     let before = with_set map (M.written c.args.mem.now) in
     let one = c.in_ok-write_node-in-Root.ensures in
     let two = c.in_ok-write_node-in-Root-2.ensures in
-    let in_one = two.narrows map admitted in
+    let in_one = two.leads.narrows map admitted in
     let after = with_set map (M.written c.write_node-in-Root.new.mem) in
     let size = length-with_set map (M.written c.args.mem.now)
-    ∙ g.met.M.Mem.admitted_length c.args.mem.now map (one.narrows map in_one) ∙ c.requires.objects in
+    ∙ g.met.M.Mem.admitted_length c.args.mem.now map (one.leads.narrows map in_one) ∙ c.requires.objects in
     let is = two.writes map admitted
     ∙ ap (λ m. slice_set m (object_of layout parent.number) (val_of (record parent { left = child.number })))
     (one.writes map in_one) in
@@ -46,10 +46,10 @@ returns-in_ok-write_node-in-Pair-2-clause-does g c map admitted start q low high
     let before = with_set map (M.written c.args.mem.now) in
     let one = c.in_ok-write_node-in-Pair.ensures in
     let two = c.in_ok-write_node-in-Pair-2.ensures in
-    let in_one = two.narrows map admitted in
+    let in_one = two.leads.narrows map admitted in
     let after = with_set map (M.written c.write_node-in-Pair-2.new.mem) in
     let size = length-with_set map (M.written c.args.mem.now)
-    ∙ g.met.M.Mem.admitted_length c.args.mem.now map (one.narrows map in_one) ∙ c.requires.objects in
+    ∙ g.met.M.Mem.admitted_length c.args.mem.now map (one.leads.narrows map in_one) ∙ c.requires.objects in
     let is = two.writes map admitted
     ∙ ap (λ m. slice_set m (object_of layout parent.number) (val_of (record parent { left = greater.right })))
     (one.writes map in_one) in

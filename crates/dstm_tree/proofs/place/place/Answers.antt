@@ -18,14 +18,14 @@ place_below-requires g c =
       key = c.requires.key;
       within = read.within;
       tree = c.requires.tree;
-      objects = read.objects ∙ c.requires.objects;
-      live = read.live;
+      objects = read.leads.objects ∙ c.requires.ready.objects;
+      live = read.leads.live;
       lawful = λ map admitted.
-          let (store, t) = c.requires.lawful map (read.narrows map admitted) in
+          let (store, t) = c.requires.ready.lawful map (read.leads.narrows map admitted) in
           can_root c.args.layout.now (with_set map start) (with_set map (M.written c.read_root.new.mem)) store t
           c.in_ok-root.root c.args.key
           c.requires.key (read.reads map admitted store t) (with_set-same map start (M.written c.read_root.new.mem)
-          read.sets);
+          read.looks.sets);
     }
 
 pub unreachable-requires : goal.unreachable-requires
@@ -34,16 +34,16 @@ unreachable-requires g c =
     let layout = c.args.layout.now in
     let one = c.in_ok-root.ensures in
     let two = c.in_ok-placed.ensures in
-    let (map, admitted) = two.admits in
-    let in_one = two.narrows map admitted in
-    let (store, t) = c.requires.lawful map (one.narrows map in_one) in
+    let (map, admitted) = two.leads.admits in
+    let in_one = two.leads.narrows map admitted in
+    let (store, t) = c.requires.ready.lawful map (one.leads.narrows map in_one) in
     let q : Request = record { key = c.args.key; value = c.args.value; replaces = c.args.replaces } in
     let start = M.written c.args.mem.now in
     let before = with_set map start in
     let after = with_set map (M.written c.place_below.new.mem) in
     let placed = whole_is_placed layout q before (with_set map (M.written c.read_root.new.mem)) after store t
     c.in_ok-root.root c.in_ok-placed.placed
-    c.requires.key (one.reads map in_one store t) (with_set-same map start (M.written c.read_root.new.mem) one.sets)
+    c.requires.key (one.reads map in_one store t) (with_set-same map start (M.written c.read_root.new.mem) one.looks.sets)
     (two.does map admitted) in
     whole-pair layout q before after store t c.in-Pair.field-0 c.in-Pair.field-1
     (subst (IsPlaced layout q 0 KEY_LIMIT t.tree t.free before after) c.in-Pair.is placed)
@@ -54,14 +54,14 @@ returns-in-Full-clause-does g c map admitted store t =
     let layout = c.args.layout.now in
     let one = c.in_ok-root.ensures in
     let two = c.in_ok-placed.ensures in
-    let in_one = two.narrows map admitted in
+    let in_one = two.leads.narrows map admitted in
     let q : Request = record { key = c.args.key; value = c.args.value; replaces = c.args.replaces } in
     let start = M.written c.args.mem.now in
     let before = with_set map start in
     let after = with_set map (M.written c.place_below.new.mem) in
     let placed = whole_is_placed layout q before (with_set map (M.written c.read_root.new.mem)) after store t
     c.in_ok-root.root c.in_ok-placed.placed
-    c.requires.key (one.reads map in_one store t) (with_set-same map start (M.written c.read_root.new.mem) one.sets)
+    c.requires.key (one.reads map in_one store t) (with_set-same map start (M.written c.read_root.new.mem) one.looks.sets)
     (two.does map admitted) in
     whole-full layout q before after store t (subst (IsPlaced layout q 0 KEY_LIMIT t.tree t.free before after)
     c.in-Full.is placed)
@@ -72,14 +72,14 @@ returns-in-Found-clause-does g c map admitted store t =
     let layout = c.args.layout.now in
     let one = c.in_ok-root.ensures in
     let two = c.in_ok-placed.ensures in
-    let in_one = two.narrows map admitted in
+    let in_one = two.leads.narrows map admitted in
     let q : Request = record { key = c.args.key; value = c.args.value; replaces = c.args.replaces } in
     let start = M.written c.args.mem.now in
     let before = with_set map start in
     let after = with_set map (M.written c.place_below.new.mem) in
     let placed = whole_is_placed layout q before (with_set map (M.written c.read_root.new.mem)) after store t
     c.in_ok-root.root c.in_ok-placed.placed
-    c.requires.key (one.reads map in_one store t) (with_set-same map start (M.written c.read_root.new.mem) one.sets)
+    c.requires.key (one.reads map in_one store t) (with_set-same map start (M.written c.read_root.new.mem) one.looks.sets)
     (two.does map admitted) in
     whole-found layout q before after store t (subst (IsPlaced layout q 0 KEY_LIMIT t.tree t.free before after)
     c.in-Found.is placed)
@@ -90,14 +90,14 @@ returns-in-Added-clause-does g c map admitted store t =
     let layout = c.args.layout.now in
     let one = c.in_ok-root.ensures in
     let two = c.in_ok-placed.ensures in
-    let in_one = two.narrows map admitted in
+    let in_one = two.leads.narrows map admitted in
     let q : Request = record { key = c.args.key; value = c.args.value; replaces = c.args.replaces } in
     let start = M.written c.args.mem.now in
     let before = with_set map start in
     let after = with_set map (M.written c.place_below.new.mem) in
     let placed = whole_is_placed layout q before (with_set map (M.written c.read_root.new.mem)) after store t
     c.in_ok-root.root c.in_ok-placed.placed
-    c.requires.key (one.reads map in_one store t) (with_set-same map start (M.written c.read_root.new.mem) one.sets)
+    c.requires.key (one.reads map in_one store t) (with_set-same map start (M.written c.read_root.new.mem) one.looks.sets)
     (two.does map admitted) in
     whole-added layout q before after store t (subst (IsPlaced layout q 0 KEY_LIMIT t.tree t.free before after)
     c.in-Added.is placed)
@@ -111,9 +111,9 @@ returns-in_ok-write-in-Root-clause-does g c map admitted store t =
     let two = c.in_ok-placed.ensures in
     let three = c.in_ok-write_node-in-Root.ensures in
     let four = c.in_ok-write-in-Root.ensures in
-    let in_three = four.narrows map admitted in
-    let in_two = three.narrows map in_three in
-    let in_one = two.narrows map in_two in
+    let in_three = four.leads.narrows map admitted in
+    let in_two = three.leads.narrows map in_three in
+    let in_one = two.leads.narrows map in_two in
     let q : Request = record { key = c.args.key; value = c.args.value; replaces = c.args.replaces } in
     let start = M.written c.args.mem.now in
     let before = with_set map start in
@@ -121,12 +121,12 @@ returns-in_ok-write-in-Root-clause-does g c map admitted store t =
     let after = with_set map (M.written c.write.new.mem) in
     let placed = whole_is_placed layout q before (with_set map (M.written c.read_root.new.mem)) mid store t
     c.in_ok-root.root c.in_ok-placed.placed
-    c.requires.key (one.reads map in_one store t) (with_set-same map start (M.written c.read_root.new.mem) one.sets)
+    c.requires.key (one.reads map in_one store t) (with_set-same map start (M.written c.read_root.new.mem) one.looks.sets)
     (two.does map in_two) in
     let added = subst (IsPlaced layout q 0 KEY_LIMIT t.tree t.free before mid) c.in-Root.is placed in
     let fits = subst (FitsPlaced layout) c.in-Root.is two.fits in
     let size = length-with_set map (M.written c.place_below.new.mem)
-    ∙ g.met.M.Mem.admitted_length c.args.mem.now map (one.narrows map in_one) ∙ c.requires.objects in
+    ∙ g.met.M.Mem.admitted_length c.args.mem.now map (one.leads.narrows map in_one) ∙ c.requires.ready.objects in
     let is = four.writes map admitted
     ∙ ap (λ n. slice_set (with_set map (M.written c.write_node.new.mem)) c.root_object.result (plain n)) c.from.ensures
     ∙ ap (λ o. slice_set (with_set map (M.written c.write_node.new.mem)) o (plain node.number))

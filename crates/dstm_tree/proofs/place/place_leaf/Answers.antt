@@ -12,7 +12,7 @@ returns-clause-does g c map admitted replaces low high free at_least below h =
     let before = with_set map (M.written start) in
     let after = with_set map (M.written c.take_free.new.mem) in
     let size = length-with_set map (M.written start)
-    ∙ g.met.M.Mem.admitted_length start map (taken.narrows map admitted) ∙ c.requires.objects in
+    ∙ g.met.M.Mem.admitted_length start map (taken.leads.narrows map admitted) ∙ c.requires.ready.objects in
     let number = c.in_ok-number.number in
     leaf-root c.args.layout.now (record { key = c.args.key; value = c.args.value; replaces = replaces }) low high
     before after free

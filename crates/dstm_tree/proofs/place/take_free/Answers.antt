@@ -11,13 +11,13 @@ returns-clause-takes g c map admitted free h =
     let one = c.in_ok-head.ensures in
     let two = c.in_ok-next.ensures in
     let three = c.in_ok-write.ensures in
-    let in_two = three.narrows map admitted in
-    let in_one = two.narrows map in_two in
+    let in_two = three.leads.narrows map admitted in
+    let in_one = two.leads.narrows map in_two in
     let old = M.written c.args.mem.now in
     let before = with_set map old in
     let after = with_set map (M.written c.write.new.mem) in
-    let still = with_set-same map old (M.written c.read.new.mem) one.sets in
-    let still_too = with_set-same map old (M.written c.read-2.new.mem) (λ p. two.sets p ∙ one.sets p) in
+    let still = with_set-same map old (M.written c.read.new.mem) one.looks.sets in
+    let still_too = with_set-same map old (M.written c.read-2.new.mem) (λ p. two.looks.sets p ∙ one.looks.sets p) in
     let head_is = ap (value_at before) (sym c.free_object.ensures.object) ∙ one.reads map in_one in
     let next_is = ap (value_at before) (sym c.node_object.ensures.object)
     ∙ ap (λ m. value_at m c.node_object.result) (sym still) ∙ two.reads map in_two in

@@ -18,11 +18,11 @@ pub overflow_sub-depth : goal.overflow_sub-depth
 overflow_sub-depth g t c =
     let M = g.M.Mem in
     let read = c.in_ok-node.ensures in
-    let (map, admitted) = read.admits in
+    let (map, admitted) = read.leads.admits in
     depth_some c.args.layout.now (with_set map (M.written c.args.mem.now))
     (with_set map (M.written c.read_node.new.mem)) c.args.at c.args.depth
     c.in_ok-node.node c.requires.tree (read.reads map admitted) c.if-at-eq0.false
-    (c.requires.lawful map (read.narrows map admitted))
+    (c.requires.lawful map (read.leads.narrows map admitted))
 
 pub remove_below-requires : goal.remove_below-requires
 remove_below-requires g t c κs within =
@@ -34,15 +34,15 @@ remove_below-requires g t c κs within =
     let node = c.in_ok-node.node in
     let root = λ (m : List Val) (a : M.Admits c.read_node.new.mem m).
     root_here layout (with_set m start) (with_set m mid) c.args.at c.args.depth node c.requires.tree (read.reads m a)
-    c.if-at-eq0.false (c.requires.lawful m (read.narrows m a)) in
+    c.if-at-eq0.false (c.requires.lawful m (read.leads.narrows m a)) in
     let goes = λ (m : List Val) (a : M.Admits c.read_node.new.mem m).
     let is_read : IsRead layout (with_set m start) (with_set m mid) c.args.at node = read.reads m a in
     subst (λ n. Subtree layout n node.left (c.args.depth - 1)) (sym is_read.same)
     (left_part layout (with_set m start) node (c.args.depth - 1) (root m a)) in
-    let (map, admitted) = read.admits in
+    let (map, admitted) = read.leads.admits in
     let deep = depth_some layout (with_set map start) (with_set map mid) c.args.at c.args.depth node c.requires.tree
     (read.reads map admitted)
-    c.if-at-eq0.false (c.requires.lawful map (read.narrows map admitted)) in
+    c.if-at-eq0.false (c.requires.lawful map (read.leads.narrows map admitted)) in
     let below = left_within layout (with_set map start) node (c.args.depth - 1) (root map admitted) in (
       omega (arith, deep, c.decreases),
       (
@@ -54,9 +54,9 @@ remove_below-requires g t c κs within =
             (
               c.requires.tree,
               (
-                read.objects ∙
+                read.leads.objects ∙
                     c.requires.objects,
-                (read.live, (goes, read.admits)),
+                (read.leads.live, (goes, read.leads.admits)),
               ),
             ),
           ),
@@ -75,7 +75,7 @@ returns-in_default-clause-does g t c map admitted =
     let after = with_set map (M.written c.remove_below.new.mem) in
     remove-left-none layout (with_set map (M.written c.args.mem.now)) mid after c.args.at c.args.depth c.args.key node
     c.requires.tree
-    (one.reads map (two.narrows map admitted)) c.if-at-eq0.false c.if-key-node.true
+    (one.reads map (two.leads.narrows map admitted)) c.if-at-eq0.false c.if-key-node.true
     (subst (RemovesOf layout c.args.key node.left (c.args.depth - 1) mid after) c.in_default.is (two.does map admitted))
 
 pub close_left-requires-clause-lawful : goal.close_left-requires-clause-lawful
@@ -85,13 +85,13 @@ close_left-requires-clause-lawful g t c map admitted =
     let node = c.in_ok-node.node in
     let one = c.in_ok-node.ensures in
     let two = c.in_ok-below.ensures in
-    let in_one = two.narrows map admitted in
+    let in_one = two.leads.narrows map admitted in
     let before = with_set map (M.written c.args.mem.now) in
     let mid = with_set map (M.written c.read_node.new.mem) in
     let after = with_set map (M.written c.remove_below.new.mem) in
     let is_read : IsRead layout before mid c.args.at node = one.reads map in_one in
     let root = root_here layout before mid c.args.at c.args.depth node c.requires.tree is_read c.if-at-eq0.false
-    (c.requires.lawful map (one.narrows map in_one)) in
+    (c.requires.lawful map (one.leads.narrows map in_one)) in
     let removed = subst (RemovesOf layout c.args.key node.left (c.args.depth - 1) mid after) c.in-Some.is
     (two.does map admitted) in
     gap_after_left layout before after node (c.args.depth - 1) c.args.key c.in-Some.removed root
@@ -106,11 +106,11 @@ returns-then-key-node-clause-does g t c map admitted =
     let one = c.in_ok-node.ensures in
     let two = c.in_ok-below.ensures in
     let three = c.in_ok-cut.ensures in
-    let in_two = three.narrows map admitted in
+    let in_two = three.leads.narrows map admitted in
     let before = with_set map (M.written c.args.mem.now) in
     let mid = with_set map (M.written c.read_node.new.mem) in
     let two_map = with_set map (M.written c.remove_below.new.mem) in
-    let is_read : IsRead layout before mid c.args.at node = one.reads map (two.narrows map in_two) in
+    let is_read : IsRead layout before mid c.args.at node = one.reads map (two.leads.narrows map in_two) in
     let removed = subst (RemovesOf layout c.args.key node.left (c.args.depth - 1) mid two_map) c.in-Some.is
     (two.does map in_two) in
     remove-left-some layout before mid two_map (with_set map (M.written c.close_left.new.mem)) c.args.at c.args.depth
@@ -123,11 +123,11 @@ pub overflow_sub-depth-then-key-node-2 : goal.overflow_sub-depth-then-key-node-2
 overflow_sub-depth-then-key-node-2 g t c =
     let M = g.M.Mem in
     let read = c.in_ok-node.ensures in
-    let (map, admitted) = read.admits in
+    let (map, admitted) = read.leads.admits in
     depth_some c.args.layout.now (with_set map (M.written c.args.mem.now))
     (with_set map (M.written c.read_node.new.mem)) c.args.at c.args.depth
     c.in_ok-node.node c.requires.tree (read.reads map admitted) c.if-at-eq0.false
-    (c.requires.lawful map (read.narrows map admitted))
+    (c.requires.lawful map (read.leads.narrows map admitted))
 
 pub remove_below-requires-then-key-node-2 : goal.remove_below-requires-then-key-node-2
 remove_below-requires-then-key-node-2 g t c κs within =
@@ -139,15 +139,15 @@ remove_below-requires-then-key-node-2 g t c κs within =
     let node = c.in_ok-node.node in
     let root = λ (m : List Val) (a : M.Admits c.read_node.new.mem m).
     root_here layout (with_set m start) (with_set m mid) c.args.at c.args.depth node c.requires.tree (read.reads m a)
-    c.if-at-eq0.false (c.requires.lawful m (read.narrows m a)) in
+    c.if-at-eq0.false (c.requires.lawful m (read.leads.narrows m a)) in
     let goes = λ (m : List Val) (a : M.Admits c.read_node.new.mem m).
     let is_read : IsRead layout (with_set m start) (with_set m mid) c.args.at node = read.reads m a in
     subst (λ n. Subtree layout n node.right (c.args.depth - 1)) (sym is_read.same)
     (right_part layout (with_set m start) node (c.args.depth - 1) (root m a)) in
-    let (map, admitted) = read.admits in
+    let (map, admitted) = read.leads.admits in
     let deep = depth_some layout (with_set map start) (with_set map mid) c.args.at c.args.depth node c.requires.tree
     (read.reads map admitted)
-    c.if-at-eq0.false (c.requires.lawful map (read.narrows map admitted)) in
+    c.if-at-eq0.false (c.requires.lawful map (read.leads.narrows map admitted)) in
     let below = right_within layout (with_set map start) node (c.args.depth - 1) (root map admitted) in (
       omega (arith, deep, c.decreases),
       (
@@ -159,9 +159,9 @@ remove_below-requires-then-key-node-2 g t c κs within =
             (
               c.requires.tree,
               (
-                read.objects ∙
+                read.leads.objects ∙
                     c.requires.objects,
-                (read.live, (goes, read.admits)),
+                (read.leads.live, (goes, read.leads.admits)),
               ),
             ),
           ),
@@ -180,7 +180,7 @@ returns-in_default-below-clause-does g t c map admitted =
     let after = with_set map (M.written c.remove_below-then-key-node-2.new.mem) in
     remove-right-none layout (with_set map (M.written c.args.mem.now)) mid after c.args.at c.args.depth c.args.key node
     c.requires.tree
-    (one.reads map (two.narrows map admitted)) c.if-at-eq0.false c.if-key-node-2.true
+    (one.reads map (two.leads.narrows map admitted)) c.if-at-eq0.false c.if-key-node-2.true
     (subst (RemovesOf layout c.args.key node.right (c.args.depth - 1) mid after) c.in_default-below.is
     (two.does map admitted))
 
@@ -191,13 +191,13 @@ close_right-requires-clause-lawful g t c map admitted =
     let node = c.in_ok-node.node in
     let one = c.in_ok-node.ensures in
     let two = c.in_ok-below-2.ensures in
-    let in_one = two.narrows map admitted in
+    let in_one = two.leads.narrows map admitted in
     let before = with_set map (M.written c.args.mem.now) in
     let mid = with_set map (M.written c.read_node.new.mem) in
     let after = with_set map (M.written c.remove_below-then-key-node-2.new.mem) in
     let is_read : IsRead layout before mid c.args.at node = one.reads map in_one in
     let root = root_here layout before mid c.args.at c.args.depth node c.requires.tree is_read c.if-at-eq0.false
-    (c.requires.lawful map (one.narrows map in_one)) in
+    (c.requires.lawful map (one.leads.narrows map in_one)) in
     let removed = subst (RemovesOf layout c.args.key node.right (c.args.depth - 1) mid after) c.in-Some-below.is
     (two.does map admitted) in
     gap_after_right layout before after node (c.args.depth - 1) c.args.key c.in-Some-below.removed root
@@ -212,11 +212,11 @@ returns-then-key-node-2-clause-does g t c map admitted =
     let one = c.in_ok-node.ensures in
     let two = c.in_ok-below-2.ensures in
     let three = c.in_ok-cut-2.ensures in
-    let in_two = three.narrows map admitted in
+    let in_two = three.leads.narrows map admitted in
     let before = with_set map (M.written c.args.mem.now) in
     let mid = with_set map (M.written c.read_node.new.mem) in
     let two_map = with_set map (M.written c.remove_below-then-key-node-2.new.mem) in
-    let is_read : IsRead layout before mid c.args.at node = one.reads map (two.narrows map in_two) in
+    let is_read : IsRead layout before mid c.args.at node = one.reads map (two.leads.narrows map in_two) in
     let removed = subst (RemovesOf layout c.args.key node.right (c.args.depth - 1) mid two_map) c.in-Some-below.is
     (two.does map in_two) in
     remove-right-some layout before mid two_map (with_set map (M.written c.close_right.new.mem)) c.args.at c.args.depth
@@ -229,11 +229,11 @@ pub overflow_sub-depth-2 : goal.overflow_sub-depth-2
 overflow_sub-depth-2 g t c =
     let M = g.M.Mem in
     let read = c.in_ok-node.ensures in
-    let (map, admitted) = read.admits in
+    let (map, admitted) = read.leads.admits in
     depth_some c.args.layout.now (with_set map (M.written c.args.mem.now))
     (with_set map (M.written c.read_node.new.mem)) c.args.at c.args.depth
     c.in_ok-node.node c.requires.tree (read.reads map admitted) c.if-at-eq0.false
-    (c.requires.lawful map (read.narrows map admitted))
+    (c.requires.lawful map (read.leads.narrows map admitted))
 
 pub remove_root-requires-clause-lawful : goal.remove_root-requires-clause-lawful
 remove_root-requires-clause-lawful g t c map admitted =
@@ -246,7 +246,7 @@ remove_root-requires-clause-lawful g t c map admitted =
     let is_read : IsRead layout before mid c.args.at node = one.reads map admitted in
     subst (λ m. Root layout m node (c.args.depth - 1)) (sym is_read.same)
     (root_here layout before mid c.args.at c.args.depth node c.requires.tree is_read c.if-at-eq0.false
-    (c.requires.lawful map (one.narrows map admitted)))
+    (c.requires.lawful map (one.leads.narrows map admitted)))
 
 pub returns-clause-does : goal.returns-clause-does
 returns-clause-does g t c map admitted =
@@ -256,5 +256,5 @@ returns-clause-does g t c map admitted =
     remove-here c.args.layout.now (with_set map (M.written c.args.mem.now))
     (with_set map (M.written c.read_node.new.mem)) (with_set map (M.written c.remove_root.new.mem))
     c.args.at c.args.depth c.args.key c.in_ok-node.node c.in_ok-removed.removed c.requires.tree
-    (one.reads map (two.narrows map admitted)) c.if-at-eq0.false
+    (one.reads map (two.leads.narrows map admitted)) c.if-at-eq0.false
     (omega (arith, c.if-key-node.false, c.if-key-node-2.false)) (two.does map admitted)

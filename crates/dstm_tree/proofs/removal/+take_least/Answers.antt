@@ -10,11 +10,11 @@ pub overflow_sub-depth : goal.overflow_sub-depth
 overflow_sub-depth g t c =
     let M = g.M.Mem in
     let read = c.in_ok-node.ensures in
-    let (map, admitted) = read.admits in
+    let (map, admitted) = read.leads.admits in
     depth_some c.args.layout.now (with_set map (M.written c.args.mem.now))
     (with_set map (M.written c.read_node.new.mem)) c.args.at c.args.depth
     c.in_ok-node.node c.requires.tree (read.reads map admitted) (λ e. omega (arith, e, c.requires.some))
-    (c.requires.lawful map (read.narrows map admitted))
+    (c.requires.lawful map (read.leads.narrows map admitted))
 
 pub take_least-requires : goal.take_least-requires
 take_least-requires g t c κs within =
@@ -26,15 +26,15 @@ take_least-requires g t c κs within =
     let node = c.in_ok-node.node in
     let root = λ (m : List Val) (a : M.Admits c.read_node.new.mem m).
     root_here layout (with_set m start) (with_set m mid) c.args.at c.args.depth node c.requires.tree (read.reads m a)
-    (λ e. omega (arith, e, c.requires.some)) (c.requires.lawful m (read.narrows m a)) in
+    (λ e. omega (arith, e, c.requires.some)) (c.requires.lawful m (read.leads.narrows m a)) in
     let goes = λ (m : List Val) (a : M.Admits c.read_node.new.mem m).
     let is_read : IsRead layout (with_set m start) (with_set m mid) c.args.at node = read.reads m a in
     subst (λ n. Subtree layout n node.left (c.args.depth - 1)) (sym is_read.same)
     (left_part layout (with_set m start) node (c.args.depth - 1) (root m a)) in
-    let (map, admitted) = read.admits in
+    let (map, admitted) = read.leads.admits in
     let deep = depth_some layout (with_set map start) (with_set map mid) c.args.at c.args.depth node c.requires.tree
     (read.reads map admitted)
-    (λ e. omega (arith, e, c.requires.some)) (c.requires.lawful map (read.narrows map admitted)) in
+    (λ e. omega (arith, e, c.requires.some)) (c.requires.lawful map (read.leads.narrows map admitted)) in
     let below = left_within layout (with_set map start) node (c.args.depth - 1) (root map admitted) in (
       omega (arith, deep, c.decreases),
       (
@@ -43,7 +43,7 @@ take_least-requires g t c κs within =
           within.1,
           (
             omega (arith, c.if-node-eq0.false),
-            (below, (c.requires.tree, (read.objects ∙ c.requires.objects, (read.live, goes)))),
+            (below, (c.requires.tree, (read.leads.objects ∙ c.requires.objects, (read.leads.live, goes)))),
           ),
         ),
       ),
@@ -54,12 +54,12 @@ hoist-requires-clause-within g t c =
     let M = g.M.Mem in
     let layout = c.args.layout.now in
     let read = c.in_ok-node.ensures in
-    let (map, admitted) = read.admits in
+    let (map, admitted) = read.leads.admits in
     let before = with_set map (M.written c.args.mem.now) in
     right_within layout before c.in_ok-node.node (c.args.depth - 1)
     (root_here layout before (with_set map (M.written c.read_node.new.mem)) c.args.at c.args.depth c.in_ok-node.node
     c.requires.tree (read.reads map admitted)
-    (λ e. omega (arith, e, c.requires.some)) (c.requires.lawful map (read.narrows map admitted)))
+    (λ e. omega (arith, e, c.requires.some)) (c.requires.lawful map (read.leads.narrows map admitted)))
 
 pub close_left-requires-clause-lawful : goal.close_left-requires-clause-lawful
 close_left-requires-clause-lawful g t c map admitted =
@@ -68,14 +68,14 @@ close_left-requires-clause-lawful g t c map admitted =
     let node = c.in_ok-node.node in
     let one = c.in_ok-node.ensures in
     let two = c.in_ok-below.ensures in
-    let in_one = two.narrows map admitted in
+    let in_one = two.leads.narrows map admitted in
     let before = with_set map (M.written c.args.mem.now) in
     let mid = with_set map (M.written c.read_node.new.mem) in
     let after = with_set map (M.written c.take_least.new.mem) in
     let is_read : IsRead layout before mid c.args.at node = one.reads map in_one in
     let root = root_here layout before mid c.args.at c.args.depth node c.requires.tree is_read
     (λ e. omega (arith, e, c.requires.some))
-    (c.requires.lawful map (one.narrows map in_one)) in
+    (c.requires.lawful map (one.leads.narrows map in_one)) in
     gap_after_least layout before after node (c.args.depth - 1) c.in_ok-below.below root
     (subst (λ m. TakesLeastOf layout node.left (c.args.depth - 1) m after c.in_ok-below.below) is_read.same
     (two.does map admitted))
@@ -88,7 +88,7 @@ returns-then-node-eq0-clause-does g t c map admitted =
     let two = c.in_ok-cut.ensures in
     take-least-here layout (with_set map (M.written c.args.mem.now)) (with_set map (M.written c.read_node.new.mem))
     (with_set map (M.written c.hoist.new.mem))
-    c.args.at c.args.depth c.in_ok-node.node c.in_ok-cut.cut c.requires.tree (one.reads map (two.narrows map admitted))
+    c.args.at c.args.depth c.in_ok-node.node c.in_ok-cut.cut c.requires.tree (one.reads map (two.leads.narrows map admitted))
     (λ e. omega (arith, e, c.requires.some)) c.if-node-eq0.true (two.does map admitted)
 
 pub returns-clause-does : goal.returns-clause-does
@@ -99,8 +99,8 @@ returns-clause-does g t c map admitted =
     let one = c.in_ok-node.ensures in
     let two = c.in_ok-below.ensures in
     let three = c.in_ok-cut-2.ensures in
-    let in_two = three.narrows map admitted in
-    let in_one = two.narrows map in_two in
+    let in_two = three.leads.narrows map admitted in
+    let in_one = two.leads.narrows map in_two in
     let before = with_set map (M.written c.args.mem.now) in
     let mid = with_set map (M.written c.read_node.new.mem) in
     let two_map = with_set map (M.written c.take_least.new.mem) in

@@ -15,8 +15,8 @@ returns-clause-writes g c map admitted =
     let one = c.in_ok-first.ensures in
     let two = c.in_ok-write.ensures in
     let three = c.in_ok-write-2.ensures in
-    let in_two = three.narrows map admitted in
-    let in_one = two.narrows map in_two in
+    let in_two = three.leads.narrows map admitted in
+    let in_one = two.leads.narrows map in_two in
     let first_is = sym (one.reads map in_one) ∙ ap (value_at before) c.free_object.ensures.object in
     three.writes map admitted
     ∙ ap (λ n. slice_set (with_set map (M.written c.write.new.mem)) c.free_object-2.result (plain n)) c.from.ensures
@@ -24,6 +24,6 @@ returns-clause-writes g c map admitted =
     c.free_object-2.ensures.object
     ∙ ap (λ m. slice_set m (free_of layout) (plain c.args.number))
     (two.writes map in_two ∙ ap (λ m. slice_set m c.node_object.result c.in_ok-first.first)
-    (with_set-same map start (M.written c.read.new.mem) one.sets)
+    (with_set-same map start (M.written c.read.new.mem) one.looks.sets)
     ∙ ap (λ o. slice_set before o c.in_ok-first.first) c.node_object.ensures.object ∙
     ap (slice_set before (object_of layout c.args.number)) first_is)

@@ -15,8 +15,8 @@ returns-clause-does g c map admitted =
     let start = M.written c.args.mem.now in
     let one = c.in_ok-node.ensures in
     let two = c.in_ok-write_node.ensures in
-    let in_one = two.narrows map admitted in
-    let size = length-with_set map start ∙ g.met.M.Mem.admitted_length c.args.mem.now map (one.narrows map in_one) ∙
+    let in_one = two.leads.narrows map admitted in
+    let size = length-with_set map start ∙ g.met.M.Mem.admitted_length c.args.mem.now map (one.leads.narrows map in_one) ∙
     c.requires.objects in
     hoist-some c.args.layout.now (with_set map start) (with_set map (M.written c.read_node.new.mem))
     (with_set map (M.written c.write_node.new.mem))

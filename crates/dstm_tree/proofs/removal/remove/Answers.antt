@@ -15,14 +15,14 @@ remove_below-requires g c =
     record {
       within = one.within;
       tree = record { valid = c.requires.valid; declared = c.requires.fits.0 };
-      objects = one.objects ∙ c.requires.objects;
-      live = one.live;
+      objects = one.leads.objects ∙ c.requires.ready.objects;
+      live = one.leads.live;
       lawful = λ map admitted.
-          let (store, t) = c.requires.lawful map (one.narrows map admitted) in
+          let (store, t) = c.requires.ready.lawful map (one.leads.narrows map admitted) in
           part_at_root c.args.layout.now (with_set map start) (with_set map (M.written c.read_root.new.mem)) store t
           c.in_ok-root.root
-          (one.reads map admitted store t) (with_set-same map start (M.written c.read_root.new.mem) one.sets);
-      admits = one.admits;
+          (one.reads map admitted store t) (with_set-same map start (M.written c.read_root.new.mem) one.looks.sets);
+      admits = one.leads.admits;
     }
 
 pub give_back-requires-clause-within : goal.give_back-requires-clause-within
@@ -32,14 +32,14 @@ give_back-requires-clause-within g c =
     let start = M.written c.args.mem.now in
     let one = c.in_ok-root.ensures in
     let two = c.in_ok-found.ensures in
-    let (map, admitted) = two.admits in
-    let in_one = two.narrows map admitted in
-    let (store, t) = c.requires.lawful map (one.narrows map in_one) in
+    let (map, admitted) = two.leads.admits in
+    let in_one = two.leads.narrows map admitted in
+    let (store, t) = c.requires.ready.lawful map (one.leads.narrows map in_one) in
     let before = with_set map start in
     let after = with_set map (M.written c.remove_below.new.mem) in
     let found = removed_at_root layout c.args.key before (with_set map (M.written c.read_root.new.mem)) after store t
     c.in_ok-root.root c.in_ok-found.found
-    (one.reads map in_one store t) (with_set-same map start (M.written c.read_root.new.mem) one.sets)
+    (one.reads map in_one store t) (with_set-same map start (M.written c.read_root.new.mem) one.looks.sets)
     (two.does map admitted) in
     let removed : Removes layout c.args.key 0 KEY_LIMIT t.tree before after c.in-Some.removed =
     subst (RemovesIf layout c.args.key 0 KEY_LIMIT t.tree before after) c.in-Some.is found in
@@ -52,12 +52,12 @@ returns-in_default-clause-does g c map admitted store t =
     let start = M.written c.args.mem.now in
     let one = c.in_ok-root.ensures in
     let two = c.in_ok-found.ensures in
-    let in_one = two.narrows map admitted in
+    let in_one = two.leads.narrows map admitted in
     let before = with_set map start in
     let after = with_set map (M.written c.remove_below.new.mem) in
     let found = removed_at_root layout c.args.key before (with_set map (M.written c.read_root.new.mem)) after store t
     c.in_ok-root.root c.in_ok-found.found
-    (one.reads map in_one store t) (with_set-same map start (M.written c.read_root.new.mem) one.sets)
+    (one.reads map in_one store t) (with_set-same map start (M.written c.read_root.new.mem) one.looks.sets)
     (two.does map admitted) in
     whole-none layout c.args.key before after store t (subst (RemovesIf layout c.args.key 0 KEY_LIMIT t.tree before
     after) c.in_default.is found)
@@ -71,9 +71,9 @@ returns-clause-does g c map admitted store t =
     let two = c.in_ok-found.ensures in
     let three = c.in_ok-give_back.ensures in
     let four = c.in_ok-update_root.ensures in
-    let in_three = four.narrows map admitted in
-    let in_two = three.narrows map in_three in
-    let in_one = two.narrows map in_two in
+    let in_three = four.leads.narrows map admitted in
+    let in_two = three.leads.narrows map in_three in
+    let in_one = two.leads.narrows map in_two in
     let before = with_set map start in
     let mid = with_set map (M.written c.remove_below.new.mem) in
     let two_map = with_set map (M.written c.give_back.new.mem) in
@@ -81,11 +81,11 @@ returns-clause-does g c map admitted store t =
     let root_is = one.reads map in_one store t in
     let found = removed_at_root layout c.args.key before (with_set map (M.written c.read_root.new.mem)) mid store t
     c.in_ok-root.root c.in_ok-found.found
-    root_is (with_set-same map start (M.written c.read_root.new.mem) one.sets) (two.does map in_two) in
+    root_is (with_set-same map start (M.written c.read_root.new.mem) one.looks.sets) (two.does map in_two) in
     let removed = subst (RemovesIf layout c.args.key 0 KEY_LIMIT t.tree before mid) c.in-Some.is found in
     let has : HasTree layout = record { valid = c.requires.valid; declared = c.requires.fits.0 } in
     let size = length-with_set map (M.written c.remove_below.new.mem)
-    ∙ g.met.M.Mem.admitted_length c.args.mem.now map (one.narrows map in_one) ∙ c.requires.objects in
+    ∙ g.met.M.Mem.admitted_length c.args.mem.now map (one.leads.narrows map in_one) ∙ c.requires.ready.objects in
     whole-removed layout c.args.key before mid two_map after store t c.in-Some.removed c.in_ok-root.root has size
     root_is removed
     (three.writes map in_three) (four.writes map admitted)

@@ -47,7 +47,7 @@ close_right-requires-clause-lawful g c map admitted =
     let two = c.in_ok-least.ensures in
     gap_after_next c.args.layout.now (with_set map (g.M.Mem.written c.args.mem.now))
     (with_set map (g.M.Mem.written c.take_least.new.mem)) c.args.node c.args.depth
-    c.in_ok-least.least (c.requires.lawful map (two.narrows map admitted)) (two.does map admitted)
+    c.in_ok-least.least (c.requires.lawful map (two.leads.narrows map admitted)) (two.does map admitted)
 
 pub returns-clause-does : goal.returns-clause-does
 returns-clause-does g c map admitted =
@@ -56,5 +56,5 @@ returns-clause-does g c map admitted =
     let three = c.in_ok-cut-3.ensures in
     remove-between c.args.layout.now (with_set map (M.written c.args.mem.now))
     (with_set map (M.written c.take_least.new.mem)) (with_set map (M.written c.close_right.new.mem))
-    c.args.node c.args.depth c.in_ok-least.least c.in_ok-cut-3.cut (two.does map (three.narrows map admitted))
+    c.args.node c.args.depth c.in_ok-least.least c.in_ok-cut-3.cut (two.does map (three.leads.narrows map admitted))
     (three.does map admitted)

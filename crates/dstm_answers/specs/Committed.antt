@@ -1,0 +1,70 @@
+-- What each caller has committed. The history of a run names neither callers nor numbers; here each entry has
+-- both, and the same entries are told from one caller's own events.
+--
+-- Events and committed attempts have the newest first.
+use Rattle.std.specs.Prelude.{ℕ, ◌==◌, ◌&&◌, Bool, true, false, List, [], ◌∷◌, if◌then◌else◌, filter}
+use Rattle.dstm_model.specs.declared.value.Val.{Val}
+use Rattle.dstm_model.specs.Map.{Entry}
+use Rattle.dstm_core.specs.Events.{Event}
+use Rattle.dstm_core.specs.declared.event.Kind.{Kind}
+use Rattle.dstm_core.specs.declared.event.Kind.TheVariants.{Commit}
+use Rattle.dstm_core.specs.declared.shape.Shape.{Shape}
+use Rattle.dstm_core.specs.declared.status.Status.TheVariants as status
+use Rattle.dstm_core.specs.Histories.{entry_of, is_draw, will_of}
+use Rattle.dstm_core.specs.Runs.{local}
+use Rattle.dstm_core.specs.State.{LocalState, or_zero, own_attempt}
+use Rattle.dstm_core.specs.Words.{code_of}
+
+-- a committed attempt: its caller, the number that its Draw found, and its entry
+pub record Committed : Type 0 where
+  pub caller : ℕ
+  pub number : ℕ
+  pub entry : Entry
+
+-- ---- the history, with the caller and the number of each entry
+
+-- the attempts that commit, as `will` tells, and have their Draw among some events
+abbrev pub committed : Shape → List Val → (ℕ → Bool) → List Event → List Event → List Committed
+committed shape start will run [] = []
+committed shape start will run (event ∷ before) =
+    if is_draw event.kind && will (own_attempt shape (local shape before event.caller))
+    then record {
+      caller = event.caller;
+      number = event.found;
+      entry = entry_of shape start run (local shape before event.caller);
+    } ∷ committed shape start will run before
+    else committed shape start will run before
+
+-- the attempts that commit in a run
+abbrev pub committed_in : Shape → List Val → List Event → List Committed
+committed_in shape start run = committed shape start (will_of shape run) run run
+
+-- those of one caller
+abbrev pub by_caller : ℕ → List Committed → List Committed
+by_caller c attempts = filter (λ (attempt : Committed). attempt.caller == c) attempts
+
+-- ---- the same, told from one caller's own events
+
+abbrev pub is_commit : Kind → Bool
+is_commit Commit = true
+is_commit kind = false
+
+-- a Commit that succeeded
+abbrev pub has_committed : Event → Bool
+has_committed event = is_commit event.kind && (event.found == code_of status.Validating)
+
+-- the attempt that a caller has drawn a number for, by its state
+abbrev pub attempt_of : Shape → List Val → List Event → ℕ → LocalState → Committed
+attempt_of shape start run c state = record {
+  caller = c;
+  number = or_zero state.drawn;
+  entry = entry_of shape start run state;
+}
+
+-- the attempts that a caller has committed by its own Commits; the run tells what the versions hold
+abbrev pub done_by : Shape → List Val → List Event → List Event → ℕ → List Committed
+done_by shape start run [] c = []
+done_by shape start run (event ∷ before) c =
+    if (event.caller == c) && has_committed event
+    then attempt_of shape start run c (local shape before c) ∷ done_by shape start run before c
+    else done_by shape start run before c

@@ -1,0 +1,171 @@
+-- Commits: what stands before the Commit.
+use Rattle.std.proofs.Common.{◌≡◌, ◌≢◌, ◌⊎◌, ℕ, ◌==◌, ◌||◌, ◌∙◌, Bool, true, false, List, [], ◌∷◌, Some, None, refl, ap, sym, subst, inl, inr}
+use Rattle.std.specs.Prelude.{Option, if◌then◌else◌}
+use Rattle.std.proofs.lemmas.Bool.{cond_both}
+use Rattle.dstm_core.specs.Events.{Event}
+use Rattle.dstm_core.specs.declared.event.Kind.{Kind}
+use Rattle.dstm_core.specs.declared.event.Kind.TheVariants.{Rank, LookNumber, Check, LookSelf, PutHigh, PutNew, Validating as ToValidating, Draw, Commit, Quit}
+use Rattle.dstm_core.specs.declared.shape.Manager.{Manager}
+use Rattle.dstm_core.specs.declared.shape.Shape.{Shape}
+use Rattle.dstm_core.specs.declared.state.Phase.{Phase}
+use Rattle.dstm_core.specs.declared.state.Phase.TheVariants.{Drawn}
+use Rattle.dstm_core.specs.Rules.{after, is_outside}
+use Rattle.dstm_core.specs.State.{LocalState}
+use Rattle.dstm_model.specs.declared.value.Val.{Val}
+use Rattle.rand_pcg.specs.Lcg.{Lcg}
+use Rattle.dstm_order.specs.declared.TheConstants.{MAX_MISSED}
+use Rattle.dstm_order.specs.Calls.{Obeys, state_after, effort_of, newest_of, due_after}
+use Rattle.dstm_order.specs.Efforts.{Effort}
+use Rattle.dstm_order.specs.Order.{Due, IsDue, just, due, next, next_or_first, in_putting, in_pass, in_checking, in_checks}
+use Rattle.dstm_order.specs.Order.Due.{Step, Done}
+use Rattle.dstm_order.specs.Passes.{Validates, EveryCommitIsValidated}
+use Rattle.dstm_order.specs.Tasks.{Work}
+use Rattle.dstm_order.specs.Tasks.Task.{Doing}
+use Rattle.dstm_order.specs.Tasks.Work.{Committing}
+use Rattle.dstm_order.proofs.Rows.{pass_by, checking_by, checks_by, putting_by, put_by, passed_by}
+use Rattle.dstm_order.proofs.Validations.{Chain, GoesOn, goes_on, due_kind, NoTest, is_test, no_test, row_tests, first_no, test_goes, chain_none, chain_more, chain_ends, commit_is}
+
+-- ---- the events of a commit
+
+-- the kinds of event that a commit may make
+abbrev in_commit : Kind → Bool
+in_commit PutHigh = true
+in_commit PutNew = true
+in_commit ToValidating = true
+in_commit Draw = true
+in_commit Check = true
+in_commit LookSelf = true
+in_commit Rank = true
+in_commit Commit = true
+in_commit Quit = true
+in_commit k = false
+
+abbrev commits : Due → Bool
+commits (Step k n) = in_commit k
+commits Done = true
+
+abbrev InCommit : Due → Type 0
+InCommit d = commits d ≡ true
+
+module _ (v : ℕ → Val) where
+  first_commits : (l : LocalState) → InCommit (in_putting v l)
+  first_commits l = putting_by InCommit v l refl (λ n. refl) (λ n. refl)
+
+  next_commits : (k : Kind) (e : Event) (m : Manager) (l : LocalState) (c : Effort) → in_commit k ≡ true →
+      InCommit (next k e (Committing v) m l c)
+  next_commits PutHigh e m l c i = put_by InCommit (Committing v) l refl refl (λ n. refl) (λ n. refl)
+  next_commits PutNew e m l c i = put_by InCommit (Committing v) l refl refl (λ n. refl) (λ n. refl)
+  next_commits ToValidating e m l c i = refl
+  next_commits Draw e m l c i = checking_by InCommit l refl refl
+  next_commits Check e m l c i = checks_by InCommit l.phase l refl refl refl
+  next_commits LookSelf e m l c i = passed_by InCommit (Committing v) m l refl (λ n. refl)
+  next_commits Rank e m l c i = refl
+  next_commits Commit e m l c i = refl
+  next_commits Quit e m l c i = refl
+  next_commits k e m l c i = absurd (cc)
+
+  due_commits : (s : Shape) (newest : Option Event) (l : LocalState) (c : Effort) →
+      InCommit (next_or_first newest (Committing v) s.manager l c) →
+      InCommit (due (Doing (Committing v)) s newest l c)
+  due_commits s newest l c h =
+      cond_both (is_outside l.phase) _ _ InCommit (λ _. refl) (λ _.
+      cond_both (l.stale || c.missed == MAX_MISSED) _ _ InCommit (λ _. refl) (λ _. h))
+
+  is_kind : (d : Due) (e : Event) → IsDue d e → InCommit d → in_commit e.kind ≡ true
+  is_kind (Step k n) e is h = rw (is.0) h
+  is_kind Done e is h = absurd is
+
+  kinds : (s : Shape) (l : LocalState) (g : Lcg) (es : List Event) → Obeys (Doing (Committing v)) s l g es →
+      InCommit (due_after (Doing (Committing v)) s l g es)
+  kinds s l g [] obeys = due_commits s None l (effort_of s l g []) (first_commits l)
+  kinds s l g (e ∷ es) obeys =
+      due_commits s (Some e) (state_after s l (e ∷ es)) (effort_of s l g (e ∷ es))
+      (next_commits e.kind e s.manager (state_after s l (e ∷ es)) (effort_of s l g (e ∷ es))
+      (is_kind (due_after (Doing (Committing v)) s l g es) e obeys.1 (kinds s l g es obeys.0)))
+
+  -- ---- the last validation
+
+  -- where it goes on in a phase, or ends
+  abbrev InDrawn : Kind → Phase → Type 0
+  InDrawn k p = (k ≡ Commit) ⊎ ((k ≡ Check) × (p ≡ Drawn))
+
+  abbrev DrawChain : Shape → LocalState → Lcg → List Event → Type 0
+  DrawChain s l g es = Chain Draw Commit (λ (l : LocalState). l.drawn) s l (Committing v) g es
+
+  drawn_test : (k : Kind) (p : Phase) → InDrawn k p → is_test k ≡ true
+  drawn_test k p (inl q) = rw q refl
+  drawn_test k p (inr q) = let x = q.0 in rw x refl
+
+  -- after a Check in it the phase is Drawn
+  is_drawn : (k : Kind) (p : Phase) (l : LocalState) (n : ℕ) → InDrawn k p → in_checks p l ≡ Step k n → p ≡ Drawn
+  is_drawn k p l n (inr x) q = x.1
+  is_drawn k p l n (inl x) q = by p refl
+    where
+      by : (r : Phase) → p ≡ r → p ≡ Drawn
+      by Drawn h = h
+      by r h =
+          let row : in_pass l ≡ Step k n = subst (λ p. in_checks p l ≡ Step k n) h q in
+          absurd (pass_by (λ d. d ≡ Step k n → ⊥) l (λ y. cc) (λ y. cc) row)
+
+  draw_back : (s : Shape) (l : LocalState) (g : Lcg) (es : List Event) (k : Kind) (n : ℕ) →
+      Obeys (Doing (Committing v)) s l g es → due_after (Doing (Committing v)) s l g es ≡ Step k n →
+      InDrawn k (state_after s l es).phase → DrawChain s l g es
+  draw_back s l g [] k n obeys was here =
+      let t = drawn_test k l.phase here in
+      let on = goes_on (Committing v) s None l (effort_of s l g []) (Step k n) was (test_goes k n t) in
+      absurd (no_test k (in_putting v l) n t on.table (first_no (Committing v) l))
+  draw_back s l g (e ∷ es) k n obeys was here =
+      go (λ m o d p. draw_back s l g es Check m o d p)
+      (row_tests e.kind e (Committing v) s.manager new (effort_of s l g (e ∷ es)))
+    where
+      old : LocalState
+      old = state_after s l es
+
+      new : LocalState
+      new = state_after s l (e ∷ es)
+
+      t : is_test k ≡ true
+      t = drawn_test k new.phase here
+
+      on : GoesOn (Committing v) s (Some e) new (effort_of s l g (e ∷ es)) (Step k n)
+      on = goes_on (Committing v) s (Some e) new (effort_of s l g (e ∷ es)) (Step k n) was (test_goes k n t)
+
+      row_at : (j : Kind) → e.kind ≡ j → next e.kind e (Committing v) s.manager new (effort_of s l g (e ∷ es))
+          ≡ next j e (Committing v) s.manager new (effort_of s l g (e ∷ es))
+      row_at j q = ap (λ j. next j e (Committing v) s.manager new (effort_of s l g (e ∷ es))) q
+
+      Before : Type 0
+      Before = (m : ℕ) → Obeys (Doing (Committing v)) s l g es →
+          due_after (Doing (Committing v)) s l g es ≡ Step Check m → InDrawn Check (state_after s l es).phase →
+          DrawChain s l g es
+
+      go : Before → (e.kind ≡ LookNumber) ⊎ (e.kind ≡ Check) ⊎ (e.kind ≡ Draw)
+          ⊎ NoTest (next e.kind e (Committing v) s.manager new (effort_of s l g (e ∷ es))) → DrawChain s l g (e ∷ es)
+      go back (inl q) =
+          let kind = is_kind (due_after (Doing (Committing v)) s l g es) e obeys.1 (kinds s l g es obeys.0) in
+          let x = ap in_commit q in absurd (cc)
+      go back (inr (inl q)) =
+          let is : new ≡ after Check s old e = ap (λ k. after k s old e) q in
+          let phase : new.phase ≡ old.phase = ap (λ (l : LocalState). l.phase) is in
+          let drawn : new.phase ≡ Drawn = is_drawn k new.phase new n here (sym (row_at Check q) ∙ on.table) in
+          let due_then = due_kind (due_after (Doing (Committing v)) s l g es) e Check obeys.1 q in
+          let before = back due_then.0 obeys.0 due_then.1 (inr (refl, sym phase ∙ drawn)) in
+          let was_on =
+          goes_on (Committing v) s (newest_of es) old (effort_of s l g es) (Step Check due_then.0) due_then.1 refl in
+          chain_more Draw Commit (λ (l : LocalState). l.drawn) s l (Committing v) g e es due_then.0 commit_is before q
+          was_on.table on.agreed (ap (λ (l : LocalState). l.drawn) is)
+          (row_at Check q ∙ ap (λ p. in_checks p new) drawn)
+      go back (inr (inr (inl q))) =
+          let is : new ≡ after Draw s old e = ap (λ k. after k s old e) q in
+          chain_none Draw Commit (λ (l : LocalState). l.drawn) s l (Committing v) g e es q
+          (ap (λ (l : LocalState). l.checked) is) (ap (λ (l : LocalState). l.drawn) is) (row_at Draw q)
+      go back (inr (inr (inr none))) = absurd (no_test k _ n t on.table none)
+
+pub every_commit : EveryCommitIsValidated
+every_commit v s l g e es obeys q =
+    let due_then = due_kind (due_after (Doing (Committing v)) s l g es) e Commit obeys.1 q in
+    let on =
+    goes_on (Committing v) s (newest_of es) (state_after s l es) (effort_of s l g es) (Step Commit due_then.0)
+    due_then.1 refl in
+    chain_ends Draw Commit (λ (l : LocalState). l.drawn) s l (Committing v) g e es due_then.0 commit_is
+    (draw_back v s l g es Commit due_then.0 obeys.0 due_then.1 (inl refl)) q on.table

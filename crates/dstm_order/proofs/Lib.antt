@@ -1,0 +1,6 @@
+pub mod Rows
+pub mod Misses
+pub mod EnemyRanks
+pub mod Validations
+pub mod Commits
+pub mod Opens

@@ -1,0 +1,392 @@
+-- Opens: how a call that opens an object ends.
+use Rattle.std.proofs.Common.{◌≡◌, ◌≢◌, ◌⊎◌, ℕ, ◌+◌, ◌==◌, ◌||◌, ◌∙◌, Bool, true, false, List, [], ◌∷◌, Some, None, refl, ap, sym, subst, inl, inr, min}
+use Rattle.std.specs.Prelude.{Option, if◌then◌else◌}
+use Rattle.std.proofs.lemmas.Bool.{cond_both}
+use Rattle.dstm_core.specs.Events.{Event}
+use Rattle.dstm_core.specs.declared.event.Kind.{Kind}
+use Rattle.dstm_core.specs.declared.event.Kind.TheVariants.{Enrol, Stamp, Rank, Begin, LookObj, LookOwner, LookStatus, LookRank, LookOld, LookHigh, LookNew, PutOwner, PutOld, Install, LookNumber, Check, LookSelf, Release, PutHigh, PutNew, Validating as ToValidating, Draw, Commit, Kill, Quit, Pause, Resume}
+use Rattle.dstm_core.specs.declared.shape.Manager.{Manager}
+use Rattle.dstm_core.specs.declared.shape.Shape.{Shape}
+use Rattle.dstm_core.specs.declared.shape.TheConstants.{MAX_RANK}
+use Rattle.dstm_core.specs.declared.state.Phase.{Phase}
+use Rattle.dstm_core.specs.declared.state.Phase.TheVariants.{Outside, Running, Paused, Putting, Validating, Drawn}
+use Rattle.dstm_core.specs.Rules.{after, is_outside}
+use Rattle.dstm_core.specs.State.{LocalState, given}
+use Rattle.rand_pcg.specs.Lcg.{Lcg}
+use Rattle.dstm_order.specs.declared.TheConstants.{MAX_MISSED}
+use Rattle.dstm_order.specs.Calls.{Obeys, IsCall, state_after, effort_of, newest_of, due_after}
+use Rattle.dstm_order.specs.Efforts.{Effort}
+use Rattle.dstm_order.specs.Order.{Due, IsDue, just, due, next, next_or_first, at_first, when_resolved, when_passed, in_resolving, in_pass, in_checking, in_checks, rises}
+use Rattle.dstm_order.specs.Order.Due.{Step, Done}
+use Rattle.dstm_order.specs.Passes.{is_open, EndsInPass, EndsInRank, EveryOpenEndsInPass}
+use Rattle.dstm_order.specs.Tasks.{Work}
+use Rattle.dstm_order.specs.Tasks.Task.{Doing}
+use Rattle.dstm_order.specs.Tasks.Work.{Reading, Writing, Releasing, Rechecking, Committing}
+use Rattle.dstm_order.proofs.Rows.{resolving_by, giving_way_by, pass_by, checking_by, checks_by, passed_by}
+use Rattle.dstm_order.proofs.Validations.{goes, GoesOn, goes_on, due_kind, every_pass}
+
+-- ---- the events of an open
+
+-- the kinds of event that an open may make: those that resolve, install and pass, a Quit, and a Rank
+abbrev in_open : Kind → Bool
+in_open Enrol = false
+in_open Stamp = false
+in_open Begin = false
+in_open Release = false
+in_open PutHigh = false
+in_open PutNew = false
+in_open ToValidating = false
+in_open Draw = false
+in_open Commit = false
+in_open k = true
+
+abbrev opens : Due → Bool
+opens (Step k n) = in_open k
+opens Done = true
+
+abbrev IsOpen : Due → Type 0
+IsOpen d = opens d ≡ true
+
+-- the phases of an attempt in an open
+abbrev open_phase : Phase → Bool
+open_phase Outside = true
+open_phase Running = true
+open_phase Paused = true
+open_phase p = false
+
+first_opens : (w : Work) (l : LocalState) → is_open w ≡ true → IsOpen (at_first w l)
+first_opens (Reading o) l h = refl
+first_opens (Writing o) l h = refl
+first_opens w l h = absurd (cc)
+
+resolved_opens : (w : Work) → is_open w ≡ true → IsOpen (when_resolved w)
+resolved_opens (Reading o) h = refl
+resolved_opens (Writing o) h = refl
+resolved_opens w h = absurd (cc)
+
+checks_open : (p : Phase) (l : LocalState) → open_phase p ≡ true → IsOpen (in_checks p l)
+checks_open Drawn l h = absurd (cc)
+checks_open p l h = pass_by IsOpen l refl refl
+
+resolving_opens : (w : Work) (m : Manager) (l : LocalState) (c : Effort) → is_open w ≡ true →
+    IsOpen (in_resolving m l c (when_resolved w))
+resolving_opens w m l c h =
+    resolving_by IsOpen m l c (when_resolved w) (record {
+      owner = refl;
+      status = refl;
+      rank = refl;
+      old = refl;
+      high = refl;
+      new = refl;
+      kill = refl;
+      pause = refl;
+    }) (λ _. giving_way_by IsOpen l c refl refl refl) (resolved_opens w h)
+
+next_opens : (k : Kind) (e : Event) (w : Work) (m : Manager) (l : LocalState) (c : Effort) → is_open w ≡ true →
+    in_open k ≡ true → open_phase l.phase ≡ true → IsOpen (next k e w m l c)
+next_opens LookNumber e w m l c h i p = pass_by IsOpen l refl refl
+next_opens Check e w m l c h i p = checks_open l.phase l p
+next_opens LookSelf e w m l c h i p = passed_by IsOpen w m l refl (λ n. refl)
+next_opens PutOwner e w m l c h i p = refl
+next_opens PutOld e w m l c h i p = refl
+next_opens Install e w m l c h i p =
+    cond_both (e.found == e.expected) _ _ IsOpen (λ _. refl) (λ _. first_opens w l h)
+next_opens Rank e w m l c h i p = refl
+next_opens Quit e w m l c h i p = refl
+next_opens Enrol e w m l c h i p = refl
+next_opens Stamp e w m l c h i p = refl
+next_opens Begin e w m l c h i p = refl
+next_opens Release e w m l c h i p = refl
+next_opens Commit e w m l c h i p = refl
+next_opens PutHigh e w m l c h i p = absurd (cc)
+next_opens PutNew e w m l c h i p = absurd (cc)
+next_opens ToValidating e w m l c h i p = absurd (cc)
+next_opens Draw e w m l c h i p = absurd (cc)
+next_opens k e w m l c h i p = resolving_opens w m l c h
+
+-- these events leave the attempt in those phases
+phase_opens : (k : Kind) (s : Shape) (l : LocalState) (e : Event) → in_open k ≡ true → open_phase l.phase ≡ true →
+    open_phase (after k s l e).phase ≡ true
+phase_opens Install s l e i p =
+    cond_both (e.found == e.expected) _ _ (λ (l : LocalState). open_phase l.phase ≡ true) (λ _. p) (λ _. p)
+phase_opens LookSelf s l e i p =
+    cond_both (e.found == given l.phase) _ _ (λ (l : LocalState). open_phase l.phase ≡ true) (λ _. p) (λ _. refl)
+phase_opens Pause s l e i p =
+    cond_both (e.found == 1) _ _ (λ (l : LocalState). open_phase l.phase ≡ true) (λ _. refl) (λ _. refl)
+phase_opens Resume s l e i p =
+    cond_both (e.found == 2) _ _ (λ (l : LocalState). open_phase l.phase ≡ true) (λ _. refl) (λ _. refl)
+phase_opens Quit s l e i p = refl
+phase_opens Enrol s l e i p = absurd (cc)
+phase_opens Stamp s l e i p = absurd (cc)
+phase_opens Begin s l e i p = absurd (cc)
+phase_opens Release s l e i p = absurd (cc)
+phase_opens PutHigh s l e i p = absurd (cc)
+phase_opens PutNew s l e i p = absurd (cc)
+phase_opens ToValidating s l e i p = absurd (cc)
+phase_opens Draw s l e i p = absurd (cc)
+phase_opens Commit s l e i p = absurd (cc)
+phase_opens k s l e i p = p
+
+-- what is due in an open, whatever has come
+record Opened (w : Work) (s : Shape) (l : LocalState) (g : Lcg) (es : List Event) : Type 0 where
+  pub phase : open_phase (state_after s l es).phase ≡ true
+  pub due : IsOpen (due_after (Doing w) s l g es)
+
+due_opens : (w : Work) (s : Shape) (newest : Option Event) (l : LocalState) (c : Effort) →
+    IsOpen (next_or_first newest w s.manager l c) → IsOpen (due (Doing w) s newest l c)
+due_opens w s newest l c h =
+    cond_both (is_outside l.phase) _ _ IsOpen (λ _. refl) (λ _.
+    cond_both (l.stale || c.missed == MAX_MISSED) _ _ IsOpen (λ _. refl) (λ _. h))
+
+is_kind : (d : Due) (e : Event) → IsDue d e → IsOpen d → in_open e.kind ≡ true
+is_kind (Step k n) e is h = rw (is.0) h
+is_kind Done e is h = absurd is
+
+opened : (w : Work) (s : Shape) (l : LocalState) (g : Lcg) (es : List Event) → is_open w ≡ true → l.phase ≡ Running →
+    Obeys (Doing w) s l g es → Opened w s l g es
+opened w s l g [] h p obeys = record {
+  phase = rw p refl;
+  due = due_opens w s None l (effort_of s l g []) (first_opens w l h);
+}
+opened w s l g (e ∷ es) h p obeys =
+    let before = opened w s l g es h p obeys.0 in
+    let kind = is_kind (due_after (Doing w) s l g es) e obeys.1 before.due in
+    let phase = phase_opens e.kind s (state_after s l es) e kind before.phase in
+    record {
+      phase = phase;
+      due = due_opens w s (Some e) (state_after s l (e ∷ es)) (effort_of s l g (e ∷ es))
+          (next_opens e.kind e w s.manager (state_after s l (e ∷ es)) (effort_of s l g (e ∷ es)) h kind phase);
+    }
+
+-- ---- how it ends
+
+-- something is due
+abbrev is_done : Due → Bool
+is_done Done = true
+is_done (Step k n) = false
+
+abbrev IsStep : Due → Type 0
+IsStep d = is_done d ≡ false
+
+first_step : (w : Work) (l : LocalState) → is_open w ≡ true → IsStep (at_first w l)
+first_step (Reading o) l h = refl
+first_step (Writing o) l h = refl
+first_step w l h = absurd (cc)
+
+resolved_step : (w : Work) → is_open w ≡ true → IsStep (when_resolved w)
+resolved_step (Reading o) h = refl
+resolved_step (Writing o) h = refl
+resolved_step w h = absurd (cc)
+
+resolving_step : (w : Work) (m : Manager) (l : LocalState) (c : Effort) → is_open w ≡ true →
+    IsStep (in_resolving m l c (when_resolved w))
+resolving_step w m l c h =
+    resolving_by IsStep m l c (when_resolved w) (record {
+      owner = refl;
+      status = refl;
+      rank = refl;
+      old = refl;
+      high = refl;
+      new = refl;
+      kill = refl;
+      pause = refl;
+    }) (λ _. giving_way_by IsStep l c refl refl refl) (resolved_step w h)
+
+-- where nothing more is due in an open, its newest event is a LookSelf, a Rank or a Quit
+next_step : (k : Kind) (e : Event) (w : Work) (m : Manager) (l : LocalState) (c : Effort) → is_open w ≡ true →
+    in_open k ≡ true → (k ≡ LookSelf) ⊎ (k ≡ Rank) ⊎ (k ≡ Quit) ⊎ IsStep (next k e w m l c)
+next_step LookSelf e w m l c h i = inl refl
+next_step Rank e w m l c h i = inr (inl refl)
+next_step Quit e w m l c h i = inr (inr (inl refl))
+next_step LookNumber e w m l c h i = inr (inr (inr (pass_by IsStep l refl refl)))
+next_step Check e w m l c h i = inr (inr (inr (checks_by IsStep l.phase l refl refl refl)))
+next_step PutOwner e w m l c h i = inr (inr (inr refl))
+next_step PutOld e w m l c h i = inr (inr (inr refl))
+next_step Install e w m l c h i =
+    inr (inr (inr (cond_both (e.found == e.expected) _ _ IsStep (λ _. refl) (λ _. first_step w l h))))
+next_step Enrol e w m l c h i = absurd (cc)
+next_step Stamp e w m l c h i = absurd (cc)
+next_step Begin e w m l c h i = absurd (cc)
+next_step Release e w m l c h i = absurd (cc)
+next_step PutHigh e w m l c h i = absurd (cc)
+next_step PutNew e w m l c h i = absurd (cc)
+next_step ToValidating e w m l c h i = absurd (cc)
+next_step Draw e w m l c h i = absurd (cc)
+next_step Commit e w m l c h i = absurd (cc)
+next_step k e w m l c h i = inr (inr (inr (resolving_step w m l c h)))
+
+-- a Rank is due after a LookSelf only, and where ranks rise
+abbrev is_rank : Due → Bool
+is_rank (Step Rank n) = true
+is_rank d = false
+
+abbrev NoRank : Due → Type 0
+NoRank d = is_rank d ≡ false
+
+first_no_rank : (w : Work) (l : LocalState) → is_open w ≡ true → NoRank (at_first w l)
+first_no_rank (Reading o) l h = refl
+first_no_rank (Writing o) l h = refl
+first_no_rank w l h = absurd (cc)
+
+resolved_no_rank : (w : Work) → is_open w ≡ true → NoRank (when_resolved w)
+resolved_no_rank (Reading o) h = refl
+resolved_no_rank (Writing o) h = refl
+resolved_no_rank w h = absurd (cc)
+
+resolving_no_rank : (w : Work) (m : Manager) (l : LocalState) (c : Effort) → is_open w ≡ true →
+    NoRank (in_resolving m l c (when_resolved w))
+resolving_no_rank w m l c h =
+    resolving_by NoRank m l c (when_resolved w) (record {
+      owner = refl;
+      status = refl;
+      rank = refl;
+      old = refl;
+      high = refl;
+      new = refl;
+      kill = refl;
+      pause = refl;
+    }) (λ _. giving_way_by NoRank l c refl refl refl) (resolved_no_rank w h)
+
+next_rank : (k : Kind) (e : Event) (w : Work) (m : Manager) (l : LocalState) (c : Effort) → is_open w ≡ true →
+    in_open k ≡ true → (k ≡ LookSelf) ⊎ NoRank (next k e w m l c)
+next_rank LookSelf e w m l c h i = inl refl
+next_rank Rank e w m l c h i = inr refl
+next_rank Quit e w m l c h i = inr refl
+next_rank LookNumber e w m l c h i = inr (pass_by NoRank l refl refl)
+next_rank Check e w m l c h i = inr (checks_by NoRank l.phase l refl refl refl)
+next_rank PutOwner e w m l c h i = inr refl
+next_rank PutOld e w m l c h i = inr refl
+next_rank Install e w m l c h i =
+    inr (cond_both (e.found == e.expected) _ _ NoRank (λ _. refl) (λ _. first_no_rank w l h))
+next_rank Enrol e w m l c h i = absurd (cc)
+next_rank Stamp e w m l c h i = absurd (cc)
+next_rank Begin e w m l c h i = absurd (cc)
+next_rank Release e w m l c h i = absurd (cc)
+next_rank PutHigh e w m l c h i = absurd (cc)
+next_rank PutNew e w m l c h i = absurd (cc)
+next_rank ToValidating e w m l c h i = absurd (cc)
+next_rank Draw e w m l c h i = absurd (cc)
+next_rank Commit e w m l c h i = absurd (cc)
+next_rank k e w m l c h i = inr (resolving_no_rank w m l c h)
+
+-- after its pass an open raises the rank where ranks rise
+passed_is : (w : Work) (m : Manager) (l : LocalState) → is_open w ≡ true →
+    when_passed w m l ≡ (if rises m then Step Rank (min (l.rank + 1) MAX_RANK) else Done)
+passed_is (Reading o) m l h = refl
+passed_is (Writing o) m l h = refl
+passed_is w m l h = absurd (cc)
+
+-- a live attempt goes on as the table says until nothing more is due
+ends_table : (w : Work) (s : Shape) (newest : Option Event) (l : LocalState) (c : Effort) →
+    due (Doing w) s newest l c ≡ Done → is_outside l.phase ≡ false → next_or_first newest w s.manager l c ≡ Done
+ends_table w s newest l c q live =
+    cond_both (is_outside l.phase) Done (if l.stale || c.missed == MAX_MISSED then just Quit else table)
+    (λ d. d ≡ Done → table ≡ Done)
+    (λ x _. absurd (cc))
+    (λ _. cond_both (l.stale || c.missed == MAX_MISSED) (just Quit) table (λ d. d ≡ Done → table ≡ Done)
+    (λ _ p. absurd (cc)) (λ _ p. p)) q
+  where
+    table : Due
+    table = next_or_first newest w s.manager l c
+
+Ends : Shape → LocalState → List Event → Type 0
+Ends s l es = (rises s.manager ≡ true → EndsInRank s l es) × (rises s.manager ≡ false → EndsInPass s l es)
+
+-- the newest event is a LookSelf, and nothing is due after it
+ends_by_pass : (w : Work) (s : Shape) (l : LocalState) (g : Lcg) (e : Event) (es : List Event) → is_open w ≡ true →
+    Obeys (Doing w) s l g (e ∷ es) → e.kind ≡ LookSelf →
+    next e.kind e w s.manager (state_after s l (e ∷ es)) (effort_of s l g (e ∷ es)) ≡ Done → Ends s l (e ∷ es)
+unfolding Ends
+ends_by_pass w s l g e es h obeys q done =
+    (λ r. absurd (let row = passed in let x = subst (λ b. (if b then Step Rank n else Done) ≡ Done) r row in cc),
+    (λ r. every_pass w s l g e es obeys q))
+  where
+    new : LocalState
+    new = state_after s l (e ∷ es)
+
+    n : ℕ
+    n = min (new.rank + 1) MAX_RANK
+
+    passed : (if rises s.manager then Step Rank n else Done) ≡ Done
+    passed =
+        sym (passed_is w s.manager new h)
+        ∙ sym (ap (λ k. next k e w s.manager new (effort_of s l g (e ∷ es))) q) ∙ done
+
+abbrev operand : Due → ℕ
+operand (Step k n) = n
+operand Done = 0
+
+-- the newest event is a Rank: before it came a LookSelf
+ends_by_rank : (w : Work) (s : Shape) (l : LocalState) (g : Lcg) (e : Event) (es : List Event) → is_open w ≡ true →
+    l.phase ≡ Running → Obeys (Doing w) s l g (e ∷ es) → e.kind ≡ Rank → Ends s l (e ∷ es)
+unfolding Ends
+ends_by_rank w s l g e [] h p obeys q =
+    let due_then = due_kind (due_after (Doing w) s l g []) e Rank obeys.1 q in
+    let on = goes_on w s None l (effort_of s l g []) (Step Rank due_then.0) due_then.1 refl in
+    let none = first_no_rank w l h in let x = ap is_rank on.table in absurd (cc)
+ends_by_rank w s l g e (f ∷ fs) h p obeys q =
+    go (next_rank f.kind f w s.manager old (effort_of s l g (f ∷ fs)) h
+    (is_kind (due_after (Doing w) s l g fs) f obeys.0.1 (opened w s l g fs h p obeys.0.0).due))
+  where
+    old : LocalState
+    old = state_after s l (f ∷ fs)
+
+    due_then : (n : ℕ) × (due_after (Doing w) s l g (f ∷ fs) ≡ Step Rank n)
+    due_then = due_kind (due_after (Doing w) s l g (f ∷ fs)) e Rank obeys.1 q
+
+    on : GoesOn w s (Some f) old (effort_of s l g (f ∷ fs)) (Step Rank due_then.0)
+    on = goes_on w s (Some f) old (effort_of s l g (f ∷ fs)) (Step Rank due_then.0) due_then.1 refl
+
+    put : e.put ≡ due_then.0
+    put = (subst (λ d. IsDue d e) due_then.1 obeys.1).1
+
+    n : ℕ
+    n = min (old.rank + 1) MAX_RANK
+
+    ends : (b : Bool) → rises s.manager ≡ b → f.kind ≡ LookSelf →
+        (if b then Step Rank n else Done) ≡ Step Rank due_then.0 → Ends s l (e ∷ f ∷ fs)
+    ends true r look row = (
+      (λ _. record {
+        rank = e;
+        before = f ∷ fs;
+        are = refl;
+        is_rank = q;
+        raised = put ∙ sym (ap operand row);
+        pass = every_pass w s l g f fs obeys.0 look;
+      }),
+      (λ x. absurd (cc)),
+    )
+    ends false r look row = absurd (cc)
+
+    go : (f.kind ≡ LookSelf) ⊎ NoRank (next f.kind f w s.manager old (effort_of s l g (f ∷ fs))) →
+        Ends s l (e ∷ f ∷ fs)
+    go (inl look) =
+        ends (rises s.manager) refl look
+        (sym (passed_is w s.manager old h)
+        ∙ sym (ap (λ k. next k f w s.manager old (effort_of s l g (f ∷ fs))) look) ∙ on.table)
+    go (inr none) = let x = ap is_rank on.table in absurd (cc)
+
+pub every_open : EveryOpenEndsInPass
+unfolding Ends
+every_open w s l g [] h p call live =
+    let row = ends_table w s None l (effort_of s l g []) call.done live in
+    let none = first_step w l h in let x = ap is_done row in absurd (cc)
+every_open w s l g (e ∷ es) h p call live =
+    go (next_step e.kind e w s.manager new (effort_of s l g (e ∷ es)) h
+    (is_kind (due_after (Doing w) s l g es) e call.obeys.1 (opened w s l g es h p call.obeys.0).due))
+  where
+    new : LocalState
+    new = state_after s l (e ∷ es)
+
+    row : next e.kind e w s.manager new (effort_of s l g (e ∷ es)) ≡ Done
+    row = ends_table w s (Some e) new (effort_of s l g (e ∷ es)) call.done live
+
+    go : (e.kind ≡ LookSelf) ⊎ (e.kind ≡ Rank) ⊎ (e.kind ≡ Quit)
+        ⊎ IsStep (next e.kind e w s.manager new (effort_of s l g (e ∷ es))) →
+        (rises s.manager ≡ true → EndsInRank s l (e ∷ es)) × (rises s.manager ≡ false → EndsInPass s l (e ∷ es))
+    go (inl q) = ends_by_pass w s l g e es h call.obeys q row
+    go (inr (inl q)) = ends_by_rank w s l g e es h p call.obeys q
+    go (inr (inr (inl q))) =
+        let left : is_outside new.phase ≡ true =
+        ap (λ k. is_outside (after k s (state_after s l es) e).phase) q in absurd (cc)
+    go (inr (inr (inr none))) = let x = ap is_done row in absurd (cc)

@@ -1,0 +1,68 @@
+//! Laws of the order of steps, and runs that follow it. Each is a statement on the definitions; the functions do
+//! nothing.
+
+ghost use Rattle.std.specs.Prelude.{◌≡◌, true, [], ◌∷◌};
+ghost use Rattle.dstm_core.specs.declared.event.Kind.TheVariants.{LookNumber, Check, Quit};
+ghost use Rattle.dstm_core.specs.declared.shape.Manager.TheVariants.{Polite, Karma, Polka};
+ghost use Rattle.dstm_core.specs.declared.state.Phase.TheVariants.{Outside};
+ghost use Rattle.dstm_core.specs.Runs.{local};
+ghost use Rattle.dstm_order.specs.Calls.{stale_object};
+ghost use Rattle.dstm_order.specs.Counts.{counts_of};
+ghost use Rattle.dstm_order.specs.Passes.{EveryPassIsComplete, EveryCommitIsValidated, EveryOpenEndsInPass, EveryMissCounts};
+ghost use Rattle.dstm_order.specs.Drive.{small, opens_ranked, opens_unranked, meets_guest, row, rows_of, three, reads_three, two, overtaken, first_kinds, kinds_of};
+
+/// A call that has come to a LookSelf has just made a complete pass: LookNumber, then, unless the number is the one with
+/// which the last complete pass began, one Check of each recorded read, in order, each of which found the recorded word.
+pub fn passes_are_complete()
+    ensures { EveryPassIsComplete }
+{}
+
+/// A commit that has come to its Commit has just drawn a number, and made the same checks after it.
+pub fn commits_are_validated()
+    ensures { EveryCommitIsValidated }
+{}
+
+/// An open that has not left its attempt ends with a complete pass, and where ranks rise with a Rank after it, which
+/// raises the rank by one.
+pub fn opens_end_in_a_pass()
+    ensures { EveryOpenEndsInPass }
+{}
+
+/// A call counts each of its exchanges of an object or of an enemy's status that failed.
+pub fn misses_are_counted()
+    ensures { EveryMissCounts }
+{}
+
+/// A caller opens an object for writing and commits, beside a guest that was to do the same and stopped: after
+/// each of the guest's events, the last one first. Before its Install nobody meets it; from then on its attempt
+/// is aborted, after the waits that the manager wants; once it has committed its value is found. The random words
+/// are all 0.
+pub fn meeting_a_guest_that_stopped()
+    ensures karma { rows_of Karma opens_ranked 15 ≡
+        row 17 0 0 1 ∷ row 26 8 1 1 ∷ row 26 8 1 0 ∷ row 26 8 1 0 ∷ row 26 8 1 0 ∷ row 26 8 1 0
+        ∷ row 22 4 1 0 ∷ row 22 4 1 0 ∷ row 22 4 1 0
+        ∷ row 13 0 0 0 ∷ row 13 0 0 0 ∷ row 13 0 0 0 ∷ row 13 0 0 0 ∷ row 13 0 0 0 ∷ row 13 0 0 0 ∷ [] }
+    ensures polite { rows_of Polite opens_unranked 13 ≡
+        row 16 0 0 1 ∷ row 24 8 1 1 ∷ row 24 8 1 0 ∷ row 24 8 1 0 ∷ row 24 8 1 0
+        ∷ row 24 8 1 0 ∷ row 24 8 1 0 ∷ row 24 8 1 0
+        ∷ row 12 0 0 0 ∷ row 12 0 0 0 ∷ row 12 0 0 0 ∷ row 12 0 0 0 ∷ row 12 0 0 0 ∷ [] }
+    ensures polka { rows_of Polka opens_ranked 9 ≡
+        row 19 1 1 0 ∷ row 19 1 1 0 ∷ row 19 1 1 0
+        ∷ row 13 0 0 0 ∷ row 13 0 0 0 ∷ row 13 0 0 0 ∷ row 13 0 0 0 ∷ row 13 0 0 0 ∷ row 13 0 0 0 ∷ [] }
+    ensures commits { (local (small Karma) (meets_guest Karma opens_ranked 7) 1).committed ≡ true }
+{}
+
+/// A caller that reads three objects and commits, alone.
+pub fn reading_three_objects()
+    ensures counts { counts_of three reads_three 0 ≡ record { steps = 14; turns = 0; kills = 0 } }
+    ensures commits { (local three reads_three 0).committed ≡ true }
+{}
+
+/// A caller that opens an object after another has written one of its reads leaves its attempt.
+pub fn being_overtaken()
+    ensures kinds { first_kinds 3 (kinds_of overtaken) ≡ Quit ∷ Check ∷ LookNumber ∷ [] }
+    ensures stale { (local two overtaken 0).stale ≡ true }
+    ensures object { stale_object (local two overtaken 0) ≡ 0 }
+    ensures outside { (local two overtaken 0).phase ≡ Outside }
+    ensures commits { (local two overtaken 1).committed ≡ true }
+{}

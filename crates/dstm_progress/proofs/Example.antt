@@ -1,0 +1,344 @@
+-- The examples are core runs.
+use Rattle.std.proofs.Common.{◌≡◌, ◌≢◌, ◌<◌, ℕ, suc, zero, List, true, inl, inr, refl, arith}
+use Rattle.dstm_core.specs.Rules.{AllowedAs}
+use Rattle.dstm_core.specs.Runs.{Core, Fits, local}
+use Rattle.dstm_core.specs.Traces.{at}
+use Rattle.dstm_core.specs.Events.{Event}
+use Rattle.dstm_core.specs.declared.event.Kind.TheVariants.{Enrol}
+use Rattle.dstm_core.specs.declared.shape.Manager.TheVariants.{Greedy, Karma}
+use Rattle.dstm_core.specs.declared.shape.Shape.{Shape}
+use Rattle.dstm_order.specs.Drive.{nine, small, zeros}
+use Rattle.dstm_order.specs.Calls.{IsCall}
+use Rattle.dstm_order.specs.Tasks.Task.{Doing}
+use Rattle.dstm_order.specs.Tasks.Work.{Committing, Writing}
+use Rattle.dstm_progress.specs.Alone.{IsAlone}
+use Rattle.dstm_progress.specs.Example.{SomeAttempts, before, begun, begun_oldest, committed, newest, opened, or_event, the_calls}
+use Rattle.dstm_progress.specs.Oldest.{IsOldest}
+use Rattle.dstm_opacity.proofs.Fitting.{enrol, fit}
+
+core_begun : Core (small Karma) begun
+core_begun = (
+  (
+    (
+      (
+        (
+          (
+            (
+              (
+                (
+                  (
+                    tt,
+                    enrol refl (omega arith) refl (refl, (refl, refl), refl, tt),
+                  ),
+                  fit refl (omega arith) (λ q. cc) (
+                    refl,
+                    (refl, refl),
+                    (
+                      refl,
+                      omega arith,
+                      inl
+                          (inl refl, inl refl),
+                    ),
+                    omega arith,
+                  ),
+                ),
+                fit refl (omega arith) (λ q. cc) (
+                  refl,
+                  (refl, refl),
+                  (refl, refl, omega arith, inr refl),
+                  omega arith,
+                ),
+              ),
+              fit refl (omega arith) (λ q. cc) (refl, (refl, refl), (refl, refl, refl), omega arith),
+            ),
+            fit refl (omega arith) (λ q. cc) (refl, (refl, refl), (refl, refl, omega arith), omega arith),
+          ),
+          fit refl (omega arith) (λ q. cc) (refl, (refl, refl), (refl, refl, refl, refl, refl), omega arith),
+        ),
+        fit refl (omega arith) (λ q. cc) (refl, (refl, refl), (refl, refl, refl, refl, refl, refl), omega arith),
+      ),
+      enrol refl (omega arith) refl (refl, (refl, refl), refl, tt),
+    ),
+    fit refl (omega arith) (λ q. cc) (
+      refl,
+      (refl, refl),
+      (
+        refl,
+        omega arith,
+        inl
+            (inl refl, inl refl),
+      ),
+      omega arith,
+    ),
+  ),
+  fit refl (omega arith) (λ q. cc) (refl, (refl, refl), (refl, refl, omega arith, inr refl), omega arith),
+)
+
+core_opened : Core (small Karma) opened
+core_opened = (
+  (
+    (
+      (
+        (
+          (
+            (
+              (
+                (
+                  (
+                    (
+                      (
+                        (
+                          (
+                            (
+                              (
+                                core_begun,
+                                fit refl (omega arith) (λ q. cc) (
+                                  refl,
+                                  (refl, refl),
+                                  (refl, refl, refl),
+                                  omega arith,
+                                ),
+                              ),
+                              fit refl (omega arith) (λ q. cc) (
+                                refl,
+                                (refl, refl),
+                                (refl, refl, omega arith),
+                                omega arith,
+                              ),
+                            ),
+                            fit refl (omega arith) (λ q. cc) (
+                              refl,
+                              (refl, refl),
+                              (inl refl, refl, refl, omega arith),
+                              omega arith,
+                            ),
+                          ),
+                          fit refl (omega arith) (λ q. cc) (
+                            refl,
+                            (refl, refl),
+                            (
+                              refl,
+                              refl,
+                              refl,
+                              (λ q. cc),
+                            ),
+                            omega arith,
+                          ),
+                        ),
+                        fit refl (omega arith) (λ q. cc) (
+                          refl,
+                          (refl, refl),
+                          (inl refl, refl, refl, omega arith),
+                          omega arith,
+                        ),
+                      ),
+                      fit refl (omega arith) (λ q. cc) (
+                        refl,
+                        (refl, refl),
+                        (inl refl, refl, refl, omega arith),
+                        omega arith,
+                      ),
+                    ),
+                    fit refl (omega arith) (λ q. cc) (
+                      refl,
+                      (refl, refl),
+                      (inl refl, refl, refl, omega arith),
+                      omega arith,
+                    ),
+                  ),
+                  fit refl (omega arith) (λ q. cc) (
+                    refl,
+                    (refl, refl),
+                    (inl refl, refl, refl, omega arith),
+                    omega arith,
+                  ),
+                ),
+                fit refl (omega arith) (λ q. cc) (refl, (refl, refl), (refl, refl, refl, refl, tt), omega arith),
+              ),
+              fit refl (omega arith) (λ q. cc) (refl, (refl, refl), (refl, refl, refl), omega arith),
+            ),
+            fit refl (omega arith) (λ q. cc) (refl, (refl, refl), (refl, refl, omega arith), omega arith),
+          ),
+          fit refl (omega arith) (λ q. cc) (refl, (refl, refl), (refl, refl, refl, refl, refl), omega arith),
+        ),
+        fit refl (omega arith) (λ q. cc) (refl, (refl, refl), (refl, refl, refl, refl, refl, refl), omega arith),
+      ),
+      fit refl (omega arith) (λ q. cc) (refl, (refl, refl), (refl, refl), tt),
+    ),
+    fit refl (omega arith) (λ q. cc) (refl, (refl, refl), (refl, refl, refl, inl refl), omega arith),
+  ),
+  fit refl (omega arith) (λ q. cc) (refl, (refl, refl), (refl, inl refl, refl, refl), omega arith),
+)
+
+core_committed : Core (small Karma) committed
+core_committed = (
+  (
+    (
+      (
+        (
+          core_opened,
+          fit refl (omega arith) (λ q. cc) (refl, (refl, refl), (inl refl, refl, omega arith, refl), omega arith),
+        ),
+        fit refl (omega arith) (λ q. cc) (refl, (refl, refl), (refl, refl, omega arith, refl), omega arith),
+      ),
+      fit refl (omega arith) (λ q. cc) (refl, (refl, refl), (inr (refl, refl), refl), omega arith),
+    ),
+    fit refl (omega arith) (λ q. cc) (refl, (refl, refl), (refl, refl), tt),
+  ),
+  fit refl (omega arith) (λ q. cc) (refl, (refl, refl), (refl, refl, inl refl), omega arith),
+)
+
+opens : IsCall (Doing (Writing 0)) (small Karma) (local (small Karma) begun 1) zeros (newest 16 opened)
+opens = record {
+  obeys = (
+    (
+      (
+        (
+          (
+            (
+              (
+                (
+                  (
+                    (
+                      ((((((tt, (refl, refl)), (refl, tt)), (refl, tt)), (refl, tt)), (refl, tt)), (refl, tt)),
+                      (refl, tt),
+                    ),
+                    (refl, tt),
+                  ),
+                  (refl, tt),
+                ),
+                (refl, tt),
+              ),
+              (refl, tt),
+            ),
+            (refl, tt),
+          ),
+          (refl, tt),
+        ),
+        (refl, tt),
+      ),
+      (refl, tt),
+    ),
+    (refl, refl),
+  );
+  done = refl;
+}
+
+commits : IsCall (Doing (Committing nine)) (small Karma) (local (small Karma) opened 1) zeros
+    (newest 5 committed)
+commits = record {
+  obeys = (((((tt, (refl, refl)), (refl, refl)), (refl, tt)), (refl, tt)), (refl, tt));
+  done = refl;
+}
+
+alone : IsAlone (small Karma) zeros the_calls (or_event begun) before
+alone = record {
+  core = core_committed;
+  begins = refl;
+  alone = (
+    refl,
+    (
+      refl,
+      (
+        refl,
+        (
+          refl,
+          (
+            refl,
+            (
+              refl,
+              (
+                refl,
+                (
+                  refl,
+                  (
+                    refl,
+                    (
+                      refl,
+                      (
+                        refl,
+                        (
+                          refl,
+                          (
+                            refl,
+                            (
+                              refl,
+                              (refl, (refl, (refl, (refl, (refl, (refl, (refl, tt))))))),
+                            ),
+                          ),
+                        ),
+                      ),
+                    ),
+                  ),
+                ),
+              ),
+            ),
+          ),
+        ),
+      ),
+    ),
+  );
+  made = ((tt, opens), commits);
+}
+
+core_oldest : Core (small Greedy) begun_oldest
+core_oldest = (
+  (
+    (
+      (
+        (
+          (
+            (
+              (
+                tt,
+                enrol refl (omega arith) refl (refl, (refl, refl), refl, tt),
+              ),
+              enrol refl (omega arith) refl (refl, (refl, refl), refl, tt),
+            ),
+            fit refl (omega arith) (λ q. cc) (refl, (refl, refl), (refl, refl, refl, refl), tt),
+          ),
+          fit refl (omega arith) (λ q. cc) (refl, (refl, refl), (refl, refl, refl, refl), tt),
+        ),
+        fit refl (omega arith) (λ q. cc) (
+          refl,
+          (refl, refl),
+          (
+            refl,
+            omega arith,
+            inr
+                (refl, refl, refl),
+          ),
+          omega arith,
+        ),
+      ),
+      fit refl (omega arith) (λ q. cc) (refl, (refl, refl), (refl, refl, omega arith, inr refl), omega arith),
+    ),
+    fit refl (omega arith) (λ q. cc) (
+      refl,
+      (refl, refl),
+      (
+        refl,
+        omega arith,
+        inr
+            (refl, refl, refl),
+      ),
+      omega arith,
+    ),
+  ),
+  fit refl (omega arith) (λ q. cc) (refl, (refl, refl), (refl, refl, omega arith, inr refl), omega arith),
+)
+
+oldest : IsOldest (small Greedy) begun_oldest 1
+oldest = record { live = refl; least = least }
+  where
+    least : (d : ℕ) → d < 2 → d ≢ 1 → (local (small Greedy) begun_oldest d).stands ≡ true →
+        (local (small Greedy) begun_oldest 1).rank < (local (small Greedy) begun_oldest d).rank
+    least zero b n st = omega arith
+    least (suc zero) b n st = absurd (n refl)
+    least (suc (suc d)) b n st = absurd (omega arith)
+
+pub some_attempts : SomeAttempts
+some_attempts = record {
+  alone = record { alone = alone; unmet = inl (λ q. cc); steps = refl; commits = refl };
+  oldest = record { core = core_oldest; oldest = oldest; live = refl };
+}

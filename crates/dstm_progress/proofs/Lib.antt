@@ -1,0 +1,16 @@
+-- Lemmas on attempts in core runs. In them s is a shape, es what stands before an event e (the newest first), c a
+-- caller, l its state, k a kind, w what a call is to do, g the caller's generator, f the effort of a call so
+-- far and d what is due.
+pub mod Ranks
+pub mod Oldest
+pub mod Alone
+pub mod Calls
+pub mod Room
+pub mod Stages
+pub mod Bound
+pub mod Prices
+pub mod Own
+pub mod Writers
+pub mod Answers
+pub mod Left
+pub mod Example
