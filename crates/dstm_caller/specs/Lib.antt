@@ -1,0 +1,4 @@
+pub mod Under
+pub mod Reads
+pub mod Writes
+pub mod Conflicts
