@@ -35,7 +35,7 @@ pub fn transfer<M: Mem>(
         (M.held mem.new p ≡ M.held mem.old p) × (M.is_opened mem.new p ≡ M.is_opened mem.old p)) }
     ensures unchanged { IfOk result (λ reply. reply ≡ Reply.Poor →
         (p : ℕ) → M.written mem.new p ≡ M.written mem.old p) }
-    ensures moved { IfOk result (λ reply. reply ≡ Reply.Moved → OpensToSet M.Mem mem.old mem.new) }
+    ensures moved { IfOk result (λ reply. reply ≢ Reply.Poor → OpensToSet M.Mem mem.old mem.new) }
     ensures itself { source ≡ target → OnOk result (OnlyReads M.Mem mem.old mem.new) }
     ensures leads { Leads M.Mem mem.old mem.new result }
 {

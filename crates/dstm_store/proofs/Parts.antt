@@ -219,3 +219,13 @@ with_both (Err e) P R Q f p q = tt
 pub on_ok : {X Y : Type 0} (r : Result X Y) (P : X → Type 0) (Q : Type 0) → ((x : X) → P x → Q) → IfOk r P → OnOk r Q
 on_ok (Ok x) P Q f p = f x p
 on_ok (Err e) P Q f p = tt
+
+pub whenever : {X Y : Type 0} (r : Result X Y) (P : X → Type 0) (Q R : Type 0) → (Q → R) → OnOk r Q →
+    IfOk r (λ x. P x → R)
+whenever (Ok x) P Q R f q = λ _. f q
+whenever (Err e) P Q R f q = tt
+
+pub only_if : {X Y : Type 0} (r : Result X Y) (P : X → Type 0) (Q R : Type 0) → ((x : X) → P x → Q) →
+    (Q → OnOk r R) → IfOk r (λ x. P x → R)
+only_if (Ok x) P Q R f q = λ p. q (f x p)
+only_if (Err e) P Q R f q = tt

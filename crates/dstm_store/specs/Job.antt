@@ -1,6 +1,7 @@
 -- What a job does on a map: all its operations in order.
-use Rattle.std.specs.Prelude.{◌≡◌, List, All}
+use Rattle.std.specs.Prelude.{◌≡◌, ◌<◌, ℕ, List, All, Contains}
 use Rattle.dstm_model.specs.declared.value.Val.{Val}
+use Rattle.dstm_model.specs.declared.op.Op.TheVariants.{Total}
 use Rattle.dstm_model.specs.declared.reply.Reply.{Reply}
 use Rattle.dstm_model.specs.Layout.{IsValid, FitsLayout}
 use Rattle.dstm_model.specs.Store.{Store, IsPlain}
@@ -25,3 +26,7 @@ abbrev pub DoesAll : JobTask → List Val → List Val → List Reply → Type 0
 DoesAll task before after replies =
     (store : Store) → StandsFor task.layout before store →
     (replies ≡ (apply_all task.ops store).replies) × StandsFor task.layout after (apply_all task.ops store).store
+
+-- an account of a job that asks for the total, which reads every account
+abbrev pub Audits : JobTask → ℕ → Type 0
+Audits task account = Contains task.ops Total × (account < task.layout.accounts)

@@ -1,3 +1,4 @@
 pub mod Whole
 pub mod Opening
 pub mod Job
+pub mod Looks

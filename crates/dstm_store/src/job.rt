@@ -1,11 +1,12 @@
-ghost use Rattle.std.specs.Prelude.{◌≡◌, List, [], All, IsTrue, false, Some, IfOk, OnOk, IfErr};
+ghost use Rattle.std.specs.Prelude.{◌≡◌, ℕ, List, [], All, IsSome, IfOk, OnOk};
 ghost use Rattle.dstm_model.specs.declared.value.Val.{Val};
 ghost use Rattle.dstm_model.specs.Layout.{IsValid, FitsLayout};
 ghost use Rattle.dstm_model.specs.Store.{IsPlain};
 ghost use Rattle.dstm_model.specs.Objects.{objects_of};
 ghost use Rattle.dstm_mem.specs.Memory.{with_set};
-ghost use Rattle.dstm_store.specs.Whole.{IsLawful};
-ghost use Rattle.dstm_store.specs.Job.{CanRun, DoesAll};
+ghost use Rattle.dstm_mem.specs.Operations.{IsReady, Leads};
+ghost use Rattle.dstm_store.specs.Whole.{StandsFor, IsLawful};
+ghost use Rattle.dstm_store.specs.Job.{CanRun, DoesAll, Audits};
 
 use crate::law::StoreLaw;
 use crate::run::run_op;
@@ -71,15 +72,21 @@ impl JobBody {
 }
 
 impl Body<StoreLaw> for JobBody {
-    ghost use Rattle.dstm_store.specs.Job.{DoesAll};
+    ghost use Rattle.dstm_store.specs.Job.{DoesAll, Audits};
 
     type Task = JobTask;
+
+    type Outcome = Replies;
 
     ghost law = { λ job. record { layout = job.task.layout } };
 
     ghost task = { λ job. job.task };
 
+    ghost outcome = { λ job. job.replies };
+
     ghost right = { λ job before after. DoesAll job.task before after job.replies };
+
+    ghost audits = { λ job. Audits job.task };
 
     fn run<M: Mem>(&mut self, mem: &mut M) -> Result<(), M::Err> {
         self.replies = run_all(mem, &self.task)?;
@@ -90,23 +97,16 @@ impl Body<StoreLaw> for JobBody {
 // Runs the operations of a task in order, and answers their replies.
 fn run_all<M: Mem>(mem: &mut M, task: &JobTask) -> Result<Replies, M::Err>
     requires task { CanRun task.now }
-    requires objects { M.objects mem.old ≡ objects_of task.now.layout }
-    requires live { IsTrue (M.is_live mem.old) }
-    requires lawful { (map : List Val) → M.Admits mem.old map →
-        IsLawful task.now.layout (with_set map (M.written mem.old)) }
+    requires ready { IsReady M.Mem (objects_of task.now.layout) (StandsFor task.now.layout) mem.old }
     requires admits { (map : List Val) × M.Admits mem.old map }
 
     ensures does { IfOk result (λ replies. (map : List Val) → M.Admits mem.new map →
         DoesAll task.now (with_set map (M.written mem.old)) (with_set map (M.written mem.new)) replies) }
     ensures lawful { OnOk result ((map : List Val) → M.Admits mem.new map →
         IsLawful task.now.layout (with_set map (M.written mem.new))) }
+    ensures audits { OnOk result ((o : ℕ) → Audits task.now o → IsSome (M.held mem.new o)) }
 
-    ensures place { M.place mem.new ≡ M.place mem.old }
-    ensures objects { M.objects mem.new ≡ M.objects mem.old }
-    ensures narrows { (map : List Val) → M.Admits mem.new map → M.Admits mem.old map }
-    ensures admits { OnOk result ((map : List Val) × M.Admits mem.new map) }
-    ensures live { OnOk result (IsTrue (M.is_live mem.new)) }
-    ensures ended { IfErr result (λ e. (M.is_live mem.new ≡ false) × (M.error mem.new ≡ Some e)) }
+    ensures leads { Leads M.Mem mem.old mem.new result }
 {
     let mut replies = Replies::new();
     for op in task.ops.as_slice() {

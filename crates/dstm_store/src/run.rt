@@ -1,10 +1,12 @@
-ghost use Rattle.std.specs.Prelude.{◌≡◌, List, IsTrue, false, Some, IfOk, OnOk, IfErr};
+ghost use Rattle.std.specs.Prelude.{◌≡◌, ◌≢◌, ℕ, ◌<◌, List, IsSome, IfOk, OnOk};
 ghost use Rattle.dstm_model.specs.declared.value.Val.{Val};
 ghost use Rattle.dstm_model.specs.Layout.{IsValid, FitsLayout};
 ghost use Rattle.dstm_model.specs.Store.{IsPlain};
 ghost use Rattle.dstm_model.specs.Objects.{objects_of, Does};
 ghost use Rattle.dstm_mem.specs.Memory.{with_set};
+ghost use Rattle.dstm_mem.specs.Operations.{IsReady, Leads, OnlyReads, OpensToSet};
 ghost use Rattle.dstm_store.specs.Whole.{StandsFor, IsLawful};
+ghost use Rattle.dstm_store.specs.Looks.{IsLook};
 
 use dstm_mem::Mem;
 use dstm_model::{Layout, Op, Reply, Which};
@@ -14,23 +16,19 @@ pub fn run_op<M: Mem>(mem: &mut M, layout: &Layout, op: &Op) -> Result<Reply, M:
     requires valid { IsValid layout.now }
     requires fits { FitsLayout layout.now op.now }
     requires plain { IsPlain op.now }
-    requires objects { M.objects mem.old ≡ objects_of layout.now }
-    requires live { IsTrue (M.is_live mem.old) }
-    requires lawful { (map : List Val) → M.Admits mem.old map →
-        IsLawful layout.now (with_set map (M.written mem.old)) }
+    requires ready { IsReady M.Mem (objects_of layout.now) (StandsFor layout.now) mem.old }
 
     ensures does { IfOk result (λ reply. (map : List Val) → M.Admits mem.new map →
         Does (StandsFor layout.now) op.now
         (with_set map (M.written mem.old)) (with_set map (M.written mem.new)) reply) }
     ensures lawful { OnOk result ((map : List Val) → M.Admits mem.new map →
         IsLawful layout.now (with_set map (M.written mem.new))) }
+    ensures audits { op.now ≡ Op.Total → OnOk result ((a : ℕ) → a < layout.now.accounts →
+        IsSome (M.held mem.new a)) }
+    ensures looks { IfOk result (λ reply. IsLook op.now reply → OnlyReads M.Mem mem.old mem.new) }
+    ensures marks { IfOk result (λ reply. reply ≢ Reply.Poor → OpensToSet M.Mem mem.old mem.new) }
 
-    ensures place { M.place mem.new ≡ M.place mem.old }
-    ensures objects { M.objects mem.new ≡ M.objects mem.old }
-    ensures narrows { (map : List Val) → M.Admits mem.new map → M.Admits mem.old map }
-    ensures admits { OnOk result ((map : List Val) × M.Admits mem.new map) }
-    ensures live { OnOk result (IsTrue (M.is_live mem.new)) }
-    ensures ended { IfErr result (λ e. (M.is_live mem.new ≡ false) × (M.error mem.new ≡ Some e)) }
+    ensures leads { Leads M.Mem mem.old mem.new result }
 {
     match *op {
         Op::Transfer {

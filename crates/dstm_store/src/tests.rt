@@ -4,7 +4,8 @@ ghost use Rattle.dstm_model.specs.Layout.{IsValid, FitsLayout, FitsKey};
 ghost use Rattle.dstm_model.specs.Store.{IsPlain};
 ghost use Rattle.dstm_model.specs.Objects.{objects_of};
 ghost use Rattle.dstm_mem.specs.Memory.{with_set};
-ghost use Rattle.dstm_store.specs.Whole.{IsLawful};
+ghost use Rattle.dstm_mem.specs.Operations.{IsReady};
+ghost use Rattle.dstm_store.specs.Whole.{StandsFor, IsLawful};
 ghost use Rattle.dstm_store.specs.Job.{DoesAll};
 
 use super::*;
@@ -53,12 +54,8 @@ fn fits_key(layout: &Layout, which: Which, key: u32) -> bool
 // The answer to an operation, and Never to one that may not be run.
 fn answer(mem: &mut FlatMem, layout: &Layout, op: &Op) -> Reply
     requires valid { IsValid layout.now }
-    requires objects { ⟦<FlatMem as Mem>⟧.objects mem.old ≡ objects_of layout.now }
-    requires lawful { (map : List Val) → ⟦<FlatMem as Mem>⟧.Admits mem.old map →
-        IsLawful layout.now (with_set map (⟦<FlatMem as Mem>⟧.written mem.old)) }
-    ensures objects { ⟦<FlatMem as Mem>⟧.objects mem.new ≡ objects_of layout.now }
-    ensures lawful { (map : List Val) → ⟦<FlatMem as Mem>⟧.Admits mem.new map →
-        IsLawful layout.now (with_set map (⟦<FlatMem as Mem>⟧.written mem.new)) }
+    requires ready { IsReady ⟦<FlatMem as Mem>⟧ (objects_of layout.now) (StandsFor layout.now) mem.old }
+    ensures { IsReady ⟦<FlatMem as Mem>⟧ (objects_of layout.now) (StandsFor layout.now) mem.new }
 {
     if !fits(layout, op) {
         return Reply::Never;
@@ -435,11 +432,23 @@ fn jobs_that_put_and_get(rt: HostRuntime) -> Result<(), Fail> {
 
 // ---- how many objects an operation opens
 
+// How many calls open an object, for reading and for writing.
+#[derive(Clone, Copy, Debug, PartialEq, Eq)]
+struct Opens {
+    reads: u32,
+    writes: u32,
+}
+
+const NO_OPENS: Opens = Opens {
+    reads: 0,
+    writes: 0,
+};
+
 // A memory that counts the calls that open an object.
 #[derive(Drop)]
 struct Counting {
     mem: FlatMem,
-    opens: u32,
+    opens: Opens,
 }
 
 impl Mem for Counting {
@@ -454,6 +463,8 @@ impl Mem for Counting {
     ghost Place = { List Val };
 
     ghost place = { λ m. ⟦<FlatMem as Mem>⟧.place m.mem };
+
+    ghost all_write = { ⟦<FlatMem as Mem>⟧.all_write };
 
     ghost objects = { λ m. ⟦<FlatMem as Mem>⟧.objects m.mem };
 
@@ -470,12 +481,12 @@ impl Mem for Counting {
     ghost Admits = { λ m. ⟦<FlatMem as Mem>⟧.Admits m.mem };
 
     fn open_read(&mut self, o: u32) -> Result<Val, Never> {
-        self.opens = self.opens.saturating_add(1);
+        self.opens.reads = self.opens.reads.saturating_add(1);
         self.mem.open_read(o)
     }
 
     fn open_write(&mut self, o: u32) -> Result<Val, Never> {
-        self.opens = self.opens.saturating_add(1);
+        self.opens.writes = self.opens.writes.saturating_add(1);
         self.mem.open_write(o)
     }
 
@@ -489,28 +500,173 @@ impl Mem for Counting {
         (sym e) (held_in-agrees m.mem.values.items m.mem.notes.items) };
 }
 
-// The most objects that one of these operations opens, run one after the other.
-fn most_opens(mem: &mut Counting, layout: &Layout, ops: &[Op]) -> u32
+// The answer to an operation, and what it opens; None for one that may not be run.
+fn count(mem: &mut Counting, layout: &Layout, op: &Op) -> Option<(Reply, Opens)>
     requires valid { IsValid layout.now }
-    requires objects { ⟦<Counting as Mem>⟧.objects mem.old ≡ objects_of layout.now }
-    requires lawful { (map : List Val) → ⟦<Counting as Mem>⟧.Admits mem.old map →
-        IsLawful layout.now (with_set map (⟦<Counting as Mem>⟧.written mem.old)) }
+    requires ready { IsReady ⟦<Counting as Mem>⟧ (objects_of layout.now) (StandsFor layout.now) mem.old }
+    ensures { IsReady ⟦<Counting as Mem>⟧ (objects_of layout.now) (StandsFor layout.now) mem.new }
 {
-    let mut most = 0;
-    for op in ops {
-        if !fits(layout, op) {
-            return u32::MAX;
-        }
-        mem.opens = 0;
-        match run_op(mem, layout, op) {
-            Ok(_) => most = most.max(mem.opens),
-            Err(never) => match never {},
-        }
+    if !fits(layout, op) {
+        return None;
     }
-    most
+    mem.opens = NO_OPENS;
+    match run_op(mem, layout, op) {
+        Ok(reply) => Some((reply, mem.opens)),
+        Err(never) => match never {},
+    }
 }
 
-// Every key of a tree of 1,023 nodes is put in, and then all are taken out. The tree's height is at most 20.
+// An operation, its answer, and how many objects it opens for reading and for writing.
+type Row = (Op, Reply, u32, u32);
+
+// The first row that says something else of its operation, of these run one after the other.
+fn first_other(mem: &mut Counting, layout: &Layout, rows: &[Row]) -> Option<usize>
+    requires valid { IsValid layout.now }
+    requires ready { IsReady ⟦<Counting as Mem>⟧ (objects_of layout.now) (StandsFor layout.now) mem.old }
+{
+    for (i, row) in rows.iter().enumerate() {
+        let (op, reply, reads, writes) = *row;
+        if count(mem, layout, &op) != Some((reply, Opens { reads, writes })) {
+            return Some(i);
+        }
+    }
+    None
+}
+
+fn pay(source: u32, target: u32, amount: u64) -> Op {
+    Op::Transfer {
+        source,
+        target,
+        amount,
+    }
+}
+
+#[test]
+fn what_the_bank_opens(rt: HostRuntime) -> Result<(), Fail> {
+    let layout = Layout {
+        accounts: 5,
+        opening: 50,
+        list: 0,
+        tree: 0,
+    };
+    let mut mem = Counting {
+        mem: opened(rt.alloc(), &layout)?,
+        opens: NO_OPENS,
+    };
+    let rows = [
+        (pay(0, 1, 20), Reply::Moved, 0, 2),
+        (pay(0, 1, 31), Reply::Poor, 0, 1),
+        (pay(2, 2, 50), Reply::Moved, 1, 0),
+        (pay(2, 2, 51), Reply::Poor, 1, 0),
+        (Op::Balance { account: 1 }, Reply::Number(70), 1, 0),
+        (Op::Total, Reply::Number(250), 5, 0),
+    ];
+    assert_eq!(rt; first_other(&mut mem, &layout, &rows), None);
+    Ok(())
+}
+
+fn list_remove(key: u32) -> Op {
+    Op::Remove {
+        which: Which::List,
+        key,
+    }
+}
+
+fn list_member(key: u32) -> Op {
+    Op::Member {
+        which: Which::List,
+        key,
+    }
+}
+
+// A walk reads the head and each node up to the first that does not have a lesser key. What is added or taken
+// out sets three objects, and what is added reads the head of the free chain first.
+#[test]
+fn what_the_list_opens(rt: HostRuntime) -> Result<(), Fail> {
+    let layout = Layout {
+        accounts: 0,
+        opening: 0,
+        list: 4,
+        tree: 0,
+    };
+    let mut mem = Counting {
+        mem: opened(rt.alloc(), &layout)?,
+        opens: NO_OPENS,
+    };
+    let rows = [
+        (list_member(20), Reply::No, 1, 0),
+        (list_insert(10), Reply::Yes, 2, 3),
+        (list_insert(20), Reply::Yes, 3, 3),
+        (list_insert(40), Reply::Yes, 4, 3),
+        (list_insert(30), Reply::Yes, 5, 3),
+        (list_insert(30), Reply::No, 4, 0),
+        (list_insert(25), Reply::Full, 5, 0),
+        (list_member(20), Reply::Yes, 3, 0),
+        (list_member(50), Reply::No, 5, 0),
+        (list_remove(5), Reply::No, 2, 0),
+        (list_remove(20), Reply::Yes, 3, 3),
+        (list_member(40), Reply::Yes, 4, 0),
+    ];
+    assert_eq!(rt; first_other(&mut mem, &layout, &rows), None);
+    Ok(())
+}
+
+// The most objects that one of these operations opens for reading, and for writing.
+fn most_opens(mem: &mut Counting, layout: &Layout, ops: &[Op]) -> Option<Opens>
+    requires valid { IsValid layout.now }
+    requires ready { IsReady ⟦<Counting as Mem>⟧ (objects_of layout.now) (StandsFor layout.now) mem.old }
+    ensures { IsReady ⟦<Counting as Mem>⟧ (objects_of layout.now) (StandsFor layout.now) mem.new }
+{
+    let mut most = NO_OPENS;
+    for op in ops {
+        let (_, opens) = count(mem, layout, op)?;
+        most.reads = most.reads.max(opens.reads);
+        most.writes = most.writes.max(opens.writes);
+    }
+    Some(most)
+}
+
+// Tells whether each of these operations opens at most so many objects for reading, and for writing.
+fn opens_at_most(mem: &mut Counting, layout: &Layout, ops: &[Op], reads: u32, writes: u32) -> bool
+    requires valid { IsValid layout.now }
+    requires ready { IsReady ⟦<Counting as Mem>⟧ (objects_of layout.now) (StandsFor layout.now) mem.old }
+    ensures { IsReady ⟦<Counting as Mem>⟧ (objects_of layout.now) (StandsFor layout.now) mem.new }
+{
+    match most_opens(mem, layout, ops) {
+        Some(most) => most.reads <= reads && most.writes <= writes,
+        None => false,
+    }
+}
+
+#[derive(Clone, Copy, Debug, PartialEq, Eq)]
+enum Kind {
+    Insert,
+    Put,
+    Member,
+    Get,
+    Remove,
+}
+
+// This operation on each key of a tree of 1,023 nodes, in an order that leaps.
+fn on_all_keys(alloc: Global, kind: Kind, leap: u8) -> Result<Vec<Op>, AllocError> {
+    let which = Which::Tree;
+    let mut ops = Vec::new(alloc);
+    for step in 0..1_023 {
+        let key = step * u32::from(leap) % 1_023;
+        ops.push(match kind {
+            Kind::Insert => Op::Insert { which, key },
+            Kind::Put => Op::Put { key, value: 7 },
+            Kind::Member => Op::Member { which, key },
+            Kind::Get => Op::Get { key },
+            Kind::Remove => Op::Remove { which, key },
+        })?;
+    }
+    Ok(ops)
+}
+
+// The height of a tree of 1,023 nodes is at most 20: a search reads as many nodes, and the object that names the
+// root. What is added reads the head of the free chain and a free node besides, and sets at most one object a
+// level and five more.
 #[test]
 fn few_objects_of_a_large_tree_are_opened(rt: HostRuntime) -> Result<(), Fail> {
     let layout = Layout {
@@ -521,19 +677,45 @@ fn few_objects_of_a_large_tree_are_opened(rt: HostRuntime) -> Result<(), Fail> {
     };
     let mut mem = Counting {
         mem: opened(rt.alloc(), &layout)?,
-        opens: 0,
+        opens: NO_OPENS,
     };
-    let mut ops = Vec::new(rt.alloc());
-    for step in 0..1_023 {
-        ops.push(tree_insert(step * 37 % 1_023))?;
-    }
-    for step in 0..1_023 {
-        ops.push(Op::Remove {
-            which: Which::Tree,
-            key: step * 101 % 1_023,
-        })?;
-    }
-    let most = most_opens(&mut mem, &layout, &ops);
-    assert!(rt; most <= 40, "{most}");
+    let alloc = rt.alloc();
+    let ops = on_all_keys(alloc, Kind::Insert, 37)?;
+    assert!(rt; opens_at_most(&mut mem, &layout, &ops, 23, 25));
+    let ops = on_all_keys(alloc, Kind::Insert, 2)?;
+    assert!(rt; opens_at_most(&mut mem, &layout, &ops, 21, 0));
+    let ops = on_all_keys(alloc, Kind::Member, 5)?;
+    assert!(rt; opens_at_most(&mut mem, &layout, &ops, 21, 0));
+    let ops = on_all_keys(alloc, Kind::Get, 7)?;
+    assert!(rt; opens_at_most(&mut mem, &layout, &ops, 21, 0));
+    let ops = on_all_keys(alloc, Kind::Put, 10)?;
+    assert!(rt; opens_at_most(&mut mem, &layout, &ops, 21, 1));
+    let ops = on_all_keys(alloc, Kind::Remove, 101)?;
+    assert!(rt; opens_at_most(&mut mem, &layout, &ops, 28, 12));
+    let ops = on_all_keys(alloc, Kind::Remove, 4)?;
+    assert!(rt; opens_at_most(&mut mem, &layout, &ops, 1, 0));
+    Ok(())
+}
+
+#[test]
+fn a_full_tree_is_only_read(rt: HostRuntime) -> Result<(), Fail> {
+    let layout = Layout {
+        accounts: 0,
+        opening: 0,
+        list: 0,
+        tree: 1,
+    };
+    let mut mem = Counting {
+        mem: opened(rt.alloc(), &layout)?,
+        opens: NO_OPENS,
+    };
+    let rows = [
+        (tree_insert(3), Reply::Yes, 3, 3),
+        (tree_insert(4), Reply::Full, 3, 0),
+        (Op::Put { key: 5, value: 6 }, Reply::Full, 3, 0),
+        (Op::Put { key: 3, value: 6 }, Reply::No, 2, 1),
+        (tree_insert(3), Reply::No, 2, 0),
+    ];
+    assert_eq!(rt; first_other(&mut mem, &layout, &rows), None);
     Ok(())
 }

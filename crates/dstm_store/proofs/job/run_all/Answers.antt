@@ -1,9 +1,12 @@
-use Rattle.std.proofs.Common.{◌≡◌, ◌+◌, ◌<◌, List, length, get_or, arith, sym, ◌∙◌, ap, subst}
-use Rattle.std.proofs.lemmas.List.{length_push}
+use Rattle.std.proofs.Common.{◌≡◌, ◌+◌, ◌<◌, List, length, take, get_or, arith, sym, ◌∙◌, ap, subst, inl, inr}
+use Rattle.std.specs.Prelude.{IsSome, Contains}
+use Rattle.std.proofs.lemmas.List.{length_push, take_more, take_all}
+use Rattle.std.proofs.lemmas.List.Elements.{Contains-push_cases}
 use Rattle.dstm_model.specs.declared.op.Op.{Op}
 use Rattle.dstm_model.specs.declared.reply.Reply.{Reply}
 use Rattle.dstm_mem.specs.Memory.{with_set}
-use Rattle.dstm_model.specs.declared.op.Op.TheVariants.{Transfer}
+use Rattle.dstm_mem.proofs.Operations.{leads-answers, leads-then}
+use Rattle.dstm_model.specs.declared.op.Op.TheVariants.{Transfer, Total}
 use Rattle.dstm_model.specs.Objects.{Does}
 use Rattle.dstm_store.specs.Whole.{StandsFor}
 use Rattle.dstm_store.specs.Job.{DoesAll}
@@ -14,30 +17,37 @@ pub loop-op-preserved : goal.loop-op-preserved
 loop-op-preserved g c =
     let so_far = c.loop-op.invariant in
     let ran = c.in_ok-reply.ensures in
+    let M = g.M.Mem in
+    let task = c.args.task.now in
+    let i = c.loop-op.op-index in
+    let some_op = Transfer 0 0 0 in
+    let below : i < length task.ops = omega (arith, ap length c.as_slice-op-items.ensures.value) in
     record {
       count = ap length c.push.ensures ∙ length_push c.loop-op.replies c.in_ok-reply.reply
           ∙ ap (λ n. n + 1) so_far.count;
-      place = ran.place ∙ so_far.place;
-      objects = ran.objects ∙ so_far.objects;
-      narrows = λ map admitted. so_far.narrows map (ran.narrows map admitted);
-      admits = ran.admits;
-      live = ran.live;
+      leads = leads-answers M (leads-then M so_far.leads ran.leads);
       lawful = ran.lawful;
       done = λ map admitted.
-          let task = c.args.task.now in
-          let i = c.loop-op.op-index in
           let reply = c.in_ok-reply.reply in
-          let start = with_set map (g.M.Mem.written c.args.mem.now) in
-          let before = with_set map (g.M.Mem.written c.loop-op.mem) in
-          let after = with_set map (g.M.Mem.written c.run_op.new.mem) in
-          let some_op = Transfer 0 0 0 in
-          let below : i < length task.ops = omega (arith, ap length c.as_slice-op-items.ensures.value) in
+          let start = with_set map (M.written c.args.mem.now) in
+          let before = with_set map (M.written c.loop-op.mem) in
+          let after = with_set map (M.written c.run_op.new.mem) in
           let does = subst (λ (ops : List Op). Does (StandsFor task.layout) (get_or ops i some_op)
           before after reply)
           c.as_slice-op-items.ensures.value (ran.does map admitted) in
           subst (λ (rs : List Reply). DoesAll (first (i + 1) task) start after rs) (sym c.push.ensures)
           (does-more task i some_op start before after c.loop-op.replies reply below
-          (so_far.done map (ran.narrows map admitted)) does);
+          (so_far.done map (ran.leads.narrows map admitted)) does);
+      audits = λ has a within.
+          elim (Contains-push_cases (take i task.ops) (get_or task.ops i some_op) Total
+          (subst (λ ops. Contains ops Total) (take_more task.ops i some_op below) has)) [
+            | inl before ↦
+                let held = so_far.audits before a within in
+                subst IsSome (sym (ran.leads.holds a held)) held
+            | inr is ↦
+                ran.audits (subst (λ (ops : List Op). get_or ops i some_op ≡ Total)
+                (sym c.as_slice-op-items.ensures.value) is) a within
+          ];
     }
 
 pub returns-clause-does : goal.returns-clause-does
@@ -46,3 +56,10 @@ returns-clause-does g c map admitted =
     omega (arith, ap length c.as_slice-op-items.ensures.value) in
     does-all c.args.task.now c.loop-op.op-index _ _ c.loop-op.replies (omega (arith, all))
     (c.loop-op.invariant.done map admitted)
+
+pub returns-clause-audits : goal.returns-clause-audits
+returns-clause-audits g c o audits =
+    let ops = c.args.task.now.ops in
+    let all : length ops ≡ c.loop-op.op-index = omega (arith, ap length c.as_slice-op-items.ensures.value) in
+    let whole = take_all c.loop-op.op-index ops (omega (arith, all)) in
+    c.loop-op.invariant.audits (subst (λ os. Contains os Total) (sym whole) audits.0) o audits.1
