@@ -6,3 +6,6 @@ pub mod Puts
 pub mod PutLoop
 pub mod FoundCodes
 pub mod Meeting
+pub mod Finding
+pub mod Undrawn
+pub mod Encounters

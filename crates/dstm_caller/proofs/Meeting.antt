@@ -16,7 +16,9 @@ use Rattle.dstm_core.specs.Rules.{after, MayKill}
 use Rattle.dstm_core.specs.Runs.{local}
 use Rattle.dstm_core.specs.State.{LocalState, res, or_zero, version_by, is_live}
 use Rattle.dstm_core.specs.Words.{code_of}
+use Rattle.dstm_core.specs.declared.shape.TheConstants.{MAX_RANK}
 use Rattle.dstm_core.proofs.Begun.{IsCode}
+use Rattle.dstm_core.proofs.SmallRanks.{are_small}
 use Rattle.dstm_runs.specs.Traces.Access.{Load}
 use Rattle.dstm_managers.specs.Choices.{choice, is_waiting}
 use Rattle.dstm_managers.specs.Meetings.{IsRank, most_rounds}
@@ -28,7 +30,7 @@ use Rattle.dstm_order.specs.declared.again.Again.{Again}
 use Rattle.dstm_order.specs.declared.again.Again.TheVariants.{Waited}
 use Rattle.dstm_order.specs.declared.TheConstants.{MAX_MISSED}
 use Rattle.dstm_order.specs.Efforts.{Effort, chosen, status_of}
-use Rattle.dstm_order.specs.Order.{Due, just, has_ranks, in_resolving, in_conflict, in_giving_way, on_choice, when_resolved}
+use Rattle.dstm_order.specs.Order.{Due, just, has_ranks, rises, in_resolving, in_conflict, in_giving_way, on_choice, when_resolved}
 use Rattle.dstm_order.specs.Tasks.{Task}
 use Rattle.dstm_order.proofs.EnemyRanks.{found_is_rank}
 use Rattle.dstm_words.specs.Seats.{Home, view_of}
@@ -40,7 +42,7 @@ use Rattle.dstm_caller.proofs.FoundCodes.{code_found}
 use Rattle.dstm_caller.proofs.Stepping.{under_is, status_named}
 
 -- while the owner is live no version is known
-version_live : (word code : ℕ) (old : Option ℕ) → 0 < word → is_live code ≡ true →
+pub version_live : (word code : ℕ) (old : Option ℕ) → 0 < word → is_live code ≡ true →
     version_by word (Some code) old ≡ None
 version_live word code old h l =
     rw (ne_eqb word 0 (λ q. omega arith), ne_eqb code 4 (λ q. grind (arith, nat_tests)),
@@ -65,6 +67,23 @@ rank_in holds home b steps d a u =
     ap (λ o. state_by home.terms.shape o (view_of steps.seat).log) u.number in
     subst (λ (l : LocalState). IsRank home.terms.shape.manager (or_zero (res l).rank)) (sym here)
     (found_is_rank home.terms.shape (view_of steps.seat).log u.run.run.core b.number)
+
+-- where ranks rise the own one is small
+pub small_rank : {L : Type 0} {task : Task} (holds : L → List Val → Type 0) (home : Home L) (b : Began) (steps : Steps L)
+    (d : Due) (a : Option Again) → InTask holds home task b steps d a → rises home.terms.shape.manager ≡ true →
+    steps.rank ≤ MAX_RANK
+small_rank holds home b steps d a u r =
+    let here : now home steps ≡ local home.terms.shape (view_of steps.seat).log b.number =
+    ap (λ o. state_by home.terms.shape o (view_of steps.seat).log) u.number in
+    let small = (are_small home.terms.shape (view_of steps.seat).log (which home.terms.shape.manager r) u.run.run.core).own
+    b.number in
+    rw (u.mirror.rank, ap (λ (l : LocalState). l.rank) here) small
+  where
+    which : (m : Manager) → rises m ≡ true → (m ≡ Karma) ⊎ (m ≡ Polka)
+    which Karma r = inl refl
+    which Polka r = inr refl
+    which Polite r = absurd (cc)
+    which Greedy r = absurd (cc)
 
 -- an enemy that is still given way to is live
 pub still_live : (code : ℕ) → lets_go code ≡ false → is_live code ≡ true

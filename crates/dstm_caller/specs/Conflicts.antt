@@ -8,7 +8,7 @@ use Rattle.dstm_words.specs.Seats.{Home}
 use Rattle.dstm_order.specs.declared.TheConstants.{MAX_MISSED}
 use Rattle.dstm_order.specs.Order.{has_ranks}
 use Rattle.dstm_caller.specs.declared.steps.Steps.{Steps}
-use Rattle.dstm_caller.specs.Under.{Began, Resolving, now}
+use Rattle.dstm_caller.specs.Under.{Began, IsRunning, Resolving, now}
 
 -- an enemy that was found with this code is given way to no more
 abbrev pub lets_go : ℕ → Bool
@@ -51,4 +51,39 @@ module _ {L : Type 0} where
     pub named : (0 < code) × (code ≤ 5)
     pub rounds : steps.round ≤ 1024
     pub waiting : phase ≡ Running → 0 < steps.left → steps.round < 1024
+    pub tries : steps.missed < MAX_MISSED
+
+  -- The attempt has begun to resolve an object, whose word is not 0; nothing more was found.
+  pub record Starts (holds : L → List Val → Type 0) (home : Home L) (began : Began) (steps : Steps L) (word : ℕ) :
+      Type 0 where
+    pub under : Resolving holds home began steps
+    pub running : IsRunning (now home steps)
+    pub word_is : (res (now home steps)).word ≡ word
+    pub some : 0 < word
+    pub owner : (res (now home steps)).owner ≡ None
+    pub status : (res (now home steps)).status ≡ None
+    pub rank : (res (now home steps)).rank ≡ None
+    pub old : (res (now home steps)).old ≡ None
+    pub high : (res (now home steps)).high ≡ None
+    pub value : (res (now home steps)).value ≡ None
+    pub left : steps.left ≡ 0
+    pub round : steps.round ≡ 0
+    pub tries : steps.missed < MAX_MISSED
+
+  -- It has found the owner of the locator that the word names, and that owner's status.
+  pub record Encounters (holds : L → List Val → Type 0) (home : Home L) (began : Began) (steps : Steps L)
+      (word owner code : ℕ) : Type 0 where
+    pub under : Resolving holds home began steps
+    pub running : IsRunning (now home steps)
+    pub word_is : (res (now home steps)).word ≡ word
+    pub some : 0 < word
+    pub owner_is : (res (now home steps)).owner ≡ Some owner
+    pub status : (res (now home steps)).status ≡ Some code
+    pub rank : (res (now home steps)).rank ≡ None
+    pub old : (res (now home steps)).old ≡ None
+    pub high : (res (now home steps)).high ≡ None
+    pub value : (res (now home steps)).value ≡ None
+    pub named : (0 < code) × (code ≤ 5)
+    pub left : steps.left ≡ 0
+    pub round : steps.round ≡ 0
     pub tries : steps.missed < MAX_MISSED

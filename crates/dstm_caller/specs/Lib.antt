@@ -2,3 +2,5 @@ pub mod Under
 pub mod Reads
 pub mod Writes
 pub mod Conflicts
+pub mod Finding
+pub mod Opening

@@ -195,6 +195,7 @@ impl<L: Law> Steps<L> {
             IfOk result (λ code. patience_left self.new.missed self.new.round code
             < patience_left self.old.missed self.old.round (code_of status))
         }
+        ensures tried { OnOk result (self.old.missed ≤ self.new.missed) }
         ensures ends { IfErr result (λ again. Under L.holds words.now B.began self.new Done (Some again)) }
     {
         match self.kill::<B>(words, owner, status) {
@@ -287,6 +288,7 @@ impl<L: Law> Steps<L> {
             IfOk result (λ code. patience_left self.new.missed self.new.round code
             < patience_left self.old.missed self.old.round (code_of status))
         }
+        ensures tried { OnOk result (self.old.missed ≤ self.new.missed) }
         ensures ends { IfErr result (λ again. Under L.holds words.now B.began self.new Done (Some again)) }
     {
         if !self.pause::<B>(words) {
@@ -317,6 +319,7 @@ impl<L: Law> Steps<L> {
             IfOk result (λ code. patience_left self.new.missed self.new.round code
             < patience_left self.old.missed self.old.round (code_of status))
         }
+        ensures tried { OnOk result (self.old.missed ≤ self.new.missed) }
         ensures ends { IfErr result (λ again. Under L.holds words.now B.began self.new Done (Some again)) }
     {
         match self.ask::<B>(words, owner, enemy, status) {
@@ -340,6 +343,7 @@ impl<L: Law> Steps<L> {
         ensures met { IfOk result (λ found. Meets L.holds words.now B.began Running self.new owner found) }
         ensures over { IfOk result (λ found. is_live found ≡ false) }
         ensures keeps { OnOk result (Keeps (now words.now self.old) (now words.now self.new)) }
+        ensures tried { OnOk result (self.old.missed ≤ self.new.missed) }
         ensures ends { IfErr result (λ again. Under L.holds words.now B.began self.new Done (Some again)) }
     {
         let mut code = code;
@@ -370,7 +374,7 @@ fn lets_go(code: u64) -> bool
 }
 
 // Whether a code is that of a live status.
-fn is_live(code: u64) -> bool
+pub(crate) fn is_live(code: u64) -> bool
     ensures { result ≡ is_live code }
 {
     Status::Idle.code() < code && code < Status::Committed.code()

@@ -138,6 +138,7 @@ impl<L: Law> Steps<L> {
         requires slots { kept reads.now ≡ words_of (record_resolved (now words.now self.old).resolution (now words.now self.old).reads) }
         ensures state { OnOk result ((number : ℕ) × (now words.now self.new ≡ passed number (now words.now self.old)) × (last.new ≡ Some number)) }
         ensures goes_on { OnOk result (Passed L.holds words.now B.began self.new) }
+        ensures tries { OnOk result (self.new.missed < MAX_MISSED) }
         ensures ends { IfErr result (λ again. Under L.holds words.now B.began self.new Done (Some again)) }
     {
         let number = self.look_number::<B>(words);

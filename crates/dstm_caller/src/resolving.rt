@@ -3,19 +3,23 @@ ghost use Rattle.std.specs.Prelude.{◌≡◌, ◌≢◌, ◌⊎◌, ℕ, ◌<�
 ghost use Rattle.dstm_core.specs.Rules.{after};
 ghost use Rattle.dstm_core.specs.declared.event.Kind.TheVariants.{LookObj, LookOwner, LookStatus, LookRank, LookOld, LookHigh, LookNew, Quit};
 ghost use Rattle.dstm_core.specs.declared.state.Phase.TheVariants.{Running, Outside};
-ghost use Rattle.dstm_core.specs.State.{res, or_zero, version, write_of};
+ghost use Rattle.dstm_core.specs.State.{res, or_zero, version, is_live, read_of, write_of};
 ghost use Rattle.dstm_core.specs.declared.shape.Manager.TheVariants.{Polite};
 ghost use Rattle.dstm_runs.specs.Traces.Access.{Load};
 ghost use Rattle.dstm_core.specs.Words.{place};
 ghost use Rattle.dstm_core.specs.Words.Word.{ObjectWord, OwnerWord, StatusWord, RankWord, OldWord, HighWord, LowWord};
-ghost use Rattle.dstm_order.specs.Order.{just, in_resolving, when_resolved};
+ghost use Rattle.dstm_order.specs.Order.{just, has_ranks};
 ghost use Rattle.dstm_order.specs.Order.Due.{Step, Done};
 ghost use Rattle.dstm_order.specs.declared.TheConstants.{MAX_MISSED};
+ghost use Rattle.dstm_caller.specs.Conflicts.{Encounters, Meets, Starts};
+ghost use Rattle.dstm_caller.specs.Finding.{KeepsAttempt, StaysAt, IsFound, word_of, is_changed};
 ghost use Rattle.dstm_caller.specs.Under.{Resolving, Resolved, work_of, now, effort_by, made_by, Under, IsRunning};
 
 use crate::steps::{InCall, Steps};
-use dstm_core::{Kind, Status};
+use crate::conflict::is_live;
+use dstm_core::{Kind, Manager, Shape, Status};
 use dstm_model::Law;
+use dstm_order::Again;
 use dstm_words::Words;
 
 /// What an object was found to hold: its word, the version that this stands for, and the value of that.
@@ -138,7 +142,7 @@ impl<L: Law> Steps<L> {
         word
     }
 
-    /// Resolves an object, of which a read with this word may be recorded, but for a live owner.
+    /// Looks at what the object's word stands for, whose owner has committed or was aborted.
     pub(crate) fn resolve_version<B: InCall>(
         &mut self,
         words: &Words<L>,
@@ -154,6 +158,8 @@ impl<L: Law> Steps<L> {
         requires fresh { ((res (now words.now self.old)).old ≡ None) × ((res (now words.now self.old)).high ≡ None) × ((res (now words.now self.old)).value ≡ None) }
         requires tries { self.old.missed < MAX_MISSED }
         ensures under { Resolved L.holds words.now B.began self.new }
+        ensures found { IsFound (now words.now self.new) result }
+        ensures stays { StaysAt (now words.now self.old) (now words.now self.new) }
         ensures rest { self.new ≡ record self.old { seat = self.new.seat } }
     {
         if code == Status::Committed.code() {
@@ -167,18 +173,21 @@ impl<L: Law> Steps<L> {
     fn look_value<B: InCall>(&mut self, words: &Words<L>, word: u64, named: u64) -> Found
         requires under { Resolving L.holds words.now B.began self.old }
         requires running { IsRunning (now words.now self.old) }
+        requires word { (res (now words.now self.old)).word ≡ word }
         requires owner { is_some (res (now words.now self.old)).owner ≡ true }
         requires status { ((res (now words.now self.old)).status ≡ Some 4) ⊎ ((res (now words.now self.old)).status ≡ Some 5) }
         requires version { version (res (now words.now self.old)) ≡ Some named }
         requires fresh { ((res (now words.now self.old)).high ≡ None) × ((res (now words.now self.old)).value ≡ None) }
         requires tries { self.old.missed < MAX_MISSED }
         ensures under { Resolved L.holds words.now B.began self.new }
+        ensures found { IsFound (now words.now self.new) result }
+        ensures stays { StaysAt (now words.now self.old) (now words.now self.new) }
         ensures rest { self.new ≡ record self.old { seat = self.new.seat } }
     {
         if named == 0 {
             return Found {
                 word,
-                version: named,
+                version: 0,
                 low: 0,
                 high: 0,
             };
@@ -191,5 +200,98 @@ impl<L: Law> Steps<L> {
             low,
             high,
         }
+    }
+
+    /// Contends with a live owner, until it is found committed or aborted. It answers which.
+    fn meet<B: InCall>(&mut self, words: &Words<L>, word: u64, owner: u32, code: u64) -> Result<u64, Again>
+        requires met { Encounters L.holds words.now B.began self.old word owner code }
+        requires live { is_live code ≡ true }
+        ensures met { IfOk result (λ found. Meets L.holds words.now B.began Running self.new owner found) }
+        ensures over { IfOk result (λ found. is_live found ≡ false) }
+        ensures stays { OnOk result (StaysAt (now words.now self.old) (now words.now self.new)) }
+        ensures tried { OnOk result (self.old.missed ≤ self.new.missed) }
+        ensures ends { IfErr result (λ again. Under L.holds words.now B.began self.new Done (Some again)) }
+    {
+        let _ = word;
+        if !has_ranks(self.shape) {
+            return self.settle::<B>(words, owner, 0, code);
+        }
+        let enemy = self.look_rank::<B>(words, owner);
+        self.settle::<B>(words, owner, enemy, code)
+    }
+
+    /// Resolves an object whose word is not 0.
+    fn resolve_word<B: InCall>(&mut self, words: &Words<L>, word: u64) -> Result<Found, Again>
+        requires starts { Starts L.holds words.now B.began self.old word }
+        ensures found { IfOk result (λ found. IsFound (now words.now self.new) found) }
+        ensures under { OnOk result (Resolved L.holds words.now B.began self.new) }
+        ensures stays { OnOk result (StaysAt (now words.now self.old) (now words.now self.new)) }
+        ensures tried { OnOk result ((self.old.missed ≤ self.new.missed) × (self.new.missed < MAX_MISSED)) }
+        ensures ends { IfErr result (λ again. Under L.holds words.now B.began self.new Done (Some again)) }
+    {
+        let owner = self.look_owner::<B>(words, word);
+        let code = self.look_status::<B>(words, owner);
+        if is_live(code) {
+            let ended = self.meet::<B>(words, word, owner, code)?;
+            return Ok(self.resolve_version::<B>(words, word, ended));
+        }
+        Ok(self.resolve_version::<B>(words, word, code))
+    }
+
+    /// Resolves an object that this attempt has not opened for writing. `read` is the word of its recorded read, where
+    /// there is one.
+    pub(crate) fn resolve<B: InCall>(
+        &mut self,
+        words: &Words<L>,
+        object: u32,
+        read: Option<u64>,
+    ) -> Result<Found, Again>
+        requires under { Under L.holds words.now B.began self.old (Step LookObj object) None }
+        requires running { IsRunning (now words.now self.old) }
+        requires object { object < words.now.terms.shape.objects }
+        requires unopened { write_of object (now words.now self.old).writes ≡ None }
+        requires read { word_of (read_of object (now words.now self.old).reads) ≡ read }
+        requires tries { self.old.missed < MAX_MISSED }
+        ensures found { IfOk result (λ found. IsFound (now words.now self.new) found) }
+        ensures object { OnOk result ((res (now words.now self.new)).object ≡ object) }
+        ensures attempt { OnOk result (KeepsAttempt (now words.now self.old) (now words.now self.new)) }
+        ensures under { OnOk result (Resolved L.holds words.now B.began self.new) }
+        ensures tried { OnOk result ((self.old.missed ≤ self.new.missed) × (self.new.missed < MAX_MISSED)) }
+        ensures ends { IfErr result (λ again. Under L.holds words.now B.began self.new Done (Some again)) }
+    {
+        let word = self.look_object::<B>(words, object);
+        if is_changed(read, word) {
+            self.quit::<B>(words, Status::Active);
+            return Err(Again::Stale(object));
+        }
+        if word == 0 {
+            return Ok(Found {
+                word: 0,
+                version: 0,
+                low: 0,
+                high: 0,
+            });
+        }
+        self.resolve_word::<B>(words, word)
+    }
+}
+
+// Whether attempts have ranks.
+fn has_ranks(shape: Shape) -> bool
+    ensures { result ≡ has_ranks shape.manager }
+{
+    match shape.manager {
+        Manager::Polite => false,
+        Manager::Karma | Manager::Polka | Manager::Greedy => true,
+    }
+}
+
+// Whether a read with this word is recorded, and another word was found.
+fn is_changed(read: Option<u64>, word: u64) -> bool
+    ensures { result ≡ is_changed read word }
+{
+    match read {
+        Some(recorded) => recorded != word,
+        None => false,
     }
 }

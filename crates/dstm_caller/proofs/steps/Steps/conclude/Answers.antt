@@ -1,0 +1,8 @@
+use Rattle.dstm_caller.proofs.Meeting.{small_rank}
+use Rattle.std.proofs.Common.{sym, ◌∙◌}
+use Rattle.dstm_caller.proofs.steps.Steps.conclude.Goals as goal
+
+pub rank_up-requires-clause-small : goal.rank_up-requires-clause-small
+rank_up-requires-clause-small g c =
+    small_rank g.L.Law.holds c.args.words.now g.B.InCall.began c.pass.new.self _ _ c.in_ok-pass.ensures.goes_on
+    (rw c.in_ok-pass.ensures.goes_on.shape at (sym c.rises.ensures ∙ c.if-rises.true))
