@@ -60,6 +60,10 @@ abbrev pub case_of : List (List ℕ) → Result (Workload × Report) Failure
 case_of lines =
     then_reported (length lines) (split_lines (codes "---") lines).1 (workload_of (split_lines (codes "---") lines).0)
 
+-- the text of a workload, the line `---` and the text of a report
+abbrev pub case_text : Workload → Report → List ℕ
+case_text workload report = text_of_workload workload ++ codes "---\n" ++ report_text report
+
 -- `check` reads a workload and a report on it
 abbrev pub check_input : List ℕ → Result (Workload × Report) Failure
 check_input = read_within 8388608 case_of
