@@ -1,5 +1,4 @@
-pub mod Rising
-pub mod Turns
+pub mod Steps
 pub mod Totals
 pub mod Ends
 pub mod Demo

@@ -20,7 +20,6 @@ use Rattle.dstm_report.specs.declared.verdict.Verdict.TheVariants.{Lawful, NotLa
 use Rattle.dstm_report.specs.Reading.{report_of}
 use Rattle.dstm_report.specs.Text.{report_text}
 use Rattle.dstm_report.specs.Lawful.{IsLawful, Tells}
-use Rattle.dstm_cli.specs.declared.input.TheConstants.{RUN_LIMIT, CHECK_LIMIT}
 use Rattle.dstm_cli.specs.declared.failure.Failure.{Failure}
 use Rattle.dstm_cli.specs.declared.failure.Failure.TheVariants.{TooLong, Refused, NoReport, ReportForm}
 
@@ -40,7 +39,7 @@ or_refused (Err refused) = Err (Refused refused)
 
 -- `run` reads a workload
 abbrev pub run_input : List ℕ → Result Workload Failure
-run_input = read_within RUN_LIMIT (λ lines. or_refused (workload_of lines))
+run_input = read_within 4194304 (λ lines. or_refused (workload_of lines))
 
 -- a report beside its workload
 abbrev pub beside : Workload → Result Report ℕ → Result (Workload × Report) Failure
@@ -61,9 +60,13 @@ abbrev pub case_of : List (List ℕ) → Result (Workload × Report) Failure
 case_of lines =
     then_reported (length lines) (split_lines (codes "---") lines).1 (workload_of (split_lines (codes "---") lines).0)
 
+-- the text of a workload, the line `---` and the text of a report
+abbrev pub case_text : Workload → Report → List ℕ
+case_text workload report = text_of_workload workload ++ codes "---\n" ++ report_text report
+
 -- `check` reads a workload and a report on it
 abbrev pub check_input : List ℕ → Result (Workload × Report) Failure
-check_input = read_within CHECK_LIMIT case_of
+check_input = read_within 8388608 case_of
 
 -- the command reads an input
 abbrev pub reads_input : Option Command → Bool

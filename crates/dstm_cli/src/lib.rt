@@ -4,12 +4,14 @@
 mod command;
 mod failure;
 mod input;
+mod laws;
 mod output;
 mod running;
 
 pub use command::dstm;
 pub use failure::Failure;
 pub use input::{CHECK_LIMIT, RUN_LIMIT};
+pub use laws::{check_takes_reports, run_takes_generated};
 
 #[cfg(test)]
 mod tests;

@@ -1,13 +1,11 @@
-ghost use Rattle.std.specs.Prelude.{List, ◌≡◌, ℕ, ◌<◌, ◌≤◌, ◌-◌, ◌*◌, sum, [], ◌∷◌, All, length, drop, filter};
-ghost use Rattle.std.specs.Prelude.{slice_get, slice_index, Some, None, IfOk, IfNone, IfSome, IfErr, OnOk};
-ghost use Rattle.dstm_model.specs.Job.{apply_job};
+ghost use Rattle.std.specs.Prelude.{List, ◌≡◌, ℕ, ◌<◌, ◌*◌, sum, [], All, length, Some, IfOk, IfNone, IfSome};
 ghost use Rattle.dstm_model.specs.Layout.{FitsLayout};
 ghost use Rattle.dstm_workload.specs.Workload.{IsValidWorkload};
-ghost use Rattle.dstm_report.specs.Lawful.{IsLawful, store_after, declared_as};
-ghost use Rattle.dstm_cli.specs.Running.{jobs_of, IsPlaceOf, IsCursor, AreBlocked, IsTurn, IsTried, IsSomeLeft, Stands};
+ghost use Rattle.dstm_report.specs.Lawful.{IsLawful, store_after, declared_as, first_job, AreBlocked};
+ghost use Rattle.dstm_cli.specs.Running.{IsTurn, Stands};
 
 use dstm_model::{PlainStore, Replies, Reply};
-use dstm_report::{Report, Row, Rows};
+use dstm_report::{Report, Row, Rows, Turns};
 use dstm_workload::{Job, Workload};
 use std::alloc::{AllocError, Global};
 
@@ -48,16 +46,14 @@ fn run_rows(
 ) -> Result<Vec<Row>, AllocError>
     requires valid { IsValidWorkload workload.now }
     requires opening { store.old ≡ store_after workload.now [] }
-    ensures { IfOk result (λ rows. (cursors : List ℕ) × Stands workload.now rows.items cursors
+    ensures { IfOk result (λ rows. (left : List Job) × Stands workload.now rows.items left
         (length workload.now.jobs) store.new) }
 {
     let jobs = workload.jobs.as_slice();
-    let mut cursors = first_cursors(alloc, jobs, workload.workers)?;
+    let mut turns = Turns::new(alloc, jobs, workload.workers)?;
     let mut rows = Vec::with_capacity(alloc, jobs.len())?;
     for number in 0..jobs.len() {
-        let (worker, replies) = next_turn(jobs, &cursors, store)?;
-        let at = cursors[worker];
-        let job = &jobs[at];
+        let (job, replies) = next_turn(&turns, workload.workers, store)?;
         rows.push(Row {
             line: job.line,
             worker: job.worker,
@@ -65,102 +61,66 @@ fn run_rows(
             number: number as u64,
             replies,
         })?;
-        cursors[worker] = next_job(jobs, job.worker, at + 1);
+        turns.pass(job.worker);
     }
     Ok(rows)
 }
 
-// Where each worker's first job stands.
-fn first_cursors(alloc: Global, jobs: &[Job], workers: u32) -> Result<Vec<usize>, AllocError>
-    ensures count { IfOk result (λ cursors. length cursors.items ≡ workers) }
-    ensures first { IfOk result (λ cursors. (v : ℕ) → v < workers →
-        IsCursor jobs.now jobs.now v (slice_index cursors.items v)) }
-{
-    let mut cursors = Vec::with_capacity(alloc, workers as usize)?;
-    for worker in 0..workers {
-        cursors.push(next_job(jobs, worker, 0))?;
-    }
-    Ok(cursors)
-}
-
-// Where the worker's first job from a place on stands, or how many jobs there are.
-fn next_job(jobs: &[Job], worker: u32, from: usize) -> usize
-    requires { from ≤ length jobs.now }
-    ensures same { jobs_of worker (drop result jobs.now) ≡ jobs_of worker (drop from jobs.now) }
-    ensures within { result ≤ length jobs.now }
-    ensures own { IsPlaceOf jobs.now worker result }
-{
-    for at in from..jobs.len() {
-        if jobs[at].worker == worker {
-            return at;
-        }
-    }
-    jobs.len()
-}
-
-// Which worker goes next, and what its job answers. There is a job left.
-fn next_turn(
-    jobs: &[Job],
-    cursors: &[usize],
+// The job that goes next, and what it answers. There is a job left.
+fn next_turn<'a>(
+    turns: &Turns<'a>,
+    workers: u32,
     store: &mut PlainStore,
-) -> Result<(usize, Replies), AllocError>
-    requires left { IsSomeLeft jobs.now cursors.now }
-    requires fits { All (λ job. All (FitsLayout store.old.layout) job.ops) jobs.now }
+) -> Result<(&'a Job, Replies), AllocError>
+    requires some { 0 < length turns.now }
+    requires small { All (λ job. job.worker < workers) turns.now }
+    requires fits { All (λ job. All (FitsLayout store.old.layout) job.ops) turns.now }
     ensures layout { store.new.layout ≡ store.old.layout }
-    ensures turn { IfOk result (λ turn. IsTurn jobs.now cursors.now store.old turn.0 turn.1 store.new) }
+    ensures turn { IfOk result (λ turn. IsTurn turns.now store.old turn.0.now turn.1 store.new) }
 {
-    match open_turn(jobs, cursors, store)? {
+    match open_turn(turns, workers, store)? {
         Some(turn) => Ok(turn),
         None => {
             let mut replies = Replies::new();
             replies.push(Reply::Never);
-            Ok((least_left(jobs, cursors), replies))
+            Ok((least_left(turns, workers), replies))
         }
     }
 }
 
-// The least worker whose first job left is not blocked, and what that job answers.
-fn open_turn(
-    jobs: &[Job],
-    cursors: &[usize],
+// The first job left of the least worker for which that is not blocked, and what it answers.
+fn open_turn<'a>(
+    turns: &Turns<'a>,
+    workers: u32,
     store: &mut PlainStore,
-) -> Result<Option<(usize, Replies)>, AllocError>
-    requires fits { All (λ job. All (FitsLayout store.old.layout) job.ops) jobs.now }
+) -> Result<Option<(&'a Job, Replies)>, AllocError>
+    requires small { All (λ job. job.worker < workers) turns.now }
+    requires fits { All (λ job. All (FitsLayout store.old.layout) job.ops) turns.now }
     ensures layout { store.new.layout ≡ store.old.layout }
-    ensures turn { IfOk result (λ turn. IfSome turn (λ t. IsTurn jobs.now cursors.now store.old t.0 t.1 store.new)) }
+    ensures turn { IfOk result (λ turn. IfSome turn (λ t. IsTurn turns.now store.old t.0.now t.1 store.new)) }
     ensures kept { IfOk result (λ turn. IfNone turn (store.new ≡ store.old)) }
-    ensures blocked { IfOk result (λ turn. IfNone turn (AreBlocked jobs.now cursors.now store.old)) }
+    ensures blocked { IfOk result (λ turn. IfNone turn (AreBlocked turns.now store.old)) }
 {
-    for worker in 0..cursors.len() {
-        let turn = try_job(jobs, cursors[worker], store)?;
-        if let Some(replies) = turn {
-            return Ok(Some((worker, replies)));
+    for worker in 0..workers {
+        if let Some(job) = turns.first(worker) {
+            if let Some(replies) = store.apply_job(&job.ops)? {
+                return Ok(Some((job, replies)));
+            }
         }
     }
     Ok(None)
 }
 
-// Applies the job at a place, if there is one. It answers nothing where it is blocked.
-fn try_job(jobs: &[Job], at: usize, store: &mut PlainStore) -> Result<Option<Replies>, AllocError>
-    requires fits { All (λ job. All (FitsLayout store.old.layout) job.ops) jobs.now }
-    ensures layout { store.new.layout ≡ store.old.layout }
-    ensures tried { IfOk result (IsTried (slice_get jobs.now at) store.old store.new) }
+// The first job left of the least worker that has one.
+fn least_left<'a>(turns: &Turns<'a>, workers: u32) -> &'a Job
+    requires some { 0 < length turns.now }
+    requires small { All (λ job. job.worker < workers) turns.now }
+    ensures { first_job result.now.worker turns.now ≡ Some result.now }
 {
-    if at >= jobs.len() {
-        return Ok(None);
+    for worker in 0..workers {
+        if let Some(job) = turns.first(worker) {
+            return job;
+        }
     }
-    store.apply_job(&jobs[at].ops)
-}
-
-// The least worker that has a job left.
-fn least_left(jobs: &[Job], cursors: &[usize]) -> usize
-    requires { IsSomeLeft jobs.now cursors.now }
-    ensures worker { result < length cursors.now }
-    ensures left { slice_index cursors.now result < length jobs.now }
-{
-    let mut worker = 0;
-    while cursors[worker] >= jobs.len() {
-        worker += 1;
-    }
-    worker
+    unreachable!()
 }

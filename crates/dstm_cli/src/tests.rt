@@ -338,6 +338,8 @@ fn generated_workloads(rt: HostRuntime) -> Result<(), Fail> {
     expect(&rt, rt.alloc(), "dstm demo 7 0 1", b"", none)?;
     let many = (0, "transactions 20000\ntotal 8000\nlawful\n", "");
     expect(&rt, rt.alloc(), "dstm demo 7 20000 8", b"", many)?;
+    run_takes_generated();
+    check_takes_reports();
     Ok(())
 }
 

@@ -11,7 +11,6 @@ use Rattle.dstm_model.specs.declared.op.Which.TheVariants as which
 use Rattle.dstm_model.specs.Job.{branches_of, onto_first, is_separator}
 use Rattle.dstm_model.specs.Layout.{IsValid, FitsLayout}
 use Rattle.dstm_workload.specs.declared.workload.Job.{Job}
-use Rattle.dstm_workload.specs.declared.workload.TheConstants.{MAX_JOBS, MAX_WORKERS}
 use Rattle.dstm_workload.specs.Workload.{HasOp, HasValue, IsNoAwait, IsBranch, IsJob, IsValidWorkload, lines_of_jobs}
 use Rattle.dstm_gen.specs.Words.{skip}
 use Rattle.dstm_gen.specs.Generated.{job_place, generated_layout, op_with, ops_count, op_at, ops_of, job_at, jobs_of, generated}
@@ -135,7 +134,7 @@ layout_valid = record {
 }
 
 pub generated-valid :
-    (words : ℕ → ℕ) (count workers : ℕ) → count ≤ MAX_JOBS → 1 ≤ workers → workers ≤ MAX_WORKERS →
+    (words : ℕ → ℕ) (count workers : ℕ) → count ≤ 20000 → 1 ≤ workers → workers ≤ 32 →
     IsValidWorkload (generated words count workers)
 unfolding jobs_of
 generated-valid words count workers few some most =

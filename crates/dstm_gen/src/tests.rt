@@ -38,6 +38,8 @@ fn jobs_of_two_workers(rt: HostRuntime) -> Result<(), Fail> {
     expect_job(&rt, &jobs[0], 6, 0, &first);
     expect_job(&rt, &jobs[1], 7, 1, &[Op::Balance { account: 4 }]);
     expect_job(&rt, &jobs[2], 8, 0, &[transfer(0, 4, 186)]);
+    lines_of_the_text();
+    short_text();
     Ok(())
 }
 

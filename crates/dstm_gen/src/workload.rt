@@ -1,7 +1,6 @@
 ghost use Rattle.std.specs.Prelude.{◌≡◌, ◌≤◌, ◌<◌, ℕ, length, IfOk};
 ghost use Rattle.dstm_workload.specs.Writing.{text_of_workload, as_written};
 ghost use Rattle.dstm_workload.specs.Workload.{IsValidWorkload};
-ghost use Rattle.dstm_workload.specs.declared.workload.TheConstants.{MAX_JOBS, MAX_WORKERS};
 ghost use Rattle.dstm_gen.specs.Words.{words_of, words_of_seed};
 ghost use Rattle.dstm_gen.specs.Generated.{jobs_of, generated};
 
@@ -26,9 +25,9 @@ const FIRST_LINE: u64 = 6;
 /// Makes a workload of `count` jobs for `workers` workers, the same for the same seed. Its jobs have 1
 /// to 4 operations on a bank of 8 accounts, a list and a tree.
 pub fn generate(alloc: Global, seed: u64, count: u32, workers: u32) -> Result<Workload, AllocError>
-    requires few_jobs { count ≤ MAX_JOBS }
+    requires few_jobs { count ≤ 20000 }
     requires some_worker { 1 ≤ workers }
-    requires few_workers { workers ≤ MAX_WORKERS }
+    requires few_workers { workers ≤ 32 }
     ensures exact { IfOk result (λ workload. workload ≡ generated (words_of_seed seed) count workers) }
     ensures valid { IfOk result IsValidWorkload }
 {

@@ -4,6 +4,8 @@ pub mod LineCount
 pub mod OneRowMore
 pub mod Onto
 pub mod RoundTrip
-pub mod Turns
+pub mod Places
 pub mod Words
 pub mod Following
+pub mod Rising
+pub mod Totals

@@ -59,11 +59,12 @@ last_row [] = None
 last_row (row ∷ []) = Some row
 last_row (row ∷ next ∷ rows) = last_row (next ∷ rows)
 
--- the first job left of each worker is blocked
+-- the first job of each worker, of those that are left, is blocked
+abbrev pub AreBlocked : List Job → Store → Type 0
+AreBlocked left store = (worker : ℕ) → IfSome (first_job worker left) (λ job. apply_job job.ops store ≡ None)
+
 abbrev pub AllBlocked : Workload → List Row → Type 0
-AllBlocked workload before =
-    (worker : ℕ) → IfSome (first_job worker (jobs_left workload.jobs before))
-    (λ job. apply_job job.ops (store_after workload before) ≡ None)
+AllBlocked workload before = AreBlocked (jobs_left workload.jobs before) (store_after workload before)
 
 -- the replies that a job gives; where it is blocked, `never` alone, and only where this holds
 abbrev pub AnswersWhere : Type 0 → Option JobOutcome → List Reply → Type 0

@@ -3,3 +3,4 @@ pub mod Lawful
 pub mod Reading
 pub mod Replaying
 pub mod Text
+pub mod Turns

@@ -11,7 +11,6 @@ use Rattle.dstm_text.specs.Number.{number_of}
 use Rattle.dstm_report.specs.declared.draft.Draft.{Draft}
 use Rattle.dstm_report.specs.declared.draft.Part.{Part}
 use Rattle.dstm_report.specs.declared.draft.Part.TheVariants as part
-use Rattle.dstm_report.specs.declared.draft.TheConstants.{MAX_REPLIES, MAX_WORKER, MAX_NUMBER, COLON, DOT}
 use Rattle.dstm_report.specs.declared.report.Row.{Row}
 use Rattle.dstm_report.specs.declared.report.Report.{Report}
 
@@ -21,6 +20,14 @@ None >>= f = None
 (Some x) >>= f = f x
 
 -- ---- words
+
+-- stands between a key and its value
+abbrev pub colon : ℕ
+colon = 58
+
+-- stands between a round and a number
+abbrev pub dot : ℕ
+dot = 46
 
 -- the words after the first, which is this one
 abbrev pub after_word : List ℕ → List (List ℕ) → Option (List (List ℕ))
@@ -50,8 +57,8 @@ at_end (word ∷ words) = None
 -- two numbers with a separator between them
 abbrev pub both_numbers : List (List ℕ) → Option (ℕ × ℕ)
 both_numbers (a ∷ b ∷ []) = do
-  n ← number_in MAX_NUMBER a
-  m ← number_in MAX_NUMBER b
+  n ← number_in 18446744073709551615 a
+  m ← number_in 18446744073709551615 b
   Some (n, m)
 both_numbers words = None
 
@@ -62,7 +69,7 @@ pair_of separator word = both_numbers (pieces separator word)
 abbrev pub place_at : List (List ℕ) → Option ((ℕ × ℕ) × List (List ℕ))
 place_at [] = None
 place_at (word ∷ words) = do
-  place ← pair_of DOT word
+  place ← pair_of dot word
   Some (place, words)
 
 -- ---- rows
@@ -84,7 +91,7 @@ number_reply None = None
 number_reply (Some n) = Some (Number n)
 
 abbrev pub reply_of : ℕ → List ℕ → Option Reply
-reply_of version word = option_or (known_reply version word) (number_reply (number_in MAX_NUMBER word))
+reply_of version word = option_or (known_reply version word) (number_reply (number_in 18446744073709551615 word))
 
 -- a reply behind a `;`
 abbrev pub further_reply : ℕ → List ℕ → List ℕ → Option Reply
@@ -105,14 +112,14 @@ abbrev pub replies_of : ℕ → List (List ℕ) → Option (List Reply)
 replies_of version [] = None
 replies_of version (word ∷ words) = do
   reply ← reply_of version word
-  replies ← further_replies version (MAX_REPLIES - 1) words
+  replies ← further_replies version 7 words
   Some (reply ∷ replies)
 
 -- `LINE WORKER ROUND.NUMBER REPLY ; REPLY ..`
 unfoldable pub row_of : ℕ → List (List ℕ) → Option Row
 row_of version words = do
-  line ← number_at MAX_NUMBER words
-  worker ← number_at MAX_WORKER line.1
+  line ← number_at 18446744073709551615 words
+  worker ← number_at 4294967295 line.1
   place ← place_at worker.1
   replies ← replies_of version place.1
   Some (record { line = line.0; worker = worker.0; round = place.0.0; number = place.0.1; replies = replies })
@@ -122,15 +129,15 @@ row_of version words = do
 abbrev pub numbers_of : List (List ℕ) → Option (List ℕ)
 numbers_of [] = Some []
 numbers_of (word ∷ words) = do
-  n ← number_in MAX_NUMBER word
+  n ← number_in 18446744073709551615 word
   ns ← numbers_of words
   Some (n ∷ ns)
 
 -- version 1 knows the tree's keys alone
 abbrev pub item_of : ℕ → List ℕ → Option Item
 item_of version word =
-    if version == 1 then option_map (λ key. record { key = key; value = 0 }) (number_in MAX_NUMBER word)
-    else option_map (λ pair. record { key = pair.0; value = pair.1 }) (pair_of COLON word)
+    if version == 1 then option_map (λ key. record { key = key; value = 0 }) (number_in 18446744073709551615 word)
+    else option_map (λ pair. record { key = pair.0; value = pair.1 }) (pair_of colon word)
 
 abbrev pub items_of : ℕ → List (List ℕ) → Option (List Item)
 items_of version [] = Some []
@@ -142,7 +149,7 @@ items_of version (word ∷ words) = do
 -- the count of an `end` line
 unfoldable pub count_of : List (List ℕ) → Option ℕ
 count_of words = do
-  count ← number_at MAX_NUMBER words
+  count ← number_at 18446744073709551615 words
   end ← at_end count.1
   Some count.0
 
@@ -228,7 +235,7 @@ unfoldable pub header_of : List (List ℕ) → Option ℕ
 header_of words = do
   report ← after_word (codes "dstm") words
   version ← after_word (codes "report") report
-  number ← number_at MAX_NUMBER version
+  number ← number_at 18446744073709551615 version
   end ← at_end number.1
   Some number.0
 
@@ -253,35 +260,35 @@ report_of version (text ∷ texts) =
 
 -- the version has the reply, and its number is in range
 abbrev pub HasReply : ℕ → Reply → Type 0
-HasReply version (Number n) = n ≤ MAX_NUMBER
+HasReply version (Number n) = n ≤ 18446744073709551615
 HasReply version Absent = 2 ≤ version
 HasReply version Never = 3 ≤ version
 HasReply version reply = Unit {0}
 
 -- a row has 1 to 8 replies of the version, and its numbers are in range
 pub record HasRow (version : ℕ) (row : Row) : Type 0 where
-  pub line : row.line ≤ MAX_NUMBER
-  pub worker : row.worker ≤ MAX_WORKER
-  pub round : row.round ≤ MAX_NUMBER
-  pub number : row.number ≤ MAX_NUMBER
+  pub line : row.line ≤ 18446744073709551615
+  pub worker : row.worker ≤ 4294967295
+  pub round : row.round ≤ 18446744073709551615
+  pub number : row.number ≤ 18446744073709551615
   pub some : 1 ≤ length row.replies
-  pub few : length row.replies ≤ MAX_REPLIES
+  pub few : length row.replies ≤ 8
   pub replies : All (HasReply version) row.replies
 
 -- in version 1 a key has no value other than 0
 pub record HasItem (version : ℕ) (item : Item) : Type 0 where
-  pub key : item.key ≤ MAX_NUMBER
-  pub value : item.value ≤ MAX_NUMBER
+  pub key : item.key ≤ 18446744073709551615
+  pub value : item.value ≤ 18446744073709551615
   pub keys_alone : version ≡ 1 → item.value ≡ 0
 
 abbrev pub IsNumber : ℕ → Type 0
-IsNumber n = n ≤ MAX_NUMBER
+IsNumber n = n ≤ 18446744073709551615
 
 -- the version of the report can hold it
 pub record IsHeld (report : Report) : Type 0 where
-  pub version : report.version ≤ MAX_NUMBER
+  pub version : report.version ≤ 18446744073709551615
   pub rows : All (HasRow report.version) report.rows
   pub bank : IfSome report.bank (All IsNumber)
   pub list : IfSome report.list (All IsNumber)
   pub tree : IfSome report.tree (All (HasItem report.version))
-  pub count : report.count ≤ MAX_NUMBER
+  pub count : report.count ≤ 18446744073709551615

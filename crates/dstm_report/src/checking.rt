@@ -1,7 +1,8 @@
-ghost use Rattle.std.specs.Prelude.{◌≡◌, ℕ, IsTrue, ◌↔◌, [], IfOk};
+ghost use Rattle.std.specs.Prelude.{◌≡◌, ℕ, ◌*◌, sum, IsTrue, ◌↔◌, List, [], IfOk};
 ghost use Rattle.dstm_model.specs.Store.{state_of};
 ghost use Rattle.dstm_workload.specs.Workload.{IsValidWorkload};
 ghost use Rattle.dstm_workload.specs.declared.workload.Workload.{Workload};
+ghost use Rattle.dstm_report.specs.declared.report.Row.{Row};
 ghost use Rattle.dstm_report.specs.declared.report.Report.{Report};
 ghost use Rattle.dstm_report.specs.Lawful.{
   IsLawful,
@@ -52,6 +53,13 @@ pub fn check(alloc: Global, workload: &Workload, report: &Report) -> Result<Verd
 pub fn line_by_line()
     ensures { (workload : Workload) (report : Report) →
         IsLawful workload report ↔ ((line : ℕ) → IsGoodLine workload report line) }
+{}
+
+/// The law of balances: whatever rows name jobs of a workload, the sum of the balances after them is the sum
+/// that the accounts were opened with.
+pub fn balances_stay()
+    ensures { (workload : Workload) (rows : List Row) → IsValidWorkload workload →
+        sum (store_after workload rows).balances ≡ workload.layout.accounts * workload.layout.opening }
 {}
 
 // The verdict on the lines behind the rows, which are good.

@@ -8,13 +8,15 @@ mod reading;
 mod rendering;
 mod replay;
 mod report;
+mod turns;
 mod verdict;
 
-pub use checking::{check, line_by_line};
+pub use checking::{balances_stay, check, line_by_line};
 pub use error::ReportError;
 pub use reading::{read_back, read_report};
 pub use rendering::render;
 pub use report::{Report, Row, Rows};
+pub use turns::Turns;
 pub use verdict::Verdict;
 
 #[cfg(test)]

@@ -43,6 +43,23 @@ fn every_line(rt: HostRuntime) -> Result<(), Fail> {
     assert_eq!(rt; text.as_slice(), expected.as_bytes());
     read_back();
     line_by_line();
+    balances_stay();
+    Ok(())
+}
+
+#[test]
+fn turns_end_in_the_order_of_each_worker(rt: HostRuntime) -> Result<(), Fail> {
+    let text = b"dstm 1\nworkers 3\nbank 1 5\ntx 1 total\ntx 0 total\ntx 1 total\n".as_slice();
+    let workload = read_workload(rt.alloc(), text)?;
+    let mut turns = Turns::new(rt.alloc(), workload.jobs.as_slice(), workload.workers)?;
+    for (worker, line) in [(1, 4), (1, 6), (0, 5)] {
+        let first = turns.first(worker).ok_or("a job")?;
+        assert_eq!(rt; first.line, line);
+        turns.pass(worker);
+    }
+    for worker in 0..4 {
+        assert!(rt; turns.first(worker).is_none());
+    }
     Ok(())
 }
 

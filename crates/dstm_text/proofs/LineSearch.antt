@@ -35,24 +35,24 @@ abbrev pub Lacks : List ℕ → List (List ℕ) → Type 0
 Lacks mark [] = Unit {0}
 Lacks mark (line ∷ lines) = (bytes_eq line mark ≡ false) × Lacks mark lines
 
-lacks-append : (mark : List ℕ) (lines more : List (List ℕ)) → Lacks mark lines → Lacks mark more → Lacks mark (lines ++ more)
+pub lacks-append : (mark : List ℕ) (lines more : List (List ℕ)) → Lacks mark lines → Lacks mark more → Lacks mark (lines ++ more)
 lacks-append mark [] more none others = others
 lacks-append mark (line ∷ lines) more none others = (none.0, lacks-append mark lines more none.1 others)
 
 abbrev pub Split : Type 0
 Split = List (List ℕ) × Option (List (List ℕ))
 
-abbrev onto : List (List ℕ) → Split → Split
+abbrev pub onto : List (List ℕ) → Split → Split
 onto lines split = (lines ++ split.0, split.1)
 
-split-append : (mark : List ℕ) (lines more : List (List ℕ)) → Lacks mark lines →
+pub split-append : (mark : List ℕ) (lines more : List (List ℕ)) → Lacks mark lines →
     split_lines mark (lines ++ more) ≡ onto lines (split_lines mark more)
 split-append mark [] more none = refl
 split-append mark (line ∷ lines) more none =
     ap (λ (b : Bool). cond b ([], Some (lines ++ more)) (line ∷ (split_lines mark (lines ++ more)).0, (split_lines mark (lines ++ more)).1)) none.0
     ∙ ap (λ (s : Split). (line ∷ s.0, s.1)) (split-append mark lines more none.1)
 
-split-at : (mark line : List ℕ) (lines : List (List ℕ)) → bytes_eq line mark ≡ true → split_lines mark (line ∷ lines) ≡ ([], Some lines)
+pub split-at : (mark line : List ℕ) (lines : List (List ℕ)) → bytes_eq line mark ≡ true → split_lines mark (line ∷ lines) ≡ ([], Some lines)
 split-at mark line lines is =
     ap (λ (b : Bool). cond b ([], Some lines) (line ∷ (split_lines mark lines).0, (split_lines mark lines).1)) is
 

@@ -9,3 +9,4 @@ pub mod LinesAgain
 pub mod OpsAgain
 pub mod TextAgain
 pub mod RefusedLaws
+pub mod Before

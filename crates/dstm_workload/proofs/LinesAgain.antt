@@ -106,16 +106,23 @@ not_line_feed (b ∷ bs) all =
     let low = leb-true 32 b (and_parts (leb 32 b) (leb b 126) parts.0).0 in
     (ne_eqb b 10 (λ same. omega arith), not_line_feed bs parts.1)
 
+-- with what stands behind them
+pub lines_of-lined-then : (lines : List (List (List ℕ))) (rest : List ℕ) →
+    AllByRecursion (AllByRecursion IsField) lines → lines_of (lined lines ++ rest) ≡ map joined lines ++ lines_of rest
+lines_of-lined-then [] rest h = refl
+lines_of-lined-then (fields ∷ lines) rest h =
+    let line : List ℕ = joined fields in
+    let free : IsFreeOf line_feed line =
+    All-from_recursion (λ b. eqb b line_feed ≡ false) line (not_line_feed line (joined_printable fields h.0)) in
+    ap lines_of (append_assoc (line ++ line_feed ∷ []) (lined lines) rest
+    ∙ append_assoc line (line_feed ∷ []) (lined lines ++ rest))
+    ∙ lines_of-append line (lined lines ++ rest) free
+    ∙ ap (λ (ls : List (List ℕ)). line ∷ ls) (lines_of-lined-then lines rest h.1)
+
 pub lines_of-lined : (lines : List (List (List ℕ))) → AllByRecursion (AllByRecursion IsField) lines →
     lines_of (lined lines) ≡ map joined lines
-lines_of-lined [] h = refl
-lines_of-lined (fields ∷ lines) h =
-    let free : IsFreeOf line_feed (joined fields) =
-    All-from_recursion (λ b. eqb b line_feed ≡ false) (joined fields)
-    (not_line_feed (joined fields) (joined_printable fields h.0)) in
-    ap lines_of (append_assoc (joined fields) (line_feed ∷ []) (lined lines))
-    ∙ lines_of-append (joined fields) (lined lines) free
-    ∙ ap (λ (ls : List (List ℕ)). joined fields ∷ ls) (lines_of-lined lines h.1)
+lines_of-lined lines h =
+    ap lines_of (sym (append-nil (lined lines))) ∙ lines_of-lined-then lines [] h ∙ append-nil (map joined lines)
 
 -- what such a line tells
 pub entry_again : (known : Known) (line : ℕ) (first : List ℕ) (fields : List (List ℕ)) →

@@ -500,7 +500,7 @@ module _ (workload : Workload) (valid : IsValidWorkload workload) where
   where_solid true fields solid = tt
   where_solid false fields solid = (solid, tt)
 
-  head_solid : AllByRecursion (AllByRecursion IsField) (head_of workload)
+  pub head_solid : AllByRecursion (AllByRecursion IsField) (head_of workload)
   head_solid =
       let layout = workload.layout in
       let few = valid.layout.accounts in
@@ -549,6 +549,10 @@ module _ (workload : Workload) (valid : IsValidWorkload workload) where
         ),
         jobs_solid jobs good.1,
       )
+
+  pub all_solid : AllByRecursion (AllByRecursion IsField) (map fields_of_job workload.jobs)
+  all_solid =
+      jobs_solid workload.jobs (good_jobs workload.jobs (recursion_from_All (IsJob workload) workload.jobs valid.each))
 
   pub read_again : workload_of (lines_of (text_of_workload workload)) ≡ Ok (as_written workload)
   unfolding declared declared_by

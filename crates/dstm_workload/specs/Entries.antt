@@ -3,7 +3,6 @@ use Rattle.std.specs.Prelude.{ℕ, ◌-◌, ◌==◌, Bool, true, false, ◌&&�
 use Rattle.std.specs.Prelude.{Some, None, Result, Ok, Err, is_some, unwrap_or, codes, if◌then◌else◌}
 use Rattle.std.specs.Str.{bytes_eq}
 use Rattle.std.specs.List.{list_all}
-use Rattle.dstm_model.specs.declared.layout.TheConstants.{MAX_ACCOUNTS, MAX_OPENING, MAX_LIST_NODES, MAX_TREE_NODES}
 use Rattle.dstm_text.specs.Lines.{fields_of}
 use Rattle.dstm_text.specs.Number.{number_of}
 use Rattle.dstm_workload.specs.declared.refused.Why.{Why}
@@ -13,7 +12,6 @@ use Rattle.dstm_workload.specs.declared.word.Word.TheVariants as word
 use Rattle.dstm_workload.specs.declared.known.Known.{Known}
 use Rattle.dstm_workload.specs.declared.known.Entry.{Entry}
 use Rattle.dstm_workload.specs.declared.known.Entry.TheVariants as entry
-use Rattle.dstm_workload.specs.declared.workload.TheConstants.{MAX_WORKERS, MAX_JOBS, MAX_OPS, VERSIONS}
 use Rattle.dstm_workload.specs.Words.{word_of}
 use Rattle.dstm_workload.specs.Fields.{◌>>=◌, number_at, end_at}
 use Rattle.dstm_workload.specs.Operations.{ops_at}
@@ -30,7 +28,7 @@ is_printable b = nat_le 32 b && nat_le b 126
 -- the version of the header with these fields: `dstm` and 1, 2 or 3
 abbrev pub version_in : Option ℕ → Option ℕ
 version_in None = None
-version_in (Some n) = if nat_le 1 n && nat_le n VERSIONS then Some n else None
+version_in (Some n) = if nat_le 1 n && nat_le n 3 then Some n else None
 
 abbrev pub header_of : List (List ℕ) → Option ℕ
 header_of (name ∷ version ∷ []) =
@@ -51,29 +49,29 @@ free_for known declared =
 unfoldable pub workers_at : Known → List (List ℕ) → Result Entry Why
 workers_at known fields = do
   free ← free_for known (is_some known.workers)
-  n ← number_at 1 MAX_WORKERS fields
+  n ← number_at 1 32 fields
   end ← end_at n.1
   Ok (entry.Workers n.0)
 
 unfoldable pub bank_at : Known → List (List ℕ) → Result Entry Why
 bank_at known fields = do
   free ← free_for known (is_some known.bank)
-  n ← number_at 1 MAX_ACCOUNTS fields
-  b ← number_at 0 MAX_OPENING n.1
+  n ← number_at 1 4096 fields
+  b ← number_at 0 1000000000 n.1
   end ← end_at b.1
   Ok (entry.Bank (record { accounts = n.0; opening = b.0 }))
 
 unfoldable pub list_at : Known → List (List ℕ) → Result Entry Why
 list_at known fields = do
   free ← free_for known (is_some known.list)
-  n ← number_at 1 MAX_LIST_NODES fields
+  n ← number_at 1 1024 fields
   end ← end_at n.1
   Ok (entry.List n.0)
 
 unfoldable pub tree_at : Known → List (List ℕ) → Result Entry Why
 tree_at known fields = do
   free ← free_for known (is_some known.tree)
-  n ← number_at 1 MAX_TREE_NODES fields
+  n ← number_at 1 65535 fields
   end ← end_at n.1
   Ok (entry.Tree n.0)
 
@@ -84,13 +82,13 @@ abbrev pub worker_count : Known → ℕ
 worker_count known = unwrap_or known.workers 1
 
 abbrev pub room_for_job : Known → Result Bool Why
-room_for_job known = if nat_lt known.transactions MAX_JOBS then Ok true else Err TooMany
+room_for_job known = if nat_lt known.transactions 20000 then Ok true else Err TooMany
 
 unfoldable pub transaction_at : ℕ → Known → ℕ → List (List ℕ) → Result Entry Why
 transaction_at version known line fields = do
   room ← room_for_job known
   worker ← number_at 0 (worker_count known - 1) fields
-  ops ← ops_at version known MAX_OPS 0 true worker.1
+  ops ← ops_at version known 8 0 true worker.1
   Ok (entry.Transaction (record { line = line; worker = worker.0; ops = ops }))
 
 -- ---- lines

@@ -4,7 +4,6 @@ use Rattle.dstm_model.specs.declared.layout.Layout.{Layout}
 use Rattle.dstm_workload.specs.declared.refused.Why.{Why}
 use Rattle.dstm_workload.specs.declared.refused.Refused.{Refused}
 use Rattle.dstm_workload.specs.declared.workload.Job.{Job}
-use Rattle.dstm_workload.specs.declared.workload.TheConstants.{MAX_JOBS}
 use Rattle.dstm_workload.specs.Answers.{refused}
 use Rattle.dstm_workload.specs.Entries.{entry_of}
 use Rattle.dstm_workload.specs.declared.known.Known.{Known}
@@ -25,7 +24,7 @@ with_entry known (entry.Transaction job) = record known { transactions = known.t
 
 -- a transaction comes only where there is room for it
 abbrev pub HasRoomFor : Known → Entry → Type 0
-HasRoomFor known (entry.Transaction job) = known.transactions < MAX_JOBS
+HasRoomFor known (entry.Transaction job) = known.transactions < 20000
 HasRoomFor known other = Unit {0}
 
 -- sizes are 0 where nothing is declared

@@ -1,7 +1,6 @@
 -- The operations of a transaction, read from the left.
 use Rattle.std.specs.Prelude.{ℕ, zero, suc, ◌<◌, ◌+◌, ◌-◌, ◌^◌, Bool, true, false, nat_lt, List}
 use Rattle.std.specs.Prelude.{[], ◌∷◌, Option, Some, None, Result, Ok, Err, if◌then◌else◌}
-use Rattle.dstm_model.specs.declared.layout.TheConstants.{KEY_LIMIT, AMOUNT_LIMIT}
 use Rattle.dstm_model.specs.declared.op.Which.{Which}
 use Rattle.dstm_model.specs.declared.op.Which.TheVariants as which
 use Rattle.dstm_model.specs.declared.op.Cond.TheVariants as cond
@@ -15,7 +14,6 @@ use Rattle.dstm_workload.specs.declared.known.Bank.{Bank}
 use Rattle.dstm_workload.specs.declared.known.Known.{Known}
 use Rattle.dstm_workload.specs.declared.operations.Separator.{Separator}
 use Rattle.dstm_workload.specs.declared.operations.Separator.TheVariants as separator
-use Rattle.dstm_workload.specs.declared.workload.TheConstants.{MAX_OPS}
 use Rattle.dstm_workload.specs.Words.{word_of}
 use Rattle.dstm_workload.specs.Fields.{◌>>=◌, operand_at, declared}
 
@@ -25,10 +23,10 @@ abbrev pub account_at : Bank → List (List ℕ) → Result (ℕ × List (List �
 account_at bank fields = operand_at 0 (bank.accounts - 1) fields
 
 abbrev pub amount_at : List (List ℕ) → Result (ℕ × List (List ℕ)) Why
-amount_at fields = operand_at 0 (AMOUNT_LIMIT - 1) fields
+amount_at fields = operand_at 0 9999999999999 fields
 
 abbrev pub key_at : List (List ℕ) → Result (ℕ × List (List ℕ)) Why
-key_at fields = operand_at 0 (KEY_LIMIT - 1) fields
+key_at fields = operand_at 0 1048574 fields
 
 abbrev pub value_at : List (List ℕ) → Result (ℕ × List (List ℕ)) Why
 value_at fields = operand_at 0 (2 ^ 64 - 1) fields
@@ -158,17 +156,17 @@ op_at version known first (field ∷ fields) = op_of version known first fields 
 
 abbrev pub next_of : ℕ → List (List ℕ) → Option Word → Result (Separator × List (List ℕ)) Why
 next_of done fields (Some word.Semicolon) =
-    if nat_lt done MAX_OPS then Ok (separator.Then, fields) else Err TooMany
+    if nat_lt done 8 then Ok (separator.Then, fields) else Err TooMany
 next_of done fields (Some word.OrElse) =
-    if nat_lt (done + 1) MAX_OPS then Ok (separator.OrElse, fields) else Err TooMany
+    if nat_lt (done + 1) 8 then Ok (separator.OrElse, fields) else Err TooMany
 next_of done fields (Some other) = Err Extra
 next_of done fields None = Err Extra
 
 -- there is room for what a separator brings
 abbrev pub HasRoom : ℕ → Separator → Type 0
 HasRoom done separator.End = Unit {0}
-HasRoom done separator.Then = done < MAX_OPS
-HasRoom done separator.OrElse = done + 1 < MAX_OPS
+HasRoom done separator.Then = done < 8
+HasRoom done separator.OrElse = done + 1 < 8
 
 unfoldable pub next_at : ℕ → ℕ → List (List ℕ) → Result (Separator × List (List ℕ)) Why
 next_at version done [] = Ok (separator.End, [])

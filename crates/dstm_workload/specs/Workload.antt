@@ -7,7 +7,6 @@ use Rattle.dstm_model.specs.declared.op.Op.{Op}
 use Rattle.dstm_model.specs.declared.op.Op.TheVariants.{Put, Get, Await, OrElse}
 use Rattle.dstm_workload.specs.declared.workload.Job.{Job}
 use Rattle.dstm_workload.specs.declared.workload.Workload.{Workload}
-use Rattle.dstm_workload.specs.declared.workload.TheConstants.{MAX_WORKERS, MAX_JOBS, MAX_OPS, VERSIONS}
 
 -- the version has this operation
 abbrev pub HasOp : ℕ → Op → Type 0
@@ -34,7 +33,7 @@ IsBranch (op ∷ ops) = All IsNoAwait ops
 -- a job of a workload
 pub record IsJob (workload : Workload) (job : Job) : Type 0 where
   pub worker : job.worker < workload.workers
-  pub few : length job.ops ≤ MAX_OPS
+  pub few : length job.ops ≤ 8
   pub fits : All (FitsLayout workload.layout) job.ops
   pub version : All (HasOp workload.version) job.ops
   pub values : All HasValue job.ops
@@ -46,10 +45,10 @@ lines_of_jobs jobs = map (λ job. job.line) jobs
 -- a valid workload
 pub record IsValidWorkload (workload : Workload) : Type 0 where
   pub oldest : 1 ≤ workload.version
-  pub newest : workload.version ≤ VERSIONS
+  pub newest : workload.version ≤ 3
   pub some_worker : 1 ≤ workload.workers
-  pub workers : workload.workers ≤ MAX_WORKERS
+  pub workers : workload.workers ≤ 32
   pub layout : IsValid workload.layout
-  pub few : length workload.jobs ≤ MAX_JOBS
+  pub few : length workload.jobs ≤ 20000
   pub rising : IsStrictlyIncreasing (lines_of_jobs workload.jobs)
   pub each : All (IsJob workload) workload.jobs

@@ -27,7 +27,7 @@ pub enum Separator {
 /// Takes the operations of a transaction, all that is left of its line.
 #[tactic(auto, unfolding(crate::specs::Operations::ops_at))]
 pub fn operations(fields: &mut Fields<'_>, known: &Known, version: u32) -> Result<Ops, Why>
-    ensures { IsRead result (λ ops. ops) (ops_at version known.now MAX_OPS 0 true fields.old) }
+    ensures { IsRead result (λ ops. ops) (ops_at version known.now 8 0 true fields.old) }
 {
     let mut ops = Ops::new();
     let mut first = true;
@@ -47,7 +47,7 @@ pub fn operations(fields: &mut Fields<'_>, known: &Known, version: u32) -> Resul
 
 #[tactic(auto, unfolding(crate::specs::Operations::next_at))]
 fn next_separator(fields: &mut Fields<'_>, version: u32, done: usize) -> Result<Separator, Why>
-    requires { done ≤ MAX_OPS }
+    requires { done ≤ 8 }
     ensures read { IsRead result (λ n. (n, fields.new)) (next_at version done fields.old) }
     ensures room { IfOk result (HasRoom done) }
 {

@@ -246,6 +246,8 @@ fn workloads_are_written(rt: HostRuntime) -> Result<(), Fail> {
         let written = write_workload(rt.alloc(), &workload)?;
         assert_eq!(rt; written.as_slice(), want);
     }
+    read_back();
+    before_a_mark();
     Ok(())
 }
 

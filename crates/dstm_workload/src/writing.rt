@@ -1,5 +1,6 @@
-ghost use Rattle.std.specs.Prelude.{◌≡◌, ◌++◌, [], ◌∷◌, List, ℕ, IfOk, OnOk, Ok, map, codes, decimal, false};
-ghost use Rattle.dstm_text.specs.Lines.{space, line_feed, lines_of};
+ghost use Rattle.std.specs.Prelude.{◌≡◌, ◌++◌, [], ◌∷◌, List, ℕ, IfOk, OnOk, Ok, Some, map, codes, decimal, false};
+ghost use Rattle.dstm_text.specs.Lines.{space, line_feed, lines_of, split_lines};
+ghost use Rattle.dstm_workload.specs.declared.workload.Workload.{Workload as TheWorkload};
 ghost use Rattle.dstm_workload.specs.Workload.{IsValidWorkload};
 ghost use Rattle.dstm_workload.specs.Reading.{workload_of};
 ghost use Rattle.dstm_workload.specs.Writing.{spaced, joined, lined, structure_name, fields_of_cond};
@@ -28,6 +29,21 @@ pub fn write_workload(alloc: Global, workload: &Workload) -> Result<Vec<u8>, All
     }
     Ok(out)
 }
+
+/// The law of writing and reading: what is read from the text of a valid workload is the workload, with the
+/// lines of the text.
+pub fn read_back()
+    ensures { (workload : TheWorkload) → IsValidWorkload workload →
+        workload_of (lines_of (text_of_workload workload)) ≡ Ok (as_written workload) }
+{}
+
+/// The law of what follows a workload: where a line `---` is put behind its text, that line is the first one,
+/// and the text is what stands before it.
+pub fn before_a_mark()
+    ensures { (workload : TheWorkload) (rest : List ℕ) → IsValidWorkload workload →
+        split_lines (codes "---") (lines_of (text_of_workload workload ++ codes "---\n" ++ rest))
+        ≡ (lines_of (text_of_workload workload), Some (lines_of rest)) }
+{}
 
 fn declare(out: &mut Vec<u8>, layout: &Layout) -> Result<(), AllocError>
     ensures { OnOk result (out.new.items ≡ out.old.items ++ lined (declarations layout.now)) }

@@ -1,42 +1,39 @@
-use Rattle.std.proofs.Common.{◌≡◌, ℕ, Option, Some, None, List, subst, slice_index}
-use Rattle.std.specs.Prelude.{IfSome, slice_get}
-use borrow.Author.Count.{below_more}
+use Rattle.std.proofs.Common.{◌≡◌, List, Option, Some, option_map, ap, sym, subst, ◌∙◌, refl, arith}
+use Rattle.std.specs.List.{All}
 use Rattle.dstm_model.specs.declared.reply.Reply.{Reply}
-use Rattle.dstm_model.specs.Job.{apply_job}
+use Rattle.dstm_model.specs.Layout.{FitsLayout}
 use Rattle.dstm_model.specs.Store.{Store}
+use Rattle.dstm_model.specs.Job.{JobOutcome, apply_job}
 use Rattle.dstm_workload.specs.declared.workload.Job.{Job}
-use Rattle.dstm_cli.specs.Running.{IsTried}
-use Rattle.dstm_cli.proofs.Turns.{turn_of, blocked_of}
+use Rattle.dstm_report.specs.Lawful.{first_job}
+use Rattle.dstm_report.proofs.Rising.{first_holds, first_own, all_blocked}
+use Rattle.dstm_cli.specs.Running.{AnswersTurn}
 use Rattle.dstm_cli.proofs.running.open_turn.Goals as goal
 
-pub returns-in-Some-clause-turn : goal.returns-in-Some-clause-turn
-returns-in-Some-clause-turn c =
-    let jobs = c.args.jobs.now in
-    let cursors = c.args.cursors.now in
-    let worker = c.loop-worker.worker in
-    let job : Option Job = slice_get jobs (slice_index cursors worker) in
-    let after = c.try_job.new.store in
-    turn_of jobs cursors c.args.store.now after worker c.in-Some.replies c.loop-worker-test.true
-    (subst (λ (s : Store). IsTried job s after (Some c.in-Some.replies)) c.loop-worker.invariant.store
-    (subst (λ (r : Option (List Reply)). IsTried job c.loop-worker.store after r) c.in-Some.is
-    c.in_ok-turn.ensures.tried))
+pub apply_job-requires : goal.apply_job-requires
+apply_job-requires c =
+    subst (λ (s : Store). All (FitsLayout s.layout) c.in-Some.job.now.ops) (sym c.loop-worker.invariant.store)
+    (first_holds (λ (job : Job). All (FitsLayout c.args.store.now.layout) job.ops) c.loop-worker.worker
+    c.args.turns.now c.in-Some.job.now c.requires.fits (sym c.in-Some.ensures))
 
-pub loop-worker-preserved : goal.loop-worker-preserved
-loop-worker-preserved c =
-    let jobs = c.args.jobs.now in
-    let cursors = c.args.cursors.now in
-    let worker = c.loop-worker.worker in
-    let job : Option Job = slice_get jobs (slice_index cursors worker) in
+pub returns-in-Some-2-clause-turn : goal.returns-in-Some-2-clause-turn
+returns-in-Some-2-clause-turn c =
+    let left = c.args.turns.now in
+    let job = c.in-Some.job.now in
     let before = c.args.store.now in
-    let after = c.try_job.new.store in
-    let tried : IsTried job before after None =
-    subst (λ (s : Store). IsTried job s after None) c.loop-worker.invariant.store
-    (subst (λ (r : Option (List Reply)). IsTried job c.loop-worker.store after r) c.in_default.is
-    c.in_ok-turn.ensures.tried) in
-    let here = blocked_of job before after tried in
-    let IsBlocked : ℕ → Type 0 = λ v. IfSome (slice_get jobs (slice_index cursors v))
-    (λ j. apply_job j.ops before ≡ None) in
+    let after = c.apply_job.new.self in
+    let is = sym c.in-Some.ensures in
+    let done : apply_job job.ops before ≡ Some (record { replies = c.in-Some-2.replies; store = after }) =
+    ap (apply_job job.ops) (sym c.loop-worker.invariant.store) ∙ c.in_ok-replies.ensures.ok
+    ∙ ap (λ (o : Option (List Reply)). option_map (λ rs. record { replies = rs; store = after }) o) c.in-Some-2.is in
     record {
-      store = here.1;
-      blocked = below_more IsBlocked worker c.loop-worker.invariant.blocked here.0;
+      first = ap (λ w. first_job w left) (first_own c.loop-worker.worker left job is) ∙ is;
+      answer = subst (λ (o : Option JobOutcome). AnswersTurn left before o c.in-Some-2.replies after) (sym done)
+          (refl, refl);
     }
+
+pub returns-clause-blocked : goal.returns-clause-blocked
+returns-clause-blocked c =
+    let past = c.loop-worker-test.false in
+    all_blocked c.args.workers c.args.turns.now c.args.store.now c.requires.small
+    (λ k lt. c.loop-worker.invariant.blocked k (omega (arith, lt, past)))

@@ -1,5 +1,5 @@
-use Rattle.dstm_report.specs.Replaying.{AreLinked}
-use Rattle.dstm_report.proofs.replay.links.Given as goal
+use Rattle.dstm_report.specs.Turns.{AreLinked}
+use Rattle.dstm_report.proofs.turns.links.Given as goal
 
 abbrev pub invariant-loop-place : goal.invariant-loop-place
 invariant-loop-place l = AreLinked l.jobs l.workers l.place l.first.items l.following.items

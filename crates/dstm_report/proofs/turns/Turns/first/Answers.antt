@@ -1,0 +1,14 @@
+use Rattle.std.proofs.Common.{List, ℕ, ap, ◌∙◌}
+use Rattle.dstm_report.specs.Lawful.{first_job}
+use Rattle.dstm_report.specs.Turns.{job_of}
+use Rattle.dstm_report.proofs.Places.{first_at}
+use Rattle.dstm_report.proofs.turns.Turns.first.Goals as goal
+
+pub returns : goal.returns
+returns c =
+    let jobs = c.self.inside.jobs.now in
+    let next = c.self.inside.next.items in
+    c.job_of.ensures
+    ∙ ap (λ (places : List ℕ). job_of jobs places c.args.worker) c.deref.ensures.value
+    ∙ first_at jobs next c.self.inside.following.items c.args.worker c.self.invariant
+    ∙ ap (first_job c.args.worker) c.self.view_is
