@@ -32,7 +32,8 @@ use Rattle.dstm_order.specs.Tasks.{Task}
 
 module _ {L : Type 0} (holds : L → List Val → Type 0) (home : Home L) (b : Began) where
   -- a pass that began in a state, and whose reads are being checked
-  pub record Checking (next : LocalState → Due) (start : LocalState) (steps : Steps L) (slots : List ReadSlot) : Type 0 where
+  pub record Checking (next : LocalState → Due) (start : LocalState) (steps : Steps L) (slots : List ReadSlot) : Type
+      0 where
     pub under : Under holds home b steps (next (now home steps)) None
     pub state : now home steps ≡ record start { checked = (now home steps).checked }
     pub same : kept slots ≡ words_of (drop (now home steps).checked start.reads)
@@ -72,7 +73,8 @@ module _ {L : Type 0} (holds : L → List Val → Type 0) (home : Home L) (b : B
         new.missed < MAX_MISSED → Checking next start new (drop (i + 1) slots)
     checked_one old new slots i c h is u state tries =
         let n = slot_next slots start.reads i (now home old).checked c.same h is in
-        let checked : (now home new).checked ≡ (now home old).checked + 1 = ap (λ (l : LocalState). l.checked) state in record {
+        let checked : (now home new).checked ≡ (now home old).checked + 1 =
+        ap (λ (l : LocalState). l.checked) state in record {
           under = u;
           state = state ∙ ap (λ (l : LocalState). record l { checked = (now home old).checked + 1 }) c.state
               ∙ ap (λ n. record start { checked = n }) (sym checked);
@@ -83,7 +85,8 @@ module _ {L : Type 0} (holds : L → List Val → Type 0) (home : Home L) (b : B
 
     -- a slot that is not kept is not checked
     pub checked_none : (steps : Steps L) (slots : List ReadSlot) (i : ℕ) → Checking next start steps (drop i slots) →
-        i < length slots → (slice_index_or slots i no_slot).kept ≡ false → Checking next start steps (drop (i + 1) slots)
+        i < length slots → (slice_index_or slots i no_slot).kept ≡ false →
+        Checking next start steps (drop (i + 1) slots)
     checked_none steps slots i c h is = record {
       under = c.under;
       state = c.state;

@@ -92,8 +92,11 @@ pub stays_object : (old new : LocalState) (object word : ℕ) (changed : Bool) �
 } → old.stale ≡ false → changed ≡ false →
     new ≡ record old { resolution = new.resolution; pass = new.pass; checked = new.checked }
 stays_object old new object word changed q agreed same =
-    q ∙ rw (ap (λ (l : LocalState). l.resolution) q, ap (λ (l : LocalState). l.pass) q,
-    ap (λ (l : LocalState). l.checked) q)
+    q ∙ rw (
+      ap (λ (l : LocalState). l.resolution) q,
+      ap (λ (l : LocalState). l.pass) q,
+      ap (λ (l : LocalState). l.checked) q,
+    )
     (ap (λ b. record old {
       resolution = Some (record {
         object = object;
@@ -166,17 +169,25 @@ module _ {L : Type 0} (holds : L → List Val → Type 0) (home : Home L) (b : B
         (made_by b Load LookStatus 0 code) → StaysAt (now home old) (now home last)
     stays_encounter last code then =
         stays_then (now home old) (now home new) (now home last)
-        (stays_resolving (now home old) (now home new) (record (res (now home old)) { owner = Some owner }) state refl refl)
-        (stays_resolving (now home new) (now home last) (record (res (now home new)) { status = Some code }) then refl refl)
+        (stays_resolving (now home old) (now home new) (record (res (now home old)) { owner = Some owner }) state
+        refl refl)
+        (stays_resolving (now home new) (now home last) (record (res (now home new)) { status = Some code }) then
+        refl refl)
 
   -- where there are ranks that of a live owner is looked at
   pub rank_due : (steps : Steps L) (word owner code : ℕ) → Encounters holds home b steps word owner code →
       is_live code ≡ true → has_ranks home.terms.shape.manager ≡ true → Under holds home b steps (just LookRank) None
   rank_due steps word owner code en live ranks =
       under_is holds home b steps _ _ _ _ en.under
-      (rw (en.running.phase, en.owner_is, en.status,
-      version_live (res (now home steps)).word code (res (now home steps)).old (rw en.word_is en.some) live, live, ranks,
-      en.rank) refl) refl
+      (rw (
+        en.running.phase,
+        en.owner_is,
+        en.status,
+        version_live (res (now home steps)).word code (res (now home steps)).old (rw en.word_is en.some) live,
+        live,
+        ranks,
+        en.rank,
+      ) refl) refl
 
   -- under Polite the conflict begins at once
   pub meets_polite : (steps : Steps L) (word owner code : ℕ) → Encounters holds home b steps word owner code →

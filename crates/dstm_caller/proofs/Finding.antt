@@ -66,7 +66,7 @@ found_value s b old mid new word named high low same v p q = record {
   version_is = ap (λ l. version (res l)) q ∙ ap (λ l. version (res l)) p ∙ v;
   resolved = ap (λ l. is_resolved (res l)) q
       ∙ cond_both (or_zero (version (res mid)) == 0) (is_some (version (res mid))) true (λ x. x ≡ true)
-          (λ _. rw (ap (λ l. version (res l)) p ∙ v) refl) (λ _. refl);
+      (λ _. rw (ap (λ l. version (res l)) p ∙ v) refl) (λ _. refl);
   high_is = λ _. ap (λ l. (res l).high) q ∙ ap (λ l. (res l).high) p;
   low_is = λ _. ap (λ l. (res l).value) q;
 }

@@ -9,3 +9,4 @@ pub mod Meeting
 pub mod Finding
 pub mod Undrawn
 pub mod Encounters
+pub mod Unused

@@ -45,8 +45,11 @@ use Rattle.dstm_caller.proofs.Stepping.{under_is, status_named}
 pub version_live : (word code : ℕ) (old : Option ℕ) → 0 < word → is_live code ≡ true →
     version_by word (Some code) old ≡ None
 version_live word code old h l =
-    rw (ne_eqb word 0 (λ q. omega arith), ne_eqb code 4 (λ q. grind (arith, nat_tests)),
-    ne_eqb code 5 (λ q. grind (arith, nat_tests))) refl
+    rw (
+      ne_eqb word 0 (λ q. omega arith),
+      ne_eqb code 4 (λ q. grind (arith, nat_tests)),
+      ne_eqb code 5 (λ q. grind (arith, nat_tests)),
+    ) refl
 
 -- a status that was found has a code of an attempt that has begun
 pub code_in : {L : Type 0} {task : Task} (holds : L → List Val → Type 0) (home : Home L) (b : Began) (steps : Steps L)
@@ -69,13 +72,15 @@ rank_in holds home b steps d a u =
     (found_is_rank home.terms.shape (view_of steps.seat).log u.run.run.core b.number)
 
 -- where ranks rise the own one is small
-pub small_rank : {L : Type 0} {task : Task} (holds : L → List Val → Type 0) (home : Home L) (b : Began) (steps : Steps L)
+pub small_rank : {L : Type 0} {task : Task} (holds : L → List Val → Type 0) (home : Home L) (b : Began)
+    (steps : Steps L)
     (d : Due) (a : Option Again) → InTask holds home task b steps d a → rises home.terms.shape.manager ≡ true →
     steps.rank ≤ MAX_RANK
 small_rank holds home b steps d a u r =
     let here : now home steps ≡ local home.terms.shape (view_of steps.seat).log b.number =
     ap (λ o. state_by home.terms.shape o (view_of steps.seat).log) u.number in
-    let small = (are_small home.terms.shape (view_of steps.seat).log (which home.terms.shape.manager r) u.run.run.core).own
+    let small = (are_small home.terms.shape (view_of steps.seat).log (which home.terms.shape.manager r)
+    u.run.run.core).own
     b.number in
     rw (u.mirror.rank, ap (λ (l : LocalState). l.rank) here) small
   where
@@ -109,8 +114,13 @@ module _ {L : Type 0} (holds : L → List Val → Type 0) (home : Home L) (b : B
         in_resolving home.terms.shape.manager (now home steps) (effort_by steps) d
         ≡ in_conflict home.terms.shape.manager (now home steps) (effort_by steps)
     conflict_due met live d =
-        rw (met.in_phase, met.owner_is, met.status,
-        version_live (res (now home steps)).word code (res (now home steps)).old met.word live, live) refl
+        rw (
+          met.in_phase,
+          met.owner_is,
+          met.status,
+          version_live (res (now home steps)).word code (res (now home steps)).old met.word live,
+          live,
+        ) refl
 
     -- while turns are left the status is looked at
     pub turn_due : Meets holds home b Running steps owner code → is_live code ≡ true → 0 < steps.left →
@@ -305,7 +315,8 @@ keeps_killed old new put q = record {
 }
 
 -- and giving way, from its Pause to its Resume
-pub keeps_aside : (a b c d : LocalState) → a.phase ≡ Running → b ≡ record a { phase = Paused; pass = None; checked = 0 } →
+pub keeps_aside : (a b c d : LocalState) → a.phase ≡ Running →
+    b ≡ record a { phase = Paused; pass = None; checked = 0 } →
     Keeps b c → d ≡ record c { phase = Running; pass = None; checked = 0 } → Keeps a d
 keeps_aside a b c d run p k q = record {
   attempt = attempt;
@@ -321,8 +332,11 @@ keeps_aside a b c d run p k q = record {
 
     parts : record a { phase = Running; resolution = c.resolution; pass = None; checked = 0 }
         ≡ record a { resolution = d.resolution; pass = d.pass; checked = d.checked }
-    parts = rw (ap (λ (l : LocalState). l.resolution) whole, ap (λ (l : LocalState). l.pass) whole,
-        ap (λ (l : LocalState). l.checked) whole)
+    parts = rw (
+      ap (λ (l : LocalState). l.resolution) whole,
+      ap (λ (l : LocalState). l.pass) whole,
+      ap (λ (l : LocalState). l.checked) whole,
+    )
         (ap (λ x. record a { phase = x; resolution = c.resolution; pass = None; checked = 0 }) (sym run))
 
     attempt : d ≡ record a { resolution = d.resolution; pass = d.pass; checked = d.checked }
@@ -356,9 +370,10 @@ pub may_kill : (m : Manager) (l : LocalState) (c : Effort) → (has_ranks m && i
 may_kill Polite l c rank q = tt
 may_kill Karma l c rank q = tt
 may_kill Polka l c rank q = tt
-may_kill Greedy l c rank q =
-    (is_there (res l).rank rank,
-    go (nat_lt l.rank (or_zero (res l).rank)) refl (is_waiting (status_of (or_zero (res l).status))) refl q)
+may_kill Greedy l c rank q = (
+  is_there (res l).rank rank,
+  go (nat_lt l.rank (or_zero (res l).rank)) refl (is_waiting (status_of (or_zero (res l).status))) refl q,
+)
   where
     go : (b : Bool) → nat_lt l.rank (or_zero (res l).rank) ≡ b → (w : Bool) →
         is_waiting (status_of (or_zero (res l).status)) ≡ w →
@@ -436,7 +451,8 @@ quit_waited l c agreed tries = rw (agreed, ne_eqb c.missed MAX_MISSED (λ q. ome
 -- what the last status adds
 last_part : (code : ℕ) → (1 ≤ (if code == 2 then 1 else 2)) × ((if code == 2 then 1 else 2) ≤ 2)
 last_part code =
-    cond_both (code == 2) 1 2 (λ n. (1 ≤ n) × (n ≤ 2)) (λ _. (omega arith, omega arith)) (λ _. (omega arith, omega arith))
+    cond_both (code == 2) 1 2 (λ n. (1 ≤ n) × (n ≤ 2)) (λ _. (omega arith, omega arith))
+    (λ _. (omega arith, omega arith))
 
 pub less_missed : (missed round code new : ℕ) → missed < 64 → is_live code ≡ true →
     patience_left (missed + 1) round new < patience_left missed round code

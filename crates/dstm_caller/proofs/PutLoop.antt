@@ -65,15 +65,18 @@ module _ {L : Type 0} (holds : L → List Val → Type 0) (home : Home L) (b : B
       let log : List Event = (view_of steps.seat).log in
       let l : LocalState = local s log b.number in
       let q = here steps d a u in
-      rw is (subst (λ (l : LocalState). Numbered (b.number * s.locators + (l.installed - length l.writes)) l.writes) (sym q)
+      rw is (subst (λ (l : LocalState). Numbered (b.number * s.locators + (l.installed - length l.writes)) l.writes)
+      (sym q)
       (static s log u.run.run.core b.number).numbered)
 
   -- the write whose value is put next
   pub record NextPut (steps : Steps L) (locator : ℕ) (slot : WriteSlot) : Type 0 where
     pub left : (now home steps).written < length (now home steps).writes
     pub locator_is : (next_write (now home steps)).locator ≡ locator
-    pub high : (now home steps).high_put ≡ false → in_putting (value_in (work_of b.task)) (now home steps) ≡ Step PutHigh (to_put slot).high
-    pub low : (now home steps).high_put ≡ true → in_putting (value_in (work_of b.task)) (now home steps) ≡ Step PutNew (to_put slot).low
+    pub high : (now home steps).high_put ≡ false →
+        in_putting (value_in (work_of b.task)) (now home steps) ≡ Step PutHigh (to_put slot).high
+    pub low : (now home steps).high_put ≡ true →
+        in_putting (value_in (work_of b.task)) (now home steps) ≡ Step PutNew (to_put slot).low
 
   pub next_put : (start steps : Steps L) (first : ℕ) (slots : List WriteSlot) (i : ℕ) →
       AreWrites slots (now home start).writes → Numbered first (now home start).writes →
@@ -87,8 +90,10 @@ module _ {L : Type 0} (holds : L → List Val → Type 0) (home : Home L) (b : B
       let more = ne_eqb (now home steps).written (length (now home steps).writes) (λ q. omega arith) in
       let object : (next_write (now home steps)).object ≡ (slice_index_or slots i no_slot).object =
       rw (writes, written) (slot_object slots ws i m h) in
-      let value : value_in (work_of b.task) (next_write (now home steps)).object ≡ to_put (slice_index_or slots i no_slot) =
-      rw object (All-get_or (λ slot. value_in (work_of b.task) slot.object ≡ to_put slot) slots i no_slot h values) in record {
+      let value : value_in (work_of b.task) (next_write (now home steps)).object
+      ≡ to_put (slice_index_or slots i no_slot) =
+      rw object (All-get_or (λ slot. value_in (work_of b.task) slot.object ≡ to_put slot) slots i no_slot h values)
+      in record {
         left = left;
         locator_is = rw (writes, written) (numbered-get first ws i n (omega arith));
         high = λ q. rw (more, q, value) refl;
@@ -101,7 +106,8 @@ module _ {L : Type 0} (holds : L → List Val → Type 0) (home : Home L) (b : B
       Holds home mid (HighWord (first + i)) (to_put (slice_index_or slots i no_slot)).high →
       e.place ≡ place home.terms.shape (LowWord (first + i)) → e.put ≡ (to_put (slice_index_or slots i no_slot)).low →
       (j : ℕ) → j < i + 1 →
-      new_value home.terms.shape (e ∷ (between ++ (view_of mid.seat).log)) (first + j) ≡ to_put (slice_index_or slots j no_slot)
+      new_value home.terms.shape (e ∷ (between ++ (view_of mid.seat).log)) (first + j)
+      ≡ to_put (slice_index_or slots j no_slot)
   put_one mid first slots i e between core put high aimed puts j h = go (cases_lt j i)
     where
       s : Shape
@@ -111,7 +117,8 @@ module _ {L : Type 0} (holds : L → List Val → Type 0) (home : Home L) (b : B
       run = e ∷ (between ++ (view_of mid.seat).log)
 
       -- the parts of a value make the value
-      both : (n : ℕ) (v : Val) → word s run (LowWord n) ≡ v.low → word s run (HighWord n) ≡ v.high → new_value s run n ≡ v
+      both : (n : ℕ) (v : Val) → word s run (LowWord n) ≡ v.low → word s run (HighWord n) ≡ v.high →
+          new_value s run n ≡ v
       both n v low high = rw (low, high) refl
 
       low : word s run (LowWord (first + i)) ≡ (to_put (slice_index_or slots i no_slot)).low
@@ -135,7 +142,8 @@ module _ {L : Type 0} (holds : L → List Val → Type 0) (home : Home L) (b : B
       Holds home mid (HighWord (first + i)) (to_put (slice_index_or slots i no_slot)).high →
       StoresLawfully holds home.terms (view_of mid.seat) PutNew (place home.terms.shape (LowWord (first + i)))
       (to_put (slice_index_or slots i no_slot)).low
-  lawful_put start mid d f a c u v first slots i live m n lawful past reads writes written put high found between run fits own last map long held agrees =
+  lawful_put start mid d f a c u v first slots i live m n lawful past reads writes written put high found between run
+      fits own last map long held agrees =
       let s : Shape = home.terms.shape in
       let st : List Val = home.terms.start.value.items in
       let l : LocalState = now home mid in
@@ -147,28 +155,34 @@ module _ {L : Type 0} (holds : L → List Val → Type 0) (home : Home L) (b : B
       let more : List Event = e ∷ (between ++ past.later) in
       let core : Core s (e ∷ (between ++ after)) = (run.run.core, fits) in
       let whole : e ∷ (between ++ after) ≡ more ++ log0 =
-      ap (λ es. e ∷ (between ++ es)) (sym past.whole) ∙ ap (λ es. e ∷ es) (sym (append_assoc between past.later log0)) in
+      ap (λ es. e ∷ (between ++ es)) (sym past.whole)
+      ∙ ap (λ es. e ∷ es) (sym (append_assoc between past.later log0)) in
       let c : ℕ = b.number in
       let q : l0 ≡ local s log0 c = here start d a u in
       let entry : LocalState → List Event → List (ℕ × Val) =
       λ l log. read_values s st log l.reads ++ old_values s st log l.writes in
       let seen_same : seen s st (more ++ log0) log0 c ≡ seen s st log0 log0 c =
-      seen_stays s st more log0 c (subst (Core s) whole core) u.caller (subst (λ (l : LocalState). l.phase ≢ Outside) q live) in
+      seen_stays s st more log0 c (subst (Core s) whole core) u.caller
+      (subst (λ (l : LocalState). l.phase ≢ Outside) q live) in
       let reads_same : entry l (e ∷ (between ++ after)) ≡ seen s st log0 log0 c =
       ap (λ log. entry l log) whole
       ∙ ap (λ rs. read_values s st (more ++ log0) rs ++ old_values s st (more ++ log0) l.writes) reads
       ∙ ap (λ ws. read_values s st (more ++ log0) l0.reads ++ old_values s st (more ++ log0) ws) writes
       ∙ ap (λ l. entry l (more ++ log0)) q ∙ seen_same in
-      let count : length slots ≡ i + 1 = slots_length slots l0.writes m ∙ ap length (sym writes) ∙ sym last ∙ ap (λ n. n + 1) written in
-      let put_all : (j : ℕ) → j < length slots → new_value s (e ∷ (between ++ after)) (first + j) ≡ to_put (slice_index_or slots j no_slot) =
+      let count : length slots ≡ i + 1 = slots_length slots l0.writes m ∙ ap length (sym writes) ∙ sym last
+      ∙ ap (λ n. n + 1) written in
+      let put_all : (j : ℕ) → j < length slots →
+      new_value s (e ∷ (between ++ after)) (first + j) ≡ to_put (slice_index_or slots j no_slot) =
       λ j h. put_one mid first slots i e between core put high refl refl j (rw count at h) in
       let writes_same : new_values s (e ∷ (between ++ after)) l.writes ≡ puts_of slots =
-      ap (new_values s (e ∷ (between ++ after))) writes ∙ all_put s (e ∷ (between ++ after)) first slots l0.writes m n put_all in
+      ap (new_values s (e ∷ (between ++ after))) writes
+      ∙ all_put s (e ∷ (between ++ after)) first slots l0.writes m n put_all in
       rw writes_same (lawful map long held (subst (Agrees map) reads_same agrees))
 
   -- what is put stays put in a later log
   pub puts_kept : (old new : Steps L) (first : ℕ) (slots : List WriteSlot) (i : ℕ) →
-      IsPastOf (view_of old.seat).log (view_of new.seat).log → ArePut home old first slots i → ArePut home new first slots i
+      IsPastOf (view_of old.seat).log (view_of new.seat).log → ArePut home old first slots i →
+      ArePut home new first slots i
   puts_kept old new first slots i past put j h = (
     holds_later holds home b old new (LowWord (first + j)) _ past (put j h).0,
     holds_later holds home b old new (HighWord (first + j)) _ past (put j h).1,
@@ -179,7 +193,8 @@ module _ {L : Type 0} (holds : L → List Val → Type 0) (home : Home L) (b : B
       IsPastOf (view_of old.seat).log (view_of mid.seat).log → IsPastOf (view_of mid.seat).log (view_of new.seat).log →
       ArePut home old first slots i →
       Holds home mid (HighWord (first + i)) (to_put (slice_index_or slots i no_slot)).high →
-      Holds home new (LowWord (first + i)) (to_put (slice_index_or slots i no_slot)).low → ArePut home new first slots (i + 1)
+      Holds home new (LowWord (first + i)) (to_put (slice_index_or slots i no_slot)).low →
+      ArePut home new first slots (i + 1)
   puts_more old mid new first slots i before after put high low j h = go (cases_lt j i)
     where
       both : ℕ → Type 0

@@ -160,7 +160,8 @@ module _ {L : Type 0} (holds : L → List Val → Type 0) (home : Home L) (b : B
   -- the event that the seat makes is the caller's
   pub makes_by : (v w : View L) (way : Access) (k : Kind) (p found : ℕ) → v.number ≡ Some b.number →
       Makes holds v way k p found w → Adds holds v (made_by b way k p found) w
-  makes_by v w way k p found n m = subst (λ c. Adds holds v (event_by way c k p found) w) (ap (λ o. number_or o found) n) m
+  makes_by v w way k p found n m =
+      subst (λ c. Adds holds v (event_by way c k p found) w) (ap (λ o. number_or o found) n) m
 
   module _ {task : Task} (old new : Steps L) (e : Event) (d : Due) (a : Option Again)
       (u : InTask holds home task b old d a) (m : Adds holds (view_of old.seat) e (view_of new.seat))
@@ -217,7 +218,8 @@ module _ {L : Type 0} (holds : L → List Val → Type 0) (home : Home L) (b : B
     log = m.log;
     state = state_now old new e d a u m c;
     goes_on = λ steps same t. under_adds old steps e d a u
-        (subst (λ s. Adds holds (view_of old.seat) e (view_of s)) (sym same) m) c (subst (IsOf home) (sym same) seat) is t;
+        (subst (λ s. Adds holds (view_of old.seat) e (view_of s)) (sym same) m) c (subst (IsOf home) (sym same) seat)
+        is t;
   }
 
   -- the rules let the caller make the event, whatever it finds
@@ -237,8 +239,12 @@ module _ {L : Type 0} (holds : L → List Val → Type 0) (home : Home L) (b : B
       in_range s v.log b.number e k u.run.run.core u.caller
       (λ q. subst (λ n. n < s.objects) (sym (placed way b.number k p found)) (in_shape q))
       (subst (λ l. May k s l e) here any.may) in
-      let all : AllowedAs k s l e =
-      (any.place, subst (λ w. Acts w e) (sym any.access) (acts way b.number k p found), any.may, subst (λ l. HasWord s (target k s l e)) (sym here) word) in
+      let all : AllowedAs k s l e = (
+        any.place,
+        subst (λ w. Acts w e) (sym any.access) (acts way b.number k p found),
+        any.may,
+        subst (λ l. HasWord s (target k s l e)) (sym here) word,
+      ) in
       subst (λ o. AllowedAs k s l (event_by way (number_or o found) k p found)) (sym u.number) all
 
 -- ---- what is due after an event
@@ -250,21 +256,26 @@ pub due_next : (w : Work) (s : Shape) (e : Event) (l : LocalState) (c : Effort) 
 due_next w s e l c live agreed tries = rw (live, agreed, tries) refl
 
 -- an attempt that found a read stale quits
-pub due_quit : (w : Work) (s : Shape) (newest : Option Event) (l : LocalState) (c : Effort) → is_outside l.phase ≡ false →
+pub due_quit : (w : Work) (s : Shape) (newest : Option Event) (l : LocalState) (c : Effort) →
+    is_outside l.phase ≡ false →
     l.stale ≡ true → due (Doing w) s newest l c ≡ just Quit
 due_quit w s newest l c live stale = rw (live, stale) refl
 
 -- an attempt whose exchanges failed too often quits
-pub due_lost : (w : Work) (s : Shape) (newest : Option Event) (l : LocalState) (c : Effort) → is_outside l.phase ≡ false →
+pub due_lost : (w : Work) (s : Shape) (newest : Option Event) (l : LocalState) (c : Effort) →
+    is_outside l.phase ≡ false →
     c.missed ≡ MAX_MISSED → due (Doing w) s newest l c ≡ just Quit
 due_lost w s newest l c live lost = rw (live, lost) (either l.stale)
   where
-    either : (b : Bool) → (if b || true then just Quit else next_or_first newest w s.manager l (record c { missed = MAX_MISSED })) ≡ just Quit
+    either : (b : Bool) →
+        (if b || true then just Quit else next_or_first newest w s.manager l (record c { missed = MAX_MISSED }))
+        ≡ just Quit
     either true = refl
     either false = refl
 
 -- where the attempt is left the call ends
-pub due_done : (w : Work) (s : Shape) (newest : Option Event) (l : LocalState) (c : Effort) → is_outside l.phase ≡ true →
+pub due_done : (w : Work) (s : Shape) (newest : Option Event) (l : LocalState) (c : Effort) →
+    is_outside l.phase ≡ true →
     due (Doing w) s newest l c ≡ Done
 due_done w s newest l c left = rw left refl
 
@@ -285,10 +296,12 @@ module _ {L : Type 0} (holds : L → List Val → Type 0) (home : Home L) (b : B
     (w : Went holds home b old new e) (same : steps.seat ≡ new.seat) (t : After home old steps e) where
   -- the attempt goes on after the event
   pub went_on : is_outside (now home steps).phase ≡ false → (now home steps).stale ≡ false → steps.missed < MAX_MISSED →
-      Under holds home b steps (next e.kind e (work_of b.task) home.terms.shape.manager (now home steps) (effort_by steps)) None
+      Under holds home b steps
+      (next e.kind e (work_of b.task) home.terms.shape.manager (now home steps) (effort_by steps)) None
   went_on live agreed tries =
       under_is holds home b steps _ _ _ _ (w.goes_on steps same t)
-      (due_next (work_of b.task) home.terms.shape e (now home steps) (effort_by steps) live agreed (more_tries steps.missed tries))
+      (due_next (work_of b.task) home.terms.shape e (now home steps) (effort_by steps) live agreed
+      (more_tries steps.missed tries))
       (again_none (work_of b.task) (Some e) (now home steps) (effort_by steps) live)
 
   -- it has found a read stale
@@ -319,11 +332,13 @@ module _ {L : Type 0} (holds : L → List Val → Type 0) (home : Home L) (b : B
 pub exchanged : (c : Effort) (e : Event) → e.found ≡ e.expected → exchanges c e ≡ c
 exchanged c e h = rw (eq-eqb e.found e.expected h) refl
 
-pub exchange_failed : (c : Effort) (e : Event) → e.found ≢ e.expected → exchanges c e ≡ record c { missed = c.missed + 1 }
+pub exchange_failed : (c : Effort) (e : Event) → e.found ≢ e.expected →
+    exchanges c e ≡ record c { missed = c.missed + 1 }
 exchange_failed c e h = rw (ne_eqb e.found e.expected h) refl
 
 -- one of the turns that are left
-pub turn_left : (m : Manager) (l : LocalState) (c : Effort) (e : Event) → is_some (res l).status ≡ true → l.phase ≡ Running →
+pub turn_left : (m : Manager) (l : LocalState) (c : Effort) (e : Event) → is_some (res l).status ≡ true →
+    l.phase ≡ Running →
     0 < c.left → effort_after LookStatus m l c e ≡ turn c.left c
 turn_left m l c e h p left = rw (h, p, ne_eqb c.left 0 (λ q. omega arith)) refl
 
@@ -376,11 +391,16 @@ chosen_is holds home b steps d a u enemy status rank code =
 pub first_turn : (m : Manager) (l : LocalState) (c : Effort) (e : Event) (t : ℕ) → is_some (res l).status ≡ true →
     l.phase ≡ Running → c.left ≡ 0 → chosen m l c ≡ decision.Wait t →
     effort_after LookStatus m l c e
-    ≡ turn t (record c { generator = (decided (record { manager = m; generator = c.generator }) (decision.Wait t)).generator })
+    ≡ turn t (record c {
+      generator =
+          (decided (record { manager = m; generator = c.generator }) (decision.Wait t)).generator;
+    })
 first_turn m l c e t h p left wait = rw (h, p, left, wait) refl
 
 pub manager_kept : (d : DeciderState) (turns : ℕ) → (decided d (decision.Wait turns)).manager ≡ d.manager
-manager_kept d turns = cond_both (takes_word d.manager (decision.Wait turns)) (without_word d) d (λ (x : DeciderState). x.manager ≡ d.manager) (λ _. refl) (λ _. refl)
+manager_kept d turns =
+    cond_both (takes_word d.manager (decision.Wait turns)) (without_word d) d
+    (λ (x : DeciderState). x.manager ≡ d.manager) (λ _. refl) (λ _. refl)
 
 -- ---- the end of a call
 

@@ -14,8 +14,8 @@ use Rattle.dstm_caller.specs.Under.{Began, IsRunning, Resolving, now}
 abbrev pub lets_go : ℕ → Bool
 lets_go code = not (is_live code) || code == 2
 
--- how long a conflict can go on, where its owner was found with this code: by the exchanges that may fail and the rounds
--- that are left
+-- how long a conflict can go on, where its owner was found with this code: by the exchanges that may fail and the
+-- rounds that are left
 abbrev pub patience_left : (missed round code : ℕ) → ℕ
 patience_left missed round code =
     if is_live code then 4 * (64 - missed) + 2 * (1024 - round) + (if code == 2 then 1 else 2) else 0

@@ -4,3 +4,4 @@ pub mod Writes
 pub mod Conflicts
 pub mod Finding
 pub mod Opening
+pub mod Beginning

@@ -68,5 +68,6 @@ module _ {L : Type 0} where
   abbrev pub IsLawful : (L → List Val → Type 0) → Home L → Steps L → (number : ℕ) → List WriteSlot → Type 0
   IsLawful holds home steps number slots =
       (map : List Val) → length map ≡ home.terms.shape.objects → holds home.terms.law.value map →
-      Agrees map (seen home.terms.shape home.terms.start.value.items (view_of steps.seat).log (view_of steps.seat).log number) →
+      Agrees map (seen home.terms.shape home.terms.start.value.items (view_of steps.seat).log
+      (view_of steps.seat).log number) →
       holds home.terms.law.value (with_writes map (puts_of slots))

@@ -27,7 +27,8 @@ impl<L: Law> Steps<L> {
         requires ready { IsReady (now words.now self.old) }
         requires agreed { ((now words.now self.old).stale ≡ false) × ((now words.now self.old).committed ≡ false) }
         requires tries { self.old.missed < MAX_MISSED }
-        ensures state { result ≡ true → now words.now self.new ≡ record (now words.now self.old) { phase = Validating } }
+        ensures state { result ≡ true → now words.now self.new
+            ≡ record (now words.now self.old) { phase = Validating } }
         ensures good { result ≡ true → Under L.holds words.now B.began self.new (just Draw) None }
         ensures killed { result ≡ false → Under L.holds words.now B.began self.new Done (Some Killed) }
         ensures tries { self.new.missed < MAX_MISSED }
@@ -52,7 +53,8 @@ impl<L: Law> Steps<L> {
         requires phase { (now words.now self.old).phase ≡ Validating }
         requires agreed { ((now words.now self.old).stale ≡ false) × ((now words.now self.old).committed ≡ false) }
         requires tries { self.old.missed < MAX_MISSED }
-        ensures state { now words.now self.new ≡ record (now words.now self.old) { phase = Drawn; drawn = Some result; checked = 0 } }
+        ensures state { now words.now self.new
+            ≡ record (now words.now self.old) { phase = Drawn; drawn = Some result; checked = 0 } }
         ensures good { Under L.holds words.now B.began self.new (in_checking (now words.now self.new)) None }
         ensures tries { self.new.missed < MAX_MISSED }
     {
@@ -64,10 +66,12 @@ impl<L: Law> Steps<L> {
     pub(crate) fn finish<B: InCall>(&mut self, words: &Words<L>) -> bool
         requires under { Under L.holds words.now B.began self.old (just Commit) None }
         requires phase { (now words.now self.old).phase ≡ Drawn }
-        requires checked { ((now words.now self.old).checked ≡ length (now words.now self.old).reads) ⊎ ((now words.now self.old).last_pass ≡ (now words.now self.old).drawn) }
+        requires checked { ((now words.now self.old).checked ≡ length (now words.now self.old).reads)
+            ⊎ ((now words.now self.old).last_pass ≡ (now words.now self.old).drawn) }
         requires agreed { ((now words.now self.old).stale ≡ false) × ((now words.now self.old).committed ≡ false) }
         requires tries { self.old.missed < MAX_MISSED }
-        ensures good { result ≡ true → ((now words.now self.new).committed ≡ true) × Under L.holds words.now B.began self.new Done None }
+        ensures good { result ≡ true → ((now words.now self.new).committed ≡ true)
+            × Under L.holds words.now B.began self.new Done None }
         ensures killed { result ≡ false → Under L.holds words.now B.began self.new Done (Some Killed) }
     {
         let shape = self.shape;
@@ -94,11 +98,16 @@ impl<L: Law> Steps<L> {
         requires drawn { is_some (now words.now self.old).drawn ≡ true }
         requires agreed { ((now words.now self.old).stale ≡ false) × ((now words.now self.old).committed ≡ false) }
         requires left { (now words.now self.old).checked < length (now words.now self.old).reads }
-        requires read { ((next_read (now words.now self.old)).object ≡ object) × ((next_read (now words.now self.old)).word ≡ word) }
+        requires read { ((next_read (now words.now self.old)).object ≡ object)
+            × ((next_read (now words.now self.old)).word ≡ word) }
         requires tries { self.old.missed < MAX_MISSED }
-        ensures state { result ≡ true → now words.now self.new ≡ record (now words.now self.old) { checked = (now words.now self.old).checked + 1 } }
-        ensures good { result ≡ true → Under L.holds words.now B.began self.new (in_checking (now words.now self.new)) None }
-        ensures stale { result ≡ false → ((now words.now self.new).stale ≡ true) × Under L.holds words.now B.began self.new (just Quit) None × (quit_cause (now words.now self.new) (effort_by self.new) ≡ Stale object)
+        ensures state { result ≡ true → now words.now self.new
+            ≡ record (now words.now self.old) { checked = (now words.now self.old).checked + 1 } }
+        ensures good { result ≡ true → Under L.holds words.now B.began self.new
+            (in_checking (now words.now self.new)) None }
+        ensures stale { result ≡ false → ((now words.now self.new).stale ≡ true)
+            × Under L.holds words.now B.began self.new (just Quit) None
+            × (quit_cause (now words.now self.new) (effort_by self.new) ≡ Stale object)
             × ((now words.now self.new).phase ≡ Drawn) × ((now words.now self.new).committed ≡ false) }
         ensures tries { self.new.missed < MAX_MISSED }
     {
@@ -122,11 +131,15 @@ impl<L: Law> Steps<L> {
         requires fresh { (now words.now self.old).checked ≡ 0 }
         requires slots { kept reads.now ≡ words_of (now words.now self.old).reads }
         requires tries { self.old.missed < MAX_MISSED }
-        ensures state { IfNone result (now words.now self.new ≡ record (now words.now self.old) { checked = (now words.now self.new).checked }) }
+        ensures state { IfNone result (now words.now self.new
+            ≡ record (now words.now self.old) { checked = (now words.now self.new).checked }) }
         ensures all { IfNone result (Under L.holds words.now B.began self.new (just Commit) None) }
-        ensures done { IfNone result (((now words.now self.new).checked ≡ length (now words.now self.new).reads) ⊎ ((now words.now self.new).last_pass ≡ (now words.now self.new).drawn)) }
-        ensures stale { IfSome result (λ object. Under L.holds words.now B.began self.new (just Quit) None × (quit_cause (now words.now self.new) (effort_by self.new) ≡ Stale object)) }
-        ensures live { IfSome result (λ object. ((now words.now self.new).phase ≡ Drawn) × ((now words.now self.new).committed ≡ false)) }
+        ensures done { IfNone result (((now words.now self.new).checked ≡ length (now words.now self.new).reads)
+            ⊎ ((now words.now self.new).last_pass ≡ (now words.now self.new).drawn)) }
+        ensures stale { IfSome result (λ object. Under L.holds words.now B.began self.new (just Quit) None
+            × (quit_cause (now words.now self.new) (effort_by self.new) ≡ Stale object)) }
+        ensures live { IfSome result (λ object. ((now words.now self.new).phase ≡ Drawn)
+            × ((now words.now self.new).committed ≡ false)) }
         ensures tries { self.new.missed < MAX_MISSED }
     {
         if skip {
@@ -142,7 +155,7 @@ impl<L: Law> Steps<L> {
 
     /// Commits the attempt: the number that places it in the history. `last` is the number with which its last
     /// complete pass began, and `first` the locator of its first new value.
-    pub(crate) fn commit<B: InCall>(
+    pub fn commit<B: InCall>(
         &mut self,
         words: &Words<L>,
         last: Option<u64>,
@@ -150,18 +163,21 @@ impl<L: Law> Steps<L> {
         first: u32,
         writes: &[WriteSlot],
     ) -> Result<u64, Again>
-        requires under { Under L.holds words.now B.began self.old (in_putting (value_in (work_of B.began.task)) (now words.now self.old)) None }
+        requires under { Under L.holds words.now B.began self.old
+            (in_putting (value_in (work_of B.began.task)) (now words.now self.old)) None }
         requires work { (work_of B.began.task) ≡ Committing (value_in (work_of B.began.task)) }
         requires running { IsRunning (now words.now self.old) }
         requires none { ((now words.now self.old).written ≡ 0) × ((now words.now self.old).high_put ≡ false) }
-        requires first { first ≡ B.began.number * words.now.terms.shape.locators + ((now words.now self.old).installed - length (now words.now self.old).writes) }
+        requires first { first ≡ B.began.number * words.now.terms.shape.locators +
+            ((now words.now self.old).installed - length (now words.now self.old).writes) }
         requires reads { kept reads.now ≡ words_of (now words.now self.old).reads }
         requires writes { AreWrites writes.now (now words.now self.old).writes }
         requires values { All (λ slot. value_in (work_of B.began.task) slot.object ≡ to_put slot) writes.now }
         requires lawful { IsLawful L.holds words.now self.old B.began.number writes.now }
         requires last { last ≡ (now words.now self.old).last_pass }
         requires tries { self.old.missed < MAX_MISSED }
-        ensures commits { OnOk result (((now words.now self.new).committed ≡ true) × Under L.holds words.now B.began self.new Done None) }
+        ensures commits { OnOk result (((now words.now self.new).committed ≡ true)
+            × Under L.holds words.now B.began self.new Done None) }
         ensures ends { IfErr result (λ again. Under L.holds words.now B.began self.new Done (Some again)) }
     {
         self.put_values::<B>(words, first, writes);

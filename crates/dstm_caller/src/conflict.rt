@@ -45,14 +45,22 @@ impl<L: Law> Steps<L> {
         requires under { Under L.holds words.now B.began self.old (just Kill) None }
         requires running { IsRunning (now words.now self.old) }
         requires owner { (res (now words.now self.old)).owner ≡ Some owner }
-        requires status { ((res (now words.now self.old)).status ≡ Some (code_of status)) × (is_live (code_of status) ≡ true) }
+        requires status { ((res (now words.now self.old)).status ≡ Some (code_of status))
+            × (is_live (code_of status) ≡ true) }
         requires may { MayKill words.now.terms.shape.manager (now words.now self.old) (res (now words.now self.old)) }
         requires tries { self.old.missed < MAX_MISSED }
-        ensures state { (found : ℕ) × (put : ℕ) × (now words.now self.new ≡ record (now words.now self.old) { resolution = Some (record (res (now words.now self.old)) { status = Some put }); pass = None; checked = 0 })
+        ensures state { (found : ℕ) × (put : ℕ)
+            × (now words.now self.new ≡ record (now words.now self.old) {
+              resolution =
+                  Some (record (res (now words.now self.old)) { status = Some put });
+              pass = None;
+              checked = 0;
+            })
             × IfErr result (λ code. put ≡ code) × OnOk result (put ≡ code_of Status.Aborted) }
         ensures goes_on { self.new.missed < MAX_MISSED → Resolving L.holds words.now B.began self.new }
         ensures lost { self.new.missed ≡ MAX_MISSED → Under L.holds words.now B.began self.new (just Quit) None }
-        ensures missed { OnOk result (self.new.missed ≡ self.old.missed) × OnErr result (self.new.missed ≡ self.old.missed + 1) }
+        ensures missed { OnOk result (self.new.missed ≡ self.old.missed)
+            × OnErr result (self.new.missed ≡ self.old.missed + 1) }
         ensures kept { (self.new.left ≡ self.old.left) × (self.new.round ≡ self.old.round) }
     {
         let shape = self.shape;
@@ -77,11 +85,14 @@ impl<L: Law> Steps<L> {
         requires under { Under L.holds words.now B.began self.old (just LookStatus) None }
         requires running { IsRunning (now words.now self.old) }
         requires owner { (res (now words.now self.old)).owner ≡ Some owner }
-        requires status { (is_some (res (now words.now self.old)).status ≡ true) × (is_live (or_zero (res (now words.now self.old)).status) ≡ true) }
+        requires status { (is_some (res (now words.now self.old)).status ≡ true)
+            × (is_live (or_zero (res (now words.now self.old)).status) ≡ true) }
         requires left { 0 < self.old.left }
         requires rounds { self.old.round < 1024 }
         requires tries { self.old.missed < MAX_MISSED }
-        ensures state { now words.now self.new ≡ after LookStatus words.now.terms.shape (now words.now self.old) (made_by B.began Load LookStatus 0 result) }
+        ensures state { now words.now self.new
+            ≡ after LookStatus words.now.terms.shape (now words.now self.old)
+            (made_by B.began Load LookStatus 0 result) }
         ensures under { Resolving L.holds words.now B.began self.new }
         ensures left { (self.new.left + 1 ≡ self.old.left) × (self.new.missed ≡ self.old.missed) }
         ensures rounds { rounds_of self.new ≡ rounds_of self.old }
@@ -100,14 +111,18 @@ impl<L: Law> Steps<L> {
         requires under { Under L.holds words.now B.began self.old (just Pause) None }
         requires running { IsRunning (now words.now self.old) }
         requires manager { words.now.terms.shape.manager ≡ Greedy }
-        requires enemy { (is_some (res (now words.now self.old)).owner ≡ true) × (is_some (res (now words.now self.old)).rank ≡ true)
+        requires enemy { (is_some (res (now words.now self.old)).owner ≡ true)
+            × (is_some (res (now words.now self.old)).rank ≡ true)
             × (or_zero (res (now words.now self.old)).rank ≤ (now words.now self.old).rank)
-            × (is_live (or_zero (res (now words.now self.old)).status) ≡ true) × (or_zero (res (now words.now self.old)).status ≢ code_of Status.Waiting) }
+            × (is_live (or_zero (res (now words.now self.old)).status) ≡ true)
+            × (or_zero (res (now words.now self.old)).status ≢ code_of Status.Waiting) }
         requires tries { self.old.missed < MAX_MISSED }
-        ensures state { result ≡ true → now words.now self.new ≡ record (now words.now self.old) { phase = Paused; pass = None; checked = 0 } }
+        ensures state { result ≡ true → now words.now self.new
+            ≡ record (now words.now self.old) { phase = Paused; pass = None; checked = 0 } }
         ensures good { result ≡ true → Resolving L.holds words.now B.began self.new }
         ensures killed { result ≡ false → Under L.holds words.now B.began self.new Done (Some Killed) }
-        ensures left { (self.new.left ≡ MAX_PATIENCE) × (self.new.missed ≡ self.old.missed) × (self.new.round ≡ self.old.round) }
+        ensures left { (self.new.left ≡ MAX_PATIENCE) × (self.new.missed ≡ self.old.missed)
+            × (self.new.round ≡ self.old.round) }
     {
         let shape = self.shape;
         let status = shape.status(self.own);
@@ -125,8 +140,8 @@ impl<L: Law> Steps<L> {
         }
     }
 
-    /// Asks the manager about the live owner, of this rank and status. Where it says to wait, this takes the first turn,
-    /// which finds a status.
+    /// Asks the manager about the live owner, of this rank and status. Where it says to wait, this takes the first
+    /// turn, which finds a status.
     pub(crate) fn ask<B: InCall>(
         &mut self,
         words: &Words<L>,
@@ -134,21 +149,28 @@ impl<L: Law> Steps<L> {
         enemy: u64,
         status: Status,
     ) -> Asked
-        requires under { Under L.holds words.now B.began self.old (on_choice (chosen words.now.terms.shape.manager (now words.now self.old) (effort_by self.old))) None }
+        requires under { Under L.holds words.now B.began self.old
+            (on_choice (chosen words.now.terms.shape.manager (now words.now self.old) (effort_by self.old))) None }
         requires running { IsRunning (now words.now self.old) }
         requires owner { (res (now words.now self.old)).owner ≡ Some owner }
         requires enemy { or_zero (res (now words.now self.old)).rank ≡ enemy }
-        requires status { ((res (now words.now self.old)).status ≡ Some (code_of status)) × (is_live (code_of status) ≡ true) }
+        requires status { ((res (now words.now self.old)).status ≡ Some (code_of status))
+            × (is_live (code_of status) ≡ true) }
         requires left { self.old.left ≡ 0 }
         requires rounds { self.old.round ≤ 1024 }
         requires tries { self.old.missed < MAX_MISSED }
-        ensures kill { result ≡ Asked.Kill → (self.new ≡ self.old) × Under L.holds words.now B.began self.new (just Kill) None
+        ensures kill { result ≡ Asked.Kill → (self.new ≡ self.old)
+            × Under L.holds words.now B.began self.new (just Kill) None
             × (chosen words.now.terms.shape.manager (now words.now self.old) (effort_by self.old) ≡ decision.Kill) }
-        ensures give_way { result ≡ Asked.GiveWay → (self.new ≡ self.old) × Under L.holds words.now B.began self.new (just Pause) None
+        ensures give_way { result ≡ Asked.GiveWay → (self.new ≡ self.old)
+            × Under L.holds words.now B.began self.new (just Pause) None
             × (chosen words.now.terms.shape.manager (now words.now self.old) (effort_by self.old) ≡ decision.GiveWay) }
-        ensures waits { (code : ℕ) → result ≡ Asked.Waits code → (now words.now self.new ≡ after LookStatus words.now.terms.shape (now words.now self.old) (made_by B.began Load LookStatus 0 code))
+        ensures waits { (code : ℕ) → result ≡ Asked.Waits code →
+            (now words.now self.new ≡ after LookStatus words.now.terms.shape (now words.now self.old)
+            (made_by B.began Load LookStatus 0 code))
             × Resolving L.holds words.now B.began self.new }
-        ensures rounds { (code : ℕ) → result ≡ Asked.Waits code → (rounds_of self.new ≡ self.old.round + 1) × (self.old.round < 1024) × (self.new.missed ≡ self.old.missed) }
+        ensures rounds { (code : ℕ) → result ≡ Asked.Waits code → (rounds_of self.new ≡ self.old.round + 1)
+            × (self.old.round < 1024) × (self.new.missed ≡ self.old.missed) }
     {
         let shape = self.shape;
         match self.decider.decide(self.rank, enemy, status, self.round) {
@@ -182,7 +204,12 @@ impl<L: Law> Steps<L> {
     }
 
     /// Aborts the owner. It answers the status that the owner has then.
-    fn abort<B: InCall>(&mut self, words: &Words<L>, owner: u32, status: Status) -> Result<u64, Again>
+    fn abort<B: InCall>(
+        &mut self,
+        words: &Words<L>,
+        owner: u32,
+        status: Status,
+    ) -> Result<u64, Again>
         requires under { Under L.holds words.now B.began self.old (just Kill) None }
         requires met { Meets L.holds words.now B.began Running self.old owner (code_of status) }
         requires live { is_live (code_of status) ≡ true }
@@ -191,10 +218,8 @@ impl<L: Law> Steps<L> {
         ensures met { IfOk result (λ code. Meets L.holds words.now B.began Running self.new owner code) }
         ensures keeps { OnOk result (Keeps (now words.now self.old) (now words.now self.new)) }
         ensures over { OnOk result (self.new.left ≡ 0) }
-        ensures less {
-            IfOk result (λ code. patience_left self.new.missed self.new.round code
-            < patience_left self.old.missed self.old.round (code_of status))
-        }
+        ensures less { IfOk result (λ code. patience_left self.new.missed self.new.round code
+            < patience_left self.old.missed self.old.round (code_of status)) }
         ensures tried { OnOk result (self.old.missed ≤ self.new.missed) }
         ensures ends { IfErr result (λ again. Under L.holds words.now B.began self.new Done (Some again)) }
     {
@@ -216,12 +241,16 @@ impl<L: Law> Steps<L> {
         requires phase { (now words.now self.old).phase ≡ Paused }
         requires agreed { ((now words.now self.old).stale ≡ false) × ((now words.now self.old).committed ≡ false) }
         requires owner { (res (now words.now self.old)).owner ≡ Some owner }
-        requires status { (is_some (res (now words.now self.old)).status ≡ true) × (is_live (or_zero (res (now words.now self.old)).status) ≡ true) }
+        requires status { (is_some (res (now words.now self.old)).status ≡ true)
+            × (is_live (or_zero (res (now words.now self.old)).status) ≡ true) }
         requires left { 0 < self.old.left }
         requires tries { self.old.missed < MAX_MISSED }
-        ensures state { now words.now self.new ≡ after LookStatus words.now.terms.shape (now words.now self.old) (made_by B.began Load LookStatus 0 result) }
+        ensures state { now words.now self.new
+            ≡ after LookStatus words.now.terms.shape (now words.now self.old)
+            (made_by B.began Load LookStatus 0 result) }
         ensures under { Resolving L.holds words.now B.began self.new }
-        ensures left { (self.new.left + 1 ≡ self.old.left) × (self.new.missed ≡ self.old.missed) × (self.new.round ≡ self.old.round) }
+        ensures left { (self.new.left + 1 ≡ self.old.left) × (self.new.missed ≡ self.old.missed)
+            × (self.new.round ≡ self.old.round) }
     {
         let shape = self.shape;
         let status = self.look::<B>(words, Kind::LookStatus, shape.status(owner));
@@ -251,7 +280,8 @@ impl<L: Law> Steps<L> {
         requires phase { (now words.now self.old).phase ≡ Paused }
         requires agreed { ((now words.now self.old).stale ≡ false) × ((now words.now self.old).committed ≡ false) }
         requires tries { self.old.missed < MAX_MISSED }
-        ensures state { result ≡ true → now words.now self.new ≡ record (now words.now self.old) { phase = Running; pass = None; checked = 0 } }
+        ensures state { result ≡ true → now words.now self.new
+            ≡ record (now words.now self.old) { phase = Running; pass = None; checked = 0 } }
         ensures good { result ≡ true → Resolving L.holds words.now B.began self.new }
         ensures killed { result ≡ false → Under L.holds words.now B.began self.new Done (Some Killed) }
         ensures left { (self.new.left ≡ 0) × (self.new.missed ≡ self.old.missed) × (self.new.round ≡ self.old.round) }
@@ -274,7 +304,12 @@ impl<L: Law> Steps<L> {
 
     /// Gives way to the owner, for as many turns as an attempt may. It answers the status that the owner was found to
     /// have then.
-    fn give_way<B: InCall>(&mut self, words: &Words<L>, owner: u32, status: Status) -> Result<u64, Again>
+    fn give_way<B: InCall>(
+        &mut self,
+        words: &Words<L>,
+        owner: u32,
+        status: Status,
+    ) -> Result<u64, Again>
         requires under { Under L.holds words.now B.began self.old (just Pause) None }
         requires met { Meets L.holds words.now B.began Running self.old owner (code_of status) }
         requires live { (is_live (code_of status) ≡ true) × (code_of status ≢ code_of Status.Waiting) }
@@ -284,10 +319,8 @@ impl<L: Law> Steps<L> {
         ensures met { IfOk result (λ code. Meets L.holds words.now B.began Running self.new owner code) }
         ensures keeps { OnOk result (Keeps (now words.now self.old) (now words.now self.new)) }
         ensures over { OnOk result (self.new.left ≡ 0) }
-        ensures less {
-            IfOk result (λ code. patience_left self.new.missed self.new.round code
-            < patience_left self.old.missed self.old.round (code_of status))
-        }
+        ensures less { IfOk result (λ code. patience_left self.new.missed self.new.round code
+            < patience_left self.old.missed self.old.round (code_of status)) }
         ensures tried { OnOk result (self.old.missed ≤ self.new.missed) }
         ensures ends { IfErr result (λ again. Under L.holds words.now B.began self.new Done (Some again)) }
     {
@@ -307,7 +340,13 @@ impl<L: Law> Steps<L> {
 
     /// What the manager chooses is done once: the owner is aborted, waited for, or given way to. It answers the status
     /// that the owner was found to have then.
-    fn contend<B: InCall>(&mut self, words: &Words<L>, owner: u32, enemy: u64, status: Status) -> Result<u64, Again>
+    fn contend<B: InCall>(
+        &mut self,
+        words: &Words<L>,
+        owner: u32,
+        enemy: u64,
+        status: Status,
+    ) -> Result<u64, Again>
         requires met { Meets L.holds words.now B.began Running self.old owner (code_of status) }
         requires live { is_live (code_of status) ≡ true }
         requires enemy { or_zero (res (now words.now self.old)).rank ≡ enemy }
@@ -315,10 +354,8 @@ impl<L: Law> Steps<L> {
         ensures met { IfOk result (λ code. Meets L.holds words.now B.began Running self.new owner code) }
         ensures keeps { OnOk result (Keeps (now words.now self.old) (now words.now self.new)) }
         ensures over { IfOk result (λ code. is_live code ≡ true → self.new.left ≡ 0) }
-        ensures less {
-            IfOk result (λ code. patience_left self.new.missed self.new.round code
-            < patience_left self.old.missed self.old.round (code_of status))
-        }
+        ensures less { IfOk result (λ code. patience_left self.new.missed self.new.round code
+            < patience_left self.old.missed self.old.round (code_of status)) }
         ensures tried { OnOk result (self.old.missed ≤ self.new.missed) }
         ensures ends { IfErr result (λ again. Under L.holds words.now B.began self.new Done (Some again)) }
     {

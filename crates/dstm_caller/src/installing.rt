@@ -22,7 +22,13 @@ impl<L: Law> Steps<L> {
         requires room { (now words.now self.old).installed < words.now.terms.shape.locators }
         requires locator { next_locator words.now.terms.shape (now words.now self.old) ≡ locator }
         requires tries { self.old.missed < MAX_MISSED }
-        ensures state { now words.now self.new ≡ record (now words.now self.old) { held_owner = Some (own_attempt words.now.terms.shape (now words.now self.old)); pass = None; checked = 0 } }
+        ensures state { now words.now self.new
+            ≡ record (now words.now self.old) {
+              held_owner =
+                  Some (own_attempt words.now.terms.shape (now words.now self.old));
+              pass = None;
+              checked = 0;
+            } }
         ensures under { Under L.holds words.now B.began self.new (just PutOld) None }
         ensures rest { self.new ≡ record self.old { seat = self.new.seat } }
     {
@@ -36,11 +42,14 @@ impl<L: Law> Steps<L> {
         requires under { Under L.holds words.now B.began self.old (just PutOld) None }
         requires running { IsRunning (now words.now self.old) }
         requires locator { next_locator words.now.terms.shape (now words.now self.old) ≡ locator }
-        requires held { (now words.now self.old).held_owner ≡ Some (own_attempt words.now.terms.shape (now words.now self.old)) }
-        requires resolved { (is_some (now words.now self.old).resolution ≡ true) × (is_resolved (res (now words.now self.old)) ≡ true) }
+        requires held { (now words.now self.old).held_owner
+            ≡ Some (own_attempt words.now.terms.shape (now words.now self.old)) }
+        requires resolved { (is_some (now words.now self.old).resolution ≡ true)
+            × (is_resolved (res (now words.now self.old)) ≡ true) }
         requires version { version (res (now words.now self.old)) ≡ Some old }
         requires tries { self.old.missed < MAX_MISSED }
-        ensures state { now words.now self.new ≡ record (now words.now self.old) { held_old = Some old; pass = None; checked = 0 } }
+        ensures state { now words.now self.new
+            ≡ record (now words.now self.old) { held_old = Some old; pass = None; checked = 0 } }
         ensures under { Under L.holds words.now B.began self.new (just Install) None }
         ensures rest { self.new ≡ record self.old { seat = self.new.seat } }
     {
@@ -61,17 +70,24 @@ impl<L: Law> Steps<L> {
         requires object { ((res (now words.now self.old)).object ≡ object) × (object < words.now.terms.shape.objects) }
         requires word { (res (now words.now self.old)).word ≡ word }
         requires locator { next_locator words.now.terms.shape (now words.now self.old) ≡ locator }
-        requires held { ((now words.now self.old).held_owner ≡ Some (own_attempt words.now.terms.shape (now words.now self.old)))
+        requires held { ((now words.now self.old).held_owner
+            ≡ Some (own_attempt words.now.terms.shape (now words.now self.old)))
             × ((now words.now self.old).held_old ≡ version (res (now words.now self.old))) }
-        requires resolved { (is_some (now words.now self.old).resolution ≡ true) × (is_resolved (res (now words.now self.old)) ≡ true) }
+        requires resolved { (is_some (now words.now self.old).resolution ≡ true)
+            × (is_resolved (res (now words.now self.old)) ≡ true) }
         requires tries { self.old.missed < MAX_MISSED }
         requires few { self.old.installed < 2097152 }
-        ensures state { result ≡ true → now words.now self.new ≡ install words.now.terms.shape (now words.now self.old) }
-        ensures again { result ≡ false → now words.now self.new ≡ record (now words.now self.old) { resolution = None; pass = None; checked = 0 } }
+        ensures state { result ≡ true → now words.now self.new
+            ≡ install words.now.terms.shape (now words.now self.old) }
+        ensures again { result ≡ false → now words.now self.new
+            ≡ record (now words.now self.old) { resolution = None; pass = None; checked = 0 } }
         ensures under { result ≡ true → Under L.holds words.now B.began self.new (just LookNumber) None }
-        ensures retry { result ≡ false → self.new.missed < MAX_MISSED → Under L.holds words.now B.began self.new (at_first (work_of B.began.task) (now words.now self.new)) None }
-        ensures lost { result ≡ false → self.new.missed ≡ MAX_MISSED → Under L.holds words.now B.began self.new (just Quit) None }
-        ensures missed { (result ≡ false → self.new.missed ≡ self.old.missed + 1) × (result ≡ true → self.new.missed ≡ self.old.missed) }
+        ensures retry { result ≡ false → self.new.missed < MAX_MISSED →
+            Under L.holds words.now B.began self.new (at_first (work_of B.began.task) (now words.now self.new)) None }
+        ensures lost { result ≡ false → self.new.missed ≡ MAX_MISSED →
+            Under L.holds words.now B.began self.new (just Quit) None }
+        ensures missed { (result ≡ false → self.new.missed ≡ self.old.missed + 1)
+            × (result ≡ true → self.new.missed ≡ self.old.missed) }
     {
         let shape = self.shape;
         let next = u64::from(locator) + 1;
@@ -89,13 +105,22 @@ impl<L: Law> Steps<L> {
 
     /// Raises the rank, after an open.
     pub(crate) fn rank_up<B: InCall>(&mut self, words: &Words<L>)
-        requires under { Under L.holds words.now B.began self.old (Step Rank (min ((now words.now self.old).rank + 1) MAX_RANK)) None }
+        requires under { Under L.holds words.now B.began self.old
+            (Step Rank (min ((now words.now self.old).rank + 1) MAX_RANK)) None }
         requires running { IsRunning (now words.now self.old) }
         requires rises { rises words.now.terms.shape.manager ≡ true }
         requires owed { (now words.now self.old).owed ≡ true }
         requires small { self.old.rank ≤ MAX_RANK }
         requires tries { self.old.missed < MAX_MISSED }
-        ensures state { now words.now self.new ≡ record (now words.now self.old) { rank = min ((now words.now self.old).rank + 1) MAX_RANK; ranked = false; owed = false; pass = None; checked = 0 } }
+        ensures state { now words.now self.new
+            ≡ record (now words.now self.old) {
+              rank = min ((now words.now self.old).rank + 1) MAX_RANK;
+              ranked =
+                  false;
+              owed = false;
+              pass = None;
+              checked = 0;
+            } }
         ensures under { Under L.holds words.now B.began self.new Done None }
     {
         let shape = self.shape;

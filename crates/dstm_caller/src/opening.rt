@@ -21,8 +21,8 @@ use dstm_order::{Again, MAX_MISSED};
 use dstm_words::Words;
 
 impl<L: Law> Steps<L> {
-    /// Ends an open, once its object is resolved or installed: a pass over the reads, with that of the object, and where
-    /// ranks rise a Rank. `last` is the number with which the last complete pass of this attempt began.
+    /// Ends an open, once its object is resolved or installed: a pass over the reads, with that of the object, and
+    /// where ranks rise a Rank. `last` is the number with which the last complete pass of this attempt began.
     pub fn conclude<B: InCall>(
         &mut self,
         words: &Words<L>,
@@ -34,9 +34,13 @@ impl<L: Law> Steps<L> {
         requires running { IsRunning (now words.now self.old) }
         requires tries { self.old.missed < MAX_MISSED }
         requires last { last.old ≡ (now words.now self.old).last_pass }
-        requires slots { kept reads.now ≡ words_of (record_resolved (now words.now self.old).resolution (now words.now self.old).reads) }
+        requires slots { kept reads.now ≡ words_of
+            (record_resolved (now words.now self.old).resolution (now words.now self.old).reads) }
         requires owed { (passed 0 (now words.now self.old)).owed ≡ true }
-        ensures state { OnOk result ((number : ℕ) × (now words.now self.new ≡ risen words.now.terms.shape.manager (passed number (now words.now self.old))) × (last.new ≡ Some number)) }
+        ensures state { OnOk result ((number : ℕ)
+            × (now words.now self.new
+            ≡ risen words.now.terms.shape.manager (passed number (now words.now self.old)))
+            × (last.new ≡ Some number)) }
         ensures ends_well { OnOk result (Under L.holds words.now B.began self.new Done None) }
         ensures ends { IfErr result (λ again. Under L.holds words.now B.began self.new Done (Some again)) }
     {
@@ -59,8 +63,10 @@ impl<L: Law> Steps<L> {
         requires running { IsRunning (now words.now self.old) }
         requires tries { self.old.missed < MAX_MISSED }
         requires last { last.old ≡ (now words.now self.old).last_pass }
-        requires slots { kept reads.now ≡ words_of (record_resolved (now words.now self.old).resolution (now words.now self.old).reads) }
-        ensures state { OnOk result ((number : ℕ) × (now words.now self.new ≡ passed number (now words.now self.old)) × (last.new ≡ Some number)) }
+        requires slots { kept reads.now ≡ words_of
+            (record_resolved (now words.now self.old).resolution (now words.now self.old).reads) }
+        ensures state { OnOk result ((number : ℕ) × (now words.now self.new ≡ passed number (now words.now self.old))
+            × (last.new ≡ Some number)) }
         ensures ends_well { OnOk result (Under L.holds words.now B.began self.new Done None) }
         ensures ends { IfErr result (λ again. Under L.holds words.now B.began self.new Done (Some again)) }
     {
@@ -74,7 +80,14 @@ impl<L: Law> Steps<L> {
         requires object { object < words.now.terms.shape.objects }
         requires read { is_some (read_of object (now words.now self.old).reads) ≡ true }
         requires tries { self.old.missed < MAX_MISSED }
-        ensures state { now words.now self.new ≡ record (now words.now self.old) { reads = drop_read object (now words.now self.old).reads; resolution = None; pass = None; checked = 0 } }
+        ensures state { now words.now self.new
+            ≡ record (now words.now self.old) {
+              reads =
+                  drop_read object (now words.now self.old).reads;
+              resolution = None;
+              pass = None;
+              checked = 0;
+            } }
         ensures under { Under L.holds words.now B.began self.new Done None }
         ensures rest { self.new ≡ record self.old { seat = self.new.seat } }
     {
@@ -82,8 +95,8 @@ impl<L: Law> Steps<L> {
         let _ = self.load::<B>(words, Kind::Release, shape.object(object));
     }
 
-    /// Tries once to install the next locator in an object. It answers what was found of the object, or nothing where its
-    /// word had changed.
+    /// Tries once to install the next locator in an object. It answers what was found of the object, or nothing where
+    /// its word had changed.
     fn try_acquire<B: InCall>(
         &mut self,
         words: &Words<L>,
@@ -100,11 +113,16 @@ impl<L: Law> Steps<L> {
         requires room { (now words.now self.old).installed < words.now.terms.shape.locators }
         requires locator { next_locator words.now.terms.shape (now words.now self.old) ≡ locator }
         requires tries { self.old.missed < MAX_MISSED }
-        ensures got { IfOk result (λ got. IfSome got (λ found. Acquired words.now.terms.shape object (now words.now self.old) (now words.now self.new) found)) }
-        ensures goes_on { IfOk result (λ got. IfSome got (λ found. Under L.holds words.now B.began self.new (just LookNumber) None)) }
-        ensures retry { IfOk result (λ got. IsNone got → Under L.holds words.now B.began self.new (Step LookObj object) None) }
+        ensures got { IfOk result (λ got. IfSome got
+            (λ found. Acquired words.now.terms.shape object (now words.now self.old) (now words.now self.new)
+            found)) }
+        ensures goes_on { IfOk result (λ got. IfSome got
+            (λ found. Under L.holds words.now B.began self.new (just LookNumber) None)) }
+        ensures retry { IfOk result (λ got. IsNone got →
+            Under L.holds words.now B.began self.new (Step LookObj object) None) }
         ensures apart { IfOk result (λ got. IsNone got → HeldApart (now words.now self.old) (now words.now self.new)) }
-        ensures missed { IfOk result (λ got. IsNone got → (self.old.missed < self.new.missed) × (self.new.missed < MAX_MISSED)) }
+        ensures missed { IfOk result (λ got. IsNone got → (self.old.missed < self.new.missed)
+            × (self.new.missed < MAX_MISSED)) }
         ensures tried { OnOk result (self.new.missed < MAX_MISSED) }
         ensures ends { IfErr result (λ again. Under L.holds words.now B.began self.new Done (Some again)) }
     {
@@ -139,7 +157,8 @@ impl<L: Law> Steps<L> {
         requires room { (now words.now self.old).installed < words.now.terms.shape.locators }
         requires locator { next_locator words.now.terms.shape (now words.now self.old) ≡ locator }
         requires tries { self.old.missed < MAX_MISSED }
-        ensures got { IfOk result (λ found. Acquired words.now.terms.shape object (now words.now self.old) (now words.now self.new) found) }
+        ensures got { IfOk result (λ found. Acquired words.now.terms.shape object (now words.now self.old)
+            (now words.now self.new) found) }
         ensures under { OnOk result (Under L.holds words.now B.began self.new (just LookNumber) None) }
         ensures tried { OnOk result (self.new.missed < MAX_MISSED) }
         ensures ends { IfErr result (λ again. Under L.holds words.now B.began self.new Done (Some again)) }
@@ -153,7 +172,7 @@ impl<L: Law> Steps<L> {
 }
 
 // Whether an attempt's rank rises as it opens objects.
-fn rises(shape: Shape) -> bool
+pub(crate) fn rises(shape: Shape) -> bool
     ensures { result ≡ rises shape.manager }
 {
     match shape.manager {

@@ -29,7 +29,9 @@ impl<L: Law> Steps<L> {
         requires under { Under L.holds words.now B.began self.old (just LookNumber) None }
         requires running { IsRunning (now words.now self.old) }
         requires tries { self.old.missed < MAX_MISSED }
-        ensures state { now words.now self.new ≡ after LookNumber words.now.terms.shape (now words.now self.old) (made_by B.began Load LookNumber (place words.now.terms.shape NumbersWord) result) }
+        ensures state { now words.now self.new
+            ≡ after LookNumber words.now.terms.shape (now words.now self.old)
+            (made_by B.began Load LookNumber (place words.now.terms.shape NumbersWord) result) }
         ensures under { Under L.holds words.now B.began self.new (in_pass (now words.now self.new)) None }
         ensures tries { self.new.missed < MAX_MISSED }
     {
@@ -43,11 +45,16 @@ impl<L: Law> Steps<L> {
         requires running { IsRunning (now words.now self.old) }
         requires pass { is_some (now words.now self.old).pass ≡ true }
         requires left { (now words.now self.old).checked < length (now words.now self.old).reads }
-        requires read { ((next_read (now words.now self.old)).object ≡ object) × ((next_read (now words.now self.old)).word ≡ word) }
+        requires read { ((next_read (now words.now self.old)).object ≡ object)
+            × ((next_read (now words.now self.old)).word ≡ word) }
         requires tries { self.old.missed < MAX_MISSED }
-        ensures state { result ≡ true → now words.now self.new ≡ record (now words.now self.old) { checked = (now words.now self.old).checked + 1 } }
-        ensures good { result ≡ true → Under L.holds words.now B.began self.new (in_pass (now words.now self.new)) None }
-        ensures stale { result ≡ false → ((now words.now self.new).stale ≡ true) × Under L.holds words.now B.began self.new (just Quit) None × (quit_cause (now words.now self.new) (effort_by self.new) ≡ Stale object)
+        ensures state { result ≡ true → now words.now self.new
+            ≡ record (now words.now self.old) { checked = (now words.now self.old).checked + 1 } }
+        ensures good { result ≡ true → Under L.holds words.now B.began self.new (in_pass (now words.now self.new))
+            None }
+        ensures stale { result ≡ false → ((now words.now self.new).stale ≡ true)
+            × Under L.holds words.now B.began self.new (just Quit) None
+            × (quit_cause (now words.now self.new) (effort_by self.new) ≡ Stale object)
             × ((now words.now self.new).phase ≡ Running) × ((now words.now self.new).committed ≡ false) }
         ensures tries { self.new.missed < MAX_MISSED }
     {
@@ -61,11 +68,19 @@ impl<L: Law> Steps<L> {
         requires under { Under L.holds words.now B.began self.old (just LookSelf) None }
         requires running { IsRunning (now words.now self.old) }
         requires pass { is_some (now words.now self.old).pass ≡ true }
-        requires done { ((now words.now self.old).checked ≡ length (now words.now self.old).reads) ⊎ ((now words.now self.old).last_pass ≡ (now words.now self.old).pass) }
+        requires done { ((now words.now self.old).checked ≡ length (now words.now self.old).reads)
+            ⊎ ((now words.now self.old).last_pass ≡ (now words.now self.old).pass) }
         requires tries { self.old.missed < MAX_MISSED }
-        ensures state { result ≡ true → now words.now self.new ≡ record (now words.now self.old) { last_pass = (now words.now self.old).pass; pass = None; checked = 0 } }
+        ensures state { result ≡ true → now words.now self.new
+            ≡ record (now words.now self.old) {
+              last_pass = (now words.now self.old).pass;
+              pass = None;
+              checked =
+                  0;
+            } }
         ensures good { result ≡ true → Passed L.holds words.now B.began self.new }
-        ensures killed { result ≡ false → ((now words.now self.new).phase ≡ Outside) × Under L.holds words.now B.began self.new Done (Some Killed) }
+        ensures killed { result ≡ false → ((now words.now self.new).phase ≡ Outside)
+            × Under L.holds words.now B.began self.new Done (Some Killed) }
         ensures tries { self.new.missed < MAX_MISSED }
     {
         let shape = self.shape;
@@ -80,7 +95,8 @@ impl<L: Law> Steps<L> {
         requires status { code_of status ≡ given (now words.now self.old).phase }
         requires uncommitted { (now words.now self.old).committed ≡ false }
         ensures left { (now words.now self.new).phase ≡ Outside }
-        ensures under { Under L.holds words.now B.began self.new Done (Some (quit_cause (now words.now self.old) (effort_by self.old))) }
+        ensures under { Under L.holds words.now B.began self.new Done
+            (Some (quit_cause (now words.now self.old) (effort_by self.old))) }
     {
         let shape = self.shape;
         let _ = self.exchange::<B>(
@@ -106,11 +122,15 @@ impl<L: Law> Steps<L> {
         requires fresh { (now words.now self.old).checked ≡ 0 }
         requires slots { kept reads.now ≡ words_of (now words.now self.old).reads }
         requires tries { self.old.missed < MAX_MISSED }
-        ensures state { IfNone result (now words.now self.new ≡ record (now words.now self.old) { checked = (now words.now self.new).checked }) }
+        ensures state { IfNone result (now words.now self.new
+            ≡ record (now words.now self.old) { checked = (now words.now self.new).checked }) }
         ensures all { IfNone result (Under L.holds words.now B.began self.new (just LookSelf) None) }
-        ensures done { IfNone result (((now words.now self.new).checked ≡ length (now words.now self.new).reads) ⊎ ((now words.now self.new).last_pass ≡ (now words.now self.new).pass)) }
-        ensures stale { IfSome result (λ object. Under L.holds words.now B.began self.new (just Quit) None × (quit_cause (now words.now self.new) (effort_by self.new) ≡ Stale object)) }
-        ensures live { IfSome result (λ object. ((now words.now self.new).phase ≡ Running) × ((now words.now self.new).committed ≡ false)) }
+        ensures done { IfNone result (((now words.now self.new).checked ≡ length (now words.now self.new).reads)
+            ⊎ ((now words.now self.new).last_pass ≡ (now words.now self.new).pass)) }
+        ensures stale { IfSome result (λ object. Under L.holds words.now B.began self.new (just Quit) None
+            × (quit_cause (now words.now self.new) (effort_by self.new) ≡ Stale object)) }
+        ensures live { IfSome result (λ object. ((now words.now self.new).phase ≡ Running)
+            × ((now words.now self.new).committed ≡ false)) }
         ensures tries { self.new.missed < MAX_MISSED }
     {
         if skip {
@@ -135,8 +155,10 @@ impl<L: Law> Steps<L> {
         requires running { IsRunning (now words.now self.old) }
         requires tries { self.old.missed < MAX_MISSED }
         requires last { last.old ≡ (now words.now self.old).last_pass }
-        requires slots { kept reads.now ≡ words_of (record_resolved (now words.now self.old).resolution (now words.now self.old).reads) }
-        ensures state { OnOk result ((number : ℕ) × (now words.now self.new ≡ passed number (now words.now self.old)) × (last.new ≡ Some number)) }
+        requires slots { kept reads.now ≡ words_of
+            (record_resolved (now words.now self.old).resolution (now words.now self.old).reads) }
+        ensures state { OnOk result ((number : ℕ) × (now words.now self.new ≡ passed number (now words.now self.old))
+            × (last.new ≡ Some number)) }
         ensures goes_on { OnOk result (Passed L.holds words.now B.began self.new) }
         ensures tries { OnOk result (self.new.missed < MAX_MISSED) }
         ensures ends { IfErr result (λ again. Under L.holds words.now B.began self.new Done (Some again)) }

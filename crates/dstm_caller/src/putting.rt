@@ -25,12 +25,16 @@ impl<L: Law> Steps<L> {
     pub(crate) fn put_high<B: InCall>(&mut self, words: &Words<L>, locator: u32, high: u64)
         requires under { Under L.holds words.now B.began self.old (Step PutHigh high) None }
         requires work { (work_of B.began.task) ≡ Committing (value_in (work_of B.began.task)) }
-        requires live { (((now words.now self.old).phase ≡ Running) ⊎ ((now words.now self.old).phase ≡ Putting)) × ((now words.now self.old).stale ≡ false) }
-        requires next { ((now words.now self.old).written < length (now words.now self.old).writes) × ((now words.now self.old).high_put ≡ false) }
+        requires live { (((now words.now self.old).phase ≡ Running) ⊎ ((now words.now self.old).phase ≡ Putting))
+            × ((now words.now self.old).stale ≡ false) }
+        requires next { ((now words.now self.old).written < length (now words.now self.old).writes)
+            × ((now words.now self.old).high_put ≡ false) }
         requires locator { (next_write (now words.now self.old)).locator ≡ locator }
         requires tries { self.old.missed < MAX_MISSED }
-        ensures state { now words.now self.new ≡ record (now words.now self.old) { phase = Putting; high_put = true; pass = None; checked = 0 } }
-        ensures under { Under L.holds words.now B.began self.new (in_putting (value_in (work_of B.began.task)) (now words.now self.new)) None }
+        ensures state { now words.now self.new
+            ≡ record (now words.now self.old) { phase = Putting; high_put = true; pass = None; checked = 0 } }
+        ensures under { Under L.holds words.now B.began self.new
+            (in_putting (value_in (work_of B.began.task)) (now words.now self.new)) None }
         ensures past { IsPastOf (view_of self.old.seat).log (view_of self.new.seat).log }
         ensures put { Holds words.now self.new (HighWord locator) high }
         ensures tries { self.new.missed < MAX_MISSED }
@@ -44,12 +48,23 @@ impl<L: Law> Steps<L> {
         requires under { Under L.holds words.now B.began self.old (Step PutNew low) None }
         requires work { (work_of B.began.task) ≡ Committing (value_in (work_of B.began.task)) }
         requires live { ((now words.now self.old).phase ≡ Putting) × ((now words.now self.old).stale ≡ false) }
-        requires next { ((now words.now self.old).written < length (now words.now self.old).writes) × ((now words.now self.old).high_put ≡ true) }
+        requires next { ((now words.now self.old).written < length (now words.now self.old).writes)
+            × ((now words.now self.old).high_put ≡ true) }
         requires locator { (next_write (now words.now self.old)).locator ≡ locator }
-        requires lawful { StoresLawfully L.holds words.now.terms (view_of self.old.seat) PutNew (place words.now.terms.shape (LowWord locator)) low }
+        requires lawful { StoresLawfully L.holds words.now.terms (view_of self.old.seat) PutNew
+            (place words.now.terms.shape (LowWord locator)) low }
         requires tries { self.old.missed < MAX_MISSED }
-        ensures state { now words.now self.new ≡ record (now words.now self.old) { phase = Putting; written = (now words.now self.old).written + 1; high_put = false; pass = None; checked = 0 } }
-        ensures under { Under L.holds words.now B.began self.new (in_putting (value_in (work_of B.began.task)) (now words.now self.new)) None }
+        ensures state { now words.now self.new
+            ≡ record (now words.now self.old) {
+              phase = Putting;
+              written =
+                  (now words.now self.old).written + 1;
+              high_put = false;
+              pass = None;
+              checked = 0;
+            } }
+        ensures under { Under L.holds words.now B.began self.new
+            (in_putting (value_in (work_of B.began.task)) (now words.now self.new)) None }
         ensures past { IsPastOf (view_of self.old.seat).log (view_of self.new.seat).log }
         ensures put { Holds words.now self.new (LowWord locator) low }
         ensures tries { self.new.missed < MAX_MISSED }
@@ -65,11 +80,13 @@ impl<L: Law> Steps<L> {
         first: u32,
         writes: &[WriteSlot],
     )
-        requires under { Under L.holds words.now B.began self.old (in_putting (value_in (work_of B.began.task)) (now words.now self.old)) None }
+        requires under { Under L.holds words.now B.began self.old
+            (in_putting (value_in (work_of B.began.task)) (now words.now self.old)) None }
         requires work { (work_of B.began.task) ≡ Committing (value_in (work_of B.began.task)) }
         requires running { IsRunning (now words.now self.old) }
         requires none { ((now words.now self.old).written ≡ 0) × ((now words.now self.old).high_put ≡ false) }
-        requires first { first ≡ B.began.number * words.now.terms.shape.locators + ((now words.now self.old).installed - length (now words.now self.old).writes) }
+        requires first { first ≡ B.began.number * words.now.terms.shape.locators +
+            ((now words.now self.old).installed - length (now words.now self.old).writes) }
         requires slots { AreWrites writes.now (now words.now self.old).writes }
         requires values { All (λ slot. value_in (work_of B.began.task) slot.object ≡ to_put slot) writes.now }
         requires lawful { IsLawful L.holds words.now self.old B.began.number writes.now }
@@ -78,8 +95,10 @@ impl<L: Law> Steps<L> {
         ensures past { IsPastOf (view_of self.old.seat).log (view_of self.new.seat).log }
         ensures put { ArePut words.now self.new first writes.now (length writes.now) }
         ensures ready { IsReady (now words.now self.new) }
-        ensures kept { ((now words.now self.new).reads ≡ (now words.now self.old).reads) × ((now words.now self.new).writes ≡ (now words.now self.old).writes)
-            × ((now words.now self.new).last_pass ≡ (now words.now self.old).last_pass) × ((now words.now self.new).stale ≡ false) × ((now words.now self.new).committed ≡ false) }
+        ensures kept { ((now words.now self.new).reads ≡ (now words.now self.old).reads)
+            × ((now words.now self.new).writes ≡ (now words.now self.old).writes)
+            × ((now words.now self.new).last_pass ≡ (now words.now self.old).last_pass)
+            × ((now words.now self.new).stale ≡ false) × ((now words.now self.new).committed ≡ false) }
         ensures tries { self.new.missed < MAX_MISSED }
     {
         for i in 0..writes.len() {

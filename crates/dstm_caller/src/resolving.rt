@@ -15,8 +15,8 @@ ghost use Rattle.dstm_caller.specs.Conflicts.{Encounters, Meets, Starts};
 ghost use Rattle.dstm_caller.specs.Finding.{KeepsAttempt, StaysAt, IsFound, word_of, is_changed};
 ghost use Rattle.dstm_caller.specs.Under.{Resolving, Resolved, work_of, now, effort_by, made_by, Under, IsRunning};
 
-use crate::steps::{InCall, Steps};
 use crate::conflict::is_live;
+use crate::steps::{InCall, Steps};
 use dstm_core::{Kind, Manager, Shape, Status};
 use dstm_model::Law;
 use dstm_order::Again;
@@ -39,7 +39,9 @@ impl<L: Law> Steps<L> {
         requires word { ((res (now words.now self.old)).word ≡ word) × (0 < word) }
         requires fresh { (res (now words.now self.old)).status ≡ None }
         requires tries { self.old.missed < MAX_MISSED }
-        ensures state { now words.now self.new ≡ after LookOwner words.now.terms.shape (now words.now self.old) (made_by B.began Load LookOwner 0 result) }
+        ensures state { now words.now self.new
+            ≡ after LookOwner words.now.terms.shape (now words.now self.old)
+            (made_by B.began Load LookOwner 0 result) }
         ensures under { Resolving L.holds words.now B.began self.new }
         ensures rest { self.new ≡ record self.old { seat = self.new.seat } }
     {
@@ -55,7 +57,9 @@ impl<L: Law> Steps<L> {
         requires owner { (res (now words.now self.old)).owner ≡ Some owner }
         requires fresh { (res (now words.now self.old)).status ≡ None }
         requires tries { self.old.missed < MAX_MISSED }
-        ensures state { now words.now self.new ≡ after LookStatus words.now.terms.shape (now words.now self.old) (made_by B.began Load LookStatus 0 result) }
+        ensures state { now words.now self.new
+            ≡ after LookStatus words.now.terms.shape (now words.now self.old)
+            (made_by B.began Load LookStatus 0 result) }
         ensures under { Resolving L.holds words.now B.began self.new }
         ensures rest { self.new ≡ record self.old { seat = self.new.seat } }
     {
@@ -71,7 +75,8 @@ impl<L: Law> Steps<L> {
         requires live { or_zero (res (now words.now self.old)).status < 4 }
         requires ranks { words.now.terms.shape.manager ≢ Polite }
         requires tries { self.old.missed < MAX_MISSED }
-        ensures state { now words.now self.new ≡ after LookRank words.now.terms.shape (now words.now self.old) (made_by B.began Load LookRank 0 result) }
+        ensures state { now words.now self.new
+            ≡ after LookRank words.now.terms.shape (now words.now self.old) (made_by B.began Load LookRank 0 result) }
         ensures under { Resolving L.holds words.now B.began self.new }
         ensures rest { self.new ≡ record self.old { seat = self.new.seat } }
     {
@@ -86,7 +91,8 @@ impl<L: Law> Steps<L> {
         requires word { ((res (now words.now self.old)).word ≡ word) × (0 < word) }
         requires aborted { (res (now words.now self.old)).status ≡ Some 5 }
         requires tries { self.old.missed < MAX_MISSED }
-        ensures state { now words.now self.new ≡ after LookOld words.now.terms.shape (now words.now self.old) (made_by B.began Load LookOld 0 result) }
+        ensures state { now words.now self.new
+            ≡ after LookOld words.now.terms.shape (now words.now self.old) (made_by B.began Load LookOld 0 result) }
         ensures under { Resolving L.holds words.now B.began self.new }
         ensures rest { self.new ≡ record self.old { seat = self.new.seat } }
     {
@@ -100,7 +106,8 @@ impl<L: Law> Steps<L> {
         requires running { IsRunning (now words.now self.old) }
         requires version { (version (res (now words.now self.old)) ≡ Some named) × (0 < named) }
         requires tries { self.old.missed < MAX_MISSED }
-        ensures state { now words.now self.new ≡ after LookHigh words.now.terms.shape (now words.now self.old) (made_by B.began Load LookHigh 0 result) }
+        ensures state { now words.now self.new
+            ≡ after LookHigh words.now.terms.shape (now words.now self.old) (made_by B.began Load LookHigh 0 result) }
         ensures under { Resolving L.holds words.now B.began self.new }
         ensures rest { self.new ≡ record self.old { seat = self.new.seat } }
     {
@@ -115,7 +122,8 @@ impl<L: Law> Steps<L> {
         requires version { (version (res (now words.now self.old)) ≡ Some named) × (0 < named) }
         requires high { is_some (res (now words.now self.old)).high ≡ true }
         requires tries { self.old.missed < MAX_MISSED }
-        ensures state { now words.now self.new ≡ after LookNew words.now.terms.shape (now words.now self.old) (made_by B.began Load LookNew 0 result) }
+        ensures state { now words.now self.new
+            ≡ after LookNew words.now.terms.shape (now words.now self.old) (made_by B.began Load LookNew 0 result) }
         ensures under { Resolving L.holds words.now B.began self.new }
         ensures rest { self.new ≡ record self.old { seat = self.new.seat } }
     {
@@ -130,9 +138,12 @@ impl<L: Law> Steps<L> {
         requires object { object < words.now.terms.shape.objects }
         requires unopened { write_of object (now words.now self.old).writes ≡ None }
         requires tries { self.old.missed < MAX_MISSED }
-        ensures state { now words.now self.new ≡ after LookObj words.now.terms.shape (now words.now self.old) (made_by B.began Load LookObj object result) }
+        ensures state { now words.now self.new
+            ≡ after LookObj words.now.terms.shape (now words.now self.old)
+            (made_by B.began Load LookObj object result) }
         ensures agreed { (now words.now self.new).stale ≡ false → Resolving L.holds words.now B.began self.new }
-        ensures stale { (now words.now self.new).stale ≡ true → Under L.holds words.now B.began self.new (just Quit) None }
+        ensures stale { (now words.now self.new).stale ≡ true →
+            Under L.holds words.now B.began self.new (just Quit) None }
         ensures rest { self.new ≡ record self.old { seat = self.new.seat; round = 0; left = 0 } }
     {
         let shape = self.shape;
@@ -155,7 +166,8 @@ impl<L: Law> Steps<L> {
         requires owner { is_some (res (now words.now self.old)).owner ≡ true }
         requires status { (res (now words.now self.old)).status ≡ Some code }
         requires over { (code ≡ 4) ⊎ (code ≡ 5) }
-        requires fresh { ((res (now words.now self.old)).old ≡ None) × ((res (now words.now self.old)).high ≡ None) × ((res (now words.now self.old)).value ≡ None) }
+        requires fresh { ((res (now words.now self.old)).old ≡ None) × ((res (now words.now self.old)).high ≡ None)
+            × ((res (now words.now self.old)).value ≡ None) }
         requires tries { self.old.missed < MAX_MISSED }
         ensures under { Resolved L.holds words.now B.began self.new }
         ensures found { IsFound (now words.now self.new) result }
@@ -175,7 +187,8 @@ impl<L: Law> Steps<L> {
         requires running { IsRunning (now words.now self.old) }
         requires word { (res (now words.now self.old)).word ≡ word }
         requires owner { is_some (res (now words.now self.old)).owner ≡ true }
-        requires status { ((res (now words.now self.old)).status ≡ Some 4) ⊎ ((res (now words.now self.old)).status ≡ Some 5) }
+        requires status { ((res (now words.now self.old)).status ≡ Some 4)
+            ⊎ ((res (now words.now self.old)).status ≡ Some 5) }
         requires version { version (res (now words.now self.old)) ≡ Some named }
         requires fresh { ((res (now words.now self.old)).high ≡ None) × ((res (now words.now self.old)).value ≡ None) }
         requires tries { self.old.missed < MAX_MISSED }
@@ -203,7 +216,13 @@ impl<L: Law> Steps<L> {
     }
 
     /// Contends with a live owner, until it is found committed or aborted. It answers which.
-    fn meet<B: InCall>(&mut self, words: &Words<L>, word: u64, owner: u32, code: u64) -> Result<u64, Again>
+    fn meet<B: InCall>(
+        &mut self,
+        words: &Words<L>,
+        word: u64,
+        owner: u32,
+        code: u64,
+    ) -> Result<u64, Again>
         requires met { Encounters L.holds words.now B.began self.old word owner code }
         requires live { is_live code ≡ true }
         ensures met { IfOk result (λ found. Meets L.holds words.now B.began Running self.new owner found) }
@@ -240,7 +259,7 @@ impl<L: Law> Steps<L> {
 
     /// Resolves an object that this attempt has not opened for writing. `read` is the word of its recorded read, where
     /// there is one.
-    pub(crate) fn resolve<B: InCall>(
+    pub fn resolve<B: InCall>(
         &mut self,
         words: &Words<L>,
         object: u32,
@@ -277,7 +296,7 @@ impl<L: Law> Steps<L> {
 }
 
 // Whether attempts have ranks.
-fn has_ranks(shape: Shape) -> bool
+pub(crate) fn has_ranks(shape: Shape) -> bool
     ensures { result ≡ has_ranks shape.manager }
 {
     match shape.manager {

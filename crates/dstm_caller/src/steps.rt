@@ -45,7 +45,8 @@ impl<L: Law> Steps<L> {
         requires under { Under L.holds words.now B.began self.old (Step kind (operand_of kind place 0)) None }
         requires loads { ActsBy kind Load }
         requires object { kind ≡ LookObj → place < words.now.terms.shape.objects }
-        requires may { MayStep words.now.terms.shape (now words.now self.old) kind Load (made_by B.began Load kind place 0) }
+        requires may { MayStep words.now.terms.shape (now words.now self.old) kind Load
+            (made_by B.began Load kind place 0) }
         ensures rest { self.new ≡ record self.old { seat = self.new.seat } }
         ensures went { Went L.holds words.now B.began self.old self.new (made_by B.began Load kind place result) }
     {
@@ -57,11 +58,16 @@ impl<L: Law> Steps<L> {
         requires under { Under L.holds words.now B.began self.old (Step kind (operand_of kind place 0)) None }
         requires loads { ActsBy kind Load }
         requires object { kind ≡ LookObj → place < words.now.terms.shape.objects }
-        requires may { MayStep words.now.terms.shape (now words.now self.old) kind Load (made_by B.began Load kind place 0) }
-        requires steady { (event : Event) → effort_after kind words.now.terms.shape.manager (now words.now self.old) (effort_by self.old) event ≡ effort_by self.old }
+        requires may { MayStep words.now.terms.shape (now words.now self.old) kind Load
+            (made_by B.began Load kind place 0) }
+        requires steady { (event : Event) → effort_after kind words.now.terms.shape.manager (now words.now self.old)
+            (effort_by self.old) event ≡ effort_by self.old }
         ensures rest { self.new ≡ record self.old { seat = self.new.seat } }
-        ensures state { now words.now self.new ≡ after kind words.now.terms.shape (now words.now self.old) (made_by B.began Load kind place result) }
-        ensures under { Under L.holds words.now B.began self.new (due_by words.now B.began self.new (made_by B.began Load kind place result)) (again_by words.now B.began self.new (made_by B.began Load kind place result)) }
+        ensures state { now words.now self.new
+            ≡ after kind words.now.terms.shape (now words.now self.old) (made_by B.began Load kind place result) }
+        ensures under { Under L.holds words.now B.began self.new
+            (due_by words.now B.began self.new (made_by B.began Load kind place result))
+            (again_by words.now B.began self.new (made_by B.began Load kind place result)) }
     {
         self.look::<B>(words, kind, place)
     }
@@ -70,10 +76,12 @@ impl<L: Law> Steps<L> {
     pub fn store<B: InCall>(&mut self, words: &Words<L>, kind: Kind, place: u64, put: u64)
         requires under { Under L.holds words.now B.began self.old (Step kind (operand_of kind place put)) None }
         requires object { kind ≢ LookObj }
-        requires may { MayStep words.now.terms.shape (now words.now self.old) kind (Store put) (made_by B.began (Store put) kind place 0) }
+        requires may { MayStep words.now.terms.shape (now words.now self.old) kind (Store put)
+            (made_by B.began (Store put) kind place 0) }
         requires lawful { StoresLawfully L.holds words.now.terms (view_of self.old.seat) kind place put }
         ensures rest { self.new ≡ record self.old { seat = self.new.seat } }
-        ensures went { (found : ℕ) × Went L.holds words.now B.began self.old self.new (made_by B.began (Store put) kind place found) }
+        ensures went { (found : ℕ) × Went L.holds words.now B.began self.old self.new
+            (made_by B.began (Store put) kind place found) }
     {
         words.store(&mut self.seat, kind, place, put)
     }
@@ -82,7 +90,8 @@ impl<L: Law> Steps<L> {
     pub fn add<B: InCall>(&mut self, words: &Words<L>, kind: Kind, place: u64) -> u64
         requires under { Under L.holds words.now B.began self.old (just kind) None }
         requires adds { ActsBy kind Add }
-        requires may { MayStep words.now.terms.shape (now words.now self.old) kind Add (made_by B.began Add kind place 0) }
+        requires may { MayStep words.now.terms.shape (now words.now self.old) kind Add
+            (made_by B.began Add kind place 0) }
         ensures rest { self.new ≡ record self.old { seat = self.new.seat } }
         ensures went { Went L.holds words.now B.began self.old self.new (made_by B.began Add kind place result) }
     {
@@ -99,11 +108,13 @@ impl<L: Law> Steps<L> {
         put: u64,
     ) -> Result<u64, u64>
         requires under { Under L.holds words.now B.began self.old (just kind) None }
-        requires may { MayStep words.now.terms.shape (now words.now self.old) kind (Exchange expected put) (made_by B.began (Exchange expected put) kind place 0) }
+        requires may { MayStep words.now.terms.shape (now words.now self.old) kind (Exchange expected put)
+            (made_by B.began (Exchange expected put) kind place 0) }
         requires exchanges { is_exchange kind ≡ true }
         ensures rest { self.new ≡ record self.old { seat = self.new.seat } }
         ensures answer { MatchResult result (λ found. found ≡ expected) (λ found. found ≢ expected) }
-        ensures went { Went L.holds words.now B.began self.old self.new (made_by B.began (Exchange expected put) kind place (found_in result)) }
+        ensures went { Went L.holds words.now B.began self.old self.new
+            (made_by B.began (Exchange expected put) kind place (found_in result)) }
     {
         words.exchange(&mut self.seat, kind, place, expected, put)
     }

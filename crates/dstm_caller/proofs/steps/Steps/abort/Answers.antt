@@ -15,7 +15,8 @@ returns-else-self-eq-MAX_MISSED-clause-met g c =
     let one = kill.missed.1 in let before = met.tries in let other = c.if-self-eq-MAX_MISSED.false in omega arith in
     subst (Meets g.L.Law.holds c.args.words.now g.B.InCall.began Running c.kill.new.self c.args.owner) kill.state.3
     (killed_as g.L.Law.holds c.args.words.now g.B.InCall.began c.args.self.now c.kill.new.self c.args.owner
-    (code_of c.args.status) kill.state.1 met kill.state.2 (kill.goes_on tries) c.requires.left kill.kept.0 kill.kept.1 tries)
+    (code_of c.args.status) kill.state.1 met kill.state.2 (kill.goes_on tries) c.requires.left kill.kept.0
+    kill.kept.1 tries)
 
 pub returns-else-self-eq-MAX_MISSED-clause-keeps : goal.returns-else-self-eq-MAX_MISSED-clause-keeps
 returns-else-self-eq-MAX_MISSED-clause-keeps g c =

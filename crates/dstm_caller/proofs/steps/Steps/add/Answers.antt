@@ -12,7 +12,8 @@ add-requires-clause-allowed g c =
     let state : LocalState = now c.args.words.now c.args.self.now in
     let event : Event = made_by g.B.InCall.began (Add) c.args.kind c.args.place 0 in
     may_make g.L.Law.holds c.args.words.now g.B.InCall.began c.args.self.now _ _ (Add) c.args.kind c.args.place
-    c.requires.under (λ q. absurd (add_object c.args.kind c.args.words.now.terms.shape state event c.requires.adds q)) c.requires.may
+    c.requires.under (λ q. absurd
+    (add_object c.args.kind c.args.words.now.terms.shape state event c.requires.adds q)) c.requires.may
 
 pub returns-clause-went : goal.returns-clause-went
 returns-clause-went g c =
@@ -21,5 +22,6 @@ returns-clause-went g c =
     let event : Event = made_by b (Add) c.args.kind c.args.place c.add.result in
     let new : Steps g.row.L.Denot = record c.args.self.now { seat = c.add.new.seat } in
     went_adds g.L.Law.holds c.args.words.now b c.args.self.now new event _ _ c.requires.under
-    (makes_by g.L.Law.holds c.args.words.now b _ _ (Add) c.args.kind c.args.place c.add.result c.requires.under.number c.add.ensures.event)
+    (makes_by g.L.Law.holds c.args.words.now b _ _ (Add) c.args.kind c.args.place c.add.result
+    c.requires.under.number c.add.ensures.event)
     c.add.ensures.seat refl (refl, add_operand c.args.kind c.args.words.now.terms.shape state event c.requires.adds)

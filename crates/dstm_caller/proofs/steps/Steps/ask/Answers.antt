@@ -22,16 +22,25 @@ use Rattle.dstm_caller.proofs.steps.Steps.ask.Goals as goal
 
 pub status-requires-clause-below : goal.status-requires-clause-below
 status-requires-clause-below g c =
-    rw c.requires.under.shape (rw c.requires.owner at (owner_in g.L.Law.holds c.args.words.now g.B.InCall.began c.args.self.now _ _ c.requires.under c.requires.running (rw c.requires.owner refl)
+    rw c.requires.under.shape
+    (rw c.requires.owner at
+    (owner_in g.L.Law.holds c.args.words.now g.B.InCall.began c.args.self.now _ _ c.requires.under
+    c.requires.running (rw c.requires.owner refl)
     (let live = c.requires.status.1 in let status = c.requires.status.0 in rw status (grind (arith, nat_tests)))))
 
 pub load-code-requires-clause-allowed : goal.load-code-requires-clause-allowed
 load-code-requires-clause-allowed g c =
     may_make g.L.Law.holds c.args.words.now g.B.InCall.began c.args.self.now _ _ Load LookStatus c.status.result
     c.requires.under (λ q. absurd (cc)) (record {
-      place = rw c.requires.owner (c.status.ensures ∙ ap (λ s. place s (StatusWord c.args.owner)) c.requires.under.shape);
+      place = rw c.requires.owner (c.status.ensures
+          ∙ ap (λ s. place s (StatusWord c.args.owner)) c.requires.under.shape);
       access = refl;
-      may = (inl c.requires.running.phase, c.requires.running.agreed, rw c.requires.owner refl, (let live = c.requires.status.1 in let status = c.requires.status.0 in rw status (grind (arith, nat_tests))));
+      may = (
+        inl c.requires.running.phase,
+        c.requires.running.agreed,
+        rw c.requires.owner refl,
+        (let live = c.requires.status.1 in let status = c.requires.status.0 in rw status (grind (arith, nat_tests))),
+      );
     })
 
 pub returns-in-Kill-clause-kill : goal.returns-in-Kill-clause-kill
@@ -41,11 +50,13 @@ returns-in-Kill-clause-kill g c is =
     let same : new ≡ old =
     ap (λ d. record old { decider = d }) (c.in-Kill.ensures.left ∙ kill_keeps old.decider) in
     let chose =
-    chosen_is g.L.Law.holds c.args.words.now g.B.InCall.began old _ _ c.requires.under c.args.enemy c.args.status c.requires.enemy c.requires.status.0
+    chosen_is g.L.Law.holds c.args.words.now g.B.InCall.began old _ _ c.requires.under c.args.enemy c.args.status
+    c.requires.enemy c.requires.status.0
     ∙ sym c.in-Kill.ensures.answer in (
       same,
       subst (λ s. Under g.L.Law.holds c.args.words.now g.B.InCall.began s (just Kill) None) (sym same)
-          (under_is g.L.Law.holds c.args.words.now g.B.InCall.began old _ _ _ _ c.requires.under (ap on_choice chose) refl),
+          (under_is g.L.Law.holds c.args.words.now g.B.InCall.began old _ _ _ _ c.requires.under (ap on_choice chose)
+          refl),
       chose,
     )
 
@@ -56,11 +67,13 @@ returns-in-GiveWay-clause-give_way g c is =
     let same : new ≡ old =
     ap (λ d. record old { decider = d }) (c.in-GiveWay.ensures.left ∙ give_way_keeps old.decider) in
     let chose =
-    chosen_is g.L.Law.holds c.args.words.now g.B.InCall.began old _ _ c.requires.under c.args.enemy c.args.status c.requires.enemy c.requires.status.0
+    chosen_is g.L.Law.holds c.args.words.now g.B.InCall.began old _ _ c.requires.under c.args.enemy c.args.status
+    c.requires.enemy c.requires.status.0
     ∙ sym c.in-GiveWay.ensures.answer in (
       same,
       subst (λ s. Under g.L.Law.holds c.args.words.now g.B.InCall.began s (just Pause) None) (sym same)
-          (under_is g.L.Law.holds c.args.words.now g.B.InCall.began old _ _ _ _ c.requires.under (ap on_choice chose) refl),
+          (under_is g.L.Law.holds c.args.words.now g.B.InCall.began old _ _ _ _ c.requires.under (ap on_choice chose)
+          refl),
       chose,
     )
 
@@ -68,22 +81,32 @@ pub returns-then-turns-eq1-clause-waits : goal.returns-then-turns-eq1-clause-wai
 returns-then-turns-eq1-clause-waits g c code is =
     let b : Began = g.B.InCall.began in
     let old : Steps g.row.L.Denot = c.args.self.now in
-    let new : Steps g.row.L.Denot = record old { seat = c.load-code.new.seat; decider = c.decide.new.self; left = c.in-Wait.turns - 1; round = old.round + 1 } in
+    let new : Steps g.row.L.Denot =
+    record old {
+      seat = c.load-code.new.seat;
+      decider = c.decide.new.self;
+      left = c.in-Wait.turns - 1;
+      round =
+          old.round + 1;
+    } in
     let l : LocalState = now c.args.words.now old in
     let manager : Manager = c.args.words.now.terms.shape.manager in
     let e : Event = made_by b Load LookStatus c.status.result c.load-code.result in
     let chose : chosen manager l (effort_by old) ≡ Wait c.in-Wait.turns =
-    chosen_is g.L.Law.holds c.args.words.now g.B.InCall.began old _ _ c.requires.under c.args.enemy c.args.status c.requires.enemy c.requires.status.0
+    chosen_is g.L.Law.holds c.args.words.now g.B.InCall.began old _ _ c.requires.under c.args.enemy c.args.status
+    c.requires.enemy c.requires.status.0
     ∙ sym c.in-Wait.ensures.answer in
     let due_wait : Under g.L.Law.holds c.args.words.now g.B.InCall.began old (just LookStatus) None =
     under_is g.L.Law.holds c.args.words.now g.B.InCall.began old _ _ _ _ c.requires.under (ap on_choice chose) refl in
     let w : Went g.L.Law.holds c.args.words.now g.B.InCall.began old new e =
     went_adds g.L.Law.holds c.args.words.now g.B.InCall.began old new e _ _ due_wait
-    (makes_by g.L.Law.holds c.args.words.now g.B.InCall.began _ _ Load LookStatus c.status.result c.load-code.result c.requires.under.number c.load-code.ensures.event)
+    (makes_by g.L.Law.holds c.args.words.now g.B.InCall.began _ _ Load LookStatus c.status.result c.load-code.result
+    c.requires.under.number c.load-code.ensures.event)
     c.load-code.ensures.seat refl (refl, tt) in
     let m = c.requires.under.mirror in
     let found : c.load-code.result ≡ code = cc in
-    let generator : (decided (record { manager = manager; generator = old.decider.generator }) (Wait c.in-Wait.turns)).generator ≡ c.decide.new.self.generator =
+    let generator : (decided (record { manager = manager; generator = old.decider.generator })
+    (Wait c.in-Wait.turns)).generator ≡ c.decide.new.self.generator =
     rw (← c.requires.under.manager) (ap (λ (d : DeciderState). d.generator) (sym c.in-Wait.ensures.left)) in
     let kept : c.decide.new.self.manager ≡ old.decider.manager =
     rw c.in-Wait.ensures.left (manager_kept old.decider c.in-Wait.turns) in (
@@ -93,8 +116,14 @@ returns-then-turns-eq1-clause-waits g c code is =
             shape = refl;
             manager = kept;
             mirror = record { own = m.own; installed = m.installed; rank = m.rank };
-            effort = first_turn manager l (effort_by old) e c.in-Wait.turns (rw c.requires.status.0 refl) c.requires.running.phase c.requires.left chose
-                ∙ turn_last c.in-Wait.turns (record (effort_by old) { generator = (decided (record { manager = manager; generator = old.decider.generator }) (Wait c.in-Wait.turns)).generator }) c.if-turns-eq1.true ∙ rw generator refl;
+            effort = first_turn manager l (effort_by old) e c.in-Wait.turns (rw c.requires.status.0 refl)
+                c.requires.running.phase c.requires.left chose
+                ∙ turn_last c.in-Wait.turns
+                (record (effort_by old) {
+                  generator =
+                      (decided (record { manager = manager; generator = old.decider.generator })
+                      (Wait c.in-Wait.turns)).generator;
+                }) c.if-turns-eq1.true ∙ rw generator refl;
           })
           (rw (w.state, c.requires.running.phase) refl) (rw w.state c.requires.running.agreed) c.requires.tries,
     )
@@ -103,22 +132,26 @@ pub returns-else-turns-eq1-clause-waits : goal.returns-else-turns-eq1-clause-wai
 returns-else-turns-eq1-clause-waits g c code is =
     let b : Began = g.B.InCall.began in
     let old : Steps g.row.L.Denot = c.args.self.now in
-    let new : Steps g.row.L.Denot = record old { seat = c.load-code.new.seat; decider = c.decide.new.self; left = c.in-Wait.turns - 1 } in
+    let new : Steps g.row.L.Denot =
+    record old { seat = c.load-code.new.seat; decider = c.decide.new.self; left = c.in-Wait.turns - 1 } in
     let l : LocalState = now c.args.words.now old in
     let manager : Manager = c.args.words.now.terms.shape.manager in
     let e : Event = made_by b Load LookStatus c.status.result c.load-code.result in
     let chose : chosen manager l (effort_by old) ≡ Wait c.in-Wait.turns =
-    chosen_is g.L.Law.holds c.args.words.now g.B.InCall.began old _ _ c.requires.under c.args.enemy c.args.status c.requires.enemy c.requires.status.0
+    chosen_is g.L.Law.holds c.args.words.now g.B.InCall.began old _ _ c.requires.under c.args.enemy c.args.status
+    c.requires.enemy c.requires.status.0
     ∙ sym c.in-Wait.ensures.answer in
     let due_wait : Under g.L.Law.holds c.args.words.now g.B.InCall.began old (just LookStatus) None =
     under_is g.L.Law.holds c.args.words.now g.B.InCall.began old _ _ _ _ c.requires.under (ap on_choice chose) refl in
     let w : Went g.L.Law.holds c.args.words.now g.B.InCall.began old new e =
     went_adds g.L.Law.holds c.args.words.now g.B.InCall.began old new e _ _ due_wait
-    (makes_by g.L.Law.holds c.args.words.now g.B.InCall.began _ _ Load LookStatus c.status.result c.load-code.result c.requires.under.number c.load-code.ensures.event)
+    (makes_by g.L.Law.holds c.args.words.now g.B.InCall.began _ _ Load LookStatus c.status.result c.load-code.result
+    c.requires.under.number c.load-code.ensures.event)
     c.load-code.ensures.seat refl (refl, tt) in
     let m = c.requires.under.mirror in
     let found : c.load-code.result ≡ code = cc in
-    let generator : (decided (record { manager = manager; generator = old.decider.generator }) (Wait c.in-Wait.turns)).generator ≡ c.decide.new.self.generator =
+    let generator : (decided (record { manager = manager; generator = old.decider.generator })
+    (Wait c.in-Wait.turns)).generator ≡ c.decide.new.self.generator =
     rw (← c.requires.under.manager) (ap (λ (d : DeciderState). d.generator) (sym c.in-Wait.ensures.left)) in
     let kept : c.decide.new.self.manager ≡ old.decider.manager =
     rw c.in-Wait.ensures.left (manager_kept old.decider c.in-Wait.turns) in (
@@ -128,8 +161,14 @@ returns-else-turns-eq1-clause-waits g c code is =
             shape = refl;
             manager = kept;
             mirror = record { own = m.own; installed = m.installed; rank = m.rank };
-            effort = first_turn manager l (effort_by old) e c.in-Wait.turns (rw c.requires.status.0 refl) c.requires.running.phase c.requires.left chose
-                ∙ turn_more c.in-Wait.turns (record (effort_by old) { generator = (decided (record { manager = manager; generator = old.decider.generator }) (Wait c.in-Wait.turns)).generator }) c.if-turns-eq1.false ∙ rw generator refl;
+            effort = first_turn manager l (effort_by old) e c.in-Wait.turns (rw c.requires.status.0 refl)
+                c.requires.running.phase c.requires.left chose
+                ∙ turn_more c.in-Wait.turns
+                (record (effort_by old) {
+                  generator =
+                      (decided (record { manager = manager; generator = old.decider.generator })
+                      (Wait c.in-Wait.turns)).generator;
+                }) c.if-turns-eq1.false ∙ rw generator refl;
           })
           (rw (w.state, c.requires.running.phase) refl) (rw w.state c.requires.running.agreed) c.requires.tries,
     )
@@ -141,11 +180,12 @@ returns-then-turns-eq1-clause-rounds g c code is =
     let manager : Manager = c.args.words.now.terms.shape.manager in
     let chose : chosen manager l (effort_by old) ≡ Wait c.in-Wait.turns =
     chosen_is g.L.Law.holds c.args.words.now g.B.InCall.began old _ _ c.requires.under c.args.enemy c.args.status
-    c.requires.enemy c.requires.status.0 ∙ sym c.in-Wait.ensures.answer in
-    (rw c.if-turns-eq1.true refl,
-    round_in manager _ _ _ _ c.in-Wait.turns _
-    (rank_in g.L.Law.holds c.args.words.now g.B.InCall.began old _ _ c.requires.under) chose,
-    refl)
+    c.requires.enemy c.requires.status.0 ∙ sym c.in-Wait.ensures.answer in (
+      rw c.if-turns-eq1.true refl,
+      round_in manager _ _ _ _ c.in-Wait.turns _
+          (rank_in g.L.Law.holds c.args.words.now g.B.InCall.began old _ _ c.requires.under) chose,
+      refl,
+    )
 
 pub returns-else-turns-eq1-clause-rounds : goal.returns-else-turns-eq1-clause-rounds
 returns-else-turns-eq1-clause-rounds g c code is =
@@ -156,8 +196,9 @@ returns-else-turns-eq1-clause-rounds g c code is =
     chosen_is g.L.Law.holds c.args.words.now g.B.InCall.began old _ _ c.requires.under c.args.enemy c.args.status
     c.requires.enemy c.requires.status.0 ∙ sym c.in-Wait.ensures.answer in
     let some = waits_some manager _ _ _ _ c.in-Wait.turns _ chose in
-    let more = c.if-turns-eq1.false in
-    (rw (ne_eqb (c.in-Wait.turns - 1) 0 (λ q. omega arith)) refl,
-    round_in manager _ _ _ _ c.in-Wait.turns _
-    (rank_in g.L.Law.holds c.args.words.now g.B.InCall.began old _ _ c.requires.under) chose,
-    refl)
+    let more = c.if-turns-eq1.false in (
+      rw (ne_eqb (c.in-Wait.turns - 1) 0 (λ q. omega arith)) refl,
+      round_in manager _ _ _ _ c.in-Wait.turns _
+          (rank_in g.L.Law.holds c.args.words.now g.B.InCall.began old _ _ c.requires.under) chose,
+      refl,
+    )

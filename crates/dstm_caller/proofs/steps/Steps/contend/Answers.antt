@@ -35,7 +35,7 @@ wait-requires g c =
     let rounds = c.in-Waits.ensures.rounds c.in-Waits.code refl in
     record {
       met = began_wait g.L.Law.holds c.args.words.now g.B.InCall.began c.args.self.now c.ask.new.self c.args.owner
-    (code_of c.args.status) c.in-Waits.code c.requires.met waits.0 waits.1 rounds.0 rounds.1 rounds.2;
+          (code_of c.args.status) c.in-Waits.code c.requires.met waits.0 waits.1 rounds.0 rounds.1 rounds.2;
     }
 
 pub returns-in-Waits-clause-less : goal.returns-in-Waits-clause-less

@@ -9,9 +9,13 @@ use Rattle.dstm_caller.proofs.steps.Steps.give_way.Goals as goal
 
 pub pause-requires-clause-enemy : goal.pause-requires-clause-enemy
 pause-requires-clause-enemy g c =
-    let met = c.requires.met in
-    (rw met.owner_is refl, greedy_rank _ _ c.requires.manager met.rank, c.requires.elder,
-    rw met.status c.requires.live.0, rw met.status c.requires.live.1)
+    let met = c.requires.met in (
+      rw met.owner_is refl,
+      greedy_rank _ _ c.requires.manager met.rank,
+      c.requires.elder,
+      rw met.status c.requires.live.0,
+      rw met.status c.requires.live.1,
+    )
 
 pub returns-then-not-lets_go-clause-ends : goal.returns-then-not-lets_go-clause-ends
 returns-then-not-lets_go-clause-ends g c =

@@ -14,7 +14,8 @@ returns-clause-under g c =
     c.look.ensures.went.goes_on c.look.new.self refl (record {
       shape = ap (λ (s : Steps g.row.L.Denot). s.shape) rest;
       manager = ap (λ (s : Steps g.row.L.Denot). s.decider.manager) rest;
-      mirror = load_mirror c.args.kind c.args.words.now.terms.shape c.look.new.self (now c.args.words.now c.args.self.now) e
+      mirror = load_mirror c.args.kind c.args.words.now.terms.shape c.look.new.self
+          (now c.args.words.now c.args.self.now) e
           c.requires.loads (record {
             own = rw rest m.own;
             installed = rw rest m.installed;

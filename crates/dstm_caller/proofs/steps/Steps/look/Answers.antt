@@ -21,5 +21,6 @@ returns-clause-went g c =
     let event : Event = made_by b (Load) c.args.kind c.args.place c.load.result in
     let new : Steps g.row.L.Denot = record c.args.self.now { seat = c.load.new.seat } in
     went_adds g.L.Law.holds c.args.words.now b c.args.self.now new event _ _ c.requires.under
-    (makes_by g.L.Law.holds c.args.words.now b _ _ (Load) c.args.kind c.args.place c.load.result c.requires.under.number c.load.ensures.event)
+    (makes_by g.L.Law.holds c.args.words.now b _ _ (Load) c.args.kind c.args.place c.load.result
+    c.requires.under.number c.load.ensures.event)
     c.load.ensures.seat refl (refl, load_operand c.args.kind c.args.words.now.terms.shape state event c.requires.loads)

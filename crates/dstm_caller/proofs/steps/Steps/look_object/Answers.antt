@@ -14,7 +14,8 @@ returns-clause-agreed g c agreed =
     let rest = c.look-word.ensures.rest in
     let m = c.requires.under.mirror in
     let state = c.look-word.ensures.went.state in
-    went_on g.L.Law.holds c.args.words.now g.B.InCall.began c.args.self.now c.look-word.new.self new e c.look-word.ensures.went refl
+    went_on g.L.Law.holds c.args.words.now g.B.InCall.began c.args.self.now c.look-word.new.self new e
+    c.look-word.ensures.went refl
     (record {
       shape = ap (λ (s : Steps g.row.L.Denot). s.shape) rest;
       manager = ap (λ (s : Steps g.row.L.Denot). s.decider.manager) rest;
@@ -30,7 +31,8 @@ returns-clause-stale g c stale =
     let rest = c.look-word.ensures.rest in
     let m = c.requires.under.mirror in
     let state = c.look-word.ensures.went.state in
-    went_stale g.L.Law.holds c.args.words.now g.B.InCall.began c.args.self.now c.look-word.new.self new e c.look-word.ensures.went refl
+    went_stale g.L.Law.holds c.args.words.now g.B.InCall.began c.args.self.now c.look-word.new.self new e
+    c.look-word.ensures.went refl
     (record {
       shape = ap (λ (s : Steps g.row.L.Denot). s.shape) rest;
       manager = ap (λ (s : Steps g.row.L.Denot). s.decider.manager) rest;

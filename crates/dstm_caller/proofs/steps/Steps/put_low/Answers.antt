@@ -13,13 +13,16 @@ pub new_cell-requires-clause-below : goal.new_cell-requires-clause-below
 new_cell-requires-clause-below g c =
     let e : Event = made_by g.B.InCall.began (Store c.args.low) PutNew 0 0 in
     rw c.requires.under.shape (rw c.requires.locator at
-    (in_word g.L.Law.holds c.args.words.now g.B.InCall.began c.args.self.now _ _ c.requires.under PutNew e (λ q. absurd (cc))
+    (in_word g.L.Law.holds c.args.words.now g.B.InCall.began c.args.self.now _ _ c.requires.under PutNew e
+    (λ q. absurd (cc))
     (c.requires.live.0, c.requires.live.1, c.requires.next.0, c.requires.next.1)))
 
 pub returns-clause-past : goal.returns-clause-past
-returns-clause-past g c = past_went g.L.Law.holds c.args.words.now g.B.InCall.began c.args.self.now c.store.new.self _ c.store.ensures.went.1
+returns-clause-past g c =
+    past_went g.L.Law.holds c.args.words.now g.B.InCall.began c.args.self.now c.store.new.self _ c.store.ensures.went.1
 
 pub returns-clause-put : goal.returns-clause-put
 returns-clause-put g c =
-    holds_put g.L.Law.holds c.args.words.now g.B.InCall.began c.args.self.now c.store.new.self _ (LowWord c.args.locator) c.args.low c.store.ensures.went.1
+    holds_put g.L.Law.holds c.args.words.now g.B.InCall.began c.args.self.now c.store.new.self _
+    (LowWord c.args.locator) c.args.low c.store.ensures.went.1
     (inr refl) (c.new_cell.ensures ∙ ap (λ s. place s (LowWord c.args.locator)) c.requires.under.shape) refl

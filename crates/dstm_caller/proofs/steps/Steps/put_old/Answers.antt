@@ -9,4 +9,11 @@ pub old_cell-requires-clause-below : goal.old_cell-requires-clause-below
 old_cell-requires-clause-below g c =
     let e : Event = made_by g.B.InCall.began (Store 0) PutOld 0 0 in
     rw c.requires.under.shape (rw c.requires.locator at
-    (in_word g.L.Law.holds c.args.words.now g.B.InCall.began c.args.self.now _ _ c.requires.under PutOld e (λ q. absurd (cc)) (c.requires.running.phase, c.requires.running.agreed, c.requires.resolved.0, c.requires.resolved.1, c.requires.held)))
+    (in_word g.L.Law.holds c.args.words.now g.B.InCall.began c.args.self.now _ _ c.requires.under PutOld e
+    (λ q. absurd (cc)) (
+      c.requires.running.phase,
+      c.requires.running.agreed,
+      c.requires.resolved.0,
+      c.requires.resolved.1,
+      c.requires.held,
+    )))

@@ -9,4 +9,5 @@ pub owner-requires-clause-below : goal.owner-requires-clause-below
 owner-requires-clause-below g c =
     let e : Event = made_by g.B.InCall.began (Store 0) PutOwner 0 0 in
     rw c.requires.under.shape (rw c.requires.locator at
-    (in_word g.L.Law.holds c.args.words.now g.B.InCall.began c.args.self.now _ _ c.requires.under PutOwner e (λ q. absurd (cc)) (c.requires.running.phase, c.requires.running.agreed, c.requires.room)))
+    (in_word g.L.Law.holds c.args.words.now g.B.InCall.began c.args.self.now _ _ c.requires.under PutOwner e
+    (λ q. absurd (cc)) (c.requires.running.phase, c.requires.running.agreed, c.requires.room)))

@@ -84,5 +84,6 @@ returns-clause-attempt g c =
     let first : KeepsAttempt old new =
     stays_object old new c.args.object c.look_object-word.result _ state c.requires.running.agreed same in
     on_ok c.resolve_word.result (λ (stays : StaysAt new last). stays.attempt
-    ∙ ap (λ (l : LocalState). record l { resolution = last.resolution; pass = last.pass; checked = last.checked }) first)
+    ∙ ap (λ (l : LocalState). record l { resolution = last.resolution; pass = last.pass; checked = last.checked })
+    first)
     c.resolve_word.ensures.stays

@@ -11,7 +11,8 @@ pub store-requires-clause-allowed : goal.store-requires-clause-allowed
 store-requires-clause-allowed g c =
     let state : LocalState = now c.args.words.now c.args.self.now in
     let event : Event = made_by g.B.InCall.began (Store c.args.put) c.args.kind c.args.place 0 in
-    may_make g.L.Law.holds c.args.words.now g.B.InCall.began c.args.self.now _ _ (Store c.args.put) c.args.kind c.args.place
+    may_make g.L.Law.holds c.args.words.now g.B.InCall.began c.args.self.now _ _ (Store c.args.put) c.args.kind
+    c.args.place
     c.requires.under (λ q. absurd (c.requires.object q)) c.requires.may
 
 pub returns-clause-went : goal.returns-clause-went
@@ -22,6 +23,7 @@ returns-clause-went g c =
     let new : Steps g.row.L.Denot = record c.args.self.now { seat = c.store.new.seat } in (
       c.store.ensures.event.0,
       went_adds g.L.Law.holds c.args.words.now b c.args.self.now new event _ _ c.requires.under
-          (makes_by g.L.Law.holds c.args.words.now b _ _ (Store c.args.put) c.args.kind c.args.place c.store.ensures.event.0 c.requires.under.number c.store.ensures.event.1)
+          (makes_by g.L.Law.holds c.args.words.now b _ _ (Store c.args.put) c.args.kind c.args.place
+          c.store.ensures.event.0 c.requires.under.number c.store.ensures.event.1)
           c.store.ensures.seat refl (refl, store_operand c.args.kind event c.args.place c.args.put refl refl),
     )

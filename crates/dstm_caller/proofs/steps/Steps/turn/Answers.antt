@@ -13,7 +13,10 @@ use Rattle.dstm_caller.proofs.steps.Steps.turn.Goals.{then-self-eq1, else-self-e
 
 pub status-requires-clause-below : goal.status-requires-clause-below
 status-requires-clause-below g c =
-    rw c.requires.under.shape (rw c.requires.owner at (owner_in g.L.Law.holds c.args.words.now g.B.InCall.began c.args.self.now _ _ c.requires.under c.requires.running (rw c.requires.owner refl)
+    rw c.requires.under.shape
+    (rw c.requires.owner at
+    (owner_in g.L.Law.holds c.args.words.now g.B.InCall.began c.args.self.now _ _ c.requires.under
+    c.requires.running (rw c.requires.owner refl)
     (let live = c.requires.status.1 in grind (arith, nat_tests))))
 
 pub returns-clause-under : goal.returns-clause-under
@@ -27,15 +30,24 @@ returns-clause-under g c = elim c.if-self-eq1.branch [
       let seat = ap (λ (s : Steps g.row.L.Denot). s.seat) w.self-is in
       let here : now c.args.words.now new ≡ now c.args.words.now c.look-status.new.self =
       ap (λ s. caller_state c.args.words.now.terms (view_of s)) seat in
-      went_on g.L.Law.holds c.args.words.now g.B.InCall.began c.args.self.now c.look-status.new.self new e c.look-status.ensures.went seat
+      went_on g.L.Law.holds c.args.words.now g.B.InCall.began c.args.self.now c.look-status.new.self new e
+      c.look-status.ensures.went seat
       (record {
         shape = rw (w.self-is, rest) refl;
         manager = rw (w.self-is, rest) refl;
-        mirror = record { own = rw (w.self-is, rest) m.own; installed = rw (w.self-is, rest) m.installed; rank = rw (w.self-is, rest) m.rank };
-        effort = turn_left c.args.words.now.terms.shape.manager (now c.args.words.now c.args.self.now) (effort_by c.args.self.now) e c.requires.status.0 c.requires.running.phase c.requires.left
-            ∙ turn_last c.args.self.now.left (effort_by c.args.self.now) (rw rest at w.if-self-eq1.true) ∙ (rw (w.self-is, rest) refl);
+        mirror = record {
+          own = rw (w.self-is, rest) m.own;
+          installed = rw (w.self-is, rest) m.installed;
+          rank =
+              rw (w.self-is, rest) m.rank;
+        };
+        effort = turn_left c.args.words.now.terms.shape.manager (now c.args.words.now c.args.self.now)
+            (effort_by c.args.self.now) e c.requires.status.0 c.requires.running.phase c.requires.left
+            ∙ turn_last c.args.self.now.left (effort_by c.args.self.now) (rw rest at w.if-self-eq1.true)
+            ∙ (rw (w.self-is, rest) refl);
       })
-      (rw (here, state, c.requires.running.phase) refl) (rw (here, state) c.requires.running.agreed) (rw (w.self-is, rest) c.requires.tries)
+      (rw (here, state, c.requires.running.phase) refl) (rw (here, state) c.requires.running.agreed)
+      (rw (w.self-is, rest) c.requires.tries)
   | else-self-eq1 w ↦
       let rest = c.look-status.ensures.rest in
       let m = c.requires.under.mirror in
@@ -45,13 +57,22 @@ returns-clause-under g c = elim c.if-self-eq1.branch [
       let seat = ap (λ (s : Steps g.row.L.Denot). s.seat) w.self-is in
       let here : now c.args.words.now new ≡ now c.args.words.now c.look-status.new.self =
       ap (λ s. caller_state c.args.words.now.terms (view_of s)) seat in
-      went_on g.L.Law.holds c.args.words.now g.B.InCall.began c.args.self.now c.look-status.new.self new e c.look-status.ensures.went seat
+      went_on g.L.Law.holds c.args.words.now g.B.InCall.began c.args.self.now c.look-status.new.self new e
+      c.look-status.ensures.went seat
       (record {
         shape = rw (w.self-is, rest) refl;
         manager = rw (w.self-is, rest) refl;
-        mirror = record { own = rw (w.self-is, rest) m.own; installed = rw (w.self-is, rest) m.installed; rank = rw (w.self-is, rest) m.rank };
-        effort = turn_left c.args.words.now.terms.shape.manager (now c.args.words.now c.args.self.now) (effort_by c.args.self.now) e c.requires.status.0 c.requires.running.phase c.requires.left
-            ∙ turn_more c.args.self.now.left (effort_by c.args.self.now) (rw rest at w.if-self-eq1.false) ∙ (rw (w.self-is, rest) refl);
+        mirror = record {
+          own = rw (w.self-is, rest) m.own;
+          installed = rw (w.self-is, rest) m.installed;
+          rank =
+              rw (w.self-is, rest) m.rank;
+        };
+        effort = turn_left c.args.words.now.terms.shape.manager (now c.args.words.now c.args.self.now)
+            (effort_by c.args.self.now) e c.requires.status.0 c.requires.running.phase c.requires.left
+            ∙ turn_more c.args.self.now.left (effort_by c.args.self.now) (rw rest at w.if-self-eq1.false)
+            ∙ (rw (w.self-is, rest) refl);
       })
-      (rw (here, state, c.requires.running.phase) refl) (rw (here, state) c.requires.running.agreed) (rw (w.self-is, rest) c.requires.tries)
+      (rw (here, state, c.requires.running.phase) refl) (rw (here, state) c.requires.running.agreed)
+      (rw (w.self-is, rest) c.requires.tries)
 ]
