@@ -102,7 +102,7 @@ module _ {S E : Type 0} (M : Ghosts S E) where
   pub ready-after : {A B : Type 0} (n : ℕ) (P : List Val → A → Type 0) (old new : S) (r : Result B E) →
       IsReady M n P old → Leads M old new r →
       IfOk r (λ x. (map : List Val) → M.Admits new map → (a : A) → P (with_set map (M.written old)) a →
-          (b : A) × P (with_set map (M.written new)) b) →
+      (b : A) × P (with_set map (M.written new)) b) →
       OnOk r (IsReady M n P new)
   ready-after n P old new (Ok x) ready leads stands = record {
     objects = leads.objects ∙ ready.objects;

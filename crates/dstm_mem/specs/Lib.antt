@@ -1,3 +1,4 @@
 pub mod Memory
 pub mod Flat
 pub mod Operations
+pub mod Release

@@ -10,7 +10,7 @@ mod release;
 pub use body::Body;
 pub use flat::{FlatMem, Never};
 pub use memory::Mem;
-pub use release::{LooseBody, Release};
+pub use release::{LooseBody, Release, admits_what_it_holds};
 
 #[cfg(test)]
 mod tests;

@@ -2,6 +2,7 @@ ghost use Rattle.std.specs.Prelude.{◌≡◌, ℕ, ◌<◌, ◌&&◌, ◌↔◌
 ghost use Rattle.dstm_model.specs.declared.value.Val.{Val};
 ghost use Rattle.dstm_mem.specs.Memory.{with_set, AgreesWith, HoldsWithout};
 ghost use Rattle.dstm_mem.specs.Operations.{IsFresh, Leads};
+ghost use Rattle.dstm_mem.specs.Release.{AdmitsWhatItHolds};
 
 use crate::memory::Mem;
 use dstm_model::Law;
@@ -41,6 +42,12 @@ pub trait Release: Mem {
     /// The maps that a memory began with stay the same.
     ghost began_stays: { (s t : Self) (map : List Val) → Self.place s ≡ Self.place t → Began s map → Began t map };
 }
+
+/// At every moment a live memory admits exactly those maps, of the ones that it admitted before its first open,
+/// that have every value that it holds.
+pub fn admits_what_it_holds<M: Release>()
+    ensures { AdmitsWhatItHolds M.Mem }
+{}
 
 /// The body of a transaction that lets reads go: a [`Body`](crate::Body) for these memories alone. At its end
 /// all that it promises holds of every map that has the values of the reads that are kept.

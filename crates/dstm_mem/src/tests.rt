@@ -129,3 +129,8 @@ fn a_body_leaves_what_it_sets(rt: HostRuntime) -> Result<(), Fail> {
     assert_eq!(rt; body.found, one);
     Ok(())
 }
+
+#[test]
+fn the_law_of_releases_can_be_cited(_rt: HostRuntime) {
+    admits_what_it_holds::<FlatMem>();
+}

@@ -39,7 +39,8 @@ pub fn insert<M: Mem>(mem: &mut M, layout: &Layout, key: u32) -> Result<Reply, M
     Ok(reply)
 }
 
-/// Gives a key this value, and adds the key where it is absent.
+/// Gives a key this value, and adds the key where it is absent. Nothing is set where no node is free; the node
+/// of a key that is there is set, also where the key has this value.
 pub fn put<M: Mem>(mem: &mut M, layout: &Layout, key: u32, value: u64) -> Result<Reply, M::Err>
     requires valid { IsValid layout.now }
     requires fits { FitsLayout layout.now (Op.Put key value) }

@@ -18,7 +18,7 @@ use crate::node::Node;
 use dstm_mem::Mem;
 use dstm_model::{Layout, Op, Reply, Val, Which};
 
-/// Takes a key out, if it is there. Its node becomes the first free one.
+/// Takes a key out, if it is there. Its node becomes the first free one. Nothing is set where the key is absent.
 pub fn remove<M: Mem>(mem: &mut M, layout: &Layout, key: u32) -> Result<Reply, M::Err>
     requires valid { IsValid layout.now }
     requires fits { FitsLayout layout.now (Op.Remove Which.Tree key) }
