@@ -1,8 +1,8 @@
 -- How pieces, lines and fields come off the front of a text.
-use Rattle.std.proofs.Common.{◌≡◌, ℕ, suc, ◌+◌, ◌<◌, ◌≤◌, Bool, true, false, List, [], ◌∷◌, ◌++◌}
+use Rattle.std.proofs.Common.{◌≡◌, ◌≢◌, ℕ, suc, ◌+◌, ◌<◌, ◌≤◌, Bool, true, false, List, [], ◌∷◌, ◌++◌}
 use Rattle.std.proofs.Common.{length, take, drop, get_or, Option, Some, None, unwrap_or}
 use Rattle.std.proofs.Common.{option_copied, Bor, eqb, cond, IfNone, refl, sym, ap, ◌∙◌, arith}
-use Rattle.std.proofs.lemmas.Bool.{false_from_ne_true, eq-eqb}
+use Rattle.std.proofs.lemmas.Bool.{false_from_ne_true, eq-eqb, ne_eqb}
 use Rattle.std.proofs.lemmas.List.{take-append-drop, drop_more, get_or-take, length-take-le}
 use Rattle.std.proofs.lemmas.List.Elements.{All-from_get_or}
 use Rattle.std.proofs.lemmas.List.Splits.{slice_split_none, slice_split_at}
@@ -105,6 +105,28 @@ fields_of-append field rest free some =
 
 pub fields_of-one : (field : List ℕ) → IsFreeOf space field → 0 < length field → fields_of field ≡ field ∷ []
 fields_of-one field free some = ap non_empty (pieces-one space field free) ∙ kept field [] some
+
+-- the first field of a line that begins with no space
+pub fields_cut : (bs field : List ℕ) (left : Option (Bor (List ℕ))) (none next : Bor (List ℕ)) →
+    next ≡ unwrap_or left none → 0 < length bs → none.now ≡ [] →
+    ((b : ℕ) (rest : List ℕ) → bs ≡ b ∷ rest → b ≢ space) →
+    pieces space bs ≡ field ∷ pieces_left space (option_copied left) →
+    fields_of bs ≡ field ∷ fields_of next.now
+fields_cut [] field left none next is some empty solid cut = absurd (omega (arith, some))
+fields_cut (b ∷ bs) field left none next is some empty solid cut =
+    let more = pieces_cons space bs in
+    let first : pieces space (b ∷ bs) ≡ (b ∷ more.0) ∷ more.1 =
+    rw (ne_eqb b space (solid b bs refl)) (ap (onto_first b) more.2) in
+    let front : field ≡ b ∷ more.0 = let whole = sym cut ∙ first in cc in
+    let long : 0 < length field = omega (arith, ap length front) in
+    ap non_empty cut ∙ kept field (pieces_left space (option_copied left)) long
+    ∙ ap (λ (fs : List (List ℕ)). field ∷ fs) (rest_is left)
+    ∙ ap (λ (n : Bor (List ℕ)). field ∷ fields_of n.now) (sym is)
+  where
+    rest_is : (o : Option (Bor (List ℕ))) →
+        non_empty (pieces_left space (option_copied o)) ≡ fields_of (unwrap_or o none).now
+    rest_is None = ap fields_of (sym empty)
+    rest_is (Some rest) = refl
 
 -- ---- there are no more lines than bytes
 

@@ -1,5 +1,5 @@
-ghost use Rattle.std.specs.Prelude.{◌≡◌, ◌≤◌, ◌<◌, ◌^◌, List, [], ◌∷◌, length, IfSome, IfNone, option_copied};
-ghost use Rattle.dstm_text.specs.Lines.{pieces, pieces_left, lines_of, fields_of};
+ghost use Rattle.std.specs.Prelude.{◌≡◌, ◌≢◌, ◌≤◌, ◌<◌, ◌^◌, ℕ, List, [], ◌∷◌, length, IfSome, IfNone, option_copied};
+ghost use Rattle.dstm_text.specs.Lines.{pieces, pieces_left, lines_of, fields_of, space};
 
 use memchr::memchr;
 use std::marker::Model;
@@ -99,25 +99,23 @@ impl<'a> Lines<'a> {
 /// still to come.
 #[derive(Drop)]
 pub struct Fields<'a> {
-    pieces: Pieces<'a>,
+    rest: &'a [u8],
 }
 
 impl<'a> Model for Fields<'a> {
     ghost use Rattle.std.specs.Prelude.{List, ℕ};
-    ghost use Rattle.dstm_text.specs.Lines.{non_empty};
+    ghost use Rattle.dstm_text.specs.Lines.{fields_of};
 
     ghost Value = { List (List ℕ) };
 
-    ghost view = { λ f. non_empty f.pieces };
+    ghost view = { λ f. fields_of f.rest.now };
 }
 
 impl<'a> Fields<'a> {
     pub fn new(line: &'a [u8]) -> Fields<'a>
         ensures { result ≡ fields_of line.now }
     {
-        Fields {
-            pieces: Pieces::new(line, b' '),
-        }
+        Fields { rest: line }
     }
 
     /// Takes the next field.
@@ -126,13 +124,28 @@ impl<'a> Fields<'a> {
         ensures none { IfNone result (self.old ≡ []) }
         ensures ended { IfNone result (self.new ≡ []) }
     {
-        while let Some(piece) = self.pieces.next() {
-            if !piece.is_empty() {
-                return Some(piece);
-            }
+        let line = behind_spaces(self.rest);
+        if line.is_empty() {
+            self.rest = line;
+            return None;
         }
-        None
+        let (field, rest) = first_piece(line, b' ');
+        let behind = rest.unwrap_or(&[]);
+        self.rest = behind;
+        Some(field)
     }
+}
+
+// The line without the spaces at its front.
+fn behind_spaces(line: &[u8]) -> &[u8]
+    ensures same { fields_of result.now ≡ fields_of line.now }
+    ensures solid { (b : ℕ) (bytes : List ℕ) → result.now ≡ b ∷ bytes → b ≢ space }
+{
+    let mut start = 0;
+    while start < line.len() && line[start] == b' ' {
+        start += 1;
+    }
+    &line[start..]
 }
 
 // The first piece, and what follows its separator, if there is one.

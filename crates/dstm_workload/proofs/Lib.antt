@@ -10,3 +10,4 @@ pub mod OpsAgain
 pub mod TextAgain
 pub mod RefusedLaws
 pub mod Before
+pub mod Spellings

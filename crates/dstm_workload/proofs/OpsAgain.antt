@@ -1,8 +1,8 @@
 -- The operations of a text that was written.
 use Rattle.std.proofs.Common.{◌≡◌, ℕ, zero, suc, ◌+◌, ◌-◌, ◌^◌, ◌<◌, ◌≤◌, Bool, true, false, List}
 use Rattle.std.proofs.Common.{[], ◌∷◌, ◌++◌, length, Option, Some, None, Ok, unwrap_or, codes}
-use Rattle.std.proofs.Common.{decimal, refl, sym, ap, subst, ◌∙◌, arith, ⊎_elim, inl, inr, ◌⊎◌}
-use Rattle.std.proofs.lemmas.Bool.{lt-ltb}
+use Rattle.std.proofs.Common.{decimal, cond, refl, sym, ap, subst, ◌∙◌, arith, ⊎_elim, inl, inr, ◌⊎◌}
+use Rattle.std.proofs.lemmas.Bool.{lt-ltb, le-leb}
 use Rattle.std.proofs.lemmas.List.Elements.{recursion_from_All}
 use Rattle.dstm_model.specs.declared.layout.TheConstants.{KEY_LIMIT, AMOUNT_LIMIT}
 use Rattle.dstm_model.specs.declared.op.Which.{Which}
@@ -28,79 +28,15 @@ use Rattle.dstm_workload.specs.Operations.{total_at, insert_at, remove_at, membe
 use Rattle.dstm_workload.specs.Operations.{await_balance_at, await_key_at, await_at, op_at, next_at, ops_at}
 use Rattle.dstm_workload.specs.Writing.{structure_name, fields_of_op, is_orelse, fields_of_ops}
 use Rattle.dstm_workload.proofs.LinesAgain.{operand_again}
+use Rattle.dstm_workload.proofs.ReadLaws.{word_by}
 use Rattle.dstm_workload.proofs.OpLaws.{IsKnown, layout_is_valid, IsNoSeparator, AreBranches, branches_cons, AreOps}
 
 -- ---- words
 
-in_version_1 : (w : Word) → since w ≤ 1 → word_of 1 (spelling w) ≡ Some w
-unfolding word_of
-in_version_1 word.Workers has = refl
-in_version_1 word.Bank has = refl
-in_version_1 word.List has = refl
-in_version_1 word.Tree has = refl
-in_version_1 word.Tx has = refl
-in_version_1 word.Transfer has = refl
-in_version_1 word.Balance has = refl
-in_version_1 word.Total has = refl
-in_version_1 word.Insert has = refl
-in_version_1 word.Remove has = refl
-in_version_1 word.Member has = refl
-in_version_1 word.Put has = absurd (omega arith)
-in_version_1 word.Get has = absurd (omega arith)
-in_version_1 word.Await has = absurd (omega arith)
-in_version_1 word.OrElse has = absurd (omega arith)
-in_version_1 word.Semicolon has = refl
-
-in_version_2 : (w : Word) → since w ≤ 2 → word_of 2 (spelling w) ≡ Some w
-unfolding word_of
-in_version_2 word.Workers has = refl
-in_version_2 word.Bank has = refl
-in_version_2 word.List has = refl
-in_version_2 word.Tree has = refl
-in_version_2 word.Tx has = refl
-in_version_2 word.Transfer has = refl
-in_version_2 word.Balance has = refl
-in_version_2 word.Total has = refl
-in_version_2 word.Insert has = refl
-in_version_2 word.Remove has = refl
-in_version_2 word.Member has = refl
-in_version_2 word.Put has = refl
-in_version_2 word.Get has = refl
-in_version_2 word.Await has = absurd (omega arith)
-in_version_2 word.OrElse has = absurd (omega arith)
-in_version_2 word.Semicolon has = refl
-
-in_version_3 : (w : Word) → since w ≤ 3 → word_of 3 (spelling w) ≡ Some w
-unfolding word_of
-in_version_3 word.Workers has = refl
-in_version_3 word.Bank has = refl
-in_version_3 word.List has = refl
-in_version_3 word.Tree has = refl
-in_version_3 word.Tx has = refl
-in_version_3 word.Transfer has = refl
-in_version_3 word.Balance has = refl
-in_version_3 word.Total has = refl
-in_version_3 word.Insert has = refl
-in_version_3 word.Remove has = refl
-in_version_3 word.Member has = refl
-in_version_3 word.Put has = refl
-in_version_3 word.Get has = refl
-in_version_3 word.Await has = refl
-in_version_3 word.OrElse has = refl
-in_version_3 word.Semicolon has = refl
-
--- a version between 1 and 3
-record IsVersion (version : ℕ) : Type 0 where
-  low : 1 ≤ version
-  high : version ≤ 3
-
 pub word_again : (version : ℕ) (w : Word) → 1 ≤ version → version ≤ 3 → since w ≤ version →
     word_of version (spelling w) ≡ Some w
-word_again zero w low high has = absurd (omega arith)
-word_again (suc zero) w low high has = in_version_1 w has
-word_again (suc (suc zero)) w low high has = in_version_2 w has
-word_again (suc (suc (suc zero))) w low high has = in_version_3 w has
-word_again (suc (suc (suc (suc n)))) w low high has = absurd (omega arith)
+word_again version w low high has =
+    word_by version w ∙ ap (λ (b : Bool). cond b (Some w) None) (le-leb (since w) version has)
 
 -- ---- what is declared
 

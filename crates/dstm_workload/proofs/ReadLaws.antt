@@ -3,12 +3,14 @@ use Rattle.std.proofs.Common.{◌≡◌, ℕ, ◌≤◌, Bool, true, false, ◌&
 use Rattle.std.proofs.Common.{None, Result, Ok, Err, codes, cond, leb, refl, sym, ap, ◌∙◌, arith}
 use Rattle.std.specs.Str.{bytes_eq}
 use Rattle.std.specs.List.{find}
+use Rattle.std.specs.Option.{option_and_then}
 use Rattle.std.proofs.lemmas.Bool.{and_parts, leb-true}
 use Rattle.std.proofs.lemmas.Slice.Eq.{bytes_eq-Decides}
 use Rattle.dstm_text.specs.Number.{number_of}
 use Rattle.dstm_workload.specs.declared.refused.Why.{Why}
 use Rattle.dstm_workload.specs.declared.word.Word.{Word}
-use Rattle.dstm_workload.specs.Words.{spelling, since, words, word_of}
+use Rattle.dstm_workload.specs.declared.word.Word.TheVariants as word
+use Rattle.dstm_workload.specs.Words.{spelling, since, words, word_spelled, word_of}
 use Rattle.dstm_workload.specs.Fields.{◌>>=◌, in_range, number_at, operand_at, end_at, declared}
 
 pub bind_ok : {A B : Type 0} (r : Result A Why) (f : A → Result B Why) (y : B) → (r >>= f) ≡ Ok y →
@@ -100,6 +102,49 @@ pub word_ok : (version : ℕ) (field : List ℕ) (w : Word) → word_of version 
 unfolding word_of
 word_ok version field w is =
     let both =
-    and_parts (leb (since w) version) (bytes_eq (spelling w) field)
-    (found (λ word. leb (since word) version && bytes_eq (spelling word) field) words w is) in
-    (leb-true (since w) version both.0, sym ((bytes_eq-Decides (spelling w) field).0 both.1))
+    and_parts (bytes_eq (spelling w) field) (leb (since w) version)
+    (found (λ word. bytes_eq (spelling word) field && leb (since word) version) words w is) in
+    (leb-true (since w) version both.1, sym ((bytes_eq-Decides (spelling w) field).0 both.0))
+
+spelled_is : (field : List ℕ) (w : Word) → word_spelled field ≡ Some w → field ≡ spelling w
+unfolding word_spelled
+spelled_is field w is =
+    sym ((bytes_eq-Decides (spelling w) field).0 (found (λ word. bytes_eq (spelling word) field) words w is))
+
+-- a version has a word from its first version on
+pub word_by : (version : ℕ) (w : Word) → word_of version (spelling w) ≡ cond (leb (since w) version) (Some w) None
+unfolding word_of
+word_by version word.Workers = refl
+word_by version word.Bank = refl
+word_by version word.List = refl
+word_by version word.Tree = refl
+word_by version word.Tx = refl
+word_by version word.Transfer = refl
+word_by version word.Balance = refl
+word_by version word.Total = refl
+word_by version word.Insert = refl
+word_by version word.Remove = refl
+word_by version word.Member = refl
+word_by version word.Put = refl
+word_by version word.Get = refl
+word_by version word.Await = refl
+word_by version word.OrElse = refl
+word_by version word.Semicolon = refl
+
+none_of : {A : Type 0} (p q : A → Bool) (xs : List A) → find p xs ≡ None → find (λ x. p x && q x) xs ≡ None
+none_of p q [] is = refl
+none_of {A} p q (x ∷ xs) is =
+    elim (p x) as (λ t. cond t (Some x) (find p xs) ≡ None →
+    cond (t && q x) (Some x) (find (λ y. p y && q y) xs) ≡ None) [
+      | true ↦ λ e. absurd (let no : ⊥ = cc in no)
+      | false ↦ λ e. none_of p q xs e
+    ] is
+
+-- the word of a field, by how the field is spelled
+pub word_from : (version : ℕ) (field : List ℕ) (o : Option Word) → word_spelled field ≡ o →
+    word_of version field ≡ option_and_then (λ w. cond (leb (since w) version) (Some w) None) o
+unfolding word_of word_spelled
+word_from version field None is =
+    none_of (λ word. bytes_eq (spelling word) field) (λ word. leb (since word) version) words is
+word_from version field (Some w) is =
+    ap (word_of version) (spelled_is field w is) ∙ word_by version w

@@ -37,6 +37,10 @@ words =
     Workers ∷ Bank ∷ ListWord ∷ Tree ∷ Tx ∷ Transfer ∷ Balance ∷ Total ∷ Insert ∷ Remove ∷ Member ∷ Put ∷ Get
     ∷ Await ∷ OrElse ∷ Semicolon ∷ []
 
+-- the word that is spelled so
+unfoldable pub word_spelled : List ℕ → Option Word
+word_spelled field = find (λ word. bytes_eq (spelling word) field) words
+
 -- the word that a field is, if the version has one there
 unfoldable pub word_of : ℕ → List ℕ → Option Word
-word_of version field = find (λ word. nat_le (since word) version && bytes_eq (spelling word) field) words
+word_of version field = find (λ word. bytes_eq (spelling word) field && nat_le (since word) version) words

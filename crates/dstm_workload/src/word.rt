@@ -1,5 +1,5 @@
 ghost use Rattle.std.specs.Prelude.{◌≡◌};
-ghost use Rattle.dstm_workload.specs.Words.{spelling, since, word_of};
+ghost use Rattle.dstm_workload.specs.Words.{spelling, since, word_spelled, word_of};
 
 /// The words of a workload's text.
 #[derive(Clone, Copy, Debug, PartialEq, Eq)]
@@ -22,35 +22,39 @@ pub enum Word {
     Semicolon,
 }
 
-const WORDS: [Word; 16] = [
-    Word::Workers,
-    Word::Bank,
-    Word::List,
-    Word::Tree,
-    Word::Tx,
-    Word::Transfer,
-    Word::Balance,
-    Word::Total,
-    Word::Insert,
-    Word::Remove,
-    Word::Member,
-    Word::Put,
-    Word::Get,
-    Word::Await,
-    Word::OrElse,
-    Word::Semicolon,
-];
-
 impl Word {
     /// The word that a field is, if a version has one there.
-    #[tactic(auto, unfolding(crate::specs::Words::word_of))]
     pub fn of(field: &[u8], version: u32) -> Option<Word>
         ensures { result ≡ word_of version field.now }
     {
-        WORDS
-            .iter()
-            .copied()
-            .find(|word| word.since() <= version && word.text() == field)
+        let word = Word::spelled(field)?;
+        (word.since() <= version).then_some(word)
+    }
+
+    // The word that is spelled so.
+    #[tactic(auto, unfolding(crate::specs::Words::word_spelled))]
+    fn spelled(field: &[u8]) -> Option<Word>
+        ensures { result ≡ word_spelled field.now }
+    {
+        match field {
+            b";" => Some(Word::Semicolon),
+            b"tx" => Some(Word::Tx),
+            b"transfer" => Some(Word::Transfer),
+            b"balance" => Some(Word::Balance),
+            b"total" => Some(Word::Total),
+            b"insert" => Some(Word::Insert),
+            b"remove" => Some(Word::Remove),
+            b"member" => Some(Word::Member),
+            b"list" => Some(Word::List),
+            b"tree" => Some(Word::Tree),
+            b"put" => Some(Word::Put),
+            b"get" => Some(Word::Get),
+            b"await" => Some(Word::Await),
+            b"orelse" => Some(Word::OrElse),
+            b"bank" => Some(Word::Bank),
+            b"workers" => Some(Word::Workers),
+            _ => None,
+        }
     }
 
     /// How it is spelled.
