@@ -1,4 +1,5 @@
 -- A caller as the code keeps it: with the shape of its table.
+use Rattle.std.specs.Prelude.{Bool, if◌then◌else◌}
 use Rattle.dstm_core.specs.Events.{Event}
 use Rattle.dstm_core.specs.declared.event.Kind.{Kind}
 use Rattle.dstm_core.specs.declared.shape.Shape.{Shape}
@@ -20,3 +21,7 @@ caller_after kind caller event = record {
   shape = caller.shape;
   state = after kind caller.shape caller.state event;
 }
+
+-- the caller after the event if it is allowed, and else as it was
+abbrev pub next_caller : Bool → Kind → Tracked → Event → Tracked
+next_caller allowed kind caller event = if allowed then caller_after kind caller event else caller

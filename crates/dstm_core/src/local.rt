@@ -1,8 +1,8 @@
-ghost use Rattle.std.specs.Prelude.{◌≡◌, ◌↔◌, IsTrue, IfOk, OnErr, false, if◌then◌else◌};
+ghost use Rattle.std.specs.Prelude.{◌≡◌, ◌↔◌, IsTrue, IfOk, OnErr, false};
 ghost use Rattle.dstm_core.specs.declared.state.Phase.TheVariants.{Running};
 ghost use Rattle.dstm_core.specs.Rules.{resolving};
 ghost use Rattle.dstm_core.specs.State.{first, given, res, next_attempt, own_attempt, next_locator};
-ghost use Rattle.dstm_core.specs.Local.{Allows, caller_after};
+ghost use Rattle.dstm_core.specs.Local.{Allows, next_caller};
 ghost use Rattle.dstm_core.specs.Words.{IsValid};
 
 mod contend;
@@ -120,7 +120,7 @@ impl Local {
     /// event and what an event finds are not its to judge, nor is the law on the values put.
     pub fn next(&mut self, event: &Event) -> Result<bool, AllocError>
         ensures allowed { IfOk result (λ yes. IsTrue yes ↔ Allows event.now.kind self.old event.now) }
-        ensures after { IfOk result (λ yes. self.new ≡ (if yes then caller_after event.now.kind self.old event.now else self.old)) }
+        ensures after { IfOk result (λ yes. self.new ≡ next_caller yes event.now.kind self.old event.now) }
         ensures same { OnErr result (self.new ≡ self.old) }
     {
         match event.kind {

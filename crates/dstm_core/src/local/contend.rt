@@ -1,8 +1,8 @@
-ghost use Rattle.std.specs.Prelude.{◌≡◌, ◌≢◌, ◌≤◌, ◌↔◌, IsTrue, if◌then◌else◌, is_some, true};
+ghost use Rattle.std.specs.Prelude.{◌≡◌, ◌≢◌, ◌≤◌, ◌↔◌, IsTrue, is_some, true};
 ghost use Rattle.dstm_core.specs.declared.event.Kind.TheVariants.{Kill, Quit, Pause, Resume};
 ghost use Rattle.dstm_core.specs.Rules.{MayKill};
 ghost use Rattle.dstm_core.specs.State.{is_live, or_zero};
-ghost use Rattle.dstm_core.specs.Local.{Allows, caller_after};
+ghost use Rattle.dstm_core.specs.Local.{Allows, next_caller};
 ghost use Rattle.dstm_core.specs.Words.{code_of};
 ghost use Rattle.dstm_core.specs.declared.status.Status.TheVariants.{Waiting};
 
@@ -16,7 +16,7 @@ use crate::status::Status;
 impl Local {
     pub(super) fn kill(&mut self, event: &Event) -> bool
         ensures allowed { IsTrue result ↔ Allows Kill self.old event.now }
-        ensures after { self.new ≡ (if result then caller_after Kill self.old event.now else self.old) }
+        ensures after { self.new ≡ next_caller result Kill self.old event.now }
     {
         let seen = self.found_out();
         let Some(owner) = seen.owner else {
@@ -39,7 +39,7 @@ impl Local {
 
     pub(super) fn quit(&mut self, event: &Event) -> bool
         ensures allowed { IsTrue result ↔ Allows Quit self.old event.now }
-        ensures after { self.new ≡ (if result then caller_after Quit self.old event.now else self.old) }
+        ensures after { self.new ≡ next_caller result Quit self.old event.now }
     {
         let may = self.phase != Phase::Outside;
         if !(may
@@ -54,7 +54,7 @@ impl Local {
 
     pub(super) fn pause(&mut self, event: &Event) -> bool
         ensures allowed { IsTrue result ↔ Allows Pause self.old event.now }
-        ensures after { self.new ≡ (if result then caller_after Pause self.old event.now else self.old) }
+        ensures after { self.new ≡ next_caller result Pause self.old event.now }
     {
         let may = self.runs()
             && self.shape.manager == Manager::Greedy
@@ -77,7 +77,7 @@ impl Local {
 
     pub(super) fn resume(&mut self, event: &Event) -> bool
         ensures allowed { IsTrue result ↔ Allows Resume self.old event.now }
-        ensures after { self.new ≡ (if result then caller_after Resume self.old event.now else self.old) }
+        ensures after { self.new ≡ next_caller result Resume self.old event.now }
     {
         let may = self.phase == Phase::Paused && !self.stale;
         if !(may

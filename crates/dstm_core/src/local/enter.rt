@@ -1,7 +1,7 @@
-ghost use Rattle.std.specs.Prelude.{◌≡◌, ◌↔◌, IsTrue, if◌then◌else◌};
+ghost use Rattle.std.specs.Prelude.{◌≡◌, ◌↔◌, IsTrue};
 ghost use Rattle.dstm_core.specs.declared.event.Kind.TheVariants.{Enrol, Stamp, Rank, Begin};
 ghost use Rattle.dstm_core.specs.Rules.{MayRank, MayRankFirst, Rises, rank_of};
-ghost use Rattle.dstm_core.specs.Local.{Allows, caller_after};
+ghost use Rattle.dstm_core.specs.Local.{Allows, next_caller};
 
 use super::Local;
 use crate::event::Event;
@@ -13,7 +13,7 @@ use crate::status::Status;
 impl Local {
     pub(super) fn enrol(&mut self, event: &Event) -> bool
         ensures allowed { IsTrue result ↔ Allows Enrol self.old event.now }
-        ensures after { self.new ≡ (if result then caller_after Enrol self.old event.now else self.old) }
+        ensures after { self.new ≡ next_caller result Enrol self.old event.now }
     {
         let may = self.number.is_none();
         if !(may && event.place == self.shape.callers_place() && event.is_add()) {
@@ -25,7 +25,7 @@ impl Local {
 
     pub(super) fn stamp(&mut self, event: &Event) -> bool
         ensures allowed { IsTrue result ↔ Allows Stamp self.old event.now }
-        ensures after { self.new ≡ (if result then caller_after Stamp self.old event.now else self.old) }
+        ensures after { self.new ≡ next_caller result Stamp self.old event.now }
     {
         let may = self.phase == Phase::Outside
             && self.number.is_some()
@@ -43,7 +43,7 @@ impl Local {
 
     pub(super) fn take_rank(&mut self, event: &Event) -> bool
         ensures allowed { IsTrue result ↔ Allows Rank self.old event.now }
-        ensures after { self.new ≡ (if result then caller_after Rank self.old event.now else self.old) }
+        ensures after { self.new ≡ next_caller result Rank self.old event.now }
     {
         if !(self.may_rank(event.put)
             && self.shape.is_rank(event.place, self.ranking())
@@ -61,7 +61,7 @@ impl Local {
 
     pub(super) fn begin(&mut self, event: &Event) -> bool
         ensures allowed { IsTrue result ↔ Allows Begin self.old event.now }
-        ensures after { self.new ≡ (if result then caller_after Begin self.old event.now else self.old) }
+        ensures after { self.new ≡ next_caller result Begin self.old event.now }
     {
         let may = self.phase == Phase::Outside
             && self.number.is_some()

@@ -1,6 +1,6 @@
-ghost use Rattle.std.specs.Prelude.{◌≡◌, ◌↔◌, IsTrue, if◌then◌else◌};
+ghost use Rattle.std.specs.Prelude.{◌≡◌, ◌↔◌, IsTrue};
 ghost use Rattle.dstm_core.specs.declared.event.Kind.TheVariants.{PutHigh, PutNew, Validating, Draw, Commit};
-ghost use Rattle.dstm_core.specs.Local.{Allows, caller_after};
+ghost use Rattle.dstm_core.specs.Local.{Allows, next_caller};
 
 use super::Local;
 use crate::event::Event;
@@ -11,7 +11,7 @@ use crate::status::Status;
 impl Local {
     pub(super) fn put_high(&mut self, event: &Event) -> bool
         ensures allowed { IsTrue result ↔ Allows PutHigh self.old event.now }
-        ensures after { self.new ≡ (if result then caller_after PutHigh self.old event.now else self.old) }
+        ensures after { self.new ≡ next_caller result PutHigh self.old event.now }
     {
         let Some(write) = self.writes.next() else {
             return false;
@@ -34,7 +34,7 @@ impl Local {
 
     pub(super) fn put_new(&mut self, event: &Event) -> bool
         ensures allowed { IsTrue result ↔ Allows PutNew self.old event.now }
-        ensures after { self.new ≡ (if result then caller_after PutNew self.old event.now else self.old) }
+        ensures after { self.new ≡ next_caller result PutNew self.old event.now }
     {
         let Some(write) = self.writes.next() else {
             return false;
@@ -55,7 +55,7 @@ impl Local {
 
     pub(super) fn validating(&mut self, event: &Event) -> bool
         ensures allowed { IsTrue result ↔ Allows Validating self.old event.now }
-        ensures after { self.new ≡ (if result then caller_after Validating self.old event.now else self.old) }
+        ensures after { self.new ≡ next_caller result Validating self.old event.now }
     {
         let may = (self.phase == Phase::Running && self.writes.is_empty()
             || self.phase == Phase::Putting && self.writes.are_put())
@@ -76,7 +76,7 @@ impl Local {
 
     pub(super) fn draw(&mut self, event: &Event) -> bool
         ensures allowed { IsTrue result ↔ Allows Draw self.old event.now }
-        ensures after { self.new ≡ (if result then caller_after Draw self.old event.now else self.old) }
+        ensures after { self.new ≡ next_caller result Draw self.old event.now }
     {
         let may = self.phase == Phase::Validating && !self.stale;
         if !(may && event.place == self.shape.numbers_place() && event.is_add()) {
@@ -90,7 +90,7 @@ impl Local {
 
     pub(super) fn commit(&mut self, event: &Event) -> bool
         ensures allowed { IsTrue result ↔ Allows Commit self.old event.now }
-        ensures after { self.new ≡ (if result then caller_after Commit self.old event.now else self.old) }
+        ensures after { self.new ≡ next_caller result Commit self.old event.now }
     {
         let may = self.phase == Phase::Drawn && !self.stale && self.has_shown_all(self.drawn);
         if !(may

@@ -1,4 +1,4 @@
-ghost use Rattle.std.specs.Prelude.{◌≡◌, ◌↔◌, IsTrue, if◌then◌else◌};
+ghost use Rattle.std.specs.Prelude.{◌≡◌, ◌↔◌, IsTrue};
 ghost use Rattle.dstm_core.specs.declared.event.Kind.TheVariants.{
   LookObj,
   LookOwner,
@@ -8,7 +8,7 @@ ghost use Rattle.dstm_core.specs.declared.event.Kind.TheVariants.{
   LookHigh,
   LookNew,
 };
-ghost use Rattle.dstm_core.specs.Local.{Allows, caller_after};
+ghost use Rattle.dstm_core.specs.Local.{Allows, next_caller};
 
 use super::Local;
 use crate::event::Event;
@@ -20,7 +20,7 @@ use crate::status::Status;
 impl Local {
     pub(super) fn look_obj(&mut self, event: &Event) -> bool
         ensures allowed { IsTrue result ↔ Allows LookObj self.old event.now }
-        ensures after { self.new ≡ (if result then caller_after LookObj self.old event.now else self.old) }
+        ensures after { self.new ≡ next_caller result LookObj self.old event.now }
     {
         let may = self.runs() && self.writes.lack(event.place);
         if !(may && self.shape.is_object(event.place, event.place) && event.is_load()) {
@@ -42,7 +42,7 @@ impl Local {
 
     pub(super) fn look_owner(&mut self, event: &Event) -> bool
         ensures allowed { IsTrue result ↔ Allows LookOwner self.old event.now }
-        ensures after { self.new ≡ (if result then caller_after LookOwner self.old event.now else self.old) }
+        ensures after { self.new ≡ next_caller result LookOwner self.old event.now }
     {
         let seen = self.found_out();
         let may = self.runs() && 0 < seen.word;
@@ -61,7 +61,7 @@ impl Local {
 
     pub(super) fn look_status(&mut self, event: &Event) -> bool
         ensures allowed { IsTrue result ↔ Allows LookStatus self.old event.now }
-        ensures after { self.new ≡ (if result then caller_after LookStatus self.old event.now else self.old) }
+        ensures after { self.new ≡ next_caller result LookStatus self.old event.now }
     {
         let seen = self.found_out();
         let Some(owner) = seen.owner else {
@@ -82,7 +82,7 @@ impl Local {
 
     pub(super) fn look_rank(&mut self, event: &Event) -> bool
         ensures allowed { IsTrue result ↔ Allows LookRank self.old event.now }
-        ensures after { self.new ≡ (if result then caller_after LookRank self.old event.now else self.old) }
+        ensures after { self.new ≡ next_caller result LookRank self.old event.now }
     {
         let seen = self.found_out();
         let Some(owner) = seen.owner else {
@@ -101,7 +101,7 @@ impl Local {
 
     pub(super) fn look_old(&mut self, event: &Event) -> bool
         ensures allowed { IsTrue result ↔ Allows LookOld self.old event.now }
-        ensures after { self.new ≡ (if result then caller_after LookOld self.old event.now else self.old) }
+        ensures after { self.new ≡ next_caller result LookOld self.old event.now }
     {
         let seen = self.found_out();
         let may = self.runs() && seen.status.unwrap_or(0) == Status::Aborted.code();
@@ -122,7 +122,7 @@ impl Local {
 
     pub(super) fn look_high(&mut self, event: &Event) -> bool
         ensures allowed { IsTrue result ↔ Allows LookHigh self.old event.now }
-        ensures after { self.new ≡ (if result then caller_after LookHigh self.old event.now else self.old) }
+        ensures after { self.new ≡ next_caller result LookHigh self.old event.now }
     {
         let seen = self.found_out();
         let version = seen.version().unwrap_or(0);
@@ -144,7 +144,7 @@ impl Local {
 
     pub(super) fn look_new(&mut self, event: &Event) -> bool
         ensures allowed { IsTrue result ↔ Allows LookNew self.old event.now }
-        ensures after { self.new ≡ (if result then caller_after LookNew self.old event.now else self.old) }
+        ensures after { self.new ≡ next_caller result LookNew self.old event.now }
     {
         let seen = self.found_out();
         let version = seen.version().unwrap_or(0);

@@ -8,7 +8,6 @@ ghost use Rattle.std.specs.Prelude.{
   IfOk,
   OnOk,
   OnErr,
-  if◌then◌else◌,
   true,
   false,
   is_some,
@@ -16,7 +15,7 @@ ghost use Rattle.std.specs.Prelude.{
 ghost use Rattle.dstm_core.specs.declared.state.Phase.TheVariants.{Running};
 ghost use Rattle.dstm_core.specs.declared.event.Kind.TheVariants.{PutOwner, PutOld, Install};
 ghost use Rattle.dstm_core.specs.State.{res, own_attempt, is_resolved, with_locator};
-ghost use Rattle.dstm_core.specs.Local.{Allows, caller_after};
+ghost use Rattle.dstm_core.specs.Local.{Allows, next_caller};
 
 use super::Local;
 use crate::event::Event;
@@ -27,7 +26,7 @@ use std::alloc::AllocError;
 impl Local {
     pub(super) fn put_owner(&mut self, event: &Event) -> bool
         ensures allowed { IsTrue result ↔ Allows PutOwner self.old event.now }
-        ensures after { self.new ≡ (if result then caller_after PutOwner self.old event.now else self.old) }
+        ensures after { self.new ≡ next_caller result PutOwner self.old event.now }
     {
         let may = self.runs() && self.installed < self.shape.locators.into();
         if !(may
@@ -44,7 +43,7 @@ impl Local {
 
     pub(super) fn put_old(&mut self, event: &Event) -> bool
         ensures allowed { IsTrue result ↔ Allows PutOld self.old event.now }
-        ensures after { self.new ≡ (if result then caller_after PutOld self.old event.now else self.old) }
+        ensures after { self.new ≡ next_caller result PutOld self.old event.now }
     {
         let version = self.found_out().version().unwrap_or(0);
         if !(self.may_link()
@@ -61,7 +60,7 @@ impl Local {
 
     pub(super) fn install(&mut self, event: &Event) -> Result<bool, AllocError>
         ensures allowed { IfOk result (λ yes. IsTrue yes ↔ Allows Install self.old event.now) }
-        ensures after { IfOk result (λ yes. self.new ≡ (if yes then caller_after Install self.old event.now else self.old)) }
+        ensures after { IfOk result (λ yes. self.new ≡ next_caller yes Install self.old event.now) }
         ensures same { OnErr result (self.new ≡ self.old) }
     {
         let seen = self.found_out();

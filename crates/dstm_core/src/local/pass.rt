@@ -1,6 +1,6 @@
-ghost use Rattle.std.specs.Prelude.{◌⊎◌, length, ◌≡◌, ◌↔◌, IsTrue, IfOk, OnErr, if◌then◌else◌};
+ghost use Rattle.std.specs.Prelude.{◌⊎◌, length, ◌≡◌, ◌↔◌, IsTrue, IfOk, OnErr};
 ghost use Rattle.dstm_core.specs.declared.event.Kind.TheVariants.{LookNumber, Check, LookSelf, Release};
-ghost use Rattle.dstm_core.specs.Local.{Allows, caller_after};
+ghost use Rattle.dstm_core.specs.Local.{Allows, next_caller};
 
 use super::Local;
 use crate::event::Event;
@@ -11,7 +11,7 @@ use std::alloc::AllocError;
 impl Local {
     pub(super) fn look_number(&mut self, event: &Event) -> Result<bool, AllocError>
         ensures allowed { IfOk result (λ yes. IsTrue yes ↔ Allows LookNumber self.old event.now) }
-        ensures after { IfOk result (λ yes. self.new ≡ (if yes then caller_after LookNumber self.old event.now else self.old)) }
+        ensures after { IfOk result (λ yes. self.new ≡ next_caller yes LookNumber self.old event.now) }
         ensures same { OnErr result (self.new ≡ self.old) }
     {
         if !(self.runs() && event.place == self.shape.numbers_place() && event.is_load()) {
@@ -36,7 +36,7 @@ impl Local {
 
     pub(super) fn check(&mut self, event: &Event) -> bool
         ensures allowed { IsTrue result ↔ Allows Check self.old event.now }
-        ensures after { self.new ≡ (if result then caller_after Check self.old event.now else self.old) }
+        ensures after { self.new ≡ next_caller result Check self.old event.now }
     {
         let Some(read) = self.reads.next() else {
             return false;
@@ -54,7 +54,7 @@ impl Local {
 
     pub(super) fn look_self(&mut self, event: &Event) -> bool
         ensures allowed { IsTrue result ↔ Allows LookSelf self.old event.now }
-        ensures after { self.new ≡ (if result then caller_after LookSelf self.old event.now else self.old) }
+        ensures after { self.new ≡ next_caller result LookSelf self.old event.now }
     {
         let may = self.runs() && self.pass.is_some() && self.has_shown_all(self.pass);
         if !(may && self.shape.is_status(event.place, self.own_attempt()) && event.is_load()) {
@@ -72,7 +72,7 @@ impl Local {
 
     pub(super) fn release(&mut self, event: &Event) -> bool
         ensures allowed { IsTrue result ↔ Allows Release self.old event.now }
-        ensures after { self.new ≡ (if result then caller_after Release self.old event.now else self.old) }
+        ensures after { self.new ≡ next_caller result Release self.old event.now }
     {
         let may = self.runs() && self.reads.find(event.place).is_some();
         if !(may && self.shape.is_object(event.place, event.place) && event.is_load()) {
