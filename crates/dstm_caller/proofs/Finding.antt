@@ -37,11 +37,6 @@ stays_resolving old new r q object word = record {
   word = ap (λ l. (res l).word) q ∙ word;
 }
 
--- where an owner was found there is a resolution
-pub some_resolution : (r : Option Resolution) → is_some (or_unresolved r).owner ≡ true → is_some r ≡ true
-some_resolution None h = absurd (cc)
-some_resolution (Some r) h = refl
-
 -- the first value: nothing is looked at
 pub found_first : (l : LocalState) (word : ℕ) → is_some l.resolution ≡ true → (res l).word ≡ word →
     version (res l) ≡ Some 0 → IsFound l (record { word = word; version = 0; low = 0; high = 0 })

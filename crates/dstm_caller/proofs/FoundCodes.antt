@@ -14,6 +14,7 @@ use Rattle.dstm_core.specs.declared.shape.Shape.{Shape}
 use Rattle.dstm_core.specs.declared.state.Resolution.{Resolution}
 use Rattle.dstm_core.proofs.Begun.{IsCode, owner_begun, status_code}
 use Rattle.dstm_core.proofs.Static.{callers}
+use Rattle.dstm_core.proofs.Absent.{some_zero}
 
 -- a status that was found is that of an attempt that has begun
 abbrev pub FoundCode : Option Resolution → Type 0
@@ -28,15 +29,11 @@ code_kept : (r : Option Resolution) → FoundCode r → FoundCode (keep_resolved
 code_kept None h = tt
 code_kept (Some r) h = cond_both (is_resolved r) (Some r) None FoundCode (λ _. h) (λ _. tt)
 
-is_owner : (o : Option ℕ) → is_some o ≡ true → o ≡ Some (or_zero o)
-is_owner None h = absurd (cc)
-is_owner (Some a) h = refl
-
 -- the word of the owner's status holds a code
 owner_code : (s : Shape) (es : List Event) (c : ℕ) → Core s es → is_some (res (local s es c)).owner ≡ true →
     IsCode (word s es (StatusWord (or_zero (res (local s es c)).owner)))
 owner_code s es c core h =
-    status_code s es core _ (owner_begun s es core c _ (is_owner (res (local s es c)).owner h))
+    status_code s es core _ (owner_begun s es core c _ (some_zero (res (local s es c)).owner h))
 
 found_code : (s : Shape) (es : List Event) (e : Event) (k : Kind) → Core s es →
     AllowedAs k s (local s es e.caller) e → e.found ≡ at es e.place →

@@ -40,6 +40,7 @@ use Rattle.dstm_caller.specs.declared.steps.Steps.{Steps}
 use Rattle.dstm_caller.specs.Under.{Began, InTask, Under, Resolving, IsRunning, made_by, now, effort_by, work_of}
 use Rattle.dstm_caller.proofs.FoundCodes.{code_found}
 use Rattle.dstm_caller.proofs.Stepping.{under_is, status_named}
+use Rattle.dstm_core.proofs.Absent.{known_some}
 
 -- while the owner is live no version is known
 pub version_live : (word code : ℕ) (old : Option ℕ) → 0 < word → is_live code ≡ true →
@@ -356,13 +357,9 @@ waiting_code n h =
     Goal : Status → Type 0
     Goal s = is_waiting s ≡ true → n ≡ 2
 
-is_there : (o : Option ℕ) → is_none o ≡ false → is_some o ≡ true
-is_there None h = absurd (cc)
-is_there (Some n) h = refl
-
 -- under Greedy the rank is known
 pub greedy_rank : (m : Manager) (o : Option ℕ) → m ≡ Greedy → (has_ranks m && is_none o) ≡ false → is_some o ≡ true
-greedy_rank m o q h = is_there o (subst (λ m. (has_ranks m && is_none o) ≡ false) q h)
+greedy_rank m o q h = known_some o (subst (λ m. (has_ranks m && is_none o) ≡ false) q h)
 
 -- an enemy that is aborted may be
 pub may_kill : (m : Manager) (l : LocalState) (c : Effort) → (has_ranks m && is_none (res l).rank) ≡ false →
@@ -371,7 +368,7 @@ may_kill Polite l c rank q = tt
 may_kill Karma l c rank q = tt
 may_kill Polka l c rank q = tt
 may_kill Greedy l c rank q = (
-  is_there (res l).rank rank,
+  known_some (res l).rank rank,
   go (nat_lt l.rank (or_zero (res l).rank)) refl (is_waiting (status_of (or_zero (res l).status))) refl q,
 )
   where

@@ -25,3 +25,4 @@ pub mod Counted
 pub mod Spare
 pub mod LeftWords
 pub mod PutOnce
+pub mod Absent

@@ -33,6 +33,7 @@ use Rattle.dstm_core.proofs.Begun.{begun_how}
 use Rattle.dstm_core.proofs.Underway.{live_under_way}
 use Rattle.dstm_opacity.proofs.Found.{live_below}
 use Rattle.dstm_opacity.proofs.Begins.{begun_later}
+use Rattle.dstm_core.proofs.Absent.{some_zero}
 
 -- ---- the oldest stays the oldest
 
@@ -304,10 +305,6 @@ pause_may : (s : Shape) (l : LocalState) (e : Event) (k : Kind) → k ≡ Pause 
     (is_some (res l).rank ≡ true) × (or_zero (res l).rank ≤ l.rank) × (is_live (or_zero (res l).status) ≡ true)
 pause_may s l e Pause q a = (a.2.4, a.2.5, a.2.6)
 pause_may s l e k q a = absurd (cc)
-
-some_zero : (o : Option ℕ) → is_some o ≡ true → o ≡ Some (or_zero o)
-some_zero None h = absurd (cc)
-some_zero (Some n) h = refl
 
 no_pause : (s : Shape) (es : List Event) (e : Event) → s.manager ≡ Greedy → Core s (e ∷ es) →
     Safe s es e.caller →

@@ -27,6 +27,7 @@ use Rattle.dstm_order.specs.Tasks.Work.{Reading, Writing, Releasing, Rechecking,
 use Rattle.dstm_progress.proofs.Calls.{not_paused}
 use Rattle.dstm_progress.proofs.Room.{Blank, NextStage, Stage, Still, Unread, base, closes, conflict_falls, drawing, ended, installing, left_of, looking, looking_done, looking_finished, looking_high, looking_new, looking_owned, looking_ranked, looking_seen, looking_versioned, numbering, one_if, opening, opens, owning, passed, passing, puts_left, putting, releasing, resolving, tail, turns_whole, unchecked, validating}
 use Rattle.dstm_core.proofs.Static.{length-snoc}
+use Rattle.dstm_core.proofs.Absent.{known_some}
 
 -- what is known of an event of a call on an attempt that is alone
 pub record Facts (s : Shape) (l : LocalState) (e : Event) : Type 0 where
@@ -44,10 +45,6 @@ pub record Facts (s : Shape) (l : LocalState) (e : Event) : Type 0 where
 none_some : (o : Option ℕ) → is_none o ≡ true → is_some o ≡ false
 none_some None h = refl
 none_some (Some n) h = absurd (cc)
-
-known_some : (o : Option ℕ) → is_none o ≡ false → is_some o ≡ true
-known_some None h = absurd (cc)
-known_some (Some n) h = refl
 
 -- the due kind
 due_kind : (d : Due) (k : Kind) (o : ℕ) (e : Event) → d ≡ Step k o → IsDue d e → e.kind ≡ k

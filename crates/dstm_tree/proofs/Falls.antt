@@ -12,8 +12,9 @@ use Rattle.dstm_tree.specs.Node.{HasTree, tree_of, val_of}
 use Rattle.dstm_tree.specs.Place.{red_tree, black_tree}
 use Rattle.dstm_tree.specs.Remove.{IsCut, blackness, LeftFall, RightFall, FindsRed, SeesRed, IsRedChild}
 use Rattle.dstm_tree.proofs.Nodes.{number_le}
-use Rattle.dstm_tree.proofs.Lift.{fallen_is_black, lift-left-far, lift-left-near, lift-left-none, lift-right-far}
+use Rattle.dstm_tree.proofs.Lift.{lift-left-far, lift-left-near, lift-left-none, lift-right-far}
 use Rattle.dstm_tree.proofs.Lift.{lift-right-near, lift-right-none}
+use Rattle.std.proofs.lemmas.Bool.{not-true}
 
 -- ---- the left side
 
@@ -124,7 +125,7 @@ lifts_none_left layout before held p s mid after has size h near far is_mid is =
       subst (λ t. IsCut layout h.gap.low h.gap.high (tree_of p h.gap.left t) (black_height t + blackness p.red) p.red
           before after (record { root = p.number; fell = not p.red }))
           (sym is_sibling) cut,
-      fallen_is_black p.red,
+      not-true p.red,
     )
 
 -- ---- the right side
@@ -236,5 +237,5 @@ lifts_none_right layout before held p s mid after has size h near far is_mid is 
       subst (λ t. IsCut layout h.gap.low h.gap.high (tree_of p t h.gap.right) (black_height t + blackness p.red) p.red
           before after (record { root = p.number; fell = not p.red }))
           (sym is_sibling) cut,
-      fallen_is_black p.red,
+      not-true p.red,
     )

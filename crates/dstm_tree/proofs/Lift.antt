@@ -19,10 +19,6 @@ pub falls_unless_red : (red : Bool) → fall_of (not red) ≡ blackness red
 falls_unless_red true = refl
 falls_unless_red false = refl
 
-pub fallen_is_black : (red : Bool) → not red ≡ true → red ≡ false
-fallen_is_black true e = absurd (cc e)
-fallen_is_black false e = refl
-
 -- the node's left subtree fell, and the child of the sibling on the far side is red
 pub lift-left-far : (layout : Layout) (before after : List Val) (p s o : Node) (low high : ℕ) (l a b c : Tree) →
     HasTree layout →
@@ -487,7 +483,3 @@ lift-right-none layout before mid after held p s low high r a b has size some_p 
       keeps = Changes-within layout before after touched (λ i. mark p.number i +
           (mark s.number i + count_of i b + count_of i a) + count_of i r) (λ i none. omega (arith, none)) changes;
     }
-
-pub no_black_is_red : (red : Bool) → not red ≡ false → red ≡ true
-no_black_is_red true e = refl
-no_black_is_red false e = absurd (cc e)

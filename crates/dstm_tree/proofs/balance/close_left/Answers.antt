@@ -3,10 +3,10 @@ use Rattle.dstm_mem.specs.Memory.{with_set}
 use Rattle.dstm_mem.proofs.Operations.{leads-then, only_reads-then, opens_to_set-of_reads, opens_to_set-then}
 use Rattle.dstm_mem.proofs.WithSet.{with_set-same, length-with_set}
 use Rattle.dstm_tree.specs.Remove.{LeftGap, LeftFall, ClosesLeft}
-use Rattle.dstm_tree.proofs.Lift.{fallen_is_black, no_black_is_red}
 use Rattle.dstm_tree.proofs.Close.{close-left-kept, close-left-black, close-left-red, sibling_within_left, fall_left}
 use Rattle.dstm_tree.proofs.Close.{near_within_red_left, fall_below_left}
 use Rattle.dstm_tree.proofs.balance.close_left.Goals as goal
+use Rattle.std.proofs.lemmas.Bool.{not-true, not-false}
 
 pub returns-then-not-fell-clause-does : goal.returns-then-not-fell-clause-does
 returns-then-not-fell-clause-does g c map admitted =
@@ -40,7 +40,7 @@ lift_left-requires-clause-lawful g c map admitted =
     subst (λ m. LeftFall layout m c.args.held c.args.parent sibling)
     (sym (with_set-same map start (M.written c.read_node.new.mem) one.looks.sets))
     (fall_left layout before c.args.held c.args.parent mid sibling c.requires.tree (one.reads map admitted)
-    (fallen_is_black c.in_ok-sibling.sibling.red c.if-not-sibling.true) gap)
+    (not-true c.in_ok-sibling.sibling.red c.if-not-sibling.true) gap)
 
 pub returns-then-not-sibling-clause-does : goal.returns-then-not-sibling-clause-does
 returns-then-not-sibling-clause-does g c map admitted =
@@ -54,7 +54,7 @@ returns-then-not-sibling-clause-does g c map admitted =
     subst (λ b. ClosesLeft layout c.args.held c.args.parent b before after c.in_ok-cut.cut) (sym c.if-not-fell.false)
     (close-left-black layout before c.args.held c.args.parent mid after c.in_ok-sibling.sibling c.in_ok-cut.cut
     c.requires.tree
-    (one.reads map (two.leads.narrows map admitted)) (fallen_is_black c.in_ok-sibling.sibling.red c.if-not-sibling.true)
+    (one.reads map (two.leads.narrows map admitted)) (not-true c.in_ok-sibling.sibling.red c.if-not-sibling.true)
     (two.does map admitted))
 
 pub read_node-requires-2-clause-number : goal.read_node-requires-2-clause-number
@@ -68,7 +68,7 @@ read_node-requires-2-clause-number g c =
     (c.requires.lawful map (one.leads.narrows map admitted)) in
     near_within_red_left layout before c.args.held c.args.parent (with_set map (M.written c.read_node.new.mem))
     c.in_ok-sibling.sibling c.requires.tree
-    (one.reads map admitted) (no_black_is_red c.in_ok-sibling.sibling.red c.if-not-sibling.false) gap
+    (one.reads map admitted) (not-false c.in_ok-sibling.sibling.red c.if-not-sibling.false) gap
 
 pub lift_left-requires-2-clause-lawful : goal.lift_left-requires-2-clause-lawful
 lift_left-requires-2-clause-lawful g c map admitted =
@@ -87,7 +87,7 @@ lift_left-requires-2-clause-lawful g c map admitted =
     subst (λ m. LeftFall layout m c.args.held (record c.args.parent { red = true; right = s.left }) c.in_ok-near.near)
     (sym (with_set-same map start (M.written c.read_node-2.new.mem) (λ i. two.looks.sets i ∙ one.looks.sets i)))
     (fall_below_left layout before c.args.held c.args.parent mid two_map s c.in_ok-near.near c.requires.tree
-    (one.reads map in_one) (no_black_is_red c.in_ok-sibling.sibling.red c.if-not-sibling.false)
+    (one.reads map in_one) (not-false c.in_ok-sibling.sibling.red c.if-not-sibling.false)
     (two.reads map admitted) gap)
 
 pub returns-clause-does : goal.returns-clause-does
@@ -114,7 +114,7 @@ returns-clause-does g c map admitted =
     (sym c.if-not-fell.false)
     (close-left-red layout before c.args.held c.args.parent mid two_map three_map after s c.in_ok-near.near
     c.in_ok-cut-2.cut c.requires.tree size
-    (one.reads map in_one) (no_black_is_red c.in_ok-sibling.sibling.red c.if-not-sibling.false) (two.reads map in_two)
+    (one.reads map in_one) (not-false c.in_ok-sibling.sibling.red c.if-not-sibling.false) (two.reads map in_two)
     (three.does map in_three) (four.writes map admitted))
 
 pub returns-clause-marks : goal.returns-clause-marks

@@ -1,12 +1,13 @@
 use Rattle.std.proofs.Common.{refl}
 use Rattle.dstm_caller.specs.Under.{now}
-use Rattle.dstm_caller.proofs.Finding.{found_first, found_value, some_resolution, stays_self, stays_value}
+use Rattle.dstm_caller.proofs.Finding.{found_first, found_value, stays_self, stays_value}
 use Rattle.dstm_caller.proofs.steps.Steps.look_value.Goals as goal
+use Rattle.dstm_core.proofs.Static.{has_owner}
 
 pub returns-then-named-eq0-clause-found : goal.returns-then-named-eq0-clause-found
 returns-then-named-eq0-clause-found g c =
     found_first (now c.args.words.now c.args.self.now) c.args.word
-    (some_resolution (now c.args.words.now c.args.self.now).resolution c.requires.owner) c.requires.word
+    (has_owner (now c.args.words.now c.args.self.now).resolution c.requires.owner) c.requires.word
     (rw c.if-named-eq0.true at c.requires.version)
 
 pub returns-then-named-eq0-clause-stays : goal.returns-then-named-eq0-clause-stays
