@@ -56,7 +56,8 @@ entry_at s start run es e p core d =
     sym (entry_same s start run (local s es e.caller) (local s d.before d.draw.caller) d.reads d.writes)
     ∙ subst (λ xs. entry_of s start xs (local s d.before d.draw.caller)
     ≡ entry_of s start (d.draw ∷ d.before) (local s d.before d.draw.caller)) here.whole
-    (drawn_entry_stays s start here.later d.before d.draw (subst (Core s) (sym here.whole) core) (draws d.draw.kind d.kind))
+    (drawn_entry_stays s start here.later d.before d.draw (subst (Core s) (sym here.whole) core)
+    (draws d.draw.kind d.kind))
   where
     here : IsPastOf (d.draw ∷ d.before) run
     here = past_past (d.draw ∷ d.before) es run d.past

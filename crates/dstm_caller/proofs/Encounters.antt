@@ -1,11 +1,9 @@
 -- What is due on the way to a conflict.
-use Rattle.std.proofs.Common.{◌≡◌, ◌≢◌, ◌⊎◌, ℕ, ◌+◌, ◌<◌, ◌≤◌, ◌==◌, ◌&&◌, Bool, true, false, not, None, Some, is_none, is_some, refl, ap, sym, subst, arith, ne_eqb, ◌∙◌, inl, inr, List}
+use Rattle.std.proofs.Common.{◌≡◌, ◌≢◌, ◌⊎◌, ℕ, ◌<◌, ◌≤◌, ◌==◌, ◌&&◌, Bool, true, false, None, Some, refl, ap, sym, arith, ne_eqb, ◌∙◌, inl, inr, List}
 use Rattle.std.specs.Prelude.{Option, Result, Ok, Err, OnOk}
 use Rattle.std.proofs.lemmas.Bool.{cases_eq}
 use Rattle.std.proofs.lemmas.Bool.Decides.{nat_tests}
 use Rattle.dstm_core.specs.declared.event.Kind.TheVariants.{LookObj, LookOwner, LookStatus, LookRank}
-use Rattle.dstm_core.specs.declared.shape.Manager.{Manager}
-use Rattle.dstm_core.specs.declared.shape.Manager.TheVariants.{Polite, Karma, Polka, Greedy}
 use Rattle.dstm_core.specs.declared.shape.Shape.{Shape}
 use Rattle.dstm_core.specs.declared.state.Phase.TheVariants.{Running}
 use Rattle.dstm_core.specs.declared.state.Read.{Read}
@@ -17,16 +15,15 @@ use Rattle.dstm_model.specs.declared.value.Val.{Val}
 use Rattle.dstm_order.specs.Calls.{quit_cause}
 use Rattle.dstm_order.specs.declared.again.Again.{Again}
 use Rattle.dstm_order.specs.declared.again.Again.TheVariants.{Stale}
-use Rattle.dstm_order.specs.declared.TheConstants.{MAX_MISSED}
 use Rattle.dstm_order.specs.Efforts.{Effort}
-use Rattle.dstm_order.specs.Order.{Due, just, has_ranks, when_resolved}
+use Rattle.dstm_order.specs.Order.{Due, just, has_ranks}
 use Rattle.dstm_order.specs.Tasks.{Task}
 use Rattle.dstm_words.specs.Seats.{Home, view_of}
 use Rattle.dstm_words.specs.Views.{state_by}
 use Rattle.dstm_caller.specs.Conflicts.{Encounters, Meets, Starts}
 use Rattle.dstm_caller.specs.declared.steps.Steps.{Steps}
 use Rattle.dstm_caller.specs.Finding.{StaysAt, word_of, is_changed}
-use Rattle.dstm_caller.specs.Under.{Began, InTask, Under, Resolving, made_by, now, effort_by, work_of}
+use Rattle.dstm_caller.specs.Under.{Began, InTask, Under, Resolving, made_by, now}
 use Rattle.dstm_caller.proofs.Finding.{stays_resolving, stays_then}
 use Rattle.dstm_caller.proofs.Meeting.{code_in, version_live}
 use Rattle.dstm_caller.proofs.Stepping.{under_is}

@@ -1,5 +1,5 @@
 -- How what is found of an object grows.
-use Rattle.std.proofs.Common.{◌≡◌, ◌⊎◌, ℕ, ◌<◌, ◌==◌, ◌∙◌, Bool, true, false, Some, None, refl, ap, sym, is_some, inl, inr, arith, ne_eqb}
+use Rattle.std.proofs.Common.{◌≡◌, ℕ, ◌==◌, ◌∙◌, true, Some, None, refl, ap, sym, is_some, arith}
 use Rattle.std.specs.Prelude.{Option}
 use Rattle.std.proofs.lemmas.Bool.{cond_both}
 use Rattle.dstm_core.specs.declared.event.Kind.TheVariants.{LookOld, LookHigh, LookNew}
@@ -8,7 +8,6 @@ use Rattle.dstm_core.specs.declared.state.Resolution.{Resolution}
 use Rattle.dstm_core.specs.Rules.{after, resolving}
 use Rattle.dstm_core.specs.State.{LocalState, or_unresolved, or_zero, res, version, is_resolved}
 use Rattle.dstm_runs.specs.Traces.Access.{Load}
-use Rattle.dstm_caller.specs.declared.resolving.Found.{Found}
 use Rattle.dstm_caller.specs.Conflicts.{Keeps}
 use Rattle.dstm_caller.specs.Finding.{StaysAt, IsFound}
 use Rattle.dstm_caller.specs.Under.{Began, made_by}

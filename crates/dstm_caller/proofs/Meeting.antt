@@ -1,21 +1,18 @@
 -- What is due in a conflict, and what is known after each of its events.
-use Rattle.std.proofs.Common.{◌≡◌, ◌≢◌, ◌⊎◌, ℕ, ◌+◌, ◌-◌, ◌*◌, ◌<◌, ◌≤◌, ◌==◌, ◌&&◌, ◌||◌, Bool, true, false, not, None, Some, is_none, is_some, refl, ap, sym, subst, arith, ne_eqb, eq-eqb, ◌∙◌, inl, inr, nat_lt, List}
+use Rattle.std.proofs.Common.{◌≡◌, ◌≢◌, ◌⊎◌, ℕ, ◌+◌, ◌-◌, ◌*◌, ◌<◌, ◌≤◌, ◌==◌, ◌&&◌, ◌||◌, Bool, true, false, not, None, Some, is_none, is_some, refl, ap, sym, subst, arith, ne_eqb, ◌∙◌, inl, inr, nat_lt, List}
 use Rattle.std.specs.Prelude.{Option, if◌then◌else◌}
 use Rattle.std.proofs.lemmas.Bool.{lt-ltb, cond_both, eqb-true}
 use Rattle.std.proofs.lemmas.Bool.Decides.{nat_tests}
-use Rattle.dstm_core.specs.Events.{Event}
-use Rattle.dstm_core.specs.declared.event.Kind.TheVariants.{LookStatus, Kill, Pause, Resume, Quit}
+use Rattle.dstm_core.specs.declared.event.Kind.TheVariants.{LookStatus, Resume, Quit}
 use Rattle.dstm_core.specs.declared.shape.Manager.{Manager}
 use Rattle.dstm_core.specs.declared.shape.Manager.TheVariants.{Polite, Karma, Polka, Greedy}
 use Rattle.dstm_core.specs.declared.shape.Shape.{Shape}
 use Rattle.dstm_core.specs.declared.state.Phase.{Phase}
 use Rattle.dstm_core.specs.declared.state.Phase.TheVariants.{Running, Paused}
 use Rattle.dstm_core.specs.declared.status.Status.{Status}
-use Rattle.dstm_core.specs.declared.status.Status.TheVariants as status
 use Rattle.dstm_core.specs.Rules.{after, MayKill}
 use Rattle.dstm_core.specs.Runs.{local}
 use Rattle.dstm_core.specs.State.{LocalState, res, or_zero, version_by, is_live}
-use Rattle.dstm_core.specs.Words.{code_of}
 use Rattle.dstm_core.specs.declared.shape.TheConstants.{MAX_RANK}
 use Rattle.dstm_core.proofs.Begun.{IsCode}
 use Rattle.dstm_core.proofs.SmallRanks.{are_small}
@@ -30,7 +27,7 @@ use Rattle.dstm_order.specs.declared.again.Again.{Again}
 use Rattle.dstm_order.specs.declared.again.Again.TheVariants.{Waited}
 use Rattle.dstm_order.specs.declared.TheConstants.{MAX_MISSED}
 use Rattle.dstm_order.specs.Efforts.{Effort, chosen, status_of}
-use Rattle.dstm_order.specs.Order.{Due, just, has_ranks, rises, in_resolving, in_conflict, in_giving_way, on_choice, when_resolved}
+use Rattle.dstm_order.specs.Order.{Due, just, has_ranks, rises, in_resolving, in_conflict, on_choice, when_resolved}
 use Rattle.dstm_order.specs.Tasks.{Task}
 use Rattle.dstm_order.proofs.EnemyRanks.{found_is_rank}
 use Rattle.dstm_words.specs.Seats.{Home, view_of}
@@ -39,7 +36,7 @@ use Rattle.dstm_caller.specs.Conflicts.{Keeps, Meets, lets_go, patience_left, ro
 use Rattle.dstm_caller.specs.declared.steps.Steps.{Steps}
 use Rattle.dstm_caller.specs.Under.{Began, InTask, Under, Resolving, IsRunning, made_by, now, effort_by, work_of}
 use Rattle.dstm_caller.proofs.FoundCodes.{code_found}
-use Rattle.dstm_caller.proofs.Stepping.{under_is, status_named}
+use Rattle.dstm_caller.proofs.Stepping.{under_is}
 use Rattle.dstm_core.proofs.Absent.{known_some}
 
 -- while the owner is live no version is known

@@ -1,5 +1,5 @@
 -- A step of a call that is due goes on with it.
-use Rattle.std.proofs.Common.{◌≡◌, ◌≢◌, ℕ, ◌<◌, ◌∙◌, List, ◌∷◌, ◌==◌, true, false, Some, None, refl, sym, ap, subst, arith, ne_eqb, eq-eqb, is_some, ◌+◌, ◌-◌}
+use Rattle.std.proofs.Common.{◌≡◌, ◌≢◌, ℕ, ◌<◌, ◌∙◌, List, [], ◌∷◌, ◌==◌, true, false, Some, None, refl, sym, ap, subst, arith, ne_eqb, eq-eqb, is_some, ◌+◌, ◌-◌}
 use Rattle.std.proofs.lemmas.Bool.{cond_both}
 use Rattle.std.specs.Prelude.{Option, IfSome, Bool, ◌||◌, if◌then◌else◌}
 use Rattle.dstm_core.specs.Events.{Event}
@@ -402,7 +402,43 @@ manager_kept d turns =
     cond_both (takes_word d.manager (decision.Wait turns)) (without_word d) d
     (λ (x : DeciderState). x.manager ≡ d.manager) (λ _. refl) (λ _. refl)
 
--- ---- the end of a call
+-- ---- the begin and the end of a call
+
+-- a call with this task begins as the steps are now
+abbrev pub began_as : {L : Type 0} → Home L → Task → (number : ℕ) → Steps L → Began
+began_as home task number steps = record {
+  task = task;
+  number = number;
+  state = now home steps;
+  generator = steps.decider.generator;
+  past = events_of number (view_of steps.seat).log;
+}
+
+-- its first event is due, where the steps remember what they should and have nothing behind them
+pub call_begins : {L : Type 0} (holds : L → List Val → Type 0) (home : Home L) (task : Task) (number : ℕ)
+    (steps : Steps L) → IsOf home steps.seat → (view_of steps.seat).number ≡ Some number →
+    number < home.terms.shape.callers → IsRunOf holds home.terms (view_of steps.seat).log →
+    steps.shape ≡ home.terms.shape → steps.decider.manager ≡ home.terms.shape.manager →
+    IsMirror home.terms.shape steps (now home steps) → steps.missed ≡ 0 → steps.round ≡ 0 → steps.left ≡ 0 →
+    InTask holds home task (began_as home task number steps) steps
+    (due task home.terms.shape None (now home steps) (effort_by steps))
+    (answer task None (now home steps) (effort_by steps))
+call_begins holds home task number steps seat named caller run shape manager mirror missed round left = record {
+  seat = seat;
+  number = named;
+  caller = caller;
+  run = run;
+  shape = shape;
+  manager = manager;
+  mirror = mirror;
+  events = [];
+  own = refl;
+  state = refl;
+  obeys = tt;
+  effort = rw (missed, round, left) refl;
+  due = refl;
+  gives = refl;
+}
 
 -- where nothing more is due the events are a call, which answers what it does
 pub call_of : {L : Type 0} {task : Task} (holds : L → List Val → Type 0) (home : Home L) (b : Began) (steps : Steps L)

@@ -1,8 +1,8 @@
 -- A conflict with the live owner of an object.
-use Rattle.std.specs.Prelude.{◌≡◌, ℕ, ◌+◌, ◌-◌, ◌*◌, ◌<◌, ◌≤◌, ◌==◌, ◌&&◌, ◌||◌, Bool, true, false, not, is_none, Some, None, List, if◌then◌else◌}
+use Rattle.std.specs.Prelude.{◌≡◌, ℕ, ◌+◌, ◌-◌, ◌*◌, ◌<◌, ◌≤◌, ◌==◌, ◌&&◌, ◌||◌, Bool, false, not, is_none, Some, None, List, if◌then◌else◌}
 use Rattle.dstm_core.specs.declared.state.Phase.{Phase}
 use Rattle.dstm_core.specs.declared.state.Phase.TheVariants.{Running}
-use Rattle.dstm_core.specs.State.{LocalState, is_live, res, or_zero}
+use Rattle.dstm_core.specs.State.{LocalState, is_live, res}
 use Rattle.dstm_model.specs.declared.value.Val.{Val}
 use Rattle.dstm_words.specs.Seats.{Home}
 use Rattle.dstm_order.specs.declared.TheConstants.{MAX_MISSED}

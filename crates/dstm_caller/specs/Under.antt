@@ -1,13 +1,12 @@
 -- A call under way.
-use Rattle.std.specs.Prelude.{◌≡◌, ℕ, ◌<◌, Bool, true, false, not, length, is_none, ◌&&◌, ◌||◌, ◌==◌, List, ◌∷◌, ◌++◌, Option, Some, None}
+use Rattle.std.specs.Prelude.{◌≡◌, ℕ, ◌<◌, Bool, true, false, not, length, ◌||◌, ◌==◌, List, ◌∷◌, ◌++◌, Option, Some, None}
 use Rattle.dstm_core.specs.Events.{Event}
 use Rattle.dstm_core.specs.declared.event.Kind.{Kind}
 use Rattle.dstm_core.specs.declared.event.Kind.TheVariants.{LookObj, Install, Release, Rank, PutHigh, PutNew, Validating as ToValidating, Commit, Kill, Quit, Pause, Resume}
-use Rattle.dstm_core.specs.declared.shape.Manager.{Manager}
 use Rattle.dstm_core.specs.declared.shape.Shape.{Shape}
 use Rattle.dstm_core.specs.declared.state.Phase.TheVariants.{Running}
 use Rattle.dstm_core.specs.Rules.{after, target, access, May}
-use Rattle.dstm_core.specs.State.{LocalState, res, own_attempt, keep_resolved, record_resolved}
+use Rattle.dstm_core.specs.State.{LocalState, own_attempt, keep_resolved, record_resolved}
 use Rattle.dstm_core.specs.Traces.{Access, events_of}
 use Rattle.dstm_core.specs.Words.{place}
 use Rattle.dstm_model.specs.declared.value.Val.{Val}
@@ -18,7 +17,7 @@ use Rattle.rand_pcg.specs.Lcg.{Lcg}
 use Rattle.dstm_order.specs.Calls.{Obeys, state_after, effort_of, newest_of, answer}
 use Rattle.dstm_order.specs.declared.again.Again.{Again}
 use Rattle.dstm_order.specs.Efforts.{Effort, effort_after}
-use Rattle.dstm_order.specs.Order.{Due, due, has_ranks, in_resolving, when_resolved, when_passed}
+use Rattle.dstm_order.specs.Order.{Due, due, in_resolving, when_resolved, when_passed}
 use Rattle.dstm_order.specs.Tasks.{Task, Work}
 use Rattle.dstm_order.specs.Tasks.Task.{Doing}
 use Rattle.dstm_order.specs.Tasks.Work.{Rechecking}

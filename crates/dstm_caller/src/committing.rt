@@ -1,5 +1,5 @@
 // The end of an attempt that commits.
-ghost use Rattle.std.specs.Prelude.{◌≡◌, ◌≢◌, ◌⊎◌, ℕ, ◌<◌, length, true, false, [], ◌+◌, is_some, ◌-◌, ◌*◌, None, Some, IfNone, IfSome, All, OnOk, IfErr};
+ghost use Rattle.std.specs.Prelude.{◌≡◌, ◌≢◌, ◌⊎◌, ℕ, ◌<◌, length, true, false, [], ◌+◌, is_some, ◌-◌, ◌*◌, None, Some, IfNone, IfSome, All, OnOk, IfOk, IfErr};
 ghost use Rattle.dstm_core.specs.declared.event.Kind.TheVariants.{Validating as ToValidating, Draw, Commit, Check, Quit};
 ghost use Rattle.dstm_core.specs.declared.state.Phase.TheVariants.{Running, Putting, Validating, Drawn};
 ghost use Rattle.dstm_order.specs.Order.{just, in_checking, in_putting, is_same};
@@ -73,6 +73,7 @@ impl<L: Law> Steps<L> {
         ensures good { result ≡ true → ((now words.now self.new).committed ≡ true)
             × Under L.holds words.now B.began self.new Done None }
         ensures killed { result ≡ false → Under L.holds words.now B.began self.new Done (Some Killed) }
+        ensures drawn { (now words.now self.new).drawn ≡ (now words.now self.old).drawn }
     {
         let shape = self.shape;
         let status = shape.status(self.own);
@@ -178,6 +179,7 @@ impl<L: Law> Steps<L> {
         requires tries { self.old.missed < MAX_MISSED }
         ensures commits { OnOk result (((now words.now self.new).committed ≡ true)
             × Under L.holds words.now B.began self.new Done None) }
+        ensures number { IfOk result (λ number. (now words.now self.new).drawn ≡ Some number) }
         ensures ends { IfErr result (λ again. Under L.holds words.now B.began self.new Done (Some again)) }
     {
         self.put_values::<B>(words, first, writes);

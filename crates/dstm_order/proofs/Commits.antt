@@ -1,6 +1,6 @@
 -- Commits: what stands before the Commit.
-use Rattle.std.proofs.Common.{◌≡◌, ◌≢◌, ◌⊎◌, ℕ, ◌==◌, ◌||◌, ◌∙◌, Bool, true, false, List, [], ◌∷◌, Some, None, refl, ap, sym, subst, inl, inr}
-use Rattle.std.specs.Prelude.{Option, if◌then◌else◌}
+use Rattle.std.proofs.Common.{◌≡◌, ◌⊎◌, ℕ, ◌==◌, ◌||◌, ◌∙◌, Bool, true, false, List, [], ◌∷◌, Some, None, refl, ap, sym, subst, inl, inr}
+use Rattle.std.specs.Prelude.{Option}
 use Rattle.std.proofs.lemmas.Bool.{cond_both}
 use Rattle.dstm_core.specs.Events.{Event}
 use Rattle.dstm_core.specs.declared.event.Kind.{Kind}
@@ -16,10 +16,9 @@ use Rattle.rand_pcg.specs.Lcg.{Lcg}
 use Rattle.dstm_order.specs.declared.TheConstants.{MAX_MISSED}
 use Rattle.dstm_order.specs.Calls.{Obeys, state_after, effort_of, newest_of, due_after}
 use Rattle.dstm_order.specs.Efforts.{Effort}
-use Rattle.dstm_order.specs.Order.{Due, IsDue, just, due, next, next_or_first, in_putting, in_pass, in_checking, in_checks}
+use Rattle.dstm_order.specs.Order.{Due, IsDue, due, next, next_or_first, in_putting, in_pass, in_checks}
 use Rattle.dstm_order.specs.Order.Due.{Step, Done}
-use Rattle.dstm_order.specs.Passes.{Validates, EveryCommitIsValidated}
-use Rattle.dstm_order.specs.Tasks.{Work}
+use Rattle.dstm_order.specs.Passes.{EveryCommitIsValidated}
 use Rattle.dstm_order.specs.Tasks.Task.{Doing}
 use Rattle.dstm_order.specs.Tasks.Work.{Committing}
 use Rattle.dstm_order.proofs.Rows.{pass_by, checking_by, checks_by, putting_by, put_by, passed_by}

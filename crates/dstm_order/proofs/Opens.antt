@@ -1,29 +1,29 @@
 -- Opens: how a call that opens an object ends.
-use Rattle.std.proofs.Common.{◌≡◌, ◌≢◌, ◌⊎◌, ℕ, ◌+◌, ◌==◌, ◌||◌, ◌∙◌, Bool, true, false, List, [], ◌∷◌, Some, None, refl, ap, sym, subst, inl, inr, min}
+use Rattle.std.proofs.Common.{◌≡◌, ◌⊎◌, ℕ, ◌+◌, ◌==◌, ◌||◌, ◌∙◌, Bool, true, false, List, [], ◌∷◌, Some, None, refl, ap, sym, subst, inl, inr, min}
 use Rattle.std.specs.Prelude.{Option, if◌then◌else◌}
 use Rattle.std.proofs.lemmas.Bool.{cond_both}
 use Rattle.dstm_core.specs.Events.{Event}
 use Rattle.dstm_core.specs.declared.event.Kind.{Kind}
-use Rattle.dstm_core.specs.declared.event.Kind.TheVariants.{Enrol, Stamp, Rank, Begin, LookObj, LookOwner, LookStatus, LookRank, LookOld, LookHigh, LookNew, PutOwner, PutOld, Install, LookNumber, Check, LookSelf, Release, PutHigh, PutNew, Validating as ToValidating, Draw, Commit, Kill, Quit, Pause, Resume}
+use Rattle.dstm_core.specs.declared.event.Kind.TheVariants.{Enrol, Stamp, Rank, Begin, PutOwner, PutOld, Install, LookNumber, Check, LookSelf, Release, PutHigh, PutNew, Validating as ToValidating, Draw, Commit, Quit, Pause, Resume}
 use Rattle.dstm_core.specs.declared.shape.Manager.{Manager}
 use Rattle.dstm_core.specs.declared.shape.Shape.{Shape}
 use Rattle.dstm_core.specs.declared.shape.TheConstants.{MAX_RANK}
 use Rattle.dstm_core.specs.declared.state.Phase.{Phase}
-use Rattle.dstm_core.specs.declared.state.Phase.TheVariants.{Outside, Running, Paused, Putting, Validating, Drawn}
+use Rattle.dstm_core.specs.declared.state.Phase.TheVariants.{Outside, Running, Paused, Drawn}
 use Rattle.dstm_core.specs.Rules.{after, is_outside}
 use Rattle.dstm_core.specs.State.{LocalState, given}
 use Rattle.rand_pcg.specs.Lcg.{Lcg}
 use Rattle.dstm_order.specs.declared.TheConstants.{MAX_MISSED}
-use Rattle.dstm_order.specs.Calls.{Obeys, IsCall, state_after, effort_of, newest_of, due_after}
+use Rattle.dstm_order.specs.Calls.{Obeys, state_after, effort_of, due_after}
 use Rattle.dstm_order.specs.Efforts.{Effort}
-use Rattle.dstm_order.specs.Order.{Due, IsDue, just, due, next, next_or_first, at_first, when_resolved, when_passed, in_resolving, in_pass, in_checking, in_checks, rises}
+use Rattle.dstm_order.specs.Order.{Due, IsDue, just, due, next, next_or_first, at_first, when_resolved, when_passed, in_resolving, in_checks, rises}
 use Rattle.dstm_order.specs.Order.Due.{Step, Done}
 use Rattle.dstm_order.specs.Passes.{is_open, EndsInPass, EndsInRank, EveryOpenEndsInPass}
 use Rattle.dstm_order.specs.Tasks.{Work}
 use Rattle.dstm_order.specs.Tasks.Task.{Doing}
-use Rattle.dstm_order.specs.Tasks.Work.{Reading, Writing, Releasing, Rechecking, Committing}
-use Rattle.dstm_order.proofs.Rows.{resolving_by, giving_way_by, pass_by, checking_by, checks_by, passed_by}
-use Rattle.dstm_order.proofs.Validations.{goes, GoesOn, goes_on, due_kind, every_pass}
+use Rattle.dstm_order.specs.Tasks.Work.{Reading, Writing}
+use Rattle.dstm_order.proofs.Rows.{resolving_by, giving_way_by, pass_by, checks_by, passed_by}
+use Rattle.dstm_order.proofs.Validations.{GoesOn, goes_on, due_kind, every_pass}
 
 -- ---- the events of an open
 
@@ -297,9 +297,10 @@ ends_by_pass : (w : Work) (s : Shape) (l : LocalState) (g : Lcg) (e : Event) (es
     Obeys (Doing w) s l g (e ∷ es) → e.kind ≡ LookSelf →
     next e.kind e w s.manager (state_after s l (e ∷ es)) (effort_of s l g (e ∷ es)) ≡ Done → Ends s l (e ∷ es)
 unfolding Ends
-ends_by_pass w s l g e es h obeys q done =
-    (λ r. absurd (let row = passed in let x = subst (λ b. (if b then Step Rank n else Done) ≡ Done) r row in cc),
-    (λ r. every_pass w s l g e es obeys q))
+ends_by_pass w s l g e es h obeys q done = (
+  λ r. absurd (let row = passed in let x = subst (λ b. (if b then Step Rank n else Done) ≡ Done) r row in cc),
+  (λ r. every_pass w s l g e es obeys q),
+)
   where
     new : LocalState
     new = state_after s l (e ∷ es)

@@ -4,25 +4,24 @@ use Rattle.std.specs.Prelude.{Option, if◌then◌else◌, slice_get}
 use Rattle.std.proofs.lemmas.Bool.{cond_both, eqb-true, or_parts}
 use Rattle.dstm_core.specs.Events.{Event}
 use Rattle.dstm_core.specs.declared.event.Kind.{Kind}
-use Rattle.dstm_core.specs.declared.event.Kind.TheVariants.{Enrol, Stamp, Rank, Begin, LookObj, LookOwner, LookStatus, LookRank, LookOld, LookHigh, LookNew, PutOwner, PutOld, Install, LookNumber, Check, LookSelf, Release, PutHigh, PutNew, Validating as ToValidating, Draw, Commit, Kill, Quit, Pause, Resume}
+use Rattle.dstm_core.specs.declared.event.Kind.TheVariants.{Enrol, Stamp, Rank, Begin, PutOwner, PutOld, Install, LookNumber, Check, LookSelf, Release, PutHigh, PutNew, Validating as ToValidating, Draw, Commit, Quit}
 use Rattle.dstm_core.specs.declared.shape.Manager.{Manager}
 use Rattle.dstm_core.specs.declared.shape.Shape.{Shape}
 use Rattle.dstm_core.specs.declared.state.Phase.{Phase}
 use Rattle.dstm_core.specs.declared.state.Phase.TheVariants.{Drawn}
 use Rattle.dstm_core.specs.Rules.{after, is_outside}
 use Rattle.dstm_core.specs.State.{LocalState, next_read, or_read}
-use Rattle.dstm_model.specs.declared.value.Val.{Val}
 use Rattle.rand_pcg.specs.Lcg.{Lcg}
 use Rattle.dstm_order.specs.declared.TheConstants.{MAX_MISSED}
 use Rattle.dstm_order.specs.Calls.{Obeys, state_after, effort_of, newest_of, due_after}
 use Rattle.dstm_order.specs.Efforts.{Effort}
 use Rattle.dstm_order.specs.Order.{Due, IsDue, just, due, next, next_or_first, at_first, when_resolved, in_resolving, in_pass, in_checking, in_checks, is_same}
 use Rattle.dstm_order.specs.Order.Due.{Step, Done}
-use Rattle.dstm_order.specs.Passes.{AreChecks, checks_needed, Validates, EveryPassIsComplete, EveryCommitIsValidated}
+use Rattle.dstm_order.specs.Passes.{AreChecks, checks_needed, Validates, EveryPassIsComplete}
 use Rattle.dstm_order.specs.Tasks.{Work}
 use Rattle.dstm_order.specs.Tasks.Task.{Doing}
 use Rattle.dstm_order.specs.Tasks.Work.{Reading, Writing, Releasing, Rechecking, Committing}
-use Rattle.dstm_order.proofs.Rows.{resolving_by, giving_way_by, pass_by, checking_by, checks_by, putting_by, put_by, passed_by}
+use Rattle.dstm_order.proofs.Rows.{resolving_by, giving_way_by, checking_by, putting_by, put_by, passed_by}
 
 -- ---- the rows in which a check, or the end of some checks, is due
 
@@ -327,7 +326,8 @@ pass_back w s l g (e ∷ es) k n obeys was here =
         ⊎ NoTest (next e.kind e w s.manager new (effort_of s l g (e ∷ es))) → PassChain s l w g (e ∷ es)
     go back (inl q) =
         let is : new ≡ after LookNumber s old e = ap (λ k. after k s old e) q in
-        chain_none LookNumber LookSelf (λ (l : LocalState). l.pass) s l w g e es q (ap (λ (l : LocalState). l.checked) is)
+        chain_none LookNumber LookSelf (λ (l : LocalState). l.pass) s l w g e es q
+        (ap (λ (l : LocalState). l.checked) is)
         (ap (λ (l : LocalState). l.pass) is) (row_at LookNumber q)
     go back (inr (inl q)) =
         let is : new ≡ after Check s old e = ap (λ k. after k s old e) q in
@@ -336,7 +336,8 @@ pass_back w s l g (e ∷ es) k n obeys was here =
         let due_then = due_kind (due_after (Doing w) s l g es) e Check obeys.1 q in
         let before = back due_then.0 obeys.0 due_then.1 (inr (refl, (λ p. apart (phase ∙ p)))) in
         let was_on = goes_on w s (newest_of es) old (effort_of s l g es) (Step Check due_then.0) due_then.1 refl in
-        chain_more LookNumber LookSelf (λ (l : LocalState). l.pass) s l w g e es due_then.0 look_is before q was_on.table
+        chain_more LookNumber LookSelf (λ (l : LocalState). l.pass) s l w g e es due_then.0 look_is before q
+        was_on.table
         on.agreed (ap (λ (l : LocalState). l.pass) is) (row_at Check q ∙ checks_not_drawn new.phase new apart)
     go back (inr (inr (inl q))) =
         let row : in_checking new ≡ Step k n = sym (row_at Draw q) ∙ on.table in
@@ -351,6 +352,7 @@ pass_back w s l g (e ∷ es) k n obeys was here =
 pub every_pass : EveryPassIsComplete
 every_pass w s l g e es obeys q =
     let due_then = due_kind (due_after (Doing w) s l g es) e LookSelf obeys.1 q in
-    let on = goes_on w s (newest_of es) (state_after s l es) (effort_of s l g es) (Step LookSelf due_then.0) due_then.1 refl in
+    let on = goes_on w s (newest_of es) (state_after s l es) (effort_of s l g es) (Step LookSelf due_then.0)
+    due_then.1 refl in
     chain_ends LookNumber LookSelf (λ (l : LocalState). l.pass) s l w g e es due_then.0 look_is
     (pass_back w s l g es LookSelf due_then.0 obeys.0 due_then.1 (inl refl)) q on.table

@@ -11,8 +11,9 @@ ghost use Rattle.dstm_order.specs.Counts.{counts_of};
 ghost use Rattle.dstm_order.specs.Passes.{EveryPassIsComplete, EveryCommitIsValidated, EveryOpenEndsInPass, EveryMissCounts};
 ghost use Rattle.dstm_order.specs.Drive.{small, opens_ranked, opens_unranked, meets_guest, row, rows_of, three, reads_three, two, overtaken, first_kinds, kinds_of};
 
-/// A call that has come to a LookSelf has just made a complete pass: LookNumber, then, unless the number is the one with
-/// which the last complete pass began, one Check of each recorded read, in order, each of which found the recorded word.
+/// A call that has come to a LookSelf has just made a complete pass: LookNumber, then, unless the number is the one
+/// with which the last complete pass began, one Check of each recorded read, in order, each of which found the
+/// recorded word.
 pub fn passes_are_complete()
     ensures { EveryPassIsComplete }
 {}

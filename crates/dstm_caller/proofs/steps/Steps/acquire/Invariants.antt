@@ -1,11 +1,9 @@
-use Rattle.std.proofs.Common.{◌≡◌, ◌<◌, ◌-◌, None}
+use Rattle.std.proofs.Common.{◌<◌, ◌-◌, None}
 use Rattle.dstm_core.specs.declared.event.Kind.TheVariants.{LookObj}
-use Rattle.dstm_core.specs.State.{next_locator, read_of, write_of}
 use Rattle.dstm_order.specs.Order.Due.{Step}
 use Rattle.dstm_order.specs.declared.TheConstants.{MAX_MISSED}
-use Rattle.dstm_caller.specs.Finding.{word_of}
 use Rattle.dstm_caller.specs.Opening.{HeldApart}
-use Rattle.dstm_caller.specs.Under.{IsRunning, Under, now}
+use Rattle.dstm_caller.specs.Under.{Under, now}
 use Rattle.dstm_caller.proofs.steps.Steps.acquire.Given as goal
 
 abbrev pub invariant-retries : goal.invariant-retries

@@ -1,7 +1,7 @@
 use Rattle.std.proofs.Common.{refl, ◌∙◌}
 use Rattle.dstm_core.specs.Words.{code_of}
 use Rattle.dstm_caller.specs.Under.{now, effort_by}
-use Rattle.dstm_caller.proofs.Meeting.{keeps_looked, keeps_then, choice_due, may_kill, gives_way, began_wait, less_waited}
+use Rattle.dstm_caller.proofs.Meeting.{keeps_looked, keeps_then, may_kill, gives_way, began_wait, less_waited}
 use Rattle.dstm_caller.proofs.steps.Steps.contend.Goals as goal
 
 pub abort-requires-clause-may : goal.abort-requires-clause-may

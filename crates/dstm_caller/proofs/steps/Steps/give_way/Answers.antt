@@ -1,7 +1,6 @@
-use Rattle.std.proofs.Common.{◌≡◌, refl, ap, sym, ◌∙◌, Some, ne_eqb, arith}
+use Rattle.std.proofs.Common.{refl, ap, sym, ◌∙◌, Some, arith}
 use Rattle.dstm_core.specs.Words.{code_of}
 use Rattle.dstm_core.specs.declared.state.Phase.TheVariants.{Running, Paused}
-use Rattle.dstm_order.specs.declared.again.Again.TheVariants.{Waited}
 use Rattle.dstm_caller.specs.Under.{now, effort_by}
 use Rattle.dstm_caller.proofs.Meeting.{keeps_aside, greedy_rank, in_other_phase, less_waiting, quit_waited}
 use Rattle.dstm_caller.proofs.Stepping.{under_is}

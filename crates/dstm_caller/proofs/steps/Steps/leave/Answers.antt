@@ -1,18 +1,11 @@
-use Rattle.std.proofs.Common.{◌≡◌, ◌∙◌, refl, ap, sym, subst, None}
+use Rattle.std.proofs.Common.{◌∙◌, refl, ap, subst}
 use Rattle.dstm_core.specs.Events.{Event}
 use Rattle.dstm_core.specs.declared.event.Kind.TheVariants.{Quit}
-use Rattle.dstm_core.specs.State.{LocalState}
 use Rattle.dstm_core.specs.Words.{place}
 use Rattle.dstm_core.specs.Words.Word.{StatusWord}
 use Rattle.dstm_runs.specs.Traces.Access.{Exchange}
-use Rattle.dstm_order.specs.Tasks.Task.{Beginning, Leaving}
 use Rattle.dstm_caller.specs.declared.steps.Steps.{Steps}
-use Rattle.dstm_caller.specs.Under.{Began, WentOn, made_by, now}
-use Rattle.std.specs.Prelude.{Option}
-use Rattle.dstm_order.specs.declared.again.Again.{Again}
-use Rattle.dstm_order.specs.Order.Due.{Done}
-use Rattle.dstm_order.specs.Order.{Due, in_beginning}
-use Rattle.dstm_order.specs.Tasks.{Task}
+use Rattle.dstm_caller.specs.Under.{Began, WentOn, made_by}
 use Rattle.dstm_words.specs.Seats.{found_in}
 use Rattle.dstm_caller.specs.Under.{InTask, due_next_by, answer_by}
 use Rattle.dstm_caller.proofs.Checks.{own_in_shape}

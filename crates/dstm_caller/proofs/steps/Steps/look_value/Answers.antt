@@ -1,4 +1,3 @@
-use Rattle.std.proofs.Common.{refl}
 use Rattle.dstm_caller.specs.Under.{now}
 use Rattle.dstm_caller.proofs.Finding.{found_first, found_value, stays_self, stays_value}
 use Rattle.dstm_caller.proofs.steps.Steps.look_value.Goals as goal

@@ -1,9 +1,6 @@
-use Rattle.std.proofs.Common.{refl, ap, sym, ◌∙◌, ◌≡◌}
-use Rattle.dstm_core.specs.State.{res}
+use Rattle.std.proofs.Common.{ap, sym, ◌∙◌}
 use Rattle.dstm_caller.specs.declared.steps.Steps.{Steps}
-use Rattle.dstm_caller.specs.Under.{now}
-use Rattle.dstm_caller.proofs.Encounters.{rank_due, meets_polite, meets_ranked, stays_rank}
-use Rattle.dstm_caller.proofs.Finding.{stays_keeps, stays_then}
+use Rattle.dstm_caller.proofs.Encounters.{rank_due, meets_polite, meets_ranked}
 use Rattle.dstm_caller.proofs.steps.Steps.meet.Goals as goal
 
 pub settle-requires-clause-met : goal.settle-requires-clause-met

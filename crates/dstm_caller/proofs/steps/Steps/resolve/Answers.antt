@@ -1,4 +1,4 @@
-use Rattle.std.proofs.Common.{◌≡◌, ◌∙◌, refl, ap, sym, Some, None, false, arith}
+use Rattle.std.proofs.Common.{◌≡◌, ◌∙◌, refl, ap, sym, Some, false, arith}
 use Rattle.dstm_core.specs.State.{LocalState, res, is_other, read_of}
 use Rattle.dstm_caller.specs.declared.steps.Steps.{Steps}
 use Rattle.dstm_caller.specs.Finding.{StaysAt, KeepsAttempt, is_changed}

@@ -1,13 +1,10 @@
 use Rattle.std.proofs.Common.{refl}
 use Rattle.dstm_core.specs.Events.{Event}
 use Rattle.dstm_core.specs.declared.event.Kind.TheVariants.{Stamp}
-use Rattle.dstm_core.specs.State.{LocalState}
-use Rattle.dstm_core.specs.Words.{place}
-use Rattle.dstm_core.specs.Words.Word.{StampsWord}
 use Rattle.dstm_runs.specs.Traces.Access.{Add}
 use Rattle.dstm_order.specs.Tasks.Task.{Beginning}
 use Rattle.dstm_caller.specs.declared.steps.Steps.{Steps}
-use Rattle.dstm_caller.specs.Under.{Began, WentOn, made_by, now}
+use Rattle.dstm_caller.specs.Under.{Began, WentOn, made_by}
 use Rattle.dstm_caller.proofs.Stepping.{makes_by, went_adds}
 use Rattle.dstm_caller.proofs.steps.Steps.stamp.Goals as goal
 

@@ -1,6 +1,4 @@
-use Rattle.std.proofs.Common.{◌≡◌, refl, ap, sym, ◌∙◌, false, not, true, Bool, ◌||◌, ◌==◌, ℕ}
-use Rattle.dstm_core.specs.State.{res, is_live}
-use Rattle.dstm_caller.specs.Conflicts.{lets_go}
+use Rattle.std.proofs.Common.{refl, sym, ◌∙◌}
 use Rattle.dstm_caller.specs.Under.{now}
 use Rattle.dstm_caller.proofs.Meeting.{keeps_looked, keeps_then, keeps_self, look_aside, turned_aside, still_live}
 use Rattle.dstm_caller.proofs.steps.Steps.stand_aside.Goals as goal

@@ -1,10 +1,10 @@
-use Rattle.std.proofs.Common.{◌≡◌, refl, ap, ◌∙◌, ◌-◌, arith, inr}
+use Rattle.std.proofs.Common.{refl, ap, ◌-◌, arith, inr}
 use Rattle.std.proofs.lemmas.Bool.Decides.{nat_tests}
 use Rattle.dstm_core.specs.Events.{Event}
 use Rattle.dstm_core.specs.declared.event.Kind.TheVariants.{LookStatus}
 use Rattle.dstm_runs.specs.Traces.Access.{Load}
 use Rattle.dstm_caller.specs.declared.steps.Steps.{Steps}
-use Rattle.dstm_caller.specs.Under.{made_by, now}
+use Rattle.dstm_caller.specs.Under.{made_by}
 use Rattle.dstm_caller.proofs.Ranged.{owner_found_in}
 use Rattle.dstm_caller.proofs.Stepping.{went_on}
 use Rattle.dstm_caller.proofs.steps.Steps.turn_aside.Goals as goal

@@ -1,4 +1,4 @@
-use Rattle.std.proofs.Common.{refl, ap, sym, ◌∙◌}
+use Rattle.std.proofs.Common.{refl, sym, ◌∙◌}
 use Rattle.dstm_caller.specs.Under.{now}
 use Rattle.dstm_caller.proofs.Meeting.{keeps_looked, keeps_then, keeps_self, turn_due, turned, is_running}
 use Rattle.dstm_caller.proofs.steps.Steps.wait.Goals as goal
