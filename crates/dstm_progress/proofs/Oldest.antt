@@ -18,11 +18,11 @@ use Rattle.dstm_core.specs.declared.state.Phase.{Phase}
 use Rattle.dstm_core.specs.declared.state.Phase.TheVariants.{Outside, Running, Paused, Putting, Validating, Drawn}
 use Rattle.dstm_core.specs.declared.state.Resolution.{Resolution}
 use Rattle.dstm_core.proofs.Basic.{Names, ResBasic, basic, owner_stays, res_known}
-use Rattle.dstm_core.proofs.Columns.{Kills, Moves, Step, StatusMove, StatusMoved, begins, kills, moves, own_in, statuses, step}
+use Rattle.dstm_core.proofs.Columns.{Kills, Step, step}
 use Rattle.dstm_core.proofs.Places.{put_at}
 use Rattle.dstm_core.proofs.Static.{begun_more, callers, local_other, local_own, static}
 use Rattle.dstm_core.proofs.Pasts.{core_past}
-use Rattle.dstm_core.proofs.Statuses.{OwnStatus, begin_may, begin_put, given_live, own_differs, own_status, phase_how}
+use Rattle.dstm_core.proofs.Statuses.{begin_may, begin_put, phase_how}
 use Rattle.dstm_opacity.proofs.Mine.{meant_mine, mine}
 use Rattle.dstm_opacity.proofs.Versions.{owner_of, status_of}
 use Rattle.dstm_progress.specs.Oldest.{IsOldest, OldestSafe}

@@ -1,25 +1,22 @@
 -- Ranks under Greedy: the rank of an attempt that has begun stays, and so does what was found of it.
-use Rattle.std.proofs.Common.{◌%◌, ◌*◌, ◌+◌, ◌-◌, ◌/◌, ◌<◌, ◌==◌, ◌∙◌, ◌∷◌, ◌≡◌, ◌≢◌, ◌≤◌, ◌⊎◌, List, Option, None, Some, [], ap, arith, false, inl, inr, is_some, length, refl, subst, sym, true, ℕ}
-use Rattle.std.proofs.lemmas.Bool.{cases_Bool, cond_both}
-use Rattle.dstm_core.specs.Rules.{AllowedAs, MayRank, after, rank_of, target}
+use Rattle.std.proofs.Common.{◌%◌, ◌*◌, ◌+◌, ◌-◌, ◌/◌, ◌<◌, ◌==◌, ◌∙◌, ◌∷◌, ◌≡◌, ◌⊎◌, List, Option, None, Some, [], ap, arith, inl, inr, is_some, subst, sym, true, ℕ}
+use Rattle.std.proofs.lemmas.Bool.{cond_both}
+use Rattle.dstm_core.specs.Rules.{AllowedAs, after, rank_of}
 use Rattle.dstm_core.specs.Runs.{Core, local}
-use Rattle.dstm_core.specs.State.{LocalState, given, is_resolved, keep_resolved, or_unresolved, or_zero, own_attempt, res}
+use Rattle.dstm_core.specs.State.{LocalState, given, is_resolved, keep_resolved, or_unresolved, or_zero, res}
 use Rattle.dstm_core.specs.Traces.{word}
-use Rattle.dstm_core.specs.Words.{place}
-use Rattle.dstm_core.specs.Words.Word.{RankWord, StampsWord}
+use Rattle.dstm_core.specs.Words.Word.{RankWord}
 use Rattle.dstm_core.specs.Events.{Event}
 use Rattle.dstm_core.specs.declared.event.Kind.{Kind}
-use Rattle.dstm_core.specs.declared.event.Kind.TheVariants.{Begin, Commit, Draw, Enrol, Install, Kill, LookHigh, LookNew, LookNumber, LookObj, LookOld, LookOwner, LookRank, LookSelf, LookStatus, Pause, PutHigh, PutNew, Quit, Rank, Release, Resume, Stamp, Validating as ToValidating}
-use Rattle.dstm_core.specs.declared.shape.Manager.TheVariants.{Greedy, Karma, Polka, Polite}
+use Rattle.dstm_core.specs.declared.event.Kind.TheVariants.{Begin, Install, Kill, LookHigh, LookNew, LookNumber, LookObj, LookOld, LookOwner, LookRank, LookSelf, LookStatus, Pause, Release, Resume, Validating as ToValidating}
+use Rattle.dstm_core.specs.declared.shape.Manager.TheVariants.{Greedy}
 use Rattle.dstm_core.specs.declared.shape.Shape.{Shape}
-use Rattle.dstm_core.specs.declared.state.Phase.{Phase}
-use Rattle.dstm_core.specs.declared.state.Phase.TheVariants.{Outside, Running, Putting}
 use Rattle.dstm_core.specs.declared.state.Resolution.{Resolution}
-use Rattle.dstm_core.proofs.Basic.{Names, OwnerIs, ResBasic, basic, own_place, owner_stays, res_known, res_more}
+use Rattle.dstm_core.proofs.Basic.{Names, OwnerIs, ResBasic, basic, owner_stays, res_known, res_more}
 use Rattle.dstm_core.proofs.Columns.{Begun, RankPut, Same, Step, caller_of, index_of, ranks, step}
 use Rattle.dstm_core.proofs.Stamps.{rank_may}
 use Rattle.dstm_core.proofs.Places.{put_at}
-use Rattle.dstm_core.proofs.Static.{Static, callers, running, static}
+use Rattle.dstm_core.proofs.Static.{callers}
 use Rattle.dstm_core.proofs.Statuses.{next_number}
 use Rattle.dstm_opacity.proofs.Versions.{owner_of}
 
