@@ -1,7 +1,12 @@
 -- Operations one after the other on the same memory.
 use Rattle.std.proofs.Common.{ℕ, refl, ◌∙◌, ap, subst, inl, inr, sym, IsTrue}
 use Rattle.std.specs.Prelude.{List, Result, Ok, Err, OnOk, IfOk, IsSome}
+use Rattle.std.proofs.lemmas.Result.{IfOk-weaker}
 use Rattle.dstm_model.specs.declared.value.Val.{Val}
+use Rattle.dstm_model.specs.declared.op.Op.{Op}
+use Rattle.dstm_model.specs.declared.reply.Reply.{Reply}
+use Rattle.dstm_model.specs.Store.{Store}
+use Rattle.dstm_model.specs.Objects.{Does}
 use Rattle.dstm_mem.specs.declared.memory.Mem.{Ghosts}
 use Rattle.dstm_mem.specs.Memory.{with_set}
 use Rattle.dstm_mem.specs.Operations.{IsReady, Leads, OnlyReads, OpensToSet}
@@ -112,3 +117,13 @@ module _ {S E : Type 0} (M : Ghosts S E) where
         stands map admitted a is;
   }
   ready-after n P old new (Err e) ready leads stands = tt
+
+  -- so after an operation that does what the plain store does
+  pub ready-does : {n : ℕ} {Is : List Val → Store → Type 0} {old new : S} (op : Op) (r : Result Reply E) →
+      IsReady M n Is old → Leads M old new r →
+      IfOk r (λ reply. (map : List Val) → M.Admits new map →
+      Does Is op (with_set map (M.written old)) (with_set map (M.written new)) reply) →
+      OnOk r (IsReady M n Is new)
+  ready-does {n} {Is} {old} {new} op r ready leads does =
+      ready-after n Is old new r ready leads
+      (IfOk-weaker r _ _ (λ reply done map admitted store is. (_, (done map admitted store is).1)) does)

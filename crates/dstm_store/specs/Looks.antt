@@ -1,7 +1,8 @@
 -- Which operations only look.
 use Rattle.std.specs.Prelude.{◌≡◌, ◌≢◌}
 use Rattle.dstm_model.specs.declared.op.Op.{Op}
-use Rattle.dstm_model.specs.declared.op.Op.TheVariants.{Transfer, Balance, Total, Insert, Remove, Member, Put, Get, Await, OrElse}
+use Rattle.dstm_model.specs.declared.op.Op.TheVariants.{Transfer, Balance, Total, Insert, Remove, Member}
+use Rattle.dstm_model.specs.declared.op.Op.TheVariants.{Put, Get, Await, OrElse}
 use Rattle.dstm_model.specs.declared.reply.Reply.{Reply}
 use Rattle.dstm_model.specs.declared.reply.Reply.TheVariants as reply
 

@@ -26,7 +26,8 @@ overflow_add-sum g c =
     let size = laws.admitted_length start map in_start in
     let has : HasAccount layout before c.loop-account.account c.in_ok-sum.field-0 = record {
       within = c.loop-account-test.true;
-      value = value_at-opened map (M.written start) (M.written mem) (M.held mem) c.loop-account.account c.in_ok-sum.field-0
+      value = value_at-opened map (M.written start) (M.written mem) (M.held mem) c.loop-account.account
+          c.in_ok-sum.field-0
           (omega (arith, size, c.requires.ready.objects)) (laws.admitted_agrees mem map admitted)
           (λ p. opened.written p ∙ so_far.looks.sets p) opened.value;
     } in
@@ -88,4 +89,5 @@ returns-clause-does g c map admitted =
     let before = with_set map old in
     subst (λ after. Does (IsBank layout) Total before after (Number c.loop-account.sum))
     (sym (with_set-same map old (M.written c.loop-account.mem) so_far.looks.sets))
-    (does-total layout before c.loop-account.account c.loop-account.sum c.loop-account-test.false (so_far.sums map admitted))
+    (does-total layout before c.loop-account.account c.loop-account.sum c.loop-account-test.false
+    (so_far.sums map admitted))

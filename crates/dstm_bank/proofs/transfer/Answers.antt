@@ -88,7 +88,8 @@ overflow_add-more g c =
           (λ p. two.written p ∙ one.written p) two.value;
     } in
     let (store, bank) = c.requires.ready.lawful map in_start in
-    let fits = paid_fits c.args.amount c.requires.valid bank source target c.if-source-target.false c.if-from-amount.false in
+    let fits = paid_fits c.args.amount c.requires.valid bank source target c.if-source-target.false
+    c.if-from-amount.false in
     Fits-of_lt {w = w64} fits
 
 pub returns-clause-does : goal.returns-clause-does

@@ -16,5 +16,6 @@ returns-clause-right g c =
     let done = c.in-Ok.ensures in
     let (map, admitted) = done.leads.admits in
     let start = (c.in_ok-mem.ensures.admits map).0 (done.leads.narrows map admitted) in
-    let at_map = subst (g.B.Body.right c.run.new.self map) (sym (c.values.ensures map admitted)) (done.right map admitted) in
+    let at_map = subst (g.B.Body.right c.run.new.self map) (sym (c.values.ensures map admitted))
+    (done.right map admitted) in
     subst (λ before. g.B.Body.right c.run.new.self before c.values.result.items) start at_map

@@ -166,7 +166,8 @@ returns-in-Insert-Tree-default-clause-lawful g c =
     on_ok c.insert-in-Insert-Tree-default.result _ _
     (λ reply does map admitted.
     lawful-after c.args.layout.now c.args.op.now _ _ reply
-    (c.requires.ready.lawful map (c.insert-in-Insert-Tree-default.ensures.leads.narrows map admitted)) (does map admitted))
+    (c.requires.ready.lawful map (c.insert-in-Insert-Tree-default.ensures.leads.narrows map admitted))
+    (does map admitted))
     (returns-in-Insert-Tree-default-clause-does g c)
 
 pub returns-in-Remove-Tree-default-clause-does : goal.returns-in-Remove-Tree-default-clause-does
@@ -189,7 +190,8 @@ returns-in-Remove-Tree-default-clause-lawful g c =
     on_ok c.remove-in-Remove-Tree-default.result _ _
     (λ reply does map admitted.
     lawful-after c.args.layout.now c.args.op.now _ _ reply
-    (c.requires.ready.lawful map (c.remove-in-Remove-Tree-default.ensures.leads.narrows map admitted)) (does map admitted))
+    (c.requires.ready.lawful map (c.remove-in-Remove-Tree-default.ensures.leads.narrows map admitted))
+    (does map admitted))
     (returns-in-Remove-Tree-default-clause-does g c)
 
 pub returns-in-Member-Tree-default-clause-does : goal.returns-in-Member-Tree-default-clause-does
@@ -212,7 +214,8 @@ returns-in-Member-Tree-default-clause-lawful g c =
     on_ok c.member-in-Member-Tree-default.result _ _
     (λ reply does map admitted.
     lawful-after c.args.layout.now c.args.op.now _ _ reply
-    (c.requires.ready.lawful map (c.member-in-Member-Tree-default.ensures.leads.narrows map admitted)) (does map admitted))
+    (c.requires.ready.lawful map (c.member-in-Member-Tree-default.ensures.leads.narrows map admitted))
+    (does map admitted))
     (returns-in-Member-Tree-default-clause-does g c)
 
 pub returns-in-Put-clause-does : goal.returns-in-Put-clause-does
@@ -318,31 +321,37 @@ pub returns-in-Insert-Tree-default-clause-looks : goal.returns-in-Insert-Tree-de
 returns-in-Insert-Tree-default-clause-looks g c =
     let a = c.in-Insert-Tree-default in
     let is : c.args.op.now ≡ Insert which.Tree a.key = search (rules, a.is, a.which-is) in
-    IfOk-weaker c.insert-in-Insert-Tree-default.result _ _ (λ reply only look. only (subst (λ (op : Op). IsLook op reply) is look))
+    IfOk-weaker c.insert-in-Insert-Tree-default.result _ _ (λ reply only look. only
+    (subst (λ (op : Op). IsLook op reply) is look))
     c.insert-in-Insert-Tree-default.ensures.unchanged
 
 pub returns-in-Insert-Tree-default-clause-marks : goal.returns-in-Insert-Tree-default-clause-marks
 returns-in-Insert-Tree-default-clause-marks g c =
-    whenever c.insert-in-Insert-Tree-default.result (λ reply. reply ≢ Poor) _ _ (λ marks. marks) c.insert-in-Insert-Tree-default.ensures.marks
+    whenever c.insert-in-Insert-Tree-default.result (λ reply. reply ≢ Poor) _ _ (λ marks. marks)
+    c.insert-in-Insert-Tree-default.ensures.marks
 
 pub returns-in-Remove-Tree-default-clause-looks : goal.returns-in-Remove-Tree-default-clause-looks
 returns-in-Remove-Tree-default-clause-looks g c =
     let a = c.in-Remove-Tree-default in
     let is : c.args.op.now ≡ Remove which.Tree a.key = search (rules, a.is, a.which-is) in
-    IfOk-weaker c.remove-in-Remove-Tree-default.result _ _ (λ reply only look. only (subst (λ (op : Op). IsLook op reply) is look))
+    IfOk-weaker c.remove-in-Remove-Tree-default.result _ _ (λ reply only look. only
+    (subst (λ (op : Op). IsLook op reply) is look))
     c.remove-in-Remove-Tree-default.ensures.unchanged
 
 pub returns-in-Remove-Tree-default-clause-marks : goal.returns-in-Remove-Tree-default-clause-marks
 returns-in-Remove-Tree-default-clause-marks g c =
-    whenever c.remove-in-Remove-Tree-default.result (λ reply. reply ≢ Poor) _ _ (λ marks. marks) c.remove-in-Remove-Tree-default.ensures.marks
+    whenever c.remove-in-Remove-Tree-default.result (λ reply. reply ≢ Poor) _ _ (λ marks. marks)
+    c.remove-in-Remove-Tree-default.ensures.marks
 
 pub returns-in-Member-Tree-default-clause-looks : goal.returns-in-Member-Tree-default-clause-looks
 returns-in-Member-Tree-default-clause-looks g c =
-    whenever c.member-in-Member-Tree-default.result (IsLook c.args.op.now) _ _ (λ only. only) c.member-in-Member-Tree-default.ensures.looks
+    whenever c.member-in-Member-Tree-default.result (IsLook c.args.op.now) _ _ (λ only. only)
+    c.member-in-Member-Tree-default.ensures.looks
 
 pub returns-in-Member-Tree-default-clause-marks : goal.returns-in-Member-Tree-default-clause-marks
 returns-in-Member-Tree-default-clause-marks g c =
-    whenever c.member-in-Member-Tree-default.result (λ reply. reply ≢ Poor) _ _ (opens_to_set-of_reads g.M.Mem) c.member-in-Member-Tree-default.ensures.looks
+    whenever c.member-in-Member-Tree-default.result (λ reply. reply ≢ Poor) _ _ (opens_to_set-of_reads g.M.Mem)
+    c.member-in-Member-Tree-default.ensures.looks
 
 pub returns-in-Put-clause-looks : goal.returns-in-Put-clause-looks
 returns-in-Put-clause-looks g c =

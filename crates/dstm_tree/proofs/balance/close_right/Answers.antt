@@ -13,8 +13,8 @@ returns-then-not-fell-clause-does g c map admitted =
     let M = g.M.Mem in
     let start = M.written c.args.mem.now in
     let one = c.in_ok-update_node.ensures in
-    let size = length-with_set map start ∙ g.met.M.Mem.admitted_length c.args.mem.now map (one.leads.narrows map admitted) ∙
-    c.requires.objects in
+    let size = length-with_set map start ∙ g.met.M.Mem.admitted_length c.args.mem.now map
+    (one.leads.narrows map admitted) ∙ c.requires.objects in
     close-right-kept c.args.layout.now (with_set map start) c.args.held c.args.parent
     (with_set map (M.written c.update_node.new.mem)) c.args.fell
     c.requires.tree size c.if-not-fell.true (one.writes map admitted)

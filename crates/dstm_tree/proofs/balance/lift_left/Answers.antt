@@ -78,12 +78,13 @@ returns-in-Some-near-clause-does g c map admitted h =
     let in_near = three.leads.narrows map admitted in
     let in_far = near.leads.narrows map in_near in
     let same = with_set-same map start (M.written c.read_red.new.mem) far.looks.sets in
-    let same_too = with_set-same map start (M.written c.read_red-2.new.mem) (λ i. near.looks.sets i ∙ far.looks.sets i) in
+    let same_too = with_set-same map start (M.written c.read_red-2.new.mem)
+    (λ i. near.looks.sets i ∙ far.looks.sets i) in
     let sees = see_near_left layout before c.args.held p s (with_set map (M.written c.read_red.new.mem))
     c.in_ok-near.near same (near.finds map in_near) h in
     let red = subst (SeesRed h.near) c.in-Some-near.is sees in
-    let size = length-with_set map start ∙ g.met.M.Mem.admitted_length c.args.mem.now map (far.leads.narrows map in_far) ∙
-    c.requires.objects in
+    let size = length-with_set map start ∙ g.met.M.Mem.admitted_length c.args.mem.now map
+    (far.leads.narrows map in_far) ∙ c.requires.objects in
     let is = three.writes map admitted
     ∙ ap (λ m. slice_set (slice_set (slice_set m (object_of layout p.number)
     (val_of (record p { red = false; right = o.left })))
@@ -108,14 +109,15 @@ returns-clause-does g c map admitted h =
     let in_near = three.leads.narrows map in_three in
     let in_far = near.leads.narrows map in_near in
     let same = with_set-same map start (M.written c.read_red.new.mem) far.looks.sets in
-    let same_too = with_set-same map start (M.written c.read_red-2.new.mem) (λ i. near.looks.sets i ∙ far.looks.sets i) in
+    let same_too = with_set-same map start (M.written c.read_red-2.new.mem)
+    (λ i. near.looks.sets i ∙ far.looks.sets i) in
     let sees_far = see_far_left layout before c.args.held p s before c.in_ok-far.far refl (far.finds map in_far) h in
     let sees_near = see_near_left layout before c.args.held p s (with_set map (M.written c.read_red.new.mem))
     c.in_ok-near.near same (near.finds map in_near) h in
     let black_far = subst (SeesRed h.far) c.in_default.is sees_far in
     let black_near = subst (SeesRed h.near) c.in_default-near.is sees_near in
-    let size = length-with_set map start ∙ g.met.M.Mem.admitted_length c.args.mem.now map (far.leads.narrows map in_far) ∙
-    c.requires.objects in
+    let size = length-with_set map start ∙ g.met.M.Mem.admitted_length c.args.mem.now map
+    (far.leads.narrows map in_far) ∙ c.requires.objects in
     let is_mid = three.writes map in_three
     ∙ ap (λ m. slice_set m (object_of layout s.number) (val_of (record s { red = true }))) same_too in
     lifts_none_left layout before c.args.held p s (with_set map (M.written c.write_node.new.mem))

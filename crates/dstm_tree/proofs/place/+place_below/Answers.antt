@@ -75,7 +75,8 @@ returns-then-key-node-clause-does g t c map admitted =
     (with_set map (M.written c.read_node.new.mem))
     (with_set map (M.written c.place_below.new.mem)) (with_set map (M.written c.attach_left.new.mem))
     c.in_ok-below.below c.in_ok-placed-2.placed
-    c.requires.tree (one.reads map (two.leads.narrows map in_two)) c.if-at-eq0.false c.if-key-node.true (two.does map in_two)
+    c.requires.tree (one.reads map (two.leads.narrows map in_two)) c.if-at-eq0.false c.if-key-node.true
+    (two.does map in_two)
     (three.does map admitted)
 
 pub overflow_sub-depth-then-key-node-2 : goal.overflow_sub-depth-then-key-node-2
@@ -149,8 +150,8 @@ returns-then-replaces-clause-does g t c map admitted =
     let two = c.in_ok-write_node.ensures in
     let in_one = two.leads.narrows map admitted in
     let start = M.written c.args.mem.now in
-    let size = length-with_set map start ∙ g.met.M.Mem.admitted_length c.args.mem.now map (one.leads.narrows map in_one) ∙
-    c.requires.objects in
+    let size = length-with_set map start ∙ g.met.M.Mem.admitted_length c.args.mem.now map
+    (one.leads.narrows map in_one) ∙ c.requires.objects in
     let q : Request = record { key = c.args.key; value = c.args.value; replaces = c.args.replaces } in
     place-replaced layout q c.args.at c.args.depth c.in_ok-node.node (with_set map start)
     (with_set map (M.written c.read_node.new.mem))

@@ -43,7 +43,8 @@ unreachable-requires g c =
     let after = with_set map (M.written c.place_below.new.mem) in
     let placed = whole_is_placed layout q before (with_set map (M.written c.read_root.new.mem)) after store t
     c.in_ok-root.root c.in_ok-placed.placed
-    c.requires.key (one.reads map in_one store t) (with_set-same map start (M.written c.read_root.new.mem) one.looks.sets)
+    c.requires.key (one.reads map in_one store t) (with_set-same map start (M.written c.read_root.new.mem)
+    one.looks.sets)
     (two.does map admitted) in
     whole-pair layout q before after store t c.in-Pair.field-0 c.in-Pair.field-1
     (subst (IsPlaced layout q 0 KEY_LIMIT t.tree t.free before after) c.in-Pair.is placed)
@@ -61,7 +62,8 @@ returns-in-Full-clause-does g c map admitted store t =
     let after = with_set map (M.written c.place_below.new.mem) in
     let placed = whole_is_placed layout q before (with_set map (M.written c.read_root.new.mem)) after store t
     c.in_ok-root.root c.in_ok-placed.placed
-    c.requires.key (one.reads map in_one store t) (with_set-same map start (M.written c.read_root.new.mem) one.looks.sets)
+    c.requires.key (one.reads map in_one store t) (with_set-same map start (M.written c.read_root.new.mem)
+    one.looks.sets)
     (two.does map admitted) in
     whole-full layout q before after store t (subst (IsPlaced layout q 0 KEY_LIMIT t.tree t.free before after)
     c.in-Full.is placed)
@@ -79,7 +81,8 @@ returns-in-Found-clause-does g c map admitted store t =
     let after = with_set map (M.written c.place_below.new.mem) in
     let placed = whole_is_placed layout q before (with_set map (M.written c.read_root.new.mem)) after store t
     c.in_ok-root.root c.in_ok-placed.placed
-    c.requires.key (one.reads map in_one store t) (with_set-same map start (M.written c.read_root.new.mem) one.looks.sets)
+    c.requires.key (one.reads map in_one store t) (with_set-same map start (M.written c.read_root.new.mem)
+    one.looks.sets)
     (two.does map admitted) in
     whole-found layout q before after store t (subst (IsPlaced layout q 0 KEY_LIMIT t.tree t.free before after)
     c.in-Found.is placed)
@@ -97,7 +100,8 @@ returns-in-Added-clause-does g c map admitted store t =
     let after = with_set map (M.written c.place_below.new.mem) in
     let placed = whole_is_placed layout q before (with_set map (M.written c.read_root.new.mem)) after store t
     c.in_ok-root.root c.in_ok-placed.placed
-    c.requires.key (one.reads map in_one store t) (with_set-same map start (M.written c.read_root.new.mem) one.looks.sets)
+    c.requires.key (one.reads map in_one store t) (with_set-same map start (M.written c.read_root.new.mem)
+    one.looks.sets)
     (two.does map admitted) in
     whole-added layout q before after store t (subst (IsPlaced layout q 0 KEY_LIMIT t.tree t.free before after)
     c.in-Added.is placed)
@@ -121,7 +125,8 @@ returns-in_ok-write-in-Root-clause-does g c map admitted store t =
     let after = with_set map (M.written c.write.new.mem) in
     let placed = whole_is_placed layout q before (with_set map (M.written c.read_root.new.mem)) mid store t
     c.in_ok-root.root c.in_ok-placed.placed
-    c.requires.key (one.reads map in_one store t) (with_set-same map start (M.written c.read_root.new.mem) one.looks.sets)
+    c.requires.key (one.reads map in_one store t) (with_set-same map start (M.written c.read_root.new.mem)
+    one.looks.sets)
     (two.does map in_two) in
     let added = subst (IsPlaced layout q 0 KEY_LIMIT t.tree t.free before mid) c.in-Root.is placed in
     let fits = subst (FitsPlaced layout) c.in-Root.is two.fits in

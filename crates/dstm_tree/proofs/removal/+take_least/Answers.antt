@@ -88,7 +88,8 @@ returns-then-node-eq0-clause-does g t c map admitted =
     let two = c.in_ok-cut.ensures in
     take-least-here layout (with_set map (M.written c.args.mem.now)) (with_set map (M.written c.read_node.new.mem))
     (with_set map (M.written c.hoist.new.mem))
-    c.args.at c.args.depth c.in_ok-node.node c.in_ok-cut.cut c.requires.tree (one.reads map (two.leads.narrows map admitted))
+    c.args.at c.args.depth c.in_ok-node.node c.in_ok-cut.cut c.requires.tree
+    (one.reads map (two.leads.narrows map admitted))
     (λ e. omega (arith, e, c.requires.some)) c.if-node-eq0.true (two.does map admitted)
 
 pub returns-clause-does : goal.returns-clause-does

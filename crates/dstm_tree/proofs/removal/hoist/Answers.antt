@@ -16,8 +16,8 @@ returns-clause-does g c map admitted =
     let one = c.in_ok-node.ensures in
     let two = c.in_ok-write_node.ensures in
     let in_one = two.leads.narrows map admitted in
-    let size = length-with_set map start ∙ g.met.M.Mem.admitted_length c.args.mem.now map (one.leads.narrows map in_one) ∙
-    c.requires.objects in
+    let size = length-with_set map start ∙ g.met.M.Mem.admitted_length c.args.mem.now map
+    (one.leads.narrows map in_one) ∙ c.requires.objects in
     hoist-some c.args.layout.now (with_set map start) (with_set map (M.written c.read_node.new.mem))
     (with_set map (M.written c.write_node.new.mem))
     c.args.child c.args.red c.in_ok-node.node c.requires.tree size c.if-child-eq0.false (one.reads map in_one)
