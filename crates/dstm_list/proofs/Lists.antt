@@ -15,7 +15,7 @@ use Rattle.dstm_model.specs.Layout.{IsValid}
 use Rattle.dstm_model.specs.Map.{value_at}
 use Rattle.dstm_model.specs.Store.{Store, opening_store}
 use Rattle.dstm_model.specs.Objects.{list_begin, free_object, node_object, plain}
-use Rattle.dstm_list.specs.List.{Cell, IsList, IsChain, IsFreeChain, IsOfList, numbers_of, keys_of, first, nodes_to}
+use Rattle.dstm_list.specs.List.{Cell, IsList, IsChain, IsFreeChain, IsOfList, numbers_of, keys_of, first_of, nodes_to}
 use Rattle.dstm_list.specs.List.{node}
 use Rattle.dstm_list.proofs.Numbers.{IsNumber, as_many, each-map, each-left, each-right}
 use Rattle.dstm_list.proofs.Objects.{IsChain-same, IsFreeChain-same}
@@ -25,7 +25,7 @@ use Rattle.dstm_list.proofs.Steps.{head-of_list, node-of_list, used_within, firs
 
 same_keys : (n begin : ℕ) (values : List Val) (cells others : List Cell) → n < 2048 →
     Each (IsNumber n) (numbers_of cells) → Each (IsNumber n) (numbers_of others) →
-    first (numbers_of cells) ≡ first (numbers_of others) →
+    first_of (numbers_of cells) ≡ first_of (numbers_of others) →
     IsChain begin values cells → IsChain begin values others → keys_of cells ≡ keys_of others
 same_keys n begin values [] [] small used also is_first chain other = refl
 same_keys n begin values [] (d ∷ ds) small used also is_first chain other =
@@ -33,12 +33,12 @@ same_keys n begin values [] (d ∷ ds) small used also is_first chain other =
 same_keys n begin values (c ∷ cs) [] small used also is_first chain other =
     absurd (omega (arith, is_first, used.0.0))
 same_keys n begin values (c ∷ cs) (d ∷ ds) small used also is_first chain other =
-    let low : (node c.key (first (numbers_of cs))).low ≡ (node d.key (first (numbers_of ds))).low =
+    let low : (node c.key (first_of (numbers_of cs))).low ≡ (node d.key (first_of (numbers_of ds))).low =
     ap (λ v. v.low) (sym chain.0 ∙ ap (λ i. value_at values (node_object begin i)) is_first ∙ other.0) in
     let next_c = first_within n (numbers_of cs) used.1 in
     let next_d = first_within n (numbers_of ds) also.1 in
     let key : c.key ≡ d.key = omega (arith, low, next_c, next_d, small) in
-    let next : first (numbers_of cs) ≡ first (numbers_of ds) = omega (arith, low, next_c, next_d, small) in
+    let next : first_of (numbers_of cs) ≡ first_of (numbers_of ds) = omega (arith, low, next_c, next_d, small) in
     ap (λ k. k ∷ keys_of cs) key
     ∙ ap (λ ks. d.key ∷ ks) (same_keys n begin values cs ds small used.1 also.1 next chain.1 other.1)
 
@@ -70,7 +70,7 @@ keys-unique {layout} {values} valid a b =
       | inl none ↦ no_keys none a ∙ sym (no_keys none b)
       | inr some ↦
           let declared : 0 < n = omega (arith, some) in
-          let is_first : first (numbers_of a.cells) ≡ first (numbers_of b.cells) =
+          let is_first : first_of (numbers_of a.cells) ≡ first_of (numbers_of b.cells) =
           ap (λ v. v.low) (sym (a.head declared) ∙ b.head declared) in
           a.keys
           ∙ same_keys n (list_begin layout) values a.cells b.cells
@@ -151,7 +151,7 @@ free_chain layout values opening k (suc (suc n)) some all =
       free_chain layout values opening (suc k) (suc n) (omega arith) (omega (arith, all)),
     )
 
-first_from : (k n : ℕ) → 0 < n → first (from_on k n) ≡ k
+first_from : (k n : ℕ) → 0 < n → first_of (from_on k n) ≡ k
 first_from k zero some = absurd (omega (arith, some))
 first_from k (suc n) some = refl
 

@@ -7,7 +7,7 @@ use Rattle.std.proofs.lemmas.Map.Keys.{IsDistinct-tail}
 use Rattle.dstm_model.specs.declared.value.Val.{Val}
 use Rattle.dstm_model.specs.Map.{value_at, no_value}
 use Rattle.dstm_model.specs.Objects.{free_object, node_object}
-use Rattle.dstm_list.specs.List.{Cell, IsChain, IsFreeChain, numbers_of, first, node, nodes_to}
+use Rattle.dstm_list.specs.List.{Cell, IsChain, IsFreeChain, numbers_of, first_of, node, nodes_to}
 use Rattle.dstm_list.specs.Place.{link_after, key_after}
 use Rattle.dstm_list.proofs.Numbers.{IsNumber, each-map, each-zip, each-left, each-right, within, apart, others}
 
@@ -64,11 +64,11 @@ SameBefore begin values after object (c ∷ cs) =
 
 -- the cells behind the link, and others after it
 pub relinked : (begin : ℕ) (values after : List Val) (behind ahead new : List Cell) (object key : ℕ) →
-    value_at values object ≡ node key (first (numbers_of (behind ++ ahead))) →
+    value_at values object ≡ node key (first_of (numbers_of (behind ++ ahead))) →
     IsChain begin values (behind ++ ahead) → SameBefore begin values after object behind →
-    value_at after (link_after begin object behind) ≡ node (key_after key behind) (first (numbers_of new)) →
+    value_at after (link_after begin object behind) ≡ node (key_after key behind) (first_of (numbers_of new)) →
     IsChain begin after new →
-    (value_at after object ≡ node key (first (numbers_of (behind ++ new))))
+    (value_at after object ≡ node key (first_of (numbers_of (behind ++ new))))
     × IsChain begin after (behind ++ new)
 relinked begin values after [] ahead new object key at chain same link rest = (link, rest)
 relinked begin values after (c ∷ cs) ahead new object key at chain same link rest =

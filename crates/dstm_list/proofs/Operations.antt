@@ -18,7 +18,7 @@ use Rattle.dstm_model.specs.Store.{Store, has_key, with_key, without_key, yes_or
 use Rattle.dstm_model.specs.Objects.{Does, list_begin, tree_begin, free_object, node_object, plain}
 use Rattle.dstm_list.specs.declared.node.Node.{Node}
 use Rattle.dstm_list.specs.declared.walk.Place.{Place}
-use Rattle.dstm_list.specs.List.{Cell, IsList, IsChain, IsFreeChain, IsOfList, numbers_of, keys_of, first, node}
+use Rattle.dstm_list.specs.List.{Cell, IsList, IsChain, IsFreeChain, IsOfList, numbers_of, keys_of, first_of, node}
 use Rattle.dstm_list.specs.List.{next_of, nodes_to}
 use Rattle.dstm_list.specs.Place.{IsPlace, IsFirst, AllLess, AllGreater, link_after, key_after}
 use Rattle.dstm_list.proofs.Keys.{Rise, increasing-of_Rise, Rise-insert, Rise-remove, has_key-behind, has_key-greater}
@@ -91,9 +91,9 @@ pub record Parts (layout : Layout) (values : List Val) (store : Store) (cells : 
   pub capacity : store.layout.list ≡ layout.list
   pub keys : store.keys ≡ keys_of cells
   pub rise : Rise 0 cells
-  pub head : value_at values (list_begin layout) ≡ node 0 (first (numbers_of cells))
+  pub head : value_at values (list_begin layout) ≡ node 0 (first_of (numbers_of cells))
   pub chain : IsChain (list_begin layout) values cells
-  pub free_head : value_at values (free_object (list_begin layout)) ≡ plain (first free)
+  pub free_head : value_at values (free_object (list_begin layout)) ≡ plain (first_of free)
   pub free_chain : IsFreeChain (list_begin layout) values free
   pub once : IsPermutation (nodes_to layout.list) (numbers_of cells ++ free)
 
@@ -107,7 +107,7 @@ parts_of declared list = record {
   capacity = list.capacity;
   keys = list.keys;
   rise = rise_of list;
-  head = list.head declared ∙ sym (node-zero (first (numbers_of list.cells)));
+  head = list.head declared ∙ sym (node-zero (first_of (numbers_of list.cells)));
   chain = list.chain;
   free_head = list.free_head declared;
   free_chain = list.free_chain;
@@ -122,7 +122,7 @@ list_of cells free parts = record {
   capacity = parts.capacity;
   keys = parts.keys;
   rising = subst IsStrictlyIncreasing (sym parts.keys) (increasing-of_Rise 0 cells parts.rise);
-  head = λ _. parts.head ∙ node-zero (first (numbers_of cells));
+  head = λ _. parts.head ∙ node-zero (first_of (numbers_of cells));
   chain = parts.chain;
   free_head = λ _. parts.free_head;
   free_chain = parts.free_chain;
@@ -143,18 +143,18 @@ used-free {layout} {store = store} {cells = cells} {free = free} parts =
 pub first_free : {layout : Layout} {values : List Val} {store : Store} (n : ℕ) → IsValid layout →
     0 < layout.list →
     (list : IsList layout values store) → n ≡ next_of (value_at values (free_object (list_begin layout))) →
-    (n ≡ first list.free) × (n ≤ layout.list)
+    (n ≡ first_of list.free) × (n ≤ layout.list)
 first_free {layout} n valid declared list is =
     let in_range = each-right (IsNumber layout.list) (numbers_of list.cells) list.free (used_within list) in
     let small = first_within layout.list list.free in_range in
     let low = ap (λ v. v.low) (list.free_head declared) in
     (omega (arith, is, low, small, valid.list), omega (arith, is, low, small, valid.list))
 
-pub none_free : (n : ℕ) (free : List ℕ) → Each (IsNumber n) free → first free ≡ 0 → length free ≡ 0
+pub none_free : (n : ℕ) (free : List ℕ) → Each (IsNumber n) free → first_of free ≡ 0 → length free ≡ 0
 none_free n [] each none = refl
 none_free n (i ∷ is) each none = absurd (omega (arith, each.0.0, none))
 
-some_free : (n : ℕ) (free : List ℕ) → n ≡ first free → n ≢ 0 → (rest : List ℕ) × (free ≡ n ∷ rest)
+some_free : (n : ℕ) (free : List ℕ) → n ≡ first_of free → n ≢ 0 → (rest : List ℕ) × (free ≡ n ∷ rest)
 some_free n [] is some = absurd (some is)
 some_free n (i ∷ is) same some = (is, ap (λ j. j ∷ is) (sym same))
 
@@ -189,7 +189,7 @@ inserted : {layout : Layout} {values : List Val} {store : Store} (c : Cell) (beh
     link ≡ link_after (list_begin layout) (list_begin layout) behind → IsOfList layout link →
     value_at values (node_object (list_begin layout) c.number) ≡ rest →
     Parts layout
-    (with_node values (list_begin layout) c.number c.key (first (numbers_of ahead)) link
+    (with_node values (list_begin layout) c.number c.key (first_of (numbers_of ahead)) link
     (key_after 0 behind) rest)
     (record store { keys = with_key c.key store.keys }) (behind ++ c ∷ ahead) free
 inserted {layout} {values} {store} c behind ahead free link rest declared in_map parts less greater is_link link_in
@@ -203,10 +203,10 @@ inserted {layout} {values} {store} c behind ahead free link rest declared in_map
     let node_in = node-of_list layout i declared number_in in
     let free_in = node-of_list layout 0 declared (omega arith) in
     let changed = Changed-of_sets values (node_object begin i) (free_object begin) link
-    (node c.key (first (numbers_of ahead))) rest (node (key_after 0 behind) i)
+    (node c.key (first_of (numbers_of ahead))) rest (node (key_after 0 behind) i)
     (omega (arith, node_in.1, in_map)) (omega (arith, free_in.1, in_map)) (omega (arith, link_in.1, in_map))
     differ.first_second (λ e. differ.first_third (e ∙ is_link)) (λ e. differ.second_third (e ∙ is_link)) in
-    let after = with_node values begin i c.key (first (numbers_of ahead)) link (key_after 0 behind) rest in
+    let after = with_node values begin i c.key (first_of (numbers_of ahead)) link (key_after 0 behind) rest in
     let kept = Kept-of_same n begin i values after behind ahead free once
     (λ p px py pz. changed.same p px py (λ e. pz (e ∙ is_link))) in
     let linked = relinked begin values after behind ahead (c ∷ ahead) begin 0 parts.head parts.chain kept.before
@@ -270,7 +270,7 @@ removed : {layout : Layout} {values : List Val} {store : Store} (c : Cell) (behi
     link ≡ link_after (list_begin layout) (list_begin layout) behind → IsOfList layout link →
     value_at values (free_object (list_begin layout)) ≡ rest →
     Parts layout
-    (without_node values (list_begin layout) c.number (first (numbers_of ahead)) link (key_after 0 behind) rest)
+    (without_node values (list_begin layout) c.number (first_of (numbers_of ahead)) link (key_after 0 behind) rest)
     (record store { keys = without_key c.key store.keys }) (behind ++ ahead) (c.number ∷ free)
 removed {layout} {values} {store} c behind ahead free link rest declared in_map parts less is_link link_in had =
     let n = layout.list in
@@ -282,11 +282,11 @@ removed {layout} {values} {store} c behind ahead free link rest declared in_map 
     let node_in = node-of_list layout i declared number_in in
     let free_in = node-of_list layout 0 declared (omega arith) in
     let changed = Changed-of_sets values (free_object begin) (node_object begin i) link
-    (node 0 i) rest (node (key_after 0 behind) (first (numbers_of ahead)))
+    (node 0 i) rest (node (key_after 0 behind) (first_of (numbers_of ahead)))
     (omega (arith, free_in.1, in_map)) (omega (arith, node_in.1, in_map)) (omega (arith, link_in.1, in_map))
     (λ e. differ.first_second (sym e)) (λ e. differ.second_third (e ∙ is_link))
     (λ e. differ.first_third (e ∙ is_link)) in
-    let after = without_node values begin i (first (numbers_of ahead)) link (key_after 0 behind) rest in
+    let after = without_node values begin i (first_of (numbers_of ahead)) link (key_after 0 behind) rest in
     let kept = Kept-of_same n begin i values after behind ahead free once
     (λ p px py pz. changed.same p py px (λ e. pz (e ∙ is_link))) in
     let chain = IsChain-right begin values behind (c ∷ ahead) parts.chain in
@@ -313,7 +313,7 @@ record IsCell (key : ℕ) (next : ℕ) (cells : List Cell) : Type 0 where
   rest : List Cell
   cells_are : cells ≡ cell ∷ rest
   key_is : key ≡ cell.key
-  next_is : next ≡ first (numbers_of rest)
+  next_is : next ≡ first_of (numbers_of rest)
 
 first_cell : (key : ℕ) (found : Node) (cells : List Cell) → IsFirst key (Some found) cells →
     IsCell key found.next cells
@@ -335,19 +335,19 @@ does-remove {layout} {values} key place found rest declared in_map finds is link
     let c = here.cell in
     let parts = subst (λ cs. Parts layout values store (stands.behind ++ cs) list.free) here.cells_are
     (subst (λ cs. Parts layout values store cs list.free) stands.split (parts_of declared list)) in
-    let number : place.before.next ≡ c.number = stands.next ∙ ap (λ cs. first (numbers_of cs)) here.cells_are in
+    let number : place.before.next ≡ c.number = stands.next ∙ ap (λ cs. first_of (numbers_of cs)) here.cells_are in
     let after = removed c stands.behind here.rest list.free place.link rest declared in_map parts
     (subst (λ k. AllLess k stands.behind) here.key_is stands.lesser) stands.link link_in had in
     let begin = list_begin layout in
     let link = place.link in
     let maps : without_node values begin place.before.next found.next link place.before.key rest
-    ≡ without_node values begin c.number (first (numbers_of here.rest)) link (key_after 0 stands.behind) rest =
+    ≡ without_node values begin c.number (first_of (numbers_of here.rest)) link (key_after 0 stands.behind) rest =
     ap (λ i. without_node values begin i found.next link place.before.key rest) number
     ∙ ap (λ next. without_node values begin c.number next link place.before.key rest) here.next_is
     ∙ ap (λ last. without_node values begin c.number
-    (first (numbers_of here.rest)) link last rest) stands.last in
+    (first_of (numbers_of here.rest)) link last rest) stands.last in
     let now =
-    without_node values begin c.number (first (numbers_of here.rest)) link
+    without_node values begin c.number (first_of (numbers_of here.rest)) link
     (key_after 0 stands.behind) rest in
     let still =
     subst (λ k. IsList layout now (record store { keys = without_key k store.keys })) (sym here.key_is)

@@ -15,7 +15,7 @@ use Rattle.dstm_model.specs.Store.{Store}
 use Rattle.dstm_model.specs.Objects.{list_begin, node_object}
 use Rattle.dstm_model.proofs.Objects.{structure_objects-declared}
 use Rattle.dstm_list.specs.declared.node.Node.{Node}
-use Rattle.dstm_list.specs.List.{Cell, IsList, IsChain, IsOfList, numbers_of, first, node, key_of, next_of}
+use Rattle.dstm_list.specs.List.{Cell, IsList, IsChain, IsOfList, numbers_of, first_of, node, key_of, next_of}
 use Rattle.dstm_list.specs.Place.{Stands, IsPlace, IsFirst, AllLess, AllGreater, link_after, key_after}
 use Rattle.dstm_list.proofs.Keys.{Rise, Rise-of_increasing, Rise-after, Rise-next, AllGreater-of_Rise}
 use Rattle.dstm_list.proofs.Numbers.{IsNumber, within, each-left, each-right}
@@ -37,7 +37,7 @@ pub used_within : {layout : Layout} {values : List Val} {store : Store} (list : 
 used_within {layout} list =
     within layout.list (numbers_of list.cells ++ list.free) (IsPermutation-sym _ _ list.once)
 
-pub first_within : (n : ℕ) (is : List ℕ) → Each (IsNumber n) is → first is ≤ n
+pub first_within : (n : ℕ) (is : List ℕ) → Each (IsNumber n) is → first_of is ≤ n
 first_within n [] each = omega arith
 first_within n (i ∷ is) each = each.0.1
 
@@ -65,7 +65,7 @@ pub stands-start : {layout : Layout} {values : List Val} {store : Store} (key : 
     before.next ≡ next_of (value_at values (list_begin layout)) →
     Stands (list_begin layout) key (list_begin layout) before list.cells
 stands-start {layout} {values} key before valid declared list before_key before_next =
-    let low : (value_at values (list_begin layout)).low ≡ first (numbers_of list.cells) =
+    let low : (value_at values (list_begin layout)).low ≡ first_of (numbers_of list.cells) =
     ap (λ x. x.low) (list.head declared) in
     let small = first_within layout.list (numbers_of list.cells)
     (each-left (IsNumber layout.list) (numbers_of list.cells) list.free (used_within list)) in
@@ -94,15 +94,15 @@ pub record IsNext (cells : List Cell) (number : ℕ) (next : Node) : Type 0 wher
   pub cells_are : cells ≡ cell ∷ rest
   pub number_is : cell.number ≡ number
   pub key : cell.key ≡ next.key
-  pub next_is : next.next ≡ first (numbers_of rest)
+  pub next_is : next.next ≡ first_of (numbers_of rest)
 
 pub next_in : (n begin : ℕ) (values : List Val) (number : ℕ) (next : Node) (cells : List Cell) → n < 2048 →
-    number ≢ 0 → number ≡ first (numbers_of cells) → Each (IsNumber n) (numbers_of cells) →
+    number ≢ 0 → number ≡ first_of (numbers_of cells) → Each (IsNumber n) (numbers_of cells) →
     IsChain begin values cells → next.key ≡ key_of (value_at values (node_object begin number)) →
     next.next ≡ next_of (value_at values (node_object begin number)) → IsNext cells number next
 next_in n begin values number next [] small some is_first each chain next_key next_next = absurd (some is_first)
 next_in n begin values number next (c ∷ cs) small some is_first each chain next_key next_next =
-    let low : (value_at values (node_object begin number)).low ≡ (node c.key (first (numbers_of cs))).low =
+    let low : (value_at values (node_object begin number)).low ≡ (node c.key (first_of (numbers_of cs))).low =
     ap (λ x. x.low) (ap (λ i. value_at values (node_object begin i)) is_first ∙ chain.0) in
     let next_small = first_within n (numbers_of cs) each.1 in
     record {
@@ -201,7 +201,7 @@ place-passed {key = key} next list stands ahead greater =
     record { stands = stands; here = subst (AllGreater key) (sym ahead.cells_are) all }
 
 nothing : (n key : ℕ) (cells : List Cell) → Each (IsNumber n) (numbers_of cells) →
-    first (numbers_of cells) ≡ 0 →
+    first_of (numbers_of cells) ≡ 0 →
     AllGreater key cells
 nothing n key [] each none = tt
 nothing n key (c ∷ cs) each none = absurd (omega (arith, each.0.0, none))

@@ -33,22 +33,22 @@ abbrev pub keys_of : List Cell → List ℕ
 keys_of cells = map (λ c. c.key) cells
 
 -- the first of some numbers, 0 where there is none
-abbrev pub first : List ℕ → ℕ
-first [] = 0
-first (i ∷ is) = i
+abbrev pub first_of : List ℕ → ℕ
+first_of [] = 0
+first_of (i ∷ is) = i
 
 -- each node of the list holds its key and the number of the next one
 abbrev pub IsChain : ℕ → List Val → List Cell → Type 0
 IsChain begin values [] = Unit {0}
 IsChain begin values (c ∷ cs) =
-    (value_at values (node_object begin c.number) ≡ node c.key (first (numbers_of cs)))
+    (value_at values (node_object begin c.number) ≡ node c.key (first_of (numbers_of cs)))
     × IsChain begin values cs
 
 -- each free node holds the number of the next one
 abbrev pub IsFreeChain : ℕ → List Val → List ℕ → Type 0
 IsFreeChain begin values [] = Unit {0}
 IsFreeChain begin values (i ∷ is) =
-    (value_at values (node_object begin i) ≡ plain (first is)) × IsFreeChain begin values is
+    (value_at values (node_object begin i) ≡ plain (first_of is)) × IsFreeChain begin values is
 
 -- the numbers of n nodes
 abbrev pub nodes_to : ℕ → List ℕ
@@ -64,9 +64,9 @@ pub record IsList (layout : Layout) (values : List Val) (store : Store) : Type 0
   pub capacity : store.layout.list ≡ layout.list
   pub keys : store.keys ≡ keys_of cells
   pub rising : IsStrictlyIncreasing store.keys
-  pub head : 0 < layout.list → value_at values (list_begin layout) ≡ plain (first (numbers_of cells))
+  pub head : 0 < layout.list → value_at values (list_begin layout) ≡ plain (first_of (numbers_of cells))
   pub chain : IsChain (list_begin layout) values cells
-  pub free_head : 0 < layout.list → value_at values (free_object (list_begin layout)) ≡ plain (first free)
+  pub free_head : 0 < layout.list → value_at values (free_object (list_begin layout)) ≡ plain (first_of free)
   pub free_chain : IsFreeChain (list_begin layout) values free
   pub once : IsPermutation (numbers_of cells ++ free) (nodes_to layout.list)
 

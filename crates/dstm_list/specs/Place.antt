@@ -3,7 +3,7 @@ use Rattle.std.specs.Prelude.{◌≡◌, ℕ, ◌<◌, List, [], ◌∷◌, ◌+
 use Rattle.dstm_model.specs.Objects.{node_object}
 use Rattle.dstm_list.specs.declared.node.Node.{Node}
 use Rattle.dstm_list.specs.declared.walk.Place.{Place}
-use Rattle.dstm_list.specs.List.{Cell, numbers_of, first}
+use Rattle.dstm_list.specs.List.{Cell, numbers_of, first_of}
 
 -- the object that links to what comes after these cells: that of the last one, or the given one where
 -- there is none
@@ -33,13 +33,13 @@ pub record Stands (begin key object : ℕ) (before : Node) (cells : List Cell) :
   pub lesser : AllLess key behind
   pub link : object ≡ link_after begin begin behind
   pub last : before.key ≡ key_after 0 behind
-  pub next : before.next ≡ first (numbers_of ahead)
+  pub next : before.next ≡ first_of (numbers_of ahead)
 
 -- the key is in the first cell, whose node this is, or it is in none and all keys are greater
 abbrev pub IsFirst : ℕ → Option Node → List Cell → Type 0
 IsFirst key None cells = AllGreater key cells
 IsFirst key (Some node) [] = ⊥
-IsFirst key (Some node) (c ∷ cs) = (c.key ≡ key) × (node.next ≡ first (numbers_of cs))
+IsFirst key (Some node) (c ∷ cs) = (c.key ≡ key) × (node.next ≡ first_of (numbers_of cs))
 
 -- the place of a key among the cells
 pub record IsPlace (begin key : ℕ) (place : Place) (cells : List Cell) : Type 0 where

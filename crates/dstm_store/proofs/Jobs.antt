@@ -12,15 +12,15 @@ use Rattle.dstm_store.specs.Whole.{StandsFor}
 use Rattle.dstm_store.specs.Job.{DoesAll}
 
 -- the first i operations of a task
-abbrev pub first : ℕ → JobTask → JobTask
-first i task = record { layout = task.layout; ops = take i task.ops }
+abbrev pub up_to : ℕ → JobTask → JobTask
+up_to i task = record { layout = task.layout; ops = take i task.ops }
 
 -- one operation more
 pub does-more : (task : JobTask) (i : ℕ) (d : Op) (start before after : List Val) (replies : List Reply)
     (reply : Reply) →
-    i < length task.ops → DoesAll (first i task) start before replies →
+    i < length task.ops → DoesAll (up_to i task) start before replies →
     Does (StandsFor task.layout) (get_or task.ops i d) before after reply →
-    DoesAll (first (i + 1) task) start after (replies ++ reply ∷ [])
+    DoesAll (up_to (i + 1) task) start after (replies ++ reply ∷ [])
 does-more task i d start before after replies reply below so_far does store stands =
     let one = get_or task.ops i d in
     let old = so_far store stands in
@@ -35,7 +35,7 @@ does-more task i d start before after replies reply below so_far does store stan
     )
 
 pub does-all : (task : JobTask) (i : ℕ) (start after : List Val) (replies : List Reply) → length task.ops ≤ i →
-    DoesAll (first i task) start after replies → DoesAll task start after replies
+    DoesAll (up_to i task) start after replies → DoesAll task start after replies
 does-all task i start after replies whole done store stands =
     let d = done store stands in
     let all = take_all i task.ops whole in (

@@ -16,7 +16,7 @@ use Rattle.dstm_mem.proofs.WithSet.{length-with_set, value_at-same_set}
 use Rattle.dstm_list.specs.List.{IsList, SameOutside}
 use Rattle.dstm_list.proofs.Lists.{list-kept}
 use Rattle.dstm_tree.specs.Objects.{root_of, free_of, object_of, IsTree}
-use Rattle.dstm_tree.proofs.Kept.{Holds-kept, IsChain-kept}
+use Rattle.dstm_tree.proofs.Kept.{Holds-kept, IsFreeChain-kept}
 use Rattle.dstm_store.specs.Whole.{StandsFor, IsLawful}
 
 -- ---- what an operation on one structure leaves of the store
@@ -127,7 +127,7 @@ tree-kept layout map after store other t layouts items same = record {
   root = same (root_of layout) (omega arith) ∙ t.root;
   unused = same (free_of layout) (omega arith) ∙ t.unused;
   nodes = Holds-kept layout map after t.tree (λ i _ _ _. same (object_of layout i) (omega arith)) t.nodes;
-  chain = IsChain-kept layout map after t.free (λ i _ _ _. same (object_of layout i) (omega arith)) t.chain;
+  chain = IsFreeChain-kept layout map after t.free (λ i _ _ _. same (object_of layout i) (omega arith)) t.chain;
   once = t.once;
   red_black = t.red_black;
   items = items ∙ t.items;

@@ -10,7 +10,7 @@ use Rattle.dstm_model.specs.Map.{value_at, no_value}
 use Rattle.dstm_model.specs.Store.{Store}
 use Rattle.dstm_model.specs.Objects.{IsBank, list_begin, node_object}
 use Rattle.dstm_list.specs.declared.node.Node.{Node}
-use Rattle.dstm_list.specs.List.{Cell, IsList, IsChain, numbers_of, keys_of, first, key_of, next_of}
+use Rattle.dstm_list.specs.List.{Cell, IsList, IsChain, numbers_of, keys_of, first_of, key_of, next_of}
 use Rattle.dstm_list.proofs.Numbers.{IsNumber, each-left}
 use Rattle.dstm_list.proofs.Steps.{used_within, first_within, next_in}
 use Rattle.dstm_list.proofs.Operations.{none_free}
@@ -38,7 +38,7 @@ balances-read layout values store within bank =
 pub record Walk (begin n : ℕ) (values : List Val) (keys : List ℕ) (at i : ℕ) (cells : List Cell) : Type 0 where
   pub ahead : List Cell
   pub keys_are : keys_of cells ≡ keys ++ keys_of ahead
-  pub next : at ≡ first (numbers_of ahead)
+  pub next : at ≡ first_of (numbers_of ahead)
   pub chain : IsChain begin values ahead
   pub within : Each (IsNumber n) (numbers_of ahead)
   pub left : i + length ahead ≤ n

@@ -10,7 +10,7 @@ use Rattle.dstm_model.specs.Map.{value_at, no_value}
 use Rattle.dstm_model.specs.Objects.{objects_of}
 use Rattle.dstm_model.proofs.Objects.{structure_objects-declared}
 use Rattle.dstm_tree.specs.Tree.{Tree, leaf, node, count_of}
-use Rattle.dstm_tree.specs.Objects.{root_of, free_of, object_of, node_value, Holds, IsChain}
+use Rattle.dstm_tree.specs.Objects.{root_of, free_of, object_of, node_value, Holds, IsFreeChain}
 use Rattle.dstm_tree.specs.Node.{HasTree}
 use Rattle.dstm_tree.specs.Place.{free_count, IsFree, Keeps}
 
@@ -43,16 +43,16 @@ Holds-kept layout before after (node n red l k v r) same nodes =
       Holds-kept layout before after r (λ i least most some. same i least most (omega (arith, some))) nodes.4,
     )
 
-pub IsChain-kept : (layout : Layout) (before after : List Val) (free : List ℕ) →
+pub IsFreeChain-kept : (layout : Layout) (before after : List Val) (free : List ℕ) →
     ((i : ℕ) → 0 < i → i ≤ layout.tree → 0 < free_count i free →
     value_at after (object_of layout i) ≡ value_at before (object_of layout i)) →
-    IsChain layout before free → IsChain layout after free
-IsChain-kept layout before after [] same chain = tt
-IsChain-kept layout before after (n ∷ free) same chain = (
+    IsFreeChain layout before free → IsFreeChain layout after free
+IsFreeChain-kept layout before after [] same chain = tt
+IsFreeChain-kept layout before after (n ∷ free) same chain = (
   chain.0,
   chain.1,
   same n chain.0 chain.1 (omega (arith, free_count-first n n free, mark-self n)) ∙ chain.2,
-  IsChain-kept layout before after free
+  IsFreeChain-kept layout before after free
       (λ i least most some. same i least most (omega (arith, some, free_count-first i n free))) chain.3,
 )
 
@@ -115,7 +115,7 @@ pub IsFree-written : (layout : Layout) (before after : List Val) (x : ℕ) (vx :
     IsFree layout before free → IsFree layout after free
 IsFree-written layout before after x vx y vy free w some_x some_y once h = record {
   unused = w.others (free_of layout) (λ e. omega (arith, e, some_x)) (λ e. omega (arith, e, some_y)) ∙ h.unused;
-  chain = IsChain-kept layout before after free
+  chain = IsFreeChain-kept layout before after free
       (λ i least most some. w.others (object_of layout i)
       (object_apart layout i x (unmarked x i (omega (arith, once i least most, some))))
       (object_apart layout i y (unmarked y i (omega (arith, once i least most, some))))) h.chain;

@@ -11,7 +11,7 @@ use Rattle.dstm_tree.specs.Tree.{leaf}
 use Rattle.dstm_tree.specs.Objects.{root_of, free_of, object_of, first_of}
 use Rattle.dstm_tree.specs.Node.{HasTree}
 use Rattle.dstm_tree.specs.Place.{Request, IsFree, IsTaken, IsFull, AddsRoot}
-use Rattle.dstm_tree.proofs.Kept.{mark, free_count-first, IsChain-kept}
+use Rattle.dstm_tree.proofs.Kept.{mark, free_count-first, IsFreeChain-kept}
 
 low_of : (v : Val) (n : ℕ) → v ≡ plain n → v.low ≡ n
 low_of v n e = ap (λ (x : Val). x.low) e
@@ -67,7 +67,7 @@ leaf-root layout q low high before after (i ∷ rest) x has size at_least below 
         chain = record {
           unused = ap (λ m. value_at m free_word) t.1 ∙ get_or-set_same before free_word (plain (first_of rest))
               no_value within;
-          chain = IsChain-kept layout before after rest (λ n least most some_n. other (object_of layout n)
+          chain = IsFreeChain-kept layout before after rest (λ n least most some_n. other (object_of layout n)
               (λ e. omega (arith, e, least))) h.chain.3;
         };
       };

@@ -9,7 +9,7 @@ use Rattle.dstm_model.specs.Map.{value_at}
 use Rattle.dstm_model.specs.Objects.{plain}
 use Rattle.dstm_model.specs.Store.{Store}
 use Rattle.dstm_tree.specs.Tree.{leaf}
-use Rattle.dstm_tree.specs.Objects.{root_of, free_of, object_of, first_of, IsChain, IsTree}
+use Rattle.dstm_tree.specs.Objects.{root_of, free_of, object_of, first_of, IsFreeChain, IsTree}
 use Rattle.dstm_tree.specs.Place.{free_count}
 use Rattle.dstm_tree.proofs.Kept.{mark, free_count-first}
 
@@ -39,7 +39,7 @@ first_is k (suc n) all total = sym (next-more all k (λ e. omega (arith, e, tota
 
 chain : (layout : Layout) (map : List Val) → ((i : ℕ) → 0 < i → i ≤ layout.tree →
     value_at map (object_of layout i) ≡ plain (next_of layout.tree i)) →
-    (k n : ℕ) → 0 < k → k + n ≡ layout.tree + 1 → IsChain layout map (numbers k n)
+    (k n : ℕ) → 0 < k → k + n ≡ layout.tree + 1 → IsFreeChain layout map (numbers k n)
 unfolding numbers
 chain layout map nodes k zero some total = tt
 chain layout map nodes k (suc n) some total =

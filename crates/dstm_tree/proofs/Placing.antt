@@ -19,7 +19,7 @@ use Rattle.dstm_tree.specs.Place.{AttachesRight}
 use Rattle.dstm_tree.proofs.Items.{value_of-here, with_item-here}
 use Rattle.dstm_tree.proofs.Nodes.{Rooted, number_le}
 use Rattle.dstm_tree.proofs.Search.{left_of, right_of, read_root, depth_of}
-use Rattle.dstm_tree.proofs.Kept.{mark, unmarked, Holds-kept, IsChain-kept, node_value-same, object_within}
+use Rattle.dstm_tree.proofs.Kept.{mark, unmarked, Holds-kept, IsFreeChain-kept, node_value-same, object_within}
 
 -- ---- where the search goes on
 
@@ -211,7 +211,7 @@ place-replaced layout q at depth x before mid after has size in_x read some same
         nodes = λ i least most none. other_node i (omega (arith, none));
         chain = record {
           unused = other (free_of layout) (λ e. omega (arith, e, r.nodes.0)) ∙ h.is_free.unused;
-          chain = IsChain-kept layout before after h.free
+          chain = IsFreeChain-kept layout before after h.free
               (λ i least most some_i. other_node i (omega (arith, once i least most, some_i))) h.is_free.chain;
         };
       };

@@ -7,7 +7,7 @@ use Rattle.std.proofs.lemmas.List.Sums.{sum_by-cons}
 use Rattle.dstm_model.specs.declared.value.Val.{Val}
 use Rattle.dstm_model.specs.declared.layout.Layout.{Layout}
 use Rattle.dstm_tree.specs.Tree.{Tree, leaf, node, items_of, count_of}
-use Rattle.dstm_tree.specs.Objects.{Holds, IsChain}
+use Rattle.dstm_tree.specs.Objects.{Holds, IsFreeChain}
 
 -- f 1 + .. + f n
 total : ℕ → (ℕ → ℕ) → ℕ
@@ -70,7 +70,7 @@ total-tree layout map (node n red l k v r) nodes =
     let inner = total-add size (λ i. cond (n == i) 1 0) (λ i. count_of i l) in
     omega (arith, root, left, right, outer, inner, length-append (items_of l) ((k, v) ∷ items_of r))
 
-total-chain : (layout : Layout) (map : List Val) (free : List ℕ) → IsChain layout map free →
+total-chain : (layout : Layout) (map : List Val) (free : List ℕ) → IsFreeChain layout map free →
     total layout.tree (λ i. count_by (λ j. j == i) free) ≡ length free
 total-chain layout map [] chain = total-none layout.tree
 total-chain layout map (n ∷ free) chain =
@@ -83,7 +83,7 @@ total-chain layout map (n ∷ free) chain =
     omega (arith, first, rest, split, total-add size (λ i. cond (n == i) 1 0) (λ i. count_by (λ j. j == i) free))
 
 pub size_all : (layout : Layout) (map : List Val) (t : Tree) (free : List ℕ) → Holds layout map t →
-    IsChain layout map free →
+    IsFreeChain layout map free →
     ((i : ℕ) → 0 < i → i ≤ layout.tree → count_of i t + count_by (λ j. j == i) free ≡ 1) →
     length (items_of t) + length free ≡ layout.tree
 size_all layout map t free nodes chain once =

@@ -18,7 +18,7 @@ use Rattle.dstm_tree.specs.Objects.{root_of, free_of, object_of, IsTree}
 use Rattle.dstm_tree.specs.Node.{HasTree, Subtree}
 use Rattle.dstm_tree.specs.Remove.{Removes, RemovesIf}
 use Rattle.dstm_tree.proofs.Search.{all_of}
-use Rattle.dstm_tree.proofs.Kept.{mark, unmarked, free_count-first, Holds-kept, IsChain-kept, object_within}
+use Rattle.dstm_tree.proofs.Kept.{mark, unmarked, free_count-first, Holds-kept, IsFreeChain-kept, object_within}
 use Rattle.dstm_tree.proofs.Attach.{not_red}
 use Rattle.dstm_tree.proofs.Whole.{missed, missed_too}
 use Rattle.dstm_tree.proofs.Removing.{RemovesOf}
@@ -98,7 +98,7 @@ whole-removed layout key before mid two after store t removed root has size root
             ∙ ap (λ m. value_at m on) is_two ∙ get_or-set_other one of on (plain n) no_value
             (λ e. omega (arith, e, h.number))
             ∙ get_or-set_same mid on head no_value within_n ∙ b.keeps.free ∙ t.unused,
-        IsChain-kept layout before after t.free
+        IsFreeChain-kept layout before after t.free
             (λ i least most some. other_node i least (omega (arith, counts i, t.once i least most, some))
             ∙ b.keeps.nodes i least most (omega (arith, t.once i least most, some))) t.chain,
       );

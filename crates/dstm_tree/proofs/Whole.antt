@@ -21,12 +21,12 @@ use Rattle.dstm_tree.specs.Tree.{Tree, number_of, is_red, items_of, count_of, Is
 use Rattle.dstm_tree.specs.Objects.{root_of, free_of, object_of, Holds, IsTree}
 use Rattle.dstm_tree.specs.Node.{HasTree, val_of}
 use Rattle.dstm_tree.specs.Place.{Request, free_count, IsFree, CanPlace, IsFull, Replaces, AddsBelow, AddsRoot}
-use Rattle.dstm_tree.specs.Place.{AddsPair, IsPlaced, place, black_tree}
+use Rattle.dstm_tree.specs.Place.{AddsPair, IsPlaced, placing, black_tree}
 use Rattle.dstm_tree.proofs.Placing.{Places}
 use Rattle.dstm_tree.proofs.Attach.{not_red}
 use Rattle.dstm_tree.proofs.Sizes.{size_all}
 use Rattle.dstm_tree.proofs.Search.{all_of}
-use Rattle.dstm_tree.proofs.Kept.{mark, unmarked, Holds-kept, IsChain-kept, node_value-same, object_within}
+use Rattle.dstm_tree.proofs.Kept.{mark, unmarked, Holds-kept, IsFreeChain-kept, node_value-same, object_within}
 
 unfoldable pub can_place : (layout : Layout) (map : List Val) (store : Store) (t : IsTree layout map store) (key : ℕ) →
     key < KEY_LIMIT →
@@ -72,7 +72,7 @@ length-with_item key value (e ∷ es) absent =
 
 -- what placing does to the store, where the key is there, where it is absent, and where there is no room
 place-there : (q : Request) (store : Store) → IsSome (value_of q.key store.items) →
-    place q store ≡ record {
+    placing q store ≡ record {
       reply = reply.No;
       store = record store { items = if q.replaces then with_item q.key q.value store.items else store.items };
     }
@@ -80,20 +80,20 @@ place-there q store there = rw there refl
 
 place-full : (q : Request) (store : Store) → value_of q.key store.items ≡ None →
     length store.items ≡ store.layout.tree →
-    place q store ≡ record { reply = reply.Full; store = store }
+    placing q store ≡ record { reply = reply.Full; store = store }
 place-full q store absent full = rw (absent, eq-eqb (length store.items) store.layout.tree full) refl
 
 place-absent : (q : Request) (store : Store) → value_of q.key store.items ≡ None →
     (length store.items ≡ store.layout.tree → ⊥) →
-    place q store ≡ record { reply = reply.Yes; store = record store { items = with_item q.key q.value store.items } }
+    placing q store ≡ record { reply = reply.Yes; store = record store { items = with_item q.key q.value store.items } }
 place-absent q store absent room = rw (absent, ne_eqb (length store.items) store.layout.tree room) refl
 
 -- ---- the map after
 
 pub whole-full : (layout : Layout) (q : Request) (before after : List Val) (store : Store)
     (t : IsTree layout before store) →
-    IsFull q t.tree t.free before after → (reply.Full ≡ (place q store).reply) ×
-    IsTree layout after (place q store).store
+    IsFull q t.tree t.free before after → (reply.Full ≡ (placing q store).reply) ×
+    IsTree layout after (placing q store).store
 whole-full layout q before after store t h =
     let size = size_all layout before t.tree t.free t.nodes t.chain t.once in
     let full : length store.items ≡ store.layout.tree = omega (
@@ -109,8 +109,8 @@ whole-full layout q before after store t h =
 
 pub whole-found : (layout : Layout) (q : Request) (before after : List Val) (store : Store)
     (t : IsTree layout before store) →
-    Replaces layout q 0 KEY_LIMIT t.tree t.free before after → (reply.No ≡ (place q store).reply) ×
-    IsTree layout after (place q store).store
+    Replaces layout q 0 KEY_LIMIT t.tree t.free before after → (reply.No ≡ (placing q store).reply) ×
+    IsTree layout after (placing q store).store
 whole-found layout q before after store t h =
     let with = with_item q.key q.value in
     let is : IsTree layout after (record store { items = if q.replaces then with store.items else store.items }) =
@@ -137,7 +137,7 @@ grown_tree : (layout : Layout) (q : Request) (before after : List Val) (store : 
     ((i : ℕ) → count_of i u + free_count i rest ≡ count_of i t.tree + free_count i t.free) → IsOrdered 0 KEY_LIMIT u →
     is_red u ≡ false → IsBalanced u → value_at after (root_of layout) ≡ plain (number_of u) → Holds layout after u →
     IsFree layout after rest →
-    (reply.Yes ≡ (place q store).reply) × IsTree layout after (place q store).store
+    (reply.Yes ≡ (placing q store).reply) × IsTree layout after (placing q store).store
 grown_tree layout q before after store t u rest absent items counts order black balanced root nodes chain =
     let once : (i : ℕ) → 0 < i → i ≤ layout.tree → count_of i u + free_count i rest ≡ 1 =
     λ i least most. counts i ∙ t.once i least most in
@@ -162,8 +162,8 @@ grown_tree layout q before after store t u rest absent items counts order black 
 
 pub whole-added : (layout : Layout) (q : Request) (before after : List Val) (store : Store)
     (t : IsTree layout before store) →
-    AddsBelow layout q 0 KEY_LIMIT t.tree t.free before after → (reply.Yes ≡ (place q store).reply) ×
-    IsTree layout after (place q store).store
+    AddsBelow layout q 0 KEY_LIMIT t.tree t.free before after → (reply.Yes ≡ (placing q store).reply) ×
+    IsTree layout after (placing q store).store
 whole-added layout q before after store t h =
     grown_tree layout q before after store t h.tree h.rest h.grows.absent h.grows.items h.grows.counts h.grows.order
     (not_red h.tree t.tree h.colour t.red_black.black) h.balanced (h.keeps.root ∙ t.root ∙ ap plain (sym h.root))
@@ -175,7 +175,7 @@ pub whole-root : (layout : Layout) (q : Request) (before mid after : List Val) (
     length mid ≡ objects_of layout → x.number ≤ layout.tree → AddsRoot layout q 0 KEY_LIMIT t.tree t.free before mid x →
     after ≡ slice_set (slice_set mid (object_of layout x.number) (val_of (record x { red = false }))) (root_of layout)
     (plain x.number) →
-    (reply.Yes ≡ (place q store).reply) × IsTree layout after (place q store).store
+    (reply.Yes ≡ (placing q store).reply) × IsTree layout after (placing q store).store
 whole-root layout q before mid after store t x has size in_x h is =
     let u = black_tree x h.left h.right in
     let ox = object_of layout x.number in
@@ -211,7 +211,7 @@ whole-root layout q before mid after store t x has size in_x h is =
     )
     record {
       unused = other (free_of layout) (λ e. omega (arith, e, h.number)) (λ e. omega (arith, e)) ∙ h.keeps.chain.unused;
-      chain = IsChain-kept layout mid after h.rest (λ i least most some. other_node i
+      chain = IsFreeChain-kept layout mid after h.rest (λ i least most some. other_node i
           (omega (arith, once i least most, some))) h.keeps.chain.chain;
     }
 

@@ -36,10 +36,10 @@ first_of [] = 0
 first_of (i ∷ is) = i
 
 -- each of these free nodes is one of the layout's, and its object names the next
-abbrev pub IsChain : Layout → List Val → List ℕ → Type 0
-IsChain layout map [] = Unit {0}
-IsChain layout map (i ∷ is) =
-    (0 < i) × (i ≤ layout.tree) × (value_at map (object_of layout i) ≡ plain (first_of is)) × IsChain layout map is
+abbrev pub IsFreeChain : Layout → List Val → List ℕ → Type 0
+IsFreeChain layout map [] = Unit {0}
+IsFreeChain layout map (i ∷ is) =
+    (0 < i) × (i ≤ layout.tree) × (value_at map (object_of layout i) ≡ plain (first_of is)) × IsFreeChain layout map is
 
 -- the tree's objects hold a red-black tree of the store's items, and every other node is free, once
 pub record IsTree (layout : Layout) (map : List Val) (store : Store) : Type 0 where
@@ -48,7 +48,7 @@ pub record IsTree (layout : Layout) (map : List Val) (store : Store) : Type 0 wh
   pub root : value_at map (root_of layout) ≡ plain (number_of tree)
   pub unused : value_at map (free_of layout) ≡ plain (first_of free)
   pub nodes : Holds layout map tree
-  pub chain : IsChain layout map free
+  pub chain : IsFreeChain layout map free
   pub once : (i : ℕ) → 0 < i → i ≤ layout.tree → count_of i tree + count_by (λ j. j == i) free ≡ 1
   pub red_black : IsRedBlack KEY_LIMIT tree
   pub items : store.items ≡ items_of tree

@@ -13,7 +13,7 @@ use Rattle.dstm_tree.specs.declared.place.Placed.{Placed}
 use Rattle.dstm_tree.specs.declared.place.Placed.TheVariants.{Full, Found, Added, Root, Pair}
 use Rattle.dstm_tree.specs.Tree.{Tree, leaf, node, number_of, is_red, items_of, count_of, black_height, IsOrdered}
 use Rattle.dstm_tree.specs.Tree.{IsBalanced}
-use Rattle.dstm_tree.specs.Objects.{root_of, free_of, object_of, Holds, first_of, IsChain, IsTree}
+use Rattle.dstm_tree.specs.Objects.{root_of, free_of, object_of, Holds, first_of, IsFreeChain, IsTree}
 use Rattle.dstm_tree.specs.Node.{FitsNode, Subtree, tree_of}
 
 -- a key with a value, which may replace the one that is there
@@ -23,8 +23,8 @@ pub record Request : Type 0 where
   pub replaces : Bool
 
 -- what placing a key answers, and the store after it
-abbrev pub place : Request → Store → Outcome
-place q store =
+abbrev pub placing : Request → Store → Outcome
+placing q store =
     if is_some (value_of q.key store.items)
     then answer reply.No
     (record store { items = if q.replaces then with_item q.key q.value store.items else store.items })
@@ -38,7 +38,7 @@ free_count i free = count_by (λ j. j == i) free
 -- these are the free nodes
 pub record IsFree (layout : Layout) (map : List Val) (free : List ℕ) : Type 0 where
   pub unused : value_at map (free_of layout) ≡ plain (first_of free)
-  pub chain : IsChain layout map free
+  pub chain : IsFreeChain layout map free
 
 -- the first free node was taken off the chain; 0 where there is none
 abbrev pub IsTaken : Layout → List Val → List Val → List ℕ → ℕ → Type 0
@@ -216,4 +216,4 @@ PlacesLeaf layout key value before after placed =
 abbrev pub Answers : Layout → Request → List Val → List Val → Reply → Type 0
 Answers layout q before after r =
     (store : Store) → IsTree layout before store →
-    (r ≡ (place q store).reply) × IsTree layout after (place q store).store
+    (r ≡ (placing q store).reply) × IsTree layout after (placing q store).store

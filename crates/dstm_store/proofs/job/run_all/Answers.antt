@@ -10,7 +10,7 @@ use Rattle.dstm_model.specs.declared.op.Op.TheVariants.{Transfer, Total}
 use Rattle.dstm_model.specs.Objects.{Does}
 use Rattle.dstm_store.specs.Whole.{StandsFor}
 use Rattle.dstm_store.specs.Job.{DoesAll}
-use Rattle.dstm_store.proofs.Jobs.{first, does-more, does-all}
+use Rattle.dstm_store.proofs.Jobs.{up_to, does-more, does-all}
 use Rattle.dstm_store.proofs.job.run_all.Goals as goal
 
 pub loop-op-preserved : goal.loop-op-preserved
@@ -35,7 +35,7 @@ loop-op-preserved g c =
           let does = subst (λ (ops : List Op). Does (StandsFor task.layout) (get_or ops i some_op)
           before after reply)
           c.as_slice-op-items.ensures.value (ran.does map admitted) in
-          subst (λ (rs : List Reply). DoesAll (first (i + 1) task) start after rs) (sym c.push.ensures)
+          subst (λ (rs : List Reply). DoesAll (up_to (i + 1) task) start after rs) (sym c.push.ensures)
           (does-more task i some_op start before after c.loop-op.replies reply below
           (so_far.done map (ran.leads.narrows map admitted)) does);
       audits = λ has a within.

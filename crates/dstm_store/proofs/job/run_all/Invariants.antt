@@ -6,7 +6,7 @@ use Rattle.dstm_mem.specs.Memory.{with_set}
 use Rattle.dstm_mem.specs.Operations.{Leads}
 use Rattle.dstm_store.specs.Whole.{IsLawful}
 use Rattle.dstm_store.specs.Job.{DoesAll}
-use Rattle.dstm_store.proofs.Jobs.{first}
+use Rattle.dstm_store.proofs.Jobs.{up_to}
 use Rattle.dstm_store.proofs.job.run_all.Given as goal
 
 -- the replies so far are those of the operations so far, on each map that is still admitted
@@ -17,7 +17,7 @@ invariant-loop-op g l = record {
   lawful : (map : List Val) → g.M.Mem.Admits l.mem map →
       IsLawful l.fn.task.layout (with_set map (g.M.Mem.written l.mem));
   done : (map : List Val) → g.M.Mem.Admits l.mem map →
-      DoesAll (first l.op-index l.fn.task) (with_set map (g.M.Mem.written l.fn.mem))
+      DoesAll (up_to l.op-index l.fn.task) (with_set map (g.M.Mem.written l.fn.mem))
       (with_set map (g.M.Mem.written l.mem)) l.replies;
   audits : Contains (take l.op-index l.fn.task.ops) Total → (a : ℕ) → a < l.fn.task.layout.accounts →
       IsSome (g.M.Mem.held l.mem a);
