@@ -24,6 +24,7 @@ pub trait InCall {
 }
 
 /// The steps of a caller, and what its present call has behind it.
+#[derive(Drop)]
 pub struct Steps<L: Law> {
     pub seat: CoreSeat<L>,
     pub shape: Shape,

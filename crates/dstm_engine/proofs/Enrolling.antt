@@ -1,0 +1,129 @@
+-- A caller that was made.
+use Rattle.std.proofs.Common.{◌++◌, ◌<◌, ◌==◌, ◌∙◌, ◌∷◌, ◌≡◌, List, [], ◌+◌, ap, refl, subst, sym, ℕ}
+use Rattle.std.specs.Prelude.{Option, Some, IfSome}
+use Rattle.std.proofs.lemmas.Bool.{eq-eqb}
+use Rattle.std.proofs.lemmas.List.Elements.{filter-append}
+use Rattle.rand_pcg.specs.Lcg.{Lcg}
+use Rattle.dstm_model.specs.declared.value.Val.{Val}
+use Rattle.dstm_core.specs.Runs.{core, local}
+use Rattle.dstm_runs.proofs.Runs.{local-events_of}
+use Rattle.dstm_core.specs.State.{LocalState, first}
+use Rattle.dstm_core.specs.Traces.{events_of}
+use Rattle.dstm_runs.specs.Traces.Access.{Add}
+use Rattle.dstm_core.specs.Events.{Event}
+use Rattle.dstm_core.specs.declared.event.Kind.TheVariants.{Enrol}
+use Rattle.dstm_core.specs.declared.shape.Shape.{Shape}
+use Rattle.dstm_order.specs.Calls.{IsCall}
+use Rattle.dstm_order.specs.Tasks.Task.{Enrolling}
+use Rattle.dstm_words.specs.declared.view.Terms.{Terms}
+use Rattle.dstm_words.specs.declared.view.View.{View}
+use Rattle.dstm_words.specs.Steps.{IsRunOf, Makes, made}
+use Rattle.dstm_words.specs.Views.{given_part, kept_part}
+use Rattle.dstm_engine.specs.Callers.{Called}
+use Rattle.atomic_table.specs.Seated.{TableId}
+use Rattle.atomic_table.specs.declared.shared.Seat.{Seat}
+use Rattle.dstm_core.specs.declared.shape.Manager.{Manager}
+use Rattle.dstm_managers.specs.Choices.{started}
+use Rattle.dstm_words.specs.Seats.{Home}
+use Rattle.dstm_engine.specs.Enrolled.{enrolled_as}
+use Rattle.dstm_engine.specs.Tables.{Enrols, Founding, unnumbered}
+
+enrolling : (s : Shape) (l : LocalState) (gen : Lcg) (e : Event) → e.kind ≡ Enrol → l ≡ first →
+    IsCall Enrolling s l gen (e ∷ [])
+enrolling s l gen e k h =
+    subst (λ (l : LocalState). IsCall Enrolling s l gen (e ∷ [])) (sym h)
+    (record { obeys = (tt, (k, tt)); done = rw k refl })
+
+no_more : (c : ℕ) (xs ys : List Event) (e : Event) → e.caller ≡ c → events_of c (e ∷ (xs ++ ys)) ≡ e ∷ [] →
+    events_of c ys ≡ []
+no_more c xs ys e own h =
+    let all : e ∷ events_of c (xs ++ ys) ≡ e ∷ [] = rw (eq-eqb e.caller c own) at h in
+    let more : events_of c (xs ++ ys) ≡ [] = cc in
+    let parts : events_of c xs ++ events_of c ys ≡ [] =
+    sym (filter-append (λ (x : Event). x.caller == c) xs ys) ∙ more in
+    empty (events_of c xs) (events_of c ys) parts
+  where
+    empty : (us vs : List Event) → us ++ vs ≡ [] → vs ≡ []
+    empty [] vs q = q
+    empty (u ∷ us) vs q = absurd (cc)
+
+pub enrols : {L : Type 0} (holds : L → List Val → Type 0) (f g : Founding L) (seed found p : ℕ) (w : View L)
+    (k : Called L) →
+    f.view.terms ≡ Some f.home.terms → Makes holds (given_part f.view) Add Enrol p found w →
+    found < f.home.terms.shape.callers → k ≡ record (unnumbered f seed) { log = w.log; number = found } →
+    g ≡ record f { view = kept_part f.view; made = f.made + 1 } → Enrols holds f g seed k
+enrols {L = L} holds f g seed found p w k terms m few is now =
+    subst (λ (k : Called L). Enrols holds f g seed k) (sym is)
+    (record {
+      founder = now;
+      caller = refl;
+      number = few;
+      enrol = e;
+      log = m.log;
+      own = m.mine;
+      steps = record {
+        events = e ∷ [];
+        own = m.mine ∙ ap (λ xs. e ∷ xs) (sym none);
+        call = enrolling f.home.terms.shape (local f.home.terms.shape f.view.log found) _ e refl new;
+        answers = refl;
+        seen = record { later = e ∷ m.log.0; whole = sym m.log.1 };
+        run = subst (λ (o : Option (Terms L)). IfSome o (λ (t : Terms L). IsRunOf holds t w.log)) terms m.run;
+        generator = refl;
+        same = (refl, refl);
+      };
+    })
+  where
+    e : Event
+    e = made (given_part f.view) Add Enrol p found
+
+    none : events_of found f.view.log ≡ []
+    none = no_more found m.log.0 f.view.log (made (given_part f.view) Add Enrol p found) refl
+        (subst (λ xs. events_of found xs ≡ made (given_part f.view) Add Enrol p found ∷ []) m.log.1 m.mine)
+
+    new : local f.home.terms.shape f.view.log found ≡ first
+    new = sym (local-events_of core f.home.terms.shape f.view.log found)
+        ∙ ap (λ xs. local f.home.terms.shape xs found) none
+
+-- the founder after the split, and the caller, from what they are made of
+pub founder_is : {L : Type 0} (f : Founding L) (h : Home L) (table : TableId) (terms : Terms L) (old new : View L)
+    (made guests : ℕ) →
+    record { home = record { table = table; terms = terms }; view = old; made = made; guests = guests } ≡ f →
+    f.home ≡ h → (fresh_table : TableId) → fresh_table ≡ h.table → new ≡ kept_part old →
+    record { home = record { table = fresh_table; terms = terms }; view = new; made = made + 1; guests = guests }
+    ≡ record f { view = kept_part f.view; made = f.made + 1 }
+founder_is {L = L} f h table terms old new made guests is at fresh_table same kept =
+    let was : table ≡ h.table = ap (λ (x : Founding L). x.home.table) is ∙ ap (λ (x : Home L). x.table) at in
+    ap (λ t. record { home = record { table = t; terms = terms }; view = new; made = made + 1; guests = guests })
+    (same ∙ sym was)
+    ∙ ap (λ v. record { home = record { table = table; terms = terms }; view = v; made = made + 1; guests = guests })
+    kept
+    ∙ ap (λ (x : Founding L). record x { view = kept_part x.view; made = x.made + 1 }) is
+
+pub caller_is : {L : Type 0} (f : Founding L) (h : Home L) (seed found : ℕ) (seat : Seat ℕ (View L)) (terms : Terms L)
+    (manager : Manager) (k : Called L) → k ≡ enrolled_as terms seat found (started manager seed) → f.home ≡ h →
+    seat.table_id ≡ h.table → terms ≡ h.terms → manager ≡ h.terms.shape.manager →
+    k ≡ record (unnumbered f seed) { log = seat.me.0.log; number = found }
+caller_is {L = L} f h seed found seat terms manager k is at table told by =
+    is
+    ∙ ap (λ m. enrolled_as terms seat found (started m seed)) by
+    ∙ ap (λ t. record (enrolled_as terms seat found (started h.terms.shape.manager seed)) {
+      home = record { table = t; terms = terms };
+    }) table
+    ∙ ap (λ t. record (enrolled_as terms seat found (started h.terms.shape.manager seed)) {
+      home = record { table = h.table; terms = t };
+    }) told
+    ∙ ap (λ (x : Home L). record (enrolled_as terms seat found (started x.terms.shape.manager seed)) { home = x })
+    (sym at)
+
+-- the founder after a join
+pub keeps_rest : {L : Type 0} (f : Founding L) (h : Home L) (table : TableId) (terms : Terms L) (old new : View L)
+    (made guests : ℕ) →
+    record { home = record { table = table; terms = terms }; view = old; made = made; guests = guests } ≡ f →
+    f.home ≡ h → (later_table : TableId) → later_table ≡ h.table →
+    record { home = record { table = later_table; terms = terms }; view = new; made = made; guests = guests }
+    ≡ record f { view = new }
+keeps_rest {L = L} f h table terms old new made guests is at later_table same =
+    let was : table ≡ h.table = ap (λ (x : Founding L). x.home.table) is ∙ ap (λ (x : Home L). x.table) at in
+    ap (λ t. record { home = record { table = t; terms = terms }; view = new; made = made; guests = guests })
+    (same ∙ sym was)
+    ∙ ap (λ (x : Founding L). record x { view = new }) is

@@ -1,0 +1,129 @@
+-- The values that the words of a closed table tell.
+use Rattle.std.proofs.Common.{◌*◌, ◌+◌, ◌-◌, ◌<◌, ◌==◌, ◌∙◌, ◌≡◌, ◌≢◌, ◌^◌, ◌⊎◌, List, arith, inl, inr, refl, subst, sym, true, ℕ}
+use Rattle.std.specs.Prelude.{length, slice_index, slice_set}
+use Rattle.std.proofs.lemmas.Bool.{cases_eq, cond_both, eqb-false}
+use Rattle.std.proofs.lemmas.List.{ext_get_or, get_or-set_other, get_or-set_same}
+use Rattle.dstm_core.specs.Histories.{history_of}
+use Rattle.dstm_core.specs.Left.{value_left, version_left, word_left}
+use Rattle.dstm_core.specs.Traces.{word}
+use Rattle.dstm_core.specs.Words.{IsValid, place}
+use Rattle.dstm_core.specs.Words.Word.{OldWord, OwnerWord, StatusWord}
+use Rattle.dstm_core.specs.Events.{Event}
+use Rattle.dstm_core.specs.declared.shape.Shape.{Shape}
+use Rattle.dstm_core.proofs.Basic.{Names, basic}
+use Rattle.dstm_core.proofs.LeftWords.{left_is_current, place_in}
+use Rattle.dstm_core.proofs.Ranges.{old_names}
+use Rattle.dstm_model.specs.Map.{no_value, state_after, value_at}
+use Rattle.dstm_model.specs.declared.value.Val.{Val}
+use Rattle.dstm_opacity.proofs.Opacity.{state_is_current}
+use Rattle.dstm_opacity.specs.Laws.{IsCurrent}
+use Rattle.dstm_words.specs.Rule.{LeftBy}
+use Rattle.dstm_words.specs.Steps.{IsRunOf}
+use Rattle.dstm_words.specs.declared.view.Terms.{Terms}
+use Rattle.dstm_words.specs.declared.view.View.{View}
+use Rattle.dstm_engine.specs.Closing.{AreLeft, IsOwned, IsVersion}
+
+-- the locators and the attempts of a shape have small numbers
+pub small_locators : (shape : Shape) → IsValid shape → shape.callers * shape.locators < 2 ^ 32
+small_locators shape valid = let w = valid.words in omega arith
+
+named : (s : Shape) (log : List Event) (v : ℕ) → Names s log v → IsVersion s v
+named s log v (inl z) some = absurd (some z)
+named s log v (inr n) some = n.1.below
+
+module _ (s : Shape) (words : List ℕ) (l : AreLeft s words) where
+  object_names : (o : ℕ) → o < s.objects → Names s l.log (slice_index words o)
+  object_names o h =
+      subst (Names s l.log) (sym (l.left o (omega arith))) ((basic s l.log l.core).object o h)
+
+  -- an object's word stands for a version
+  pub object_is : (o : ℕ) → o < s.objects → IsVersion s (slice_index words o)
+  object_is o h = named s l.log (slice_index words o) (object_names o h)
+
+  owner_is : (v : ℕ) → Names s l.log v → IsOwned s words v
+  owner_is v (inl z) some = absurd (some z)
+  owner_is v (inr n) some =
+      subst (λ a. a < s.callers * s.attempts)
+      (sym (l.left (place s (OwnerWord (v - 1))) (place_in s (OwnerWord (v - 1)) n.1.below)))
+      ((basic s l.log l.core).owner (v - 1) n.1).begun.below
+
+  -- and its locator has an owner
+  pub object_owned : (o : ℕ) → o < s.objects → IsOwned s words (slice_index words o)
+  object_owned o h = owner_is (slice_index words o) (object_names o h)
+
+  old_is : (v : ℕ) → Names s l.log v → v ≢ 0 → IsVersion s (word_left s words (OldWord (v - 1)))
+  old_is v (inl z) some = absurd (some z)
+  old_is v (inr n) some =
+      subst (IsVersion s) (sym (l.left (place s (OldWord (v - 1))) (place_in s (OldWord (v - 1)) n.1.below)))
+      (named s l.log (word s l.log (OldWord (v - 1))) ((old_names s l.log l.core).word (v - 1) n.1.below))
+
+  -- the current version of an object is one
+  pub current_is : (o : ℕ) → o < s.objects → IsVersion s (version_left s words (slice_index words o))
+  current_is o h = of (slice_index words o) (object_names o h)
+    where
+      of : (v : ℕ) → Names s l.log v → IsVersion s (version_left s words v)
+      of v n =
+          cond_both (v == 0) _ _ (IsVersion s) (λ _ some. absurd (some refl))
+          (λ q. cond_both (word_left s words (StatusWord (word_left s words (OwnerWord (v - 1)))) == 4) _ _
+          (IsVersion s) (λ _. named s l.log v n) (λ _. old_is v n (eqb-false v 0 q)))
+
+-- one object more has its current value
+pub settled_more : (s : Shape) (start values : List Val) (words : List ℕ) (o : ℕ) (new : Val) → o < length values →
+    new ≡ value_left s start words o → ((k : ℕ) → k < o → value_at values k ≡ value_left s start words k) →
+    (k : ℕ) → k < o + 1 → value_at (slice_set values o new) k ≡ value_left s start words k
+settled_more s start values words o new below is settled k lt = by (cases_eq k o)
+  where
+    by : (k ≡ o) ⊎ (k ≡ o → ⊥) → value_at (slice_set values o new) k ≡ value_left s start words k
+    by (inl same) =
+        subst (λ n. value_at (slice_set values o new) n ≡ value_left s start words n) (sym same)
+        (get_or-set_same values o new no_value below ∙ is)
+    by (inr other) = get_or-set_other values o k new no_value other ∙ settled k (omega (arith, lt, other))
+
+-- maps with the current values are the same
+pub same_current : (s : Shape) (start : List Val) (log : List Event) (one other : List Val) →
+    IsCurrent s start log one → IsCurrent s start log other → one ≡ other
+same_current s start log one other a b =
+    ext_get_or no_value one other (a.objects ∙ sym b.objects)
+    (λ o within.
+    let h : o < s.objects = let q = a.objects in omega (arith, within) in a.values o h ∙ sym (b.values o h))
+
+-- the values have those of a table, by what the table was told
+pub told_by : (values : List Val) (s shape : Shape) (start first : List Val) (words found : List ℕ) → s ≡ shape →
+    start ≡ first → found ≡ words →
+    ((o : ℕ) → o < shape.objects → value_at values o ≡ value_left shape first found o) →
+    (o : ℕ) → o < s.objects → value_at values o ≡ value_left s start words o
+told_by values s shape start first words found is_shape is_start is_words told =
+    subst (λ (s : Shape). (o : ℕ) → o < s.objects → value_at values o ≡ value_left s start words o) (sym is_shape)
+    (subst (λ xs. (o : ℕ) → o < shape.objects → value_at values o ≡ value_left shape xs words o) (sym is_start)
+    (subst (λ xs. (o : ℕ) → o < shape.objects → value_at values o ≡ value_left shape first xs o) is_words told))
+
+module _ {L : Type 0} (holds : L → List Val → Type 0) (terms : Terms L) (v : View L) (words : List ℕ)
+    (l : LeftBy holds terms v words) (first : v.first ≡ true) (none_out : v.out ≡ 0) where
+  -- the log of a seat, where no other is out
+  pub last_run : IsRunOf holds terms v.log
+  last_run = subst (IsRunOf holds terms) (l.whole first none_out) l.run
+
+module _ {L : Type 0} (holds : L → List Val → Type 0) (terms : Terms L) (v : View L) (words : List ℕ)
+    (l : LeftBy holds terms v words) (first : v.first ≡ true) (none_out : v.out ≡ 0) (values : List Val)
+    (objects : length values ≡ terms.shape.objects)
+    (told : (o : ℕ) → o < terms.shape.objects →
+    value_at values o ≡ value_left terms.shape terms.start.value.items words o) where
+  in_table : IsCurrent terms.shape terms.start.value.items l.log values
+  in_table = record {
+    objects = objects;
+    values = λ o h.
+        told o h ∙ left_is_current terms.shape l.log words l.left terms.start.value.items o l.run.run.core h;
+  }
+
+  -- the values that the words of a closed table tell, where no seat is out, are the current ones
+  pub last_current : IsCurrent terms.shape terms.start.value.items v.log values
+  last_current =
+      subst (λ log. IsCurrent terms.shape terms.start.value.items log values) (l.whole first none_out) in_table
+
+  -- and those of the state after the history
+  pub last_state : values ≡ state_after terms.start.value.items (history_of terms.shape terms.start.value.items v.log)
+  last_state =
+      subst (λ log. values ≡ state_after terms.start.value.items (history_of terms.shape terms.start.value.items log))
+      (l.whole first none_out)
+      (same_current terms.shape terms.start.value.items l.log values _ in_table
+      (state_is_current terms.shape terms.start.value.items (holds terms.law.value) l.log l.run.run))

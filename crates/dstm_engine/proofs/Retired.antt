@@ -1,0 +1,69 @@
+-- What a retired caller has committed is told by its founder's log.
+use Rattle.std.proofs.Common.{◌&&◌, ◌++◌, ◌==◌, ◌∙◌, ◌∷◌, ◌≡◌, List, [], arith, refl, subst, sym, true, false}
+use Rattle.std.specs.Prelude.{Bool, Contains, IfSome, None, Option, Some, if◌then◌else◌}
+use Rattle.dstm_model.specs.declared.value.Val.{Val}
+use Rattle.dstm_answers.proofs.Stays.{NoneCommits, call_adds_none, told_stays}
+use Rattle.dstm_answers.specs.Committed.{done_by, is_commit}
+use Rattle.dstm_core.specs.Rules.{is_outside}
+use Rattle.dstm_core.specs.Runs.{Core}
+use Rattle.dstm_core.specs.State.{LocalState}
+use Rattle.dstm_core.specs.Traces.{events_of}
+use Rattle.dstm_core.specs.Events.{Event}
+use Rattle.dstm_core.specs.declared.event.Kind.{Kind}
+use Rattle.dstm_core.specs.declared.event.Kind.TheVariants.{Quit}
+use Rattle.dstm_core.specs.declared.shape.Shape.{Shape}
+use Rattle.dstm_order.specs.Calls.{Obeys, state_after}
+use Rattle.dstm_order.specs.Order.{IsDue, just}
+use Rattle.dstm_order.specs.Order.Due.{Done}
+use Rattle.dstm_order.specs.Tasks.Task.{Leaving}
+use Rattle.rand_pcg.specs.Lcg.{Lcg}
+use Rattle.dstm_engine.specs.Attempts.{done}
+use Rattle.dstm_engine.specs.Callers.{Called, seat_view, shape_of, start_of, state}
+use Rattle.dstm_engine.specs.Calls.{Performs}
+use Rattle.dstm_words.specs.declared.view.View.{View}
+use Rattle.dstm_words.specs.Steps.{IsRunOf, Joined}
+use Rattle.dstm_words.specs.declared.view.Terms.{Terms}
+
+quit_only : (b : Bool) (e : Event) → IsDue (if b then Done else just Quit) e → e.kind ≡ Quit
+quit_only true e h = absurd h
+quit_only false e h = h.0
+
+quits_none : (e : Event) (k : Kind) → k ≡ Quit → is_commit k && (e.found == 3) ≡ false
+quits_none e Quit h = refl
+quits_none e k h = absurd (cc)
+
+-- a call that leaves an attempt makes no Commit
+leaving_none : (s : Shape) (l : LocalState) (gen : Lcg) (es : List Event) → Obeys Leaving s l gen es → NoneCommits es
+leaving_none s l gen [] h = tt
+leaving_none s l gen (e ∷ es) h = (
+  quits_none e e.kind (quit_only (is_outside (state_after s l es).phase) e h.1),
+  leaving_none s l gen es h.0,
+)
+
+module _ {L : Type 0} (holds : L → List Val → Type 0) (v w : View L) (k quit : Called L)
+    (steps : Performs holds Leaving k quit None) (joined : Joined holds v (seat_view quit) w) where
+  in_quit : done_by (shape_of k) (start_of k) quit.log quit.log k.number ≡ done k
+  in_quit =
+      subst (λ xs. done_by (shape_of k) (start_of k) xs xs k.number ≡ done k) steps.seen.whole
+      (call_adds_none (shape_of k) (start_of k) steps.seen.later k.log k.number steps.events
+      (subst (Core (shape_of k)) (sym steps.seen.whole) steps.run.run.core)
+      (subst (λ xs. events_of k.number xs ≡ steps.events ++ events_of k.number k.log) (sym steps.seen.whole)
+      steps.own)
+      (leaving_none (shape_of k) (state k) k.generator steps.events steps.call.obeys))
+
+  one_of : Contains (quit.number ∷ []) k.number
+  one_of = (0, omega arith, steps.same.1)
+
+  -- what a retired caller has committed is the same in the founder's log
+  pub retired_done : v.terms ≡ Some k.home.terms →
+      done_by (shape_of k) (start_of k) w.log w.log k.number ≡ done k
+  retired_done terms =
+      let run : IsRunOf holds k.home.terms w.log =
+      subst (λ (o : Option (Terms L)). IfSome o (λ (t : Terms L). IsRunOf holds t w.log)) terms joined.run in
+      subst (λ xs. done_by (shape_of k) (start_of k) xs xs k.number
+      ≡ done_by (shape_of k) (start_of k) quit.log quit.log k.number) joined.other_past.whole
+      (told_stays (shape_of k) (start_of k) joined.other_past.later quit.log k.number
+      (subst (Core (shape_of k)) (sym joined.other_past.whole) run.run.core)
+      (subst (λ xs. events_of k.number xs ≡ events_of k.number quit.log) (sym joined.other_past.whole)
+      (joined.other_kept k.number one_of)))
+      ∙ in_quit

@@ -1,0 +1,121 @@
+use Rattle.std.proofs.Common.{◌*◌, ◌<◌, ◌∙◌, ◌≡◌, ap, sym, subst, None}
+use Rattle.dstm_core.specs.State.{LocalState, own_attempt}
+use Rattle.dstm_core.specs.declared.shape.Shape.{Shape}
+use Rattle.dstm_runs.specs.Traces.Access.{Exchange}
+use Rattle.dstm_core.specs.Words.{place}
+use Rattle.dstm_core.specs.Words.Word.{StatusWord}
+use Rattle.dstm_core.specs.declared.event.Kind.TheVariants.{Quit}
+use Rattle.dstm_order.specs.Tasks.Task.{Leaving}
+use Rattle.dstm_words.specs.Seats.{Home, found_in}
+use Rattle.dstm_words.specs.Steps.{Makes}
+use Rattle.dstm_words.specs.declared.view.View.{View}
+use Rattle.dstm_engine.specs.Callers.{Called, is_running, seat_view, shape_of, state}
+use Rattle.dstm_engine.specs.Calls.{Performs}
+use Rattle.dstm_engine.specs.Mirror.{called, phase_by}
+use Rattle.dstm_engine.proofs.Leaving.{left_already, not_made, own_below, quit_allowed, quit_run, quit_state, quit_view, quits}
+use Rattle.dstm_engine.proofs.caller.Caller.leave.Goals as goal
+
+pub status-status-requires-clause-below : goal.status-status-requires-clause-below
+status-status-requires-clause-below g c =
+    let v = c.self.invariant in
+    let k = called c.self.inside in
+    let below = own_below g.L.Law.holds k v.run v.number.0 (v.phase ∙ ap phase_by c.if-self.true) in
+    subst (λ n. n < c.self.inside.steps.shape.callers * c.self.inside.steps.shape.attempts) (sym v.mirror.own)
+    (subst (λ (s : Shape). own_attempt (shape_of k) (state k) < s.callers * s.attempts) (sym v.shape) below)
+
+pub exchange-found-requires-clause-allowed : goal.exchange-found-requires-clause-allowed
+exchange-found-requires-clause-allowed g c = λ found lt.
+    let v = c.self.invariant in
+    let k = called c.self.inside in
+    let ph = v.phase ∙ ap phase_by c.if-self.true in
+    let home : k.home ≡ c.words.result.now =
+    ap (λ (k : Called _). k.home) c.self.view_is ∙ c.requires.table ∙ sym c.words.ensures in
+    let at : c.status-status.result
+    ≡ place c.words.result.now.terms.shape (StatusWord (own_attempt (shape_of k) (state k))) =
+    c.status-status.ensures
+    ∙ ap (λ (s : Shape). place s (StatusWord c.self.inside.steps.own)) v.shape
+    ∙ ap (λ a. place c.self.inside.terms.shape (StatusWord a)) v.mirror.own
+    ∙ ap (λ (h : Home _). place h.terms.shape (StatusWord (own_attempt (shape_of k) (state k)))) home in
+    rw (c.code-active.ensures, c.code-aborted.ensures)
+    (quit_allowed k c.words.result.now c.self.inside.steps.seat.me.0 c.status-status.result found home
+    v.seat.0 ph (own_below g.L.Law.holds k v.run v.number.0 ph) at)
+
+pub invariant_of-self : goal.invariant_of-self
+invariant_of-self g c =
+    let v = c.self.invariant in
+    let ph = v.phase ∙ ap phase_by c.if-self.true in
+    let k = called c.self.inside in
+    let w = c.exchange-found.new.seat.me.0 in
+    let found = found_in c.exchange-found.result in
+    let m : Makes g.L.Law.holds (seat_view k) (Exchange 1 5) Quit c.status-status.result found w =
+    subst (λ (x : View _). Makes g.L.Law.holds x (Exchange 1 5) Quit c.status-status.result found w) v.seat.0
+    (subst (λ b. Makes g.L.Law.holds c.self.inside.steps.seat.me.0 (Exchange 1 b) Quit c.status-status.result found w)
+    c.code-aborted.ensures
+    (subst (λ a. Makes g.L.Law.holds c.self.inside.steps.seat.me.0 (Exchange a c.code-aborted.result) Quit
+    c.status-status.result found w)
+    c.code-active.ensures c.exchange-found.ensures.event)) in
+    let st = quit_state g.L.Law.holds k w c.status-status.result found m in
+    record {
+      seat = (quit_view g.L.Law.holds k w c.status-status.result found m, c.exchange-found.ensures.seat.1);
+      run = quit_run g.L.Law.holds k w c.status-status.result found m;
+      number = (v.number.0, ap (λ (l : LocalState). l.number) st ∙ v.number.1);
+      shape = v.shape;
+      mirror = record {
+        own = v.mirror.own ∙ ap (own_attempt (shape_of k)) (sym st);
+        installed = v.mirror.installed ∙ ap (λ (l : LocalState). l.installed) (sym st);
+        rank = v.mirror.rank ∙ ap (λ (l : LocalState). l.rank) (sym st);
+      };
+      begun = ap (λ (l : LocalState). l.begun) st ∙ v.begun;
+      phase = ap (λ (l : LocalState). l.phase) st;
+      manager = v.manager;
+      fresh = λ h. let f = v.fresh h in (
+        ap (λ (l : LocalState). l.committed) st ∙ f.0,
+        (λ greedy. ap (λ (l : LocalState). l.stands) st ∙ f.1 greedy),
+      );
+      last_number = λ h. absurd (cc h);
+      rest = λ h. absurd (cc h);
+      left = λ h. absurd (cc h);
+      uncommitted = λ h. absurd (cc h);
+      told = λ made. absurd (not_made (record k { log = w.log })
+          (ap (λ (l : LocalState). is_running l.phase) st) (v.left c.if-self.true)
+          (ap (λ (l : LocalState). l.committed) st ∙ v.uncommitted c.if-self.true) made);
+      sighted = λ h. absurd (cc h);
+      reads = λ h. absurd (cc h);
+      values = λ h. absurd (cc h);
+      writes = λ h. absurd (cc h);
+      olds = λ h. absurd (cc h);
+      room = v.room;
+    }
+
+pub returns-then-self-clause-steps : goal.returns-then-self-clause-steps
+returns-then-self-clause-steps g c =
+    let v = c.self.invariant in
+    let ph = v.phase ∙ ap phase_by c.if-self.true in
+    let k = called c.self.inside in
+    let w = c.exchange-found.new.seat.me.0 in
+    let found = found_in c.exchange-found.result in
+    let m : Makes g.L.Law.holds (seat_view k) (Exchange 1 5) Quit c.status-status.result found w =
+    subst (λ (x : View _). Makes g.L.Law.holds x (Exchange 1 5) Quit c.status-status.result found w) v.seat.0
+    (subst (λ b. Makes g.L.Law.holds c.self.inside.steps.seat.me.0 (Exchange 1 b) Quit c.status-status.result found w)
+    c.code-aborted.ensures
+    (subst (λ a. Makes g.L.Law.holds c.self.inside.steps.seat.me.0 (Exchange a c.code-aborted.result) Quit
+    c.status-status.result found w)
+    c.code-active.ensures c.exchange-found.ensures.event)) in
+    let home : k.home ≡ c.words.result.now =
+    ap (λ (x : Called _). x.home) c.self.view_is ∙ c.requires.table ∙ sym c.words.ensures in
+    let table : c.exchange-found.new.seat.table_id ≡ k.home.table =
+    c.exchange-found.ensures.seat.0 ∙ sym (ap (λ (h : Home _). h.table) home) in
+    subst (λ (x : Called _). Performs g.L.Law.holds Leaving x (record k {
+      home = record { table = c.exchange-found.new.seat.table_id; terms = c.self.inside.terms };
+      log = w.log;
+    }) None) c.self.view_is
+    (subst (λ t. Performs g.L.Law.holds Leaving k (record k {
+      home = record { table = t; terms = c.self.inside.terms };
+      log = w.log;
+    }) None) (sym table) (quits g.L.Law.holds k w c.status-status.result found m ph))
+
+pub returns-else-self-clause-steps : goal.returns-else-self-clause-steps
+returns-else-self-clause-steps g c =
+    let v = c.self.invariant in
+    subst (λ (k : Called _). Performs g.L.Law.holds Leaving k k None) c.self.view_is
+    (left_already g.L.Law.holds (called c.self.inside) v.run (v.phase ∙ ap phase_by c.if-self.false))

@@ -1,0 +1,51 @@
+-- What a call of the engine does.
+use Rattle.std.specs.Prelude.{◌≡◌, ◌⊎◌, true, List, [], ◌∷◌, ◌++◌, Option, None, IsSome}
+use Rattle.rand_pcg.specs.Lcg.{Lcg}
+use Rattle.dstm_model.specs.declared.value.Val.{Val}
+use Rattle.dstm_core.specs.Events.{Event}
+use Rattle.dstm_core.specs.declared.shape.Shape.{Shape}
+use Rattle.dstm_core.specs.State.{LocalState}
+use Rattle.dstm_core.specs.Runs.{local}
+use Rattle.dstm_core.specs.Traces.{IsPastOf, events_of}
+use Rattle.dstm_order.specs.declared.again.Again.{Again}
+use Rattle.dstm_order.specs.Calls.{IsCall, answer_of, effort_of}
+use Rattle.dstm_order.specs.Tasks.{Task}
+use Rattle.dstm_progress.specs.Alone.{AreCalls, Made, all_events, generator_after, last_answer}
+use Rattle.dstm_words.specs.Steps.{IsRunOf}
+use Rattle.dstm_engine.specs.Callers.{Called, shape_of, state, is_live, begun_log}
+
+-- what the newest of some calls answered, which were made one after the other
+abbrev pub newest_answer : Shape → LocalState → Lcg → List Made → Option Again
+newest_answer shape began generator [] = None
+newest_answer shape began generator (call ∷ calls) = last_answer shape began generator call calls
+
+module _ {L : Type 0} where
+  -- the caller as its last attempt began
+  abbrev pub begun_state : Called L → LocalState
+  begun_state k = local (shape_of k) (begun_log k.number k.log) k.number
+
+  -- the last attempt is live, or was left by a call on it, or has committed: it was not abandoned
+  abbrev pub IsMade : Called L → Type 0
+  IsMade k = (is_live k ≡ true) ⊎ (IsSome k.left ⊎ ((state k).committed ≡ true))
+
+  -- The caller's own events since its last Begin are those of calls made one after the other, the newest of which
+  -- answered what the caller was given last.
+  pub record IsTold (k : Called L) : Type 0 where
+    pub calls : List Made
+    pub own : events_of k.number k.log ≡ all_events calls ++ events_of k.number (begun_log k.number k.log)
+    pub are_calls : AreCalls (shape_of k) (begun_state k) k.began calls
+    pub generator : k.generator ≡ generator_after (shape_of k) (begun_state k) k.began calls
+    pub left : k.left ≡ newest_answer (shape_of k) (begun_state k) k.began calls
+
+  module _ (holds : L → List Val → Type 0) where
+    -- A CALL: the caller's own events since are those of the order of steps, and it answers as this says. What the
+    -- caller has seen goes on from what it had seen, and is a core run.
+    pub record Performs (task : Task) (k n : Called L) (again : Option Again) : Type 0 where
+      pub events : List Event
+      pub own : events_of k.number n.log ≡ events ++ events_of k.number k.log
+      pub call : IsCall task (shape_of k) (state k) k.generator events
+      pub answers : again ≡ answer_of task (shape_of k) (state k) k.generator events
+      pub seen : IsPastOf k.log n.log
+      pub run : IsRunOf holds k.home.terms n.log
+      pub generator : n.generator ≡ (effort_of (shape_of k) (state k) k.generator events).generator
+      pub same : (n.home ≡ k.home) × (n.number ≡ k.number)

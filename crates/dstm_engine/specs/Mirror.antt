@@ -1,0 +1,90 @@
+-- How the fields of a caller stand for what contracts see of it.
+use Rattle.std.specs.Prelude.{◌≡◌, ◌≢◌, ℕ, ◌<◌, ◌≤◌, Bool, true, false, List, [], ◌∷◌, length, map, Option, None, Some, if◌then◌else◌}
+use Rattle.dstm_model.specs.declared.value.Val.{Val}
+use Rattle.dstm_core.specs.Histories.{old_values, read_values}
+use Rattle.dstm_core.specs.State.{LocalState, record_resolved}
+use Rattle.dstm_core.specs.declared.state.Phase.{Phase}
+use Rattle.dstm_core.specs.declared.state.Phase.TheVariants.{Outside, Running}
+use Rattle.dstm_core.specs.declared.shape.Manager.TheVariants.{Greedy}
+use Rattle.dstm_caller.specs.Reads.{kept, words_of}
+use Rattle.dstm_caller.specs.Under.{IsMirror}
+use Rattle.dstm_caller.specs.Writes.{AreWrites}
+use Rattle.dstm_caller.specs.declared.slots.ReadSlot.{ReadSlot}
+use Rattle.dstm_caller.specs.declared.slots.WriteSlot.{WriteSlot}
+use Rattle.dstm_words.specs.Steps.{IsRunOf}
+use Rattle.dstm_engine.specs.declared.caller.Caller.TheInside.{Inside}
+use Rattle.dstm_engine.specs.Callers.{Called, shape_of, start_of, seat_view, state, entry}
+use Rattle.dstm_engine.specs.Attempts.{Sighted}
+use Rattle.dstm_engine.specs.Calls.{IsMade, IsTold}
+
+-- a value that was set, before others
+abbrev pub with_new : ℕ → Option Val → List (ℕ × Val) → List (ℕ × Val)
+with_new object None pairs = pairs
+with_new object (Some value) pairs = (object, value) ∷ pairs
+
+-- the values that were set, of the objects open for writing
+abbrev pub set_pairs : List WriteSlot → List (ℕ × Val)
+set_pairs [] = []
+set_pairs (slot ∷ slots) = with_new slot.object slot.new (set_pairs slots)
+
+-- the objects and the values of the slots that are kept
+abbrev pub kept_values : List ReadSlot → List (ℕ × Val)
+kept_values [] = []
+kept_values (slot ∷ slots) = if slot.kept then (slot.object, slot.value) ∷ kept_values slots else kept_values slots
+
+-- the old values of the objects open for writing
+abbrev pub slot_old : WriteSlot → ℕ × Val
+slot_old slot = (slot.object, slot.old)
+
+-- the phase between two calls
+abbrev pub phase_by : Bool → Phase
+phase_by true = Running
+phase_by false = Outside
+
+-- an attempt between two calls: nothing is under way
+pub record AtRest (state : LocalState) : Type 0 where
+  pub agreed : state.stale ≡ false
+  pub no_pass : state.pass ≡ None
+  pub not_put : (state.written ≡ 0) × (state.high_put ≡ false)
+  pub recorded : record_resolved state.resolution state.reads ≡ state.reads
+
+module _ {L : Type 0} where
+  abbrev pub called : Inside L → Called L
+  called c = record {
+    home = record { table = c.steps.seat.table_id; terms = c.terms };
+    log = c.steps.seat.me.0.log;
+    number = c.number;
+    generator = c.steps.decider.generator;
+    began = c.began.value.generator;
+    fresh = c.fresh;
+    set = set_pairs c.writes.items;
+    left = c.left;
+  }
+
+  pub record Tied (holds : L → List Val → Type 0) (c : Inside L) : Type 0 where
+    pub seat : (c.steps.seat.me.0 ≡ seat_view (called c)) × (c.steps.seat.me.1 ≡ [])
+    pub run : IsRunOf holds c.terms c.steps.seat.me.0.log
+    pub number : (c.number < c.terms.shape.callers) × ((state (called c)).number ≡ Some c.number)
+    pub shape : c.steps.shape ≡ c.terms.shape
+    pub mirror : IsMirror c.terms.shape c.steps (state (called c))
+    pub begun : (state (called c)).begun ≡ c.begun
+    pub phase : (state (called c)).phase ≡ phase_by c.live
+    pub manager : (c.steps.decider.manager ≡ c.terms.shape.manager) × (c.began.value.manager ≡ c.terms.shape.manager)
+    pub fresh : c.fresh ≡ false → ((state (called c)).committed ≡ false)
+        × (c.terms.shape.manager ≡ Greedy → (state (called c)).stands ≡ true)
+    pub last_number : c.live ≡ true → (state (called c)).last_pass ≡ c.last_number
+    pub rest : c.live ≡ true → AtRest (state (called c))
+    pub left : c.live ≡ true → c.left ≡ None
+    pub uncommitted : c.live ≡ true → (state (called c)).committed ≡ false
+    pub told : IsMade (called c) → IsTold (called c)
+    pub sighted : c.live ≡ true → (entry (called c)).reads ≢ [] → Sighted (called c)
+    pub reads : c.live ≡ true → words_of (state (called c)).reads ≡ kept c.reads.items
+    pub values : c.live ≡ true →
+        read_values (shape_of (called c)) (start_of (called c)) (called c).log (state (called c)).reads
+        ≡ kept_values c.reads.items
+    pub writes : c.live ≡ true → AreWrites c.writes.items (state (called c)).writes
+    pub olds : c.live ≡ true →
+        old_values (shape_of (called c)) (start_of (called c)) (called c).log (state (called c)).writes
+        ≡ map slot_old c.writes.items
+    pub room : (length c.reads.items ≤ c.terms.shape.objects) × (length c.writes.items ≤ c.terms.shape.objects)
+        × (length c.places.items ≡ c.terms.shape.objects)

@@ -1,0 +1,74 @@
+// The values that the words of a closed table tell.
+ghost use Rattle.std.specs.Prelude.{◌≡◌, ℕ, ◌<◌, List, length, slice_index};
+ghost use Rattle.dstm_core.specs.Left.{value_left, version_left, version_value_left};
+ghost use Rattle.dstm_engine.specs.Closing.{AreLeft, AreWords, IsOwned, IsVersion};
+ghost use Rattle.dstm_model.specs.Map.{value_at};
+
+use dstm_core::{Shape, Status};
+use dstm_model::Val;
+
+// The current value of each object, in the place of its first value.
+pub fn settle(shape: &Shape, words: &[u64], start: Vec<Val>) -> Vec<Val>
+    requires words { AreWords shape.now words.now }
+    requires left { AreLeft shape.now words.now }
+    requires objects { length start.items ≡ shape.now.objects }
+    ensures objects { length result.items ≡ shape.now.objects }
+    ensures values { (o : ℕ) → o < shape.now.objects →
+        value_at result.items o ≡ value_left shape.now start.items words.now o }
+{
+    let mut values = start;
+    for o in 0..shape.objects {
+        let first = values[o as usize];
+        values[o as usize] = current(shape, words, first, o);
+    }
+    values
+}
+
+// The current value of an object that had this value first.
+#[tactic(auto, using(crate::proofs::LastValues::object_is, crate::proofs::LastValues::object_owned, crate::proofs::LastValues::current_is))]
+fn current(shape: &Shape, words: &[u64], first: Val, o: u32) -> Val
+    requires words { AreWords shape.now words.now }
+    requires left { AreLeft shape.now words.now }
+    requires exists { o < shape.now.objects }
+    ensures { (start : List Val) → value_at start o ≡ first → result ≡ value_left shape.now start words.now o }
+{
+    let word = words[shape.object(o) as usize];
+    let version = current_version(shape, words, word);
+    value_of(shape, words, first, version)
+}
+
+// The version that an object's word stands for.
+fn current_version(shape: &Shape, words: &[u64], word: u64) -> u64
+    requires words { AreWords shape.now words.now }
+    requires version { IsVersion shape.now word }
+    requires owned { IsOwned shape.now words.now word }
+    ensures { result ≡ version_left shape.now words.now word }
+{
+    if word == 0 {
+        return 0;
+    }
+    let locator = (word - 1) as u32;
+    let owner = words[shape.owner(locator) as usize] as u32;
+    if words[shape.status(owner) as usize] == Status::Committed.code() {
+        word
+    } else {
+        words[shape.old_cell(locator) as usize]
+    }
+}
+
+// The value of a version.
+fn value_of(shape: &Shape, words: &[u64], first: Val, version: u64) -> Val
+    requires words { AreWords shape.now words.now }
+    requires version { IsVersion shape.now version }
+    ensures { (start : List Val) (o : ℕ) → value_at start o ≡ first →
+        result ≡ version_value_left shape.now start words.now o version }
+{
+    if version == 0 {
+        return first;
+    }
+    let locator = (version - 1) as u32;
+    Val {
+        low: words[shape.new_cell(locator) as usize],
+        high: words[shape.high_cell(locator) as usize],
+    }
+}
