@@ -1,12 +1,12 @@
 -- The values that the words of a closed table tell.
-use Rattle.std.proofs.Common.{◌*◌, ◌+◌, ◌-◌, ◌<◌, ◌==◌, ◌∙◌, ◌≡◌, ◌≢◌, ◌^◌, ◌⊎◌, List, arith, inl, inr, refl, subst, sym, true, ℕ}
+use Rattle.std.proofs.Common.{◌*◌, ◌+◌, ◌-◌, ◌<◌, ◌==◌, ◌∙◌, ◌≡◌, ◌≢◌, ◌⊎◌, List, arith, inl, inr, refl, subst, sym, true, ℕ}
 use Rattle.std.specs.Prelude.{length, slice_index, slice_set}
 use Rattle.std.proofs.lemmas.Bool.{cases_eq, cond_both, eqb-false}
 use Rattle.std.proofs.lemmas.List.{ext_get_or, get_or-set_other, get_or-set_same}
 use Rattle.dstm_core.specs.Histories.{history_of}
 use Rattle.dstm_core.specs.Left.{value_left, version_left, word_left}
 use Rattle.dstm_core.specs.Traces.{word}
-use Rattle.dstm_core.specs.Words.{IsValid, place}
+use Rattle.dstm_core.specs.Words.{place}
 use Rattle.dstm_core.specs.Words.Word.{OldWord, OwnerWord, StatusWord}
 use Rattle.dstm_core.specs.Events.{Event}
 use Rattle.dstm_core.specs.declared.shape.Shape.{Shape}
@@ -22,10 +22,6 @@ use Rattle.dstm_words.specs.Steps.{IsRunOf}
 use Rattle.dstm_words.specs.declared.view.Terms.{Terms}
 use Rattle.dstm_words.specs.declared.view.View.{View}
 use Rattle.dstm_engine.specs.Closing.{AreLeft, IsOwned, IsVersion}
-
--- the locators and the attempts of a shape have small numbers
-pub small_locators : (shape : Shape) → IsValid shape → shape.callers * shape.locators < 2 ^ 32
-small_locators shape valid = let w = valid.words in omega arith
 
 named : (s : Shape) (log : List Event) (v : ℕ) → Names s log v → IsVersion s v
 named s log v (inl z) some = absurd (some z)
