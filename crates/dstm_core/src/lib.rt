@@ -24,6 +24,3 @@ pub use state::{Phase, Read, Resolution, Write};
 pub use status::Status;
 pub use table::replay;
 pub use verdict::Replay;
-
-#[cfg(test)]
-mod tests;

@@ -22,6 +22,3 @@ pub fn some_run()
 pub fn some_contest()
     ensures { SomeContest }
 {}
-
-#[cfg(test)]
-mod tests;

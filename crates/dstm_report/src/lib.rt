@@ -18,6 +18,3 @@ pub use rendering::render;
 pub use report::{Report, Row, Rows};
 pub use turns::Turns;
 pub use verdict::Verdict;
-
-#[cfg(test)]
-mod tests;

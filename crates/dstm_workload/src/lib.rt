@@ -16,6 +16,3 @@ pub use reading::{first_refusal, read_workload};
 pub use refused::{Refused, Why, WorkloadError};
 pub use workload::{Job, Jobs, MAX_JOBS, MAX_OPS, MAX_WORKERS, VERSIONS, Workload};
 pub use writing::{before_a_mark, read_back, write_workload};
-
-#[cfg(test)]
-mod tests;

@@ -1,14 +1,12 @@
 ghost use Rattle.dstm_core.specs.Words.{IsValid};
 ghost use Rattle.dstm_opacity.specs.Laws.{CommittedLegal, LawAtEveryPrefix, PassAgrees, WritersInDrawOrder};
 
-use super::*;
-use dstm_core::{Event, Kind, Manager, Replay, Shape, replay};
+use crate::rows::{Row, event_of};
+use dstm_core::{Kind, Manager, Replay, Shape, replay};
 use dstm_model::{AnyLaw, Law};
+use dstm_opacity::{laws, some_contest, some_run};
 use std::alloc::{AllocError, Global};
 use std::test::Fail;
-
-// An event in a table: its caller and kind, the place, and the words expected, found and put.
-type Row = (u32, Kind, u64, u64, u64, u64);
 
 // Caller 0 reads object 0 and writes object 1, while caller 1 reads object 1 and writes object 0 and
 // installs its locator. Then caller 0 draws its number, which is the one that its passes found.
@@ -47,18 +45,6 @@ const CROSSED: [Row; 28] = [
 const CHECK: Row = (0, Kind::Check, 0, 3, 3, 3);
 
 const COMMIT: Row = (0, Kind::Commit, 2, 3, 3, 4);
-
-fn event_of(row: Row) -> Event {
-    let (caller, kind, place, expected, found, put) = row;
-    Event {
-        caller,
-        kind,
-        place,
-        expected,
-        found,
-        put,
-    }
-}
 
 // The schedule, and then some more events.
 fn replay_crossed(alloc: Global, shape: &Shape, more: &[Row]) -> Result<Replay, AllocError>

@@ -1,27 +1,9 @@
 ghost use Rattle.dstm_core.specs.Words.{IsValid};
 
-use super::*;
+use crate::rows::{Row, event_of, events_of};
+use dstm_core::{Event, Kind, Local, Manager, Replay, Shape, Status, replay};
 use std::alloc::{AllocError, Global};
 use std::test::Fail;
-
-// An event in a table: its caller and kind, the place, and the words expected, found and put.
-type Row = (u32, Kind, u64, u64, u64, u64);
-
-fn event_of(row: Row) -> Event {
-    let (caller, kind, place, expected, found, put) = row;
-    Event {
-        caller,
-        kind,
-        place,
-        expected,
-        found,
-        put,
-    }
-}
-
-fn events_of(alloc: Global, rows: &[Row]) -> Result<Vec<Event>, AllocError> {
-    rows.iter().map(|row| event_of(*row)).collect(alloc)
-}
 
 // What the first events of a trace are found to be with another event after them.
 fn replay_with(

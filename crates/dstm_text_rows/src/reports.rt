@@ -1,5 +1,5 @@
-use super::*;
 use dstm_model::{Item, Items, Numbers, Replies, Reply};
+use dstm_report::*;
 use dstm_workload::read_workload;
 use std::alloc::Global;
 use std::test::Fail;

@@ -1,5 +1,5 @@
-use super::*;
 use dstm_model::{Cond, Op, Which};
+use dstm_workload::*;
 use std::process::Abort;
 use std::test::Fail;
 
