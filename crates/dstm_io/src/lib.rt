@@ -5,6 +5,7 @@
 //! bytes; [`StdSource`] and [`StdSink`] stand over readers and writers of the system and tell none.
 #![tactic(auto)]
 
+mod again;
 mod schedule;
 mod sink;
 mod source;

@@ -4,6 +4,7 @@ ghost use Rattle.dstm_io.specs.Count.{Rises};
 ghost use Rattle.dstm_io.specs.StdSink.{writer_of, fault_count};
 ghost use Rattle.dstm_io.specs.MemorySink.{IsNewSink, with_room, FailsAt, state_after_write, state_after_failed_write};
 
+use crate::again::write_again;
 use crate::schedule::Schedule;
 use crate::source::Failed;
 use std::alloc::{AllocError, Global};
@@ -128,7 +129,8 @@ impl Sink for MemorySink {
 }
 
 /// A sink over a writer, such as standard output. It tells nothing of its bytes. Each error of the writer
-/// is a fault, and so is a call that takes nothing of a piece that is not empty.
+/// is a fault, and so is a call that takes nothing of a piece that is not empty; a call that was interrupted is
+/// made again, 64 times at most.
 #[derive(Debug, Drop)]
 pub struct StdSink<W> {
     writer: W,
@@ -159,7 +161,7 @@ impl<W: Write + Drop> Sink for StdSink<W> {
         ensures writer { WriteAppends (W.contents (writer_of self.old)) (W.contents (writer_of self.new))
             result buf.now }
     {
-        match self.writer.write(buf) {
+        match write_again(&mut self.writer, buf) {
             Ok(count) if count > 0 || buf.is_empty() => Ok(count),
             _ => {
                 self.faults = self.faults.saturating_add(1);

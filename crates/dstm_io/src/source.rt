@@ -4,6 +4,7 @@ ghost use Rattle.dstm_io.specs.Count.{Rises};
 ghost use Rattle.dstm_io.specs.StdSource.{reader_of, fault_count};
 ghost use Rattle.dstm_io.specs.MemorySource.{IsNewSource, state_after_read, state_after_failed_read};
 
+use crate::again::read_again;
 use crate::schedule::Schedule;
 use std::alloc::{AllocError, Global};
 use std::io::Read;
@@ -106,7 +107,7 @@ impl Source for MemorySource {
 }
 
 /// A source over a reader, such as standard input. It tells nothing of its bytes; each error of the
-/// reader is a fault.
+/// reader is a fault, but a call that was interrupted is made again, 64 times at most.
 #[derive(Debug, Drop)]
 pub struct StdSource<R> {
     reader: R,
@@ -136,7 +137,7 @@ impl<R: Read + Drop> Source for StdSource<R> {
         ensures reader { ReadConsumes (R.remaining (reader_of self.old)) (R.remaining (reader_of self.new))
             result buf.new }
     {
-        match self.reader.read(buf) {
+        match read_again(&mut self.reader, buf) {
             Ok(count) => Ok(count),
             Err(_) => {
                 self.faults = self.faults.saturating_add(1);

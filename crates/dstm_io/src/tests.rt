@@ -1,10 +1,10 @@
-ghost use Rattle.std.specs.Prelude.{IfSome, OnOk};
+ghost use Rattle.std.specs.Prelude.{◌≡◌, IfOk, IfSome, OnOk};
 ghost use Rattle.std.specs.Io.KnownBytes.{Appends};
 
 use super::*;
 use std::alloc::Global;
 use std::io;
-use std::io::{ErrorKind, Read};
+use std::io::{ErrorKind, Read, Write};
 use std::test::Fail;
 
 const TEXT: [u8; 3] = *b"abc";
@@ -87,6 +87,55 @@ impl Read for Failing {
         }
         self.calls = 1;
         Ok(buf.len().min(1))
+    }
+}
+
+// A reader and writer whose first calls are interrupted.
+#[derive(Drop)]
+struct Interrupted {
+    times: u32,
+}
+
+impl Interrupted {
+    fn answer(&mut self, count: usize) -> io::Result<usize>
+        ensures { IfOk result (λ taken. taken ≡ count) }
+    {
+        if self.times > 0 {
+            self.times -= 1;
+            return Err(io::Error::from(ErrorKind::Interrupted));
+        }
+        Ok(count)
+    }
+}
+
+impl Read for Interrupted {
+    fn read(&mut self, buf: &mut [u8]) -> io::Result<usize> {
+        self.answer(buf.len().min(1))
+    }
+}
+
+impl Write for Interrupted {
+    fn write(&mut self, buf: &[u8]) -> io::Result<usize> {
+        self.answer(buf.len())
+    }
+
+    fn flush(&mut self) -> io::Result<()> {
+        Ok(())
+    }
+}
+
+#[test]
+fn interrupted_calls_are_made_again(rt: HostRuntime) {
+    let mut one = [0u8; 1];
+    for (times, fails) in [(0, false), (64, false), (65, true)] {
+        let mut source = StdSource::make(Interrupted { times });
+        assert_eq!(rt;
+            source.read(&mut one).is_err(),
+            fails,
+            "reading, {times} times"
+        );
+        let mut sink = StdSink::make(Interrupted { times });
+        assert_eq!(rt; sink.write(&one).is_err(), fails, "writing, {times} times");
     }
 }
 
