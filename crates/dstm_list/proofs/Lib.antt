@@ -4,3 +4,4 @@ pub mod Steps
 pub mod Objects
 pub mod Operations
 pub mod Lists
+pub mod Walked

@@ -20,18 +20,13 @@ use Rattle.dstm_list.specs.declared.node.Node.{Node}
 use Rattle.dstm_list.specs.declared.walk.Place.{Place}
 use Rattle.dstm_list.specs.List.{Cell, IsList, IsChain, IsFreeChain, IsOfList, numbers_of, keys_of, first_of, node}
 use Rattle.dstm_list.specs.List.{next_of, nodes_to}
-use Rattle.dstm_list.specs.Place.{IsPlace, IsFirst, AllLess, AllGreater, link_after, key_after}
+use Rattle.dstm_list.specs.Place.{Finds, IsPlace, IsFirst, AllLess, AllGreater, link_after, key_after}
 use Rattle.dstm_list.proofs.Keys.{Rise, increasing-of_Rise, Rise-insert, Rise-remove, has_key-behind, has_key-greater}
 use Rattle.dstm_list.proofs.Keys.{has_key-first, with_key-between, without_key-first, without_key-absent}
 use Rattle.dstm_list.proofs.Numbers.{IsNumber, as_many, split-used, split-free, within, each-right}
 use Rattle.dstm_list.proofs.Objects.{Changed-of_sets, Kept-of_same, objects_apart, relinked, IsChain-same}
 use Rattle.dstm_list.proofs.Objects.{IsFreeChain-same}
 use Rattle.dstm_list.proofs.Steps.{IsChain-right, rise_of, used_within, first_within, node-of_list}
-
--- the place is the key's, in each list that the map stands for
-abbrev pub Finds : Layout → List Val → ℕ → Place → Type 0
-Finds layout values key place =
-    (store : Store) (list : IsList layout values store) → IsPlace (list_begin layout) key place list.cells
 
 -- ---- whether the key is there
 

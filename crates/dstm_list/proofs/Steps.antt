@@ -144,12 +144,12 @@ AllLess-push : (key : ℕ) (cells : List Cell) (c : Cell) → AllLess key cells 
 AllLess-push key [] c less h = (h, tt)
 AllLess-push key (d ∷ ds) c less h = (less.0, AllLess-push key ds c less.1 h)
 
-link_after-push : (begin object : ℕ) (cells : List Cell) (c : Cell) →
+pub link_after-push : (begin object : ℕ) (cells : List Cell) (c : Cell) →
     link_after begin object (cells ++ c ∷ []) ≡ node_object begin c.number
 link_after-push begin object [] c = refl
 link_after-push begin object (d ∷ ds) c = link_after-push begin (node_object begin d.number) ds c
 
-key_after-push : (key : ℕ) (cells : List Cell) (c : Cell) → key_after key (cells ++ c ∷ []) ≡ c.key
+pub key_after-push : (key : ℕ) (cells : List Cell) (c : Cell) → key_after key (cells ++ c ∷ []) ≡ c.key
 key_after-push key [] c = refl
 key_after-push key (d ∷ ds) c = key_after-push d.key ds c
 
@@ -230,6 +230,17 @@ later least [] c cs begin object last rise link inner is_last = absurd (inner li
 later least (d ∷ ds) c cs begin object last rise link inner is_last =
     omega (arith, is_last, Rise-next least d ds c cs rise)
 
+-- the key that comes next is greater than that of a node
+pub next_greater : {layout : Layout} {values : List Val} {store : Store} {key object : ℕ} {before : Node}
+    (next : Node) (list : IsList layout values store)
+    (stands : Stands (list_begin layout) key object before list.cells) →
+    IsNext stands.ahead before.next next → object ≢ list_begin layout → before.key < next.key
+next_greater {layout} {object = object} {before = before} next list stands ahead inner =
+    let rise = subst (Rise 0) (stands.split ∙ ap (λ cs. stands.behind ++ cs) ahead.cells_are) (rise_of list) in
+    let rises = later 0 stands.behind ahead.cell ahead.rest (list_begin layout) object before.key rise stands.link
+    inner stands.last in
+    omega (arith, rises, ahead.key)
+
 pub left-less : {layout : Layout} {values : List Val} {store : Store} {key object : ℕ} {before : Node}
     (next : Node) (list : IsList layout values store)
     (stands : Stands (list_begin layout) key object before list.cells) →
@@ -239,14 +250,11 @@ pub left-less : {layout : Layout} {values : List Val} {store : Store} {key objec
 left-less {layout} {key = key} {object = object} {before = before} next list stands ahead less =
     let begin = list_begin layout in
     let after : (node_object begin before.next == begin) ≡ false = ne_eqb _ _ (λ e. omega (arith, e)) in
-    let rise = subst (Rise 0) (stands.split ∙ ap (λ cs. stands.behind ++ cs) ahead.cells_are) (rise_of list) in
     elim (cases_eq object begin) [
       | inl same ↦
           let at : (object == begin) ≡ true = eq-eqb object begin same in
           rw (after, at) (omega (arith, less))
       | inr inner ↦
           let at : (object == begin) ≡ false = ne_eqb object begin inner in
-          let rises =
-          later 0 stands.behind ahead.cell ahead.rest begin object before.key rise stands.link inner stands.last in
-          rw (after, at) (omega (arith, less, rises, ahead.key))
+          rw (after, at) (omega (arith, less, next_greater next list stands ahead inner))
     ]

@@ -1,9 +1,12 @@
 -- Where a walk along the list stands, and the place of a key.
 use Rattle.std.specs.Prelude.{◌≡◌, ℕ, ◌<◌, List, [], ◌∷◌, ◌++◌, Option, Some, None}
-use Rattle.dstm_model.specs.Objects.{node_object}
+use Rattle.dstm_model.specs.declared.value.Val.{Val}
+use Rattle.dstm_model.specs.declared.layout.Layout.{Layout}
+use Rattle.dstm_model.specs.Store.{Store}
+use Rattle.dstm_model.specs.Objects.{list_begin, node_object}
 use Rattle.dstm_list.specs.declared.node.Node.{Node}
 use Rattle.dstm_list.specs.declared.walk.Place.{Place}
-use Rattle.dstm_list.specs.List.{Cell, numbers_of, first_of}
+use Rattle.dstm_list.specs.List.{Cell, IsList, numbers_of, first_of}
 
 -- the object that links to what comes after these cells: that of the last one, or the given one where
 -- there is none
@@ -45,3 +48,8 @@ IsFirst key (Some node) (c ∷ cs) = (c.key ≡ key) × (node.next ≡ first_of 
 pub record IsPlace (begin key : ℕ) (place : Place) (cells : List Cell) : Type 0 where
   pub stands : Stands begin key place.link place.before cells
   pub here : IsFirst key place.node stands.ahead
+
+-- the place is the key's, in each list that the map stands for
+abbrev pub Finds : Layout → List Val → ℕ → Place → Type 0
+Finds layout values key place =
+    (store : Store) (list : IsList layout values store) → IsPlace (list_begin layout) key place list.cells

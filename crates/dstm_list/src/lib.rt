@@ -11,16 +11,18 @@ ghost use Rattle.dstm_mem.specs.Memory.{with_set};
 ghost use Rattle.dstm_mem.specs.Operations.{IsReady, Leads, OnlyReads, OpensToSet};
 ghost use Rattle.dstm_list.specs.List.{IsList, SameOutside, SameButThree};
 
+mod edit;
 mod node;
 mod object;
 mod walk;
 
-use crate::object::{look, replace};
 use crate::walk::find;
 use dstm_mem::Mem;
 use dstm_model::{Layout, Op, Reply};
+pub use edit::{insert_at, member_at, remove_at};
 pub use node::Node;
 pub use object::node_object;
+pub use walk::Place;
 
 /// Adds a key. Where the reply is Yes it sets the node that was the first free one, the head of the free
 /// chain, and the head or the node that now links to the new node; else it sets nothing.
@@ -42,27 +44,8 @@ pub fn insert<M: Mem>(mem: &mut M, layout: &Layout, key: u32) -> Result<Reply, M
     ensures leads { Leads M.Mem mem.old mem.new result }
 {
     let place = find(mem, layout, key)?;
-    if place.node.is_some() {
-        return Ok(Reply::No);
-    }
-    let free = node_object(layout, 0);
-    let number = look(mem, layout, free)?.next;
-    if number == 0 {
-        return Ok(Reply::Full);
-    }
-    let object = node_object(layout, number);
-    let node = Node {
-        key: u64::from(key),
-        next: place.before.next,
-    };
-    let linked = Node {
-        key: place.before.key,
-        next: number,
-    };
-    let rest = replace(mem, layout, object, node.value())?;
-    replace(mem, layout, free, rest)?;
-    replace(mem, layout, place.link, linked.value())?;
-    Ok(Reply::Yes)
+    let reply = insert_at(mem, layout, key, place)?;
+    Ok(reply)
 }
 
 /// Takes a key out. Where the reply is Yes it sets the key's node, the head of the free chain, and the head
@@ -85,23 +68,8 @@ pub fn remove<M: Mem>(mem: &mut M, layout: &Layout, key: u32) -> Result<Reply, M
     ensures leads { Leads M.Mem mem.old mem.new result }
 {
     let place = find(mem, layout, key)?;
-    let Some(node) = place.node else {
-        return Ok(Reply::No);
-    };
-    let free = node_object(layout, 0);
-    let object = node_object(layout, place.before.next);
-    let freed = Node {
-        key: 0,
-        next: place.before.next,
-    };
-    let linked = Node {
-        key: place.before.key,
-        next: node.next,
-    };
-    let rest = replace(mem, layout, free, freed.value())?;
-    replace(mem, layout, object, rest)?;
-    replace(mem, layout, place.link, linked.value())?;
-    Ok(Reply::Yes)
+    let reply = remove_at(mem, layout, key, place)?;
+    Ok(reply)
 }
 
 /// Tells whether a key is there.
@@ -120,10 +88,7 @@ pub fn member<M: Mem>(mem: &mut M, layout: &Layout, key: u32) -> Result<Reply, M
     ensures leads { Leads M.Mem mem.old mem.new result }
 {
     let place = find(mem, layout, key)?;
-    if place.node.is_some() {
-        return Ok(Reply::Yes);
-    }
-    Ok(Reply::No)
+    Ok(member_at(place))
 }
 
 #[cfg(test)]

@@ -1,12 +1,11 @@
 ghost use Rattle.std.specs.Prelude.{◌<◌, List, IfOk, OnOk};
 ghost use Rattle.dstm_model.specs.declared.value.Val.{Val};
 ghost use Rattle.dstm_model.specs.Layout.{IsValid};
-ghost use Rattle.dstm_model.specs.Store.{Store};
-ghost use Rattle.dstm_model.specs.Objects.{objects_of, list_begin};
+ghost use Rattle.dstm_model.specs.Objects.{objects_of};
 ghost use Rattle.dstm_mem.specs.Memory.{with_set};
 ghost use Rattle.dstm_mem.specs.Operations.{IsReady, Leads, OnlyReads};
 ghost use Rattle.dstm_list.specs.List.{IsList, IsOfList, SameOutside};
-ghost use Rattle.dstm_list.specs.Place.{IsPlace};
+ghost use Rattle.dstm_list.specs.Place.{Finds};
 
 use crate::node::Node;
 use crate::object::{look, node_object};
@@ -30,9 +29,8 @@ pub fn find<M: Mem>(mem: &mut M, layout: &Layout, key: u32) -> Result<Place, M::
     requires declared { 0 < layout.now.list }
     requires ready { IsReady M.Mem (objects_of layout.now) (IsList layout.now) mem.old }
 
-    ensures finds { IfOk result (λ found. (map : List Val) → M.Admits mem.new map → (store : Store) →
-        (list : IsList layout.now (with_set map (M.written mem.old)) store) →
-        IsPlace (list_begin layout.now) key found list.cells) }
+    ensures finds { IfOk result (λ found. (map : List Val) → M.Admits mem.new map →
+        Finds layout.now (with_set map (M.written mem.old)) key found) }
     ensures link { IfOk result (λ found. IsOfList layout.now found.link) }
     ensures looks { OnOk result (OnlyReads M.Mem mem.old mem.new) }
     ensures holds { OnOk result (SameOutside layout.now (M.held mem.old) (M.held mem.new)) }

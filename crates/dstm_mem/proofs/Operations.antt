@@ -10,6 +10,7 @@ use Rattle.dstm_model.specs.Objects.{Does}
 use Rattle.dstm_mem.specs.declared.memory.Mem.{Ghosts}
 use Rattle.dstm_mem.specs.Memory.{with_set}
 use Rattle.dstm_mem.specs.Operations.{IsReady, Leads, OnlyReads, OpensToSet}
+use Rattle.dstm_mem.proofs.WithSet.{with_set-same}
 
 module _ {S E : Type 0} (M : Ghosts S E) where
   -- what a live memory with a map is without any call
@@ -117,6 +118,15 @@ module _ {S E : Type 0} (M : Ghosts S E) where
         stands map admitted a is;
   }
   ready-after n P old new (Err e) ready leads stands = tt
+
+  -- so after an operation that sets nothing
+  pub ready-reads : {A B : Type 0} {n : ℕ} {P : List Val → A → Type 0} {old new : S} (r : Result B E) →
+      IsReady M n P old → Leads M old new r → OnOk r (OnlyReads M old new) → OnOk r (IsReady M n P new)
+  ready-reads {P = P} {old} {new} (Ok x) ready leads reads =
+      ready-after _ P old new (Ok x) ready leads
+      (λ map admitted a is.
+      (a, subst (λ now. P now a) (sym (with_set-same map (M.written old) (M.written new) reads.sets)) is))
+  ready-reads (Err e) ready leads reads = tt
 
   -- so after an operation that does what the plain store does
   pub ready-does : {n : ℕ} {Is : List Val → Store → Type 0} {old new : S} (op : Op) (r : Result Reply E) →

@@ -42,6 +42,17 @@ impl Ops {
     {
         self.items.as_slice()
     }
+
+    /// The same operations once more.
+    pub fn copy(&self) -> Ops
+        ensures { result ≡ self.now }
+    {
+        let mut copy = Ops::new();
+        for op in self.as_slice() {
+            copy.push(*op);
+        }
+        copy
+    }
 }
 
 impl Default for Ops {
@@ -88,6 +99,17 @@ impl Replies {
         ensures short { length self.now ≤ 8 }
     {
         self.items.as_slice()
+    }
+
+    /// The same replies once more.
+    pub fn copy(&self) -> Replies
+        ensures { result ≡ self.now }
+    {
+        let mut copy = Replies::new();
+        for reply in self.as_slice() {
+            copy.push(*reply);
+        }
+        copy
     }
 }
 

@@ -17,7 +17,7 @@ pub use layout::{
 pub use op::{Cond, Op, Which};
 pub use reply::Reply;
 pub use state::{Item, Items, Numbers, State};
-pub use store::PlainStore;
+pub use store::{PlainStore, first_branch};
 pub use value::{AnyLaw, Law, Val};
 
 #[cfg(test)]

@@ -293,8 +293,8 @@ fn yes_or_no(yes: bool) -> Reply
     if yes { Reply::Yes } else { Reply::No }
 }
 
-// The first branch of a job's operations, and what follows its separator, if there is one.
-fn first_branch(ops: &[Op]) -> (&[Op], Option<&[Op]>)
+/// The first branch of a job's operations, and what follows its separator, if there is one.
+pub fn first_branch(ops: &[Op]) -> (&[Op], Option<&[Op]>)
     ensures branches { branches_of ops.now ≡ result.0.now ∷ branches_left (option_copied result.1) }
     ensures first { (n : ℕ) × (result.0.now ≡ take n ops.now) }
     ensures after { IfSome result.1 (λ after. (n : ℕ) × (after.now ≡ drop n ops.now)) }

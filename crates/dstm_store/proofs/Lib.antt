@@ -4,3 +4,4 @@ pub mod Jobs
 pub mod Walks
 pub mod Unfolded
 pub mod One
+pub mod Bodies

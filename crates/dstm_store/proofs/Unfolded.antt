@@ -11,8 +11,7 @@ use Rattle.dstm_tree.specs.declared.node.Node.{Node}
 use Rattle.dstm_tree.specs.Tree.{number_of}
 use Rattle.dstm_tree.specs.Objects.{object_of, root_of, IsTree}
 use Rattle.dstm_tree.specs.Node.{HasTree, Subtree, val_of}
-use Rattle.dstm_tree.proofs.Nodes.{Rooted, rooted}
-use Rattle.dstm_tree.proofs.Search.{all_of}
+use Rattle.dstm_tree.proofs.Search.{Halves, halves, all_of}
 
 -- the whole tree, whose root's number was read
 pub whole : (layout : Layout) (map : List Val) (store : Store) (object : ℕ) → object ≡ root_of layout →
@@ -26,12 +25,11 @@ whole layout map store object is t =
     (all_of layout map store t, refl)
 
 -- a subtree whose root was read from its object
-pub Rooted-of_value : (layout : Layout) (map : List Val) (at depth object : ℕ) (x : Node) → HasTree layout → at ≢ 0 →
+pub halves-of_value : (layout : Layout) (map : List Val) (at depth object : ℕ) (x : Node) → HasTree layout → at ≢ 0 →
     x.number ≡ at → x.left < 2 ^ 16 → x.right < 2 ^ 16 → object ≡ object_of layout at →
-    val_of x ≡ value_at map object → (s : Subtree layout map at depth) →
-    Rooted layout map s.low s.high depth s.tree x
-Rooted-of_value layout map at depth object x h some number left right is value s =
-    rooted layout map at depth x (omega (arith, h.valid.tree)) number some left right
+    val_of x ≡ value_at map object → (s : Subtree layout map at depth) → Halves layout map depth s.tree x
+halves-of_value layout map at depth object x h some number left right is value s =
+    halves layout map at depth x (omega (arith, h.valid.tree)) number some left right
     (sym (value ∙ ap (value_at map) is)) s
 
 -- the items of both sides, with the root's between them

@@ -1,17 +1,18 @@
-ghost use Rattle.std.specs.Prelude.{◌≡◌, ℕ, List, [], All, IsSome, IfOk, OnOk};
+ghost use Rattle.std.specs.Prelude.{◌≡◌, ℕ, ◌<◌, ◌≤◌, List, [], length, All, IsSome, IfOk, OnOk};
 ghost use Rattle.dstm_model.specs.declared.value.Val.{Val};
 ghost use Rattle.dstm_model.specs.Layout.{IsValid, FitsLayout};
 ghost use Rattle.dstm_model.specs.Store.{IsPlain};
-ghost use Rattle.dstm_model.specs.Objects.{objects_of};
+ghost use Rattle.dstm_model.specs.Objects.{objects_of, Does};
 ghost use Rattle.dstm_mem.specs.Memory.{with_set};
 ghost use Rattle.dstm_mem.specs.Operations.{IsReady, Leads};
 ghost use Rattle.dstm_store.specs.Whole.{StandsFor, IsLawful};
-ghost use Rattle.dstm_store.specs.Job.{CanRun, DoesAll, Audits};
+ghost use Rattle.dstm_store.specs.Job.{DoesAll, Audits};
 
 use crate::law::StoreLaw;
-use crate::run::run_op;
+use crate::lists::{KeepsReads, ListWalk};
+use crate::run::run_with;
 use dstm_mem::{Body, Mem};
-use dstm_model::{Layout, Ops, Replies};
+use dstm_model::{Layout, Op, Ops, Replies, Reply};
 use std::marker::Model;
 
 /// What a job is made to do: these operations, on a store of this layout.
@@ -50,7 +51,7 @@ impl JobBody {
     {
         let task = JobTask {
             layout: *layout,
-            ops: copy_of(ops),
+            ops: ops.copy(),
         };
         JobBody {
             task,
@@ -63,11 +64,7 @@ impl JobBody {
     pub fn replies(&self) -> Replies
         ensures { result ≡ self.now.replies }
     {
-        let mut replies = Replies::new();
-        for reply in self.replies.as_slice() {
-            replies.push(*reply);
-        }
-        replies
+        self.replies.copy()
     }
 }
 
@@ -89,39 +86,65 @@ impl Body<StoreLaw> for JobBody {
     ghost audits = { λ job. Audits job.task };
 
     fn run<M: Mem>(&mut self, mem: &mut M) -> Result<(), M::Err> {
-        self.replies = run_all(mem, &self.task)?;
+        self.replies = run_all::<M, KeepsReads>(mem, &self.task.layout, self.task.ops.as_slice())?;
         Ok(())
     }
 }
 
-// Runs the operations of a task in order, and answers their replies.
-fn run_all<M: Mem>(mem: &mut M, task: &JobTask) -> Result<Replies, M::Err>
-    requires task { CanRun task.now }
-    requires ready { IsReady M.Mem (objects_of task.now.layout) (StandsFor task.now.layout) mem.old }
+/// Runs operations in order, and answers their replies. A condition among them was seen to hold, so it
+/// answers yes.
+pub fn run_all<M: Mem, L: ListWalk<M>>(
+    mem: &mut M,
+    layout: &Layout,
+    ops: &[Op],
+) -> Result<Replies, M::Err>
+    requires valid { IsValid layout.now }
+    requires fits { All (FitsLayout layout.now) ops.now }
+    requires short { length ops.now ≤ 8 }
+    requires ready { IsReady M.Mem (objects_of layout.now) (StandsFor layout.now) mem.old }
     requires admits { (map : List Val) × M.Admits mem.old map }
 
     ensures does { IfOk result (λ replies. (map : List Val) → M.Admits mem.new map →
-        DoesAll task.now (with_set map (M.written mem.old)) (with_set map (M.written mem.new)) replies) }
+        DoesAll (record { layout = layout.now; ops = ops.now })
+        (with_set map (M.written mem.old)) (with_set map (M.written mem.new)) replies) }
     ensures lawful { OnOk result ((map : List Val) → M.Admits mem.new map →
-        IsLawful task.now.layout (with_set map (M.written mem.new))) }
-    ensures audits { OnOk result ((o : ℕ) → Audits task.now o → IsSome (M.held mem.new o)) }
+        IsLawful layout.now (with_set map (M.written mem.new))) }
+    ensures audits { OnOk result ((o : ℕ) → Audits (record { layout = layout.now; ops = ops.now }) o →
+        IsSome (M.held mem.new o)) }
 
     ensures leads { Leads M.Mem mem.old mem.new result }
 {
     let mut replies = Replies::new();
-    for op in task.ops.as_slice() {
-        let reply = run_op(mem, &task.layout, op)?;
+    for op in ops {
+        let reply = run_in_branch::<M, L>(mem, layout, op)?;
         replies.push(reply);
     }
     Ok(replies)
 }
 
-fn copy_of(ops: &Ops) -> Ops
-    ensures { result ≡ ops.now }
+// Runs one operation of a branch that is taken.
+fn run_in_branch<M: Mem, L: ListWalk<M>>(
+    mem: &mut M,
+    layout: &Layout,
+    op: &Op,
+) -> Result<Reply, M::Err>
+    requires valid { IsValid layout.now }
+    requires fits { FitsLayout layout.now op.now }
+    requires ready { IsReady M.Mem (objects_of layout.now) (StandsFor layout.now) mem.old }
+    requires admits { (map : List Val) × M.Admits mem.old map }
+
+    ensures does { IfOk result (λ reply. (map : List Val) → M.Admits mem.new map →
+        Does (StandsFor layout.now) op.now
+        (with_set map (M.written mem.old)) (with_set map (M.written mem.new)) reply) }
+    ensures lawful { OnOk result ((map : List Val) → M.Admits mem.new map →
+        IsLawful layout.now (with_set map (M.written mem.new))) }
+    ensures audits { op.now ≡ Op.Total → OnOk result ((a : ℕ) → a < layout.now.accounts →
+        IsSome (M.held mem.new a)) }
+
+    ensures leads { Leads M.Mem mem.old mem.new result }
 {
-    let mut copy = Ops::new();
-    for op in ops.as_slice() {
-        copy.push(*op);
+    match op {
+        Op::Await(_) | Op::OrElse => Ok(Reply::Yes),
+        _ => run_with::<M, L>(mem, layout, op),
     }
-    copy
 }

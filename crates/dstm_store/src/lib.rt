@@ -4,15 +4,19 @@
 
 mod job;
 mod law;
+mod lists;
+mod loose;
 mod opened;
 mod read;
 mod run;
 
-pub use job::{JobBody, JobTask};
+pub use job::{JobBody, JobTask, run_all};
 pub use law::{StoreLaw, stands_for_one};
+pub use lists::{HandOverHand, KeepsReads, ListWalk};
+pub use loose::LooseJobBody;
 pub use opened::opening;
 pub use read::read_state;
-pub use run::run_op;
+pub use run::{run_op, run_with};
 
 #[cfg(test)]
 mod tests;

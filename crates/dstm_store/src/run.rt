@@ -8,11 +8,38 @@ ghost use Rattle.dstm_mem.specs.Operations.{IsReady, Leads, OnlyReads, OpensToSe
 ghost use Rattle.dstm_store.specs.Whole.{StandsFor, IsLawful};
 ghost use Rattle.dstm_store.specs.Looks.{IsLook};
 
+use crate::lists::{KeepsReads, ListWalk};
 use dstm_mem::Mem;
 use dstm_model::{Layout, Op, Reply, Which};
 
 /// Runs one operation, on the structure that it is about.
 pub fn run_op<M: Mem>(mem: &mut M, layout: &Layout, op: &Op) -> Result<Reply, M::Err>
+    requires valid { IsValid layout.now }
+    requires fits { FitsLayout layout.now op.now }
+    requires plain { IsPlain op.now }
+    requires ready { IsReady M.Mem (objects_of layout.now) (StandsFor layout.now) mem.old }
+
+    ensures does { IfOk result (λ reply. (map : List Val) → M.Admits mem.new map →
+        Does (StandsFor layout.now) op.now
+        (with_set map (M.written mem.old)) (with_set map (M.written mem.new)) reply) }
+    ensures lawful { OnOk result ((map : List Val) → M.Admits mem.new map →
+        IsLawful layout.now (with_set map (M.written mem.new))) }
+    ensures audits { op.now ≡ Op.Total → OnOk result ((a : ℕ) → a < layout.now.accounts →
+        IsSome (M.held mem.new a)) }
+    ensures looks { IfOk result (λ reply. IsLook op.now reply → OnlyReads M.Mem mem.old mem.new) }
+    ensures marks { IfOk result (λ reply. reply ≢ Reply.Poor → OpensToSet M.Mem mem.old mem.new) }
+
+    ensures leads { Leads M.Mem mem.old mem.new result }
+{
+    run_with::<M, KeepsReads>(mem, layout, op)
+}
+
+/// The same with another way to walk along the list.
+pub fn run_with<M: Mem, L: ListWalk<M>>(
+    mem: &mut M,
+    layout: &Layout,
+    op: &Op,
+) -> Result<Reply, M::Err>
     requires valid { IsValid layout.now }
     requires fits { FitsLayout layout.now op.now }
     requires plain { IsPlain op.now }
@@ -41,15 +68,15 @@ pub fn run_op<M: Mem>(mem: &mut M, layout: &Layout, op: &Op) -> Result<Reply, M:
         Op::Insert {
             which: Which::List,
             key,
-        } => dstm_list::insert(mem, layout, key),
+        } => L::insert(mem, layout, key),
         Op::Remove {
             which: Which::List,
             key,
-        } => dstm_list::remove(mem, layout, key),
+        } => L::remove(mem, layout, key),
         Op::Member {
             which: Which::List,
             key,
-        } => dstm_list::member(mem, layout, key),
+        } => L::member(mem, layout, key),
         Op::Insert {
             which: Which::Tree,
             key,

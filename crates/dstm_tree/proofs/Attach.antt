@@ -1,604 +1,466 @@
 -- What was placed below a node is placed at the node.
-use Rattle.std.proofs.Common.{◌≡◌, ℕ, ◌+◌, ◌<◌, ◌≤◌, Bool, true, false, List, ◌∷◌, ◌++◌, length, slice_set, arith, refl}
-use Rattle.std.proofs.Common.{sym, ◌∙◌, ap, subst, append_assoc}
-use Rattle.std.specs.Prelude.{cond, if◌then◌else◌, IsSome}
-use Rattle.dstm_model.specs.declared.value.Val.{Val}
-use Rattle.dstm_model.specs.declared.layout.Layout.{Layout}
-use Rattle.dstm_model.specs.Store.{with_item}
-use Rattle.dstm_model.specs.Objects.{objects_of}
-use Rattle.dstm_model.specs.Map.{value_at}
-use Rattle.dstm_tree.specs.declared.node.Node.{Node}
-use Rattle.dstm_tree.specs.Tree.{Tree, node, number_of, is_red, items_of, count_of, black_height, IsOrdered}
-use Rattle.dstm_tree.specs.Objects.{object_of, node_value, Holds}
-use Rattle.dstm_tree.specs.Node.{HasTree, tree_of, val_of}
-use Rattle.dstm_tree.specs.Place.{Request, free_count, red_tree, black_tree, Keeps, Grows, IsFull, Replaces, AddsBelow}
-use Rattle.dstm_tree.specs.Place.{AddsRoot, AddsPair, Parent}
-use Rattle.dstm_tree.proofs.Items.{value_of-left, value_of-right, with_item-left, with_item-right}
-use Rattle.dstm_tree.proofs.Kept.{mark, mark-self, unmarked, Holds-kept, node_value-same, writes, Holds-written}
-use Rattle.dstm_tree.proofs.Kept.{Keeps-part, Keeps-written}
+use Rattle.dstm_tree.proofs.Base.{◌≡◌, ℕ, ◌+◌, ◌<◌, ◌≤◌, Bool, true, false, List, arith, refl, sym, ◌∙◌, ap, subst}
+use Rattle.dstm_tree.proofs.Base.{IsSome, Val, Layout, Node, Side, Left, Right, Placed, Full, Found, Added, Root, Pair}
+use Rattle.dstm_tree.proofs.Base.{Request, other, on, IsToward, Tree, number_of, is_red, items_of, count_of}
+use Rattle.dstm_tree.proofs.Base.{black_height, object_of, FitsNode, Stands, Fork, child, with_child, with_red, sided}
+use Rattle.dstm_tree.proofs.Base.{val_of, Sets, free_count, Keeps, Grows, IsFull, Replaces, AddsBelow, AddsRoot}
+use Rattle.dstm_tree.proofs.Base.{AddsPair, IsPlaced, Parent, Attaches, IsSettled, LeavesAll, blackness}
+use Rattle.dstm_tree.proofs.Kept.{mark, mark-self, Holds-kept, Stands-kept, IsFree-kept, Changes-more, wrote}
+use Rattle.dstm_tree.proofs.Kept.{Sets-apart}
+use Rattle.dstm_tree.proofs.Sides.{other-other, child-set, child-kept, child-kept_too, sided-other, sided-counts}
+use Rattle.dstm_tree.proofs.Sides.{on-counts}
+use Rattle.dstm_tree.proofs.Sides.{sided-height, items-near, items-far, turned}
+use Rattle.dstm_tree.proofs.Items.{value_of-toward, with_item-toward, with_item-toward_if}
+use Rattle.dstm_tree.proofs.Forks.{stand, not_red}
 
--- ---- a tree grows as one of its subtrees does
-
-pub Grows-left : (q : Request) (low high : ℕ) (p : Node) (l r l' : Tree) (free rest : List ℕ) →
-    IsOrdered low high (tree_of p l r) →
-    q.key < p.key → Grows q low p.key l free l' rest → Grows q low high (tree_of p l r) free (tree_of p l' r) rest
-Grows-left q low high p l r l' free rest order less h = record {
-  absent = value_of-left q.key low high p.key p.value l r order.0 order.1 less ∙ h.absent;
-  items = ap (λ xs. xs ++ (p.key, p.value) ∷ items_of r) h.items ∙
-      sym (with_item-left q.key q.value p.key p.value l r less);
-  counts = λ i. omega (arith, h.counts i);
-  height = ap (λ n. n + cond p.red 0 1) h.height;
-  order = (h.order, order.1);
-}
-
-pub Grows-right : (q : Request) (low high : ℕ) (p : Node) (l r r' : Tree) (free rest : List ℕ) →
-    IsOrdered low high (tree_of p l r) →
-    p.key < q.key → Grows q (p.key + 1) high r free r' rest → Grows q low high (tree_of p l r) free (tree_of p l r')
-    rest
-Grows-right q low high p l r r' free rest order greater h = record {
-  absent = value_of-right q.key low p.key p.value l r order.0 greater ∙ h.absent;
-  items = ap (λ xs. items_of l ++ (p.key, p.value) ∷ xs) h.items ∙
-      sym (with_item-right q.key q.value low p.key p.value l r order.0 greater);
-  counts = λ i. omega (arith, h.counts i);
-  height = refl;
-  order = (order.0, h.order);
-}
+-- ---- what was placed, seen from a side
 
 -- another tree with the same items
-pub Grows-shape : (q : Request) (low high : ℕ) (t : Tree) (free : List ℕ) (u v : Tree) (rest : List ℕ) →
-    Grows q low high t free u rest →
+pub Grows-shape : (q : Request) (t : Tree) (free : List ℕ) (u v : Tree) (rest : List ℕ) → Grows q t free u rest →
     items_of v ≡ items_of u → ((i : ℕ) → count_of i v ≡ count_of i u) → black_height v ≡ black_height u →
-    IsOrdered low high v →
-    Grows q low high t free v rest
-Grows-shape q low high t free u v rest h items counts height order = record {
+    Grows q t free v rest
+Grows-shape q t free u v rest h items counts height = record {
   absent = h.absent;
   items = items ∙ h.items;
   counts = λ i. omega (arith, counts i, h.counts i);
   height = height ∙ h.height;
-  order = order;
 }
 
--- ---- the other subtree stays
+root-other : {layout : Layout} {side : Side} {x : Node} {q : Request} {t : Tree} {free : List ℕ}
+    {before after : List Val} → AddsRoot layout side x q t free before after →
+    AddsRoot layout (other side) x q t free before after
+root-other {layout} {side} {x} {q} {t} {free} {after} h = record {
+  near = h.far;
+  far = h.near;
+  rest = h.rest;
+  grows = subst (λ u. Grows q t free u h.rest) (sym (sided-other side x h.far h.near)) h.grows;
+  red = h.red;
+  number = h.number;
+  near_stands = h.far_stands;
+  far_stands = subst (λ n. Stands layout after n h.near) (sym (other-other side x)) h.near_stands;
+  heights = sym h.heights;
+  near_black = h.far_black;
+  far_black = h.near_black;
+  keeps = h.keeps;
+}
 
-pub right_kept : (layout : Layout) (start after : List Val) (low high : ℕ) (p : Node) (l r : Tree) (free rest : List ℕ)
-    →
-    Parent layout start low high p l r free → Keeps layout start after l free rest → Holds layout after r
-right_kept layout start after low high p l r free rest h keeps =
-    Holds-kept layout start after r (λ i least most some. keeps.nodes i least most
-    (omega (arith, h.once i least most, some))) h.nodes.4
+root-seen : {layout : Layout} (side : Side) {x : Node} {q : Request} {t : Tree} {free : List ℕ}
+    {before after : List Val} → AddsRoot layout Left x q t free before after →
+    AddsRoot layout side x q t free before after
+root-seen Left h = h
+root-seen Right h = root-other h
 
-pub left_kept : (layout : Layout) (start after : List Val) (low high : ℕ) (p : Node) (l r : Tree) (free rest : List ℕ) →
-    Parent layout start low high p l r free → Keeps layout start after r free rest → Holds layout after l
-left_kept layout start after low high p l r free rest h keeps =
-    Holds-kept layout start after l (λ i least most some. keeps.nodes i least most
-    (omega (arith, h.once i least most, some))) h.nodes.3
+root-told : {layout : Layout} {side : Side} {x : Node} {q : Request} {t : Tree} {free : List ℕ}
+    {before after : List Val} → AddsRoot layout side x q t free before after →
+    AddsRoot layout Left x q t free before after
+root-told {side = Left} h = h
+root-told {side = Right} h = root-other h
 
--- the node itself has its old value as long as only a subtree was changed
-pub node_kept : (layout : Layout) (start after : List Val) (low high : ℕ) (p : Node) (l r part : Tree)
-    (free rest : List ℕ) →
-    Parent layout start low high p l r free → ((i : ℕ) → mark p.number i + count_of i part ≤ count_of i
-    (tree_of p l r)) →
-    Keeps layout start after part free rest →
-    value_at after (object_of layout p.number) ≡ node_value p.key p.red (number_of l) (number_of r) p.value
-node_kept layout start after low high p l r part free rest h within keeps =
-    keeps.nodes p.number h.nodes.0 h.nodes.1
-    (omega (arith, h.once p.number h.nodes.0 h.nodes.1, within p.number, mark-self p.number)) ∙ h.nodes.2
+-- the upper of the two nodes is seen as the lower one from the other side
+pair-other : {layout : Layout} {side : Side} {x y : Node} {q : Request} {t : Tree} {free : List ℕ}
+    {before after : List Val} → AddsPair layout side x y q t free before after →
+    AddsPair layout (other side) y x q t free before after
+pair-other {layout} {side} {x} {y} {q} {t} {free} {after} h =
+    let lower = sided side x h.first h.middle in
+    let old = sided side y lower h.last in
+    let upper = sided (other side) y h.last h.middle in
+    let new = sided (other side) x upper h.first in
+    let upper_is = sided-other side y h.last h.middle in
+    let new_is : new ≡ sided side x h.first (sided side y h.middle h.last) =
+    sided-other side x upper h.first ∙ ap (λ u. sided side x h.first u) upper_is in
+    let flat = ap blackness h.outer_red in
+    let flat_too = ap blackness h.inner_red in
+    let lower_height = sided-height side x h.first h.middle h.first_height in
+    let upper_height = sided-height side y h.middle h.last (sym h.last_height) in
+    let tall = sided-height side x h.first (sided side y h.middle h.last) (omega arith) in
+    let old_tall = sided-height side y lower h.last (omega arith) in
+    let same : black_height new ≡ black_height old = omega (arith, ap black_height new_is) in
+    record {
+      first = h.last;
+      middle = h.middle;
+      last = h.first;
+      rest = h.rest;
+      grows = Grows-shape q t free old new h.rest h.grows
+          (ap items_of new_is ∙ sym (turned side x y x y h.first h.middle h.last refl refl))
+          (λ i. omega (arith, ap (count_of i) new_is, on-counts i side)) same;
+      was_red = h.was_red;
+      outer_red = h.inner_red;
+      inner_red = h.outer_red;
+      outer_number = h.inner_number;
+      inner_number = h.outer_number;
+      first_stands = h.last_stands;
+      middle_stands = subst (λ n. Stands layout after n h.middle) (sym h.middle_is ∙ sym (other-other side y))
+          h.middle_stands;
+      middle_is = sym (other-other side y ∙ h.middle_is);
+      last_stands = subst (λ n. Stands layout after n h.first) (sym (other-other side x)) h.first_stands;
+      first_height = h.last_height;
+      last_height = h.first_height;
+      keeps = h.keeps;
+    }
 
-cases : (b c : Bool) → (b ≡ true → c ≡ true) → c ≡ false → b ≡ false
-cases true c only black = absurd (cc (only refl, black))
-cases false c only black = refl
+pair-seen : {layout : Layout} (side : Side) {x y : Node} {q : Request} {t : Tree} {free : List ℕ}
+    {before after : List Val} → AddsPair layout Left x y q t free before after →
+    AddsPair layout side (on side x y) (on side y x) q t free before after
+pair-seen Left h = h
+pair-seen Right h = pair-other h
 
--- a root that is red only if the old one was stays black where that one was
-pub not_red : (t old : Tree) → (is_red t ≡ true → is_red old ≡ true) → is_red old ≡ false → is_red t ≡ false
-not_red t old only black = cases (is_red t) (is_red old) only black
+pair-told : {layout : Layout} {side : Side} {x y : Node} {q : Request} {t : Tree} {free : List ℕ}
+    {before after : List Val} → AddsPair layout side x y q t free before after →
+    AddsPair layout Left (on side x y) (on side y x) q t free before after
+pair-told {side = Left} h = h
+pair-told {side = Right} h = pair-other h
 
--- how many black nodes a node of this colour is
-abbrev blacks : Bool → ℕ
-blacks red = cond red 0 1
-
-blacks-black : (red : Bool) → red ≡ false → blacks red ≡ 1
-blacks-black red black = ap blacks black
-
-blacks-red : (red : Bool) → red ≡ true → blacks red ≡ 0
-blacks-red red is = ap blacks is
+-- the tree and the chain keep what they kept before two of their nodes were written
+Keeps-written : (layout : Layout) (x y : ℕ) (vx vy : Val) (t : Tree) (free rest : List ℕ)
+    (start before mid after : List Val) → 0 < x → 0 < y → Sets (object_of layout x) vx before mid →
+    Sets (object_of layout y) vy mid after → ((i : ℕ) → mark x i + mark y i ≤ count_of i t + free_count i free) →
+    ((i : ℕ) → 0 < i → i ≤ layout.tree → mark x i + mark y i + free_count i rest ≤ 1) →
+    Keeps layout t free rest start before → Keeps layout t free rest start after
+Keeps-written layout x y vx vy t free rest start before mid after some_x some_y set_x set_y within once h =
+    let changes = Changes-more (wrote layout x vx before mid some_x set_x) (wrote layout y vy mid after some_y set_y) in
+    record {
+      root = changes.root ∙ h.root;
+      nodes = λ i least most none. changes.nodes i least most (omega (arith, within i)) ∙ h.nodes i least most none;
+      chain = IsFree-kept changes (λ i least most some. omega (arith, once i least most)) h.chain;
+    }
 
 -- over a red root stands a black node
-pub black_over : (b : Bool) (t : Tree) → is_red t ≡ true → (b ≡ true → is_red t ≡ false) → b ≡ false
-black_over true t red only = absurd (cc (only refl, red))
-black_over false t red only = refl
+black_over : (b red : Bool) → red ≡ true → (b ≡ true → red ≡ false) → b ≡ false
+black_over true red is only = absurd (cc (only refl, is))
+black_over false red is only = refl
 
--- ---- the left side
+-- ---- a key is placed on a side of a node
 
-pub left-full : (q : Request) (low high : ℕ) (p : Node) (l r : Tree) (free : List ℕ) (start after : List Val) →
-    IsOrdered low high (tree_of p l r) →
-    q.key < p.key → IsFull q l free start after → IsFull q (tree_of p l r) free start after
-left-full q low high p l r free start after order less h = record {
-  absent = value_of-left q.key low high p.key p.value l r order.0 order.1 less ∙ h.absent;
-  none = h.none;
-  same = h.same;
-}
+module _ (layout : Layout) (side : Side) (p : Node) (q : Request) (near far : Tree) (free : List ℕ) (start : List Val)
+    (h : Parent layout side p near far free start) (way : IsToward side q.key p.key) where
+  -- ---- a tree grows as one of its subtrees does, and the other one stays
 
-choose : (b : Bool) (f : List (ℕ × ℕ) → List (ℕ × ℕ)) (xs ys : List (ℕ × ℕ)) →
-    (if b then f xs else f ys) ≡ f (if b then xs else ys)
-choose true f xs ys = refl
-choose false f xs ys = refl
+  Grows-near : (u : Tree) (rest : List ℕ) → Grows q near free u rest →
+      Grows q (sided side p near far) free (sided side p u far) rest
+  Grows-near u rest grows = record {
+    absent = value_of-toward side q.key h.low h.high p near far h.order way ∙ grows.absent;
+    items = with_item-toward side q.key q.value h.low h.high p near far u h.order way grows.items;
+    counts = λ i. omega (arith, grows.counts i, on-counts i side);
+    height = sided-height side p u far (grows.height ∙ h.fork.heights) ∙ ap (λ n. n + blackness p.red) grows.height ∙
+        sym (sided-height side p near far h.fork.heights);
+  }
 
-pub left-found : (layout : Layout) (q : Request) (low high : ℕ) (p : Node) (l r : Tree) (free : List ℕ)
-    (start after : List Val) →
-    Parent layout start low high p l r free → q.key < p.key → Replaces layout q low p.key l free start after →
-    Replaces layout q low high (tree_of p l r) free start after
-left-found layout q low high p l r free start after h less found =
-    let zs = (p.key, p.value) ∷ items_of r in
-    let with = with_item q.key q.value in
-    record {
-      tree = tree_of p found.tree r;
-      present = subst (λ o. IsSome o) (sym (value_of-left q.key low high p.key p.value l r h.order.0 h.order.1 less))
-          found.present;
-      items = ap (λ xs. xs ++ zs) found.items ∙ sym (choose q.replaces (λ xs. xs ++ zs) (with (items_of l))
-          (items_of l))
-          ∙ ap (λ xs. if q.replaces then xs else (items_of l ++ zs))
-          (sym (with_item-left q.key q.value p.key p.value l r less));
-      counts = λ i. omega (arith, found.counts i);
-      height = ap (λ n. n + cond p.red 0 1) found.height;
-      order = (found.order, h.order.1);
-      root = refl;
-      colour = refl;
-      nodes = (
-        h.nodes.0,
-        h.nodes.1,
-        node_kept layout start after low high p l r l free free h (λ i. omega arith) found.keeps
-            ∙ node_value-same p.key p.value p.red p.red (number_of l) (number_of found.tree) (number_of r)
-            (number_of r) refl (sym found.root) refl,
-        found.nodes,
-        right_kept layout start after low high p l r free free h found.keeps,
-      );
-      balanced = (
-        found.height ∙ h.balanced.0,
-        λ red. (found.colour ∙ (h.balanced.1 red).0, (h.balanced.1 red).1),
-        found.balanced,
-        h.balanced.3,
-      );
-      keeps = Keeps-part layout start after l (tree_of p l r) free free (λ i. omega arith) found.keeps;
-    }
+  once-in : (i : ℕ) → 0 < i → i ≤ layout.tree →
+      mark p.number i + count_of i near + count_of i far + free_count i free ≤ 1
+  once-in i least most =
+      omega (arith, h.once i least most, on-counts i side)
 
-pub left-added : (layout : Layout) (q : Request) (low high : ℕ) (p : Node) (l r : Tree) (free : List ℕ)
-    (start after : List Val) →
-    Parent layout start low high p l r free → q.key < p.key → AddsBelow layout q low p.key l free start after →
-    AddsBelow layout q low high (tree_of p l r) free start after
-left-added layout q low high p l r free start after h less added = record {
-  tree = tree_of p added.tree r;
-  rest = added.rest;
-  grows = Grows-left q low high p l r added.tree free added.rest h.order less added.grows;
-  keeps = Keeps-part layout start after l (tree_of p l r) free added.rest (λ i. omega arith) added.keeps;
-  root = refl;
-  colour = λ e. e;
-  nodes = (
-    h.nodes.0,
-    h.nodes.1,
-    node_kept layout start after low high p l r l free added.rest h (λ i. omega arith) added.keeps
-        ∙ node_value-same p.key p.value p.red p.red (number_of l) (number_of added.tree) (number_of r) (number_of r)
-        refl (sym added.root) refl,
-    added.nodes,
-    right_kept layout start after low high p l r free added.rest h added.keeps,
-  );
-  balanced = (
-    added.grows.height ∙ h.balanced.0,
-    λ red. (not_red added.tree l added.colour (h.balanced.1 red).0, (h.balanced.1 red).1),
-    added.balanced,
-    h.balanced.3,
-  );
-}
+  Keeps-whole : (rest : List ℕ) (after : List Val) → Keeps layout near free rest start after →
+      Keeps layout (sided side p near far) free rest start after
+  Keeps-whole rest after h = record {
+    root = h.root;
+    nodes = λ i least most none. h.nodes i least most (omega (arith, on-counts i side));
+    chain = h.chain;
+  }
 
--- a red node under a red one
-pub left-pair : (layout : Layout) (q : Request) (low high : ℕ) (p : Node) (l r : Tree) (free : List ℕ)
-    (start after : List Val) (x : Node) →
-    Parent layout start low high p l r free → q.key < p.key → p.red ≡ true →
-    AddsRoot layout q low p.key l free start after x →
-    AddsPair layout q low high (tree_of p l r) free start after x (record p { left = x.right })
-left-pair layout q low high p l r free start after x h less red added = record {
-  left = added.left;
-  middle = added.right;
-  right = r;
-  rest = added.rest;
-  grows = subst
-      (λ c. Grows q low high (tree_of p l r) free (node p.number c (red_tree x added.left added.right) p.key p.value r)
-      added.rest) red
-      (Grows-left q low high p l r (red_tree x added.left added.right) free added.rest h.order less added.grows);
-  keeps = Keeps-part layout start after l (tree_of p l r) free added.rest (λ i. omega arith) added.keeps;
-  was_red = red;
-  lesser_red = added.red;
-  greater_red = red;
-  lesser = added.number;
-  greater = h.nodes.0;
-  left_is = added.left_is;
-  middle_is = added.right_is;
-  middle_is_too = added.right_is;
-  right_is = h.right_is;
-  nodes_left = added.nodes_left;
-  nodes_middle = added.nodes_right;
-  nodes_right = right_kept layout start after low high p l r free added.rest h added.keeps;
-  left_height = added.balanced.0;
-  right_height = omega (arith, h.balanced.0, added.grows.height, added.balanced.0);
-  left_balanced = added.balanced.2;
-  middle_balanced = added.balanced.3;
-  right_balanced = h.balanced.3;
-}
+  far-kept : (rest : List ℕ) (after : List Val) → Keeps layout near free rest start after →
+      Stands layout after (child (other side) p) far
+  far-kept rest after keeps = record {
+    root = h.fork.far_stands.root;
+    nodes = Holds-kept layout start after far
+        (λ i least most some. keeps.nodes i least most (omega (arith, once-in i least most))) h.fork.far_stands.nodes;
+    balanced = h.fork.far_stands.balanced;
+  }
 
--- a red node under a black one
-pub left-hung : (layout : Layout) (q : Request) (low high : ℕ) (p : Node) (l r : Tree) (free : List ℕ)
-    (start before after : List Val) (x : Node) →
-    HasTree layout → length before ≡ objects_of layout → x.number ≤ layout.tree →
-    Parent layout start low high p l r free → q.key < p.key →
-    p.red ≡ false → AddsRoot layout q low p.key l free start before x →
-    after ≡ slice_set (slice_set before (object_of layout x.number) (val_of x)) (object_of layout p.number)
-    (val_of (record p { left = x.number })) →
-    AddsBelow layout q low high (tree_of p l r) free start after
-left-hung layout q low high p l r free start before after x has size in_x h less black added is =
-    let child = red_tree x added.left added.right in
-    let grows = Grows-left q low high p l r child free added.rest h.order less added.grows in
-    let vx = val_of x in
-    let vp = val_of (record p { left = x.number }) in
-    let once : (i : ℕ) → 0 < i → i ≤ layout.tree →
-    mark p.number i + (mark x.number i + count_of i added.left + count_of i added.right) + count_of i r + free_count i
-    added.rest ≤ 1 =
-    λ i least most. omega (arith, grows.counts i, h.once i least most) in
-    let apart : x.number ≡ p.number → ⊥ =
-    unmarked p.number x.number (omega (arith, once x.number added.number in_x, mark-self x.number)) in
-    let w = writes layout before after x.number vx p.number vp has size in_x h.nodes.1 apart is in
-    record {
-      tree = tree_of p child r;
-      rest = added.rest;
-      grows = grows;
-      keeps = Keeps-written layout start before after x.number vx p.number vp (tree_of p l r) free added.rest w
-          added.number h.nodes.0
-          (λ i. omega (arith, grows.counts i)) (λ i least most. omega (arith, once i least most))
-          (Keeps-part layout start before l (tree_of p l r) free added.rest (λ i. omega arith) added.keeps);
-      root = refl;
-      colour = λ e. e;
-      nodes = (
-        h.nodes.0,
-        h.nodes.1,
-        w.second ∙ node_value-same p.key p.value p.red p.red x.number x.number p.right (number_of r) refl refl
-            (sym h.right_is),
-        (
-          added.number,
-          in_x,
-          w.first ∙ node_value-same x.key x.value x.red true x.left (number_of added.left) x.right
-              (number_of added.right)
-              added.red (sym added.left_is) (sym added.right_is),
-          Holds-written layout before after x.number vx p.number vp added.left w
-              (λ i least most. omega (arith, once i least most)) added.nodes_left,
-          Holds-written layout before after x.number vx p.number vp added.right w
-              (λ i least most. omega (arith, once i least most)) added.nodes_right,
-        ),
-        Holds-written layout before after x.number vx p.number vp r w (λ i least most. omega (arith, once i least most))
-            (right_kept layout start before low high p l r free added.rest h added.keeps),
-      );
-      balanced = (added.grows.height ∙ h.balanced.0, λ red. absurd (cc (red, black)), added.balanced, h.balanced.3);
-    }
+  -- the node with another near subtree, where only that was changed
+  hang : (u : Tree) (rest : List ℕ) (after : List Val) → Keeps layout near free rest start after →
+      Stands layout after (number_of near) u → black_height u ≡ black_height near →
+      (is_red near ≡ false → is_red u ≡ false) → Stands layout after p.number (sided side p u far)
+  hang u rest after keeps stands height colour =
+      stand layout after side p u far (record {
+        number = h.fork.number;
+        within = h.fork.within;
+        value = keeps.nodes p.number h.fork.number h.fork.within
+            (omega (arith, once-in p.number h.fork.number h.fork.within, mark-self p.number)) ∙ h.fork.value;
+        near_stands = subst (λ n. Stands layout after n u) h.fork.near_stands.root stands;
+        far_stands = far-kept rest after keeps;
+        heights = height ∙ h.fork.heights;
+        colours = λ red. (colour (h.fork.colours red).0, (h.fork.colours red).1);
+      })
 
--- two red nodes under a black one: a rotation
-pub left-rotated : (layout : Layout) (q : Request) (low high : ℕ) (p : Node) (l r : Tree) (free : List ℕ)
-    (start before after : List Val) (x y : Node) →
-    HasTree layout → length before ≡ objects_of layout → x.number ≤ layout.tree →
-    Parent layout start low high p l r free → q.key < p.key →
-    AddsPair layout q low p.key l free start before x y →
-    after ≡ slice_set (slice_set before (object_of layout x.number) (val_of (record x { red = false })))
-    (object_of layout p.number) (val_of (record p { left = y.right })) →
-    AddsRoot layout q low high (tree_of p l r) free start after (record y { left = x.number; right = p.number })
-left-rotated layout q low high p l r free start before after x y has size in_x h less added is =
-    let child = red_tree y (red_tree x added.left added.middle) added.right in
-    let old = Grows-left q low high p l r child free added.rest h.order less added.grows in
-    let black = black_over p.red l added.was_red (λ e. (h.balanced.1 e).0) in
-    let lesser = black_tree x added.left added.middle in
-    let greater = black_tree p added.right r in
-    let order = old.order in
-    let grows = Grows-shape q low high (tree_of p l r) free (tree_of p child r) (red_tree y lesser greater) added.rest
-    old
-    (sym (append_assoc (items_of (red_tree x added.left added.middle)) ((y.key, y.value) ∷ items_of added.right)
-    ((p.key, p.value) ∷ items_of r)))
-    (λ i. omega arith)
-    (omega (arith, blacks-black p.red black))
-    ((order.0.0, (order.0.1, order.1))) in
-    let vx = val_of (record x { red = false }) in
-    let vp = val_of (record p { left = y.right }) in
-    let once : (i : ℕ) → 0 < i → i ≤ layout.tree →
-    mark y.number i + (mark x.number i + count_of i added.left + count_of i added.middle)
-    + (mark p.number i + count_of i added.right + count_of i r) + free_count i added.rest ≤ 1 =
-    λ i least most. omega (arith, grows.counts i, h.once i least most) in
-    let apart : x.number ≡ p.number → ⊥ =
-    unmarked p.number x.number (omega (arith, once x.number added.lesser in_x, mark-self x.number)) in
-    let w = writes layout before after x.number vx p.number vp has size in_x h.nodes.1 apart is in
-    record {
-      left = lesser;
-      right = greater;
-      rest = added.rest;
-      grows = grows;
-      keeps = Keeps-written layout start before after x.number vx p.number vp (tree_of p l r) free added.rest w
-          added.lesser h.nodes.0
-          (λ i. omega (arith, grows.counts i)) (λ i least most. omega (arith, once i least most))
-          (Keeps-part layout start before l (tree_of p l r) free added.rest (λ i. omega arith) added.keeps);
-      red = added.greater_red;
-      number = added.greater;
-      left_is = refl;
-      right_is = refl;
-      nodes_left = (
-        added.lesser,
-        in_x,
-        w.first ∙ node_value-same x.key x.value false false x.left (number_of added.left) x.right
-            (number_of added.middle)
-            refl (sym added.left_is) (sym added.middle_is),
-        Holds-written layout before after x.number vx p.number vp added.left w
-            (λ i least most. omega (arith, once i least most)) added.nodes_left,
-        Holds-written layout before after x.number vx p.number vp added.middle w
-            (λ i least most. omega (arith, once i least most)) added.nodes_middle,
-      );
-      nodes_right = (
-        h.nodes.0,
-        h.nodes.1,
-        w.second ∙ node_value-same p.key p.value p.red false y.right (number_of added.right) p.right (number_of r)
-            black (sym added.right_is) (sym h.right_is),
-        Holds-written layout before after x.number vx p.number vp added.right w
-            (λ i least most. omega (arith, once i least most)) added.nodes_right,
-        Holds-written layout before after x.number vx p.number vp r w (λ i least most. omega (arith, once i least most))
-            (right_kept layout start before low high p l r free added.rest h added.keeps),
-      );
-      balanced = (
-        omega (arith, added.left_height, added.right_height),
-        λ _. (refl, refl),
-        (added.left_height, λ e. absurd (cc e), added.left_balanced, added.middle_balanced),
-        (
-          omega (arith, h.balanced.0, added.grows.height, added.left_height, added.right_height),
-          λ e. absurd (cc e),
-          added.right_balanced,
-          h.balanced.3,
-        ),
-      );
-    }
+  attach-full : (after : List Val) → IsFull q near free start after → IsFull q (sided side p near far) free start after
+  attach-full after full = record {
+    absent = value_of-toward side q.key h.low h.high p near far h.order way ∙ full.absent;
+    none = full.none;
+    same = full.same;
+  }
 
--- ---- the right side
+  attach-found : (after : List Val) → Replaces layout q near free start after →
+      Replaces layout q (sided side p near far) free start after
+  attach-found after found = record {
+    tree = sided side p found.tree far;
+    present = subst (λ o. IsSome o) (sym (value_of-toward side q.key h.low h.high p near far h.order way))
+        found.present;
+    items = with_item-toward_if q.replaces side q.key q.value h.low h.high p near far found.tree h.order way
+        found.items;
+    counts = λ i. omega (arith, found.counts i, on-counts i side);
+    height = sided-height side p found.tree far (found.height ∙ h.fork.heights) ∙ ap (λ n. n + blackness p.red)
+        found.height ∙ sym (sided-height side p near far h.fork.heights);
+    colour = refl;
+    stands = hang found.tree free after found.keeps found.stands found.height (λ black. found.colour ∙ black);
+    keeps = Keeps-whole free after found.keeps;
+  }
 
-pub right-full : (q : Request) (low high : ℕ) (p : Node) (l r : Tree) (free : List ℕ) (start after : List Val) →
-    IsOrdered low high (tree_of p l r) →
-    p.key < q.key → IsFull q r free start after → IsFull q (tree_of p l r) free start after
-right-full q low high p l r free start after order greater h = record {
-  absent = value_of-right q.key low p.key p.value l r order.0 greater ∙ h.absent;
-  none = h.none;
-  same = h.same;
-}
+  attach-added : (after : List Val) → AddsBelow layout q near free start after →
+      AddsBelow layout q (sided side p near far) free start after
+  attach-added after added = record {
+    tree = sided side p added.tree far;
+    rest = added.rest;
+    grows = Grows-near added.tree added.rest added.grows;
+    colour = λ e. e;
+    stands = hang added.tree added.rest after added.keeps added.stands added.grows.height
+        (λ black. not_red added.tree near added.colour black);
+    keeps = Keeps-whole added.rest after added.keeps;
+  }
 
-pub right-found : (layout : Layout) (q : Request) (low high : ℕ) (p : Node) (l r : Tree) (free : List ℕ)
-    (start after : List Val) →
-    Parent layout start low high p l r free → p.key < q.key → Replaces layout q (p.key + 1) high r free start after →
-    Replaces layout q low high (tree_of p l r) free start after
-right-found layout q low high p l r free start after h greater found =
-    let over = λ (xs : List (ℕ × ℕ)). items_of l ++ (p.key, p.value) ∷ xs in
-    let with = with_item q.key q.value in
-    record {
-      tree = tree_of p l found.tree;
-      present = subst (λ o. IsSome o) (sym (value_of-right q.key low p.key p.value l r h.order.0 greater))
-          found.present;
-      items = ap over found.items ∙ sym (choose q.replaces over (with (items_of r)) (items_of r))
-          ∙ ap (λ xs. if q.replaces then xs else (over (items_of r)))
-          (sym (with_item-right q.key q.value low p.key p.value l r h.order.0 greater));
-      counts = λ i. omega (arith, found.counts i);
-      height = refl;
-      order = (h.order.0, found.order);
-      root = refl;
-      colour = refl;
-      nodes = (
-        h.nodes.0,
-        h.nodes.1,
-        node_kept layout start after low high p l r r free free h (λ i. omega arith) found.keeps
-            ∙ node_value-same p.key p.value p.red p.red (number_of l) (number_of l) (number_of r)
-            (number_of found.tree) refl refl (sym found.root),
-        left_kept layout start after low high p l r free free h found.keeps,
-        found.nodes,
-      );
-      balanced = (
-        h.balanced.0 ∙ sym found.height,
-        λ red. ((h.balanced.1 red).0, found.colour ∙ (h.balanced.1 red).1),
-        h.balanced.2,
-        found.balanced,
-      );
-      keeps = Keeps-part layout start after r (tree_of p l r) free free (λ i. omega arith) found.keeps;
-    }
+  -- a red node under a red one
+  attach-pair : (x : Node) (after : List Val) → p.red ≡ true → AddsRoot layout side x q near free start after →
+      AddsPair layout side x (with_child side (child (other side) x) p) q (sided side p near far) free start after
+  attach-pair x after red added =
+      let under = sided side x added.near added.far in
+      let high = sided-height side x added.near added.far added.heights in
+      record {
+        first = added.near;
+        middle = added.far;
+        last = far;
+        rest = added.rest;
+        grows = Grows-near under added.rest added.grows;
+        was_red = red;
+        outer_red = added.red;
+        inner_red = red;
+        outer_number = added.number;
+        inner_number = h.fork.number;
+        first_stands = added.near_stands;
+        middle_stands = added.far_stands;
+        middle_is = child-set side (child (other side) x) p;
+        last_stands = subst (λ n. Stands layout after n far) (sym (child-kept side (child (other side) x) p))
+            (far-kept added.rest after added.keeps);
+        first_height = added.heights;
+        last_height = omega (arith, ap blackness added.red);
+        keeps = Keeps-whole added.rest after added.keeps;
+      }
 
-pub right-added : (layout : Layout) (q : Request) (low high : ℕ) (p : Node) (l r : Tree) (free : List ℕ)
-    (start after : List Val) →
-    Parent layout start low high p l r free → p.key < q.key → AddsBelow layout q (p.key + 1) high r free start after →
-    AddsBelow layout q low high (tree_of p l r) free start after
-right-added layout q low high p l r free start after h greater added = record {
-  tree = tree_of p l added.tree;
-  rest = added.rest;
-  grows = Grows-right q low high p l r added.tree free added.rest h.order greater added.grows;
-  keeps = Keeps-part layout start after r (tree_of p l r) free added.rest (λ i. omega arith) added.keeps;
-  root = refl;
-  colour = λ e. e;
-  nodes = (
-    h.nodes.0,
-    h.nodes.1,
-    node_kept layout start after low high p l r r free added.rest h (λ i. omega arith) added.keeps
-        ∙ node_value-same p.key p.value p.red p.red (number_of l) (number_of l) (number_of r) (number_of added.tree)
-        refl refl (sym added.root),
-    left_kept layout start after low high p l r free added.rest h added.keeps,
-    added.nodes,
-  );
-  balanced = (
-    h.balanced.0 ∙ sym added.grows.height,
-    λ red. ((h.balanced.1 red).0, not_red added.tree r added.colour (h.balanced.1 red).1),
-    h.balanced.2,
-    added.balanced,
-  );
-}
+  -- a red node under a black one
+  attach-hung : (x : Node) (before mid after : List Val) → x.number ≤ layout.tree → p.red ≡ false →
+      AddsRoot layout side x q near free start before → Sets (object_of layout x.number) (val_of x) before mid →
+      Sets (object_of layout p.number) (val_of (with_child side x.number p)) mid after →
+      AddsBelow layout q (sided side p near far) free start after
+  attach-hung x before mid after in_x black added set_x set_p =
+      let under = sided side x added.near added.far in
+      let p' = with_child side x.number p in
+      let grows = Grows-near under added.rest added.grows in
+      let inner = sided-counts side x added.near added.far in
+      let once : (i : ℕ) → 0 < i → i ≤ layout.tree → mark p.number i + (mark x.number i + count_of i added.near
+      + count_of i added.far) + count_of i far + free_count i added.rest ≤ 1 =
+      λ i least most. omega (arith, added.grows.counts i, inner i, once-in i least most) in
+      let apart : mark x.number p.number ≡ 0 =
+      omega (arith, once p.number h.fork.number h.fork.within, mark-self p.number) in
+      let changes = Changes-more (wrote layout x.number (val_of x) before mid added.number set_x)
+      (wrote layout p.number (val_of p') mid after h.fork.number set_p) in
+      let touched = λ (i : ℕ). mark x.number i + mark p.number i in
+      let fork_x : Fork layout after side x added.near added.far = record {
+        number = added.number;
+        within = in_x;
+        value = Sets-apart layout p.number x.number (val_of p') mid after apart set_p ∙ set_x.is;
+        near_stands = Stands-kept changes (λ i least most some. omega (arith, once i least most)) added.near_stands;
+        far_stands = Stands-kept changes (λ i least most some. omega (arith, once i least most)) added.far_stands;
+        heights = added.heights;
+        colours = λ _. (added.near_black, added.far_black);
+      } in
+      record {
+        tree = sided side p' under far;
+        rest = added.rest;
+        grows = grows;
+        colour = λ e. e;
+        stands = stand layout after side p' under far (record {
+          number = h.fork.number;
+          within = h.fork.within;
+          value = set_p.is;
+          near_stands = subst (λ n. Stands layout after n under) (sym (child-set side x.number p))
+              (stand layout after side x added.near added.far fork_x);
+          far_stands = subst (λ n. Stands layout after n far) (sym (child-kept side x.number p)) (Stands-kept changes
+              (λ i least most some. omega (arith, once i least most)) (far-kept added.rest before added.keeps));
+          heights = added.grows.height ∙ h.fork.heights;
+          colours = λ red. absurd (cc (red, black));
+        });
+        keeps = Keeps-written layout x.number p.number (val_of x) (val_of p') (sided side p near far) free added.rest
+            start before mid after added.number h.fork.number set_x set_p
+            (λ i. omega (arith, added.grows.counts i, inner i, on-counts i side))
+            (λ i least most. omega (arith, once i least most)) (Keeps-whole added.rest before added.keeps);
+      }
 
-pub right-pair : (layout : Layout) (q : Request) (low high : ℕ) (p : Node) (l r : Tree) (free : List ℕ)
-    (start after : List Val) (x : Node) →
-    Parent layout start low high p l r free → p.key < q.key → p.red ≡ true →
-    AddsRoot layout q (p.key + 1) high r free start after x →
-    AddsPair layout q low high (tree_of p l r) free start after (record p { right = x.left }) x
-right-pair layout q low high p l r free start after x h greater red added =
-    let child = red_tree x added.left added.right in
-    let old = Grows-right q low high p l r child free added.rest h.order greater added.grows in
-    record {
-      left = l;
-      middle = added.left;
-      right = added.right;
-      rest = added.rest;
-      grows = Grows-shape q low high (tree_of p l r) free (tree_of p l child)
-          (red_tree x (red_tree p l added.left) added.right) added.rest old
-          (append_assoc (items_of l) ((p.key, p.value) ∷ items_of added.left) ((x.key, x.value) ∷ items_of added.right))
-          (λ i. omega arith)
-          (omega (arith, blacks-red p.red red))
-          ((old.order.0, old.order.1.0), old.order.1.1);
-      keeps = Keeps-part layout start after r (tree_of p l r) free added.rest (λ i. omega arith) added.keeps;
-      was_red = red;
-      lesser_red = red;
-      greater_red = added.red;
-      lesser = h.nodes.0;
-      greater = added.number;
-      left_is = h.left_is;
-      middle_is = added.left_is;
-      middle_is_too = added.left_is;
-      right_is = added.right_is;
-      nodes_left = left_kept layout start after low high p l r free added.rest h added.keeps;
-      nodes_middle = added.nodes_left;
-      nodes_right = added.nodes_right;
-      left_height = omega (arith, h.balanced.0, added.grows.height);
-      right_height = sym added.balanced.0;
-      left_balanced = h.balanced.2;
-      middle_balanced = added.balanced.2;
-      right_balanced = added.balanced.3;
-    }
+  -- two red nodes under a black one: a rotation
+  --
+  --              p               inner
+  --            /   \             /   \
+  --        inner    far      outer     p
+  --        /   \             / \      / \
+  --    outer    c           a   b    c   far
+  --     / \
+  --    a   b
+  attach-rotated : (x y : Node) (before mid after : List Val) → x.number ≤ layout.tree →
+      AddsPair layout side x y q near free start before →
+      Sets (object_of layout x.number) (val_of (with_red false x)) before mid →
+      Sets (object_of layout p.number) (val_of (with_child side (child (other side) y) p)) mid after → AddsRoot layout
+      side (with_child (other side) p.number (with_child side x.number y)) q (sided side p near far) free start after
+  attach-rotated x y before mid after in_x added set_x set_p =
+      let a = added.first in
+      let b = added.middle in
+      let c = added.last in
+      let lower = sided side x a b in
+      let under = sided side y lower c in
+      let x' = with_red false x in
+      let p' = with_child side (child (other side) y) p in
+      let y' = with_child (other side) p.number (with_child side x.number y) in
+      let old = Grows-near under added.rest added.grows in
+      let black = black_over p.red (is_red near) added.was_red (λ e. (h.fork.colours e).0) in
+      let high = sided-height side x a b added.first_height in
+      let high_y = sided-height side y lower c (omega (arith, ap blackness added.outer_red)) in
+      let flat = ap blackness added.outer_red in
+      let flat_y = ap blackness added.inner_red in
+      let high_p = sided-height side p' c far (omega arith) in
+      let high_x = sided-height side x' a b added.first_height in
+      let same : black_height (sided side x' a b) ≡ black_height (sided side p' c far) =
+      omega (arith, ap blackness black) in
+      let count_x = sided-counts side x a b in
+      let count_y = sided-counts side y lower c in
+      let once : (i : ℕ) → 0 < i → i ≤ layout.tree → mark y.number i + (mark x.number i + count_of i a + count_of i b)
+      + (mark p.number i + count_of i c + count_of i far) + free_count i added.rest ≤ 1 =
+      λ i least most. omega (arith, added.grows.counts i, count_x i, count_y i, once-in i least most) in
+      let tall = sided-height side y' (sided side x' a b) (sided side p' c far) same in
+      let old_tall = sided-height side p under far (added.grows.height ∙ h.fork.heights) in
+      let changes = Changes-more (wrote layout x.number (val_of x') before mid added.outer_number set_x)
+      (wrote layout p.number (val_of p') mid after h.fork.number set_p) in
+      let touched = λ (i : ℕ). mark x.number i + mark p.number i in
+      let stays = λ (n : ℕ) (u : Tree) (within : (i : ℕ) → count_of i u + touched i ≤ mark y.number i +
+      (mark x.number i + count_of i a + count_of i b) + (mark p.number i + count_of i c + count_of i far))
+      (s : Stands layout before n u).
+      Stands-kept changes (λ i least most some. omega (arith, once i least most, within i)) s in
+      let fork_x : Fork layout after side x' a b = record {
+        number = added.outer_number;
+        within = in_x;
+        value = Sets-apart layout p.number x.number (val_of p') mid after
+            (omega (arith, once p.number h.fork.number h.fork.within, mark-self p.number)) set_p ∙ set_x.is;
+        near_stands = stays (child side x) a (λ i. omega arith) added.first_stands;
+        far_stands = stays (child (other side) x) b (λ i. omega arith) added.middle_stands;
+        heights = added.first_height;
+        colours = λ e. absurd (cc e);
+      } in
+      let fork_p : Fork layout after side p' c far = record {
+        number = h.fork.number;
+        within = h.fork.within;
+        value = set_p.is;
+        near_stands = subst (λ n. Stands layout after n c) (sym (child-set side (child (other side) y) p))
+            (stays (child (other side) y) c (λ i. omega arith) added.last_stands);
+        far_stands = subst (λ n. Stands layout after n far) (sym (child-kept side (child (other side) y) p))
+            (stays (child (other side) p) far (λ i. omega arith) (far-kept added.rest before added.keeps));
+        heights = omega arith;
+        colours = λ e. absurd (cc (e, black));
+      } in
+      record {
+        near = sided side x' a b;
+        far = sided side p' c far;
+        rest = added.rest;
+        grows = Grows-shape q (sided side p near far) free (sided side p under far)
+            (sided side y' (sided side x' a b) (sided side p' c far)) added.rest old (items-near side y'
+            (sided side x' a b) lower (sided side p' c far) refl ∙ items-far side y' lower (sided side p' c far)
+            (sided side p c far) refl ∙ sym (turned side y p y p lower c far refl refl))
+            (λ i. omega (arith, count_x i, count_y i, on-counts i side)) (omega (arith, ap blackness black));
+        red = added.inner_red;
+        number = added.inner_number;
+        near_stands = subst (λ n. Stands layout after n (sided side x' a b))
+            (sym (child-kept_too side p.number (with_child side x.number y) ∙ child-set side x.number y))
+            (stand layout after side x' a b fork_x);
+        far_stands = subst (λ n. Stands layout after n (sided side p' c far))
+            (sym (child-set (other side) p.number (with_child side x.number y)))
+            (stand layout after side p' c far fork_p);
+        heights = same;
+        near_black = refl;
+        far_black = black;
+        keeps = Keeps-written layout x.number p.number (val_of x') (val_of p') (sided side p near far) free added.rest
+            start before mid after added.outer_number h.fork.number set_x set_p
+            (λ i. omega (arith, added.grows.counts i, count_x i, count_y i, on-counts i side))
+            (λ i least most. omega (arith, once i least most)) (Keeps-whole added.rest before added.keeps);
+      }
 
-pub right-hung : (layout : Layout) (q : Request) (low high : ℕ) (p : Node) (l r : Tree) (free : List ℕ)
-    (start before after : List Val) (x : Node) →
-    HasTree layout → length before ≡ objects_of layout → x.number ≤ layout.tree →
-    Parent layout start low high p l r free → p.key < q.key →
-    p.red ≡ false → AddsRoot layout q (p.key + 1) high r free start before x →
-    after ≡ slice_set (slice_set before (object_of layout x.number) (val_of x)) (object_of layout p.number)
-    (val_of (record p { right = x.number })) →
-    AddsBelow layout q low high (tree_of p l r) free start after
-right-hung layout q low high p l r free start before after x has size in_x h greater black added is =
-    let child = red_tree x added.left added.right in
-    let grows = Grows-right q low high p l r child free added.rest h.order greater added.grows in
-    let vx = val_of x in
-    let vp = val_of (record p { right = x.number }) in
-    let once : (i : ℕ) → 0 < i → i ≤ layout.tree →
-    mark p.number i + count_of i l + (mark x.number i + count_of i added.left + count_of i added.right) + free_count i
-    added.rest ≤ 1 =
-    λ i least most. omega (arith, grows.counts i, h.once i least most) in
-    let apart : x.number ≡ p.number → ⊥ =
-    unmarked p.number x.number (omega (arith, once x.number added.number in_x, mark-self x.number)) in
-    let w = writes layout before after x.number vx p.number vp has size in_x h.nodes.1 apart is in
-    record {
-      tree = tree_of p l child;
-      rest = added.rest;
-      grows = grows;
-      keeps = Keeps-written layout start before after x.number vx p.number vp (tree_of p l r) free added.rest w
-          added.number h.nodes.0
-          (λ i. omega (arith, grows.counts i)) (λ i least most. omega (arith, once i least most))
-          (Keeps-part layout start before r (tree_of p l r) free added.rest (λ i. omega arith) added.keeps);
-      root = refl;
-      colour = λ e. e;
-      nodes = (
-        h.nodes.0,
-        h.nodes.1,
-        w.second ∙ node_value-same p.key p.value p.red p.red p.left (number_of l) x.number x.number refl
-            (sym h.left_is) refl,
-        Holds-written layout before after x.number vx p.number vp l w (λ i least most. omega (arith, once i least most))
-            (left_kept layout start before low high p l r free added.rest h added.keeps),
-        (
-          added.number,
-          in_x,
-          w.first ∙ node_value-same x.key x.value x.red true x.left (number_of added.left) x.right
-              (number_of added.right)
-              added.red (sym added.left_is) (sym added.right_is),
-          Holds-written layout before after x.number vx p.number vp added.left w
-              (λ i least most. omega (arith, once i least most)) added.nodes_left,
-          Holds-written layout before after x.number vx p.number vp added.right w
-              (λ i least most. omega (arith, once i least most)) added.nodes_right,
-        ),
-      );
-      balanced = (h.balanced.0 ∙ sym added.grows.height, λ red. absurd (cc (red, black)), h.balanced.2, added.balanced);
-    }
+-- ---- the same, as the code comes to it
 
-pub right-rotated : (layout : Layout) (q : Request) (low high : ℕ) (p : Node) (l r : Tree) (free : List ℕ)
-    (start before after : List Val) (x y : Node) →
-    HasTree layout → length before ≡ objects_of layout → y.number ≤ layout.tree →
-    Parent layout start low high p l r free → p.key < q.key →
-    AddsPair layout q (p.key + 1) high r free start before x y →
-    after ≡ slice_set (slice_set before (object_of layout y.number) (val_of (record y { red = false })))
-    (object_of layout p.number) (val_of (record p { right = x.left })) →
-    AddsRoot layout q low high (tree_of p l r) free start after (record x { left = p.number; right = y.number })
-right-rotated layout q low high p l r free start before after x y has size in_y h greater_key added is =
-    let child = red_tree y (red_tree x added.left added.middle) added.right in
-    let old = Grows-right q low high p l r child free added.rest h.order greater_key added.grows in
-    let black = black_over p.red r added.was_red (λ e. (h.balanced.1 e).1) in
-    let lesser = black_tree p l added.left in
-    let greater = black_tree y added.middle added.right in
-    let order = old.order in
-    let grows = Grows-shape q low high (tree_of p l r) free (tree_of p l child) (red_tree x lesser greater) added.rest
-    old
-    (append_assoc (items_of l) ((p.key, p.value) ∷ items_of added.left) ((x.key, x.value) ∷ items_of greater)
-    ∙ ap (λ xs. items_of l ++ (p.key, p.value) ∷ xs)
-    (sym (append_assoc (items_of added.left) ((x.key, x.value) ∷ items_of added.middle)
-    ((y.key, y.value) ∷ items_of added.right))))
-    (λ i. omega arith)
-    (omega (arith, blacks-black p.red black))
-    ((order.0, order.1.0.0), (order.1.0.1, order.1.1)) in
-    let vy = val_of (record y { red = false }) in
-    let vp = val_of (record p { right = x.left }) in
-    let once : (i : ℕ) → 0 < i → i ≤ layout.tree →
-    mark x.number i + (mark p.number i + count_of i l + count_of i added.left)
-    + (mark y.number i + count_of i added.middle + count_of i added.right) + free_count i added.rest ≤ 1 =
-    λ i least most. omega (arith, grows.counts i, h.once i least most) in
-    let apart : y.number ≡ p.number → ⊥ =
-    unmarked p.number y.number (omega (arith, once y.number added.greater in_y, mark-self y.number)) in
-    let w = writes layout before after y.number vy p.number vp has size in_y h.nodes.1 apart is in
-    record {
-      left = lesser;
-      right = greater;
-      rest = added.rest;
-      grows = grows;
-      keeps = Keeps-written layout start before after y.number vy p.number vp (tree_of p l r) free added.rest w
-          added.greater h.nodes.0
-          (λ i. omega (arith, grows.counts i)) (λ i least most. omega (arith, once i least most))
-          (Keeps-part layout start before r (tree_of p l r) free added.rest (λ i. omega arith) added.keeps);
-      red = added.lesser_red;
-      number = added.lesser;
-      left_is = refl;
-      right_is = refl;
-      nodes_left = (
-        h.nodes.0,
-        h.nodes.1,
-        w.second ∙ node_value-same p.key p.value p.red false p.left (number_of l) x.left (number_of added.left)
-            black (sym h.left_is) (sym added.left_is),
-        Holds-written layout before after y.number vy p.number vp l w (λ i least most. omega (arith, once i least most))
-            (left_kept layout start before low high p l r free added.rest h added.keeps),
-        Holds-written layout before after y.number vy p.number vp added.left w
-            (λ i least most. omega (arith, once i least most)) added.nodes_left,
-      );
-      nodes_right = (
-        added.greater,
-        in_y,
-        w.first ∙ node_value-same y.key y.value false false y.left (number_of added.middle) y.right
-            (number_of added.right)
-            refl (sym added.middle_is_too) (sym added.right_is),
-        Holds-written layout before after y.number vy p.number vp added.middle w
-            (λ i least most. omega (arith, once i least most)) added.nodes_middle,
-        Holds-written layout before after y.number vy p.number vp added.right w
-            (λ i least most. omega (arith, once i least most)) added.nodes_right,
-      );
-      balanced = (
-        omega (arith, h.balanced.0, added.grows.height, added.left_height),
-        λ _. (refl, refl),
-        (
-          omega (arith, h.balanced.0, added.grows.height),
-          λ e. absurd (cc e),
-          h.balanced.2,
-          added.left_balanced,
-        ),
-        (sym added.right_height, λ e. absurd (cc e), added.middle_balanced, added.right_balanced),
-      );
-    }
+-- what is settled or added already stays so
+abbrev pub IsDone : Placed → Type 0
+IsDone Full = Unit {0}
+IsDone Found = Unit {0}
+IsDone Added = Unit {0}
+IsDone p = ⊥
+
+done : (layout : Layout) (side : Side) (p : Node) (placed : Placed) (map : List Val) → IsDone placed →
+    Attaches layout side p placed placed map map
+done layout side p Full map is q near far free start h way placed =
+    attach-full layout side p q near far free start h way map placed
+done layout side p Found map is q near far free start h way placed =
+    attach-found layout side p q near far free start h way map placed
+done layout side p Added map is q near far free start h way placed =
+    attach-added layout side p q near far free start h way map placed
+done layout side p (Root x) map is q near far free start h way placed = absurd is
+done layout side p (Pair x y) map is q near far free start h way placed = absurd is
+
+pub attaches-done : (layout : Layout) (side : Side) (p : Node) (below placed : Placed) (map : List Val) →
+    IsDone placed → below ≡ placed → Attaches layout side p below placed map map
+attaches-done layout side p below placed map is same =
+    subst (λ b. Attaches layout side p b placed map map) (sym same) (done layout side p placed map is)
+
+pub attaches-pair : (layout : Layout) (side : Side) (p : Node) {x z lesser greater : Node} {below : Placed}
+    (map : List Val) → below ≡ Root x → p.red ≡ true → z ≡ with_child side (child (other side) x) p →
+    lesser ≡ on side x z → greater ≡ on side z x → Attaches layout side p below (Pair lesser greater) map map
+attaches-pair layout side p {x} {z} {greater} map is red z_is lesser_is greater_is q near far free start h way placed =
+    let root = root-seen side (subst (λ b. IsPlaced layout b q near free start map) is placed) in
+    let upper = with_child side (child (other side) x) p in
+    let pair = attach-pair layout side p q near far free start h way x map red root in
+    let seen = pair-told
+    (subst (λ y. AddsPair layout side x y q (sided side p near far) free start map) (sym z_is) pair) in
+    subst (λ y. AddsPair layout Left y greater q (sided side p near far) free start map) (sym lesser_is)
+    (subst (λ y. AddsPair layout Left (on side x z) y q (sided side p near far) free start map) (sym greater_is) seen)
+
+pub attaches-hung : (layout : Layout) (side : Side) (p : Node) {x p' : Node} {below : Placed}
+    {before mid after : List Val} → below ≡ Root x → x.number ≤ layout.tree → p.red ≡ false →
+    p' ≡ with_child side x.number p → Sets (object_of layout x.number) (val_of x) before mid →
+    Sets (object_of layout p'.number) (val_of p') mid after → Attaches layout side p below Added before after
+attaches-hung layout side p {x} {before} {mid} {after} is in_x black p_is set_x set_p q near far free start h way placed
+    =
+    attach-hung layout side p q near far free start h way x before mid after in_x black
+    (root-seen side (subst (λ b. IsPlaced layout b q near free start before) is placed)) set_x
+    (subst (λ y. Sets (object_of layout y.number) (val_of y) mid after) p_is set_p)
+
+pub on-fits : (layout : Layout) (side : Side) (x y : Node) → FitsNode layout x → FitsNode layout y →
+    FitsNode layout (on side x y)
+on-fits layout Left x y fits_x fits_y = fits_x
+on-fits layout Right x y fits_x fits_y = fits_y
+
+pub attaches-rotated : {layout : Layout} (side : Side) (p : Node) {x y x' p' z lesser greater : Node} {below : Placed}
+    {before mid after : List Val} → below ≡ Pair lesser greater → FitsNode layout lesser → FitsNode layout greater →
+    x ≡ on side lesser greater → y ≡ on side greater lesser → x' ≡ with_red false x →
+    p' ≡ with_child side (child (other side) y) p → z ≡ with_child (other side) p.number (with_child side x.number y) →
+    Sets (object_of layout x'.number) (val_of x') before mid → Sets (object_of layout p'.number) (val_of p') mid after →
+    Attaches layout side p below (Root z) before after
+attaches-rotated {layout} side p {x} {y} {lesser} {greater} {before} {mid} {after} is fits fits_too x_is y_is red_is
+    p_is z_is set_x set_p q near far free start h way placed =
+    let seen = pair-seen side (subst (λ b. IsPlaced layout b q near free start before) is placed) in
+    let pair = subst (λ u. AddsPair layout side x u q near free start before) (sym y_is)
+    (subst (λ u. AddsPair layout side u (on side greater lesser) q near free start before) (sym x_is) seen) in
+    let in_x = subst (λ u. FitsNode layout u) (sym x_is) (on-fits layout side lesser greater fits fits_too) in
+    subst (λ u. AddsRoot layout Left u q (sided side p near far) free start after) (sym z_is) (root-told
+    (attach-rotated layout side p q near far free start h way x y before mid after in_x.number pair
+    (subst (λ u. Sets (object_of layout u.number) (val_of u) before mid) red_is set_x)
+    (subst (λ u. Sets (object_of layout u.number) (val_of u) mid after) p_is set_p)))
+
+-- what leaves the whole as it was is settled
+pub settled : (q : Request) (placed : Placed) → LeavesAll q placed → IsSettled placed
+settled q Full h = tt
+settled q Found h = tt
+settled q Added h = h
+settled q (Root x) h = h
+settled q (Pair x y) h = h

@@ -1,9 +1,7 @@
 -- How high a red-black tree is.
-use Rattle.std.proofs.Common.{◌≡◌, ℕ, suc, ◌+◌, ◌*◌, ◌^◌, ◌≤◌, Bool, true, false, cond, List, ◌++◌, ◌∷◌, length, max}
-use Rattle.std.proofs.Common.{refl, sym, ap, subst, ◌∙◌, arith}
-use Rattle.std.proofs.Math.Nat.{max-le, two-pow-succ}
-use Rattle.std.proofs.lemmas.List.{length-append}
-use Rattle.dstm_tree.specs.Tree.{Tree, leaf, node, is_red, items_of, black_height, height, IsBalanced}
+use Rattle.dstm_tree.proofs.Base.{◌≡◌, ℕ, suc, ◌+◌, ◌*◌, ◌^◌, ◌≤◌, Bool, true, false, cond, List, ◌++◌, ◌∷◌, length}
+use Rattle.dstm_tree.proofs.Base.{max, refl, sym, ap, subst, ◌∙◌, arith, max-le, two-pow-succ, length-append, Tree}
+use Rattle.dstm_tree.proofs.Base.{leaf, node, is_red, items_of, black_height, height, IsBalanced}
 
 -- a red node adds to a way down
 abbrev pub redness : Bool → ℕ
@@ -21,8 +19,8 @@ low_node true l r b left right black =
     let right_black = subst (λ c. height r ≤ 2 * b + redness c) (black refl).1 right in
     omega (arith, max-le left_black right_black)
 low_node false l r b left right black =
-    let left_most : height l ≤ 2 * b + 1 = omega (arith, left, redness-one (is_red l)) in
-    let right_most : height r ≤ 2 * b + 1 = omega (arith, right, redness-one (is_red r)) in
+    let left_most : height l ≤ 2 * b + 1 = omega (arith, redness-one (is_red l)) in
+    let right_most : height r ≤ 2 * b + 1 = omega (arith, redness-one (is_red r)) in
     omega (arith, max-le left_most right_most)
 
 -- no way down has more than twice as many nodes as black ones, but for a red root
@@ -36,11 +34,11 @@ many_node : (red : Bool) (b : ℕ) (x : ℕ × ℕ) (xs ys : List (ℕ × ℕ)) 
     2 ^ (b + cond red 0 1) ≤ length (xs ++ x ∷ ys) + 1
 many_node true b x xs ys left right =
     let same : b + 0 ≡ b = omega arith in
-    subst (λ n. 2 ^ n ≤ length (xs ++ x ∷ ys) + 1) (sym same) (omega (arith, length-append xs (x ∷ ys), left))
+    subst (λ n. 2 ^ n ≤ length (xs ++ x ∷ ys) + 1) (sym same) (omega (arith, length-append xs (x ∷ ys)))
 many_node false b x xs ys left right =
     let next : b + 1 ≡ suc b = omega arith in
     let twice : 2 ^ (b + 1) ≡ 2 ^ b + 2 ^ b = ap (λ n. 2 ^ n) next ∙ two-pow-succ b in
-    omega (arith, twice, length-append xs (x ∷ ys), left, right)
+    omega (arith, length-append xs (x ∷ ys))
 
 -- a way with b black nodes makes a tree of 2 ^ b - 1 nodes at least
 pub many : (t : Tree) → IsBalanced t → 2 ^ black_height t ≤ length (items_of t) + 1

@@ -1,15 +1,7 @@
 -- A subtree whose root was read.
-use Rattle.std.proofs.Common.{◌≡◌, ℕ, ◌+◌, ◌*◌, ◌<◌, ◌≤◌, Bool, true, false, List, ◌∷◌, ◌++◌, length, arith, refl, sym}
-use Rattle.std.proofs.Common.{◌∙◌, ap, subst}
-use Rattle.std.specs.Prelude.{cond}
-use Rattle.dstm_model.specs.declared.value.Val.{Val}
-use Rattle.dstm_model.specs.declared.layout.Layout.{Layout}
-use Rattle.dstm_model.specs.Map.{value_at}
-use Rattle.dstm_model.specs.Store.{Store}
-use Rattle.dstm_tree.specs.declared.node.Node.{Node}
-use Rattle.dstm_tree.specs.Tree.{Tree, leaf, node, number_of, items_of, count_of, IsOrdered, IsBalanced}
-use Rattle.dstm_tree.specs.Objects.{node_value, object_of, Holds, IsTree}
-use Rattle.dstm_tree.specs.Node.{val_of, Subtree, tree_of}
+use Rattle.dstm_tree.proofs.Base.{◌≡◌, ℕ, ◌+◌, ◌*◌, ◌<◌, ◌≤◌, Bool, true, false, List, ◌∷◌, ◌++◌, arith, refl, sym, ◌∙◌}
+use Rattle.dstm_tree.proofs.Base.{ap, cond, Val, Layout, value_at, Store, Node, Tree, leaf, node, number_of, items_of}
+use Rattle.dstm_tree.proofs.Base.{node_value, object_of, Holds, IsTree, val_of, tree_of}
 
 pub number_le : (layout : Layout) (map : List Val) (t : Tree) → Holds layout map t → number_of t ≤ layout.tree
 number_le layout map leaf nodes = omega arith
@@ -25,8 +17,8 @@ rest x y a b in_a in_b same = omega arith
 
 colour : (k j : ℕ) (b c : Bool) → k * 2 + cond b 1 0 ≡ j * 2 + cond c 1 0 → b ≡ c
 colour k j true true same = refl
-colour k j true false same = absurd (omega (arith, same))
-colour k j false true same = absurd (omega (arith, same))
+colour k j true false same = absurd (omega arith)
+colour k j false true same = absurd (omega arith)
 colour k j false false same = refl
 
 bit_below : (b : Bool) → cond b 1 0 < 2
@@ -41,14 +33,13 @@ pub record SameNode (k : ℕ) (red : Bool) (a b v k' : ℕ) (red' : Bool) (a' b'
   pub value : v ≡ v'
 
 same_node : (k : ℕ) (red : Bool) (a b v k' : ℕ) (red' : Bool) (a' b' v' : ℕ) → a < 65536 → b < 65536 → a' < 65536 →
-    b' < 65536 →
-    node_value k red a b v ≡ node_value k' red' a' b' v' → SameNode k red a b v k' red' a' b' v'
+    b' < 65536 → node_value k red a b v ≡ node_value k' red' a' b' v' → SameNode k red a b v k' red' a' b' v'
 same_node k red a b v k' red' a' b' v' in_a in_b in_a' in_b' same =
     let low = ap (λ (x : Val). x.low) same in
     let upper = rest ((k * 2 + cond red 1 0) * 65536 + a) ((k' * 2 + cond red' 1 0) * 65536 + a') b b' in_b in_b' low in
     let key = rest (k * 2 + cond red 1 0) (k' * 2 + cond red' 1 0) a a' in_a in_a' upper in
     record {
-      key = omega (arith, key, bit_below red, bit_below red');
+      key = omega (arith, bit_below red, bit_below red');
       colour = colour k k' red red' key;
       left = digit (k * 2 + cond red 1 0) (k' * 2 + cond red' 1 0) a a' in_a in_a' upper;
       right = digit ((k * 2 + cond red 1 0) * 65536 + a) ((k' * 2 + cond red' 1 0) * 65536 + a') b b' in_b in_b' low;
@@ -57,81 +48,41 @@ same_node k red a b v k' red' a' b' v' in_a in_b in_a' in_b' same =
 
 -- ---- the root of a subtree
 
--- a tree whose root is this node
-pub record Rooted (layout : Layout) (map : List Val) (low high depth : ℕ) (t : Tree) (x : Node) : Type 0 where
-  pub left : Tree
-  pub right : Tree
-  pub left_is : number_of left ≡ x.left
-  pub right_is : number_of right ≡ x.right
-  pub tree : t ≡ tree_of x left right
-  pub nodes : Holds layout map (tree_of x left right)
-  pub once : (i : ℕ) → 0 < i → i ≤ layout.tree → count_of i (tree_of x left right) ≤ 1
-  pub order : IsOrdered low high (tree_of x left right)
-  pub balanced : IsBalanced (tree_of x left right)
-  pub size : length (items_of (tree_of x left right)) ≤ depth
-
 pub root_is : (layout : Layout) (map : List Val) (t : Tree) (x : Node) → layout.tree < 65536 → number_of t ≡ x.number →
-    (x.number ≡ 0 → ⊥) →
-    x.left < 65536 → x.right < 65536 → Holds layout map t → value_at map (object_of layout x.number) ≡ val_of x →
-    (l : Tree) × ((r : Tree) × ((number_of l ≡ x.left) × (number_of r ≡ x.right) × (t ≡ tree_of x l r)))
+    (x.number ≡ 0 → ⊥) → x.left < 65536 → x.right < 65536 → Holds layout map t →
+    value_at map (object_of layout x.number) ≡ val_of x → (l : Tree)
+    × ((r : Tree) × ((number_of l ≡ x.left) × (number_of r ≡ x.right) × (t ≡ tree_of x l r)))
 root_is layout map leaf x small root some in_left in_right nodes value = absurd (some (sym root))
 root_is layout map (node n red l k v r) x small root some in_left in_right nodes value =
-    let left_within : number_of l < 65536 = omega (arith, number_le layout map l nodes.3, small) in
-    let right_within : number_of r < 65536 = omega (arith, number_le layout map r nodes.4, small) in
-    let same = same_node k red (number_of l) (number_of r) v x.key x.red x.left x.right x.value
-    left_within right_within in_left in_right
-    (sym nodes.2 ∙ ap (λ i. value_at map (object_of layout i)) root ∙ value) in
+    let left_within : number_of l < 65536 = omega (arith, number_le layout map l nodes.3) in
+    let right_within : number_of r < 65536 = omega (arith, number_le layout map r nodes.4) in
+    let same = same_node k red (number_of l) (number_of r) v x.key x.red x.left x.right x.value left_within right_within
+    in_left in_right (sym nodes.2 ∙ ap (λ i. value_at map (object_of layout i)) root ∙ value) in
     let tree : node n red l k v r ≡ tree_of x l r = cc (root, same.key, same.colour, same.value) in
     (l, (r, (same.left, same.right, tree)))
-
-pub rooted : (layout : Layout) (map : List Val) (at depth : ℕ) (x : Node) → layout.tree < 65536 → x.number ≡ at →
-    (at ≡ 0 → ⊥) →
-    x.left < 65536 → x.right < 65536 → value_at map (object_of layout at) ≡ val_of x →
-    (s : Subtree layout map at depth) → Rooted layout map s.low s.high depth s.tree x
-rooted layout map at depth x small number some in_left in_right value s =
-    let found = root_is layout map s.tree x small (s.root ∙ sym number) (λ e. some (sym number ∙ e)) in_left in_right
-    s.nodes
-    (ap (λ i. value_at map (object_of layout i)) number ∙ value) in
-    let tree = found.1.1.2 in
-    record {
-      left = found.0;
-      right = found.1.0;
-      left_is = found.1.1.0;
-      right_is = found.1.1.1;
-      tree = tree;
-      nodes = subst (Holds layout map) tree s.nodes;
-      once = λ i least most. subst (λ t. count_of i t ≤ 1) tree (s.once i least most);
-      order = subst (IsOrdered s.low s.high) tree s.order;
-      balanced = subst IsBalanced tree s.balanced;
-      size = subst (λ t. length (items_of t) ≤ depth) tree s.size;
-    }
 
 -- ---- a map stands for one tree's items
 
 -- trees that stand in one map under one number have the same items
 same_items : (layout : Layout) (map : List Val) → layout.tree < 65536 → (t u : Tree) → Holds layout map t →
-    Holds layout map u →
-    number_of t ≡ number_of u → items_of t ≡ items_of u
+    Holds layout map u → number_of t ≡ number_of u → items_of t ≡ items_of u
 same_items layout map small leaf leaf nodes others same = refl
-same_items layout map small leaf (node n red l k v r) nodes others same = absurd (omega (arith, same, others.0))
-same_items layout map small (node n red l k v r) leaf nodes others same = absurd (omega (arith, same, nodes.0))
+same_items layout map small leaf (node n red l k v r) nodes others same = absurd (omega arith)
+same_items layout map small (node n red l k v r) leaf nodes others same = absurd (omega arith)
 same_items layout map small (node n red l k v r) (node n' red' l' k' v' r') nodes others same =
     let value : node_value k red (number_of l) (number_of r) v ≡ node_value k' red' (number_of l') (number_of r') v' =
     sym nodes.2 ∙ ap (λ i. value_at map (object_of layout i)) same ∙ others.2 in
     let both = same_node k red (number_of l) (number_of r) v k' red' (number_of l') (number_of r') v'
-    (omega (arith, number_le layout map l nodes.3, small)) (omega (arith, number_le layout map r nodes.4, small))
-    (omega (arith, number_le layout map l' others.3, small)) (omega (arith, number_le layout map r' others.4, small))
-    value in
+    (omega (arith, number_le layout map l nodes.3)) (omega (arith, number_le layout map r nodes.4))
+    (omega (arith, number_le layout map l' others.3)) (omega (arith, number_le layout map r' others.4)) value in
     let lefts = same_items layout map small l l' nodes.3 others.3 both.left in
     let rights = same_items layout map small r r' nodes.4 others.4 both.right in
-    ap (λ (xs : List (ℕ × ℕ)). xs ++ (k, v) ∷ items_of r) lefts
-    ∙ ap (λ key. items_of l' ++ (key, v) ∷ items_of r) both.key
-    ∙ ap (λ w. items_of l' ++ (k', w) ∷ items_of r) both.value
-    ∙ ap (λ (xs : List (ℕ × ℕ)). items_of l' ++ (k', v') ∷ xs) rights
+    ap (λ (xs : List (ℕ × ℕ)). xs ++ (k, v) ∷ items_of r) lefts ∙ ap (λ key. items_of l' ++ (key, v) ∷ items_of r)
+    both.key ∙ ap (λ w. items_of l' ++ (k', w) ∷ items_of r) both.value ∙ ap
+    (λ (xs : List (ℕ × ℕ)). items_of l' ++ (k', v') ∷ xs) rights
 
-pub items-unique : (layout : Layout) (map : List Val) (one two : Store) → layout.tree < 65536 →
-    IsTree layout map one → IsTree layout map two →
-    one.items ≡ two.items
+pub items-unique : (layout : Layout) (map : List Val) (one two : Store) → layout.tree < 65536 → IsTree layout map one →
+    IsTree layout map two → one.items ≡ two.items
 items-unique layout map one two small t u =
     let root : number_of t.tree ≡ number_of u.tree = ap (λ (x : Val). x.low) (sym t.root ∙ u.root) in
     t.items ∙ same_items layout map small t.tree u.tree t.nodes u.nodes root ∙ sym u.items

@@ -1,16 +1,7 @@
 -- The map in which the tree is empty and each node is free, in rising order.
-use Rattle.std.proofs.Common.{◌≡◌, ℕ, zero, suc, ◌+◌, ◌<◌, ◌≤◌, List, [], ◌∷◌, arith, refl, sym, ◌∙◌, ap, inl, inr}
-use Rattle.std.proofs.Common.{eq-eqb}
-use Rattle.std.specs.Prelude.{cond, if◌then◌else◌, ◌==◌}
-use Rattle.std.proofs.lemmas.Bool.{cases_eq, ne_eqb}
-use Rattle.dstm_model.specs.declared.value.Val.{Val}
-use Rattle.dstm_model.specs.declared.layout.Layout.{Layout}
-use Rattle.dstm_model.specs.Map.{value_at}
-use Rattle.dstm_model.specs.Objects.{plain}
-use Rattle.dstm_model.specs.Store.{Store}
-use Rattle.dstm_tree.specs.Tree.{leaf}
-use Rattle.dstm_tree.specs.Objects.{root_of, free_of, object_of, first_of, IsFreeChain, IsTree}
-use Rattle.dstm_tree.specs.Place.{free_count}
+use Rattle.dstm_tree.proofs.Base.{◌≡◌, ℕ, zero, suc, ◌+◌, ◌<◌, ◌≤◌, List, [], ◌∷◌, arith, refl, sym, ◌∙◌, ap, inl, inr}
+use Rattle.dstm_tree.proofs.Base.{eq-eqb, cond, if◌then◌else◌, ◌==◌, cases_eq, ne_eqb, Val, Layout, value_at, plain}
+use Rattle.dstm_tree.proofs.Base.{Store, leaf, root_of, free_of, object_of, first_of, IsFreeChain, IsTree, free_count}
 use Rattle.dstm_tree.proofs.Kept.{mark, free_count-first}
 
 -- what follows node i of n
@@ -34,52 +25,50 @@ next-more n k e = ap (λ b. cond b 0 (k + 1)) (ne_eqb k n e)
 
 first_is : (k n all : ℕ) → k + n ≡ all → first_of (numbers (k + 1) n) ≡ next_of all k
 unfolding numbers
-first_is k zero all total = sym (next-last all k (omega (arith, total)))
-first_is k (suc n) all total = sym (next-more all k (λ e. omega (arith, e, total)))
+first_is k zero all total = sym (next-last all k (omega arith))
+first_is k (suc n) all total = sym (next-more all k (λ e. omega arith))
 
-chain : (layout : Layout) (map : List Val) → ((i : ℕ) → 0 < i → i ≤ layout.tree →
-    value_at map (object_of layout i) ≡ plain (next_of layout.tree i)) →
+chain : (layout : Layout) (map : List Val) →
+    ((i : ℕ) → 0 < i → i ≤ layout.tree → value_at map (object_of layout i) ≡ plain (next_of layout.tree i)) →
     (k n : ℕ) → 0 < k → k + n ≡ layout.tree + 1 → IsFreeChain layout map (numbers k n)
 unfolding numbers
 chain layout map nodes k zero some total = tt
 chain layout map nodes k (suc n) some total =
-    let within : k ≤ layout.tree = omega (arith, total) in (
+    let within : k ≤ layout.tree = omega arith in (
       some,
       within,
-      nodes k some within ∙ ap plain (sym (first_is k n layout.tree (omega (arith, total)))),
-      chain layout map nodes (k + 1) n (omega arith) (omega (arith, total)),
+      nodes k some within ∙ ap plain (sym (first_is k n layout.tree (omega arith))),
+      chain layout map nodes (k + 1) n (omega arith) (omega arith),
     )
 
 none_below : (k n i : ℕ) → i < k → free_count i (numbers k n) ≡ 0
 unfolding numbers
 none_below k zero i below = refl
 none_below k (suc n) i below =
-    let none : mark k i ≡ 0 = ap (λ b. cond b 1 0) (ne_eqb k i (λ e. omega (arith, e, below))) in
-    omega (arith, none, free_count-first i k (numbers (k + 1) n), none_below (k + 1) n i (omega (arith, below)))
+    let none : mark k i ≡ 0 = ap (λ b. cond b 1 0) (ne_eqb k i (λ e. omega arith)) in
+    omega (arith, free_count-first i k (numbers (k + 1) n), none_below (k + 1) n i (omega (arith, below)))
 
 once : (k n i : ℕ) → k ≤ i → i < k + n → free_count i (numbers k n) ≡ 1
 unfolding numbers
-once k zero i least most = absurd (omega (arith, least, most))
+once k zero i least most = absurd (omega arith)
 once k (suc n) i least most =
     elim (cases_eq k i) [
       | inl same ↦
           let one : mark k i ≡ 1 = ap (λ b. cond b 1 0) (eq-eqb k i same) in
-          omega (arith, one, free_count-first i k (numbers (k + 1) n), none_below (k + 1) n i (omega (arith, same)))
+          omega (arith, free_count-first i k (numbers (k + 1) n), none_below (k + 1) n i (omega (arith, same)))
       | inr other ↦
           let none : mark k i ≡ 0 = ap (λ b. cond b 1 0) (ne_eqb k i other) in
           omega (
             arith,
-            none,
             free_count-first i k (numbers (k + 1) n),
-            once (k + 1) n i (omega (arith, least, other))
-                (omega (arith, most)),
+            once (k + 1) n i (omega (arith, least, other)) (omega (arith, most)),
           )
     ]
 
 -- the opening values are those of an empty tree
 pub IsTree-opening : (layout : Layout) (map : List Val) (store : Store) → store.items ≡ [] →
-    store.layout.tree ≡ layout.tree →
-    value_at map (root_of layout) ≡ plain 0 → value_at map (free_of layout) ≡ plain (next_of layout.tree 0) →
+    store.layout.tree ≡ layout.tree → value_at map (root_of layout) ≡ plain 0 →
+    value_at map (free_of layout) ≡ plain (next_of layout.tree 0) →
     ((i : ℕ) → 0 < i → i ≤ layout.tree → value_at map (object_of layout i) ≡ plain (next_of layout.tree i)) →
     IsTree layout map store
 IsTree-opening layout map store empty capacity root free nodes = record {

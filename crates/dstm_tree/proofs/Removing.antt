@@ -1,255 +1,379 @@
 -- A key is taken out of a subtree.
-use Rattle.std.proofs.Common.{◌≡◌, ℕ, ◌+◌, ◌-◌, ◌<◌, ◌≤◌, List, ◌∷◌, ◌++◌, arith, refl, sym, ◌∙◌, ap, subst, append-nil}
-use Rattle.std.specs.Prelude.{Option, Some, None, IsSome}
-use Rattle.dstm_model.specs.declared.value.Val.{Val}
-use Rattle.dstm_model.specs.declared.layout.Layout.{Layout}
-use Rattle.dstm_model.specs.Store.{value_of}
-use Rattle.dstm_tree.specs.declared.node.Node.{Node}
-use Rattle.dstm_tree.specs.declared.balance.Cut.{Cut}
-use Rattle.dstm_tree.specs.declared.removal.Least.{Least}
-use Rattle.dstm_tree.specs.declared.removal.Removed.{Removed}
-use Rattle.dstm_tree.specs.Tree.{Tree, leaf, node, items_of, count_of, black_height, IsOrdered}
-use Rattle.dstm_tree.specs.Node.{HasTree, IsRead, Subtree, tree_of}
-use Rattle.dstm_tree.specs.Remove.{LeftGap, RightGap, ClosesLeft, ClosesRight, Removes, RemovesIf, Root, Hoists}
-use Rattle.dstm_tree.proofs.Items.{low_le_high, value_of-left, value_of-here, value_of-right, without_item-left}
-use Rattle.dstm_tree.proofs.Items.{without_item-here, without_item-right}
-use Rattle.dstm_tree.proofs.Changed.{Changes-within}
-use Rattle.dstm_tree.proofs.Least.{leaf_is, widen_high, root_of_subtree, root_here, left_part, right_part, TakesLeastOf}
-use Rattle.dstm_tree.proofs.Least.{gap_left, gap_right, became_left, became_right}
+use Rattle.dstm_tree.proofs.Base.{◌≡◌, ℕ, ◌+◌, ◌-◌, ◌<◌, ◌≤◌, Bool, true, false, List, ◌∷◌, ◌++◌, arith, refl, sym, ◌∙◌}
+use Rattle.dstm_tree.proofs.Base.{ap, subst, not, Option, Some, None, IsSome, Val, Layout, value_at, value_of}
+use Rattle.dstm_tree.proofs.Base.{without_item, Node, Side, Left, Right, Cut, Least, Removed, other, IsToward, Tree}
+use Rattle.dstm_tree.proofs.Base.{leaf, is_red, items_of, count_of, black_height, IsOrdered, object_of, HasTree, IsRead}
+use Rattle.dstm_tree.proofs.Base.{Subtree, Stands, Fork, child, with_child, with_red, sided, val_of, Sets, blackness}
+use Rattle.dstm_tree.proofs.Base.{Gap, HasGap, Closes, Became, Loses, TakesFirst, TakesLeast, TakesKey, Removes}
+use Rattle.dstm_tree.proofs.Base.{RemovesRoot, RemovesIf, Hoists}
+use Rattle.dstm_tree.proofs.Kept.{mark, mark-self, Stands-kept, Changes-more, Changes-within, Changes-none, wrote}
+use Rattle.dstm_tree.proofs.Sides.{item_of, child-set, child-kept, sided-counts, on-counts, sided-height}
+use Rattle.dstm_tree.proofs.Items.{value_of-toward, value_of-root, without_item-toward, without_item-here}
+use Rattle.dstm_tree.proofs.Items.{without_item-only}
+use Rattle.dstm_tree.proofs.Forks.{forked_read, missing_child, stand, stands-within, not_red}
+use Rattle.dstm_tree.proofs.Search.{stands_of, Rooted, part_of, read_root}
+use Rattle.dstm_tree.proofs.Lift.{falls_unless_red}
 
-narrow_low : (less low high : ℕ) (t : Tree) → IsOrdered low high t → less ≤ low → IsOrdered less high t
-narrow_low less low high leaf order below = omega (arith, order, below)
-narrow_low less low high (node n red l k v r) order below = (narrow_low less low k l order.0 below, order.1)
+-- ---- a child takes its parent's place
+
+pub hoist-none : (layout : Layout) (number : ℕ) (red : Bool) (before : List Val) → number ≡ 0 →
+    Hoists layout number red (record { root = 0; fell = not red }) before before
+hoist-none layout number red before none t h once height colour =
+    let is = missing_child none h in
+    record {
+      tree = t;
+      items = refl;
+      counts = λ i. refl;
+      height_is = omega (arith, falls_unless_red red);
+      colour = λ e. absurd (cc (e, is));
+      stands = subst (λ n. Stands layout before n t) none h;
+      keeps = Changes-none layout before (λ i. count_of i t);
+    }
+
+red_of : (red : Bool) → blackness red ≡ 0 → red ≡ true
+red_of true none = refl
+red_of false none = absurd (omega arith)
+
+not_both : (red : Bool) → (red ≡ true → true ≡ false) → red ≡ false
+not_both true only = absurd (cc (only refl))
+not_both false only = refl
+
+pub hoist-some : (layout : Layout) (number : ℕ) (red : Bool) (x y : Node) (before mid after : List Val) →
+    HasTree layout → (number ≡ 0 → ⊥) → IsRead layout number x before mid → y ≡ with_red false x →
+    Sets (object_of layout y.number) (val_of y) mid after →
+    Hoists layout number red (record { root = number; fell = false }) before after
+hoist-some layout number red x y before mid after has some read y_is set t h once height colour =
+    let found = forked_read Left has read some h in
+    let l = found.near in
+    let r = found.far in
+    let x' = with_red false x in
+    let high = ap black_height found.tree ∙ sided-height Left x l r found.fork.heights in
+    let is_red_x = red_of x.red (omega arith) in
+    let black = not_both red (λ e. sym (ap is_red found.tree ∙ is_red_x) ∙ colour e) in
+    let set_x = subst (λ m. Sets (object_of layout x.number) (val_of x') m after) read.same
+    (subst (λ z. Sets (object_of layout z.number) (val_of z) mid after) y_is set) in
+    let changes = wrote layout x.number (val_of x') before after found.fork.number set_x in
+    let apart : (i : ℕ) → 0 < i → i ≤ layout.tree → mark x.number i + count_of i l + count_of i r ≤ 1 =
+    λ i least most. omega (arith, once i least most, ap (count_of i) found.tree) in
+    record {
+      tree = sided Left x' l r;
+      items = ap items_of (sym found.tree);
+      counts = λ i. ap (count_of i) (sym found.tree);
+      height_is = omega (arith, ap blackness black);
+      colour = λ e. absurd (cc e);
+      stands = subst (λ n. Stands layout after n (sided Left x' l r)) read.number
+          (stand layout after Left x' l r (record {
+            number = found.fork.number;
+            within = found.fork.within;
+            value = set_x.is;
+            near_stands = Stands-kept changes (λ i least most s. omega (arith, apart i least most))
+                found.fork.near_stands;
+            far_stands = Stands-kept changes (λ i least most s. omega (arith, apart i least most))
+                found.fork.far_stands;
+            heights = found.fork.heights;
+            colours = λ e. absurd (cc e);
+          }));
+      keeps = Changes-within (λ i none. omega (arith, ap (count_of i) found.tree)) changes;
+    }
+
+-- a root with no child on a side is taken out
+pub hoisted : {layout : Layout} {side : Side} {low high depth : ℕ} {t : Tree} {x : Node} (cut : Cut) {before : List Val}
+    (after : List Val) → child side x ≡ 0 → Hoists layout (child (other side) x) x.red cut before after →
+    (r : Rooted layout before side low high depth t x) → (lost : Loses layout x.number t cut before after)
+    × (items_of lost.became.tree ≡ items_of r.far)
+hoisted {side} {t} {x} cut after none does r =
+    let is_leaf = missing_child none r.fork.near_stands in
+    let flat : black_height r.far ≡ 0 = sym r.fork.heights ∙ ap black_height is_leaf in
+    let counts : (i : ℕ) → count_of i t ≡ mark x.number i + count_of i r.far =
+    λ i. omega (arith, ap (count_of i) r.tree, ap (count_of i) is_leaf, on-counts i side) in
+    let c = does r.far r.fork.far_stands (λ i least most. omega (arith, r.once i least most, on-counts i side)) flat
+    (λ red. (r.fork.colours red).1) in
+    let tall = ap black_height r.tree ∙ sided-height side x r.near r.far r.fork.heights in (
+      record {
+        became = record {
+          tree = c.tree;
+          fewer = λ i. omega (arith, c.counts i, counts i);
+          height_is = omega (arith, c.height_is);
+          colour = λ e. ap is_red r.tree ∙ c.colour e;
+          stands = c.stands;
+          keeps = Changes-within (λ i no. omega (arith, counts i)) c.keeps;
+        };
+        counts = λ i. omega (arith, c.counts i, counts i);
+        some = r.fork.number;
+        within = r.fork.within;
+      },
+      c.items,
+    )
+
+-- ---- a subtree of a node lost one, and then the node is balanced
+
+pub gap-after : {layout : Layout} {side : Side} {x : Node} (k v : ℕ) {near far : Tree} {cut : Cut}
+    {before two : List Val} → Fork layout before side x near far →
+    ((i : ℕ) → 0 < i → i ≤ layout.tree → count_of i (sided side x near far) ≤ 1) →
+    (b : Became layout near cut before two) →
+    Gap layout side x (with_child side cut.root (record x { key = k; value = v })) cut.fell b.tree far two
+gap-after {layout} {side} {x} k v {near} {far} {cut} {two} fork once b =
+    let y = record x { key = k; value = v } in
+    let apart : (i : ℕ) → 0 < i → i ≤ layout.tree → mark x.number i + count_of i near + count_of i far ≤ 1 =
+    λ i least most. omega (arith, once i least most, on-counts i side) in
+    record {
+      number = fork.number;
+      within = fork.within;
+      held_is = b.keeps.nodes x.number fork.number fork.within
+          (omega (arith, apart x.number fork.number fork.within, mark-self x.number)) ∙ fork.value;
+      near_stands = subst (λ n. Stands layout two n b.tree) (sym (child-set side cut.root y)) b.stands;
+      far_stands = subst (λ n. Stands layout two n far) (sym (child-kept side cut.root y))
+          (Stands-kept b.keeps (λ i least most some. omega (arith, apart i least most)) fork.far_stands);
+      once = λ i least most. omega (arith, apart i least most, b.fewer i, on-counts i side);
+      heights = b.height_is ∙ fork.heights;
+      near_colour = λ red _. not_red b.tree near b.colour (fork.colours red).0;
+      far_colour = λ red. (fork.colours red).1;
+    }
+
+-- the gap is closed
+pub loses-below : {layout : Layout} {side : Side} {x p : Node} (k v : ℕ) {number : ℕ} {near far : Tree} {cut : Cut}
+    (end : Cut) {before two : List Val} (after : List Val) → Fork layout before side x near far →
+    ((i : ℕ) → 0 < i → i ≤ layout.tree → count_of i (sided side x near far) ≤ 1) →
+    p ≡ with_child side cut.root (record x { key = k; value = v }) → (lost : Loses layout number near cut before two) →
+    Closes layout side x p cut.fell end two after →
+    (whole : Loses layout number (sided side x near far) end before after)
+    × (items_of whole.became.tree ≡ items_of (sided side (record x { key = k; value = v }) lost.became.tree far))
+loses-below {layout} {side} {x} k v {near} {far} {cut} end {two} after fork once p_is lost closes =
+    let b = lost.became in
+    let y = with_child side cut.root (record x { key = k; value = v }) in
+    let s = sided side y b.tree far in
+    let c = subst (λ q. Closes layout side x q cut.fell end two after) p_is closes b.tree far
+    (gap-after k v fork once b) in
+    let inner = sided-counts side y b.tree far in
+    let outer = sided-counts side x near far in (
+      record {
+        became = record {
+          tree = c.tree;
+          fewer = λ i. omega (arith, c.counts i, inner i, outer i, b.fewer i);
+          height_is = omega (arith, c.height_is, sided-height side x near far fork.heights);
+          colour = c.colour;
+          stands = c.stands;
+          keeps = Changes-within (λ i none. omega (arith, inner i, outer i, b.fewer i)) (Changes-more b.keeps c.keeps);
+        };
+        counts = λ i. omega (arith, c.counts i, inner i, outer i, lost.counts i);
+        some = lost.some;
+        within = lost.within;
+      },
+      c.items,
+    )
+
+-- ---- where the walk goes on
+
+pub subtree-within : {layout : Layout} {map : List Val} {at depth : ℕ} → Subtree layout map at depth → at ≤ layout.tree
+subtree-within h = stands-within (stands_of h)
+
+pub go-below : {layout : Layout} (side : Side) {at depth : ℕ} {x : Node} {before mid : List Val} → HasTree layout →
+    IsRead layout at x before mid → (at ≡ 0 → ⊥) → Subtree layout before at depth →
+    Subtree layout mid (child side x) (depth - 1)
+go-below {layout} side {depth} {x} has read some h =
+    subst (λ m. Subtree layout m (child side x) (depth - 1)) (sym read.same) (part_of (read_root side has read some h))
+
+pub depth-some : {layout : Layout} {at depth : ℕ} {x : Node} {before mid : List Val} → HasTree layout →
+    IsRead layout at x before mid → (at ≡ 0 → ⊥) → Subtree layout before at depth → 0 < depth
+depth-some has read some h =
+    let r = read_root Left has read some h in
+    omega arith
+
+-- ---- the least key
+
+pub take-least-here : {layout : Layout} {at : ℕ} (depth : ℕ) {x : Node} (cut : Cut) {before mid : List Val}
+    (after : List Val) → HasTree layout → (at ≡ 0 → ⊥) → x.left ≡ 0 → IsRead layout at x before mid →
+    Hoists layout x.right x.red cut mid after → TakesLeast layout at depth (record { node = x; cut = cut }) before after
+take-least-here {layout} depth {x} cut after has some none read does h =
+    let r = read_root Left has read some h in
+    let is_leaf = missing_child none r.fork.near_stands in
+    let (lost, items) = hoisted cut after none (subst (λ m. Hoists layout x.right x.red cut m after) read.same does) r
+    in
+    record {
+      loses = lost;
+      items = ap items_of r.tree ∙ ap (λ l. items_of l ++ item_of x ∷ items_of r.far) is_leaf ∙ ap
+          (λ xs. item_of x ∷ xs) (sym items);
+    }
+
+pub has-gap_least : {layout : Layout} {at : ℕ} (depth : ℕ) {x p : Node} (least : Least) {before mid : List Val}
+    (two : List Val) → HasTree layout → (at ≡ 0 → ⊥) → p ≡ with_child Left least.cut.root x →
+    IsRead layout at x before mid → TakesLeast layout x.left (depth - 1) least mid two →
+    Subtree layout before at depth → HasGap layout Left x p least.cut.fell two
+unfolding part_of
+has-gap_least {layout} depth {x} least two has some p_is read does h =
+    let r = read_root Left has read some h in
+    let first = subst (λ m. TakesLeast layout x.left (depth - 1) least m two) read.same does (part_of r) in
+    subst (λ q. HasGap layout Left x q least.cut.fell two) (sym p_is) (
+      _,
+      (r.far, gap-after x.key x.value r.fork r.once first.loses.became),
+    )
+
+pub take-least-below : {layout : Layout} {at : ℕ} (depth : ℕ) {x p : Node} (least : Least) (cut : Cut)
+    {before mid : List Val} (two after : List Val) → HasTree layout → (at ≡ 0 → ⊥) →
+    p ≡ with_child Left least.cut.root x → IsRead layout at x before mid →
+    TakesLeast layout x.left (depth - 1) least mid two → Closes layout Left x p least.cut.fell cut two after →
+    TakesLeast layout at depth (record { node = least.node; cut = cut }) before after
+unfolding part_of
+take-least-below {layout} depth {x} least cut {before} two after has some p_is read does closes h =
+    let r = read_root Left has read some h in
+    let first = subst (λ m. TakesLeast layout x.left (depth - 1) least m two) read.same does (part_of r) in
+    let (whole, items) = loses-below x.key x.value cut after r.fork r.once p_is first.loses closes in
+    let made : TakesFirst layout (sided Left x r.near r.far) (record { node = least.node; cut = cut }) before after =
+    record {
+      loses = whole;
+      items = ap (λ xs. xs ++ item_of x ∷ items_of r.far) first.items ∙ ap (λ xs. item_of least.node ∷ xs) (sym items);
+    } in
+    subst (λ t. TakesFirst layout t (record { node = least.node; cut = cut }) before after) (sym r.tree) made
 
 -- ---- the root's own key
 
 -- a node with one child or none
-pub remove-only-right : (layout : Layout) (before after : List Val) (x : Node) (depth : ℕ) (cut : Cut) → x.left ≡ 0 →
-    Hoists layout x.right x.red before after cut → (h : Root layout before x depth) →
-    Removes layout x.key h.low h.high (tree_of x h.left h.right) before after (record { number = x.number; cut = cut })
-remove-only-right layout before after x depth cut none does h =
-    let is_leaf = leaf_is layout before h.left x.left h.left_is none h.nodes.3 in
-    let height_is : black_height h.right ≡ 0 = sym h.balanced.0 ∙ ap black_height is_leaf in
-    let least : h.low ≤ x.key = low_le_high h.low x.key h.left h.order.0 in
-    let c = does h.low h.high h.right h.right_is h.nodes.4 (λ i low most. omega (arith, h.once i low most))
-    (narrow_low h.low (x.key + 1) h.high h.right h.order.1 (omega (arith, least))) h.balanced.3 height_is
-    (λ red. (h.balanced.1 red).1) in
+pub remove-only : {layout : Layout} (side : Side) (depth : ℕ) {n : ℕ} (x : Node) (cut : Cut) (before after : List Val) →
+    HasTree layout → 0 < x.number → child side x ≡ 0 → n ≡ child (other side) x →
+    Hoists layout n x.red cut before after →
+    RemovesRoot layout x depth (record { number = x.number; cut = cut }) before after
+remove-only {layout} side depth x cut before after has some none n_is does read h =
+    let r = read_root side has read (λ e. omega arith) h in
+    let is_leaf = missing_child none r.fork.near_stands in
+    let tree_is : h.tree ≡ sided side x leaf r.far = r.tree ∙ ap (λ l. sided side x l r.far) is_leaf in
+    let order = subst (λ l. IsOrdered h.low h.high (sided side x l r.far)) is_leaf r.order in
+    let (lost, items) = hoisted cut after none (subst (λ m. Hoists layout m x.red cut before after) n_is does) r in
     record {
-      became = record {
-        tree = c.tree;
-        root = c.root;
-        fewer = λ i. omega (arith, c.counts i);
-        order = c.order;
-        height_is = omega (arith, c.height_is, height_is, h.balanced.0);
-        colour = c.colour;
-        balanced = c.balanced;
-        nodes = c.nodes;
-        keeps = Changes-within layout before after (λ i. count_of i h.right)
-            (λ i. count_of i (tree_of x h.left h.right)) (λ i no. omega (arith, no)) c.keeps;
-      };
-      present = subst (λ o. IsSome o) (sym (value_of-here x.key h.low x.key x.value h.left h.right h.order.0 refl))
+      loses = lost;
+      present = subst (λ o. IsSome o) (sym
+          (ap (λ t. value_of x.key (items_of t)) r.tree
+          ∙ value_of-root side x.key h.low h.high x r.near r.far r.order refl))
           refl;
-      items = c.items ∙ ap (λ l. items_of l ++ items_of h.right) (sym is_leaf) ∙
-          sym (without_item-here x.key h.low x.key x.value h.left h.right h.order.0 refl);
-      counts = λ i. omega (arith, c.counts i, ap (count_of i) is_leaf);
-      number = h.nodes.0;
-      within = h.nodes.1;
-    }
-
-pub remove-only-left : (layout : Layout) (before after : List Val) (x : Node) (depth : ℕ) (cut : Cut) → x.right ≡ 0 →
-    Hoists layout x.left x.red before after cut → (h : Root layout before x depth) →
-    Removes layout x.key h.low h.high (tree_of x h.left h.right) before after (record { number = x.number; cut = cut })
-remove-only-left layout before after x depth cut none does h =
-    let is_leaf = leaf_is layout before h.right x.right h.right_is none h.nodes.4 in
-    let height_is : black_height h.left ≡ 0 = h.balanced.0 ∙ ap black_height is_leaf in
-    let greatest : x.key + 1 ≤ h.high = low_le_high (x.key + 1) h.high h.right h.order.1 in
-    let c = does h.low h.high h.left h.left_is h.nodes.3 (λ i low most. omega (arith, h.once i low most))
-    (widen_high h.low x.key h.high h.left h.order.0 (omega (arith, greatest))) h.balanced.2 height_is
-    (λ red. (h.balanced.1 red).0) in
-    record {
-      became = record {
-        tree = c.tree;
-        root = c.root;
-        fewer = λ i. omega (arith, c.counts i);
-        order = c.order;
-        height_is = omega (arith, c.height_is, height_is);
-        colour = c.colour;
-        balanced = c.balanced;
-        nodes = c.nodes;
-        keeps = Changes-within layout before after (λ i. count_of i h.left)
-            (λ i. count_of i (tree_of x h.left h.right)) (λ i no. omega (arith, no)) c.keeps;
-      };
-      present = subst (λ o. IsSome o) (sym (value_of-here x.key h.low x.key x.value h.left h.right h.order.0 refl))
-          refl;
-      items = c.items ∙ sym (append-nil (items_of h.left)) ∙ ap (λ r. items_of h.left ++ items_of r) (sym is_leaf)
-          ∙ sym (without_item-here x.key h.low x.key x.value h.left h.right h.order.0 refl);
-      counts = λ i. omega (arith, c.counts i, ap (count_of i) is_leaf);
-      number = h.nodes.0;
-      within = h.nodes.1;
+      items = items ∙ sym (ap (λ t. without_item x.key (items_of t)) tree_is ∙ without_item-only side x.key h.low h.high
+          x r.far order refl);
     }
 
 -- a node with two children gets the next key
-pub gap_after_next : (layout : Layout) (before two : List Val) (x : Node) (depth : ℕ) (least : Least)
-    (h : Root layout before x depth) →
-    TakesLeastOf layout x.right depth before two least →
-    RightGap layout two x (record x { key = least.node.key; value = least.node.value; right = least.cut.root })
-    least.cut.fell
-unfolding right_part
-gap_after_next layout before two x depth least h does =
-    let b = does (right_part layout before x depth h) in
-    gap_right layout before two x depth least.node.key least.node.value least.cut h
-    (widen_high h.low x.key least.node.key h.left h.order.0 (omega (arith, b.at_least))) b.became
+pub has-gap_next : {layout : Layout} (depth : ℕ) {x p : Node} (least : Least) {before : List Val} (two : List Val) →
+    HasTree layout → 0 < x.number →
+    p ≡ with_child Right least.cut.root (record x { key = least.node.key; value = least.node.value }) →
+    IsRead layout x.number x before before → TakesLeast layout x.right (depth - 1) least before two →
+    Subtree layout before x.number depth → HasGap layout Right x p least.cut.fell two
+unfolding part_of
+has-gap_next {layout} depth {x} least two has some p_is read does h =
+    let r = read_root Right has read (λ e. omega arith) h in
+    let first = does (part_of r) in
+    subst (λ q. HasGap layout Right x q least.cut.fell two) (sym p_is) (
+      _,
+      (
+        r.far,
+        gap-after least.node.key least.node.value r.fork r.once first.loses.became,
+      ),
+    )
 
-pub remove-between : (layout : Layout) (before two after : List Val) (x : Node) (depth : ℕ) (least : Least) (cut : Cut)
-    →
-    TakesLeastOf layout x.right depth before two least →
-    ClosesRight layout x (record x { key = least.node.key; value = least.node.value; right = least.cut.root })
-    least.cut.fell two after cut →
-    (h : Root layout before x depth) →
-    Removes layout x.key h.low h.high (tree_of x h.left h.right) before after
-    (record { number = least.node.number; cut = cut })
-unfolding right_part gap_right became_right
-remove-between layout before two after x depth least cut does closes h =
-    let b = does (right_part layout before x depth h) in
-    let order_left = widen_high h.low x.key least.node.key h.left h.order.0 (omega (arith, b.at_least)) in
-    let c = closes (gap_right layout before two x depth least.node.key least.node.value least.cut h order_left
-    b.became) in
-    record {
-      became = became_right layout before two after x depth least.node.key least.node.value least.cut cut h b.became c;
-      present = subst (λ o. IsSome o) (sym (value_of-here x.key h.low x.key x.value h.left h.right h.order.0 refl))
-          refl;
-      items = c.items ∙ ap (λ xs. items_of h.left ++ xs) (sym b.items) ∙
-          sym (without_item-here x.key h.low x.key x.value h.left h.right h.order.0 refl);
-      counts = λ i. omega (arith, c.counts i, b.counts i);
-      number = b.number;
-      within = b.within;
-    }
+pub remove-between : {layout : Layout} (depth : ℕ) (x : Node) {p : Node} (least : Least) (cut : Cut)
+    (before two after : List Val) → HasTree layout → 0 < x.number →
+    p ≡ with_child Right least.cut.root (record x { key = least.node.key; value = least.node.value }) →
+    TakesLeast layout x.right (depth - 1) least before two → Closes layout Right x p least.cut.fell cut two after →
+    RemovesRoot layout x depth (record { number = least.node.number; cut = cut }) before after
+unfolding part_of
+remove-between {layout} depth x least cut before two after has some p_is does closes read h =
+    let r = read_root Right has read (λ e. omega arith) h in
+    let first = does (part_of r) in
+    let (whole, items) = loses-below least.node.key least.node.value cut after r.fork r.once p_is first.loses closes in
+    let made : TakesKey layout x.key (sided Right x r.near r.far) (record { number = least.node.number; cut = cut })
+    before
+    after = record {
+      loses = whole;
+      present = subst (λ o. IsSome o) (sym (value_of-root Right x.key h.low h.high x r.near r.far r.order refl)) refl;
+      items = items ∙ ap (λ xs. items_of r.far ++ xs) (sym first.items) ∙ sym
+          (without_item-here x.key h.low x r.far r.near r.order.0 refl);
+    } in
+    subst (λ t. TakesKey layout x.key t (record { number = least.node.number; cut = cut }) before after) (sym r.tree)
+    made
 
 -- ---- a key below the root
 
-pub remove-end : (layout : Layout) (before : List Val) (at depth key : ℕ) → at ≡ 0 →
-    (h : Subtree layout before at depth) →
-    RemovesIf layout key h.low h.high h.tree before before None
-remove-end layout before at depth key none h =
-    (ap (λ t. value_of key (items_of t)) (leaf_is layout before h.tree at h.root none h.nodes), refl)
+pub remove-end : (layout : Layout) (at depth key : ℕ) (before : List Val) → at ≡ 0 →
+    RemovesIf layout key at depth None before before
+remove-end layout at depth key before none h = (
+  ap (λ t. value_of key (items_of t)) (missing_child none (stands_of h)),
+  refl,
+)
 
--- what is asked of a subtree
-abbrev pub RemovesOf : Layout → ℕ → ℕ → ℕ → List Val → List Val → Option Removed → Type 0
-RemovesOf layout key at depth before after removed =
-    (h : Subtree layout before at depth) → RemovesIf layout key h.low h.high h.tree before after removed
+-- a node that was read is what stands in the map
+pub read-again : {layout : Layout} {at : ℕ} {x : Node} {before mid : List Val} → IsRead layout at x before mid →
+    IsRead layout x.number x mid mid
+read-again {layout} {x} {before} read = subst (λ m. IsRead layout x.number x m m) (sym read.same) (record {
+  number = refl;
+  value = ap (λ i. value_at before (object_of layout i)) read.number ∙ read.value;
+  left = read.left;
+  right = read.right;
+  same = refl;
+})
 
-pub remove-here : (layout : Layout) (before mid after : List Val) (at depth key : ℕ) (x : Node) (removed : Removed) →
-    HasTree layout →
-    IsRead layout before mid at x → (at ≡ 0 → ⊥) → key ≡ x.key →
-    ((h : Root layout mid x (depth - 1)) → Removes layout x.key h.low h.high (tree_of x h.left h.right) mid after
-    removed) →
-    RemovesOf layout key at depth before after (Some removed)
-unfolding root_here root_of_subtree
-remove-here layout before mid after at depth key x removed has read some same does h =
-    let found = root_of_subtree layout before mid at depth x has read some h in
-    let r = root_here layout before mid at depth x has read some h in
-    let does_it = subst (λ m. (g : Root layout m x (depth - 1)) →
-    Removes layout x.key g.low g.high (tree_of x g.left g.right) m after removed) read.same does in
-    subst (λ t. Removes layout key h.low h.high t before after removed) (sym found.tree)
-    (subst (λ k. Removes layout k h.low h.high (tree_of x r.left r.right) before after removed) (sym same) (does_it r))
+pub remove-here : {layout : Layout} {at : ℕ} (depth : ℕ) {key : ℕ} {x : Node} (removed : Removed)
+    {before mid : List Val} (after : List Val) → key ≡ x.key → IsRead layout at x before mid →
+    RemovesRoot layout x depth removed mid after → RemovesIf layout key at depth (Some removed) before after
+remove-here {layout} {at} depth {x} removed {before} after same read does =
+    let does_it = subst (λ m. RemovesRoot layout x depth removed m after) read.same does in
+    subst (λ k. RemovesIf layout k at depth (Some removed) before after) (sym same) (subst
+    (λ n. Removes layout x.key n depth removed before after) read.number
+    (does_it (subst (λ m. IsRead layout x.number x m m) read.same (read-again read))))
 
--- ---- on the left
+-- what the walk below the root did to the near subtree
+went : (layout : Layout) (side : Side) (depth n key : ℕ) (x : Node) (found is : Option Removed)
+    (before mid two : List Val) → n ≡ child side x → found ≡ is → mid ≡ before →
+    RemovesIf layout key n depth found mid two → RemovesIf layout key (child side x) depth is before two
+went layout side depth n key x found is before mid two n_is found_is same does =
+    subst (λ o. RemovesIf layout key (child side x) depth o before two) found_is (subst
+    (λ m. RemovesIf layout key (child side x) depth found m two) same
+    (subst (λ m. RemovesIf layout key m depth found mid two) n_is does))
 
-pub remove-left-none : (layout : Layout) (before mid two : List Val) (at depth key : ℕ) (x : Node) → HasTree layout →
-    IsRead layout before mid at x → (at ≡ 0 → ⊥) →
-    key < x.key → RemovesOf layout key x.left (depth - 1) mid two None → RemovesOf layout key at depth before two None
-unfolding root_here root_of_subtree left_part
-remove-left-none layout before mid two at depth key x has read some way does h =
-    let found = root_of_subtree layout before mid at depth x has read some h in
-    let r = root_here layout before mid at depth x has read some h in
-    let does_it = subst (λ m. RemovesOf layout key x.left (depth - 1) m two None) read.same does in
-    let none = does_it (left_part layout before x (depth - 1) r) in (
-      ap (λ t. value_of key (items_of t)) found.tree ∙ value_of-left key h.low h.high x.key x.value r.left r.right
-          r.order.0 r.order.1 way ∙ none.0,
+pub remove-none : {layout : Layout} (side : Side) {at : ℕ} (depth : ℕ) {n : ℕ} (key : ℕ) {x : Node}
+    {found : Option Removed} {before mid : List Val} (two : List Val) → HasTree layout → (at ≡ 0 → ⊥) → IsToward side
+    key x.key → n ≡ child side x → found ≡ None → IsRead layout at x before mid → RemovesIf layout key n (depth - 1)
+    found mid two → RemovesIf layout key at depth None before two
+unfolding part_of
+remove-none {layout} side depth {n} key {x} {found} {before} {mid} two has some way n_is found_is read does h =
+    let r = read_root side has read some h in
+    let none = went layout side (depth - 1) n key x found _ before mid two n_is found_is read.same does (part_of r) in (
+      ap (λ t. value_of key (items_of t)) r.tree ∙ value_of-toward side key h.low h.high x r.near r.far r.order way ∙
+          none.0,
       none.1,
     )
 
-pub gap_after_left : (layout : Layout) (before two : List Val) (x : Node) (depth key : ℕ) (removed : Removed)
-    (h : Root layout before x depth) →
-    RemovesOf layout key x.left depth before two (Some removed) →
-    LeftGap layout two x (record x { left = removed.cut.root }) removed.cut.fell
-unfolding left_part
-gap_after_left layout before two x depth key removed h does =
-    gap_left layout before two x depth h.low removed.cut h (does (left_part layout before x depth h)).became
-
-pub remove-left-some : (layout : Layout) (before mid two after : List Val) (at depth key : ℕ) (x : Node)
-    (removed : Removed) (cut : Cut) → HasTree layout →
-    IsRead layout before mid at x → (at ≡ 0 → ⊥) → key < x.key →
-    RemovesOf layout key x.left (depth - 1) before two (Some removed) →
-    ClosesLeft layout x (record x { left = removed.cut.root }) removed.cut.fell two after cut →
-    RemovesOf layout key at depth before after (Some (record { number = removed.number; cut = cut }))
-unfolding root_here root_of_subtree left_part gap_left became_left
-remove-left-some layout before mid two after at depth key x removed cut has read some way does closes h =
-    let found = root_of_subtree layout before mid at depth x has read some h in
-    let r = root_here layout before mid at depth x has read some h in
-    let b = does (left_part layout before x (depth - 1) r) in
-    let c = closes (gap_left layout before two x (depth - 1) r.low removed.cut r b.became) in
-    let made : Removes layout key h.low h.high (tree_of x r.left r.right) before after
-    (record { number = removed.number; cut = cut }) = record {
-      became = became_left layout before two after x (depth - 1) r.low removed.cut cut r b.became c;
-      present = subst (λ o. IsSome o) (sym (value_of-left key h.low h.high x.key x.value r.left r.right r.order.0
-          r.order.1 way)) b.present;
-      items = c.items ∙ ap (λ xs. xs ++ (x.key, x.value) ∷ items_of r.right) b.items ∙
-          sym (without_item-left key h.low h.high x.key x.value r.left r.right r.order.0 r.order.1 way);
-      counts = λ i. omega (arith, c.counts i, b.counts i);
-      number = b.number;
-      within = b.within;
-    } in
-    subst (λ t. Removes layout key h.low h.high t before after (record { number = removed.number; cut = cut }))
-    (sym found.tree) made
-
--- ---- on the right
-
-pub remove-right-none : (layout : Layout) (before mid two : List Val) (at depth key : ℕ) (x : Node) → HasTree layout →
-    IsRead layout before mid at x → (at ≡ 0 → ⊥) →
-    x.key < key → RemovesOf layout key x.right (depth - 1) mid two None → RemovesOf layout key at depth before two None
-unfolding root_here root_of_subtree right_part
-remove-right-none layout before mid two at depth key x has read some way does h =
-    let found = root_of_subtree layout before mid at depth x has read some h in
-    let r = root_here layout before mid at depth x has read some h in
-    let does_it = subst (λ m. RemovesOf layout key x.right (depth - 1) m two None) read.same does in
-    let none = does_it (right_part layout before x (depth - 1) r) in (
-      ap (λ t. value_of key (items_of t)) found.tree ∙ value_of-right key h.low x.key x.value r.left r.right r.order.0
-          way ∙ none.0,
-      none.1,
+pub has-gap_some : {layout : Layout} (side : Side) {at : ℕ} (depth : ℕ) {n : ℕ} (key : ℕ) {x p : Node}
+    {found : Option Removed} {removed : Removed} {before mid : List Val} (two : List Val) → HasTree layout →
+    (at ≡ 0 → ⊥) → n ≡ child side x → found ≡ Some removed → p ≡ with_child side removed.cut.root x → IsRead layout at x
+    before mid → RemovesIf layout key n (depth - 1) found mid two → Subtree layout before at depth → HasGap layout side
+    x p removed.cut.fell two
+unfolding part_of
+has-gap_some {layout} side depth {n} key {x} {found} {removed} {before} {mid} two has some n_is found_is p_is read does
+    h =
+    let r = read_root side has read some h in
+    let taken = went layout side (depth - 1) n key x found _ before mid two n_is found_is read.same does (part_of r) in
+    subst (λ q. HasGap layout side x q removed.cut.fell two) (sym p_is) (
+      _,
+      (
+        r.far,
+        gap-after x.key x.value r.fork r.once taken.loses.became,
+      ),
     )
 
-pub gap_after_right : (layout : Layout) (before two : List Val) (x : Node) (depth key : ℕ) (removed : Removed)
-    (h : Root layout before x depth) →
-    RemovesOf layout key x.right depth before two (Some removed) →
-    RightGap layout two x (record x { right = removed.cut.root }) removed.cut.fell
-unfolding right_part
-gap_after_right layout before two x depth key removed h does =
-    gap_right layout before two x depth x.key x.value removed.cut h h.order.0
-    (does (right_part layout before x depth h)).became
-
-pub remove-right-some : (layout : Layout) (before mid two after : List Val) (at depth key : ℕ) (x : Node)
-    (removed : Removed) (cut : Cut) → HasTree layout →
-    IsRead layout before mid at x → (at ≡ 0 → ⊥) → x.key < key →
-    RemovesOf layout key x.right (depth - 1) before two (Some removed) →
-    ClosesRight layout x (record x { right = removed.cut.root }) removed.cut.fell two after cut →
-    RemovesOf layout key at depth before after (Some (record { number = removed.number; cut = cut }))
-unfolding root_here root_of_subtree right_part gap_right became_right
-remove-right-some layout before mid two after at depth key x removed cut has read some way does closes h =
-    let found = root_of_subtree layout before mid at depth x has read some h in
-    let r = root_here layout before mid at depth x has read some h in
-    let b = does (right_part layout before x (depth - 1) r) in
-    let c = closes (gap_right layout before two x (depth - 1) x.key x.value removed.cut r r.order.0 b.became) in
-    let made : Removes layout key h.low h.high (tree_of x r.left r.right) before after
-    (record { number = removed.number; cut = cut }) = record {
-      became = became_right layout before two after x (depth - 1) x.key x.value removed.cut cut r b.became c;
-      present = subst (λ o. IsSome o) (sym (value_of-right key h.low x.key x.value r.left r.right r.order.0 way))
-          b.present;
-      items = c.items ∙ ap (λ xs. items_of r.left ++ (x.key, x.value) ∷ xs) b.items ∙
-          sym (without_item-right key h.low x.key x.value r.left r.right r.order.0 way);
-      counts = λ i. omega (arith, c.counts i, b.counts i);
-      number = b.number;
-      within = b.within;
+pub remove-some : {layout : Layout} (side : Side) {at : ℕ} (depth : ℕ) {n : ℕ} (key : ℕ) {x p : Node}
+    {found : Option Removed} {removed : Removed} (cut : Cut) {before mid : List Val} (two after : List Val) → HasTree
+    layout → (at ≡ 0 → ⊥) → IsToward side key x.key → n ≡ child side x → found ≡ Some removed → p ≡ with_child side
+    removed.cut.root x → IsRead layout at x before mid → RemovesIf layout key n (depth - 1) found mid two → Closes
+    layout side x p removed.cut.fell cut two after → RemovesIf layout key at depth
+    (Some (record { number = removed.number; cut = cut })) before after
+unfolding part_of
+remove-some {layout} side depth {n} key {x} {found} {removed} cut {before} {mid} two after has some way n_is found_is
+    p_is read does closes h =
+    let r = read_root side has read some h in
+    let taken = went layout side (depth - 1) n key x found _ before mid two n_is found_is read.same does (part_of r) in
+    let (whole, items) = loses-below x.key x.value cut after r.fork r.once p_is taken.loses closes in
+    let made : TakesKey layout key (sided side x r.near r.far) (record { number = removed.number; cut = cut }) before
+    after = record {
+      loses = whole;
+      present = subst (λ o. IsSome o) (sym (value_of-toward side key h.low h.high x r.near r.far r.order way))
+          taken.present;
+      items = items ∙ without_item-toward side key h.low h.high x r.near r.far taken.loses.became.tree r.order way
+          taken.items;
     } in
-    subst (λ t. Removes layout key h.low h.high t before after (record { number = removed.number; cut = cut }))
-    (sym found.tree) made
+    subst (λ t. TakesKey layout key t (record { number = removed.number; cut = cut }) before after) (sym r.tree) made

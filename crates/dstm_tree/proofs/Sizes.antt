@@ -1,13 +1,7 @@
 -- How many nodes a tree and a free chain have, where each of n numbers stands in one of them, once.
-use Rattle.std.proofs.Common.{◌≡◌, ℕ, zero, suc, ◌+◌, ◌<◌, ◌≤◌, List, [], ◌∷◌, length, arith, refl, ap, inl, inr}
-use Rattle.std.proofs.Common.{eq-eqb, length-append}
-use Rattle.std.specs.Prelude.{cond, ◌==◌, count_by}
-use Rattle.std.proofs.lemmas.Bool.{cases_eq, ne_eqb}
-use Rattle.std.proofs.lemmas.List.Sums.{sum_by-cons}
-use Rattle.dstm_model.specs.declared.value.Val.{Val}
-use Rattle.dstm_model.specs.declared.layout.Layout.{Layout}
-use Rattle.dstm_tree.specs.Tree.{Tree, leaf, node, items_of, count_of}
-use Rattle.dstm_tree.specs.Objects.{Holds, IsFreeChain}
+use Rattle.dstm_tree.proofs.Base.{◌≡◌, ℕ, zero, suc, ◌+◌, ◌<◌, ◌≤◌, List, [], ◌∷◌, length, arith, refl, ap, inl, inr}
+use Rattle.dstm_tree.proofs.Base.{eq-eqb, length-append, cond, ◌==◌, count_by, cases_eq, ne_eqb, sum_by-cons, Val}
+use Rattle.dstm_tree.proofs.Base.{Layout, Tree, leaf, node, items_of, count_of, Holds, IsFreeChain}
 
 -- f 1 + .. + f n
 total : ℕ → (ℕ → ℕ) → ℕ
@@ -24,8 +18,8 @@ unfolding total
 total-same zero f g same = refl
 total-same (suc n) f g same =
     let here : f (suc n) ≡ g (suc n) = same (suc n) (omega arith) (omega arith) in
-    let before = total-same n f g (λ i least most. same i least (omega (arith, most))) in
-    omega (arith, here, before)
+    let before = total-same n f g (λ i least most. same i least (omega arith)) in
+    omega arith
 
 total-none : (n : ℕ) → total n (λ i. 0) ≡ 0
 unfolding total
@@ -43,19 +37,18 @@ mark j i = cond (j == i) 1 0
 
 total-mark : (n j : ℕ) → 0 < j → j ≤ n → total n (mark j) ≡ 1
 unfolding total
-total-mark zero j least most = absurd (omega (arith, least, most))
+total-mark zero j least most = absurd (omega arith)
 total-mark (suc n) j least most =
     elim (cases_eq j (suc n)) [
       | inl same ↦
           let before : total n (mark j) ≡ total n (λ i. 0) =
-          total-same n (mark j) (λ i. 0) (λ i _ below. ap (λ b. cond b 1 0)
-          (ne_eqb j i (λ e. omega (arith, e, same, below)))) in
+          total-same n (mark j) (λ i. 0) (λ i _ below. ap (λ b. cond b 1 0) (ne_eqb j i (λ e. omega arith))) in
           let none : total n (λ i. 0) ≡ 0 = total-none n in
           let here : mark j (suc n) ≡ 1 = ap (λ b. cond b 1 0) (eq-eqb j (suc n) same) in
-          omega (arith, before, none, here)
+          omega arith
       | inr other ↦
           let here : mark j (suc n) ≡ 0 = ap (λ b. cond b 1 0) (ne_eqb j (suc n) other) in
-          omega (arith, total-mark n j least (omega (arith, most, other)), here)
+          omega (arith, total-mark n j least (omega (arith, most, other)))
     ]
 
 total-tree : (layout : Layout) (map : List Val) (t : Tree) → Holds layout map t →
@@ -68,7 +61,7 @@ total-tree layout map (node n red l k v r) nodes =
     let right = total-tree layout map r nodes.4 in
     let outer = total-add size (λ i. cond (n == i) 1 0 + count_of i l) (λ i. count_of i r) in
     let inner = total-add size (λ i. cond (n == i) 1 0) (λ i. count_of i l) in
-    omega (arith, root, left, right, outer, inner, length-append (items_of l) ((k, v) ∷ items_of r))
+    omega (arith, length-append (items_of l) ((k, v) ∷ items_of r))
 
 total-chain : (layout : Layout) (map : List Val) (free : List ℕ) → IsFreeChain layout map free →
     total layout.tree (λ i. count_by (λ j. j == i) free) ≡ length free
@@ -80,18 +73,16 @@ total-chain layout map (n ∷ free) chain =
     let split = total-same size (λ i. count_by (λ j. j == i) (n ∷ free))
     (λ i. cond (n == i) 1 0 + count_by (λ j. j == i) free)
     (λ i _ _. sum_by-cons (λ j. cond (j == i) 1 0) n free) in
-    omega (arith, first, rest, split, total-add size (λ i. cond (n == i) 1 0) (λ i. count_by (λ j. j == i) free))
+    omega (arith, total-add size (λ i. cond (n == i) 1 0) (λ i. count_by (λ j. j == i) free))
 
 pub size_all : (layout : Layout) (map : List Val) (t : Tree) (free : List ℕ) → Holds layout map t →
-    IsFreeChain layout map free →
-    ((i : ℕ) → 0 < i → i ≤ layout.tree → count_of i t + count_by (λ j. j == i) free ≡ 1) →
+    IsFreeChain layout map free → ((i : ℕ) → 0 < i → i ≤ layout.tree → count_of i t + count_by (λ j. j == i) free ≡ 1) →
     length (items_of t) + length free ≡ layout.tree
 size_all layout map t free nodes chain once =
     let size = layout.tree in
     let all = total-same size (λ i. count_of i t + count_by (λ j. j == i) free) (λ i. 1) once in
     omega (
       arith,
-      all,
       total-ones size,
       total-add size (λ i. count_of i t) (λ i. count_by (λ j. j == i) free),
       total-tree layout map t nodes,

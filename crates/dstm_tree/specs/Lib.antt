@@ -1,5 +1,7 @@
 pub mod Tree
 pub mod Objects
+pub mod Side
 pub mod Node
+pub mod Steps
 pub mod Place
 pub mod Remove

@@ -1,27 +1,31 @@
--- What it means to take a key out of a subtree.
-use Rattle.std.specs.Prelude.{◌≡◌, ℕ, ◌+◌, ◌<◌, ◌≤◌, ◌==◌, Bool, true, false, if◌then◌else◌, List, ◌∷◌, length, Option}
-use Rattle.std.specs.Prelude.{None, Some, IsSome}
+-- What it means to take a key out of a subtree: where a black node is taken out below a node, the black height on
+-- that side falls by one, and a rotation or a new colour makes the sides as high again, or passes the fall up.
+use Rattle.std.specs.Prelude.{◌≡◌, ◌≢◌, ℕ, ◌+◌, ◌<◌, ◌≤◌, ◌==◌, Bool, true, false, if◌then◌else◌, List, ◌∷◌, Option}
+use Rattle.std.specs.Prelude.{None, Some, IsSome, not}
 use Rattle.dstm_model.specs.declared.value.Val.{Val}
 use Rattle.dstm_model.specs.declared.layout.Layout.{Layout}
 use Rattle.dstm_model.specs.Map.{value_at}
+use Rattle.dstm_model.specs.Objects.{plain}
 use Rattle.dstm_model.specs.Store.{value_of, without_item}
 use Rattle.dstm_tree.specs.declared.node.Node.{Node}
+use Rattle.dstm_tree.specs.declared.side.Side.{Side}
 use Rattle.dstm_tree.specs.declared.balance.Cut.{Cut}
 use Rattle.dstm_tree.specs.declared.removal.Least.{Least}
 use Rattle.dstm_tree.specs.declared.removal.Removed.{Removed}
-use Rattle.dstm_tree.specs.Tree.{Tree, number_of, is_red, items_of, count_of, black_height, IsOrdered, IsBalanced}
-use Rattle.dstm_tree.specs.Objects.{root_of, free_of, object_of, Holds}
-use Rattle.dstm_tree.specs.Node.{tree_of, val_of}
-use Rattle.dstm_tree.specs.Place.{red_tree, black_tree}
+use Rattle.dstm_tree.specs.Side.{other}
+use Rattle.dstm_tree.specs.Tree.{Tree, is_red, items_of, count_of, black_height}
+use Rattle.dstm_tree.specs.Objects.{root_of, free_of, object_of}
+use Rattle.dstm_tree.specs.Node.{IsRead, Subtree, Stands, Fork, child, with_red, sided, val_of}
+use Rattle.dstm_tree.specs.Steps.{Sets, Updates}
 
 -- of the tree's objects no other is changed than nodes that are touched
-pub record Changes (layout : Layout) (before after : List Val) (touched : ℕ → ℕ) : Type 0 where
+pub record Changes (layout : Layout) (touched : ℕ → ℕ) (before after : List Val) : Type 0 where
   pub root : value_at after (root_of layout) ≡ value_at before (root_of layout)
   pub free : value_at after (free_of layout) ≡ value_at before (free_of layout)
   pub nodes : (i : ℕ) → 0 < i → i ≤ layout.tree → touched i ≡ 0 →
       value_at after (object_of layout i) ≡ value_at before (object_of layout i)
 
--- 1 where the height fell
+-- 1 where the black height fell
 abbrev pub fall_of : Bool → ℕ
 fall_of fell = if fell then 1 else 0
 
@@ -29,184 +33,172 @@ fall_of fell = if fell then 1 else 0
 abbrev pub blackness : Bool → ℕ
 blackness red = if red then 0 else 1
 
--- what stands for the tree s, which may not be balanced: a balanced tree of its nodes and items, whose height
+-- what stands for the tree s, which may not be balanced: a balanced tree of its nodes and items, whose black height
 -- is the one given or has fallen by one, and whose root is red only if `red` is true
-pub record IsCut (layout : Layout) (low high : ℕ) (s : Tree) (height : ℕ) (red : Bool) (before after : List Val)
-    (cut : Cut) : Type 0 where
-  pub tree : Tree
-  pub root : number_of tree ≡ cut.root
-  pub items : items_of tree ≡ items_of s
-  pub counts : (i : ℕ) → count_of i tree ≡ count_of i s
-  pub order : IsOrdered low high tree
-  pub height_is : black_height tree + fall_of cut.fell ≡ height
-  pub colour : is_red tree ≡ true → red ≡ true
-  pub balanced : IsBalanced tree
-  pub nodes : Holds layout after tree
-  pub keeps : Changes layout before after (λ i. count_of i s)
+pub record IsCut (layout : Layout) (s : Tree) (height : ℕ) (red : Bool) (cut : Cut) (before after : List Val) : Type 0
+  where
+    pub tree : Tree
+    pub items : items_of tree ≡ items_of s
+    pub counts : (i : ℕ) → count_of i tree ≡ count_of i s
+    pub height_is : black_height tree + fall_of cut.fell ≡ height
+    pub colour : is_red tree ≡ true → red ≡ true
+    pub stands : Stands layout after cut.root tree
+    pub keeps : Changes layout (λ i. count_of i s) before after
 
--- a node, as it is held and as it is to be, whose left subtree may have fallen
-pub record LeftGap (layout : Layout) (map : List Val) (held p : Node) (fell : Bool) : Type 0 where
-  pub low : ℕ
-  pub high : ℕ
-  pub left : Tree
-  pub right : Tree
-  pub left_is : number_of left ≡ p.left
-  pub right_is : number_of right ≡ p.right
-  pub held_is : value_at map (object_of layout p.number) ≡ val_of held
+-- A gap: below the node p, held as it was, the black height of the near subtree may have fallen by one. The far
+-- subtree is black below a red node, and so is the near one if it has not fallen.
+--
+--           p
+--         /   \
+--     near     far
+pub record Gap (layout : Layout) (side : Side) (held p : Node) (fell : Bool) (near far : Tree) (map : List Val) : Type
+    0 where
   pub number : 0 < p.number
   pub within : p.number ≤ layout.tree
-  pub nodes_left : Holds layout map left
-  pub nodes_right : Holds layout map right
-  pub once : (i : ℕ) → 0 < i → i ≤ layout.tree → count_of i (tree_of p left right) ≤ 1
-  pub order : IsOrdered low high (tree_of p left right)
-  pub heights : black_height left + fall_of fell ≡ black_height right
-  pub colour_left : p.red ≡ true → fell ≡ false → is_red left ≡ false
-  pub colour_right : p.red ≡ true → is_red right ≡ false
-  pub balanced_left : IsBalanced left
-  pub balanced_right : IsBalanced right
-
--- the same on the right
-pub record RightGap (layout : Layout) (map : List Val) (held p : Node) (fell : Bool) : Type 0 where
-  pub low : ℕ
-  pub high : ℕ
-  pub left : Tree
-  pub right : Tree
-  pub left_is : number_of left ≡ p.left
-  pub right_is : number_of right ≡ p.right
   pub held_is : value_at map (object_of layout p.number) ≡ val_of held
-  pub number : 0 < p.number
-  pub within : p.number ≤ layout.tree
-  pub nodes_left : Holds layout map left
-  pub nodes_right : Holds layout map right
-  pub once : (i : ℕ) → 0 < i → i ≤ layout.tree → count_of i (tree_of p left right) ≤ 1
-  pub order : IsOrdered low high (tree_of p left right)
-  pub heights : black_height right + fall_of fell ≡ black_height left
-  pub colour_left : p.red ≡ true → is_red left ≡ false
-  pub colour_right : p.red ≡ true → fell ≡ false → is_red right ≡ false
-  pub balanced_left : IsBalanced left
-  pub balanced_right : IsBalanced right
+  pub near_stands : Stands layout map (child side p) near
+  pub far_stands : Stands layout map (child (other side) p) far
+  pub once : (i : ℕ) → 0 < i → i ≤ layout.tree → count_of i (sided side p near far) ≤ 1
+  pub heights : black_height near + fall_of fell ≡ black_height far
+  pub near_colour : p.red ≡ true → fell ≡ false → is_red near ≡ false
+  pub far_colour : p.red ≡ true → is_red far ≡ false
 
--- a node whose left subtree has fallen, and its black right child
-pub record LeftFall (layout : Layout) (map : List Val) (held p s : Node) : Type 0 where
-  pub gap : LeftGap layout map held p true
-  pub near : Tree
-  pub far : Tree
-  pub sibling : gap.right ≡ black_tree s near far
-  pub black : s.red ≡ false
-  pub near_is : number_of near ≡ s.left
-  pub far_is : number_of far ≡ s.right
+abbrev pub HasGap : Layout → Side → Node → Node → Bool → List Val → Type 0
+HasGap layout side held p fell map = (near : Tree) × ((far : Tree) × Gap layout side held p fell near far map)
 
-pub record RightFall (layout : Layout) (map : List Val) (held p s : Node) : Type 0 where
-  pub gap : RightGap layout map held p true
-  pub near : Tree
-  pub far : Tree
-  pub sibling : gap.left ≡ black_tree s far near
-  pub black : s.red ≡ false
-  pub near_is : number_of near ≡ s.right
-  pub far_is : number_of far ≡ s.left
+-- the gap is closed: the node and its subtrees are balanced again
+abbrev pub Closes : Layout → Side → Node → Node → Bool → Cut → List Val → List Val → Type 0
+Closes layout side held p fell cut before after =
+    (near far : Tree) → Gap layout side held p fell near far before →
+    IsCut layout (sided side p near far) (black_height far + blackness p.red) p.red cut before after
 
--- the node and its subtrees are balanced again
-abbrev pub ClosesLeft : Layout → Node → Node → Bool → List Val → List Val → Cut → Type 0
-ClosesLeft layout held p fell before after cut =
-    (h : LeftGap layout before held p fell) →
-    IsCut layout h.low h.high (tree_of p h.left h.right) (black_height h.right + blackness p.red) p.red before after cut
+-- a gap where the near subtree has fallen beside a sibling s that is red or black
+--
+--           p
+--         /   \
+--     near     s
+--            /   \
+--       inner     outer
+pub record Fall (layout : Layout) (side : Side) (red : Bool) (held p s : Node) (near inner outer : Tree)
+    (map : List Val) : Type 0 where
+  pub gap : Gap layout side held p true near (sided side s inner outer) map
+  pub fork : Fork layout map side s inner outer
+  pub colour : s.red ≡ red
 
-abbrev pub ClosesRight : Layout → Node → Node → Bool → List Val → List Val → Cut → Type 0
-ClosesRight layout held p fell before after cut =
-    (h : RightGap layout before held p fell) →
-    IsCut layout h.low h.high (tree_of p h.left h.right) (black_height h.left + blackness p.red) p.red before after cut
+abbrev pub HasFall : Layout → Side → Bool → Node → Node → Node → List Val → Type 0
+HasFall layout side red held p s map =
+    (near : Tree) × ((inner : Tree) × ((outer : Tree) × Fall layout side red held p s near inner outer map))
 
--- the same, and under a red node the height does not fall
-abbrev pub LiftsLeft : Layout → Node → Node → Node → List Val → List Val → Cut → Type 0
-LiftsLeft layout held p s before after cut =
-    (h : LeftFall layout before held p s) →
-    IsCut layout h.gap.low h.gap.high (tree_of p h.gap.left h.gap.right) (black_height h.gap.right + blackness p.red)
-    p.red before after cut
+-- the fallen subtree is lifted, by rotations toward it or by a red sibling; under a red node the whole does not fall
+abbrev pub Lifts : Layout → Side → Bool → Node → Node → Node → Cut → List Val → List Val → Type 0
+Lifts layout side red held p s cut before after =
+    (near inner outer : Tree) → Fall layout side red held p s near inner outer before →
+    IsCut layout (sided side p near (sided side s inner outer))
+    (black_height (sided side s inner outer) + blackness p.red) p.red cut before after
     × (cut.fell ≡ true → p.red ≡ false)
 
-abbrev pub LiftsRight : Layout → Node → Node → Node → List Val → List Val → Cut → Type 0
-LiftsRight layout held p s before after cut =
-    (h : RightFall layout before held p s) →
-    IsCut layout h.gap.low h.gap.high (tree_of p h.gap.left h.gap.right) (black_height h.gap.left + blackness p.red)
-    p.red before after cut
-    × (cut.fell ≡ true → p.red ≡ false)
+-- two nodes were written, and then the one that stands over them, the new root
+pub record Arranges (layout : Layout) (near far top : Node) (cut : Cut) (before after : List Val) : Type 0 where
+  pub root : cut.root ≡ top.number
+  pub fell : cut.fell ≡ false
+  pub one : List Val
+  pub two : List Val
+  pub first : Sets (object_of layout near.number) (val_of near) before one
+  pub second : Sets (object_of layout far.number) (val_of far) one two
+  pub third : Sets (object_of layout top.number) (val_of top) two after
 
--- a red child was found
-pub record IsRedChild (t : Tree) (x : Node) : Type 0 where
-  pub left : Tree
-  pub right : Tree
-  pub tree : t ≡ red_tree x left right
+-- a node was made red, and then the one that stands over it black; if that was black, the whole fell
+pub record Recolours (layout : Layout) (held p s : Node) (cut : Cut) (before after : List Val) : Type 0 where
+  pub cut_is : cut ≡ record { root = p.number; fell = not p.red }
+  pub mid : List Val
+  pub first : Sets (object_of layout s.number) (val_of (with_red true s)) before mid
+  pub second : Updates layout held (with_red false p) mid after
+
+-- a red root with its subtrees
+pub record IsRedFork (layout : Layout) (map : List Val) (side : Side) (t : Tree) (x : Node) : Type 0 where
+  pub near : Tree
+  pub far : Tree
+  pub tree : t ≡ sided side x near far
   pub red : x.red ≡ true
-  pub left_is : number_of left ≡ x.left
-  pub right_is : number_of right ≡ x.right
+  pub fork : Fork layout map side x near far
 
-abbrev pub SeesRed : Tree → Option Node → Type 0
-SeesRed t None = is_red t ≡ false
-SeesRed t (Some x) = IsRedChild t x
+-- the tree's root is red, and was found, or it is black
+abbrev pub SeesRed : Layout → List Val → Side → Tree → Option Node → Type 0
+SeesRed layout map side t None = is_red t ≡ false
+SeesRed layout map side t (Some x) = IsRedFork layout map side t x
 
--- the node that was read: its number is the tree's
-abbrev pub FindsRed : Layout → List Val → ℕ → Option Node → Type 0
-FindsRed layout map number found =
-    (t : Tree) → number_of t ≡ number → Holds layout map t → SeesRed t found
+-- the tree under a number was looked at
+abbrev pub FindsRed : Layout → ℕ → Option Node → List Val → List Val → Type 0
+FindsRed layout number found before after =
+    (after ≡ before)
+    × ((side : Side) (t : Tree) → Stands layout before number t → SeesRed layout before side t found)
 
--- a subtree that lost a node: some of its nodes, balanced, whose height may have fallen by one
-pub record Became (layout : Layout) (low high : ℕ) (old : Tree) (before after : List Val) (cut : Cut) : Type 0 where
+-- a subtree that lost a node: some of its nodes, balanced, whose black height may have fallen by one
+pub record Became (layout : Layout) (old : Tree) (cut : Cut) (before after : List Val) : Type 0 where
   pub tree : Tree
-  pub root : number_of tree ≡ cut.root
   pub fewer : (i : ℕ) → count_of i tree ≤ count_of i old
-  pub order : IsOrdered low high tree
   pub height_is : black_height tree + fall_of cut.fell ≡ black_height old
   pub colour : is_red tree ≡ true → is_red old ≡ true
-  pub balanced : IsBalanced tree
-  pub nodes : Holds layout after tree
-  pub keeps : Changes layout before after (λ i. count_of i old)
+  pub stands : Stands layout after cut.root tree
+  pub keeps : Changes layout (λ i. count_of i old) before after
 
 -- 1 at a number, 0 at every other
 abbrev pub one_at : ℕ → ℕ → ℕ
 one_at number i = if number == i then 1 else 0
 
--- the first item was taken out
-pub record TakesLeast (layout : Layout) (low high : ℕ) (t : Tree) (before after : List Val) (least : Least) : Type 0
-  where
-    pub became : Became layout (least.node.key + 1) high t before after least.cut
-    pub items : items_of t ≡ (least.node.key, least.node.value) ∷ items_of became.tree
-    pub counts : (i : ℕ) → one_at least.node.number i + count_of i became.tree ≡ count_of i t
-    pub at_least : low ≤ least.node.key
-    pub number : 0 < least.node.number
-    pub within : least.node.number ≤ layout.tree
+-- a node was taken out: its number, and what is left
+pub record Loses (layout : Layout) (number : ℕ) (t : Tree) (cut : Cut) (before after : List Val) : Type 0 where
+  pub became : Became layout t cut before after
+  pub counts : (i : ℕ) → one_at number i + count_of i became.tree ≡ count_of i t
+  pub some : 0 < number
+  pub within : number ≤ layout.tree
+
+-- the first item of a subtree was taken out
+pub record TakesFirst (layout : Layout) (t : Tree) (least : Least) (before after : List Val) : Type 0 where
+  pub loses : Loses layout least.node.number t least.cut before after
+  pub items : items_of t ≡ (least.node.key, least.node.value) ∷ items_of loses.became.tree
+
+abbrev pub TakesLeast : Layout → ℕ → ℕ → Least → List Val → List Val → Type 0
+TakesLeast layout at depth least before after =
+    (h : Subtree layout before at depth) → TakesFirst layout h.tree least before after
 
 -- a key was taken out, and with it one node
-pub record Removes (layout : Layout) (key low high : ℕ) (t : Tree) (before after : List Val) (removed : Removed) : Type
-    0 where
-  pub became : Became layout low high t before after removed.cut
+pub record TakesKey (layout : Layout) (key : ℕ) (t : Tree) (removed : Removed) (before after : List Val) : Type 0 where
+  pub loses : Loses layout removed.number t removed.cut before after
   pub present : IsSome (value_of key (items_of t))
-  pub items : items_of became.tree ≡ without_item key (items_of t)
-  pub counts : (i : ℕ) → one_at removed.number i + count_of i became.tree ≡ count_of i t
-  pub number : 0 < removed.number
-  pub within : removed.number ≤ layout.tree
+  pub items : items_of loses.became.tree ≡ without_item key (items_of t)
 
-abbrev pub RemovesIf : Layout → ℕ → ℕ → ℕ → Tree → List Val → List Val → Option Removed → Type 0
-RemovesIf layout key low high t before after None = (value_of key (items_of t) ≡ None) × (after ≡ before)
-RemovesIf layout key low high t before after (Some removed) = Removes layout key low high t before after removed
+abbrev pub Removes : Layout → ℕ → ℕ → ℕ → Removed → List Val → List Val → Type 0
+Removes layout key at depth removed before after =
+    (h : Subtree layout before at depth) → TakesKey layout key h.tree removed before after
 
--- a node, as it is held, and its subtrees, which have at most `depth` nodes together
-pub record Root (layout : Layout) (map : List Val) (x : Node) (depth : ℕ) : Type 0 where
-  pub low : ℕ
-  pub high : ℕ
-  pub left : Tree
-  pub right : Tree
-  pub left_is : number_of left ≡ x.left
-  pub right_is : number_of right ≡ x.right
-  pub held_is : value_at map (object_of layout x.number) ≡ val_of x
-  pub nodes : Holds layout map (tree_of x left right)
-  pub once : (i : ℕ) → 0 < i → i ≤ layout.tree → count_of i (tree_of x left right) ≤ 1
-  pub order : IsOrdered low high (tree_of x left right)
-  pub balanced : IsBalanced (tree_of x left right)
-  pub size : length (items_of left) + length (items_of right) ≤ depth
+-- the same of a root that was read
+abbrev pub RemovesRoot : Layout → Node → ℕ → Removed → List Val → List Val → Type 0
+RemovesRoot layout x depth removed before after =
+    IsRead layout x.number x before before → Removes layout x.key x.number depth removed before after
 
--- a subtree of height 0 takes the place of a node of this colour, its parent, which had no other child
-abbrev pub Hoists : Layout → ℕ → Bool → List Val → List Val → Cut → Type 0
-Hoists layout child red before after cut =
-    (low high : ℕ) (t : Tree) → number_of t ≡ child → Holds layout before t →
-    ((i : ℕ) → 0 < i → i ≤ layout.tree → count_of i t ≤ 1) → IsOrdered low high t → IsBalanced t → black_height t ≡ 0 →
-    (red ≡ true → is_red t ≡ false) → IsCut layout low high t (blackness red) red before after cut
+-- the same where the key may be absent
+abbrev pub TakesKeyIf : Layout → ℕ → Tree → Option Removed → List Val → List Val → Type 0
+TakesKeyIf layout key t None before after = (value_of key (items_of t) ≡ None) × (after ≡ before)
+TakesKeyIf layout key t (Some removed) before after = TakesKey layout key t removed before after
+
+abbrev pub RemovesIf : Layout → ℕ → ℕ → ℕ → Option Removed → List Val → List Val → Type 0
+RemovesIf layout key at depth found before after =
+    (h : Subtree layout before at depth) → TakesKeyIf layout key h.tree found before after
+
+-- a subtree of black height 0 takes the place of a node of this colour, its parent, which had no other child
+abbrev pub Hoists : Layout → ℕ → Bool → Cut → List Val → List Val → Type 0
+Hoists layout number red cut before after =
+    (t : Tree) → Stands layout before number t → ((i : ℕ) → 0 < i → i ≤ layout.tree → count_of i t ≤ 1) →
+    black_height t ≡ 0 → (red ≡ true → is_red t ≡ false) → IsCut layout t (blackness red) red cut before after
+
+-- a node was put in front of the free chain
+pub record GivesBack (layout : Layout) (number : ℕ) (before after : List Val) : Type 0 where
+  pub node : value_at after (object_of layout number) ≡ value_at before (free_of layout)
+  pub free : value_at after (free_of layout) ≡ plain number
+  pub others : (o : ℕ) → o ≢ object_of layout number → o ≢ free_of layout → value_at after o ≡ value_at before o
+
+-- the root is named anew
+abbrev pub NamesRoot : Layout → ℕ → ℕ → List Val → List Val → Type 0
+NamesRoot layout held root before after =
+    value_at before (root_of layout) ≡ plain held → Sets (root_of layout) (plain root) before after

@@ -1,18 +1,15 @@
-ghost use Rattle.std.specs.Prelude.{◌≡◌, ℕ, ◌<◌, ◌≤◌, List, IsTrue, IfSome, IfOk, OnOk, slice_set};
+ghost use Rattle.std.specs.Prelude.{◌≤◌, List, IfOk, IfSome, true, false};
 ghost use Rattle.dstm_model.specs.declared.value.Val.{Val};
-ghost use Rattle.dstm_model.specs.Map.{value_at};
-ghost use Rattle.dstm_model.specs.Objects.{objects_of, tree_begin};
 ghost use Rattle.dstm_mem.specs.Memory.{with_set};
-ghost use Rattle.dstm_mem.specs.Operations.{IsReady, Leads, OnlyReads, OpensToSet};
-ghost use Rattle.dstm_tree.specs.Objects.{object_of};
-ghost use Rattle.dstm_tree.specs.Node.{HasTree, FitsNode, val_of};
-ghost use Rattle.dstm_tree.specs.Remove.{LeftGap, RightGap, LeftFall, RightFall, ClosesLeft, ClosesRight, LiftsLeft};
-ghost use Rattle.dstm_tree.specs.Remove.{LiftsRight, FindsRed};
+ghost use Rattle.dstm_tree.specs.Node.{FitsNode};
+ghost use Rattle.dstm_tree.specs.Steps.{IsOpen, Steps, Updates};
+ghost use Rattle.dstm_tree.specs.Remove.{Arranges, HasGap, HasFall, Recolours, Closes, Lifts, FindsRed};
 
 use crate::cells::{read_node, write_node};
 use crate::node::Node;
+use crate::side::Side;
 use dstm_mem::Mem;
-use dstm_model::{Layout, Val};
+use dstm_model::Layout;
 
 // What is left of a subtree.
 #[derive(Clone, Copy, Debug)]
@@ -26,20 +23,9 @@ pub(crate) struct Cut {
 // Reads a child, if there is one, and answers it if it is red.
 fn read_red<M: Mem>(mem: &mut M, layout: &Layout, number: u16) -> Result<Option<Node>, M::Err>
     requires number { number ≤ layout.now.tree }
-    requires tree { HasTree layout.now }
-    requires objects { M.objects mem.old ≡ objects_of layout.now }
-    requires live { IsTrue (M.is_live mem.old) }
-    requires admits { (map : List Val) × M.Admits mem.old map }
-
-    ensures finds { IfOk result (λ found. (map : List Val) → M.Admits mem.new map →
-        FindsRed layout.now (with_set map (M.written mem.old)) number found) }
+    requires ready { IsOpen M.Mem layout.now mem.old }
+    ensures steps { Steps M.Mem layout.now (λ found. Unit {0}) (FindsRed layout.now number) mem.old mem.new result }
     ensures fits { IfOk result (λ found. IfSome found (λ node. FitsNode layout.now node)) }
-    ensures looks { OnOk result (OnlyReads M.Mem mem.old mem.new) }
-    ensures outside { OnOk result ((p : ℕ) → p < tree_begin layout.now →
-        (M.written mem.new p ≡ M.written mem.old p) × (M.held mem.new p ≡ M.held mem.old p)
-        × (M.is_opened mem.new p ≡ M.is_opened mem.old p)) }
-
-    ensures leads { Leads M.Mem mem.old mem.new result }
 {
     if number == 0 {
         return Ok(None);
@@ -54,22 +40,8 @@ fn read_red<M: Mem>(mem: &mut M, layout: &Layout, number: u16) -> Result<Option<
 // Writes a node, unless it is held as it is to be.
 fn update_node<M: Mem>(mem: &mut M, layout: &Layout, held: Node, node: Node) -> Result<(), M::Err>
     requires fits { FitsNode layout.now node }
-    requires number { held.number ≡ node.number }
-    requires tree { HasTree layout.now }
-    requires objects { M.objects mem.old ≡ objects_of layout.now }
-    requires live { IsTrue (M.is_live mem.old) }
-    requires admits { (map : List Val) × M.Admits mem.old map }
-
-    ensures writes { OnOk result ((map : List Val) → M.Admits mem.new map →
-        value_at (with_set map (M.written mem.old)) (object_of layout.now node.number) ≡ val_of held →
-        with_set map (M.written mem.new) ≡
-        slice_set (with_set map (M.written mem.old)) (object_of layout.now node.number) (val_of node)) }
-    ensures outside { OnOk result ((p : ℕ) → p < tree_begin layout.now →
-        (M.written mem.new p ≡ M.written mem.old p) × (M.held mem.new p ≡ M.held mem.old p)
-        × (M.is_opened mem.new p ≡ M.is_opened mem.old p)) }
-    ensures marks { OnOk result (OpensToSet M.Mem mem.old mem.new) }
-
-    ensures leads { Leads M.Mem mem.old mem.new result }
+    requires ready { IsOpen M.Mem layout.now mem.old }
+    ensures { Steps M.Mem layout.now (λ done. ⊥) (λ done. Updates layout.now held node) mem.old mem.new result }
 {
     if node == held {
         return Ok(());
@@ -78,339 +50,103 @@ fn update_node<M: Mem>(mem: &mut M, layout: &Layout, held: Node, node: Node) -> 
     Ok(())
 }
 
-// Writes a node and its two children.
+// Writes the children of a node, and the node.
 fn arrange<M: Mem>(
     mem: &mut M,
     layout: &Layout,
-    one: Node,
+    near: Node,
+    far: Node,
     top: Node,
-    other: Node,
-) -> Result<(), M::Err>
-    requires one { FitsNode layout.now one }
+) -> Result<Cut, M::Err>
+    requires near { FitsNode layout.now near }
+    requires far { FitsNode layout.now far }
     requires top { FitsNode layout.now top }
-    requires other { FitsNode layout.now other }
-    requires tree { HasTree layout.now }
-    requires objects { M.objects mem.old ≡ objects_of layout.now }
-    requires live { IsTrue (M.is_live mem.old) }
-
-    ensures writes { OnOk result ((map : List Val) → M.Admits mem.new map →
-        with_set map (M.written mem.new) ≡
-        slice_set (slice_set (slice_set (with_set map (M.written mem.old))
-        (object_of layout.now one.number) (val_of one))
-        (object_of layout.now other.number) (val_of other))
-        (object_of layout.now top.number) (val_of top)) }
-    ensures outside { OnOk result ((p : ℕ) → p < tree_begin layout.now →
-        (M.written mem.new p ≡ M.written mem.old p) × (M.held mem.new p ≡ M.held mem.old p)
-        × (M.is_opened mem.new p ≡ M.is_opened mem.old p)) }
-    ensures marks { OnOk result (OpensToSet M.Mem mem.old mem.new) }
-
-    ensures leads { Leads M.Mem mem.old mem.new result }
+    requires ready { IsOpen M.Mem layout.now mem.old }
+    ensures { Steps M.Mem layout.now (λ cut. ⊥) (Arranges layout.now near far top) mem.old mem.new result }
 {
-    write_node(mem, layout, one)?;
-    write_node(mem, layout, other)?;
+    write_node(mem, layout, near)?;
+    write_node(mem, layout, far)?;
     write_node(mem, layout, top)?;
-    Ok(())
-}
-
-// Balances a node whose left subtree has fallen, and whose other child, the sibling, is black.
-fn lift_left<M: Mem>(
-    mem: &mut M,
-    layout: &Layout,
-    held: Node,
-    parent: Node,
-    sibling: Node,
-) -> Result<Cut, M::Err>
-    requires parent { FitsNode layout.now parent }
-    requires sibling { FitsNode layout.now sibling }
-    requires number { held.number ≡ parent.number }
-    requires tree { HasTree layout.now }
-    requires objects { M.objects mem.old ≡ objects_of layout.now }
-    requires live { IsTrue (M.is_live mem.old) }
-    requires lawful { (map : List Val) → M.Admits mem.old map →
-        LeftFall layout.now (with_set map (M.written mem.old)) held parent sibling }
-    requires admits { (map : List Val) × M.Admits mem.old map }
-
-    ensures does { IfOk result (λ cut. (map : List Val) → M.Admits mem.new map →
-        LiftsLeft layout.now held parent sibling
-        (with_set map (M.written mem.old)) (with_set map (M.written mem.new)) cut) }
-    ensures outside { OnOk result ((p : ℕ) → p < tree_begin layout.now →
-        (M.written mem.new p ≡ M.written mem.old p) × (M.held mem.new p ≡ M.held mem.old p)
-        × (M.is_opened mem.new p ≡ M.is_opened mem.old p)) }
-    ensures marks { OnOk result (OpensToSet M.Mem mem.old mem.new) }
-
-    ensures leads { Leads M.Mem mem.old mem.new result }
-{
-    let far = read_red(mem, layout, sibling.right)?;
-    if let Some(outer) = far {
-        let low = Node {
-            red: false,
-            right: sibling.left,
-            ..parent
-        };
-        let top = Node {
-            red: parent.red,
-            left: parent.number,
-            ..sibling
-        };
-        arrange(
-            mem,
-            layout,
-            low,
-            top,
-            Node {
-                red: false,
-                ..outer
-            },
-        )?;
-        return Ok(Cut {
-            root: top.number,
-            fell: false,
-        });
-    }
-    let near = read_red(mem, layout, sibling.left)?;
-    if let Some(inner) = near {
-        let low = Node {
-            red: false,
-            right: inner.left,
-            ..parent
-        };
-        let top = Node {
-            red: parent.red,
-            left: parent.number,
-            right: sibling.number,
-            ..inner
-        };
-        arrange(
-            mem,
-            layout,
-            low,
-            top,
-            Node {
-                left: inner.right,
-                ..sibling
-            },
-        )?;
-        return Ok(Cut {
-            root: top.number,
-            fell: false,
-        });
-    }
-    write_node(
-        mem,
-        layout,
-        Node {
-            red: true,
-            ..sibling
-        },
-    )?;
-    update_node(
-        mem,
-        layout,
-        held,
-        Node {
-            red: false,
-            ..parent
-        },
-    )?;
     Ok(Cut {
-        root: parent.number,
-        fell: !parent.red,
-    })
-}
-
-// Balances a node whose right subtree has fallen, and whose other child, the sibling, is black.
-fn lift_right<M: Mem>(
-    mem: &mut M,
-    layout: &Layout,
-    held: Node,
-    parent: Node,
-    sibling: Node,
-) -> Result<Cut, M::Err>
-    requires parent { FitsNode layout.now parent }
-    requires sibling { FitsNode layout.now sibling }
-    requires number { held.number ≡ parent.number }
-    requires tree { HasTree layout.now }
-    requires objects { M.objects mem.old ≡ objects_of layout.now }
-    requires live { IsTrue (M.is_live mem.old) }
-    requires lawful { (map : List Val) → M.Admits mem.old map →
-        RightFall layout.now (with_set map (M.written mem.old)) held parent sibling }
-    requires admits { (map : List Val) × M.Admits mem.old map }
-
-    ensures does { IfOk result (λ cut. (map : List Val) → M.Admits mem.new map →
-        LiftsRight layout.now held parent sibling
-        (with_set map (M.written mem.old)) (with_set map (M.written mem.new)) cut) }
-    ensures outside { OnOk result ((p : ℕ) → p < tree_begin layout.now →
-        (M.written mem.new p ≡ M.written mem.old p) × (M.held mem.new p ≡ M.held mem.old p)
-        × (M.is_opened mem.new p ≡ M.is_opened mem.old p)) }
-    ensures marks { OnOk result (OpensToSet M.Mem mem.old mem.new) }
-
-    ensures leads { Leads M.Mem mem.old mem.new result }
-{
-    let far = read_red(mem, layout, sibling.left)?;
-    if let Some(outer) = far {
-        let low = Node {
-            red: false,
-            left: sibling.right,
-            ..parent
-        };
-        let top = Node {
-            red: parent.red,
-            right: parent.number,
-            ..sibling
-        };
-        arrange(
-            mem,
-            layout,
-            low,
-            top,
-            Node {
-                red: false,
-                ..outer
-            },
-        )?;
-        return Ok(Cut {
-            root: top.number,
-            fell: false,
-        });
-    }
-    let near = read_red(mem, layout, sibling.right)?;
-    if let Some(inner) = near {
-        let low = Node {
-            red: false,
-            left: inner.right,
-            ..parent
-        };
-        let top = Node {
-            red: parent.red,
-            right: parent.number,
-            left: sibling.number,
-            ..inner
-        };
-        arrange(
-            mem,
-            layout,
-            low,
-            top,
-            Node {
-                right: inner.left,
-                ..sibling
-            },
-        )?;
-        return Ok(Cut {
-            root: top.number,
-            fell: false,
-        });
-    }
-    write_node(
-        mem,
-        layout,
-        Node {
-            red: true,
-            ..sibling
-        },
-    )?;
-    update_node(
-        mem,
-        layout,
-        held,
-        Node {
-            red: false,
-            ..parent
-        },
-    )?;
-    Ok(Cut {
-        root: parent.number,
-        fell: !parent.red,
-    })
-}
-
-// Balances a node whose left subtree may have fallen: the node as it is held, and as it is to be.
-pub(crate) fn close_left<M: Mem>(
-    mem: &mut M,
-    layout: &Layout,
-    held: Node,
-    parent: Node,
-    fell: bool,
-) -> Result<Cut, M::Err>
-    requires parent { FitsNode layout.now parent }
-    requires number { held.number ≡ parent.number }
-    requires tree { HasTree layout.now }
-    requires objects { M.objects mem.old ≡ objects_of layout.now }
-    requires live { IsTrue (M.is_live mem.old) }
-    requires lawful { (map : List Val) → M.Admits mem.old map →
-        LeftGap layout.now (with_set map (M.written mem.old)) held parent fell }
-    requires admits { (map : List Val) × M.Admits mem.old map }
-
-    ensures does { IfOk result (λ cut. (map : List Val) → M.Admits mem.new map →
-        ClosesLeft layout.now held parent fell
-        (with_set map (M.written mem.old)) (with_set map (M.written mem.new)) cut) }
-    ensures outside { OnOk result ((p : ℕ) → p < tree_begin layout.now →
-        (M.written mem.new p ≡ M.written mem.old p) × (M.held mem.new p ≡ M.held mem.old p)
-        × (M.is_opened mem.new p ≡ M.is_opened mem.old p)) }
-    ensures marks { OnOk result (OpensToSet M.Mem mem.old mem.new) }
-
-    ensures leads { Leads M.Mem mem.old mem.new result }
-{
-    if !fell {
-        update_node(mem, layout, held, parent)?;
-        return Ok(Cut {
-            root: parent.number,
-            fell: false,
-        });
-    }
-    let sibling = read_node(mem, layout, parent.right)?;
-    if !sibling.red {
-        let cut = lift_left(mem, layout, held, parent, sibling)?;
-        return Ok(cut);
-    }
-    let near = read_node(mem, layout, sibling.left)?;
-    let below = Node {
-        red: true,
-        right: sibling.left,
-        ..parent
-    };
-    let cut = lift_left(mem, layout, held, below, near)?;
-    write_node(
-        mem,
-        layout,
-        Node {
-            red: false,
-            left: cut.root,
-            ..sibling
-        },
-    )?;
-    Ok(Cut {
-        root: sibling.number,
+        root: top.number,
         fell: false,
     })
 }
 
-// Balances a node whose right subtree may have fallen: the node as it is held, and as it is to be.
-pub(crate) fn close_right<M: Mem>(
+// Makes a black sibling red, and its parent black: a black parent passes the fall up.
+fn recolour<M: Mem>(
     mem: &mut M,
     layout: &Layout,
+    held: Node,
+    parent: Node,
+    sibling: Node,
+) -> Result<Cut, M::Err>
+    requires parent { FitsNode layout.now parent }
+    requires sibling { FitsNode layout.now sibling }
+    requires ready { IsOpen M.Mem layout.now mem.old }
+    ensures { Steps M.Mem layout.now (λ cut. ⊥) (Recolours layout.now held parent sibling) mem.old mem.new result }
+{
+    write_node(mem, layout, sibling.with_red(true))?;
+    update_node(mem, layout, held, parent.with_red(false))?;
+    Ok(Cut {
+        root: parent.number,
+        fell: !parent.red,
+    })
+}
+
+// Balances a node whose subtree on a side has fallen, and whose other child, the sibling, is black.
+fn lift<M: Mem>(
+    mem: &mut M,
+    layout: &Layout,
+    side: Side,
+    held: Node,
+    parent: Node,
+    sibling: Node,
+) -> Result<Cut, M::Err>
+    requires parent { FitsNode layout.now parent }
+    requires sibling { FitsNode layout.now sibling }
+    requires ready { IsOpen M.Mem layout.now mem.old }
+    requires lawful { (map : List Val) → M.Admits mem.old map →
+        HasFall layout.now side false held parent sibling (with_set map (M.written mem.old)) }
+    ensures { Steps M.Mem layout.now (λ cut. ⊥) (Lifts layout.now side false held parent sibling)
+        mem.old mem.new result }
+{
+    let far = side.other();
+    let found = read_red(mem, layout, sibling.child(far))?;
+    if let Some(outer) = found {
+        let low = parent.with_child(far, sibling.child(side)).with_red(false);
+        let top = sibling.with_child(side, parent.number).with_red(parent.red);
+        let cut = arrange(mem, layout, low, outer.with_red(false), top)?;
+        return Ok(cut);
+    }
+    let found_near = read_red(mem, layout, sibling.child(side))?;
+    if let Some(inner) = found_near {
+        let low = parent.with_child(far, inner.child(side)).with_red(false);
+        let high = sibling.with_child(side, inner.child(far));
+        let top = inner
+            .with_child(side, parent.number)
+            .with_child(far, sibling.number);
+        let cut = arrange(mem, layout, low, high, top.with_red(parent.red))?;
+        return Ok(cut);
+    }
+    let cut = recolour(mem, layout, held, parent, sibling)?;
+    Ok(cut)
+}
+
+// Balances a node whose subtree on a side may have fallen: the node as it is held, and as it is to be.
+pub(crate) fn close<M: Mem>(
+    mem: &mut M,
+    layout: &Layout,
+    side: Side,
     held: Node,
     parent: Node,
     fell: bool,
 ) -> Result<Cut, M::Err>
     requires parent { FitsNode layout.now parent }
-    requires number { held.number ≡ parent.number }
-    requires tree { HasTree layout.now }
-    requires objects { M.objects mem.old ≡ objects_of layout.now }
-    requires live { IsTrue (M.is_live mem.old) }
+    requires ready { IsOpen M.Mem layout.now mem.old }
     requires lawful { (map : List Val) → M.Admits mem.old map →
-        RightGap layout.now (with_set map (M.written mem.old)) held parent fell }
-    requires admits { (map : List Val) × M.Admits mem.old map }
-
-    ensures does { IfOk result (λ cut. (map : List Val) → M.Admits mem.new map →
-        ClosesRight layout.now held parent fell
-        (with_set map (M.written mem.old)) (with_set map (M.written mem.new)) cut) }
-    ensures outside { OnOk result ((p : ℕ) → p < tree_begin layout.now →
-        (M.written mem.new p ≡ M.written mem.old p) × (M.held mem.new p ≡ M.held mem.old p)
-        × (M.is_opened mem.new p ≡ M.is_opened mem.old p)) }
-    ensures marks { OnOk result (OpensToSet M.Mem mem.old mem.new) }
-
-    ensures leads { Leads M.Mem mem.old mem.new result }
+        HasGap layout.now side held parent fell (with_set map (M.written mem.old)) }
+    ensures { Steps M.Mem layout.now (λ cut. ⊥) (Closes layout.now side held parent fell) mem.old mem.new result }
 {
     if !fell {
         update_node(mem, layout, held, parent)?;
@@ -419,26 +155,41 @@ pub(crate) fn close_right<M: Mem>(
             fell: false,
         });
     }
-    let sibling = read_node(mem, layout, parent.left)?;
+    let sibling = read_node(mem, layout, parent.child(side.other()))?;
     if !sibling.red {
-        let cut = lift_right(mem, layout, held, parent, sibling)?;
+        let cut = lift(mem, layout, side, held, parent, sibling)?;
         return Ok(cut);
     }
-    let near = read_node(mem, layout, sibling.right)?;
-    let below = Node {
-        red: true,
-        left: sibling.right,
-        ..parent
-    };
-    let cut = lift_right(mem, layout, held, below, near)?;
+    let cut = close_red(mem, layout, side, held, parent, sibling)?;
+    Ok(cut)
+}
+
+// The same beside a red sibling: the node becomes red, and is balanced with the sibling's near child as its other
+// child; the black sibling stands over it then.
+fn close_red<M: Mem>(
+    mem: &mut M,
+    layout: &Layout,
+    side: Side,
+    held: Node,
+    parent: Node,
+    sibling: Node,
+) -> Result<Cut, M::Err>
+    requires parent { FitsNode layout.now parent }
+    requires sibling { FitsNode layout.now sibling }
+    requires ready { IsOpen M.Mem layout.now mem.old }
+    requires lawful { (map : List Val) → M.Admits mem.old map →
+        HasFall layout.now side true held parent sibling (with_set map (M.written mem.old)) }
+    ensures { Steps M.Mem layout.now (λ cut. ⊥) (Lifts layout.now side true held parent sibling)
+        mem.old mem.new result }
+{
+    let number = sibling.child(side);
+    let nephew = read_node(mem, layout, number)?;
+    let below = parent.with_child(side.other(), number).with_red(true);
+    let cut = lift(mem, layout, side, held, below, nephew)?;
     write_node(
         mem,
         layout,
-        Node {
-            red: false,
-            right: cut.root,
-            ..sibling
-        },
+        sibling.with_child(side, cut.root).with_red(false),
     )?;
     Ok(Cut {
         root: sibling.number,

@@ -1,13 +1,9 @@
-ghost use Rattle.std.specs.Prelude.{◌≡◌, ℕ, ◌<◌, ◌≤◌, List, IsTrue, IfOk, OnOk, slice_set};
-ghost use Rattle.dstm_model.specs.declared.value.Val.{Val};
-ghost use Rattle.dstm_model.specs.Map.{value_at};
-ghost use Rattle.dstm_model.specs.Store.{Store};
-ghost use Rattle.dstm_model.specs.Objects.{objects_of, tree_begin};
-ghost use Rattle.dstm_mem.specs.Memory.{with_set};
-ghost use Rattle.dstm_mem.specs.Operations.{IsReady, Leads, OnlyReads, OpensToSet};
+ghost use Rattle.std.specs.Prelude.{◌≡◌, ◌<◌, ◌≤◌, IsTrue, IfOk};
+ghost use Rattle.dstm_model.specs.Objects.{objects_of, tree_begin, plain};
+ghost use Rattle.dstm_mem.specs.Operations.{IsReady};
 ghost use Rattle.dstm_tree.specs.Objects.{root_of, free_of, object_of, IsTree};
-ghost use Rattle.dstm_tree.specs.Tree.{number_of};
 ghost use Rattle.dstm_tree.specs.Node.{HasTree, FitsNode, IsRead, val_of};
+ghost use Rattle.dstm_tree.specs.Steps.{IsOpen, Steps, Reads, ReadsRoot, Sets};
 
 use crate::node::{Node, encode};
 use dstm_mem::Mem;
@@ -42,21 +38,23 @@ pub fn node_object(layout: &Layout, number: u16) -> u32
     root_object(layout) + 1 + u32::from(number)
 }
 
+// The value that names a node, or with 0 none.
+pub(crate) fn name(number: u16) -> Val
+    ensures { result ≡ plain number }
+{
+    Val {
+        low: u64::from(number),
+        high: 0,
+    }
+}
+
 // Reads one of the tree's objects.
 pub(crate) fn read<M: Mem>(mem: &mut M, layout: &Layout, object: u32) -> Result<Val, M::Err>
     requires first { tree_begin layout.now ≤ object }
     requires exists { object < objects_of layout.now }
     requires objects { M.objects mem.old ≡ objects_of layout.now }
     requires live { IsTrue (M.is_live mem.old) }
-
-    ensures reads { IfOk result (λ value. (map : List Val) → M.Admits mem.new map →
-        value_at (with_set map (M.written mem.old)) object ≡ value) }
-    ensures looks { OnOk result (OnlyReads M.Mem mem.old mem.new) }
-    ensures outside { OnOk result ((p : ℕ) → p < tree_begin layout.now →
-        (M.written mem.new p ≡ M.written mem.old p) × (M.held mem.new p ≡ M.held mem.old p)
-        × (M.is_opened mem.new p ≡ M.is_opened mem.old p)) }
-
-    ensures leads { Leads M.Mem mem.old mem.new result }
+    ensures { Steps M.Mem layout.now (λ value. Unit {0}) (Reads object) mem.old mem.new result }
 {
     let value = mem.open_read(object)?;
     Ok(value)
@@ -73,15 +71,7 @@ pub(crate) fn write<M: Mem>(
     requires exists { object < objects_of layout.now }
     requires objects { M.objects mem.old ≡ objects_of layout.now }
     requires live { IsTrue (M.is_live mem.old) }
-
-    ensures writes { OnOk result ((map : List Val) → M.Admits mem.new map →
-        with_set map (M.written mem.new) ≡ slice_set (with_set map (M.written mem.old)) object value) }
-    ensures outside { OnOk result ((p : ℕ) → p < tree_begin layout.now →
-        (M.written mem.new p ≡ M.written mem.old p) × (M.held mem.new p ≡ M.held mem.old p)
-        × (M.is_opened mem.new p ≡ M.is_opened mem.old p)) }
-    ensures marks { OnOk result (OpensToSet M.Mem mem.old mem.new) }
-
-    ensures leads { Leads M.Mem mem.old mem.new result }
+    ensures { Steps M.Mem layout.now (λ done. ⊥) (λ done. Sets object value) mem.old mem.new result }
 {
     mem.open_write(object)?;
     mem.set(object, value);
@@ -92,16 +82,8 @@ pub(crate) fn write<M: Mem>(
 pub(crate) fn read_root<M: Mem>(mem: &mut M, layout: &Layout) -> Result<u16, M::Err>
     requires tree { HasTree layout.now }
     requires ready { IsReady M.Mem (objects_of layout.now) (IsTree layout.now) mem.old }
-
-    ensures reads { IfOk result (λ root. (map : List Val) → M.Admits mem.new map → (store : Store) →
-        (t : IsTree layout.now (with_set map (M.written mem.old)) store) → number_of t.tree ≡ root) }
+    ensures steps { Steps M.Mem layout.now (λ root. Unit {0}) (ReadsRoot layout.now) mem.old mem.new result }
     ensures within { IfOk result (λ root. root ≤ layout.now.tree) }
-    ensures looks { OnOk result (OnlyReads M.Mem mem.old mem.new) }
-    ensures outside { OnOk result ((p : ℕ) → p < tree_begin layout.now →
-        (M.written mem.new p ≡ M.written mem.old p) × (M.held mem.new p ≡ M.held mem.old p)
-        × (M.is_opened mem.new p ≡ M.is_opened mem.old p)) }
-
-    ensures leads { Leads M.Mem mem.old mem.new result }
 {
     let value = read(mem, layout, root_object(layout))?;
     Ok(value.low as u16)
@@ -110,19 +92,9 @@ pub(crate) fn read_root<M: Mem>(mem: &mut M, layout: &Layout) -> Result<u16, M::
 // Reads a node.
 pub(crate) fn read_node<M: Mem>(mem: &mut M, layout: &Layout, number: u16) -> Result<Node, M::Err>
     requires number { number ≤ layout.now.tree }
-    requires tree { HasTree layout.now }
-    requires objects { M.objects mem.old ≡ objects_of layout.now }
-    requires live { IsTrue (M.is_live mem.old) }
-
-    ensures reads { IfOk result (λ node. (map : List Val) → M.Admits mem.new map →
-        IsRead layout.now (with_set map (M.written mem.old)) (with_set map (M.written mem.new)) number node) }
+    requires ready { IsOpen M.Mem layout.now mem.old }
+    ensures steps { Steps M.Mem layout.now (λ node. Unit {0}) (IsRead layout.now number) mem.old mem.new result }
     ensures fits { IfOk result (λ node. FitsNode layout.now node) }
-    ensures looks { OnOk result (OnlyReads M.Mem mem.old mem.new) }
-    ensures outside { OnOk result ((p : ℕ) → p < tree_begin layout.now →
-        (M.written mem.new p ≡ M.written mem.old p) × (M.held mem.new p ≡ M.held mem.old p)
-        × (M.is_opened mem.new p ≡ M.is_opened mem.old p)) }
-
-    ensures leads { Leads M.Mem mem.old mem.new result }
 {
     let value = read(mem, layout, node_object(layout, number))?;
     Ok(Node::of(number, value))
@@ -131,19 +103,9 @@ pub(crate) fn read_node<M: Mem>(mem: &mut M, layout: &Layout, number: u16) -> Re
 // Opens a node for writing and sets it.
 pub(crate) fn write_node<M: Mem>(mem: &mut M, layout: &Layout, node: Node) -> Result<(), M::Err>
     requires fits { FitsNode layout.now node }
-    requires tree { HasTree layout.now }
-    requires objects { M.objects mem.old ≡ objects_of layout.now }
-    requires live { IsTrue (M.is_live mem.old) }
-
-    ensures writes { OnOk result ((map : List Val) → M.Admits mem.new map →
-        with_set map (M.written mem.new) ≡
-        slice_set (with_set map (M.written mem.old)) (object_of layout.now node.number) (val_of node)) }
-    ensures outside { OnOk result ((p : ℕ) → p < tree_begin layout.now →
-        (M.written mem.new p ≡ M.written mem.old p) × (M.held mem.new p ≡ M.held mem.old p)
-        × (M.is_opened mem.new p ≡ M.is_opened mem.old p)) }
-    ensures marks { OnOk result (OpensToSet M.Mem mem.old mem.new) }
-
-    ensures leads { Leads M.Mem mem.old mem.new result }
+    requires ready { IsOpen M.Mem layout.now mem.old }
+    ensures { Steps M.Mem layout.now (λ done. ⊥) (λ done. Sets (object_of layout.now node.number) (val_of node))
+        mem.old mem.new result }
 {
     let value = encode(&node);
     write(mem, layout, node_object(layout, node.number), value)?;

@@ -1,13 +1,14 @@
 ghost use Rattle.std.specs.Prelude.{◌≡◌, ℕ, ◌<◌, ◌≤◌, List, IfOk, OnOk};
 ghost use Rattle.dstm_model.specs.declared.value.Val.{Val};
 ghost use Rattle.dstm_model.specs.Layout.{IsValid, FitsLayout};
-ghost use Rattle.dstm_model.specs.Store.{Store, value_of};
 ghost use Rattle.dstm_model.specs.Objects.{objects_of, tree_begin, Does};
 ghost use Rattle.dstm_mem.specs.Memory.{with_set};
-ghost use Rattle.dstm_mem.specs.Operations.{IsReady, Leads, OnlyReads, OpensToSet};
+ghost use Rattle.dstm_mem.specs.Operations.{IsReady, Leads, OnlyReads};
 ghost use Rattle.dstm_tree.specs.Objects.{IsTree};
+ghost use Rattle.dstm_tree.specs.Steps.{Steps, Finds};
 
 use crate::cells::{read_node, read_root};
+use crate::side::Side;
 use dstm_mem::Mem;
 use dstm_model::{Layout, Op, Reply, Which};
 
@@ -61,14 +62,7 @@ fn find<M: Mem>(mem: &mut M, layout: &Layout, key: u32) -> Result<Option<u64>, M
     requires valid { IsValid layout.now }
     requires declared { 0 < layout.now.tree }
     requires ready { IsReady M.Mem (objects_of layout.now) (IsTree layout.now) mem.old }
-
-    ensures finds { IfOk result (λ found. (map : List Val) → M.Admits mem.new map → (store : Store) →
-        IsTree layout.now (with_set map (M.written mem.old)) store → found ≡ value_of key store.items) }
-    ensures looks { OnOk result (OnlyReads M.Mem mem.old mem.new) }
-    ensures opens { OnOk result ((p : ℕ) → p < tree_begin layout.now →
-        (M.held mem.new p ≡ M.held mem.old p) × (M.is_opened mem.new p ≡ M.is_opened mem.old p)) }
-
-    ensures leads { Leads M.Mem mem.old mem.new result }
+    ensures { Steps M.Mem layout.now (λ found. Unit {0}) (Finds layout.now key) mem.old mem.new result }
 {
     let mut at = read_root(mem, layout)?;
     for _step in 0..layout.tree {
@@ -79,11 +73,7 @@ fn find<M: Mem>(mem: &mut M, layout: &Layout, key: u32) -> Result<Option<u64>, M
         if key == node.key {
             return Ok(Some(node.value));
         }
-        at = if key < node.key {
-            node.left
-        } else {
-            node.right
-        };
+        at = node.child(Side::toward(key, node.key));
     }
     Ok(None)
 }

@@ -8,6 +8,7 @@ mod law;
 mod node;
 mod place;
 mod removal;
+mod side;
 
 pub use cells::{node_object, root_object};
 pub use find::{get, member};

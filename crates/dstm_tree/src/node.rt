@@ -1,6 +1,8 @@
-ghost use Rattle.std.specs.Prelude.{◌≡◌, ◌^◌, ◌<◌, ◌≤◌};
-ghost use Rattle.dstm_tree.specs.Node.{val_of};
+ghost use Rattle.std.specs.Prelude.{◌≡◌, ◌^◌, ◌<◌, ◌≢◌, MatchOption};
+ghost use Rattle.dstm_tree.specs.Side.{on};
+ghost use Rattle.dstm_tree.specs.Node.{child, val_of, with_child, with_red};
 
+use crate::side::Side;
 use dstm_model::Val;
 
 /// A node of the tree, as it is read and written.
@@ -34,6 +36,52 @@ impl Node {
             value: value.high,
             left: (value.low / 65_536 % 65_536) as u16,
             right: (value.low % 65_536) as u16,
+        }
+    }
+
+    // The number of the child on a side, 0 where there is none.
+    pub(crate) fn child(self, side: Side) -> u16
+        ensures { result ≡ child side self }
+    {
+        match side {
+            Side::Left => self.left,
+            Side::Right => self.right,
+        }
+    }
+
+    // The node with another child on a side.
+    pub(crate) fn with_child(self, side: Side, number: u16) -> Node
+        ensures { result ≡ with_child side number self }
+    {
+        match side {
+            Side::Left => Node {
+                left: number,
+                ..self
+            },
+            Side::Right => Node {
+                right: number,
+                ..self
+            },
+        }
+    }
+
+    // The node in this colour.
+    pub(crate) fn with_red(self, red: bool) -> Node
+        ensures { result ≡ with_red red self }
+    {
+        Node { red, ..self }
+    }
+
+    // A side on which the node has no child.
+    pub(crate) fn missing(self) -> Option<Side>
+        ensures { MatchOption result ((self.left ≢ 0) × (self.right ≢ 0)) (λ side. child side self ≡ 0) }
+    {
+        if self.left == 0 {
+            Some(Side::Left)
+        } else if self.right == 0 {
+            Some(Side::Right)
+        } else {
+            None
         }
     }
 }

@@ -1,22 +1,22 @@
-ghost use Rattle.std.specs.Prelude.{◌≡◌, ◌≢◌, ℕ, ◌<◌, ◌≤◌, List, IsTrue, None, IfOk, OnOk, slice_set};
+ghost use Rattle.std.specs.Prelude.{◌≡◌, ◌≢◌, ℕ, ◌<◌, ◌≤◌, List, None, IfOk, OnOk};
 ghost use Rattle.dstm_model.specs.declared.value.Val.{Val};
-ghost use Rattle.dstm_model.specs.Map.{value_at};
 ghost use Rattle.dstm_model.specs.Layout.{IsValid, FitsLayout};
-ghost use Rattle.dstm_model.specs.Store.{Store};
-ghost use Rattle.dstm_model.specs.Objects.{objects_of, tree_begin, plain, Does};
+ghost use Rattle.dstm_model.specs.Objects.{objects_of, tree_begin, Does};
 ghost use Rattle.dstm_mem.specs.Memory.{with_set};
 ghost use Rattle.dstm_mem.specs.Operations.{IsReady, Leads, OnlyReads, OpensToSet};
-ghost use Rattle.dstm_tree.specs.Objects.{root_of, free_of, object_of, IsTree};
-ghost use Rattle.dstm_tree.specs.Node.{HasTree, FitsNode, Subtree, tree_of};
-ghost use Rattle.dstm_tree.specs.Remove.{Hoists, TakesLeast, Removes, RemovesIf, Root};
+ghost use Rattle.dstm_tree.specs.Objects.{IsTree};
+ghost use Rattle.dstm_tree.specs.Steps.{IsOpen, Steps};
+ghost use Rattle.dstm_tree.specs.Node.{FitsNode, Subtree, IsRead};
+ghost use Rattle.dstm_tree.specs.Remove.{GivesBack, Hoists, NamesRoot, RemovesRoot, RemovesIf, TakesLeast};
 
-use crate::balance::{Cut, close_left, close_right};
+use crate::balance::{Cut, close};
 use crate::cells::{
-    free_object, node_object, read, read_node, read_root, root_object, write, write_node,
+    free_object, name, node_object, read, read_node, read_root, root_object, write, write_node,
 };
 use crate::node::Node;
+use crate::side::Side;
 use dstm_mem::Mem;
-use dstm_model::{Layout, Op, Reply, Val, Which};
+use dstm_model::{Layout, Op, Reply, Which};
 
 /// Takes a key out, if it is there. Its node becomes the first free one. Nothing is set where the key is absent.
 pub fn remove<M: Mem>(mem: &mut M, layout: &Layout, key: u32) -> Result<Reply, M::Err>
@@ -47,58 +47,25 @@ pub fn remove<M: Mem>(mem: &mut M, layout: &Layout, key: u32) -> Result<Reply, M
 
 // Puts a node in front of the free chain.
 fn give_back<M: Mem>(mem: &mut M, layout: &Layout, number: u16) -> Result<(), M::Err>
-    requires within { number ≤ layout.now.tree }
-    requires tree { HasTree layout.now }
-    requires objects { M.objects mem.old ≡ objects_of layout.now }
-    requires live { IsTrue (M.is_live mem.old) }
-
-    ensures writes { OnOk result ((map : List Val) → M.Admits mem.new map →
-        with_set map (M.written mem.new) ≡
-        slice_set (slice_set (with_set map (M.written mem.old)) (object_of layout.now number)
-        (value_at (with_set map (M.written mem.old)) (free_of layout.now))) (free_of layout.now) (plain number)) }
-    ensures outside { OnOk result ((p : ℕ) → p < tree_begin layout.now →
-        (M.written mem.new p ≡ M.written mem.old p) × (M.held mem.new p ≡ M.held mem.old p)
-        × (M.is_opened mem.new p ≡ M.is_opened mem.old p)) }
-    ensures marks { OnOk result (OpensToSet M.Mem mem.old mem.new) }
-
-    ensures leads { Leads M.Mem mem.old mem.new result }
+    requires number { (0 < number) × (number ≤ layout.now.tree) }
+    requires ready { IsOpen M.Mem layout.now mem.old }
+    ensures { Steps M.Mem layout.now (λ done. ⊥) (λ done. GivesBack layout.now number) mem.old mem.new result }
 {
     let first = read(mem, layout, free_object(layout))?;
     write(mem, layout, node_object(layout, number), first)?;
-    let name = Val {
-        low: u64::from(number),
-        high: 0,
-    };
-    write(mem, layout, free_object(layout), name)?;
+    write(mem, layout, free_object(layout), name(number))?;
     Ok(())
 }
 
 // Names the root, unless it is named as it is to be.
 fn update_root<M: Mem>(mem: &mut M, layout: &Layout, held: u16, root: u16) -> Result<(), M::Err>
-    requires tree { HasTree layout.now }
-    requires objects { M.objects mem.old ≡ objects_of layout.now }
-    requires live { IsTrue (M.is_live mem.old) }
-    requires admits { (map : List Val) × M.Admits mem.old map }
-
-    ensures writes { OnOk result ((map : List Val) → M.Admits mem.new map →
-        value_at (with_set map (M.written mem.old)) (root_of layout.now) ≡ plain held →
-        with_set map (M.written mem.new) ≡
-        slice_set (with_set map (M.written mem.old)) (root_of layout.now) (plain root)) }
-    ensures outside { OnOk result ((p : ℕ) → p < tree_begin layout.now →
-        (M.written mem.new p ≡ M.written mem.old p) × (M.held mem.new p ≡ M.held mem.old p)
-        × (M.is_opened mem.new p ≡ M.is_opened mem.old p)) }
-    ensures marks { OnOk result (OpensToSet M.Mem mem.old mem.new) }
-
-    ensures leads { Leads M.Mem mem.old mem.new result }
+    requires { IsOpen M.Mem layout.now mem.old }
+    ensures { Steps M.Mem layout.now (λ done. ⊥) (λ done. NamesRoot layout.now held root) mem.old mem.new result }
 {
     if root == held {
         return Ok(());
     }
-    let name = Val {
-        low: u64::from(root),
-        high: 0,
-    };
-    write(mem, layout, root_object(layout), name)?;
+    write(mem, layout, root_object(layout), name(root))?;
     Ok(())
 }
 
@@ -119,19 +86,8 @@ pub(crate) struct Removed {
 // The only child of a node of this colour takes the node's place.
 fn hoist<M: Mem>(mem: &mut M, layout: &Layout, child: u16, red: bool) -> Result<Cut, M::Err>
     requires within { child ≤ layout.now.tree }
-    requires tree { HasTree layout.now }
-    requires objects { M.objects mem.old ≡ objects_of layout.now }
-    requires live { IsTrue (M.is_live mem.old) }
-    requires admits { (map : List Val) × M.Admits mem.old map }
-
-    ensures does { IfOk result (λ cut. (map : List Val) → M.Admits mem.new map →
-        Hoists layout.now child red (with_set map (M.written mem.old)) (with_set map (M.written mem.new)) cut) }
-    ensures outside { OnOk result ((p : ℕ) → p < tree_begin layout.now →
-        (M.written mem.new p ≡ M.written mem.old p) × (M.held mem.new p ≡ M.held mem.old p)
-        × (M.is_opened mem.new p ≡ M.is_opened mem.old p)) }
-    ensures marks { OnOk result (OpensToSet M.Mem mem.old mem.new) }
-
-    ensures leads { Leads M.Mem mem.old mem.new result }
+    requires ready { IsOpen M.Mem layout.now mem.old }
+    ensures { Steps M.Mem layout.now (λ cut. ⊥) (Hoists layout.now child red) mem.old mem.new result }
 {
     if child == 0 {
         return Ok(Cut {
@@ -140,7 +96,7 @@ fn hoist<M: Mem>(mem: &mut M, layout: &Layout, child: u16, red: bool) -> Result<
         });
     }
     let node = read_node(mem, layout, child)?;
-    write_node(mem, layout, Node { red: false, ..node })?;
+    write_node(mem, layout, node.with_red(false))?;
     Ok(Cut {
         root: child,
         fell: false,
@@ -152,23 +108,11 @@ fn hoist<M: Mem>(mem: &mut M, layout: &Layout, child: u16, red: bool) -> Result<
 fn take_least<M: Mem>(mem: &mut M, layout: &Layout, at: u16, depth: u32) -> Result<Least, M::Err>
     requires some { 0 < at }
     requires within { at ≤ layout.now.tree }
-    requires tree { HasTree layout.now }
-    requires objects { M.objects mem.old ≡ objects_of layout.now }
-    requires live { IsTrue (M.is_live mem.old) }
+    requires ready { IsOpen M.Mem layout.now mem.old }
     requires lawful { (map : List Val) → M.Admits mem.old map →
         Subtree layout.now (with_set map (M.written mem.old)) at depth }
-
-    ensures does { IfOk result (λ least. (map : List Val) → M.Admits mem.new map →
-        (h : Subtree layout.now (with_set map (M.written mem.old)) at depth) →
-        TakesLeast layout.now h.low h.high h.tree
-        (with_set map (M.written mem.old)) (with_set map (M.written mem.new)) least) }
+    ensures steps { Steps M.Mem layout.now (λ least. ⊥) (TakesLeast layout.now at depth) mem.old mem.new result }
     ensures fits { IfOk result (λ least. FitsNode layout.now least.node) }
-    ensures outside { OnOk result ((p : ℕ) → p < tree_begin layout.now →
-        (M.written mem.new p ≡ M.written mem.old p) × (M.held mem.new p ≡ M.held mem.old p)
-        × (M.is_opened mem.new p ≡ M.is_opened mem.old p)) }
-    ensures marks { OnOk result (OpensToSet M.Mem mem.old mem.new) }
-
-    ensures leads { Leads M.Mem mem.old mem.new result }
 {
     let node = read_node(mem, layout, at)?;
     if node.left == 0 {
@@ -176,66 +120,45 @@ fn take_least<M: Mem>(mem: &mut M, layout: &Layout, at: u16, depth: u32) -> Resu
         return Ok(Least { node, cut });
     }
     let below = take_least(mem, layout, node.left, depth - 1)?;
-    let parent = Node {
-        left: below.cut.root,
-        ..node
-    };
-    let cut = close_left(mem, layout, node, parent, below.cut.fell)?;
+    let parent = node.with_child(Side::Left, below.cut.root);
+    let cut = close(mem, layout, Side::Left, node, parent, below.cut.fell)?;
     Ok(Least {
         node: below.node,
         cut,
     })
 }
 
-// Takes the key of a node out of its subtree. Where the node has two children, it gets the next key, and the
-// node of that one is taken out.
+// Takes the key of a node that was read out of its subtree. Where the node has two children, it gets the next
+// key, and the node of that one is taken out.
 fn remove_root<M: Mem>(
     mem: &mut M,
     layout: &Layout,
     node: Node,
     depth: u32,
 ) -> Result<Removed, M::Err>
+    requires some { 0 < node.number }
     requires fits { FitsNode layout.now node }
-    requires tree { HasTree layout.now }
-    requires objects { M.objects mem.old ≡ objects_of layout.now }
-    requires live { IsTrue (M.is_live mem.old) }
+    requires ready { IsOpen M.Mem layout.now mem.old }
     requires lawful { (map : List Val) → M.Admits mem.old map →
-        Root layout.now (with_set map (M.written mem.old)) node depth }
-    requires admits { (map : List Val) × M.Admits mem.old map }
-
-    ensures does { IfOk result (λ removed. (map : List Val) → M.Admits mem.new map →
-        (h : Root layout.now (with_set map (M.written mem.old)) node depth) →
-        Removes layout.now node.key h.low h.high (tree_of node h.left h.right)
-        (with_set map (M.written mem.old)) (with_set map (M.written mem.new)) removed) }
-    ensures outside { OnOk result ((p : ℕ) → p < tree_begin layout.now →
-        (M.written mem.new p ≡ M.written mem.old p) × (M.held mem.new p ≡ M.held mem.old p)
-        × (M.is_opened mem.new p ≡ M.is_opened mem.old p)) }
-    ensures marks { OnOk result (OpensToSet M.Mem mem.old mem.new) }
-
-    ensures leads { Leads M.Mem mem.old mem.new result }
+        let before = with_set map (M.written mem.old) in
+        Subtree layout.now before node.number depth × IsRead layout.now node.number node before before }
+    ensures { Steps M.Mem layout.now (λ removed. ⊥) (RemovesRoot layout.now node depth) mem.old mem.new result }
 {
-    if node.left == 0 {
-        let cut = hoist(mem, layout, node.right, node.red)?;
+    if let Some(side) = node.missing() {
+        let cut = hoist(mem, layout, node.child(side.other()), node.red)?;
         return Ok(Removed {
             number: node.number,
             cut,
         });
     }
-    if node.right == 0 {
-        let cut = hoist(mem, layout, node.left, node.red)?;
-        return Ok(Removed {
-            number: node.number,
-            cut,
-        });
-    }
-    let least = take_least(mem, layout, node.right, depth)?;
-    let parent = Node {
+    let least = take_least(mem, layout, node.right, depth - 1)?;
+    let next = Node {
         key: least.node.key,
         value: least.node.value,
-        right: least.cut.root,
         ..node
     };
-    let cut = close_right(mem, layout, node, parent, least.cut.fell)?;
+    let parent = next.with_child(Side::Right, least.cut.root);
+    let cut = close(mem, layout, Side::Right, node, parent, least.cut.fell)?;
     Ok(Removed {
         number: least.node.number,
         cut,
@@ -251,69 +174,29 @@ fn remove_below<M: Mem>(
     depth: u32,
 ) -> Result<Option<Removed>, M::Err>
     requires within { at ≤ layout.now.tree }
-    requires tree { HasTree layout.now }
-    requires objects { M.objects mem.old ≡ objects_of layout.now }
-    requires live { IsTrue (M.is_live mem.old) }
+    requires ready { IsOpen M.Mem layout.now mem.old }
     requires lawful { (map : List Val) → M.Admits mem.old map →
         Subtree layout.now (with_set map (M.written mem.old)) at depth }
-    requires admits { (map : List Val) × M.Admits mem.old map }
-
-    ensures does { IfOk result (λ removed. (map : List Val) → M.Admits mem.new map →
-        (h : Subtree layout.now (with_set map (M.written mem.old)) at depth) →
-        RemovesIf layout.now key h.low h.high h.tree
-        (with_set map (M.written mem.old)) (with_set map (M.written mem.new)) removed) }
-    ensures outside { OnOk result ((p : ℕ) → p < tree_begin layout.now →
-        (M.written mem.new p ≡ M.written mem.old p) × (M.held mem.new p ≡ M.held mem.old p)
-        × (M.is_opened mem.new p ≡ M.is_opened mem.old p)) }
-    ensures unchanged { IfOk result (λ removed. removed ≡ None → OnlyReads M.Mem mem.old mem.new) }
-    ensures marks { OnOk result (OpensToSet M.Mem mem.old mem.new) }
-
-    ensures leads { Leads M.Mem mem.old mem.new result }
+    ensures { Steps M.Mem layout.now (λ found. found ≡ None) (RemovesIf layout.now key at depth)
+        mem.old mem.new result }
 {
     if at == 0 {
         return Ok(None);
     }
     let node = read_node(mem, layout, at)?;
-    if key < node.key {
-        let below = remove_below(mem, layout, node.left, key, depth - 1)?;
-        let Some(removed) = below else {
-            return Ok(None);
-        };
-        let cut = close_left(
-            mem,
-            layout,
-            node,
-            Node {
-                left: removed.cut.root,
-                ..node
-            },
-            removed.cut.fell,
-        )?;
-        return Ok(Some(Removed {
-            number: removed.number,
-            cut,
-        }));
+    if key == node.key {
+        let removed = remove_root(mem, layout, node, depth)?;
+        return Ok(Some(removed));
     }
-    if key > node.key {
-        let below = remove_below(mem, layout, node.right, key, depth - 1)?;
-        let Some(removed) = below else {
-            return Ok(None);
-        };
-        let cut = close_right(
-            mem,
-            layout,
-            node,
-            Node {
-                right: removed.cut.root,
-                ..node
-            },
-            removed.cut.fell,
-        )?;
-        return Ok(Some(Removed {
-            number: removed.number,
-            cut,
-        }));
-    }
-    let removed = remove_root(mem, layout, node, depth - 1)?;
-    Ok(Some(removed))
+    let side = Side::toward(key, node.key);
+    let below = remove_below(mem, layout, node.child(side), key, depth - 1)?;
+    let Some(removed) = below else {
+        return Ok(None);
+    };
+    let parent = node.with_child(side, removed.cut.root);
+    let cut = close(mem, layout, side, node, parent, removed.cut.fell)?;
+    Ok(Some(Removed {
+        number: removed.number,
+        cut,
+    }))
 }

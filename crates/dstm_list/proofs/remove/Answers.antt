@@ -1,93 +1,21 @@
-use Rattle.std.proofs.Common.{◌≡◌, ◌≤◌, length, slice_set, arith, refl, sym, ◌∙◌, ap, subst}
+use Rattle.std.specs.Prelude.{Ok}
 use Rattle.dstm_model.specs.declared.op.Which.TheVariants as which
 use Rattle.dstm_model.specs.declared.op.Op.TheVariants.{Remove}
-use Rattle.dstm_model.specs.declared.reply.Reply.TheVariants.{Yes, No}
-use Rattle.dstm_model.specs.Map.{value_at}
-use Rattle.dstm_model.specs.Objects.{Does, list_begin, tree_begin, free_object, node_object}
-use Rattle.dstm_mem.specs.Memory.{with_set}
-use Rattle.dstm_mem.proofs.WithSet.{length-with_set, with_set-same, with_set-again}
-use Rattle.dstm_list.specs.List.{IsList, IsOfList, node}
-use Rattle.dstm_list.proofs.Operations.{does-no_remove, does-remove}
-use Rattle.dstm_list.proofs.Steps.{next_within, node-of_list}
+use Rattle.dstm_mem.proofs.Operations.{ready-reads}
+use Rattle.dstm_list.proofs.Walked.{found-walked, does-walked}
 use Rattle.dstm_list.proofs.remove.Goals as goal
 
-pub returns-in_default-clause-does : goal.returns-in_default-clause-does
-returns-in_default-clause-does g c map admitted =
-    let M = g.M.Mem in
-    let layout = c.args.layout.now in
-    let old = M.written c.args.mem.now in
-    let done = c.in_ok-place.ensures in
-    subst (λ after. Does (IsList layout) (Remove which.List c.args.key) (with_set map old) after No)
-    (sym (with_set-same map old (M.written c.find.new.mem) done.looks.sets))
-    (does-no_remove c.args.key c.in_ok-place.place (done.finds map admitted) c.in_default.is)
+pub remove_at-requires-clause-ready : goal.remove_at-requires-clause-ready
+remove_at-requires-clause-ready g c =
+    let walked = c.in_ok-place.ensures in
+    ready-reads g.M.Mem (Ok c.in_ok-place.place) c.requires.ready walked.leads walked.looks
 
-pub replace-requires-2-clause-list : goal.replace-requires-2-clause-list
-replace-requires-2-clause-list g c =
-    let layout = c.args.layout.now in
-    let done = c.in_ok-place.ensures in
-    let (map, admitted) = c.in_ok-rest.ensures.leads.admits in
-    let in_find = c.in_ok-rest.ensures.leads.narrows map admitted in
-    let (store, list) = c.requires.ready.lawful map (done.leads.narrows map in_find) in
-    subst (IsOfList layout) (sym c.node_object-object.ensures)
-    (node-of_list layout c.in_ok-place.place.before.next c.requires.fits.0
-    (next_within list (done.finds map in_find store list).stands))
+pub remove_at-requires-clause-found : goal.remove_at-requires-clause-found
+remove_at-requires-clause-found g c =
+    let walked = c.in_ok-place.ensures in
+    found-walked g.M.Mem c.args.layout.now c.args.key c.in_ok-place.place walked.looks walked.finds
 
 pub returns-clause-does : goal.returns-clause-does
-returns-clause-does g c map admitted =
-    let M = g.M.Mem in
-    let layout = c.args.layout.now in
-    let begin = list_begin layout in
-    let start = c.args.mem.now in
-    let place = c.in_ok-place.place in
-    let found = c.in-Some.node in
-    let rest = c.in_ok-rest.rest in
-    let i = place.before.next in
-    let done = c.in_ok-place.ensures in
-    let one = c.in_ok-rest.ensures in
-    let two = c.in_ok-replace.ensures in
-    let three = c.in_ok-replace-2.ensures in
-    let in_one = two.leads.narrows map (three.leads.narrows map admitted) in
-    let in_find = one.leads.narrows map in_one in
-    let before = with_set map (M.written start) in
-    let same = with_set-same map (M.written start) (M.written c.find.new.mem) done.looks.sets in
-    let size = g.met.M.Mem.admitted_length start map (done.leads.narrows map in_find) in
-    let in_map : tree_begin layout ≤ length before =
-    omega (arith, size, c.requires.ready.objects, length-with_set map (M.written start)) in
-    let free_is : c.node_object-free.result ≡ free_object begin = omega (arith, c.node_object-free.ensures) in
-    let had = ap (value_at before) (sym free_is) ∙ ap (λ x. value_at x c.node_object-free.result) (sym same)
-    ∙ one.had map in_one in
-    let freed =
-    with_set-again map (M.written c.find.new.mem) (M.written c.replace.new.mem) c.node_object-free.result
-    (free_object begin) c.value.result (node 0 i) before one.written same free_is c.value.ensures in
-    let filled =
-    with_set-again map (M.written c.replace.new.mem)
-    (M.written c.replace-2.new.mem) c.node_object-object.result
-    (node_object begin i) rest rest (slice_set before (free_object begin) (node 0 i)) two.written freed
-    c.node_object-object.ensures refl in
-    let linked =
-    with_set-again map (M.written c.replace-2.new.mem) (M.written c.replace-3.new.mem) place.link place.link
-    c.value-2.result (node place.before.key found.next)
-    (slice_set (slice_set before (free_object begin) (node 0 i))
-    (node_object begin i) rest) three.written filled
-    refl c.value-2.ensures in
-    subst (λ after. Does (IsList layout) (Remove which.List c.args.key) before after Yes) (sym linked)
-    (does-remove c.args.key place found rest c.requires.fits.0 in_map
-    (done.finds map in_find) c.in-Some.is done.link had)
-
-pub returns-in_default-clause-few : goal.returns-in_default-clause-few
-returns-in_default-clause-few g c = (0, (0, λ p _ _ _. c.in_ok-place.ensures.looks.sets p))
-
-pub returns-clause-few : goal.returns-clause-few
-returns-clause-few g c =
-    let free_is : c.node_object-free.result ≡ free_object (list_begin c.args.layout.now) =
-    omega (arith, c.node_object-free.ensures) in (
-      c.in_ok-place.place.link,
-      (
-        c.in_ok-place.place.before.next,
-        λ p not_link not_node not_free.
-            c.in_ok-replace-2.ensures.written.others p not_link
-            ∙ c.in_ok-replace.ensures.written.others p (λ e. not_node (e ∙ c.node_object-object.ensures))
-            ∙ c.in_ok-rest.ensures.written.others p (λ e. not_free (e ∙ free_is))
-            ∙ c.in_ok-place.ensures.looks.sets p,
-      ),
-    )
+returns-clause-does g c =
+    does-walked g.M.Mem c.args.layout.now (Remove which.List c.args.key) c.in_ok-reply.reply
+    c.in_ok-place.ensures.looks c.in_ok-reply.ensures.does

@@ -1,14 +1,13 @@
 use Rattle.std.proofs.Common.{◌≡◌, ◌+◌, ◌<◌, List, length, take, get_or, arith, sym, ◌∙◌, ap, subst, inl, inr}
 use Rattle.std.specs.Prelude.{IsSome, Contains}
-use Rattle.std.proofs.lemmas.List.{length_push, take_more, take_all}
+use Rattle.std.proofs.lemmas.List.{length_push, take_all}
+use Rattle.std.proofs.lemmas.List.{take_more}
 use Rattle.std.proofs.lemmas.List.Elements.{Contains-push_cases}
-use Rattle.dstm_model.specs.declared.op.Op.{Op}
+use Rattle.dstm_model.specs.declared.op.Op.TheVariants.{Transfer, Total}
 use Rattle.dstm_model.specs.declared.reply.Reply.{Reply}
 use Rattle.dstm_mem.specs.Memory.{with_set}
 use Rattle.dstm_mem.proofs.Operations.{leads-answers, leads-then}
-use Rattle.dstm_model.specs.declared.op.Op.TheVariants.{Transfer, Total}
-use Rattle.dstm_model.specs.Objects.{Does}
-use Rattle.dstm_store.specs.Whole.{StandsFor}
+use Rattle.dstm_store.specs.declared.job.JobTask.{JobTask}
 use Rattle.dstm_store.specs.Job.{DoesAll}
 use Rattle.dstm_store.proofs.Jobs.{up_to, does-more, does-all}
 use Rattle.dstm_store.proofs.job.run_all.Goals as goal
@@ -18,10 +17,10 @@ loop-op-preserved g c =
     let so_far = c.loop-op.invariant in
     let ran = c.in_ok-reply.ensures in
     let M = g.M.Mem in
-    let task = c.args.task.now in
+    let task : JobTask = record { layout = c.args.layout.now; ops = c.args.ops.now } in
     let i = c.loop-op.op-index in
     let some_op = Transfer 0 0 0 in
-    let below : i < length task.ops = omega (arith, ap length c.as_slice-op-items.ensures.value) in
+    let below : i < length task.ops = c.loop-op-test.true in
     record {
       count = ap length c.push.ensures ∙ length_push c.loop-op.replies c.in_ok-reply.reply
           ∙ ap (λ n. n + 1) so_far.count;
@@ -31,35 +30,30 @@ loop-op-preserved g c =
           let reply = c.in_ok-reply.reply in
           let start = with_set map (M.written c.args.mem.now) in
           let before = with_set map (M.written c.loop-op.mem) in
-          let after = with_set map (M.written c.run_op.new.mem) in
-          let does = subst (λ (ops : List Op). Does (StandsFor task.layout) (get_or ops i some_op)
-          before after reply)
-          c.as_slice-op-items.ensures.value (ran.does map admitted) in
+          let after = with_set map (M.written c.run_in_branch.new.mem) in
           subst (λ (rs : List Reply). DoesAll (up_to (i + 1) task) start after rs) (sym c.push.ensures)
           (does-more task i some_op start before after c.loop-op.replies reply below
-          (so_far.done map (ran.leads.narrows map admitted)) does);
+          (so_far.done map (ran.leads.narrows map admitted)) (ran.does map admitted));
       audits = λ has a within.
           elim (Contains-push_cases (take i task.ops) (get_or task.ops i some_op) Total
           (subst (λ ops. Contains ops Total) (take_more task.ops i some_op below) has)) [
             | inl before ↦
                 let held = so_far.audits before a within in
                 subst IsSome (sym (ran.leads.holds a held)) held
-            | inr is ↦
-                ran.audits (subst (λ (ops : List Op). get_or ops i some_op ≡ Total)
-                (sym c.as_slice-op-items.ensures.value) is) a within
+            | inr is ↦ ran.audits is a within
           ];
     }
 
 pub returns-clause-does : goal.returns-clause-does
 returns-clause-does g c map admitted =
-    let all : length c.args.task.now.ops ≡ c.loop-op.op-index =
-    omega (arith, ap length c.as_slice-op-items.ensures.value) in
-    does-all c.args.task.now c.loop-op.op-index _ _ c.loop-op.replies (omega (arith, all))
+    let task : JobTask = record { layout = c.args.layout.now; ops = c.args.ops.now } in
+    let all : length task.ops ≡ c.loop-op.op-index = omega arith in
+    does-all task c.loop-op.op-index _ _ c.loop-op.replies (omega (arith, all))
     (c.loop-op.invariant.done map admitted)
 
 pub returns-clause-audits : goal.returns-clause-audits
 returns-clause-audits g c o audits =
-    let ops = c.args.task.now.ops in
-    let all : length ops ≡ c.loop-op.op-index = omega (arith, ap length c.as_slice-op-items.ensures.value) in
+    let ops = c.args.ops.now in
+    let all : length ops ≡ c.loop-op.op-index = omega arith in
     let whole = take_all c.loop-op.op-index ops (omega (arith, all)) in
     c.loop-op.invariant.audits (subst (λ os. Contains os Total) (sym whole) audits.0) o audits.1

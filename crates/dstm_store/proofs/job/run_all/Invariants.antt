@@ -15,10 +15,10 @@ invariant-loop-op g l = record {
   count : length l.replies ≡ l.op-index;
   leads : Leads g.M.Mem l.fn.mem l.mem (Ok l.replies);
   lawful : (map : List Val) → g.M.Mem.Admits l.mem map →
-      IsLawful l.fn.task.layout (with_set map (g.M.Mem.written l.mem));
+      IsLawful l.layout (with_set map (g.M.Mem.written l.mem));
   done : (map : List Val) → g.M.Mem.Admits l.mem map →
-      DoesAll (up_to l.op-index l.fn.task) (with_set map (g.M.Mem.written l.fn.mem))
+      DoesAll (up_to l.op-index (record { layout = l.layout; ops = l.ops })) (with_set map (g.M.Mem.written l.fn.mem))
       (with_set map (g.M.Mem.written l.mem)) l.replies;
-  audits : Contains (take l.op-index l.fn.task.ops) Total → (a : ℕ) → a < l.fn.task.layout.accounts →
+  audits : Contains (take l.op-index l.ops) Total → (a : ℕ) → a < l.layout.accounts →
       IsSome (g.M.Mem.held l.mem a);
 }

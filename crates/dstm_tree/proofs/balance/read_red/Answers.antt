@@ -1,24 +1,27 @@
-use Rattle.dstm_mem.specs.Memory.{with_set}
-use Rattle.dstm_tree.proofs.Changed.{missing_child, shape, red_child, black_child}
+use Rattle.dstm_tree.proofs.Forks.{forked_read, missing_child, red_child, black_child}
+use Rattle.dstm_tree.proofs.Base.{refl, ap, is_red}
+use Rattle.dstm_tree.proofs.Stepping.{steps-none, steps-as}
 use Rattle.dstm_tree.proofs.balance.read_red.Goals as goal
 
-pub returns-then-number-eq0-clause-finds : goal.returns-then-number-eq0-clause-finds
-returns-then-number-eq0-clause-finds g c map admitted t root nodes =
-    missing_child c.args.layout.now (with_set map (g.M.Mem.written c.args.mem.now)) t c.args.number
-    c.if-number-eq0.true root nodes
+pub returns-then-number-eq0-clause-steps : goal.returns-then-number-eq0-clause-steps
+returns-then-number-eq0-clause-steps g c =
+    let layout = c.args.layout.now in
+    steps-none c.requires.ready (λ before. (refl, λ side t h. ap is_red (missing_child c.if-number-eq0.true h)))
 
-pub returns-then-node-clause-finds : goal.returns-then-node-clause-finds
-returns-then-node-clause-finds g c map admitted t root nodes =
-    let M = g.M.Mem in
-    let found = shape c.args.layout.now (with_set map (M.written c.args.mem.now))
-    (with_set map (M.written c.read_node.new.mem)) t c.args.number
-    c.in_ok-node.node c.requires.tree (c.in_ok-node.ensures.reads map admitted) c.if-number-eq0.false root nodes in
-    red_child t c.in_ok-node.node found c.if-node.true
+pub returns-then-node-clause-steps : goal.returns-then-node-clause-steps
+returns-then-node-clause-steps g c =
+    let layout = c.args.layout.now in
+    let x = c.in_ok-node.node in
+    steps-as c.in_ok-node.ensures.steps (λ q. q) (λ before after read. (
+      read.same,
+      λ side t h. red_child (forked_read side c.requires.ready.tree read c.if-number-eq0.false h) c.if-node.true,
+    ))
 
-pub returns-clause-finds : goal.returns-clause-finds
-returns-clause-finds g c map admitted t root nodes =
-    let M = g.M.Mem in
-    let found = shape c.args.layout.now (with_set map (M.written c.args.mem.now))
-    (with_set map (M.written c.read_node.new.mem)) t c.args.number
-    c.in_ok-node.node c.requires.tree (c.in_ok-node.ensures.reads map admitted) c.if-number-eq0.false root nodes in
-    black_child t c.in_ok-node.node found c.if-node.false
+pub returns-clause-steps : goal.returns-clause-steps
+returns-clause-steps g c =
+    let layout = c.args.layout.now in
+    let x = c.in_ok-node.node in
+    steps-as c.in_ok-node.ensures.steps (λ q. q) (λ before after read. (
+      read.same,
+      λ side t h. black_child (forked_read side c.requires.ready.tree read c.if-number-eq0.false h) c.if-node.false,
+    ))

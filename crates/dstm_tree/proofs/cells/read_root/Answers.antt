@@ -1,43 +1,41 @@
-use Rattle.std.proofs.Common.{◌≡◌, ℕ, w16, arith, sym, ◌∙◌, ap}
-use Rattle.std.proofs.Math.Facts.{Fits-of_lt}
-use Rattle.dstm_model.specs.declared.value.Val.{Val}
-use Rattle.dstm_model.specs.Map.{value_at}
-use Rattle.dstm_mem.specs.Memory.{with_set}
-use Rattle.dstm_tree.specs.Tree.{number_of}
+use Rattle.dstm_tree.proofs.Base.{◌≡◌, ◌≤◌, ℕ, List, w16, arith, sym, ◌∙◌, ap, Fits-of_lt, Val, Layout, value_at, Store}
+use Rattle.dstm_tree.proofs.Base.{with_set, number_of, root_of, IsTree, Reads}
 use Rattle.dstm_tree.proofs.Nodes.{number_le}
+use Rattle.dstm_tree.proofs.Stepping.{steps-as}
 use Rattle.dstm_tree.proofs.cells.read_root.Goals as goal
 
-root_number : (v : Val) (n : ℕ) → v ≡ record { low = n; high = 0 } → n ≡ v.low
-root_number v n e = sym (ap (λ (x : Val). x.low) e)
+root_number : (layout : Layout) (object : ℕ) (v : Val) (before after : List Val) (store : Store)
+    (t : IsTree layout before store) → object ≡ root_of layout → Reads object v before after → number_of t.tree ≡ v.low
+root_number layout object v before after store t at read =
+    ap (λ (x : Val). x.low) (sym t.root ∙ ap (value_at before) (sym at) ∙ read.is)
+
+root_within : (layout : Layout) (object : ℕ) (v : Val) (before after : List Val) (store : Store) →
+    IsTree layout before store → object ≡ root_of layout → Reads object v before after → v.low ≤ layout.tree
+root_within layout object v before after store t at read =
+    omega (arith, number_le layout before t.tree t.nodes, root_number layout object v before after store t at read)
 
 pub overflow_cast-result : goal.overflow_cast-result
 overflow_cast-result g c =
-    let before = with_set c.in_ok-value.ensures.leads.admits.0 (g.M.Mem.written c.args.mem.now) in
+    let M = g.M.Mem in
     let read = c.in_ok-value.ensures in
     let (map, admitted) = read.leads.admits in
     let (store, t) = c.requires.ready.lawful map (read.leads.narrows map admitted) in
-    let is_root = root_number c.in_ok-value.value (number_of t.tree)
-    (sym (read.reads map admitted) ∙ ap (value_at before) c.root_object.ensures.object ∙ t.root) in
-    Fits-of_lt {w = w16} (omega (
-      arith,
-      is_root,
-      number_le c.args.layout.now before t.tree t.nodes,
-      c.requires.tree.valid.tree,
-    ))
+    let within = root_within c.args.layout.now _ c.in_ok-value.value (with_set map (M.written c.args.mem.now))
+    (with_set map (M.written c.read.new.mem)) store t c.root_object.ensures.object (read.does map admitted) in
+    Fits-of_lt {w = w16} (omega (arith, c.requires.tree.valid.tree))
 
-pub returns-clause-reads : goal.returns-clause-reads
-returns-clause-reads g c map admitted store t =
-    root_number c.in_ok-value.value (number_of t.tree)
-    (sym (c.in_ok-value.ensures.reads map admitted) ∙ ap (value_at (with_set map (g.M.Mem.written c.args.mem.now)))
-    c.root_object.ensures.object ∙ t.root)
+pub returns-clause-steps : goal.returns-clause-steps
+returns-clause-steps g c =
+    steps-as c.in_ok-value.ensures (λ q. q) (λ before after read. record {
+      same = read.same;
+      is = λ store t. root_number c.args.layout.now _ _ before after store t c.root_object.ensures.object read;
+    })
 
 pub returns-clause-within : goal.returns-clause-within
 returns-clause-within g c =
+    let M = g.M.Mem in
     let read = c.in_ok-value.ensures in
     let (map, admitted) = read.leads.admits in
     let (store, t) = c.requires.ready.lawful map (read.leads.narrows map admitted) in
-    let is_root : number_of t.tree ≡ c.in_ok-value.value.low =
-    root_number c.in_ok-value.value (number_of t.tree)
-    (sym (read.reads map admitted) ∙ ap (value_at (with_set map (g.M.Mem.written c.args.mem.now)))
-    c.root_object.ensures.object ∙ t.root) in
-    omega (arith, is_root, number_le c.args.layout.now (with_set map (g.M.Mem.written c.args.mem.now)) t.tree t.nodes)
+    root_within c.args.layout.now _ c.in_ok-value.value (with_set map (M.written c.args.mem.now))
+    (with_set map (M.written c.read.new.mem)) store t c.root_object.ensures.object (read.does map admitted)

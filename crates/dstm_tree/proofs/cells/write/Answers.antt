@@ -1,12 +1,24 @@
-use Rattle.std.proofs.Common.{slice_set, ◌∙◌, ap}
-use Rattle.dstm_mem.proofs.WithSet.{with_set-same, with_set-set}
+use Rattle.dstm_tree.proofs.Base.{rules, arith, ap, ◌∙◌, unwrap_or, value_at, value_at-with_set, value_at-same_set}
 use Rattle.dstm_tree.proofs.cells.write.Goals as goal
 
-pub returns-clause-writes : goal.returns-clause-writes
-returns-clause-writes g c map admitted =
+pub returns : goal.returns
+returns g c =
     let M = g.M.Mem in
-    let old = M.written c.args.mem.now in
-    let opened = M.written c.open_write.new.self in
-    let new = M.written c.set.new.self in
-    with_set-set map opened new c.args.object c.args.value c.set.ensures.written
-    ∙ ap (λ x. slice_set x c.args.object c.args.value) (with_set-same map old opened c.in_ok-open_write.ensures.written)
+    let start = c.args.mem.now in
+    let mem = c.set.new.self in
+    let object = c.args.object in
+    record {
+      leads = search rules;
+      outside = search rules;
+      marks = search rules;
+      quiet = λ never. absurd never;
+      does = λ map admitted. record {
+        is =
+            let opened = c.in_ok-open_write.ensures in
+            let size = g.met.M.Mem.admitted_length c.open_write.new.self map ((c.set.ensures.admits map).0 admitted) in
+            value_at-with_set map (M.written mem) object (omega (arith, c.requires.objects, c.requires.exists)) ∙ ap
+            (λ w. unwrap_or w (value_at map object)) c.set.ensures.written.value;
+        others = λ o other. value_at-same_set map (M.written start) (M.written mem) o
+            (c.set.ensures.written.others o other ∙ c.in_ok-open_write.ensures.written o);
+      };
+    }

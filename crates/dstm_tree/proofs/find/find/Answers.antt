@@ -1,90 +1,58 @@
-use Rattle.std.proofs.Common.{◌≡◌, ◌+◌, ◌-◌, ◌<◌, ◌≤◌, List, arith, sym, ◌∙◌, subst, inl, inr}
-use Rattle.std.specs.Prelude.{◌⊎◌}
-use Rattle.dstm_model.specs.declared.value.Val.{Val}
-use Rattle.dstm_model.specs.Store.{Store}
-use Rattle.dstm_mem.specs.Memory.{with_set}
-use Rattle.dstm_mem.proofs.Operations.{leads-answers, leads-then, only_reads-then}
-use Rattle.dstm_mem.proofs.WithSet.{with_set-same}
-use Rattle.dstm_tree.specs.Objects.{IsTree}
-use Rattle.dstm_tree.specs.Node.{HasTree, IsRead}
-use Rattle.dstm_tree.proofs.Search.{Searches, search-start, read_root, search-end, search-past, search-found}
-use Rattle.dstm_tree.proofs.Search.{search-next, search-within}
+use Rattle.dstm_tree.proofs.Base.{ℕ, ◌+◌, ◌-◌, ◌≤◌, arith, sym, subst, Ok, with_set, Steps, HasTree, child}
+use Rattle.dstm_tree.proofs.Search.{Reaches, reach-start, reach-none, reach-next, reach-found, search-end}
+use Rattle.dstm_tree.proofs.Search.{search-past, search-within}
+use Rattle.dstm_tree.proofs.Stepping.{steps-as, steps-then}
 use Rattle.dstm_tree.proofs.find.find.Goals as goal
-use Rattle.dstm_tree.proofs.find.find.Goals.{then-key-node-2, else-key-node-2}
 
 pub loop-step-init : goal.loop-step-init
-loop-step-init g c =
-    let M = g.M.Mem in
-    let layout = c.args.layout.now in
-    let root = c.in_ok-at.ensures in
-    record {
-      leads = root.leads;
-      looks = root.looks;
-      opens = λ p h. ((root.outside p h).1, (root.outside p h).2);
-      within = root.within;
-      searches = λ map admitted store t.
-          search-start layout (with_set map (M.written c.args.mem.now)) c.in_ok-at.at (layout.tree - 0) c.args.key
-          store t
-          (root.reads map admitted store t) (omega arith);
-    }
+loop-step-init g c = record {
+  so_far = steps-as c.in_ok-at.ensures.steps (λ q. q)
+      (λ before after. reach-start c.args.layout.now _ c.args.key c.in_ok-at.at before after (omega arith));
+  within = c.in_ok-at.ensures.within;
+}
 
-pub returns-then-at-eq0-clause-finds : goal.returns-then-at-eq0-clause-finds
-returns-then-at-eq0-clause-finds g c map admitted store tree =
-    sym (search-end c.args.layout.now _ c.loop-step.at _ c.args.key store.items c.if-at-eq0.true
-    (c.loop-step.invariant.searches map admitted store tree))
-
-pub returns-then-key-node-clause-finds : goal.returns-then-key-node-clause-finds
-returns-then-key-node-clause-finds g c map admitted store tree =
-    let M = g.M.Mem in
+pub returns-then-at-eq0 : goal.returns-then-at-eq0
+returns-then-at-eq0 g c =
     let layout = c.args.layout.now in
-    let so_far = c.loop-step.invariant in
-    let read = c.in_ok-node.ensures in
-    let before = with_set map (M.written c.args.mem.now) in
-    let after = with_set map (M.written c.read_node.new.mem) in
-    let h = so_far.searches map (read.leads.narrows map admitted) store tree in
-    let same = with_set-same map (M.written c.args.mem.now) (M.written c.loop-step.mem) so_far.looks.sets in
-    let is_read = subst (λ m. IsRead layout m after c.loop-step.at c.in_ok-node.node) same (read.reads map admitted) in
+    let at = c.loop-step.at in
+    steps-as c.loop-step.invariant.so_far (λ q. q) (λ before after h.
+    reach-none layout at _ c.args.key before after h
+    (λ store s. search-end layout before at _ c.args.key store.items c.if-at-eq0.true s))
+
+pub returns-then-key-node : goal.returns-then-key-node
+returns-then-key-node g c =
+    let layout = c.args.layout.now in
     let has : HasTree layout = record { valid = c.requires.valid; declared = c.requires.declared } in
-    let root = read_root layout before after c.loop-step.at _ c.in_ok-node.node has is_read c.if-at-eq0.false h.sub in
-    sym (search-found layout before c.loop-step.at _ c.args.key store.items c.in_ok-node.node h root c.if-key-node.true)
+    steps-as (steps-then c.loop-step.invariant.so_far c.in_ok-node.ensures.steps) (λ q. (q, q)) (λ before after h.
+    reach-found layout c.loop-step.at _ c.args.key c.in_ok-node.node before h.mid after has c.if-at-eq0.false
+    c.if-key-node.true h.first h.second)
 
 pub loop-step-preserved : goal.loop-step-preserved
 loop-step-preserved g c =
     let M = g.M.Mem in
     let layout = c.args.layout.now in
-    let so_far = c.loop-step.invariant in
-    let read = c.in_ok-node.ensures in
-    let start = M.written c.args.mem.now in
-    let next = c.if-key-node-2.at in
-    let node = c.in_ok-node.node in
     let has : HasTree layout = record { valid = c.requires.valid; declared = c.requires.declared } in
-    let way : ((c.args.key < node.key) × (next ≡ node.left)) ⊎ ((node.key ≤ c.args.key) × (next ≡ node.right)) =
-    elim c.if-key-node-2.branch [
-      | then-key-node-2 w ↦ inl (w.if-key-node-2.true, w.at-is)
-      | else-key-node-2 w ↦ inr (w.if-key-node-2.false, w.at-is)
-    ] in
-    let searches = λ (map : List Val) (admitted : M.Admits c.read_node.new.mem map) (store : Store)
-    (t : IsTree layout (with_set map start) store).
-    let before = with_set map start in
-    let after = with_set map (M.written c.read_node.new.mem) in
-    let h = so_far.searches map (read.leads.narrows map admitted) store t in
-    let same = with_set-same map start (M.written c.loop-step.mem) so_far.looks.sets in
-    let is_read = subst (λ m. IsRead layout m after c.loop-step.at node) same (read.reads map admitted) in
-    let root = read_root layout before after c.loop-step.at _ node has is_read c.if-at-eq0.false h.sub in
-    let left : layout.tree - c.loop-step._step - 1 ≡ layout.tree - (c.loop-step._step + 1) = omega arith in
-    subst (λ d. Searches layout before next d c.args.key store.items) left
-    (search-next layout before c.loop-step.at _ c.args.key next store.items node h root c.if-key-node.false way) in
-    let (map, admitted) = read.leads.admits in
-    let (store, t) = c.requires.ready.lawful map (so_far.leads.narrows map (read.leads.narrows map admitted)) in
-    record {
-      leads = leads-answers M (leads-then M so_far.leads read.leads);
-      looks = only_reads-then M so_far.leads so_far.looks read.looks;
-      opens = λ p h. ((read.outside p h).1 ∙ (so_far.opens p h).0, (read.outside p h).2 ∙ (so_far.opens p h).1);
-      within = search-within layout (with_set map start) next _ c.args.key store.items (searches map admitted store t);
-      searches = searches;
-    }
+    let next = child c.toward.result c.in_ok-node.node in
+    let left = layout.tree - (c.loop-step._step + 1) in
+    let so_far : Steps {A = ℕ} M layout (λ at. Unit {0}) (Reaches layout left c.args.key) c.args.mem.now
+    c.read_node.new.mem (Ok next) =
+    steps-as (steps-then c.loop-step.invariant.so_far c.in_ok-node.ensures.steps) (λ q. (q, q)) (λ before after h.
+    reach-next layout c.toward.result c.loop-step.at _ left c.args.key c.in_ok-node.node before h.mid after has
+    c.if-at-eq0.false c.toward.ensures (omega arith) h.first h.second) in
+    let (map, admitted) = so_far.leads.admits in
+    let (store, t) = c.requires.ready.lawful map (so_far.leads.narrows map admitted) in
+    let within = search-within layout (with_set map (M.written c.args.mem.now)) next left c.args.key store.items
+    ((so_far.does map admitted).searches store t) in
+    subst (λ (n : ℕ). record {
+      so_far : Steps {A = ℕ} M layout (λ at. Unit {0}) (Reaches layout left c.args.key) c.args.mem.now
+          c.read_node.new.mem (Ok n);
+      within : n ≤ layout.tree;
+    }) (sym c.child-at.ensures) (record { so_far = so_far; within = within })
 
-pub returns-clause-finds : goal.returns-clause-finds
-returns-clause-finds g c map admitted store tree =
-    sym (search-past c.args.layout.now _ c.loop-step.at _ c.args.key store.items (omega (arith, c.loop-step-test.false))
-    (c.loop-step.invariant.searches map admitted store tree))
+pub returns : goal.returns
+returns g c =
+    let layout = c.args.layout.now in
+    let at = c.loop-step.at in
+    steps-as c.loop-step.invariant.so_far (λ q. q) (λ before after h.
+    reach-none layout at _ c.args.key before after h
+    (λ store s. search-past layout before at _ c.args.key store.items (omega (arith, c.loop-step-test.false)) s))

@@ -1,169 +1,61 @@
-use Rattle.std.proofs.Common.{◌-◌, List, arith, ◌∙◌}
-use Rattle.dstm_model.specs.declared.value.Val.{Val}
-use Rattle.dstm_mem.specs.Memory.{with_set}
-use Rattle.dstm_mem.proofs.WithSet.{length-with_set}
-use Rattle.dstm_tree.specs.Place.{Request}
-use Rattle.dstm_tree.proofs.Placing.{go_left, go_right, has_depth, child_within, place-left, place-right, place-leaf}
-use Rattle.dstm_tree.proofs.Placing.{place-found, place-replaced}
+use Rattle.dstm_tree.proofs.Base.{◌-◌, List, arith, sym, subst, Val, with_set, CanPlace, LeavesAll}
+use Rattle.dstm_tree.proofs.Attach.{settled}
+use Rattle.dstm_tree.proofs.Placing.{can-below, place-leaf, place-below, place-found, place-replaced}
+use Rattle.dstm_tree.specs.declared.side.Side.TheVariants.{Left}
+use Rattle.dstm_tree.proofs.Walk.{walk}
+use Rattle.dstm_tree.proofs.Stepping.{steps-as, steps-then}
 use Rattle.dstm_tree.proofs.place.+place_below.Goals as goal
 
-pub returns-then-at-eq0-clause-does : goal.returns-then-at-eq0-clause-does
-returns-then-at-eq0-clause-does g t c map admitted =
-    place-leaf c.args.layout.now (record { key = c.args.key; value = c.args.value; replaces = c.args.replaces })
-    c.args.at c.args.depth
-    (with_set map (g.M.Mem.written c.args.mem.now)) (with_set map (g.M.Mem.written c.place_leaf.new.mem))
-    c.in_ok-placed.placed c.if-at-eq0.true
-    (c.in_ok-placed.ensures.does map admitted)
+pub returns-then-at-eq0-clause-steps : goal.returns-then-at-eq0-clause-steps
+returns-then-at-eq0-clause-steps g t c =
+    let layout = c.args.layout.now in
+    let placed = c.in_ok-placed.placed in
+    steps-as c.in_ok-placed.ensures.steps (settled c.args.request placed) (λ before after.
+    place-leaf layout c.args.request c.args.at c.args.depth placed before after c.if-at-eq0.true)
 
 pub overflow_sub-depth : goal.overflow_sub-depth
 overflow_sub-depth g t c =
-    let M = g.M.Mem in
-    let read = c.in_ok-node.ensures in
-    let (map, admitted) = read.leads.admits in
-    has_depth c.args.layout.now (with_set map (M.written c.args.mem.now))
-    (with_set map (M.written c.read_node.new.mem)) c.args.at c.args.depth c.args.key
-    c.in_ok-node.node c.requires.tree (read.reads map admitted) c.if-at-eq0.false
-    (c.requires.lawful map (read.leads.narrows map admitted))
+    (walk g.M.Mem c.args.layout.now Left c.args.at c.args.depth c.in_ok-node.node c.requires.ready
+    (λ m a. (c.requires.lawful m a).sub) c.in_ok-node.ensures.steps c.if-at-eq0.false).deep
 
 pub place_below-requires : goal.place_below-requires
 place_below-requires g t c κs within =
     let M = g.M.Mem in
     let layout = c.args.layout.now in
-    let read = c.in_ok-node.ensures in
-    let start = M.written c.args.mem.now in
-    let mid = M.written c.read_node.new.mem in
-    let node = c.in_ok-node.node in
+    let read = c.in_ok-node.ensures.steps in
+    let w = walk g.M.Mem c.args.layout.now c.toward-side.result c.args.at c.args.depth c.in_ok-node.node
+    c.requires.ready (λ m a. (c.requires.lawful m a).sub) c.in_ok-node.ensures.steps c.if-at-eq0.false in
     let goes = λ (m : List Val) (a : M.Admits c.read_node.new.mem m).
-    go_left layout (with_set m start) (with_set m mid) c.args.at c.args.depth c.args.key node c.requires.tree
-    (read.reads m a) c.if-at-eq0.false
-    c.if-key-node.true (c.requires.lawful m (read.leads.narrows m a)) in
-    let (map, admitted) = read.leads.admits in
-    let deep = has_depth layout (with_set map start) (with_set map mid) c.args.at c.args.depth c.args.key node
-    c.requires.tree (read.reads map admitted)
-    c.if-at-eq0.false (c.requires.lawful map (read.leads.narrows map admitted)) in
-    let below = child_within layout (with_set map mid) node.left (c.args.depth - 1) c.args.key (goes map admitted) in (
-      omega (arith, deep, c.decreases),
-      (
-        within.0,
-        (
-          within.1,
-          (
-            c.requires.key,
-            (
-              below,
-              (
-                c.requires.tree,
-                (read.leads.objects ∙ c.requires.objects, (read.leads.live, goes)),
-              ),
-            ),
-          ),
-        ),
-      ),
+    let mid = with_set m (M.written c.read_node.new.mem) in
+    subst (λ n. CanPlace layout mid n (c.args.depth - 1)) (sym c.child.ensures) (can-below c.toward-side.result
+    c.requires.ready.tree (read.does m a) c.if-at-eq0.false (c.requires.lawful m (read.leads.narrows m a))) in (
+      omega (arith, c.decreases),
+      (within.0, (within.1, (c.requires.key, (omega (arith, c.child.ensures), (w.ready, goes))))),
     )
 
-pub returns-then-key-node-clause-does : goal.returns-then-key-node-clause-does
-returns-then-key-node-clause-does g t c map admitted =
-    let M = g.M.Mem in
+pub returns-then-request-node-clause-steps : goal.returns-then-request-node-clause-steps
+returns-then-request-node-clause-steps g t c =
     let layout = c.args.layout.now in
-    let node = c.in_ok-node.node in
-    let one = c.in_ok-node.ensures in
-    let two = c.in_ok-below.ensures in
-    let three = c.in_ok-placed-2.ensures in
-    let in_two = three.leads.narrows map admitted in
-    let q : Request = record { key = c.args.key; value = c.args.value; replaces = c.args.replaces } in
-    place-left layout q c.args.at c.args.depth node (with_set map (M.written c.args.mem.now))
-    (with_set map (M.written c.read_node.new.mem))
-    (with_set map (M.written c.place_below.new.mem)) (with_set map (M.written c.attach_left.new.mem))
-    c.in_ok-below.below c.in_ok-placed-2.placed
-    c.requires.tree (one.reads map (two.leads.narrows map in_two)) c.if-at-eq0.false c.if-key-node.true
-    (two.does map in_two)
-    (three.does map admitted)
+    let q = c.args.request in
+    let placed = c.in_ok-placed-2.placed in
+    let found = steps-then c.in_ok-node.ensures.steps c.in_ok-below.ensures.steps in
+    steps-as (steps-then found c.in_ok-placed-2.ensures.steps) (λ leaves.
+    let is = settled q placed leaves in
+    ((tt, subst (LeavesAll q) (sym (c.in_ok-placed-2.ensures.settled is)) leaves), is)) (λ before after h. place-below q
+    c.toward-side.result c.args.depth c.in_ok-below.below placed h.mid after c.requires.ready.tree c.if-at-eq0.false
+    c.toward-side.ensures c.child.ensures h.first.first h.first.second h.second)
 
-pub overflow_sub-depth-then-key-node-2 : goal.overflow_sub-depth-then-key-node-2
-overflow_sub-depth-then-key-node-2 g t c =
-    let M = g.M.Mem in
-    let read = c.in_ok-node.ensures in
-    let (map, admitted) = read.leads.admits in
-    has_depth c.args.layout.now (with_set map (M.written c.args.mem.now))
-    (with_set map (M.written c.read_node.new.mem)) c.args.at c.args.depth c.args.key
-    c.in_ok-node.node c.requires.tree (read.reads map admitted) c.if-at-eq0.false
-    (c.requires.lawful map (read.leads.narrows map admitted))
-
-pub place_below-requires-then-key-node-2 : goal.place_below-requires-then-key-node-2
-place_below-requires-then-key-node-2 g t c κs within =
-    let M = g.M.Mem in
+pub returns-then-request-clause-steps : goal.returns-then-request-clause-steps
+returns-then-request-clause-steps g t c =
     let layout = c.args.layout.now in
-    let read = c.in_ok-node.ensures in
-    let start = M.written c.args.mem.now in
-    let mid = M.written c.read_node.new.mem in
-    let node = c.in_ok-node.node in
-    let goes = λ (m : List Val) (a : M.Admits c.read_node.new.mem m).
-    go_right layout (with_set m start) (with_set m mid) c.args.at c.args.depth c.args.key node c.requires.tree
-    (read.reads m a) c.if-at-eq0.false
-    c.if-key-node-2.true (c.requires.lawful m (read.leads.narrows m a)) in
-    let (map, admitted) = read.leads.admits in
-    let deep = has_depth layout (with_set map start) (with_set map mid) c.args.at c.args.depth c.args.key node
-    c.requires.tree (read.reads map admitted)
-    c.if-at-eq0.false (c.requires.lawful map (read.leads.narrows map admitted)) in
-    let below = child_within layout (with_set map mid) node.right (c.args.depth - 1) c.args.key (goes map admitted) in (
-      omega (arith, deep, c.decreases),
-      (
-        within.0,
-        (
-          within.1,
-          (
-            c.requires.key,
-            (
-              below,
-              (
-                c.requires.tree,
-                (read.leads.objects ∙ c.requires.objects, (read.leads.live, goes)),
-              ),
-            ),
-          ),
-        ),
-      ),
-    )
+    steps-as (steps-then c.in_ok-node.ensures.steps c.in_ok-write_node.ensures)
+    (λ keep. absurd (cc (keep, c.if-request.true))) (λ before after h.
+    place-replaced c.args.request c.args.depth c.requires.ready.tree c.if-at-eq0.false c.if-request-node.false
+    c.if-request.true h.first h.second)
 
-pub returns-then-key-node-2-clause-does : goal.returns-then-key-node-2-clause-does
-returns-then-key-node-2-clause-does g t c map admitted =
-    let M = g.M.Mem in
+pub returns-clause-steps : goal.returns-clause-steps
+returns-clause-steps g t c =
     let layout = c.args.layout.now in
-    let node = c.in_ok-node.node in
-    let one = c.in_ok-node.ensures in
-    let two = c.in_ok-below-2.ensures in
-    let three = c.in_ok-placed-3.ensures in
-    let in_two = three.leads.narrows map admitted in
-    let q : Request = record { key = c.args.key; value = c.args.value; replaces = c.args.replaces } in
-    place-right layout q c.args.at c.args.depth node (with_set map (M.written c.args.mem.now))
-    (with_set map (M.written c.read_node.new.mem))
-    (with_set map (M.written c.place_below-then-key-node-2.new.mem)) (with_set map (M.written c.attach_right.new.mem))
-    c.in_ok-below-2.below c.in_ok-placed-3.placed
-    c.requires.tree (one.reads map (two.leads.narrows map in_two)) c.if-at-eq0.false c.if-key-node-2.true
-    (two.does map in_two) (three.does map admitted)
-
-pub returns-then-replaces-clause-does : goal.returns-then-replaces-clause-does
-returns-then-replaces-clause-does g t c map admitted =
-    let M = g.M.Mem in
-    let layout = c.args.layout.now in
-    let one = c.in_ok-node.ensures in
-    let two = c.in_ok-write_node.ensures in
-    let in_one = two.leads.narrows map admitted in
-    let start = M.written c.args.mem.now in
-    let size = length-with_set map start ∙ g.met.M.Mem.admitted_length c.args.mem.now map
-    (one.leads.narrows map in_one) ∙ c.requires.objects in
-    let q : Request = record { key = c.args.key; value = c.args.value; replaces = c.args.replaces } in
-    place-replaced layout q c.args.at c.args.depth c.in_ok-node.node (with_set map start)
-    (with_set map (M.written c.read_node.new.mem))
-    (with_set map (M.written c.write_node.new.mem)) c.requires.tree size one.fits.number (one.reads map in_one)
-    c.if-at-eq0.false
-    (omega (arith, c.if-key-node.false, c.if-key-node-2.false)) c.if-replaces.true (two.writes map admitted)
-
-pub returns-clause-does : goal.returns-clause-does
-returns-clause-does g t c map admitted =
-    let M = g.M.Mem in
-    let q : Request = record { key = c.args.key; value = c.args.value; replaces = c.args.replaces } in
-    place-found c.args.layout.now q c.args.at c.args.depth c.in_ok-node.node (with_set map (M.written c.args.mem.now))
-    (with_set map (M.written c.read_node.new.mem))
-    c.requires.tree (c.in_ok-node.ensures.reads map admitted) c.if-at-eq0.false
-    (omega (arith, c.if-key-node.false, c.if-key-node-2.false)) c.if-replaces.false
+    steps-as c.in_ok-node.ensures.steps (λ keep. tt) (λ before after.
+    place-found c.args.request c.args.depth c.requires.ready.tree c.if-at-eq0.false c.if-request-node.false
+    c.if-request.false)

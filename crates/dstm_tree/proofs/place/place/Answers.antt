@@ -1,140 +1,62 @@
-use Rattle.std.proofs.Common.{slice_set, ◌∙◌, ap, subst}
-use Rattle.dstm_model.specs.declared.layout.TheConstants.{KEY_LIMIT}
-use Rattle.dstm_model.specs.Objects.{plain}
-use Rattle.dstm_mem.specs.Memory.{with_set}
-use Rattle.dstm_mem.proofs.WithSet.{with_set-same, length-with_set}
-use Rattle.dstm_tree.specs.Objects.{root_of}
-use Rattle.dstm_tree.specs.Place.{Request, IsPlaced, FitsPlaced}
-use Rattle.dstm_tree.proofs.Whole.{can_root, whole_is_placed, whole-full, whole-found, whole-added, whole-root}
-use Rattle.dstm_tree.proofs.Whole.{whole-pair}
+use Rattle.dstm_tree.proofs.Base.{refl, sym, subst, with_set, LeavesAll, FitsPlaced}
+use Rattle.dstm_tree.proofs.Whole.{can-root, no-pair, answers-full, answers-found, answers-added, answers-root}
+use Rattle.dstm_tree.proofs.Stepping.{steps-as, steps-then, sets-same}
 use Rattle.dstm_tree.proofs.place.place.Goals as goal
 
-pub place_below-requires : goal.place_below-requires
-place_below-requires g c =
+pub place_below-requires-clause-lawful : goal.place_below-requires-clause-lawful
+place_below-requires-clause-lawful g c map admitted =
     let M = g.M.Mem in
-    let read = c.in_ok-root.ensures in
-    let start = M.written c.args.mem.now in
-    record {
-      key = c.requires.key;
-      within = read.within;
-      tree = c.requires.tree;
-      objects = read.leads.objects ∙ c.requires.ready.objects;
-      live = read.leads.live;
-      lawful = λ map admitted.
-          let (store, t) = c.requires.ready.lawful map (read.leads.narrows map admitted) in
-          can_root c.args.layout.now (with_set map start) (with_set map (M.written c.read_root.new.mem)) store t
-          c.in_ok-root.root c.args.key
-          c.requires.key (read.reads map admitted store t) (with_set-same map start (M.written c.read_root.new.mem)
-          read.looks.sets);
-    }
+    let read = c.in_ok-root.ensures.steps in
+    let (store, t) = c.requires.ready.lawful map (read.leads.narrows map admitted) in
+    can-root c.args.layout.now c.in_ok-root.root (with_set map (M.written c.args.mem.now))
+    (with_set map (M.written c.read_root.new.mem)) store t (read.does map admitted)
 
 pub unreachable-requires : goal.unreachable-requires
 unreachable-requires g c =
     let M = g.M.Mem in
-    let layout = c.args.layout.now in
-    let one = c.in_ok-root.ensures in
-    let two = c.in_ok-placed.ensures in
-    let (map, admitted) = two.leads.admits in
-    let in_one = two.leads.narrows map admitted in
-    let (store, t) = c.requires.ready.lawful map (one.leads.narrows map in_one) in
-    let q : Request = record { key = c.args.key; value = c.args.value; replaces = c.args.replaces } in
-    let start = M.written c.args.mem.now in
-    let before = with_set map start in
-    let after = with_set map (M.written c.place_below.new.mem) in
-    let placed = whole_is_placed layout q before (with_set map (M.written c.read_root.new.mem)) after store t
-    c.in_ok-root.root c.in_ok-placed.placed
-    c.requires.key (one.reads map in_one store t) (with_set-same map start (M.written c.read_root.new.mem)
-    one.looks.sets)
-    (two.does map admitted) in
-    whole-pair layout q before after store t c.in-Pair.field-0 c.in-Pair.field-1
-    (subst (IsPlaced layout q 0 KEY_LIMIT t.tree t.free before after) c.in-Pair.is placed)
+    let steps = steps-then c.in_ok-root.ensures.steps c.in_ok-placed.ensures.steps in
+    let (map, admitted) = steps.leads.admits in
+    let (store, t) = c.requires.ready.lawful map (steps.leads.narrows map admitted) in
+    let h = steps.does map admitted in
+    no-pair c.args.layout.now c.args.request c.in_ok-root.root c.in_ok-placed.placed _ _
+    (with_set map (M.written c.args.mem.now)) h.mid (with_set map (M.written c.place_below.new.mem)) store t
+    c.in-Pair.is h.first h.second
 
-pub returns-in-Full-clause-does : goal.returns-in-Full-clause-does
-returns-in-Full-clause-does g c map admitted store t =
-    let M = g.M.Mem in
+pub returns-in-Full : goal.returns-in-Full
+returns-in-Full g c =
     let layout = c.args.layout.now in
-    let one = c.in_ok-root.ensures in
-    let two = c.in_ok-placed.ensures in
-    let in_one = two.leads.narrows map admitted in
-    let q : Request = record { key = c.args.key; value = c.args.value; replaces = c.args.replaces } in
-    let start = M.written c.args.mem.now in
-    let before = with_set map start in
-    let after = with_set map (M.written c.place_below.new.mem) in
-    let placed = whole_is_placed layout q before (with_set map (M.written c.read_root.new.mem)) after store t
-    c.in_ok-root.root c.in_ok-placed.placed
-    c.requires.key (one.reads map in_one store t) (with_set-same map start (M.written c.read_root.new.mem)
-    one.looks.sets)
-    (two.does map admitted) in
-    whole-full layout q before after store t (subst (IsPlaced layout q 0 KEY_LIMIT t.tree t.free before after)
-    c.in-Full.is placed)
+    let q = c.args.request in
+    steps-as (steps-then c.in_ok-root.ensures.steps c.in_ok-placed.ensures.steps)
+    (λ leaves. (tt, subst (LeavesAll q) (sym c.in-Full.is) tt)) (λ before after h.
+    answers-full layout q c.in_ok-root.root c.in_ok-placed.placed before h.mid after c.in-Full.is h.first h.second)
 
-pub returns-in-Found-clause-does : goal.returns-in-Found-clause-does
-returns-in-Found-clause-does g c map admitted store t =
-    let M = g.M.Mem in
+pub returns-in-Found : goal.returns-in-Found
+returns-in-Found g c =
     let layout = c.args.layout.now in
-    let one = c.in_ok-root.ensures in
-    let two = c.in_ok-placed.ensures in
-    let in_one = two.leads.narrows map admitted in
-    let q : Request = record { key = c.args.key; value = c.args.value; replaces = c.args.replaces } in
-    let start = M.written c.args.mem.now in
-    let before = with_set map start in
-    let after = with_set map (M.written c.place_below.new.mem) in
-    let placed = whole_is_placed layout q before (with_set map (M.written c.read_root.new.mem)) after store t
-    c.in_ok-root.root c.in_ok-placed.placed
-    c.requires.key (one.reads map in_one store t) (with_set-same map start (M.written c.read_root.new.mem)
-    one.looks.sets)
-    (two.does map admitted) in
-    whole-found layout q before after store t (subst (IsPlaced layout q 0 KEY_LIMIT t.tree t.free before after)
-    c.in-Found.is placed)
+    let q = c.args.request in
+    steps-as (steps-then c.in_ok-root.ensures.steps c.in_ok-placed.ensures.steps)
+    (λ leaves. (tt, subst (LeavesAll q) (sym c.in-Found.is) (leaves.1 refl))) (λ before after h.
+    answers-found layout q c.in_ok-root.root c.in_ok-placed.placed before h.mid after c.requires.key c.in-Found.is
+    h.first h.second)
 
-pub returns-in-Added-clause-does : goal.returns-in-Added-clause-does
-returns-in-Added-clause-does g c map admitted store t =
-    let M = g.M.Mem in
+pub returns-in-Added : goal.returns-in-Added
+returns-in-Added g c =
     let layout = c.args.layout.now in
-    let one = c.in_ok-root.ensures in
-    let two = c.in_ok-placed.ensures in
-    let in_one = two.leads.narrows map admitted in
-    let q : Request = record { key = c.args.key; value = c.args.value; replaces = c.args.replaces } in
-    let start = M.written c.args.mem.now in
-    let before = with_set map start in
-    let after = with_set map (M.written c.place_below.new.mem) in
-    let placed = whole_is_placed layout q before (with_set map (M.written c.read_root.new.mem)) after store t
-    c.in_ok-root.root c.in_ok-placed.placed
-    c.requires.key (one.reads map in_one store t) (with_set-same map start (M.written c.read_root.new.mem)
-    one.looks.sets)
-    (two.does map admitted) in
-    whole-added layout q before after store t (subst (IsPlaced layout q 0 KEY_LIMIT t.tree t.free before after)
-    c.in-Added.is placed)
+    let q = c.args.request in
+    steps-as (steps-then c.in_ok-root.ensures.steps c.in_ok-placed.ensures.steps) (λ leaves. absurd (leaves.0 refl))
+    (λ before after h.
+    answers-added layout q c.in_ok-root.root c.in_ok-placed.placed before h.mid after c.requires.key c.in-Added.is
+    h.first h.second)
 
-pub returns-in_ok-write-in-Root-clause-does : goal.returns-in_ok-write-in-Root-clause-does
-returns-in_ok-write-in-Root-clause-does g c map admitted store t =
-    let M = g.M.Mem in
+pub returns-in_ok-write-in-Root : goal.returns-in_ok-write-in-Root
+returns-in_ok-write-in-Root g c =
     let layout = c.args.layout.now in
-    let node = c.in-Root.node in
-    let one = c.in_ok-root.ensures in
-    let two = c.in_ok-placed.ensures in
-    let three = c.in_ok-write_node-in-Root.ensures in
-    let four = c.in_ok-write-in-Root.ensures in
-    let in_three = four.leads.narrows map admitted in
-    let in_two = three.leads.narrows map in_three in
-    let in_one = two.leads.narrows map in_two in
-    let q : Request = record { key = c.args.key; value = c.args.value; replaces = c.args.replaces } in
-    let start = M.written c.args.mem.now in
-    let before = with_set map start in
-    let mid = with_set map (M.written c.place_below.new.mem) in
-    let after = with_set map (M.written c.write.new.mem) in
-    let placed = whole_is_placed layout q before (with_set map (M.written c.read_root.new.mem)) mid store t
-    c.in_ok-root.root c.in_ok-placed.placed
-    c.requires.key (one.reads map in_one store t) (with_set-same map start (M.written c.read_root.new.mem)
-    one.looks.sets)
-    (two.does map in_two) in
-    let added = subst (IsPlaced layout q 0 KEY_LIMIT t.tree t.free before mid) c.in-Root.is placed in
-    let fits = subst (FitsPlaced layout) c.in-Root.is two.fits in
-    let size = length-with_set map (M.written c.place_below.new.mem)
-    ∙ g.met.M.Mem.admitted_length c.args.mem.now map (one.leads.narrows map in_one) ∙ c.requires.ready.objects in
-    let is = four.writes map admitted
-    ∙ ap (λ n. slice_set (with_set map (M.written c.write_node.new.mem)) c.root_object.result (plain n)) c.from.ensures
-    ∙ ap (λ o. slice_set (with_set map (M.written c.write_node.new.mem)) o (plain node.number))
-    c.root_object.ensures.object
-    ∙ ap (λ m. slice_set m (root_of layout) (plain node.number)) (three.writes map in_three) in
-    whole-root layout q before mid after store t node c.requires.tree size fits.number added is
+    let q = c.args.request in
+    let fits = subst (FitsPlaced layout) c.in-Root.is c.in_ok-placed.ensures.fits in
+    let placed = steps-then c.in_ok-root.ensures.steps c.in_ok-placed.ensures.steps in
+    let black = steps-then placed c.in_ok-write_node-in-Root.ensures in
+    steps-as (steps-then black c.in_ok-write-in-Root.ensures) (λ leaves. absurd (leaves.0 refl)) (λ before after h.
+    answers-root layout q c.in_ok-root.root c.in_ok-placed.placed c.in-Root.node c.with_red.result before
+    h.first.first.mid h.first.mid h.mid after c.requires.key c.in-Root.is fits.number c.with_red.ensures
+    h.first.first.first h.first.first.second h.first.second
+    (sets-same c.root_object.ensures.object c.name.ensures h.second))

@@ -1,60 +1,59 @@
-use Rattle.std.proofs.Common.{arith}
-use Rattle.dstm_mem.specs.Memory.{with_set}
-use Rattle.dstm_tree.proofs.Least.{left_within, right_within, right_part}
-use Rattle.dstm_tree.proofs.Removing.{remove-only-left, remove-only-right, gap_after_next, remove-between}
+use Rattle.dstm_tree.proofs.Base.{List, arith, ◌∙◌, ap, Val, with_set, child, Right}
+use Rattle.dstm_tree.proofs.Removing.{go-below, depth-some, subtree-within, remove-only, has-gap_next, remove-between}
+use Rattle.dstm_tree.proofs.Stepping.{steps-as, steps-then}
 use Rattle.dstm_tree.proofs.removal.remove_root.Goals as goal
 
 pub hoist-requires-clause-within : goal.hoist-requires-clause-within
 hoist-requires-clause-within g c =
-    let (map, admitted) = c.requires.admits in
-    right_within c.args.layout.now (with_set map (g.M.Mem.written c.args.mem.now)) c.args.node c.args.depth
-    (c.requires.lawful map admitted)
+    let layout = c.args.layout.now in
+    let (map, admitted) = c.requires.ready.admits in
+    let before = with_set map (g.M.Mem.written c.args.mem.now) in
+    let (s, read) = c.requires.lawful map admitted in
+    let within = subtree-within
+    (go-below c.other.result c.requires.ready.tree read (λ e. omega (arith, c.requires.some)) s) in
+    omega (arith, c.child.ensures)
 
-pub returns-then-node-eq0-clause-does : goal.returns-then-node-eq0-clause-does
-returns-then-node-eq0-clause-does g c map admitted =
-    remove-only-right c.args.layout.now (with_set map (g.M.Mem.written c.args.mem.now))
-    (with_set map (g.M.Mem.written c.hoist.new.mem)) c.args.node c.args.depth
-    c.in_ok-cut.cut c.if-node-eq0.true (c.in_ok-cut.ensures.does map admitted)
+pub returns-in-Some : goal.returns-in-Some
+returns-in-Some g c =
+    let layout = c.args.layout.now in
+    steps-as c.in_ok-cut.ensures (λ never. never) (λ before after does.
+    remove-only c.in-Some.side c.args.depth c.args.node c.in_ok-cut.cut before after c.requires.ready.tree
+    c.requires.some c.in-Some.ensures (c.child.ensures ∙ ap (λ s. child s c.args.node) c.other.ensures) does)
 
-pub hoist-requires-then-node-eq0-2-clause-within : goal.hoist-requires-then-node-eq0-2-clause-within
-hoist-requires-then-node-eq0-2-clause-within g c =
-    let (map, admitted) = c.requires.admits in
-    left_within c.args.layout.now (with_set map (g.M.Mem.written c.args.mem.now)) c.args.node c.args.depth
-    (c.requires.lawful map admitted)
-
-pub returns-then-node-eq0-2-clause-does : goal.returns-then-node-eq0-2-clause-does
-returns-then-node-eq0-2-clause-does g c map admitted =
-    remove-only-left c.args.layout.now (with_set map (g.M.Mem.written c.args.mem.now))
-    (with_set map (g.M.Mem.written c.hoist-then-node-eq0-2.new.mem)) c.args.node c.args.depth
-    c.in_ok-cut-2.cut c.if-node-eq0-2.true (c.in_ok-cut-2.ensures.does map admitted)
+pub overflow_sub-depth : goal.overflow_sub-depth
+overflow_sub-depth g c =
+    let (map, admitted) = c.requires.ready.admits in
+    let before = with_set map (g.M.Mem.written c.args.mem.now) in
+    let (s, read) = c.requires.lawful map admitted in
+    depth-some c.requires.ready.tree read (λ e. omega (arith, c.requires.some)) s
 
 pub take_least-requires : goal.take_least-requires
 take_least-requires g c =
-    let (map, admitted) = c.requires.admits in
+    let M = g.M.Mem in
+    let layout = c.args.layout.now in
+    let goes = λ (m : List Val) (a : M.Admits c.args.mem.now m).
+    let before = with_set m (M.written c.args.mem.now) in
+    let (s, read) = c.requires.lawful m a in
+    go-below Right c.requires.ready.tree read (λ e. omega (arith, c.requires.some)) s in
+    let (map, admitted) = c.requires.ready.admits in
     record {
-      some = omega (arith, c.if-node-eq0-2.false);
-      within = right_within c.args.layout.now (with_set map (g.M.Mem.written c.args.mem.now)) c.args.node c.args.depth
-          (c.requires.lawful map admitted);
-      tree = c.requires.tree;
-      objects = c.requires.objects;
-      live = c.requires.live;
-      lawful = λ m a. right_part c.args.layout.now (with_set m (g.M.Mem.written c.args.mem.now)) c.args.node
-          c.args.depth (c.requires.lawful m a);
+      some = omega (arith, c.in_default.ensures.1);
+      within = subtree-within (goes map admitted);
+      ready = c.requires.ready;
+      lawful = goes;
     }
 
-pub close_right-requires-clause-lawful : goal.close_right-requires-clause-lawful
-close_right-requires-clause-lawful g c map admitted =
-    let two = c.in_ok-least.ensures in
-    gap_after_next c.args.layout.now (with_set map (g.M.Mem.written c.args.mem.now))
-    (with_set map (g.M.Mem.written c.take_least.new.mem)) c.args.node c.args.depth
-    c.in_ok-least.least (c.requires.lawful map (two.leads.narrows map admitted)) (two.does map admitted)
-
-pub returns-clause-does : goal.returns-clause-does
-returns-clause-does g c map admitted =
+pub close-requires-clause-lawful : goal.close-requires-clause-lawful
+close-requires-clause-lawful g c map admitted =
     let M = g.M.Mem in
-    let two = c.in_ok-least.ensures in
-    let three = c.in_ok-cut-3.ensures in
-    remove-between c.args.layout.now (with_set map (M.written c.args.mem.now))
-    (with_set map (M.written c.take_least.new.mem)) (with_set map (M.written c.close_right.new.mem))
-    c.args.node c.args.depth c.in_ok-least.least c.in_ok-cut-3.cut (two.does map (three.leads.narrows map admitted))
-    (three.does map admitted)
+    let least = c.in_ok-least.ensures.steps in
+    let (s, read) = c.requires.lawful map (least.leads.narrows map admitted) in
+    has-gap_next c.args.depth c.in_ok-least.least (with_set map (M.written c.take_least.new.mem)) c.requires.ready.tree
+    c.requires.some c.with_child-parent.ensures read (least.does map admitted) s
+
+pub returns : goal.returns
+returns g c =
+    let layout = c.args.layout.now in
+    steps-as (steps-then c.in_ok-least.ensures.steps c.in_ok-cut-2.ensures) (λ never. absurd never) (λ before after h.
+    remove-between c.args.depth c.args.node c.in_ok-least.least c.in_ok-cut-2.cut before h.mid after
+    c.requires.ready.tree c.requires.some c.with_child-parent.ensures h.first h.second)

@@ -1,0 +1,98 @@
+-- What the conditions and the branches of a job say of a store.
+use Rattle.std.proofs.Common.{◌≡◌, ℕ, ◌≤◌, Bool, true, false, List, [], ◌∷◌, length, drop, arith, refl, sym, ◌∙◌, ap}
+use Rattle.std.proofs.Common.{subst, inl, inr, Bor, length-drop}
+use Rattle.std.proofs.lemmas.Bool.{cases_Bool, cond-true, cond-false}
+use Rattle.std.proofs.lemmas.Option.{same_Some}
+use Rattle.std.proofs.lemmas.List.Elements.{All-drop, Contains-append_right}
+use Rattle.std.specs.Prelude.{Option, Some, None, IfSome, All, Contains}
+use Rattle.std.specs.List.{find}
+use Rattle.dstm_model.specs.declared.layout.Layout.{Layout}
+use Rattle.dstm_model.specs.declared.op.Which.{Which}
+use Rattle.dstm_model.specs.declared.op.Cond.{Cond}
+use Rattle.dstm_model.specs.declared.op.Cond.TheVariants as cond
+use Rattle.dstm_model.specs.declared.op.Op.{Op}
+use Rattle.dstm_model.specs.declared.op.Op.TheVariants.{Total, Await}
+use Rattle.dstm_model.specs.declared.reply.Reply.{Reply}
+use Rattle.dstm_model.specs.Layout.{FitsLayout, FitsCond}
+use Rattle.dstm_model.specs.Store.{Store, IsPlain, apply, yes_or_no, is_member}
+use Rattle.dstm_model.specs.Job.{is_open, holds_in}
+use Rattle.dstm_store.specs.Looks.{IsLook}
+use Rattle.dstm_compose.specs.Compose.{condition_of, look_of, shows}
+
+shows-yes : (which : Which) (key : ℕ) (b : Bool) → shows (cond.Key which key) (yes_or_no b) ≡ b
+shows-yes which key true = refl
+shows-yes which key false = refl
+
+pub shows-look : (c : Cond) (store : Store) → shows c (apply (look_of c) store).reply ≡ holds_in c store
+shows-look (cond.Balance account least) store = refl
+shows-look (cond.Key which key) store = shows-yes which key (is_member which key store)
+
+pub look_fits : (layout : Layout) (c : Cond) → FitsCond layout c → FitsLayout layout (look_of c)
+look_fits layout (cond.Balance account least) fits = fits.0
+look_fits layout (cond.Key which key) fits = fits
+
+pub look_plain : (c : Cond) → IsPlain (look_of c)
+look_plain (cond.Balance account least) = tt
+look_plain (cond.Key which key) = tt
+
+pub look_looks : (c : Cond) (reply : Reply) → IsLook (look_of c) reply
+look_looks (cond.Balance account least) reply = tt
+look_looks (cond.Key which key) reply = tt
+
+pub open-condition : (store : Store) (branch : List Op) (c : Cond) → condition_of branch ≡ Some c →
+    is_open store branch ≡ holds_in c store
+open-condition store (Await d ∷ ops) c is = ap (λ (x : Cond). holds_in x store) cc
+open-condition store ops c is = absurd (cc is)
+
+pub open-free : (store : Store) (branch : List Op) → condition_of branch ≡ None → is_open store branch ≡ true
+open-free store (Await d ∷ ops) is = absurd (cc is)
+open-free store ops is = refl
+
+pub condition_fits : (layout : Layout) (branch : List Op) (c : Cond) → All (FitsLayout layout) branch →
+    condition_of branch ≡ Some c → FitsCond layout c
+condition_fits layout (Await d ∷ ops) c fits is =
+    let same : d ≡ c = cc in
+    subst (FitsCond layout) same (fits 0 Total (omega arith))
+condition_fits layout ops c fits is = absurd (cc is)
+
+-- ---- the branches that are left
+
+pub found-open : (store : Store) (left : List (List Op)) (branch : List Op) (rest : List (List Op)) →
+    left ≡ branch ∷ rest → is_open store branch ≡ true → find (is_open store) left ≡ Some branch
+found-open store left branch rest split is =
+    ap (find (is_open store)) split ∙ rw is refl
+
+pub found-later : (store : Store) (left : List (List Op)) (branch : List Op) (rest : List (List Op)) →
+    left ≡ branch ∷ rest → is_open store branch ≡ false → find (is_open store) left ≡ find (is_open store) rest
+found-later store left branch rest split is =
+    ap (find (is_open store)) split ∙ rw is refl
+
+-- what follows a separator fits as the whole does, and is no longer
+pub later_fits : (layout : Layout) (ops : List Op) (after : Option (Bor (List Op))) → All (FitsLayout layout) ops →
+    IfSome after (λ a. (n : ℕ) × (a.now ≡ drop n ops)) → IfSome after (λ a. All (FitsLayout layout) a.now)
+later_fits layout ops None fits is = tt
+later_fits layout ops (Some a) fits is =
+    subst (All (FitsLayout layout)) (sym is.1) (All-drop (FitsLayout layout) is.0 ops fits)
+
+pub later_short : (most : ℕ) (ops : List Op) (after : Option (Bor (List Op))) → length ops ≤ most →
+    IfSome after (λ a. (n : ℕ) × (a.now ≡ drop n ops)) → IfSome after (λ a. length a.now ≤ most)
+later_short most ops None short is = tt
+later_short most ops (Some a) short is = omega (arith, ap length is.1, length-drop is.0 ops, short)
+
+-- ---- a branch that is found
+
+-- it is among the job's branches
+Contains-later : {X : Type 0} (y : X) (ys : List X) (x : X) → Contains ys x → Contains (y ∷ ys) x
+Contains-later y ys x has = Contains-append_right (y ∷ []) ys x has
+
+pub Contains-found : {X : Type 0} (f : X → Bool) (xs : List X) (x : X) → find f xs ≡ Some x → Contains xs x
+Contains-found f [] x is = absurd (cc is)
+Contains-found f (y ∷ ys) x is =
+    elim (cases_Bool (f y)) [
+      | inl does ↦
+          let same : y ≡ x = same_Some y x (sym (cond-true (f y) (Some y) (find f ys) does) ∙ is) in
+          (0, omega arith, same)
+      | inr passes ↦
+          let later = sym (cond-false (f y) (Some y) (find f ys) passes) ∙ is in
+          Contains-later y ys x (Contains-found f ys x later)
+    ]

@@ -1,0 +1,68 @@
+use Rattle.std.proofs.Common.{List, sym, ◌∙◌, ap, subst, option_copied, Bor}
+use Rattle.std.specs.Prelude.{Ok, Option, Contains}
+use Rattle.std.proofs.lemmas.List.Elements.{All-contains}
+use Rattle.dstm_model.specs.declared.value.Val.{Val}
+use Rattle.dstm_model.specs.declared.op.Op.{Op}
+use Rattle.dstm_model.specs.declared.op.Op.TheVariants.{Total}
+use Rattle.dstm_model.specs.Job.{is_open, branches_of}
+use Rattle.dstm_mem.specs.Memory.{with_set}
+use Rattle.dstm_mem.proofs.Operations.{ready-reads}
+use Rattle.dstm_mem.proofs.WithSet.{with_set-same}
+use Rattle.dstm_store.specs.Job.{DoesAll}
+use Rattle.dstm_compose.proofs.Branches.{Contains-found}
+use Rattle.dstm_compose.proofs.Runs.{right-ran, right-blocked}
+use Rattle.dstm_compose.proofs.body.run_job.Goals as goal
+
+pub run_all-requires-clause-ready : goal.run_all-requires-clause-ready
+run_all-requires-clause-ready g c =
+    let found = c.in_ok-branch.ensures in
+    ready-reads g.M.Mem (Ok c.in_ok-branch.field-0) c.requires.ready found.leads found.looks
+
+pub returns-in_ok-replies-in-Some-clause-right : goal.returns-in_ok-replies-in-Some-clause-right
+returns-in_ok-replies-in-Some-clause-right g c map admitted =
+    let M = g.M.Mem in
+    let layout = c.args.layout.now in
+    let found = c.in_ok-branch.ensures in
+    let ran = c.in_ok-replies-in-Some.ensures in
+    let branch = c.in-Some.branch.now in
+    let replies = c.in_ok-replies-in-Some.replies in
+    let after = with_set map (M.written c.run_all.new.mem) in
+    let same = with_set-same map (M.written c.args.mem.now) (M.written c.open_branch.new.mem) found.looks.sets in
+    right-ran layout c.args.ops.now branch (with_set map (M.written c.args.mem.now)) after replies
+    (λ store stands.
+    sym (ap (λ (b : Option (Bor (List Op))). option_copied b) c.in-Some.is)
+    ∙ found.found map (ran.leads.narrows map admitted) store stands)
+    (subst (λ (before : List Val). DoesAll (record { layout = layout; ops = branch }) before after replies) same
+    (ran.does map admitted))
+
+pub returns-in_ok-replies-in-Some-clause-audits : goal.returns-in_ok-replies-in-Some-clause-audits
+returns-in_ok-replies-in-Some-clause-audits g c o audits =
+    let found = c.in_ok-branch.ensures in
+    let ran = c.in_ok-replies-in-Some.ensures in
+    let branch = c.in-Some.branch.now in
+    let ops = c.args.ops.now in
+    let (map, admitted) = found.leads.admits in
+    let (store, stands) = c.requires.ready.lawful map (found.leads.narrows map admitted) in
+    let taken = sym (found.found map admitted store stands)
+    ∙ ap (λ (b : Option (Bor (List Op))). option_copied b) c.in-Some.is in
+    let among = Contains-found (is_open store) (branches_of ops) branch taken in
+    ran.audits o (
+      All-contains (λ (b : List Op). Contains b Total) (branches_of ops) branch audits.totals among,
+      audits.within,
+    )
+
+pub returns-in-None-clause-right : goal.returns-in-None-clause-right
+returns-in-None-clause-right g c map admitted =
+    let M = g.M.Mem in
+    let found = c.in_ok-branch.ensures in
+    right-blocked c.args.layout.now c.args.ops.now (with_set map (M.written c.args.mem.now))
+    (with_set map (M.written c.open_branch.new.mem))
+    (λ store stands.
+    sym (ap (λ (b : Option (Bor (List Op))). option_copied b) c.in-None.is)
+    ∙ found.found map admitted store stands)
+    (with_set-same map (M.written c.args.mem.now) (M.written c.open_branch.new.mem) found.looks.sets)
+
+pub returns-in-None-clause-lawful : goal.returns-in-None-clause-lawful
+returns-in-None-clause-lawful g c map admitted =
+    let found = c.in_ok-branch.ensures in
+    (ready-reads g.M.Mem (Ok c.in_ok-branch.field-0) c.requires.ready found.leads found.looks).lawful map admitted

@@ -1,0 +1,71 @@
+-- What a job with branches does on a map: what the branch that is taken does, or nothing.
+use Rattle.std.specs.Prelude.{◌≡◌, ◌<◌, ℕ, Bool, true, false, nat_le, List, ◌∷◌, All, Contains, Option, Some, None}
+use Rattle.dstm_model.specs.declared.value.Val.{Val}
+use Rattle.dstm_model.specs.declared.op.Cond.{Cond}
+use Rattle.dstm_model.specs.declared.op.Cond.TheVariants as cond
+use Rattle.dstm_model.specs.declared.op.Op.{Op}
+use Rattle.dstm_model.specs.declared.op.Op.TheVariants.{Balance, Total, Member, Await}
+use Rattle.dstm_model.specs.declared.reply.Reply.{Reply}
+use Rattle.dstm_model.specs.declared.reply.Reply.TheVariants.{Number, Yes}
+use Rattle.dstm_model.specs.Layout.{IsValid, FitsLayout}
+use Rattle.dstm_model.specs.Store.{Store}
+use Rattle.dstm_model.specs.Job.{JobOutcome, apply_job, branches_of}
+use Rattle.dstm_store.specs.declared.job.JobTask.{JobTask}
+use Rattle.dstm_store.specs.Whole.{StandsFor}
+use Rattle.dstm_compose.specs.declared.body.Outcome.{Outcome}
+use Rattle.dstm_compose.specs.declared.body.Outcome.TheVariants.{Ran, Blocked}
+
+-- a job with branches: what it was made to do, and how its last run ended
+pub record Composition : Type 0 where
+  pub task : JobTask
+  pub outcome : Outcome
+
+-- the layout is valid, and each operation and each condition fits it
+pub record CanChoose (task : JobTask) : Type 0 where
+  pub valid : IsValid task.layout
+  pub fits : All (FitsLayout task.layout) task.ops
+
+-- how a job ends that does this
+abbrev pub outcome_of : Option JobOutcome → Outcome
+outcome_of None = Blocked
+outcome_of (Some done) = Ran done.replies
+
+-- the store that a job leaves which does this
+abbrev pub store_left : Store → Option JobOutcome → Store
+store_left store None = store
+store_left store (Some done) = done.store
+
+-- the job is blocked in whatever store the map stands for
+abbrev pub IsBlockedOn : JobTask → List Val → Type 0
+IsBlockedOn task map = (store : Store) → StandsFor task.layout map store → apply_job task.ops store ≡ None
+
+-- Whatever store the map before stands for, the job ends as it does on it, and the map after stands for the store
+-- that it leaves. A job that ended blocked is blocked in that store, and leaves the map as it was.
+pub record IsRight (task : JobTask) (before after : List Val) (outcome : Outcome) : Type 0 where
+  pub does : (store : Store) → StandsFor task.layout before store →
+      (outcome ≡ outcome_of (apply_job task.ops store))
+      × StandsFor task.layout after (store_left store (apply_job task.ops store))
+  pub blocked : outcome ≡ Blocked → IsBlockedOn task before
+  pub unchanged : outcome ≡ Blocked → after ≡ before
+
+-- an account of a job that ran and asks for the total in each branch, which reads every account
+pub record Audits (task : JobTask) (outcome : Outcome) (account : ℕ) : Type 0 where
+  pub ran : (replies : List Reply) × (outcome ≡ Ran replies)
+  pub totals : All (λ branch. Contains branch Total) (branches_of task.ops)
+  pub within : account < task.layout.accounts
+
+-- the condition that a branch begins with
+abbrev pub condition_of : List Op → Option Cond
+condition_of (Await c ∷ ops) = Some c
+condition_of ops = None
+
+-- the operation that looks at what a condition is about
+abbrev pub look_of : Cond → Op
+look_of (cond.Balance account least) = Balance account
+look_of (cond.Key which key) = Member which key
+
+-- its reply shows that the condition holds
+abbrev pub shows : Cond → Reply → Bool
+shows (cond.Balance account least) (Number balance) = nat_le least balance
+shows (cond.Key which key) Yes = true
+shows condition reply = false

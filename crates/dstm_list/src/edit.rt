@@ -1,0 +1,124 @@
+ghost use Rattle.std.specs.Prelude.{◌≡◌, ◌≢◌, List, IfOk, OnOk, is_some};
+ghost use Rattle.dstm_model.specs.declared.value.Val.{Val};
+ghost use Rattle.dstm_model.specs.declared.op.Which.TheVariants as which;
+ghost use Rattle.dstm_model.specs.Layout.{IsValid, FitsLayout};
+ghost use Rattle.dstm_model.specs.Store.{yes_or_no};
+ghost use Rattle.dstm_model.specs.Objects.{objects_of, Does};
+ghost use Rattle.dstm_mem.specs.Memory.{with_set};
+ghost use Rattle.dstm_mem.specs.Operations.{IsReady, Leads, OnlyReads, OpensToSet};
+ghost use Rattle.dstm_list.specs.List.{IsList, IsOfList, SameOutside, SameButThree};
+ghost use Rattle.dstm_list.specs.Place.{Finds};
+
+use crate::node::Node;
+use crate::object::{look, node_object, replace};
+use crate::walk::Place;
+use dstm_mem::Mem;
+use dstm_model::{Layout, Op, Reply};
+
+/// Adds a key at its place. Where the reply is Yes it sets the node that was the first free one, the head of the
+/// free chain, and the head or the node that now links to the new node; else it sets nothing.
+pub fn insert_at<M: Mem>(
+    mem: &mut M,
+    layout: &Layout,
+    key: u32,
+    place: Place,
+) -> Result<Reply, M::Err>
+    requires valid { IsValid layout.now }
+    requires fits { FitsLayout layout.now (Op.Insert which.List key) }
+    requires ready { IsReady M.Mem (objects_of layout.now) (IsList layout.now) mem.old }
+    requires admits { (map : List Val) × M.Admits mem.old map }
+    requires found { (map : List Val) → M.Admits mem.old map →
+        Finds layout.now (with_set map (M.written mem.old)) key place }
+    requires link { IsOfList layout.now place.link }
+
+    ensures does { IfOk result (λ reply. (map : List Val) → M.Admits mem.new map →
+        Does (IsList layout.now) (Op.Insert which.List key)
+        (with_set map (M.written mem.old)) (with_set map (M.written mem.new)) reply) }
+    ensures unchanged { IfOk result (λ reply. reply ≢ Reply.Yes → OnlyReads M.Mem mem.old mem.new) }
+    ensures marks { OnOk result (OpensToSet M.Mem mem.old mem.new) }
+    ensures sets { OnOk result (SameOutside layout.now (M.written mem.old) (M.written mem.new)) }
+    ensures few { OnOk result (SameButThree layout.now (M.written mem.old) (M.written mem.new)) }
+    ensures holds { OnOk result (SameOutside layout.now (M.held mem.old) (M.held mem.new)) }
+    ensures opens { OnOk result (SameOutside layout.now (M.is_opened mem.old) (M.is_opened mem.new)) }
+
+    ensures leads { Leads M.Mem mem.old mem.new result }
+{
+    if place.node.is_some() {
+        return Ok(Reply::No);
+    }
+    let free = node_object(layout, 0);
+    let number = look(mem, layout, free)?.next;
+    if number == 0 {
+        return Ok(Reply::Full);
+    }
+    let object = node_object(layout, number);
+    let node = Node {
+        key: u64::from(key),
+        next: place.before.next,
+    };
+    let linked = Node {
+        key: place.before.key,
+        next: number,
+    };
+    let rest = replace(mem, layout, object, node.value())?;
+    replace(mem, layout, free, rest)?;
+    replace(mem, layout, place.link, linked.value())?;
+    Ok(Reply::Yes)
+}
+
+/// Takes the key at a place out. Where the reply is Yes it sets the key's node, the head of the free chain, and the
+/// head or the node that linked to the key's node; else it sets nothing.
+pub fn remove_at<M: Mem>(
+    mem: &mut M,
+    layout: &Layout,
+    key: u32,
+    place: Place,
+) -> Result<Reply, M::Err>
+    requires valid { IsValid layout.now }
+    requires fits { FitsLayout layout.now (Op.Remove which.List key) }
+    requires ready { IsReady M.Mem (objects_of layout.now) (IsList layout.now) mem.old }
+    requires admits { (map : List Val) × M.Admits mem.old map }
+    requires found { (map : List Val) → M.Admits mem.old map →
+        Finds layout.now (with_set map (M.written mem.old)) key place }
+    requires link { IsOfList layout.now place.link }
+
+    ensures does { IfOk result (λ reply. (map : List Val) → M.Admits mem.new map →
+        Does (IsList layout.now) (Op.Remove which.List key)
+        (with_set map (M.written mem.old)) (with_set map (M.written mem.new)) reply) }
+    ensures unchanged { IfOk result (λ reply. reply ≢ Reply.Yes → OnlyReads M.Mem mem.old mem.new) }
+    ensures marks { OnOk result (OpensToSet M.Mem mem.old mem.new) }
+    ensures sets { OnOk result (SameOutside layout.now (M.written mem.old) (M.written mem.new)) }
+    ensures few { OnOk result (SameButThree layout.now (M.written mem.old) (M.written mem.new)) }
+    ensures holds { OnOk result (SameOutside layout.now (M.held mem.old) (M.held mem.new)) }
+    ensures opens { OnOk result (SameOutside layout.now (M.is_opened mem.old) (M.is_opened mem.new)) }
+
+    ensures leads { Leads M.Mem mem.old mem.new result }
+{
+    let Some(node) = place.node else {
+        return Ok(Reply::No);
+    };
+    let free = node_object(layout, 0);
+    let object = node_object(layout, place.before.next);
+    let freed = Node {
+        key: 0,
+        next: place.before.next,
+    };
+    let linked = Node {
+        key: place.before.key,
+        next: node.next,
+    };
+    let rest = replace(mem, layout, free, freed.value())?;
+    replace(mem, layout, object, rest)?;
+    replace(mem, layout, place.link, linked.value())?;
+    Ok(Reply::Yes)
+}
+
+/// Tells whether the key is there whose place this is.
+pub fn member_at(place: Place) -> Reply
+    ensures { result ≡ yes_or_no (is_some place.node) }
+{
+    if place.node.is_some() {
+        return Reply::Yes;
+    }
+    Reply::No
+}

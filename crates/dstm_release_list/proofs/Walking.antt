@@ -1,0 +1,677 @@
+-- A walk that lets reads go: what is known where it stands, and after a step.
+use Rattle.std.proofs.Common.{◌≡◌, ◌≢◌, ◌↔◌, ℕ, ◌<◌, ◌≤◌, List, length, IsTrue, false, arith, refl, sym, ◌∙◌, ap}
+use Rattle.std.proofs.Common.{subst, inl, inr}
+use Rattle.std.specs.Prelude.{Option, Some, None, IsSome, IfSome, MatchOption, ◌⊎◌, Ok, Bool, is_some, ◌&&◌, not}
+use Rattle.std.proofs.lemmas.Bool.{cases_eq, cases_Bool}
+use Rattle.dstm_model.specs.declared.value.Val.{Val}
+use Rattle.dstm_model.specs.declared.layout.Layout.{Layout}
+use Rattle.dstm_model.specs.Layout.{IsValid}
+use Rattle.dstm_model.specs.Map.{value_at}
+use Rattle.dstm_model.specs.Store.{Store}
+use Rattle.dstm_model.specs.Objects.{objects_of, list_begin, node_object}
+use Rattle.dstm_mem.specs.declared.memory.Mem.{Ghosts}
+use Rattle.dstm_mem.specs.Memory.{with_set, AgreesWith}
+use Rattle.dstm_mem.specs.Operations.{IsReady, Leads, OnlyReads}
+use Rattle.dstm_mem.proofs.Operations.{leads-then, only_reads-then}
+use Rattle.dstm_list.specs.List.{IsList, IsOfList, SameOutside, key_of, next_of, numbers_of, first_of}
+use Rattle.dstm_list.specs.declared.node.Node.{Node}
+use Rattle.dstm_list.specs.declared.walk.Place.{Place}
+use Rattle.dstm_list.specs.Place.{Stands, IsPlace}
+use Rattle.dstm_list.proofs.Numbers.{IsNumber, each-left}
+use Rattle.dstm_list.proofs.Steps.{IsNext, head-of_list, node-of_list, next_within, next_greater, stands-start}
+use Rattle.dstm_list.proofs.Steps.{stands-next, used_within, first_within, place-found, place-passed}
+use Rattle.dstm_release_list.specs.declared.stop.Stop.{Stop}
+use Rattle.dstm_release_list.specs.Walk.{IsRead, Sees, Visits, IsOwnOfTwo, LetsGo, AddsThreeReads}
+use Rattle.dstm_release_list.proofs.Shown.{stands-kept}
+use Rattle.dstm_release_list.proofs.Stops.{AgreesWith-before, sees-opened, sees-same, sees-value, sees-apart}
+use Rattle.dstm_release_list.proofs.Stops.{read-same, unread-opened, kept-other}
+
+-- what the memory's laws say of the maps that it admits
+pub record Laws {S E : Type 0} (M : Ghosts S E) (Began : S → List Val → Type 0) : Type 0 where
+  pub sizes : (s : S) (map : List Val) → M.Admits s map → length map ≡ M.objects s
+  pub agrees : (s : S) (map : List Val) → M.Admits s map → AgreesWith map (M.held s)
+  pub exactly : (s : S) (map : List Val) → IsTrue (M.is_live s) →
+      M.Admits s map ↔ (Began s map × AgreesWith map (M.held s))
+  pub stays : (s t : S) (map : List Val) → M.place s ≡ M.place t → Began s map → Began t map
+
+-- a memory that holds what another one held admits no map that this one did not
+narrows-kept : {S E : Type 0} {M : Ghosts S E} {Began : S → List Val → Type 0} (old new : S) → Laws M Began →
+    IsTrue (M.is_live old) → IsTrue (M.is_live new) → M.place new ≡ M.place old →
+    ((o : ℕ) → IsSome (M.held old o) → M.held new o ≡ M.held old o) →
+    (map : List Val) → M.Admits new map → M.Admits old map
+narrows-kept {M = M} old new laws live now place holds map admitted =
+    let both = (laws.exactly new map now).0 admitted in
+    (laws.exactly old map live).1 (
+      laws.stays new old map place both.0,
+      AgreesWith-before map (M.held old) (M.held new) holds both.1,
+    )
+
+-- a map that is admitted, with what was set before the walk, stands for a list
+pub record At {S E : Type 0} (M : Ghosts S E) (layout : Layout) (start memory : S) (map : List Val)
+    (store : Store) : Type 0 where
+  pub valid : IsValid layout
+  pub declared : 0 < layout.list
+  pub size : length map ≡ objects_of layout
+  pub agrees : AgreesWith map (M.held memory)
+  pub same : (p : ℕ) → M.written memory p ≡ M.written start p
+  pub list : IsList layout (with_set map (M.written start)) store
+
+-- what the walk owes for a stop: its own read was not held before, and another one was, or is opened for writing
+pub record Owes {S E : Type 0} (M : Ghosts S E) (start memory : S) (stop : Stop) : Type 0 where
+  pub own : IsTrue stop.is_own → M.held start stop.object ≡ None
+  pub other : stop.is_own ≡ false → IsSome (M.held start stop.object) ⊎ IsTrue (M.is_opened memory stop.object)
+
+-- the last stop is at a node that shows that it is in the list
+pub record Inner {S E : Type 0} (M : Ghosts S E) (memory : S) (layout : Layout) (key : ℕ)
+    (head last : Stop) : Type 0 where
+  pub number : ℕ
+  pub object : last.object ≡ node_object (list_begin layout) number
+  pub within : IsNumber layout.list number
+  pub less : last.node.key < key
+  pub shown : (0 < last.node.key) ⊎ (Sees M memory head × (head.node.next ≡ number))
+
+abbrev pub Anchored : {S E : Type 0} → Ghosts S E → S → Layout → ℕ → Stop → Stop → Type 0
+Anchored M memory layout key head last =
+    (last.object ≡ list_begin layout) ⊎ Inner M memory layout key head last
+
+-- the node before the last one
+pub record Older {S E : Type 0} (M : Ghosts S E) (layout : Layout) (start memory : S) (last older : Stop) : Type 0 where
+  pub seen : Sees M memory older
+  pub owes : Owes M start memory older
+  pub in_list : IsOfList layout older.object
+  pub less : older.node.key < last.node.key
+  pub inner : older.object ≢ list_begin layout
+  pub last_inner : last.object ≢ list_begin layout
+
+-- where a walk stands that began at one state of the memory and has come to another
+pub record Walking {S E : Type 0} (M : Ghosts S E) (layout : Layout) (key : ℕ) (start memory : S) (head : Stop)
+    (behind : Option Stop) (last : Stop) : Type 0 where
+  pub leads : Leads M start memory (Ok last)
+  pub looks : OnlyReads M start memory
+  pub holds : SameOutside layout (M.held start) (M.held memory)
+  pub opens : SameOutside layout (M.is_opened start) (M.is_opened memory)
+  pub head_at : head.object ≡ list_begin layout
+  pub head_owes : Owes M start memory head
+  pub head_seen : behind ≡ None → Sees M memory head
+  pub head_next : last.object ≡ list_begin layout → last.node.next ≡ head.node.next
+  pub last_in : IsOfList layout last.object
+  pub last_owes : Owes M start memory last
+  pub last_seen : Sees M memory last
+  pub anchored : Anchored M memory layout key head last
+  pub older : IfSome behind (Older M layout start memory last)
+  pub few : (p : ℕ) → p ≢ last.object → p ≢ list_begin layout → IfSome behind (λ o. p ≢ o.object) →
+      IsRead M memory p → IsSome (M.held start p)
+
+-- after the next node was opened
+pub record Opened {S E : Type 0} (M : Ghosts S E) (layout : Layout) (key : ℕ) (start memory : S) (head : Stop)
+    (behind : Option Stop) (last next : Stop) : Type 0 where
+  pub leads : Leads M start memory (Ok next)
+  pub looks : OnlyReads M start memory
+  pub holds : SameOutside layout (M.held start) (M.held memory)
+  pub opens : SameOutside layout (M.is_opened start) (M.is_opened memory)
+  pub head_seen : behind ≡ None → Sees M memory head
+  pub last_seen : Sees M memory last
+  pub anchored : Anchored M memory layout key head last
+  pub next_at : next.object ≡ node_object (list_begin layout) last.node.next
+  pub next_within : last.node.next ≤ layout.list
+  pub next_owes : Owes M start memory next
+  pub next_seen : Sees M memory next
+  pub rises : last.object ≢ list_begin layout → last.node.key < next.node.key
+  pub last_apart : IfSome behind (λ o. last.object ≢ o.object)
+  pub next_apart : IfSome behind (λ o. next.object ≢ o.object)
+  pub few : (p : ℕ) → p ≢ next.object → p ≢ last.object → p ≢ list_begin layout →
+      IfSome behind (λ o. p ≢ o.object) → IsRead M memory p → IsSome (M.held start p)
+
+-- after a step: the next node was opened, and what stands before the last two was let go
+pub record Advanced {S E : Type 0} (M : Ghosts S E) (layout : Layout) (key : ℕ) (start memory : S) (head : Stop)
+    (behind : Option Stop) (last next : Stop) : Type 0 where
+  pub leads : Leads M start memory (Ok next)
+  pub looks : OnlyReads M start memory
+  pub holds : SameOutside layout (M.held start) (M.held memory)
+  pub opens : SameOutside layout (M.is_opened start) (M.is_opened memory)
+  pub head_owes : Owes M start memory head
+  pub head_seen : behind ≡ None → Sees M memory head
+  pub last_owes : Owes M start memory last
+  pub last_seen : Sees M memory last
+  pub anchored : Anchored M memory layout key head last
+  pub next_at : next.object ≡ node_object (list_begin layout) last.node.next
+  pub next_within : last.node.next ≤ layout.list
+  pub next_owes : Owes M start memory next
+  pub next_seen : Sees M memory next
+  pub rises : last.object ≢ list_begin layout → last.node.key < next.node.key
+  pub few : (p : ℕ) → p ≢ next.object → p ≢ last.object → p ≢ list_begin layout → IsRead M memory p →
+      IsSome (M.held start p)
+
+module _ {S E : Type 0} {M : Ghosts S E} {layout : Layout} {start : S} where
+  -- ---- on a map that stands for a list
+
+  seen-value : {memory : S} {map : List Val} {store : Store} (stop : Stop) → At M layout start memory map store →
+      (sees : Sees M memory stop) → IsOfList layout stop.object →
+      value_at (with_set map (M.written start)) stop.object ≡ sees.value
+  seen-value {map = map} stop at sees within =
+      sees-value M stop map sees (omega (arith, at.size, within.1)) at.agrees at.same
+
+  named : {memory : S} {map : List Val} {store : Store} (head : Stop) (at : At M layout start memory map store) →
+      Sees M memory head → head.object ≡ list_begin layout →
+      first_of (numbers_of at.list.cells) ≡ head.node.next
+  named {map = map} head at sees at_begin =
+      let within = subst (IsOfList layout) (sym at_begin) (head-of_list layout at.declared) in
+      let value = seen-value head at sees within in
+      let low = ap (λ v. v.low) (sym value ∙ ap (value_at (with_set map (M.written start))) at_begin
+      ∙ at.list.head at.declared) in
+      let small = first_within layout.list (numbers_of at.list.cells)
+      (each-left (IsNumber layout.list) (numbers_of at.list.cells) at.list.free (used_within at.list)) in
+      omega (arith, sees.next, low, small, at.valid.list)
+
+  -- the last stop is in the list, with lesser keys before it
+  pub stands-held : {memory : S} {map : List Val} {store : Store} (key : ℕ) (head last : Stop)
+      (at : At M layout start memory map store) → head.object ≡ list_begin layout → Sees M memory last →
+      Anchored M memory layout key head last →
+      Stands (list_begin layout) key last.object last.node at.list.cells
+  stands-held {map = map} key head last at head_at sees (inl at_begin) =
+      let begin = list_begin layout in
+      let values = with_set map (M.written start) in
+      let within = subst (IsOfList layout) (sym at_begin) (head-of_list layout at.declared) in
+      let value : value_at values begin ≡ sees.value =
+      ap (value_at values) (sym at_begin) ∙ seen-value last at sees within in
+      subst (λ o. Stands begin key o last.node at.list.cells) (sym at_begin)
+      (stands-start key last.node at.valid at.declared at.list (sees.key ∙ ap key_of (sym value))
+      (sees.next ∙ ap next_of (sym value)))
+  stands-held {map = map} key head last at head_at sees (inr inner) =
+      let begin = list_begin layout in
+      let i = inner.number in
+      let values = with_set map (M.written start) in
+      let node_in = node-of_list layout i at.declared inner.within.1 in
+      let within = subst (IsOfList layout) (sym inner.object) node_in in
+      let value : value_at values (node_object begin i) ≡ sees.value =
+      ap (value_at values) (sym inner.object) ∙ seen-value last at sees within in
+      subst (λ o. Stands begin key o last.node at.list.cells) (sym inner.object)
+      (stands-kept key i last.node at.valid inner.within at.list (sees.key ∙ ap key_of (sym value))
+      (sees.next ∙ ap next_of (sym value)) inner.less (elim inner.shown [
+        | inl some ↦ inl some
+        | inr (seen, is_next) ↦ inr (named head at seen head_at ∙ is_next)
+      ]))
+
+  -- the next node is the first one ahead
+  pub next-held : {memory : S} {map : List Val} {store : Store} {key : ℕ} (last next : Stop)
+      (at : At M layout start memory map store)
+      (stands : Stands (list_begin layout) key last.object last.node at.list.cells) → Sees M memory next →
+      next.object ≡ node_object (list_begin layout) last.node.next → last.node.next ≢ 0 →
+      IsNext stands.ahead last.node.next next.node
+  next-held {map = map} last next at stands sees next_at some =
+      let begin = list_begin layout in
+      let values = with_set map (M.written start) in
+      let node_in = node-of_list layout last.node.next at.declared (next_within at.list stands) in
+      let value : value_at values (node_object begin last.node.next) ≡ sees.value =
+      ap (value_at values) (sym next_at)
+      ∙ seen-value next at sees (subst (IsOfList layout) (sym next_at) node_in) in
+      stands-next next.node at.valid at.list stands some (sees.key ∙ ap key_of (sym value))
+      (sees.next ∙ ap next_of (sym value))
+
+-- ---- what is the walk's own
+
+not_own : (head : Stop) (behind : Option Stop) (p : ℕ) → (IsSome behind → p ≢ head.object) →
+    IfSome behind (λ o. p ≢ o.object) → ¬ IsOwnOfTwo head behind p
+not_own head None p not_head not_older own = own
+not_own head (Some o) p not_head not_older (inl own) = not_older own.0
+not_own head (Some o) p not_head not_older (inr own) = not_head refl own.0
+
+none_some : (o : Option Val) → o ≡ None → ¬ IsSome o
+none_some o none some = absurd (let no : ⊥ = cc in no)
+
+cases_held : (o : Option Val) → (o ≡ None) ⊎ IsSome o
+cases_held None = inl refl
+cases_held (Some v) = inr refl
+
+module _ {S E : Type 0} (M : Ghosts S E) (start : S) where
+  owes-later : {old new : S} (stop : Stop) → Owes M start old stop →
+      (IsTrue (M.is_opened old stop.object) → IsTrue (M.is_opened new stop.object)) → Owes M start new stop
+  owes-later stop owes opened = record {
+    own = owes.own;
+    other = λ no. elim (owes.other no) [
+      | inl some ↦ inl some
+      | inr is ↦ inr (opened is)
+    ];
+  }
+
+  module _ (layout : Layout) where
+    own_none : {memory : S} (head : Stop) (behind : Option Stop) (last : Stop) (p : ℕ) →
+        Owes M start memory head → IfSome behind (Older M layout start memory last) →
+        IsOwnOfTwo head behind p → M.held start p ≡ None
+    own_none head None last p owes older own = absurd own
+    own_none head (Some o) last p owes older (inl own) =
+        ap (M.held start) own.0 ∙ older.owes.own own.1
+    own_none head (Some o) last p owes older (inr own) = ap (M.held start) own.0 ∙ owes.own own.1
+
+    own_in : (memory : S) (head : Stop) (behind : Option Stop) (last : Stop) (p : ℕ) →
+        IsOfList layout head.object → IfSome behind (Older M layout start memory last) →
+        IsOwnOfTwo head behind p → IsOfList layout p
+    own_in memory head None last p head_in older own = absurd own
+    own_in memory head (Some o) last p head_in older (inl own) = subst (IsOfList layout) (sym own.0) older.in_list
+    own_in memory head (Some o) last p head_in older (inr own) = subst (IsOfList layout) (sym own.0) head_in
+
+    anchored-later : {old new : S} {key : ℕ} {head last : Stop} →
+        (last.object ≢ list_begin layout → (0 < last.node.key) ⊎ (Sees M old head → Sees M new head)) →
+        Anchored M old layout key head last → Anchored M new layout key head last
+    anchored-later keeps (inl at_begin) = inl at_begin
+    anchored-later keeps (inr inner) =
+        inr (record {
+          number = inner.number;
+          object = inner.object;
+          within = inner.within;
+          less = inner.less;
+          shown = elim inner.shown [
+            | inl some ↦ inl some
+            | inr (seen, is_next) ↦ elim (keeps (λ e. omega (arith, e, inner.object))) [
+              | inl some ↦ inl some
+              | inr later ↦ inr (later seen, is_next)
+            ]
+          ];
+        })
+
+    older_apart : {old new : S} (behind : Option Stop) (last stop : Stop) →
+        IfSome behind (Older M layout start old last) → ((o : Stop) → Sees M old o → Sees M new o) →
+        Sees M new stop → ((o : Stop) → o.node.key < last.node.key → last.object ≢ list_begin layout →
+        o.node.key < stop.node.key) → IfSome behind (λ o. stop.object ≢ o.object)
+    older_apart None last stop older later sees less = tt
+    older_apart (Some o) last stop older later sees less =
+        let below = less o older.less older.last_inner in
+        sees-apart M stop o sees (later o older.seen) (λ e. omega (arith, e, below))
+
+    opened : {Began : S → List Val → Type 0} {old new : S} (key : ℕ) (head : Stop) (behind : Option Stop)
+        (last next : Stop) (o : ℕ) → Laws M Began → IsReady M (objects_of layout) (IsList layout) start →
+        IsValid layout → 0 < layout.list → Walking M layout key start old head behind last →
+        last.node.next ≢ 0 → o ≡ node_object (list_begin layout) last.node.next → Visits M old new o next →
+        Leads M old new (Ok next) → OnlyReads M old new → Opened M layout key start new head behind last next
+    opened {old = old} {new = new} key head behind last next o laws ready valid declared so_far some o_is visits
+        visit_leads visit_looks =
+        let begin = list_begin layout in
+        let leads = leads-then M so_far.leads visit_leads in
+        let looks = only_reads-then M so_far.leads so_far.looks visit_looks in
+        let later = λ (stop : Stop) (sees : Sees M old stop).
+        sees-opened M stop o sees visits.held visit_looks.sets in
+        let last_seen = later last so_far.last_seen in
+        let anchored = anchored-later (λ inner. inr (later head)) so_far.anchored in
+        let next_at = visits.object ∙ o_is in
+        let (map, admitted) = leads.admits in
+        let in_start = leads.narrows map admitted in
+        let (store, list) = ready.lawful map in_start in
+        let at : At M layout start new map store = record {
+          valid = valid;
+          declared = declared;
+          size = laws.sizes start map in_start ∙ ready.objects;
+          agrees = laws.agrees new map admitted;
+          same = looks.sets;
+          list = list;
+        } in
+        let stands = stands-held key head last at so_far.head_at last_seen anchored in
+        let ahead = next-held last next at stands visits.sees next_at some in
+        let rises = λ (inner : last.object ≢ begin). next_greater next.node list stands ahead inner in
+        let within = next_within list stands in
+        let in_list : IsOfList layout o =
+        subst (IsOfList layout) (sym o_is) (node-of_list layout last.node.next declared within) in
+        let other = λ (p : ℕ) (outside : ¬ IsOfList layout p) (e : p ≡ o).
+        outside (subst (IsOfList layout) (sym e) in_list) in
+        let not_last : next.object ≢ last.object = elim (cases_eq last.object begin) [
+          | inl at_begin ↦ λ e. omega (arith, e, at_begin, next_at)
+          | inr inner ↦ sees-apart M next last visits.sees last_seen (λ e. omega (arith, e, rises inner))
+        ] in
+        let next_apart = older_apart behind last next so_far.older later visits.sees
+        (λ older below inner. omega (arith, below, rises inner)) in
+        record {
+          leads = leads;
+          looks = looks;
+          holds = λ p outside. visits.held.others p (other p outside) ∙ so_far.holds p outside;
+          opens = λ p outside. visits.opened.others p (other p outside) ∙ so_far.opens p outside;
+          head_seen = λ none. later head (so_far.head_seen none);
+          last_seen = last_seen;
+          anchored = anchored;
+          next_at = next_at;
+          next_within = within;
+          next_owes = record {
+            own = λ is. elim (cases_held (M.held start next.object)) [
+              | inl none ↦ none
+              | inr held ↦
+                  let before = so_far.leads.holds next.object held in
+                  absurd (none_some (M.held start next.object)
+                  (sym before ∙ ap (M.held old) visits.object ∙ visits.own is) held)
+            ];
+            other = λ no. elim (visits.other no) [
+              | inl read ↦
+                  inl (so_far.few next.object not_last (λ e. omega (arith, e, next_at)) next_apart
+                  (subst (IsRead M old) (sym visits.object) read))
+              | inr is ↦ inr (subst (λ p. IsTrue (M.is_opened new p)) (sym visits.object) is)
+            ];
+          };
+          next_seen = visits.sees;
+          rises = rises;
+          last_apart = older_apart behind last last so_far.older later last_seen (λ older below inner. below);
+          next_apart = next_apart;
+          few = λ p not_next not_last not_begin not_older read.
+              let not_o = λ (e : p ≡ o). not_next (e ∙ sym visits.object) in
+              so_far.few p not_last not_begin not_older
+              (read-same M p (visits.held.others p not_o) (visits.opened.others p not_o) read);
+        }
+
+    older_later : {old new : S} {o : ℕ} {next : Stop} (behind : Option Stop) (last : Stop) →
+        IfSome behind (Older M layout start old last) → Visits M old new o next → OnlyReads M old new →
+        IfSome behind (Older M layout start new last)
+    older_later None last older visits looks = tt
+    older_later {o = o} (Some stop) last older visits looks = record {
+      seen = sees-opened M stop o older.seen visits.held looks.sets;
+      owes = owes-later stop older.owes (visits.opened.kept stop.object);
+      in_list = older.in_list;
+      less = older.less;
+      inner = older.inner;
+      last_inner = older.last_inner;
+    }
+
+    older_inner : (memory : S) (behind : Option Stop) (last : Stop) → IfSome behind (Older M layout start memory last) →
+        IsSome behind → last.object ≢ list_begin layout
+    older_inner memory None last older some = absurd (let no : ⊥ = cc in no)
+    older_inner memory (Some o) last older some = older.last_inner
+
+    older_less : (memory : S) (behind : Option Stop) (last : Stop) → IfSome behind (Older M layout start memory last) →
+        (behind ≡ None) ⊎ (0 < last.node.key)
+    older_less memory None last older = inl refl
+    older_less memory (Some o) last older = inr (omega (arith, older.less))
+
+    none_same : {old new : S} (head : Stop) (behind : Option Stop) (p : ℕ) → behind ≡ None →
+        LetsGo M (IsOwnOfTwo head behind) old new → M.held new p ≡ M.held old p
+    none_same head None p none lets = kept-other M p lets (λ own. own)
+    none_same head (Some o) p none lets = absurd (let no : ⊥ = cc in no)
+
+    few_left : {mid new : S} (head : Stop) (behind : Option Stop) (last : Stop) (p : ℕ) →
+        head.object ≡ list_begin layout → p ≢ list_begin layout → IfSome behind (Older M layout start mid last) →
+        LetsGo M (IsOwnOfTwo head behind) mid new →
+        IfSome behind (λ o. IsTrue o.is_own → ¬ IsRead M new o.object) → IsRead M new p →
+        (IfSome behind (λ o. p ≢ o.object) → IsRead M mid p → IsSome (M.held start p)) → IsSome (M.held start p)
+    few_left head None last p head_at not_begin older lets gone read few =
+        few tt (read-same M p (kept-other M p lets (λ own. own)) (lets.opened p) read)
+    few_left {new = new} head (Some o) last p head_at not_begin older lets gone read few =
+        elim (cases_eq p o.object) [
+          | inr other ↦
+              let kept =
+              kept-other M p lets (not_own head (Some o) p (λ some e. not_begin (e ∙ head_at)) other) in
+              few other (read-same M p kept (lets.opened p) read)
+          | inl same ↦
+              let here = subst (IsRead M new) same read in
+              elim (cases_Bool o.is_own) [
+                | inl own ↦ absurd (gone own here)
+                | inr other ↦ elim (older.owes.other other) [
+                  | inl some ↦ subst (λ q. IsSome (M.held start q)) (sym same) some
+                  | inr is ↦
+                      absurd (unread-opened M o.object (subst IsTrue (sym (lets.opened o.object)) is) here)
+                ]
+              ]
+        ]
+
+    advanced : {Began : S → List Val → Type 0} {mid new : S} (key : ℕ) (head : Stop) (behind : Option Stop)
+        (last next : Stop) → Laws M Began → IsTrue (M.is_live start) → head.object ≡ list_begin layout →
+        0 < layout.list → Owes M start mid head → Owes M start mid last →
+        IfSome behind (Older M layout start mid last) → Opened M layout key start mid head behind last next →
+        LetsGo M (IsOwnOfTwo head behind) mid new →
+        IfSome behind (λ o. IsTrue o.is_own → ¬ IsRead M new o.object) →
+        Advanced M layout key start new head behind last next
+    advanced {mid = mid} {new = new} key head behind last next laws live head_at declared head_owes last_owes older
+        at lets gone =
+        let opened_stays = λ (p : ℕ) (is : IsTrue (M.is_opened mid p)). subst IsTrue (sym (lets.opened p)) is in
+        let head_in = subst (IsOfList layout) (sym head_at) (head-of_list layout declared) in
+        let last_kept : M.held new last.object ≡ M.held mid last.object =
+        kept-other M last.object lets (not_own head behind last.object
+        (λ some e. older_inner mid behind last older some (e ∙ head_at)) at.last_apart) in
+        let next_kept : M.held new next.object ≡ M.held mid next.object =
+        kept-other M next.object lets (not_own head behind next.object
+        (λ some e. omega (arith, e, head_at, at.next_at)) at.next_apart) in
+        let head_later = λ (none : behind ≡ None) (sees : Sees M mid head).
+        sees-same M head sees (none_same head behind head.object none lets) lets.written in
+        let holds = λ (o : ℕ) (some : IsSome (M.held start o)).
+        let same : M.held new o ≡ M.held start o = elim (lets.held o) [
+          | inl same ↦ same ∙ at.leads.holds o some
+          | inr (own, none) ↦
+              absurd (none_some (M.held start o) (own_none head behind last o head_owes older own) some)
+        ] in same in
+        let place = lets.place ∙ at.leads.place in
+        record {
+          leads = record {
+            place = place;
+            objects = lets.objects ∙ at.leads.objects;
+            narrows = narrows-kept start new laws live lets.live place holds;
+            admits = (at.leads.admits.0, lets.widens at.leads.admits.0 at.leads.admits.1);
+            live = lets.live;
+            holds = holds;
+            ended = tt;
+          };
+          looks = record {
+            sets = λ o. lets.written o ∙ at.looks.sets o;
+            opens = λ off o. lets.opened o ∙ at.looks.opens off o;
+          };
+          holds = λ p outside. elim (lets.held p) [
+            | inl same ↦ same ∙ at.holds p outside
+            | inr (own, none) ↦ absurd (outside (own_in mid head behind last p head_in older own))
+          ];
+          opens = λ p outside. lets.opened p ∙ at.opens p outside;
+          head_owes = owes-later head head_owes (opened_stays head.object);
+          head_seen = λ none. head_later none (at.head_seen none);
+          last_owes = owes-later last last_owes (opened_stays last.object);
+          last_seen = sees-same M last at.last_seen last_kept lets.written;
+          anchored = anchored-later (λ inner. elim (older_less mid behind last older) [
+            | inl none ↦ inr (head_later none)
+            | inr less ↦ inl less
+          ]) at.anchored;
+          next_at = at.next_at;
+          next_within = at.next_within;
+          next_owes = owes-later next at.next_owes (opened_stays next.object);
+          next_seen = sees-same M next at.next_seen next_kept lets.written;
+          rises = at.rises;
+          few = λ p not_next not_last not_begin read.
+              few_left head behind last p head_at not_begin older lets gone read
+              (at.few p not_next not_last not_begin);
+        }
+
+    -- ---- the whole walk
+
+    -- a step: the next node is opened, and what stands before the last two is let go
+    pub stepped : {Began : S → List Val → Type 0} {old mid new : S} (key : ℕ) (head : Stop) (behind : Option Stop)
+        (last next : Stop) (o : ℕ) → Laws M Began → IsReady M (objects_of layout) (IsList layout) start →
+        IsValid layout → 0 < layout.list → Walking M layout key start old head behind last →
+        last.node.next ≢ 0 → o ≡ node_object (list_begin layout) last.node.next → Visits M old mid o next →
+        Leads M old mid (Ok next) → OnlyReads M old mid → LetsGo M (IsOwnOfTwo head behind) mid new →
+        IfSome behind (λ o. IsTrue o.is_own → ¬ IsRead M new o.object) →
+        Advanced M layout key start new head behind last next
+    stepped {old = old} {mid = mid} key head behind last next o laws ready valid declared so_far some o_is visits
+        visit_leads visit_looks lets gone =
+        let later = λ (stop : Stop) (owes : Owes M start old stop).
+        owes-later stop owes (visits.opened.kept stop.object) in
+        advanced key head behind last next laws ready.live so_far.head_at declared (later head so_far.head_owes)
+        (later last so_far.last_owes) (older_later behind last so_far.older visits visit_looks)
+        (opened key head behind last next o laws ready valid declared so_far some o_is visits visit_leads visit_looks)
+        lets gone
+
+    older_none : (memory : S) (behind : Option Stop) (last : Stop) → IfSome behind (Older M layout start memory last) →
+        last.object ≡ list_begin layout → behind ≡ None
+    older_none memory None last older at_begin = refl
+    older_none memory (Some o) last older at_begin = absurd (older.last_inner at_begin)
+
+    read_some : (held : Option Val) (opened : Bool) → IsTrue (is_some held && not opened) → IsSome held
+    read_some None opened read = absurd (let no : ⊥ = cc in no)
+    read_some (Some v) opened read = refl
+
+    -- at the head
+    pub walking-start : {new : S} (key : ℕ) (head : Stop) → 0 < layout.list →
+        Visits M start new (list_begin layout) head → Leads M start new (Ok head) → OnlyReads M start new → Walking M layout key start new head None head
+    walking-start {new} key head declared visits leads looks =
+        let begin = list_begin layout in
+        let head_in = head-of_list layout declared in
+        let other = λ (p : ℕ) (outside : ¬ IsOfList layout p) (e : p ≡ begin).
+        outside (subst (IsOfList layout) (sym e) head_in) in
+        let owes : Owes M start new head = record {
+          own = λ is. ap (M.held start) visits.object ∙ visits.own is;
+          other = λ no. elim (visits.other no) [
+            | inl read ↦
+                inl (subst (λ p. IsSome (M.held start p)) (sym visits.object)
+                (read_some (M.held start begin) (M.is_opened start begin) read))
+            | inr is ↦ inr (subst (λ p. IsTrue (M.is_opened new p)) (sym visits.object) is)
+          ];
+        } in
+        record {
+          leads = leads;
+          looks = looks;
+          holds = λ p outside. visits.held.others p (other p outside);
+          opens = λ p outside. visits.opened.others p (other p outside);
+          head_at = visits.object;
+          head_owes = owes;
+          head_seen = λ none. visits.sees;
+          head_next = λ at_begin. refl;
+          last_in = subst (IsOfList layout) (sym visits.object) head_in;
+          last_owes = owes;
+          last_seen = visits.sees;
+          anchored = inl visits.object;
+          older = tt;
+          few = λ p not_last not_begin not_older read.
+              read_some (M.held start p) (M.is_opened start p)
+              (read-same M p (visits.held.others p not_begin) (visits.opened.others p not_begin) read);
+        }
+
+    newer : {new : S} (behind : Option Stop) (head last next : Stop) →
+        IfSome behind (λ stop. (stop ≡ last) × (last.object ≢ head.object)) →
+        (last.object ≢ head.object → Older M layout start new next last) → IfSome behind (Older M layout start new next)
+    newer None head last next is older = tt
+    newer (Some stop) head last next is older = subst (Older M layout start _ next) (sym is.0) (older is.1)
+
+    not_last : (behind : Option Stop) (head last : Stop) (p : ℕ) → head.object ≡ list_begin layout →
+        (behind ≡ None → last.object ≡ head.object) →
+        IfSome behind (λ stop. (stop ≡ last) × (last.object ≢ head.object)) → p ≢ list_begin layout →
+        IfSome behind (λ o. p ≢ o.object) → p ≢ last.object
+    not_last None head last p head_at none some not_begin not_older e = not_begin (e ∙ none refl ∙ head_at)
+    not_last (Some stop) head last p head_at none some not_begin not_older e =
+        not_older (e ∙ ap (λ (s : Stop). s.object) (sym some.0))
+
+    -- at the next node, whose key is less than the one that is looked for
+    pub walking-on : {old new : S} (key : ℕ) (head : Stop) (before : Option Stop) (last next : Stop)
+        (behind : Option Stop) → 0 < layout.list → Walking M layout key start old head before last →
+        last.node.next ≢ 0 → Advanced M layout key start new head before last next → next.node.key < key →
+        (behind ≡ None → last.object ≡ head.object) →
+        IfSome behind (λ stop. (stop ≡ last) × (last.object ≢ head.object)) →
+        Walking M layout key start new head behind next
+    walking-on {old = old} {new = new} key head before last next behind declared so_far some at less none is_last =
+        let begin = list_begin layout in
+        let not_begin : next.object ≢ begin = λ e. omega (arith, e, at.next_at) in
+        let first = λ (at_begin : last.object ≡ begin). older_none old before last so_far.older at_begin in
+        record {
+          leads = at.leads;
+          looks = at.looks;
+          holds = at.holds;
+          opens = at.opens;
+          head_at = so_far.head_at;
+          head_owes = at.head_owes;
+          head_seen = λ is. at.head_seen (first (none is ∙ so_far.head_at));
+          head_next = λ e. absurd (not_begin e);
+          last_in = subst (IsOfList layout) (sym at.next_at)
+              (node-of_list layout last.node.next declared at.next_within);
+          last_owes = at.next_owes;
+          last_seen = at.next_seen;
+          anchored = inr (record {
+            number = last.node.next;
+            object = at.next_at;
+            within = (omega (arith, some), at.next_within);
+            less = less;
+            shown = elim (cases_eq last.object begin) [
+              | inl at_begin ↦ inr (at.head_seen (first at_begin), sym (so_far.head_next at_begin))
+              | inr inner ↦ inl (omega (arith, at.rises inner))
+            ];
+          });
+          older = newer behind head last next is_last (λ not_head. record {
+            seen = at.last_seen;
+            owes = at.last_owes;
+            in_list = so_far.last_in;
+            less = at.rises (λ e. not_head (e ∙ sym so_far.head_at));
+            inner = λ e. not_head (e ∙ sym so_far.head_at);
+            last_inner = not_begin;
+          });
+          few = λ p not_next not_b not_older read.
+              at.few p not_next (not_last behind head last p so_far.head_at none is_last not_b not_older) not_b read;
+        }
+
+    -- what a map says that is admitted where the walk stands
+    abbrev pub at-map : {Began : S → List Val → Type 0} {A : Type 0} {new : S} {x : A} (map : List Val)
+        (store : Store) → Laws M Began → IsReady M (objects_of layout) (IsList layout) start → IsValid layout → 0 < layout.list →
+        Leads M start new (Ok x) → OnlyReads M start new → M.Admits new map →
+        IsList layout (with_set map (M.written start)) store → At M layout start new map store
+    at-map {new = new} map store laws ready valid declared leads looks admitted list = record {
+      valid = valid;
+      declared = declared;
+      size = laws.sizes start map (leads.narrows map admitted) ∙ ready.objects;
+      agrees = laws.agrees new map admitted;
+      same = looks.sets;
+      list = list;
+    }
+
+    place_of : {values : List Val} {store : Store} (key : ℕ) (last next : Stop) (node : Option Node)
+        (list : IsList layout values store)
+        (stands : Stands (list_begin layout) key last.object last.node list.cells) →
+        IsNext stands.ahead last.node.next next.node →
+        MatchOption node (key < next.node.key) (λ n. (n ≡ next.node) × (next.node.key ≡ key)) →
+        IsPlace (list_begin layout) key (record { link = last.object; before = last.node; node = node }) list.cells
+    place_of key last next None list stands ahead greater = place-passed next.node list stands ahead greater
+    place_of key last next (Some n) list stands ahead (is, same) =
+        subst (λ (m : Node). IsPlace (list_begin layout) key
+        (record { link = last.object; before = last.node; node = Some m }) list.cells) (sym is)
+        (place-found next.node stands ahead same)
+
+    -- the key's place, where the next node does not hold a lesser key
+    pub place-next : {map : List Val} {store : Store} {new : S} (key : ℕ) (head : Stop) (behind : Option Stop)
+        (last next : Stop) (place : Place) (at : At M layout start new map store) →
+        head.object ≡ list_begin layout → last.node.next ≢ 0 →
+        Advanced M layout key start new head behind last next → place.link ≡ last.object →
+        place.before ≡ last.node →
+        MatchOption place.node (key < next.node.key) (λ n. (n ≡ next.node) × (next.node.key ≡ key)) →
+        IsPlace (list_begin layout) key place at.list.cells
+    place-next key head behind last next place at head_at some stepped link before node =
+        let begin = list_begin layout in
+        let stands = stands-held key head last at head_at stepped.last_seen stepped.anchored in
+        let ahead = next-held last next at stands stepped.next_seen stepped.next_at some in
+        subst (λ (l : ℕ). IsPlace begin key (record { link = l; before = place.before; node = place.node })
+        at.list.cells) (sym link)
+        (subst (λ (b : Node). IsPlace begin key (record { link = last.object; before = b; node = place.node })
+        at.list.cells) (sym before) (place_of key last next place.node at.list stands ahead node))
+
+    -- at most three reads are added
+    pub few-next : {new : S} (key : ℕ) (head : Stop) (behind : Option Stop) (last next : Stop) →
+        Advanced M layout key start new head behind last next → AddsThreeReads M start new
+    few-next key head behind last next at = (
+      next.object,
+      (
+        last.object,
+        (
+          list_begin layout,
+          λ p not_next not_l not_begin read.
+              at.few p not_next not_l not_begin read,
+        ),
+      ),
+    )
+
+    pub few-end : {new : S} (key : ℕ) (head : Stop) (behind : Option Stop) (last : Stop) →
+        Walking M layout key start new head behind last → AddsThreeReads M start new
+    few-end key head None last at = (
+      last.object,
+      (
+        list_begin layout,
+        (
+          list_begin layout,
+          λ p not_l not_begin _ read.
+              at.few p not_l not_begin tt read,
+        ),
+      ),
+    )
+    few-end key head (Some o) last at = (
+      last.object,
+      (
+        o.object,
+        (
+          list_begin layout,
+          λ p not_l not_o not_begin read.
+              at.few p not_l not_begin not_o read,
+        ),
+      ),
+    )

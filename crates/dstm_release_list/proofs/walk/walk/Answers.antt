@@ -1,0 +1,113 @@
+use Rattle.std.proofs.Common.{◌<◌, arith, sym, subst}
+use Rattle.dstm_model.specs.Objects.{list_begin}
+use Rattle.dstm_mem.proofs.Operations.{leads-answers}
+use Rattle.dstm_list.specs.List.{IsOfList}
+use Rattle.dstm_list.proofs.Steps.{left, node-of_list, next_within, left-less, place-end}
+use Rattle.dstm_release_list.proofs.Walking.{Laws, walking-start, walking-on, stepped, stands-held, next-held, at-map}
+use Rattle.dstm_release_list.proofs.Walking.{place-next, few-next, few-end}
+use Rattle.dstm_release_list.proofs.walk.walk.Given as given
+use Rattle.dstm_release_list.proofs.walk.walk.Goals as goal
+
+laws : (g : given.Over) → Laws g.M.Mem g.M.Release.Began
+laws g = record {
+  sizes = g.met.M.Mem.admitted_length;
+  agrees = g.met.M.Mem.admitted_agrees;
+  exactly = g.met.M.Release.admits_exactly;
+  stays = g.met.M.Release.began_stays;
+}
+
+pub loop-last-init : goal.loop-last-init
+loop-last-init g c =
+    let opened = c.in_ok-head.ensures in
+    walking-start g.M.Mem c.args.mem.now c.args.layout.now c.args.key c.in_ok-head.head c.requires.declared
+    opened.visits opened.leads opened.looks
+
+pub visit-requires-in-loop-last-clause-exists : goal.visit-requires-in-loop-last-clause-exists
+visit-requires-in-loop-last-clause-exists g c =
+    let so_far = c.loop-last.invariant in
+    let layout = c.args.layout.now in
+    let (map, admitted) = so_far.leads.admits in
+    let (store, list) = c.requires.ready.lawful map (so_far.leads.narrows map admitted) in
+    let at = at-map g.M.Mem c.args.mem.now layout map store (laws g) c.requires.ready c.requires.valid
+    c.requires.declared so_far.leads so_far.looks admitted list in
+    let stands = stands-held c.args.key c.in_ok-head.head c.loop-last.last at so_far.head_at so_far.last_seen
+    so_far.anchored in
+    let within = node-of_list layout c.loop-last.last.node.next c.requires.declared (next_within list stands) in
+    omega (arith, within, c.node_object.ensures, so_far.leads.objects, c.requires.ready.objects)
+
+pub returns-then-next-from : goal.returns-then-next-from
+returns-then-next-from g c =
+    let layout = c.args.layout.now in
+    let head = c.in_ok-head.head in
+    let last = c.loop-last.last in
+    let so_far = c.loop-last.invariant in
+    let opened = c.in_ok-next.ensures in
+    let step = stepped g.M.Mem c.args.mem.now layout c.args.key head c.loop-last.behind last c.in_ok-next.next
+    c.node_object.result (laws g) c.requires.ready c.requires.valid c.requires.declared so_far c.loop-last-test.true
+    c.node_object.ensures opened.visits opened.leads opened.looks c.let_go.ensures.lets c.let_go.ensures.gone in
+    let place = c.place_at.ensures in
+    record {
+      finds = λ map admitted store list.
+          let at = at-map g.M.Mem c.args.mem.now layout map store (laws g) c.requires.ready c.requires.valid
+          c.requires.declared step.leads step.looks admitted list in
+          place-next g.M.Mem c.args.mem.now layout c.args.key head c.loop-last.behind last c.in_ok-next.next
+          c.place_at.result at so_far.head_at c.loop-last-test.true step place.link place.before place.node;
+      link = subst (IsOfList layout) (sym place.link) so_far.last_in;
+      adds = few-next g.M.Mem c.args.mem.now layout c.args.key head c.loop-last.behind last c.in_ok-next.next step;
+      looks = step.looks;
+      holds = step.holds;
+      opens = step.opens;
+      leads = leads-answers g.M.Mem step.leads;
+    }
+
+pub loop-last-smaller : goal.loop-last-smaller
+loop-last-smaller g c =
+    let layout = c.args.layout.now in
+    let head = c.in_ok-head.head in
+    let last = c.loop-last.last in
+    let so_far = c.loop-last.invariant in
+    let opened = c.in_ok-next.ensures in
+    let step = stepped g.M.Mem c.args.mem.now layout c.args.key head c.loop-last.behind last c.in_ok-next.next
+    c.node_object.result (laws g) c.requires.ready c.requires.valid c.requires.declared so_far c.loop-last-test.true
+    c.node_object.ensures opened.visits opened.leads opened.looks c.let_go.ensures.lets c.let_go.ensures.gone in
+    let next = c.in_ok-next.next in
+    let begin = list_begin layout in
+    let (map, admitted) = step.leads.admits in
+    let (store, list) = c.requires.ready.lawful map (step.leads.narrows map admitted) in
+    let at = at-map g.M.Mem c.args.mem.now layout map store (laws g) c.requires.ready c.requires.valid
+    c.requires.declared step.leads step.looks admitted list in
+    let stands = stands-held c.args.key head last at so_far.head_at step.last_seen step.anchored in
+    let ahead = next-held last next at stands step.next_seen step.next_at c.loop-last-test.true in
+    let less : next.node.key < c.args.key = omega (arith, c.if-next-from.false, c.from.ensures) in
+    subst (λ o. left begin c.args.key o next.node.key < left begin c.args.key last.object last.node.key)
+    (sym step.next_at) (left-less next.node list stands ahead less)
+
+pub loop-last-preserved : goal.loop-last-preserved
+loop-last-preserved g c =
+    let layout = c.args.layout.now in
+    let head = c.in_ok-head.head in
+    let last = c.loop-last.last in
+    let so_far = c.loop-last.invariant in
+    let opened = c.in_ok-next.ensures in
+    let step = stepped g.M.Mem c.args.mem.now layout c.args.key head c.loop-last.behind last c.in_ok-next.next
+    c.node_object.result (laws g) c.requires.ready c.requires.valid c.requires.declared so_far c.loop-last-test.true
+    c.node_object.ensures opened.visits opened.leads opened.looks c.let_go.ensures.lets c.let_go.ensures.gone in
+    let next = c.in_ok-next.next in
+    let less : next.node.key < c.args.key = omega (arith, c.if-next-from.false, c.from.ensures) in
+    walking-on g.M.Mem c.args.mem.now layout c.args.key head c.loop-last.behind last next c.unless_at-behind.result
+    c.requires.declared so_far c.loop-last-test.true step less c.unless_at-behind.ensures.none
+    c.unless_at-behind.ensures.some
+
+pub returns-clause-finds : goal.returns-clause-finds
+returns-clause-finds g c map admitted store list =
+    let so_far = c.loop-last.invariant in
+    let at = at-map g.M.Mem c.args.mem.now c.args.layout.now map store (laws g) c.requires.ready c.requires.valid
+    c.requires.declared so_far.leads so_far.looks admitted list in
+    place-end list
+    (stands-held c.args.key c.in_ok-head.head c.loop-last.last at so_far.head_at so_far.last_seen so_far.anchored)
+    c.loop-last-test.false
+
+pub returns-clause-adds : goal.returns-clause-adds
+returns-clause-adds g c =
+    few-end g.M.Mem c.args.mem.now c.args.layout.now c.args.key c.in_ok-head.head c.loop-last.behind
+    c.loop-last.last c.loop-last.invariant

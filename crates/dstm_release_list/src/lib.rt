@@ -1,0 +1,91 @@
+//! The operations of the linked list on a memory whose reads can be let go. They walk hand over hand: a walk
+//! keeps the last two nodes that it opened, and lets go what it read before them. Beside what dstm_list promises
+//! they keep every read that stood before the call; all that they promise holds of each map that has the values of
+//! the reads that are kept.
+#![tactic(auto)]
+
+ghost use Rattle.std.specs.Prelude.{◌≡◌, ◌≢◌, List, IfOk, OnOk};
+ghost use Rattle.dstm_model.specs.declared.value.Val.{Val};
+ghost use Rattle.dstm_model.specs.declared.op.Which.TheVariants as which;
+ghost use Rattle.dstm_model.specs.Layout.{IsValid, FitsLayout};
+ghost use Rattle.dstm_model.specs.Objects.{objects_of, Does};
+ghost use Rattle.dstm_mem.specs.Memory.{with_set};
+ghost use Rattle.dstm_mem.specs.Operations.{IsReady, Leads, OnlyReads, OpensToSet};
+ghost use Rattle.dstm_list.specs.List.{IsList, SameOutside, SameButThree};
+ghost use Rattle.dstm_release_list.specs.Walk.{AddsThreeReads};
+
+mod stop;
+mod walk;
+
+use crate::walk::walk;
+use dstm_list::{insert_at, member_at, remove_at};
+use dstm_mem::Release;
+use dstm_model::{Layout, Op, Reply};
+
+/// Adds a key. Where the reply is Yes it sets the node that was the first free one, the head of the free
+/// chain, and the head or the node that now links to the new node; else it sets nothing.
+pub fn insert<M: Release>(mem: &mut M, layout: &Layout, key: u32) -> Result<Reply, M::Err>
+    requires valid { IsValid layout.now }
+    requires fits { FitsLayout layout.now (Op.Insert which.List key) }
+    requires ready { IsReady M.Mem (objects_of layout.now) (IsList layout.now) mem.old }
+
+    ensures does { IfOk result (λ reply. (map : List Val) → M.Mem.Admits mem.new map →
+        Does (IsList layout.now) (Op.Insert which.List key)
+        (with_set map (M.Mem.written mem.old)) (with_set map (M.Mem.written mem.new)) reply) }
+    ensures unchanged { IfOk result (λ reply. reply ≢ Reply.Yes → OnlyReads M.Mem mem.old mem.new) }
+    ensures marks { OnOk result (OpensToSet M.Mem mem.old mem.new) }
+    ensures sets { OnOk result (SameOutside layout.now (M.Mem.written mem.old) (M.Mem.written mem.new)) }
+    ensures few { OnOk result (SameButThree layout.now (M.Mem.written mem.old) (M.Mem.written mem.new)) }
+    ensures holds { OnOk result (SameOutside layout.now (M.Mem.held mem.old) (M.Mem.held mem.new)) }
+    ensures opens { OnOk result (SameOutside layout.now (M.Mem.is_opened mem.old) (M.Mem.is_opened mem.new)) }
+
+    ensures leads { Leads M.Mem mem.old mem.new result }
+{
+    let place = walk(mem, layout, key)?;
+    let reply = insert_at(mem, layout, key, place)?;
+    Ok(reply)
+}
+
+/// Takes a key out. Where the reply is Yes it sets the key's node, the head of the free chain, and the head
+/// or the node that linked to the key's node; else it sets nothing.
+pub fn remove<M: Release>(mem: &mut M, layout: &Layout, key: u32) -> Result<Reply, M::Err>
+    requires valid { IsValid layout.now }
+    requires fits { FitsLayout layout.now (Op.Remove which.List key) }
+    requires ready { IsReady M.Mem (objects_of layout.now) (IsList layout.now) mem.old }
+
+    ensures does { IfOk result (λ reply. (map : List Val) → M.Mem.Admits mem.new map →
+        Does (IsList layout.now) (Op.Remove which.List key)
+        (with_set map (M.Mem.written mem.old)) (with_set map (M.Mem.written mem.new)) reply) }
+    ensures unchanged { IfOk result (λ reply. reply ≢ Reply.Yes → OnlyReads M.Mem mem.old mem.new) }
+    ensures marks { OnOk result (OpensToSet M.Mem mem.old mem.new) }
+    ensures sets { OnOk result (SameOutside layout.now (M.Mem.written mem.old) (M.Mem.written mem.new)) }
+    ensures few { OnOk result (SameButThree layout.now (M.Mem.written mem.old) (M.Mem.written mem.new)) }
+    ensures holds { OnOk result (SameOutside layout.now (M.Mem.held mem.old) (M.Mem.held mem.new)) }
+    ensures opens { OnOk result (SameOutside layout.now (M.Mem.is_opened mem.old) (M.Mem.is_opened mem.new)) }
+
+    ensures leads { Leads M.Mem mem.old mem.new result }
+{
+    let place = walk(mem, layout, key)?;
+    let reply = remove_at(mem, layout, key, place)?;
+    Ok(reply)
+}
+
+/// Tells whether a key is there. At most three objects more than before are reads.
+pub fn member<M: Release>(mem: &mut M, layout: &Layout, key: u32) -> Result<Reply, M::Err>
+    requires valid { IsValid layout.now }
+    requires fits { FitsLayout layout.now (Op.Member which.List key) }
+    requires ready { IsReady M.Mem (objects_of layout.now) (IsList layout.now) mem.old }
+
+    ensures does { IfOk result (λ reply. (map : List Val) → M.Mem.Admits mem.new map →
+        Does (IsList layout.now) (Op.Member which.List key)
+        (with_set map (M.Mem.written mem.old)) (with_set map (M.Mem.written mem.new)) reply) }
+    ensures looks { OnOk result (OnlyReads M.Mem mem.old mem.new) }
+    ensures adds { OnOk result (AddsThreeReads M.Mem mem.old mem.new) }
+    ensures holds { OnOk result (SameOutside layout.now (M.Mem.held mem.old) (M.Mem.held mem.new)) }
+    ensures opens { OnOk result (SameOutside layout.now (M.Mem.is_opened mem.old) (M.Mem.is_opened mem.new)) }
+
+    ensures leads { Leads M.Mem mem.old mem.new result }
+{
+    let place = walk(mem, layout, key)?;
+    Ok(member_at(place))
+}

@@ -1,0 +1,64 @@
+ghost use Rattle.std.specs.Prelude.{◌≡◌, ◌<◌, ◌≤◌, List, IfOk, OnOk, MatchOption};
+ghost use Rattle.dstm_model.specs.declared.value.Val.{Val};
+ghost use Rattle.dstm_model.specs.Layout.{IsValid};
+ghost use Rattle.dstm_model.specs.Objects.{objects_of};
+ghost use Rattle.dstm_mem.specs.Memory.{with_set};
+ghost use Rattle.dstm_mem.specs.Operations.{IsReady, Leads, OnlyReads};
+ghost use Rattle.dstm_list.specs.List.{IsList, IsOfList, SameOutside};
+ghost use Rattle.dstm_list.specs.Place.{Finds};
+ghost use Rattle.dstm_release_list.specs.Walk.{AddsThreeReads};
+
+use crate::stop::{Stop, let_go, visit};
+use dstm_list::{Node, Place, node_object};
+use dstm_mem::Release;
+use dstm_model::Layout;
+
+/// Walks along the list to a key's place, hand over hand. It keeps the last two nodes, and the head while the first
+/// node is one of them or the list is empty.
+pub fn walk<M: Release>(mem: &mut M, layout: &Layout, key: u32) -> Result<Place, M::Err>
+    requires valid { IsValid layout.now }
+    requires declared { 0 < layout.now.list }
+    requires ready { IsReady M.Mem (objects_of layout.now) (IsList layout.now) mem.old }
+
+    ensures finds { IfOk result (λ found. (map : List Val) → M.Mem.Admits mem.new map →
+        Finds layout.now (with_set map (M.Mem.written mem.old)) key found) }
+    ensures link { IfOk result (λ found. IsOfList layout.now found.link) }
+    ensures adds { OnOk result (AddsThreeReads M.Mem mem.old mem.new) }
+    ensures looks { OnOk result (OnlyReads M.Mem mem.old mem.new) }
+    ensures holds { OnOk result (SameOutside layout.now (M.Mem.held mem.old) (M.Mem.held mem.new)) }
+    ensures opens { OnOk result (SameOutside layout.now (M.Mem.is_opened mem.old) (M.Mem.is_opened mem.new)) }
+
+    ensures leads { Leads M.Mem mem.old mem.new result }
+{
+    let head = visit(mem, layout.accounts)?;
+    let mut behind = None;
+    let mut last = head;
+    while last.node.next != 0 {
+        let next = visit(mem, node_object(layout, last.node.next))?;
+        let_go(mem, layout, head, behind);
+        if next.node.key >= u64::from(key) {
+            return Ok(place_at(last, next.node, key));
+        }
+        behind = last.unless_at(head);
+        last = next;
+    }
+    Ok(Place {
+        link: last.object,
+        before: last.node,
+        node: None,
+    })
+}
+
+// The place of a key behind this stop, where the node comes next.
+fn place_at(last: Stop, next: Node, key: u32) -> Place
+    requires { key ≤ next.key }
+    ensures link { result.link ≡ last.object }
+    ensures before { result.before ≡ last.node }
+    ensures node { MatchOption result.node (key < next.key) (λ node. (node ≡ next) × (next.key ≡ key)) }
+{
+    Place {
+        link: last.object,
+        before: last.node,
+        node: (next.key == u64::from(key)).then_some(next),
+    }
+}

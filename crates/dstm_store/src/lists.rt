@@ -1,0 +1,93 @@
+ghost use Rattle.std.specs.Prelude.{◌≡◌, ◌≢◌, List, IfOk, OnOk};
+ghost use Rattle.dstm_model.specs.declared.value.Val.{Val};
+ghost use Rattle.dstm_model.specs.declared.op.Which.TheVariants as which;
+ghost use Rattle.dstm_model.specs.Layout.{IsValid, FitsLayout};
+ghost use Rattle.dstm_model.specs.Objects.{objects_of, Does};
+ghost use Rattle.dstm_mem.specs.Memory.{with_set};
+ghost use Rattle.dstm_mem.specs.Operations.{IsReady, Leads, OnlyReads, OpensToSet};
+ghost use Rattle.dstm_list.specs.List.{IsList, SameOutside};
+
+use dstm_mem::{Mem, Release};
+use dstm_model::{Layout, Op, Reply};
+
+/// How the list's operations walk along it on a memory of this kind.
+pub trait ListWalk<M: Mem> {
+    /// Adds a key.
+    fn insert(mem: &mut M, layout: &Layout, key: u32) -> Result<Reply, M::Err>
+        requires valid { IsValid layout.now }
+        requires fits { FitsLayout layout.now (Op.Insert which.List key) }
+        requires ready { IsReady M.Mem (objects_of layout.now) (IsList layout.now) mem.old }
+
+        ensures does { IfOk result (λ reply. (map : List Val) → M.Admits mem.new map →
+            Does (IsList layout.now) (Op.Insert which.List key)
+            (with_set map (M.written mem.old)) (with_set map (M.written mem.new)) reply) }
+        ensures unchanged { IfOk result (λ reply. reply ≢ Reply.Yes → OnlyReads M.Mem mem.old mem.new) }
+        ensures marks { OnOk result (OpensToSet M.Mem mem.old mem.new) }
+        ensures sets { OnOk result (SameOutside layout.now (M.written mem.old) (M.written mem.new)) }
+
+        ensures leads { Leads M.Mem mem.old mem.new result };
+
+    /// Takes a key out.
+    fn remove(mem: &mut M, layout: &Layout, key: u32) -> Result<Reply, M::Err>
+        requires valid { IsValid layout.now }
+        requires fits { FitsLayout layout.now (Op.Remove which.List key) }
+        requires ready { IsReady M.Mem (objects_of layout.now) (IsList layout.now) mem.old }
+
+        ensures does { IfOk result (λ reply. (map : List Val) → M.Admits mem.new map →
+            Does (IsList layout.now) (Op.Remove which.List key)
+            (with_set map (M.written mem.old)) (with_set map (M.written mem.new)) reply) }
+        ensures unchanged { IfOk result (λ reply. reply ≢ Reply.Yes → OnlyReads M.Mem mem.old mem.new) }
+        ensures marks { OnOk result (OpensToSet M.Mem mem.old mem.new) }
+        ensures sets { OnOk result (SameOutside layout.now (M.written mem.old) (M.written mem.new)) }
+
+        ensures leads { Leads M.Mem mem.old mem.new result };
+
+    /// Tells whether a key is there.
+    fn member(mem: &mut M, layout: &Layout, key: u32) -> Result<Reply, M::Err>
+        requires valid { IsValid layout.now }
+        requires fits { FitsLayout layout.now (Op.Member which.List key) }
+        requires ready { IsReady M.Mem (objects_of layout.now) (IsList layout.now) mem.old }
+
+        ensures does { IfOk result (λ reply. (map : List Val) → M.Admits mem.new map →
+            Does (IsList layout.now) (Op.Member which.List key)
+            (with_set map (M.written mem.old)) (with_set map (M.written mem.new)) reply) }
+        ensures looks { OnOk result (OnlyReads M.Mem mem.old mem.new) }
+
+        ensures leads { Leads M.Mem mem.old mem.new result };
+}
+
+/// They keep every read.
+#[derive(Clone, Copy)]
+pub struct KeepsReads;
+
+/// They let go what they read before the last two nodes.
+#[derive(Clone, Copy)]
+pub struct HandOverHand;
+
+impl<M: Mem> ListWalk<M> for KeepsReads {
+    fn insert(mem: &mut M, layout: &Layout, key: u32) -> Result<Reply, M::Err> {
+        dstm_list::insert(mem, layout, key)
+    }
+
+    fn remove(mem: &mut M, layout: &Layout, key: u32) -> Result<Reply, M::Err> {
+        dstm_list::remove(mem, layout, key)
+    }
+
+    fn member(mem: &mut M, layout: &Layout, key: u32) -> Result<Reply, M::Err> {
+        dstm_list::member(mem, layout, key)
+    }
+}
+
+impl<M: Release> ListWalk<M> for HandOverHand {
+    fn insert(mem: &mut M, layout: &Layout, key: u32) -> Result<Reply, M::Err> {
+        dstm_release_list::insert(mem, layout, key)
+    }
+
+    fn remove(mem: &mut M, layout: &Layout, key: u32) -> Result<Reply, M::Err> {
+        dstm_release_list::remove(mem, layout, key)
+    }
+
+    fn member(mem: &mut M, layout: &Layout, key: u32) -> Result<Reply, M::Err> {
+        dstm_release_list::member(mem, layout, key)
+    }
+}
