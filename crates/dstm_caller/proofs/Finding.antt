@@ -1,12 +1,11 @@
 -- How what is found of an object grows.
-use Rattle.std.proofs.Common.{◌≡◌, ℕ, ◌==◌, ◌∙◌, true, Some, None, refl, ap, sym, is_some, arith}
-use Rattle.std.specs.Prelude.{Option}
+use Rattle.std.proofs.Common.{◌≡◌, ℕ, ◌==◌, ◌∙◌, true, Some, refl, ap, sym, is_some, arith}
 use Rattle.std.proofs.lemmas.Bool.{cond_both}
 use Rattle.dstm_core.specs.declared.event.Kind.TheVariants.{LookOld, LookHigh, LookNew}
 use Rattle.dstm_core.specs.declared.shape.Shape.{Shape}
 use Rattle.dstm_core.specs.declared.state.Resolution.{Resolution}
 use Rattle.dstm_core.specs.Rules.{after, resolving}
-use Rattle.dstm_core.specs.State.{LocalState, or_unresolved, or_zero, res, version, is_resolved}
+use Rattle.dstm_core.specs.State.{LocalState, or_zero, res, version, is_resolved}
 use Rattle.dstm_runs.specs.Traces.Access.{Load}
 use Rattle.dstm_caller.specs.Conflicts.{Keeps}
 use Rattle.dstm_caller.specs.Finding.{StaysAt, IsFound}

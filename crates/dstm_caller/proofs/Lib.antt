@@ -10,3 +10,5 @@ pub mod Finding
 pub mod Undrawn
 pub mod Encounters
 pub mod Unused
+pub mod FoundValues
+pub mod Tallied

@@ -1,5 +1,5 @@
 -- A step of a call that is due goes on with it.
-use Rattle.std.proofs.Common.{◌≡◌, ◌≢◌, ℕ, ◌<◌, ◌∙◌, List, [], ◌∷◌, ◌==◌, true, false, Some, None, refl, sym, ap, subst, arith, ne_eqb, eq-eqb, is_some, ◌+◌, ◌-◌}
+use Rattle.std.proofs.Common.{◌≡◌, ◌≢◌, ℕ, ◌<◌, ◌∙◌, List, [], ◌∷◌, ◌++◌, ◌==◌, true, false, Some, None, refl, sym, ap, subst, arith, ne_eqb, eq-eqb, is_some, ◌+◌, ◌-◌}
 use Rattle.std.proofs.lemmas.Bool.{cond_both}
 use Rattle.std.specs.Prelude.{Option, IfSome, Bool, ◌||◌, if◌then◌else◌}
 use Rattle.dstm_core.specs.Events.{Event}
@@ -19,6 +19,7 @@ use Rattle.dstm_core.specs.declared.status.Status.TheVariants as status
 use Rattle.dstm_managers.specs.declared.decider.Choice.TheVariants as decision
 use Rattle.dstm_managers.specs.Choices.{DeciderState, choice, next_word, takes_word, without_word, decider_after as decided}
 use Rattle.dstm_core.specs.Words.{HasWord, code_of}
+use Rattle.dstm_runs.proofs.Pasts.{past_past}
 use Rattle.dstm_runs.proofs.Runs.{local-events_of}
 use Rattle.dstm_core.proofs.Ranges.{in_range}
 use Rattle.dstm_core.proofs.Static.{local_own}
@@ -27,7 +28,7 @@ use Rattle.dstm_words.specs.declared.view.View.{View}
 use Rattle.dstm_words.specs.Logs.{event_by, ActsBy}
 use Rattle.dstm_words.specs.Seats.{Home, view_of, IsOf, MayMake}
 use Rattle.dstm_words.specs.Steps.{IsRunOf, Adds, Makes}
-use Rattle.dstm_words.specs.Views.{number_or, events_by, state_by}
+use Rattle.dstm_words.specs.Views.{moved, number_or, events_by, state_by}
 use Rattle.dstm_order.specs.Calls.{answer, IsCall, answer_of}
 use Rattle.dstm_order.specs.declared.again.Again.{Again}
 use Rattle.dstm_order.specs.Efforts.{Effort, effort_after, exchanges, turn, chosen, status_of}
@@ -37,7 +38,7 @@ use Rattle.dstm_order.specs.declared.TheConstants.{MAX_MISSED}
 use Rattle.dstm_order.specs.Tasks.{Task, Work}
 use Rattle.dstm_order.specs.Tasks.Task.{Doing}
 use Rattle.dstm_caller.specs.declared.steps.Steps.{Steps}
-use Rattle.dstm_caller.specs.Under.{Began, InTask, Under, is_exchange, MayStep, After, Went, WentOn, IsMirror, again_by, operand_of, now, effort_by, made_by, due_next_by, answer_by, work_of}
+use Rattle.dstm_caller.specs.Under.{Began, InTask, caller_view, Under, is_exchange, MayStep, After, Went, WentOn, IsMirror, again_by, operand_of, now, effort_by, made_by, due_next_by, answer_by, work_of}
 
 -- what the rules say of an event that acts in some way does not depend on what it finds
 may_load : (k : Kind) (s : Shape) (l : LocalState) (c p found : ℕ) → MayStep s l k Load (event_by Load c k p 0) →
@@ -174,6 +175,11 @@ module _ {L : Type 0} (holds : L → List Val → Type 0) (home : Home L) (b : B
         subst (λ n. events_of n (view_of new.seat).log ≡ e ∷ events_of b.number (view_of old.seat).log) c
         (m.mine ∙ ap (λ o. e ∷ events_by o (view_of old.seat).log) u.number)
 
+    view_now : view_of new.seat ≡ caller_view home.terms b.number (view_of new.seat).log
+    view_now =
+        m.view ∙ ap (λ (v : View L). moved v e (view_of new.seat).log) u.view
+        ∙ ap (λ n. record (caller_view home.terms b.number (view_of new.seat).log) { number = Some n }) c
+
     -- the state after it
     pub state_now : now home new ≡ after e.kind home.terms.shape (now home old) e
     state_now =
@@ -196,13 +202,16 @@ module _ {L : Type 0} (holds : L → List Val → Type 0) (home : Home L) (b : B
         let s : Shape = home.terms.shape in record {
           seat = seat;
           number = number_now;
+          view = view_now;
           caller = u.caller;
           run = subst (λ o. IfSome o (λ terms. IsRunOf holds terms (view_of new.seat).log)) u.seat.2 m.run;
+          seen = past_past _ _ _ u.seen (record { later = e ∷ m.log.0; whole = sym m.log.1 });
           shape = t.shape ∙ u.shape;
           manager = t.manager ∙ u.manager;
           mirror = subst (IsMirror s new) (sym state_now) t.mirror;
           events = e ∷ u.events;
           own = own_now ∙ ap (λ es. e ∷ es) u.own;
+          top = (m.log.0 ++ (view_of old.seat).log, m.log.1);
           state = state_now ∙ ap (λ l. after e.kind s l e) u.state;
           obeys = (u.obeys, subst (λ d. IsDue d e) (sym (rw (← u.state, u.effort) u.due)) is);
           effort = rw (← u.state, u.effort) t.effort;
@@ -411,28 +420,31 @@ began_as home task number steps = record {
   number = number;
   state = now home steps;
   generator = steps.decider.generator;
-  past = events_of number (view_of steps.seat).log;
+  log = (view_of steps.seat).log;
 }
 
 -- its first event is due, where the steps remember what they should and have nothing behind them
 pub call_begins : {L : Type 0} (holds : L → List Val → Type 0) (home : Home L) (task : Task) (number : ℕ)
-    (steps : Steps L) → IsOf home steps.seat → (view_of steps.seat).number ≡ Some number →
-    number < home.terms.shape.callers → IsRunOf holds home.terms (view_of steps.seat).log →
+    (steps : Steps L) → IsOf home steps.seat →
+    view_of steps.seat ≡ caller_view home.terms number (view_of steps.seat).log → number < home.terms.shape.callers → IsRunOf holds home.terms (view_of steps.seat).log →
     steps.shape ≡ home.terms.shape → steps.decider.manager ≡ home.terms.shape.manager →
     IsMirror home.terms.shape steps (now home steps) → steps.missed ≡ 0 → steps.round ≡ 0 → steps.left ≡ 0 →
     InTask holds home task (began_as home task number steps) steps
     (due task home.terms.shape None (now home steps) (effort_by steps))
     (answer task None (now home steps) (effort_by steps))
-call_begins holds home task number steps seat named caller run shape manager mirror missed round left = record {
+call_begins holds home task number steps seat view caller run shape manager mirror missed round left = record {
   seat = seat;
-  number = named;
+  number = ap (λ (v : View _). v.number) view;
+  view = view;
   caller = caller;
   run = run;
+  seen = record { later = []; whole = refl };
   shape = shape;
   manager = manager;
   mirror = mirror;
   events = [];
   own = refl;
+  top = tt;
   state = refl;
   obeys = tt;
   effort = rw (missed, round, left) refl;

@@ -5,3 +5,6 @@ pub mod Conflicts
 pub mod Finding
 pub mod Opening
 pub mod Beginning
+pub mod Unbegun
+pub mod FoundValues
+pub mod Counting

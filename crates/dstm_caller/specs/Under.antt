@@ -1,5 +1,5 @@
 -- A call under way.
-use Rattle.std.specs.Prelude.{◌≡◌, ℕ, ◌<◌, Bool, true, false, not, length, ◌||◌, ◌==◌, List, ◌∷◌, ◌++◌, Option, Some, None}
+use Rattle.std.specs.Prelude.{◌≡◌, ℕ, ◌<◌, Bool, true, false, not, length, ◌||◌, ◌==◌, List, [], ◌∷◌, ◌++◌, Option, Some, None, IfSome}
 use Rattle.dstm_core.specs.Events.{Event}
 use Rattle.dstm_core.specs.declared.event.Kind.{Kind}
 use Rattle.dstm_core.specs.declared.event.Kind.TheVariants.{LookObj, Install, Release, Rank, PutHigh, PutNew, Validating as ToValidating, Commit, Kill, Quit, Pause, Resume}
@@ -7,9 +7,11 @@ use Rattle.dstm_core.specs.declared.shape.Shape.{Shape}
 use Rattle.dstm_core.specs.declared.state.Phase.TheVariants.{Running}
 use Rattle.dstm_core.specs.Rules.{after, target, access, May}
 use Rattle.dstm_core.specs.State.{LocalState, own_attempt, keep_resolved, record_resolved}
-use Rattle.dstm_core.specs.Traces.{Access, events_of}
+use Rattle.dstm_core.specs.Traces.{Access, IsPastOf, events_of}
 use Rattle.dstm_core.specs.Words.{place}
 use Rattle.dstm_model.specs.declared.value.Val.{Val}
+use Rattle.dstm_words.specs.declared.view.Terms.{Terms}
+use Rattle.dstm_words.specs.declared.view.View.{View}
 use Rattle.dstm_words.specs.Logs.{event_by}
 use Rattle.dstm_words.specs.Seats.{Home, view_of, caller_state, IsOf}
 use Rattle.dstm_words.specs.Steps.{IsRunOf}
@@ -29,7 +31,7 @@ pub record Began : Type 0 where
   pub number : ℕ  -- of its caller
   pub state : LocalState
   pub generator : Lcg
-  pub past : List Event  -- the caller's events before it
+  pub log : List Event  -- what the caller had seen before it
 
 -- what a call on a live attempt is to do
 abbrev pub work_of : Task → Work
@@ -71,6 +73,20 @@ pub record MayStep (shape : Shape) (state : LocalState) (kind : Kind) (way : Acc
   pub may : May kind shape state event
 
 module _ {L : Type 0} where
+  -- what the seat of a caller knows, which was split from the first one
+  abbrev pub caller_view : Terms L → (number : ℕ) → List Event → View L
+  caller_view terms number log = record {
+    terms = Some terms;
+    log = log;
+    number = Some number;
+    numbers = number ∷ [];
+    enrolments = 0;
+    first = false;
+    out = 0;
+    apart = 1;
+    olds = [];
+  }
+
   -- the state of the caller
   abbrev pub now : Home L → Steps L → LocalState
   now home steps = caller_state home.terms (view_of steps.seat)
@@ -95,13 +111,16 @@ module _ {L : Type 0} where
       (next : Due) (again : Option Again) : Type 0 where
     pub seat : IsOf home steps.seat
     pub number : (view_of steps.seat).number ≡ Some began.number
+    pub view : view_of steps.seat ≡ caller_view home.terms began.number (view_of steps.seat).log
     pub caller : began.number < home.terms.shape.callers
     pub run : IsRunOf holds home.terms (view_of steps.seat).log
+    pub seen : IsPastOf began.log (view_of steps.seat).log
     pub shape : steps.shape ≡ home.terms.shape
     pub manager : steps.decider.manager ≡ home.terms.shape.manager
     pub mirror : IsMirror home.terms.shape steps (now home steps)
     pub events : List Event
-    pub own : events_of began.number (view_of steps.seat).log ≡ events ++ began.past
+    pub own : events_of began.number (view_of steps.seat).log ≡ events ++ events_of began.number began.log
+    pub top : IfSome (newest_of events) (λ event. (before : List Event) × ((view_of steps.seat).log ≡ event ∷ before))
     pub state : now home steps ≡ state_after home.terms.shape began.state events
     pub obeys : Obeys task home.terms.shape began.state began.generator events
     pub effort : effort_of home.terms.shape began.state began.generator events ≡ effort_by steps

@@ -35,8 +35,8 @@ impl<L: Law> Steps<L> {
     {
         let shape = self.shape;
         let place = shape.status(self.own);
-        let _ = words.exchange(
-            &mut self.seat,
+        let _ = self.seat.exchange(
+            words,
             Kind::Quit,
             place,
             status.code(),
@@ -64,7 +64,7 @@ impl<L: Law> Steps<L> {
     {
         let _ = fresh;
         let shape = self.shape;
-        self.rank = words.add(&mut self.seat, Kind::Stamp, shape.stamps_place());
+        self.rank = self.seat.add(words, Kind::Stamp, shape.stamps_place());
     }
 
     /// Puts the rank of the first unused attempt.
@@ -82,7 +82,7 @@ impl<L: Law> Steps<L> {
     {
         let _ = fresh;
         let shape = self.shape;
-        words.store(&mut self.seat, Kind::Rank, shape.rank(next), rank);
+        self.seat.store(words, Kind::Rank, shape.rank(next), rank);
         self.rank = rank;
     }
 
@@ -100,8 +100,8 @@ impl<L: Law> Steps<L> {
     {
         let _ = fresh;
         let shape = self.shape;
-        words.store(
-            &mut self.seat,
+        self.seat.store(
+            words,
             Kind::Begin,
             shape.status(next),
             Status::Active.code(),

@@ -98,7 +98,7 @@ impl<L: Law> Steps<L> {
         ensures rounds { rounds_of self.new ≡ rounds_of self.old }
     {
         let shape = self.shape;
-        let status = self.look::<B>(words, Kind::LookStatus, shape.status(owner));
+        let status = self.look::<B>(words, Kind::LookStatus, shape.status(owner), true);
         if self.left == 1 {
             self.round += 1;
         }
@@ -177,7 +177,9 @@ impl<L: Law> Steps<L> {
             Choice::Kill => Asked::Kill,
             Choice::GiveWay => Asked::GiveWay,
             Choice::Wait(turns) => {
-                let code = words.load(&mut self.seat, Kind::LookStatus, shape.status(owner));
+                let code = self
+                    .seat
+                    .load(words, Kind::LookStatus, shape.status(owner), true);
                 self.left = turns - 1;
                 if turns == 1 {
                     self.round += 1;
@@ -253,7 +255,7 @@ impl<L: Law> Steps<L> {
             × (self.new.round ≡ self.old.round) }
     {
         let shape = self.shape;
-        let status = self.look::<B>(words, Kind::LookStatus, shape.status(owner));
+        let status = self.look::<B>(words, Kind::LookStatus, shape.status(owner), true);
         self.left -= 1;
         status
     }

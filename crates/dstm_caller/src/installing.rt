@@ -7,6 +7,8 @@ ghost use Rattle.dstm_core.specs.State.{res, version, is_resolved, next_locator,
 ghost use Rattle.dstm_order.specs.Order.{just, at_first, rises};
 ghost use Rattle.dstm_order.specs.Order.Due.{Step, Done};
 ghost use Rattle.dstm_order.specs.declared.TheConstants.{MAX_MISSED};
+ghost use Rattle.dstm_core.specs.Traces.{IsPastOf};
+ghost use Rattle.dstm_words.specs.Seats.{view_of};
 ghost use Rattle.dstm_caller.specs.Under.{work_of, now, Under, IsRunning};
 
 use crate::steps::{InCall, Steps};
@@ -88,6 +90,7 @@ impl<L: Law> Steps<L> {
             Under L.holds words.now B.began self.new (just Quit) None }
         ensures missed { (result ≡ false → self.new.missed ≡ self.old.missed + 1)
             × (result ≡ true → self.new.missed ≡ self.old.missed) }
+        ensures past { IsPastOf (view_of self.old.seat).log (view_of self.new.seat).log }
     {
         let shape = self.shape;
         let next = u64::from(locator) + 1;
@@ -122,6 +125,7 @@ impl<L: Law> Steps<L> {
               checked = 0;
             } }
         ensures under { Under L.holds words.now B.began self.new Done None }
+        ensures past { IsPastOf (view_of self.old.seat).log (view_of self.new.seat).log }
     {
         let shape = self.shape;
         let rank = (self.rank + 1).min(MAX_RANK);

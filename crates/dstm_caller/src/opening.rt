@@ -1,5 +1,7 @@
 // The opens of objects, but for the lists of what is open.
 ghost use Rattle.std.specs.Prelude.{◌≡◌, ◌≢◌, ℕ, ◌+◌, ◌<◌, ◌≤◌, ◌==◌, ◌||◌, not, length, is_some, true, None, Some, IsNone, IfOk, IfSome, IfErr, OnOk};
+ghost use Rattle.dstm_words.specs.Seats.{view_of};
+ghost use Rattle.dstm_core.specs.Traces.{IsPastOf};
 ghost use Rattle.dstm_core.specs.declared.event.Kind.TheVariants.{LookObj, LookNumber, Release};
 ghost use Rattle.dstm_core.specs.State.{drop_read, next_locator, read_of, record_resolved, write_of};
 ghost use Rattle.dstm_order.specs.declared.TheConstants.{MAX_MISSED};
@@ -8,6 +10,7 @@ ghost use Rattle.dstm_order.specs.Order.Due.{Step, Done};
 ghost use Rattle.dstm_order.specs.Passes.{is_open};
 ghost use Rattle.dstm_order.specs.Tasks.Work.{Rechecking, Writing};
 ghost use Rattle.dstm_caller.specs.Finding.{word_of};
+ghost use Rattle.dstm_caller.specs.FoundValues.{HasValue};
 ghost use Rattle.dstm_caller.specs.Opening.{Acquired, HeldApart, risen};
 ghost use Rattle.dstm_caller.specs.Reads.{kept, words_of};
 ghost use Rattle.dstm_caller.specs.Under.{IsRunning, Under, now, passed, work_of};
@@ -43,6 +46,7 @@ impl<L: Law> Steps<L> {
             × (last.new ≡ Some number)) }
         ensures ends_well { OnOk result (Under L.holds words.now B.began self.new Done None) }
         ensures ends { IfErr result (λ again. Under L.holds words.now B.began self.new Done (Some again)) }
+        ensures past { OnOk result (IsPastOf (view_of self.old.seat).log (view_of self.new.seat).log) }
     {
         self.pass::<B>(words, last, reads)?;
         if rises(self.shape) {
@@ -116,6 +120,7 @@ impl<L: Law> Steps<L> {
         ensures got { IfOk result (λ got. IfSome got
             (λ found. Acquired words.now.terms.shape object (now words.now self.old) (now words.now self.new)
             found)) }
+        ensures value { IfOk result (λ got. IfSome got (λ found. HasValue words.now self.new object found)) }
         ensures goes_on { IfOk result (λ got. IfSome got
             (λ found. Under L.holds words.now B.began self.new (just LookNumber) None)) }
         ensures retry { IfOk result (λ got. IsNone got →
@@ -159,6 +164,7 @@ impl<L: Law> Steps<L> {
         requires tries { self.old.missed < MAX_MISSED }
         ensures got { IfOk result (λ found. Acquired words.now.terms.shape object (now words.now self.old)
             (now words.now self.new) found) }
+        ensures value { IfOk result (λ found. HasValue words.now self.new object found) }
         ensures under { OnOk result (Under L.holds words.now B.began self.new (just LookNumber) None) }
         ensures tried { OnOk result (self.new.missed < MAX_MISSED) }
         ensures ends { IfErr result (λ again. Under L.holds words.now B.began self.new Done (Some again)) }

@@ -1,5 +1,7 @@
 // A pass: the checks of all reads.
 ghost use Rattle.std.specs.Prelude.{◌≡◌, ◌≢◌, ◌⊎◌, ℕ, ◌<◌, ◌+◌, ◌*◌, length, is_some, true, false, None, Some, IfNone, IfSome, OnOk, IfErr};
+ghost use Rattle.dstm_words.specs.Seats.{view_of};
+ghost use Rattle.dstm_core.specs.Traces.{IsPastOf};
 ghost use Rattle.dstm_core.specs.Rules.{after};
 ghost use Rattle.dstm_core.specs.declared.event.Kind.TheVariants.{LookNumber, Check, LookSelf, Quit};
 ghost use Rattle.dstm_core.specs.declared.state.Phase.TheVariants.{Running, Outside};
@@ -34,6 +36,7 @@ impl<L: Law> Steps<L> {
             (made_by B.began Load LookNumber (place words.now.terms.shape NumbersWord) result) }
         ensures under { Under L.holds words.now B.began self.new (in_pass (now words.now self.new)) None }
         ensures tries { self.new.missed < MAX_MISSED }
+        ensures past { IsPastOf (view_of self.old.seat).log (view_of self.new.seat).log }
     {
         let shape = self.shape;
         self.load::<B>(words, Kind::LookNumber, shape.numbers_place())
@@ -57,6 +60,7 @@ impl<L: Law> Steps<L> {
             × (quit_cause (now words.now self.new) (effort_by self.new) ≡ Stale object)
             × ((now words.now self.new).phase ≡ Running) × ((now words.now self.new).committed ≡ false) }
         ensures tries { self.new.missed < MAX_MISSED }
+        ensures past { IsPastOf (view_of self.old.seat).log (view_of self.new.seat).log }
     {
         let shape = self.shape;
         let found = self.load::<B>(words, Kind::Check, shape.object(object));
@@ -82,6 +86,7 @@ impl<L: Law> Steps<L> {
         ensures killed { result ≡ false → ((now words.now self.new).phase ≡ Outside)
             × Under L.holds words.now B.began self.new Done (Some Killed) }
         ensures tries { self.new.missed < MAX_MISSED }
+        ensures past { IsPastOf (view_of self.old.seat).log (view_of self.new.seat).log }
     {
         let shape = self.shape;
         let found = self.load::<B>(words, Kind::LookSelf, shape.status(self.own));
@@ -132,6 +137,7 @@ impl<L: Law> Steps<L> {
         ensures live { IfSome result (λ object. ((now words.now self.new).phase ≡ Running)
             × ((now words.now self.new).committed ≡ false)) }
         ensures tries { self.new.missed < MAX_MISSED }
+        ensures past { IfNone result (IsPastOf (view_of self.old.seat).log (view_of self.new.seat).log) }
     {
         if skip {
             return None;
@@ -162,6 +168,7 @@ impl<L: Law> Steps<L> {
         ensures goes_on { OnOk result (Passed L.holds words.now B.began self.new) }
         ensures tries { OnOk result (self.new.missed < MAX_MISSED) }
         ensures ends { IfErr result (λ again. Under L.holds words.now B.began self.new Done (Some again)) }
+        ensures past { OnOk result (IsPastOf (view_of self.old.seat).log (view_of self.new.seat).log) }
     {
         let number = self.look_number::<B>(words);
         let skip = *last == Some(number);

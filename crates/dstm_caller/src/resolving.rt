@@ -147,7 +147,7 @@ impl<L: Law> Steps<L> {
         ensures rest { self.new ≡ record self.old { seat = self.new.seat; round = 0; left = 0 } }
     {
         let shape = self.shape;
-        let word = self.look::<B>(words, Kind::LookObj, shape.object(object));
+        let word = self.look::<B>(words, Kind::LookObj, shape.object(object), false);
         self.round = 0;
         self.left = 0;
         word

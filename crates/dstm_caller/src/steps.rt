@@ -1,19 +1,21 @@
-ghost use Rattle.std.specs.Prelude.{◌≡◌, ◌≢◌, ℕ, ◌<◌, MatchResult, true, None};
+ghost use Rattle.std.specs.Prelude.{◌≡◌, ◌≢◌, ℕ, ◌<◌, MatchResult, true, false, None};
+ghost use Rattle.dstm_core.specs.Traces.{IsPastOf};
 ghost use Rattle.dstm_core.specs.Rules.{after};
 ghost use Rattle.dstm_core.specs.Events.{Event};
 ghost use Rattle.dstm_core.specs.declared.event.Kind.TheVariants.{LookObj};
 ghost use Rattle.dstm_runs.specs.Traces.Access.{Load, Store, Exchange, Add};
-ghost use Rattle.dstm_order.specs.Efforts.{effort_after};
+ghost use Rattle.dstm_order.specs.Efforts.{effort_after, is_turn};
 ghost use Rattle.dstm_order.specs.Order.Due.{Step};
 ghost use Rattle.dstm_order.specs.Order.{just};
 ghost use Rattle.dstm_words.specs.Seats.{found_in, view_of, StoresLawfully};
 ghost use Rattle.dstm_words.specs.Logs.{ActsBy};
 ghost use Rattle.dstm_caller.specs.Under.{now, effort_by, made_by, due_by, again_by, operand_of, is_exchange, MayStep, Under, Went};
 
+use crate::counting::CallerSeat;
 use dstm_core::{Kind, Shape};
 use dstm_managers::Decider;
 use dstm_model::Law;
-use dstm_words::{CoreSeat, Words};
+use dstm_words::Words;
 use std::marker::Brand;
 
 /// How a call began.
@@ -23,10 +25,17 @@ pub trait InCall {
     ghost began: { Began };
 }
 
+// What stands for it, before a call picks it.
+impl InCall for Brand {
+    ghost use Rattle.dstm_caller.specs.Unbegun.{unbegun};
+
+    ghost began = { unbegun };
+}
+
 /// The steps of a caller, and what its present call has behind it.
 #[derive(Drop)]
 pub struct Steps<L: Law> {
-    pub seat: CoreSeat<L>,
+    pub seat: CallerSeat<L>,
     pub shape: Shape,
     pub decider: Decider,
     /// The attempt that was begun last.
@@ -41,17 +50,18 @@ pub struct Steps<L: Law> {
 
 impl<L: Law> Steps<L> {
     /// Loads the word at a place, where a load of this kind is due. What the caller remembers, and what the call has
-    /// behind it, stays: who calls this sets it.
-    pub fn look<B: InCall>(&mut self, words: &Words<L>, kind: Kind, place: u64) -> u64
+    /// behind it, stays: who calls this sets it. `turn` tells whether it is a turn of a conflict.
+    pub fn look<B: InCall>(&mut self, words: &Words<L>, kind: Kind, place: u64, turn: bool) -> u64
         requires under { Under L.holds words.now B.began self.old (Step kind (operand_of kind place 0)) None }
         requires loads { ActsBy kind Load }
         requires object { kind ≡ LookObj → place < words.now.terms.shape.objects }
         requires may { MayStep words.now.terms.shape (now words.now self.old) kind Load
             (made_by B.began Load kind place 0) }
+        requires turn { turn ≡ is_turn kind (now words.now self.old) }
         ensures rest { self.new ≡ record self.old { seat = self.new.seat } }
         ensures went { Went L.holds words.now B.began self.old self.new (made_by B.began Load kind place result) }
     {
-        words.load(&mut self.seat, kind, place)
+        self.seat.load(words, kind, place, turn)
     }
 
     /// Loads the word at a place, where a load of this kind is due that changes nothing else.
@@ -61,6 +71,7 @@ impl<L: Law> Steps<L> {
         requires object { kind ≡ LookObj → place < words.now.terms.shape.objects }
         requires may { MayStep words.now.terms.shape (now words.now self.old) kind Load
             (made_by B.began Load kind place 0) }
+        requires no_turn { is_turn kind (now words.now self.old) ≡ false }
         requires steady { (event : Event) → effort_after kind words.now.terms.shape.manager (now words.now self.old)
             (effort_by self.old) event ≡ effort_by self.old }
         ensures rest { self.new ≡ record self.old { seat = self.new.seat } }
@@ -69,8 +80,9 @@ impl<L: Law> Steps<L> {
         ensures under { Under L.holds words.now B.began self.new
             (due_by words.now B.began self.new (made_by B.began Load kind place result))
             (again_by words.now B.began self.new (made_by B.began Load kind place result)) }
+        ensures past { IsPastOf (view_of self.old.seat).log (view_of self.new.seat).log }
     {
-        self.look::<B>(words, kind, place)
+        self.look::<B>(words, kind, place, false)
     }
 
     /// Stores a number in the word at a place, where a store of this kind is due.
@@ -84,7 +96,7 @@ impl<L: Law> Steps<L> {
         ensures went { (found : ℕ) × Went L.holds words.now B.began self.old self.new
             (made_by B.began (Store put) kind place found) }
     {
-        words.store(&mut self.seat, kind, place, put)
+        self.seat.store(words, kind, place, put)
     }
 
     /// Adds one to the word at a place, where an add of this kind is due.
@@ -96,7 +108,7 @@ impl<L: Law> Steps<L> {
         ensures rest { self.new ≡ record self.old { seat = self.new.seat } }
         ensures went { Went L.holds words.now B.began self.old self.new (made_by B.began Add kind place result) }
     {
-        words.add(&mut self.seat, kind, place)
+        self.seat.add(words, kind, place)
     }
 
     /// Exchanges the word at a place, where an exchange of this kind is due.
@@ -117,6 +129,6 @@ impl<L: Law> Steps<L> {
         ensures went { Went L.holds words.now B.began self.old self.new
             (made_by B.began (Exchange expected put) kind place (found_in result)) }
     {
-        words.exchange(&mut self.seat, kind, place, expected, put)
+        self.seat.exchange(words, kind, place, expected, put)
     }
 }

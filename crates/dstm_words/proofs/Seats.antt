@@ -21,7 +21,7 @@ use Rattle.dstm_words.proofs.Lists.{apart_of}
 use Rattle.dstm_words.proofs.Logs.{own_event, none_since}
 
 -- the caller and the kind of an event that acts in some way
-made_as : (way : Access) (c : ℕ) (kind : Kind) (place found : ℕ) →
+pub made_as : (way : Access) (c : ℕ) (kind : Kind) (place found : ℕ) →
     ((event_by way c kind place found).caller ≡ c) × ((event_by way c kind place found).kind ≡ kind)
 made_as Load c kind place found = (refl, refl)
 made_as (Store value) c kind place found = (refl, refl)

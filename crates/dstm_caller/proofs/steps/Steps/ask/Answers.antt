@@ -83,7 +83,7 @@ returns-then-turns-eq1-clause-waits g c code is =
     let old : Steps g.row.L.Denot = c.args.self.now in
     let new : Steps g.row.L.Denot =
     record old {
-      seat = c.load-code.new.seat;
+      seat = c.load-code.new.self;
       decider = c.decide.new.self;
       left = c.in-Wait.turns - 1;
       round =
@@ -133,7 +133,7 @@ returns-else-turns-eq1-clause-waits g c code is =
     let b : Began = g.B.InCall.began in
     let old : Steps g.row.L.Denot = c.args.self.now in
     let new : Steps g.row.L.Denot =
-    record old { seat = c.load-code.new.seat; decider = c.decide.new.self; left = c.in-Wait.turns - 1 } in
+    record old { seat = c.load-code.new.self; decider = c.decide.new.self; left = c.in-Wait.turns - 1 } in
     let l : LocalState = now c.args.words.now old in
     let manager : Manager = c.args.words.now.terms.shape.manager in
     let e : Event = made_by b Load LookStatus c.status.result c.load-code.result in

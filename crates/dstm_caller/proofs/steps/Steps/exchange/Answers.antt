@@ -22,7 +22,7 @@ returns-clause-went g c =
     let state : LocalState = now c.args.words.now c.args.self.now in
     let event : Event = made_by b (Exchange c.args.expected c.args.put) c.args.kind c.args.place
     (found_in c.exchange.result) in
-    let new : Steps g.row.L.Denot = record c.args.self.now { seat = c.exchange.new.seat } in
+    let new : Steps g.row.L.Denot = record c.args.self.now { seat = c.exchange.new.self } in
     went_adds g.L.Law.holds c.args.words.now b c.args.self.now new event _ _ c.requires.under
     (makes_by g.L.Law.holds c.args.words.now b _ _ (Exchange c.args.expected c.args.put) c.args.kind c.args.place
     (found_in c.exchange.result) c.requires.under.number c.exchange.ensures.event)

@@ -1,4 +1,4 @@
-use Rattle.std.proofs.Common.{◌≡◌, ◌≢◌, ◌+◌, ◌==◌, ◌∙◌, refl, ap, sym, true, false, eq-eqb, ne_eqb}
+use Rattle.std.proofs.Common.{◌∷◌, ◌≡◌, ◌≢◌, ◌+◌, ◌==◌, ◌∙◌, refl, ap, sym, true, false, eq-eqb, ne_eqb}
 use Rattle.dstm_core.specs.Events.{Event}
 use Rattle.dstm_core.specs.declared.event.Kind.TheVariants.{Install}
 use Rattle.dstm_runs.specs.Traces.Access.{Exchange}
@@ -73,3 +73,11 @@ returns-in-Err-clause-lost g c wrong lost =
       effort = exchange_failed (effort_by c.args.self.now) e same ∙ rw rest refl;
     })
     (rw (state, found, c.requires.running.phase) refl) lost
+
+pub returns-in-Ok-clause-past : goal.returns-in-Ok-clause-past
+returns-in-Ok-clause-past g c =
+    let log = c.exchange.ensures.went.log in record { later = _ ∷ log.0; whole = sym log.1 }
+
+pub returns-in-Err-clause-past : goal.returns-in-Err-clause-past
+returns-in-Err-clause-past g c =
+    let log = c.exchange.ensures.went.log in record { later = _ ∷ log.0; whole = sym log.1 }

@@ -33,7 +33,7 @@ pub returns-clause-state : goal.returns-clause-state
 returns-clause-state g c =
     let b : Began = g.B.InCall.began in
     let old : Steps g.row.L.Denot = c.args.self.now in
-    let new : Steps g.row.L.Denot = record old { seat = c.exchange.new.seat } in
+    let new : Steps g.row.L.Denot = record old { seat = c.exchange.new.self } in
     let e : Event =
     made_by b (Exchange c.code.result c.code-2.result) Quit c.status-place.result (found_in c.exchange.result) in
     (went_adds g.L.Law.holds c.args.words.now b old new e _ _ c.requires.under
@@ -45,7 +45,7 @@ pub returns-clause-leaves : goal.returns-clause-leaves
 returns-clause-leaves g c task =
     let b : Began = g.B.InCall.began in
     let old : Steps g.row.L.Denot = c.args.self.now in
-    let new : Steps g.row.L.Denot = record old { seat = c.exchange.new.seat } in
+    let new : Steps g.row.L.Denot = record old { seat = c.exchange.new.self } in
     let e : Event =
     made_by b (Exchange c.code.result c.code-2.result) Quit c.status-place.result (found_in c.exchange.result) in
     let m = c.requires.under.mirror in
@@ -67,7 +67,7 @@ pub returns-clause-begins : goal.returns-clause-begins
 returns-clause-begins g c fresh task =
     let b : Began = g.B.InCall.began in
     let old : Steps g.row.L.Denot = c.args.self.now in
-    let new : Steps g.row.L.Denot = record old { seat = c.exchange.new.seat } in
+    let new : Steps g.row.L.Denot = record old { seat = c.exchange.new.self } in
     let e : Event =
     made_by b (Exchange c.code.result c.code-2.result) Quit c.status-place.result (found_in c.exchange.result) in
     let m = c.requires.under.mirror in

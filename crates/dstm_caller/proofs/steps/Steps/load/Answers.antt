@@ -1,4 +1,4 @@
-use Rattle.std.proofs.Common.{refl, ap}
+use Rattle.std.proofs.Common.{◌∷◌, ap, refl, sym}
 use Rattle.dstm_core.specs.Events.{Event}
 use Rattle.dstm_runs.specs.Traces.Access.{Load}
 use Rattle.dstm_caller.specs.declared.steps.Steps.{Steps}
@@ -23,3 +23,6 @@ returns-clause-under g c =
           });
       effort = rw rest (c.requires.steady e);
     })
+
+pub returns-clause-past : goal.returns-clause-past
+returns-clause-past g c = let log = c.look.ensures.went.log in record { later = _ ∷ log.0; whole = sym log.1 }

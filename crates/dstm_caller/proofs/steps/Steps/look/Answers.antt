@@ -19,7 +19,7 @@ returns-clause-went g c =
     let b : Began = g.B.InCall.began in
     let state : LocalState = now c.args.words.now c.args.self.now in
     let event : Event = made_by b (Load) c.args.kind c.args.place c.load.result in
-    let new : Steps g.row.L.Denot = record c.args.self.now { seat = c.load.new.seat } in
+    let new : Steps g.row.L.Denot = record c.args.self.now { seat = c.load.new.self } in
     went_adds g.L.Law.holds c.args.words.now b c.args.self.now new event _ _ c.requires.under
     (makes_by g.L.Law.holds c.args.words.now b _ _ (Load) c.args.kind c.args.place c.load.result
     c.requires.under.number c.load.ensures.event)

@@ -32,7 +32,7 @@ pub returns-clause-state : goal.returns-clause-state
 returns-clause-state g c =
     let b : Began = g.B.InCall.began in
     let old : Steps g.row.L.Denot = c.args.self.now in
-    let new : Steps g.row.L.Denot = record old { seat = c.store.new.seat; rank = c.args.rank } in
+    let new : Steps g.row.L.Denot = record old { seat = c.store.new.self; rank = c.args.rank } in
     let e : Event = made_by b (Store c.args.rank) Rank c.rank.result c.store.ensures.event.0 in
     let state : LocalState = now c.args.words.now old in
     let w : WentOn g.L.Law.holds c.args.words.now (Beginning c.args.fresh) b old new e =
@@ -51,7 +51,7 @@ pub returns-clause-under : goal.returns-clause-under
 returns-clause-under g c =
     let b : Began = g.B.InCall.began in
     let old : Steps g.row.L.Denot = c.args.self.now in
-    let new : Steps g.row.L.Denot = record old { seat = c.store.new.seat; rank = c.args.rank } in
+    let new : Steps g.row.L.Denot = record old { seat = c.store.new.self; rank = c.args.rank } in
     let e : Event = made_by b (Store c.args.rank) Rank c.rank.result c.store.ensures.event.0 in
     let m = c.requires.under.mirror in
     let w : WentOn g.L.Law.holds c.args.words.now (Beginning c.args.fresh) b old new e =

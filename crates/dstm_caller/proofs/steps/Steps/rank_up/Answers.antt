@@ -1,4 +1,4 @@
-use Rattle.std.proofs.Common.{refl, ap}
+use Rattle.std.proofs.Common.{◌∷◌, ap, refl, sym}
 use Rattle.dstm_core.specs.Events.{Event}
 use Rattle.dstm_core.specs.declared.event.Kind.TheVariants.{Rank}
 use Rattle.dstm_runs.specs.Traces.Access.{Store}
@@ -32,3 +32,6 @@ returns-clause-under g c =
       effort = rw rest refl;
     })
     (rw (state, c.requires.running.phase) refl) (rw state c.requires.running.agreed) (rw rest c.requires.tries)
+
+pub returns-clause-past : goal.returns-clause-past
+returns-clause-past g c = let log = c.store.ensures.went.1.log in record { later = _ ∷ log.0; whole = sym log.1 }

@@ -30,7 +30,7 @@ pub returns-clause-state : goal.returns-clause-state
 returns-clause-state g c =
     let b : Began = g.B.InCall.began in
     let old : Steps g.row.L.Denot = c.args.self.now in
-    let new : Steps g.row.L.Denot = record old { seat = c.store.new.seat; own = c.args.next } in
+    let new : Steps g.row.L.Denot = record old { seat = c.store.new.self; own = c.args.next } in
     let e : Event = made_by b (Store c.code.result) Begin c.status.result c.store.ensures.event.0 in
     (went_adds g.L.Law.holds c.args.words.now b old new e _ _ c.requires.under
     (makes_by g.L.Law.holds c.args.words.now b _ _ (Store c.code.result) Begin c.status.result c.store.ensures.event.0
@@ -40,7 +40,7 @@ pub returns-clause-under : goal.returns-clause-under
 returns-clause-under g c =
     let b : Began = g.B.InCall.began in
     let old : Steps g.row.L.Denot = c.args.self.now in
-    let new : Steps g.row.L.Denot = record old { seat = c.store.new.seat; own = c.args.next } in
+    let new : Steps g.row.L.Denot = record old { seat = c.store.new.self; own = c.args.next } in
     let e : Event = made_by b (Store c.code.result) Begin c.status.result c.store.ensures.event.0 in
     let m = c.requires.under.mirror in
     let one : (now c.args.words.now old).begun + 1 - 1 ≡ (now c.args.words.now old).begun = omega arith in

@@ -20,7 +20,7 @@ returns-clause-went g c =
     let b : Began = g.B.InCall.began in
     let state : LocalState = now c.args.words.now c.args.self.now in
     let event : Event = made_by b (Store c.args.put) c.args.kind c.args.place c.store.ensures.event.0 in
-    let new : Steps g.row.L.Denot = record c.args.self.now { seat = c.store.new.seat } in (
+    let new : Steps g.row.L.Denot = record c.args.self.now { seat = c.store.new.self } in (
       c.store.ensures.event.0,
       went_adds g.L.Law.holds c.args.words.now b c.args.self.now new event _ _ c.requires.under
           (makes_by g.L.Law.holds c.args.words.now b _ _ (Store c.args.put) c.args.kind c.args.place
