@@ -1,0 +1,17 @@
+-- Lemmas on calls in core runs. In them s is a shape, es what stands before an event e (the newest first), c a
+-- caller, l its state, k a kind, w what a call is to do, g the caller's generator and f the effort of a call so far.
+pub mod OwnEvents
+pub mod Sound
+pub mod Leaves
+pub mod Ends
+pub mod StaleReads
+pub mod GivingWay
+pub mod Causes
+pub mod Disturbing
+pub mod Leaving
+pub mod Others
+pub mod Staying
+pub mod Beginnings
+pub mod Committing
+pub mod Adding
+pub mod Example

@@ -1,0 +1,5 @@
+pub mod Causes
+pub mod Disturbed
+pub mod Ends
+pub mod Laws
+pub mod Example
