@@ -1,6 +1,6 @@
 -- An attempt that is quit.
 use Rattle.std.proofs.Common.{◌*◌, ◌+◌, ◌<◌, ◌∙◌, ◌∷◌, ◌≡◌, ◌^◌, List, [], ap, arith, inl, inr, refl, subst, sym, true, false, ℕ}
-use Rattle.std.specs.Prelude.{None, is_some}
+use Rattle.std.specs.Prelude.{IfSome, None, Option, Some, is_some}
 use Rattle.dstm_model.specs.declared.value.Val.{Val}
 use Rattle.dstm_core.specs.Rules.{AllowedAs, leave}
 use Rattle.dstm_core.specs.State.{LocalState, given, own_attempt}
@@ -70,6 +70,11 @@ pub not_made : {L : Type 0} (k : Called L) → is_live k ≡ false → k.left �
 not_made k dead left undone (inl x) = cc
 not_made k dead left undone (inr (inl x)) = let z : is_some k.left ≡ true = x in cc
 not_made k dead left undone (inr (inr x)) = cc
+
+-- nothing is known of what is not there
+pub none_holds : {A : Type 0} (o : Option A) (P : A → Type 0) → o ≡ None → IfSome o P
+none_holds None P h = tt
+none_holds (Some x) P h = absurd (cc)
 
 -- nothing is done where no attempt is live
 pub left_already : {L : Type 0} (holds : L → List Val → Type 0) (k : Called L) → IsRunOf holds k.home.terms k.log →

@@ -1,5 +1,5 @@
 -- What contracts see of a caller, and of its last attempt.
-use Rattle.std.specs.Prelude.{ℕ, ◌==◌, ◌&&◌, Bool, true, false, List, [], ◌∷◌, Option, Some, is_some, if◌then◌else◌}
+use Rattle.std.specs.Prelude.{ℕ, ◌==◌, ◌&&◌, Bool, true, false, List, [], ◌∷◌, Option, is_some, if◌then◌else◌, None}
 use Rattle.std.specs.Option.{option_or}
 use Rattle.rand_pcg.specs.Lcg.{Lcg}
 use Rattle.dstm_model.specs.declared.value.Val.{Val}
@@ -14,6 +14,7 @@ use Rattle.dstm_core.specs.Runs.{local}
 use Rattle.dstm_core.specs.State.{LocalState, write_of}
 use Rattle.dstm_mem.specs.Memory.{value_in}
 use Rattle.dstm_order.specs.declared.again.Again.{Again}
+use Rattle.dstm_caller.specs.Under.{caller_view}
 use Rattle.dstm_words.specs.declared.view.View.{View}
 use Rattle.dstm_words.specs.Seats.{Home}
 
@@ -47,17 +48,7 @@ module _ {L : Type 0} where
 
   -- what its seat knows
   abbrev pub seat_view : Called L → View L
-  seat_view k = record {
-    terms = Some k.home.terms;
-    log = k.log;
-    number = Some k.number;
-    numbers = k.number ∷ [];
-    enrolments = 0;
-    first = false;
-    out = 0;
-    apart = 1;
-    olds = [];
-  }
+  seat_view k = caller_view k.home.terms k.number k.log
 
   -- ---- its last attempt
 
@@ -85,6 +76,13 @@ module _ {L : Type 0} where
   abbrev pub handed : Called L → ℕ → Option Val
   handed k o = option_or (written k o) (held k o)
 
+  -- what it holds and has opened while it is live; an attempt that was left holds nothing
+  abbrev pub live_held : Called L → ℕ → Option Val
+  live_held k o = if is_live k then held k o else None
+
+  abbrev pub live_opened : Called L → ℕ → Bool
+  live_opened k o = is_live k && is_opened k o
+
 -- ---- the last attempt in a log
 
 -- the log as it was after the last Begin of caller c
@@ -92,3 +90,9 @@ abbrev pub begun_log : ℕ → List Event → List Event
 begun_log c [] = []
 begun_log c (event ∷ before) =
     if (event.caller == c) && is_begin event.kind then event ∷ before else begun_log c before
+
+-- the events after the last Begin of caller c, of all callers
+abbrev pub since_begin : ℕ → List Event → List Event
+since_begin c [] = []
+since_begin c (event ∷ before) =
+    if (event.caller == c) && is_begin event.kind then [] else event ∷ since_begin c before

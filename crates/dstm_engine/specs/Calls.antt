@@ -1,5 +1,5 @@
 -- What a call of the engine does.
-use Rattle.std.specs.Prelude.{◌≡◌, ◌⊎◌, true, List, [], ◌∷◌, ◌++◌, Option, None, IsSome}
+use Rattle.std.specs.Prelude.{◌≡◌, ◌⊎◌, ℕ, true, List, [], ◌∷◌, ◌++◌, Option, None, IsSome, is_some, ◌||◌, if◌then◌else◌}
 use Rattle.rand_pcg.specs.Lcg.{Lcg}
 use Rattle.dstm_model.specs.declared.value.Val.{Val}
 use Rattle.dstm_core.specs.Events.{Event}
@@ -9,8 +9,10 @@ use Rattle.dstm_core.specs.Runs.{local}
 use Rattle.dstm_core.specs.Traces.{IsPastOf, events_of}
 use Rattle.dstm_order.specs.declared.again.Again.{Again}
 use Rattle.dstm_order.specs.Calls.{IsCall, answer_of, effort_of}
-use Rattle.dstm_order.specs.Tasks.{Task}
+use Rattle.dstm_order.specs.Tasks.{Task, Work}
+use Rattle.dstm_order.specs.Tasks.Work.{Reading, Writing}
 use Rattle.dstm_progress.specs.Alone.{AreCalls, Made, all_events, generator_after, last_answer}
+use Rattle.dstm_progress.specs.Oldest.{OpensToWrite}
 use Rattle.dstm_words.specs.Steps.{IsRunOf}
 use Rattle.dstm_engine.specs.Callers.{Called, shape_of, state, is_live, begun_log}
 
@@ -18,6 +20,10 @@ use Rattle.dstm_engine.specs.Callers.{Called, shape_of, state, is_live, begun_lo
 abbrev pub newest_answer : Shape → LocalState → Lcg → List Made → Option Again
 newest_answer shape began generator [] = None
 newest_answer shape began generator (call ∷ calls) = last_answer shape began generator call calls
+
+-- an open for reading, which is one for writing where all opens are
+abbrev pub reading : Shape → ℕ → Work
+reading shape o = if shape.all_write then Writing o else Reading o
 
 module _ {L : Type 0} where
   -- the caller as its last attempt began
@@ -28,14 +34,19 @@ module _ {L : Type 0} where
   abbrev pub IsMade : Called L → Type 0
   IsMade k = (is_live k ≡ true) ⊎ (IsSome k.left ⊎ ((state k).committed ≡ true))
 
+  -- the last attempt is live, or was left by a call on it
+  abbrev pub IsUnderWay : Called L → Type 0
+  IsUnderWay k = is_live k || is_some k.left ≡ true
+
   -- The caller's own events since its last Begin are those of calls made one after the other, the newest of which
-  -- answered what the caller was given last.
+  -- answered what the caller was given last. Where all opens are for writing none of them opened for reading.
   pub record IsTold (k : Called L) : Type 0 where
     pub calls : List Made
     pub own : events_of k.number k.log ≡ all_events calls ++ events_of k.number (begun_log k.number k.log)
     pub are_calls : AreCalls (shape_of k) (begun_state k) k.began calls
     pub generator : k.generator ≡ generator_after (shape_of k) (begun_state k) k.began calls
     pub left : k.left ≡ newest_answer (shape_of k) (begun_state k) k.began calls
+    pub writes : (shape_of k).all_write ≡ true → OpensToWrite calls
 
   module _ (holds : L → List Val → Type 0) where
     -- A CALL: the caller's own events since are those of the order of steps, and it answers as this says. What the

@@ -5,3 +5,11 @@ pub mod Tables
 pub mod Mirror
 pub mod Enrolled
 pub mod Closing
+pub mod Opened
+pub mod Began
+pub mod Beginnings
+pub mod Outcomes
+pub mod Transactions
+pub mod Endings
+pub mod Places
+pub mod Opens

@@ -1,12 +1,12 @@
 -- How the fields of a caller stand for what contracts see of it.
-use Rattle.std.specs.Prelude.{◌≡◌, ◌≢◌, ℕ, ◌<◌, ◌≤◌, Bool, true, false, List, [], ◌∷◌, length, map, Option, None, Some, if◌then◌else◌}
+use Rattle.std.specs.Prelude.{◌≡◌, ◌≢◌, ℕ, ◌+◌, ◌<◌, ◌≤◌, Bool, true, false, List, [], ◌∷◌, length, map, Option, None, Some, IfSome}
 use Rattle.dstm_model.specs.declared.value.Val.{Val}
 use Rattle.dstm_core.specs.Histories.{old_values, read_values}
 use Rattle.dstm_core.specs.State.{LocalState, record_resolved}
 use Rattle.dstm_core.specs.declared.state.Phase.{Phase}
 use Rattle.dstm_core.specs.declared.state.Phase.TheVariants.{Outside, Running}
 use Rattle.dstm_core.specs.declared.shape.Manager.TheVariants.{Greedy}
-use Rattle.dstm_caller.specs.Reads.{kept, words_of}
+use Rattle.dstm_caller.specs.Reads.{words_of}
 use Rattle.dstm_caller.specs.Under.{IsMirror}
 use Rattle.dstm_caller.specs.Writes.{AreWrites}
 use Rattle.dstm_caller.specs.declared.slots.ReadSlot.{ReadSlot}
@@ -16,6 +16,7 @@ use Rattle.dstm_engine.specs.declared.caller.Caller.TheInside.{Inside}
 use Rattle.dstm_engine.specs.Callers.{Called, shape_of, start_of, seat_view, state, entry}
 use Rattle.dstm_engine.specs.Attempts.{Sighted}
 use Rattle.dstm_engine.specs.Calls.{IsMade, IsTold}
+use Rattle.dstm_engine.specs.Outcomes.{IsLeft, Promises}
 
 -- a value that was set, before others
 abbrev pub with_new : ℕ → Option Val → List (ℕ × Val) → List (ℕ × Val)
@@ -27,12 +28,13 @@ abbrev pub set_pairs : List WriteSlot → List (ℕ × Val)
 set_pairs [] = []
 set_pairs (slot ∷ slots) = with_new slot.object slot.new (set_pairs slots)
 
--- the objects and the values of the slots that are kept
-abbrev pub kept_values : List ReadSlot → List (ℕ × Val)
-kept_values [] = []
-kept_values (slot ∷ slots) = if slot.kept then (slot.object, slot.value) ∷ kept_values slots else kept_values slots
+-- the word and the value of a read, and the old value of an object open for writing, each with its object
+abbrev pub slot_word : ReadSlot → ℕ × ℕ
+slot_word slot = (slot.object, slot.word)
 
--- the old values of the objects open for writing
+abbrev pub slot_value : ReadSlot → ℕ × Val
+slot_value slot = (slot.object, slot.value)
+
 abbrev pub slot_old : WriteSlot → ℕ × Val
 slot_old slot = (slot.object, slot.old)
 
@@ -57,7 +59,7 @@ module _ {L : Type 0} where
     generator = c.steps.decider.generator;
     began = c.began.value.generator;
     fresh = c.fresh;
-    set = set_pairs c.writes.items;
+    set = set_pairs c.opened.writes;
     left = c.left;
   }
 
@@ -72,19 +74,22 @@ module _ {L : Type 0} where
     pub manager : (c.steps.decider.manager ≡ c.terms.shape.manager) × (c.began.value.manager ≡ c.terms.shape.manager)
     pub fresh : c.fresh ≡ false → ((state (called c)).committed ≡ false)
         × (c.terms.shape.manager ≡ Greedy → (state (called c)).stands ≡ true)
+    pub unused : ((state (called c)).stamped ≡ false) × ((state (called c)).ranked ≡ false)
     pub last_number : c.live ≡ true → (state (called c)).last_pass ≡ c.last_number
     pub rest : c.live ≡ true → AtRest (state (called c))
     pub left : c.live ≡ true → c.left ≡ None
+    pub ended : IfSome c.left (λ again. IsLeft (called c) again × Promises (called c) again)
     pub uncommitted : c.live ≡ true → (state (called c)).committed ≡ false
     pub told : IsMade (called c) → IsTold (called c)
     pub sighted : c.live ≡ true → (entry (called c)).reads ≢ [] → Sighted (called c)
-    pub reads : c.live ≡ true → words_of (state (called c)).reads ≡ kept c.reads.items
+    pub reads : c.live ≡ true → words_of (state (called c)).reads ≡ map slot_word c.opened.reads
     pub values : c.live ≡ true →
         read_values (shape_of (called c)) (start_of (called c)) (called c).log (state (called c)).reads
-        ≡ kept_values c.reads.items
-    pub writes : c.live ≡ true → AreWrites c.writes.items (state (called c)).writes
+        ≡ map slot_value c.opened.reads
+    pub writes : c.live ≡ true → AreWrites c.opened.writes (state (called c)).writes
     pub olds : c.live ≡ true →
         old_values (shape_of (called c)) (start_of (called c)) (called c).log (state (called c)).writes
-        ≡ map slot_old c.writes.items
-    pub room : (length c.reads.items ≤ c.terms.shape.objects) × (length c.writes.items ≤ c.terms.shape.objects)
-        × (length c.places.items ≡ c.terms.shape.objects)
+        ≡ map slot_old c.opened.writes
+    pub objects : c.opened.objects ≡ c.terms.shape.objects
+    pub locators : c.live ≡ true → (state (called c)).installed + c.terms.shape.objects
+        ≤ c.terms.shape.locators + length (state (called c)).writes

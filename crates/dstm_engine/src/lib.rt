@@ -1,14 +1,19 @@
 //! A table of values that threads share, what gives out its callers, and what is kept of it when it is closed.
 #![tactic(auto)]
 
+mod beginning;
 mod caller;
 mod closing;
 mod error;
+mod making;
+mod opened;
+mod opening;
 mod stm;
+mod tx;
 
 pub use caller::Caller;
-pub use error::EnrolError;
+pub use dstm_caller::Tally;
+pub use error::{Done, Ended, EnrolError, Spent};
+pub use making::{attempt, attempt_loose};
 pub use stm::{Founder, Record, Stm};
-
-#[cfg(test)]
-mod tests;
+pub use tx::Tx;

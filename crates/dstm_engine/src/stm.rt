@@ -3,7 +3,7 @@ ghost use Rattle.dstm_core.specs.Histories.{history_of};
 ghost use Rattle.dstm_core.specs.Words.{IsValid, place};
 ghost use Rattle.dstm_engine.specs.Callers.{Called};
 ghost use Rattle.dstm_engine.specs.Tables.{Enrols, Retires, founded};
-ghost use Rattle.dstm_model.specs.Map.{state_after};
+ghost use Rattle.dstm_model.specs.Map.{state_after, value_at};
 ghost use Rattle.dstm_opacity.specs.Laws.{IsCurrent};
 ghost use Rattle.dstm_words.specs.Seats.{view_of, CanEnrol, IsOf, IsOut};
 ghost use Rattle.dstm_words.specs.Steps.{IsRunOf, Joined, Makes};
@@ -14,9 +14,10 @@ ghost use Rattle.dstm_core.specs.Words.Word.{CallersWord};
 ghost use Rattle.dstm_words.specs.Views.{given_part, kept_part};
 ghost use Rattle.dstm_engine.specs.Tables.{IsFull};
 
-use crate::caller::{Caller, Room};
+use crate::caller::Caller;
 use crate::closing::settle;
 use crate::error::EnrolError;
+use crate::opened::Opened;
 use dstm_core::{Kind, Shape};
 use dstm_managers::Decider;
 use dstm_model::{Law, Val};
@@ -159,6 +160,15 @@ impl<L: Law> Stm<L> {
         }
     }
 
+    // The value that an object had first.
+    pub(crate) fn first(&self, o: u32) -> Val
+        requires values { length self.now.terms.start.value.items ≡ self.now.terms.shape.objects }
+        requires exists { o < self.now.terms.shape.objects }
+        ensures { result ≡ value_at self.now.terms.start.value.items o }
+    {
+        self.start[o as usize]
+    }
+
     // Draws the number of a caller whose seat has none.
     fn enrol(&self, seat: &mut CoreSeat<L>) -> u32
         requires seat { IsOf self.now seat.old }
@@ -189,6 +199,7 @@ impl<L: Law> Stm<L> {
             (history_of self.terms.shape self.terms.start.value.items founder.view.log)) }
         ensures current { IfOk result (λ t.
             IsCurrent self.terms.shape self.terms.start.value.items founder.view.log t.0.items) }
+        ensures lawful { IfOk result (λ t. L.holds self.terms.law.value t.0.items) }
         ensures record { IfOk result (λ t. t.1 ≡ record { terms = self.terms; log = founder.view.log }) }
         ensures run { IfOk result (λ t. IsRunOf L.holds t.1.terms t.1.log) }
     {
@@ -207,6 +218,7 @@ impl<L: Law> Stm<L> {
             (history_of self.terms.shape self.terms.start.value.items founder.view.log)) }
         ensures current { IfOk result (λ values.
             IsCurrent self.terms.shape self.terms.start.value.items founder.view.log values.items) }
+        ensures lawful { IfOk result (λ values. L.holds self.terms.law.value values.items) }
     {
         let Founder { seat, .. } = founder;
         self.last_values(alloc, seat)
@@ -221,6 +233,7 @@ impl<L: Law> Stm<L> {
             (history_of self.terms.shape self.terms.start.value.items (view_of seat).log)) }
         ensures current { IfOk result (λ values.
             IsCurrent self.terms.shape self.terms.start.value.items (view_of seat).log values.items) }
+        ensures lawful { IfOk result (λ values. L.holds self.terms.law.value values.items) }
         ensures run { IfOk result (λ _. IsRunOf L.holds self.terms (view_of seat).log) }
     {
         let Stm {
@@ -252,13 +265,13 @@ impl<L: Law> Founder<L> {
         if self.made == stm.shape.callers {
             return Err(EnrolError::Full);
         }
-        let room = Room::make(alloc, stm.shape.objects).map_err(EnrolError::Memory)?;
+        let opened = Opened::make(alloc, stm.shape.objects).map_err(EnrolError::Memory)?;
         let mut seat = stm.words.split(&mut self.seat);
         self.made += 1;
         self.out += 1;
         let number = stm.enrol(&mut seat);
         let decider = Decider::make(stm.shape.manager, seed);
-        Ok(Caller::enrolled(stm.terms(), seat, number, decider, room))
+        Ok(Caller::enrolled(stm.terms(), seat, number, decider, opened))
     }
 
     /// Quits the attempt of a caller if it was dropped before its end, and takes in what the caller has seen.

@@ -12,7 +12,7 @@ use Rattle.dstm_words.specs.declared.view.View.{View}
 use Rattle.dstm_engine.specs.Callers.{Called, is_running, seat_view, shape_of, state}
 use Rattle.dstm_engine.specs.Calls.{Performs}
 use Rattle.dstm_engine.specs.Mirror.{called, phase_by}
-use Rattle.dstm_engine.proofs.Leaving.{left_already, not_made, own_below, quit_allowed, quit_run, quit_state, quit_view, quits}
+use Rattle.dstm_engine.proofs.Leaving.{left_already, none_holds, not_made, own_below, quit_allowed, quit_run, quit_state, quit_view, quits}
 use Rattle.dstm_engine.proofs.caller.Caller.leave.Goals as goal
 
 pub status-status-requires-clause-below : goal.status-status-requires-clause-below
@@ -45,7 +45,7 @@ invariant_of-self g c =
     let v = c.self.invariant in
     let ph = v.phase ∙ ap phase_by c.if-self.true in
     let k = called c.self.inside in
-    let w = c.exchange-found.new.seat.me.0 in
+    let w = c.exchange-found.new.self.me.0 in
     let found = found_in c.exchange-found.result in
     let m : Makes g.L.Law.holds (seat_view k) (Exchange 1 5) Quit c.status-status.result found w =
     subst (λ (x : View _). Makes g.L.Law.holds x (Exchange 1 5) Quit c.status-status.result found w) v.seat.0
@@ -72,9 +72,14 @@ invariant_of-self g c =
         ap (λ (l : LocalState). l.committed) st ∙ f.0,
         (λ greedy. ap (λ (l : LocalState). l.stands) st ∙ f.1 greedy),
       );
+      unused = (
+        ap (λ (l : LocalState). l.stamped) st ∙ v.unused.0,
+        ap (λ (l : LocalState). l.ranked) st ∙ v.unused.1,
+      );
       last_number = λ h. absurd (cc h);
       rest = λ h. absurd (cc h);
       left = λ h. absurd (cc h);
+      ended = none_holds _ _ (v.left c.if-self.true);
       uncommitted = λ h. absurd (cc h);
       told = λ made. absurd (not_made (record k { log = w.log })
           (ap (λ (l : LocalState). is_running l.phase) st) (v.left c.if-self.true)
@@ -84,7 +89,8 @@ invariant_of-self g c =
       values = λ h. absurd (cc h);
       writes = λ h. absurd (cc h);
       olds = λ h. absurd (cc h);
-      room = v.room;
+      objects = v.objects;
+      locators = λ h. absurd (cc h);
     }
 
 pub returns-then-self-clause-steps : goal.returns-then-self-clause-steps
@@ -92,7 +98,7 @@ returns-then-self-clause-steps g c =
     let v = c.self.invariant in
     let ph = v.phase ∙ ap phase_by c.if-self.true in
     let k = called c.self.inside in
-    let w = c.exchange-found.new.seat.me.0 in
+    let w = c.exchange-found.new.self.me.0 in
     let found = found_in c.exchange-found.result in
     let m : Makes g.L.Law.holds (seat_view k) (Exchange 1 5) Quit c.status-status.result found w =
     subst (λ (x : View _). Makes g.L.Law.holds x (Exchange 1 5) Quit c.status-status.result found w) v.seat.0
@@ -103,10 +109,10 @@ returns-then-self-clause-steps g c =
     c.code-active.ensures c.exchange-found.ensures.event)) in
     let home : k.home ≡ c.words.result.now =
     ap (λ (x : Called _). x.home) c.self.view_is ∙ c.requires.table ∙ sym c.words.ensures in
-    let table : c.exchange-found.new.seat.table_id ≡ k.home.table =
+    let table : c.exchange-found.new.self.table_id ≡ k.home.table =
     c.exchange-found.ensures.seat.0 ∙ sym (ap (λ (h : Home _). h.table) home) in
     subst (λ (x : Called _). Performs g.L.Law.holds Leaving x (record k {
-      home = record { table = c.exchange-found.new.seat.table_id; terms = c.self.inside.terms };
+      home = record { table = c.exchange-found.new.self.table_id; terms = c.self.inside.terms };
       log = w.log;
     }) None) c.self.view_is
     (subst (λ t. Performs g.L.Law.holds Leaving k (record k {

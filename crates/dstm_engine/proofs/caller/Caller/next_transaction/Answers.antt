@@ -1,3 +1,5 @@
+use Rattle.dstm_engine.proofs.Abandoning.{fresh_ended}
+use Rattle.dstm_engine.specs.Mirror.{called}
 use Rattle.dstm_engine.proofs.caller.Caller.next_transaction.Goals as goal
 
 pub invariant_of-self : goal.invariant_of-self
@@ -11,9 +13,11 @@ invariant_of-self g c = let v = c.self.invariant in record {
   phase = v.phase;
   manager = v.manager;
   fresh = λ h. absurd (cc h);
+  unused = v.unused;
   last_number = v.last_number;
   rest = v.rest;
   left = v.left;
+  ended = fresh_ended (called c.self.inside) c.self.inside.left v.ended;
   uncommitted = v.uncommitted;
   told = λ m. let t = v.told m in record {
     calls = t.calls;
@@ -21,6 +25,7 @@ invariant_of-self g c = let v = c.self.invariant in record {
     are_calls = t.are_calls;
     generator = t.generator;
     left = t.left;
+    writes = t.writes;
   };
   sighted = λ live some. let t = v.sighted live some in record {
     later = t.later;
@@ -36,5 +41,6 @@ invariant_of-self g c = let v = c.self.invariant in record {
   values = v.values;
   writes = v.writes;
   olds = v.olds;
-  room = v.room;
+  objects = v.objects;
+  locators = v.locators;
 }

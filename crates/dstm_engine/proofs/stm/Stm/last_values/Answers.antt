@@ -1,7 +1,8 @@
-use Rattle.std.proofs.Common.{◌∙◌, ◌≡◌, Vec, ap, subst, sym}
+use Rattle.std.proofs.Common.{◌∙◌, ◌≡◌, [], Vec, ap, append-nil, subst, sym}
 use Rattle.dstm_core.specs.Histories.{history_of}
 use Rattle.dstm_core.specs.declared.shape.Shape.{Shape}
 use Rattle.dstm_model.specs.Map.{state_after}
+use Rattle.dstm_opacity.proofs.Opacity.{prefix_is_lawful}
 use Rattle.dstm_opacity.specs.Laws.{IsCurrent}
 use Rattle.dstm_words.specs.Seats.{Home}
 use Rattle.dstm_words.specs.Steps.{IsRunOf}
@@ -41,3 +42,13 @@ returns-clause-run g c =
     subst (λ (h : Home _). IsRunOf g.L.Law.holds h.terms c.args.seat.me.0.log) c.self.view_is
     (last_run g.L.Law.holds c.self.inside.words.terms c.args.seat.me.0 c.in_ok-left.left.items c.in_ok-left.ensures
     c.requires.whole.0 c.requires.whole.1)
+
+pub returns-clause-lawful : goal.returns-clause-lawful
+returns-clause-lawful g c =
+    let h = c.args.self in
+    let start = h.terms.start.value.items in
+    let history = history_of h.terms.shape start c.args.seat.me.0.log in
+    let run = returns-clause-run g c in
+    subst (g.L.Law.holds h.terms.law.value) (sym (returns-clause-values g c))
+    (prefix_is_lawful h.terms.shape start (g.L.Law.holds h.terms.law.value) c.args.seat.me.0.log history [] run.run
+    (sym (append-nil history)) run.lawful)

@@ -1,8 +1,8 @@
 ghost use Rattle.std.specs.Prelude.{◌≡◌, ◌<◌, ◌≤◌};
 ghost use Rattle.dstm_core.specs.Words.{IsValid};
 
-use super::*;
 use dstm_core::{Kind, Manager, Shape};
+use dstm_engine::{EnrolError, Spent, Stm};
 use dstm_model::{AnyLaw, Val};
 use std::test::Fail;
 
@@ -65,5 +65,27 @@ fn one_guest(rt: HostRuntime) -> Result<(), Fail> {
     assert_eq!(rt; founder.out(), 0);
     let values = stm.close_plain(rt.alloc(), founder)?;
     assert_eq!(rt; values.as_slice(), [five, six].as_slice());
+    Ok(())
+}
+
+// An attempt that opens nothing is rechecked and commits, under the first number. It is the only one of its caller.
+#[test]
+fn empty_attempt(rt: HostRuntime) -> Result<(), Fail> {
+    let five = Val { low: 5, high: 1 };
+    let six = Val { low: 6, high: 2 };
+    let start = vec![in rt.alloc(); five, six]?;
+    let (stm, mut founder) = Stm::make(rt.alloc(), start, small(1), AnyLaw)?;
+    let Ok(caller) = founder.caller(rt.alloc(), &stm, 0) else {
+        return Err(Fail::new("no caller"));
+    };
+    let mut caller = caller;
+    let Ok(tx) = caller.begin(&stm) else {
+        return Err(Fail::new("spent"));
+    };
+    let mut tx = tx;
+    assert_eq!(rt; tx.recheck(), Ok(()));
+    assert_eq!(rt; tx.commit(), Ok(0));
+    assert!(rt; !caller.is_live());
+    assert!(rt; matches!(caller.begin(&stm), Err(Spent)));
     Ok(())
 }

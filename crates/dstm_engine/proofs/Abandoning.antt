@@ -1,0 +1,165 @@
+-- An attempt that is given up, and what is known of it.
+use Rattle.std.proofs.Common.{◌||◌, ◌+◌, ◌++◌, ◌==◌, ◌∙◌, ◌∷◌, ◌<◌, ◌≡◌, ◌⊎◌, Bool, List, None, Option, Some, [], ap, arith, cond, false, inl, inr, refl, subst, sym, true, ℕ}
+use Rattle.std.specs.Prelude.{IfSome, count_by, if◌then◌else◌, is_some}
+use Rattle.std.proofs.lemmas.Bool.{cases_Bool}
+use Rattle.std.proofs.lemmas.List.Elements.{filter-append}
+use Rattle.std.proofs.lemmas.List.Sums.{sum_by-cons}
+use Rattle.dstm_core.specs.Counts.{begin_count, is_begin}
+use Rattle.dstm_core.specs.Events.{Event}
+use Rattle.dstm_core.specs.Rules.{is_outside}
+use Rattle.dstm_core.specs.State.{LocalState}
+use Rattle.dstm_core.specs.Traces.{events_of}
+use Rattle.dstm_core.specs.declared.event.Kind.{Kind}
+use Rattle.dstm_core.specs.declared.event.Kind.TheVariants.{Quit}
+use Rattle.dstm_core.specs.declared.shape.Shape.{Shape}
+use Rattle.dstm_model.specs.declared.value.Val.{Val}
+use Rattle.dstm_order.specs.Calls.{Obeys, state_after}
+use Rattle.dstm_order.specs.Order.{IsDue, just}
+use Rattle.dstm_order.specs.Order.Due.{Done}
+use Rattle.dstm_order.specs.Tasks.Task.{Leaving}
+use Rattle.dstm_order.specs.declared.again.Again.{Again}
+use Rattle.rand_pcg.specs.Lcg.{Lcg}
+use Rattle.dstm_core.proofs.Counted.{begins_are_counted}
+use Rattle.dstm_core.proofs.Static.{running, static}
+use Rattle.dstm_progress.proofs.Bound.{alone_is_bounded}
+use Rattle.dstm_progress.proofs.Prices.{prices_by_count}
+use Rattle.dstm_words.specs.Steps.{IsRunOf}
+use Rattle.dstm_engine.proofs.Alone.{Begun, begun_at, bounded, cancel}
+use Rattle.dstm_engine.specs.Mirror.{Tied, called}
+use Rattle.dstm_engine.specs.declared.caller.Caller.TheInside.{Inside}
+use Rattle.dstm_engine.specs.Callers.{Called, begun_log, is_live, is_running, shape_of, state}
+use Rattle.dstm_engine.specs.Calls.{IsUnderWay, Performs}
+use Rattle.dstm_engine.specs.Outcomes.{IsEnded, IsLeft, Promises}
+
+-- what is known of a caller whose attempt was left is known whatever its next attempt begins
+pub fresh_ended : {L : Type 0} (k : Called L) (left : Option Again) →
+    IfSome left (λ again. IsLeft k again × Promises k again) →
+    IfSome left (λ again. IsLeft (record k { fresh = true }) again × Promises (record k { fresh = true }) again)
+fresh_ended k None h = tt
+fresh_ended k (Some again) h = (
+  record {
+    over = h.0.over;
+    aborted = h.0.aborted;
+    disturbed = h.0.disturbed;
+    callers = h.0.callers;
+    other = h.0.other;
+  },
+  record {
+    alone = λ a. h.1.alone (record { own = a.own; manager = a.manager });
+    oldest = λ b. h.1.oldest (record { greedy = b.greedy; oldest = b.oldest });
+    all_write = λ b w. h.1.all_write (record { greedy = b.greedy; oldest = b.oldest }) w;
+  },
+)
+
+-- ---- the last Begin in a longer log
+
+abbrev NoneBegins : List Event → Type 0
+NoneBegins [] = Unit {0}
+NoneBegins (e ∷ es) = (is_begin e.kind ≡ false) × NoneBegins es
+
+begun_more : (c : ℕ) (later before : List Event) → NoneBegins (events_of c later) →
+    begun_log c (later ++ before) ≡ begun_log c before
+begun_more c [] before h = refl
+begun_more c (e ∷ later) before h = by (begun_more c later before) (cases_Bool (e.caller == c)) h
+  where
+    by : (NoneBegins (events_of c later) → begun_log c (later ++ before) ≡ begun_log c before) →
+        (e.caller == c ≡ true) ⊎ (e.caller == c ≡ false) → NoneBegins (events_of c (e ∷ later)) →
+        begun_log c (e ∷ (later ++ before)) ≡ begun_log c before
+    by ih (inl q) h = let all : NoneBegins (e ∷ events_of c later) = rw q at h in rw (q, all.0) (ih all.1)
+    by ih (inr q) h = let all : NoneBegins (events_of c later) = rw q at h in rw q (ih all)
+
+-- a call without a Begin keeps the last one
+pub begun_stays : (c : ℕ) (later before events : List Event) →
+    events_of c (later ++ before) ≡ events ++ events_of c before → NoneBegins events →
+    begun_log c (later ++ before) ≡ begun_log c before
+begun_stays c later before events own none =
+    begun_more c later before
+    (subst NoneBegins (sym (cancel (events_of c later) events (events_of c before)
+    (sym (filter-append (λ (e : Event). e.caller == c) later before) ∙ own))) none)
+
+quit_begins : (k : Kind) → k ≡ Quit → is_begin k ≡ false
+quit_begins Quit h = refl
+quit_begins k h = absurd (cc)
+
+quit_due : (b : Bool) (e : Event) → IsDue (if b then Done else just Quit) e → is_begin e.kind ≡ false
+quit_due true e h = absurd h
+quit_due false e h = quit_begins e.kind h.0
+
+leaving_begins : (s : Shape) (l : LocalState) (gen : Lcg) (es : List Event) → Obeys Leaving s l gen es → NoneBegins es
+leaving_begins s l gen [] h = tt
+leaving_begins s l gen (e ∷ es) h = (
+  quit_due (is_outside (state_after s l es).phase) e h.1,
+  leaving_begins s l gen es h.0,
+)
+
+pub leaving_keeps : {L : Type 0} (holds : L → List Val → Type 0) (k n : Called L) → Performs holds Leaving k n None →
+    begun_log n.number n.log ≡ begun_log k.number k.log
+leaving_keeps holds k n p =
+    ap (λ c. begun_log c n.log) p.same.1
+    ∙ subst (λ xs. begun_log k.number xs ≡ begun_log k.number k.log) p.seen.whole
+    (begun_stays k.number p.seen.later k.log p.events
+    (subst (λ xs. events_of k.number xs ≡ p.events ++ events_of k.number k.log) (sym p.seen.whole) p.own)
+    (leaving_begins (shape_of k) (state k) k.generator p.events p.call.obeys))
+
+-- ---- what is known of an attempt that ends
+
+none_more : (b : Bool) (n m : ℕ) → m ≡ cond {A = ℕ} b 1 0 + n → b ≡ false → n ≡ 0 → m ≡ 0
+none_more true n m h q z = absurd (cc)
+none_more false n m h q z = omega arith
+
+none_begun : (c : ℕ) (log : List Event) → begun_log c log ≡ [] → begin_count c log ≡ 0
+none_begun c [] h = refl
+none_begun c (e ∷ log) h = by (none_begun c log) (cases_Bool (e.caller == c)) (cases_Bool (is_begin e.kind))
+  where
+    own : (e.caller == c ≡ true) → events_of c (e ∷ log) ≡ e ∷ events_of c log
+    own q = rw q refl
+
+    by : (begun_log c log ≡ [] → begin_count c log ≡ 0) → (e.caller == c ≡ true) ⊎ (e.caller == c ≡ false) →
+        (is_begin e.kind ≡ true) ⊎ (is_begin e.kind ≡ false) → begin_count c (e ∷ log) ≡ 0
+    by ih (inl q) (inl b) = let z : e ∷ log ≡ [] = rw (q, b) at h in absurd (cc)
+    by ih (inl q) (inr b) =
+        let z : begun_log c log ≡ [] = rw (q, b) at h in
+        none_more (is_begin e.kind) (begin_count c log) (begin_count c (e ∷ log))
+        (ap (λ xs. count_by (λ (x : Event). is_begin x.kind) xs) (own q)
+        ∙ sum_by-cons (λ (x : Event). cond (is_begin x.kind) 1 0) e (events_of c log)) b (ih z)
+    by ih (inr q) b = let z : begun_log c log ≡ [] = rw q at h in rw q (ih z)
+
+-- a caller that has begun an attempt has its Begin in its log
+pub has_begin : {L : Type 0} (k : Called L) → 0 < (state k).begun → Begun k.number k.log
+has_begin k some = begun_at k.number k.log (λ none.
+    let z = none_begun k.number k.log none in
+    let q = begins_are_counted (shape_of k) k.log k.number in omega arith)
+
+pub begun_of : {L : Type 0} (holds : L → List Val → Type 0) (k : Called L) → IsRunOf holds k.home.terms k.log →
+    is_live k ≡ true → 0 < (state k).begun
+begun_of holds k run live =
+    (running (shape_of k) k.number (state k) (static (shape_of k) k.log run.run.core k.number)
+    (λ out. let z = ap is_running out in cc)).1
+
+pub ended_is_known : {L : Type 0} (holds : L → List Val → Type 0) (c : Inside L) → Tied holds c →
+    IsUnderWay (called c) → IsEnded (called c)
+ended_is_known holds c v way = by (cases_Bool (is_live (called c)))
+  where
+    by : (is_live (called c) ≡ true) ⊎ (is_live (called c) ≡ false) → IsEnded (called c)
+    by (inl live) = record {
+      told = v.told (inl live);
+      left = v.ended;
+      bounded = λ none.
+          bounded (called c) (v.told (inl live)) v.run.run.core
+          (has_begin (called c) (begun_of holds (called c) v.run live)) alone_is_bounded prices_by_count;
+    }
+    by (inr dead) =
+        let left : is_some c.left ≡ true = subst (λ b. b || is_some c.left ≡ true) dead way in
+        record {
+          told = v.told (inr (inl left));
+          left = v.ended;
+          bounded = λ none. absurd (cc);
+        }
+
+-- an attempt that was given an answer was under way
+pub under_way : {L : Type 0} (k : Called L) (again : Again) → k.left ≡ Some again → IsUnderWay k
+under_way k again left = by (is_live k) (ap is_some left)
+  where
+    by : (b : Bool) → is_some k.left ≡ true → b || is_some k.left ≡ true
+    by true h = refl
+    by false h = h

@@ -1,0 +1,159 @@
+-- The laws of progress, as a caller's log has them.
+use Rattle.std.proofs.Common.{◌&&◌, ◌++◌, ◌+◌, ◌*◌, ◌==◌, ◌≤◌, ◌∙◌, ◌∷◌, ◌≡◌, ◌⊎◌, Bool, List, [], ap, arith, cond, false, inl, inr, length, length-append, refl, subst, sym, true, ℕ}
+use Rattle.std.proofs.lemmas.Bool.{and_parts, cases_Bool, cond_both, eq-eqb, eqb-true}
+use Rattle.std.proofs.lemmas.List.Elements.{filter-append}
+use Rattle.dstm_core.specs.Runs.{Core, local}
+use Rattle.dstm_core.specs.State.{LocalState}
+use Rattle.dstm_core.specs.Traces.{events_of}
+use Rattle.dstm_core.specs.Events.{Event}
+use Rattle.dstm_core.specs.declared.event.Kind.{Kind}
+use Rattle.dstm_core.specs.declared.event.Kind.TheVariants.{Begin}
+use Rattle.dstm_core.specs.declared.shape.Shape.{Shape}
+use Rattle.dstm_core.specs.declared.state.Phase.TheVariants.{Outside}
+use Rattle.dstm_managers.specs.Meetings.{most_turns}
+use Rattle.dstm_order.specs.Counts.{Counts, counted, counts_after, counts_of}
+use Rattle.dstm_progress.specs.Alone.{AloneBound, AloneCommits, AreCalls, AreOf, IsAlone, IsUnmet, PricesByCount, all_events, count, is_open}
+use Rattle.dstm_core.specs.Counts.{is_begin}
+use Rattle.dstm_engine.specs.Callers.{Called, begun_log, shape_of, since_begin, state}
+use Rattle.dstm_engine.specs.Calls.{IsTold}
+use Rattle.dstm_engine.specs.Outcomes as outcomes
+
+-- a log is what stands since a caller's last Begin, on what stood then
+pub log_parts : (c : ℕ) (log : List Event) → log ≡ since_begin c log ++ begun_log c log
+log_parts c [] = refl
+log_parts c (e ∷ log) = go (log_parts c log) ((e.caller == c) && is_begin e.kind)
+  where
+    go : log ≡ since_begin c log ++ begun_log c log → (b : Bool) →
+        e ∷ log ≡ cond b [] (e ∷ since_begin c log) ++ cond b (e ∷ log) (begun_log c log)
+    go ih true = refl
+    go ih false = ap (λ xs. e ∷ xs) ih
+
+all_of : (c : ℕ) (es : List Event) → AreOf c es → events_of c es ≡ es
+all_of c [] h = refl
+all_of c (e ∷ es) h = rw (eq-eqb e.caller c h.0, all_of c es h.1) refl
+
+pub cancel : {A : Type 0} → (xs ys zs : List A) → xs ++ zs ≡ ys ++ zs → xs ≡ ys
+cancel [] [] zs h = refl
+cancel [] (y ∷ ys) zs h =
+    let a : length zs ≡ length (y ∷ (ys ++ zs)) = ap length h in let b = length-append ys zs in absurd (omega arith)
+cancel (x ∷ xs) [] zs h =
+    let a : length (x ∷ (xs ++ zs)) ≡ length zs = ap length h in let b = length-append xs zs in absurd (omega arith)
+cancel (x ∷ xs) (y ∷ ys) zs h =
+    let t : xs ++ zs ≡ ys ++ zs = cc in let head : x ≡ y = cc in
+    ap (λ v. v ∷ xs) head ∙ ap (λ vs. y ∷ vs) (cancel xs ys zs t)
+
+-- where no other made a step since, the events since the Begin are those of the calls
+since_is : (c : ℕ) (log calls : List Event) → events_of c log ≡ calls ++ events_of c (begun_log c log) →
+    AreOf c (since_begin c log) → since_begin c log ≡ calls
+since_is c log calls told own =
+    cancel (since_begin c log) calls (events_of c (begun_log c log))
+    (ap (λ xs. xs ++ events_of c (begun_log c log)) (sym (all_of c (since_begin c log) own))
+    ∙ sym (filter-append (λ (e : Event). e.caller == c) (since_begin c log) (begun_log c log))
+    ∙ ap (events_of c) (sym (log_parts c log)) ∙ told)
+
+is_kind : (k : Kind) → is_begin k ≡ true → k ≡ Begin
+is_kind Begin h = refl
+is_kind k h = absurd (cc)
+
+-- what stood at the last Begin, if there is one
+pub record Begun (c : ℕ) (log : List Event) : Type 0 where
+  pub begin : Event
+  pub before : List Event
+  pub is : begun_log c log ≡ begin ∷ before
+  pub kind : begin.kind ≡ Begin
+  pub own : begin.caller ≡ c
+
+pub begun_at : (c : ℕ) (log : List Event) → (begun_log c log ≡ [] → ⊥) → Begun c log
+begun_at c [] h = absurd (h refl)
+begun_at c (e ∷ log) h = go (begun_at c log) (cases_Bool ((e.caller == c) && is_begin e.kind))
+  where
+    go : ((begun_log c log ≡ [] → ⊥) → Begun c log) →
+        ((e.caller == c) && is_begin e.kind ≡ true) ⊎ ((e.caller == c) && is_begin e.kind ≡ false) → Begun c (e ∷ log)
+    go ih (inl q) = let two = and_parts (e.caller == c) (is_begin e.kind) q in
+        record { begin = e; before = log; is = rw q refl; kind = is_kind e.kind two.1; own = eqb-true e.caller c two.0 }
+    go ih (inr q) = let b = ih (λ z. h (rw q z)) in
+        record { begin = b.begin; before = b.before; is = rw q b.is; kind = b.kind; own = b.own }
+
+are_right : (c : ℕ) (xs ys : List Event) → AreOf c (xs ++ ys) → AreOf c ys
+are_right c [] ys h = h
+are_right c (x ∷ xs) ys h = are_right c xs ys h.1
+
+module _ {L : Type 0} (k : Called L) (t : IsTold k) (alone : outcomes.IsAlone k)
+    (core : Core (shape_of k) k.log) (b : Begun k.number k.log) where
+  since : since_begin k.number k.log ≡ all_events t.calls
+  since = since_is k.number k.log (all_events t.calls) t.own alone.own
+
+  -- the log is that of the calls, on what stood at the Begin
+  pub whole : k.log ≡ all_events t.calls ++ b.begin ∷ b.before
+  whole =
+      log_parts k.number k.log ∙ ap (λ xs. xs ++ begun_log k.number k.log) since
+      ∙ ap (λ xs. all_events t.calls ++ xs) b.is
+
+  -- so the laws speak of this attempt
+  pub alone_is : IsAlone (shape_of k) k.began t.calls b.begin b.before
+  alone_is = record {
+    core = subst (Core (shape_of k)) whole core;
+    begins = b.kind;
+    alone = subst (λ c. AreOf c (all_events t.calls)) (sym b.own) (subst (AreOf k.number) since alone.own);
+    made =
+        subst (λ (l : LocalState). AreCalls (shape_of k) l k.began t.calls)
+        (ap (λ xs. local (shape_of k) xs k.number) b.is ∙ ap (λ c. local (shape_of k) (b.begin ∷ b.before) c) (sym b.own))
+        t.are_calls;
+  }
+
+  unmet_of : IsUnmet (shape_of k) k.number k.log → IsUnmet (shape_of k) b.begin.caller b.before
+  unmet_of (inl x) = inl x
+  unmet_of (inr x) =
+      inr (subst (λ c. AreOf c b.before) (sym b.own)
+      (are_right k.number (all_events t.calls) (b.begin ∷ b.before) (subst (AreOf k.number) whole x)).1)
+
+  same_state : local (shape_of k) (all_events t.calls ++ b.begin ∷ b.before) b.begin.caller ≡ state k
+  same_state =
+      ap (λ xs. local (shape_of k) xs b.begin.caller) (sym whole) ∙ ap (λ c. local (shape_of k) k.log c) b.own
+
+  -- it is left only by its commit
+  pub commits : AloneCommits → (state k).phase ≡ Outside → (state k).committed ≡ true
+  commits law out =
+      ap (λ (l : LocalState). l.committed) (sym same_state)
+      ∙ law (shape_of k) k.began t.calls b.begin b.before alone_is (unmet_of alone.manager) (ap (λ (l : LocalState). l.phase) same_state ∙ out)
+
+-- one event more counts at most one step more
+step_counts : (l : LocalState) (n : Counts) (e : Event) (k : Kind) (m : ℕ) → n.steps ≤ m →
+    (counts_after k l n e).steps ≤ m + 1
+step_counts l n e Begin m h = omega arith
+step_counts l n e k m h =
+    cond_both (l.begun == 0) n (counted k l n e) (λ (x : Counts). x.steps ≤ m + 1) (λ _. omega arith) (λ _. omega arith)
+
+begin_counts : (l : LocalState) (n : Counts) (e : Event) (k : Kind) → k ≡ Begin → (counts_after k l n e).steps ≡ 1
+begin_counts l n e Begin q = refl
+begin_counts l n e k q = absurd (cc)
+
+counts_at_most : (s : Shape) (es before : List Event) (begin : Event) → begin.kind ≡ Begin →
+    (counts_of s (es ++ begin ∷ before) begin.caller).steps ≤ length es + 1
+counts_at_most s [] before begin k =
+    let h : (counts_of s (begin ∷ before) begin.caller).steps ≡ 1 =
+    rw (eq-eqb begin.caller begin.caller refl)
+    (begin_counts (local s before begin.caller) (counts_of s before begin.caller) begin begin.kind k) in omega arith
+counts_at_most s (e ∷ es) before begin k =
+    let ih = counts_at_most s es before begin k in
+    let l = local s (es ++ begin ∷ before) begin.caller in
+    let n = counts_of s (es ++ begin ∷ before) begin.caller in
+    cond_both (e.caller == begin.caller) (counts_after e.kind l n e) n (λ (x : Counts). x.steps ≤ length (e ∷ es) + 1)
+    (λ _. let q = step_counts l n e e.kind (length es + 1) ih in omega arith) (λ _. omega arith)
+
+-- its steps are within the bound
+pub bounded : {L : Type 0} (k : Called L) (t : IsTold k) → Core (shape_of k) k.log → Begun k.number k.log → AloneBound →
+    PricesByCount → outcomes.IsBounded k t.calls
+bounded k t core b law sum alone =
+    let steps = counts_at_most (shape_of k) (all_events t.calls) b.before b.begin b.kind in
+    let few = law (shape_of k) k.began t.calls b.begin b.before (alone_is k t alone core b)
+    (unmet_of k t alone core b alone.manager) in
+    let cost = sum (shape_of k).manager t.calls in
+    let here : counts_of (shape_of k) k.log k.number
+    ≡ counts_of (shape_of k) (all_events t.calls ++ b.begin ∷ b.before) b.begin.caller
+    = ap (λ xs. counts_of (shape_of k) xs k.number) (whole k t alone core b)
+    ∙ ap (λ c. counts_of (shape_of k) (all_events t.calls ++ b.begin ∷ b.before) c) (sym b.own) in
+    let same = ap (λ (x : Counts). x.steps) here in
+    let more : count is_open t.calls * (most_turns (shape_of k).manager + 16)
+    ≤ count is_open t.calls * (most_turns (shape_of k).manager + 17) = omega arith in
+    omega arith

@@ -1,0 +1,274 @@
+-- A caller after it was to begin an attempt.
+use Rattle.std.proofs.Common.{◌++◌, ◌+◌, ◌==◌, ◌≤◌, ◌∙◌, ◌∷◌, ◌≡◌, ◌⊎◌, List, None, [], ap, arith, false, inl, inr, length, refl, subst, sym, true, ℕ}
+use Rattle.std.specs.Prelude.{IfSome, is_some}
+use Rattle.std.specs.declared.snapshot.Snapshot.{Snapshot}
+use Rattle.std.proofs.lemmas.Bool.{cases_Bool, eq-eqb}
+use Rattle.dstm_answers.proofs.Stays.{call_adds_none}
+use Rattle.dstm_answers.specs.Committed.{done_by}
+use Rattle.dstm_caller.specs.Reads.{words_of}
+use Rattle.dstm_caller.specs.Under.{InTask, now}
+use Rattle.dstm_caller.specs.Writes.{AreWrites}
+use Rattle.dstm_caller.specs.declared.steps.Steps.{Steps}
+use Rattle.dstm_core.proofs.Stamps.{standing}
+use Rattle.dstm_core.specs.Events.{Event}
+use Rattle.dstm_core.specs.Rules.{begin}
+use Rattle.dstm_core.specs.Runs.{Core, local}
+use Rattle.dstm_core.specs.Histories.{entry_of, old_values, read_values}
+use Rattle.dstm_core.specs.State.{LocalState, write_of}
+use Rattle.dstm_core.specs.Traces.{events_of}
+use Rattle.dstm_core.specs.declared.state.Phase.TheVariants.{Running}
+use Rattle.dstm_managers.specs.Choices.{DeciderState}
+use Rattle.dstm_mem.specs.Memory.{value_in}
+use Rattle.dstm_model.specs.Map.{value_at}
+use Rattle.dstm_model.specs.declared.value.Val.{Val}
+use Rattle.dstm_order.specs.Calls.{newest_of}
+use Rattle.dstm_order.specs.Efforts.{Effort}
+use Rattle.dstm_order.specs.Order.{has_begun, is_spent}
+use Rattle.dstm_order.specs.Order.Due.{Done}
+use Rattle.dstm_order.specs.Tasks.Task.{Beginning}
+use Rattle.dstm_progress.proofs.Own.{newest_own}
+use Rattle.dstm_words.specs.Seats.{view_of}
+use Rattle.dstm_engine.proofs.Calling.{performs}
+use Rattle.dstm_engine.proofs.Leaving.{not_made}
+use Rattle.dstm_engine.proofs.Locators.{unspent_enough}
+use Rattle.dstm_engine.proofs.Starting.{Ended, beginning_none, beginning_still, ended_is, ends_with_begin}
+use Rattle.dstm_engine.proofs.Tying.{mirror_then, renewed, state_then}
+use Rattle.dstm_engine.specs.Attempts.{done}
+use Rattle.dstm_engine.specs.Began.{began_of}
+use Rattle.dstm_engine.specs.Beginnings.{ended}
+use Rattle.dstm_engine.specs.Callers.{begun_log, held, is_running, state}
+use Rattle.dstm_engine.specs.Calls.{IsMade, IsTold}
+use Rattle.dstm_engine.specs.Outcomes.{IsLeft, Promises}
+use Rattle.dstm_engine.specs.Mirror.{AtRest, Tied, called}
+use Rattle.dstm_engine.specs.Transactions.{BeginsAnew, SpentFrom}
+use Rattle.dstm_engine.specs.declared.caller.Caller.TheInside.{Inside}
+
+-- a log whose newest event is the caller's Begin
+at_begin_of : (c : ℕ) (log es rest : List Event) → has_begun (newest_of es) ≡ true →
+    IfSome (newest_of es) (λ event. (before : List Event) × (log ≡ event ∷ before)) → events_of c log ≡ es ++ rest →
+    log ≡ begun_log c log
+at_begin_of c log [] rest begins top own = absurd (cc)
+at_begin_of c log (e ∷ es) rest begins top own =
+    let mine : e.caller == c ≡ true = eq-eqb e.caller c (newest_own c log e (es ++ rest) own).own in
+    subst (λ xs. xs ≡ begun_log c xs) (sym top.1) (rw (mine, begins) refl)
+
+module _ {L : Type 0} (holds : L → List Val → Type 0) (c : Inside L) (v : Tied holds c) (new : Steps L)
+    (u : InTask holds (called c).home (Beginning c.fresh) (began_of (Beginning c.fresh) (called c)) new Done None) where
+  st : local c.terms.shape (view_of new.seat).log c.number ≡ now (called c).home new
+  st = state_then holds c (Beginning c.fresh) new None u
+
+  e : Ended (state (called c)) (ended c.live (state (called c)))
+  e = ended_is c.live (state (called c)) v.phase
+
+  -- the generator is as it was
+  same_decider : new.decider.generator ≡ c.steps.decider.generator
+  same_decider =
+      sym (ap (λ (x : Effort). x.generator) u.effort)
+      ∙ ap (λ (x : Effort). x.generator)
+      (beginning_still c.terms.shape c.fresh (state (called c)) c.steps.decider.generator u.events u.obeys)
+
+  -- nothing was committed
+  same_done : done_by c.terms.shape c.terms.start.value.items (view_of new.seat).log (view_of new.seat).log c.number
+      ≡ done (called c)
+  same_done =
+      subst (λ xs. done_by c.terms.shape c.terms.start.value.items xs xs c.number ≡ done (called c)) u.seen.whole
+      (call_adds_none c.terms.shape c.terms.start.value.items u.seen.later (called c).log c.number u.events
+      (subst (Core c.terms.shape) (sym u.seen.whole) u.run.run.core)
+      (subst (λ xs. events_of c.number xs ≡ u.events ++ events_of c.number (called c).log) (sym u.seen.whole) u.own)
+      (beginning_none c.terms.shape c.fresh (state (called c)) c.steps.decider.generator u.events u.obeys))
+
+  -- ---- it is spent
+
+  module _ (is : now (called c).home new ≡ ended c.live (state (called c)))
+      (idle : c.live ≡ false → new ≡ renewed c.steps) where
+    ends : Ended (state (called c)) (local c.terms.shape (view_of new.seat).log c.number)
+    ends = subst (Ended (state (called c))) (sym (st ∙ is)) e
+
+    told_then : IsMade (called (record c { steps = new; live = false })) →
+        IsTold (called (record c { steps = new; live = false }))
+    told_then = by (cases_Bool c.live)
+      where
+        by : (c.live ≡ true) ⊎ (c.live ≡ false) → IsMade (called (record c { steps = new; live = false })) →
+            IsTold (called (record c { steps = new; live = false }))
+        by (inl live) made =
+            absurd (not_made (called (record c { steps = new; live = false })) (ap is_running ends.outside) (v.left live)
+            (ends.committed ∙ v.uncommitted live) made)
+        by (inr dead) made =
+            (subst (λ (x : Steps L). IsMade (called (record c { steps = x })) → IsTold (called (record c { steps = x })))
+            (sym (idle dead)) v.told) made
+
+    ended_then : IfSome c.left (λ again. IsLeft (called (record c { steps = new; live = false })) again
+        × Promises (called (record c { steps = new; live = false })) again)
+    ended_then = by (cases_Bool c.live)
+      where
+        by : (c.live ≡ true) ⊎ (c.live ≡ false) →
+            IfSome c.left (λ again. IsLeft (called (record c { steps = new; live = false })) again
+            × Promises (called (record c { steps = new; live = false })) again)
+        by (inl live) =
+            subst (λ left. IfSome left (λ again. IsLeft (record (called (record c { steps = new })) { left = left }) again
+            × Promises (record (called (record c { steps = new })) { left = left }) again)) (sym (v.left live)) tt
+        by (inr dead) =
+            subst (λ (x : Steps L). IfSome c.left (λ again. IsLeft (called (record c { steps = x })) again
+            × Promises (called (record c { steps = x })) again)) (sym (idle dead)) v.ended
+
+    pub spent_tied : Tied holds (record c { steps = new; live = false })
+    spent_tied = record {
+      seat = (u.view, u.seat.1);
+      run = u.run;
+      number = (v.number.0, ends.number ∙ v.number.1);
+      shape = u.shape;
+      mirror = mirror_then holds c (Beginning c.fresh) new None u;
+      begun = ends.begun ∙ v.begun;
+      phase = ends.outside;
+      manager = (u.manager, v.manager.1);
+      fresh = λ h. let f = v.fresh h in (ends.committed ∙ f.0, (λ greedy. ends.stands ∙ f.1 greedy));
+      unused = (ends.stamped ∙ v.unused.0, ends.ranked ∙ v.unused.1);
+      last_number = λ h. absurd (cc h);
+      rest = λ h. absurd (cc h);
+      left = λ h. absurd (cc h);
+      ended = ended_then;
+      uncommitted = λ h. absurd (cc h);
+      told = told_then;
+      sighted = λ h. absurd (cc h);
+      reads = λ h. absurd (cc h);
+      values = λ h. absurd (cc h);
+      writes = λ h. absurd (cc h);
+      olds = λ h. absurd (cc h);
+      objects = v.objects;
+      locators = λ h. absurd (cc h);
+    }
+
+    pub spent_from : is_spent c.terms.shape (state (called c)) ≡ true →
+        SpentFrom holds (called c) (called (record c { steps = new; live = false }))
+    spent_from spent = record {
+      steps = performs holds (called c) (Beginning c.fresh) new None (called (record c { steps = new; live = false })) u
+          refl refl (ap (λ t. record (called c).home { table = t }) u.seat.0) refl;
+      caller =
+          ap (λ t. record (called (record c { steps = new })) { home = record { table = t; terms = c.terms } }) u.seat.0
+          ∙ ap (λ generator. record (called c) { log = (view_of new.seat).log; generator = generator }) same_decider;
+      live = ap is_running ends.outside;
+      begun = ends.begun;
+      same_done = same_done;
+      spent = spent;
+      used_up = rw (ends.begun, ends.installed) spent;
+    }
+
+  -- ---- it has begun an attempt
+
+  module _ (began : Snapshot DeciderState) (took : began.value ≡ c.steps.decider)
+      (is : now (called c).home new ≡ begin (record (ended c.live (state (called c))) {
+        rank = new.rank;
+        stands = (now (called c).home new).stands;
+      })) where
+    -- the caller then
+    abbrev pub anew : Inside L
+    anew = record c {
+      steps = new;
+      begun = c.begun + 1;
+      fresh = false;
+      live = true;
+      last_number = None;
+      left = None;
+      began = began;
+      opened = record c.opened { reads = []; writes = [] };
+    }
+
+    is_begun : state (called anew) ≡ begin (record (ended c.live (state (called c))) {
+      rank = new.rank;
+      stands = (now (called c).home new).stands;
+    })
+    is_begun = st ∙ is
+
+    runs : (state (called anew)).phase ≡ Running
+    runs = ap (λ (l : LocalState). l.phase) is_begun
+
+    at_begin : (view_of new.seat).log ≡ begun_log c.number (view_of new.seat).log
+    at_begin =
+        at_begin_of c.number (view_of new.seat).log u.events (events_of c.number (called c).log)
+        (ends_with_begin c.terms.shape c.fresh (newest_of u.events) (now (called c).home new) (ap (λ (l : LocalState). l.phase) is)
+        u.due) u.top u.own
+
+    pub anew_tied : is_spent c.terms.shape (state (called c)) ≡ false → Tied holds anew
+    anew_tied enough = record {
+      seat = (u.view, u.seat.1);
+      run = u.run;
+      number = (v.number.0, ap (λ (l : LocalState). l.number) is_begun ∙ e.number ∙ v.number.1);
+      shape = u.shape;
+      mirror = mirror_then holds c (Beginning c.fresh) new None u;
+      begun = ap (λ (l : LocalState). l.begun) is_begun ∙ ap (λ n. n + 1) (e.begun ∙ v.begun);
+      phase = runs;
+      manager = (u.manager, ap (λ (d : DeciderState). d.manager) took ∙ v.manager.0);
+      fresh = λ h. (
+        ap (λ (l : LocalState). l.committed) is_begun,
+        (λ greedy. (standing c.terms.shape (view_of new.seat).log greedy u.run.run.core c.number).inside
+            (λ out. let r = runs in cc)),
+      );
+      unused = (ap (λ (l : LocalState). l.stamped) is_begun, ap (λ (l : LocalState). l.ranked) is_begun);
+      last_number = λ h. ap (λ (l : LocalState). l.last_pass) is_begun;
+      rest = λ h. subst AtRest (sym is_begun) (record {
+        agreed = refl;
+        no_pass = refl;
+        not_put = (refl, refl);
+        recorded = refl;
+      });
+      left = λ h. refl;
+      ended = tt;
+      uncommitted = λ h. ap (λ (l : LocalState). l.committed) is_begun;
+      told = λ made. record {
+        calls = [];
+        own = ap (events_of c.number) at_begin;
+        are_calls = tt;
+        generator = same_decider ∙ sym (ap (λ (d : DeciderState). d.generator) took);
+        left = refl;
+        writes = λ w. tt;
+      };
+      sighted = λ h some. absurd (some
+          (ap (λ (l : LocalState). (entry_of c.terms.shape c.terms.start.value.items (view_of new.seat).log l).reads)
+          is_begun));
+      reads = λ h. ap (λ (l : LocalState). words_of l.reads) is_begun;
+      values = λ h. ap (λ (l : LocalState). read_values c.terms.shape c.terms.start.value.items (view_of new.seat).log
+          l.reads) is_begun;
+      writes = λ h. subst (λ (l : LocalState). AreWrites [] l.writes) (sym is_begun) tt;
+      olds = λ h. ap (λ (l : LocalState). old_values c.terms.shape c.terms.start.value.items (view_of new.seat).log
+          l.writes) is_begun;
+      objects = v.objects;
+      locators = λ h. subst (λ (l : LocalState). l.installed + c.terms.shape.objects
+          ≤ c.terms.shape.locators + length l.writes) (sym is_begun)
+          (let few = unspent_enough c.terms.shape (state (called c)) enough in
+          let same = e.installed in omega arith);
+    }
+
+    unread : (o : ℕ) → held (called anew) o ≡ None
+    unread o =
+        ap (λ (l : LocalState). value_in (entry_of c.terms.shape c.terms.start.value.items (view_of new.seat).log l).reads
+        o) is_begun
+
+    pub begins_anew : is_spent c.terms.shape (state (called c)) ≡ false → BeginsAnew holds (called c) (called anew)
+    begins_anew enough = record {
+      steps = performs holds (called c) (Beginning c.fresh) new None (called anew) u refl refl
+          (ap (λ t. record (called c).home { table = t }) u.seat.0) refl;
+      caller =
+          ap (λ t. record (called anew) { home = record { table = t; terms = c.terms } }) u.seat.0
+          ∙ ap (λ generator. record (called anew) { home = (called c).home; generator = generator }) same_decider
+          ∙ ap (λ (d : DeciderState). record (called anew) {
+            home = (called c).home;
+            generator = c.steps.decider.generator;
+            began = d.generator;
+          }) took;
+      live = ap is_running runs;
+      begun = ap (λ (l : LocalState). l.begun) is_begun ∙ ap (λ n. n + 1) e.begun;
+      at_begin = at_begin;
+      unread = unread;
+      unwritten = λ o. refl;
+      unopened = λ o. ap (λ (l : LocalState). is_some (write_of o l.writes)) is_begun;
+      same_done = same_done;
+      enough = enough;
+      admits = (
+        c.terms.start.value.items,
+        record {
+          length = u.run.run.values;
+          lawful = u.run.lawful;
+          agrees = λ o. subst (λ h. IfSome h (λ w. value_at c.terms.start.value.items o ≡ w)) (sym (unread o)) tt;
+        },
+      );
+    }

@@ -1,0 +1,176 @@
+-- A caller after a commit.
+use Rattle.std.proofs.Common.{◌<◌, ◌∙◌, ◌∷◌, ◌≡◌, List, None, Option, Some, ap, arith, cond, false, refl, subst, sym, true, ℕ}
+use Rattle.std.specs.Prelude.{Bool, IfSome}
+use Rattle.dstm_answers.specs.Committed.{attempt_of, done_by}
+use Rattle.dstm_caller.proofs.Stepping.{call_of}
+use Rattle.dstm_caller.specs.Under.{InTask, now}
+use Rattle.dstm_caller.specs.declared.steps.Steps.{Steps}
+use Rattle.dstm_causes.proofs.Adding.{is_added}
+use Rattle.dstm_causes.proofs.Committing.{commit_ends}
+use Rattle.dstm_causes.proofs.OwnEvents.{after_own, allowed_own}
+use Rattle.dstm_causes.specs.Ends.{IsCallIn, StaysAt}
+use Rattle.dstm_core.specs.Words.{code_of}
+use Rattle.dstm_core.specs.declared.status.Status.TheVariants as status
+use Rattle.dstm_core.specs.Histories.{entry_of, new_values}
+use Rattle.dstm_core.specs.Runs.{local}
+use Rattle.dstm_core.specs.State.{LocalState, or_zero}
+use Rattle.dstm_core.specs.declared.state.Phase.TheVariants.{Outside}
+use Rattle.dstm_mem.specs.Memory.{value_in}
+use Rattle.dstm_model.specs.declared.value.Val.{Val}
+use Rattle.dstm_order.specs.Order.Due.{Done}
+use Rattle.dstm_order.specs.Tasks.{Work}
+use Rattle.dstm_order.specs.Tasks.Task.{Doing}
+use Rattle.dstm_order.specs.Tasks.Work.{Committing}
+use Rattle.dstm_order.specs.declared.again.Again.{Again}
+use Rattle.dstm_progress.proofs.Bound.{alone_is_bounded}
+use Rattle.dstm_progress.proofs.Prices.{prices_by_count}
+use Rattle.dstm_words.specs.Seats.{view_of}
+use Rattle.dstm_engine.proofs.Abandoning.{begun_of, has_begin}
+use Rattle.dstm_engine.proofs.Alone.{bounded}
+use Rattle.dstm_engine.proofs.Committing.{handed_value, unwritten}
+use Rattle.dstm_engine.proofs.Continuing.{doing_keeps, told_more}
+use Rattle.dstm_engine.proofs.Left.{begun_there, call_there, current_there, over_tied, performed, told_there}
+use Rattle.dstm_engine.proofs.Plain.{are_plain, is_closed}
+use Rattle.dstm_engine.proofs.PutValues.{commit_puts, given_in, given_values}
+use Rattle.dstm_engine.proofs.Rechecked.{plain_misses}
+use Rattle.dstm_engine.proofs.Steady.{held_same, same_generator, same_there}
+use Rattle.dstm_engine.proofs.Tying.{live_there, state_then}
+use Rattle.dstm_engine.specs.Attempts.{Commits, done}
+use Rattle.dstm_engine.specs.Began.{began_of}
+use Rattle.dstm_engine.specs.Callers.{Called, begun_log, handed, is_opened, is_running, shape_of, state}
+use Rattle.dstm_engine.specs.Calls.{IsTold, Performs}
+use Rattle.dstm_engine.specs.Mirror.{Tied, called, phase_by}
+use Rattle.dstm_engine.specs.Outcomes.{IsEnded, IsLeft, Promises}
+use Rattle.dstm_engine.specs.Transactions.{Stays, new_value}
+use Rattle.dstm_engine.specs.declared.caller.Caller.TheInside.{Inside}
+
+-- a recheck or a commit has no exchange but those on its own status
+pub closed_stays : {L : Type 0} (holds : L → List Val → Type 0) (k n : Called L) (work : Work) → is_closed work ≡ true →
+    Performs holds (Doing work) k n None → Stays holds work k n
+closed_stays holds k n work closed p = record {
+  steps = p;
+  missed =
+      let none = plain_misses work p.events
+      (are_plain work (shape_of k) (state k) k.generator p.events closed p.call.obeys) in
+      omega arith;
+}
+
+module _ {L : Type 0} (holds : L → List Val → Type 0) (c : Inside L) (v : Tied holds c) (live : c.live ≡ true)
+    (new : Steps L)
+    (u : InTask holds (called c).home (Doing (Committing (new_value (called c))))
+    (began_of (Doing (Committing (new_value (called c)))) (called c)) new Done None) where
+  abbrev pub committed_as : Inside L
+  committed_as = record c { steps = new; live = false; fresh = true }
+
+  work : Work
+  work = Committing (new_value (called c))
+
+  steps : Performs holds (Doing (Committing (new_value (called c)))) (called c) (called committed_as) None
+  steps =
+      performed holds c v live (Committing (new_value (called c))) new None u (called committed_as) refl refl refl refl
+
+  pub committed_stays : Stays holds (Committing (new_value (called c))) (called c) (called committed_as)
+  committed_stays =
+      closed_stays holds (called c) (called committed_as) (Committing (new_value (called c))) refl steps
+
+  pub committed_attempt : begun_log c.number (view_of new.seat).log ≡ begun_log c.number (called c).log
+  committed_attempt =
+      doing_keeps holds (Committing (new_value (called c))) (called c) (called committed_as) None steps
+
+  pub committed_kept : called committed_as
+      ≡ record (called c) { log = (view_of new.seat).log; left = None; fresh = true }
+  committed_kept =
+      ap (λ t. record (called committed_as) { home = record { table = t; terms = c.terms } }) u.seat.0
+      ∙ ap (λ g. record (called c) { log = (view_of new.seat).log; generator = g; fresh = true })
+      (same_generator holds c v live (Committing (new_value (called c))) refl new None u)
+      ∙ ap (λ left. record (called c) { log = (view_of new.seat).log; left = left; fresh = true }) (v.left live)
+
+  ends : ((state (called committed_as)).phase ≡ Outside) × ((state (called committed_as)).committed ≡ true)
+      × StaysAt c.terms.shape (view_of new.seat).log c.number (code_of status.Committed)
+  ends =
+      commit_ends (new_value (called c)) c.terms.shape c.number c.steps.decider.generator u.events (called c).log
+      (view_of new.seat).log (call_there holds c v live (Committing (new_value (called c))) new None u)
+      (current_there holds c v live (Committing (new_value (called c))) new None u).live
+      (call_of holds (called c).home (began_of (Doing (Committing (new_value (called c)))) (called c)) new None u).1
+
+  told : (left : Option Again) → left ≡ None → IsTold (record (called committed_as) { left = left })
+  told left none =
+      told_more (called c) (told_there holds c v live (Committing (new_value (called c))) new None u) holds
+      (Committing (new_value (called c))) (record (called committed_as) { left = left }) None
+      (performed holds c v live (Committing (new_value (called c))) new None u
+      (record (called committed_as) { left = left }) refl refl refl refl)
+      committed_attempt refl none (λ _. tt)
+
+  pub committed_tied : Tied holds committed_as
+  committed_tied =
+      subst (λ left. Tied holds (record committed_as { left = left })) (sym (v.left live))
+      (over_tied holds c v live (Committing (new_value (called c))) new None u c.last_number true ends.0 (λ h. absurd (cc h))
+      tt (told None refl))
+
+  pub committed_ended : IsEnded (called committed_as)
+  committed_ended = record {
+    told = told c.left (v.left live);
+    left =
+        subst (λ left. IfSome left (λ again. IsLeft (record (called committed_as) { left = left }) again
+        × Promises (record (called committed_as) { left = left }) again)) (sym (v.left live)) tt;
+    bounded = λ none.
+        bounded (called committed_as) (told c.left (v.left live)) u.run.run.core
+        (has_begin (called committed_as)
+        (subst (λ n. 0 < n) (sym (begun_there holds c v live (Committing (new_value (called c))) new None u))
+        (begun_of holds (called c) v.run (sym (live_there holds c v) ∙ live)))) alone_is_bounded prices_by_count;
+  }
+
+  -- the new values are those last set, or the old ones
+  new_are : new_values c.terms.shape (view_of new.seat).log (state (called committed_as)).writes
+      ≡ given_values (new_value (called c)) (state (called c)).writes
+  new_are =
+      ap (new_values c.terms.shape (view_of new.seat).log)
+      (same_there holds c v live (Committing (new_value (called c))) refl new None u).writes
+      ∙ commit_puts c.terms.shape c.number (new_value (called c)) (view_of new.seat).log (called c).log
+      c.steps.decider.generator u.events u.run.run.core u.own
+      (allowed_own c.terms.shape c.number (view_of new.seat).log (called c).log u.events u.run.run.core u.own) u.obeys
+      (are_plain (Committing (new_value (called c))) c.terms.shape (state (called c)) c.steps.decider.generator u.events
+      refl u.obeys)
+      (v.phase ∙ ap phase_by live) (v.uncommitted live) (v.rest live).not_put.0 (v.rest live).not_put.1
+      (ap (λ (l : LocalState). l.committed)
+      (sym (after_own c.terms.shape c.number (view_of new.seat).log (called c).log u.events u.own)) ∙ ends.1)
+
+  written_then : (o : ℕ) → value_in (new_values c.terms.shape (view_of new.seat).log (state (called committed_as)).writes) o
+      ≡ cond (is_opened (called c) o) (handed (called c) o) None
+  written_then o =
+      ap (λ ps. value_in ps o) new_are ∙ given_in (new_value (called c)) (state (called c)).writes o
+      ∙ by (is_opened (called c) o) refl
+    where
+      by : (b : Bool) → is_opened (called c) o ≡ b →
+          cond b (Some (new_value (called c) o)) None ≡ cond b (handed (called c) o) None
+      by true q = handed_value holds c v live o q
+      by false q = refl
+
+  pub commits : (number : ℕ) → (now (called c).home new).drawn ≡ Some number →
+      Commits (called c) (called committed_as) number
+  commits number drawn = record {
+    over = ap is_running ends.0;
+    status = ends.2;
+    entry = entry_of c.terms.shape c.terms.start.value.items (view_of new.seat).log (state (called committed_as));
+    done =
+        subst (λ xs. done_by c.terms.shape c.terms.start.value.items xs xs c.number
+        ≡ attempt_of c.terms.shape c.terms.start.value.items xs c.number (local c.terms.shape xs c.number)
+        ∷ done (called c)) u.seen.whole
+        (is_added (Committing (new_value (called c))) c.terms.shape c.terms.start.value.items c.number
+        c.steps.decider.generator u.events u.seen.later (called c).log
+        (subst (IsCallIn (Doing (Committing (new_value (called c)))) c.terms.shape c.number c.steps.decider.generator
+        u.events (called c).log) (sym u.seen.whole)
+        (call_there holds c v live (Committing (new_value (called c))) new None u))
+        (current_there holds c v live (Committing (new_value (called c))) new None u).live
+        (subst (λ xs. (local c.terms.shape xs c.number).committed ≡ true) (sym u.seen.whole) ends.1))
+        ∙ ap (λ n. record {
+          caller = c.number;
+          number = n;
+          entry = entry_of c.terms.shape c.terms.start.value.items (view_of new.seat).log (state (called committed_as));
+        } ∷ done (called c))
+        (ap (λ (l : LocalState). or_zero l.drawn)
+        (state_then holds c (Doing (Committing (new_value (called c)))) new None u) ∙ ap or_zero drawn);
+    reads = λ o. held_same holds c v live (Committing (new_value (called c))) refl new None u o;
+    writes = written_then;
+    only = λ o. unwritten holds c v live o;
+  }

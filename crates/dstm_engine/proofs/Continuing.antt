@@ -1,0 +1,162 @@
+-- One call more on an attempt.
+use Rattle.std.proofs.Common.{◌++◌, ◌==◌, ◌∙◌, ◌∷◌, ◌≡◌, ◌≢◌, ◌⊎◌, List, Option, [], ap, append_assoc, false, inl, inr, refl, subst, sym, true, ℕ}
+use Rattle.std.specs.Prelude.{if◌then◌else◌}
+use Rattle.std.proofs.lemmas.Bool.{cases_Bool, eqb-true}
+use Rattle.std.proofs.lemmas.List.Elements.{filter-append}
+use Rattle.dstm_core.proofs.Underway.{not_begin}
+use Rattle.dstm_core.specs.Counts.{is_begin}
+use Rattle.dstm_core.specs.declared.event.Kind.{Kind}
+use Rattle.dstm_core.specs.declared.event.Kind.TheVariants.{Begin}
+use Rattle.dstm_core.specs.declared.state.Phase.TheVariants.{Outside}
+use Rattle.dstm_order.specs.Order.{Due, IsDue, due}
+use Rattle.dstm_order.specs.Order.Due.{Done}
+use Rattle.dstm_core.specs.Events.{Event}
+use Rattle.dstm_core.specs.Runs.{Core, local}
+use Rattle.dstm_core.specs.State.{LocalState}
+use Rattle.dstm_core.specs.Traces.{events_of}
+use Rattle.dstm_core.specs.declared.shape.Shape.{Shape}
+use Rattle.dstm_model.specs.declared.value.Val.{Val}
+use Rattle.dstm_order.specs.Calls.{IsCall, Obeys, answer_of, effort_of, newest_of, state_after}
+use Rattle.dstm_order.specs.Efforts.{Effort}
+use Rattle.dstm_order.specs.Tasks.{Task, Work}
+use Rattle.dstm_order.specs.Tasks.Task.{Doing}
+use Rattle.dstm_order.specs.declared.again.Again.{Again}
+use Rattle.dstm_causes.proofs.OwnEvents.{after_own}
+use Rattle.dstm_progress.proofs.Own.{own_state}
+use Rattle.dstm_progress.specs.Alone.{AreCalls, Made, all_events, generator_after, last_answer}
+use Rattle.dstm_progress.specs.Oldest.{IsNoReading}
+use Rattle.rand_pcg.specs.Lcg.{Lcg}
+use Rattle.dstm_order.proofs.Misses.{missed_is}
+use Rattle.dstm_order.specs.Passes.{misses}
+use Rattle.dstm_caller.specs.Under.{Began, InTask}
+use Rattle.dstm_caller.specs.declared.steps.Steps.{Steps}
+use Rattle.dstm_words.specs.Seats.{Home}
+use Rattle.dstm_engine.proofs.Alone.{cancel}
+use Rattle.dstm_engine.specs.Callers.{Called, begun_log, shape_of, state}
+use Rattle.dstm_engine.specs.Calls.{IsTold, Performs, begun_state, newest_answer}
+
+module _ {L : Type 0} (k : Called L) (t : IsTold k) where
+  -- the state of a caller after the calls on its attempt
+  pub told_state : state_after (shape_of k) (begun_state k) (all_events t.calls) ≡ state k
+  told_state = sym (after_own (shape_of k) k.number k.log (begun_log k.number k.log) (all_events t.calls) t.own)
+
+  module _ (holds : L → List Val → Type 0) (work : Work) (n : Called L) (again : Option Again)
+      (p : Performs holds (Doing work) k n again) where
+    -- the calls on it, and one more
+    abbrev pub one_more : Made
+    one_more = record { work = work; events = p.events }
+
+    pub more_calls : AreCalls (shape_of k) (begun_state k) k.began (one_more ∷ t.calls)
+    more_calls = (
+      t.are_calls,
+      subst (λ (g : Lcg). IsCall (Doing work) (shape_of k)
+          (state_after (shape_of k) (begun_state k) (all_events t.calls)) g p.events) t.generator
+          (subst (λ (l : LocalState). IsCall (Doing work) (shape_of k) l k.generator p.events) (sym told_state) p.call),
+    )
+
+    pub more_answer : again ≡ last_answer (shape_of k) (begun_state k) k.began one_more t.calls
+    more_answer =
+        p.answers
+        ∙ ap (λ (l : LocalState). answer_of (Doing work) (shape_of k) l k.generator p.events) (sym told_state)
+        ∙ ap (λ (g : Lcg). answer_of (Doing work) (shape_of k)
+        (state_after (shape_of k) (begun_state k) (all_events t.calls)) g p.events) t.generator
+
+    pub told_more : begun_log n.number n.log ≡ begun_log k.number k.log → n.began ≡ k.began → n.left ≡ again →
+        ((shape_of k).all_write ≡ true → IsNoReading work) → IsTold n
+    told_more same_begin same_generator left writes =
+        let s = shape_of k in
+        let call = one_more in
+        let shape : shape_of n ≡ s = ap (λ h. h.terms.shape) p.same.0 in
+        let began : begun_state n ≡ begun_state k =
+        ap (λ s. local s (begun_log n.number n.log) n.number) shape
+        ∙ ap (λ xs. local s xs n.number) same_begin
+        ∙ ap (local s (begun_log k.number k.log)) p.same.1 in
+        record {
+          calls = call ∷ t.calls;
+          own =
+              ap (λ c. events_of c n.log) p.same.1 ∙ p.own ∙ ap (λ xs. p.events ++ xs) t.own
+              ∙ sym (append_assoc p.events (all_events t.calls) (events_of k.number (begun_log k.number k.log)))
+              ∙ ap (λ xs. (p.events ++ all_events t.calls) ++ events_of k.number xs) (sym same_begin)
+              ∙ ap (λ c. (p.events ++ all_events t.calls) ++ events_of c (begun_log n.number n.log)) (sym p.same.1);
+          are_calls =
+              subst (λ s. AreCalls s (begun_state n) n.began (call ∷ t.calls)) (sym shape)
+              (subst (λ (l : LocalState). AreCalls s l n.began (call ∷ t.calls)) (sym began)
+              (subst (λ (g : Lcg). AreCalls s (begun_state k) g (call ∷ t.calls)) (sym same_generator) more_calls));
+          generator =
+              p.generator
+              ∙ ap (λ (l : LocalState). (effort_of s l k.generator p.events).generator) (sym told_state)
+              ∙ ap (λ (g : Lcg). (effort_of s (state_after s (begun_state k) (all_events t.calls)) g p.events).generator)
+              t.generator
+              ∙ sym (ap (λ s. generator_after s (begun_state n) n.began (call ∷ t.calls)) shape
+              ∙ ap (λ (l : LocalState). generator_after s l n.began (call ∷ t.calls)) began
+              ∙ ap (λ (g : Lcg). generator_after s (begun_state k) g (call ∷ t.calls)) same_generator);
+          left =
+              left ∙ more_answer
+              ∙ sym (ap (λ s. newest_answer s (begun_state n) n.began (call ∷ t.calls)) shape
+              ∙ ap (λ (l : LocalState). newest_answer s l n.began (call ∷ t.calls)) began
+              ∙ ap (λ (g : Lcg). newest_answer s (begun_state k) g (call ∷ t.calls)) same_generator);
+          writes = λ w. let every : s.all_write ≡ true = ap (λ (x : Shape). x.all_write) (sym shape) ∙ w in
+              (writes every, t.writes every);
+        }
+
+-- ---- a call on an attempt begins none
+
+not_due : (work : Work) (s : Shape) (o : Option Event) (l : LocalState) (f : Effort) (e : Event) → l.phase ≡ Outside →
+    IsDue (due (Doing work) s o l f) e → ⊥
+not_due work s o l f e out h = let z : IsDue Done e = rw out at h in z
+
+is_not_begin : (k : Kind) → k ≢ Begin → is_begin k ≡ false
+is_not_begin Begin h = absurd (h refl)
+is_not_begin k h = cc
+
+doing_more : (s : Shape) (work : Work) (gen : Lcg) (c : ℕ) (later before : List Event) → Core s (later ++ before) →
+    Obeys (Doing work) s (local s before c) gen (events_of c later) →
+    begun_log c (later ++ before) ≡ begun_log c before
+doing_more s work gen c [] before run h = refl
+doing_more s work gen c (e ∷ later) before run h =
+    by (doing_more s work gen c later before run.0) (cases_Bool (e.caller == c))
+  where
+    Told : List Event → Type 0
+    Told es = Obeys (Doing work) s (local s before c) gen es
+
+    own : e.caller == c ≡ true → Told (e ∷ events_of c later)
+    own q = subst (λ b. Told (if b then e ∷ events_of c later else events_of c later)) q h
+
+    under : e.caller == c ≡ true → (local s (later ++ before) e.caller).phase ≢ Outside
+    under q out =
+        not_due work s (newest_of (events_of c later)) (state_after s (local s before c) (events_of c later))
+        (effort_of s (local s before c) gen (events_of c later)) e
+        (ap (λ (l : LocalState). l.phase) (sym (own_state s c later before)
+        ∙ ap (local s (later ++ before)) (sym (eqb-true e.caller c q))) ∙ out) (own q).1
+
+    by : (Told (events_of c later) → begun_log c (later ++ before) ≡ begun_log c before) →
+        (e.caller == c ≡ true) ⊎ (e.caller == c ≡ false) → begun_log c (e ∷ (later ++ before)) ≡ begun_log c before
+    by ih (inl q) =
+        let none : is_begin e.kind ≡ false = is_not_begin e.kind (not_begin s (later ++ before) e run (under q)) in
+        rw (q, none) (ih (own q).0)
+    by ih (inr q) =
+        rw q (ih (subst (λ b. Told (if b then e ∷ events_of c later else events_of c later)) q h))
+
+-- so the last Begin stays
+pub doing_keeps : {L : Type 0} (holds : L → List Val → Type 0) (work : Work) (k n : Called L) (again : Option Again) →
+    Performs holds (Doing work) k n again → begun_log n.number n.log ≡ begun_log k.number k.log
+doing_keeps holds work k n again p =
+    let own : events_of k.number (p.seen.later ++ k.log) ≡ p.events ++ events_of k.number k.log =
+    subst (λ xs. events_of k.number xs ≡ p.events ++ events_of k.number k.log) (sym p.seen.whole) p.own in
+    let events : events_of k.number p.seen.later ≡ p.events =
+    cancel (events_of k.number p.seen.later) p.events (events_of k.number k.log)
+    (sym (filter-append (λ (e : Event). e.caller == k.number) p.seen.later k.log) ∙ own) in
+    ap (λ c. begun_log c n.log) p.same.1
+    ∙ subst (λ xs. begun_log k.number xs ≡ begun_log k.number k.log) p.seen.whole
+    (doing_more (shape_of k) work k.generator k.number p.seen.later k.log
+    (subst (Core (shape_of k)) (sym p.seen.whole) p.run.run.core)
+    (subst (Obeys (Doing work) (shape_of k) (state k) k.generator) (sym events) p.call.obeys))
+
+-- ---- what a call has behind it
+
+-- a call counts its exchanges that failed
+pub missed_there : {L : Type 0} (holds : L → List Val → Type 0) (home : Home L) (task : Task) (b : Began) (steps : Steps L)
+    (next : Due) (again : Option Again) (u : InTask holds home task b steps next again) →
+    misses u.events ≡ steps.missed
+missed_there holds home task b steps next again u =
+    sym (missed_is home.terms.shape b.state b.generator u.events) ∙ ap (λ (e : Effort). e.missed) u.effort

@@ -1,0 +1,306 @@
+-- A caller after it has let a read go.
+use Rattle.std.proofs.Common.{◌&&◌, ◌++◌, ◌==◌, ◌∙◌, ◌∷◌, ◌≡◌, ◌≢◌, ◌⊎◌, ◌<◌, Bool, List, None, Option, Some, [], ap, append_assoc, false, inl, inr, map, ne_eqb, not, refl, subst, sym, true, ℕ}
+use Rattle.std.specs.Prelude.{IfSome, is_some, if◌then◌else◌, option_map}
+use base.Fml.{GName}
+use Rattle.std.proofs.lemmas.Bool.{and_parts, cases_Bool, cases_eq, eqb-true}
+use Rattle.dstm_caller.specs.Reads.{words_of}
+use Rattle.dstm_caller.specs.Under.{InTask, now}
+use Rattle.dstm_caller.specs.Writes.{AreWrites}
+use Rattle.dstm_caller.specs.declared.slots.ReadSlot.{ReadSlot}
+use Rattle.dstm_caller.specs.declared.steps.Steps.{Steps}
+use Rattle.dstm_core.proofs.Pasts.{core_past}
+use Rattle.dstm_core.specs.Events.{Event}
+use Rattle.dstm_core.specs.Histories.{IsSight, old_values, read_values, seen, version_value}
+use Rattle.dstm_core.specs.Rules.{AllowedAs}
+use Rattle.dstm_core.specs.Runs.{Core, local}
+use Rattle.dstm_core.specs.State.{LocalState, drop_read, read_of, write_of}
+use Rattle.dstm_core.specs.declared.event.Kind.{Kind}
+use Rattle.dstm_core.specs.declared.event.Kind.TheVariants.{LookSelf}
+use Rattle.dstm_core.specs.declared.shape.Shape.{Shape}
+use Rattle.dstm_core.specs.declared.state.Phase.TheVariants.{Outside, Running}
+use Rattle.dstm_core.specs.declared.state.Read.{Read}
+use Rattle.dstm_core.specs.declared.state.Write.{Write}
+use Rattle.dstm_mem.specs.Memory.{HoldsWithout, value_in}
+use Rattle.dstm_model.specs.Map.{value_at}
+use Rattle.dstm_model.specs.declared.value.Val.{Val}
+use Rattle.dstm_opacity.proofs.Held.{held_is_seen, version_by_open}
+use Rattle.dstm_opacity.proofs.Kept.{seen_stays}
+use Rattle.dstm_opacity.proofs.Tidy.{ReadsOnce, read_apart, tidy}
+use Rattle.dstm_order.specs.Order.Due.{Done}
+use Rattle.dstm_order.specs.Tasks.Task.{Doing}
+use Rattle.dstm_order.specs.Tasks.Work.{Releasing}
+use Rattle.dstm_words.specs.Seats.{Home, view_of}
+use Rattle.dstm_engine.proofs.Continuing.{doing_keeps, told_more}
+use Rattle.dstm_engine.proofs.Holding.{old_there}
+use Rattle.dstm_engine.proofs.Left.{on_tied, same_place, performed, told_there}
+use Rattle.dstm_engine.proofs.Opens.{none_of}
+use Rattle.dstm_engine.proofs.Setting.{opened_slot}
+use Rattle.dstm_engine.proofs.Steady.{stay}
+use Rattle.dstm_engine.proofs.Tying.{state_then}
+use Rattle.dstm_engine.specs.Attempts.{Admits, Sighted}
+use Rattle.dstm_engine.specs.Began.{began_of}
+use Rattle.dstm_engine.specs.Callers.{held, is_opened, state}
+use Rattle.dstm_engine.specs.Calls.{IsTold, Performs}
+use Rattle.dstm_engine.specs.Mirror.{AtRest, Tied, called, phase_by, slot_old, slot_value, slot_word}
+use Rattle.dstm_engine.specs.Opened.{without_read}
+use Rattle.dstm_engine.specs.Transactions.{tx_place}
+use Rattle.dstm_engine.specs.declared.caller.Caller.TheInside.{Inside}
+
+-- ---- lists without the pair of an object
+
+without : {A : Type 0} → ℕ → List (ℕ × A) → List (ℕ × A)
+without o [] = []
+without o (p ∷ ps) = if p.0 == o then ps else p ∷ without o ps
+
+words_drop : (o : ℕ) (rs : List Read) → words_of (drop_read o rs) ≡ without o (words_of rs)
+unfolding without
+words_drop o [] = refl
+words_drop o (r ∷ rs) = go (cases_Bool (r.object == o)) (words_drop o rs)
+  where
+    go : (r.object == o ≡ true) ⊎ (r.object == o ≡ false) → words_of (drop_read o rs) ≡ without o (words_of rs) →
+        words_of (drop_read o (r ∷ rs)) ≡ without o (words_of (r ∷ rs))
+    go (inl q) ih = rw q refl
+    go (inr q) ih = rw q (ap (λ xs. (r.object, r.word) ∷ xs) ih)
+
+values_drop : (s : Shape) (start : List Val) (run : List Event) (o : ℕ) (rs : List Read) →
+    read_values s start run (drop_read o rs) ≡ without o (read_values s start run rs)
+unfolding without
+values_drop s start run o [] = refl
+values_drop s start run o (r ∷ rs) = go (cases_Bool (r.object == o)) (values_drop s start run o rs)
+  where
+    go : (r.object == o ≡ true) ⊎ (r.object == o ≡ false) →
+        read_values s start run (drop_read o rs) ≡ without o (read_values s start run rs) →
+        read_values s start run (drop_read o (r ∷ rs)) ≡ without o (read_values s start run (r ∷ rs))
+    go (inl q) ih = rw q refl
+    go (inr q) ih =
+        rw q (ap (λ xs. (r.object, version_value s start run r.object r.version) ∷ xs) ih)
+
+slots_drop : {A : Type 0} → (f : ReadSlot → ℕ × A) → ((slot : ReadSlot) → (f slot).0 ≡ slot.object) → (o : ℕ) →
+    (slots : List ReadSlot) → map f (without_read o slots) ≡ without o (map f slots)
+unfolding without
+slots_drop f same o [] = refl
+slots_drop f same o (x ∷ slots) = go (cases_Bool (x.object == o)) (slots_drop f same o slots)
+  where
+    go : (x.object == o ≡ true) ⊎ (x.object == o ≡ false) → map f (without_read o slots) ≡ without o (map f slots) →
+        map f (without_read o (x ∷ slots)) ≡ without o (map f (x ∷ slots))
+    go (inl q) ih = rw (q, ap (λ n. n == o) (same x) ∙ q) refl
+    go (inr q) ih = rw (q, ap (λ n. n == o) (same x) ∙ q) (ap (λ xs. f x ∷ xs) ih)
+
+-- the value of another object stays
+without_others : (o p : ℕ) (xs ys : List (ℕ × Val)) → p ≢ o →
+    value_in (without o xs ++ ys) p ≡ value_in (xs ++ ys) p
+unfolding without
+without_others o p [] ys h = refl
+without_others o p (x ∷ xs) ys h = go (cases_Bool (x.0 == o)) (without_others o p xs ys h)
+  where
+    go : (x.0 == o ≡ true) ⊎ (x.0 == o ≡ false) → value_in (without o xs ++ ys) p ≡ value_in (xs ++ ys) p →
+        value_in (without o (x ∷ xs) ++ ys) p ≡ value_in (x ∷ (xs ++ ys)) p
+    go (inl q) ih = rw (q, ne_eqb x.0 p (λ z. h (sym z ∙ eqb-true x.0 o q))) refl
+    go (inr q) ih = rw q (ap (λ v. if x.0 == p then Some x.1 else v) ih)
+
+module _ (s : Shape) (start : List Val) (run : List Event) (o : ℕ) (ys : List (ℕ × Val)) where
+  none_read : (rs : List Read) → read_of o rs ≡ None → value_in (read_values s start run rs ++ ys) o ≡ value_in ys o
+  none_read [] h = refl
+  none_read (r ∷ rs) h =
+      let k = read_apart o r rs h in rw (ne_eqb r.object o k.0) (none_read rs k.1)
+
+  -- and the object has none more
+  without_it : (rs : List Read) → ReadsOnce rs →
+      value_in (without o (read_values s start run rs) ++ ys) o ≡ value_in ys o
+  unfolding without
+  without_it [] h = refl
+  without_it (r ∷ rs) h = go (cases_Bool (r.object == o)) (without_it rs h.1)
+    where
+      go : (r.object == o ≡ true) ⊎ (r.object == o ≡ false) →
+          value_in (without o (read_values s start run rs) ++ ys) o ≡ value_in ys o →
+          value_in (without o (read_values s start run (r ∷ rs)) ++ ys) o ≡ value_in ys o
+      go (inl q) ih = rw q (none_read rs (ap (λ n. read_of n rs) (sym (eqb-true r.object o q)) ∙ h.0))
+      go (inr q) ih = rw (q, q) ih
+
+-- ---- a sight, as a longer log has it
+
+self_runs : (s : Shape) (l : LocalState) (e : Event) (k : Kind) → k ≡ LookSelf → AllowedAs k s l e → l.phase ≡ Running
+self_runs s l e LookSelf q a = a.2.0
+self_runs s l e k q a = absurd (cc)
+
+-- what a sight covers has the same values in a longer log
+sight_stays : (s : Shape) (start : List Val) (later before more : List Event) (sight : Event) →
+    Core s (more ++ (later ++ sight ∷ before)) → sight.caller < s.callers → IsSight s before sight →
+    seen s start (more ++ (later ++ sight ∷ before)) before sight.caller
+    ≡ seen s start (later ++ sight ∷ before) before sight.caller
+sight_stays s start later before more sight core few is =
+    let there = core_past s more (later ++ sight ∷ before) core in
+    let at_sight = core_past s later (sight ∷ before) there in
+    let runs = self_runs s (local s before sight.caller) sight sight.kind is.kind at_sight.1.allowed in
+    let live : (local s before sight.caller).phase ≢ Outside = λ out. cc in
+    let since : (more ++ (later ++ sight ∷ [])) ++ before ≡ more ++ (later ++ sight ∷ before) =
+    append_assoc more (later ++ sight ∷ []) before ∙ ap (λ xs. more ++ xs) (append_assoc later (sight ∷ []) before) in
+    let one : (later ++ sight ∷ []) ++ before ≡ later ++ sight ∷ before = append_assoc later (sight ∷ []) before in
+    subst (λ xs. seen s start xs before sight.caller ≡ seen s start before before sight.caller) since
+    (seen_stays s start (more ++ (later ++ sight ∷ [])) before sight.caller (subst (Core s) (sym since) core) few live)
+    ∙ sym (subst (λ xs. seen s start xs before sight.caller ≡ seen s start before before sight.caller) one
+    (seen_stays s start (later ++ sight ∷ []) before sight.caller (subst (Core s) (sym one) there) few live))
+
+-- ---- a read is there
+
+module _ {L : Type 0} (holds : L → List Val → Type 0) (c : Inside L) (v : Tied holds c) (o : ℕ)
+    (read : is_some (held (called c) o) && not (is_opened (called c) o) ≡ true) where
+  pub not_open : is_opened (called c) o ≡ false
+  not_open = by (is_opened (called c) o) (and_parts (is_some (held (called c) o)) (not (is_opened (called c) o)) read).1
+    where
+      by : (b : Bool) → not b ≡ true → b ≡ false
+      by true h = absurd (cc)
+      by false h = refl
+
+  pub read_there : is_some (read_of o (state (called c)).reads) ≡ true
+  read_there =
+      by (write_of o (state (called c)).writes) (read_of o (state (called c)).reads) not_open
+      (ap is_some (sym (held_is_seen c.terms.shape c.terms.start.value.items (called c).log (called c).log c.number o
+      v.run.run.core)) ∙ (and_parts (is_some (held (called c) o)) (not (is_opened (called c) o)) read).0)
+    where
+      by : (w : Option Write) (r : Option Read) → is_some w ≡ false →
+          is_some (option_map (version_value c.terms.shape c.terms.start.value.items (called c).log o)
+          (version_by_open w r)) ≡ true → is_some r ≡ true
+      by (Some w) r h is = absurd (cc)
+      by None (Some r) h is = refl
+      by None None h is = absurd (cc)
+
+-- ---- the caller then
+
+module _ {L : Type 0} (holds : L → List Val → Type 0) (c : Inside L) (v : Tied holds c) (live : c.live ≡ true) (o : ℕ)
+    (new : Steps L)
+    (u : InTask holds (called c).home (Doing (Releasing o)) (began_of (Doing (Releasing o)) (called c)) new Done None)
+    (is : now (called c).home new ≡ record (state (called c)) {
+      reads = drop_read o (state (called c)).reads;
+      resolution = None;
+      pass = None;
+      checked = 0;
+    })
+    (read : is_some (held (called c) o) && not (is_opened (called c) o) ≡ true) where
+  abbrev pub released : Inside L
+  released = record c { steps = new; opened = record c.opened { reads = without_read o c.opened.reads } }
+
+  pub then_is : state (called released) ≡ record (state (called c)) {
+    reads = drop_read o (state (called c)).reads;
+    resolution = None;
+    pass = None;
+    checked = 0;
+  }
+  then_is = state_then holds c (Doing (Releasing o)) new None u ∙ is
+
+  steps : Performs holds (Doing (Releasing o)) (called c) (called released) None
+  steps = performed holds c v live (Releasing o) new None u (called released) refl refl refl refl
+
+  values : read_values c.terms.shape c.terms.start.value.items (view_of new.seat).log (state (called released)).reads
+      ≡ without o (read_values c.terms.shape c.terms.start.value.items (called c).log (state (called c)).reads)
+  values =
+      ap (λ (l : LocalState). read_values c.terms.shape c.terms.start.value.items (view_of new.seat).log l.reads) then_is
+      ∙ values_drop c.terms.shape c.terms.start.value.items (view_of new.seat).log o (state (called c)).reads
+      ∙ ap (without o) (stay holds c v live (Releasing o) new None u).0
+
+  olds : old_values c.terms.shape c.terms.start.value.items (view_of new.seat).log (state (called released)).writes
+      ≡ old_values c.terms.shape c.terms.start.value.items (called c).log (state (called c)).writes
+  olds =
+      ap (λ (l : LocalState). old_values c.terms.shape c.terms.start.value.items (view_of new.seat).log l.writes) then_is
+      ∙ (stay holds c v live (Releasing o) new None u).1
+
+  held_then : (p : ℕ) → held (called released) p
+      ≡ value_in (without o (read_values c.terms.shape c.terms.start.value.items (called c).log (state (called c)).reads)
+      ++ old_values c.terms.shape c.terms.start.value.items (called c).log (state (called c)).writes) p
+  held_then p =
+      ap (λ rs. value_in (rs ++ old_values c.terms.shape c.terms.start.value.items (view_of new.seat).log
+      (state (called released)).writes) p) values
+      ∙ ap (λ ws. value_in (without o (read_values c.terms.shape c.terms.start.value.items (called c).log
+      (state (called c)).reads) ++ ws) p) olds
+
+  pub holds_without : HoldsWithout o (held (called c)) (held (called released))
+  holds_without = record {
+    gone =
+        held_then o
+        ∙ without_it c.terms.shape c.terms.start.value.items (called c).log o
+        (old_values c.terms.shape c.terms.start.value.items (called c).log (state (called c)).writes)
+        (state (called c)).reads (tidy c.terms.shape (called c).log v.run.run.core c.number).reads
+        ∙ ap (λ ws. value_in ws o) (v.olds live)
+        ∙ none_of (value_in (map slot_old c.opened.writes) o)
+        (old_there c.opened.writes o
+        ∙ sym (opened_slot c.opened.writes (state (called c)).writes o (v.writes live))
+        ∙ not_open holds c v o read);
+    others = λ p other. held_then p
+        ∙ without_others o p
+        (read_values c.terms.shape c.terms.start.value.items (called c).log (state (called c)).reads)
+        (old_values c.terms.shape c.terms.start.value.items (called c).log (state (called c)).writes) other;
+  }
+
+  told : IsTold (called released)
+  told =
+      told_more (called c) (told_there holds c v live (Releasing o) new None u) holds (Releasing o) (called released) None
+      steps (doing_keeps holds (Releasing o) (called c) (called released) None steps) refl (v.left live) (λ _. tt)
+
+  -- the newest sight covers what is still held
+  sighted : Sighted (called released)
+  sighted =
+      let x = v.sighted live (λ none. let y = ap (λ ps. is_some (value_in ps o)) none in
+      let z = and_parts (is_some (held (called c) o)) (not (is_opened (called c) o)) read in cc) in
+      let log : (view_of new.seat).log ≡ u.seen.later ++ (x.later ++ x.sight ∷ x.before) =
+      sym u.seen.whole ∙ ap (λ xs. u.seen.later ++ xs) x.log in
+      let stays = sight_stays c.terms.shape c.terms.start.value.items x.later x.before u.seen.later x.sight
+      (subst (Core c.terms.shape) log u.run.run.core) (subst (λ n. n < c.terms.shape.callers) (sym x.caller) v.number.0)
+      x.is_one in
+      let same : seen c.terms.shape c.terms.start.value.items (view_of new.seat).log x.before c.number
+      ≡ seen c.terms.shape c.terms.start.value.items (called c).log x.before c.number =
+      ap (λ xs. seen c.terms.shape c.terms.start.value.items xs x.before c.number) log
+      ∙ subst (λ n. seen c.terms.shape c.terms.start.value.items (u.seen.later ++ (x.later ++ x.sight ∷ x.before)) x.before n
+      ≡ seen c.terms.shape c.terms.start.value.items (x.later ++ x.sight ∷ x.before) x.before n) x.caller stays
+      ∙ ap (λ xs. seen c.terms.shape c.terms.start.value.items xs x.before c.number) (sym x.log) in
+      record {
+        later = u.seen.later ++ x.later;
+        sight = x.sight;
+        before = x.before;
+        log = log ∙ sym (append_assoc u.seen.later x.later (x.sight ∷ x.before));
+        is_one = x.is_one;
+        caller = x.caller;
+        attempt = x.attempt ∙ sym (ap (λ (l : LocalState). l.begun) then_is);
+        covers = λ p w held. ap (λ ps. value_in ps p) same ∙ covered x p w held (cases_eq p o);
+      }
+    where
+      covered : (x : Sighted (called c)) (p : ℕ) (w : Val) → held (called released) p ≡ Some w →
+          (p ≡ o) ⊎ (p ≡ o → ⊥) →
+          value_in (seen c.terms.shape c.terms.start.value.items (called c).log x.before c.number) p ≡ Some w
+      covered x p w h (inl q) = absurd (let z = holds_without.gone in let y = ap (held (called released)) q in cc)
+      covered x p w h (inr q) = x.covers p w (sym (holds_without.others p q) ∙ h)
+
+  pub released_tied : Tied holds released
+  released_tied =
+      on_tied holds c v live (Releasing o) new None u c.last_number
+      (record c.opened { reads = without_read o c.opened.reads })
+      (ap (λ (l : LocalState). l.phase) then_is ∙ v.phase ∙ ap phase_by live)
+      (ap (λ (l : LocalState). l.committed) then_is ∙ v.uncommitted live)
+      (ap (λ (l : LocalState). l.last_pass) then_is ∙ v.last_number live)
+      (subst AtRest (sym then_is) (record {
+        agreed = (v.rest live).agreed;
+        no_pass = refl;
+        not_put = (v.rest live).not_put;
+        recorded = refl;
+      })) told (λ _. sighted)
+      (ap (λ (l : LocalState). words_of l.reads) then_is ∙ words_drop o (state (called c)).reads
+      ∙ ap (without o) (v.reads live) ∙ sym (slots_drop slot_word (λ slot. refl) o c.opened.reads))
+      (values ∙ ap (without o) (v.values live) ∙ sym (slots_drop slot_value (λ slot. refl) o c.opened.reads))
+      (subst (AreWrites c.opened.writes) (sym (ap (λ (l : LocalState). l.writes) then_is)) (v.writes live))
+      (olds ∙ v.olds live) refl
+
+  -- it is the same attempt
+  pub released_place : (name : GName) (table : Home L) →
+      tx_place name table (called released) ≡ tx_place name table (called c)
+  released_place =
+      same_place holds c v live (Releasing o) new None u
+      (ap (λ (l : LocalState). l.committed) then_is ∙ v.uncommitted live)
+
+  pub released_widens : (map : List Val) → Admits holds (called c) map → Admits holds (called released) map
+  released_widens map a = record { length = a.length; lawful = a.lawful; agrees = λ p. by p (cases_eq p o) }
+    where
+      by : (p : ℕ) → (p ≡ o) ⊎ (p ≡ o → ⊥) → IfSome (held (called released) p) (λ w. value_at map p ≡ w)
+      by p (inl q) =
+          subst (λ h. IfSome h (λ w. value_at map p ≡ w))
+          (sym (ap (held (called released)) q ∙ holds_without.gone)) tt
+      by p (inr q) =
+          subst (λ h. IfSome h (λ w. value_at map p ≡ w)) (sym (holds_without.others p q)) (a.agrees p)

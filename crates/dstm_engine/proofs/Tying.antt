@@ -1,0 +1,97 @@
+-- A caller whose fields stand for what contracts see of it, before and after a call.
+use Rattle.std.proofs.Common.{◌∙◌, ◌≡◌, List, ap, refl, subst, sym}
+use Rattle.std.specs.Prelude.{Bool, true, false, None, Option, not, nat_lt, ◌||◌, ◌+◌}
+use Rattle.dstm_caller.proofs.Stepping.{began_as}
+use Rattle.dstm_caller.specs.Under.{InTask, IsMirror, effort_by, now}
+use Rattle.dstm_caller.specs.declared.steps.Steps.{Steps}
+use Rattle.dstm_core.specs.Runs.{local}
+use Rattle.dstm_model.specs.declared.value.Val.{Val}
+use Rattle.dstm_order.specs.Calls.{answer}
+use Rattle.dstm_core.specs.declared.shape.Shape.{Shape}
+use Rattle.dstm_order.specs.Order.{due, is_spent}
+use Rattle.dstm_order.specs.Order.Due.{Done}
+use Rattle.dstm_order.specs.Tasks.{Task}
+use Rattle.dstm_order.specs.declared.again.Again.{Again}
+use Rattle.dstm_words.specs.Seats.{Home, caller_state, view_of}
+use Rattle.dstm_words.specs.Views.{number_or}
+use Rattle.dstm_words.specs.declared.view.View.{View}
+use Rattle.dstm_engine.proofs.Calling.{StepsOf, began_is, now_is, starts}
+use Rattle.dstm_engine.specs.Began.{began_of}
+use Rattle.dstm_engine.specs.Callers.{is_live, is_running, state}
+use Rattle.dstm_engine.specs.Mirror.{Tied, called, phase_by}
+use Rattle.dstm_engine.specs.declared.caller.Caller.TheInside.{Inside}
+
+-- steps that have nothing behind them
+abbrev pub renewed : {L : Type 0} → Steps L → Steps L
+renewed steps = record steps { missed = 0; round = 0; left = 0 }
+
+runs_by : (b : Bool) → is_running (phase_by b) ≡ b
+runs_by true = refl
+runs_by false = refl
+
+-- whether the attempt is live
+pub live_there : {L : Type 0} (holds : L → List Val → Type 0) (c : Inside L) → Tied holds c →
+    c.live ≡ is_live (called c)
+live_there holds c v = sym (ap is_running v.phase ∙ runs_by c.live)
+
+module _ {L : Type 0} (holds : L → List Val → Type 0) (c : Inside L) (v : Tied holds c) (home : Home L)
+    (same : (called c).home ≡ home) (steps : Steps L) (is : steps ≡ renewed c.steps) where
+  pub steps_of : StepsOf holds (called c) steps
+  steps_of =
+      subst (StepsOf holds (called c)) (sym is) (record {
+        seat = (refl, v.seat.1, ap (λ (w : View L). w.terms) v.seat.0);
+        view = v.seat.0;
+        number = v.number.0;
+        run = v.run;
+        shape = v.shape;
+        manager = v.manager.0;
+        generator = refl;
+        mirror = record { own = v.mirror.own; installed = v.mirror.installed; rank = v.mirror.rank };
+        renewed = (refl, refl, refl);
+      })
+
+  -- the state that they know
+  pub now_there : now home steps ≡ state (called c)
+  now_there =
+      subst (λ (h : Home L). now h steps ≡ state (called c)) same (now_is holds (called c) steps steps_of)
+
+  -- whether it is spent
+  pub spent_there : is_spent c.terms.shape (state (called c))
+      ≡ (not (nat_lt c.begun steps.shape.attempts) || nat_lt steps.shape.locators (steps.installed + steps.shape.objects))
+  spent_there =
+      ap (λ b. not (nat_lt b c.terms.shape.attempts)
+      || nat_lt c.terms.shape.locators ((state (called c)).installed + c.terms.shape.objects)) v.begun
+      ∙ ap (λ i. not (nat_lt c.begun c.terms.shape.attempts)
+      || nat_lt c.terms.shape.locators (i + c.terms.shape.objects)) (sym v.mirror.installed)
+      ∙ ap (λ (s : Shape). not (nat_lt c.begun s.attempts) || nat_lt s.locators (c.steps.installed + s.objects))
+      (sym v.shape)
+      ∙ ap (λ (x : Steps L). not (nat_lt c.begun x.shape.attempts)
+      || nat_lt x.shape.locators (x.installed + x.shape.objects)) (sym is)
+
+  -- a call begins
+  pub starts_there : (task : Task) →
+      InTask holds home task (began_as home task (number_or (view_of steps.seat).number 0) steps) steps
+      (due task home.terms.shape None (now home steps) (effort_by steps))
+      (answer task None (now home steps) (effort_by steps))
+  starts_there task =
+      subst (λ (h : Home L). InTask holds h task (began_as h task (number_or (view_of steps.seat).number 0) steps) steps
+      (due task h.terms.shape None (now h steps) (effort_by steps))
+      (answer task None (now h steps) (effort_by steps))) same (starts holds (called c) task steps steps_of)
+
+  -- and ends
+  pub ends_here : (task : Task) (new : Steps L) (again : Option Again) →
+      InTask holds home task (began_as home task (number_or (view_of steps.seat).number 0) steps) new Done again →
+      InTask holds (called c).home task (began_of task (called c)) new Done again
+  ends_here task new again u =
+      subst (λ b. InTask holds (called c).home task b new Done again) (began_is holds (called c) task steps steps_of)
+      (subst (λ (h : Home L). InTask holds h task (began_as h task (number_or (view_of steps.seat).number 0) steps)
+      new Done again) (sym same) u)
+
+-- the state of the caller after a call
+module _ {L : Type 0} (holds : L → List Val → Type 0) (c : Inside L) (task : Task) (new : Steps L)
+    (again : Option Again) (u : InTask holds (called c).home task (began_of task (called c)) new Done again) where
+  pub state_then : local c.terms.shape (view_of new.seat).log c.number ≡ now (called c).home new
+  state_then = sym (ap (caller_state c.terms) u.view)
+
+  pub mirror_then : IsMirror c.terms.shape new (local c.terms.shape (view_of new.seat).log c.number)
+  mirror_then = subst (IsMirror c.terms.shape new) (sym state_then) u.mirror

@@ -1,0 +1,11 @@
+use Rattle.std.proofs.Common.{◌≡◌, ◌⊎◌, ℕ, ◌<◌}
+use Rattle.dstm_engine.specs.Opened.{place_at, read_at}
+use Rattle.dstm_engine.proofs.opened.forget_reads.Given as goal
+
+abbrev pub invariant-loop-i : goal.invariant-loop-i
+invariant-loop-i l = record {
+  done : (k : ℕ) → k < l.i → (place_at l.places (read_at l.reads k).object).read ≡ 0;
+  same : (o : ℕ) → ((place_at l.places o).read ≡ 0)
+      ⊎ ((place_at l.places o).read ≡ (place_at l.initial.places o).read);
+  writes : (o : ℕ) → (place_at l.places o).write ≡ (place_at l.initial.places o).write;
+}

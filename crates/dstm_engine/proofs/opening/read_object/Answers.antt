@@ -1,0 +1,65 @@
+use Rattle.std.proofs.Common.{◌++◌, ◌∙◌, ◌∷◌, [], ap, map, refl, sym}
+use Rattle.dstm_caller.proofs.FoundValues.{has_value}
+use Rattle.dstm_caller.specs.FoundValues.{found_value}
+use Rattle.dstm_caller.specs.Reads.{words_of}
+use Rattle.dstm_caller.specs.Under.{doing, now}
+use Rattle.dstm_engine.proofs.OpenStates.{adds_read, found_still, last_read, object_still, owed_read, record_read}
+use Rattle.dstm_engine.proofs.Slots.{slots_push, words_push}
+use Rattle.dstm_engine.specs.Mirror.{slot_word}
+use Rattle.dstm_engine.specs.Opened.{OpenedAs}
+use Rattle.dstm_engine.proofs.opening.read_object.Goals as goal
+
+pub conclude-requires-clause-slots : goal.conclude-requires-clause-slots
+conclude-requires-clause-slots g c =
+    let home = c.args.words.now in
+    let old = now home c.args.steps.now in
+    let before = now home c.resolve.new.self in
+    let found = c.in_ok-found.found in
+    let e = c.in_ok-found.ensures in
+    c.reads.ensures ∙ ap (λ (o : OpenedAs). map slot_word o.reads) c.push_read.ensures
+    ∙ slots_push c.args.opened.now.reads _ ∙ ap (λ xs. xs ++ (c.args.object, found.word) ∷ []) c.requires.slots
+    ∙ sym (ap words_of (record_read old before c.args.object found e.attempt e.object e.found c.requires.unread)
+    ∙ words_push old.reads _)
+
+pub conclude-requires-clause-owed : goal.conclude-requires-clause-owed
+conclude-requires-clause-owed g c =
+    let home = c.args.words.now in
+    let e = c.in_ok-found.ensures in
+    owed_read (now home c.args.steps.now) (now home c.resolve.new.self) c.args.object c.in_ok-found.found e.attempt
+    e.object e.found c.requires.unread
+
+pub returns-clause-opens : goal.returns-clause-opens
+returns-clause-opens g c =
+    let home = c.args.words.now in
+    let old = now home c.args.steps.now in
+    let before = now home c.resolve.new.self in
+    let new = now home c.conclude.new.self in
+    let found = c.in_ok-found.found in
+    let e = c.in_ok-found.ensures in
+    let s = c.in_ok-conclude.ensures.state in
+    let m = home.terms.shape.manager in
+    record {
+      word = found.word;
+      version = found.version;
+      adds = adds_read old before c.args.object found e.attempt e.object e.found c.requires.unread m s.0 new
+          c.requires.running c.requires.put s.1;
+      listed = c.push_read.ensures;
+      valued =
+          has_value g.L.Law.holds home (doing g.B.InCall.began) (doing g.B.InCall.began) g.B.InCall.began
+          c.conclude.new.self c.conclude.new.self _ _ _ _ c.args.object found c.in_ok-conclude.ensures.ends_well
+          c.in_ok-conclude.ensures.ends_well (record { later = []; whole = refl })
+          (found_still old before c.args.object found e.attempt e.object e.found c.requires.unread m s.0 new
+          c.requires.running c.requires.put s.1)
+          (object_still old before c.args.object found e.attempt e.object e.found c.requires.unread m s.0 new
+          c.requires.running c.requires.put s.1)
+          ∙ ap (found_value found) (sym c.requires.first) ∙ sym c.value_found-value.ensures;
+    }
+
+pub returns-clause-last : goal.returns-clause-last
+returns-clause-last g c =
+    let home = c.args.words.now in
+    let e = c.in_ok-found.ensures in
+    let s = c.in_ok-conclude.ensures.state in
+    s.2 ∙ sym (last_read (now home c.args.steps.now) (now home c.resolve.new.self) c.args.object c.in_ok-found.found
+    e.attempt e.object e.found c.requires.unread home.terms.shape.manager s.0 (now home c.conclude.new.self)
+    c.requires.running c.requires.put s.1)

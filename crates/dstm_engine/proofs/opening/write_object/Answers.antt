@@ -1,0 +1,80 @@
+use Rattle.std.proofs.Common.{◌++◌, ◌∙◌, ◌∷◌, None, [], ap, map, refl, sym}
+use Rattle.dstm_caller.specs.FoundValues.{found_value}
+use Rattle.dstm_caller.specs.Reads.{words_of}
+use Rattle.dstm_caller.specs.Under.{doing, now}
+use Rattle.dstm_caller.specs.declared.slots.ReadSlot.{ReadSlot}
+use Rattle.std.specs.Prelude.{option_map}
+use Rattle.dstm_engine.proofs.OpenStates.{acquired_held, acquired_reads, acquired_runs, adds_write, last_write}
+use Rattle.dstm_engine.proofs.HeldStill.{version_goes}
+use Rattle.dstm_engine.proofs.Setting.{set_pairs_push}
+use Rattle.dstm_engine.proofs.Slots.{slot_read, words_without}
+use Rattle.dstm_engine.specs.Mirror.{set_pairs, slot_word}
+use Rattle.dstm_engine.specs.Opened.{OpenedAs}
+use Rattle.dstm_engine.proofs.opening.write_object.Goals as goal
+
+pub acquire-requires-clause-read : goal.acquire-requires-clause-read
+acquire-requires-clause-read g c =
+    slot_read c.args.opened.now.reads (now c.args.words.now c.args.steps.now).reads c.args.object c.requires.slots
+    ∙ ap (option_map (λ (s : ReadSlot). s.word)) (sym c.read.ensures) ∙ sym c.recorded_word-read.ensures
+
+pub conclude-requires-clause-slots : goal.conclude-requires-clause-slots
+conclude-requires-clause-slots g c =
+    let home = c.args.words.now in
+    let old = now home c.args.steps.now in
+    c.reads.ensures ∙ ap (λ (o : OpenedAs). map slot_word o.reads) c.push_write.ensures
+    ∙ ap (λ (o : OpenedAs). map slot_word o.reads) c.drop_read.ensures
+    ∙ words_without c.args.opened.now.reads old.reads c.args.object c.requires.slots
+    ∙ sym (ap words_of (acquired_reads home.terms.shape c.args.object old (now home c.acquire.new.self)
+    c.in_ok-found.found c.in_ok-found.ensures.got))
+
+pub returns-in_err-conclude-clause-rest : goal.returns-in_err-conclude-clause-rest
+returns-in_err-conclude-clause-rest g c = (
+  ap (λ (o : OpenedAs). o.objects) c.push_write.ensures ∙ ap (λ (o : OpenedAs). o.objects) c.drop_read.ensures,
+  ap (λ (o : OpenedAs). set_pairs o.writes) c.push_write.ensures
+      ∙ set_pairs_push c.drop_read.new.self.writes _ refl
+      ∙ ap (λ (o : OpenedAs). set_pairs o.writes) c.drop_read.ensures,
+)
+
+pub returns-clause-opens : goal.returns-clause-opens
+returns-clause-opens g c =
+    let home = c.args.words.now in
+    let s = c.in_ok-conclude.ensures.state in
+    let found = c.in_ok-found.found in
+    let value = c.value_found-old.result in
+    record {
+      version = found.version;
+      adds = adds_write home.terms.shape home.terms.shape.manager s.0 c.args.object found (now home c.args.steps.now)
+          (now home c.acquire.new.self) (now home c.conclude.new.self) c.requires.running c.requires.put
+          c.in_ok-found.ensures.got s.1;
+      listed =
+          c.push_write.ensures
+          ∙ ap (λ (o : OpenedAs). record o {
+            writes = o.writes ++ record { object = c.args.object; old = value; new = None } ∷ [];
+          }) c.drop_read.ensures;
+      valued =
+          version_goes g.L.Law.holds home (doing g.B.InCall.began) (doing g.B.InCall.began) g.B.InCall.began
+          c.acquire.new.self c.conclude.new.self _ _ _ _ c.args.object found.version c.in_ok-found.ensures.under
+          c.in_ok-conclude.ensures.ends_well c.in_ok-conclude.ensures.past
+          (λ out. let x = acquired_runs home.terms.shape c.args.object (now home c.args.steps.now)
+          (now home c.acquire.new.self) found c.in_ok-found.ensures.got c.requires.running in cc)
+          (acquired_held home.terms.shape c.args.object (now home c.args.steps.now) (now home c.acquire.new.self) found
+          c.in_ok-found.ensures.got c.requires.unopened)
+          ∙ c.in_ok-found.ensures.value ∙ ap (found_value found) (sym c.requires.first)
+          ∙ sym c.value_found-old.ensures;
+    }
+
+pub returns-clause-last : goal.returns-clause-last
+returns-clause-last g c =
+    let home = c.args.words.now in
+    let s = c.in_ok-conclude.ensures.state in
+    s.2 ∙ sym (last_write home.terms.shape home.terms.shape.manager s.0 c.args.object c.in_ok-found.found
+    (now home c.args.steps.now) (now home c.acquire.new.self) (now home c.conclude.new.self) c.requires.running
+    c.requires.put c.in_ok-found.ensures.got s.1)
+
+pub returns-clause-rest : goal.returns-clause-rest
+returns-clause-rest g c = (
+  ap (λ (o : OpenedAs). o.objects) c.push_write.ensures ∙ ap (λ (o : OpenedAs). o.objects) c.drop_read.ensures,
+  ap (λ (o : OpenedAs). set_pairs o.writes) c.push_write.ensures
+      ∙ set_pairs_push c.drop_read.new.self.writes _ refl
+      ∙ ap (λ (o : OpenedAs). set_pairs o.writes) c.drop_read.ensures,
+)

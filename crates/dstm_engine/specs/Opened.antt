@@ -1,0 +1,98 @@
+-- What an attempt has open.
+use Rattle.std.specs.Prelude.{◌≡◌, ◌≢◌, ℕ, ◌+◌, ◌-◌, ◌*◌, ◌^◌, ◌<◌, ◌≤◌, ◌==◌, Bool, true, false, List, [], ◌∷◌, filter, length, slice_index_or, vec_capacity, Option, None, Some, if◌then◌else◌}
+use Rattle.dstm_caller.specs.Writes.{to_put}
+use Rattle.dstm_caller.specs.declared.slots.ReadSlot.{ReadSlot}
+use Rattle.dstm_caller.specs.declared.slots.WriteSlot.{WriteSlot}
+use Rattle.dstm_model.specs.Map.{no_value}
+use Rattle.dstm_model.specs.declared.value.Val.{Val}
+use Rattle.dstm_engine.specs.declared.opened.Opened.TheInside.{Inside}
+use Rattle.dstm_engine.specs.declared.opened.Place.{Place}
+
+pub record OpenedAs : Type 0 where
+  pub objects : ℕ  -- of the table
+  pub reads : List ReadSlot  -- the reads that are kept, the oldest first
+  pub writes : List WriteSlot  -- the objects open for writing, the oldest first
+
+abbrev pub is_kept : ReadSlot → Bool
+is_kept slot = slot.kept
+
+-- the value that an object's slots hand out: the one last set, or else the one that is held
+abbrev pub slots_value : Option WriteSlot → Option ReadSlot → Option Val
+slots_value None None = None
+slots_value None (Some read) = Some read.value
+slots_value (Some write) read = Some (to_put write)
+
+-- the read of an object
+abbrev pub read_slot : List ReadSlot → ℕ → Option ReadSlot
+read_slot [] o = None
+read_slot (slot ∷ slots) o = if slot.object == o then Some slot else read_slot slots o
+
+-- what an object is open for writing with
+abbrev pub write_slot : List WriteSlot → ℕ → Option WriteSlot
+write_slot [] o = None
+write_slot (slot ∷ slots) o = if slot.object == o then Some slot else write_slot slots o
+
+-- the reads without that of an object
+abbrev pub without_read : ℕ → List ReadSlot → List ReadSlot
+without_read o [] = []
+without_read o (slot ∷ slots) = if slot.object == o then slots else slot ∷ without_read o slots
+
+-- with a value set for an object
+abbrev pub with_set_slot : ℕ → Val → List WriteSlot → List WriteSlot
+with_set_slot o v [] = []
+with_set_slot o v (slot ∷ slots) =
+    if slot.object == o then record slot { new = Some v } ∷ slots else slot ∷ with_set_slot o v slots
+
+-- ---- where each object stands
+
+abbrev pub no_read : ReadSlot
+no_read = record { object = 0; word = 0; value = no_value; kept = false }
+
+abbrev pub no_write : WriteSlot
+no_write = record { object = 0; old = no_value; new = None }
+
+abbrev pub no_place : Place
+no_place = record { read = 0; write = 0 }
+
+abbrev pub read_at : List ReadSlot → ℕ → ReadSlot
+read_at slots i = slice_index_or slots i no_read
+
+abbrev pub write_at : List WriteSlot → ℕ → WriteSlot
+write_at slots i = slice_index_or slots i no_write
+
+abbrev pub place_at : List Place → ℕ → Place
+place_at places o = slice_index_or places o no_place
+
+-- the slot of a kept read of the object
+pub record IsReadOf (slots : List ReadSlot) (o i : ℕ) : Type 0 where
+  pub within : i < length slots
+  pub kept : (read_at slots i).kept ≡ true
+  pub object : (read_at slots i).object ≡ o
+
+-- the slot of the object as it is open for writing
+pub record IsWriteOf (slots : List WriteSlot) (o i : ℕ) : Type 0 where
+  pub within : i < length slots
+  pub object : (write_at slots i).object ≡ o
+
+-- no two slots are of one object
+abbrev pub AreApart : List ReadSlot → Type 0
+AreApart slots =
+    (i j : ℕ) → i < length slots → j < length slots → (read_at slots i).object ≡ (read_at slots j).object → i ≡ j
+
+-- the slots that stand in these places
+pub record ArePlaced (reads : List ReadSlot) (writes : List WriteSlot) (places : List Place) : Type 0 where
+  pub reads_below : (i : ℕ) → i < length reads → (read_at reads i).object < length places
+  pub reads_placed : (o i : ℕ) → IsReadOf reads o i → (place_at places o).read ≡ i + 1
+  pub read_places : (o : ℕ) → o < length places → (place_at places o).read ≢ 0 →
+      IsReadOf reads o ((place_at places o).read - 1)
+  pub writes_below : (i : ℕ) → i < length writes → (write_at writes i).object < length places
+  pub writes_placed : (o i : ℕ) → IsWriteOf writes o i → (place_at places o).write ≡ i + 1
+  pub write_places : (o : ℕ) → o < length places → (place_at places o).write ≢ 0 →
+      IsWriteOf writes o ((place_at places o).write - 1)
+
+pub record HasPlaces (o : Inside) : Type 0 where
+  pub placed : ArePlaced o.reads.items o.writes.items o.places.items
+  pub room : (2 * length o.places.items ≤ vec_capacity o.reads) × (length o.places.items ≤ vec_capacity o.writes)
+  pub few : (length o.reads.items ≤ 2 * length o.places.items) × (length o.writes.items ≤ length o.places.items)
+      × (length o.places.items < 2 ^ 31)
+  pub counted : o.gone + length (filter is_kept o.reads.items) ≡ length o.reads.items

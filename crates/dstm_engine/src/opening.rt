@@ -1,0 +1,130 @@
+// To open an object, by a caller's steps.
+ghost use Rattle.std.specs.Prelude.{◌≡◌, ◌<◌, false, None, Some, IfErr, IfOk, OnOk, length, map, option_map};
+ghost use Rattle.dstm_caller.specs.FoundValues.{found_value};
+ghost use Rattle.dstm_caller.specs.declared.slots.ReadSlot.{ReadSlot as Slot};
+ghost use Rattle.dstm_caller.specs.Under.{IsRunning, Under, now, work_of};
+ghost use Rattle.dstm_core.specs.State.{next_locator, read_of, write_of};
+ghost use Rattle.dstm_caller.specs.Reads.{words_of};
+ghost use Rattle.dstm_engine.specs.Mirror.{set_pairs, slot_word};
+ghost use Rattle.dstm_engine.specs.Opened.{read_slot, write_slot};
+ghost use Rattle.dstm_engine.specs.Opens.{OpensToRead, OpensToWrite};
+ghost use Rattle.dstm_model.specs.Map.{value_at};
+ghost use Rattle.dstm_order.specs.declared.TheConstants.{MAX_MISSED};
+ghost use Rattle.dstm_order.specs.Order.Due.{Step, Done};
+ghost use Rattle.dstm_core.specs.declared.event.Kind.TheVariants.{LookObj};
+ghost use Rattle.dstm_order.specs.Tasks.Work.{Reading, Writing};
+
+use crate::opened::Opened;
+use dstm_caller::{Found, InCall, ReadSlot, Steps, WriteSlot};
+use dstm_model::{Law, Val};
+use dstm_order::Again;
+use dstm_words::Words;
+
+// Opens an object for reading that is not held, and had this value first.
+pub fn read_object<L: Law, B: InCall>(
+    steps: &mut Steps<L>,
+    words: &Words<L>,
+    last: &mut Option<u64>,
+    opened: &mut Opened,
+    first: Val,
+    object: u32,
+) -> Result<Val, Again>
+    requires under { Under L.holds words.now B.began steps.old (Step LookObj object) None }
+    requires work { work_of B.began.task ≡ Reading object }
+    requires running { IsRunning (now words.now steps.old) }
+    requires put { ((now words.now steps.old).written ≡ 0) × ((now words.now steps.old).high_put ≡ false) }
+    requires object { object < words.now.terms.shape.objects }
+    requires unopened { write_of object (now words.now steps.old).writes ≡ None }
+    requires unread { read_of object (now words.now steps.old).reads ≡ None }
+    requires tries { steps.old.missed < MAX_MISSED }
+    requires last { last.old ≡ (now words.now steps.old).last_pass }
+    requires slots { map slot_word opened.old.reads ≡ words_of (now words.now steps.old).reads }
+    requires first { first ≡ value_at words.now.terms.start.value.items object }
+    requires exists { object < opened.old.objects }
+    requires fresh { read_slot opened.old.reads object ≡ None }
+    requires room { length opened.old.reads < opened.old.objects }
+    ensures opens { IfOk result (OpensToRead words.now steps.old steps.new opened.old opened.new object) }
+    ensures last { OnOk result (last.new ≡ (now words.now steps.new).last_pass) }
+    ensures ends_well { OnOk result (Under L.holds words.now B.began steps.new Done None) }
+    ensures ends { IfErr result (λ again. Under L.holds words.now B.began steps.new Done (Some again)) }
+    ensures rest { (opened.new.objects ≡ opened.old.objects) × (opened.new.writes ≡ opened.old.writes) }
+{
+    let found = steps.resolve::<B>(words, object, None)?;
+    let value = value_found(found, first);
+    opened.push_read(ReadSlot {
+        object,
+        word: found.word,
+        value,
+        kept: true,
+    });
+    steps.conclude::<B>(words, last, opened.reads())?;
+    Ok(value)
+}
+
+// Opens an object for writing that is not open for it, and had this value first. `next` is the first unused locator.
+pub fn write_object<L: Law, B: InCall>(
+    steps: &mut Steps<L>,
+    words: &Words<L>,
+    last: &mut Option<u64>,
+    opened: &mut Opened,
+    first: Val,
+    object: u32,
+    next: u32,
+) -> Result<Val, Again>
+    requires under { Under L.holds words.now B.began steps.old (Step LookObj object) None }
+    requires work { work_of B.began.task ≡ Writing object }
+    requires running { IsRunning (now words.now steps.old) }
+    requires put { ((now words.now steps.old).written ≡ 0) × ((now words.now steps.old).high_put ≡ false) }
+    requires object { object < words.now.terms.shape.objects }
+    requires unopened { write_of object (now words.now steps.old).writes ≡ None }
+    requires locator { next_locator words.now.terms.shape (now words.now steps.old) ≡ next }
+    requires locators { (now words.now steps.old).installed < words.now.terms.shape.locators }
+    requires tries { steps.old.missed < MAX_MISSED }
+    requires last { last.old ≡ (now words.now steps.old).last_pass }
+    requires slots { map slot_word opened.old.reads ≡ words_of (now words.now steps.old).reads }
+    requires first { first ≡ value_at words.now.terms.start.value.items object }
+    requires exists { object < opened.old.objects }
+    requires fresh { write_slot opened.old.writes object ≡ None }
+    requires room { length opened.old.writes < opened.old.objects }
+    ensures opens { IfOk result (OpensToWrite words.now steps.old steps.new opened.old opened.new object) }
+    ensures last { OnOk result (last.new ≡ (now words.now steps.new).last_pass) }
+    ensures ends_well { OnOk result (Under L.holds words.now B.began steps.new Done None) }
+    ensures ends { IfErr result (λ again. Under L.holds words.now B.began steps.new Done (Some again)) }
+    ensures rest { (opened.new.objects ≡ opened.old.objects)
+        × (set_pairs opened.new.writes ≡ set_pairs opened.old.writes) }
+{
+    let read = recorded_word(opened.read(object));
+    let found = steps.acquire::<B>(words, object, read, next)?;
+    let old = value_found(found, first);
+    opened.drop_read(object);
+    opened.push_write(WriteSlot {
+        object,
+        old,
+        new: None,
+    });
+    steps.conclude::<B>(words, last, opened.reads())?;
+    Ok(old)
+}
+
+// The word of a read.
+fn recorded_word(read: Option<ReadSlot>) -> Option<u64>
+    ensures { result ≡ option_map (λ (slot : Slot). slot.word) read }
+{
+    match read {
+        Some(slot) => Some(slot.word),
+        None => None,
+    }
+}
+
+// The value that was found of an object, which had this one first.
+fn value_found(found: Found, first: Val) -> Val
+    ensures { result ≡ found_value found first }
+{
+    if found.version == 0 {
+        return first;
+    }
+    Val {
+        low: found.low,
+        high: found.high,
+    }
+}

@@ -1,0 +1,6 @@
+//! Tables that are made, given callers and guests, and closed, as tests. They stand apart from the crate that they try, since
+//! a crate with tests is proved twice.
+#![tactic(auto)]
+
+#[cfg(test)]
+mod tables;
