@@ -25,10 +25,10 @@ whole layout map store object is t =
     (all_of layout map store t, refl)
 
 -- a subtree whose root was read from its object
-pub halves-of_value : (layout : Layout) (map : List Val) (at depth object : ℕ) (x : Node) → HasTree layout → at ≢ 0 →
+pub halves-of_value : {layout : Layout} {map : List Val} {at depth object : ℕ} (x : Node) → HasTree layout → at ≢ 0 →
     x.number ≡ at → x.left < 2 ^ 16 → x.right < 2 ^ 16 → object ≡ object_of layout at →
     val_of x ≡ value_at map object → (s : Subtree layout map at depth) → Halves layout map depth s.tree x
-halves-of_value layout map at depth object x h some number left right is value s =
+halves-of_value {layout} {map} {at} {depth} x h some number left right is value s =
     halves layout map at depth x (omega (arith, h.valid.tree)) number some left right
     (sym (value ∙ ap (value_at map) is)) s
 

@@ -5,7 +5,7 @@ use Rattle.dstm_tree.proofs.Base.{sym, ◌∙◌, ap, subst, inl, inr, eq-eqb, a
 use Rattle.dstm_tree.proofs.Base.{nat_lt, ◌==◌, Some, None, Ordering, Less, Equal, Greater, nat_cmp, match_ordering}
 use Rattle.dstm_tree.proofs.Base.{is_eq, lt-ltb, le-ltb, ne_eqb, cases_order, value_of, with_item, without_item, Node}
 use Rattle.dstm_tree.proofs.Base.{Side, Left, Right, on, IsToward, Tree, leaf, node, items_of, IsOrdered, sided}
-use Rattle.dstm_tree.proofs.Base.{tree_of}
+use Rattle.dstm_tree.proofs.Base.{tree_of, Option}
 use Rattle.dstm_tree.proofs.Sides.{items-near, item_of}
 
 nat_cmp-less : (x y : ℕ) → x < y → nat_cmp x y ≡ Less
@@ -109,11 +109,21 @@ with_item-behind key value low high (x ∷ xs) ys h past =
     (x ∷ with_item key value (xs ++ ys))) (nat_cmp-greater key x.0 (omega (arith, reach (x.0 + 1) high xs h.1))) ∙ ap
     (λ rest. x ∷ rest) (with_item-behind key value (x.0 + 1) high xs ys h.1 past)
 
-without_item-below : (key low high : ℕ) (es : List (ℕ × ℕ)) → key < low → Ascends low high es → without_item key es ≡ es
-without_item-below key low high [] below h = refl
-without_item-below key low high (e ∷ es) below h =
-    ap (λ b. cond b es (e ∷ without_item key es)) (at_other key e.0 (λ same. omega arith)) ∙ ap (λ rest. e ∷ rest)
-    (without_item-below key (e.0 + 1) high es (omega arith) h.1)
+pub missed : (b : Bool) (x : ℕ) (o : Option ℕ) → cond b (Some x) o ≡ None → b ≡ false
+missed true x o none = absurd (cc none)
+missed false x o none = refl
+
+pub missed_too : (b : Bool) (x : ℕ) (o : Option ℕ) → cond b (Some x) o ≡ None → o ≡ None
+missed_too true x o none = absurd (cc none)
+missed_too false x o none = none
+
+-- an absent key is taken out of nothing
+pub without_item-absent : (key : ℕ) (es : List (ℕ × ℕ)) → value_of key es ≡ None → without_item key es ≡ es
+without_item-absent key [] absent = refl
+without_item-absent key (e ∷ es) absent =
+    let other = missed (is_eq (nat_cmp key e.0)) e.1 (value_of key es) absent in
+    let absent_too = missed_too (is_eq (nat_cmp key e.0)) e.1 (value_of key es) absent in
+    ap (λ b. cond b es (e ∷ without_item key es)) other ∙ ap (λ rest. e ∷ rest) (without_item-absent key es absent_too)
 
 cond-append : (b : Bool) (a c zs : List (ℕ × ℕ)) → cond b (a ++ zs) (c ++ zs) ≡ cond b a c ++ zs
 cond-append true a c zs = refl
@@ -227,7 +237,8 @@ pub without_item-toward : (side : Side) (key low high : ℕ) (x : Node) (near fa
 without_item-toward Left key low high x near far u order way is =
     ap (λ xs. xs ++ item_of x ∷ items_of far) is ∙ sym (without_item-front key (items_of near)
     (item_of x ∷ items_of far)
-    (without_item-below key x.key high (item_of x ∷ items_of far) way (from_root high x far order.1)))
+    (without_item-absent key (item_of x ∷ items_of far)
+    (value_of-below key x.key high (item_of x ∷ items_of far) way (from_root high x far order.1))))
 without_item-toward Right key low high x near far u order way is =
     ap (λ xs. items_of far ++ item_of x ∷ xs) is ∙ ap
     (λ b. items_of far ++ cond b (items_of near) (item_of x ∷ without_item key (items_of near)))

@@ -2,21 +2,22 @@
 use Rattle.dstm_tree.proofs.Base.{◌≡◌, ℕ, ◌+◌, ◌<◌, ◌≤◌, Bool, List, [], ◌∷◌, arith, refl, sym, ◌∙◌, ap, eq-eqb, cond}
 use Rattle.dstm_tree.proofs.Base.{◌==◌, sum_by-cons, Val, Layout, value_at, Tree, leaf, node, count_of, root_of}
 use Rattle.dstm_tree.proofs.Base.{free_of, object_of, node_value, Holds, IsFreeChain, Stands, Sets, free_count, IsFree}
-use Rattle.dstm_tree.proofs.Base.{Changes}
+use Rattle.dstm_tree.proofs.Base.{Changes, one_at, ne_eqb}
 
--- 1 at a number, 0 at every other
-abbrev pub mark : ℕ → ℕ → ℕ
-mark n i = cond (n == i) 1 0
+pub one_at-same : (n i : ℕ) → n ≡ i → one_at n i ≡ 1
+one_at-same n i same = ap (λ b. cond b 1 0) (eq-eqb n i same)
 
-pub mark-self : (n : ℕ) → mark n n ≡ 1
-mark-self n = ap (λ b. cond b 1 0) (eq-eqb n n refl)
+pub one_at-other : (n i : ℕ) → (n ≡ i → ⊥) → one_at n i ≡ 0
+one_at-other n i other = ap (λ b. cond b 1 0) (ne_eqb n i other)
 
-pub unmarked : (n i : ℕ) → mark n i ≡ 0 → i ≡ n → ⊥
+pub one_at-self : (n : ℕ) → one_at n n ≡ 1
+one_at-self n = one_at-same n n refl
+
+pub unmarked : (n i : ℕ) → one_at n i ≡ 0 → i ≡ n → ⊥
 unmarked n i none same =
-    let one : mark n i ≡ 1 = ap (λ b. cond b 1 0) (eq-eqb n i (sym same)) in
-    omega arith
+    omega (arith, one_at-same n i (sym same))
 
-pub free_count-first : (i n : ℕ) (free : List ℕ) → free_count i (n ∷ free) ≡ mark n i + free_count i free
+pub free_count-first : (i n : ℕ) (free : List ℕ) → free_count i (n ∷ free) ≡ one_at n i + free_count i free
 free_count-first i n free = sum_by-cons (λ j. cond (j == i) 1 0) n free
 
 pub node_value-same : (k v : ℕ) (red red' : Bool) (a a' b b' : ℕ) → red ≡ red' → a ≡ a' → b ≡ b' →
@@ -32,7 +33,7 @@ pub Holds-kept : (layout : Layout) (before after : List Val) (t : Tree) → ((i 
     Holds layout after t
 Holds-kept layout before after leaf same nodes = tt
 Holds-kept layout before after (node n red l k v r) same nodes =
-    let here : 0 < mark n n + count_of n l + count_of n r = omega (arith, mark-self n) in (
+    let here : 0 < one_at n n + count_of n l + count_of n r = omega (arith, one_at-self n) in (
       nodes.0,
       nodes.1,
       same n nodes.0 nodes.1 here ∙ nodes.2,
@@ -47,7 +48,7 @@ IsFreeChain-kept layout before after [] same chain = tt
 IsFreeChain-kept layout before after (n ∷ free) same chain = (
   chain.0,
   chain.1,
-  same n chain.0 chain.1 (omega (arith, free_count-first n n free, mark-self n)) ∙ chain.2,
+  same n chain.0 chain.1 (omega (arith, free_count-first n n free, one_at-self n)) ∙ chain.2,
   IsFreeChain-kept layout before after free
       (λ i least most some. same i least most (omega (arith, free_count-first i n free))) chain.3,
 )
@@ -94,7 +95,7 @@ Changes-none layout one f = record { root = refl; free = refl; nodes = λ i _ _ 
 
 -- one node was set
 pub wrote : (layout : Layout) (n : ℕ) (v : Val) (before after : List Val) → 0 < n →
-    Sets (object_of layout n) v before after → Changes layout (mark n) before after
+    Sets (object_of layout n) v before after → Changes layout (one_at n) before after
 wrote layout n v before after some sets = record {
   root = sets.others (root_of layout) (λ e. omega arith);
   free = sets.others (free_of layout) (λ e. omega arith);
@@ -102,29 +103,8 @@ wrote layout n v before after some sets = record {
 }
 
 -- a node that is apart from the one that was set
-pub Sets-apart : (layout : Layout) (n i : ℕ) (v : Val) (before after : List Val) → mark i n ≡ 0 →
+pub Sets-apart : (layout : Layout) (n i : ℕ) (v : Val) (before after : List Val) → one_at i n ≡ 0 →
     Sets (object_of layout n) v before after →
     value_at after (object_of layout i) ≡ value_at before (object_of layout i)
 Sets-apart layout n i v before after apart sets =
     sets.others (object_of layout i) (λ e. unmarked i n apart (omega arith))
-
--- three nodes were set, each apart from the others
-pub record Arranged (layout : Layout) (x : ℕ) (vx : Val) (y : ℕ) (vy : Val) (z : ℕ) (vz : Val) (before after : List Val)
-    : Type 0 where
-  pub first : value_at after (object_of layout x) ≡ vx
-  pub second : value_at after (object_of layout y) ≡ vy
-  pub third : value_at after (object_of layout z) ≡ vz
-  pub changes : Changes layout (λ i. mark x i + mark y i + mark z i) before after
-
-pub arranged : (layout : Layout) (x : ℕ) (vx : Val) (y : ℕ) (vy : Val) (z : ℕ) (vz : Val)
-    (before one two after : List Val) → 0 < x → 0 < y → 0 < z → mark x y ≡ 0 → mark x z ≡ 0 → mark y z ≡ 0 →
-    Sets (object_of layout x) vx before one → Sets (object_of layout y) vy one two →
-    Sets (object_of layout z) vz two after → Arranged layout x vx y vy z vz before after
-arranged layout x vx y vy z vz before one two after some_x some_y some_z xy xz yz set_x set_y set_z = record {
-  first = Sets-apart layout z x vz two after xz set_z ∙ Sets-apart layout y x vy one two xy set_y ∙ set_x.is;
-  second = Sets-apart layout z y vz two after yz set_z ∙ set_y.is;
-  third = set_z.is;
-  changes = Changes-more
-      (Changes-more (wrote layout x vx before one some_x set_x) (wrote layout y vy one two some_y set_y))
-      (wrote layout z vz two after some_z set_z);
-}

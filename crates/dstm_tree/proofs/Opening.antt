@@ -2,7 +2,7 @@
 use Rattle.dstm_tree.proofs.Base.{◌≡◌, ℕ, zero, suc, ◌+◌, ◌<◌, ◌≤◌, List, [], ◌∷◌, arith, refl, sym, ◌∙◌, ap, inl, inr}
 use Rattle.dstm_tree.proofs.Base.{eq-eqb, cond, if◌then◌else◌, ◌==◌, cases_eq, ne_eqb, Val, Layout, value_at, plain}
 use Rattle.dstm_tree.proofs.Base.{Store, leaf, root_of, free_of, object_of, first_of, IsFreeChain, IsTree, free_count}
-use Rattle.dstm_tree.proofs.Kept.{mark, free_count-first}
+use Rattle.dstm_tree.proofs.Kept.{one_at-same, one_at-other, free_count-first}
 
 -- what follows node i of n
 abbrev pub next_of : ℕ → ℕ → ℕ
@@ -45,7 +45,7 @@ none_below : (k n i : ℕ) → i < k → free_count i (numbers k n) ≡ 0
 unfolding numbers
 none_below k zero i below = refl
 none_below k (suc n) i below =
-    let none : mark k i ≡ 0 = ap (λ b. cond b 1 0) (ne_eqb k i (λ e. omega arith)) in
+    let none = one_at-other k i (λ e. omega arith) in
     omega (arith, free_count-first i k (numbers (k + 1) n), none_below (k + 1) n i (omega (arith, below)))
 
 once : (k n i : ℕ) → k ≤ i → i < k + n → free_count i (numbers k n) ≡ 1
@@ -54,10 +54,10 @@ once k zero i least most = absurd (omega arith)
 once k (suc n) i least most =
     elim (cases_eq k i) [
       | inl same ↦
-          let one : mark k i ≡ 1 = ap (λ b. cond b 1 0) (eq-eqb k i same) in
+          let one = one_at-same k i same in
           omega (arith, free_count-first i k (numbers (k + 1) n), none_below (k + 1) n i (omega (arith, same)))
       | inr other ↦
-          let none : mark k i ≡ 0 = ap (λ b. cond b 1 0) (ne_eqb k i other) in
+          let none = one_at-other k i other in
           omega (
             arith,
             free_count-first i k (numbers (k + 1) n),

@@ -1,14 +1,13 @@
 -- A key is placed in a subtree.
 use Rattle.dstm_tree.proofs.Base.{◌≡◌, ℕ, ◌+◌, ◌-◌, ◌<◌, ◌≤◌, true, false, List, [], ◌∷◌, arith, refl, sym, ◌∙◌, ap}
-use Rattle.dstm_tree.proofs.Base.{subst, if◌then◌else◌, IsSome, Val, Layout, value_at, plain, with_item, Node, Side}
-use Rattle.dstm_tree.proofs.Base.{Left, Placed, Full, Found, Root, Request, IsToward, Tree, leaf, items_of, count_of}
-use Rattle.dstm_tree.proofs.Base.{IsOrdered, root_of, free_of, object_of, first_of, HasTree, IsRead, Fork, child, sided}
-use Rattle.dstm_tree.proofs.Base.{val_of, Reads, Sets, free_count, IsFree, IsTaken, TakesFirstFree, CanPlace, Replaces}
-use Rattle.dstm_tree.proofs.Base.{AddsRoot, IsPlaced, Attaches, PlacesLeaf, Places, blackness}
-use Rattle.dstm_tree.proofs.Kept.{mark, free_count-first, IsFreeChain-kept, Stands-kept, IsFree-kept, wrote}
+use Rattle.dstm_tree.proofs.Base.{Val, Layout, value_at, plain, Node, Side, Left, Placed, Full, Found, Root, Request}
+use Rattle.dstm_tree.proofs.Base.{IsToward, leaf, count_of, root_of, free_of, object_of, first_of, HasTree, IsRead}
+use Rattle.dstm_tree.proofs.Base.{child, sided, val_of, Reads, Sets, free_count, IsFree, IsTaken, TakesFirstFree}
+use Rattle.dstm_tree.proofs.Base.{CanPlace, AddsRoot, Attaches, PlacesLeaf, Places, blackness, one_at}
+use Rattle.dstm_tree.proofs.Kept.{free_count-first, IsFreeChain-kept, IsFree-kept, wrote}
 use Rattle.dstm_tree.proofs.Sides.{on-counts}
 use Rattle.dstm_tree.proofs.Items.{with_item-here, value_of-root}
-use Rattle.dstm_tree.proofs.Forks.{missing_child, stand}
+use Rattle.dstm_tree.proofs.Forks.{missing_child, stand, written}
 use Rattle.dstm_tree.proofs.Search.{stands_of, part_of, read_root}
 
 -- ---- a node is taken off the free chain, and a key is placed in it
@@ -33,8 +32,7 @@ taken layout head next before mid two after some read read_next set (i ∷ rest)
     sym read_next.is ∙ ap (λ m. value_at m (object_of layout head.low)) read.same ∙ ap
     (λ j. value_at before (object_of layout j)) first ∙ h.chain.2 in (
       first,
-      subst (λ v. Sets (free_of layout) v before after) next_is
-          (subst (λ m. Sets (free_of layout) next m after) (read_next.same ∙ read.same) set),
+      rw (read_next.same, read.same, next_is) at set,
     )
 
 pub leaf-full : (layout : Layout) (q : Request) (number : ℕ) (before after : List Val) → number ≡ 0 →
@@ -58,7 +56,7 @@ leaf_root layout q x (i ∷ rest) before after some red key value left right h t
       grows = record {
         absent = refl;
         items = ap (λ k. (k, x.value) ∷ []) key ∙ ap (λ v. (q.key, v) ∷ []) value;
-        counts = λ n. omega (arith, free_count-first n i rest, ap (λ k. mark k n) t.0);
+        counts = λ n. omega (arith, free_count-first n i rest, ap (λ k. one_at k n) t.0);
         height = omega (arith, ap blackness red);
       };
       red = red;
@@ -87,8 +85,7 @@ leaf-root layout q x before after some red key value left right taken free h =
 pub place-leaf : (layout : Layout) (q : Request) (at depth : ℕ) (placed : Placed) (before after : List Val) → at ≡ 0 →
     PlacesLeaf layout q placed before after → Places layout q at depth placed before after
 place-leaf layout q at depth placed before after none does h =
-    subst (λ t. IsPlaced layout placed q t h.free before after) (sym (missing_child none (stands_of h.sub)))
-    (does h.free h.is_free)
+    rw (missing_child none (stands_of h.sub)) (does h.free h.is_free)
 
 -- ---- where the search goes on
 
@@ -98,27 +95,24 @@ pub can-below : {layout : Layout} (side : Side) {at depth : ℕ} {x : Node} {bef
 unfolding part_of
 can-below {layout} side {depth} {x} has read some h =
     let r = read_root side has read some h.sub in
-    subst (λ m. CanPlace layout m (child side x) (depth - 1)) (sym read.same) (record {
+    rw read.same (record {
       sub = part_of r;
       free = h.free;
       is_free = h.is_free;
       once = λ i least most. omega (arith, h.once i least most, ap (count_of i) r.tree, on-counts i side);
     })
 
-pub place-below : {layout : Layout} (q : Request) (side : Side) {at : ℕ} (depth : ℕ) {n : ℕ} {x : Node}
-    (below placed : Placed) {before mid : List Val} (two after : List Val) → HasTree layout → (at ≡ 0 → ⊥) →
-    IsToward side q.key x.key → n ≡ child side x → IsRead layout at x before mid →
-    Places layout q n (depth - 1) below mid two → Attaches layout side x below placed two after →
-    Places layout q at depth placed before after
+pub place-below : {layout : Layout} (q : Request) (side : Side) {at : ℕ} (depth : ℕ) {x : Node} (below placed : Placed)
+    {before mid : List Val} (two after : List Val) → HasTree layout → (at ≡ 0 → ⊥) → IsToward side q.key x.key →
+    IsRead layout at x before mid → Places layout q (child side x) (depth - 1) below before two →
+    Attaches layout side x below placed two after → Places layout q at depth placed before after
 unfolding part_of
-place-below {layout} q side depth {n} {x} below placed {before} two after has some way n_is read does attach h =
+place-below {layout} q side depth {x} below placed {before} two after has some way read does attach h =
     let r = read_root side has read some h.sub in
     let once : (i : ℕ) → 0 < i → i ≤ layout.tree → count_of i (sided side x r.near r.far) + free_count i h.free ≤ 1 =
-    λ i least most. subst (λ t. count_of i t + free_count i h.free ≤ 1) r.tree (h.once i least most) in
-    let does_it = subst (λ m. Places layout q m (depth - 1) below before two) n_is
-    (subst (λ m. Places layout q n (depth - 1) below m two) read.same does) in
-    subst (λ t. IsPlaced layout placed q t h.free before after) (sym r.tree) (attach q r.near r.far h.free before
-    (record { fork = r.fork; low = h.sub.low; high = h.sub.high; order = r.order; once = once }) way (does_it (record {
+    λ i least most. omega (arith, h.once i least most, ap (count_of i) r.tree) in
+    rw r.tree (attach q r.near r.far h.free before
+    (record { fork = r.fork; low = h.sub.low; high = h.sub.high; order = r.order; once = once }) way (does (record {
       sub = part_of r;
       free = h.free;
       is_free = h.is_free;
@@ -127,71 +121,46 @@ place-below {layout} q side depth {n} {x} below placed {before} two after has so
 
 -- ---- a key that is there
 
-found_if : (layout : Layout) (q : Request) (x : Node) (l r : Tree) (free : List ℕ) (low high : ℕ)
-    (before after : List Val) → IsOrdered low high (sided Left x l r) → q.key ≡ x.key → Fork layout before Left x l r →
-    IsFree layout before free →
-    ((i : ℕ) → 0 < i → i ≤ layout.tree → count_of i (sided Left x l r) + free_count i free ≤ 1) → q.replaces ≡ true →
-    Sets (object_of layout x.number) (val_of (record x { value = q.value })) before after →
-    Replaces layout q (sided Left x l r) free before after
-found_if layout q x l r free low high before after order same fork chain once replace set =
-    let t = sided Left x l r in
-    let y = record x { value = q.value } in
-    let changes = wrote layout x.number (val_of y) before after fork.number set in
-    let within : (i : ℕ) → mark x.number i ≤ count_of i t = λ i. omega arith in
-    let apart : (i : ℕ) → 0 < i → i ≤ layout.tree → mark x.number i + count_of i l + count_of i r + free_count i free ≤
-    1 =
-    once in
-    record {
-      tree = sided Left y l r;
-      present = subst (λ o. IsSome o) (sym (value_of-root Left q.key low high x l r order same)) refl;
-      items = sym (with_item-here q.key q.value low x l r order.0 same) ∙ ap
-          (λ b. if b then with_item q.key q.value (items_of t) else items_of t) (sym replace);
-      counts = λ i. refl;
-      height = refl;
-      colour = refl;
-      stands = stand layout after Left y l r (record {
-        number = fork.number;
-        within = fork.within;
-        value = set.is;
-        near_stands = Stands-kept changes (λ i least most some. omega (arith, apart i least most)) fork.near_stands;
-        far_stands = Stands-kept changes (λ i least most some. omega (arith, apart i least most)) fork.far_stands;
-        heights = fork.heights;
-        colours = fork.colours;
-      });
-      keeps = record {
-        root = changes.root;
-        nodes = λ i least most none. changes.nodes i least most (omega (arith, within i));
-        chain = IsFree-kept changes (λ i least most some. omega (arith, apart i least most)) chain;
-      };
-    }
-
 pub place-replaced : {layout : Layout} (q : Request) {at : ℕ} (depth : ℕ) {x : Node} {before mid after : List Val} →
     HasTree layout → (at ≡ 0 → ⊥) → q.key ≡ x.key → q.replaces ≡ true → IsRead layout at x before mid →
-    Sets (object_of layout x.number) (val_of (record x { value = q.value })) mid after →
+    Sets (object_of layout x.number) (val_of (record x { value = q.value })) before after →
     Places layout q at depth Found before after
 place-replaced {layout} q depth {x} {before} {after} has some same replace read set h =
     let r = read_root Left has read some h.sub in
-    subst (λ t. Replaces layout q t h.free before after) (sym r.tree) (found_if layout q x r.near r.far h.free h.sub.low
-    h.sub.high before after r.order same r.fork h.is_free
-    (λ i least most. subst (λ t. count_of i t + free_count i h.free ≤ 1) r.tree (h.once i least most)) replace
-    (subst (λ m. Sets (object_of layout x.number) (val_of (record x { value = q.value })) m after) read.same set))
+    let y = record x { value = q.value } in
+    let changes = wrote layout x.number (val_of y) before after r.fork.number set in
+    let once : (i : ℕ) → 0 < i → i ≤ layout.tree →
+    one_at x.number i + count_of i r.near + count_of i r.far + free_count i h.free ≤ 1 =
+    λ i least most. omega (arith, h.once i least most, ap (count_of i) r.tree) in
+    let within : (i : ℕ) → one_at x.number i ≤ count_of i (sided Left x r.near r.far) = λ i. omega arith in
+    rw r.tree (record {
+      tree = sided Left y r.near r.far;
+      present = rw (value_of-root Left q.key h.sub.low h.sub.high x r.near r.far r.order same) refl;
+      items = rw replace (sym (with_item-here q.key q.value h.sub.low x r.near r.far r.order.0 same));
+      counts = λ i. refl;
+      height = refl;
+      colour = refl;
+      stands = written Left y r.fork.number r.fork.within set r.fork.near_stands r.fork.far_stands
+          (λ i least most. omega (arith, once i least most)) r.fork.heights r.fork.colours;
+      keeps = record {
+        root = changes.root;
+        nodes = λ i least most none. changes.nodes i least most (omega (arith, within i));
+        chain = IsFree-kept changes (λ i least most some. omega (arith, once i least most)) h.is_free;
+      };
+    })
 
 pub place-found : {layout : Layout} (q : Request) {at : ℕ} (depth : ℕ) {x : Node} {before mid : List Val} →
     HasTree layout → (at ≡ 0 → ⊥) → q.key ≡ x.key → q.replaces ≡ false → IsRead layout at x before mid →
     Places layout q at depth Found before mid
 place-found {layout} q depth {x} {before} has some same keep read h =
     let r = read_root Left has read some h.sub in
-    let t = sided Left x r.near r.far in
-    let is : Replaces layout q t h.free before before = record {
-      tree = t;
-      present = subst (λ o. IsSome o) (sym (value_of-root Left q.key h.sub.low h.sub.high x r.near r.far r.order same))
-          refl;
-      items = ap (λ b. if b then with_item q.key q.value (items_of t) else items_of t) (sym keep);
+    rw (read.same, r.tree) (record {
+      tree = sided Left x r.near r.far;
+      present = rw (value_of-root Left q.key h.sub.low h.sub.high x r.near r.far r.order same) refl;
+      items = rw keep refl;
       counts = λ i. refl;
       height = refl;
       colour = refl;
       stands = stand layout before Left x r.near r.far r.fork;
       keeps = record { root = refl; nodes = λ i least most none. refl; chain = h.is_free };
-    } in
-    subst (λ m. Replaces layout q h.sub.tree h.free before m) (sym read.same)
-    (subst (λ u. Replaces layout q u h.free before before) (sym r.tree) is)
+    })

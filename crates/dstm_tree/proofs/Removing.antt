@@ -1,16 +1,16 @@
 -- A key is taken out of a subtree.
-use Rattle.dstm_tree.proofs.Base.{◌≡◌, ℕ, ◌+◌, ◌-◌, ◌<◌, ◌≤◌, Bool, true, false, List, ◌∷◌, ◌++◌, arith, refl, sym, ◌∙◌}
-use Rattle.dstm_tree.proofs.Base.{ap, subst, not, Option, Some, None, IsSome, Val, Layout, value_at, value_of}
-use Rattle.dstm_tree.proofs.Base.{without_item, Node, Side, Left, Right, Cut, Least, Removed, other, IsToward, Tree}
-use Rattle.dstm_tree.proofs.Base.{leaf, is_red, items_of, count_of, black_height, IsOrdered, object_of, HasTree, IsRead}
-use Rattle.dstm_tree.proofs.Base.{Subtree, Stands, Fork, child, with_child, with_red, sided, val_of, Sets, blackness}
-use Rattle.dstm_tree.proofs.Base.{Gap, HasGap, Closes, Became, Loses, TakesFirst, TakesLeast, TakesKey, Removes}
-use Rattle.dstm_tree.proofs.Base.{RemovesRoot, RemovesIf, Hoists}
-use Rattle.dstm_tree.proofs.Kept.{mark, mark-self, Stands-kept, Changes-more, Changes-within, Changes-none, wrote}
+use Rattle.dstm_tree.proofs.Base.{◌≡◌, ℕ, ◌+◌, ◌-◌, ◌<◌, ◌≤◌, Bool, false, List, ◌∷◌, ◌++◌, arith, refl, sym, ◌∙◌, ap}
+use Rattle.dstm_tree.proofs.Base.{subst, not, Some, None, Val, Layout, value_at, value_of, without_item, Node, Side}
+use Rattle.dstm_tree.proofs.Base.{Left, Right, Cut, Least, Removed, other, IsToward, Tree, is_red, items_of, count_of}
+use Rattle.dstm_tree.proofs.Base.{black_height, IsOrdered, object_of, HasTree, IsRead, Subtree, Stands, Fork, child}
+use Rattle.dstm_tree.proofs.Base.{with_child, with_red, sided, val_of, Sets, blackness, Gap, HasGap, Closes, Became}
+use Rattle.dstm_tree.proofs.Base.{Loses, TakesLeast, RemovesRoot, RemovesIf, Hoists, false_from_ne_true}
+use Rattle.dstm_tree.proofs.Base.{true_from_ne_false, one_at}
+use Rattle.dstm_tree.proofs.Kept.{one_at-self, Stands-kept, Changes-more, Changes-within, Changes-none, wrote}
 use Rattle.dstm_tree.proofs.Sides.{item_of, child-set, child-kept, sided-counts, on-counts, sided-height}
 use Rattle.dstm_tree.proofs.Items.{value_of-toward, value_of-root, without_item-toward, without_item-here}
 use Rattle.dstm_tree.proofs.Items.{without_item-only}
-use Rattle.dstm_tree.proofs.Forks.{forked_read, missing_child, stand, stands-within, not_red}
+use Rattle.dstm_tree.proofs.Forks.{forked_read, missing_child, written, stands-within, not_red}
 use Rattle.dstm_tree.proofs.Search.{stands_of, Rooted, part_of, read_root}
 use Rattle.dstm_tree.proofs.Lift.{falls_unless_red}
 
@@ -30,14 +30,6 @@ hoist-none layout number red before none t h once height colour =
       keeps = Changes-none layout before (λ i. count_of i t);
     }
 
-red_of : (red : Bool) → blackness red ≡ 0 → red ≡ true
-red_of true none = refl
-red_of false none = absurd (omega arith)
-
-not_both : (red : Bool) → (red ≡ true → true ≡ false) → red ≡ false
-not_both true only = absurd (cc (only refl))
-not_both false only = refl
-
 pub hoist-some : (layout : Layout) (number : ℕ) (red : Bool) (x y : Node) (before mid after : List Val) →
     HasTree layout → (number ≡ 0 → ⊥) → IsRead layout number x before mid → y ≡ with_red false x →
     Sets (object_of layout y.number) (val_of y) mid after →
@@ -48,13 +40,10 @@ hoist-some layout number red x y before mid after has some read y_is set t h onc
     let r = found.far in
     let x' = with_red false x in
     let high = ap black_height found.tree ∙ sided-height Left x l r found.fork.heights in
-    let is_red_x = red_of x.red (omega arith) in
-    let black = not_both red (λ e. sym (ap is_red found.tree ∙ is_red_x) ∙ colour e) in
-    let set_x = subst (λ m. Sets (object_of layout x.number) (val_of x') m after) read.same
-    (subst (λ z. Sets (object_of layout z.number) (val_of z) mid after) y_is set) in
+    let is_red_x = true_from_ne_false x.red (λ e. omega (arith, ap blackness e)) in
+    let black = false_from_ne_true red (λ e. cc (ap is_red found.tree, is_red_x, colour e)) in
+    let set_x = rw (read.same, y_is) at set in
     let changes = wrote layout x.number (val_of x') before after found.fork.number set_x in
-    let apart : (i : ℕ) → 0 < i → i ≤ layout.tree → mark x.number i + count_of i l + count_of i r ≤ 1 =
-    λ i least most. omega (arith, once i least most, ap (count_of i) found.tree) in
     record {
       tree = sided Left x' l r;
       items = ap items_of (sym found.tree);
@@ -62,17 +51,9 @@ hoist-some layout number red x y before mid after has some read y_is set t h onc
       height_is = omega (arith, ap blackness black);
       colour = λ e. absurd (cc e);
       stands = subst (λ n. Stands layout after n (sided Left x' l r)) read.number
-          (stand layout after Left x' l r (record {
-            number = found.fork.number;
-            within = found.fork.within;
-            value = set_x.is;
-            near_stands = Stands-kept changes (λ i least most s. omega (arith, apart i least most))
-                found.fork.near_stands;
-            far_stands = Stands-kept changes (λ i least most s. omega (arith, apart i least most))
-                found.fork.far_stands;
-            heights = found.fork.heights;
-            colours = λ e. absurd (cc e);
-          }));
+          (written Left x' found.fork.number found.fork.within set_x found.fork.near_stands found.fork.far_stands
+          (λ i least most. omega (arith, once i least most, ap (count_of i) found.tree)) found.fork.heights
+          (λ e. absurd (cc e)));
       keeps = Changes-within (λ i none. omega (arith, ap (count_of i) found.tree)) changes;
     }
 
@@ -84,7 +65,7 @@ pub hoisted : {layout : Layout} {side : Side} {low high depth : ℕ} {t : Tree} 
 hoisted {side} {t} {x} cut after none does r =
     let is_leaf = missing_child none r.fork.near_stands in
     let flat : black_height r.far ≡ 0 = sym r.fork.heights ∙ ap black_height is_leaf in
-    let counts : (i : ℕ) → count_of i t ≡ mark x.number i + count_of i r.far =
+    let counts : (i : ℕ) → count_of i t ≡ one_at x.number i + count_of i r.far =
     λ i. omega (arith, ap (count_of i) r.tree, ap (count_of i) is_leaf, on-counts i side) in
     let c = does r.far r.fork.far_stands (λ i least most. omega (arith, r.once i least most, on-counts i side)) flat
     (λ red. (r.fork.colours red).1) in
@@ -114,21 +95,28 @@ pub gap-after : {layout : Layout} {side : Side} {x : Node} (k v : ℕ) {near far
     Gap layout side x (with_child side cut.root (record x { key = k; value = v })) cut.fell b.tree far two
 gap-after {layout} {side} {x} k v {near} {far} {cut} {two} fork once b =
     let y = record x { key = k; value = v } in
-    let apart : (i : ℕ) → 0 < i → i ≤ layout.tree → mark x.number i + count_of i near + count_of i far ≤ 1 =
+    let apart : (i : ℕ) → 0 < i → i ≤ layout.tree → one_at x.number i + count_of i near + count_of i far ≤ 1 =
     λ i least most. omega (arith, once i least most, on-counts i side) in
     record {
       number = fork.number;
       within = fork.within;
       held_is = b.keeps.nodes x.number fork.number fork.within
-          (omega (arith, apart x.number fork.number fork.within, mark-self x.number)) ∙ fork.value;
-      near_stands = subst (λ n. Stands layout two n b.tree) (sym (child-set side cut.root y)) b.stands;
-      far_stands = subst (λ n. Stands layout two n far) (sym (child-kept side cut.root y))
+          (omega (arith, apart x.number fork.number fork.within, one_at-self x.number)) ∙ fork.value;
+      near_stands = rw (child-set side cut.root y) b.stands;
+      far_stands = rw (child-kept side cut.root y)
           (Stands-kept b.keeps (λ i least most some. omega (arith, apart i least most)) fork.far_stands);
       once = λ i least most. omega (arith, apart i least most, b.fewer i, on-counts i side);
       heights = b.height_is ∙ fork.heights;
       near_colour = λ red _. not_red b.tree near b.colour (fork.colours red).0;
       far_colour = λ red. (fork.colours red).1;
     }
+
+-- the node over what is left is at a gap
+pub has-gap : {layout : Layout} {side : Side} {low high depth k v : ℕ} {t : Tree} {x p : Node} {cut : Cut}
+    {before two : List Val} → p ≡ with_child side cut.root (record x { key = k; value = v }) →
+    (r : Rooted layout before side low high depth t x) → Became layout r.near cut before two →
+    HasGap layout side x p cut.fell two
+has-gap {k} {v} p_is r b = rw p_is (_, (r.far, gap-after k v r.fork r.once b))
 
 -- the gap is closed
 pub loses-below : {layout : Layout} {side : Side} {x p : Node} (k v : ℕ) {number : ℕ} {near far : Tree} {cut : Cut}
@@ -142,8 +130,7 @@ loses-below {layout} {side} {x} k v {near} {far} {cut} end {two} after fork once
     let b = lost.became in
     let y = with_child side cut.root (record x { key = k; value = v }) in
     let s = sided side y b.tree far in
-    let c = subst (λ q. Closes layout side x q cut.fell end two after) p_is closes b.tree far
-    (gap-after k v fork once b) in
+    let c = (rw p_is at closes) b.tree far (gap-after k v fork once b) in
     let inner = sided-counts side y b.tree far in
     let outer = sided-counts side x near far in (
       record {
@@ -171,7 +158,7 @@ pub go-below : {layout : Layout} (side : Side) {at depth : ℕ} {x : Node} {befo
     IsRead layout at x before mid → (at ≡ 0 → ⊥) → Subtree layout before at depth →
     Subtree layout mid (child side x) (depth - 1)
 go-below {layout} side {depth} {x} has read some h =
-    subst (λ m. Subtree layout m (child side x) (depth - 1)) (sym read.same) (part_of (read_root side has read some h))
+    rw read.same (part_of (read_root side has read some h))
 
 pub depth-some : {layout : Layout} {at depth : ℕ} {x : Node} {before mid : List Val} → HasTree layout →
     IsRead layout at x before mid → (at ≡ 0 → ⊥) → Subtree layout before at depth → 0 < depth
@@ -186,27 +173,12 @@ pub take-least-here : {layout : Layout} {at : ℕ} (depth : ℕ) {x : Node} (cut
     Hoists layout x.right x.red cut mid after → TakesLeast layout at depth (record { node = x; cut = cut }) before after
 take-least-here {layout} depth {x} cut after has some none read does h =
     let r = read_root Left has read some h in
-    let is_leaf = missing_child none r.fork.near_stands in
-    let (lost, items) = hoisted cut after none (subst (λ m. Hoists layout x.right x.red cut m after) read.same does) r
-    in
+    let (lost, items) = hoisted cut after none (rw read.same at does) r in
     record {
       loses = lost;
-      items = ap items_of r.tree ∙ ap (λ l. items_of l ++ item_of x ∷ items_of r.far) is_leaf ∙ ap
-          (λ xs. item_of x ∷ xs) (sym items);
+      items = ap items_of r.tree ∙ ap (λ l. items_of l ++ item_of x ∷ items_of r.far)
+          (missing_child none r.fork.near_stands) ∙ ap (λ xs. item_of x ∷ xs) (sym items);
     }
-
-pub has-gap_least : {layout : Layout} {at : ℕ} (depth : ℕ) {x p : Node} (least : Least) {before mid : List Val}
-    (two : List Val) → HasTree layout → (at ≡ 0 → ⊥) → p ≡ with_child Left least.cut.root x →
-    IsRead layout at x before mid → TakesLeast layout x.left (depth - 1) least mid two →
-    Subtree layout before at depth → HasGap layout Left x p least.cut.fell two
-unfolding part_of
-has-gap_least {layout} depth {x} least two has some p_is read does h =
-    let r = read_root Left has read some h in
-    let first = subst (λ m. TakesLeast layout x.left (depth - 1) least m two) read.same does (part_of r) in
-    subst (λ q. HasGap layout Left x q least.cut.fell two) (sym p_is) (
-      _,
-      (r.far, gap-after x.key x.value r.fork r.once first.loses.became),
-    )
 
 pub take-least-below : {layout : Layout} {at : ℕ} (depth : ℕ) {x p : Node} (least : Least) (cut : Cut)
     {before mid : List Val} (two after : List Val) → HasTree layout → (at ≡ 0 → ⊥) →
@@ -214,16 +186,14 @@ pub take-least-below : {layout : Layout} {at : ℕ} (depth : ℕ) {x p : Node} (
     TakesLeast layout x.left (depth - 1) least mid two → Closes layout Left x p least.cut.fell cut two after →
     TakesLeast layout at depth (record { node = least.node; cut = cut }) before after
 unfolding part_of
-take-least-below {layout} depth {x} least cut {before} two after has some p_is read does closes h =
+take-least-below {layout} depth {x} least cut two after has some p_is read does closes h =
     let r = read_root Left has read some h in
-    let first = subst (λ m. TakesLeast layout x.left (depth - 1) least m two) read.same does (part_of r) in
+    let first = (rw read.same at does) (part_of r) in
     let (whole, items) = loses-below x.key x.value cut after r.fork r.once p_is first.loses closes in
-    let made : TakesFirst layout (sided Left x r.near r.far) (record { node = least.node; cut = cut }) before after =
-    record {
+    rw r.tree (record {
       loses = whole;
       items = ap (λ xs. xs ++ item_of x ∷ items_of r.far) first.items ∙ ap (λ xs. item_of least.node ∷ xs) (sym items);
-    } in
-    subst (λ t. TakesFirst layout t (record { node = least.node; cut = cut }) before after) (sym r.tree) made
+    })
 
 -- ---- the root's own key
 
@@ -235,37 +205,16 @@ pub remove-only : {layout : Layout} (side : Side) (depth : ℕ) {n : ℕ} (x : N
 remove-only {layout} side depth x cut before after has some none n_is does read h =
     let r = read_root side has read (λ e. omega arith) h in
     let is_leaf = missing_child none r.fork.near_stands in
-    let tree_is : h.tree ≡ sided side x leaf r.far = r.tree ∙ ap (λ l. sided side x l r.far) is_leaf in
     let order = subst (λ l. IsOrdered h.low h.high (sided side x l r.far)) is_leaf r.order in
-    let (lost, items) = hoisted cut after none (subst (λ m. Hoists layout m x.red cut before after) n_is does) r in
+    let (lost, items) = hoisted cut after none (rw n_is at does) r in
     record {
       loses = lost;
-      present = subst (λ o. IsSome o) (sym
-          (ap (λ t. value_of x.key (items_of t)) r.tree
-          ∙ value_of-root side x.key h.low h.high x r.near r.far r.order refl))
-          refl;
-      items = items ∙ sym (ap (λ t. without_item x.key (items_of t)) tree_is ∙ without_item-only side x.key h.low h.high
-          x r.far order refl);
+      present = rw (r.tree, value_of-root side x.key h.low h.high x r.near r.far r.order refl) refl;
+      items = items ∙ sym (ap (λ t. without_item x.key (items_of t)) (r.tree ∙ ap (λ l. sided side x l r.far) is_leaf) ∙
+          without_item-only side x.key h.low h.high x r.far order refl);
     }
 
 -- a node with two children gets the next key
-pub has-gap_next : {layout : Layout} (depth : ℕ) {x p : Node} (least : Least) {before : List Val} (two : List Val) →
-    HasTree layout → 0 < x.number →
-    p ≡ with_child Right least.cut.root (record x { key = least.node.key; value = least.node.value }) →
-    IsRead layout x.number x before before → TakesLeast layout x.right (depth - 1) least before two →
-    Subtree layout before x.number depth → HasGap layout Right x p least.cut.fell two
-unfolding part_of
-has-gap_next {layout} depth {x} least two has some p_is read does h =
-    let r = read_root Right has read (λ e. omega arith) h in
-    let first = does (part_of r) in
-    subst (λ q. HasGap layout Right x q least.cut.fell two) (sym p_is) (
-      _,
-      (
-        r.far,
-        gap-after least.node.key least.node.value r.fork r.once first.loses.became,
-      ),
-    )
-
 pub remove-between : {layout : Layout} (depth : ℕ) (x : Node) {p : Node} (least : Least) (cut : Cut)
     (before two after : List Val) → HasTree layout → 0 < x.number →
     p ≡ with_child Right least.cut.root (record x { key = least.node.key; value = least.node.value }) →
@@ -276,16 +225,12 @@ remove-between {layout} depth x least cut before two after has some p_is does cl
     let r = read_root Right has read (λ e. omega arith) h in
     let first = does (part_of r) in
     let (whole, items) = loses-below least.node.key least.node.value cut after r.fork r.once p_is first.loses closes in
-    let made : TakesKey layout x.key (sided Right x r.near r.far) (record { number = least.node.number; cut = cut })
-    before
-    after = record {
+    rw r.tree (record {
       loses = whole;
-      present = subst (λ o. IsSome o) (sym (value_of-root Right x.key h.low h.high x r.near r.far r.order refl)) refl;
+      present = rw (value_of-root Right x.key h.low h.high x r.near r.far r.order refl) refl;
       items = items ∙ ap (λ xs. items_of r.far ++ xs) (sym first.items) ∙ sym
           (without_item-here x.key h.low x r.far r.near r.order.0 refl);
-    } in
-    subst (λ t. TakesKey layout x.key t (record { number = least.node.number; cut = cut }) before after) (sym r.tree)
-    made
+    })
 
 -- ---- a key below the root
 
@@ -299,7 +244,7 @@ remove-end layout at depth key before none h = (
 -- a node that was read is what stands in the map
 pub read-again : {layout : Layout} {at : ℕ} {x : Node} {before mid : List Val} → IsRead layout at x before mid →
     IsRead layout x.number x mid mid
-read-again {layout} {x} {before} read = subst (λ m. IsRead layout x.number x m m) (sym read.same) (record {
+read-again {layout} {before} read = rw read.same (record {
   number = refl;
   value = ap (λ i. value_at before (object_of layout i)) read.number ∙ read.value;
   left = read.left;
@@ -311,69 +256,34 @@ pub remove-here : {layout : Layout} {at : ℕ} (depth : ℕ) {key : ℕ} {x : No
     {before mid : List Val} (after : List Val) → key ≡ x.key → IsRead layout at x before mid →
     RemovesRoot layout x depth removed mid after → RemovesIf layout key at depth (Some removed) before after
 remove-here {layout} {at} depth {x} removed {before} after same read does =
-    let does_it = subst (λ m. RemovesRoot layout x depth removed m after) read.same does in
-    subst (λ k. RemovesIf layout k at depth (Some removed) before after) (sym same) (subst
-    (λ n. Removes layout x.key n depth removed before after) read.number
-    (does_it (subst (λ m. IsRead layout x.number x m m) read.same (read-again read))))
+    rw (same, ← read.number) ((rw read.same at does) (rw read.same at (read-again read)))
 
--- what the walk below the root did to the near subtree
-went : (layout : Layout) (side : Side) (depth n key : ℕ) (x : Node) (found is : Option Removed)
-    (before mid two : List Val) → n ≡ child side x → found ≡ is → mid ≡ before →
-    RemovesIf layout key n depth found mid two → RemovesIf layout key (child side x) depth is before two
-went layout side depth n key x found is before mid two n_is found_is same does =
-    subst (λ o. RemovesIf layout key (child side x) depth o before two) found_is (subst
-    (λ m. RemovesIf layout key (child side x) depth found m two) same
-    (subst (λ m. RemovesIf layout key m depth found mid two) n_is does))
-
-pub remove-none : {layout : Layout} (side : Side) {at : ℕ} (depth : ℕ) {n : ℕ} (key : ℕ) {x : Node}
-    {found : Option Removed} {before mid : List Val} (two : List Val) → HasTree layout → (at ≡ 0 → ⊥) → IsToward side
-    key x.key → n ≡ child side x → found ≡ None → IsRead layout at x before mid → RemovesIf layout key n (depth - 1)
-    found mid two → RemovesIf layout key at depth None before two
+pub remove-none : {layout : Layout} (side : Side) {at : ℕ} (depth key : ℕ) {x : Node} {before mid : List Val}
+    (two : List Val) → HasTree layout → (at ≡ 0 → ⊥) → IsToward side key x.key → IsRead layout at x before mid →
+    RemovesIf layout key (child side x) (depth - 1) None before two → RemovesIf layout key at depth None before two
 unfolding part_of
-remove-none {layout} side depth {n} key {x} {found} {before} {mid} two has some way n_is found_is read does h =
+remove-none side depth key {x} two has some way read does h =
     let r = read_root side has read some h in
-    let none = went layout side (depth - 1) n key x found _ before mid two n_is found_is read.same does (part_of r) in (
+    let none = does (part_of r) in (
       ap (λ t. value_of key (items_of t)) r.tree ∙ value_of-toward side key h.low h.high x r.near r.far r.order way ∙
           none.0,
       none.1,
     )
 
-pub has-gap_some : {layout : Layout} (side : Side) {at : ℕ} (depth : ℕ) {n : ℕ} (key : ℕ) {x p : Node}
-    {found : Option Removed} {removed : Removed} {before mid : List Val} (two : List Val) → HasTree layout →
-    (at ≡ 0 → ⊥) → n ≡ child side x → found ≡ Some removed → p ≡ with_child side removed.cut.root x → IsRead layout at x
-    before mid → RemovesIf layout key n (depth - 1) found mid two → Subtree layout before at depth → HasGap layout side
-    x p removed.cut.fell two
+pub remove-some : {layout : Layout} (side : Side) {at : ℕ} (depth key : ℕ) {x p : Node} (removed : Removed) (cut : Cut)
+    {before mid : List Val} (two after : List Val) → HasTree layout → (at ≡ 0 → ⊥) → IsToward side key x.key →
+    p ≡ with_child side removed.cut.root x → IsRead layout at x before mid →
+    RemovesIf layout key (child side x) (depth - 1) (Some removed) before two →
+    Closes layout side x p removed.cut.fell cut two after →
+    RemovesIf layout key at depth (Some (record { number = removed.number; cut = cut })) before after
 unfolding part_of
-has-gap_some {layout} side depth {n} key {x} {found} {removed} {before} {mid} two has some n_is found_is p_is read does
-    h =
+remove-some side depth key {x} removed cut two after has some way p_is read does closes h =
     let r = read_root side has read some h in
-    let taken = went layout side (depth - 1) n key x found _ before mid two n_is found_is read.same does (part_of r) in
-    subst (λ q. HasGap layout side x q removed.cut.fell two) (sym p_is) (
-      _,
-      (
-        r.far,
-        gap-after x.key x.value r.fork r.once taken.loses.became,
-      ),
-    )
-
-pub remove-some : {layout : Layout} (side : Side) {at : ℕ} (depth : ℕ) {n : ℕ} (key : ℕ) {x p : Node}
-    {found : Option Removed} {removed : Removed} (cut : Cut) {before mid : List Val} (two after : List Val) → HasTree
-    layout → (at ≡ 0 → ⊥) → IsToward side key x.key → n ≡ child side x → found ≡ Some removed → p ≡ with_child side
-    removed.cut.root x → IsRead layout at x before mid → RemovesIf layout key n (depth - 1) found mid two → Closes
-    layout side x p removed.cut.fell cut two after → RemovesIf layout key at depth
-    (Some (record { number = removed.number; cut = cut })) before after
-unfolding part_of
-remove-some {layout} side depth {n} key {x} {found} {removed} cut {before} {mid} two after has some way n_is found_is
-    p_is read does closes h =
-    let r = read_root side has read some h in
-    let taken = went layout side (depth - 1) n key x found _ before mid two n_is found_is read.same does (part_of r) in
+    let taken = does (part_of r) in
     let (whole, items) = loses-below x.key x.value cut after r.fork r.once p_is taken.loses closes in
-    let made : TakesKey layout key (sided side x r.near r.far) (record { number = removed.number; cut = cut }) before
-    after = record {
+    rw r.tree (record {
       loses = whole;
-      present = subst (λ o. IsSome o) (sym (value_of-toward side key h.low h.high x r.near r.far r.order way))
-          taken.present;
+      present = rw (value_of-toward side key h.low h.high x r.near r.far r.order way) taken.present;
       items = items ∙ without_item-toward side key h.low h.high x r.near r.far taken.loses.became.tree r.order way
           taken.items;
-    } in
-    subst (λ t. TakesKey layout key t (record { number = removed.number; cut = cut }) before after) (sym r.tree) made
+    })

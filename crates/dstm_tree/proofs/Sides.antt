@@ -21,11 +21,6 @@ pub child-kept_too : (side : Side) (n : ℕ) (x : Node) → child side (with_chi
 child-kept_too Left n x = refl
 child-kept_too Right n x = refl
 
-pub with_child-same : {s s' : Side} {n n' : ℕ} {x x' : Node} → s ≡ s' → n ≡ n' → x ≡ x' →
-    with_child s n x ≡ with_child s' n' x'
-with_child-same {s} {s'} {n} {n'} {x} {x'} side number node =
-    ap (λ t. with_child t n x) side ∙ ap (λ m. with_child s' m x) number ∙ ap (λ y. with_child s' n' y) node
-
 -- ---- trees
 
 pub sided-other : (side : Side) (x : Node) (a b : Tree) → sided (other side) x a b ≡ sided side x b a

@@ -1,7 +1,8 @@
 -- How many nodes a tree and a free chain have, where each of n numbers stands in one of them, once.
-use Rattle.dstm_tree.proofs.Base.{◌≡◌, ℕ, zero, suc, ◌+◌, ◌<◌, ◌≤◌, List, [], ◌∷◌, length, arith, refl, ap, inl, inr}
-use Rattle.dstm_tree.proofs.Base.{eq-eqb, length-append, cond, ◌==◌, count_by, cases_eq, ne_eqb, sum_by-cons, Val}
-use Rattle.dstm_tree.proofs.Base.{Layout, Tree, leaf, node, items_of, count_of, Holds, IsFreeChain}
+use Rattle.dstm_tree.proofs.Base.{◌≡◌, ℕ, zero, suc, ◌+◌, ◌<◌, ◌≤◌, List, [], ◌∷◌, length, arith, refl, inl, inr}
+use Rattle.dstm_tree.proofs.Base.{length-append, cases_eq, Val, Layout, Tree, leaf, node, items_of, count_of, Holds}
+use Rattle.dstm_tree.proofs.Base.{IsFreeChain, one_at, free_count}
+use Rattle.dstm_tree.proofs.Kept.{one_at-same, one_at-other, free_count-first}
 
 -- f 1 + .. + f n
 total : ℕ → (ℕ → ℕ) → ℕ
@@ -31,24 +32,20 @@ unfolding total
 total-ones zero = refl
 total-ones (suc n) = omega (arith, total-ones n)
 
--- how many of one node have number i
-abbrev mark : ℕ → ℕ → ℕ
-mark j i = cond (j == i) 1 0
-
-total-mark : (n j : ℕ) → 0 < j → j ≤ n → total n (mark j) ≡ 1
+total-one_at : (n j : ℕ) → 0 < j → j ≤ n → total n (one_at j) ≡ 1
 unfolding total
-total-mark zero j least most = absurd (omega arith)
-total-mark (suc n) j least most =
+total-one_at zero j least most = absurd (omega arith)
+total-one_at (suc n) j least most =
     elim (cases_eq j (suc n)) [
       | inl same ↦
-          let before : total n (mark j) ≡ total n (λ i. 0) =
-          total-same n (mark j) (λ i. 0) (λ i _ below. ap (λ b. cond b 1 0) (ne_eqb j i (λ e. omega arith))) in
+          let before : total n (one_at j) ≡ total n (λ i. 0) =
+          total-same n (one_at j) (λ i. 0) (λ i _ below. one_at-other j i (λ e. omega arith)) in
           let none : total n (λ i. 0) ≡ 0 = total-none n in
-          let here : mark j (suc n) ≡ 1 = ap (λ b. cond b 1 0) (eq-eqb j (suc n) same) in
+          let here = one_at-same j (suc n) same in
           omega arith
       | inr other ↦
-          let here : mark j (suc n) ≡ 0 = ap (λ b. cond b 1 0) (ne_eqb j (suc n) other) in
-          omega (arith, total-mark n j least (omega (arith, most, other)))
+          let here = one_at-other j (suc n) other in
+          omega (arith, total-one_at n j least (omega (arith, most, other)))
     ]
 
 total-tree : (layout : Layout) (map : List Val) (t : Tree) → Holds layout map t →
@@ -56,35 +53,34 @@ total-tree : (layout : Layout) (map : List Val) (t : Tree) → Holds layout map 
 total-tree layout map leaf nodes = total-none layout.tree
 total-tree layout map (node n red l k v r) nodes =
     let size = layout.tree in
-    let root = total-mark size n nodes.0 nodes.1 in
+    let root = total-one_at size n nodes.0 nodes.1 in
     let left = total-tree layout map l nodes.3 in
     let right = total-tree layout map r nodes.4 in
-    let outer = total-add size (λ i. cond (n == i) 1 0 + count_of i l) (λ i. count_of i r) in
-    let inner = total-add size (λ i. cond (n == i) 1 0) (λ i. count_of i l) in
+    let outer = total-add size (λ i. one_at n i + count_of i l) (λ i. count_of i r) in
+    let inner = total-add size (one_at n) (λ i. count_of i l) in
     omega (arith, length-append (items_of l) ((k, v) ∷ items_of r))
 
 total-chain : (layout : Layout) (map : List Val) (free : List ℕ) → IsFreeChain layout map free →
-    total layout.tree (λ i. count_by (λ j. j == i) free) ≡ length free
+    total layout.tree (λ i. free_count i free) ≡ length free
 total-chain layout map [] chain = total-none layout.tree
 total-chain layout map (n ∷ free) chain =
     let size = layout.tree in
-    let first = total-mark size n chain.0 chain.1 in
+    let first = total-one_at size n chain.0 chain.1 in
     let rest = total-chain layout map free chain.3 in
-    let split = total-same size (λ i. count_by (λ j. j == i) (n ∷ free))
-    (λ i. cond (n == i) 1 0 + count_by (λ j. j == i) free)
-    (λ i _ _. sum_by-cons (λ j. cond (j == i) 1 0) n free) in
-    omega (arith, total-add size (λ i. cond (n == i) 1 0) (λ i. count_by (λ j. j == i) free))
+    let split = total-same size (λ i. free_count i (n ∷ free)) (λ i. one_at n i + free_count i free)
+    (λ i _ _. free_count-first i n free) in
+    omega (arith, total-add size (one_at n) (λ i. free_count i free))
 
 pub size_all : (layout : Layout) (map : List Val) (t : Tree) (free : List ℕ) → Holds layout map t →
-    IsFreeChain layout map free → ((i : ℕ) → 0 < i → i ≤ layout.tree → count_of i t + count_by (λ j. j == i) free ≡ 1) →
+    IsFreeChain layout map free → ((i : ℕ) → 0 < i → i ≤ layout.tree → count_of i t + free_count i free ≡ 1) →
     length (items_of t) + length free ≡ layout.tree
 size_all layout map t free nodes chain once =
     let size = layout.tree in
-    let all = total-same size (λ i. count_of i t + count_by (λ j. j == i) free) (λ i. 1) once in
+    let all = total-same size (λ i. count_of i t + free_count i free) (λ i. 1) once in
     omega (
       arith,
       total-ones size,
-      total-add size (λ i. count_of i t) (λ i. count_by (λ j. j == i) free),
+      total-add size (λ i. count_of i t) (λ i. free_count i free),
       total-tree layout map t nodes,
       total-chain layout map free chain,
     )

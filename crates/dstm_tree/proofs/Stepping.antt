@@ -1,7 +1,7 @@
 -- Steps one after the other on the same memory.
 use Rattle.dstm_tree.proofs.Base.{◌≡◌, ℕ, ◌∙◌, List, subst, Ok, Val, Layout, Ghosts, with_set, leads-none}
-use Rattle.dstm_tree.proofs.Base.{leads-answers, leads-then, only_reads-none, only_reads-then}
-use Rattle.dstm_tree.proofs.Base.{opens_to_set-none, opens_to_set-then, IsOpen, Steps, Sets, refl}
+use Rattle.dstm_tree.proofs.Base.{leads-answers, leads-then, only_reads-none, only_reads-then, opens_to_set-none}
+use Rattle.dstm_tree.proofs.Base.{opens_to_set-then, IsOpen, Steps, Sets, refl}
 
 -- one relation of maps after the other
 pub record Through (First Second : List Val → List Val → Type 0) (before after : List Val) : Type 0 where

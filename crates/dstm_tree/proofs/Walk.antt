@@ -13,11 +13,11 @@ pub record Walk {S E : Type 0} (M : Ghosts S E) (layout : Layout) (side : Side) 
   pub goes : (map : List Val) → M.Admits memory map →
       Subtree layout (with_set map (M.written memory)) (child side x) (depth - 1)
 
-pub walk : {S E : Type 0} (M : Ghosts S E) (layout : Layout) {IsQuiet : Node → Type 0} {old new : S} (side : Side)
-    (at depth : ℕ) (x : Node) → IsOpen M layout old →
+pub walk : {S E : Type 0} {M : Ghosts S E} {layout : Layout} {IsQuiet : Node → Type 0} {old new : S} (side : Side)
+    {at depth : ℕ} {x : Node} → IsOpen M layout old →
     ((map : List Val) → M.Admits old map → Subtree layout (with_set map (M.written old)) at depth) →
     Steps M layout IsQuiet (IsRead layout at) old new (Ok x) → (at ≡ 0 → ⊥) → Walk M layout side depth x new
-walk M layout {old = old} {new = new} side at depth x ready lawful read some =
+walk {M = M} {new = new} side ready lawful read some =
     let goes = λ (map : List Val) (a : M.Admits new map).
     go-below side ready.tree (read.does map a) some (lawful map (read.leads.narrows map a)) in
     let (map, a) = read.leads.admits in

@@ -16,6 +16,3 @@ pub use law::height_is_logarithmic;
 pub use node::Node;
 pub use place::{insert, put};
 pub use removal::remove;
-
-#[cfg(test)]
-mod tests;

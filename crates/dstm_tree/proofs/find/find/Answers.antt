@@ -1,31 +1,27 @@
 use Rattle.dstm_tree.proofs.Base.{ℕ, ◌+◌, ◌-◌, ◌≤◌, arith, sym, subst, Ok, with_set, Steps, HasTree, child}
-use Rattle.dstm_tree.proofs.Search.{Reaches, reach-start, reach-none, reach-next, reach-found, search-end}
-use Rattle.dstm_tree.proofs.Search.{search-past, search-within}
+use Rattle.dstm_tree.proofs.Search.{Reaches, reach-start, reach-none, reach-next, reach-found, search-end, search-past}
+use Rattle.dstm_tree.proofs.Search.{search-within}
 use Rattle.dstm_tree.proofs.Stepping.{steps-as, steps-then}
 use Rattle.dstm_tree.proofs.find.find.Goals as goal
 
 pub loop-step-init : goal.loop-step-init
 loop-step-init g c = record {
   so_far = steps-as c.in_ok-at.ensures.steps (λ q. q)
-      (λ before after. reach-start c.args.layout.now _ c.args.key c.in_ok-at.at before after (omega arith));
+      (λ before after. reach-start (omega arith));
   within = c.in_ok-at.ensures.within;
 }
 
 pub returns-then-at-eq0 : goal.returns-then-at-eq0
 returns-then-at-eq0 g c =
-    let layout = c.args.layout.now in
-    let at = c.loop-step.at in
-    steps-as c.loop-step.invariant.so_far (λ q. q) (λ before after h.
-    reach-none layout at _ c.args.key before after h
-    (λ store s. search-end layout before at _ c.args.key store.items c.if-at-eq0.true s))
+    steps-as c.loop-step.invariant.so_far (λ q. q)
+    (λ before after h. reach-none h (λ store s. search-end c.if-at-eq0.true s))
 
 pub returns-then-key-node : goal.returns-then-key-node
 returns-then-key-node g c =
     let layout = c.args.layout.now in
     let has : HasTree layout = record { valid = c.requires.valid; declared = c.requires.declared } in
     steps-as (steps-then c.loop-step.invariant.so_far c.in_ok-node.ensures.steps) (λ q. (q, q)) (λ before after h.
-    reach-found layout c.loop-step.at _ c.args.key c.in_ok-node.node before h.mid after has c.if-at-eq0.false
-    c.if-key-node.true h.first h.second)
+    reach-found has c.if-at-eq0.false c.if-key-node.true h.first h.second)
 
 pub loop-step-preserved : goal.loop-step-preserved
 loop-step-preserved g c =
@@ -37,8 +33,7 @@ loop-step-preserved g c =
     let so_far : Steps {A = ℕ} M layout (λ at. Unit {0}) (Reaches layout left c.args.key) c.args.mem.now
     c.read_node.new.mem (Ok next) =
     steps-as (steps-then c.loop-step.invariant.so_far c.in_ok-node.ensures.steps) (λ q. (q, q)) (λ before after h.
-    reach-next layout c.toward.result c.loop-step.at _ left c.args.key c.in_ok-node.node before h.mid after has
-    c.if-at-eq0.false c.toward.ensures (omega arith) h.first h.second) in
+    reach-next c.toward.result has c.if-at-eq0.false c.toward.ensures (omega arith) h.first h.second) in
     let (map, admitted) = so_far.leads.admits in
     let (store, t) = c.requires.ready.lawful map (so_far.leads.narrows map admitted) in
     let within = search-within layout (with_set map (M.written c.args.mem.now)) next left c.args.key store.items
@@ -51,8 +46,5 @@ loop-step-preserved g c =
 
 pub returns : goal.returns
 returns g c =
-    let layout = c.args.layout.now in
-    let at = c.loop-step.at in
-    steps-as c.loop-step.invariant.so_far (λ q. q) (λ before after h.
-    reach-none layout at _ c.args.key before after h
-    (λ store s. search-past layout before at _ c.args.key store.items (omega (arith, c.loop-step-test.false)) s))
+    steps-as c.loop-step.invariant.so_far (λ q. q)
+    (λ before after h. reach-none h (λ store s. search-past (omega (arith, c.loop-step-test.false)) s))

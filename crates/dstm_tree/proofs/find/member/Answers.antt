@@ -1,4 +1,4 @@
-use Rattle.dstm_tree.proofs.Base.{◌≡◌, sym, ◌∙◌, ap, subst, is_some, yes_or_no, value_of, IsTree}
+use Rattle.dstm_tree.proofs.Base.{◌≡◌, sym, ◌∙◌, ap, is_some, yes_or_no, value_of}
 use Rattle.dstm_tree.proofs.find.member.Goals as goal
 use Rattle.dstm_tree.proofs.find.member.Goals.{then-is_some, else-is_some}
 
@@ -11,4 +11,4 @@ returns-clause-does g c map admitted store t =
     elim c.if-is_some.branch [
       | then-is_some w ↦ w.result-is ∙ ap yes_or_no (sym w.if-is_some.true ∙ is)
       | else-is_some w ↦ w.result-is ∙ ap yes_or_no (sym w.if-is_some.false ∙ is)
-    ] in (reply, subst (λ m. IsTree c.args.layout.now m store) (sym found.same) t)
+    ] in (reply, rw found.same t)

@@ -1,4 +1,4 @@
-use Rattle.dstm_tree.proofs.Base.{◌-◌, List, arith, sym, subst, Val, with_set, CanPlace, LeavesAll}
+use Rattle.dstm_tree.proofs.Base.{List, arith, sym, subst, Val, LeavesAll}
 use Rattle.dstm_tree.proofs.Attach.{settled}
 use Rattle.dstm_tree.proofs.Placing.{can-below, place-leaf, place-below, place-found, place-replaced}
 use Rattle.dstm_tree.specs.declared.side.Side.TheVariants.{Left}
@@ -15,27 +15,24 @@ returns-then-at-eq0-clause-steps g t c =
 
 pub overflow_sub-depth : goal.overflow_sub-depth
 overflow_sub-depth g t c =
-    (walk g.M.Mem c.args.layout.now Left c.args.at c.args.depth c.in_ok-node.node c.requires.ready
-    (λ m a. (c.requires.lawful m a).sub) c.in_ok-node.ensures.steps c.if-at-eq0.false).deep
+    (walk Left c.requires.ready (λ m a. (c.requires.lawful m a).sub) c.in_ok-node.ensures.steps c.if-at-eq0.false).deep
 
 pub place_below-requires : goal.place_below-requires
 place_below-requires g t c κs within =
-    let M = g.M.Mem in
-    let layout = c.args.layout.now in
     let read = c.in_ok-node.ensures.steps in
-    let w = walk g.M.Mem c.args.layout.now c.toward-side.result c.args.at c.args.depth c.in_ok-node.node
-    c.requires.ready (λ m a. (c.requires.lawful m a).sub) c.in_ok-node.ensures.steps c.if-at-eq0.false in
-    let goes = λ (m : List Val) (a : M.Admits c.read_node.new.mem m).
-    let mid = with_set m (M.written c.read_node.new.mem) in
-    subst (λ n. CanPlace layout mid n (c.args.depth - 1)) (sym c.child.ensures) (can-below c.toward-side.result
-    c.requires.ready.tree (read.does m a) c.if-at-eq0.false (c.requires.lawful m (read.leads.narrows m a))) in (
+    let w = walk c.toward-side.result c.requires.ready (λ m a. (c.requires.lawful m a).sub) read c.if-at-eq0.false in
+    let goes = λ (m : List Val) (a : g.M.Mem.Admits c.read_node.new.mem m).
+    can-below c.toward-side.result c.requires.ready.tree (read.does m a) c.if-at-eq0.false
+    (c.requires.lawful m (read.leads.narrows m a)) in (
       omega (arith, c.decreases),
-      (within.0, (within.1, (c.requires.key, (omega (arith, c.child.ensures), (w.ready, goes))))),
+      (
+        within.0,
+        (within.1, (c.requires.key, (omega (arith, c.child.ensures), (w.ready, λ m a. rw c.child.ensures (goes m a))))),
+      ),
     )
 
 pub returns-then-request-node-clause-steps : goal.returns-then-request-node-clause-steps
 returns-then-request-node-clause-steps g t c =
-    let layout = c.args.layout.now in
     let q = c.args.request in
     let placed = c.in_ok-placed-2.placed in
     let found = steps-then c.in_ok-node.ensures.steps c.in_ok-below.ensures.steps in
@@ -43,19 +40,17 @@ returns-then-request-node-clause-steps g t c =
     let is = settled q placed leaves in
     ((tt, subst (LeavesAll q) (sym (c.in_ok-placed-2.ensures.settled is)) leaves), is)) (λ before after h. place-below q
     c.toward-side.result c.args.depth c.in_ok-below.below placed h.mid after c.requires.ready.tree c.if-at-eq0.false
-    c.toward-side.ensures c.child.ensures h.first.first h.first.second h.second)
+    c.toward-side.ensures h.first.first (rw (h.first.first.same, c.child.ensures) at h.first.second) h.second)
 
 pub returns-then-request-clause-steps : goal.returns-then-request-clause-steps
 returns-then-request-clause-steps g t c =
-    let layout = c.args.layout.now in
     steps-as (steps-then c.in_ok-node.ensures.steps c.in_ok-write_node.ensures)
     (λ keep. absurd (cc (keep, c.if-request.true))) (λ before after h.
     place-replaced c.args.request c.args.depth c.requires.ready.tree c.if-at-eq0.false c.if-request-node.false
-    c.if-request.true h.first h.second)
+    c.if-request.true h.first (rw h.first.same at h.second))
 
 pub returns-clause-steps : goal.returns-clause-steps
 returns-clause-steps g t c =
-    let layout = c.args.layout.now in
     steps-as c.in_ok-node.ensures.steps (λ keep. tt) (λ before after.
     place-found c.args.request c.args.depth c.requires.ready.tree c.if-at-eq0.false c.if-request-node.false
     c.if-request.false)

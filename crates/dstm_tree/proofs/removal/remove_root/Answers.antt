@@ -1,13 +1,12 @@
-use Rattle.dstm_tree.proofs.Base.{List, arith, ◌∙◌, ap, Val, with_set, child, Right}
-use Rattle.dstm_tree.proofs.Removing.{go-below, depth-some, subtree-within, remove-only, has-gap_next, remove-between}
+use Rattle.dstm_tree.proofs.Base.{List, arith, ◌∙◌, ap, Val, child, Right}
+use Rattle.dstm_tree.proofs.Removing.{go-below, depth-some, subtree-within, remove-only, has-gap, remove-between}
+use Rattle.dstm_tree.proofs.Search.{part_of, read_root}
 use Rattle.dstm_tree.proofs.Stepping.{steps-as, steps-then}
 use Rattle.dstm_tree.proofs.removal.remove_root.Goals as goal
 
 pub hoist-requires-clause-within : goal.hoist-requires-clause-within
 hoist-requires-clause-within g c =
-    let layout = c.args.layout.now in
     let (map, admitted) = c.requires.ready.admits in
-    let before = with_set map (g.M.Mem.written c.args.mem.now) in
     let (s, read) = c.requires.lawful map admitted in
     let within = subtree-within
     (go-below c.other.result c.requires.ready.tree read (λ e. omega (arith, c.requires.some)) s) in
@@ -15,7 +14,6 @@ hoist-requires-clause-within g c =
 
 pub returns-in-Some : goal.returns-in-Some
 returns-in-Some g c =
-    let layout = c.args.layout.now in
     steps-as c.in_ok-cut.ensures (λ never. never) (λ before after does.
     remove-only c.in-Some.side c.args.depth c.args.node c.in_ok-cut.cut before after c.requires.ready.tree
     c.requires.some c.in-Some.ensures (c.child.ensures ∙ ap (λ s. child s c.args.node) c.other.ensures) does)
@@ -23,16 +21,13 @@ returns-in-Some g c =
 pub overflow_sub-depth : goal.overflow_sub-depth
 overflow_sub-depth g c =
     let (map, admitted) = c.requires.ready.admits in
-    let before = with_set map (g.M.Mem.written c.args.mem.now) in
     let (s, read) = c.requires.lawful map admitted in
     depth-some c.requires.ready.tree read (λ e. omega (arith, c.requires.some)) s
 
 pub take_least-requires : goal.take_least-requires
 take_least-requires g c =
     let M = g.M.Mem in
-    let layout = c.args.layout.now in
     let goes = λ (m : List Val) (a : M.Admits c.args.mem.now m).
-    let before = with_set m (M.written c.args.mem.now) in
     let (s, read) = c.requires.lawful m a in
     go-below Right c.requires.ready.tree read (λ e. omega (arith, c.requires.some)) s in
     let (map, admitted) = c.requires.ready.admits in
@@ -44,16 +39,15 @@ take_least-requires g c =
     }
 
 pub close-requires-clause-lawful : goal.close-requires-clause-lawful
+unfolding part_of
 close-requires-clause-lawful g c map admitted =
-    let M = g.M.Mem in
     let least = c.in_ok-least.ensures.steps in
     let (s, read) = c.requires.lawful map (least.leads.narrows map admitted) in
-    has-gap_next c.args.depth c.in_ok-least.least (with_set map (M.written c.take_least.new.mem)) c.requires.ready.tree
-    c.requires.some c.with_child-parent.ensures read (least.does map admitted) s
+    let r = read_root Right c.requires.ready.tree read (λ e. omega (arith, c.requires.some)) s in
+    has-gap c.with_child-parent.ensures r (least.does map admitted (part_of r)).loses.became
 
 pub returns : goal.returns
 returns g c =
-    let layout = c.args.layout.now in
     steps-as (steps-then c.in_ok-least.ensures.steps c.in_ok-cut-2.ensures) (λ never. absurd never) (λ before after h.
     remove-between c.args.depth c.args.node c.in_ok-least.least c.in_ok-cut-2.cut before h.mid after
     c.requires.ready.tree c.requires.some c.with_child-parent.ensures h.first h.second)

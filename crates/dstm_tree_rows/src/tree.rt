@@ -7,9 +7,9 @@ ghost use Rattle.dstm_mem.specs.Memory.{with_set};
 ghost use Rattle.dstm_mem.specs.Operations.{IsReady};
 ghost use Rattle.dstm_tree.specs.Objects.{IsTree};
 
-use super::*;
 use dstm_mem::{FlatMem, Mem};
 use dstm_model::{Layout, Op, Reply, Val, Which};
+use dstm_tree::{get, height_is_logarithmic, insert, member, put, remove};
 use std::alloc::{AllocError, Global};
 use std::collections::BTreeMap;
 use std::test::Fail;
