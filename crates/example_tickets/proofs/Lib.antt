@@ -1,0 +1,2 @@
+mod Sales
+pub mod Sends

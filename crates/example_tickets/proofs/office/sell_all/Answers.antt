@@ -1,0 +1,12 @@
+use denote.Param.Send.{sendable}
+use Rattle.std.proofs.Crossing.{crosses}
+use Rattle.dstm_engine.proofs.stm.Stm.TheSendSync as Stm
+use Rattle.example_tickets.proofs.sale.NoneLost.TheSendSync as NoneLost
+use Rattle.example_tickets.proofs.Sends.{caller_send}
+use Rattle.example_tickets.proofs.office.sell_all.Goals as goal
+
+pub join-east-requires-send-F : goal.join-east-requires-send-F
+join-east-requires-send-F g c = search (caller_send, Stm.the_sync, NoneLost.the_sync, NoneLost.the_send, crosses, sendable) depth 20
+
+pub join-east-requires-send-A : goal.join-east-requires-send-A
+join-east-requires-send-A g c = search (caller_send, crosses, sendable) depth 20
