@@ -1,0 +1,5 @@
+pub mod Follows
+pub mod Collecting
+pub mod MoreRounds
+pub mod Running
+pub mod Sights

@@ -1,0 +1,6 @@
+pub mod Attempts
+pub mod Rounds
+pub mod Answers
+pub mod Records
+pub mod Sights
+pub mod Running
