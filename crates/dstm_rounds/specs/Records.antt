@@ -140,10 +140,14 @@ pub record StoodBlocked (layout : Layout) (terms : Terms StoreLaw) (log : List E
   pub given_up : WasGivenUp terms.shape log c i
   pub blocked : IsBlockedWith layout (seen_last terms.shape terms.start.value.items log log c i) job
 
--- in version 3 an attempt may have stood at a blocked job: the first one of its worker that these rows leave
-pub record Waited (workload : Workload) (rows : List Row) (terms : Terms StoreLaw) (log : List Event) (worker c i : ℕ) : Type 0 where
+-- in version 3 an attempt may have stood at this job
+pub record Waited (workload : Workload) (job : Option Job) (terms : Terms StoreLaw) (log : List Event) (c i : ℕ) : Type 0 where
   pub version : workload.version ≡ 3
-  pub stood : StoodBlocked workload.layout terms log c i (first_job worker (left_by workload rows))
+  pub stood : StoodBlocked workload.layout terms log c i job
+
+-- the first job of a worker that these rows leave
+abbrev pub next_of : Workload → List Row → ℕ → Option Job
+next_of workload rows worker = first_job worker (left_by workload rows)
 
 -- the caller has no attempt left, or too few locators for another one
 abbrev pub IsSpent : Shape → LocalState → Type 0
@@ -154,14 +158,14 @@ abbrev pub HadToLeave : Workload → List Row → Round → ℕ → ℕ → Type
 HadToLeave workload rows (Dstm table) worker c =
     let state = local table.terms.shape table.log c in
     IsSpent table.terms.shape state
-    ⊎ ((0 < state.begun) × Waited workload rows table.terms table.log worker c state.begun)
+    ⊎ ((0 < state.begun) × Waited workload (next_of workload rows worker) table.terms table.log c state.begun)
 
 -- each attempt of a worker's caller committed, or was disturbed, or stood at a blocked job
 abbrev pub HadCause : Workload → List Row → Round → ℕ → ℕ → Type 0
 HadCause workload rows (Dstm table) worker c =
     (i : ℕ) → 0 < i → i ≤ (local table.terms.shape table.log c).begun →
     HasCommitted table.terms.shape table.log c i
-    ⊎ (Disturbed table.terms.shape table.log c i ⊎ Waited workload rows table.terms table.log worker c i)
+    ⊎ (Disturbed table.terms.shape table.log c i ⊎ Waited workload (next_of workload rows worker) table.terms table.log c i)
 
 -- a parallel round: each of its workers has a caller of its own
 pub record IsParallel (workload : Workload) (number : ℕ) (before rows : List Row) (round : Round) : Type 0 where
