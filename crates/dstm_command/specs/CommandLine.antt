@@ -91,7 +91,7 @@ value_or default read (Some text) = read text
 
 abbrev pub run_with : Manager → ℕ → Bool → RunOptions
 run_with manager seed all_write =
-    record { manager = manager; seed = seed; all_write = all_write }
+    record { manager = manager; seed = seed; all_write = all_write; release = false }
 
 -- the options with their values read: without one polka, the seed 0, and reads opened for reading
 abbrev pub run_of : Options → Option RunOptions

@@ -21,6 +21,8 @@ pub struct RunOptions {
     pub seed: u64,
     /// Objects that are only read are opened for writing too.
     pub all_write: bool,
+    /// Walks along the list give up what they have passed.
+    pub release: bool,
 }
 
 /// Which workload is generated.

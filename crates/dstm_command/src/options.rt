@@ -61,5 +61,6 @@ fn options_matched(matches: &ArgMatches) -> Option<RunOptions>
         manager,
         seed,
         all_write: matches.get_flag("all-write"),
+        release: false,
     })
 }

@@ -85,6 +85,7 @@ fn run(manager: Manager, seed: u64, all_write: bool) -> Command {
         manager,
         seed,
         all_write,
+        release: false,
     })
 }
 
