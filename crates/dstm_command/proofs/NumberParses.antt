@@ -17,7 +17,7 @@ use Rattle.dstm_command.specs.CommandLine.{is_two_hyphens, number_in, seed_of, s
 use Rattle.dstm_command.specs.Parsers.{numbers_app, required_value}
 use Rattle.dstm_command.specs.declared.command.GenSpec.{GenSpec}
 use Rattle.dstm_command.proofs.OptionRows.{or_false}
-use Rattle.dstm_command.proofs.OptionTurns.{fails, first_fails, held_at}
+use Rattle.dstm_command.proofs.OptionTurns.{fails, first_fails, held_at, second_fails}
 use Rattle.dstm_command.proofs.OptionParses.{fails_not, or_nothing}
 use Rattle.dstm_command.proofs.OptionWords.{some_none}
 
@@ -120,10 +120,6 @@ second_turn a b e = ap (λ (t : Turn). t.1) (turn_is 2 b [] (Some (codes "seed",
 third_turn : (a b d : Text) → bytes_eq d (45 ∷ 45 ∷ []) ≡ false → (turn (two a b) d).1 ≡ three a b d
 third_turn a b d e =
     ap (λ (t : Turn). t.1) (turn_is 3 d (used seed_rule (a ∷ []) []) (Some (codes "count", b ∷ [])) e)
-
-second_fails : (a b : Kinds) → fails b ≡ true → fails (or_else a b) ≡ true
-second_fails [] b e = e
-second_fails (k ∷ ks) b e = refl
 
 -- a fourth word is refused
 fourth_fails : (a b d word : Text) → bytes_eq word (45 ∷ 45 ∷ []) ≡ false →

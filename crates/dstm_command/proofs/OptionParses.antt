@@ -1,156 +1,169 @@
--- What a whole parse of `run`'s options gives, and when it fails.
-use Rattle.std.proofs.Common.{◌≡◌, ◌≢◌, ◌∙◌, Bool, true, false, if◌then◌else◌, List, [], ◌∷◌, Option, Some, None, is_some, is_ok, slice_get, ◌||◌, option_and_then, Result, IfOk, IfSome, IsErrOf, ok_or, codes, fold, bytes_eq, refl, sym, ap, ap₂, subst, true≢false}
+-- What a whole parse of a table's options gives, and when it fails.
+use Rattle.std.proofs.Common.{◌≡◌, ◌≢◌, ◌∙◌, ◌||◌, ◌&&◌, not, Bool, true, false, cond, List, [], ◌∷◌, fold, find, map, String, Global, string_bytes, Option, Some, None, is_some, is_ok, option_map, option_and_then, slice_get, Result, IfOk, IfSome, IsErrOf, ok_or, codes, bytes_eq, refl, sym, ap, ap₂, subst, true≢false}
 use Rattle.std.specs.List.{list_any}
+use Rattle.std.specs.Option.{option_or}
+use Rattle.std.proofs.lemmas.Slice.Eq.{bytes_eq-Decides}
+use Rattle.std.proofs.lemmas.Str.{IsUtf8-string_bytes}
 use Rattle.clap.specs.Matches.{first_value, one_text}
-use Rattle.clap.specs.Walk.{Row, Text, first_of, has_row, idle, nothing_held, one_of, reading_by, row_text, with_default, with_values}
-use Rattle.clap.specs.Walk.{rows_of}
-use Rattle.clap.specs.Kinds.{Kinds, or_else}
-use Rattle.clap.specs.Faults.{defaults_fault, fault_of, settle_fault, walk_fault}
+use Rattle.clap.specs.Values.{bool_text}
+use Rattle.clap.specs.Walk.{Row, Text, first_of, idle, nothing_held, one_of, Walk, has_row, row_text, rows_of, with_default}
+use Rattle.clap.specs.Kinds.{Kinds, check_kinds, or_else}
+use Rattle.clap.specs.Takes.{is_given as is_used}
+use Rattle.clap.specs.Faults.{check_fault, defaults_fault, fault_of, given_default_fault, settle_fault, walk_fault}
 use Rattle.clap.specs.Simple.{built, matches_of}
 use Rattle.clap.specs.declared.parser.matches.Found.{Found}
-use Rattle.clap.specs.declared.parser.matches.ValueSource.TheVariants.{DefaultValue}
+use Rattle.clap.specs.declared.parser.matches.ValueSource.TheVariants.{CommandLine}
 use Rattle.clap.proofs.FaultLemmas.{leaf_fault}
-use Rattle.clap.proofs.WalkLemmas.{first_value-rows, one_text-rows}
-use Rattle.dstm_command.specs.CommandLine.{Options, is_two_hyphens, no_options, options_from, run_of}
-use Rattle.dstm_command.specs.Parsers.{options_app}
+use Rattle.clap.proofs.WalkLemmas.{find-map, first_value-rows, one_text-rows}
+use Rattle.dstm_command.specs.CommandLine.{is_two_hyphens, run_of, run_options}
+use Rattle.dstm_command.specs.Options.{Choice, Given, Table, flag, is_given, name_of, option_named, options_in, valued, value_of}
+use Rattle.dstm_command.specs.Parsers.{Holds, is_flag, options_app}
 use Rattle.dstm_command.specs.declared.command.RunOptions.{RunOptions}
 use Rattle.dstm_command.specs.declared.command.WordsError.{WordsError}
 use Rattle.dstm_command.specs.declared.command.WordsError.TheVariants.{Usage}
-use Rattle.dstm_command.proofs.OptionRows.{Shows, args, find_new, find_old, flag, name_of, new_values, of_manager, of_seed, row_with, shape, valued, value_in}
-use Rattle.dstm_command.proofs.OptionTurns.{fails, stands}
-use Rattle.dstm_command.proofs.OptionWords.{Agrees, agrees, ends, refused, rows_at, taken, total}
-
--- ---- faults after the walk
-
-same_if : {X : Type 0} (b : Bool) (x : X) → (if b then x else x) ≡ x
-same_if true x = refl
-same_if false x = refl
-
-no_defaults_fault : (rows : List Row) → defaults_fault rows args ≡ []
-unfolding defaults_fault
-no_defaults_fault rows =
-    let one = with_default rows (valued of_manager) in
-    let two = with_default one (valued of_seed) in
-    ap₂ or_else (same_if (has_row (codes "manager") rows || true) [])
-    (ap₂ or_else (same_if (has_row (codes "seed") one || true) [])
-    (ap₂ or_else (same_if (has_row (codes "all-write") two || false) []) refl))
+use Rattle.dstm_command.proofs.OptionRows.{any_found, arg, args, default_in, default_of, default_row, found, found_finished, or_false, row_from, rows, same_if}
+use Rattle.dstm_command.proofs.OptionTurns.{fails, held_at, shape, stands}
+use Rattle.dstm_command.proofs.OptionWords.{Agrees, AreWords, Proper, agrees, between, ends, refused, rows_at, inside, some_none, taken, total}
 
 pub or_nothing : (a : Kinds) → or_else a [] ≡ a
 or_nothing [] = refl
 or_nothing (k ∷ ks) = refl
 
-fault_is : (words : List Text) → fault_of options_app words ≡ total (stands idle nothing_held) words
-fault_is words = leaf_fault (built options_app) nothing_held words refl
-    ∙ ap (λ d. or_else (walk_fault shape [] (stands idle nothing_held) words)
-    (or_else (settle_fault args false (ends (stands idle nothing_held) words)) (or_else d [])))
-    (no_defaults_fault (rows_at (stands idle nothing_held) words))
-    ∙ ap (or_else (walk_fault shape [] (stands idle nothing_held) words))
-    (or_nothing (settle_fault args false (ends (stands idle nothing_held) words)))
-
--- ---- rows after the walk
-
--- what the program reads of the rows
-record Reads (rows : List Row) (q : Options) : Type 0 where
-  pub manager : first_of (codes "manager") rows ≡ q.manager
-  pub seed : first_of (codes "seed") rows ≡ q.seed
-  pub flag : one_of (codes "all-write") rows ≡ Some (if q.all_write then codes "true" else codes "false")
-
-abbrev default_row : Row
-default_row = row_with (codes "all-write") (reading_by flag) DefaultValue (codes "false" ∷ [])
-
-reads_default : (rows : List Row) (q : Options) → Shows rows q → (b : Bool) → q.all_write ≡ b
-    → Reads (if b then rows else with_values (codes "all-write") (reading_by flag) DefaultValue
-    (codes "false" ∷ []) rows) q
-reads_default rows q shows true e = record {
-  manager = shows.value of_manager;
-  seed = shows.value of_seed;
-  flag = shows.flag e ∙ ap (λ (b : Bool). Some (if b then codes "true" else codes "false")) (sym e);
-}
-reads_default rows q shows false e =
-    let none : has_row (codes "all-write") rows ≡ false = shows.has_flag ∙ e in
-    subst (λ r. Reads r q)
-    (sym (new_values (codes "all-write") (reading_by flag) DefaultValue (codes "false" ∷ []) rows none))
-    (record {
-      manager =
-          ap (option_and_then (λ r. slice_get r.values 0))
-          (find_old (λ r. bytes_eq r.id (codes "manager")) default_row rows refl) ∙ shows.value of_manager;
-      seed = ap (option_and_then (λ r. slice_get r.values 0))
-          (find_old (λ r. bytes_eq r.id (codes "seed")) default_row rows refl) ∙ shows.value of_seed;
-      flag = ap (option_and_then row_text)
-          (find_new (λ r. bytes_eq r.id (codes "all-write")) default_row rows none refl)
-          ∙ ap (λ (b : Bool). Some (if b then codes "true" else codes "false")) (sym e);
-    })
-
-reads_finished : (rows : List Row) (q : Options) → Shows rows q → Reads (fold with_default rows args) q
-reads_finished rows q shows =
-    let first : with_default rows (valued of_manager) ≡ rows = same_if (has_row (codes "manager") rows) rows in
-    let second : with_default (with_default rows (valued of_manager)) (valued of_seed) ≡ rows = same_if _ _
-    ∙ first in
-    subst (λ r. Reads (with_default r flag) q) (sym second)
-    (subst (λ (b : Bool). Reads
-    (if b then rows else with_values (codes "all-write") (reading_by flag) DefaultValue
-    (codes "false" ∷ []) rows) q)
-    (sym shows.has_flag) (reads_default rows q shows q.all_write refl))
-
--- ---- the parse
-
-shows_nothing : Shows [] no_options
-shows_nothing = record {
-  value = λ k. elim k as
-      (λ k. first_of (name_of k) [] ≡ value_in no_options k) [ of_manager ↦ refl | of_seed ↦ refl ];
-  has = λ k. elim k as
-      (λ k. has_row (name_of k) [] ≡ is_some (value_in no_options k)) [ of_manager ↦ refl | of_seed ↦ refl ];
-  has_flag = refl;
-  flag = λ e. absurd (true≢false (sym e));
-}
-
-whole : (words : List Text) → list_any is_two_hyphens words ≡ false →
-    Agrees no_options words (stands idle nothing_held)
-whole words plain = agrees words plain no_options [] None refl shows_nothing
-
 pub fails_not : (k : Kinds) → fails k ≡ true → k ≡ [] → ⊥
 fails_not k f e = true≢false (sym f ∙ ap fails e)
 
--- what the program makes of the matches is what the words say
-pub result_is : (words : List Text) (f : Found) (r : Option RunOptions) →
-    list_any is_two_hyphens words ≡ false → fault_of options_app words ≡ []
-    → rows_of f ≡ matches_of options_app words
-    → ((b : Bool) → one_text f (codes "all-write") ≡ Some (if b then codes "true" else codes "false") →
-    r ≡ run_of (record {
-      manager = first_value f (codes "manager");
-      seed = first_value f (codes "seed");
-      all_write = b;
-    }))
-    → r ≡ option_and_then run_of (options_from no_options words)
-result_is words f r plain none rows_are reading = go (whole words plain)
+-- the words of a command line are words for the parser
+pub are_words : (words : List (String Global)) → list_any is_two_hyphens (map string_bytes words) ≡ false →
+    AreWords (map string_bytes words)
+are_words [] plain = tt
+are_words (word ∷ rest) plain =
+    let parts = or_false (is_two_hyphens (string_bytes word)) _ plain in
+    (record { goes_on = parts.0; text = IsUtf8-string_bytes word }, are_words rest parts.1)
+
+-- ---- faults after the walk
+
+no_default_fault : (table : Table) (rs : List Row) → defaults_fault rs (args table) ≡ []
+unfolding defaults_fault
+no_default_fault [] rs = refl
+no_default_fault (valued n ∷ rest) rs =
+    ap₂ or_else (true_or (has_row n rs)) (no_default_fault rest (with_default rs (arg (valued n))))
   where
-    go : Agrees no_options words (stands idle nothing_held) →
-        r ≡ option_and_then run_of (options_from no_options words)
-    go (refused fault n) = absurd (fails_not _ fault (sym (fault_is words) ∙ none))
-    go (taken q is passes shows) =
-        let reads : Reads (rows_of f) q =
-        subst (λ rows. Reads rows q) (sym rows_are)
-        (reads_finished (rows_at (stands idle nothing_held) words) q shows) in
-        reading q.all_write (one_text-rows f (codes "all-write") ∙ reads.flag)
-        ∙ ap₂ (λ m s. run_of (record { manager = m; seed = s; all_write = q.all_write }))
-        (first_value-rows f (codes "manager") ∙ reads.manager) (first_value-rows f (codes "seed") ∙ reads.seed)
-        ∙ ap (option_and_then run_of) (sym is)
+    true_or : (b : Bool) → cond (b || true) [] (given_default_fault (arg (valued n)) []) ≡ []
+    true_or true = refl
+    true_or false = refl
+no_default_fault (flag n ∷ rest) rs =
+    ap₂ or_else (either (has_row n rs)) (no_default_fault rest (with_default rs (arg (flag n))))
+  where
+    either : (b : Bool) → cond (b || false) [] (given_default_fault (arg (flag n)) (codes "false" ∷ [])) ≡ []
+    either true = refl
+    either false = refl
+
+none_required : (table : Table) (rs : List Row) → list_any (λ a. a.required && not (is_used a.id rs)) (args table) ≡ false
+none_required [] rs = refl
+none_required (c ∷ rest) rs = none_required rest rs
+
+abbrev start : Walk
+start = stands idle nothing_held
+
+fault_is : (table : Table) (words : List Text) → fault_of (options_app table) words ≡ total table start words
+fault_is table words = leaf_fault (built (options_app table)) nothing_held words refl
+    ∙ ap₂ (λ d (b : Bool). or_else (walk_fault (shape table) [] start words) (or_else (settle_fault (args table) false (ends table start words))
+    (or_else d (check_kinds false false b))))
+    (no_default_fault table (rows_at table start words)) (none_required table _)
+    ∙ ap (or_else (walk_fault (shape table) [] start words))
+    (or_nothing (settle_fault (args table) false (ends table start words)))
+
+parse : (table : Table) (words : List Text) → AreWords words → Agrees table words start (options_in table words)
+parse table words all = agrees table words [] None start all (λ name text is e. absurd (some_none (sym e))) (between [] None refl refl)
+
+-- ---- what is found
+
+abbrev first_in : Option Row → Option Text
+first_in = option_and_then (λ r. slice_get r.values 0)
+
+no_default : (name : Text) (table : Table) → list_any (is_flag name) table ≡ false → default_in name table ≡ None
+no_default name [] none = refl
+no_default name (valued n ∷ rest) none = no_default name rest none
+no_default name (flag n ∷ rest) none =
+    let parts = or_false (bytes_eq n name) _ none in
+    ap₂ (λ b d. option_or (cond b (Some (default_row n)) None) d) parts.0 (no_default name rest parts.1)
+
+flag_default : (name : Text) (table : Table) → option_named table name ≡ Some (flag name) →
+    default_in name table ≡ Some (default_row name)
+flag_default name [] is = absurd (some_none (sym is))
+flag_default name (c ∷ rest) is = go (bytes_eq (name_of c) name) refl is (flag_default name rest)
+  where
+    other : (c : Choice) → bytes_eq (name_of c) name ≡ false → default_of name c ≡ None
+    other (valued n) e = refl
+    other (flag n) e = ap (λ b. cond b (Some (default_row n)) None) e
+
+    go : (b : Bool) → bytes_eq (name_of c) name ≡ b → cond b (Some c) (option_named rest name) ≡ Some (flag name) →
+        (option_named rest name ≡ Some (flag name) → default_in name rest ≡ Some (default_row name))
+        → option_or (default_of name c) (default_in name rest) ≡ Some (default_row name)
+    go true e is more = ap (λ c. option_or (default_of name c) (default_in name rest)) (inside is)
+        ∙ ap (λ b. option_or (cond b (Some (default_row name)) None) (default_in name rest)) ((bytes_eq-Decides name name).1 refl)
+    go false e is more = ap (λ d. option_or d (default_in name rest)) (other c e) ∙ more is
+
+-- the parser's matches have what was given
+holds : (table : Table) (given : Given) (f : Found) → Proper table given →
+    rows_of f ≡ fold with_default (rows given) (args table) → Holds table f given
+holds table given f proper rows_are = record {
+  value = λ name none. first_value-rows f name
+      ∙ ap first_in (final name ∙ ap (option_or (old name)) (no_default name table none)) ∙ valued_is (entry name);
+  flags = λ name is. one_text-rows f name
+      ∙ ap (option_and_then row_text) (final name ∙ ap (option_or (old name)) (flag_default name table is))
+      ∙ flag_is name (entry name) (λ t e. proper name t is e)
+      ∙ ap (λ b. Some (bool_text b)) (sym (any_found (λ g. bytes_eq g.0 name) given));
+}
+  where
+    entry : Text → Option (Text × Text)
+    entry name = find (λ g. bytes_eq g.0 name) given
+
+    old : Text → Option Row
+    old name = option_map (row_from CommandLine) (entry name)
+
+    final : (name : Text) → found name (rows_of f) ≡ option_or (old name) (default_in name table)
+    final name = ap (found name) rows_are ∙ found_finished name table (rows given)
+        ∙ ap (λ o. option_or o (default_in name table)) (sym (find-map (λ r. bytes_eq r.id name) (row_from CommandLine) given))
+
+    valued_is : (o : Option (Text × Text)) →
+        first_in (option_or (option_map (row_from CommandLine) o) None) ≡ option_map (λ g. g.1) o
+    valued_is None = refl
+    valued_is (Some g) = refl
+
+    flag_is : (name : Text) (o : Option (Text × Text)) →
+        ((t : Text) → option_map (λ g. g.1) o ≡ Some t → t ≡ codes "true")
+        → option_and_then row_text (option_or (option_map (row_from CommandLine) o) (Some (default_row name)))
+        ≡ Some (bool_text (is_some o))
+    flag_is name None is = refl
+    flag_is name (Some g) is = ap (λ t. Some t) (is g.1 refl)
+
+-- ---- the parse
+
+-- what the program makes of the matches is what the words say
+pub result_is : (table : Table) (words : List Text) (f : Found) → AreWords words →
+    fault_of (options_app table) words ≡ [] → rows_of f ≡ matches_of (options_app table) words
+    → (given : Given) × (options_in table words ≡ Some given) × Holds table f given
+result_is table words f all none rows_are = go (options_in table words) refl (parse table words all)
+  where
+    go : (o : Option Given) → options_in table words ≡ o → Agrees table words start o →
+        (given : Given) × (options_in table words ≡ Some given) × Holds table f given
+    go o is (refused fault) = absurd (fails_not _ fault (sym (fault_is table words) ∙ none))
+    go o is (taken given proper passes leaves) = (
+      given,
+      is,
+      holds table given f proper
+          (rows_are ∙ ap (λ rs. fold with_default rs (args table)) leaves),
+    )
 
 -- words that the parser refuses are no options
-pub none_read : (words : List Text) → list_any is_two_hyphens words ≡ false → fault_of options_app words ≢ [] →
-    option_and_then run_of (options_from no_options words) ≡ None
-none_read words plain some = go (whole words plain)
+pub none_read : (table : Table) (words : List Text) → AreWords words → fault_of (options_app table) words ≢ [] →
+    options_in table words ≡ None
+none_read table words all some = go (options_in table words) refl (parse table words all)
   where
-    from : ((q : Options) → options_from no_options words ≡ Some q → run_of q ≡ None) → (x : Option Options) →
-        options_from no_options words ≡ x
-        → option_and_then run_of x ≡ None
-    from n None e = refl
-    from n (Some q) e = n q e
-
-    go : Agrees no_options words (stands idle nothing_held) →
-        option_and_then run_of (options_from no_options words) ≡ None
-    go (refused fault n) = from n (options_from no_options words) refl
-    go (taken q is passes shows) = absurd (some (fault_is words ∙ passes))
+    go : (o : Option Given) → options_in table words ≡ o → Agrees table words start o → options_in table words ≡ None
+    go o is (refused fault) = is
+    go o is (taken given proper passes leaves) = absurd (some (fault_is table words ∙ passes))
 
 -- ---- the answer
 

@@ -1,80 +1,64 @@
--- The rows of the options of `run`, as the parser keeps them, show the options given so far.
-use Rattle.std.proofs.Common.{◌≡◌, ◌∙◌, ◌||◌, Bool, true, false, cond, List, [], ◌∷◌, ◌++◌, find, Option, Some, None, is_some, option_and_then, slice_get, codes, bytes_eq, append-nil, refl, sym, ap, subst, true≢false}
+-- The options of a table as the parser's arguments, and the rows that it keeps of those that were given.
+use Rattle.std.proofs.Common.{◌≡◌, ◌∙◌, ◌||◌, ℕ, Bool, true, false, cond, if◌then◌else◌, List, [], ◌∷◌, ◌++◌, find, fold, map, Option, Some, None, option_map, codes, bytes_eq, append-nil, is_some, refl, sym, ap, subst, true≢false}
 use Rattle.std.specs.List.{list_any}
-use Rattle.clap.specs.Walk.{Row, Rule, Text, at_row, first_of, has_row, more_values, one_of, reading_by, row_text, used, with_values, without}
-use Rattle.clap.specs.Simple.{Shape, built, filled, with_index}
-use Rattle.clap.specs.declared.builder.value_parser.Reading.{Reading}
+use Rattle.std.specs.Option.{option_or}
+use Rattle.std.proofs.lemmas.Slice.Eq.{bytes_eq-Decides}
+use Rattle.std.proofs.lemmas.List.Folds.{find-append}
+use Rattle.clap.specs.Walk.{Row, Rule, arg_by_id, arg_by_index, arg_by_long, arg_by_short, at_row, has_row, more_values, with_default, with_values, without}
+use Rattle.clap.specs.Simple.{filled, filled_from, with_index}
+use Rattle.clap.specs.declared.builder.value_parser.Reading.TheVariants.{AsWritten}
 use Rattle.clap.specs.declared.parser.matches.ValueSource.{ValueSource}
-use Rattle.clap.specs.declared.parser.matches.ValueSource.TheVariants.{CommandLine}
-use Rattle.dstm_command.specs.CommandLine.{Options}
-use Rattle.dstm_command.specs.Parsers.{flag_option, options_app, value_option}
-
--- the two options that take a value
-pub data Valued : Type 0 where
-  of_manager : Valued
-  of_seed : Valued
-
-abbrev pub name_of : Valued → Text
-name_of of_manager = codes "manager"
-name_of of_seed = codes "seed"
-
-abbrev pub valued : Valued → Rule
-valued of_manager = with_index 1 (filled (value_option (codes "manager")))
-valued of_seed = with_index 1 (filled (value_option (codes "seed")))
-
-abbrev pub flag : Rule
-flag = with_index 1 (filled (flag_option (codes "all-write")))
-
--- the command as it is built, and its arguments
-abbrev pub shape : Shape
-shape = (built options_app).top
-
-abbrev pub args : List Rule
-args = shape.rules
-
-abbrev pub value_in : Options → Valued → Option Text
-value_in o of_manager = o.manager
-value_in o of_seed = o.seed
-
-abbrev pub put : Options → Valued → Text → Options
-put o of_manager text = record o { manager = Some text }
-put o of_seed text = record o { seed = Some text }
-
--- ---- a row at the end
-
-abbrev pub row_with : Text → Reading → ValueSource → List Text → Row
-row_with id how s values = record { id = id; values = values; count = None; source = Some s; reading = how }
+use Rattle.clap.specs.declared.parser.matches.ValueSource.TheVariants.{CommandLine, DefaultValue}
+use Rattle.clap.proofs.WalkLemmas.{list_any-map}
+use Rattle.dstm_command.specs.Options.{Choice, Given, Table, Text, flag, is_given, name_of, option_named, valued}
+use Rattle.dstm_command.specs.Parsers.{option_rule}
 
 pub or_false : (a b : Bool) → (a || b) ≡ false → (a ≡ false) × (b ≡ false)
 or_false true b e = absurd (true≢false e)
 or_false false b e = (refl, e)
 
-module _ (p : Row → Bool) (new : Row) where
-  pub find_old : (rows : List Row) → p new ≡ false → find p (rows ++ new ∷ []) ≡ find p rows
-  find_old [] e = ap (λ b. cond b (Some new) None) e
-  find_old (r ∷ rows) e = ap (λ o. cond (p r) (Some r) o) (find_old rows e)
+-- ---- arguments
 
-  pub find_new : (rows : List Row) → list_any p rows ≡ false → p new ≡ true →
-      find p (rows ++ new ∷ []) ≡ Some new
-  find_new [] none e = ap (λ b. cond b (Some new) None) e
-  find_new (r ∷ rows) none e =
-      let parts = or_false (p r) _ none in
-      ap (λ b. cond b (Some r) (find p (rows ++ new ∷ []))) parts.0 ∙ find_new rows parts.1 e
+abbrev pub arg : Choice → Rule
+arg c = with_index 1 (filled (option_rule c))
 
-  pub any_old : (rows : List Row) → p new ≡ false → list_any p (rows ++ new ∷ []) ≡ list_any p rows
-  any_old [] e = ap (λ b. b || false) e
-  any_old (r ∷ rows) e = ap (λ b. p r || b) (any_old rows e)
+abbrev pub args : Table → List Rule
+args table = filled_from 1 (map option_rule table)
 
-  pub any_new : (rows : List Row) → p new ≡ true → list_any p (rows ++ new ∷ []) ≡ true
-  any_new [] e = ap (λ b. b || false) e
-  any_new (r ∷ rows) e = ap (λ b. p r || b) (any_new rows e) ∙ or_true (p r)
-    where
-      or_true : (b : Bool) → (b || true) ≡ true
-      or_true true = refl
-      or_true false = refl
+pub by_long : (table : Table) (name : Text) → arg_by_long (args table) name ≡ option_map arg (option_named table name)
+by_long [] name = refl
+by_long (c ∷ rest) name = elim (bytes_eq (name_of c) name) as
+    (λ b. cond (b || false) (Some (arg c)) (arg_by_long (args rest) name)
+    ≡ option_map arg (cond b (Some c) (option_named rest name))) [ true ↦ refl | false ↦ by_long rest name ]
+
+pub by_id : (table : Table) (name : Text) → arg_by_id (args table) name ≡ option_map arg (option_named table name)
+by_id [] name = refl
+by_id (c ∷ rest) name = elim (bytes_eq (name_of c) name) as
+    (λ b. cond b (Some (arg c)) (arg_by_id (args rest) name)
+    ≡ option_map arg (cond b (Some c) (option_named rest name))) [ true ↦ refl | false ↦ by_id rest name ]
+
+pub by_index : (table : Table) (i : ℕ) → arg_by_index (args table) i ≡ None
+by_index [] i = refl
+by_index (c ∷ rest) i = by_index rest i
+
+pub by_short : (table : Table) (x : ℕ) → arg_by_short (args table) x ≡ None
+by_short [] x = refl
+by_short (c ∷ rest) x = by_short rest x
+
+-- ---- rows
+
+abbrev pub row_from : ValueSource → Text × Text → Row
+row_from s g = record { id = g.0; values = g.1 ∷ []; count = None; source = Some s; reading = AsWritten }
+
+-- the rows of what was given
+abbrev pub rows : Given → List Row
+rows = map (row_from CommandLine)
+
+pub has_given : (name : Text) (given : Given) → has_row name (rows given) ≡ is_given name given
+has_given name given = sym (list_any-map (λ r. bytes_eq r.id name) (row_from CommandLine) given)
 
 -- at an id that has no row
-pub no_row : (id : Text) (change : Row → List Row) (missing rows : List Row) → has_row id rows ≡ false →
+no_row : (id : Text) (change : Row → List Row) (missing rows : List Row) → has_row id rows ≡ false →
     at_row id change missing rows ≡ rows ++ missing
 no_row id change missing [] none = refl
 no_row id change missing (r ∷ rows) none =
@@ -82,109 +66,84 @@ no_row id change missing (r ∷ rows) none =
     ap (λ b. cond b (change r ++ rows) (r ∷ at_row id change missing rows)) parts.0
     ∙ ap (λ rs. r ∷ rs) (no_row id change missing rows parts.1)
 
-pub new_values : (id : Text) (how : Reading) (s : ValueSource) (values : List Text) (rows : List Row) →
-    has_row id rows ≡ false
-    → with_values id how s values rows ≡ rows ++ row_with id how s values ∷ []
-new_values id how s values rows none = no_row id (more_values s values) _ rows none
+new_row : (s : ValueSource) (g : Text × Text) (rows : List Row) → has_row g.0 rows ≡ false →
+    with_values g.0 AsWritten s (g.1 ∷ []) rows ≡ rows ++ row_from s g ∷ []
+new_row s g rows none = no_row g.0 (more_values s (g.1 ∷ [])) _ rows none
 
-pub used_values : (id : Text) (how : Reading) (s : ValueSource) (values : List Text) (rows : List Row) →
-    has_row id rows ≡ false
-    → with_values id how s values (without id rows) ≡ rows ++ row_with id how s values ∷ []
-used_values id how s values rows none =
-    ap (with_values id how s values) (no_row id (λ _. []) [] rows none ∙ append-nil rows)
-    ∙ new_values id how s values rows none
+rows_more : (given : Given) (g : Text × Text) → rows given ++ row_from CommandLine g ∷ [] ≡ rows (given ++ g ∷ [])
+rows_more [] g = refl
+rows_more (x ∷ given) g = ap (λ rs. row_from CommandLine x ∷ rs) (rows_more given g)
 
--- ---- what the rows show
+-- a use of an option that was not given before
+pub used_once : (given : Given) (name text : Text) → is_given name given ≡ false →
+    with_values name AsWritten CommandLine (text ∷ []) (without name (rows given)) ≡ rows (given ++ (name, text) ∷ [])
+used_once given name text none =
+    let free : has_row name (rows given) ≡ false = has_given name given ∙ none in
+    ap (with_values name AsWritten CommandLine (text ∷ [])) (no_row name (λ _. []) [] (rows given) free ∙ append-nil (rows given))
+    ∙ new_row CommandLine (name, text) (rows given) free ∙ rows_more given (name, text)
 
--- the rows are those of the options
-pub record Shows (rows : List Row) (o : Options) : Type 0 where
-  pub value : (k : Valued) → first_of (name_of k) rows ≡ value_in o k
-  pub has : (k : Valued) → has_row (name_of k) rows ≡ is_some (value_in o k)
-  pub has_flag : has_row (codes "all-write") rows ≡ o.all_write
-  pub flag : o.all_write ≡ true → one_of (codes "all-write") rows ≡ Some (codes "true")
-
-abbrev first_in : Option Row → Option Text
-first_in = option_and_then (λ r. slice_get r.values 0)
+-- ---- defaults
 
 abbrev named : Text → Row → Bool
-named id r = bytes_eq r.id id
+named name r = bytes_eq r.id name
 
-abbrev value_row : Valued → Text → Row
-value_row k text = row_with (name_of k) (reading_by (valued k)) CommandLine (text ∷ [])
+abbrev pub found : Text → List Row → Option Row
+found name = find (named name)
 
-abbrev flag_row : Row
-flag_row = row_with (codes "all-write") (reading_by flag) CommandLine (codes "true" ∷ [])
+pub any_found : {X : Type 0} (p : X → Bool) (xs : List X) → list_any p xs ≡ is_some (find p xs)
+any_found p [] = refl
+any_found p (x ∷ xs) = elim (p x) as
+    (λ b. (b || list_any p xs) ≡ is_some (cond b (Some x) (find p xs))) [ true ↦ refl | false ↦ any_found p xs ]
 
-shows_value : (k : Valued) (text : Text) (rows : List Row) (o : Options) → Shows rows o →
-    has_row (name_of k) rows ≡ false
-    → Shows (rows ++ value_row k text ∷ []) (put o k text)
-shows_value of_manager text rows o h none = record {
-  value = λ j. elim j as
-      (λ j. first_of (name_of j) (rows ++ value_row of_manager text ∷ []) ≡ value_in
-      (put o of_manager text) j) [
-        | of_manager ↦ ap first_in (find_new (named (codes "manager")) (value_row of_manager text) rows none refl)
-        | of_seed ↦ ap first_in (find_old (named (codes "seed")) (value_row of_manager text) rows refl)
-            ∙ h.value of_seed
-      ];
-  has = λ j. elim j as
-      (λ j. has_row (name_of j) (rows ++ value_row of_manager text ∷ []) ≡ is_some
-      (value_in (put o of_manager text) j)) [
-        | of_manager ↦ any_new (named (codes "manager")) (value_row of_manager text) rows refl
-        | of_seed ↦ any_old (named (codes "seed")) (value_row of_manager text) rows refl ∙ h.has of_seed
-      ];
-  has_flag = any_old (named (codes "all-write")) (value_row of_manager text) rows refl ∙ h.has_flag;
-  flag = λ e. ap (option_and_then row_text)
-      (find_old (named (codes "all-write")) (value_row of_manager text) rows refl) ∙ h.flag e;
-}
-shows_value of_seed text rows o h none = record {
-  value = λ j. elim j as
-      (λ j. first_of (name_of j) (rows ++ value_row of_seed text ∷ []) ≡ value_in (put o of_seed text) j) [
-        | of_manager ↦ ap first_in (find_old (named (codes "manager")) (value_row of_seed text) rows refl)
-            ∙ h.value of_manager
-        | of_seed ↦ ap first_in (find_new (named (codes "seed")) (value_row of_seed text) rows none refl)
-      ];
-  has = λ j. elim j as
-      (λ j. has_row (name_of j) (rows ++ value_row of_seed text ∷ []) ≡ is_some
-      (value_in (put o of_seed text) j)) [
-        | of_manager ↦ any_old (named (codes "manager")) (value_row of_seed text) rows refl ∙ h.has of_manager
-        | of_seed ↦ any_new (named (codes "seed")) (value_row of_seed text) rows refl
-      ];
-  has_flag = any_old (named (codes "all-write")) (value_row of_seed text) rows refl ∙ h.has_flag;
-  flag = λ e. ap (option_and_then row_text)
-      (find_old (named (codes "all-write")) (value_row of_seed text) rows refl) ∙ h.flag e;
-}
+-- the row of a flag that was not given
+abbrev pub default_row : Text → Row
+default_row name = row_from DefaultValue (name, codes "false")
 
-shows_flag : (rows : List Row) (o : Options) → Shows rows o → has_row (codes "all-write") rows ≡ false
-    → Shows (rows ++ flag_row ∷ []) (record o { all_write = true })
-shows_flag rows o h none = record {
-  value = λ j. elim j as
-      (λ j. first_of (name_of j) (rows ++ flag_row ∷ []) ≡ value_in (record o { all_write = true }) j) [
-        | of_manager ↦ ap first_in (find_old (named (codes "manager")) flag_row rows refl) ∙ h.value of_manager
-        | of_seed ↦ ap first_in (find_old (named (codes "seed")) flag_row rows refl) ∙ h.value of_seed
-      ];
-  has = λ j. elim j as
-      (λ j. has_row (name_of j) (rows ++ flag_row ∷ []) ≡ is_some
-      (value_in (record o { all_write = true }) j)) [
-        | of_manager ↦ any_old (named (codes "manager")) flag_row rows refl ∙ h.has of_manager
-        | of_seed ↦ any_old (named (codes "seed")) flag_row rows refl ∙ h.has of_seed
-      ];
-  has_flag = any_new (named (codes "all-write")) flag_row rows refl;
-  flag = λ _. ap (option_and_then row_text) (find_new (named (codes "all-write")) flag_row rows none refl);
-}
+abbrev pub default_of : Text → Choice → Option Row
+default_of name (valued n) = None
+default_of name (flag n) = cond (bytes_eq n name) (Some (default_row n)) None
 
--- a use of an option, and of the flag, that was not used before
-pub uses_value : (k : Valued) (text : Text) (rows : List Row) (o : Options) → Shows rows o →
-    has_row (name_of k) rows ≡ false
-    → Shows (used (valued k) (text ∷ []) rows) (put o k text)
-uses_value of_manager text rows o h none =
-    subst (λ r. Shows r (put o of_manager text)) (sym (used_values (codes "manager") _ _ (text ∷ []) rows none))
-    (shows_value of_manager text rows o h none)
-uses_value of_seed text rows o h none =
-    subst (λ r. Shows r (put o of_seed text)) (sym (used_values (codes "seed") _ _ (text ∷ []) rows none))
-    (shows_value of_seed text rows o h none)
+abbrev pub default_in : Text → Table → Option Row
+default_in name [] = None
+default_in name (c ∷ rest) = option_or (default_of name c) (default_in name rest)
 
-pub uses_flag : (rows : List Row) (o : Options) → Shows rows o → has_row (codes "all-write") rows ≡ false →
-    Shows (used flag [] rows) (record o { all_write = true })
-uses_flag rows o h none =
-    subst (λ r. Shows r (record o { all_write = true }))
-    (sym (used_values (codes "all-write") _ _ (codes "true" ∷ []) rows none)) (shows_flag rows o h none)
+or_none : (o : Option Row) → o ≡ option_or o None
+or_none None = refl
+or_none (Some r) = refl
+
+or_assoc : (a b d : Option Row) → option_or (option_or a b) d ≡ option_or a (option_or b d)
+or_assoc None b d = refl
+or_assoc (Some r) b d = refl
+
+pub same_if : {X : Type 0} (b : Bool) (x : X) → cond b x x ≡ x
+same_if true x = refl
+same_if false x = refl
+
+found_default : (name : Text) (c : Choice) (rs : List Row) →
+    found name (with_default rs (arg c)) ≡ option_or (found name rs) (default_of name c)
+found_default name (valued n) rs = ap (found name) (same_if (has_row n rs) rs) ∙ or_none (found name rs)
+found_default name (flag n) rs = go (has_row n rs) refl
+  where
+    there : has_row n rs ≡ true → (o : Option Row) → found name rs ≡ o → (b : Bool) → bytes_eq n name ≡ b →
+        o ≡ option_or o (cond b (Some (default_row n)) None)
+    there has (Some r) e b is = refl
+    there has None e false is = refl
+    there has None e true is =
+        let same : n ≡ name = (bytes_eq-Decides _ _).0 is in
+        absurd (true≢false (sym has ∙ ap (λ n. has_row n rs) same ∙ any_found (named name) rs ∙ ap is_some e))
+
+    go : (b : Bool) → has_row n rs ≡ b →
+        found name (cond b rs (with_values n AsWritten DefaultValue (codes "false" ∷ []) rs))
+        ≡ option_or (found name rs) (default_of name (flag n))
+    go true has = there has (found name rs) refl (bytes_eq n name) refl
+    go false free =
+        ap (found name) (new_row DefaultValue (n, codes "false") rs free)
+        ∙ find-append (named name) rs (default_row n ∷ [])
+
+pub found_finished : (name : Text) (table : Table) (rs : List Row) →
+    found name (fold with_default rs (args table)) ≡ option_or (found name rs) (default_in name table)
+found_finished name [] rs = or_none (found name rs)
+found_finished name (c ∷ rest) rs =
+    found_finished name rest (with_default rs (arg c))
+    ∙ ap (λ o. option_or o (default_in name rest)) (found_default name c rs)
+    ∙ or_assoc (found name rs) (default_of name c) (default_in name rest)

@@ -9,9 +9,7 @@ use Rattle.dstm_command.specs.declared.command.Command.{Command}
 use Rattle.dstm_command.specs.declared.command.Command.TheVariants.{Run, Check, Gen, Demo}
 use Rattle.dstm_command.specs.declared.command.GenSpec.{GenSpec}
 use Rattle.dstm_command.specs.declared.command.RunOptions.{RunOptions}
-
-abbrev pub Text : Type 0
-Text = List ℕ
+use Rattle.dstm_command.specs.Options.{Given, Table, Text, flag, is_given, options_in, valued, value_of}
 
 -- ---- values
 
@@ -33,71 +31,29 @@ manager_of text =
 
 -- ---- the options of `run`
 
--- what stands in a word before its first `=` (61), and what follows that, if there is one
-abbrev pub parts : Text → Text × Option Text
-parts [] = ([], None)
-parts (b ∷ bs) = if b == 61 then ([], Some bs) else (b ∷ (parts bs).0, (parts bs).1)
-
--- the options that words give, with their values as texts
-pub record Options : Type 0 where
-  pub manager : Option Text
-  pub seed : Option Text
-  pub all_write : Bool
-
-abbrev pub no_options : Options
-no_options = record { manager = None; seed = None; all_write = false }
-
--- `--manager` and `--seed` have a value, the flag `--all-write` has none; each is given at most once
-abbrev pub with_manager : Options → Option Text → Option Options
-with_manager o None = None
-with_manager o (Some text) =
-    if is_some o.manager then None else Some (record o { manager = Some text })
-
-abbrev pub with_seed : Options → Option Text → Option Options
-with_seed o None = None
-with_seed o (Some text) = if is_some o.seed then None else Some (record o { seed = Some text })
-
-abbrev pub with_all_write : Options → Option Text → Option Options
-with_all_write o None = if o.all_write then None else Some (record o { all_write = true })
-with_all_write o (Some text) = None
-
--- the options with one more, of this name and value
-abbrev pub with_option : Options → Text → Option Text → Option Options
-with_option o name value =
-    if bytes_eq (codes "--manager") name then with_manager o value
-    else (if bytes_eq (codes "--seed") name then with_seed o value
-    else (if bytes_eq (codes "--all-write") name then with_all_write o value else None))
-
-abbrev pub takes_value : Text → Bool
-takes_value name = bytes_eq (codes "--manager") name || bytes_eq (codes "--seed") name
-
--- an option that takes a value and has none behind `=`: the next word is its value
-abbrev pub wants_next : Text × Option Text → Bool
-wants_next word = takes_value word.0 && not (is_some word.1)
-
--- the options that the words give, after those given before them
-abbrev pub options_from : Options → List Text → Option Options
-options_from o [] = Some o
-options_from o (word ∷ []) = with_option o (parts word).0 (parts word).1
-options_from o (word ∷ next ∷ rest) = if wants_next (parts word)
-    then option_and_then (λ p. options_from p rest) (with_option o (parts word).0 (Some next))
-    else option_and_then (λ p. options_from p (next ∷ rest))
-    (with_option o (parts word).0 (parts word).1)
+-- `--manager M`, `--seed S`, `--all-write` and `--release`
+abbrev pub run_options : Table
+run_options = valued (codes "manager") ∷ valued (codes "seed") ∷ flag (codes "all-write")
+    ∷ flag (codes "release") ∷ []
 
 -- what a value says, or the default where there is none
 abbrev pub value_or : {X : Type 0} → X → (Text → Option X) → Option Text → Option X
 value_or default read None = Some default
 value_or default read (Some text) = read text
 
-abbrev pub run_with : Manager → ℕ → Bool → RunOptions
-run_with manager seed all_write =
-    record { manager = manager; seed = seed; all_write = all_write; release = false }
+abbrev pub run_with : Manager → ℕ → Given → RunOptions
+run_with manager seed given = record {
+  manager = manager;
+  seed = seed;
+  all_write = is_given (codes "all-write") given;
+  release = is_given (codes "release") given;
+}
 
--- the options with their values read: without one polka, the seed 0, and reads opened for reading
-abbrev pub run_of : Options → Option RunOptions
-run_of o = option_and_then (λ manager.
-    option_map (λ seed. run_with manager seed o.all_write) (value_or 0 seed_of o.seed))
-    (value_or Polka manager_of o.manager)
+-- the options with their values read: without one polka, the seed 0, and the flags off
+abbrev pub run_of : Given → Option RunOptions
+run_of given = option_and_then (λ manager. option_map (λ seed. run_with manager seed given)
+    (value_or 0 seed_of (value_of (codes "seed") given)))
+    (value_or Polka manager_of (value_of (codes "manager") given))
 
 -- ---- commands
 
@@ -122,7 +78,7 @@ check_in (word ∷ words) = None
 abbrev pub command_named : Text → List Text → Option Command
 command_named name words =
     if bytes_eq (codes "run") name
-    then option_map Run (option_and_then run_of (options_from no_options words))
+    then option_map Run (option_and_then run_of (options_in run_options words))
     else (if bytes_eq (codes "check") name then check_in words
     else (if bytes_eq (codes "gen") name then option_map Gen (spec_in words)
     else (if bytes_eq (codes "demo") name then option_map Demo (spec_in words) else None)))

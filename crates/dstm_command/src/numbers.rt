@@ -1,8 +1,8 @@
 ghost use Rattle.std.specs.Prelude.{◌≡◌, false, map, Some, None, codes, IfOk, IsErrOf, string_bytes, List, ℕ, IfSome};
 ghost use Rattle.std.specs.List.{list_any};
-ghost use Rattle.clap.specs.Words.{app_of, first_value, found_of};
+ghost use Rattle.clap.specs.Words.{app_of, first_value, found_of, with_rule};
 ghost use Rattle.dstm_command.specs.CommandLine.{is_two_hyphens, spec_in, spec_of, IsSmall};
-ghost use Rattle.dstm_command.specs.Parsers.{numbers_app};
+ghost use Rattle.dstm_command.specs.Parsers.{numbers_app, required_value};
 
 use crate::parser::matches;
 use crate::values::{read_number, read_seed};
@@ -28,15 +28,25 @@ pub(crate) fn read_numbers(alloc: Global, words: &[String]) -> Result<GenSpec, W
 fn numbers_command<'a>(alloc: Global) -> Result<Command<'a>, AllocError>
     ensures { IfOk result (λ command. app_of command ≡ numbers_app) }
 {
-    let seed = Arg::new(alloc, "seed").required(true);
-    let count = Arg::new(alloc, "count").required(true);
-    let workers = Arg::new(alloc, "workers").required(true);
-    Command::new(alloc, "gen")
+    let command = Command::new(alloc, "gen")
         .no_binary_name(true)
-        .disable_help_flag(true)
-        .arg(seed)?
-        .arg(count)?
-        .arg(workers)
+        .disable_help_flag(true);
+    let command = with_number(alloc, command, "seed")?;
+    let command = with_number(alloc, command, "count")?;
+    with_number(alloc, command, "workers")
+}
+
+// The command with one more number, which has to be given.
+fn with_number<'a>(
+    alloc: Global,
+    command: Command<'a>,
+    name: &'a str,
+) -> Result<Command<'a>, AllocError>
+    ensures { IfOk result (λ more.
+        app_of more ≡ with_rule (app_of command.entry) (required_value name.entry.now)) }
+{
+    let number = Arg::new(alloc, name).required(true);
+    command.arg(number)
 }
 
 fn numbers_matched(matches: &ArgMatches) -> Option<GenSpec>

@@ -1,8 +1,9 @@
-ghost use Rattle.std.specs.Prelude.{◌≡◌, false, map, Bool, Some, codes, IfOk, IsErrOf, string_bytes, option_and_then, None, if◌then◌else◌};
+ghost use Rattle.std.specs.Prelude.{◌≡◌, false, map, Some, None, IfOk, IsErrOf, string_bytes, option_and_then};
 ghost use Rattle.std.specs.List.{list_any};
-ghost use Rattle.clap.specs.Words.{app_of, first_value, found_of, one_text};
-ghost use Rattle.dstm_command.specs.CommandLine.{is_two_hyphens, no_options, options_from, run_of};
-ghost use Rattle.dstm_command.specs.Parsers.{options_app};
+ghost use Rattle.clap.specs.Words.{app_of, found_of, with_rule};
+ghost use Rattle.dstm_command.specs.CommandLine.{is_two_hyphens, run_of, run_options};
+ghost use Rattle.dstm_command.specs.Options.{Given, flag, options_in, valued};
+ghost use Rattle.dstm_command.specs.Parsers.{option_rule, options_app, Holds};
 
 use crate::parser::matches;
 use crate::values::{read_manager, read_seed};
@@ -15,39 +16,54 @@ use std::alloc::{AllocError, Global};
 pub(crate) fn read_options(alloc: Global, words: &[String]) -> Result<RunOptions, WordsError>
     requires { list_any is_two_hyphens (map string_bytes words.now) ≡ false }
     ensures ok { IfOk result (λ options.
-        option_and_then run_of (options_from no_options (map string_bytes words.now)) ≡ Some options) }
+        option_and_then run_of (options_in run_options (map string_bytes words.now)) ≡ Some options) }
     ensures usage { IsErrOf result WordsError.Usage →
-        option_and_then run_of (options_from no_options (map string_bytes words.now)) ≡ None }
+        option_and_then run_of (options_in run_options (map string_bytes words.now)) ≡ None }
 {
     let matches = matches(options_command(alloc)?, words)?;
     options_matched(&matches).ok_or(WordsError::Usage)
 }
 
 fn options_command<'a>(alloc: Global) -> Result<Command<'a>, AllocError>
-    ensures { IfOk result (λ command. app_of command ≡ options_app) }
+    ensures { IfOk result (λ command. app_of command ≡ options_app run_options) }
 {
-    let manager = Arg::new(alloc, "manager")
-        .long("manager")
-        .action(ArgAction::Set);
-    let seed = Arg::new(alloc, "seed").long("seed").action(ArgAction::Set);
-    let all_write = Arg::new(alloc, "all-write")
-        .long("all-write")
-        .action(ArgAction::SetTrue);
-    Command::new(alloc, "run")
+    let command = Command::new(alloc, "run")
         .no_binary_name(true)
-        .disable_help_flag(true)
-        .arg(manager)?
-        .arg(seed)?
-        .arg(all_write)
+        .disable_help_flag(true);
+    let command = with_value(alloc, command, "manager")?;
+    let command = with_value(alloc, command, "seed")?;
+    let command = with_flag(alloc, command, "all-write")?;
+    with_flag(alloc, command, "release")
+}
+
+// The command with one more option, which has a value.
+fn with_value<'a>(
+    alloc: Global,
+    command: Command<'a>,
+    name: &'a str,
+) -> Result<Command<'a>, AllocError>
+    ensures { IfOk result (λ more.
+        app_of more ≡ with_rule (app_of command.entry) (option_rule (valued name.entry.now))) }
+{
+    let option = Arg::new(alloc, name).long(name).action(ArgAction::Set);
+    command.arg(option)
+}
+
+// The command with one more flag.
+fn with_flag<'a>(
+    alloc: Global,
+    command: Command<'a>,
+    name: &'a str,
+) -> Result<Command<'a>, AllocError>
+    ensures { IfOk result (λ more.
+        app_of more ≡ with_rule (app_of command.entry) (option_rule (flag name.entry.now))) }
+{
+    let option = Arg::new(alloc, name).long(name).action(ArgAction::SetTrue);
+    command.arg(option)
 }
 
 fn options_matched(matches: &ArgMatches) -> Option<RunOptions>
-    ensures { (flag : Bool) → one_text (found_of matches.now) (codes "all-write")
-        ≡ Some (if flag then codes "true" else codes "false") → result ≡ run_of (record {
-          manager = first_value (found_of matches.now) (codes "manager");
-          seed = first_value (found_of matches.now) (codes "seed");
-          all_write = flag;
-        }) }
+    ensures { (given : Given) → Holds run_options (found_of matches.now) given → result ≡ run_of given }
 {
     let manager = match matches.get_str("manager") {
         Some(text) => read_manager(text)?,
@@ -61,6 +77,6 @@ fn options_matched(matches: &ArgMatches) -> Option<RunOptions>
         manager,
         seed,
         all_write: matches.get_flag("all-write"),
-        release: false,
+        release: matches.get_flag("release"),
     })
 }

@@ -15,18 +15,26 @@ fn read_line(alloc: Global, line: &str) -> Result<Result<Command, WordsError>, F
 #[test]
 fn command_lines(rt: HostRuntime) -> Result<(), Fail> {
     let accepted = [
-        ("dstm run", run(Manager::Polka, 0, false)),
+        ("dstm run", run(Manager::Polka, 0, false, false)),
         (
             "dstm run --manager=karma --all-write",
-            run(Manager::Karma, 0, true),
+            run(Manager::Karma, 0, true, false),
         ),
         (
             "dstm run --all-write --seed 18446744073709551615 --manager polite",
-            run(Manager::Polite, u64::MAX, true),
+            run(Manager::Polite, u64::MAX, true, false),
         ),
         (
             "dstm run --seed=7 --manager greedy",
-            run(Manager::Greedy, 7, false),
+            run(Manager::Greedy, 7, false, false),
+        ),
+        (
+            "dstm run --release --seed=7",
+            run(Manager::Polka, 7, false, true),
+        ),
+        (
+            "dstm run --seed 7 --all-write --release --manager=karma",
+            run(Manager::Karma, 7, true, true),
         ),
         ("dstm check", Command::Check),
         ("dstm gen 7 0 1", Command::Gen(spec(7, 0, 1))),
@@ -64,6 +72,11 @@ fn other_lines(rt: HostRuntime) -> Result<(), Fail> {
         "dstm run --seed 1 --seed 1",
         "dstm run --all-write --all-write",
         "dstm run --all-write=true",
+        "dstm run --release --all-write --release",
+        "dstm run --release=false",
+        "dstm run --seed --release",
+        "dstm check --release",
+        "dstm demo 7 0 1 --release",
         "dstm check extra",
         "dstm gen 7 20001 1",
         "dstm gen 7 0 33",
@@ -80,12 +93,12 @@ fn other_lines(rt: HostRuntime) -> Result<(), Fail> {
     Ok(())
 }
 
-fn run(manager: Manager, seed: u64, all_write: bool) -> Command {
+fn run(manager: Manager, seed: u64, all_write: bool, release: bool) -> Command {
     Command::Run(RunOptions {
         manager,
         seed,
         all_write,
-        release: false,
+        release,
     })
 }
 

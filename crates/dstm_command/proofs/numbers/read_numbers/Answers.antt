@@ -1,6 +1,7 @@
 use Rattle.std.proofs.Common.{◌≡◌, ◌≢◌, ◌∙◌, ap, List, [], map, string_bytes, subst, Option, rules}
 use Rattle.clap.specs.Words.{App, fault_of, found_of, matches_of}
-use Rattle.dstm_command.specs.CommandLine.{spec_in, IsSmall, Text}
+use Rattle.dstm_command.specs.CommandLine.{spec_in, IsSmall}
+use Rattle.dstm_command.specs.Options.{Text}
 use Rattle.dstm_command.specs.declared.command.GenSpec.{GenSpec}
 use Rattle.dstm_command.proofs.OptionParses.{answer_ok, answer_usage, answer_holds}
 use Rattle.dstm_command.proofs.NumberParses.{none_read, result_is}

@@ -2,7 +2,8 @@ use Rattle.std.proofs.Common.{◌≡◌, ◌∙◌, ◌<◌, ◌≤◌, ◌-◌,
 use Rattle.std.specs.List.{list_any}
 use Rattle.std.proofs.lemmas.Result.{IfOk-weaker}
 use Rattle.clap.proofs.WalkLemmas.{list_any-map}
-use Rattle.dstm_command.specs.CommandLine.{Text, command_named, command_of, is_two_hyphens}
+use Rattle.dstm_command.specs.CommandLine.{command_named, command_of, is_two_hyphens}
+use Rattle.dstm_command.specs.Options.{Text}
 use Rattle.dstm_command.specs.declared.command.Command.{Command}
 use Rattle.dstm_command.proofs.words.read_words.Goals as goal
 
