@@ -2,4 +2,3 @@ pub mod OptionRows
 pub mod OptionTurns
 pub mod OptionWords
 pub mod OptionParses
-pub mod NumberParses

@@ -1,9 +1,9 @@
--- The two parsers of what follows a command's name, as clap sees them.
+-- The parser of options, as clap sees it.
 use Rattle.std.specs.Prelude.{◌≡◌, Bool, true, false, Some, codes, map}
 use Rattle.std.specs.List.{list_any}
 use Rattle.std.specs.Str.{bytes_eq}
 use Rattle.clap.specs.Walk.{Rule, Text}
-use Rattle.clap.specs.Simple.{App, new_app, new_rule, with_rule, on_top}
+use Rattle.clap.specs.Simple.{App, new_app, new_rule, on_top}
 use Rattle.clap.specs.Matches.{first_value, one_text}
 use Rattle.clap.specs.Values.{bool_text}
 use Rattle.clap.specs.declared.builder.action.ArgAction.{ArgAction}
@@ -37,12 +37,3 @@ pub record Holds (table : Table) (f : Found) (given : Given) : Type 0 where
   pub value : (name : Text) → list_any (is_flag name) table ≡ false → first_value f name ≡ value_of name given
   pub flags : (name : Text) → option_named table name ≡ Some (flag name) →
       one_text f name ≡ Some (bool_text (is_given name given))
-
-abbrev pub required_value : Text → Rule
-required_value name = record (new_rule name) { required = true }
-
--- the numbers of `gen` and `demo`
-abbrev pub numbers_app : App
-numbers_app = with_rule
-    (with_rule (with_rule (bare_app (codes "gen")) (required_value (codes "seed")))
-    (required_value (codes "count"))) (required_value (codes "workers"))

@@ -33,8 +33,8 @@ fn read_command(alloc: Global, name: &str, words: &[String]) -> Result<Command, 
     match name {
         "run" => Ok(Command::Run(read_options(alloc, words)?)),
         "check" if words.is_empty() => Ok(Command::Check),
-        "gen" => Ok(Command::Gen(read_numbers(alloc, words)?)),
-        "demo" => Ok(Command::Demo(read_numbers(alloc, words)?)),
+        "gen" => Ok(Command::Gen(read_numbers(words)?)),
+        "demo" => Ok(Command::Demo(read_numbers(words)?)),
         _ => Err(WordsError::Usage),
     }
 }
