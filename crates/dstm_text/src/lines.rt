@@ -1,4 +1,5 @@
 ghost use Rattle.std.specs.Prelude.{◌≡◌, ◌≢◌, ◌≤◌, ◌<◌, ◌^◌, ℕ, List, [], ◌∷◌, length, IfSome, IfNone, option_copied};
+ghost use Rattle.memchr.specs.Find.{IsFirstByte, is_byte};
 ghost use Rattle.dstm_text.specs.Lines.{pieces, pieces_left, lines_of, fields_of, space};
 
 use memchr::memchr;
@@ -39,7 +40,7 @@ impl<'a> Pieces<'a> {
         ensures ended { IfNone result (self.new ≡ []) }
     {
         let rest = self.rest?;
-        let (piece, rest) = first_piece(rest, self.separator);
+        let (piece, rest) = first_piece(rest, self.separator, place_of(self.separator, rest));
         self.rest = rest;
         Some(piece)
     }
@@ -77,7 +78,7 @@ impl<'a> Lines<'a> {
         if self.rest.is_empty() {
             return None;
         }
-        let (line, rest) = first_piece(self.rest, b'\n');
+        let (line, rest) = first_piece(self.rest, b'\n', memchr(b'\n', self.rest));
         self.rest = rest.unwrap_or(&[]);
         Some(line)
     }
@@ -129,7 +130,7 @@ impl<'a> Fields<'a> {
             self.rest = line;
             return None;
         }
-        let (field, rest) = first_piece(line, b' ');
+        let (field, rest) = first_piece(line, b' ', place_of(b' ', line));
         let behind = rest.unwrap_or(&[]);
         self.rest = behind;
         Some(field)
@@ -148,12 +149,25 @@ fn behind_spaces(line: &[u8]) -> &[u8]
     &line[start..]
 }
 
-// The first piece, and what follows its separator, if there is one.
-fn first_piece(bytes: &[u8], separator: u8) -> (&[u8], Option<&[u8]>)
+// The first place of a byte. What is searched here is short, so each byte is looked at in turn.
+fn place_of(byte: u8, bytes: &[u8]) -> Option<usize>
+    ensures { IsFirstByte (is_byte byte) bytes.now result }
+{
+    for (at, found) in bytes.iter().enumerate() {
+        if *found == byte {
+            return Some(at);
+        }
+    }
+    None
+}
+
+// The first piece, which ends at this place of the separator, and what follows the separator, if there is one.
+fn first_piece(bytes: &[u8], separator: u8, place: Option<usize>) -> (&[u8], Option<&[u8]>)
+    requires { IsFirstByte (is_byte separator) bytes.now place }
     ensures pieces { pieces separator bytes.now ≡ result.0.now ∷ pieces_left separator (option_copied result.1) }
     ensures whole { IfNone result.1 (result.0.now ≡ bytes.now) }
 {
-    match memchr(separator, bytes) {
+    match place {
         Some(at) => (&bytes[..at], Some(&bytes[at + 1..])),
         None => (bytes, None),
     }

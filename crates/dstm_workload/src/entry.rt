@@ -43,10 +43,15 @@ fn is_comment(text: &[u8]) -> bool
     }
 }
 
+// Every byte is looked at, so that many can be at once.
 fn is_printable(text: &[u8]) -> bool
     ensures { result ≡ list_all is_printable text.now }
 {
-    text.iter().all(|byte| (b' '..=b'~').contains(byte))
+    let mut printable = true;
+    for byte in text {
+        printable &= (b' '..=b'~').contains(byte);
+    }
+    printable
 }
 
 // The version of a header, of which the first field was taken.
