@@ -1,4 +1,4 @@
-ghost use Rattle.std.specs.Prelude.{◌≡◌, ◌≤◌, Some, IfSome, Ok, IfOk};
+ghost use Rattle.std.specs.Prelude.{◌≡◌, ◌≤◌, ◌∷◌, Some, IfSome, Ok, IfOk};
 ghost use Rattle.dstm_text.specs.Lines.{lines_of, pieces, space};
 ghost use Rattle.dstm_report.specs.declared.report.Report.{Report as TheReport};
 ghost use Rattle.dstm_report.specs.Text.{report_text};
@@ -94,7 +94,7 @@ impl Draft {
         let report = &mut self.report;
         match part {
             Part::Rows => {
-                let row = row(report.version, text).ok_or(ReportError::Form(line))?;
+                let row = row(report.version, first, words).ok_or(ReportError::Form(line))?;
                 report.rows.push(row)?;
             }
             Part::Bank => report.bank = Some(numbers(alloc, line, words)?),
@@ -144,13 +144,12 @@ fn rank(part: Part) -> u8
     part as u8
 }
 
-// `LINE WORKER ROUND.NUMBER REPLY ; REPLY ..`
+// `LINE WORKER ROUND.NUMBER REPLY ; REPLY ..`, of which the first word was taken.
 #[tactic(auto, unfolding(crate::specs::Reading::row_of))]
-fn row(version: u32, text: &[u8]) -> Option<Row>
-    ensures { result ≡ row_of version (pieces space text.now) }
+fn row(version: u32, first: &[u8], mut words: Pieces<'_>) -> Option<Row>
+    ensures { result ≡ row_of version (first.now ∷ words.entry) }
 {
-    let mut words = Pieces::new(text, b' ');
-    let line = number(&mut words, MAX_NUMBER)?;
+    let line = number_in(MAX_NUMBER, first)?;
     let worker = number(&mut words, MAX_WORKER)? as u32;
     let (round, number) = place(&mut words)?;
     let replies = replies(version, words)?;
@@ -201,28 +200,16 @@ fn reply(version: u32, word: &[u8]) -> Option<Reply>
 fn known_reply(version: u32, word: &[u8]) -> Option<Reply>
     ensures { result ≡ known_reply version word.now }
 {
-    if word == b"ok".as_slice() {
-        return Some(Reply::Moved);
+    match word {
+        b"ok" => Some(Reply::Moved),
+        b"poor" => Some(Reply::Poor),
+        b"true" => Some(Reply::Yes),
+        b"false" => Some(Reply::No),
+        b"full" => Some(Reply::Full),
+        b"none" if version >= 2 => Some(Reply::Absent),
+        b"never" if version >= 3 => Some(Reply::Never),
+        _ => None,
     }
-    if word == b"poor".as_slice() {
-        return Some(Reply::Poor);
-    }
-    if word == b"true".as_slice() {
-        return Some(Reply::Yes);
-    }
-    if word == b"false".as_slice() {
-        return Some(Reply::No);
-    }
-    if word == b"full".as_slice() {
-        return Some(Reply::Full);
-    }
-    if word == b"none".as_slice() && version >= 2 {
-        return Some(Reply::Absent);
-    }
-    if word == b"never".as_slice() && version >= 3 {
-        return Some(Reply::Never);
-    }
-    None
 }
 
 fn numbers(alloc: Global, line: u64, mut words: Pieces<'_>) -> Result<Numbers, ReportError>

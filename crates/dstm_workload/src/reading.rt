@@ -59,7 +59,8 @@ fn keep(jobs: &mut Vec<Job>, entry: Entry) -> Result<(), AllocError>
     ensures { OnOk result (jobs.new.items ≡ jobs.old.items ++ jobs_in (Some entry)) }
 {
     if let Entry::Transaction(job) = entry {
-        jobs.push(job)?;
+        jobs.reserve(1)?;
+        jobs.push_reserved(job);
     }
     Ok(())
 }

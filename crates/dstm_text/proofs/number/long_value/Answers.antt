@@ -2,7 +2,7 @@ use Rattle.std.proofs.Common.{◌+◌, ◌^◌, ◌<◌, sym, ap, ◌∙◌, sub
 use Rattle.std.specs.Str.Parse.{digits_value}
 use Rattle.std.proofs.lemmas.List.{take_all}
 use Rattle.dstm_text.proofs.NumberLaws.{value_more, value_take_le}
-use Rattle.dstm_text.proofs.number.value.Goals as goal
+use Rattle.dstm_text.proofs.number.long_value.Goals as goal
 
 pub returns-in_err-number : goal.returns-in_err-number
 returns-in_err-number c =
