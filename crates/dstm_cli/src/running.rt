@@ -72,11 +72,11 @@ fn next_turn<'a>(
     workers: u32,
     store: &mut PlainStore,
 ) -> Result<(&'a Job, Replies), AllocError>
-    requires some { 0 < length turns.now }
-    requires small { All (λ job. job.worker < workers) turns.now }
-    requires fits { All (λ job. All (FitsLayout store.old.layout) job.ops) turns.now }
+    requires some { 0 < length turns.now.left }
+    requires small { All (λ job. job.worker < workers) turns.now.left }
+    requires fits { All (λ job. All (FitsLayout store.old.layout) job.ops) turns.now.left }
     ensures layout { store.new.layout ≡ store.old.layout }
-    ensures turn { IfOk result (λ turn. IsTurn turns.now store.old turn.0.now turn.1 store.new) }
+    ensures turn { IfOk result (λ turn. IsTurn turns.now.left store.old turn.0.now turn.1 store.new) }
 {
     match open_turn(turns, workers, store)? {
         Some(turn) => Ok(turn),
@@ -94,12 +94,12 @@ fn open_turn<'a>(
     workers: u32,
     store: &mut PlainStore,
 ) -> Result<Option<(&'a Job, Replies)>, AllocError>
-    requires small { All (λ job. job.worker < workers) turns.now }
-    requires fits { All (λ job. All (FitsLayout store.old.layout) job.ops) turns.now }
+    requires small { All (λ job. job.worker < workers) turns.now.left }
+    requires fits { All (λ job. All (FitsLayout store.old.layout) job.ops) turns.now.left }
     ensures layout { store.new.layout ≡ store.old.layout }
-    ensures turn { IfOk result (λ turn. IfSome turn (λ t. IsTurn turns.now store.old t.0.now t.1 store.new)) }
+    ensures turn { IfOk result (λ turn. IfSome turn (λ t. IsTurn turns.now.left store.old t.0.now t.1 store.new)) }
     ensures kept { IfOk result (λ turn. IfNone turn (store.new ≡ store.old)) }
-    ensures blocked { IfOk result (λ turn. IfNone turn (AreBlocked turns.now store.old)) }
+    ensures blocked { IfOk result (λ turn. IfNone turn (AreBlocked turns.now.left store.old)) }
 {
     for worker in 0..workers {
         if let Some(job) = turns.first(worker) {
@@ -113,9 +113,9 @@ fn open_turn<'a>(
 
 // The first job left of the least worker that has one.
 fn least_left<'a>(turns: &Turns<'a>, workers: u32) -> &'a Job
-    requires some { 0 < length turns.now }
-    requires small { All (λ job. job.worker < workers) turns.now }
-    ensures { first_job result.now.worker turns.now ≡ Some result.now }
+    requires some { 0 < length turns.now.left }
+    requires small { All (λ job. job.worker < workers) turns.now.left }
+    ensures { first_job result.now.worker turns.now.left ≡ Some result.now }
 {
     for worker in 0..workers {
         if let Some(job) = turns.first(worker) {

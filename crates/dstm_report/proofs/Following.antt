@@ -1,5 +1,5 @@
 -- Rows are followed one by one.
-use Rattle.std.proofs.Common.{◌≡◌, ℕ, ◌<◌, eqb, List, [], ◌∷◌, ◌++◌, Option, Some, None, ap, sym, subst, ◌∙◌}
+use Rattle.std.proofs.Common.{◌≡◌, ◌<◌, eqb, List, [], ◌∷◌, ◌++◌, Option, Some, None, ap, sym, subst, ◌∙◌}
 use Rattle.std.specs.Prelude.{IfSome}
 use Rattle.std.specs.List.{find, All, AllByRecursion}
 use Rattle.std.proofs.lemmas.List.Elements.{recursion_from_All, All-from_recursion}
@@ -12,7 +12,7 @@ use Rattle.dstm_workload.specs.declared.workload.Workload.{Workload}
 use Rattle.dstm_workload.specs.Workload.{IsValidWorkload}
 use Rattle.dstm_report.specs.declared.report.Row.{Row}
 use Rattle.dstm_report.specs.declared.replay.Replay.{Replay}
-use Rattle.dstm_report.specs.Lawful.{IsBefore, IsGoodRow, AnswersWhere, AreBlocked, AllBlocked, last_row, after_job}
+use Rattle.dstm_report.specs.Lawful.{IsBefore, IsGoodRow, AnswersWhere, AreBlocked, last_row, after_job}
 use Rattle.dstm_report.specs.Lawful.{store_after, first_job, jobs_left}
 use Rattle.dstm_report.specs.Turns.{without_first}
 use Rattle.dstm_report.specs.Replaying.{HasFollowed}
@@ -36,18 +36,18 @@ each_left P workload before left all is =
     subst (AllByRecursion P) (sym is) (each-filter P _ workload.jobs (recursion_from_All P workload.jobs all))
 
 pub left_fit : (workload : Workload) (before : List Row) (replay : Replay) → IsValidWorkload workload →
-    HasFollowed workload before replay → All (λ job. All (FitsLayout replay.store.layout) job.ops) replay.turns
+    HasFollowed workload before replay → All (λ job. All (FitsLayout replay.store.layout) job.ops) replay.turns.left
 left_fit workload before replay valid followed =
-    subst (λ l. All (λ (job : Job). All (FitsLayout l) job.ops) replay.turns) (sym followed.layout)
-    (All-from_recursion (λ (job : Job). All (FitsLayout workload.layout) job.ops) replay.turns
-    (each_left (λ (job : Job). All (FitsLayout workload.layout) job.ops) workload before replay.turns
+    subst (λ l. All (λ (job : Job). All (FitsLayout l) job.ops) replay.turns.left) (sym followed.layout)
+    (All-from_recursion (λ (job : Job). All (FitsLayout workload.layout) job.ops) replay.turns.left
+    (each_left (λ (job : Job). All (FitsLayout workload.layout) job.ops) workload before replay.turns.left
     (jobs_fit workload valid) followed.turns))
 
 pub left_small : (workload : Workload) (before : List Row) (replay : Replay) → IsValidWorkload workload →
-    HasFollowed workload before replay → All (λ job. job.worker < workload.workers) replay.turns
+    HasFollowed workload before replay → All (λ job. job.worker < workload.workers) replay.turns.left
 left_small workload before replay valid followed =
-    All-from_recursion (λ (job : Job). job.worker < workload.workers) replay.turns
-    (each_left (λ (job : Job). job.worker < workload.workers) workload before replay.turns
+    All-from_recursion (λ (job : Job). job.worker < workload.workers) replay.turns.left
+    (each_left (λ (job : Job). job.worker < workload.workers) workload before replay.turns.left
     (workers_are_small workload valid) followed.turns)
 
 -- ---- the first job left of a row's worker
@@ -56,10 +56,10 @@ left_small workload before replay valid followed =
 pub record HasNext (workload : Workload) (before : List Row) (row : Row) (replay : Replay) (job : Job) : Type 0 where
   pub valid : IsValidWorkload workload
   pub followed : HasFollowed workload before replay
-  pub first : first_job row.worker replay.turns ≡ Some job
+  pub first : first_job row.worker replay.turns.left ≡ Some job
 
 pub has_next : {workload : Workload} {before : List Row} (row : Row) {replay : Replay} {job : Job} →
-    IsValidWorkload workload → HasFollowed workload before replay → Some job ≡ first_job row.worker replay.turns →
+    IsValidWorkload workload → HasFollowed workload before replay → Some job ≡ first_job row.worker replay.turns.left →
     HasNext workload before row replay job
 has_next row valid followed is = record { valid = valid; followed = followed; first = sym is }
 
@@ -73,13 +73,13 @@ pub next_fits : {workload : Workload} {before : List Row} {row : Row} {replay : 
 next_fits {workload} {before} {row} {replay} {job} h =
     let Fits : Job → Type 0 = λ j. All (FitsLayout replay.store.layout) j.ops in
     subst (λ (o : Option Job). IfSome o Fits) h.first
-    (found_holds Fits _ replay.turns
-    (recursion_from_All Fits replay.turns (left_fit workload before replay h.valid h.followed)))
+    (found_holds Fits _ replay.turns.left
+    (recursion_from_All Fits replay.turns.left (left_fit workload before replay h.valid h.followed)))
 
 -- ---- rows that are not good
 
 pub not_without_job : (workload : Workload) (before : List Row) (row : Row) (replay : Replay) →
-    HasFollowed workload before replay → first_job row.worker replay.turns ≡ None →
+    HasFollowed workload before replay → first_job row.worker replay.turns.left ≡ None →
     ¬ (IsGoodRow workload before row)
 not_without_job workload before row replay followed none good =
     none-some good.job (sym none ∙ ap (first_job row.worker) followed.turns ∙ good.turn)
@@ -97,7 +97,7 @@ not_of_line h other good = other (ap (λ (j : Job). j.line) (sym (same_job h goo
 -- the answer that the replay gives
 abbrev pub OwnAnswer : Row → Replay → Job → Type 0
 OwnAnswer row replay job =
-    AnswersWhere (AreBlocked replay.turns replay.store) (apply_job job.ops replay.store) row.replies
+    AnswersWhere (AreBlocked replay.turns.left replay.store) (apply_job job.ops replay.store) row.replies
 
 pub not_with_answer : {workload : Workload} {before : List Row} {row : Row} {replay : Replay} {job : Job} →
     HasNext workload before row replay job →
@@ -125,14 +125,14 @@ good_row {workload} {before} {row} {replay} {job} h line number answer =
       line = sym line;
       number = number;
       replies = subst (λ (left : List Job). Answer left (store_after workload before)) h.followed.turns
-          (subst (λ (s : Store). Answer replay.turns s) h.followed.store answer);
+          (subst (λ (s : Store). Answer replay.turns.left s) h.followed.store answer);
     }
 
 -- what following a row has changed
 pub record HasPassed (row : Row) (job : Job) (replay after : Replay) : Type 0 where
   pub store : after.store ≡ after_job (Some job) replay.store
   pub layout : after.store.layout ≡ replay.store.layout
-  pub turns : after.turns ≡ without_first row.worker replay.turns
+  pub turns : after.turns.left ≡ without_first row.worker replay.turns.left
 
 pub followed_more : {workload : Workload} {before : List Row} {row : Row} {replay after : Replay} {job : Job} →
     HasNext workload before row replay job →

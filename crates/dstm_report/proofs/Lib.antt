@@ -5,6 +5,7 @@ pub mod OneRowMore
 pub mod Onto
 pub mod RoundTrip
 pub mod Places
+pub mod WorkerPlaces
 pub mod Words
 pub mod Following
 pub mod Rising

@@ -10,4 +10,4 @@ pub record HasFollowed (workload : Workload) (rows : List Row) (replay : Replay)
   pub good : RowsAreGood workload [] rows
   pub layout : replay.store.layout ≡ workload.layout
   pub store : replay.store ≡ store_after workload rows
-  pub turns : replay.turns ≡ jobs_left workload.jobs rows
+  pub turns : replay.turns.left ≡ jobs_left workload.jobs rows

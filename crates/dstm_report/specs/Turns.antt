@@ -1,9 +1,14 @@
 -- Whose turn it is: each worker runs its jobs in their order.
 use Rattle.std.specs.Prelude.{◌≡◌, ◌≢◌, ℕ, ◌+◌, ◌<◌, ◌≤◌, ◌==◌, nat_le, if◌then◌else◌, List, [], ◌∷◌, length}
-use Rattle.std.specs.Prelude.{slice_index, slice_index_or, Option, All}
+use Rattle.std.specs.Prelude.{slice_index, slice_index_or, filter, Option, All}
 use Rattle.std.specs.List.{slice_get}
 use Rattle.std.specs.Option.{option_and_then}
 use Rattle.dstm_workload.specs.declared.workload.Job.{Job}
+
+-- what contracts see: all jobs, and those that are left
+pub record Turning : Type 0 where
+  pub jobs : List Job
+  pub left : List Job
 
 -- the jobs without the first one of a worker
 abbrev pub without_first : ℕ → List Job → List Job
@@ -53,3 +58,7 @@ left_from place next [] = []
 left_from place next (job ∷ jobs) =
     if nat_le (slice_index next job.worker) place then job ∷ left_from (place + 1) next jobs
     else left_from (place + 1) next jobs
+
+-- the jobs of a worker
+abbrev pub jobs_of : ℕ → List Job → List Job
+jobs_of worker jobs = filter (λ job. job.worker == worker) jobs

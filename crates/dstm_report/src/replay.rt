@@ -63,10 +63,10 @@ impl<'a> Replay<'a> {
     // `never` only where the first job left of every worker is blocked.
     fn answers(&mut self, workers: u32, job: &Job, replies: &[Reply]) -> Result<bool, AllocError>
         requires job { All (FitsLayout self.old.store.layout) job.now.ops }
-        requires left { All (λ j. All (FitsLayout self.old.store.layout) j.ops) self.old.turns }
-        requires small { All (λ j. j.worker < workers) self.old.turns }
+        requires left { All (λ j. All (FitsLayout self.old.store.layout) j.ops) self.old.turns.left }
+        requires small { All (λ j. j.worker < workers) self.old.turns.left }
         ensures answer { IfOk result (λ good. IsTrue good ↔ AnswersWhere
-            (AreBlocked self.old.turns self.old.store) (apply_job job.now.ops self.old.store) replies.now) }
+            (AreBlocked self.old.turns.left self.old.store) (apply_job job.now.ops self.old.store) replies.now) }
         ensures store { IfOk result (λ _. self.new.store ≡ after_job (Some job.now) self.old.store) }
         ensures layout { self.new.store.layout ≡ self.old.store.layout }
         ensures turns { self.new.turns ≡ self.old.turns }
@@ -79,9 +79,9 @@ impl<'a> Replay<'a> {
 
     // Whether the first job left of every worker is blocked.
     fn is_stuck(&self, workers: u32) -> bool
-        requires left { All (λ job. All (FitsLayout self.now.store.layout) job.ops) self.now.turns }
-        requires small { All (λ job. job.worker < workers) self.now.turns }
-        ensures { IsTrue result ↔ AreBlocked self.now.turns self.now.store }
+        requires left { All (λ job. All (FitsLayout self.now.store.layout) job.ops) self.now.turns.left }
+        requires small { All (λ job. job.worker < workers) self.now.turns.left }
+        ensures { IsTrue result ↔ AreBlocked self.now.turns.left self.now.store }
     {
         for worker in 0..workers {
             if let Some(job) = self.turns.first(worker) {

@@ -1,12 +1,12 @@
-ghost use Rattle.std.specs.Prelude.{◌≡◌, ◌<◌, All, IfOk, IsSome, option_copied};
+ghost use Rattle.std.specs.Prelude.{◌≡◌, ◌<◌, length, map, slice_index_or, All, IfOk, IsSome, option_copied};
 ghost use Rattle.dstm_report.specs.Lawful.{first_job};
-ghost use Rattle.dstm_report.specs.Turns.{job_of, without_first, AreLinked};
+ghost use Rattle.dstm_report.specs.Turns.{job_at, job_of, jobs_of, without_first, AreLinked};
 
 use dstm_workload::Job;
 use std::alloc::{AllocError, Global};
 use std::marker::Model;
 
-/// Whose turn it is, where each worker runs its jobs in their order. Contracts see the jobs that are left.
+/// Whose turn it is, where each worker runs its jobs in their order. Contracts see all jobs, and those that are left.
 #[derive(Drop)]
 pub struct Turns<'a> {
     jobs: &'a [Job],
@@ -17,13 +17,11 @@ pub struct Turns<'a> {
 }
 
 impl<'a> Model for Turns<'a> {
-    ghost use Rattle.std.specs.Prelude.{List};
-    ghost use Rattle.dstm_workload.specs.declared.workload.Job.{Job};
-    ghost use Rattle.dstm_report.specs.Turns.{ArePlaces, left_from};
+    ghost use Rattle.dstm_report.specs.Turns.{ArePlaces, Turning, left_from};
 
-    ghost Value = { List Job };
+    ghost Value = { Turning };
 
-    ghost view = { λ t. left_from 0 t.next.items t.jobs.now };
+    ghost view = { λ t. record { jobs = t.jobs.now; left = left_from 0 t.next.items t.jobs.now } };
 
     ghost invariant = { λ t. ArePlaces t.jobs.now t.next.items t.following.items };
 }
@@ -32,7 +30,7 @@ impl<'a> Turns<'a> {
     /// Before the first turn all jobs are left. The workers are those below `workers`.
     pub fn new(alloc: Global, jobs: &'a [Job], workers: u32) -> Result<Turns<'a>, AllocError>
         requires { All (λ job. job.worker < workers) jobs.now }
-        ensures { IfOk result (λ turns. turns ≡ jobs.now) }
+        ensures { IfOk result (λ turns. turns ≡ record { jobs = jobs.now; left = jobs.now }) }
     {
         let (next, following) = links(alloc, jobs, workers)?;
         Ok(Turns {
@@ -44,19 +42,44 @@ impl<'a> Turns<'a> {
 
     /// The first job left of a worker.
     pub fn first(&self, worker: u32) -> Option<&'a Job>
-        ensures { option_copied result ≡ first_job worker self.now }
+        ensures { option_copied result ≡ first_job worker self.now.left }
     {
         job_of(self.jobs, &self.next, worker)
     }
 
     /// Ends the turn of a worker: its first job is left no more.
     pub fn pass(&mut self, worker: u32)
-        requires { IsSome (first_job worker self.old) }
-        ensures { self.new ≡ without_first worker self.old }
+        requires { IsSome (first_job worker self.old.left) }
+        ensures { self.new ≡ record self.old { left = without_first worker self.old.left } }
     {
         let worker = worker as usize;
         let place = self.next[worker];
         self.next[worker] = self.following[place];
+    }
+
+    /// Where the jobs left of a worker stand among all jobs, in their order.
+    pub fn places(&self, alloc: Global, worker: u32) -> Result<Vec<usize>, AllocError>
+        ensures jobs { IfOk result (λ places.
+            map (job_at self.now.jobs) places.items ≡ jobs_of worker self.now.left) }
+        ensures within { IfOk result (λ places. All (λ place. place < length self.now.jobs) places.items) }
+    {
+        let mut places = Vec::new(alloc);
+        let mut place = place_of(&self.next, worker, self.jobs.len());
+        while place < self.jobs.len() {
+            places.push(place)?;
+            place = self.following[place];
+        }
+        Ok(places)
+    }
+}
+
+// The worker's place, or the end for one that has none.
+fn place_of(next: &[usize], worker: u32, end: usize) -> usize
+    ensures { result ≡ slice_index_or next.now worker end }
+{
+    match next.get(worker as usize) {
+        Some(place) => *place,
+        None => end,
     }
 }
 

@@ -14,11 +14,11 @@ pub apply_job-requires : goal.apply_job-requires
 apply_job-requires c =
     subst (λ (s : Store). All (FitsLayout s.layout) c.in-Some.job.now.ops) (sym c.loop-worker.invariant.store)
     (first_holds (λ (job : Job). All (FitsLayout c.args.store.now.layout) job.ops) c.loop-worker.worker
-    c.args.turns.now c.in-Some.job.now c.requires.fits (sym c.in-Some.ensures))
+    c.args.turns.now.left c.in-Some.job.now c.requires.fits (sym c.in-Some.ensures))
 
 pub returns-in-Some-2-clause-turn : goal.returns-in-Some-2-clause-turn
 returns-in-Some-2-clause-turn c =
-    let left = c.args.turns.now in
+    let left = c.args.turns.now.left in
     let job = c.in-Some.job.now in
     let before = c.args.store.now in
     let after = c.apply_job.new.self in
@@ -35,5 +35,5 @@ returns-in-Some-2-clause-turn c =
 pub returns-clause-blocked : goal.returns-clause-blocked
 returns-clause-blocked c =
     let past = c.loop-worker-test.false in
-    all_blocked c.args.workers c.args.turns.now c.args.store.now c.requires.small
+    all_blocked c.args.workers c.args.turns.now.left c.args.store.now c.requires.small
     (λ k lt. c.loop-worker.invariant.blocked k (omega (arith, lt, past)))

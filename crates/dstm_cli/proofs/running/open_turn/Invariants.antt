@@ -7,5 +7,5 @@ use Rattle.dstm_cli.proofs.running.open_turn.Given as goal
 abbrev pub invariant-loop-worker : goal.invariant-loop-worker
 invariant-loop-worker l = record {
   store : l.store ≡ l.fn.store;
-  blocked : (k : ℕ) → k < l.worker → IfSome (first_job k l.turns) (λ job. apply_job job.ops l.fn.store ≡ None);
+  blocked : (k : ℕ) → k < l.worker → IfSome (first_job k l.turns.left) (λ job. apply_job job.ops l.fn.store ≡ None);
 }

@@ -1,10 +1,9 @@
-use Rattle.std.proofs.Common.{◌≡◌, ◌∙◌, List, ap, sym, subst, refl}
+use Rattle.std.proofs.Common.{◌≡◌, ap, sym, subst, refl}
 use Rattle.std.specs.Prelude.{IsSome}
 use Rattle.std.proofs.lemmas.Bool.{iff_false}
-use Rattle.dstm_workload.specs.declared.workload.Job.{Job}
-use Rattle.dstm_model.specs.Store.{Store}
 use Rattle.dstm_report.specs.declared.replay.Replay.{Replay}
 use Rattle.dstm_report.specs.Lawful.{first_job}
+use Rattle.dstm_report.specs.Turns.{Turning}
 use Rattle.dstm_report.proofs.Following.{OwnAnswer, HasPassed, has_next, next_fits, left_fit, left_small}
 use Rattle.dstm_report.proofs.Following.{not_without_job, not_of_line, not_with_answer, good_row, followed_more}
 use Rattle.dstm_report.proofs.replay.Replay.follow.Goals as goal
@@ -47,7 +46,7 @@ returns-then-not-branch c =
 pub pass-requires : goal.pass-requires
 pass-requires c =
     let h = has_next c.args.row.now c.requires.valid c.requires.followed c.in-Some.ensures in
-    subst (λ (left : List Job). IsSome (first_job c.args.row.now.worker left)) (sym c.in_ok-answers.ensures.turns)
+    subst (λ (t : Turning). IsSome (first_job c.args.row.now.worker t.left)) (sym c.in_ok-answers.ensures.turns)
     (rw h.first refl)
 
 pub returns : goal.returns
@@ -64,6 +63,6 @@ returns c =
     let passed : HasPassed row job replay after = record {
       store = told.store;
       layout = told.layout;
-      turns = rw (← told.turns) c.pass.ensures;
+      turns = rw (← told.turns) (ap (λ (t : Turning). t.left) c.pass.ensures);
     } in
     followed_more h line (good_row h line (c.is_behind.ensures.0 c.if-not-is_behind.false) answer) passed

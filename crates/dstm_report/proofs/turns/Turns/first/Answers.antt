@@ -1,6 +1,6 @@
 use Rattle.std.proofs.Common.{List, ℕ, ap, ◌∙◌}
 use Rattle.dstm_report.specs.Lawful.{first_job}
-use Rattle.dstm_report.specs.Turns.{job_of}
+use Rattle.dstm_report.specs.Turns.{Turning, job_of}
 use Rattle.dstm_report.proofs.Places.{first_at}
 use Rattle.dstm_report.proofs.turns.Turns.first.Goals as goal
 
@@ -11,4 +11,4 @@ returns c =
     c.job_of.ensures
     ∙ ap (λ (places : List ℕ). job_of jobs places c.args.worker) c.deref.ensures.value
     ∙ first_at jobs next c.self.inside.following.items c.args.worker c.self.invariant
-    ∙ ap (first_job c.args.worker) c.self.view_is
+    ∙ ap (λ (t : Turning). first_job c.args.worker t.left) c.self.view_is

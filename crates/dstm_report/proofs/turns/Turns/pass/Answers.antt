@@ -1,9 +1,9 @@
-use Rattle.std.proofs.Common.{◌≡◌, ℕ, ◌<◌, List, length, get_or, set, ap, sym, subst, ◌∙◌, arith}
+use Rattle.std.proofs.Common.{◌≡◌, ◌<◌, List, length, get_or, set, ap, sym, subst, ◌∙◌, arith}
 use Rattle.std.specs.Prelude.{IsSome}
 use Rattle.std.proofs.lemmas.List.{get_or_read}
 use Rattle.dstm_workload.specs.declared.workload.Job.{Job}
 use Rattle.dstm_report.specs.Lawful.{first_job}
-use Rattle.dstm_report.specs.Turns.{without_first, ArePlaces, left_from}
+use Rattle.dstm_report.specs.Turns.{Turning, without_first, ArePlaces, left_from}
 use Rattle.dstm_report.proofs.Places.{has_place, passed, places_passed}
 use Rattle.dstm_report.proofs.turns.Turns.pass.Goals as goal
 
@@ -11,21 +11,21 @@ pub index-place-requires : goal.index-place-requires
 index-place-requires c =
     let at = has_place c.self.inside.jobs.now c.self.inside.next.items c.self.inside.following.items c.args.worker
     c.self.invariant
-    (subst (λ (left : List Job). IsSome (first_job c.args.worker left)) (sym c.self.view_is) c.requires) in
+    (subst (λ (t : Turning). IsSome (first_job c.args.worker t.left)) (sym c.self.view_is) c.requires) in
     omega (arith, at.0)
 
 pub index-requires : goal.index-requires
 index-requires c =
     let next = c.self.inside.next.items in
     let at = has_place c.self.inside.jobs.now next c.self.inside.following.items c.args.worker c.self.invariant
-    (subst (λ (left : List Job). IsSome (first_job c.args.worker left)) (sym c.self.view_is) c.requires) in
+    (subst (λ (t : Turning). IsSome (first_job c.args.worker t.left)) (sym c.self.view_is) c.requires) in
     omega (arith, at.1, get_or_read next _ _ at.0 c.index-place.ensures 0, c.self.invariant.each_job)
 
 pub index_mut-requires : goal.index_mut-requires
 index_mut-requires c =
     let at = has_place c.self.inside.jobs.now c.self.inside.next.items c.self.inside.following.items c.args.worker
     c.self.invariant
-    (subst (λ (left : List Job). IsSome (first_job c.args.worker left)) (sym c.self.view_is) c.requires) in
+    (subst (λ (t : Turning). IsSome (first_job c.args.worker t.left)) (sym c.self.view_is) c.requires) in
     omega (arith, at.0)
 
 -- the place that is set
@@ -36,7 +36,7 @@ after_is c =
     let next = c.self.inside.next.items in
     let followers = c.self.inside.following.items in
     let at = has_place c.self.inside.jobs.now next followers c.args.worker c.self.invariant
-    (subst (λ (left : List Job). IsSome (first_job c.args.worker left)) (sym c.self.view_is) c.requires) in
+    (subst (λ (t : Turning). IsSome (first_job c.args.worker t.left)) (sym c.self.view_is) c.requires) in
     let place = get_or_read next _ _ at.0 c.index-place.ensures 0 in
     let inside : c.index-place.result.now < length followers = omega (arith, at.1, place, c.self.invariant.each_job) in
     get_or_read followers _ _ inside c.index.ensures 0 ∙ ap (λ p. get_or followers p 0) place
@@ -47,7 +47,7 @@ invariant_of-self c =
     let next = c.self.inside.next.items in
     let followers = c.self.inside.following.items in
     let at = has_place jobs next followers c.args.worker c.self.invariant
-    (subst (λ (left : List Job). IsSome (first_job c.args.worker left)) (sym c.self.view_is) c.requires) in
+    (subst (λ (t : Turning). IsSome (first_job c.args.worker t.left)) (sym c.self.view_is) c.requires) in
     subst (λ after. ArePlaces jobs (set next c.args.worker after) followers) (sym (after_is c))
     (places_passed jobs next followers c.args.worker c.self.invariant at.0 at.1)
 
@@ -57,7 +57,8 @@ returns c =
     let next = c.self.inside.next.items in
     let followers = c.self.inside.following.items in
     let at = has_place jobs next followers c.args.worker c.self.invariant
-    (subst (λ (left : List Job). IsSome (first_job c.args.worker left)) (sym c.self.view_is) c.requires) in
-    ap (λ after. left_from 0 (set next c.args.worker after) jobs) (after_is c)
-    ∙ passed jobs next followers c.args.worker c.self.invariant at.0 at.1
-    ∙ ap (without_first c.args.worker) c.self.view_is
+    (subst (λ (t : Turning). IsSome (first_job c.args.worker t.left)) (sym c.self.view_is) c.requires) in
+    let whole : List Job → Turning = λ (left : List Job). record { jobs = jobs; left = left } in
+    ap whole (ap (λ after. left_from 0 (set next c.args.worker after) jobs) (after_is c)
+    ∙ passed jobs next followers c.args.worker c.self.invariant at.0 at.1)
+    ∙ ap (λ (t : Turning). record { jobs = t.jobs; left = without_first c.args.worker t.left }) c.self.view_is
