@@ -3,3 +3,6 @@ pub mod Collecting
 pub mod MoreRounds
 pub mod Running
 pub mod Sights
+pub mod Only
+pub mod Replies
+pub mod Told

@@ -11,12 +11,14 @@ use Rattle.dstm_workload.specs.declared.workload.Workload.{Workload}
 use Rattle.dstm_workload.specs.Workload.{IsValidWorkload}
 use Rattle.dstm_report.specs.declared.report.Row.{Row}
 use Rattle.dstm_report.specs.Lawful.{RowsAreGood, jobs_left, store_after}
+use Rattle.dstm_report.proofs.Rising.{jobs_left-none}
 use Rattle.dstm_store.specs.Whole.{StandsFor}
 use Rattle.dstm_rounds.specs.declared.options.Options.{Options}
 use Rattle.dstm_rounds.specs.declared.round.Round.{Round}
-use Rattle.dstm_rounds.specs.Records.{IsRoundOf, AreRoundsOf}
-use Rattle.dstm_rounds.specs.Rounds.{is_parallel}
-use Rattle.dstm_rounds.specs.Running.{count_left, Begins, AddsRound, HasEnded}
+use Rattle.dstm_rounds.specs.Records.{IsRoundOf, AreRoundsOf, values_of}
+use Rattle.dstm_rounds.specs.Rounds.{is_parallel, rows_in}
+use Rattle.dstm_rounds.specs.Running.{count_left, Begins, AddsRound, HasEnded, IsClosed}
+use Rattle.dstm_rounds.proofs.Sights.{sights_agree}
 use Rattle.dstm_rounds.proofs.MoreRounds.{rows_of, rows_of-push, left_after, left_after-push, AreRoundsOf-push}
 
 -- where a run stands before the round of this number; `more` tells whether there is one
@@ -37,10 +39,6 @@ pub record Reached (workload : Workload) (options : Options) (start : List Val) 
   pub needed : more ≡ true → (number ≡ 0) ⊎ (0 < count_left workload rows)
   pub ended : more ≡ false → (count_left workload rows ≡ 0) × (0 < number)
 
-none_named : (jobs : List Job) → jobs_left jobs [] ≡ jobs
-none_named [] = refl
-none_named (job ∷ jobs) = ap (λ (rest : List Job). job ∷ rest) (none_named jobs)
-
 pub at_first : (workload : Workload) (options : Options) (start : List Val) (old : List Round) → Begins workload 0 [] start →
     Reached workload options start old old [] start 0 true
 at_first workload options start old begins = record {
@@ -54,7 +52,7 @@ at_first workload options start old begins = record {
   all_rows = refl;
   left = refl;
   stands = begins.stands;
-  sum = let none = ap length (none_named workload.jobs) in omega (arith, none);
+  sum = let none = ap length (jobs_left-none workload.jobs) in omega (arith, none);
   few = omega arith;
   needed = λ is. inl refl;
   ended = λ is. absurd (no is);
@@ -93,7 +91,7 @@ pub round_more : (workload : Workload) (options : Options) (start : List Val) (o
     (values : List Val) (number : ℕ) (more : Bool) (closed : Round) (now : List Row) (left : List Val) (next_more : Bool) →
     Reached workload options start old new rows values number more →
     AddsRound workload options number rows values closed now left →
-    next_more ≡ nat_lt 0 (count_left workload (rows ++ now)) →
+    next_more ≡ nat_lt (length (rows ++ now)) (length workload.jobs) →
     Reached workload options start old (new ++ closed ∷ []) (rows ++ now) left (number + 1) next_more
 round_more workload options start old new rows values number more closed now left next_more r adds more_is =
     let at : 0 + length r.added ≡ number = omega (arith, r.count) in
@@ -123,9 +121,12 @@ round_more workload options start old new rows values number more closed now lef
       sum = let f = adds.fewer in let s = r.sum in omega (arith, lengths);
       few = let f = few_more number (length rows) (length now) r.few adds.some in
           subst (λ (n : ℕ). number + 1 ≤ 2 * n + (number + 1) % 2) (sym lengths) f;
-      needed = λ is. inr (ltb-true 0 (count_left workload (rows ++ now)) (sym more_is ∙ is));
+      needed = λ is. inr (
+          let some = ltb-true (length (rows ++ now)) (length workload.jobs) (sym more_is ∙ is) in
+          let f = adds.fewer in let s = r.sum in omega (arith, lengths));
       ended = λ is. (
-        (let none = ltb-false 0 (count_left workload (rows ++ now)) (sym more_is ∙ is) in omega arith),
+        (let none = ltb-false (length (rows ++ now)) (length workload.jobs) (sym more_is ∙ is) in
+            let f = adds.fewer in let s = r.sum in omega (arith, lengths)),
         omega arith,
       );
     }
@@ -185,3 +186,13 @@ pub few_rounds : (workload : Workload) (options : Options) (start : List Val) (o
     (values : List Val) (number : ℕ) (more : Bool) → Reached workload options start old new rows values number more → number ≤ 40001
 few_rounds workload options start old new rows values number more r =
     let s = r.sum in let f = r.few in let j = r.valid.few in omega arith
+
+-- every round was closed
+pub each_closed : (workload : Workload) (options : Options) (rows : List Row) (number : ℕ) (before : List Row)
+    (values : List Val) (rounds : List Round) → AreRoundsOf workload options rows number before values rounds →
+    AllByRecursion (IsClosed workload.layout) rounds
+each_closed workload options rows number before values [] are = tt
+each_closed workload options rows number before values (round ∷ rounds) are = (
+  record { run = are.0.run; sights = sights_agree workload.layout round are.0.run },
+  each_closed workload options rows (number + 1) (before ++ rows_in number rows) (values_of round) rounds are.1,
+)

@@ -6,12 +6,17 @@ use Rattle.dstm_workload.specs.declared.workload.Workload.{Workload}
 use Rattle.dstm_workload.specs.Workload.{IsValidWorkload}
 use Rattle.dstm_report.specs.declared.report.Row.{Row}
 use Rattle.dstm_report.specs.Lawful.{RowsAreGood, jobs_left, store_after}
+use Rattle.dstm_report.specs.Turns.{Turning}
 use Rattle.dstm_store.specs.Whole.{StandsFor}
 use Rattle.dstm_rounds.specs.declared.options.Options.{Options}
 use Rattle.dstm_rounds.specs.declared.round.Round.{Round}
 use Rattle.dstm_rounds.specs.Records.{IsRoundOf, IsRun, AreRoundsOf, values_of}
 use Rattle.dstm_rounds.specs.Sights.{SightsAgree}
 use Rattle.dstm_rounds.specs.Rounds.{is_parallel}
+
+-- whose turn it is behind these rows
+abbrev pub turns_behind : Workload → List Row → Turning
+turns_behind workload rows = record { jobs = workload.jobs; left = jobs_left workload.jobs rows }
 
 -- how many jobs rows leave
 abbrev pub count_left : Workload → List Row → ℕ

@@ -35,4 +35,18 @@ impl Rounds {
             items: Vec::new(alloc),
         }
     }
+
+    /// Rounds that stand in a vector.
+    pub fn from_vec(items: Vec<Round>) -> Rounds
+        ensures { result ≡ items.items }
+    {
+        Rounds { items }
+    }
+
+    /// Gives the rounds back. Room that was taken for more of them stays with them.
+    pub fn into_vec(self) -> Vec<Round>
+        ensures { result.items ≡ self }
+    {
+        self.items
+    }
 }
