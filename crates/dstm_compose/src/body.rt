@@ -1,9 +1,9 @@
-ghost use Rattle.std.specs.Prelude.{◌≡◌, ℕ, ◌≤◌, List, [], length, All, IsSome, IfOk, OnOk};
+ghost use Rattle.std.specs.Prelude.{◌≡◌, ℕ, ◌≤◌, List, [], length, All, IsSome, IfOk, IfErr, OnOk};
 ghost use Rattle.dstm_model.specs.declared.value.Val.{Val};
 ghost use Rattle.dstm_model.specs.Layout.{IsValid, FitsLayout};
 ghost use Rattle.dstm_model.specs.Objects.{objects_of};
 ghost use Rattle.dstm_mem.specs.Memory.{with_set};
-ghost use Rattle.dstm_mem.specs.Operations.{IsReady, Leads, OnlyReads};
+ghost use Rattle.dstm_mem.specs.Operations.{IsFresh, IsReady, Leads, OnlyReads};
 ghost use Rattle.dstm_store.specs.Whole.{StandsFor, IsLawful};
 ghost use Rattle.dstm_compose.specs.Compose.{IsRight, Audits};
 
@@ -86,7 +86,22 @@ impl Body<StoreLaw> for CompBody {
 
     ghost audits = { λ body. Audits body.task body.outcome };
 
-    fn run<M: Mem>(&mut self, mem: &mut M) -> Result<(), M::Err> {
+    // The clauses of the trait, and that a run which ends blocked has only read.
+    fn run<M: Mem>(&mut self, mem: &mut M) -> Result<(), M::Err>
+        requires fresh { IsFresh M.Mem mem.old }
+        requires lawful { (map : List Val) → M.Admits mem.old map → IsLawful self.old.task.layout map }
+
+        ensures lawful { OnOk result ((map : List Val) → M.Admits mem.new map →
+            IsLawful self.new.task.layout (with_set map (M.written mem.new))) }
+        ensures right { OnOk result ((map : List Val) → M.Admits mem.new map →
+            IsRight self.new.task map (with_set map (M.written mem.new)) self.new.outcome) }
+        ensures audits { OnOk result ((o : ℕ) → Audits self.new.task self.new.outcome o → IsSome (M.held mem.new o)) }
+        ensures law { self.new.task.layout ≡ self.old.task.layout }
+        ensures task { self.new.task ≡ self.old.task }
+        ensures outcome { IfErr result (λ _. self.new.outcome ≡ self.old.outcome) }
+        ensures leads { Leads M.Mem mem.old mem.new result }
+        ensures looks { OnOk result (self.new.outcome ≡ Outcome.Blocked → OnlyReads M.Mem mem.old mem.new) }
+    {
         self.outcome = run_job(mem, &self.task.layout, self.task.ops.as_slice())?;
         Ok(())
     }
