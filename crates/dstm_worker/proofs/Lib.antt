@@ -1,0 +1,14 @@
+pub mod Plain
+pub mod Answered
+pub mod Made
+pub mod Staying
+pub mod SeenLast
+pub mod Rechecking
+pub mod Begun
+pub mod Branched
+pub mod Unused
+pub mod Alone
+pub mod Retrying
+pub mod Workers
+pub mod Closing
+pub mod Fresh

@@ -1,0 +1,5 @@
+pub mod Styles
+pub mod Tries
+pub mod Rechecks
+pub mod Workers
+pub mod Only
