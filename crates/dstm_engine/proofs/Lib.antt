@@ -25,6 +25,7 @@ pub mod Rechecking
 pub mod Steady
 pub mod Rechecked
 pub mod Sights
+pub mod Few
 pub mod HeldStill
 pub mod Opens
 pub mod Locators
@@ -33,3 +34,4 @@ pub mod Released
 pub mod PutValues
 pub mod Committing
 pub mod CommitEnds
+pub mod Sends

@@ -1,5 +1,5 @@
 -- What an attempt has seen, which maps it admits, and what it committed.
-use Rattle.std.specs.Prelude.{◌≡◌, ℕ, ◌==◌, Bool, false, List, ◌∷◌, ◌++◌, length, None, Some, if◌then◌else◌}
+use Rattle.std.specs.Prelude.{◌≡◌, ℕ, ◌≤◌, ◌==◌, Bool, false, List, ◌∷◌, ◌++◌, length, None, Some, if◌then◌else◌}
 use Rattle.dstm_model.specs.declared.value.Val.{Val}
 use Rattle.dstm_model.specs.Map.{Agrees, Entry, state_after, with_writes}
 use Rattle.dstm_answers.specs.Committed.{Committed, done_by}
@@ -53,6 +53,13 @@ module _ {L : Type 0} where
   -- the attempts that the caller has committed, the newest first
   abbrev pub done : Called L → List Committed
   done k = done_by (shape_of k) (start_of k) k.log k.log k.number
+
+  -- the attempt that the caller has committed last has at most so many reads
+  pub record ReadsAtMost (most : ℕ) (k : Called L) : Type 0 where
+    pub last : Committed
+    pub before : List Committed
+    pub done : done k ≡ last ∷ before
+    pub few : length last.entry.reads ≤ most
 
   -- The attempt has committed under this number: it is over, and its status is committed and stays so. Its entry has
   -- the reads of the memory, and writes the value last set for each object that was opened for writing, or else the old

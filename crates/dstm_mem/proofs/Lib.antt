@@ -1,3 +1,4 @@
 pub mod WithSet
 pub mod Operations
 pub mod Pairs
+pub mod Few

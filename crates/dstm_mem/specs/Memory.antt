@@ -1,6 +1,6 @@
 -- What a memory holds and what is set in it. Both are partial functions by object: `None` where there is
 -- no value. A map is the list of the objects' values.
-use Rattle.std.specs.Prelude.{◌≡◌, ◌≢◌, ℕ, suc, List, [], ◌∷◌, ◌==◌, Bool, Option, None, Some, IsSome, IfSome, IsTrue, unwrap_or}
+use Rattle.std.specs.Prelude.{◌≡◌, ◌≢◌, ◌≤◌, ℕ, suc, List, [], ◌∷◌, length, ◌==◌, Bool, Option, None, Some, IsSome, IfSome, IsTrue, unwrap_or, Contains}
 use Rattle.std.specs.Map.{lookup}
 use Rattle.dstm_model.specs.declared.value.Val.{Val}
 use Rattle.dstm_model.specs.Map.{value_at}
@@ -17,6 +17,12 @@ value_in pairs o = lookup (λ p. p == o) pairs
 -- the map has every value that is held
 abbrev pub AgreesWith : List Val → (ℕ → Option Val) → Type 0
 AgreesWith map held = (o : ℕ) → IfSome (held o) (λ v. value_at map o ≡ v)
+
+-- no more than so many objects are held
+pub record HoldsAtMost (most : ℕ) (held : ℕ → Option Val) : Type 0 where
+  pub objects : List ℕ
+  pub few : length objects ≤ most
+  pub each : (o : ℕ) → IsSome (held o) → Contains objects o
 
 -- object o is held, and no other is new or changed
 pub record HoldsAlso (o : ℕ) (old new : ℕ → Option Val) : Type 0 where

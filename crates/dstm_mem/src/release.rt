@@ -1,6 +1,6 @@
-ghost use Rattle.std.specs.Prelude.{◌≡◌, ℕ, ◌<◌, ◌&&◌, ◌↔◌, List, is_some, not, IsSome, IsTrue, OnOk, IfErr};
+ghost use Rattle.std.specs.Prelude.{◌≡◌, ℕ, ◌<◌, ◌&&◌, ◌↔◌, List, is_some, not, IsSome, IsTrue, false, OnOk, IfErr};
 ghost use Rattle.dstm_model.specs.declared.value.Val.{Val};
-ghost use Rattle.dstm_mem.specs.Memory.{with_set, AgreesWith, HoldsWithout};
+ghost use Rattle.dstm_mem.specs.Memory.{with_set, AgreesWith, HoldsAtMost, HoldsWithout};
 ghost use Rattle.dstm_mem.specs.Operations.{IsFresh, Leads};
 ghost use Rattle.dstm_mem.specs.Release.{AdmitsWhatItHolds};
 
@@ -71,6 +71,9 @@ pub trait LooseBody<L: Law> {
     /// A run that ends without an error has read this object, and keeps the read.
     ghost audits: { Self → ℕ → Type 0 };
 
+    /// A run that ends without an error, on a memory whose reads stay reads, keeps at most so many.
+    ghost keeps_at_most: { Self → ℕ → Type 0 };
+
     /// Runs the body once, on a memory in which nothing was read, set or opened for writing. A run that
     /// ends in an error keeps the outcome of the run before.
     fn run<M: Release>(&mut self, mem: &mut M) -> Result<(), M::Err>
@@ -82,6 +85,8 @@ pub trait LooseBody<L: Law> {
         ensures right { OnOk result ((map : List Val) → M.Mem.Admits mem.new map →
             right self.new map (with_set map (M.Mem.written mem.new))) }
         ensures audits { OnOk result ((o : ℕ) → audits self.new o → IsSome (M.Mem.held mem.new o)) }
+        ensures few { OnOk result (M.Mem.all_write (M.Mem.place mem.old) ≡ false →
+            (most : ℕ) → keeps_at_most self.new most → HoldsAtMost most (M.Mem.held mem.new)) }
         ensures law { law self.new ≡ law self.old }
         ensures task { task self.new ≡ task self.old }
         ensures outcome { IfErr result (λ _. outcome self.new ≡ outcome self.old) }

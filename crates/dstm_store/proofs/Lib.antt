@@ -5,3 +5,4 @@ pub mod Walks
 pub mod Unfolded
 pub mod One
 pub mod Bodies
+pub mod Few

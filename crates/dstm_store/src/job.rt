@@ -1,12 +1,14 @@
-ghost use Rattle.std.specs.Prelude.{◌≡◌, ℕ, ◌<◌, ◌≤◌, List, [], length, All, IsSome, IfOk, OnOk};
+ghost use Rattle.std.specs.Prelude.{◌≡◌, ℕ, ◌<◌, ◌≤◌, List, [], length, true, false, All, IsSome, IfOk, OnOk};
 ghost use Rattle.dstm_model.specs.declared.value.Val.{Val};
 ghost use Rattle.dstm_model.specs.Layout.{IsValid, FitsLayout};
 ghost use Rattle.dstm_model.specs.Store.{IsPlain};
 ghost use Rattle.dstm_model.specs.Objects.{objects_of, Does};
-ghost use Rattle.dstm_mem.specs.Memory.{with_set};
-ghost use Rattle.dstm_mem.specs.Operations.{IsReady, Leads};
+ghost use Rattle.dstm_mem.specs.Memory.{with_set, HoldsAtMost};
+ghost use Rattle.dstm_mem.specs.Operations.{IsFresh, IsReady, Leads, OnlyReads};
+ghost use Rattle.dstm_release_list.specs.Walk.{AddsThreeReads};
 ghost use Rattle.dstm_store.specs.Whole.{StandsFor, IsLawful};
-ghost use Rattle.dstm_store.specs.Job.{DoesAll, Audits};
+ghost use Rattle.dstm_store.specs.Job.{DoesAll, Audits, KeepsAtMost};
+ghost use Rattle.dstm_store.specs.Looks.{IsLook, is_list_member};
 
 use crate::law::StoreLaw;
 use crate::lists::{KeepsReads, ListWalk};
@@ -111,6 +113,9 @@ pub fn run_all<M: Mem, L: ListWalk<M>>(
         IsLawful layout.now (with_set map (M.written mem.new))) }
     ensures audits { OnOk result ((o : ℕ) → Audits (record { layout = layout.now; ops = ops.now }) o →
         IsSome (M.held mem.new o)) }
+    ensures few { L.lets_go ≡ true → IsFresh M.Mem mem.old → M.all_write (M.place mem.old) ≡ false →
+        OnOk result ((most : ℕ) → KeepsAtMost (record { layout = layout.now; ops = ops.now }) most →
+        HoldsAtMost most (M.held mem.new)) }
 
     ensures leads { Leads M.Mem mem.old mem.new result }
 {
@@ -140,6 +145,9 @@ fn run_in_branch<M: Mem, L: ListWalk<M>>(
         IsLawful layout.now (with_set map (M.written mem.new))) }
     ensures audits { op.now ≡ Op.Total → OnOk result ((a : ℕ) → a < layout.now.accounts →
         IsSome (M.held mem.new a)) }
+    ensures looks { IfOk result (λ reply. IsLook op.now reply → OnlyReads M.Mem mem.old mem.new) }
+    ensures adds { L.lets_go ≡ true → is_list_member op.now ≡ true →
+        OnOk result (AddsThreeReads M.Mem mem.old mem.new) }
 
     ensures leads { Leads M.Mem mem.old mem.new result }
 {

@@ -1,4 +1,4 @@
-ghost use Rattle.std.specs.Prelude.{◌≡◌, ◌≢◌, List, IfOk, OnOk};
+ghost use Rattle.std.specs.Prelude.{◌≡◌, ◌≢◌, List, Bool, true, false, IfOk, OnOk};
 ghost use Rattle.dstm_model.specs.declared.value.Val.{Val};
 ghost use Rattle.dstm_model.specs.declared.op.Which.TheVariants as which;
 ghost use Rattle.dstm_model.specs.Layout.{IsValid, FitsLayout};
@@ -6,12 +6,16 @@ ghost use Rattle.dstm_model.specs.Objects.{objects_of, Does};
 ghost use Rattle.dstm_mem.specs.Memory.{with_set};
 ghost use Rattle.dstm_mem.specs.Operations.{IsReady, Leads, OnlyReads, OpensToSet};
 ghost use Rattle.dstm_list.specs.List.{IsList, SameOutside};
+ghost use Rattle.dstm_release_list.specs.Walk.{AddsThreeReads};
 
 use dstm_mem::{Mem, Release};
 use dstm_model::{Layout, Op, Reply};
 
 /// How the list's operations walk along it on a memory of this kind.
 pub trait ListWalk<M: Mem> {
+    /// Reads on the way are let go.
+    ghost lets_go: { Bool };
+
     /// Adds a key.
     fn insert(mem: &mut M, layout: &Layout, key: u32) -> Result<Reply, M::Err>
         requires valid { IsValid layout.now }
@@ -42,7 +46,7 @@ pub trait ListWalk<M: Mem> {
 
         ensures leads { Leads M.Mem mem.old mem.new result };
 
-    /// Tells whether a key is there.
+    /// Tells whether a key is there. Where reads are let go, at most three objects more than before are reads.
     fn member(mem: &mut M, layout: &Layout, key: u32) -> Result<Reply, M::Err>
         requires valid { IsValid layout.now }
         requires fits { FitsLayout layout.now (Op.Member which.List key) }
@@ -52,6 +56,7 @@ pub trait ListWalk<M: Mem> {
             Does (IsList layout.now) (Op.Member which.List key)
             (with_set map (M.written mem.old)) (with_set map (M.written mem.new)) reply) }
         ensures looks { OnOk result (OnlyReads M.Mem mem.old mem.new) }
+        ensures adds { lets_go ≡ true → OnOk result (AddsThreeReads M.Mem mem.old mem.new) }
 
         ensures leads { Leads M.Mem mem.old mem.new result };
 }
@@ -65,6 +70,8 @@ pub struct KeepsReads;
 pub struct HandOverHand;
 
 impl<M: Mem> ListWalk<M> for KeepsReads {
+    ghost lets_go = { false };
+
     fn insert(mem: &mut M, layout: &Layout, key: u32) -> Result<Reply, M::Err> {
         dstm_list::insert(mem, layout, key)
     }
@@ -79,6 +86,8 @@ impl<M: Mem> ListWalk<M> for KeepsReads {
 }
 
 impl<M: Release> ListWalk<M> for HandOverHand {
+    ghost lets_go = { true };
+
     fn insert(mem: &mut M, layout: &Layout, key: u32) -> Result<Reply, M::Err> {
         dstm_release_list::insert(mem, layout, key)
     }

@@ -57,7 +57,7 @@ impl LooseJobBody {
 }
 
 impl LooseBody<StoreLaw> for LooseJobBody {
-    ghost use Rattle.dstm_store.specs.Job.{DoesAll, Audits};
+    ghost use Rattle.dstm_store.specs.Job.{DoesAll, Audits, KeepsAtMost};
 
     type Task = JobTask;
 
@@ -72,6 +72,8 @@ impl LooseBody<StoreLaw> for LooseJobBody {
     ghost right = { λ job before after. DoesAll job.task before after job.replies };
 
     ghost audits = { λ job. Audits job.task };
+
+    ghost keeps_at_most = { λ job. KeepsAtMost job.task };
 
     fn run<M: Release>(&mut self, mem: &mut M) -> Result<(), M::Err> {
         self.replies = run_all::<M, HandOverHand>(

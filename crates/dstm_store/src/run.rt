@@ -1,4 +1,4 @@
-ghost use Rattle.std.specs.Prelude.{◌≡◌, ◌≢◌, ℕ, ◌<◌, List, IsSome, IfOk, OnOk};
+ghost use Rattle.std.specs.Prelude.{◌≡◌, ◌≢◌, ℕ, ◌<◌, List, true, IsSome, IfOk, OnOk};
 ghost use Rattle.dstm_model.specs.declared.value.Val.{Val};
 ghost use Rattle.dstm_model.specs.Layout.{IsValid, FitsLayout};
 ghost use Rattle.dstm_model.specs.Store.{IsPlain};
@@ -6,7 +6,8 @@ ghost use Rattle.dstm_model.specs.Objects.{objects_of, Does};
 ghost use Rattle.dstm_mem.specs.Memory.{with_set};
 ghost use Rattle.dstm_mem.specs.Operations.{IsReady, Leads, OnlyReads, OpensToSet};
 ghost use Rattle.dstm_store.specs.Whole.{StandsFor, IsLawful};
-ghost use Rattle.dstm_store.specs.Looks.{IsLook};
+ghost use Rattle.dstm_store.specs.Looks.{IsLook, is_list_member};
+ghost use Rattle.dstm_release_list.specs.Walk.{AddsThreeReads};
 
 use crate::lists::{KeepsReads, ListWalk};
 use dstm_mem::Mem;
@@ -54,6 +55,8 @@ pub fn run_with<M: Mem, L: ListWalk<M>>(
         IsSome (M.held mem.new a)) }
     ensures looks { IfOk result (λ reply. IsLook op.now reply → OnlyReads M.Mem mem.old mem.new) }
     ensures marks { IfOk result (λ reply. reply ≢ Reply.Poor → OpensToSet M.Mem mem.old mem.new) }
+    ensures adds { L.lets_go ≡ true → is_list_member op.now ≡ true →
+        OnOk result (AddsThreeReads M.Mem mem.old mem.new) }
 
     ensures leads { Leads M.Mem mem.old mem.new result }
 {

@@ -1,9 +1,11 @@
-use Rattle.std.proofs.Common.{sym, ap, subst, ◌∙◌, ◌≡◌, ◌≢◌, None, Some}
-use Rattle.dstm_engine.specs.Attempts.{Settles, done}
-use Rattle.dstm_engine.specs.Callers.{Called}
+use Rattle.std.proofs.Common.{sym, ap, subst, ◌∙◌, ◌≡◌, ◌≢◌, ℕ, None, Some, false}
+use Rattle.dstm_words.specs.Seats.{Home}
+use Rattle.dstm_engine.specs.Attempts.{ReadsAtMost, Settles, done}
+use Rattle.dstm_engine.specs.Callers.{Called, shape_of}
 use Rattle.dstm_engine.specs.Endings.{Attempts}
 use Rattle.dstm_engine.specs.Outcomes.{IsEnded}
 use Rattle.dstm_engine.proofs.Abandoning.{under_way}
+use Rattle.dstm_engine.proofs.Few.{few_reads}
 use Rattle.dstm_engine.proofs.Made.{made, settled, in_the_end, same_done, same_name}
 use Rattle.dstm_engine.proofs.making.attempt_loose.Goals as goal
 
@@ -32,6 +34,23 @@ returns-in-Ok-commit-clause-settles g c =
     (settled g.L.Law.holds c.args.caller.now c.in-Ok.tx.caller.now c.run.new.mem.caller.now _ _ _ _ begins place (g.B.LooseBody.right c.run.new.self) c.commit.new.self.0
     c.in-Ok-commit.number (ap (λ (k : Called _). k.home) c.in-Ok-commit.ensures.kept)
     c.in-Ok-commit.ensures.stays.steps.run c.in-Ok-commit.ensures.number c.in-Ok-run.ensures.right)
+
+pub returns-in-Ok-commit-clause-few : goal.returns-in-Ok-commit-clause-few
+returns-in-Ok-commit-clause-few g c =
+    let k = c.args.caller.now in
+    let t = c.run.new.mem.caller.now in
+    let ran = c.in-Ok-run.ensures in
+    let place = ran.leads.place in
+    let begins = c.in-Ok.ensures.begins in
+    let name = same_name g.L.Law.holds k c.in-Ok.tx.caller.now t _ _ _ _ begins place _ c.in-Ok.ensures.same in
+    in_the_end (λ n. (shape_of k).all_write ≡ false → (most : ℕ) →
+    g.B.LooseBody.keeps_at_most c.run.new.self most → ReadsAtMost most n)
+    _ _ _ _ (assumption c) name
+    (λ reads most keeps.
+    few_reads g.L.Law.holds t c.commit.new.self.0 c.in-Ok-commit.number
+    (ap (λ (x : Called _). x.home) c.in-Ok-commit.ensures.kept) c.in-Ok-commit.ensures.stays.steps.run
+    c.in-Ok-commit.ensures.number most ran.leads.live
+    (ran.few (ap (λ (h : Home _). h.terms.shape.all_write) begins.steps.same.0 ∙ reads) most keeps))
 
 pub returns-in-Err-commit-clause-ended : goal.returns-in-Err-commit-clause-ended
 returns-in-Err-commit-clause-ended g c =

@@ -2,7 +2,7 @@ use denote.Param.Send.{sendable}
 use Rattle.std.proofs.Crossing.{crosses}
 use Rattle.dstm_engine.proofs.stm.Stm.TheSendSync as Stm
 use Rattle.example_tickets.proofs.sale.NoneLost.TheSendSync as NoneLost
-use Rattle.example_tickets.proofs.Sends.{caller_send}
+use Rattle.dstm_engine.proofs.Sends.{caller_send}
 use Rattle.example_tickets.proofs.office.sell_all.Goals as goal
 
 pub join-east-requires-send-F : goal.join-east-requires-send-F

@@ -1,6 +1,6 @@
--- Which types may cross threads.
+-- A caller may cross threads.
 use denote.RattleType.{RattleType}
-use denote.Param.Send.{IsSend, sendable, recorded_send, struct_send, view_send}
+use denote.Param.Send.{IsSend, sendable, view_send}
 use denote.Param.SendFields.{declared_send}
 use Rattle.std.proofs.Crossing.{crosses}
 use Rattle.dstm_caller.proofs.steps.Steps.TheSendSync as Steps
