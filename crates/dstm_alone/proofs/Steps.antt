@@ -1,8 +1,8 @@
 -- The steps of an alone round.
-use Rattle.std.proofs.Common.{◌≡◌, ◌≢◌, ◌⊎◌, ℕ, zero, suc, ◌+◌, ◌-◌, ◌<◌, ◌≤◌, Bool, true, false, cond, eqb, List, [], ◌∷◌, ◌++◌, length, reverse, Option, None, Some, refl, ap, sym, subst, ◌∙◌, inl, inr, arith, append_assoc, true≢false}
+use Rattle.std.proofs.Common.{◌≡◌, ◌≢◌, ◌⊎◌, ℕ, suc, ◌+◌, ◌-◌, ◌<◌, ◌≤◌, Bool, true, false, cond, eqb, List, [], ◌∷◌, ◌++◌, length, reverse, Option, None, Some, refl, ap, sym, subst, ◌∙◌, inl, inr, arith, append_assoc, true≢false}
 use Rattle.std.specs.Prelude.{IfSome, All, ◌==◌, ◌&&◌, not, filter, if◌then◌else◌}
-use Rattle.std.specs.List.{AllByRecursion, range_with_len}
-use Rattle.std.proofs.lemmas.Bool.{cases_eq, eq-eqb, ne_eqb, cases_lt, le-ltb, lt-ltb}
+use Rattle.std.specs.List.{range_with_len}
+use Rattle.std.proofs.lemmas.Bool.{cases_eq, ne_eqb, cases_lt, le-ltb, lt-ltb}
 use Rattle.std.proofs.lemmas.List.Filters.{length-filter_both}
 use Rattle.std.proofs.lemmas.List.FromFn.{length-range_with_len}
 use Rattle.std.proofs.lemmas.List.{append-nil, length-append}
@@ -36,7 +36,7 @@ use Rattle.dstm_rounds.specs.Answers.{IsAnsweredBy}
 use Rattle.dstm_rounds.specs.Told.{AreTold, IsGivenUp, IsTold}
 use Rattle.dstm_rounds.proofs.Collecting.{Collected}
 use Rattle.dstm_rounds.proofs.Only.{only_done}
-use Rattle.dstm_rounds.proofs.Told.{rows_told}
+use Rattle.dstm_rounds.proofs.Told.{AreTold-push, rows_told}
 use Rattle.dstm_worker.specs.Only.{HasGivenUp, StoodAlone, WasSpent, left_by as values_left}
 use Rattle.dstm_worker.specs.declared.style.Style.{Style}
 use Rattle.dstm_worker.specs.declared.style.Style.TheVariants.{Branches, Loose, Plain}
@@ -49,21 +49,6 @@ use Rattle.dstm_alone.specs.Alone.{CanRunAlone, Goes, HasRunAlone, Leads, MaySte
 use Rattle.dstm_alone.specs.declared.sweeping.Swept.{Swept}
 use Rattle.dstm_alone.specs.declared.sweeping.Swept.TheVariants as swept
 use Rattle.dstm_rounds.specs.Running.{turns_behind}
-
--- ---- rows that are told
-
-AreTold-push : (workload : Workload) (before rows : List Row) (row : Row) (ds : List Committed) (d : Committed) →
-    AreTold workload before rows ds → IsTold workload (before ++ rows) row d →
-    AreTold workload before (rows ++ row ∷ []) (ds ++ d ∷ [])
-AreTold-push workload before [] row [] d told next =
-    (subst (λ (b : List Row). IsTold workload b row d) (append-nil before) next, tt)
-AreTold-push workload before [] row (e ∷ ds) d told next = absurd told
-AreTold-push workload before (first ∷ rows) row [] d told next = absurd told
-AreTold-push workload before (first ∷ rows) row (e ∷ ds) d told next = (
-  told.0,
-  AreTold-push workload (before ++ first ∷ []) rows row ds d told.1
-      (subst (λ (b : List Row). IsTold workload b row d) (sym (append_assoc before (first ∷ []) rows)) next),
-)
 
 -- ---- how many jobs of a worker were done
 
@@ -338,14 +323,14 @@ module _ (workload : Workload) (number : ℕ) (table : Home StoreLaw) (first : C
       }
 
   -- the job of the worker was done
-  pub step_done : (k n : Called StoreLaw) (rows : List Row) (turns behind : Turning) (w : ℕ) (some : Bool) (job : Job)
-      (finished : Finished) (row : Row) → first_job w turns.left ≡ Some job →
-      DidJob workload.layout job k n finished → row.worker ≡ w → row.line ≡ job.line → row.round ≡ number →
+  pub step_done : (style : Style) (k n : Called StoreLaw) (rows : List Row) (turns behind : Turning) (w : ℕ)
+      (some : Bool) (job : Job) (finished : Finished) (row : Row) → first_job w turns.left ≡ Some job →
+      DidJob style workload.layout job k n finished → row.worker ≡ w → row.line ≡ job.line → row.round ≡ number →
       row.number ≡ finished.number → row.replies ≡ finished.replies →
       behind ≡ record turns { left = without_first row.worker turns.left } →
       Sweeps workload number first k before rows turns w some →
       Sweeps workload number first n before (rows ++ row ∷ []) behind (w + 1) true
-  step_done k n rows turns behind w some job finished row turn did worker line round drew replies turned s =
+  step_done style k n rows turns behind w some job finished row turn did worker line round drew replies turned s =
       let answered : IsAnsweredBy workload.layout job.ops row.replies did.by.entry =
       subst (λ (rs : List Reply). IsAnsweredBy workload.layout job.ops rs did.by.entry) (sym replies) did.is.answered in
       let here : first_job row.worker turns.left ≡ Some job = ap (λ v. first_job v turns.left) worker ∙ turn in

@@ -1,5 +1,5 @@
 -- An alone round, step by step: one caller runs the first job left of each worker, the workers in rising order.
-use Rattle.std.specs.Prelude.{◌≡◌, ℕ, ◌+◌, ◌-◌, ◌<◌, ◌≤◌, Bool, true, false, List, [], ◌∷◌, ◌++◌, length, filter, reverse, None, IfSome, All}
+use Rattle.std.specs.Prelude.{◌≡◌, ℕ, ◌+◌, ◌-◌, ◌<◌, ◌≤◌, Bool, true, false, List, [], ◌++◌, length, filter, reverse, None, IfSome, All}
 use Rattle.std.specs.List.{range_with_len}
 use Rattle.dstm_model.specs.Job.{apply_job}
 use Rattle.dstm_engine.specs.Attempts.{done}
@@ -17,7 +17,6 @@ use Rattle.dstm_rounds.specs.Records.{count_done}
 use Rattle.dstm_rounds.specs.Rounds.{attempts_for, has_job, left_by, locators_for, workers_left}
 use Rattle.dstm_rounds.specs.Running.{turns_behind}
 use Rattle.dstm_rounds.specs.Told.{AreTold}
-use Rattle.dstm_worker.specs.Only.{left_by as values_left}
 use Rattle.dstm_worker.specs.Tries.{AtRest, GoesOn}
 use Rattle.dstm_alone.specs.declared.sweeping.Swept.{Swept}
 use Rattle.dstm_alone.specs.declared.sweeping.Swept.TheVariants as swept

@@ -1,6 +1,6 @@
 -- A table with one caller: what a pass of it has seen, since which none of its attempts has committed, are the values that
 -- its transactions have left.
-use Rattle.std.proofs.Common.{◌≡◌, ◌≢◌, ◌⊎◌, inl, inr, ℕ, zero, ◌+◌, ◌-◌, ◌*◌, ◌<◌, ◌≤◌, Bool, true, false, List, [], ◌∷◌, ◌++◌, Option, Some, None, ap, sym, subst, refl, ◌∙◌, arith, append_assoc, reverse, map, cond, true≢false}
+use Rattle.std.proofs.Common.{◌≡◌, ◌≢◌, ◌⊎◌, inl, inr, ℕ, ◌+◌, ◌-◌, ◌*◌, ◌≤◌, Bool, true, false, List, [], ◌∷◌, ◌++◌, Option, Some, None, ap, sym, subst, refl, ◌∙◌, arith, append_assoc, reverse, map, cond, true≢false}
 use Rattle.std.specs.Prelude.{◌&&◌, ◌==◌, is_some}
 use Rattle.std.proofs.lemmas.Bool.{cases_Bool, eq-eqb, eqb-true}
 use Rattle.dstm_answers.specs.Committed.{Committed, by_caller, committed, committed_in, done_by}
@@ -19,7 +19,7 @@ use Rattle.dstm_core.specs.Histories.{CoreRun, IsSight, entry_of, history, histo
 use Rattle.dstm_core.specs.Runs.{Core, local}
 use Rattle.dstm_core.specs.State.{LocalState, given, or_zero, own_attempt}
 use Rattle.dstm_core.specs.Traces.{IsPastOf}
-use Rattle.dstm_core.proofs.Pasts.{core_past, core_before}
+use Rattle.dstm_core.proofs.Pasts.{core_past}
 use Rattle.dstm_core.proofs.Static.{running, static}
 use Rattle.dstm_opacity.proofs.Begins.{begun_later, pass_begun}
 use Rattle.dstm_opacity.proofs.Draws.{draw_may}

@@ -6,11 +6,10 @@ use Rattle.std.proofs.lemmas.Bool.{eqb-true, eqb-false, ltb-true, ltb-false, cas
 use Rattle.std.proofs.lemmas.List.{append-nil, length-append}
 use Rattle.std.proofs.lemmas.List.Elements.{recursion_from_All, All-from_recursion}
 use Rattle.dstm_model.specs.declared.value.Val.{Val}
-use Rattle.dstm_workload.specs.declared.workload.Job.{Job}
 use Rattle.dstm_workload.specs.declared.workload.Workload.{Workload}
 use Rattle.dstm_workload.specs.Workload.{IsValidWorkload}
 use Rattle.dstm_report.specs.declared.report.Row.{Row}
-use Rattle.dstm_report.specs.Lawful.{RowsAreGood, jobs_left, store_after}
+use Rattle.dstm_report.specs.Lawful.{RowsAreGood, store_after}
 use Rattle.dstm_report.proofs.Rising.{jobs_left-none}
 use Rattle.dstm_store.specs.Whole.{StandsFor}
 use Rattle.dstm_rounds.specs.declared.options.Options.{Options}

@@ -1,15 +1,11 @@
 -- Rows that tell of the transactions of a round, one for one: they are good, and what the transactions leave stands for the
 -- store after them.
-use Rattle.std.proofs.Common.{◌≡◌, ◌⊎◌, ℕ, eqb, ◌+◌, ◌<◌, ◌≤◌, Bool, true, false, List, [], ◌∷◌, ◌++◌, length, Option, None, Some, refl, ap, sym, subst, ◌∙◌, inl, inr, arith, append_assoc, reverse, true≢false}
-use Rattle.std.specs.Prelude.{IfSome, IsSomeAnd}
+use Rattle.std.proofs.Common.{◌≡◌, ◌⊎◌, ℕ, eqb, ◌+◌, ◌<◌, ◌≤◌, List, [], ◌∷◌, ◌++◌, length, Option, None, Some, refl, ap, sym, subst, ◌∙◌, inl, inr, arith, append_assoc, reverse}
+use Rattle.std.specs.Prelude.{IfSome}
 use Rattle.std.specs.List.{AllByRecursion, find}
-use Rattle.std.proofs.lemmas.List.{append-nil, length-append}
-use Rattle.dstm_model.specs.declared.reply.Reply.{Reply}
-use Rattle.dstm_model.specs.declared.reply.Reply.TheVariants.{Never}
+use Rattle.std.proofs.lemmas.List.{append-nil}
 use Rattle.dstm_model.specs.declared.value.Val.{Val}
-use Rattle.dstm_model.specs.Job.{apply_job}
-use Rattle.dstm_model.specs.Map.{Agrees, Entry, IsLegal, with_writes, state_after}
-use Rattle.dstm_model.specs.Store.{Store}
+use Rattle.dstm_model.specs.Map.{Agrees, IsLegal, state_after}
 use Rattle.dstm_core.specs.declared.shape.Shape.{Shape}
 use Rattle.dstm_core.specs.Events.{Event}
 use Rattle.dstm_core.specs.Histories.{CoreRun}
@@ -24,12 +20,11 @@ use Rattle.dstm_workload.specs.declared.workload.Job.{Job}
 use Rattle.dstm_workload.specs.declared.workload.Workload.{Workload}
 use Rattle.dstm_workload.specs.Workload.{IsValidWorkload}
 use Rattle.dstm_report.specs.declared.report.Row.{Row}
-use Rattle.dstm_report.specs.Lawful.{AllBlocked, IsBefore, IsGoodRow, first_job, jobs_left, last_row, store_after, store_left}
+use Rattle.dstm_report.specs.Lawful.{IsBefore, first_job, jobs_left, last_row, store_after}
 use Rattle.dstm_report.proofs.Rising.{find_line, length-without_first, rise_all, turn_ends}
-use Rattle.dstm_rounds.specs.Answers.{IsAnsweredBy}
-use Rattle.dstm_rounds.specs.Records.{TellsOf, entries_of, is_given_up, job_of}
+use Rattle.dstm_rounds.specs.Records.{entries_of, job_of}
 use Rattle.dstm_rounds.specs.Running.{count_left}
-use Rattle.dstm_rounds.specs.Told.{AreTold, IsGivenUp, IsTold}
+use Rattle.dstm_rounds.specs.Told.{AreTold, IsTold}
 use Rattle.dstm_rounds.proofs.Collecting.{Collected, at_start, row_more, row_given_up}
 use Rattle.dstm_rounds.proofs.Follows.{agrees_next, answers_there}
 use Rattle.dstm_rounds.proofs.Only.{entries_reverse}
@@ -61,7 +56,7 @@ follows (Some previous) round least row is enough may =
     ]
 
 -- the job of a row's turn is the one that its line names
-turn_names : (workload : Workload) (before : List Row) (row : Row) (job : Job) → IsValidWorkload workload →
+pub turn_names : (workload : Workload) (before : List Row) (row : Row) (job : Job) → IsValidWorkload workload →
     first_job row.worker (jobs_left workload.jobs before) ≡ Some job → row.line ≡ job.line → job_of workload row ≡ Some job
 turn_names workload before row job valid turn line =
     subst (λ l. find (λ j. eqb j.line l) workload.jobs ≡ Some job) (sym line)
@@ -111,6 +106,20 @@ all_told workload before rows (row ∷ more) start done (next ∷ left) round le
     (append_assoc done (next ∷ []) left)
     (all_told workload before (rows ++ row ∷ []) more start (done ++ next ∷ []) left round (next.number + 1) valid here
     (subst (λ (b : List Row). AreTold workload b more left) assoc told.1) in_round.1 rise.1 following))
+
+-- one row more, behind those that are told
+pub AreTold-push : (workload : Workload) (before rows : List Row) (row : Row) (ds : List Committed) (d : Committed) →
+    AreTold workload before rows ds → IsTold workload (before ++ rows) row d →
+    AreTold workload before (rows ++ row ∷ []) (ds ++ d ∷ [])
+AreTold-push workload before [] row [] d told next =
+    (subst (λ (b : List Row). IsTold workload b row d) (append-nil before) next, tt)
+AreTold-push workload before [] row (e ∷ ds) d told next = absurd told
+AreTold-push workload before (first ∷ rows) row [] d told next = absurd told
+AreTold-push workload before (first ∷ rows) row (e ∷ ds) d told next = (
+  told.0,
+  AreTold-push workload (before ++ first ∷ []) rows row ds d told.1
+      (subst (λ (b : List Row). IsTold workload b row d) (sym (append_assoc before (first ∷ []) rows)) next),
+)
 
 -- each row takes one of the jobs that are left
 pub fewer_left : (workload : Workload) (before rows : List Row) (done : List Committed) → IsValidWorkload workload →

@@ -2,9 +2,6 @@
 -- tables, one for one, and no round was passed over without need.
 use Rattle.std.specs.Prelude.{◌≡◌, ◌⊎◌, ℕ, ◌+◌, ◌*◌, ◌<◌, ◌≤◌, ◌==◌, ◌&&◌, Bool, true, false, not, List, [], ◌∷◌, ◌++◌, length, map, reverse, filter, find, zip, Option, Some, None, IsSomeAnd, All, Contains}
 use Rattle.dstm_model.specs.declared.value.Val.{Val}
-use Rattle.dstm_model.specs.declared.op.Op.{Op}
-use Rattle.dstm_model.specs.declared.op.Op.TheVariants.{Member}
-use Rattle.dstm_model.specs.declared.op.Which.TheVariants as which
 use Rattle.dstm_model.specs.declared.layout.Layout.{Layout}
 use Rattle.dstm_model.specs.declared.reply.Reply.{Reply}
 use Rattle.dstm_model.specs.declared.reply.Reply.TheVariants.{Never}
@@ -20,6 +17,7 @@ use Rattle.dstm_core.specs.State.{LocalState}
 use Rattle.dstm_core.specs.Words.{IsValid}
 use Rattle.dstm_answers.specs.Committed.{Committed, committed_in}
 use Rattle.dstm_store.specs.declared.law.StoreLaw.{StoreLaw}
+use Rattle.dstm_store.specs.Looks.{is_list_member}
 use Rattle.dstm_store.specs.Opening.{opening_values}
 use Rattle.dstm_store.specs.Whole.{StandsFor, IsLawful}
 use Rattle.dstm_workload.specs.declared.workload.Job.{Job}
@@ -197,15 +195,13 @@ pub record IsAlone (rows : List Row) (round : Round) : Type 0 where
 
 -- ---- early release
 
-abbrev pub is_list_member : Op → Bool
-is_list_member (Member which.List key) = true
-is_list_member op = false
+-- a transaction of a job that only looks keys up in the list keeps at most three reads for each
+abbrev pub KeepsFew : Job → Committed → Type 0
+KeepsFew job by = All (λ op. is_list_member op ≡ true) job.ops → length by.entry.reads ≤ 3 * length job.ops
 
--- a transaction that looks keys up in the list keeps at most three reads for each
+-- the same of the job of a row
 abbrev pub KeepsFewReads : Workload → Row × Committed → Type 0
-KeepsFewReads workload told =
-    (job : Job) → job_of workload told.0 ≡ Some job → All (λ op. is_list_member op ≡ true) job.ops →
-    length told.1.entry.reads ≤ 3 * length job.ops
+KeepsFewReads workload told = (job : Job) → job_of workload told.0 ≡ Some job → KeepsFew job told.1
 
 -- reads are given up early: of a workload that has no conditions, with reads that stay reads
 pub record IsReleasing (options : Options) (version : ℕ) : Type 0 where

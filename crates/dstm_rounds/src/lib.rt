@@ -4,6 +4,8 @@
 
 mod options;
 mod round;
+mod shape;
 
 pub use options::Options;
 pub use round::{Round, Rounds};
+pub use shape::shape_for;

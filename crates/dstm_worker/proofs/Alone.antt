@@ -1,12 +1,10 @@
 -- A try of a table's only caller.
-use Rattle.std.proofs.Common.{◌≡◌, ◌∙◌, ◌+◌, ◌-◌, ◌*◌, ◌<◌, ◌≤◌, ◌∷◌, ℕ, List, [], Some, None, true, false, refl, sym, ap, subst, arith, reverse}
+use Rattle.std.proofs.Common.{◌≡◌, ◌∙◌, ◌+◌, ◌-◌, ◌*◌, ◌≤◌, ◌∷◌, ℕ, List, [], Some, None, refl, sym, ap, subst, arith, reverse}
 use Rattle.std.specs.Prelude.{Bool, Option, if◌then◌else◌}
-use Rattle.std.proofs.lemmas.Bool.{eq-eqb, eqb-true}
+use Rattle.std.proofs.lemmas.Bool.{eqb-true}
 use Rattle.dstm_model.specs.declared.value.Val.{Val}
 use Rattle.dstm_model.specs.declared.layout.Layout.{Layout}
-use Rattle.dstm_model.specs.Job.{apply_job}
 use Rattle.dstm_model.specs.Map.{state_after}
-use Rattle.dstm_model.specs.Store.{Store}
 use Rattle.dstm_answers.specs.Committed.{Committed, done_by}
 use Rattle.dstm_causes.specs.Disturbed.{count_of}
 use Rattle.dstm_core.specs.Histories.{CoreRun}
@@ -19,7 +17,7 @@ use Rattle.dstm_mem.specs.Memory.{value_in, with_set}
 use Rattle.dstm_mem.proofs.WithSet.{with_set-nothing}
 use Rattle.dstm_mem.proofs.Pairs.{value_in-same}
 use Rattle.dstm_words.specs.Seats.{Home}
-use Rattle.dstm_engine.specs.Attempts.{Commits, completes_pass, done}
+use Rattle.dstm_engine.specs.Attempts.{Commits, completes_pass}
 use Rattle.dstm_engine.specs.Callers.{Called, handed, law_of, shape_of, start_of, state, written}
 use Rattle.dstm_engine.specs.Transactions.{BeginsAnew}
 use Rattle.dstm_store.specs.declared.law.StoreLaw.{StoreLaw}

@@ -8,11 +8,9 @@ use Rattle.dstm_model.specs.declared.reply.Reply.{Reply}
 use Rattle.dstm_model.specs.Job.{JobOutcome, apply_job}
 use Rattle.dstm_model.specs.Map.{Agrees, Entry, with_writes}
 use Rattle.dstm_model.specs.Objects.{objects_of}
-use Rattle.dstm_model.specs.Store.{Store, IsPlain}
-use Rattle.dstm_store.specs.declared.job.JobTask.{JobTask}
+use Rattle.dstm_model.specs.Store.{IsPlain}
 use Rattle.dstm_store.specs.Job.{DoesAll}
 use Rattle.dstm_store.specs.Whole.{IsLawful, StandsFor}
-use Rattle.dstm_compose.specs.declared.body.Outcome.{Outcome}
 use Rattle.dstm_compose.specs.declared.body.Outcome.TheVariants.{Ran}
 use Rattle.dstm_compose.specs.Compose.{IsRight, outcome_of, store_left}
 use Rattle.dstm_rounds.specs.Answers.{IsAnsweredBy}

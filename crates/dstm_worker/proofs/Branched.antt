@@ -1,5 +1,5 @@
 -- What an attempt at a job with branches leaves, from the clauses of its calls.
-use Rattle.std.proofs.Common.{◌≡◌, ◌≢◌, ◌∙◌, ◌⊎◌, ◌+◌, ◌<◌, ◌≤◌, ◌++◌, ◌∷◌, ℕ, Bool, List, [], Some, None, true, false, refl, sym, ap, subst, inl, inr, arith, length, add-zero}
+use Rattle.std.proofs.Common.{◌≡◌, ◌≢◌, ◌∙◌, ◌+◌, ◌<◌, ◌≤◌, ◌++◌, ◌∷◌, ℕ, Bool, List, [], None, true, false, refl, sym, ap, subst, arith, length, add-zero}
 use Rattle.std.specs.Prelude.{Option, IfSome, if◌then◌else◌, ◌==◌, ◌&&◌}
 use Rattle.std.proofs.lemmas.Bool.{cond_both}
 use Rattle.std.proofs.lemmas.List.Elements.{filter-append}
@@ -15,7 +15,6 @@ use Rattle.dstm_core.specs.Runs.{Core, local}
 use Rattle.dstm_core.specs.Rules.{is_outside}
 use Rattle.dstm_core.specs.State.{LocalState}
 use Rattle.dstm_core.specs.Traces.{events_of, IsPastOf}
-use Rattle.dstm_core.specs.declared.event.Kind.{Kind}
 use Rattle.dstm_core.specs.declared.event.Kind.TheVariants.{Quit}
 use Rattle.dstm_core.specs.declared.shape.Shape.{Shape}
 use Rattle.dstm_core.specs.declared.state.Write.{Write}
@@ -30,7 +29,7 @@ use Rattle.dstm_causes.specs.Ends.{StaysAt, ended_as}
 use Rattle.dstm_core.specs.Words.{code_of}
 use Rattle.dstm_core.specs.declared.status.Status.TheVariants as status
 use Rattle.dstm_causes.specs.Disturbed.{count_of}
-use Rattle.dstm_mem.specs.Memory.{AgreesWith, with_set}
+use Rattle.dstm_mem.specs.Memory.{with_set}
 use Rattle.dstm_mem.proofs.Pairs.{AgreesWith-of_agrees}
 use Rattle.dstm_order.specs.declared.again.Again.{Again}
 use Rattle.dstm_order.specs.Calls.{IsCall, Obeys, state_after}
@@ -145,7 +144,7 @@ module _ (k b t : Called StoreLaw) (r q : GName) (h j : Home StoreLaw) (begins :
       (law_of k).layout ≡ layout → n.home ≡ t.home → OneMore k n → Commits t n finished.number →
       ((map : List Val) → Admits keeps t map →
       IsRight (record { layout = layout; ops = job.ops }) map (with_set map (written t)) (Ran finished.replies)) →
-      DidJob layout job k n finished
+      DidJob Branches layout job k n finished
   did_branch layout job finished n rest law nh one commits right = record {
     made = one;
     committed = has_committed n one.on.rest.run one.on.rest.enrolled commits.status;
@@ -159,6 +158,7 @@ module _ (k b t : Called StoreLaw) (r q : GName) (h j : Home StoreLaw) (begins :
           (λ map length lawful agrees.
           settles.right map length (subst (λ (l : Layout). IsLawful l map) (sym law) lawful) agrees);
     };
+    few_reads = λ loose. absurd (cc);
   }
     where
       settles : Settles keeps

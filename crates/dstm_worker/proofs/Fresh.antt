@@ -1,9 +1,8 @@
 -- A caller that was just made has begun no attempt, and has committed none.
-use Rattle.std.proofs.Common.{◌≡◌, ◌⊎◌, ◌==◌, ◌&&◌, ℕ, Bool, true, false, List, [], ◌∷◌, ◌++◌, Option, Some, None, is_some, cond, refl, ap, sym, subst, ◌∙◌, inl, inr}
+use Rattle.std.proofs.Common.{◌≡◌, ◌==◌, ◌&&◌, ℕ, false, List, [], ◌∷◌, ◌++◌, Some, is_some, refl, ap, sym, subst, ◌∙◌, inl, inr}
 use Rattle.std.proofs.lemmas.Bool.{cases_Bool, eqb-true, eq-eqb}
 use Rattle.std.proofs.lemmas.List.{append-nil}
 use Rattle.std.proofs.lemmas.List.Elements.{filter-append}
-use Rattle.dstm_model.specs.declared.value.Val.{Val}
 use Rattle.dstm_core.specs.Events.{Event}
 use Rattle.dstm_core.specs.declared.event.Kind.{Kind}
 use Rattle.dstm_core.specs.declared.event.Kind.TheVariants.{Enrol}
@@ -13,7 +12,7 @@ use Rattle.dstm_core.specs.Runs.{Core, core, local}
 use Rattle.dstm_core.specs.State.{LocalState, first}
 use Rattle.dstm_core.specs.Traces.{events_of}
 use Rattle.dstm_runs.proofs.Runs.{local-events_of}
-use Rattle.dstm_answers.specs.Committed.{has_committed, is_commit, done_by}
+use Rattle.dstm_answers.specs.Committed.{is_commit, done_by}
 use Rattle.dstm_answers.proofs.Stays.{call_adds_none}
 use Rattle.dstm_causes.proofs.Ends.{callers_in_range}
 use Rattle.rand_pcg.specs.Lcg.{Lcg}
@@ -24,7 +23,7 @@ use Rattle.dstm_words.specs.Seats.{Home}
 use Rattle.dstm_words.specs.Steps.{IsRunOf}
 use Rattle.dstm_engine.specs.Attempts.{done}
 use Rattle.dstm_engine.specs.Callers.{Called, is_running, shape_of, start_of, state}
-use Rattle.dstm_engine.specs.Tables.{Enrols, Founding, unnumbered}
+use Rattle.dstm_engine.specs.Tables.{Enrols, Founding}
 use Rattle.dstm_store.specs.declared.law.StoreLaw.{StoreLaw}
 use Rattle.dstm_worker.specs.Tries.{AtRest, keeps}
 

@@ -1,5 +1,5 @@
 -- What an attempt leaves, from the clauses of the engine's calls.
-use Rattle.std.proofs.Common.{◌≡◌, ◌∙◌, ◌⊎◌, ◌+◌, ◌-◌, ◌*◌, ◌<◌, ◌≤◌, ◌++◌, ◌∷◌, ℕ, List, [], Some, None, true, length, refl, sym, ap, subst, inl, inr, arith, is_some}
+use Rattle.std.proofs.Common.{◌≡◌, ◌∙◌, ◌+◌, ◌-◌, ◌*◌, ◌<◌, ◌≤◌, ◌++◌, ◌∷◌, ℕ, List, [], Some, None, true, false, length, refl, sym, ap, subst, arith, is_some}
 use Rattle.std.specs.Prelude.{IfSome, Option, All}
 use Rattle.std.proofs.lemmas.Bool.{eq-eqb}
 use Rattle.dstm_model.specs.declared.value.Val.{Val}
@@ -15,7 +15,6 @@ use Rattle.dstm_core.specs.State.{LocalState, or_zero}
 use Rattle.dstm_core.specs.Traces.{events_of, word}
 use Rattle.dstm_core.specs.Words.{code_of}
 use Rattle.dstm_core.specs.Words.Word.{StatusWord}
-use Rattle.dstm_core.specs.declared.shape.Shape.{Shape}
 use Rattle.dstm_core.specs.declared.status.Status.TheVariants as status
 use Rattle.dstm_causes.specs.Ends.{StaysAt}
 use Rattle.dstm_causes.proofs.Ends.{named, spent_used_up}
@@ -24,20 +23,26 @@ use Rattle.dstm_causes.proofs.Sound.{number_stays, sound}
 use Rattle.dstm_order.specs.declared.again.Again.{Again}
 use Rattle.dstm_words.specs.Seats.{Home}
 use Rattle.dstm_words.specs.Steps.{IsRunOf}
-use Rattle.dstm_engine.specs.Attempts.{Settles, done}
+use Rattle.dstm_answers.specs.Committed.{Committed}
+use Rattle.dstm_engine.specs.Attempts.{ReadsAtMost, Settles, done}
 use Rattle.dstm_engine.specs.Callers.{Called, law_of, shape_of, state}
 use Rattle.dstm_engine.specs.Endings.{Attempts}
 use Rattle.dstm_engine.specs.Outcomes.{IsLeft, Promises}
 use Rattle.dstm_engine.specs.Transactions.{SpentFrom}
 use Rattle.dstm_store.specs.declared.law.StoreLaw.{StoreLaw}
-use Rattle.dstm_store.specs.Job.{Job as Body, DoesAll}
+use Rattle.dstm_store.specs.declared.job.JobTask.{JobTask}
+use Rattle.dstm_store.specs.Job.{Job as Body, DoesAll, KeepsAtMost}
+use Rattle.dstm_store.specs.Looks.{is_list_member}
 use Rattle.dstm_store.specs.Whole.{IsLawful}
 use Rattle.dstm_workload.specs.declared.workload.Job.{Job}
 use Rattle.dstm_rounds.specs.Answers.{IsAnsweredBy}
 use Rattle.dstm_rounds.specs.Attempts.{HasCommitted}
+use Rattle.dstm_rounds.specs.Records.{KeepsFew}
+use Rattle.dstm_worker.specs.declared.style.Style.{Style}
+use Rattle.dstm_worker.specs.declared.style.Style.TheVariants.{Loose}
 use Rattle.dstm_worker.specs.declared.trying.Finished.{Finished}
 use Rattle.dstm_worker.proofs.Answered.{answered_plain}
-use Rattle.dstm_worker.specs.Tries.{keeps, AtRest, GoesOn, OneMore, DidJob, WasKept, IsSpentFrom, IsDone}
+use Rattle.dstm_worker.specs.Tries.{keeps, AtRest, OneMore, DidJob, WasKept, IsSpentFrom}
 
 -- a table of the store's law has the objects of its layout
 pub objects_are : (k : Called StoreLaw) → AtRest k → (shape_of k).objects ≡ objects_of (law_of k).layout
@@ -98,17 +103,24 @@ one_more k n again a =
       begun = a.begun;
     }
 
-pub did_job : (layout : Layout) (job : Job) (k n : Called StoreLaw) (finished : Finished)
+-- where the attempts of a style let reads go, the newest transaction keeps few
+abbrev pub FewReads : Style → Job → (k n : Called StoreLaw) → Type 0
+FewReads style job k n =
+    style ≡ Loose → (shape_of n).all_write ≡ false → (by : Committed) → done n ≡ by ∷ done k → KeepsFew job by
+
+pub did_job : (style : Style) (layout : Layout) (job : Job) (k n : Called StoreLaw) (finished : Finished)
     (is_right : List Val → List Val → Type 0) → Attempts keeps k n None → Settles keeps is_right k n finished.number →
     ((s : Settles keeps is_right k n finished.number) → IsAnsweredBy layout job.ops finished.replies s.entry) →
-    DidJob layout job k n finished
-did_job layout job k n finished is_right a s answered =
+    FewReads style job k n → DidJob style layout job k n finished
+did_job style layout job k n finished is_right a s answered few =
     let made = one_more k n None a in record {
       made = made;
       committed = has_committed n made.on.rest.run made.on.rest.enrolled (a.status refl);
       by = record { caller = k.number; number = finished.number; entry = s.entry };
       newest = s.done;
       is = record { number = refl; answered = answered s };
+      few_reads = λ loose reads.
+          few loose reads (record { caller = k.number; number = finished.number; entry = s.entry }) s.done;
     }
 
 pub was_kept : (k n : Called StoreLaw) (again : Again) → Attempts keeps k n (Some again) → done n ≡ done k → WasKept k n
@@ -148,7 +160,7 @@ is_spent_from k n rest s =
 
 -- ---- by the body of a job
 
-module _ (layout : Layout) (job : Job) (k n : Called StoreLaw) (finished : Finished) (rest : AtRest k)
+module _ (style : Style) (layout : Layout) (job : Job) (k n : Called StoreLaw) (finished : Finished) (rest : AtRest k)
     (law : (law_of k).layout ≡ layout) (a : Attempts keeps k n None) where
   size : (shape_of k).objects ≡ objects_of layout
   size = objects_are k rest ∙ ap objects_of law
@@ -160,11 +172,30 @@ module _ (layout : Layout) (job : Job) (k n : Called StoreLaw) (finished : Finis
   pub did_plain : (body : Body) → body.task.layout ≡ layout → body.task.ops ≡ job.ops → finished.replies ≡ body.replies →
       All IsPlain job.ops →
       Settles keeps (λ before after. DoesAll body.task before after body.replies) k n finished.number →
-      DidJob layout job k n finished
-  did_plain body same ops replies plain settles =
-      did_job layout job k n finished _ a settles (λ s.
+      FewReads style job k n → DidJob style layout job k n finished
+  did_plain body same ops replies plain settles few =
+      did_job style layout job k n finished _ a settles (λ s.
       subst (λ (rs : List Reply). IsAnsweredBy layout job.ops rs s.entry) (sym replies)
       (answered_plain layout job.ops body.replies (shape_of k).objects size s.entry plain (λ map length is agrees.
       let right = s.right map length (lawful map is) agrees in
       subst (λ (l : Layout). DoesAll (record { layout = l; ops = job.ops }) map (with_writes map s.entry.writes) body.replies) same
       (subst (λ (os : List Op). DoesAll (record { layout = body.task.layout; ops = os }) map (with_writes map s.entry.writes) body.replies) ops right))))
+      few
+
+-- ---- by a body that lets reads go
+
+-- what the newest transaction reads at most
+newest_reads : (most : ℕ) (n : Called StoreLaw) (by : Committed) (before : List Committed) → ReadsAtMost most n →
+    done n ≡ by ∷ before → length by.entry.reads ≤ most
+newest_reads most n by before reads is =
+    let same : by ≡ reads.last = let newest = reads.done in cc in
+    subst (λ (c : Committed). length c.entry.reads ≤ most) (sym same) reads.few
+
+pub few_loose : (style : Style) (job : Job) (k n : Called StoreLaw) (task : JobTask) → n.home ≡ k.home →
+    task.ops ≡ job.ops →
+    ((shape_of k).all_write ≡ false → (most : ℕ) → KeepsAtMost task most → ReadsAtMost most n) → FewReads style job k n
+few_loose style job k n task home ops reads loose stay by newest all =
+    let stays = ap (λ (h : Home StoreLaw). h.terms.shape.all_write) (sym home) ∙ stay in
+    let most : 3 * length task.ops ≤ 3 * length job.ops = let same = ap length ops in omega arith in
+    let members = subst (λ (os : List Op). All (λ op. is_list_member op ≡ true) os) (sym ops) all in
+    newest_reads (3 * length job.ops) n by (done k) (reads stays (3 * length job.ops) (members, most)) newest

@@ -1,9 +1,8 @@
 -- Attempts at a job, one after the other.
-use Rattle.std.proofs.Common.{◌≡◌, ◌∙◌, ◌⊎◌, ◌+◌, ◌-◌, ◌<◌, ◌≤◌, ◌∷◌, ℕ, List, refl, ap, subst, sym, inl, inr, arith}
+use Rattle.std.proofs.Common.{◌≡◌, ◌∙◌, ◌⊎◌, ◌-◌, ◌<◌, ◌≤◌, ◌∷◌, ℕ, List, refl, ap, subst, sym, inl, inr, arith}
 use Rattle.std.proofs.lemmas.Bool.{cases_eq}
 use Rattle.dstm_model.specs.declared.layout.Layout.{Layout}
 use Rattle.dstm_answers.specs.Committed.{Committed}
-use Rattle.dstm_core.specs.declared.shape.Shape.{Shape}
 use Rattle.dstm_words.specs.Seats.{Home}
 use Rattle.dstm_engine.specs.Attempts.{done}
 use Rattle.dstm_engine.specs.Callers.{Called, shape_of, state}
@@ -53,14 +52,15 @@ waited_more k n m w was = record {
   same_done = was.same_done ∙ w.same_done;
 }
 
-pub waited_done : (layout : Layout) (job : Job) (k n m : Called StoreLaw) (finished : Finished) → Waited k n →
-    DidJob layout job n m finished → HasDone layout job k m finished
-waited_done layout job k n m finished w was = record {
+pub waited_done : (style : Style) (layout : Layout) (job : Job) (k n m : Called StoreLaw) (finished : Finished) →
+    Waited k n → DidJob style layout job n m finished → HasDone style layout job k m finished
+waited_done style layout job k n m finished w was = record {
   on = goes_on k n m w.on was.made.on;
   none_wasted = with_last k n m w.on.rest was.made (inl was.committed) w.none_wasted;
   by = was.by;
   newest = was.newest ∙ ap (λ (rest : List Committed). was.by ∷ rest) w.same_done;
   is = was.is;
+  few_reads = was.few_reads;
 }
 
 pub waited_spent : (k n m : Called StoreLaw) → Waited k n → IsSpentFrom n m → HasNoneLeft k m

@@ -1,11 +1,10 @@
 -- What became of an attempt stays so in a longer log.
-use Rattle.std.proofs.Common.{◌≡◌, ◌∙◌, ◌⊎◌, ◌+◌, ◌-◌, ◌*◌, ◌<◌, ◌≤◌, ◌++◌, ◌∷◌, ◌==◌, ◌&&◌, ℕ, List, [], Bool, true, false, Some, refl, sym, ap, subst, inl, inr, arith, append_assoc}
-use Rattle.std.specs.Prelude.{Option, is_some}
+use Rattle.std.proofs.Common.{◌≡◌, ◌∙◌, ◌+◌, ◌-◌, ◌*◌, ◌<◌, ◌≤◌, ◌++◌, ℕ, List, [], refl, sym, ap, subst, inl, inr, arith}
+use Rattle.std.specs.Prelude.{is_some}
 use Rattle.std.proofs.lemmas.Bool.{eq-eqb, eqb-true}
 use Rattle.dstm_core.specs.Events.{Event}
-use Rattle.dstm_core.specs.Runs.{Core, local}
-use Rattle.dstm_core.specs.State.{LocalState}
-use Rattle.dstm_core.specs.Traces.{IsPastOf, word}
+use Rattle.dstm_core.specs.Runs.{Core}
+use Rattle.dstm_core.specs.Traces.{word}
 use Rattle.dstm_core.specs.Words.Word.{StatusWord}
 use Rattle.dstm_core.specs.declared.shape.Shape.{Shape}
 use Rattle.dstm_core.proofs.Columns.{in_table}
@@ -18,7 +17,7 @@ use Rattle.dstm_words.specs.Seats.{Home}
 use Rattle.dstm_engine.specs.Callers.{Called, shape_of, state}
 use Rattle.dstm_store.specs.declared.law.StoreLaw.{StoreLaw}
 use Rattle.dstm_rounds.specs.Attempts.{HasCommitted}
-use Rattle.dstm_worker.specs.Tries.{keeps, AtRest, GoesOn, WasNotWasted}
+use Rattle.dstm_worker.specs.Tries.{AtRest, GoesOn, WasNotWasted}
 
 -- an attempt that has committed stays committed
 pub committed_stays : (shape : Shape) (later before : List Event) (c i : ℕ) → Core shape (later ++ before) →

@@ -1,22 +1,20 @@
 -- An attempt that opened nothing for writing has used no locator.
-use Rattle.std.proofs.Common.{◌≡◌, ◌≢◌, ◌∙◌, ◌⊎◌, ◌+◌, ◌++◌, ◌∷◌, ◌==◌, ◌&&◌, ℕ, List, [], Bool, true, false, length, refl, sym, ap, subst, inl, inr, arith, is_some, not, add-zero}
-use Rattle.std.specs.Prelude.{if◌then◌else◌, Option, None, Some}
+use Rattle.std.proofs.Common.{◌≡◌, ◌≢◌, ◌∙◌, ◌⊎◌, ◌+◌, ◌∷◌, ◌==◌, ◌&&◌, ℕ, List, [], Bool, true, false, length, refl, sym, ap, inl, inr, arith, is_some, not, add-zero}
+use Rattle.std.specs.Prelude.{if◌then◌else◌}
 use Rattle.std.proofs.lemmas.Bool.{cases_Bool, cases_eq, cond_both, cond-true, cond-false, eq-eqb, ne_eqb}
 use Rattle.std.proofs.lemmas.List.{length_push}
 use Rattle.dstm_core.proofs.Static.{local_other, local_own}
 use Rattle.dstm_core.specs.Counts.{is_begin}
 use Rattle.dstm_core.specs.Events.{Event}
-use Rattle.dstm_core.specs.Rules.{after, install, is_outside}
+use Rattle.dstm_core.specs.Rules.{after, is_outside}
 use Rattle.dstm_core.specs.Runs.{local}
 use Rattle.dstm_core.specs.State.{LocalState, given, next_locator, or_zero, res, version, write_of}
-use Rattle.dstm_core.specs.Traces.{events_of}
 use Rattle.dstm_core.specs.declared.event.Kind.{Kind}
 use Rattle.dstm_core.specs.declared.event.Kind.TheVariants.{Begin, Install, LookSelf, Pause, Quit, Rank, Resume, Stamp, Validating as ToValidating}
 use Rattle.dstm_core.specs.declared.shape.Shape.{Shape}
 use Rattle.dstm_core.specs.declared.state.Write.{Write}
-use Rattle.dstm_causes.proofs.OwnEvents.{after_own}
 use Rattle.dstm_order.specs.Calls.{Obeys, newest_of, state_after}
-use Rattle.dstm_order.specs.Order.{IsDue, has_begun, has_ranks, has_stamps, in_beginning, is_spent, just, rises}
+use Rattle.dstm_order.specs.Order.{IsDue, has_begun, has_ranks, has_stamps, is_spent, just, rises}
 use Rattle.dstm_order.specs.Order.Due.{Done, Step}
 use Rattle.dstm_order.specs.Tasks.Task.{Beginning, Leaving}
 use Rattle.rand_pcg.specs.Lcg.{Lcg}

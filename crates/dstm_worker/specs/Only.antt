@@ -39,7 +39,7 @@ pub record WasSpent (k n : Called StoreLaw) : Type 0 where
   pub spent : is_spent (shape_of k) (state k) ≡ true
 
 abbrev pub HasTriedAlone : Style → Layout → Job → (k n : Called StoreLaw) → OnlyTried → Type 0
-HasTriedAlone style layout job k n (tried.Done finished) = DidJob layout job k n finished
+HasTriedAlone style layout job k n (tried.Done finished) = DidJob style layout job k n finished
 HasTriedAlone style layout job k n tried.Blocked = StoodAlone style layout job k n
 HasTriedAlone style layout job k n tried.Spent = WasSpent k n
 

@@ -1,5 +1,5 @@
 -- What attempts at a job leave, as their caller's log tells.
-use Rattle.std.specs.Prelude.{◌≡◌, ◌⊎◌, ℕ, ◌+◌, ◌<◌, ◌≤◌, true, false, List, ◌∷◌, Option, Some}
+use Rattle.std.specs.Prelude.{◌≡◌, ◌⊎◌, ℕ, ◌+◌, ◌<◌, ◌≤◌, true, false, List, ◌∷◌, Some}
 use Rattle.dstm_model.specs.declared.value.Val.{Val}
 use Rattle.dstm_model.specs.declared.layout.Layout.{Layout}
 use Rattle.dstm_core.specs.Traces.{IsPastOf}
@@ -17,9 +17,9 @@ use Rattle.dstm_store.specs.Whole.{IsLawful}
 use Rattle.dstm_workload.specs.declared.workload.Job.{Job}
 use Rattle.dstm_rounds.specs.Answers.{IsAnsweredBy}
 use Rattle.dstm_rounds.specs.Attempts.{HasCommitted, quits, seen_last}
-use Rattle.dstm_rounds.specs.Records.{IsBlockedWith, IsSpent, StoodBlocked}
+use Rattle.dstm_rounds.specs.Records.{IsBlockedWith, IsSpent, KeepsFew, StoodBlocked}
 use Rattle.dstm_worker.specs.declared.style.Style.{Style}
-use Rattle.dstm_worker.specs.declared.style.Style.TheVariants.{Branches}
+use Rattle.dstm_worker.specs.declared.style.Style.TheVariants.{Branches, Loose}
 use Rattle.dstm_worker.specs.declared.trying.Finished.{Finished}
 use Rattle.dstm_worker.specs.declared.trying.Left.{Left}
 use Rattle.dstm_worker.specs.declared.trying.Left.TheVariants as left
@@ -58,13 +58,15 @@ pub record OneMore (k n : Called StoreLaw) : Type 0 where
   pub on : GoesOn k n
   pub begun : (state n).begun ≡ (state k).begun + 1
 
--- it did the job: its transaction is the newest one that the caller has committed
-pub record DidJob (layout : Layout) (job : Job) (k n : Called StoreLaw) (finished : Finished) : Type 0 where
+-- It did the job: its transaction is the newest one that the caller has committed. A loose one keeps few reads, where
+-- reads stay reads.
+pub record DidJob (style : Style) (layout : Layout) (job : Job) (k n : Called StoreLaw) (finished : Finished) : Type 0 where
   pub made : OneMore k n
   pub committed : HasCommitted (shape_of n) n.log n.number (state n).begun
   pub by : Committed
   pub newest : done n ≡ by ∷ done k
   pub is : IsDone layout job finished by
+  pub few_reads : style ≡ Loose → (shape_of n).all_write ≡ false → KeepsFew job by
 
 -- others kept it from that, which are there
 pub record WasKept (k n : Called StoreLaw) : Type 0 where
@@ -96,7 +98,7 @@ pub record IsSpentFrom (k n : Called StoreLaw) : Type 0 where
 
 -- how an attempt at a job ended
 abbrev pub HasTried : Style → (rechecks : ℕ) → Layout → Job → (k n : Called StoreLaw) → Tried → Type 0
-HasTried style rechecks layout job k n (tried.Done finished) = DidJob layout job k n finished
+HasTried style rechecks layout job k n (tried.Done finished) = DidJob style layout job k n finished
 HasTried style rechecks layout job k n tried.Again = WasKept k n
 HasTried style rechecks layout job k n tried.Spent = IsSpentFrom k n
 HasTried style rechecks layout job k n tried.Blocked = StoodAt style rechecks layout job k n
@@ -108,12 +110,13 @@ abbrev pub NoneWastedSince : (k n : Called StoreLaw) → ℕ → Type 0
 NoneWastedSince k n most = (i : ℕ) → (state k).begun < i → i ≤ most → WasNotWasted n i
 
 -- the last attempt did the job, and those before it were kept from that
-pub record HasDone (layout : Layout) (job : Job) (k n : Called StoreLaw) (finished : Finished) : Type 0 where
+pub record HasDone (style : Style) (layout : Layout) (job : Job) (k n : Called StoreLaw) (finished : Finished) : Type 0 where
   pub on : GoesOn k n
   pub none_wasted : NoneWastedSince k n (state n).begun
   pub by : Committed
   pub newest : done n ≡ by ∷ done k
   pub is : IsDone layout job finished by
+  pub few_reads : style ≡ Loose → (shape_of n).all_write ≡ false → KeepsFew job by
 
 -- no attempt is left
 pub record HasNoneLeft (k n : Called StoreLaw) : Type 0 where

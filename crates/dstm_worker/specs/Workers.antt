@@ -1,5 +1,5 @@
 -- What a worker has done in a round.
-use Rattle.std.specs.Prelude.{◌≡◌, ◌⊎◌, ℕ, ◌<◌, ◌≤◌, List, [], ◌∷◌, length, reverse, vec_capacity, All, Option}
+use Rattle.std.specs.Prelude.{◌≡◌, ◌⊎◌, ℕ, ◌<◌, ◌≤◌, false, List, [], ◌∷◌, length, reverse, zip, vec_capacity, All, Option}
 use Rattle.std.specs.List.{slice_get}
 use Rattle.std.specs.Option.{option_map}
 use Rattle.dstm_model.specs.declared.layout.Layout.{Layout}
@@ -9,15 +9,16 @@ use Rattle.dstm_answers.specs.Committed.{Committed}
 use Rattle.dstm_causes.specs.Disturbed.{Disturbed}
 use Rattle.dstm_words.specs.Seats.{Home}
 use Rattle.dstm_words.specs.declared.view.Terms.{Terms}
+use Rattle.dstm_engine.specs.Attempts as attempts
 use Rattle.dstm_engine.specs.Attempts.{done}
-use Rattle.dstm_engine.specs.Callers.{law_of, state}
+use Rattle.dstm_engine.specs.Callers.{law_of, shape_of, state}
 use Rattle.dstm_store.specs.declared.law.StoreLaw.{StoreLaw}
 use Rattle.dstm_workload.specs.declared.workload.Job.{Job}
 use Rattle.dstm_workload.specs.declared.workload.Workload.{Workload}
 use Rattle.dstm_report.specs.Turns.{job_at}
 use Rattle.dstm_rounds.specs.declared.options.Options.{Options}
 use Rattle.dstm_rounds.specs.Attempts.{HasCommitted}
-use Rattle.dstm_rounds.specs.Records.{IsSpent, Waited}
+use Rattle.dstm_rounds.specs.Records.{IsReleasing, IsSpent, KeepsFew, Waited}
 use Rattle.dstm_worker.specs.declared.trying.Finished.{Finished}
 use Rattle.dstm_worker.specs.declared.worker.Worker.{Worker}
 use Rattle.dstm_worker.specs.Tries.{AtRest, GoesOn, IsDone}
@@ -75,3 +76,6 @@ pub record HasRun (workload : Workload) (options : Options) (old new : Worker) :
   pub left : length new.done.items < length new.places.items
       → HadToStop workload (next_job workload.jobs new.places.items new.done.items)
       new.caller.home.terms new.caller.log new.caller.number
+  -- with early release, walks along the list keep few reads
+  pub few_reads : IsReleasing options workload.version → (shape_of new.caller).all_write ≡ false →
+      All (λ told. KeepsFew (job_at workload.jobs told.0) told.1) (zip new.places.items (reverse (attempts.done new.caller)))

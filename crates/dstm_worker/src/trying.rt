@@ -61,7 +61,7 @@ pub fn try_job(
     requires law { (law_of caller.old).layout ≡ layout.now }
     requires rest { AtRest caller.old }
     requires can { CanTry style layout.now job.now }
-    ensures done { IfOk result (HasDone layout.now job.now caller.old caller.new) }
+    ensures done { IfOk result (HasDone style layout.now job.now caller.old caller.new) }
     ensures left { IfErr result (HasLeft style layout.now job.now caller.old caller.new) }
 {
     let mut turns: u32 = 1;

@@ -1,4 +1,4 @@
-use Rattle.std.proofs.Common.{◌≡◌, Some, rules, ap, sym, ◌∙◌}
+use Rattle.std.proofs.Common.{◌≡◌, Some, rules, ap, ◌∙◌}
 use Rattle.dstm_report.specs.Lawful.{first_job}
 use Rattle.dstm_report.proofs.Rising.{first_own}
 use Rattle.dstm_alone.proofs.sweeping.least_left.Goals as goal

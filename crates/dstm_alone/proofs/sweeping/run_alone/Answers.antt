@@ -1,8 +1,6 @@
-use Rattle.std.proofs.Common.{◌≡◌, ◌+◌, ◌<◌, List, [], ◌∷◌, ◌++◌, false, length, Some, rules, arith, refl, ap, sym, subst, ◌∙◌}
-use Rattle.dstm_model.specs.declared.reply.Reply.{Reply}
+use Rattle.std.proofs.Common.{◌≡◌, ◌+◌, List, [], ◌∷◌, ◌++◌, false, length, rules, arith, refl, ap, sym, subst, ◌∙◌}
 use Rattle.dstm_model.specs.declared.reply.Reply.TheVariants.{Never}
 use Rattle.dstm_report.specs.declared.report.Row.{Row}
-use Rattle.dstm_report.specs.Lawful.{first_job}
 use Rattle.dstm_report.specs.Turns.{Turning}
 use Rattle.dstm_report.proofs.Rising.{length-without_first}
 use Rattle.dstm_alone.specs.Alone.{MayStep, Sweeps}

@@ -90,8 +90,8 @@ returns-in-Done-clause-stepped c first before begun some can sweeps =
     subst (λ (rs : List Row). Sweeps workload c.args.number first c.try_alone.new.caller before rs c.push_row.new.turns
     (c.args.worker + 1) true)
     (sym c.push_row.ensures.rows)
-    (step_done workload c.args.number c.args.stm.now first before begun can c.args.caller.now c.try_alone.new.caller rows
-    c.args.turns.now c.push_row.new.turns c.args.worker some job c.in-Done.finished row own c.in-Done.ensures
+    (step_done workload c.args.number c.args.stm.now first before begun can c.of-style.result c.args.caller.now
+    c.try_alone.new.caller rows c.args.turns.now c.push_row.new.turns c.args.worker some job c.in-Done.finished row own c.in-Done.ensures
     (first_own c.args.worker left job own) refl refl refl refl c.push_row.ensures.turns sweeps)
 
 pub returns-in-Blocked-clause-stepped : goal.returns-in-Blocked-clause-stepped

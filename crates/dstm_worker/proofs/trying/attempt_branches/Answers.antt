@@ -5,7 +5,6 @@ use Rattle.dstm_model.specs.Objects.{objects_of}
 use Rattle.dstm_mem.specs.Memory.{with_set}
 use Rattle.dstm_order.specs.declared.again.Again.{Again}
 use Rattle.dstm_words.specs.Seats.{Home}
-use Rattle.dstm_words.specs.Steps.{IsRunOf}
 use Rattle.dstm_engine.proofs.Made.{in_the_end, same_name, home, same_done}
 use Rattle.dstm_engine.proofs.Abandoning.{under_way}
 use Rattle.dstm_engine.specs.Callers.{Called, is_opened, shape_of, written}
@@ -51,7 +50,7 @@ returns-in-Ok-commit c =
     let nh : n.home ≡ t.home = ap (λ (x : Called _). x.home) kept in
     let one = one_more_by k b t _ _ _ _ begins place n nh (ap (λ (x : Called _). x.number) kept)
     c.in-Ok-commit.ensures.attempt (run_there t n nh c.in-Ok-commit.ensures.stays.steps.run) c.in-Ok-commit.ensures.number.over in
-    in_the_end (λ (x : Called _). DidJob c.args.layout.now c.args.job.now k x
+    in_the_end (λ (x : Called _). DidJob Branches c.args.layout.now c.args.job.now k x
     (record { number = c.in-Ok-commit.number; replies = c.in-Ran.replies })) _ _ _ _ (assumption c) name
     (did_branch k b t _ _ _ _ begins place c.args.layout.now c.args.job.now
     (record { number = c.in-Ok-commit.number; replies = c.in-Ran.replies }) n c.requires.rest c.requires.law nh one

@@ -11,11 +11,11 @@ pub returns-in-Ok : goal.returns-in-Ok
 returns-in-Ok c =
     let body = c.attempt.new.body in
     let task = c.attempt.ensures.task in
-    did_plain c.args.layout.now c.args.job.now c.args.caller.now c.attempt.new.caller
+    did_plain Plain c.args.layout.now c.args.job.now c.args.caller.now c.attempt.new.caller
     (record { number = c.in-Ok.done.number; replies = c.replies.result }) c.requires.rest c.requires.law
     c.in-Ok.ensures.attempts body (ap (λ (t : JobTask). t.layout) task ∙ c.make-body.ensures.layout)
     (ap (λ (t : JobTask). t.ops) task ∙ c.make-body.ensures.ops) c.replies.ensures
-    (c.requires.can.plain (λ is. cc)) c.in-Ok.ensures.settles
+    (c.requires.can.plain (λ is. cc)) c.in-Ok.ensures.settles (λ loose. absurd (cc))
 
 pub returns-in-Err-Again : goal.returns-in-Err-Again
 returns-in-Err-Again c =

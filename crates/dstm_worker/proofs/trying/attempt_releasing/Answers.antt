@@ -2,20 +2,22 @@ use Rattle.std.proofs.Common.{◌∙◌, ap, subst}
 use Rattle.dstm_store.specs.declared.job.JobTask.{JobTask}
 use Rattle.dstm_engine.specs.Endings.{EndsBy}
 use Rattle.dstm_engine.specs.declared.error.Ended.{Ended}
-use Rattle.dstm_worker.specs.declared.style.Style.TheVariants.{Plain}
+use Rattle.dstm_worker.specs.declared.style.Style.TheVariants.{Loose}
 use Rattle.dstm_worker.specs.Tries.{keeps}
-use Rattle.dstm_worker.proofs.Made.{did_plain, was_kept, is_spent_from}
+use Rattle.dstm_worker.proofs.Made.{did_plain, few_loose, was_kept, is_spent_from}
 use Rattle.dstm_worker.proofs.trying.attempt_releasing.Goals as goal
 
 pub returns-in-Ok : goal.returns-in-Ok
 returns-in-Ok c =
     let body = c.attempt_loose.new.body in
     let task = c.attempt_loose.ensures.task in
-    did_plain c.args.layout.now c.args.job.now c.args.caller.now c.attempt_loose.new.caller
+    did_plain Loose c.args.layout.now c.args.job.now c.args.caller.now c.attempt_loose.new.caller
     (record { number = c.in-Ok.done.number; replies = c.replies.result }) c.requires.rest c.requires.law
     c.in-Ok.ensures.attempts body (ap (λ (t : JobTask). t.layout) task ∙ c.make-body.ensures.layout)
     (ap (λ (t : JobTask). t.ops) task ∙ c.make-body.ensures.ops) c.replies.ensures
     (c.requires.can.plain (λ is. cc)) c.in-Ok.ensures.settles
+    (few_loose Loose c.args.job.now c.args.caller.now c.attempt_loose.new.caller body.task c.attempt_loose.ensures.table
+    (ap (λ (t : JobTask). t.ops) task ∙ c.make-body.ensures.ops) c.in-Ok.ensures.few)
 
 pub returns-in-Err-Again : goal.returns-in-Err-Again
 returns-in-Err-Again c =

@@ -1,7 +1,5 @@
-use Rattle.std.proofs.Common.{◌∙◌, arith, sym, ap, subst}
-use Rattle.std.specs.Prelude.{◌≡◌, ◌+◌, ◌<◌, Ok, true}
-use Rattle.dstm_engine.specs.Attempts.{sights}
-use Rattle.dstm_engine.specs.Callers.{is_live}
+use Rattle.std.proofs.Common.{◌∙◌, arith, ap}
+use Rattle.std.specs.Prelude.{◌+◌}
 use Rattle.dstm_worker.proofs.Rechecking.{recheck_sees}
 use Rattle.dstm_worker.proofs.trying.recheck_often.Goals as goal
 

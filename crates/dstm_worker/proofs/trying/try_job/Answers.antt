@@ -7,7 +7,7 @@ loop-finished-init c = (omega arith, waited_first c.args.caller.now c.requires.r
 
 pub returns-in-Done-clause-done : goal.returns-in-Done-clause-done
 returns-in-Done-clause-done c =
-    waited_done c.args.layout.now c.args.job.now c.args.caller.now c.loop-finished.caller c.attempt_job.new.caller
+    waited_done c.args.style c.args.layout.now c.args.job.now c.args.caller.now c.loop-finished.caller c.attempt_job.new.caller
     c.in-Done.finished c.loop-finished.invariant.1 c.in-Done.ensures
 
 pub returns-in-Spent-clause-left : goal.returns-in-Spent-clause-left

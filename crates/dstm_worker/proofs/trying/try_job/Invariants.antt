@@ -1,4 +1,4 @@
-use Rattle.std.proofs.Common.{◌≡◌, ◌-◌, ◌≤◌}
+use Rattle.std.proofs.Common.{◌-◌, ◌≤◌}
 use Rattle.dstm_engine.specs.Callers.{shape_of, state}
 use Rattle.dstm_worker.proofs.Retrying.{Waited}
 use Rattle.dstm_worker.proofs.trying.try_job.Given as goal

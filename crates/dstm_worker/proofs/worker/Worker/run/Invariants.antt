@@ -7,4 +7,4 @@ abbrev pub invariant-loop-at : goal.invariant-loop-at
 invariant-loop-at g l =
     (l.self.number ≡ l.fn.self.number) × (l.self.places ≡ l.fn.self.places)
     × (length l.self.done.items ≡ l.at) × (length l.self.places.items ≤ vec_capacity l.self.done)
-    × Stands l.workload l.fn.self.caller l.self.caller l.self.places.items l.self.done.items
+    × Stands l.workload l.style l.fn.self.caller l.self.caller l.self.places.items l.self.done.items
