@@ -1,0 +1,13 @@
+pub mod Jobs
+pub mod Numbers
+pub mod Going
+pub mod Merge
+pub mod Merged
+pub mod Workers
+pub mod Played
+pub mod Least
+pub mod Seating
+pub mod Ended
+pub mod Taking
+pub mod Sends
+pub mod Closed
