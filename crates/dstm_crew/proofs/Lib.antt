@@ -1,0 +1,4 @@
+pub mod Opens
+pub mod Closes
+pub mod Played
+pub mod Waits

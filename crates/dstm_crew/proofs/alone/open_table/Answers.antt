@@ -1,0 +1,29 @@
+use Rattle.std.proofs.Common.{rules, ap}
+use Rattle.dstm_store.specs.declared.law.StoreLaw.{StoreLaw}
+use Rattle.dstm_crew.proofs.Opens.{fresh_installed}
+use Rattle.dstm_worker.proofs.Fresh.{fresh_begun, fresh_done, fresh_rest}
+use Rattle.dstm_crew.proofs.alone.open_table.Goals as goal
+
+pub returns-in-Ok : goal.returns-in-Ok
+returns-in-Ok c =
+    let founder = c.in_ok-stm.founder in
+    let enrols = c.in-Ok.ensures.caller in
+    record {
+      law = ap (λ (l : StoreLaw). l.layout) c.in_ok-stm.ensures.law;
+      start = c.in_ok-stm.ensures.start;
+      valid = search rules;
+      objects = search rules;
+      only = search rules;
+      attempts = search rules;
+      locators = search rules;
+      manager = search rules;
+      reads = search rules;
+      founded = search rules;
+      out = search rules;
+      guests = search rules;
+      home = search rules;
+      rest = fresh_rest founder c.caller.new.self _ c.in-Ok.caller enrols;
+      none_begun = fresh_begun founder c.caller.new.self _ c.in-Ok.caller enrols;
+      none_installed = fresh_installed founder c.caller.new.self _ c.in-Ok.caller enrols;
+      none_done = fresh_done founder c.caller.new.self _ c.in-Ok.caller enrols;
+    }

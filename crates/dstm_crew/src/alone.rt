@@ -1,0 +1,111 @@
+ghost use Rattle.std.specs.Prelude.{◌≡◌, ◌<◌, ◌≤◌, ◌+◌, ◌==◌, ◌&&◌, not, false, length, vec_len, vec_capacity, IfOk, IfErr, IfSome};
+ghost use Rattle.std.specs.List.{slice_get};
+ghost use Rattle.dstm_workload.specs.Workload.{IsValidWorkload};
+ghost use Rattle.dstm_store.specs.Whole.{IsLawful};
+ghost use Rattle.dstm_rounds.specs.Rounds.{is_parallel};
+ghost use Rattle.dstm_rounds.specs.Running.{turns_behind, AddsClosed, Begins, HasPlayed};
+ghost use Rattle.dstm_crew.specs.Opened.{IsOpened, with_jobs};
+
+use dstm_alone::run_alone;
+use dstm_engine::{Caller, EnrolError, Founder, Stm};
+use dstm_model::Val;
+use dstm_report::{Row, Turns};
+use dstm_rounds::{Options, Round, shape_for};
+use dstm_store::StoreLaw;
+use dstm_workload::Workload;
+use std::alloc::{AllocError, Global};
+
+// The workers that have jobs left: how many they are, and the least of them.
+#[derive(Clone, Copy)]
+struct Waiting {
+    count: u32,
+    first: u32,
+}
+
+// Plays an alone round: one caller runs the first job left of each worker. The parameters are those of a parallel round.
+pub(crate) fn play_alone(
+    alloc: Global,
+    workload: &Workload,
+    options: &Options,
+    number: u64,
+    values: Vec<Val>,
+    turns: &mut Turns<'_>,
+    rows: &mut Vec<Row>,
+    rounds: &mut Vec<Round>,
+) -> Result<Vec<Val>, AllocError>
+    requires begins { Begins workload.now number rows.old.items values.items }
+    requires alone { is_parallel number ≡ false }
+    requires turns { turns.old ≡ turns_behind workload.now rows.old.items }
+    requires rows { vec_len rows.old + length turns.old.left ≤ vec_capacity rows.old }
+    requires record { vec_len rounds.old < vec_capacity rounds.old }
+    ensures played { IfOk result (λ left. HasPlayed workload.now options.now number rows.old.items rows.new.items
+        values.items left.items rounds.old.items rounds.new.items turns.new) }
+    ensures closed { IfErr result (λ _. AddsClosed workload.now.layout rounds.old.items rounds.new.items) }
+{
+    let waiting = count_waiting(turns, workload.workers);
+    let (stm, founder, caller) = open_table(alloc, workload, options, waiting, values)?;
+    let mut founder = founder;
+    let mut caller = caller;
+    run_alone(&stm, &mut caller, workload, options, number, turns, rows);
+    founder.retire(&stm, caller);
+    let (left, closed) = stm.close(alloc, founder)?;
+    rounds.push_reserved(Round::Dstm(closed));
+    Ok(left)
+}
+
+// The workers below this number that have jobs left.
+fn count_waiting(turns: &Turns<'_>, workers: u32) -> Waiting
+    ensures count { result.count ≡ length (with_jobs workers turns.now.left) }
+    ensures few { result.count ≤ workers }
+    ensures first { IfSome (slice_get (with_jobs workers turns.now.left) 0) (λ worker. result.first ≡ worker) }
+{
+    let mut count = 0;
+    let mut first = 0;
+    for worker in (0..workers).rev() {
+        if turns.first(worker).is_some() {
+            count += 1;
+            first = worker;
+        }
+    }
+    Waiting { count, first }
+}
+
+// A table on these values for one caller, which has the seed of the least worker that waits, and the caller.
+fn open_table(
+    alloc: Global,
+    workload: &Workload,
+    options: &Options,
+    waiting: Waiting,
+    values: Vec<Val>,
+) -> Result<(Stm<StoreLaw>, Founder<StoreLaw>, Caller<StoreLaw>), AllocError>
+    requires valid { IsValidWorkload workload.now }
+    requires lawful { IsLawful workload.now.layout values.items }
+    requires few { waiting.count ≤ 32 }
+    ensures { IfOk result (λ t. IsOpened workload.now options.now waiting.count values.items t.0 t.1 t.2) }
+{
+    let shape = shape_for(
+        &workload.layout,
+        values.len(),
+        1,
+        waiting.count as usize,
+        options.manager,
+        writes_all(options, workload.version),
+    );
+    let law = StoreLaw {
+        layout: workload.layout,
+    };
+    let (stm, mut founder) = Stm::make(alloc, values, shape, law)?;
+    let seed = options.seed.wrapping_add(u64::from(waiting.first));
+    match founder.caller(alloc, &stm, seed) {
+        Ok(caller) => Ok((stm, founder, caller)),
+        Err(EnrolError::Memory(error)) => Err(error),
+        Err(EnrolError::Full) => unreachable!(),
+    }
+}
+
+// Whether objects that are only read are opened for writing too: in version 3 reads stay reads.
+fn writes_all(options: &Options, version: u32) -> bool
+    ensures { result ≡ (options.now.all_write && not (version == 3)) }
+{
+    options.all_write && version != 3
+}
