@@ -2,6 +2,7 @@
 #![tactic(auto)]
 
 use dstm_cli::{Failure, dstm};
+use dstm_crew::{OpenGate, Rounds};
 use dstm_io::{StdSink, StdSource};
 use std::io::ErrorKind;
 use std::process::ExitCode;
@@ -16,7 +17,17 @@ fn main(rt: HostRuntime) -> ExitCode {
         Ok(words) => {
             let mut source = StdSource::make(rt.stdin());
             let mut out = StdSink::make(rt.stdout());
-            dstm(rt.alloc(), &words, &mut source, &mut out, &mut err)
+            let mut rounds = Rounds::make(rt.alloc());
+            dstm(
+                &rt,
+                rt.alloc(),
+                &words,
+                &mut source,
+                &mut out,
+                &mut err,
+                &OpenGate,
+                &mut rounds,
+            )
         }
         Err(error) => {
             let failure = match error.kind() {

@@ -1,23 +1,29 @@
 -- How a command ends, over what is known of its source and its sinks.
-use Rattle.std.proofs.Common.{◌≡◌, ◌≢◌, ℕ, true, List, Option, Some, None, Result, Ok, Err, is_ok, IfSome, refl, sym}
+use Rattle.std.proofs.Common.{◌≡◌, ℕ, true, List, [], ◌∷◌, Option, Some, None, Result, Ok, Err, is_ok, IfSome, refl, sym}
 use Rattle.std.proofs.Common.{ap, subst, ◌∙◌, ◌⊎◌, ◌<◌, ◌+◌, ◌++◌, length, take, append_assoc, inl, inr, true≢false, arith}
 use Rattle.std.proofs.Common.{length-append}
 use Rattle.std.proofs.lemmas.List.{take-append-le}
 use Rattle.std.proofs.Math.Seq.{take-append-add}
-use Rattle.std.specs.Prelude.{IsOk, OnOk, OnErr}
+use Rattle.std.specs.Prelude.{All, IsOk, OnOk, OnErr}
+use Rattle.std.specs.List.{AllByRecursion}
+use Rattle.std.proofs.lemmas.List.Elements.{All-from_recursion, recursion_from_All}
 use Rattle.std.specs.Io.KnownBytes.{Appends}
 use Rattle.std.proofs.KnownBytes.{Appends-trans}
 use Rattle.dstm_io.specs.Count.{Rises}
 use Rattle.dstm_io.specs.Sink.{AppendsPart}
 use Rattle.dstm_command.specs.declared.command.Command.{Command}
 use Rattle.dstm_command.specs.declared.command.Command.TheVariants.{Run, Check, Gen, Demo}
+use Rattle.dstm_model.specs.declared.layout.Layout.{Layout}
+use Rattle.dstm_rounds.specs.declared.round.Round.{Round}
+use Rattle.dstm_rounds.specs.Running.{IsClosed}
+use Rattle.dstm_rounds.specs.Sights.{SightsAgree}
 use Rattle.dstm_report.specs.declared.verdict.Verdict.{Verdict}
 use Rattle.dstm_report.specs.declared.verdict.Verdict.TheVariants.{Lawful, NotLawful}
 use Rattle.dstm_cli.specs.declared.failure.Failure.{Failure}
 use Rattle.dstm_cli.specs.declared.failure.Failure.TheVariants.{Usage, ReadFault, TooLong, Refused, NoReport}
 use Rattle.dstm_cli.specs.declared.failure.Failure.TheVariants.{ReportForm, WriteFault, Memory}
 use Rattle.dstm_cli.specs.Failure.{status_of, TakesOrFaults}
-use Rattle.dstm_cli.specs.Command.{run_input, check_input, reads_input, Refuses, verdict_status, Answers, CanAnswer}
+use Rattle.dstm_cli.specs.Command.{run_input, check_input, reads_input, Refuses, verdict_status, workload_for, Answers, CanAnswer, WereClosed}
 use Rattle.dstm_cli.specs.Ending.{Happened, EndsAs}
 
 -- a sink took a text, or met a fault
@@ -60,36 +66,85 @@ verdict_is (NotLawful line) status is = inr is
 -- ---- a command that answers
 
 -- its status is 0 or 6
-pub status_is : (command : Option Command) (left : Option (List ℕ) × Option (List ℕ)) (text : List ℕ) (status : ℕ) →
-    Answers command left text status → (status ≡ 0) ⊎ (status ≡ 6)
-status_is None left text status answers = absurd answers
-status_is (Some (Run options)) left text status answers = inl answers.0
-status_is (Some Check) left text status answers = verdict_is answers.0 status answers.1.1
-status_is (Some (Gen spec)) left text status answers = inl answers.0
-status_is (Some (Demo spec)) left text status answers = inl answers.0
+pub status_is : (command : Option Command) (left : Option (List ℕ) × Option (List ℕ)) (records : List Round) (text : List ℕ)
+    (status : ℕ) → Answers command left records text status → (status ≡ 0) ⊎ (status ≡ 6)
+status_is None left records text status answers = absurd answers
+status_is (Some (Run options)) left records text status answers = inl answers.0
+status_is (Some Check) left records text status answers = verdict_is answers.1.0 status answers.1.1.1
+status_is (Some (Gen spec)) left records text status answers = inl answers.1
+status_is (Some (Demo spec)) left records text status answers = inl answers.0
 
 ok-err : {A E : Type 0} (result : Result A E) (a : A) (e : E) → result ≡ Ok a → result ≡ Err e → ⊥
 ok-err result a e ok err = true≢false (ap is_ok (sym ok ∙ err))
 
 -- its input is not refused
-not_refused : (command : Option Command) (input : List ℕ) (after : Option (List ℕ)) (text : List ℕ) (status : ℕ)
-    (failure : Failure) →
-    Answers command (Some input, after) text status → Refuses command input failure → ⊥
-not_refused None input after text status failure answers refuses = absurd answers
-not_refused (Some (Run options)) input after text status failure answers refuses =
+not_refused : (command : Option Command) (input : List ℕ) (after : Option (List ℕ)) (records : List Round) (text : List ℕ)
+    (status : ℕ) (failure : Failure) →
+    Answers command (Some input, after) records text status → Refuses command input failure → ⊥
+not_refused None input after records text status failure answers refuses = absurd answers
+not_refused (Some (Run options)) input after records text status failure answers refuses =
     ok-err (run_input input) answers.1.0 failure answers.1.1.1.1 refuses
-not_refused (Some Check) input after text status failure answers refuses =
-    ok-err (check_input input) answers.1.2.0 failure answers.1.2.1.1.1 refuses
-not_refused (Some (Gen spec)) input after text status failure answers refuses = absurd refuses
-not_refused (Some (Demo spec)) input after text status failure answers refuses = absurd refuses
+not_refused (Some Check) input after records text status failure answers refuses =
+    ok-err (check_input input) answers.1.1.2.0 failure answers.1.1.2.1.1.1 refuses
+not_refused (Some (Gen spec)) input after records text status failure answers refuses = absurd refuses
+not_refused (Some (Demo spec)) input after records text status failure answers refuses = absurd refuses
 
-pub answered-refuses : (command : Option Command) (left after : Option (List ℕ)) (text : List ℕ) (status : ℕ)
-    (R : Type 0) →
-    Answers command (left, after) text status → IfSome left (λ input. (failure : Failure) →
+pub answered-refuses : (command : Option Command) (left after : Option (List ℕ)) (records : List Round) (text : List ℕ)
+    (status : ℕ) (R : Type 0) →
+    Answers command (left, after) records text status → IfSome left (λ input. (failure : Failure) →
     Refuses command input failure → R)
-answered-refuses command None after text status R answers = tt
-answered-refuses command (Some input) after text status R answers =
-    λ failure refuses. absurd (not_refused command input after text status failure answers refuses)
+answered-refuses command None after records text status R answers = tt
+answered-refuses command (Some input) after records text status R answers =
+    λ failure refuses. absurd (not_refused command input after records text status failure answers refuses)
+
+-- ---- the records that a command adds
+
+-- where there are none, they are those of closed rounds
+pub none_closed : (command : Option Command) (left : Option (List ℕ) × Option (List ℕ)) (records : List Round) →
+    records ≡ [] → WereClosed command left records
+none_closed None left records none = none
+none_closed (Some (Run options)) left records none = inl none
+none_closed (Some Check) left records none = none
+none_closed (Some (Gen spec)) left records none = none
+none_closed (Some (Demo spec)) left records none =
+    let layout = (workload_for spec).layout in
+    subst (All (IsClosed layout)) (sym none) (All-from_recursion (IsClosed layout) [] tt)
+
+each_sight : (layout : Layout) (records : List Round) → AllByRecursion (IsClosed layout) records →
+    AllByRecursion SightsAgree records
+each_sight layout [] closed = tt
+each_sight layout (round ∷ records) closed = (closed.0.sights, each_sight layout records closed.1)
+
+all_sights : (layout : Layout) (records : List Round) → All (IsClosed layout) records → All SightsAgree records
+all_sights layout records closed =
+    All-from_recursion SightsAgree records
+    (each_sight layout records (recursion_from_All (IsClosed layout) records closed))
+
+no_sights : (records : List Round) → records ≡ [] → All SightsAgree records
+no_sights records none = subst (All SightsAgree) (sym none) (All-from_recursion SightsAgree [] tt)
+
+-- what attempts saw in closed rounds
+pub closed_sights : (command : Option Command) (left : Option (List ℕ) × Option (List ℕ)) (records : List Round) →
+    WereClosed command left records → All SightsAgree records
+closed_sights None left records closed = no_sights records closed
+closed_sights (Some (Run options)) left records (inl none) = no_sights records none
+closed_sights (Some (Run options)) left records (inr closed) = all_sights closed.0.layout records closed.1.0
+closed_sights (Some Check) left records closed = no_sights records closed
+closed_sights (Some (Gen spec)) left records closed = no_sights records closed
+closed_sights (Some (Demo spec)) left records closed = all_sights (workload_for spec).layout records closed
+
+-- a failure that is told with 1, 2 or 3 has left no records
+pub failed-unplayed : (command : Option Command) (what : Happened) (failure : Failure) →
+    EndsAs command what (Err failure) →
+    (status_of failure ≡ 1) ⊎ (status_of failure ≡ 2) ⊎ (status_of failure ≡ 3) → what.records ≡ []
+failed-unplayed command what Usage ends is = ends.1.1
+failed-unplayed command what ReadFault ends is = ends.2.1
+failed-unplayed command what WriteFault ends is = absurd (omega (arith, is))
+failed-unplayed command what Memory ends is = absurd (omega (arith, is))
+failed-unplayed command what TooLong ends is = ends.2.1
+failed-unplayed command what (Refused refused) ends is = ends.2.1
+failed-unplayed command what (NoReport line) ends is = ends.2.1
+failed-unplayed command what (ReportForm line) ends is = ends.2.1
 
 -- ---- a command that fails
 
@@ -116,8 +171,8 @@ refused_so command (Some input) what Usage is ends =
     λ f refuses. absurd (subst (λ (c : Option Command). Refuses c input f) ends.0 refuses)
 refused_so command (Some input) what ReadFault is ends = λ f refuses. inr (inr ends.1)
 refused_so command (Some input) what WriteFault is ends =
-    λ f refuses. absurd (not_refused command input what.left_after ends.1.0 ends.1.1.0 f
-    (subst (λ (l : Option (List ℕ)). Answers command (l, what.left_after) ends.1.0 ends.1.1.0) is ends.1.1.1.0) refuses)
+    λ f refuses. absurd (not_refused command input what.left_after what.records ends.1.0 ends.1.1.0 f
+    (subst (λ (l : Option (List ℕ)). Answers command (l, what.left_after) what.records ends.1.0 ends.1.1.0) is ends.1.1.1.0) refuses)
 refused_so command (Some input) what Memory is ends = λ f refuses. inr (inl refl)
 refused_so command (Some input) what TooLong is ends = λ f refuses. inl refl
 refused_so command (Some input) what (Refused refused) is ends = λ f refuses. inl refl

@@ -1,4 +1,2 @@
-pub mod Steps
-pub mod Totals
 pub mod Ends
 pub mod Demo

@@ -1,13 +1,15 @@
 -- What the commands read, what they write, and with which status they end.
 use Rattle.std.specs.Prelude.{◌≡◌, ℕ, ◌+◌, Bool, true, false, nat_le, if◌then◌else◌, String, string_bytes, List, []}
-use Rattle.std.specs.Prelude.{◌++◌}
+use Rattle.std.specs.Prelude.{◌++◌, ◌⊎◌, All}
 use Rattle.std.specs.Prelude.{length, map, sum, Option, Some, None, IfSome, Result, Ok, Err, IsOk, codes, decimal}
 use Rattle.std.specs.Global.{Global}
 use Rattle.dstm_text.specs.Lines.{lines_of, split_lines}
 use Rattle.dstm_command.specs.declared.command.Command.{Command}
 use Rattle.dstm_command.specs.declared.command.Command.TheVariants.{Run, Check, Gen, Demo}
 use Rattle.dstm_command.specs.declared.command.GenSpec.{GenSpec}
+use Rattle.dstm_command.specs.declared.command.RunOptions.{RunOptions}
 use Rattle.dstm_command.specs.CommandLine.{command_of}
+use Rattle.dstm_core.specs.declared.shape.Manager.TheVariants.{Polka}
 use Rattle.dstm_gen.specs.Words.{words_of_seed}
 use Rattle.dstm_gen.specs.Generated.{generated}
 use Rattle.dstm_workload.specs.declared.workload.Workload.{Workload}
@@ -20,6 +22,10 @@ use Rattle.dstm_report.specs.declared.verdict.Verdict.TheVariants.{Lawful, NotLa
 use Rattle.dstm_report.specs.Reading.{report_of}
 use Rattle.dstm_report.specs.Text.{report_text}
 use Rattle.dstm_report.specs.Lawful.{IsLawful, Tells}
+use Rattle.dstm_rounds.specs.declared.options.Options.{Options}
+use Rattle.dstm_rounds.specs.declared.round.Round.{Round}
+use Rattle.dstm_rounds.specs.Records.{StandFor}
+use Rattle.dstm_rounds.specs.Running.{IsClosed}
 use Rattle.dstm_cli.specs.declared.failure.Failure.{Failure}
 use Rattle.dstm_cli.specs.declared.failure.Failure.TheVariants.{TooLong, Refused, NoReport, ReportForm}
 
@@ -80,11 +86,28 @@ Refuses (Some (Run options)) input failure = run_input input ≡ Err failure
 Refuses (Some Check) input failure = check_input input ≡ Err failure
 Refuses command input failure = ⊥
 
+-- ---- how a command runs a workload
+
+-- as the words of `run` say
+abbrev pub options_of : RunOptions → Options
+options_of options = record {
+  manager = options.manager;
+  seed = options.seed;
+  all_write = options.all_write;
+  release = options.release;
+}
+
+-- as `run` does where its words say nothing
+abbrev pub default_options : Options
+default_options = record { manager = Polka; seed = 0; all_write = false; release = false }
+
 -- ---- what a command writes
 
--- the text is that of a report that is lawful for the workload
-abbrev pub IsReportOf : Workload → List ℕ → Type 0
-IsReportOf workload text = (report : Report) × (IsLawful workload report × (text ≡ report_text report))
+-- the text is that of a report that is lawful for the workload, and the records stand for the report
+abbrev pub IsReportOf : Workload → Options → List Round → List ℕ → Type 0
+IsReportOf workload options records text =
+    (report : Report) × (IsLawful workload report × StandFor workload options records report
+    × (text ≡ report_text report))
 
 abbrev pub verdict_text : Verdict → List ℕ
 verdict_text Lawful = codes "lawful\n"
@@ -101,10 +124,12 @@ abbrev pub demo_text : ℕ → ℕ → Verdict → List ℕ
 demo_text count total verdict =
     codes "transactions " ++ decimal count ++ codes "\ntotal " ++ decimal total ++ codes "\n" ++ verdict_text verdict
 
--- The text of `demo`. There is a lawful report for the generated workload, and its balances have this sum.
-pub record IsDemo (spec : GenSpec) (text : List ℕ) : Type 0 where
+-- The text of `demo`. There is a lawful report for the generated workload, for which the records stand, and its balances
+-- have this sum.
+pub record IsDemo (spec : GenSpec) (records : List Round) (text : List ℕ) : Type 0 where
   pub report : Report
   pub lawful : IsLawful (workload_for spec) report
+  pub stand : StandFor (workload_for spec) default_options records report
   pub balances : IfSome report.bank (λ bank. sum bank ≡ 8000)
   pub is : text ≡ demo_text spec.count 8000 Lawful
 
@@ -112,9 +137,9 @@ pub record IsDemo (spec : GenSpec) (text : List ℕ) : Type 0 where
 abbrev pub OfAll : Option (List ℕ) × Option (List ℕ) → (List ℕ → Type 0) → Type 0
 OfAll left P = IfSome left.0 (λ input. (left.1 ≡ Some []) × P input)
 
--- the input stands for a workload, and the text is that of a lawful report on it
-abbrev pub HasRun : Option (List ℕ) × Option (List ℕ) → List ℕ → Type 0
-HasRun left text = (workload : Workload) × (IsReportOf workload text ×
+-- the input stands for a workload, the text is that of a lawful report on it, and the records stand for the report
+abbrev pub HasRun : Options → Option (List ℕ) × Option (List ℕ) → List Round → List ℕ → Type 0
+HasRun options left records text = (workload : Workload) × (IsReportOf workload options records text ×
     OfAll left (λ input. run_input input ≡ Ok workload))
 
 -- the input stands for a workload and a report, and the text and the status are those of the verdict on it
@@ -123,13 +148,24 @@ HasJudged left text status =
     (verdict : Verdict) × ((text ≡ verdict_text verdict) × (status ≡ verdict_status verdict)
     × ((case : Workload × Report) × (Tells case.0 case.1 verdict × OfAll left (λ input. check_input input ≡ Ok case))))
 
--- The command writes this text, and then ends with this status. Of its source, `left` are the bytes before and after.
-abbrev pub Answers : Option Command → Option (List ℕ) × Option (List ℕ) → List ℕ → ℕ → Type 0
-Answers None left text status = ⊥
-Answers (Some (Run options)) left text status = (status ≡ 0) × HasRun left text
-Answers (Some Check) left text status = HasJudged left text status
-Answers (Some (Gen spec)) left text status = (status ≡ 0) × (text ≡ text_of_workload (workload_for spec))
-Answers (Some (Demo spec)) left text status = (status ≡ 0) × IsDemo spec text
+-- The command writes this text, and then ends with this status. Of its source, `left` are the bytes before and after;
+-- `records` are those of the rounds that it has added.
+abbrev pub Answers : Option Command → Option (List ℕ) × Option (List ℕ) → List Round → List ℕ → ℕ → Type 0
+Answers None left records text status = ⊥
+Answers (Some (Run options)) left records text status = (status ≡ 0) × HasRun (options_of options) left records text
+Answers (Some Check) left records text status = (records ≡ []) × HasJudged left text status
+Answers (Some (Gen spec)) left records text status =
+    (records ≡ []) × (status ≡ 0) × (text ≡ text_of_workload (workload_for spec))
+Answers (Some (Demo spec)) left records text status = (status ≡ 0) × IsDemo spec records text
+
+-- The records are those of rounds that were closed, on tables for the workload that the command runs. Where it runs none,
+-- or its input was not read, there are none.
+abbrev pub WereClosed : Option Command → Option (List ℕ) × Option (List ℕ) → List Round → Type 0
+WereClosed (Some (Run options)) left records =
+    (records ≡ []) ⊎ ((workload : Workload) × (All (IsClosed workload.layout) records
+    × OfAll left (λ input. run_input input ≡ Ok workload)))
+WereClosed (Some (Demo spec)) left records = All (IsClosed (workload_for spec).layout) records
+WereClosed command left records = records ≡ []
 
 -- ---- when a command answers
 

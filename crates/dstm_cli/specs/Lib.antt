@@ -1,4 +1,3 @@
-pub mod Running
 pub mod Failure
 pub mod Command
 pub mod Ending

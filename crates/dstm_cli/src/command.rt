@@ -1,17 +1,21 @@
-ghost use Rattle.std.specs.Prelude.{List, ℕ, Err, ◌≡◌, ◌≢◌, ◌⊎◌, ◌≤◌, false, Some, None, IfSome, IfOk};
+ghost use Rattle.std.specs.Prelude.{List, [], ℕ, Err, ◌≡◌, ◌≢◌, ◌⊎◌, ◌≤◌, ◌++◌, false, All, Some, None, IfSome, IfOk};
 ghost use Rattle.std.specs.Io.KnownBytes.{Appends, Keeps};
 ghost use Rattle.dstm_io.specs.Count.{Rises};
 ghost use Rattle.dstm_io.specs.Sink.{AppendsPart};
+ghost use Rattle.dstm_rounds.specs.Running.{added};
+ghost use Rattle.dstm_rounds.specs.Sights.{SightsAgree};
 ghost use Rattle.dstm_cli.specs.declared.failure.Failure.{Failure as TheFailure};
 ghost use Rattle.dstm_cli.specs.Failure.{message_of, status_of, TakesOrFaults};
-ghost use Rattle.dstm_cli.specs.Command.{asked, reads_input, Refuses, Answers, CanAnswer};
+ghost use Rattle.dstm_cli.specs.Command.{asked, reads_input, Refuses, Answers, CanAnswer, WereClosed};
 ghost use Rattle.dstm_cli.specs.Ending.{EndsAs};
 
 use crate::failure::Failure;
 use crate::output::output_of;
 use dstm_command::read_words;
+use dstm_crew::{Gate, Rounds};
 use dstm_io::{Sink, Source, write_all};
 use std::alloc::Global;
+use std::thread::Threads;
 
 /// Runs the command that `words` ask for; the first word is the program's name. What fails is told on
 /// `err` in one line, and by the status that is answered:
@@ -27,19 +31,33 @@ use std::alloc::Global;
 /// `run` reads a workload and writes the report of a run; `check` reads a workload, the line `---` and a
 /// report, and writes whether it is lawful; `gen` writes a generated workload; `demo` runs a generated
 /// workload, checks the report, and writes how that went.
-pub fn dstm<S: Source, K: Sink, E: Sink>(
+///
+/// The record of each round that was closed is put behind `rounds`. In round 0 each worker passes the gate.
+pub fn dstm<R: Threads + Sync, S: Source, K: Sink, E: Sink, G: Gate + Sync>(
+    rt: &R,
     alloc: Global,
     words: &[String],
     source: &mut S,
     out: &mut K,
     err: &mut E,
+    gate: &G,
+    rounds: &mut Rounds,
 ) -> u8
     ensures statuses { result ≤ 6 }
 
-    // 0 and 6: `out` took the text that the command answers, whole.
+    // 0 and 6: `out` took the text that the command answers, whole. The records that were added stand for its report.
     ensures done { (result ≡ 0) ⊎ (result ≡ 6) → (text : List ℕ) × (
-        Answers (asked words.now) (S.left source.old, S.left source.new) text result
+        Answers (asked words.now) (S.left source.old, S.left source.new) (added rounds.old rounds.new) text result
         × Appends (K.taken out.old) (K.taken out.new) text) }
+
+    // Whatever happens, the records that were there stay. Those that were added are of closed rounds of this command, and
+    // in each of their logs whatever an attempt has seen are values of one moment.
+    ensures behind { rounds.new ≡ rounds.old ++ added rounds.old rounds.new }
+    ensures closed { WereClosed (asked words.now) (S.left source.old, S.left source.new) (added rounds.old rounds.new) }
+    ensures sights { All SightsAgree (added rounds.old rounds.new) }
+
+    // 1 to 3: no record was added.
+    ensures unplayed { (result ≡ 1) ⊎ (result ≡ 2) ⊎ (result ≡ 3) → added rounds.old rounds.new ≡ [] }
 
     // 1: only where the words are no command.
     ensures usage { result ≡ 1 → asked words.now ≡ None }
@@ -52,7 +70,7 @@ pub fn dstm<S: Source, K: Sink, E: Sink>(
     ensures read_fault { result ≡ 3 → Rises (S.faults source.old) (S.faults source.new) }
     ensures write_fault { result ≡ 4 → Rises (K.faults out.old) (K.faults out.new) }
     ensures part { result ≡ 4 → (text : List ℕ) × ((status : ℕ) × (
-        Answers (asked words.now) (S.left source.old, S.left source.new) text status
+        Answers (asked words.now) (S.left source.old, S.left source.new) (added rounds.old rounds.new) text status
         × AppendsPart (K.taken out.old) (K.taken out.new) text)) }
 
     // The other statuses leave `out` as it was.
@@ -77,7 +95,7 @@ pub fn dstm<S: Source, K: Sink, E: Sink>(
         (result ≡ 0) ⊎ (result ≡ 6) ⊎ (result ≡ 5)
         ⊎ Rises (S.faults source.old) (S.faults source.new) ⊎ Rises (K.faults out.old) (K.faults out.new) }
 {
-    match obey(alloc, words, source, out) {
+    match obey(rt, alloc, words, source, out, gate, rounds) {
         Ok(status) => status,
         Err(failure) => {
             let _ = failure.write_to(err);
@@ -86,11 +104,15 @@ pub fn dstm<S: Source, K: Sink, E: Sink>(
     }
 }
 
-fn obey<S: Source, K: Sink>(
+// The same, but for what is told on `err`.
+fn obey<R: Threads + Sync, S: Source, K: Sink, G: Gate + Sync>(
+    rt: &R,
     alloc: Global,
     words: &[String],
     source: &mut S,
     out: &mut K,
+    gate: &G,
+    rounds: &mut Rounds,
 ) -> Result<u8, Failure>
     ensures ending { EndsAs (asked words.now) (record {
       left_before = S.left source.old;
@@ -101,15 +123,18 @@ fn obey<S: Source, K: Sink>(
       taken_after = K.taken out.new;
       write_faults_before = K.faults out.old;
       write_faults_after = K.faults out.new;
+      records = added rounds.old rounds.new;
     }) result }
     ensures no_read_fault { result ≢ Err TheFailure.ReadFault → S.faults source.new ≡ S.faults source.old }
     ensures no_write_fault { result ≢ Err TheFailure.WriteFault → K.faults out.new ≡ K.faults out.old }
     ensures written { IfOk result (λ status. (status ≡ 0) ⊎ (status ≡ 6)) }
     ensures unread { reads_input (asked words.now) ≡ false →
         Keeps (S.left source.old) (S.left source.new) × (S.faults source.new ≡ S.faults source.old) }
+    ensures behind { rounds.new ≡ rounds.old ++ added rounds.old rounds.new }
+    ensures closed { WereClosed (asked words.now) (S.left source.old, S.left source.new) (added rounds.old rounds.new) }
 {
     let command = read_words(alloc, words)?;
-    let output = output_of(alloc, &command, source)?;
+    let output = output_of(rt, alloc, &command, source, gate, rounds)?;
     write_all(out, &output.text)?;
     Ok(output.status)
 }

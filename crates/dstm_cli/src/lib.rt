@@ -6,7 +6,6 @@ mod failure;
 mod input;
 mod laws;
 mod output;
-mod running;
 
 pub use command::dstm;
 pub use failure::Failure;

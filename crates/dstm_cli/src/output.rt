@@ -1,14 +1,18 @@
-ghost use Rattle.std.specs.Prelude.{◌≡◌, ◌≤◌, ◌<◌, ◌^◌, ◌++◌, ◌∷◌, [], length, sum, false, true, Some, Ok, Err, IfSome, IfOk};
-ghost use Rattle.std.specs.Prelude.{◌≢◌, ◌⊎◌, IfErr, OnOk};
+ghost use Rattle.std.specs.Prelude.{◌≡◌, ◌≤◌, ◌<◌, ◌*◌, ◌^◌, ◌++◌, ◌∷◌, [], length, sum, false, true, Some, Ok, Err, IfSome, IfOk};
+ghost use Rattle.std.specs.Prelude.{◌≢◌, ◌⊎◌, All, IfErr, OnOk};
 ghost use Rattle.std.specs.Io.KnownBytes.{Keeps};
 ghost use Rattle.dstm_command.specs.CommandLine.{IsSmall, IsSmallCommand};
 ghost use Rattle.dstm_workload.specs.declared.workload.Workload.{Workload as TheWorkload};
+ghost use Rattle.dstm_workload.specs.Workload.{IsValidWorkload};
 ghost use Rattle.dstm_workload.specs.Writing.{text_of_workload};
 ghost use Rattle.dstm_report.specs.declared.report.Report.{Report as TheReport};
-ghost use Rattle.dstm_report.specs.Lawful.{Tells};
+ghost use Rattle.dstm_report.specs.Lawful.{IsLawful, Tells};
+ghost use Rattle.dstm_rounds.specs.Running.{added, IsClosed};
 ghost use Rattle.dstm_cli.specs.Command.{
   run_input,
   check_input,
+  default_options,
+  options_of,
   reads_input,
   Refuses,
   workload_for,
@@ -20,19 +24,22 @@ ghost use Rattle.dstm_cli.specs.Command.{
   HasRun,
   HasJudged,
   Answers,
+  WereClosed,
 };
 ghost use Rattle.dstm_cli.specs.Ending.{Fails};
 
 use crate::failure::Failure;
 use crate::input::{CHECK_LIMIT, RUN_LIMIT, read_case, read_input};
-use crate::running::run_jobs;
-use dstm_command::{Command, GenSpec};
+use dstm_command::{Command, GenSpec, RunOptions};
+use dstm_core::Manager;
+use dstm_crew::{Gate, Options, Rounds, run_crew};
 use dstm_gen::generate;
 use dstm_io::Source;
-use dstm_report::{Report, Verdict, check, render};
+use dstm_report::{Report, Verdict, balances_stay, check, render};
 use dstm_text::push_decimal;
-use dstm_workload::{read_workload, write_workload};
+use dstm_workload::{Workload, read_workload, write_workload};
 use std::alloc::{AllocError, Global};
+use std::thread::Threads;
 
 // What a command writes, and the status with which the program then ends.
 #[derive(Debug, Drop)]
@@ -51,48 +58,89 @@ impl Output {
 }
 
 // Does what a command asks for, but for the writing.
-pub(crate) fn output_of<S: Source>(
+pub(crate) fn output_of<R: Threads + Sync, S: Source, G: Gate + Sync>(
+    rt: &R,
     alloc: Global,
     command: &Command,
     source: &mut S,
+    gate: &G,
+    rounds: &mut Rounds,
 ) -> Result<Output, Failure>
     requires { IsSmallCommand command.now }
-    ensures output { IfOk result (λ output.
-        Answers (Some command.now) (S.left source.old, S.left source.new) output.text.items output.status) }
+    ensures output { IfOk result (λ output. Answers (Some command.now) (S.left source.old, S.left source.new)
+        (added rounds.old rounds.new) output.text.items output.status) }
     ensures failed { IfErr result (λ failure. (failure ≡ Failure.Memory)
         ⊎ ((reads_input (Some command.now) ≡ true) × Fails (Refuses (Some command.now))
         (S.left source.old) (S.faults source.old) (S.faults source.new) failure)) }
     ensures no_fault { result ≢ Err Failure.ReadFault → S.faults source.new ≡ S.faults source.old }
     ensures unread { reads_input (Some command.now) ≡ false →
         Keeps (S.left source.old) (S.left source.new) × (S.faults source.new ≡ S.faults source.old) }
+    ensures behind { rounds.new ≡ rounds.old ++ added rounds.old rounds.new }
+    ensures closed { WereClosed (Some command.now) (S.left source.old, S.left source.new) (added rounds.old rounds.new) }
+    ensures unplayed { IfErr result (λ failure. failure ≢ Failure.Memory → added rounds.old rounds.new ≡ []) }
 {
     match command {
-        Command::Run(_) => Ok(Output::done(run(alloc, source)?)),
+        Command::Run(options) => Ok(Output::done(run(rt, alloc, options, source, gate, rounds)?)),
         Command::Check => judge(alloc, source),
         Command::Gen(spec) => Ok(Output::done(workload_text(alloc, spec)?)),
-        Command::Demo(spec) => Ok(Output::done(demo_text(alloc, spec)?)),
+        Command::Demo(spec) => Ok(Output::done(demo_text(rt, alloc, spec, gate, rounds)?)),
     }
 }
 
 // The text of a report on the workload that a source holds.
-fn run<S: Source>(alloc: Global, source: &mut S) -> Result<Vec<u8>, Failure>
-    ensures text { IfOk result (λ text. HasRun (S.left source.old, S.left source.new) text.items) }
+fn run<R: Threads + Sync, S: Source, G: Gate + Sync>(
+    rt: &R,
+    alloc: Global,
+    options: &RunOptions,
+    source: &mut S,
+    gate: &G,
+    rounds: &mut Rounds,
+) -> Result<Vec<u8>, Failure>
+    ensures text { IfOk result (λ text. HasRun (options_of options.now) (S.left source.old, S.left source.new)
+        (added rounds.old rounds.new) text.items) }
     ensures failed { IfErr result (Fails (λ input failure. run_input input ≡ Err failure)
         (S.left source.old) (S.faults source.old) (S.faults source.new)) }
     ensures no_fault { result ≢ Err Failure.ReadFault → S.faults source.new ≡ S.faults source.old }
+    ensures behind { rounds.new ≡ rounds.old ++ added rounds.old rounds.new }
+    ensures closed { WereClosed (Some (Command.Run options.now)) (S.left source.old, S.left source.new)
+        (added rounds.old rounds.new) }
+    ensures unplayed { IfErr result (λ failure. failure ≢ Failure.Memory → added rounds.old rounds.new ≡ []) }
 {
     let input = read_input(alloc, source, RUN_LIMIT)?;
-    run_text(alloc, &input)
+    run_text(rt, alloc, &input, &options_from(options), gate, rounds)
 }
 
-fn run_text(alloc: Global, input: &[u8]) -> Result<Vec<u8>, Failure>
+// The options as the crew takes them.
+fn options_from(options: &RunOptions) -> Options
+    ensures { result ≡ options_of options.now }
+{
+    Options {
+        manager: options.manager,
+        seed: options.seed,
+        all_write: options.all_write,
+        release: options.release,
+    }
+}
+
+fn run_text<R: Threads + Sync, G: Gate + Sync>(
+    rt: &R,
+    alloc: Global,
+    input: &[u8],
+    options: &Options,
+    gate: &G,
+    rounds: &mut Rounds,
+) -> Result<Vec<u8>, Failure>
     requires { length input.now ≤ RUN_LIMIT }
-    ensures text { IfOk result (λ text.
-        (workload : TheWorkload) × ((run_input input.now ≡ Ok workload) × IsReportOf workload text.items)) }
+    ensures text { IfOk result (λ text. (workload : TheWorkload) × ((run_input input.now ≡ Ok workload)
+        × IsReportOf workload options.now (added rounds.old rounds.new) text.items)) }
     ensures failed { IfErr result (Fails (λ text failure. run_input text ≡ Err failure) (Some input.now) 0 0) }
+    ensures behind { rounds.new ≡ rounds.old ++ added rounds.old rounds.new }
+    ensures closed { (added rounds.old rounds.new ≡ []) ⊎ ((workload : TheWorkload)
+        × (All (IsClosed workload.layout) (added rounds.old rounds.new) × (run_input input.now ≡ Ok workload))) }
+    ensures unplayed { IfErr result (λ failure. failure ≢ Failure.Memory → added rounds.old rounds.new ≡ []) }
 {
     let workload = read_workload(alloc, input)?;
-    let report = run_jobs(alloc, &workload)?;
+    let report = run_crew(rt, alloc, &workload, options, gate, rounds)?;
     Ok(render(alloc, &report)?)
 }
 
@@ -157,14 +205,29 @@ fn workload_text(alloc: Global, spec: &GenSpec) -> Result<Vec<u8>, AllocError>
 }
 
 // Runs a generated workload and checks the report.
-fn demo_text(alloc: Global, spec: &GenSpec) -> Result<Vec<u8>, AllocError>
+fn demo_text<R: Threads + Sync, G: Gate + Sync>(
+    rt: &R,
+    alloc: Global,
+    spec: &GenSpec,
+    gate: &G,
+    rounds: &mut Rounds,
+) -> Result<Vec<u8>, AllocError>
     requires { IsSmall spec.now }
-    ensures { IfOk result (λ text. IsDemo spec.now text.items) }
+    ensures text { IfOk result (λ text. IsDemo spec.now (added rounds.old rounds.new) text.items) }
+    ensures behind { rounds.new ≡ rounds.old ++ added rounds.old rounds.new }
+    ensures closed { All (IsClosed (workload_for spec.now).layout) (added rounds.old rounds.new) }
 {
+    let options = Options {
+        manager: Manager::Polka,
+        seed: 0,
+        all_write: false,
+        release: false,
+    };
     let workload = generate(alloc, spec.seed, spec.count, spec.workers)?;
-    let report = run_jobs(alloc, &workload)?;
+    let report = run_crew(rt, alloc, &workload, &options, gate, rounds)?;
     let verdict = check(alloc, &workload, &report)?;
-    tell(alloc, report.count, total(&report), verdict)
+    let total = total(&workload, &report);
+    tell(alloc, report.count, total, verdict)
 }
 
 fn tell(alloc: Global, count: u64, total: u64, verdict: Verdict) -> Result<Vec<u8>, AllocError>
@@ -179,11 +242,13 @@ fn tell(alloc: Global, count: u64, total: u64, verdict: Verdict) -> Result<Vec<u
     Ok(text)
 }
 
-// The sum of the balances that a report tells.
-fn total(report: &Report) -> u64
-    requires { IfSome report.now.bank (λ bank. sum bank < 2 ^ 64) }
-    ensures { IfSome report.now.bank (λ bank. result ≡ sum bank) }
+// The sum of the balances that a report tells, which is that of the balances that the workload's accounts were opened with.
+fn total(workload: &Workload, report: &Report) -> u64
+    requires valid { IsValidWorkload workload.now }
+    requires lawful { IsLawful workload.now report.now }
+    ensures { result ≡ workload.now.layout.accounts * workload.now.layout.opening }
 {
+    balances_stay();
     match &report.bank {
         Some(bank) => bank.as_slice().iter().sum(),
         None => 0,

@@ -1,8 +1,10 @@
 use super::*;
+use dstm_crew::{OpenGate, Rounds};
 use dstm_io::{MemorySink, MemorySource};
 use std::alloc::{AllocError, Global};
 use std::process::Abort;
 use std::test::Fail;
+use std::thread::Threads;
 
 // The calls of a source and of `out` that fail, and how many bytes `out` has room for.
 #[derive(Clone, Copy)]
@@ -26,7 +28,8 @@ struct Ran {
     err: Vec<u8>,
 }
 
-fn run_on(
+fn run_on<R: Threads + Sync>(
+    rt: &R,
     alloc: Global,
     line: &str,
     input: &[u8],
@@ -41,7 +44,17 @@ fn run_on(
     let mut err = MemorySink::make(alloc, &[])?;
     out.reserve(devices.room)?;
     err.reserve(100)?;
-    let status = dstm(alloc, &words, &mut source, &mut out, &mut err);
+    let mut rounds = Rounds::make(alloc);
+    let status = dstm(
+        rt,
+        alloc,
+        &words,
+        &mut source,
+        &mut out,
+        &mut err,
+        &OpenGate,
+        &mut rounds,
+    );
     Ok(Ran {
         status,
         out: Vec::from_slice(alloc, out.taken())?,
@@ -49,14 +62,14 @@ fn run_on(
     })
 }
 
-fn expect(
-    rt: &impl Abort,
+fn expect<R: Abort + Threads + Sync>(
+    rt: &R,
     alloc: Global,
     line: &str,
     input: &[u8],
     want: (u8, &str, &str),
 ) -> Result<(), AllocError> {
-    let ran = run_on(alloc, line, input, SOUND)?;
+    let ran = run_on(rt, alloc, line, input, SOUND)?;
     assert_eq!(rt;
         ran.out.as_slice(),
         want.1.as_bytes(),
@@ -123,17 +136,13 @@ fn workloads_are_run(rt: HostRuntime) -> Result<(), Fail> {
         ),
         (
             "dstm 3\nbank 1 5\ntx 0 await balance 0 6\ntx 0 balance 0\n",
-            "dstm report 3\n3 0 0.0 never\n4 0 0.1 5\nbank 5\nend 2\n",
+            "dstm report 3\n3 0 1.0 never\n4 0 1.1 5\nbank 5\nend 2\n",
         ),
         (
             "dstm 3\nbank 2 100\n\
              tx 0 await balance 0 150 ; transfer 0 1 1 orelse transfer 1 0 60\n\
              tx 0 await balance 0 150 ; total\n",
             "dstm report 3\n3 0 0.0 ok\n4 0 0.1 true ; 200\nbank 160 40\nend 2\n",
-        ),
-        (
-            AWAITS,
-            "dstm report 3\n5 1 0.0 ok\n4 0 0.1 true ; ok\nbank 190 10\nend 2\n",
         ),
     ];
     for (input, report) in rows {
@@ -146,6 +155,7 @@ fn workloads_are_run(rt: HostRuntime) -> Result<(), Fail> {
         )?;
     }
     let large = run_on(
+        &rt,
         rt.alloc(),
         "dstm run",
         b"dstm 1\nbank 4096 1000000000\ntx 0 total\n",
@@ -157,6 +167,22 @@ fn workloads_are_run(rt: HostRuntime) -> Result<(), Fail> {
             .out
             .starts_with(b"dstm report 1\n3 0 0.0 4096000000000\nbank 1000000000 ")
     );
+    Ok(())
+}
+
+// The rows of several workers come in any order that is lawful; what they leave is the same here.
+#[test]
+fn workers_run_beside_one_another(rt: HostRuntime) -> Result<(), Fail> {
+    for option in ["", " --manager greedy", " --all-write --seed 9"] {
+        let line = format!(in rt.alloc(); "dstm run{option}")?;
+        let ran = run_on(&rt, rt.alloc(), &line, AWAITS.as_bytes(), SOUND)?;
+        assert_eq!(rt; ran.status, 0);
+        assert!(rt; ran.out.ends_with(b"\nbank 190 10\nend 2\n"));
+        let mut case = Vec::from_slice(rt.alloc(), AWAITS.as_bytes())?;
+        case.extend_from_slice(b"---\n")?;
+        case.extend_from_slice(&ran.out)?;
+        expect(&rt, rt.alloc(), "dstm check", &case, (0, "lawful\n", ""))?;
+    }
     Ok(())
 }
 
@@ -217,19 +243,19 @@ fn inputs_of_any_bytes_and_size(rt: HostRuntime) -> Result<(), Fail> {
 
     let mut input = Vec::from_slice(rt.alloc(), b"dstm 1\nbank 1 5\ntx 0")?;
     input.resize(input.len() + 4_000_000, b' ')?;
-    let ran = run_on(rt.alloc(), "dstm run", &input, SOUND)?;
+    let ran = run_on(&rt, rt.alloc(), "dstm run", &input, SOUND)?;
     assert_eq!(rt; ran.status, 2);
     assert_eq!(rt; ran.err.as_slice(), b"dstm: line 3: missing\n".as_slice());
 
     let mut input = vec![in rt.alloc(); b'#'; 4_194_304]?;
-    let ran = run_on(rt.alloc(), "dstm run", &input, SOUND)?;
+    let ran = run_on(&rt, rt.alloc(), "dstm run", &input, SOUND)?;
     assert_eq!(rt; ran.status, 2);
     assert_eq!(rt; ran.err.as_slice(), b"dstm: line 2: header\n".as_slice());
     input.push(b'#')?;
-    let ran = run_on(rt.alloc(), "dstm run", &input, SOUND)?;
+    let ran = run_on(&rt, rt.alloc(), "dstm run", &input, SOUND)?;
     assert_eq!(rt; ran.status, 2);
     assert_eq!(rt; ran.err.as_slice(), b"dstm: input too long\n".as_slice());
-    let ran = run_on(rt.alloc(), "dstm check", &input, SOUND)?;
+    let ran = run_on(&rt, rt.alloc(), "dstm check", &input, SOUND)?;
     assert_eq!(rt; ran.status, 2);
     assert_eq!(rt; ran.err.as_slice(), b"dstm: line 2: header\n".as_slice());
     Ok(())
@@ -353,14 +379,14 @@ fn failing_devices(rt: HostRuntime) -> Result<(), Fail> {
             read_fails: &[call],
             ..SOUND
         };
-        let ran = run_on(rt.alloc(), "dstm run", input, devices)?;
+        let ran = run_on(&rt, rt.alloc(), "dstm run", input, devices)?;
         assert_eq!(rt; ran.status, 3);
         assert!(rt; ran.out.is_empty());
         assert_eq!(rt; ran.err.as_slice(), b"dstm: read fault\n".as_slice());
     }
     for room in 0..report.len() {
         let devices = Devices { room, ..SOUND };
-        let ran = run_on(rt.alloc(), "dstm run", input, devices)?;
+        let ran = run_on(&rt, rt.alloc(), "dstm run", input, devices)?;
         assert_eq!(rt; ran.status, 4);
         assert_eq!(rt; ran.out.as_slice(), &report[..room]);
         assert_eq!(rt; ran.err.as_slice(), b"dstm: write fault\n".as_slice());
@@ -370,14 +396,14 @@ fn failing_devices(rt: HostRuntime) -> Result<(), Fail> {
         write_fails: &[1],
         room: report.len(),
     };
-    let ran = run_on(rt.alloc(), "dstm run", input, devices)?;
+    let ran = run_on(&rt, rt.alloc(), "dstm run", input, devices)?;
     assert_eq!(rt; ran.status, 0);
     assert_eq!(rt; ran.out.as_slice(), report);
     let devices = Devices {
         write_fails: &[0],
         ..SOUND
     };
-    let ran = run_on(rt.alloc(), "dstm run", input, devices)?;
+    let ran = run_on(&rt, rt.alloc(), "dstm run", input, devices)?;
     assert_eq!(rt; ran.status, 4);
     assert!(rt; ran.out.is_empty());
     Ok(())
@@ -388,7 +414,7 @@ fn cut_inputs(rt: HostRuntime) -> Result<(), Fail> {
     for input in [ONE_KEY.as_bytes(), SEVEN_KEYS.as_bytes()] {
         for length in 0..input.len() {
             let cut = &input[..length];
-            let ran = run_on(rt.alloc(), "dstm run", cut, SOUND)?;
+            let ran = run_on(&rt, rt.alloc(), "dstm run", cut, SOUND)?;
             if ran.status == 2 {
                 assert!(rt; ran.out.is_empty());
                 continue;

@@ -1,11 +1,12 @@
 use Rattle.std.proofs.Common.{◌≡◌, ◌⊎◌, ℕ, subst, sym, ◌∙◌, inl, inr, ⊎_elim, arith}
 use Rattle.std.specs.Prelude.{IfSome}
 use Rattle.dstm_io.specs.Count.{Rises}
+use Rattle.dstm_rounds.specs.Running.{added}
 use Rattle.dstm_cli.specs.declared.failure.Failure.{Failure}
 use Rattle.dstm_cli.specs.Failure.{message_of}
 use Rattle.dstm_cli.specs.Command.{asked, Refuses}
 use Rattle.dstm_cli.proofs.Ends.{takes_or_faults, between, answered-refuses, failed-reason, failed-refuses}
-use Rattle.dstm_cli.proofs.Ends.{failed-complete}
+use Rattle.dstm_cli.proofs.Ends.{closed_sights, failed-complete, failed-unplayed}
 use Rattle.dstm_cli.proofs.command.dstm.Goals as goal
 
 pub returns-in-Ok-clause-usage : goal.returns-in-Ok-clause-usage
@@ -30,6 +31,7 @@ returns-in-Ok-clause-unwritten g c not_done no_fault lawful = absurd (⊎_elim n
 pub returns-in-Ok-clause-refuses : goal.returns-in-Ok-clause-refuses
 returns-in-Ok-clause-refuses g c =
     answered-refuses (asked c.args.words.now) (g.S.Source.left c.args.source.now) (g.S.Source.left c.obey.new.source)
+    (added c.args.rounds.now c.obey.new.rounds)
     c.in-Ok.ensures.ending.0 c.in-Ok.status
     ((c.in-Ok.status ≡ 2) ⊎ (c.in-Ok.status ≡ 5) ⊎ Rises (g.S.Source.faults c.args.source.now)
     (g.S.Source.faults c.obey.new.source))
@@ -69,3 +71,18 @@ returns-in-Err-clause-complete g c can =
     subst (λ (status : ℕ). (status ≡ 0) ⊎ (status ≡ 6) ⊎ (status ≡ 5) ⊎ Rises before after ⊎ Rises faults faults_after)
     (sym c.status.ensures)
     (failed-complete (asked c.args.words.now) _ c.in-Err.failure c.in-Err.ensures.ending can)
+
+pub returns-in-Ok-clause-sights : goal.returns-in-Ok-clause-sights
+returns-in-Ok-clause-sights g c =
+    closed_sights (asked c.args.words.now) (g.S.Source.left c.args.source.now, g.S.Source.left c.obey.new.source)
+    (added c.args.rounds.now c.obey.new.rounds) c.obey.ensures.closed
+
+pub returns-in-Err-clause-sights : goal.returns-in-Err-clause-sights
+returns-in-Err-clause-sights g c =
+    closed_sights (asked c.args.words.now) (g.S.Source.left c.args.source.now, g.S.Source.left c.obey.new.source)
+    (added c.args.rounds.now c.obey.new.rounds) c.obey.ensures.closed
+
+pub returns-in-Err-clause-unplayed : goal.returns-in-Err-clause-unplayed
+returns-in-Err-clause-unplayed g c is =
+    failed-unplayed (asked c.args.words.now) _ c.in-Err.failure c.in-Err.ensures.ending
+    (subst (λ (status : ℕ). (status ≡ 1) ⊎ (status ≡ 2) ⊎ (status ≡ 3)) c.status.ensures is)

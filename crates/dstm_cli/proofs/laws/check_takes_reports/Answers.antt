@@ -1,11 +1,10 @@
-use Rattle.std.proofs.Common.{◌≡◌, ℕ, Bool, true, List, length, Option, Some, Result, Ok, Err, leb, ap, sym, subst, ◌∙◌}
+use Rattle.std.proofs.Common.{◌≡◌, ℕ, Bool, true, List, length, Option, Some, Result, Ok, Err, leb, ap, subst, ◌∙◌}
 use Rattle.std.proofs.Common.{if◌then◌else◌}
 use Rattle.std.proofs.lemmas.Bool.{le-leb}
 use Rattle.dstm_text.specs.Lines.{lines_of}
 use Rattle.dstm_workload.specs.declared.workload.Workload.{Workload}
-use Rattle.dstm_workload.specs.declared.refused.Refused.{Refused as Refusal}
 use Rattle.dstm_workload.specs.Reading.{workload_of}
-use Rattle.dstm_workload.specs.Writing.{text_of_workload, as_written}
+use Rattle.dstm_workload.specs.Writing.{as_written}
 use Rattle.dstm_report.specs.declared.report.Report.{Report}
 use Rattle.dstm_report.specs.Reading.{report_of}
 use Rattle.dstm_report.specs.Text.{report_text}

@@ -1,11 +1,9 @@
-use Rattle.std.proofs.Common.{◌≡◌, ℕ, Bool, true, List, length, Result, Ok, Err, leb, ap, ◌∙◌, if◌then◌else◌}
+use Rattle.std.proofs.Common.{◌≡◌, Bool, true, length, Result, Ok, Err, leb, ap, ◌∙◌, if◌then◌else◌}
 use Rattle.std.proofs.lemmas.Bool.{le-leb}
-use Rattle.dstm_command.specs.declared.command.GenSpec.{GenSpec}
 use Rattle.dstm_gen.specs.Words.{words_of_seed}
 use Rattle.dstm_gen.proofs.Validity.{generated-valid}
 use Rattle.dstm_text.specs.Lines.{lines_of}
 use Rattle.dstm_workload.specs.declared.workload.Workload.{Workload}
-use Rattle.dstm_workload.specs.declared.refused.Refused.{Refused as Refusal}
 use Rattle.dstm_workload.specs.Reading.{workload_of}
 use Rattle.dstm_workload.specs.Writing.{text_of_workload}
 use Rattle.dstm_cli.specs.declared.failure.Failure.{Failure}
