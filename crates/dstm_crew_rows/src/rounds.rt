@@ -1,0 +1,76 @@
+use crate::calls::{call, case_of};
+use dstm_crew::OpenGate;
+use std::test::Fail;
+
+// A caller has 16,384 attempts. The worker's last 3,615 jobs go on in round 2, behind the one of the alone round.
+#[test]
+fn one_worker_takes_three_rounds(rt: HostRuntime) -> Result<(), Fail> {
+    let alloc = rt.alloc();
+    let mut workload = Vec::from_slice(alloc, b"dstm 1\nbank 1 0\n")?;
+    for _job in 0..20_000_u32 {
+        workload.extend_from_slice(b"tx 0 balance 0\n")?;
+    }
+    let ran = call(&rt, alloc, "dstm run", &workload, &OpenGate)?;
+    assert_eq!(rt; ran.status, 0);
+    let report = str::from_utf8(&ran.out)?;
+    let rows = [
+        "\n16386 0 0.16383 0\n",
+        "\n16387 0 1.0 0\n16388 0 2.0 0\n",
+        "\n20002 0 2.3614 0\nbank 0\nend 20000\n",
+    ];
+    for row in rows {
+        assert!(rt; report.contains(row), "{row}");
+    }
+    Ok(())
+}
+
+// Whatever the manager, the seed and the other options, the report is lawful.
+#[test]
+fn reports_are_lawful(rt: HostRuntime) -> Result<(), Fail> {
+    let alloc = rt.alloc();
+    let workload = call(&rt, alloc, "dstm gen 7 400 4", b"", &OpenGate)?;
+    for manager in ["polite", "karma", "polka", "greedy"] {
+        for option in [
+            "",
+            " --seed 9 --all-write",
+            " --release --seed 18446744073709551615",
+        ] {
+            let line = format!(in alloc; "dstm run --manager {manager}{option}")?;
+            let ran = call(&rt, alloc, &line, &workload.out, &OpenGate)?;
+            assert_eq!(rt; ran.status, 0, "{line}");
+            let case = case_of(alloc, &workload.out, &ran.out)?;
+            let checked = call(&rt, alloc, "dstm check", &case, &OpenGate)?;
+            assert_eq!(rt; checked.out.as_slice(), b"lawful\n".as_slice(), "{line}");
+        }
+    }
+    Ok(())
+}
+
+// A job that waits is woken by what another worker does; of jobs that all wait, one is given up in the alone round.
+#[test]
+fn blocked_jobs(rt: HostRuntime) -> Result<(), Fail> {
+    let alloc = rt.alloc();
+    let woken = b"dstm 3\nworkers 2\nbank 2 100\n\
+        tx 0 await balance 1 150 ; transfer 1 0 150\ntx 1 transfer 0 1 60\n";
+    let never = b"dstm 3\nworkers 2\nbank 1 5\nlist 4\n\
+        tx 0 await balance 0 6\ntx 1 await list 3\ntx 0 insert list 3\n";
+    let ends = [
+        (woken.as_slice(), "bank 190 10\nend 2\n"),
+        (
+            never.as_slice(),
+            "\n5 0 1.0 never\n7 0 1.1 true\n6 1 1.2 true\nbank 5\nlist 3\nend 3\n",
+        ),
+    ];
+    for (workload, end) in ends {
+        for manager in ["polite", "karma", "polka", "greedy"] {
+            let line = format!(in alloc; "dstm run --manager {manager}")?;
+            let ran = call(&rt, alloc, &line, workload, &OpenGate)?;
+            assert_eq!(rt; ran.status, 0, "{line}");
+            assert!(rt; ran.out.ends_with(end.as_bytes()), "{line}: {end}");
+            let case = case_of(alloc, workload, &ran.out)?;
+            let checked = call(&rt, alloc, "dstm check", &case, &OpenGate)?;
+            assert_eq!(rt; checked.out.as_slice(), b"lawful\n".as_slice(), "{line}");
+        }
+    }
+    Ok(())
+}
