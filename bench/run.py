@@ -1,0 +1,242 @@
+#!/usr/bin/env python3
+"""Measures `dstm run` beside a serial program and beside transactions of the compiler; see README.md."""
+import argparse
+import os
+import random
+import subprocess
+import sys
+import tempfile
+import time
+from collections import Counter
+from pathlib import Path
+
+import workloads
+
+HERE = Path(__file__).resolve().parent
+FLAGS = ["-O2", "-march=x86-64-v2"]  # dstm is compiled for x86-64-v2
+SLACK = 4096  # how much more than was asked for a block may have
+
+
+def build(folder):
+    """Compiles the programs, and answers the words that start each of them."""
+    cpp = ["g++", "-std=c++17", *FLAGS, str(HERE / "peer.cc")]
+    subprocess.run([*cpp, "-o", folder / "serial"], check=True)
+    subprocess.run([*cpp, "-DTRANSACTIONS", "-fgnu-tm", "-pthread", "-o", folder / "transactions"], check=True)
+    shared = ["gcc", "-O2", "-shared", "-fPIC", str(HERE / "phases.c"), "-o", folder / "phases.so", "-ldl"]
+    subprocess.run(shared, check=True)
+
+
+MEASURES = ("process", "process, cpu", "run", "run, cpu")
+
+
+class Program:
+    """One that is measured, and the least that was seen of each measure, in milliseconds."""
+
+    def __init__(self, name, words, tells, settings=None):
+        self.name, self.words, self.tells, self.settings = name, words, tells, settings or {}
+        self.forget()
+
+    def forget(self):
+        self.least = dict.fromkeys(MEASURES, float("inf"))
+        self.parts = ""
+
+    def start(self, words, settings, text, err=subprocess.DEVNULL):
+        """Runs it once, and answers how long that took on the clock, and on all processors."""
+        with open(text) as source:
+            before = time.perf_counter()
+            settings = {**os.environ, **self.settings, **settings}
+            child = subprocess.Popen(words, stdin=source, stdout=subprocess.DEVNULL, stderr=err, env=settings)
+            _, status, used = os.wait4(child.pid, 0)
+            wall = time.perf_counter() - before
+        child.returncode = status
+        if status:
+            sys.exit(f"{self.name} ended with status {status} on {text}")
+        return wall * 1000, (used.ru_utime + used.ru_stime) * 1000
+
+    def note(self, measure, value):
+        self.least[measure] = min(self.least[measure], value)
+
+    def measure(self, load):
+        wall, cpu = self.start(self.words, {}, load.path)
+        self.note("process", wall)
+        self.note("process, cpu", cpu)
+        wall, cpu, parts = self.tells(self, load)
+        self.note("run", wall)
+        if cpu < self.least["run, cpu"]:
+            self.parts = parts
+        self.note("run, cpu", cpu)
+
+
+def told_by_itself(program, load):
+    """A peer tells how long its jobs took."""
+    with tempfile.TemporaryFile("w+") as told:
+        program.start([*program.words, "--times"], {}, load.path, told)
+        told.seek(0)
+        fields = told.read().split()
+    at = fields.index("run") + 1
+    return int(fields[at]) / 1000, int(fields[at + 1]) / 1000, ""
+
+
+def told_by_phases(program, load):
+    """What phases.so tells of dstm: it runs jobs in the time in which a table is there."""
+    told = load.folder / "phases"
+    program.start(program.words, {"LD_PRELOAD": str(load.folder / "phases.so"), "PHASES": str(told)}, load.path)
+    return phases_of(load, told.read_text().splitlines())
+
+
+def phases_of(load, lines):
+    """How long tables were there, on the clock and on all processors, and of the latter how long it took to make, to use
+    and to close them. A block of a table's size that is there once is something else, since zeros are made first."""
+    blocks, rounds = {}, []
+    asked = Counter(line.split()[3] for line in lines if line.startswith("malloc"))
+    for line in lines:
+        name, *numbers = line.split()
+        wall, cpu, size = map(int, numbers)
+        if name == "malloc" and asked[numbers[2]] > 1 and load.is_table(size, not rounds):
+            if not any(blocks.values()):
+                rounds.append([])
+            blocks[size] = blocks.get(size, 0) + 1
+            rounds[-1].append((wall / 1000, cpu / 1000))
+        if name == "free":
+            table = next((other for other in blocks if blocks[other] and other <= size < other + SLACK), None)
+            if table:
+                blocks[table] -= 1
+                rounds[-1].append((wall / 1000, cpu / 1000))
+    wall = sum(times[-1][0] - times[0][0] for times in rounds)
+    cpu = sum(times[-1][1] - times[0][1] for times in rounds)
+    parts = f"{len(rounds)} rounds"
+    if all(len(times) == 6 for times in rounds):  # zeros and a table are made, and in the end a copy
+        made = sum(times[2][1] - times[0][1] for times in rounds)
+        closed = sum(times[5][1] - times[3][1] for times in rounds)
+        parts += f", make {made:.1f}, use {cpu - made - closed:.1f}, close {closed:.1f}"
+    return wall, cpu, parts
+
+
+class Load:
+    """A workload, as a file."""
+
+    def __init__(self, folder, dstm, kind, count, workers):
+        self.folder, self.kind, self.workers = folder, kind, workers
+        self.path = folder / f"{kind}.{workers}"
+        if kind == "gen":
+            text = subprocess.run([dstm, "gen", "7", str(count), str(workers)], check=True, capture_output=True).stdout
+            self.path.write_bytes(text)
+        else:
+            self.path.write_text(workloads.text_of(kind, count, workers))
+        self.objects = self.money = 0
+        jobs = [0] * workers
+        for line in self.path.read_text().splitlines():
+            fields = line.split()
+            if fields[0] == "tx":
+                jobs[int(fields[1])] += 1
+            if fields[0] == "bank":
+                self.objects += int(fields[1])
+                self.money = int(fields[1]) * int(fields[2])
+            if fields[0] in ("list", "tree"):
+                self.objects += int(fields[1]) + 2
+        self.jobs = max(jobs)
+
+    def is_table(self, size, is_first):
+        """Whether a block has the size of a table: a word for each object, and for each of the callers 2 words for
+        each attempt and 4 for each locator, of which there is one for each object and 16,384 more; and 3 words. The
+        first table has all workers as callers, and 4 attempts for each job of one of them, and 16 more."""
+        words = size // 8 - 3 - self.objects
+        for callers in range(self.workers if is_first else 1, self.workers + 1):
+            rest, none = divmod(words - callers * 4 * (self.objects + 16384), 2 * callers)
+            most = 4 * min(self.jobs, 4092) + 16
+            if size % 8 == 0 and none == 0 and rest % 4 == 0 and (rest == most if is_first else 20 <= rest <= most):
+                return True
+        return False
+
+
+def report_of(words, load):
+    with open(load.path) as source:
+        return subprocess.run(words, stdin=source, check=True, capture_output=True).stdout
+
+
+def check(dstm, load):
+    """Lets dstm check its own report, and the serial one, which has to be lawful too. Of transactions of the compiler it
+    looks at the final state alone."""
+    for words in ([dstm, "run"], [load.folder / "serial"]):
+        both = load.path.read_bytes() + b"---\n" + report_of(words, load)
+        verdict = subprocess.run([dstm, "check"], input=both, capture_output=True).stdout
+        if verdict != b"lawful\n":
+            sys.exit(f"the report of {words[0]} on {load.path} is not lawful")
+    for line in report_of([load.folder / "transactions"], load).decode().splitlines():
+        word, *values = line.split()
+        numbers = [int(value.split(":")[0]) for value in values] if word in ("bank", "list", "tree") else []
+        if word == "bank" and sum(numbers) != load.money:
+            sys.exit(f"transactions have made or lost money on {load.path}")
+        if word in ("list", "tree") and any(low >= high for low, high in zip(numbers, numbers[1:])):
+            sys.exit(f"transactions have left keys out of order on {load.path}")
+
+
+def measure(programs, load, rounds):
+    rng = random.Random(1)
+    for program in programs:
+        program.forget()
+    for _ in range(rounds):
+        order = programs[:]
+        rng.shuffle(order)
+        for program in order:
+            program.measure(load)
+
+
+def tell(programs, load):
+    """Of each measure the milliseconds of each program, and how many times those of the others the first one took."""
+    own = programs[0].least
+    for measure in MEASURES:
+        cells = [f"{own[measure]:.1f}"]
+        for program in programs[1:]:
+            value = program.least[measure]
+            cells.append(f"{value:.1f} ({own[measure] / max(value, 0.1):.2f})")
+        print(f"| {load.kind} | {load.workers} | {measure} | " + " | ".join(cells) + " |", flush=True)
+    for program in programs:
+        if program.parts:
+            print(f"| {load.kind} | {load.workers} | {program.name}: {program.parts} |", flush=True)
+
+
+def programs_of(given, folder):
+    programs = [Program("dstm", [given.dstm, "run"], told_by_phases)]
+    for other in given.also:
+        name, path = other.split("=", 1)
+        programs.append(Program(name, [path, "run"], told_by_phases))
+    for other in given.peer:
+        name, words = other.split("=", 1)
+        programs.append(Program(name, words.split(), told_by_itself))
+    programs.append(Program("serial", [folder / "serial"], told_by_itself))
+    for method in ("ml_wt", "gl_wt"):
+        programs.append(Program(method, [folder / "transactions"], told_by_itself, {"ITM_DEFAULT_METHOD": method}))
+    return programs
+
+
+def run(given, folder):
+    build(folder)
+    programs = programs_of(given, folder)
+    print(f"load average {os.getloadavg()[0]:.1f}, {os.cpu_count()} processors, least of {given.rounds} runs, in ms")
+    print("| load | workers | measure | " + " | ".join(program.name for program in programs) + " |")
+    print("|---|---|---|" + "---|" * len(programs))
+    for kind in given.loads.split(","):
+        for workers in map(int, given.workers.split(",")):
+            load = Load(folder, given.dstm, kind, given.count, workers)
+            check(given.dstm, load)
+            measure(programs, load, given.rounds)
+            tell(programs, load)
+
+
+def main():
+    reader = argparse.ArgumentParser(description=__doc__)
+    reader.add_argument("--dstm", default=str(HERE.parent / "crates/dstm/out/dstm"))
+    reader.add_argument("--loads", default="gen,hot,cold,tree,full,long,audit,walk")
+    reader.add_argument("--workers", default="1,2,4,8")
+    reader.add_argument("--count", type=int, default=20000)
+    reader.add_argument("--rounds", type=int, default=9)
+    reader.add_argument("--also", action="append", default=[], metavar="NAME=PATH", help="another build of dstm")
+    reader.add_argument("--peer", action="append", default=[], metavar="NAME=COMMAND", help="another program")
+    given = reader.parse_args()
+    with tempfile.TemporaryDirectory(prefix="dstm-bench-") as folder:
+        run(given, Path(folder))
+
+
+if __name__ == "__main__":
+    main()
