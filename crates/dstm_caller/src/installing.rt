@@ -107,6 +107,7 @@ impl<L: Law> Steps<L> {
     }
 
     /// Raises the rank, after an open.
+    #[inline(always)]
     pub(crate) fn rank_up<B: InCall>(&mut self, words: &Words<L>)
         requires under { Under L.holds words.now B.began self.old
             (Step Rank (min ((now words.now self.old).rank + 1) MAX_RANK)) None }

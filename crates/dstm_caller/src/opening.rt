@@ -26,6 +26,7 @@ use dstm_words::Words;
 impl<L: Law> Steps<L> {
     /// Ends an open, once its object is resolved or installed: a pass over the reads, with that of the object, and
     /// where ranks rise a Rank. `last` is the number with which the last complete pass of this attempt began.
+    #[inline(always)]
     pub fn conclude<B: InCall>(
         &mut self,
         words: &Words<L>,
@@ -101,6 +102,7 @@ impl<L: Law> Steps<L> {
 
     /// Tries once to install the next locator in an object. It answers what was found of the object, or nothing where
     /// its word had changed.
+    #[inline(always)]
     fn try_acquire<B: InCall>(
         &mut self,
         words: &Words<L>,
@@ -146,6 +148,7 @@ impl<L: Law> Steps<L> {
 
     /// Installs the next locator in an object, which is resolved again each time that its word has changed. It answers
     /// what was found of the object.
+    #[inline(always)]
     pub fn acquire<B: InCall>(
         &mut self,
         words: &Words<L>,

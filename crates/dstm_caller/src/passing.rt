@@ -114,6 +114,7 @@ impl<L: Law> Steps<L> {
     }
 
     /// The checks of a pass that has begun, where they are not to be skipped: the first read that is stale.
+    #[inline(always)]
     pub(crate) fn check_all<B: InCall>(
         &mut self,
         words: &Words<L>,
@@ -151,6 +152,7 @@ impl<L: Law> Steps<L> {
     }
 
     /// A pass over the reads. `last` is the number with which the last complete pass of this attempt began.
+    #[inline(always)]
     pub(crate) fn pass<B: InCall>(
         &mut self,
         words: &Words<L>,

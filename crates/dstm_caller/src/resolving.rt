@@ -154,6 +154,7 @@ impl<L: Law> Steps<L> {
     }
 
     /// Looks at what the object's word stands for, whose owner has committed or was aborted.
+    #[inline(always)]
     pub(crate) fn resolve_version<B: InCall>(
         &mut self,
         words: &Words<L>,
@@ -182,6 +183,7 @@ impl<L: Law> Steps<L> {
     }
 
     /// Looks at the value of the version that the object's word stands for.
+    #[inline(always)]
     fn look_value<B: InCall>(&mut self, words: &Words<L>, word: u64, named: u64) -> Found
         requires under { Resolving L.holds words.now B.began self.old }
         requires running { IsRunning (now words.now self.old) }
@@ -240,6 +242,7 @@ impl<L: Law> Steps<L> {
     }
 
     /// Resolves an object whose word is not 0.
+    #[inline(always)]
     fn resolve_word<B: InCall>(&mut self, words: &Words<L>, word: u64) -> Result<Found, Again>
         requires starts { Starts L.holds words.now B.began self.old word }
         ensures found { IfOk result (λ found. IsFound (now words.now self.new) found) }
@@ -259,6 +262,7 @@ impl<L: Law> Steps<L> {
 
     /// Resolves an object that this attempt has not opened for writing. `read` is the word of its recorded read, where
     /// there is one.
+    #[inline(always)]
     pub fn resolve<B: InCall>(
         &mut self,
         words: &Words<L>,
