@@ -1,6 +1,6 @@
 -- The lines and the fields of a text that was written.
 use Rattle.std.proofs.Common.{◌≡◌, ℕ, ◌^◌, ◌<◌, ◌≤◌, Bool, true, false, ◌&&◌, List, [], ◌∷◌, ◌++◌, length, map}
-use Rattle.std.proofs.Common.{Option, Some, None, Ok, codes, decimal, leb, eqb, refl, sym, ap, ◌∙◌, arith}
+use Rattle.std.proofs.Common.{Option, Some, None, Ok, codes, decimal, cond, leb, eqb, refl, sym, ap, ◌∙◌, arith}
 use Rattle.std.specs.Char.{is_ascii_digit}
 use Rattle.std.specs.List.{AllByRecursion, list_all}
 use Rattle.std.specs.Str.{all_ascii_digits, bytes_eq}
@@ -8,14 +8,14 @@ use Rattle.std.proofs.lemmas.Bool.{and_parts, and_from, leb-true, le-leb, ne_eqb
 use Rattle.std.proofs.lemmas.Slice.Eq.{bytes_eq-Decides}
 use Rattle.std.proofs.lemmas.List.{append_assoc, append-nil}
 use Rattle.std.proofs.lemmas.List.Elements.{All-from_recursion}
+use Rattle.std.proofs.lemmas.List.Concat.{flat_map-append}
 use Rattle.std.proofs.lemmas.List.Folds.{list_all-append}
 use Rattle.dstm_text.specs.Lines.{space, line_feed, lines_of, fields_of}
 use Rattle.dstm_text.specs.Number.{number_of}
 use Rattle.dstm_text.proofs.LineLaws.{IsFreeOf, lines_of-append, fields_of-append, fields_of-one}
 use Rattle.dstm_text.proofs.NumberLaws.{digits-decimal, number_of-decimal}
-use Rattle.dstm_workload.specs.declared.known.Known.{Known}
 use Rattle.dstm_workload.specs.Fields.{in_range, number_at, operand_at}
-use Rattle.dstm_workload.specs.Entries.{is_comment, is_printable, told_by, something, entry_of}
+use Rattle.dstm_workload.specs.Entries.{is_printable}
 use Rattle.dstm_workload.specs.Writing.{spaced, joined, lined}
 
 -- ---- fields
@@ -56,19 +56,20 @@ free_of_space (b ∷ bs) all =
 field_is_free : (field : List ℕ) → IsField field → IsFreeOf space field
 field_is_free field h = All-from_recursion (λ b. eqb b space ≡ false) field (free_of_space field h.1)
 
+pub all_both : {A : Type 0} (P : A → Type 0) (xs ys : List A) → AllByRecursion P xs → AllByRecursion P ys →
+    AllByRecursion P (xs ++ ys)
+all_both P [] ys left right = right
+all_both P (x ∷ xs) ys left right = (left.0, all_both P xs ys left.1 right)
+
 -- ---- a line
 
-joined_more : (first second : List ℕ) (fields : List (List ℕ)) →
-    joined (first ∷ second ∷ fields) ≡ first ++ space ∷ joined (second ∷ fields)
-joined_more first second fields = refl
-
-pub fields_of-joined : (first : List ℕ) (fields : List (List ℕ)) → AllByRecursion IsField (first ∷ fields) →
-    fields_of (joined (first ∷ fields)) ≡ first ∷ fields
-fields_of-joined first [] h =
+pub fields_of-joined : (fields : List (List ℕ)) → AllByRecursion IsField fields → fields_of (joined fields) ≡ fields
+fields_of-joined [] h = refl
+fields_of-joined (first ∷ []) h =
     ap fields_of (append-nil first) ∙ fields_of-one first (field_is_free first h.0) h.0.0
-fields_of-joined first (second ∷ fields) h =
+fields_of-joined (first ∷ second ∷ fields) h =
     fields_of-append first (joined (second ∷ fields)) (field_is_free first h.0) h.0.0
-    ∙ ap (λ (fs : List (List ℕ)). first ∷ fs) (fields_of-joined second fields h.1)
+    ∙ ap (λ (fs : List (List ℕ)). first ∷ fs) (fields_of-joined (second ∷ fields) h.1)
 
 solid_is_printable : (bs : List ℕ) → list_all is_solid bs ≡ true → list_all is_printable bs ≡ true
 solid_is_printable [] all = refl
@@ -106,6 +107,9 @@ not_line_feed (b ∷ bs) all =
     let low = leb-true 32 b (and_parts (leb 32 b) (leb b 126) parts.0).0 in
     (ne_eqb b 10 (λ same. omega arith), not_line_feed bs parts.1)
 
+pub lined-append : (xs ys : List (List (List ℕ))) → lined (xs ++ ys) ≡ lined xs ++ lined ys
+lined-append xs ys = flat_map-append (λ (fields : List (List ℕ)). joined fields ++ line_feed ∷ []) xs ys
+
 -- with what stands behind them
 pub lines_of-lined-then : (lines : List (List (List ℕ))) (rest : List ℕ) →
     AllByRecursion (AllByRecursion IsField) lines → lines_of (lined lines ++ rest) ≡ map joined lines ++ lines_of rest
@@ -124,14 +128,6 @@ pub lines_of-lined : (lines : List (List (List ℕ))) → AllByRecursion (AllByR
 lines_of-lined lines h =
     ap lines_of (sym (append-nil (lined lines))) ∙ lines_of-lined-then lines [] h ∙ append-nil (map joined lines)
 
--- what such a line tells
-pub entry_again : (known : Known) (line : ℕ) (first : List ℕ) (fields : List (List ℕ)) →
-    AllByRecursion IsField (first ∷ fields) → is_comment (joined (first ∷ fields)) ≡ false →
-    entry_of known line (joined (first ∷ fields)) ≡ something (told_by known.version known line (first ∷ fields))
-unfolding entry_of
-entry_again known line first fields h comment =
-    rw (comment, fields_of-joined first fields h, joined_printable (first ∷ fields) h) refl
-
 -- ---- numbers
 
 range_again : (least most n : ℕ) → least ≤ n → n ≤ most → in_range least most (Some n) ≡ Ok n
@@ -148,7 +144,9 @@ not_semicolon n small = false_from_ne_true (bytes_eq (decimal n) (codes ";")) (�
     let none : ◌≡◌ {A = Option ℕ} None (Some n) = ap number_of (sym is) ∙ number_of-decimal n small in
     let never : ⊥ = cc in never)
 
-pub operand_again : (most n : ℕ) (rest : List (List ℕ)) → n < 2 ^ 64 → n ≤ most →
-    operand_at 0 most (decimal n ∷ rest) ≡ Ok (n, rest)
-operand_again most n rest small high =
-    rw (not_semicolon n small) (number_again 0 most n rest small (omega arith) high)
+-- the same, where a semicolon ends it
+pub numeral_again : (ended : Bool) (least most n : ℕ) (rest : List (List ℕ)) → n < 2 ^ 64 → least ≤ n → n ≤ most →
+    cond ended (operand_at least most (decimal n ∷ rest)) (number_at least most (decimal n ∷ rest)) ≡ Ok (n, rest)
+numeral_again true least most n rest small low high =
+    rw (not_semicolon n small) (number_again least most n rest small low high)
+numeral_again false least most n rest small low high = number_again least most n rest small low high

@@ -1,17 +1,19 @@
 -- What a reading that succeeded has read.
 use Rattle.std.proofs.Common.{◌≡◌, ℕ, ◌≤◌, Bool, true, false, ◌&&◌, List, [], ◌∷◌, Option, Some}
-use Rattle.std.proofs.Common.{None, Result, Ok, Err, codes, cond, leb, refl, sym, ap, ◌∙◌, arith}
+use Rattle.std.proofs.Common.{None, Result, Ok, Err, ◌<◌, ◌^◌, decimal, subst, codes, cond, leb, refl, sym, ap, ◌∙◌, arith}
 use Rattle.std.specs.Str.{bytes_eq}
 use Rattle.std.specs.List.{find}
 use Rattle.std.specs.Option.{option_and_then}
-use Rattle.std.proofs.lemmas.Bool.{and_parts, leb-true}
+use Rattle.std.proofs.lemmas.Bool.{and_parts, leb-true, le-leb}
 use Rattle.std.proofs.lemmas.Slice.Eq.{bytes_eq-Decides}
 use Rattle.dstm_text.specs.Number.{number_of}
+use Rattle.dstm_text.proofs.NumberLaws.{decimal-number_of}
 use Rattle.dstm_workload.specs.declared.refused.Why.{Why}
 use Rattle.dstm_workload.specs.declared.word.Word.{Word}
 use Rattle.dstm_workload.specs.declared.word.Word.TheVariants as word
 use Rattle.dstm_workload.specs.Words.{spelling, since, words, word_spelled, word_of}
-use Rattle.dstm_workload.specs.Fields.{◌>>=◌, in_range, number_at, operand_at, end_at, declared}
+use Rattle.dstm_text.specs.Results.{◌>>=◌}
+use Rattle.dstm_workload.specs.Fields.{in_range, number_at, operand_at, end_at}
 
 pub bind_ok : {A B : Type 0} (r : Result A Why) (f : A → Result B Why) (y : B) → (r >>= f) ≡ Ok y →
     (x : A) × (r ≡ Ok x) × (f x ≡ Ok y)
@@ -21,11 +23,8 @@ bind_ok (Err why) f y is = absurd (let no : ⊥ = cc in no)
 pub same_Ok : {X E : Type 0} (x y : X) → ◌≡◌ {A = Result X E} (Ok x) (Ok y) → x ≡ y
 same_Ok x y is = cc
 
--- a choice between an error and an answer that is one
-pub guard_ok : {A : Type 0} (b : Bool) (x y : A) (why : Why) → cond b (Err why) (Ok x) ≡ Ok y →
-    (b ≡ false) × (x ≡ y)
-guard_ok true x y why is = absurd (let no : ⊥ = cc in no)
-guard_ok false x y why is = (refl, same_Ok x y is)
+pub refused_never : {A : Type 0} (why : Why) (x : A) → ◌≡◌ {A = Result A Why} (Err why) (Ok x) → ⊥
+refused_never why x is = cc
 
 pub guarded_ok : {A : Type 0} (b : Bool) (r : Result A Why) (y : A) (why : Why) → cond b (Err why) r ≡ Ok y →
     (b ≡ false) × (r ≡ Ok y)
@@ -48,44 +47,29 @@ in_range_ok least most (Some m) n is =
     let high = leb-true m most parts.1 in
     (ap (λ k. Some k) same, omega arith, omega arith)
 
--- a number that was read: its field, and its range
-pub record IsNumber (least most : ℕ) (fields : List (List ℕ)) (n : ℕ) (rest : List (List ℕ)) : Type 0 where
-  pub field : List ℕ
-  pub are : fields ≡ field ∷ rest
-  pub number : number_of field ≡ Some n
-  pub low : least ≤ n
-  pub high : n ≤ most
-
-pub number_ok : (least most : ℕ) (fields : List (List ℕ)) (x : ℕ × List (List ℕ)) →
-    number_at least most fields ≡ Ok x → IsNumber least most fields x.0 x.1
-number_ok least most [] x is = absurd (let no : ⊥ = cc in no)
-number_ok least most (field ∷ fields) x is =
+-- a number that was read: its range and its field
+pub number_ok : (least most : ℕ) → most < 2 ^ 64 → (fields : List (List ℕ)) (x : ℕ × List (List ℕ)) →
+    number_at least most fields ≡ Ok x → (least ≤ x.0) × (x.0 ≤ most) × (fields ≡ decimal x.0 ∷ x.1)
+number_ok least most small [] x is = absurd (refused_never _ x is)
+number_ok least most small (field ∷ fields) x is =
     let n = bind_ok (in_range least most (number_of field)) (λ n. Ok (n, fields)) x is in
-    let same : (n.0, fields) ≡ x = same_Ok (n.0, fields) x n.2 in
-    let first = ap (λ (p : ℕ × List (List ℕ)). p.0) same in
     let range = in_range_ok least most (number_of field) n.0 n.1 in
-    record {
-      field = field;
-      are = ap (λ (p : ℕ × List (List ℕ)). field ∷ p.1) same;
-      number = range.0 ∙ ap (λ k. Some k) first;
-      low = omega (arith, first, range.1);
-      high = omega (arith, first, range.2);
-    }
+    subst (λ (y : ℕ × List (List ℕ)). (least ≤ y.0) × (y.0 ≤ most) × (field ∷ fields ≡ decimal y.0 ∷ y.1))
+    (same_Ok (n.0, fields) x n.2)
+    (range.1, range.2, ap (λ f. f ∷ fields) (decimal-number_of field n.0 (omega (arith, range.2)) range.0))
 
-pub operand_ok : (least most : ℕ) (fields : List (List ℕ)) (x : ℕ × List (List ℕ)) →
-    operand_at least most fields ≡ Ok x → IsNumber least most fields x.0 x.1
-operand_ok least most [] x is = absurd (let no : ⊥ = cc in no)
-operand_ok least most (field ∷ fields) x is =
-    number_ok least most (field ∷ fields) x
+pub numeral_ok : (ended : Bool) (least most : ℕ) → most < 2 ^ 64 → (fields : List (List ℕ)) (x : ℕ × List (List ℕ)) →
+    cond ended (operand_at least most fields) (number_at least most fields) ≡ Ok x →
+    (least ≤ x.0) × (x.0 ≤ most) × (fields ≡ decimal x.0 ∷ x.1)
+numeral_ok false least most small fields x is = number_ok least most small fields x is
+numeral_ok true least most small [] x is = absurd (refused_never _ x is)
+numeral_ok true least most small (field ∷ fields) x is =
+    number_ok least most small (field ∷ fields) x
     (guarded_ok (bytes_eq field (codes ";")) (number_at least most (field ∷ fields)) x _ is).1
 
 pub end_ok : (fields rest : List (List ℕ)) → end_at fields ≡ Ok rest → fields ≡ []
 end_ok [] rest is = refl
 end_ok (field ∷ fields) rest is = absurd (let no : ⊥ = cc in no)
-
-pub declared_ok : {A : Type 0} (o : Option A) (x : A) → declared o ≡ Ok x → o ≡ Some x
-declared_ok None x is = absurd (let no : ⊥ = cc in no)
-declared_ok (Some y) x is = ap (λ a. Some a) (same_Ok y x is)
 
 -- ---- words
 
@@ -115,21 +99,7 @@ spelled_is field w is =
 pub word_by : (version : ℕ) (w : Word) → word_of version (spelling w) ≡ cond (leb (since w) version) (Some w) None
 unfolding word_of
 word_by version word.Workers = refl
-word_by version word.Bank = refl
-word_by version word.List = refl
-word_by version word.Tree = refl
-word_by version word.Tx = refl
-word_by version word.Transfer = refl
-word_by version word.Balance = refl
-word_by version word.Total = refl
-word_by version word.Insert = refl
-word_by version word.Remove = refl
-word_by version word.Member = refl
-word_by version word.Put = refl
-word_by version word.Get = refl
-word_by version word.Await = refl
-word_by version word.OrElse = refl
-word_by version word.Semicolon = refl
+word_by version other = refl
 
 none_of : {A : Type 0} (p q : A → Bool) (xs : List A) → find p xs ≡ None → find (λ x. p x && q x) xs ≡ None
 none_of p q [] is = refl
@@ -148,3 +118,6 @@ word_from version field None is =
     none_of (λ word. bytes_eq (spelling word) field) (λ word. leb (since word) version) words is
 word_from version field (Some w) is =
     ap (word_of version) (spelled_is field w is) ∙ word_by version w
+
+pub word_again : (version : ℕ) (w : Word) → since w ≤ version → word_of version (spelling w) ≡ Some w
+word_again version w has = word_by version w ∙ ap (λ (b : Bool). cond b (Some w) None) (le-leb (since w) version has)

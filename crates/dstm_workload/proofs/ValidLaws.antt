@@ -1,13 +1,11 @@
 -- What is read is a valid workload.
-use Rattle.std.proofs.Common.{◌≡◌, ℕ, zero, suc, ◌+◌, ◌<◌, ◌≤◌, Bool, true, false, List, []}
-use Rattle.std.proofs.Common.{◌∷◌, ◌++◌, length, get_or, Option, Some, None, Result, Ok, Err}
-use Rattle.std.proofs.Common.{IfSome, unwrap_or, refl, sym, ap, subst, ◌∙◌, add-one, arith}
+use Rattle.std.proofs.Common.{◌≡◌, ℕ, zero, suc, ◌+◌, ◌<◌, ◌≤◌, List, [], ◌∷◌, ◌++◌, length, get_or}
+use Rattle.std.proofs.Common.{Option, Some, None, Result, Ok, Err, IfSome, refl, sym, ap, subst, ◌∙◌}
+use Rattle.std.proofs.Common.{add-one, arith, append-nil}
 use Rattle.std.specs.List.{AllByRecursion}
+use Rattle.std.proofs.lemmas.List.{map-append, length-append}
 use Rattle.std.proofs.lemmas.List.Elements.{All-from_recursion}
 use Rattle.dstm_model.specs.declared.layout.Layout.{Layout}
-use Rattle.dstm_model.specs.Layout.{FitsLayout}
-use Rattle.dstm_model.specs.Job.{branches_of}
-use Rattle.dstm_text.specs.Lines.{fields_of}
 use Rattle.dstm_workload.specs.declared.refused.Why.{Why}
 use Rattle.dstm_workload.specs.declared.refused.Refused.{Refused}
 use Rattle.dstm_workload.specs.declared.known.Known.{Known}
@@ -15,329 +13,180 @@ use Rattle.dstm_workload.specs.declared.known.Entry.{Entry}
 use Rattle.dstm_workload.specs.declared.known.Entry.TheVariants as entry
 use Rattle.dstm_workload.specs.declared.workload.Job.{Job}
 use Rattle.dstm_workload.specs.declared.workload.Workload.{Workload}
-use Rattle.dstm_workload.specs.declared.workload.TheConstants.{MAX_WORKERS, MAX_OPS, VERSIONS}
-use Rattle.dstm_workload.specs.Workload.{HasOp, HasValue, IsBranch, IsJob, IsValidWorkload, lines_of_jobs}
-use Rattle.dstm_workload.specs.Entries.{is_comment, entry_of, worker_count}
-use Rattle.dstm_workload.specs.Known.{nothing_known, with_entry, known_with, layout_of}
-use Rattle.dstm_workload.specs.Known.{jobs_in, after_jobs, told_on, told_from}
-use Rattle.dstm_workload.proofs.EntryLaws.{IsTransactionOf, Told, LineTold, line_told}
-use Rattle.dstm_workload.proofs.KnownLaws.{header_ok}
-use Rattle.dstm_workload.proofs.OpLaws.{IsKnown, layout_is_valid, ops_ok}
+use Rattle.dstm_workload.specs.Workload.{AreOperations, IsJob, IsValidWorkload, lines_of_jobs}
+use Rattle.dstm_workload.specs.Entries.{worker_count}
+use Rattle.dstm_workload.specs.Known.{IsKnown, with_entry, known_with, layout_of, jobs_in}
+use Rattle.dstm_workload.specs.Reading.{followed_by}
+use Rattle.dstm_workload.proofs.LinesAgain.{all_both}
+use Rattle.dstm_workload.proofs.ReadLaws.{same_Ok}
+use Rattle.dstm_workload.proofs.EntryLaws.{Comes, Told, some_worker}
+use Rattle.dstm_workload.proofs.KnownLaws.{known_stays}
+use Rattle.dstm_workload.proofs.TableLaws.{layout_is_valid}
 
--- ---- what is known stays in its range
+-- ---- a line and those after it
 
-known_stays : (known : Known) (line : ℕ) (fields : List (List ℕ)) (e : Entry) → IsKnown known →
-    Told known line fields e → IsKnown (with_entry known e)
-known_stays known line fields (entry.Version v) valid told =
-    let header = header_ok fields v told.1 in
-    record {
-      version = (header.low, header.high);
-      workers = valid.workers;
-      bank = valid.bank;
-      list = valid.list;
-      tree = valid.tree;
-      few = valid.few;
-    }
-known_stays known line fields (entry.Workers n) valid told =
-    record {
-      version = valid.version;
-      workers = (told.low, told.high);
-      bank = valid.bank;
-      list = valid.list;
-      tree = valid.tree;
-      few = valid.few;
-    }
-known_stays known line fields (entry.Bank bank) valid told =
-    record {
-      version = valid.version;
-      workers = valid.workers;
-      bank = (told.some, told.few, told.small);
-      list = valid.list;
-      tree = valid.tree;
-      few = valid.few;
-    }
-known_stays known line fields (entry.List n) valid told =
-    record {
-      version = valid.version;
-      workers = valid.workers;
-      bank = valid.bank;
-      list = (told.low, told.high);
-      tree = valid.tree;
-      few = valid.few;
-    }
-known_stays known line fields (entry.Tree n) valid told =
-    record {
-      version = valid.version;
-      workers = valid.workers;
-      bank = valid.bank;
-      list = valid.list;
-      tree = (told.low, told.high);
-      few = valid.few;
-    }
-known_stays known line fields (entry.Transaction job) valid told =
-    record {
-      version = valid.version;
-      workers = valid.workers;
-      bank = valid.bank;
-      list = valid.list;
-      tree = valid.tree;
-      few = omega (arith, told.room);
-    }
+-- the lines after one that was read were read too
+pub record Followed (told : Result (Option Entry) Why) (more : Result (List Job) Refused) (jobs : List Job) : Type 0 where
+  pub entry : Option Entry
+  pub rest : List Job
+  pub told_is : told ≡ Ok entry
+  pub more_is : more ≡ Ok rest
+  pub jobs_are : jobs_in entry ++ rest ≡ jobs
 
-some_same : (x y : ℕ) → ◌≡◌ {A = Option ℕ} (Some x) (Some y) → x ≡ y
-some_same x y is = cc
+pub followed_ok : (line : ℕ) (told : Result (Option Entry) Why) (more : Result (List Job) Refused) (jobs : List Job) →
+    followed_by line told more ≡ Ok jobs → Followed told more jobs
+followed_ok line (Ok e) (Ok js) jobs is =
+    record { entry = e; rest = js; told_is = refl; more_is = refl; jobs_are = same_Ok (jobs_in e ++ js) jobs is }
+followed_ok line (Ok e) (Err r) jobs is = absurd (let no : ⊥ = cc in no)
+followed_ok line (Err why) more jobs is = absurd (let no : ⊥ = cc in no)
 
-same_told : (x y : Known × List Job) → ◌≡◌ {A = Result (Known × List Job) Refused} (Ok x) (Ok y) → x ≡ y
-same_told x y is = cc
-
-in_version : (o : Option ℕ) (v : ℕ) → IfSome o (λ v. (1 ≤ v) × (v ≤ VERSIONS)) → o ≡ Some v →
-    (1 ≤ v) × (v ≤ VERSIONS)
-in_version None v h is = absurd (let never : ⊥ = cc in never)
-in_version (Some w) v h is = let same = some_same w v is in (omega arith, omega arith)
-
--- ---- the jobs of a run of lines
-
--- a job that is right for these workers, this layout and this version
-pub record IsGood (version workers : ℕ) (layout : Layout) (job : Job) : Type 0 where
-  pub worker : job.worker < workers
-  pub few : length job.ops ≤ MAX_OPS
-  pub fit : AllByRecursion (FitsLayout layout) job.ops
-  pub have : AllByRecursion (HasOp version) job.ops
-  pub values : AllByRecursion HasValue job.ops
-  pub branches : AllByRecursion IsBranch (branches_of job.ops)
+-- ---- jobs on rising lines
 
 -- numbers that rise, from this one on
 abbrev RiseFrom : ℕ → List ℕ → Type 0
 RiseFrom n [] = Unit {0}
 RiseFrom n (x ∷ xs) = (n ≤ x) × RiseFrom (x + 1) xs
 
-rise_earlier : (m n : ℕ) (xs : List ℕ) → m ≤ n → RiseFrom n xs → RiseFrom m xs
-rise_earlier m n [] le h = tt
-rise_earlier m n (x ∷ xs) le h = let low = h.0 in (omega arith, h.1)
-
-rise_at : (n : ℕ) (xs : List ℕ) (k : ℕ) → RiseFrom n xs → suc k < length xs →
-    get_or xs k 0 < get_or xs (suc k) 0
+rise_at : (n : ℕ) (xs : List ℕ) (k : ℕ) → RiseFrom n xs → suc k < length xs → get_or xs k 0 < get_or xs (suc k) 0
 rise_at n [] k h lt = absurd (omega arith)
 rise_at n (x ∷ []) k h lt = absurd (omega arith)
 rise_at n (x ∷ y ∷ ys) zero h lt = let next = h.1.0 in omega arith
 rise_at n (x ∷ y ∷ ys) (suc k) h lt = rise_at (x + 1) (y ∷ ys) k h.1 (omega arith)
 
--- what lines have told after others that told this much
-record Run (known : Known) (line : ℕ) (last : Known) (jobs : List Job) : Type 0 where
-  valid : IsKnown last
-  version : (v : ℕ) → known.version ≡ Some v → last.version ≡ Some v
-  fixed : 0 < known.transactions →
-      (worker_count last ≡ worker_count known) × (layout_of last ≡ layout_of known)
-  count : last.transactions ≡ known.transactions + length jobs
-  each : (v : ℕ) → last.version ≡ Some v → AllByRecursion (IsGood v (worker_count last) (layout_of last)) jobs
-  lines : RiseFrom line (lines_of_jobs jobs)
+rise_more : (n : ℕ) (xs : List ℕ) (m : ℕ) → RiseFrom n xs → AllByRecursion (λ x. x < m) xs → n ≤ m →
+    RiseFrom n (xs ++ m ∷ [])
+rise_more n [] m rise below le = (le, tt)
+rise_more n (x ∷ xs) m rise below le =
+    let next = below.0 in (rise.0, rise_more (x + 1) xs m rise.1 below.1 (omega arith))
 
-pub workers_some : (o : Option ℕ) → IfSome o (λ n. (1 ≤ n) × (n ≤ MAX_WORKERS)) →
-    (1 ≤ unwrap_or o 1) × (unwrap_or o 1 ≤ MAX_WORKERS)
-workers_some None h = (omega arith, omega arith)
-workers_some (Some n) h = h
+below_more : (m : ℕ) (xs : List ℕ) → AllByRecursion (λ x. x < m) xs → AllByRecursion (λ x. x < m + 1) xs
+below_more m [] below = tt
+below_more m (x ∷ xs) below = let this = below.0 in (omega arith, below_more m xs below.1)
 
--- a line that declares something comes before the first transaction
-after_declaration : (known next : Known) (line : ℕ) (last : Known) (jobs : List Job) →
-    known.transactions ≡ 0 → next.transactions ≡ 0 →
-    ((v : ℕ) → known.version ≡ Some v → next.version ≡ Some v) → Run next (line + 1) last jobs →
-    Run known line last jobs
-after_declaration known next line last jobs early still same run = record {
-  valid = run.valid;
-  version = λ v is. run.version v (same v is);
-  fixed = λ some. absurd (omega arith);
-  count = omega (arith, run.count);
-  each = run.each;
-  lines = rise_earlier line (line + 1) (lines_of_jobs jobs) (omega arith) run.lines;
-}
+-- a job that is right for these workers, this layout and this version
+pub record IsGood (version workers : ℕ) (layout : Layout) (job : Job) : Type 0 where
+  pub worker : job.worker < workers
+  pub ops : AreOperations version layout job.ops
 
-after_header : (known : Known) (line v : ℕ) (last : Known) (jobs : List Job) → known.version ≡ None →
-    Run (with_entry known (entry.Version v)) (line + 1) last jobs → Run known line last jobs
-after_header known line v last jobs none run = record {
-  valid = run.valid;
-  version = λ w is. absurd (let never : ⊥ = cc in never);
-  fixed = run.fixed;
-  count = run.count;
-  each = run.each;
-  lines = rise_earlier line (line + 1) (lines_of_jobs jobs) (omega arith) run.lines;
-}
+abbrev AllGood : Option ℕ → Known → List Job → Type 0
+AllGood None known jobs = jobs ≡ []
+AllGood (Some version) known jobs = AllByRecursion (IsGood version (worker_count known) (layout_of known)) jobs
 
-after_transaction : (known : Known) (line : ℕ) (fields : List (List ℕ)) (job : Job) (last : Known) (jobs : List Job) →
-    IsKnown known → IsTransactionOf known line fields job →
-    Run (with_entry known (entry.Transaction job)) (line + 1) last jobs → Run known line last (job ∷ jobs)
-after_transaction known line fields job last jobs valid told run =
-    let fixed = run.fixed (omega arith) in
-    let workers = workers_some known.workers valid.workers in
-    let ops = ops_ok told.version known MAX_OPS 0 true told.after job.ops valid (omega arith) told.ops in
-    let GoodFor : ℕ → ℕ → Layout → Type 0 = λ v w l. IsGood v w l job in
-    let here : GoodFor told.version (worker_count known) (layout_of known) = record {
-      worker = omega (arith, told.worker, workers.0);
-      few = omega (arith, ops.few);
-      fit = ops.fit;
-      have = ops.have;
-      values = ops.values;
-      branches = ops.branches;
-    } in
-    let there : GoodFor told.version (worker_count last) (layout_of last) =
-    subst (λ (l : Layout). GoodFor told.version (worker_count last) l) (sym fixed.1)
-    (subst (λ (w : ℕ). GoodFor told.version w (layout_of known)) (sym fixed.0) here) in
+-- the jobs of the lines before this one, with what is known from them
+pub record SoFar (known : Known) (line : ℕ) (jobs : List Job) : Type 0 where
+  pub valid : IsKnown known
+  count : known.transactions ≡ length jobs
+  good : AllGood known.version known jobs
+  rise : RiseFrom 1 (lines_of_jobs jobs)
+  below : AllByRecursion (λ n. n < line) (lines_of_jobs jobs)
+
+pub none_so_far : (known : Known) (line : ℕ) → IsKnown known → known.transactions ≡ 0 → SoFar known line []
+none_so_far known line valid early =
+    record { valid = valid; count = early; good = none known.version; rise = tt; below = tt }
+  where
+    none : (version : Option ℕ) → AllGood version known []
+    none None = refl
+    none (Some version) = tt
+
+no_jobs : (jobs : List Job) → length jobs ≡ 0 → jobs ≡ []
+no_jobs [] is = refl
+no_jobs (job ∷ jobs) is = absurd (omega arith)
+
+-- a line that tells no transaction
+declared : (known next : Known) (line : ℕ) (jobs : List Job) → SoFar known line jobs → IsKnown next →
+    known.transactions ≡ 0 → next.transactions ≡ 0 → SoFar next (line + 1) (jobs ++ [])
+declared known next line jobs so_far valid early still =
+    let none = no_jobs jobs (sym so_far.count ∙ early) in
+    subst (λ js. SoFar next (line + 1) (js ++ [])) (sym none) (none_so_far next (line + 1) valid still)
+
+transaction : (known : Known) (line : ℕ) (jobs : List Job) (job : Job) (o : Option ℕ) → o ≡ known.version →
+    SoFar known line jobs → 1 ≤ line → Comes o known line (entry.Transaction job) → AllGood o known jobs →
+    SoFar (with_entry known (entry.Transaction job)) (line + 1) (jobs ++ job ∷ [])
+transaction known line jobs job None versioned so_far some comes good = absurd comes
+transaction known line jobs job (Some version) versioned so_far some comes good =
+    let next = with_entry known (entry.Transaction job) in
+    let these : AllGood (Some version) next (jobs ++ job ∷ []) =
+    all_both (IsGood version (worker_count known) (layout_of known)) jobs (job ∷ []) good
+    (record { worker = comes.worker; ops = comes.ops }, tt) in
+    let lines = lines_of_jobs jobs in
+    let last : lines ++ job.line ∷ [] ≡ lines_of_jobs (jobs ++ job ∷ []) = sym (map-append (λ j. j.line) jobs (job ∷ [])) in
     record {
-      valid = run.valid;
-      version = run.version;
-      fixed = λ some. fixed;
-      count = omega (arith, run.count);
-      each = λ v is.
-          let same : told.version ≡ v =
-          some_same told.version v (sym (run.version told.version told.versioned) ∙ is) in
-          (subst (λ (w : ℕ). GoodFor w (worker_count last) (layout_of last)) same there, run.each v is);
-      lines = (
-        omega (arith, told.line_is),
-        rise_earlier (job.line + 1) (line + 1) (lines_of_jobs jobs)
-            (omega (arith, told.line_is)) run.lines,
-      );
+      valid = known_stays known line (Some version) (entry.Transaction job) so_far.valid comes;
+      count = omega (arith, so_far.count, length-append jobs (job ∷ []));
+      good = subst (λ v. AllGood v next (jobs ++ job ∷ [])) versioned these;
+      rise = subst (RiseFrom 1) last (rise_more 1 lines job.line so_far.rise
+          (subst (λ m. AllByRecursion (λ x. x < m) lines) (sym comes.line_is) so_far.below)
+          (omega (arith, comes.line_is)));
+      below = subst (AllByRecursion (λ x. x < line + 1)) last
+          (all_both (λ x. x < line + 1) lines (job.line ∷ []) (below_more line lines so_far.below)
+          (omega (arith, comes.line_is), tt));
     }
 
-after_entry : (known : Known) (line : ℕ) (fields : List (List ℕ)) (e : Entry) (last : Known) (jobs : List Job) →
-    IsKnown known → Told known line fields e →
-    Run (with_entry known e) (line + 1) last jobs → Run known line last (jobs_in (Some e) ++ jobs)
-after_entry known line fields (entry.Version v) last jobs valid told run =
-    after_header known line v last jobs told.0 run
-after_entry known line fields (entry.Workers n) last jobs valid told run =
-    after_declaration known (with_entry known (entry.Workers n)) line last jobs told.early told.early
-    (λ v is. is) run
-after_entry known line fields (entry.Bank bank) last jobs valid told run =
-    after_declaration known (with_entry known (entry.Bank bank)) line last jobs told.early told.early
-    (λ v is. is) run
-after_entry known line fields (entry.List n) last jobs valid told run =
-    after_declaration known (with_entry known (entry.List n)) line last jobs told.early told.early
-    (λ v is. is) run
-after_entry known line fields (entry.Tree n) last jobs valid told run =
-    after_declaration known (with_entry known (entry.Tree n)) line last jobs told.early told.early
-    (λ v is. is) run
-after_entry known line fields (entry.Transaction job) last jobs valid told run =
-    after_transaction known line fields job last jobs valid told run
+entry_on : (known : Known) (line : ℕ) (jobs : List Job) (o : Option ℕ) (e : Entry) → o ≡ known.version →
+    SoFar known line jobs → 1 ≤ line → Comes o known line e → AllGood o known jobs →
+    SoFar (with_entry known e) (line + 1) (jobs ++ jobs_in (Some e))
+entry_on known line jobs None (entry.Version v) versioned so_far some comes none =
+    let early = so_far.count ∙ ap length none in
+    declared known (with_entry known (entry.Version v)) line jobs so_far
+    (known_stays known line None (entry.Version v) so_far.valid comes) early early
+entry_on known line jobs None other versioned so_far some comes none = absurd comes
+entry_on known line jobs (Some version) (entry.Version v) versioned so_far some comes good = absurd comes
+entry_on known line jobs (Some version) (entry.Transaction job) versioned so_far some comes good =
+    transaction known line jobs job (Some version) versioned so_far some comes good
+entry_on known line jobs (Some version) other versioned so_far some comes good =
+    declared known (with_entry known other) line jobs so_far
+    (known_stays known line (Some version) other so_far.valid comes) comes.0 comes.0
 
--- what is known after a line stays in its range, and the run goes on
-record Step (known : Known) (line : ℕ) (told : Option Entry) : Type 0 where
-  valid : IsKnown (known_with known told)
-  runs : (last : Known) (jobs : List Job) → Run (known_with known told) (line + 1) last jobs →
-      Run known line last (jobs_in told ++ jobs)
-
-nothing_step : (known : Known) (line : ℕ) (told : Option Entry) → IsKnown known → told ≡ None →
-    Step known line told
-nothing_step known line told valid nothing =
-    let none : Step known line None = record {
-      valid = valid;
-      runs = λ last jobs run. record {
-        valid = run.valid;
-        version = run.version;
-        fixed = run.fixed;
-        count = run.count;
-        each = run.each;
-        lines = rise_earlier line (line + 1) (lines_of_jobs jobs) (omega arith) run.lines;
-      };
-    } in
-    subst (Step known line) (sym nothing) none
-
-line_step : (known : Known) (line : ℕ) (text : List ℕ) (fields : List (List ℕ)) (comment : Bool) (told : Option Entry) →
-    IsKnown known →
-    LineTold known line text fields comment told → Step known line told
-line_step known line text fields true told valid nothing = nothing_step known line told valid nothing
-line_step known line text [] false told valid nothing = nothing_step known line told valid nothing
-line_step known line text (field ∷ fields) false told valid some =
-    let one : Step known line (Some some.0) = record {
-      valid = known_stays known line (field ∷ fields) some.0 valid some.2;
-      runs = λ last jobs run. after_entry known line (field ∷ fields) some.0 last jobs valid some.2 run;
-    } in
-    subst (Step known line) (sym some.1) one
-
-step_on : (known : Known) (line : ℕ) (told : Option Entry) (later : Result (Known × List Job) Refused)
-    (last : Known) (jobs : List Job) →
-    Step known line told →
-    ((js : List Job) → later ≡ Ok (last, js) → Run (known_with known told) (line + 1) last js) →
-    after_jobs (jobs_in told) later ≡ Ok (last, jobs) → Run known line last jobs
-step_on known line told (Err r) last jobs step go is = absurd (let never : ⊥ = cc in never)
-step_on known line told (Ok (k, js)) last jobs step go is =
-    let both : ◌≡◌ {A = Known × List Job} (k, jobs_in told ++ js) (last, jobs) =
-    same_told (k, jobs_in told ++ js) (last, jobs) is in
-    let same : k ≡ last = ap (λ (p : Known × List Job). p.0) both in
-    let list : jobs_in told ++ js ≡ jobs = ap (λ (p : Known × List Job). p.1) both in
-    let later_is : ◌≡◌ {A = Result (Known × List Job) Refused} (Ok (k, js)) (Ok (last, js)) =
-    ap (λ (q : Known). Ok (q, js)) same in
-    subst (Run known line last) list (step.runs last js (go js later_is))
-
-told_runs : (known : Known) (line : ℕ) (r : Result (Option Entry) Why)
-    (rest : Option Entry → Result (Known × List Job) Refused) (last : Known) (jobs : List Job) →
-    ((told : Option Entry) → r ≡ Ok told → Step known line told) →
-    ((told : Option Entry) (js : List Job) → IsKnown (known_with known told) → rest told ≡ Ok (last, js) →
-    Run (known_with known told) (line + 1) last js) →
-    told_on line r rest ≡ Ok (last, jobs) → Run known line last jobs
-told_runs known line (Err why) rest last jobs step go is = absurd (let never : ⊥ = cc in never)
-told_runs known line (Ok told) rest last jobs step go is =
-    let this = step told refl in
-    step_on known line told (rest told) last jobs this (λ js e. go told js this.valid e) is
-
-run_ok : (known : Known) (line : ℕ) (texts : List (List ℕ)) (last : Known) (jobs : List Job) →
-    IsKnown known → told_from known line texts ≡ Ok (last, jobs) → Run known line last jobs
-run_ok known line [] last jobs valid is =
-    let both : ◌≡◌ {A = Known × List Job} (known, []) (last, jobs) = same_told (known, []) (last, jobs) is in
-    let none : Run known line known [] = record {
-      valid = valid;
-      version = λ v e. e;
-      fixed = λ some. (refl, refl);
-      count = omega arith;
-      each = λ v e. tt;
-      lines = tt;
-    } in
-    subst (λ (p : Known × List Job). Run known line p.0 p.1) both none
-run_ok known line (text ∷ texts) last jobs valid is =
-    told_runs known line (entry_of known line text)
-    (λ told. told_from (known_with known told) (line + 1) texts) last jobs
-    (λ told e. line_step known line text (fields_of text) (is_comment text) told valid
-    (line_told known line text told e))
-    (λ told js still e. run_ok (known_with known told) (line + 1) texts last js still e) is
+pub line_on : (known : Known) (line : ℕ) (jobs : List Job) (text : List ℕ) (told : Option Entry) →
+    SoFar known line jobs → 1 ≤ line → Told known line text told →
+    SoFar (known_with known told) (line + 1) (jobs ++ jobs_in told)
+line_on known line jobs text (Some e) so_far some tells =
+    entry_on known line jobs known.version e refl so_far some tells.1.0 so_far.good
+line_on known line jobs text None so_far some tells =
+    subst (SoFar known (line + 1)) (sym (append-nil jobs)) (record {
+      valid = so_far.valid;
+      count = so_far.count;
+      good = so_far.good;
+      rise = so_far.rise;
+      below = below_more line (lines_of_jobs jobs) so_far.below;
+    })
 
 -- ---- the workload
-
-nothing_valid : IsKnown nothing_known
-nothing_valid = record { version = tt; workers = tt; bank = tt; list = tt; tree = tt; few = omega arith }
-
-good_is_job : (workload : Workload) (job : Job) →
-    IsGood workload.version workload.workers workload.layout job → IsJob workload job
-good_is_job workload job good = record {
-  worker = good.worker;
-  few = good.few;
-  fits = All-from_recursion (FitsLayout workload.layout) job.ops good.fit;
-  version = All-from_recursion (HasOp workload.version) job.ops good.have;
-  values = All-from_recursion HasValue job.ops good.values;
-  branches = All-from_recursion IsBranch (branches_of job.ops) good.branches;
-}
 
 good_are_jobs : (workload : Workload) (jobs : List Job) →
     AllByRecursion (IsGood workload.version workload.workers workload.layout) jobs →
     AllByRecursion (IsJob workload) jobs
 good_are_jobs workload [] good = tt
 good_are_jobs workload (job ∷ jobs) good =
-    (good_is_job workload job good.0, good_are_jobs workload jobs good.1)
+    let ops = good.0.ops in (
+      record {
+        worker = good.0.worker;
+        few = ops.few;
+        fits = ops.fits;
+        version = ops.have;
+        values = ops.values;
+        branches = ops.branches;
+      },
+      good_are_jobs workload jobs good.1,
+    )
 
-pub told_is_valid : (lines : List (List ℕ)) (known : Known) (jobs : List Job) (v : ℕ) →
-    told_from nothing_known 1 lines ≡ Ok (known, jobs) → known.version ≡ Some v →
+pub so_far_valid : (known : Known) (line : ℕ) (jobs : List Job) (v : ℕ) → SoFar known line jobs → known.version ≡ Some v →
     IsValidWorkload (record { version = v; workers = worker_count known; layout = layout_of known; jobs = jobs })
-told_is_valid lines known jobs v told versioned =
+so_far_valid known line jobs v all versioned =
     let workload : Workload =
     record { version = v; workers = worker_count known; layout = layout_of known; jobs = jobs } in
-    let run = run_ok nothing_known 1 lines known jobs nothing_valid told in
-    let range = in_version known.version v run.valid.version versioned in
-    let workers = workers_some known.workers run.valid.workers in
+    let range : IfSome (Some v) (λ v. (1 ≤ v) × (v ≤ 3)) =
+    subst (λ o. IfSome o (λ v. (1 ≤ v) × (v ≤ 3))) versioned all.valid.version in
+    let workers = some_worker known all.valid in
     record {
       oldest = range.0;
       newest = range.1;
       some_worker = workers.0;
       workers = workers.1;
-      layout = layout_is_valid known run.valid;
-      few = omega (arith, run.count, run.valid.few);
-      rising =
-          λ k lt. subst (λ (j : ℕ). get_or (lines_of_jobs jobs) k 0 < get_or (lines_of_jobs jobs) j 0)
-          (sym (add-one k)) (rise_at 1 (lines_of_jobs jobs) k run.lines (omega arith));
-      each = All-from_recursion (IsJob workload) jobs (good_are_jobs workload jobs (run.each v versioned));
+      layout = layout_is_valid known all.valid;
+      few = omega (arith, all.count, all.valid.few);
+      rising = λ k lt. subst (λ (j : ℕ). get_or (lines_of_jobs jobs) k 0 < get_or (lines_of_jobs jobs) j 0)
+          (sym (add-one k)) (rise_at 1 (lines_of_jobs jobs) k all.rise (omega arith));
+      each = All-from_recursion (IsJob workload) jobs
+          (good_are_jobs workload jobs (subst (λ o. AllGood o known jobs) versioned all.good));
     }

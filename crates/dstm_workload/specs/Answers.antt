@@ -1,5 +1,6 @@
 -- What a reader answers, beside what its text stands for.
-use Rattle.std.specs.Prelude.{◌≡◌, ℕ, List, Result, Ok, Err, codes}
+use Rattle.std.specs.Prelude.{◌≡◌, ℕ, List, Result, Err, codes}
+use Rattle.dstm_text.specs.Answers.{GivesBy as GivesSeen}
 use Rattle.dstm_workload.specs.declared.refused.Why.{Why}
 use Rattle.dstm_workload.specs.declared.refused.Why.TheVariants.{Header, Bytes, Unknown, Missing, Extra, Number}
 use Rattle.dstm_workload.specs.declared.refused.Why.TheVariants.{OutOfRange, Twice, Late, Undeclared, TooMany}
@@ -31,8 +32,7 @@ Fails (errors.Refused r) read = read ≡ Err r
 
 -- an answer, seen by view, is what reading gives, unless memory ran out
 abbrev pub GivesBy : {X Y : Type 0} → (X → Y) → Result X WorkloadError → Result Y Refused → Type 0
-GivesBy view (Ok x) read = read ≡ Ok (view x)
-GivesBy view (Err e) read = Fails e read
+GivesBy view result read = GivesSeen Fails view result read
 
 abbrev pub Gives : {X : Type 0} → Result X WorkloadError → Result X Refused → Type 0
 Gives result read = GivesBy (λ x. x) result read

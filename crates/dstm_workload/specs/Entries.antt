@@ -13,8 +13,10 @@ use Rattle.dstm_workload.specs.declared.known.Known.{Known}
 use Rattle.dstm_workload.specs.declared.known.Entry.{Entry}
 use Rattle.dstm_workload.specs.declared.known.Entry.TheVariants as entry
 use Rattle.dstm_workload.specs.Words.{word_of}
-use Rattle.dstm_workload.specs.Fields.{◌>>=◌, number_at, end_at}
-use Rattle.dstm_workload.specs.Operations.{ops_at}
+use Rattle.dstm_text.specs.Results.{◌>>=◌}
+use Rattle.dstm_workload.specs.Fields.{number_at, end_at}
+use Rattle.dstm_workload.specs.Operations.{operands_at, ops_at}
+use Rattle.dstm_workload.specs.Table.{Kind, WorkerCount, AccountCount, Opening, ListSize, TreeSize, Operands}
 
 -- a line that begins with `#`
 abbrev pub is_comment : List ℕ → Bool
@@ -46,34 +48,38 @@ abbrev pub free_for : Known → Bool → Result Bool Why
 free_for known declared =
     if nat_lt 0 known.transactions then Err Late else if declared then Err Twice else Ok true
 
-unfoldable pub workers_at : Known → List (List ℕ) → Result Entry Why
-workers_at known fields = do
-  free ← free_for known (is_some known.workers)
-  n ← number_at 1 32 fields
-  end ← end_at n.1
-  Ok (entry.Workers n.0)
+-- a declaration: what is declared already, its numbers, and what they tell
+pub record Declaration : Type 0 where
+  pub made : Known → Bool
+  pub kinds : List Kind
+  pub tells : Operands kinds → Entry
 
-unfoldable pub bank_at : Known → List (List ℕ) → Result Entry Why
-bank_at known fields = do
-  free ← free_for known (is_some known.bank)
-  n ← number_at 1 4096 fields
-  b ← number_at 0 1000000000 n.1
-  end ← end_at b.1
-  Ok (entry.Bank (record { accounts = n.0; opening = b.0 }))
+abbrev pub workers : Declaration
+workers = record {
+  made = λ known. is_some known.workers;
+  kinds = WorkerCount ∷ [];
+  tells = λ n. entry.Workers n.0;
+}
 
-unfoldable pub list_at : Known → List (List ℕ) → Result Entry Why
-list_at known fields = do
-  free ← free_for known (is_some known.list)
-  n ← number_at 1 1024 fields
-  end ← end_at n.1
-  Ok (entry.List n.0)
+abbrev pub bank : Declaration
+bank = record {
+  made = λ known. is_some known.bank;
+  kinds = AccountCount ∷ Opening ∷ [];
+  tells = λ n. entry.Bank (record { accounts = n.0; opening = n.1.0 });
+}
 
-unfoldable pub tree_at : Known → List (List ℕ) → Result Entry Why
-tree_at known fields = do
-  free ← free_for known (is_some known.tree)
-  n ← number_at 1 65535 fields
-  end ← end_at n.1
-  Ok (entry.Tree n.0)
+abbrev pub list : Declaration
+list = record { made = λ known. is_some known.list; kinds = ListSize ∷ []; tells = λ n. entry.List n.0 }
+
+abbrev pub tree : Declaration
+tree = record { made = λ known. is_some known.tree; kinds = TreeSize ∷ []; tells = λ n. entry.Tree n.0 }
+
+unfoldable pub declaration_at : Declaration → ℕ → Known → List (List ℕ) → Result Entry Why
+declaration_at declaration version known fields = do
+  free ← free_for known (declaration.made known)
+  numbers ← operands_at version known declaration.kinds fields
+  end ← end_at numbers.1
+  Ok (declaration.tells numbers.0)
 
 -- ---- transactions
 
@@ -88,16 +94,16 @@ unfoldable pub transaction_at : ℕ → Known → ℕ → List (List ℕ) → Re
 transaction_at version known line fields = do
   room ← room_for_job known
   worker ← number_at 0 (worker_count known - 1) fields
-  ops ← ops_at version known 8 0 true worker.1
+  ops ← ops_at version known worker.1
   Ok (entry.Transaction (record { line = line; worker = worker.0; ops = ops }))
 
 -- ---- lines
 
 abbrev pub body_of : ℕ → Known → ℕ → List (List ℕ) → Option Word → Result Entry Why
-body_of version known line fields (Some word.Workers) = workers_at known fields
-body_of version known line fields (Some word.Bank) = bank_at known fields
-body_of version known line fields (Some word.List) = list_at known fields
-body_of version known line fields (Some word.Tree) = tree_at known fields
+body_of version known line fields (Some word.Workers) = declaration_at workers version known fields
+body_of version known line fields (Some word.Bank) = declaration_at bank version known fields
+body_of version known line fields (Some word.List) = declaration_at list version known fields
+body_of version known line fields (Some word.Tree) = declaration_at tree version known fields
 body_of version known line fields (Some word.Tx) = transaction_at version known line fields
 body_of version known line fields (Some other) = Err Unknown
 body_of version known line fields None = Err Unknown

@@ -1,21 +1,12 @@
 -- Reading the fields of a line from the left: what was read, with the fields after it, or the reason
 -- of the first fault.
-use Rattle.std.specs.Prelude.{◌≡◌, ℕ, nat_le, ◌&&◌, List, [], ◌∷◌, Option, Some}
+use Rattle.std.specs.Prelude.{ℕ, Bool, true, nat_le, ◌&&◌, List, [], ◌∷◌, Option, Some}
 use Rattle.std.specs.Prelude.{None, Result, Ok, Err, codes, if◌then◌else◌}
 use Rattle.std.specs.Str.{bytes_eq}
 use Rattle.dstm_text.specs.Number.{number_of}
+use Rattle.dstm_text.specs.Results.{◌>>=◌}
 use Rattle.dstm_workload.specs.declared.refused.Why.{Why}
 use Rattle.dstm_workload.specs.declared.refused.Why.TheVariants.{Missing, Extra, Number, OutOfRange, Undeclared}
-
-infixl 10 ◌>>=◌
-abbrev pub ◌>>=◌ : {A B : Type 0} → Result A Why → (A → Result B Why) → Result B Why
-(Ok x) >>= f = f x
-(Err why) >>= f = Err why
-
--- an answer, seen by view, is what was read
-abbrev pub IsRead : {X Y : Type 0} → Result X Why → (X → Y) → Result Y Why → Type 0
-IsRead (Ok x) view read = read ≡ Ok (view x)
-IsRead (Err why) view read = read ≡ Err why
 
 abbrev pub in_range : ℕ → ℕ → Option ℕ → Result ℕ Why
 in_range least most None = Err Number
@@ -43,3 +34,7 @@ end_at (field ∷ fields) = Err Extra
 abbrev pub declared : {A : Type 0} → Option A → Result A Why
 declared None = Err Undeclared
 declared (Some x) = Ok x
+
+-- what has to be so is so
+abbrev pub met_by : Bool → Result Bool Why
+met_by met = if met then Ok true else Err Undeclared

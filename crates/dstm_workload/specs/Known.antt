@@ -1,11 +1,7 @@
 -- What is known line by line: the reader's running state.
-use Rattle.std.specs.Prelude.{ℕ, ◌+◌, ◌<◌, List, [], ◌∷◌, ◌++◌, Option, Some, None, Result, Ok, Err, unwrap_or}
+use Rattle.std.specs.Prelude.{◌+◌, ◌<◌, ◌≤◌, List, [], ◌∷◌, Option, Some, None, IfSome, unwrap_or}
 use Rattle.dstm_model.specs.declared.layout.Layout.{Layout}
-use Rattle.dstm_workload.specs.declared.refused.Why.{Why}
-use Rattle.dstm_workload.specs.declared.refused.Refused.{Refused}
 use Rattle.dstm_workload.specs.declared.workload.Job.{Job}
-use Rattle.dstm_workload.specs.Answers.{refused}
-use Rattle.dstm_workload.specs.Entries.{entry_of}
 use Rattle.dstm_workload.specs.declared.known.Known.{Known}
 use Rattle.dstm_workload.specs.declared.known.Entry.{Entry}
 use Rattle.dstm_workload.specs.declared.known.Entry.TheVariants as entry
@@ -27,6 +23,16 @@ abbrev pub HasRoomFor : Known → Entry → Type 0
 HasRoomFor known (entry.Transaction job) = known.transactions < 20000
 HasRoomFor known other = Unit {0}
 
+-- what is declared is in its range
+pub record IsKnown (known : Known) : Type 0 where
+  pub version : IfSome known.version (λ v. (1 ≤ v) × (v ≤ 3))
+  pub workers : IfSome known.workers (λ n. (1 ≤ n) × (n ≤ 32))
+  pub bank : IfSome known.bank
+      (λ bank. (1 ≤ bank.accounts) × (bank.accounts ≤ 4096) × (bank.opening ≤ 1000000000))
+  pub list : IfSome known.list (λ n. (1 ≤ n) × (n ≤ 1024))
+  pub tree : IfSome known.tree (λ n. (1 ≤ n) × (n ≤ 65535))
+  pub few : known.transactions ≤ 20000
+
 -- sizes are 0 where nothing is declared
 abbrev pub layout_of : Known → Layout
 layout_of known =
@@ -46,19 +52,3 @@ jobs_in other = []
 abbrev pub known_with : Known → Option Entry → Known
 known_with known None = known
 known_with known (Some e) = with_entry known e
-
--- ---- what lines tell one after the other: what is known after them, and their jobs
-
-abbrev pub after_jobs : List Job → Result (Known × List Job) Refused → Result (Known × List Job) Refused
-after_jobs jobs (Ok told) = Ok (told.0, jobs ++ told.1)
-after_jobs jobs (Err r) = Err r
-
-abbrev pub told_on : ℕ → Result (Option Entry) Why → (Option Entry → Result (Known × List Job) Refused) →
-    Result (Known × List Job) Refused
-told_on line (Ok told) rest = after_jobs (jobs_in told) (rest told)
-told_on line (Err why) rest = Err (refused line why)
-
-abbrev pub told_from : Known → ℕ → List (List ℕ) → Result (Known × List Job) Refused
-told_from known line [] = Ok (known, [])
-told_from known line (text ∷ texts) =
-    told_on line (entry_of known line text) (λ told. told_from (known_with known told) (line + 1) texts)

@@ -2,8 +2,9 @@ pub mod Workload
 pub mod Answers
 pub mod Words
 pub mod Fields
+pub mod Known
+pub mod Table
 pub mod Operations
 pub mod Entries
-pub mod Known
 pub mod Reading
 pub mod Writing

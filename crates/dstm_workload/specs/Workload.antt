@@ -1,6 +1,7 @@
 -- Which workloads are valid.
 use Rattle.std.specs.Prelude.{ℕ, ◌<◌, ◌^◌, ◌≤◌, List, [], ◌∷◌, length, map, All}
 use Rattle.std.specs.List.Sorted.{IsStrictlyIncreasing}
+use Rattle.dstm_model.specs.declared.layout.Layout.{Layout}
 use Rattle.dstm_model.specs.Layout.{IsValid, FitsLayout}
 use Rattle.dstm_model.specs.Job.{branches_of}
 use Rattle.dstm_model.specs.declared.op.Op.{Op}
@@ -29,6 +30,14 @@ IsNoAwait op = Unit {0}
 abbrev pub IsBranch : List Op → Type 0
 IsBranch [] = ⊥
 IsBranch (op ∷ ops) = All IsNoAwait ops
+
+-- operations of a transaction, for this version and this layout
+pub record AreOperations (version : ℕ) (layout : Layout) (ops : List Op) : Type 0 where
+  pub few : length ops ≤ 8
+  pub fits : All (FitsLayout layout) ops
+  pub have : All (HasOp version) ops
+  pub values : All HasValue ops
+  pub branches : All IsBranch (branches_of ops)
 
 -- a job of a workload
 pub record IsJob (workload : Workload) (job : Job) : Type 0 where

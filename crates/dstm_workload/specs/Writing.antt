@@ -3,12 +3,12 @@ use Rattle.std.specs.Prelude.{ℕ, ◌+◌, ◌==◌, Bool, true, false, not, �
 use Rattle.std.specs.Prelude.{◌++◌, length, map, flat_map, codes, decimal, if◌then◌else◌}
 use Rattle.dstm_model.specs.declared.op.Which.{Which}
 use Rattle.dstm_model.specs.declared.op.Which.TheVariants as which
-use Rattle.dstm_model.specs.declared.op.Cond.{Cond}
-use Rattle.dstm_model.specs.declared.op.Cond.TheVariants as cond
 use Rattle.dstm_model.specs.declared.op.Op.{Op}
 use Rattle.dstm_model.specs.declared.op.Op.TheVariants as op
 use Rattle.dstm_model.specs.declared.layout.Layout.{Layout}
 use Rattle.dstm_text.specs.Lines.{space, line_feed}
+use Rattle.dstm_workload.specs.Words.{spelling}
+use Rattle.dstm_workload.specs.Table.{Kind, Structure, Operand, Operands, Form, by_form}
 use Rattle.dstm_workload.specs.declared.workload.Job.{Job}
 use Rattle.dstm_workload.specs.declared.workload.Workload.{Workload}
 
@@ -32,22 +32,21 @@ abbrev pub structure_name : Which → List ℕ
 structure_name which.List = codes "list"
 structure_name which.Tree = codes "tree"
 
-abbrev pub fields_of_cond : Cond → List (List ℕ)
-fields_of_cond (cond.Balance account least) = codes "balance" ∷ decimal account ∷ decimal least ∷ []
-fields_of_cond (cond.Key w key) = structure_name w ∷ decimal key ∷ []
+-- the field of an operand
+abbrev pub field_of : (kind : Kind) → Operand kind → List ℕ
+field_of Structure w = structure_name w
+field_of kind n = decimal n
+
+abbrev pub fields_of_operands : (kinds : List Kind) → Operands kinds → List (List ℕ)
+fields_of_operands [] operands = []
+fields_of_operands (kind ∷ kinds) operands = field_of kind operands.0 ∷ fields_of_operands kinds operands.1
+
+-- the words of a form, and its operands
+abbrev pub written : (form : Form) → Operands form.kinds → List (List ℕ)
+written form operands = map spelling form.words ++ fields_of_operands form.kinds operands
 
 abbrev pub fields_of_op : Op → List (List ℕ)
-fields_of_op (op.Transfer source target amount) =
-    codes "transfer" ∷ decimal source ∷ decimal target ∷ decimal amount ∷ []
-fields_of_op (op.Balance account) = codes "balance" ∷ decimal account ∷ []
-fields_of_op op.Total = codes "total" ∷ []
-fields_of_op (op.Insert w key) = codes "insert" ∷ structure_name w ∷ decimal key ∷ []
-fields_of_op (op.Remove w key) = codes "remove" ∷ structure_name w ∷ decimal key ∷ []
-fields_of_op (op.Member w key) = codes "member" ∷ structure_name w ∷ decimal key ∷ []
-fields_of_op (op.Put key value) = codes "put" ∷ decimal key ∷ decimal value ∷ []
-fields_of_op (op.Get key) = codes "get" ∷ decimal key ∷ []
-fields_of_op (op.Await c) = codes "await" ∷ fields_of_cond c
-fields_of_op op.OrElse = codes "orelse" ∷ []
+fields_of_op o = by_form written o
 
 abbrev pub is_orelse : Op → Bool
 is_orelse op.OrElse = true

@@ -1,6 +1,7 @@
-ghost use Rattle.std.specs.Prelude.{◌≡◌, is_some, true};
-ghost use Rattle.dstm_workload.specs.Fields.{IsRead};
-ghost use Rattle.dstm_workload.specs.Entries.{free_for, workers_at, bank_at, list_at, tree_at};
+ghost use Rattle.std.specs.Prelude.{◌≡◌, is_some, true, ℕ};
+ghost use Rattle.dstm_text.specs.Results.{IsRead};
+ghost use Rattle.dstm_workload.specs.Entries.{free_for, declaration_at};
+ghost use Rattle.dstm_workload.specs.Entries as entries;
 
 use crate::fields::{end, number};
 use crate::known::{Bank, Entry, Known};
@@ -9,9 +10,9 @@ use crate::workload::MAX_WORKERS;
 use dstm_model::{MAX_ACCOUNTS, MAX_LIST_NODES, MAX_OPENING, MAX_TREE_NODES};
 use dstm_text::Fields;
 
-#[tactic(auto, unfolding(crate::specs::Entries::workers_at))]
+#[tactic(auto, unfolding(crate::specs::Entries::declaration_at))]
 pub fn workers(fields: &mut Fields<'_>, known: &Known) -> Result<Entry, Why>
-    ensures { result ≡ workers_at known.now fields.old }
+    ensures { (version : ℕ) → result ≡ declaration_at entries.workers version known.now fields.old }
 {
     free(known, known.workers.is_some())?;
     let workers = number(fields, 1, u64::from(MAX_WORKERS))?;
@@ -19,9 +20,9 @@ pub fn workers(fields: &mut Fields<'_>, known: &Known) -> Result<Entry, Why>
     Ok(Entry::Workers(workers as u32))
 }
 
-#[tactic(auto, unfolding(crate::specs::Entries::bank_at))]
+#[tactic(auto, unfolding(crate::specs::Entries::declaration_at))]
 pub fn bank(fields: &mut Fields<'_>, known: &Known) -> Result<Entry, Why>
-    ensures { result ≡ bank_at known.now fields.old }
+    ensures { (version : ℕ) → result ≡ declaration_at entries.bank version known.now fields.old }
 {
     free(known, known.bank.is_some())?;
     let accounts = number(fields, 1, u64::from(MAX_ACCOUNTS))?;
@@ -33,9 +34,9 @@ pub fn bank(fields: &mut Fields<'_>, known: &Known) -> Result<Entry, Why>
     }))
 }
 
-#[tactic(auto, unfolding(crate::specs::Entries::list_at))]
+#[tactic(auto, unfolding(crate::specs::Entries::declaration_at))]
 pub fn list(fields: &mut Fields<'_>, known: &Known) -> Result<Entry, Why>
-    ensures { result ≡ list_at known.now fields.old }
+    ensures { (version : ℕ) → result ≡ declaration_at entries.list version known.now fields.old }
 {
     free(known, known.list.is_some())?;
     let nodes = number(fields, 1, u64::from(MAX_LIST_NODES))?;
@@ -43,9 +44,9 @@ pub fn list(fields: &mut Fields<'_>, known: &Known) -> Result<Entry, Why>
     Ok(Entry::List(nodes as u32))
 }
 
-#[tactic(auto, unfolding(crate::specs::Entries::tree_at))]
+#[tactic(auto, unfolding(crate::specs::Entries::declaration_at))]
 pub fn tree(fields: &mut Fields<'_>, known: &Known) -> Result<Entry, Why>
-    ensures { result ≡ tree_at known.now fields.old }
+    ensures { (version : ℕ) → result ≡ declaration_at entries.tree version known.now fields.old }
 {
     free(known, known.tree.is_some())?;
     let nodes = number(fields, 1, u64::from(MAX_TREE_NODES))?;

@@ -1,6 +1,6 @@
 ghost use Rattle.std.specs.Prelude.{◌≡◌, ◌∷◌, Some};
 ghost use Rattle.std.specs.List.{list_all};
-ghost use Rattle.dstm_workload.specs.Fields.{IsRead};
+ghost use Rattle.dstm_text.specs.Results.{IsRead};
 ghost use Rattle.dstm_workload.specs.Entries.{entry_of, header_of, body_at, transaction_at, is_comment, is_printable};
 
 use crate::declarations::{bank, list, tree, workers};

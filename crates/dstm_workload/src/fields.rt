@@ -1,11 +1,13 @@
 ghost use Rattle.std.specs.Prelude.{◌≡◌, ◌≤◌, IfOk};
-ghost use Rattle.dstm_workload.specs.Fields.{IsRead, number_at, operand_at, end_at, in_range};
+ghost use Rattle.dstm_text.specs.Results.{IsRead};
+ghost use Rattle.dstm_workload.specs.Fields.{number_at, operand_at, end_at, in_range};
 ghost use Rattle.dstm_text.specs.Number.{number_of};
 
 use crate::refused::Why;
 use dstm_text::{DecimalError, Fields, decimal};
 
 /// Takes a number of this range.
+#[inline(always)]
 pub fn number(fields: &mut Fields<'_>, least: u64, most: u64) -> Result<u64, Why>
     ensures read { IsRead result (λ n. (n, fields.new)) (number_at least most fields.old) }
     ensures high { IfOk result (λ n. n ≤ most) }
@@ -15,15 +17,16 @@ pub fn number(fields: &mut Fields<'_>, least: u64, most: u64) -> Result<u64, Why
 }
 
 /// Takes a number of an operation.
+#[inline(always)]
 pub fn operand(fields: &mut Fields<'_>, most: u64) -> Result<u64, Why>
     ensures read { IsRead result (λ n. (n, fields.new)) (operand_at 0 most fields.old) }
     ensures high { IfOk result (λ n. n ≤ most) }
 {
     let field = fields.next().ok_or(Why::Missing)?;
-    if field == b";".as_slice() {
-        return Err(Why::Missing);
+    match field {
+        [b';'] => Err(Why::Missing),
+        _ => ranged(field, 0, most),
     }
-    ranged(field, 0, most)
 }
 
 /// Sees that no field is left.
@@ -37,6 +40,7 @@ pub fn end(fields: &mut Fields<'_>) -> Result<(), Why>
 }
 
 // The number that a field spells, in this range.
+#[inline(always)]
 fn ranged(field: &[u8], least: u64, most: u64) -> Result<u64, Why>
     ensures read { result ≡ in_range least most (number_of field.now) }
     ensures high { IfOk result (λ n. n ≤ most) }

@@ -12,6 +12,7 @@ mod word;
 mod workload;
 mod writing;
 
+pub use operations::operations_by_fields;
 pub use reading::{first_refusal, read_workload};
 pub use refused::{Refused, Why, WorkloadError};
 pub use workload::{Job, Jobs, MAX_JOBS, MAX_OPS, MAX_WORKERS, VERSIONS, Workload};

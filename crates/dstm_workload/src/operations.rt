@@ -1,12 +1,18 @@
-ghost use Rattle.std.specs.Prelude.{◌≡◌, ◌≤◌, ◌<◌, ◌+◌, ◌-◌, length, IfOk, List, ℕ, true};
-ghost use Rattle.dstm_workload.specs.Fields.{IsRead};
-ghost use Rattle.dstm_workload.specs.Operations.{account_at, amount_at, key_at, value_at, structure_at};
-ghost use Rattle.dstm_workload.specs.Operations.{place_at, transfer_at, balance_at, total_at, insert_at};
-ghost use Rattle.dstm_workload.specs.Operations.{remove_at, member_at, put_at, get_at, await_balance_at};
-ghost use Rattle.dstm_workload.specs.Operations.{await_key_at, await_at, op_at, next_at, ops_at, HasRoom};
+ghost use Rattle.std.specs.Prelude.{◌≡◌, ◌≤◌, ◌<◌, ◌+◌, ◌-◌, ◌∷◌, [], length, IfOk, Ok, List, ℕ, true, false};
+ghost use Rattle.dstm_model.specs.declared.op.Op.{Op as TheOp};
+ghost use Rattle.dstm_workload.specs.declared.known.Known.{Known as TheKnown};
+ghost use Rattle.dstm_workload.specs.Workload.{AreOperations};
+ghost use Rattle.dstm_workload.specs.Known.{IsKnown, layout_of};
+ghost use Rattle.dstm_workload.specs.Writing.{fields_of_ops};
+ghost use Rattle.dstm_text.specs.Results.{IsRead};
+ghost use Rattle.dstm_workload.specs.Fields.{operand_at, met_by};
+ghost use Rattle.dstm_workload.specs.Table.{Key, Structure, Account, most};
+ghost use Rattle.dstm_workload.specs.Table as table;
+ghost use Rattle.dstm_workload.specs.Operations.{structure_at, operands_at, form_at, await_at, op_at};
+ghost use Rattle.dstm_workload.specs.Operations.{next_at, ops_at, HasRoom};
 
 use crate::fields::operand;
-use crate::known::{Bank, Known};
+use crate::known::Known;
 use crate::refused::Why;
 use crate::word::Word;
 use crate::workload::MAX_OPS;
@@ -24,10 +30,21 @@ pub enum Separator {
     OrElse,
 }
 
+/// The law of operations: fields are read as operations exactly where they are the operations' fields, and
+/// the operations are of that version and fit what is declared.
+pub fn operations_by_fields()
+    ensures only { (version : ℕ) (known : TheKnown) (fields : List (List ℕ)) (ops : List TheOp) →
+        1 ≤ version → version ≤ 3 → IsKnown known → ops_at version known fields ≡ Ok ops →
+        (fields ≡ fields_of_ops false ops) × AreOperations version (layout_of known) ops }
+    ensures all { (version : ℕ) (known : TheKnown) (ops : List TheOp) →
+        1 ≤ version → version ≤ 3 → IsKnown known → AreOperations version (layout_of known) ops →
+        ops_at version known (fields_of_ops false ops) ≡ Ok ops }
+{}
+
 /// Takes the operations of a transaction, all that is left of its line.
-#[tactic(auto, unfolding(crate::specs::Operations::ops_at))]
+#[tactic(auto, unfolding(crate::specs::Operations::ops_from))]
 pub fn operations(fields: &mut Fields<'_>, known: &Known, version: u32) -> Result<Ops, Why>
-    ensures { IsRead result (λ ops. ops) (ops_at version known.now 8 0 true fields.old) }
+    ensures { IsRead result (λ ops. ops) (ops_at version known.now fields.old) }
 {
     let mut ops = Ops::new();
     let mut first = true;
@@ -68,93 +85,18 @@ fn operation(fields: &mut Fields<'_>, known: &Known, version: u32, first: bool) 
 {
     let field = fields.next().ok_or(Why::Missing)?;
     match Word::of(field, version) {
-        Some(Word::Transfer) => transfer(fields, known),
-        Some(Word::Balance) => balance(fields, known),
-        Some(Word::Total) => total(known),
+        Some(Word::Transfer) => transfer(fields, known, version),
+        Some(Word::Balance) => balance(fields, known, version),
+        Some(Word::Total) => total(fields, known, version),
         Some(Word::Insert) => insert(fields, known, version),
         Some(Word::Remove) => remove(fields, known, version),
         Some(Word::Member) => member(fields, known, version),
-        Some(Word::Put) => put(fields, known),
-        Some(Word::Get) => get(fields, known),
+        Some(Word::Put) => put(fields, known, version),
+        Some(Word::Get) => get(fields, known, version),
         Some(Word::Await) if first => condition(fields, known, version),
         Some(Word::Semicolon | Word::OrElse) => Err(Why::Missing),
         _ => Err(Why::Unknown),
     }
-}
-
-#[tactic(auto, unfolding(crate::specs::Operations::transfer_at))]
-fn transfer(fields: &mut Fields<'_>, known: &Known) -> Result<Op, Why>
-    ensures { IsRead result (λ o. (o, fields.new)) (transfer_at known.now fields.old) }
-{
-    let bank = known.bank.ok_or(Why::Undeclared)?;
-    let source = account(fields, bank)?;
-    let target = account(fields, bank)?;
-    let amount = amount(fields)?;
-    Ok(Op::Transfer {
-        source,
-        target,
-        amount,
-    })
-}
-
-#[tactic(auto, unfolding(crate::specs::Operations::balance_at))]
-fn balance(fields: &mut Fields<'_>, known: &Known) -> Result<Op, Why>
-    ensures { IsRead result (λ o. (o, fields.new)) (balance_at known.now fields.old) }
-{
-    let bank = known.bank.ok_or(Why::Undeclared)?;
-    let account = account(fields, bank)?;
-    Ok(Op::Balance { account })
-}
-
-#[tactic(auto, unfolding(crate::specs::Operations::total_at))]
-fn total(known: &Known) -> Result<Op, Why>
-    ensures { (fields : List (List ℕ)) → IsRead result (λ o. (o, fields)) (total_at known.now fields) }
-{
-    known.bank.ok_or(Why::Undeclared)?;
-    Ok(Op::Total)
-}
-
-#[tactic(auto, unfolding(crate::specs::Operations::insert_at))]
-fn insert(fields: &mut Fields<'_>, known: &Known, version: u32) -> Result<Op, Why>
-    ensures { IsRead result (λ o. (o, fields.new)) (insert_at version known.now fields.old) }
-{
-    let (which, key) = place(fields, known, version)?;
-    Ok(Op::Insert { which, key })
-}
-
-#[tactic(auto, unfolding(crate::specs::Operations::remove_at))]
-fn remove(fields: &mut Fields<'_>, known: &Known, version: u32) -> Result<Op, Why>
-    ensures { IsRead result (λ o. (o, fields.new)) (remove_at version known.now fields.old) }
-{
-    let (which, key) = place(fields, known, version)?;
-    Ok(Op::Remove { which, key })
-}
-
-#[tactic(auto, unfolding(crate::specs::Operations::member_at))]
-fn member(fields: &mut Fields<'_>, known: &Known, version: u32) -> Result<Op, Why>
-    ensures { IsRead result (λ o. (o, fields.new)) (member_at version known.now fields.old) }
-{
-    let (which, key) = place(fields, known, version)?;
-    Ok(Op::Member { which, key })
-}
-
-#[tactic(auto, unfolding(crate::specs::Operations::put_at))]
-fn put(fields: &mut Fields<'_>, known: &Known) -> Result<Op, Why>
-    ensures { IsRead result (λ o. (o, fields.new)) (put_at known.now fields.old) }
-{
-    known.tree.ok_or(Why::Undeclared)?;
-    let key = key(fields)?;
-    let value = operand(fields, u64::MAX)?;
-    Ok(Op::Put { key, value })
-}
-
-#[tactic(auto, unfolding(crate::specs::Operations::get_at))]
-fn get(fields: &mut Fields<'_>, known: &Known) -> Result<Op, Why>
-    ensures { IsRead result (λ o. (o, fields.new)) (get_at known.now fields.old) }
-{
-    known.tree.ok_or(Why::Undeclared)?;
-    let key = key(fields)?;
-    Ok(Op::Get { key })
 }
 
 // What a branch awaits.
@@ -164,37 +106,128 @@ fn condition(fields: &mut Fields<'_>, known: &Known, version: u32) -> Result<Op,
 {
     let field = fields.next().ok_or(Why::Missing)?;
     match Word::of(field, version) {
-        Some(Word::Balance) => await_balance(fields, known),
-        Some(Word::List) => await_key(fields, Which::List, known.list),
-        Some(Word::Tree) => await_key(fields, Which::Tree, known.tree),
+        Some(Word::Balance) => await_balance(fields, known, version),
+        Some(Word::List) => await_list(fields, known, version),
+        Some(Word::Tree) => await_tree(fields, known, version),
         Some(Word::Semicolon | Word::OrElse) => Err(Why::Missing),
         _ => Err(Why::Unknown),
     }
 }
 
-#[tactic(auto, unfolding(crate::specs::Operations::await_balance_at))]
-fn await_balance(fields: &mut Fields<'_>, known: &Known) -> Result<Op, Why>
-    ensures { IsRead result (λ o. (o, fields.new)) (await_balance_at known.now fields.old) }
+#[tactic(auto, unfolding(crate::specs::Operations::form_at))]
+fn transfer(fields: &mut Fields<'_>, known: &Known, version: u32) -> Result<Op, Why>
+    ensures { IsRead result (λ o. (o, fields.new)) (form_at version known.now table.transfer fields.old) }
 {
-    let bank = known.bank.ok_or(Why::Undeclared)?;
-    let account = account(fields, bank)?;
+    declared(known.bank.is_some())?;
+    let source = account(fields, known)?;
+    let target = account(fields, known)?;
+    let amount = amount(fields)?;
+    Ok(Op::Transfer {
+        source,
+        target,
+        amount,
+    })
+}
+
+#[tactic(auto, unfolding(crate::specs::Operations::form_at))]
+fn balance(fields: &mut Fields<'_>, known: &Known, version: u32) -> Result<Op, Why>
+    ensures { IsRead result (λ o. (o, fields.new)) (form_at version known.now table.balance fields.old) }
+{
+    declared(known.bank.is_some())?;
+    let account = account(fields, known)?;
+    Ok(Op::Balance { account })
+}
+
+#[tactic(auto, unfolding(crate::specs::Operations::form_at))]
+fn total(fields: &mut Fields<'_>, known: &Known, version: u32) -> Result<Op, Why>
+    ensures { IsRead result (λ o. (o, fields.new)) (form_at version known.now table.total fields.old) }
+{
+    declared(known.bank.is_some())?;
+    Ok(Op::Total)
+}
+
+#[tactic(auto, unfolding(crate::specs::Operations::form_at))]
+fn insert(fields: &mut Fields<'_>, known: &Known, version: u32) -> Result<Op, Why>
+    ensures { IsRead result (λ o. (o, fields.new)) (form_at version known.now table.insert fields.old) }
+{
+    let (which, key) = place(fields, known, version)?;
+    Ok(Op::Insert { which, key })
+}
+
+#[tactic(auto, unfolding(crate::specs::Operations::form_at))]
+fn remove(fields: &mut Fields<'_>, known: &Known, version: u32) -> Result<Op, Why>
+    ensures { IsRead result (λ o. (o, fields.new)) (form_at version known.now table.remove fields.old) }
+{
+    let (which, key) = place(fields, known, version)?;
+    Ok(Op::Remove { which, key })
+}
+
+#[tactic(auto, unfolding(crate::specs::Operations::form_at))]
+fn member(fields: &mut Fields<'_>, known: &Known, version: u32) -> Result<Op, Why>
+    ensures { IsRead result (λ o. (o, fields.new)) (form_at version known.now table.member fields.old) }
+{
+    let (which, key) = place(fields, known, version)?;
+    Ok(Op::Member { which, key })
+}
+
+#[tactic(auto, unfolding(crate::specs::Operations::form_at))]
+fn put(fields: &mut Fields<'_>, known: &Known, version: u32) -> Result<Op, Why>
+    ensures { IsRead result (λ o. (o, fields.new)) (form_at version known.now table.put fields.old) }
+{
+    declared(known.tree.is_some())?;
+    let key = key(fields)?;
+    let value = operand(fields, u64::MAX)?;
+    Ok(Op::Put { key, value })
+}
+
+#[tactic(auto, unfolding(crate::specs::Operations::form_at))]
+fn get(fields: &mut Fields<'_>, known: &Known, version: u32) -> Result<Op, Why>
+    ensures { IsRead result (λ o. (o, fields.new)) (form_at version known.now table.get fields.old) }
+{
+    declared(known.tree.is_some())?;
+    let key = key(fields)?;
+    Ok(Op::Get { key })
+}
+
+#[tactic(auto, unfolding(crate::specs::Operations::form_at))]
+fn await_balance(fields: &mut Fields<'_>, known: &Known, version: u32) -> Result<Op, Why>
+    ensures { IsRead result (λ o. (o, fields.new)) (form_at version known.now table.await_balance fields.old) }
+{
+    declared(known.bank.is_some())?;
+    let account = account(fields, known)?;
     let least = amount(fields)?;
     Ok(Op::Await(Cond::Balance { account, least }))
 }
 
-#[tactic(auto, unfolding(crate::specs::Operations::await_key_at))]
-fn await_key(fields: &mut Fields<'_>, which: Which, size: Option<u32>) -> Result<Op, Why>
-    ensures { IsRead result (λ o. (o, fields.new)) (await_key_at which size fields.old) }
+#[tactic(auto, unfolding(crate::specs::Operations::form_at))]
+fn await_list(fields: &mut Fields<'_>, known: &Known, version: u32) -> Result<Op, Why>
+    ensures { IsRead result (λ o. (o, fields.new)) (form_at version known.now table.await_list fields.old) }
 {
-    size.ok_or(Why::Undeclared)?;
+    declared(known.list.is_some())?;
     let key = key(fields)?;
-    Ok(Op::Await(Cond::Key { which, key }))
+    Ok(Op::Await(Cond::Key {
+        which: Which::List,
+        key,
+    }))
+}
+
+#[tactic(auto, unfolding(crate::specs::Operations::form_at))]
+fn await_tree(fields: &mut Fields<'_>, known: &Known, version: u32) -> Result<Op, Why>
+    ensures { IsRead result (λ o. (o, fields.new)) (form_at version known.now table.await_tree fields.old) }
+{
+    declared(known.tree.is_some())?;
+    let key = key(fields)?;
+    Ok(Op::Await(Cond::Key {
+        which: Which::Tree,
+        key,
+    }))
 }
 
 // A key of a structure that is declared.
-#[tactic(auto, unfolding(crate::specs::Operations::place_at))]
+#[inline(always)]
 fn place(fields: &mut Fields<'_>, known: &Known, version: u32) -> Result<(Which, u32), Why>
-    ensures { IsRead result (λ p. (p, fields.new)) (place_at version known.now fields.old) }
+    ensures { IsRead result (λ p. ((p.0, (p.1, tt)), fields.new))
+        (operands_at version known.now (Structure ∷ Key ∷ []) fields.old) }
 {
     let which = structure(fields, known, version)?;
     let key = key(fields)?;
@@ -216,21 +249,29 @@ fn structure(fields: &mut Fields<'_>, known: &Known, version: u32) -> Result<Whi
     Ok(which)
 }
 
-fn account(fields: &mut Fields<'_>, bank: Bank) -> Result<u32, Why>
-    ensures { IsRead result (λ n. (n, fields.new)) (account_at bank fields.old) }
+// Sees that what an operation needs is declared.
+fn declared(there: bool) -> Result<(), Why>
+    ensures { IsRead result (λ _. true) (met_by there) }
 {
-    let account = operand(fields, u64::from(bank.accounts.saturating_sub(1)))?;
+    if there { Ok(()) } else { Err(Why::Undeclared) }
+}
+
+fn account(fields: &mut Fields<'_>, known: &Known) -> Result<u32, Why>
+    ensures { IsRead result (λ n. (n, fields.new)) (operand_at 0 (most known.now Account) fields.old) }
+{
+    let accounts = known.layout().accounts;
+    let account = operand(fields, u64::from(accounts.saturating_sub(1)))?;
     Ok(account as u32)
 }
 
 fn amount(fields: &mut Fields<'_>) -> Result<u64, Why>
-    ensures { IsRead result (λ n. (n, fields.new)) (amount_at fields.old) }
+    ensures { IsRead result (λ n. (n, fields.new)) (operand_at 0 9999999999999 fields.old) }
 {
     operand(fields, AMOUNT_LIMIT - 1)
 }
 
 fn key(fields: &mut Fields<'_>) -> Result<u32, Why>
-    ensures { IsRead result (λ n. (n, fields.new)) (key_at fields.old) }
+    ensures { IsRead result (λ n. (n, fields.new)) (operand_at 0 1048574 fields.old) }
 {
     let key = operand(fields, u64::from(KEY_LIMIT - 1))?;
     Ok(key as u32)

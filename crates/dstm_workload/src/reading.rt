@@ -1,9 +1,10 @@
-ghost use Rattle.std.specs.Prelude.{◌≡◌, ◌<◌, ◌+◌, ◌^◌, ◌++◌, Some, length, List, [], ℕ, Err, ◌⊎◌, IfOk, OnOk};
+ghost use Rattle.std.specs.Prelude.{◌≡◌, ◌<◌, ◌+◌, ◌^◌, ◌++◌, Some, length, List, [], ℕ, Err, ◌⊎◌, IfOk, IfSome, OnOk};
 ghost use Rattle.dstm_text.specs.Lines.{lines_of};
 ghost use Rattle.dstm_workload.specs.Answers.{Gives, GivesBy};
-ghost use Rattle.dstm_workload.specs.Known.{nothing_known, told_from, jobs_in};
+ghost use Rattle.dstm_workload.specs.Known.{HasRoomFor, known_with, layout_of, jobs_in};
+ghost use Rattle.dstm_workload.specs.Entries.{worker_count};
 ghost use Rattle.dstm_workload.specs.Workload.{IsValidWorkload};
-ghost use Rattle.dstm_workload.specs.Reading.{workload_of, IsFirstRefused, HasNoHeader};
+ghost use Rattle.dstm_workload.specs.Reading.{known_of, jobs_after, workload_of, IsFirstRefused, HasNoHeader};
 ghost use Rattle.dstm_workload.specs.declared.refused.Refused.{Refused};
 
 use crate::entry::entry;
@@ -34,7 +35,10 @@ pub fn read_workload(alloc: Global, bytes: &[u8]) -> Result<Workload, WorkloadEr
 // What all lines tell, their jobs, and the number of the line after them.
 fn entries(alloc: Global, mut lines: Lines<'_>) -> Result<(Known, Vec<Job>, u64), WorkloadError>
     requires { length lines < 2 ^ 63 }
-    ensures told { GivesBy (λ t. (t.0, t.1.items)) result (told_from nothing_known 1 lines.entry) }
+    ensures jobs { GivesBy (λ t. t.1.items) result (jobs_after [] lines.entry) }
+    ensures told { IfOk result (λ t. t.0 ≡ known_of lines.entry) }
+    ensures valid { IfOk result (λ t. (v : ℕ) → t.0.version ≡ Some v → IsValidWorkload (record
+        { version = v; workers = worker_count t.0; layout = layout_of t.0; jobs = t.1.items })) }
     ensures after { IfOk result (λ t. t.2 ≡ length lines.entry + 1) }
 {
     let mut known = Known::nothing();
@@ -45,19 +49,22 @@ fn entries(alloc: Global, mut lines: Lines<'_>) -> Result<(Known, Vec<Job>, u64)
             Ok(told) => told,
             Err(why) => return Err(WorkloadError::Refused(Refused { line, why })),
         };
-        if let Some(entry) = told {
-            known.add(&entry);
-            keep(&mut jobs, entry)?;
-        }
+        keep(&mut known, &mut jobs, told)?;
         line += 1;
     }
     Ok((known, jobs, line))
 }
 
-// Keeps the job of a transaction.
-fn keep(jobs: &mut Vec<Job>, entry: Entry) -> Result<(), AllocError>
-    ensures { OnOk result (jobs.new.items ≡ jobs.old.items ++ jobs_in (Some entry)) }
+// Keeps what a line tells.
+fn keep(known: &mut Known, jobs: &mut Vec<Job>, told: Option<Entry>) -> Result<(), AllocError>
+    requires { IfSome told (HasRoomFor known.old) }
+    ensures known { known.new ≡ known_with known.old told }
+    ensures jobs { OnOk result (jobs.new.items ≡ jobs.old.items ++ jobs_in told) }
 {
+    let Some(entry) = told else {
+        return Ok(());
+    };
+    known.add(&entry);
     if let Entry::Transaction(job) = entry {
         jobs.reserve(1)?;
         jobs.push_reserved(job);

@@ -24,6 +24,7 @@ pub enum Word {
 
 impl Word {
     /// The word that a field is, if a version has one there.
+    #[inline(always)]
     pub fn of(field: &[u8], version: u32) -> Option<Word>
         ensures { result ≡ word_of version field.now }
     {
@@ -33,6 +34,7 @@ impl Word {
 
     // The word that is spelled so.
     #[tactic(auto, unfolding(crate::specs::Words::word_spelled))]
+    #[inline(always)]
     fn spelled(field: &[u8]) -> Option<Word>
         ensures { result ≡ word_spelled field.now }
     {

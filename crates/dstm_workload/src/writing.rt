@@ -3,7 +3,7 @@ ghost use Rattle.dstm_text.specs.Lines.{space, line_feed, lines_of, split_lines}
 ghost use Rattle.dstm_workload.specs.declared.workload.Workload.{Workload as TheWorkload};
 ghost use Rattle.dstm_workload.specs.Workload.{IsValidWorkload};
 ghost use Rattle.dstm_workload.specs.Reading.{workload_of};
-ghost use Rattle.dstm_workload.specs.Writing.{spaced, joined, lined, structure_name, fields_of_cond};
+ghost use Rattle.dstm_workload.specs.Writing.{spaced, joined, lined, structure_name};
 ghost use Rattle.dstm_workload.specs.Writing.{fields_of_op, is_orelse, fields_of_ops, fields_of_job};
 ghost use Rattle.dstm_workload.specs.Writing.{where_some, declarations, head_of, text_of_workload, as_written};
 
@@ -137,22 +137,14 @@ fn put_op(out: &mut Vec<u8>, op: &Op) -> Result<(), AllocError>
             put_word(out, b"get")?;
             put_number(out, u64::from(key))
         }
-        Op::Await(cond) => put_condition(out, cond),
-        Op::OrElse => put_word(out, b"orelse"),
-    }
-}
-
-fn put_condition(out: &mut Vec<u8>, cond: Cond) -> Result<(), AllocError>
-    ensures { OnOk result (out.new.items ≡ out.old.items ++ spaced (codes "await" ∷ fields_of_cond cond)) }
-{
-    match cond {
-        Cond::Balance { account, least } => {
+        Op::Await(Cond::Balance { account, least }) => {
             put_word(out, b"await")?;
             put_word(out, b"balance")?;
             put_number(out, u64::from(account))?;
             put_number(out, least)
         }
-        Cond::Key { which, key } => put_place(out, b"await", which, key),
+        Op::Await(Cond::Key { which, key }) => put_place(out, b"await", which, key),
+        Op::OrElse => put_word(out, b"orelse"),
     }
 }
 

@@ -1,11 +1,24 @@
-use Rattle.std.proofs.Common.{◌∙◌, sym, ap, Ok, Option, Result}
-use Rattle.dstm_workload.specs.declared.known.Entry.{Entry}
-use Rattle.dstm_workload.specs.declared.refused.Why.{Why}
-use Rattle.dstm_workload.proofs.EntryLaws.{entry_has_room}
+use Rattle.std.proofs.Common.{sym, ◌∙◌, subst}
+use Rattle.dstm_workload.proofs.EntryLaws.{has_room}
+use Rattle.dstm_workload.proofs.ValidLaws.{so_far_valid}
+use Rattle.dstm_workload.proofs.ReadLoop.{ReadTo, begun, goes_on}
 use Rattle.dstm_workload.proofs.reading.entries.Goals as goal
 
-pub add-requires : goal.add-requires
-add-requires c =
-    let told : Option Entry → Result (Option Entry) Why = λ t. Ok t in
-    entry_has_room c.loop-text.known c.loop-text.line c.in-Some.text.now c.in-Some-told.entry
-    (sym c.entry.ensures ∙ c.in-Ok.is ∙ ap told c.in-Some-told.is)
+pub loop-text-init : goal.loop-text-init
+loop-text-init c = rw (c.nothing-known.ensures, c.new-jobs.ensures.items) (begun c.args.lines)
+
+pub keep-requires : goal.keep-requires
+keep-requires c =
+    has_room c.loop-text.known c.loop-text.invariant.so_far.valid c.loop-text.line c.in-Some.text.now c.in-Ok.told
+    (sym c.entry.ensures ∙ c.in-Ok.is)
+
+pub loop-text-preserved : goal.loop-text-preserved
+loop-text-preserved c =
+    let before = subst (λ left. ReadTo c.args.lines left c.loop-text.known c.loop-text.line c.loop-text.jobs.items)
+    c.in-Some.ensures.some c.loop-text.invariant in
+    rw (c.keep.ensures.known, c.in_ok-keep.ensures.jobs) (goes_on c.args.lines c.next.new.self c.in-Some.text.now
+    c.loop-text.known c.loop-text.line c.loop-text.jobs.items before c.in-Ok.told (sym c.entry.ensures ∙ c.in-Ok.is))
+
+pub returns-clause-valid : goal.returns-clause-valid
+returns-clause-valid c = λ v versioned.
+    so_far_valid c.loop-text.known c.loop-text.line c.loop-text.jobs.items v c.loop-text.invariant.so_far versioned

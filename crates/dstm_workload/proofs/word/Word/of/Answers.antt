@@ -1,4 +1,4 @@
-use Rattle.std.proofs.Common.{◌≡◌, Option, Bool, true, false, Some, None, cond, leb, refl, ap, sym, ◌∙◌}
+use Rattle.std.proofs.Common.{◌≡◌, Bool, true, false, Some, None, cond, leb, refl, ap, sym, ◌∙◌}
 use Rattle.std.specs.Bool.{then_some}
 use Rattle.dstm_workload.specs.declared.word.Word.{Word}
 use Rattle.dstm_workload.specs.Words.{since}
