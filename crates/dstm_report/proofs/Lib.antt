@@ -7,6 +7,10 @@ pub mod RoundTrip
 pub mod Places
 pub mod WorkerPlaces
 pub mod Words
+pub mod ReadAsPrinted
+pub mod Drafts
+pub mod Refusals
+pub mod Holding
 pub mod Following
 pub mod Rising
 pub mod Totals

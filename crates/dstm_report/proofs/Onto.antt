@@ -4,7 +4,8 @@ use Rattle.std.proofs.Common.{refl, ap, sym, ◌∙◌, append_assoc, arith}
 use Rattle.std.proofs.lemmas.Bool.{lt-ltb, cond-true}
 use Rattle.std.proofs.lemmas.List.{length_push}
 use Rattle.dstm_model.specs.declared.reply.Reply.{Reply}
-use Rattle.dstm_report.specs.Reading.{◌>>=◌, further_reply, further_replies}
+use Rattle.dstm_text.specs.Options.{◌>>=◌}
+use Rattle.dstm_report.specs.Parser.{further_reply, further_replies}
 
 abbrev pub onto : {X : Type 0} → List X → Option (List X) → Option (List X)
 onto xs None = None

@@ -19,11 +19,12 @@ use Rattle.dstm_report.specs.declared.draft.Part.TheVariants as part
 use Rattle.dstm_report.specs.declared.draft.TheConstants.{MAX_NUMBER, MAX_WORKER, MAX_REPLIES, COLON, DOT}
 use Rattle.dstm_report.specs.declared.report.Row.{Row}
 use Rattle.dstm_report.specs.declared.report.Report.{Report}
-use Rattle.dstm_report.specs.Reading.{◌>>=◌, number_in, number_at, pair_of, both_numbers, place_at, known_reply}
-use Rattle.dstm_report.specs.Reading.{number_reply, reply_of, further_replies, replies_of, row_of}
-use Rattle.dstm_report.specs.Reading.{numbers_of, item_of, items_of, count_of, part_of, rank, can_follow, with_row}
-use Rattle.dstm_report.specs.Reading.{with_bank, with_list, with_tree, with_count, add_part, add_words, add_line}
-use Rattle.dstm_report.specs.Reading.{or_line, then_on, completed, header_of, is_version, blank, report_of}
+use Rattle.dstm_text.specs.Options.{◌>>=◌}
+use Rattle.dstm_report.specs.Parser.{number_in, number_at, pair_of, both_numbers, place_at, known_reply}
+use Rattle.dstm_report.specs.Parser.{number_reply, reply_of, further_replies, replies_of, row_of}
+use Rattle.dstm_report.specs.Parser.{numbers_of, item_of, items_of, count_of, part_of, rank, can_follow, with_row}
+use Rattle.dstm_report.specs.Parser.{with_bank, with_list, with_tree, with_count, add_part, add_words, add_line}
+use Rattle.dstm_report.specs.Parser.{or_line, then_on, completed, header_of, is_version, blank, parsed}
 use Rattle.dstm_report.specs.Reading.{HasReply, HasRow, HasItem, IsNumber, IsHeld}
 use Rattle.dstm_report.specs.Text.{field, line, reply_text, further_text, replies_text, row_text, number_field}
 use Rattle.dstm_report.specs.Text.{numbers_text, item_text, item_field, items_text, report_text}
@@ -36,9 +37,9 @@ bind_read {A} {B} o f x e = ap (λ (p : Option A). p >>= f) e
 -- ---- words
 
 -- a word has neither a space nor a line feed
-record IsWord (word : List ℕ) : Type 0 where
-  in_line : is_free 10 word ≡ true
-  in_words : is_free 32 word ≡ true
+pub record IsWord (word : List ℕ) : Type 0 where
+  pub in_line : is_free 10 word ≡ true
+  pub in_words : is_free 32 word ≡ true
 
 word-append : (a b : List ℕ) → IsWord a → IsWord b → IsWord (a ++ b)
 word-append a b first second = record {
@@ -56,7 +57,7 @@ number_at-decimal printed most n words small range =
     bind_read (number_in most (decimal n)) _ n (number_in-decimal printed most n small range)
 
 -- two numbers with a separator between them
-abbrev pair_word : ℕ → ℕ → ℕ → List ℕ
+abbrev pub pair_word : ℕ → ℕ → ℕ → List ℕ
 pair_word c a b = decimal a ++ (c ∷ []) ++ decimal b
 
 pair_read : Printed → (c a b : ℕ) → is_ascii_digit c ≡ false → a ≤ MAX_NUMBER → b ≤ MAX_NUMBER →
@@ -96,7 +97,7 @@ reply_read printed version Never has = rw (le-leb 3 version has) refl
 reply_read printed version reply has = refl
 
 -- the words behind the first reply
-abbrev further_words : List Reply → List (List ℕ)
+abbrev pub further_words : List Reply → List (List ℕ)
 further_words [] = []
 further_words (reply ∷ replies) = codes ";" ∷ reply_text reply ∷ further_words replies
 
@@ -149,12 +150,12 @@ replies_read printed version reply replies has few =
 
 -- ---- rows
 
-abbrev row_line : Row → List ℕ
+abbrev pub row_line : Row → List ℕ
 row_line row =
     decimal row.line ++ field (decimal row.worker) ++ field (decimal row.round ++ codes "." ++ decimal row.number)
     ++ field (replies_text row.replies)
 
-abbrev row_words : Row → Reply → List Reply → List (List ℕ)
+abbrev pub row_words : Row → Reply → List Reply → List (List ℕ)
 row_words row reply replies =
     decimal row.line ∷ decimal row.worker ∷ pair_word DOT row.round row.number ∷ reply_text reply
     ∷ further_words replies
@@ -171,7 +172,7 @@ place_is_word : Printed → (version : ℕ) (row : Row) → HasRow version row �
 place_is_word printed version row has =
     pair_is_word printed DOT row.round row.number (record { in_line = refl; in_words = refl }) has.round has.number
 
-row_pieces : Printed → (version : ℕ) (row : Row) (reply : Reply) (replies : List Reply) → HasRow version row →
+pub row_pieces : Printed → (version : ℕ) (row : Row) (reply : Reply) (replies : List Reply) → HasRow version row →
     row.replies ≡ reply ∷ replies →
     pieces 32 (row_line row) ≡ row_words row reply replies
 row_pieces printed version row reply replies has is =
@@ -230,7 +231,7 @@ row_free printed version row reply replies has is =
     (subst (λ (rs : List Reply). is_free 10 (replies_text rs) ≡ true) (sym is) told)
 
 -- a row has a first reply
-first_reply : (version : ℕ) (row : Row) → HasRow version row →
+pub first_reply : (version : ℕ) (row : Row) → HasRow version row →
     (reply : Reply) × (replies : List Reply) × (row.replies ≡ reply ∷ replies)
 first_reply version row has = some_first row.replies has.some
   where
@@ -240,7 +241,7 @@ first_reply version row has = some_first row.replies has.some
 
 -- ---- what a structure holds
 
-fields_pieces : {X : Type 0} (text : X → List ℕ) (word : List ℕ) (xs : List X) → IsWord word →
+pub fields_pieces : {X : Type 0} (text : X → List ℕ) (word : List ℕ) (xs : List X) → IsWord word →
     All (λ x. IsWord (text x)) xs →
     pieces 32 (word ++ flat_map (λ x. field (text x)) xs) ≡ word ∷ map text xs
 fields_pieces text word [] is_word all = ap (pieces 32) (append-nil word) ∙ pieces_last 32 word is_word.in_words
@@ -258,7 +259,7 @@ fields_free {X} text (x ∷ xs) all =
     free-append 10 (field (text x)) (flat_map (λ y. field (text y)) xs) (All-head Word x xs all).in_line
     (fields_free text xs (All-tail Word x xs all))
 
-number_words : Printed → (numbers : List ℕ) → All IsNumber numbers → All (λ n. IsWord (decimal n)) numbers
+pub number_words : Printed → (numbers : List ℕ) → All IsNumber numbers → All (λ n. IsWord (decimal n)) numbers
 number_words printed numbers all k d lt = decimal_word printed (get_or numbers k d) (all k d lt)
 
 numbers_read : Printed → (numbers : List ℕ) → All IsNumber numbers → numbers_of (map decimal numbers) ≡ Some numbers
@@ -296,7 +297,7 @@ item_read printed version item has =
     (pair_read printed COLON item.key item.value refl has.key has.value))
     (cases_Bool (eqb version 1))
 
-item_words : Printed → (version : ℕ) (items : List Item) → All (HasItem version) items →
+pub item_words : Printed → (version : ℕ) (items : List Item) → All (HasItem version) items →
     All (λ item. IsWord (item_text version item)) items
 item_words printed version items all k d lt = item_is_word printed version (get_or items k d) (all k d lt)
 
@@ -311,18 +312,18 @@ items_read printed version (item ∷ items) all =
 
 -- ---- the lines of the text
 
-abbrev numbers_lines : List ℕ → Option (List ℕ) → List (List ℕ)
+abbrev pub numbers_lines : List ℕ → Option (List ℕ) → List (List ℕ)
 numbers_lines name None = []
 numbers_lines name (Some numbers) = (name ++ flat_map number_field numbers) ∷ []
 
-abbrev items_lines : ℕ → List ℕ → Option (List Item) → List (List ℕ)
+abbrev pub items_lines : ℕ → List ℕ → Option (List Item) → List (List ℕ)
 items_lines version name None = []
 items_lines version name (Some items) = (name ++ flat_map (item_field version) items) ∷ []
 
-abbrev header_line : ℕ → List ℕ
+abbrev pub header_line : ℕ → List ℕ
 header_line version = codes "dstm report" ++ field (decimal version)
 
-abbrev end_text : ℕ → List ℕ
+abbrev pub end_text : ℕ → List ℕ
 end_text count = codes "end" ++ field (decimal count)
 
 rows_lines : Printed → (version : ℕ) (rows : List Row) (rest : List ℕ) → All (HasRow version) rows →
@@ -364,12 +365,12 @@ end_lines printed count small =
 six_parts : (a b c d e f : List ℕ) → ((((a ++ b) ++ c) ++ d) ++ e) ++ f ≡ a ++ (b ++ (c ++ (d ++ (e ++ f))))
 six_parts a b c d e f = simp append_assoc
 
-abbrev lines_behind_header : Report → List (List ℕ)
+abbrev pub lines_behind_header : Report → List (List ℕ)
 lines_behind_header report =
     map row_line report.rows ++ (numbers_lines (codes "bank") report.bank ++ (numbers_lines (codes "list") report.list
     ++ (items_lines report.version (codes "tree") report.tree ++ (end_text report.count ∷ []))))
 
-report_lines : Printed → (report : Report) → IsHeld report →
+pub report_lines : Printed → (report : Report) → IsHeld report →
     lines_of (report_text report) ≡ header_line report.version ∷ lines_behind_header report
 report_lines printed report held =
     let rows = flat_map row_text report.rows in
@@ -502,30 +503,37 @@ ended : (report : Report) (p : Part) →
 unfolding Completes
 ended report p n = refl
 
+pub end_words : Printed → (count : ℕ) → count ≤ MAX_NUMBER →
+    pieces 32 (end_text count) ≡ codes "end" ∷ decimal count ∷ []
+end_words printed count small =
+    pieces_word 32 (codes "end") (decimal count) refl
+    ∙ ap (λ (ps : List (List ℕ)). codes "end" ∷ ps)
+    (pieces_last 32 (decimal count) (decimal_word printed count small).in_words)
+
 end_completes : Printed → (report : Report) (p : Part) → report.count ≤ MAX_NUMBER → rank p < 4 →
     Completes (end_text report.count ∷ [])
     (draft_at p report.version report.rows report.bank report.list report.tree) report
 end_completes printed report p small before =
     let draft = draft_at p report.version report.rows report.bank report.list report.tree in
     add_more (end_text report.count) [] draft (with_count draft report.count) report
-    (ap (λ (ps : List (List ℕ)). add_words ps draft)
-    (pieces_word 32 (codes "end") (decimal report.count) refl
-    ∙ ap (λ (ps : List (List ℕ)). codes "end" ∷ ps)
-    (pieces_last 32 (decimal report.count) (decimal_word printed report.count small).in_words))
+    (ap (λ (ps : List (List ℕ)). add_words ps draft) (end_words printed report.count small)
     ∙ cond-true (ltb (rank p) 4) _ None (lt-ltb (rank p) 4 before)
     ∙ ap (option_map (with_count draft)) (count_read printed report.count small))
     (ended report p)
+
+pub header_words : Printed → (version : ℕ) → version ≤ MAX_NUMBER →
+    pieces 32 (header_line version) ≡ codes "dstm" ∷ codes "report" ∷ decimal version ∷ []
+header_words printed version small =
+    let last = pieces_last 32 (decimal version) (decimal_word printed version small).in_words in
+    pieces_word 32 (codes "dstm") (codes "report" ++ (32 ∷ decimal version)) refl
+    ∙ ap (λ (ps : List (List ℕ)). codes "dstm" ∷ ps) (pieces_word 32 (codes "report") (decimal version) refl
+    ∙ ap (λ (ps : List (List ℕ)). codes "report" ∷ ps) last)
 
 header_read : Printed → (version : ℕ) → version ≤ MAX_NUMBER →
     header_of (pieces 32 (header_line version)) ≡ Some version
 unfolding header_of
 header_read printed version small =
-    let last = pieces_last 32 (decimal version) (decimal_word printed version small).in_words in
-    let words : pieces 32 (header_line version) ≡ codes "dstm" ∷ codes "report" ∷ decimal version ∷ [] =
-    pieces_word 32 (codes "dstm") (codes "report" ++ (32 ∷ decimal version)) refl
-    ∙ ap (λ (ps : List (List ℕ)). codes "dstm" ∷ ps) (pieces_word 32 (codes "report") (decimal version) refl
-    ∙ ap (λ (ps : List (List ℕ)). codes "report" ∷ ps) last) in
-    ap header_of words
+    ap header_of (header_words printed version small)
     ∙ bind_read (number_at MAX_NUMBER (decimal version ∷ [])) _ (version, [])
     (number_at-decimal printed MAX_NUMBER version [] small (omega arith))
 
@@ -545,10 +553,10 @@ all_complete printed report held =
     (λ r last. end_completes printed report r held.count last))))
 
 pub reads_back : Printed → (report : Report) → IsHeld report →
-    report_of report.version (lines_of (report_text report)) ≡ Ok report
+    parsed report.version (lines_of (report_text report)) ≡ Ok report
 unfolding Completes
 reads_back printed report held =
-    ap (report_of report.version) (report_lines printed report held)
+    ap (parsed report.version) (report_lines printed report held)
     ∙ cond-true _ _ _ (ap (is_version report.version) (header_read printed report.version held.version)
     ∙ eq-eqb report.version report.version refl)
     ∙ all_complete printed report held 2

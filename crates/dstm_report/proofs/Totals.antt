@@ -67,7 +67,7 @@ inserts layout total there full store after layout_same balances_same h =
     (λ _. chosen layout total full (answer Full store) (answer Yes after) (λ _. h)
     (λ _. same layout total store after layout_same balances_same h))
 
-keeps : (layout : Layout) (total : ℕ) (op : Op) (store : Store) → FitsLayout layout op → Holds layout total store →
+pub keeps : (layout : Layout) (total : ℕ) (op : Op) (store : Store) → FitsLayout layout op → Holds layout total store →
     Holds layout total (apply op store).store
 keeps layout total (Transfer s t x) store fits h =
     chosen layout total (nat_lt (balance_of s store) x) (answer Poor store)
@@ -101,7 +101,7 @@ keeps_all layout total (op ∷ ops) store fits h =
 
 -- ---- branches
 
-onto_first-fits : (layout : Layout) (op : Op) (branches : List (List Op)) → FitsLayout layout op →
+pub onto_first-fits : (layout : Layout) (op : Op) (branches : List (List Op)) → FitsLayout layout op →
     AllByRecursion (AllByRecursion (FitsLayout layout)) branches →
     AllByRecursion (AllByRecursion (FitsLayout layout)) (onto_first op branches)
 onto_first-fits layout op [] fits h = ((fits, tt), tt)

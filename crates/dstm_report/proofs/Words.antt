@@ -14,7 +14,7 @@ use Rattle.dstm_text.specs.Lines.{pieces, lines_of}
 use Rattle.dstm_text.specs.Number.{is_plain, number_of}
 use Rattle.dstm_text.proofs.LineLaws.{IsFreeOf, pieces-append, pieces-one, lines_of-append}
 use Rattle.dstm_report.specs.declared.draft.TheConstants.{MAX_NUMBER}
-use Rattle.dstm_report.specs.Reading.{number_in, up_to}
+use Rattle.dstm_report.specs.Parser.{number_in, up_to}
 use Rattle.dstm_report.specs.Text.{line}
 
 -- ---- bytes without a separator

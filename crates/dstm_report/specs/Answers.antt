@@ -1,5 +1,6 @@
 -- What the reader of reports answers, beside what its text stands for.
-use Rattle.std.specs.Prelude.{◌≡◌, ℕ, Option, Some, None, Result, Ok, Err}
+use Rattle.std.specs.Prelude.{◌≡◌, ℕ, Result, Err}
+use Rattle.dstm_text.specs.Answers.{GivesBy as GivesSeen}
 use Rattle.dstm_report.specs.declared.error.ReportError.{ReportError}
 use Rattle.dstm_report.specs.declared.error.ReportError.TheVariants as errors
 
@@ -8,6 +9,11 @@ abbrev pub IsMemory : ReportError → Type 0
 IsMemory (errors.Memory e) = Unit {0}
 IsMemory (errors.Form line) = ⊥
 
+-- an error tells a line of which this holds, unless memory ran out
+abbrev pub TellsLine : (ℕ → Type 0) → ReportError → Type 0
+TellsLine P (errors.Memory e) = Unit {0}
+TellsLine P (errors.Form line) = P line
+
 -- an error tells how reading ends, unless memory ran out
 abbrev pub Fails : {Y : Type 0} → ReportError → Result Y ℕ → Type 0
 Fails (errors.Memory e) read = Unit {0}
@@ -15,13 +21,7 @@ Fails (errors.Form line) read = read ≡ Err line
 
 -- an answer, seen by view, is what reading gives, unless memory ran out
 abbrev pub GivesBy : {X Y : Type 0} → (X → Y) → Result X ReportError → Result Y ℕ → Type 0
-GivesBy view (Ok x) read = read ≡ Ok (view x)
-GivesBy view (Err e) read = Fails e read
+GivesBy view result read = GivesSeen Fails view result read
 
 abbrev pub Gives : {X : Type 0} → Result X ReportError → Result X ℕ → Type 0
 Gives result read = GivesBy (λ x. x) result read
-
--- an answer, seen by view, is what was read
-abbrev pub IsRead : {X Y : Type 0} → Option X → (X → Y) → Option Y → Type 0
-IsRead None view read = read ≡ None
-IsRead (Some x) view read = read ≡ Some (view x)

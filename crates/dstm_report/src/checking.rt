@@ -1,9 +1,10 @@
-ghost use Rattle.std.specs.Prelude.{◌≡◌, ℕ, ◌*◌, sum, IsTrue, ◌↔◌, List, [], IfOk};
+ghost use Rattle.std.specs.Prelude.{◌≡◌, ℕ, ◌*◌, sum, IsTrue, ◌↔◌, List, [], All, IfOk};
 ghost use Rattle.dstm_model.specs.Store.{state_of};
 ghost use Rattle.dstm_workload.specs.Workload.{IsValidWorkload};
 ghost use Rattle.dstm_workload.specs.declared.workload.Workload.{Workload};
 ghost use Rattle.dstm_report.specs.declared.report.Row.{Row};
 ghost use Rattle.dstm_report.specs.declared.report.Report.{Report};
+ghost use Rattle.dstm_report.specs.Reading.{IsHeld, FitsRow};
 ghost use Rattle.dstm_report.specs.Lawful.{
   IsLawful,
   IsGoodLine,
@@ -60,6 +61,13 @@ pub fn line_by_line()
 pub fn balances_stay()
     ensures { (workload : Workload) (rows : List Row) → IsValidWorkload workload →
         sum (store_after workload rows).balances ≡ workload.layout.accounts * workload.layout.opening }
+{}
+
+/// The law of what a version can hold: it holds every report that is lawful for a valid workload, where the line,
+/// the round and the number of each row fit 64 bits.
+pub fn lawful_is_held()
+    ensures { (workload : Workload) (report : Report) → IsValidWorkload workload → IsLawful workload report →
+        All FitsRow report.rows → IsHeld report }
 {}
 
 // The verdict on the lines behind the rows, which are good.

@@ -11,9 +11,11 @@ mod report;
 mod turns;
 mod verdict;
 
-pub use checking::{balances_stay, check, line_by_line};
+pub use checking::{balances_stay, check, lawful_is_held, line_by_line};
 pub use error::ReportError;
-pub use reading::{read_back, read_report};
+pub use reading::{
+    one_reading, read_back, read_report, read_where_printed, refused_where_none_begins,
+};
 pub use rendering::render;
 pub use report::{Report, Row, Rows};
 pub use turns::Turns;

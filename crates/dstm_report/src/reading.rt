@@ -1,12 +1,13 @@
-ghost use Rattle.std.specs.Prelude.{◌≡◌, ◌≤◌, ◌∷◌, Some, IfSome, Ok, IfOk};
+ghost use Rattle.std.specs.Prelude.{◌≡◌, ◌≤◌, ◌<◌, ◌^◌, ◌↔◌, ◌⊎◌, ◌++◌, ℕ, List, [], ◌∷◌, vec_len, vec_capacity, Some, IfSome, Ok, Err, IfOk, IfErr, option_map};
 ghost use Rattle.dstm_text.specs.Lines.{lines_of, pieces, space};
 ghost use Rattle.dstm_report.specs.declared.report.Report.{Report as TheReport};
 ghost use Rattle.dstm_report.specs.Text.{report_text};
-ghost use Rattle.dstm_report.specs.Answers.{Gives, GivesBy, IsRead};
-ghost use Rattle.dstm_report.specs.Reading.{after_word, number_in, number_at, at_end, pair_of, place_at, known_reply};
-ghost use Rattle.dstm_report.specs.Reading.{reply_of, further_reply, replies_of, row_of, numbers_of, item_of, items_of};
-ghost use Rattle.dstm_report.specs.Reading.{count_of, part_of, rank, can_follow, add_part, add_line, or_line, finished};
-ghost use Rattle.dstm_report.specs.Reading.{header_of, is_version, blank, report_of, IsHeld};
+ghost use Rattle.dstm_report.specs.Answers.{Gives, GivesBy, TellsLine};
+ghost use Rattle.dstm_report.specs.Parser.{after_word, number_in, number_at, at_end, pair_of, place_at, known_reply};
+ghost use Rattle.dstm_report.specs.Parser.{reply_of, further_reply, replies_of, row_of, numbers_of, item_of, items_of};
+ghost use Rattle.dstm_report.specs.Parser.{count_of, part_of, rank, can_follow, add_part, add_line, or_line, finished};
+ghost use Rattle.dstm_report.specs.Parser.{header_of, is_version, blank, parsed};
+ghost use Rattle.dstm_report.specs.Reading.{report_of, IsHeld, AreLinesOf, AreRefusedAt};
 
 use crate::draft::{COLON, DOT, Draft, MAX_NUMBER, MAX_REPLIES, MAX_WORKER, Part};
 use crate::error::ReportError;
@@ -15,10 +16,21 @@ use dstm_model::{Item, Items, Numbers, Replies, Reply};
 use dstm_text::{Lines, Pieces, decimal, one_spelling};
 use std::alloc::{AllocError, Global};
 
-/// Reads a report of a version.
+/// Reads a report of a version. What is read is the report of whose text these are the lines; where they are those of
+/// none that the version can hold, the error tells the first line that cannot stand in its place.
 pub fn read_report(alloc: Global, version: u32, bytes: &[u8]) -> Result<Report, ReportError>
+    ensures read { IfOk result (λ report. AreLinesOf version report (lines_of bytes.now)) }
+    ensures refused { IfErr result (TellsLine (AreRefusedAt version (lines_of bytes.now))) }
+
+    // The same, as a function of the lines.
     ensures exact { Gives result (report_of version (lines_of bytes.now)) }
-    ensures version { IfOk result (λ report. report.version ≡ version) }
+{
+    one_spelling();
+    parse(alloc, version, bytes)
+}
+
+fn parse(alloc: Global, version: u32, bytes: &[u8]) -> Result<Report, ReportError>
+    ensures { Gives result (parsed version (lines_of bytes.now)) }
 {
     let mut lines = Lines::new(bytes);
     let Some(header) = lines.next() else {
@@ -44,6 +56,38 @@ pub fn read_back()
     one_spelling();
 }
 
+/// The law of reading: lines are read as a report of a version exactly where they are those of the report's
+/// text, it is of that version, and the version can hold it.
+pub fn read_where_printed()
+    ensures { (version : ℕ) (report : TheReport) (lines : List (List ℕ)) →
+        (report_of version lines ≡ Ok report) ↔ AreLinesOf version report lines }
+{
+    one_spelling();
+}
+
+/// The law of refusals: lines are refused as a report of a version at the first of them up to which they begin no
+/// report's text, and behind the last one where they begin such a text and are none.
+pub fn refused_where_none_begins()
+    ensures { (version : ℕ) (lines : List (List ℕ)) (line : ℕ) → version < 2 ^ 64 →
+        (report_of version lines ≡ Err line) ↔ AreRefusedAt version lines line }
+{
+    one_spelling();
+}
+
+/// The law of one reading: lines are those of one report of a version, or they are refused at one line, and never both.
+pub fn one_reading()
+    ensures either { (version : ℕ) (lines : List (List ℕ)) → version < 2 ^ 64 →
+        ((report : TheReport) × AreLinesOf version report lines) ⊎ ((line : ℕ) × AreRefusedAt version lines line) }
+    ensures apart { (version : ℕ) (lines : List (List ℕ)) (report : TheReport) (line : ℕ) →
+        AreLinesOf version report lines → ¬ (AreRefusedAt version lines line) }
+    ensures report { (version : ℕ) (lines : List (List ℕ)) (one other : TheReport) →
+        AreLinesOf version one lines → AreLinesOf version other lines → one ≡ other }
+    ensures line { (version : ℕ) (lines : List (List ℕ)) (one other : ℕ) →
+        AreRefusedAt version lines one → AreRefusedAt version lines other → one ≡ other }
+{
+    one_spelling();
+}
+
 fn is_header(version: u32, text: &[u8]) -> bool
     ensures { result ≡ is_version version (header_of (pieces space text.now)) }
 {
@@ -51,7 +95,7 @@ fn is_header(version: u32, text: &[u8]) -> bool
 }
 
 // `dstm report VERSION`
-#[tactic(auto, unfolding(crate::specs::Reading::header_of))]
+#[tactic(auto, unfolding(crate::specs::Parser::header_of))]
 fn header(text: &[u8]) -> Option<u64>
     ensures { result ≡ header_of (pieces space text.now) }
 {
@@ -82,8 +126,7 @@ fn blank(alloc: Global, version: u32) -> Draft
 impl Draft {
     // Puts a line behind those read.
     fn add_line(&mut self, alloc: Global, line: u64, text: &[u8]) -> Result<(), ReportError>
-        ensures exact { GivesBy (λ _. self.new) result (or_line line (add_line text.now self.old)) }
-        ensures version { self.new.report.version ≡ self.old.report.version }
+        ensures { GivesBy (λ _. self.new) result (or_line line (add_line text.now self.old)) }
     {
         let mut words = Pieces::new(text, b' ');
         let first = words.next().ok_or(ReportError::Form(line))?;
@@ -93,10 +136,7 @@ impl Draft {
         }
         let report = &mut self.report;
         match part {
-            Part::Rows => {
-                let row = row(report.version, first, words).ok_or(ReportError::Form(line))?;
-                report.rows.push(row)?;
-            }
+            Part::Rows => report.rows.add(report.version, line, first, words)?,
             Part::Bank => report.bank = Some(numbers(alloc, line, words)?),
             Part::List => report.list = Some(numbers(alloc, line, words)?),
             Part::Tree => report.tree = Some(items(alloc, report.version, line, words)?),
@@ -107,8 +147,7 @@ impl Draft {
     }
 
     fn finish(self, line: u64) -> Result<Report, ReportError>
-        ensures exact { Gives result (or_line line (finished self)) }
-        ensures version { IfOk result (λ report. report.version ≡ self.report.version) }
+        ensures { Gives result (or_line line (finished self)) }
     {
         match self.part {
             Part::End => Ok(self.report),
@@ -144,28 +183,73 @@ fn rank(part: Part) -> u8
     part as u8
 }
 
-// `LINE WORKER ROUND.NUMBER REPLY ; REPLY ..`, of which the first word was taken.
-#[tactic(auto, unfolding(crate::specs::Reading::row_of))]
-fn row(version: u32, first: &[u8], mut words: Pieces<'_>) -> Option<Row>
-    ensures { result ≡ row_of version (first.now ∷ words.entry) }
-{
-    let line = number_in(MAX_NUMBER, first)?;
-    let worker = number(&mut words, MAX_WORKER)? as u32;
-    let (round, number) = place(&mut words)?;
-    let replies = replies(version, words)?;
-    Some(Row {
-        line,
-        worker,
-        round,
-        number,
-        replies,
-    })
+impl Rows {
+    // Puts the row that these words spell behind the others.
+    fn add(
+        &mut self,
+        version: u32,
+        line: u64,
+        first: &[u8],
+        words: Pieces<'_>,
+    ) -> Result<(), ReportError>
+        ensures { GivesBy (λ _. self.new) result
+            (or_line line (option_map (λ row. self.old ++ row ∷ []) (row_of version (first.now ∷ words.entry)))) }
+    {
+        self.items.reserve(1)?;
+        match add_reserved(&mut self.items, version, first, words) {
+            Some(()) => Ok(()),
+            None => Err(ReportError::Form(line)),
+        }
+    }
 }
 
-fn replies(version: u32, mut words: Pieces<'_>) -> Option<Replies>
-    ensures { result ≡ replies_of version words.entry }
+// Puts the row that these words spell behind the others, where there is room. It is read where it stands.
+fn add_reserved(rows: &mut Vec<Row>, version: u32, first: &[u8], words: Pieces<'_>) -> Option<()>
+    requires { vec_len rows.old < vec_capacity rows.old }
+    ensures { option_map (λ row. rows.old.items ++ row ∷ []) (row_of version (first.now ∷ words.entry))
+        ≡ option_map (λ _. rows.new.items) result }
 {
-    let mut replies = Replies::new();
+    let last = rows.len();
+    rows.push_reserved(Row::blank());
+    match fill(&mut rows[last], version, first, words) {
+        Some(()) => Some(()),
+        None => None,
+    }
+}
+
+impl Row {
+    // A row that nothing was read of.
+    fn blank() -> Row
+        ensures { result.replies ≡ [] }
+    {
+        Row {
+            line: 0,
+            worker: 0,
+            round: 0,
+            number: 0,
+            replies: Replies::new(),
+        }
+    }
+}
+
+// `LINE WORKER ROUND.NUMBER REPLY ; REPLY ..`, of which the first word was taken.
+#[tactic(auto, unfolding(crate::specs::Parser::row_of))]
+fn fill(row: &mut Row, version: u32, first: &[u8], mut words: Pieces<'_>) -> Option<()>
+    requires { row.old.replies ≡ [] }
+    ensures { row_of version (first.now ∷ words.entry) ≡ option_map (λ _. row.new) result }
+{
+    row.line = number_in(MAX_NUMBER, first)?;
+    row.worker = number(&mut words, MAX_WORKER)? as u32;
+    let (round, number) = place(&mut words)?;
+    row.round = round;
+    row.number = number;
+    fill_replies(&mut row.replies, version, words)
+}
+
+fn fill_replies(replies: &mut Replies, version: u32, mut words: Pieces<'_>) -> Option<()>
+    requires { replies.old ≡ [] }
+    ensures { replies_of version words.entry ≡ option_map (λ _. replies.new) result }
+{
     replies.push(reply(version, words.next()?)?);
     while let Some(mark) = words.next() {
         let reply = further_reply(version, mark, words.next()?)?;
@@ -174,19 +258,19 @@ fn replies(version: u32, mut words: Pieces<'_>) -> Option<Replies>
         }
         replies.push(reply);
     }
-    Some(replies)
+    Some(())
 }
 
 fn further_reply(version: u32, mark: &[u8], word: &[u8]) -> Option<Reply>
     ensures { result ≡ further_reply version mark.now word.now }
 {
-    if mark == b";".as_slice() {
-        reply(version, word)
-    } else {
-        None
+    match mark {
+        [b';'] => reply(version, word),
+        _ => None,
     }
 }
 
+#[inline(always)]
 fn reply(version: u32, word: &[u8]) -> Option<Reply>
     ensures { result ≡ reply_of version word.now }
 {
@@ -197,6 +281,7 @@ fn reply(version: u32, word: &[u8]) -> Option<Reply>
 }
 
 // The reply that a word stands for.
+#[inline(always)]
 fn known_reply(version: u32, word: &[u8]) -> Option<Reply>
     ensures { result ≡ known_reply version word.now }
 {
@@ -249,7 +334,7 @@ fn item(version: u32, word: &[u8]) -> Option<Item>
     Some(Item { key, value })
 }
 
-#[tactic(auto, unfolding(crate::specs::Reading::count_of))]
+#[tactic(auto, unfolding(crate::specs::Parser::count_of))]
 fn count(words: &mut Pieces<'_>) -> Option<u64>
     ensures { result ≡ count_of words.old }
 {
@@ -260,7 +345,7 @@ fn count(words: &mut Pieces<'_>) -> Option<u64>
 
 // Takes the next word, which has to be this one.
 fn word(words: &mut Pieces<'_>, text: &[u8]) -> Option<()>
-    ensures { IsRead result (λ _. words.new) (after_word text.now words.old) }
+    ensures { after_word text.now words.old ≡ option_map (λ _. words.new) result }
 {
     if words.next()? == text {
         Some(())
@@ -270,8 +355,9 @@ fn word(words: &mut Pieces<'_>, text: &[u8]) -> Option<()>
 }
 
 // Takes the next word, which has to be a number of this range.
+#[inline(always)]
 fn number(words: &mut Pieces<'_>, most: u64) -> Option<u64>
-    ensures read { IsRead result (λ n. (n, words.new)) (number_at most words.old) }
+    ensures read { number_at most words.old ≡ option_map (λ n. (n, words.new)) result }
     ensures most { IfSome result (λ n. n ≤ most) }
 {
     number_in(most, words.next()?)
@@ -279,14 +365,14 @@ fn number(words: &mut Pieces<'_>, most: u64) -> Option<u64>
 
 // Takes the next word, which has to be `ROUND.NUMBER`.
 fn place(words: &mut Pieces<'_>) -> Option<(u64, u64)>
-    ensures { IsRead result (λ place. (place, words.new)) (place_at words.old) }
+    ensures { place_at words.old ≡ option_map (λ place. (place, words.new)) result }
 {
     pair(DOT, words.next()?)
 }
 
 // Sees that no word is left.
 fn end(words: &mut Pieces<'_>) -> Option<()>
-    ensures { IsRead result (λ _. words.new) (at_end words.old) }
+    ensures { at_end words.old ≡ option_map (λ _. words.new) result }
 {
     match words.next() {
         None => Some(()),
@@ -294,6 +380,7 @@ fn end(words: &mut Pieces<'_>) -> Option<()>
     }
 }
 
+#[inline(always)]
 fn pair(separator: u8, word: &[u8]) -> Option<(u64, u64)>
     ensures { result ≡ pair_of separator word.now }
 {
@@ -304,6 +391,7 @@ fn pair(separator: u8, word: &[u8]) -> Option<(u64, u64)>
     Some((first, second))
 }
 
+#[inline(always)]
 fn number_in(most: u64, word: &[u8]) -> Option<u64>
     ensures read { result ≡ number_in most word.now }
     ensures most { IfSome result (λ n. n ≤ most) }

@@ -1,4 +1,5 @@
-ghost use Rattle.std.specs.Prelude.{◌≡◌, ◌++◌, IfOk, OnOk, codes, decimal};
+ghost use Rattle.std.specs.Prelude.{◌≡◌, ◌++◌, All, IfOk, OnOk, codes, decimal};
+ghost use Rattle.dstm_report.specs.Reading.{FitsRow};
 ghost use Rattle.std.specs.List.{flat_map};
 ghost use Rattle.dstm_report.specs.Text.{further_text, number_field, item_field, reply_text, replies_text, row_text};
 ghost use Rattle.dstm_report.specs.Text.{numbers_text, item_text, items_text, report_text};
@@ -10,7 +11,10 @@ use std::alloc::{AllocError, Global};
 
 /// The text of a report, as docs/FORMATS.md shows it.
 pub fn render(alloc: Global, report: &Report) -> Result<Vec<u8>, AllocError>
-    ensures { IfOk result (λ text. text.items ≡ report_text report.now) }
+    ensures text { IfOk result (λ text. text.items ≡ report_text report.now) }
+
+    // What is written are numbers of 64 bits, as their types say.
+    ensures fits { IfOk result (λ _. All FitsRow report.now.rows) }
 {
     let mut out = Vec::from_slice(alloc, b"dstm report ")?;
     push_decimal(&mut out, u64::from(report.version))?;
@@ -62,7 +66,8 @@ fn push_replies(out: &mut Vec<u8>, replies: &[Reply]) -> Result<(), AllocError>
 }
 
 fn push_row(out: &mut Vec<u8>, row: &Row) -> Result<(), AllocError>
-    ensures { OnOk result (out.new.items ≡ out.old.items ++ row_text row.now) }
+    ensures text { OnOk result (out.new.items ≡ out.old.items ++ row_text row.now) }
+    ensures fits { OnOk result (FitsRow row.now) }
 {
     push_decimal(out, row.line)?;
     push_field(out, u64::from(row.worker))?;
@@ -76,7 +81,8 @@ fn push_row(out: &mut Vec<u8>, row: &Row) -> Result<(), AllocError>
 }
 
 fn push_rows(out: &mut Vec<u8>, rows: &[Row]) -> Result<(), AllocError>
-    ensures { OnOk result (out.new.items ≡ out.old.items ++ flat_map row_text rows.now) }
+    ensures text { OnOk result (out.new.items ≡ out.old.items ++ flat_map row_text rows.now) }
+    ensures fits { OnOk result (All FitsRow rows.now) }
 {
     for row in rows {
         push_row(out, row)?;

@@ -1,7 +1,6 @@
-ghost use Rattle.std.specs.Prelude.{◌≡◌, [], ◌∷◌, ◌++◌, OnOk, OnErr};
+ghost use Rattle.std.specs.Prelude.{◌≡◌};
 
 use dstm_model::{Items, Numbers, Replies};
-use std::alloc::AllocFailed;
 use std::marker::Model;
 
 /// What one committed transaction answered.
@@ -22,7 +21,7 @@ pub struct Row {
 /// The rows of a report, in order.
 #[derive(Debug, Drop)]
 pub struct Rows {
-    items: Vec<Row>,
+    pub(crate) items: Vec<Row>,
 }
 
 impl Model for Rows {
@@ -39,13 +38,6 @@ impl Rows {
         ensures { result ≡ items.items }
     {
         Rows { items }
-    }
-
-    pub fn push(&mut self, row: Row) -> Result<(), AllocFailed<Row>>
-        ensures ok { OnOk result (self.new ≡ self.old ++ row ∷ []) }
-        ensures err { OnErr result (self.new ≡ self.old) }
-    {
-        self.items.push(row)
     }
 
     pub fn as_slice(&self) -> &[Row]

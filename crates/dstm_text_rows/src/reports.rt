@@ -42,8 +42,12 @@ fn every_line(rt: HostRuntime) -> Result<(), Fail> {
     let text = render(alloc, &again)?;
     assert_eq!(rt; text.as_slice(), expected.as_bytes());
     read_back();
+    read_where_printed();
+    refused_where_none_begins();
+    one_reading();
     line_by_line();
     balances_stay();
+    lawful_is_held();
     Ok(())
 }
 

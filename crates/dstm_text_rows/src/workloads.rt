@@ -248,6 +248,7 @@ fn workloads_are_written(rt: HostRuntime) -> Result<(), Fail> {
     }
     read_back();
     before_a_mark();
+    operations_by_fields();
     Ok(())
 }
 

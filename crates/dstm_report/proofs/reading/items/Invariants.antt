@@ -1,5 +1,5 @@
 use Rattle.std.proofs.Common.{◌≡◌, length}
-use Rattle.dstm_report.specs.Reading.{items_of}
+use Rattle.dstm_report.specs.Parser.{items_of}
 use Rattle.dstm_report.proofs.Onto.{onto}
 use Rattle.dstm_report.proofs.reading.items.Given as goal
 

@@ -1,5 +1,5 @@
 use Rattle.std.proofs.Common.{◌≡◌, length}
-use Rattle.dstm_report.specs.Reading.{numbers_of}
+use Rattle.dstm_report.specs.Parser.{numbers_of}
 use Rattle.dstm_report.proofs.Onto.{onto}
 use Rattle.dstm_report.proofs.reading.numbers.Given as goal
 

@@ -1,18 +1,42 @@
-use Rattle.std.proofs.Common.{ap, sym, ◌∙◌}
-use Rattle.std.proofs.lemmas.Bool.{cond-true}
-use Rattle.dstm_report.specs.declared.draft.Draft.{Draft}
-use Rattle.dstm_report.specs.Reading.{completed, report_of}
-use Rattle.dstm_report.proofs.LineCount.{lines_behind}
+use Rattle.std.proofs.Common.{ℕ, ◌≤◌, List, Result, Ok, Err, IfOk, IfErr, arith}
+use Rattle.dstm_text.specs.Lines.{lines_of}
+use Rattle.dstm_report.specs.declared.draft.TheConstants.{MAX_NUMBER}
+use Rattle.dstm_report.specs.declared.error.ReportError.{ReportError}
+use Rattle.dstm_report.specs.declared.error.ReportError.TheVariants as errors
+use Rattle.dstm_report.specs.declared.report.Report.{Report}
+use Rattle.dstm_report.specs.Answers.{Gives, TellsLine}
+use Rattle.dstm_report.specs.Parser.{parsed}
+use Rattle.dstm_report.specs.Reading.{report_of, AreLinesOf, AreRefusedAt}
+use Rattle.dstm_report.proofs.Words.{Printed}
+use Rattle.dstm_report.proofs.ReadAsPrinted.{Only}
+use Rattle.dstm_report.proofs.Drafts.{read_is_printed}
+use Rattle.dstm_report.proofs.Refusals.{refused_is}
 use Rattle.dstm_report.proofs.reading.read_report.Goals as goal
 
-pub loop-text-init : goal.loop-text-init
-loop-text-init c =
-    let lines = sym c.new-lines.ensures.value ∙ c.in-Some.ensures.some in
-    let left = c.next.new.self in
+-- what a reader that parses lines answers
+answers_read : Printed → Only → (version : ℕ) (lines : List (List ℕ)) (result : Result Report ReportError) →
+    Gives result (parsed version lines) → IfOk result (λ report. AreLinesOf version report lines)
+answers_read printed only version lines (Ok report) gives = read_is_printed printed only version lines report gives
+answers_read printed only version lines (Err error) gives = tt
+
+answers_refused : Printed → Only → (version : ℕ) (lines : List (List ℕ)) (result : Result Report ReportError) →
+    version ≤ MAX_NUMBER → Gives result (parsed version lines) →
+    IfErr result (TellsLine (AreRefusedAt version lines))
+answers_refused printed only version lines (Ok report) small gives = tt
+answers_refused printed only version lines (Err (errors.Memory e)) small gives = tt
+answers_refused printed only version lines (Err (errors.Form line)) small gives =
+    refused_is printed only version lines line small gives
+
+pub returns : goal.returns
+unfolding report_of
+returns c =
+    let printed = c.one_spelling.ensures.printed in
+    let only = c.one_spelling.ensures.only in
+    let version = c.args.version in
+    let lines = lines_of c.args.bytes.now in
+    let small : version ≤ MAX_NUMBER = omega (arith, c.ranges.version) in
     record {
-      read = ap (completed left 2) c.blank-draft.ensures
-          ∙ sym (ap (report_of c.args.version) lines
-          ∙ cond-true _ _ _ (sym c.is_header.ensures ∙ c.if-not-is_header.false));
-      version = ap (λ (d : Draft). d.report.version) c.blank-draft.ensures;
-      count = lines_behind c.args.bytes.now c.in-Some.header.now left lines;
+      read = answers_read printed only version lines c.parse.result c.parse.ensures;
+      refused = answers_refused printed only version lines c.parse.result small c.parse.ensures;
+      exact = c.parse.ensures;
     }

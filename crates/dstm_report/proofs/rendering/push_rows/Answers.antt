@@ -1,0 +1,25 @@
+use Rattle.std.proofs.Common.{ℕ, List, [], ◌∷◌, ◌++◌, take, ap, sym, subst, ◌∙◌}
+use Rattle.std.specs.List.{flat_map}
+use Rattle.std.proofs.lemmas.List.{take_more, flat_map_more}
+use Rattle.std.proofs.lemmas.List.Elements.{All-more}
+use Rattle.dstm_report.specs.declared.report.Row.{Row}
+use Rattle.dstm_report.specs.Reading.{FitsRow}
+use Rattle.dstm_report.specs.Text.{row_text}
+use Rattle.dstm_report.proofs.rendering.push_rows.Goals as goal
+
+pub loop-row-preserved : goal.loop-row-preserved
+loop-row-preserved c =
+    let start = c.args.out.now.items in
+    let rows = c.args.rows.now in
+    let i = c.loop-row.row-index in
+    let row = c.row-item.result in
+    let told = c.in_ok-push_row.ensures in
+    let more = take_more rows i row c.loop-row-test.true
+    ∙ ap (λ (r : Row). take i rows ++ r ∷ []) (sym c.row-item.is) in
+    record {
+      text = told.text ∙ ap (λ (text : List ℕ). text ++ row_text row) c.loop-row.invariant.text
+          ∙ flat_map_more row_text start (take i rows) row
+          ∙ ap (λ (rs : List Row). start ++ flat_map row_text rs) (sym more);
+      fits = All-more FitsRow rows i row c.loop-row-test.true c.loop-row.invariant.fits
+          (subst FitsRow c.row-item.is told.fits);
+    }
