@@ -1,55 +1,72 @@
-ghost use Rattle.std.specs.Prelude.{◌≡◌, ◌<◌, ◌≤◌};
+ghost use Rattle.std.specs.Prelude.{◌≡◌, ◌<◌, ◌≤◌, IfSome};
 ghost use Rattle.dstm_core.specs.Words.{IsValid};
 
+use crate::calls::{Answer, begin, commit, is_spent, low, set};
 use dstm_core::{Kind, Manager, Shape};
-use dstm_engine::{EnrolError, Spent, Stm};
+use dstm_engine::{Caller, EnrolError, Spent, Stm};
 use dstm_model::{AnyLaw, Val};
 use std::test::Fail;
 
-// A shape with two objects, and one attempt for each caller.
+// A shape with one object, and one attempt and one locator for each caller.
 fn small(callers: u32) -> Shape
     requires { (0 < callers) × (callers ≤ 2) }
     ensures valid { IsValid result }
-    ensures objects { result.objects ≡ 2 }
+    ensures objects { result.objects ≡ 1 }
     ensures callers { result.callers ≡ callers }
 {
     Shape {
-        objects: 2,
+        objects: 1,
         callers,
         attempts: 1,
-        locators: 2,
+        locators: 1,
         manager: Manager::Polite,
         all_write: false,
     }
 }
 
-// A table for one caller has no second one. It closes with its first values once the caller is retired.
+// Sets the object and commits.
+fn set_nine(caller: &mut Caller<AnyLaw>, stm: &Stm<AnyLaw>) -> Option<(Answer, Answer)>
+    requires table { caller.old.home ≡ stm.now }
+    requires objects { stm.now.terms.shape.objects ≡ 1 }
+    ensures home { IfSome result (λ _. caller.new.home ≡ stm.now) }
+{
+    let mut tx = begin(caller, stm)?;
+    let old = set(&mut tx, 0, low(9));
+    if !tx.is_live() {
+        return None;
+    }
+    Some((old, commit(tx)))
+}
+
+// A table for one caller with one attempt has no second one of either. It closes with what the attempt has set.
 #[test]
-fn one_caller(rt: HostRuntime) -> Result<(), Fail> {
-    let five = Val { low: 5, high: 1 };
-    let six = Val { low: 6, high: 2 };
-    let start = vec![in rt.alloc(); five, six]?;
-    let (stm, mut founder) = Stm::make(rt.alloc(), start, small(1), AnyLaw)?;
-    let Ok(caller) = founder.caller(rt.alloc(), &stm, 0) else {
+fn a_caller_with_one_attempt_is_spent_after_it(rt: HostRuntime) -> Result<(), Fail> {
+    let alloc = rt.alloc();
+    let start = vec![in alloc; low(0)]?;
+    let (stm, mut founder) = Stm::make(alloc, start, small(1), AnyLaw)?;
+    let Ok(caller) = founder.caller(alloc, &stm, 0) else {
         return Err(Fail::new("no caller"));
     };
-    assert!(rt; !caller.is_live());
-    assert_eq!(rt; founder.out(), 1);
-    let other = founder.caller(rt.alloc(), &stm, 1);
+    let mut caller = caller;
+    let other = founder.caller(alloc, &stm, 1);
     assert!(rt; matches!(other, Err(EnrolError::Full)));
+    let Some(answers) = set_nine(&mut caller, &stm) else {
+        return Err(Fail::new("spent"));
+    };
+    assert!(rt; answers == (Some(Ok(0)), Some(Ok(0))));
+    assert!(rt; is_spent(&mut caller, &stm));
     founder.retire(&stm, caller);
     assert_eq!(rt; founder.out(), 0);
-    let (values, _record) = stm.close(rt.alloc(), founder)?;
-    assert_eq!(rt; values.as_slice(), [five, six].as_slice());
+    let (values, _record) = stm.close(alloc, founder)?;
+    assert_eq!(rt; values.as_slice(), [low(9)].as_slice());
     Ok(())
 }
 
 // A guest draws a number of its own on the table's words. The table closes without a record.
 #[test]
-fn one_guest(rt: HostRuntime) -> Result<(), Fail> {
+fn a_guest_draws_a_number_of_its_own(rt: HostRuntime) -> Result<(), Fail> {
     let five = Val { low: 5, high: 1 };
-    let six = Val { low: 6, high: 2 };
-    let start = vec![in rt.alloc(); five, six]?;
+    let start = vec![in rt.alloc(); five]?;
     let shape = small(1);
     let (stm, mut founder) = Stm::make(rt.alloc(), start, shape, AnyLaw)?;
     let Some(guest) = founder.guest(&stm) else {
@@ -64,18 +81,17 @@ fn one_guest(rt: HostRuntime) -> Result<(), Fail> {
     founder.dismiss(&stm, seat);
     assert_eq!(rt; founder.out(), 0);
     let values = stm.close_plain(rt.alloc(), founder)?;
-    assert_eq!(rt; values.as_slice(), [five, six].as_slice());
+    assert_eq!(rt; values.as_slice(), [five].as_slice());
     Ok(())
 }
 
-// An attempt that opens nothing is rechecked and commits, under the first number. It is the only one of its caller.
+// An attempt that opens nothing is rechecked and commits, under the first number.
 #[test]
-fn empty_attempt(rt: HostRuntime) -> Result<(), Fail> {
-    let five = Val { low: 5, high: 1 };
-    let six = Val { low: 6, high: 2 };
-    let start = vec![in rt.alloc(); five, six]?;
-    let (stm, mut founder) = Stm::make(rt.alloc(), start, small(1), AnyLaw)?;
-    let Ok(caller) = founder.caller(rt.alloc(), &stm, 0) else {
+fn an_attempt_that_opens_nothing_is_rechecked_and_commits(rt: HostRuntime) -> Result<(), Fail> {
+    let alloc = rt.alloc();
+    let start = vec![in alloc; low(5)]?;
+    let (stm, mut founder) = Stm::make(alloc, start, small(1), AnyLaw)?;
+    let Ok(caller) = founder.caller(alloc, &stm, 0) else {
         return Err(Fail::new("no caller"));
     };
     let mut caller = caller;

@@ -1,0 +1,198 @@
+// What the tests share: tables of zeros with two callers, and calls on an attempt whose contracts say no more than the tests
+// need.
+ghost use Rattle.std.specs.Prelude.{◌≡◌, ◌<◌, ◌≤◌, IfOk, IfSome, IsTrue};
+ghost use Rattle.dstm_core.specs.Words.{IsValid};
+ghost use Rattle.dstm_engine.specs.Callers.{is_live, shape_of};
+
+use dstm_core::{Manager, Shape};
+use dstm_engine::{Caller, Founder, Spent, Stm, Tally, Tx};
+use dstm_model::{AnyLaw, Val};
+use dstm_order::Again;
+use std::alloc::Global;
+use std::test::Fail;
+
+// The low part of a value, or the number of a commit. None where the attempt was over before the call.
+pub type Answer = Option<Result<u64, Again>>;
+
+// A table of zeros with two callers.
+#[derive(Drop)]
+pub struct Pair {
+    pub stm: Stm<AnyLaw>,
+    pub one: Caller<AnyLaw>,
+    pub two: Caller<AnyLaw>,
+}
+
+// A shape of a few objects for two callers, with four attempts and sixteen locators each.
+pub fn shape(objects: u32, manager: Manager, all_write: bool) -> Shape
+    requires objects { (0 < objects) × (objects ≤ 8) }
+    ensures valid { IsValid result }
+    ensures objects { result.objects ≡ objects }
+{
+    Shape {
+        objects,
+        callers: 2,
+        attempts: 4,
+        locators: 16,
+        manager,
+        all_write,
+    }
+}
+
+// A table of this shape, whose values are all 0, with two callers.
+pub fn two_callers(alloc: Global, shape: Shape) -> Result<Pair, Fail>
+    requires valid { IsValid shape }
+    ensures shape { IfOk result (λ p. p.stm.terms.shape ≡ shape) }
+    ensures one { IfOk result (λ p. p.one.home ≡ p.stm) }
+    ensures two { IfOk result (λ p. p.two.home ≡ p.stm) }
+{
+    let start = vec![in alloc; low(0); shape.objects as usize]?;
+    let (stm, mut founder) = Stm::make(alloc, start, shape, AnyLaw)?;
+    let one = caller(alloc, &stm, &mut founder)?;
+    let two = caller(alloc, &stm, &mut founder)?;
+    Ok(Pair { stm, one, two })
+}
+
+// A new caller.
+fn caller(
+    alloc: Global,
+    stm: &Stm<AnyLaw>,
+    founder: &mut Founder<AnyLaw>,
+) -> Result<Caller<AnyLaw>, Fail>
+    requires table { founder.old.home ≡ stm.now }
+    ensures table { founder.new.home ≡ founder.old.home }
+    ensures caller { IfOk result (λ k. k.home ≡ stm.now) }
+{
+    match founder.caller(alloc, stm, 0) {
+        Ok(caller) => Ok(caller),
+        Err(_) => Err(Fail::new("no caller")),
+    }
+}
+
+// Begins an attempt.
+pub fn begin<'a>(caller: &'a mut Caller<AnyLaw>, stm: &'a Stm<AnyLaw>) -> Option<Tx<'a, AnyLaw>>
+    requires table { caller.old.home ≡ stm.now }
+    ensures reference { IfSome result (λ t. t.caller.ghost_name ≡ caller.entry.ghost_name) }
+    ensures table { IfSome result (λ t. t.stm.now ≡ stm.now) }
+    ensures home { IfSome result (λ t. t.caller.now.home ≡ stm.now) }
+{
+    match caller.begin(stm) {
+        Ok(tx) => Some(tx),
+        Err(Spent) => None,
+    }
+}
+
+// The caller has no attempt left.
+pub fn is_spent(caller: &mut Caller<AnyLaw>, stm: &Stm<AnyLaw>) -> bool
+    requires table { caller.old.home ≡ stm.now }
+    ensures home { caller.new.home ≡ stm.now }
+{
+    match caller.begin(stm) {
+        Ok(tx) => {
+            drop_early(tx);
+            false
+        }
+        Err(Spent) => true,
+    }
+}
+
+// Opens an object for reading.
+pub fn read_value(tx: &mut Tx<'_, AnyLaw>, o: u32) -> Option<Result<Val, Again>>
+    requires exists { o < (shape_of tx.old.caller.now).objects }
+    ensures reference { tx.new.caller.ghost_name ≡ tx.old.caller.ghost_name }
+    ensures table { tx.new.stm.now ≡ tx.old.stm.now }
+    ensures home { tx.new.caller.now.home ≡ tx.old.caller.now.home }
+{
+    if !tx.is_live() {
+        return None;
+    }
+    Some(tx.open_read(o))
+}
+
+// The same, and answers the low part.
+pub fn read(tx: &mut Tx<'_, AnyLaw>, o: u32) -> Answer
+    requires exists { o < (shape_of tx.old.caller.now).objects }
+    ensures reference { tx.new.caller.ghost_name ≡ tx.old.caller.ghost_name }
+    ensures table { tx.new.stm.now ≡ tx.old.stm.now }
+    ensures home { tx.new.caller.now.home ≡ tx.old.caller.now.home }
+{
+    match read_value(tx, o)? {
+        Ok(value) => Some(Ok(value.low)),
+        Err(again) => Some(Err(again)),
+    }
+}
+
+// Opens an object for reading and writing, and leaves its value as it is.
+pub fn open(tx: &mut Tx<'_, AnyLaw>, o: u32) -> Answer
+    requires exists { o < (shape_of tx.old.caller.now).objects }
+    ensures reference { tx.new.caller.ghost_name ≡ tx.old.caller.ghost_name }
+    ensures table { tx.new.stm.now ≡ tx.old.stm.now }
+    ensures home { tx.new.caller.now.home ≡ tx.old.caller.now.home }
+{
+    if !tx.is_live() {
+        return None;
+    }
+    match tx.open_write(o) {
+        Ok(value) => Some(Ok(value.low)),
+        Err(again) => Some(Err(again)),
+    }
+}
+
+// Opens an object for reading and writing, and sets its value. Answers the old one.
+pub fn set(tx: &mut Tx<'_, AnyLaw>, o: u32, value: Val) -> Answer
+    requires exists { o < (shape_of tx.old.caller.now).objects }
+    ensures reference { tx.new.caller.ghost_name ≡ tx.old.caller.ghost_name }
+    ensures table { tx.new.stm.now ≡ tx.old.stm.now }
+    ensures home { tx.new.caller.now.home ≡ tx.old.caller.now.home }
+{
+    if !tx.is_live() {
+        return None;
+    }
+    match tx.open_write(o) {
+        Ok(old) => {
+            tx.set(o, value);
+            Some(Ok(old.low))
+        }
+        Err(again) => Some(Err(again)),
+    }
+}
+
+// Lets a read go, if there is one.
+pub fn release(tx: &mut Tx<'_, AnyLaw>, o: u32) -> bool
+    requires exists { o < (shape_of tx.old.caller.now).objects }
+    ensures reference { tx.new.caller.ghost_name ≡ tx.old.caller.ghost_name }
+    ensures table { tx.new.stm.now ≡ tx.old.stm.now }
+    ensures home { tx.new.caller.now.home ≡ tx.old.caller.now.home }
+{
+    let is_read = tx.is_live() && tx.is_read(o);
+    if is_read {
+        tx.release(o);
+    }
+    is_read
+}
+
+// Commits, and answers the number that was drawn.
+pub fn commit(tx: Tx<'_, AnyLaw>) -> Answer
+    requires live { IsTrue (is_live tx.caller.now) }
+    ensures home { tx.exit.0.now.home ≡ tx.entry.caller.now.home }
+{
+    Some(tx.commit())
+}
+
+// Lets an attempt go that has not ended.
+pub fn drop_early(tx: Tx<'_, AnyLaw>)
+    ensures home { tx.exit.0.now.home ≡ tx.entry.caller.now.home }
+{
+    let _tx = tx;
+}
+
+pub fn tally(steps: u64, turns: u64, kills: u64) -> Tally {
+    Tally {
+        steps,
+        turns,
+        kills,
+    }
+}
+
+pub fn low(low: u64) -> Val {
+    Val { low, high: 0 }
+}

@@ -1,0 +1,141 @@
+// Two threads that move numbers from one object to another.
+ghost use Rattle.std.specs.Prelude.{◌≡◌, length};
+ghost use Rattle.dstm_core.specs.Words.{IsValid};
+
+use crate::calls::low;
+use dstm_core::{Manager, Shape};
+use dstm_engine::{Caller, Ended, Stm, attempt};
+use dstm_mem::{Body, Mem};
+use dstm_model::{Law, Val};
+use std::alloc::Global;
+use std::test::Fail;
+use std::thread::{Threads, join};
+
+// How many moves each thread makes.
+const MOVES: u32 = 10_000;
+
+// The attempts that it has for them.
+const ATTEMPTS: u32 = 65_536;
+
+// The law of two objects.
+#[derive(Clone, Copy)]
+struct TwoObjects;
+
+impl Law for TwoObjects {
+    ghost use Rattle.std.specs.Prelude.{◌≡◌, length};
+
+    ghost holds = { λ _ map. length map ≡ 2 };
+}
+
+// Takes one from the first object and adds it to the second.
+#[derive(Drop)]
+struct Move {
+    law: TwoObjects,
+}
+
+impl Body<TwoObjects> for Move {
+    type Task = ();
+
+    type Outcome = ();
+
+    ghost law = { λ body. body.law };
+
+    ghost task = { λ _. tt };
+
+    ghost outcome = { λ _. tt };
+
+    ghost right = { λ _ _ _. Unit {0} };
+
+    ghost audits = { λ _ _. ⊥ };
+
+    fn run<M: Mem>(&mut self, mem: &mut M) -> Result<(), M::Err> {
+        let source = mem.open_write(0)?;
+        let target = mem.open_write(1)?;
+        mem.set(0, low(source.low.wrapping_sub(1)));
+        mem.set(1, low(target.low.wrapping_add(1)));
+        Ok(())
+    }
+}
+
+// Makes the moves, and counts them.
+fn move_all(
+    stm: &Stm<TwoObjects>,
+    caller: Caller<TwoObjects>,
+    law: TwoObjects,
+) -> (Caller<TwoObjects>, u32)
+    requires table { caller.home ≡ stm.now }
+    requires law { stm.now.terms.law.value ≡ law }
+    ensures table { result.0.home ≡ stm.entry.now }
+{
+    let mut caller = caller;
+    let mut body = Move { law };
+    let mut done = 0;
+    for _ in 0..ATTEMPTS {
+        if done == MOVES {
+            break;
+        }
+        match attempt(&mut caller, stm, &mut body) {
+            Ok(_) => done += 1,
+            Err(Ended::Again(_)) => {}
+            Err(Ended::Spent) => break,
+        }
+    }
+    (caller, done)
+}
+
+// Both threads make their moves: how many each made, and what the objects are left with.
+fn move_by_two<R: Threads + Sync>(
+    rt: &R,
+    alloc: Global,
+    start: Vec<Val>,
+    shape: Shape,
+) -> Result<(u32, u32, Vec<Val>), Fail>
+    requires valid { IsValid shape }
+    requires objects { (shape.objects ≡ 2) × (length start.items ≡ 2) }
+{
+    let law = TwoObjects;
+    let (stm, mut founder) = Stm::make(alloc, start, shape, law)?;
+    let Ok(east) = founder.caller(alloc, &stm, 1) else {
+        return Err(Fail::new("no caller"));
+    };
+    let Ok(west) = founder.caller(alloc, &stm, 2) else {
+        return Err(Fail::new("no caller"));
+    };
+    let table = &stm;
+    let (east, west) = join(
+        rt,
+        move || -> (Caller<TwoObjects>, u32)
+            requires { (east.home ≡ table.now) × (table.now.terms.law.value ≡ law) }
+            ensures { result.0.home ≡ table.entry.now }
+        { move_all(table, east, law) },
+        move || -> (Caller<TwoObjects>, u32)
+            requires { (west.home ≡ table.now) × (table.now.terms.law.value ≡ law) }
+            ensures { result.0.home ≡ table.entry.now }
+        { move_all(table, west, law) },
+    );
+    founder.retire(&stm, east.0);
+    founder.retire(&stm, west.0);
+    let (values, _record) = stm.close(alloc, founder)?;
+    Ok((east.1, west.1, values))
+}
+
+#[test]
+fn two_threads_move_and_lose_nothing(rt: HostRuntime) -> Result<(), Fail> {
+    let alloc = rt.alloc();
+    let shape = Shape {
+        objects: 2,
+        callers: 2,
+        attempts: ATTEMPTS,
+        locators: 2 * ATTEMPTS + 2,
+        manager: Manager::Polka,
+        all_write: false,
+    };
+    let start = vec![in alloc; low(1_000_000), low(1_000_000)]?;
+    let (east, west, values) = move_by_two(&rt, alloc, start, shape)?;
+    assert_eq!(rt; (east, west), (MOVES, MOVES));
+    assert_eq!(rt;
+        values.as_slice(),
+        [low(980_000), low(1_020_000)].as_slice()
+    );
+    Ok(())
+}
