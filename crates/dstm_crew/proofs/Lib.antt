@@ -1,4 +1,3 @@
-pub mod Opens
 pub mod Closes
 pub mod Played
 pub mod Waits

@@ -1,7 +1,6 @@
 use Rattle.std.proofs.Common.{rules, ap}
 use Rattle.dstm_store.specs.declared.law.StoreLaw.{StoreLaw}
-use Rattle.dstm_crew.proofs.Opens.{fresh_installed}
-use Rattle.dstm_worker.proofs.Fresh.{fresh_begun, fresh_done, fresh_rest}
+use Rattle.dstm_worker.proofs.Fresh.{fresh_begun, fresh_done, fresh_installed, fresh_rest}
 use Rattle.dstm_crew.proofs.alone.open_table.Goals as goal
 
 pub returns-in-Ok : goal.returns-in-Ok
