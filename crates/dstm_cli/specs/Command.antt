@@ -19,7 +19,7 @@ use Rattle.dstm_workload.specs.Writing.{text_of_workload}
 use Rattle.dstm_report.specs.declared.report.Report.{Report}
 use Rattle.dstm_report.specs.declared.verdict.Verdict.{Verdict}
 use Rattle.dstm_report.specs.declared.verdict.Verdict.TheVariants.{Lawful, NotLawful}
-use Rattle.dstm_report.specs.Reading.{report_of}
+use Rattle.dstm_report.specs.Reading.{report_of, IsHeld}
 use Rattle.dstm_report.specs.Text.{report_text}
 use Rattle.dstm_report.specs.Lawful.{IsLawful, Tells}
 use Rattle.dstm_rounds.specs.declared.options.Options.{Options}
@@ -103,11 +103,11 @@ default_options = record { manager = Polka; seed = 0; all_write = false; release
 
 -- ---- what a command writes
 
--- the text is that of a report that is lawful for the workload, and the records stand for the report
+-- the text is that of a report that is lawful for the workload, and that its version can hold; the records stand for it
 abbrev pub IsReportOf : Workload → Options → List Round → List ℕ → Type 0
 IsReportOf workload options records text =
     (report : Report) × (IsLawful workload report × StandFor workload options records report
-    × (text ≡ report_text report))
+    × IsHeld report × (text ≡ report_text report))
 
 abbrev pub verdict_text : Verdict → List ℕ
 verdict_text Lawful = codes "lawful\n"

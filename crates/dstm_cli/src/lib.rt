@@ -11,6 +11,3 @@ pub use command::dstm;
 pub use failure::Failure;
 pub use input::{CHECK_LIMIT, RUN_LIMIT};
 pub use laws::{check_takes_reports, run_takes_generated};
-
-#[cfg(test)]
-mod tests;

@@ -1,4 +1,4 @@
-ghost use Rattle.std.specs.Prelude.{◌≡◌, ◌≤◌, ◌<◌, ◌*◌, ◌^◌, ◌++◌, ◌∷◌, [], length, sum, false, true, Some, Ok, Err, IfSome, IfOk};
+ghost use Rattle.std.specs.Prelude.{◌≡◌, ◌≤◌, ◌<◌, ◌*◌, ◌++◌, [], length, sum, false, true, Some, Ok, Err, IfOk};
 ghost use Rattle.std.specs.Prelude.{◌≢◌, ◌⊎◌, All, IfErr, OnOk};
 ghost use Rattle.std.specs.Io.KnownBytes.{Keeps};
 ghost use Rattle.dstm_command.specs.CommandLine.{IsSmall, IsSmallCommand};
@@ -11,7 +11,6 @@ ghost use Rattle.dstm_rounds.specs.Running.{added, IsClosed};
 ghost use Rattle.dstm_cli.specs.Command.{
   run_input,
   check_input,
-  default_options,
   options_of,
   reads_input,
   Refuses,
@@ -35,7 +34,7 @@ use dstm_core::Manager;
 use dstm_crew::{Gate, Options, Rounds, run_crew};
 use dstm_gen::generate;
 use dstm_io::Source;
-use dstm_report::{Report, Verdict, balances_stay, check, render};
+use dstm_report::{Report, Verdict, balances_stay, check, lawful_is_held, render};
 use dstm_text::push_decimal;
 use dstm_workload::{Workload, read_workload, write_workload};
 use std::alloc::{AllocError, Global};
@@ -141,6 +140,7 @@ fn run_text<R: Threads + Sync, G: Gate + Sync>(
 {
     let workload = read_workload(alloc, input)?;
     let report = run_crew(rt, alloc, &workload, options, gate, rounds)?;
+    lawful_is_held();
     Ok(render(alloc, &report)?)
 }
 

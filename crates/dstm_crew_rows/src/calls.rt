@@ -4,11 +4,26 @@ use dstm_io::{MemorySink, MemorySource};
 use std::alloc::{AllocError, Global};
 use std::thread::Threads;
 
+// The calls of a source and of `out` that fail, and how many bytes `out` has room for.
+#[derive(Clone, Copy)]
+pub struct Devices<'a> {
+    pub read_fails: &'a [u64],
+    pub write_fails: &'a [u64],
+    pub room: usize,
+}
+
+pub const SOUND: Devices<'static> = Devices {
+    read_fails: &[],
+    write_fails: &[],
+    room: 1_000_000,
+};
+
 // What a call answered and wrote.
 #[derive(Drop)]
 pub struct Ran {
     pub status: u8,
     pub out: Vec<u8>,
+    pub err: Vec<u8>,
 }
 
 // Calls the program with the words of a line.
@@ -19,14 +34,26 @@ pub fn call<R: Threads + Sync, G: Gate + Sync>(
     input: &[u8],
     gate: &G,
 ) -> Result<Ran, AllocError> {
+    call_on(rt, alloc, line, input, gate, SOUND)
+}
+
+// The same with these devices.
+pub fn call_on<R: Threads + Sync, G: Gate + Sync>(
+    rt: &R,
+    alloc: Global,
+    line: &str,
+    input: &[u8],
+    gate: &G,
+    devices: Devices<'_>,
+) -> Result<Ran, AllocError> {
     let mut words = Vec::new(alloc);
     for word in line.split(' ') {
         words.push(String::from_str(alloc, word)?)?;
     }
-    let mut source = MemorySource::make(alloc, input, &[])?;
-    let mut out = MemorySink::make(alloc, &[])?;
+    let mut source = MemorySource::make(alloc, input, devices.read_fails)?;
+    let mut out = MemorySink::make(alloc, devices.write_fails)?;
     let mut err = MemorySink::make(alloc, &[])?;
-    out.reserve(1_000_000)?;
+    out.reserve(devices.room)?;
     err.reserve(100)?;
     let mut rounds = Rounds::make(alloc);
     let status = dstm(
@@ -42,6 +69,7 @@ pub fn call<R: Threads + Sync, G: Gate + Sync>(
     Ok(Ran {
         status,
         out: Vec::from_slice(alloc, out.taken())?,
+        err: Vec::from_slice(alloc, err.taken())?,
     })
 }
 

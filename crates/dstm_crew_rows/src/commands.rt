@@ -1,32 +1,10 @@
-use super::*;
-use dstm_crew::{OpenGate, Rounds};
-use dstm_io::{MemorySink, MemorySource};
+use crate::calls::{Devices, Ran, SOUND, call_on, case_of};
+use dstm_cli::{check_takes_reports, run_takes_generated};
+use dstm_crew::OpenGate;
 use std::alloc::{AllocError, Global};
 use std::process::Abort;
 use std::test::Fail;
 use std::thread::Threads;
-
-// The calls of a source and of `out` that fail, and how many bytes `out` has room for.
-#[derive(Clone, Copy)]
-struct Devices<'a> {
-    read_fails: &'a [u64],
-    write_fails: &'a [u64],
-    room: usize,
-}
-
-const SOUND: Devices<'static> = Devices {
-    read_fails: &[],
-    write_fails: &[],
-    room: 100_000,
-};
-
-// What a call answered and wrote.
-#[derive(Drop)]
-struct Ran {
-    status: u8,
-    out: Vec<u8>,
-    err: Vec<u8>,
-}
 
 fn run_on<R: Threads + Sync>(
     rt: &R,
@@ -35,31 +13,7 @@ fn run_on<R: Threads + Sync>(
     input: &[u8],
     devices: Devices<'_>,
 ) -> Result<Ran, AllocError> {
-    let mut words = Vec::new(alloc);
-    for word in line.split(' ') {
-        words.push(String::from_str(alloc, word)?)?;
-    }
-    let mut source = MemorySource::make(alloc, input, devices.read_fails)?;
-    let mut out = MemorySink::make(alloc, devices.write_fails)?;
-    let mut err = MemorySink::make(alloc, &[])?;
-    out.reserve(devices.room)?;
-    err.reserve(100)?;
-    let mut rounds = Rounds::make(alloc);
-    let status = dstm(
-        rt,
-        alloc,
-        &words,
-        &mut source,
-        &mut out,
-        &mut err,
-        &OpenGate,
-        &mut rounds,
-    );
-    Ok(Ran {
-        status,
-        out: Vec::from_slice(alloc, out.taken())?,
-        err: Vec::from_slice(alloc, err.taken())?,
-    })
+    call_on(rt, alloc, line, input, &OpenGate, devices)
 }
 
 fn expect<R: Abort + Threads + Sync>(
@@ -178,9 +132,7 @@ fn workers_run_beside_one_another(rt: HostRuntime) -> Result<(), Fail> {
         let ran = run_on(&rt, rt.alloc(), &line, AWAITS.as_bytes(), SOUND)?;
         assert_eq!(rt; ran.status, 0);
         assert!(rt; ran.out.ends_with(b"\nbank 190 10\nend 2\n"));
-        let mut case = Vec::from_slice(rt.alloc(), AWAITS.as_bytes())?;
-        case.extend_from_slice(b"---\n")?;
-        case.extend_from_slice(&ran.out)?;
+        let case = case_of(rt.alloc(), AWAITS.as_bytes(), &ran.out)?;
         expect(&rt, rt.alloc(), "dstm check", &case, (0, "lawful\n", ""))?;
     }
     Ok(())
@@ -374,9 +326,9 @@ fn failing_devices(rt: HostRuntime) -> Result<(), Fail> {
     let input = TWO_TRANSFERS.as_bytes();
     let report = b"dstm report 1\n3 0 0.0 ok ; poor\nbank 20 180\nend 1\n".as_slice();
     // A run reads twice, the second time to see the end, and writes once.
-    for call in 0..2 {
+    for at in 0..2 {
         let devices = Devices {
-            read_fails: &[call],
+            read_fails: &[at],
             ..SOUND
         };
         let ran = run_on(&rt, rt.alloc(), "dstm run", input, devices)?;
