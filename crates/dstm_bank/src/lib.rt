@@ -105,6 +105,3 @@ pub fn total<M: Mem>(mem: &mut M, layout: &Layout) -> Result<Reply, M::Err>
     }
     Ok(Reply::Number(sum))
 }
-
-#[cfg(test)]
-mod tests;

@@ -10,6 +10,3 @@ mod words;
 
 pub use command::{Command, GenSpec, RunOptions, WordsError};
 pub use words::read_words;
-
-#[cfg(test)]
-mod tests;

@@ -6,6 +6,3 @@ mod body;
 mod branch;
 
 pub use body::{CompBody, Outcome};
-
-#[cfg(test)]
-mod tests;

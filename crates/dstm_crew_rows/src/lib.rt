@@ -8,6 +8,12 @@ mod calls;
 #[cfg(test)]
 mod commands;
 #[cfg(test)]
+mod devices;
+#[cfg(test)]
+mod lines;
+#[cfg(test)]
 mod meetings;
 #[cfg(test)]
 mod rounds;
+#[cfg(test)]
+mod trying;

@@ -9,6 +9,8 @@ mod contention;
 #[cfg(test)]
 mod guests;
 #[cfg(test)]
+mod managers;
+#[cfg(test)]
 mod single;
 #[cfg(test)]
 mod stale;
@@ -16,3 +18,5 @@ mod stale;
 mod tables;
 #[cfg(test)]
 mod threads;
+#[cfg(test)]
+mod words;

@@ -5,6 +5,3 @@ mod random_words;
 mod workload;
 
 pub use workload::{generate, lines_of_the_text, short_text};
-
-#[cfg(test)]
-mod tests;

@@ -14,6 +14,3 @@ mod transfer;
 pub use sink::{MemorySink, Sink, StdSink};
 pub use source::{Failed, MemorySource, Source, StdSource};
 pub use transfer::{ReadError, WriteFault, read_all, write_all};
-
-#[cfg(test)]
-mod tests;

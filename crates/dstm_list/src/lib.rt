@@ -90,6 +90,3 @@ pub fn member<M: Mem>(mem: &mut M, layout: &Layout, key: u32) -> Result<Reply, M
     let place = find(mem, layout, key)?;
     Ok(member_at(place))
 }
-
-#[cfg(test)]
-mod tests;

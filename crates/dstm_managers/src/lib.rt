@@ -4,7 +4,5 @@
 
 mod decider;
 pub mod laws;
-#[cfg(test)]
-mod tests;
 
 pub use decider::{Choice, Decider};

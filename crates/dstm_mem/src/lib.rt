@@ -11,6 +11,3 @@ pub use body::Body;
 pub use flat::{FlatMem, Never};
 pub use memory::Mem;
 pub use release::{LooseBody, Release, admits_what_it_holds};
-
-#[cfg(test)]
-mod tests;

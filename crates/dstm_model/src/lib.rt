@@ -19,6 +19,3 @@ pub use reply::Reply;
 pub use state::{Item, Items, Numbers, State};
 pub use store::{PlainStore, first_branch};
 pub use value::{AnyLaw, Law, Val};
-
-#[cfg(test)]
-mod tests;

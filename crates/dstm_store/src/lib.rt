@@ -17,6 +17,3 @@ pub use loose::LooseJobBody;
 pub use opened::opening;
 pub use read::read_state;
 pub use run::{run_op, run_with};
-
-#[cfg(test)]
-mod tests;

@@ -10,6 +10,3 @@ pub use lines::{Fields, Lines, Pieces};
 pub use number::{DecimalError, decimal};
 pub use print::{one_spelling, push_decimal};
 pub use sections::split_at_line;
-
-#[cfg(test)]
-mod tests;

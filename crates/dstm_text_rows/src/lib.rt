@@ -3,6 +3,10 @@
 #![tactic(auto)]
 
 #[cfg(test)]
+mod generated;
+#[cfg(test)]
 mod reports;
+#[cfg(test)]
+mod text;
 #[cfg(test)]
 mod workloads;

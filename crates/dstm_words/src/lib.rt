@@ -7,6 +7,3 @@ mod words;
 
 pub use view::{CoreSeat, Old, Terms, View};
 pub use words::Words;
-
-#[cfg(test)]
-mod tests;

@@ -13,6 +13,3 @@ pub use only::{OnlyTried, give_up, try_alone};
 pub use style::Style;
 pub use trying::{Finished, Left, RECHECKS, Tried, attempt_job, try_job};
 pub use worker::Worker;
-
-#[cfg(test)]
-mod tests;

@@ -1,0 +1,164 @@
+ghost use Rattle.std.specs.Prelude.{◌≡◌, IfOk, IfSome, OnOk};
+ghost use Rattle.std.specs.Io.KnownBytes.{Appends};
+
+use dstm_io::{
+    MemorySink, MemorySource, ReadError, Sink, Source, StdSink, StdSource, WriteFault, read_all,
+    write_all,
+};
+use std::alloc::Global;
+use std::io;
+use std::io::{ErrorKind, Read, Write};
+use std::test::Fail;
+
+const TEXT: [u8; 3] = *b"abc";
+
+// Copies a source to a sink. Its clause says what generic callers learn from the bounds alone.
+fn copy<S: Source, K: Sink>(alloc: Global, source: &mut S, sink: &mut K) -> Result<(), Fail>
+    ensures { OnOk result (IfSome (S.left source.old) (Appends (K.taken sink.old) (K.taken sink.new))) }
+{
+    let bytes = read_all(alloc, source, 100)?;
+    write_all(sink, &bytes)?;
+    Ok(())
+}
+
+#[test]
+fn reads_up_to_the_limit(rt: HostRuntime) -> Result<(), Fail> {
+    for (limit, fails, want) in [
+        (3, None, Ok(3)),
+        (4, None, Ok(3)),
+        (2, None, Err(ReadError::TooLong)),
+        (0, None, Err(ReadError::TooLong)),
+        (3, Some(0), Err(ReadError::Fault)),
+        (3, Some(1), Err(ReadError::Fault)),
+        (3, Some(2), Ok(3)),
+    ] {
+        let fail_at = fails.as_slice();
+        let mut source = MemorySource::make(rt.alloc(), &TEXT, fail_at)?;
+        let answer = read_all(rt.alloc(), &mut source, limit);
+        let length = answer.map(|bytes| bytes.len());
+        assert_eq!(rt; length, want, "limit {limit}, failing {fails:?}");
+    }
+    Ok(())
+}
+
+#[test]
+fn reads_long_inputs_and_on_after_a_fault(rt: HostRuntime) -> Result<(), Fail> {
+    let bytes = vec![in rt.alloc(); 7u8; 20_000]?;
+    let mut source = MemorySource::make(rt.alloc(), &bytes, &[1])?;
+    let first = read_all(rt.alloc(), &mut source, 20_000);
+    assert_eq!(rt; first, Err(ReadError::Fault));
+    let rest = read_all(rt.alloc(), &mut source, 20_000)?;
+    assert_eq!(rt; rest.as_slice(), &bytes[8_192..]);
+    let mut source = MemorySource::make(rt.alloc(), &bytes, &[])?;
+    let long = read_all(rt.alloc(), &mut source, 19_999);
+    assert_eq!(rt; long, Err(ReadError::TooLong));
+    let mut source = MemorySource::make(rt.alloc(), &bytes, &[])?;
+    let all = read_all(rt.alloc(), &mut source, 20_000)?;
+    assert_eq!(rt; all.as_slice(), bytes.as_slice());
+    Ok(())
+}
+
+#[test]
+fn writes_as_far_as_there_is_room(rt: HostRuntime) -> Result<(), Fail> {
+    for room in 0..5usize {
+        let mut sink = MemorySink::make(rt.alloc(), &[])?;
+        sink.reserve(room)?;
+        sink.reserve(1.min(room))?;
+        let answer = write_all(&mut sink, &TEXT);
+        assert_eq!(rt; answer.is_ok(), room >= 3, "room {room}");
+        assert_eq!(rt; sink.taken(), &TEXT[..room.min(3)], "room {room}");
+    }
+    let mut sink = MemorySink::make(rt.alloc(), &[2, 0])?;
+    sink.reserve(9)?;
+    assert_eq!(rt; write_all(&mut sink, &TEXT), Err(WriteFault));
+    assert_eq!(rt; write_all(&mut sink, &TEXT), Ok(()));
+    assert_eq!(rt; write_all(&mut sink, &TEXT), Err(WriteFault));
+    assert_eq!(rt; sink.taken(), TEXT.as_slice());
+    Ok(())
+}
+
+// A reader whose second call fails.
+#[derive(Drop)]
+struct Failing {
+    calls: u8,
+}
+
+impl Read for Failing {
+    fn read(&mut self, buf: &mut [u8]) -> io::Result<usize> {
+        if self.calls > 0 {
+            return Err(io::Error::from(ErrorKind::Other));
+        }
+        self.calls = 1;
+        Ok(buf.len().min(1))
+    }
+}
+
+// A reader and writer whose first calls are interrupted.
+#[derive(Drop)]
+struct Interrupted {
+    times: u32,
+}
+
+impl Interrupted {
+    fn answer(&mut self, count: usize) -> io::Result<usize>
+        ensures { IfOk result (λ taken. taken ≡ count) }
+    {
+        if self.times > 0 {
+            self.times -= 1;
+            return Err(io::Error::from(ErrorKind::Interrupted));
+        }
+        Ok(count)
+    }
+}
+
+impl Read for Interrupted {
+    fn read(&mut self, buf: &mut [u8]) -> io::Result<usize> {
+        self.answer(buf.len().min(1))
+    }
+}
+
+impl Write for Interrupted {
+    fn write(&mut self, buf: &[u8]) -> io::Result<usize> {
+        self.answer(buf.len())
+    }
+
+    fn flush(&mut self) -> io::Result<()> {
+        Ok(())
+    }
+}
+
+#[test]
+fn interrupted_calls_are_made_again(rt: HostRuntime) {
+    let mut one = [0u8; 1];
+    for (times, fails) in [(0, false), (64, false), (65, true)] {
+        let mut source = StdSource::make(Interrupted { times });
+        assert_eq!(rt;
+            source.read(&mut one).is_err(),
+            fails,
+            "reading, {times} times"
+        );
+        let mut sink = StdSink::make(Interrupted { times });
+        assert_eq!(rt; sink.write(&one).is_err(), fails, "writing, {times} times");
+    }
+}
+
+#[test]
+fn readers_and_writers_of_the_system(rt: HostRuntime) -> Result<(), Fail> {
+    let mut source = StdSource::make(TEXT.as_slice());
+    let mut sink = MemorySink::make(rt.alloc(), &[])?;
+    sink.reserve(3)?;
+    copy(rt.alloc(), &mut source, &mut sink)?;
+    assert_eq!(rt; sink.taken(), TEXT.as_slice());
+
+    let mut written = Vec::new(rt.alloc());
+    let mut source = MemorySource::make(rt.alloc(), &TEXT, &[])?;
+    copy(rt.alloc(), &mut source, &mut StdSink::make(&mut written))?;
+    assert_eq!(rt; written.as_slice(), TEXT.as_slice());
+
+    let mut source = StdSource::make(Failing { calls: 0 });
+    assert_eq!(rt; read_all(rt.alloc(), &mut source, 9), Err(ReadError::Fault));
+    let mut short = [0u8; 2];
+    let mut sink = StdSink::make(short.as_mut_slice());
+    assert_eq!(rt; write_all(&mut sink, &TEXT), Err(WriteFault));
+    Ok(())
+}

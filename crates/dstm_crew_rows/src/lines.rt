@@ -1,0 +1,111 @@
+use dstm_command::{Command, GenSpec, RunOptions, WordsError, read_words};
+use dstm_core::Manager;
+use std::alloc::Global;
+use std::test::Fail;
+
+// The words of a line, cut at its spaces.
+fn read_line(alloc: Global, line: &str) -> Result<Result<Command, WordsError>, Fail> {
+    let mut words = Vec::new(alloc);
+    for word in line.split(' ') {
+        words.push(String::from_str(alloc, word)?)?;
+    }
+    Ok(read_words(alloc, words.as_slice()))
+}
+
+#[test]
+fn command_lines(rt: HostRuntime) -> Result<(), Fail> {
+    let accepted = [
+        ("dstm run", run(Manager::Polka, 0, false, false)),
+        (
+            "dstm run --manager=karma --all-write",
+            run(Manager::Karma, 0, true, false),
+        ),
+        (
+            "dstm run --all-write --seed 18446744073709551615 --manager polite",
+            run(Manager::Polite, u64::MAX, true, false),
+        ),
+        (
+            "dstm run --seed=7 --manager greedy",
+            run(Manager::Greedy, 7, false, false),
+        ),
+        (
+            "dstm run --release --seed=7",
+            run(Manager::Polka, 7, false, true),
+        ),
+        (
+            "dstm run --seed 7 --all-write --release --manager=karma",
+            run(Manager::Karma, 7, true, true),
+        ),
+        ("dstm check", Command::Check),
+        ("dstm gen 7 0 1", Command::Gen(spec(7, 0, 1))),
+        ("dstm demo 7 20000 8", Command::Demo(spec(7, 20_000, 8))),
+    ];
+    for (line, want) in accepted {
+        match read_line(rt.alloc(), line)? {
+            Ok(command) => assert_eq!(rt; command, want),
+            Err(_) => assert!(rt; false, "{line}"),
+        }
+    }
+    Ok(())
+}
+
+#[test]
+fn other_lines(rt: HostRuntime) -> Result<(), Fail> {
+    let refused = [
+        "dstm",
+        "dstm --help",
+        "dstm help",
+        "dstm --",
+        "dstm run --",
+        "dstm run -h",
+        "dstm run --help",
+        "dstm run --version",
+        "dstm run extra",
+        "dstm run --manager tabu",
+        "dstm run --manager",
+        "dstm run --manager --seed 1",
+        "dstm run --man polka",
+        "dstm run --seed 07",
+        "dstm run --seed=",
+        "dstm run --seed -1",
+        "dstm run --seed 18446744073709551616",
+        "dstm run --seed 1 --seed 1",
+        "dstm run --all-write --all-write",
+        "dstm run --all-write=true",
+        "dstm run --release --all-write --release",
+        "dstm run --release=false",
+        "dstm run --seed --release",
+        "dstm check --release",
+        "dstm demo 7 0 1 --release",
+        "dstm check extra",
+        "dstm gen 7 20001 1",
+        "dstm gen 7 0 33",
+        "dstm gen 7 0 0",
+        "dstm gen 7 0",
+        "dstm gen 7 0 1 1",
+        "dstm gen 7 -- 0 1",
+        "dstm gen 7 00 1",
+    ];
+    for line in refused {
+        let answer = read_line(rt.alloc(), line)?;
+        assert!(rt; matches!(answer, Err(WordsError::Usage)), "{line}");
+    }
+    Ok(())
+}
+
+fn run(manager: Manager, seed: u64, all_write: bool, release: bool) -> Command {
+    Command::Run(RunOptions {
+        manager,
+        seed,
+        all_write,
+        release,
+    })
+}
+
+fn spec(seed: u64, count: u32, workers: u32) -> GenSpec {
+    GenSpec {
+        seed,
+        count,
+        workers,
+    }
+}

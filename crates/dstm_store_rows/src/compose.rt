@@ -1,0 +1,507 @@
+ghost use Rattle.std.specs.Prelude.{◌≡◌, List, All, IsTrue, IfOk};
+ghost use Rattle.dstm_model.specs.Layout.{IsValid, FitsLayout, FitsCond, FitsKey};
+ghost use Rattle.dstm_model.specs.Store.{IsPlain};
+ghost use Rattle.dstm_store.specs.Whole.{IsLawful};
+
+use dstm_compose::{CompBody, Outcome};
+use dstm_mem::{Body, FlatMem, LooseBody, Mem, Never, Release};
+use dstm_model::{
+    AMOUNT_LIMIT, Cond, KEY_LIMIT, Law, Layout, Op, Ops, PlainStore, Replies, Reply, Val, Which,
+};
+use dstm_store::{LooseJobBody, StoreLaw, opening, read_state};
+use std::alloc::{AllocError, Global};
+use std::test::Fail;
+
+// ---- a memory that counts
+
+// How many calls open an object, and how many reads are kept that were opened so.
+#[derive(Clone, Copy, Debug, PartialEq, Eq)]
+struct Counts {
+    opens: u32,
+    kept: u32,
+}
+
+const NO_COUNTS: Counts = Counts { opens: 0, kept: 0 };
+
+#[derive(Drop)]
+struct Counting {
+    mem: FlatMem,
+    counts: Counts,
+}
+
+impl Mem for Counting {
+    ghost use Rattle.std.specs.Prelude.{List, length};
+    ghost use Rattle.std.proofs.Common.{ap, subst, sym};
+    ghost use Rattle.dstm_model.specs.declared.value.Val.{Val};
+    ghost use Rattle.dstm_mem.specs.Memory.{AgreesWith};
+    ghost use Rattle.dstm_mem.specs.Flat.{held_in, held_in-agrees};
+
+    type Err = Never;
+
+    ghost Place = { List Val };
+
+    ghost place = { λ m. ⟦<FlatMem as Mem>⟧.place m.mem };
+
+    ghost all_write = { ⟦<FlatMem as Mem>⟧.all_write };
+
+    ghost objects = { λ m. ⟦<FlatMem as Mem>⟧.objects m.mem };
+
+    ghost held = { λ m. ⟦<FlatMem as Mem>⟧.held m.mem };
+
+    ghost written = { λ m. ⟦<FlatMem as Mem>⟧.written m.mem };
+
+    ghost is_opened = { λ m. ⟦<FlatMem as Mem>⟧.is_opened m.mem };
+
+    ghost is_live = { λ m. ⟦<FlatMem as Mem>⟧.is_live m.mem };
+
+    ghost error = { λ m. ⟦<FlatMem as Mem>⟧.error m.mem };
+
+    ghost Admits = { λ m. ⟦<FlatMem as Mem>⟧.Admits m.mem };
+
+    fn open_read(&mut self, o: u32) -> Result<Val, Never> {
+        self.counts.opens = self.counts.opens.saturating_add(1);
+        if !self.mem.is_read(o) {
+            self.counts.kept = self.counts.kept.saturating_add(1);
+        }
+        self.mem.open_read(o)
+    }
+
+    fn open_write(&mut self, o: u32) -> Result<Val, Never> {
+        self.counts.opens = self.counts.opens.saturating_add(1);
+        self.mem.open_write(o)
+    }
+
+    fn set(&mut self, o: u32, v: Val) {
+        self.mem.set(o, v);
+    }
+
+    ghost admitted_length = { λ m map e. ap length e };
+
+    ghost admitted_agrees = { λ m map e. subst (λ x. AgreesWith x (held_in m.mem.values.items m.mem.notes.items))
+        (sym e) (held_in-agrees m.mem.values.items m.mem.notes.items) };
+}
+
+impl Release for Counting {
+    ghost use Rattle.dstm_mem.specs.Flat.{flat_admits};
+    ghost use Rattle.std.proofs.Common.{◌∙◌};
+
+    ghost Began = { λ m map. map ≡ m.mem.values.items };
+
+    fn is_read(&self, o: u32) -> bool {
+        self.mem.is_read(o)
+    }
+
+    fn release(&mut self, o: u32) {
+        self.counts.kept = self.counts.kept.saturating_sub(1);
+        self.mem.release(o);
+    }
+
+    ghost admits_exactly = { λ m map live. flat_admits m.mem.values.items m.mem.notes.items map };
+
+    ghost began_stays = { λ m n map same began. began ∙ same };
+}
+
+// Runs a body on lawful values, and answers what was counted and the values that it leaves.
+fn run_body<L: Law, B: Body<L>>(
+    alloc: Global,
+    values: Vec<Val>,
+    body: &mut B,
+) -> Result<(Counts, Vec<Val>), AllocError>
+    requires { L.holds (B.law body.old) values.items }
+    ensures law { B.law body.new ≡ B.law body.old }
+    ensures lawful { IfOk result (λ done. L.holds (B.law body.new) done.1.items) }
+{
+    let mem = FlatMem::make(alloc, values)?;
+    let mut counting = Counting {
+        mem,
+        counts: NO_COUNTS,
+    };
+    match body.run(&mut counting) {
+        Ok(()) => Ok((counting.counts, counting.mem.values())),
+        Err(never) => match never {},
+    }
+}
+
+fn run_loose<L: Law, B: LooseBody<L>>(
+    alloc: Global,
+    values: Vec<Val>,
+    body: &mut B,
+) -> Result<(Counts, Vec<Val>), AllocError>
+    requires { L.holds (B.law body.old) values.items }
+    ensures law { B.law body.new ≡ B.law body.old }
+    ensures lawful { IfOk result (λ done. L.holds (B.law body.new) done.1.items) }
+{
+    let mem = FlatMem::make(alloc, values)?;
+    let mut counting = Counting {
+        mem,
+        counts: NO_COUNTS,
+    };
+    match body.run(&mut counting) {
+        Ok(()) => Ok((counting.counts, counting.mem.values())),
+        Err(never) => match never {},
+    }
+}
+
+// ---- jobs
+
+// Tells whether an operation fits a layout.
+fn fits(layout: &Layout, op: &Op) -> bool
+    ensures { IsTrue result → FitsLayout layout.now op.now }
+{
+    match *op {
+        Op::Transfer {
+            source,
+            target,
+            amount,
+        } => source < layout.accounts && target < layout.accounts && amount < AMOUNT_LIMIT,
+        Op::Balance { account } => account < layout.accounts,
+        Op::Total => layout.accounts > 0,
+        Op::Insert { which, key } => fits_key(layout, which, key),
+        Op::Remove { which, key } => fits_key(layout, which, key),
+        Op::Member { which, key } => fits_key(layout, which, key),
+        Op::Put { key, .. } => fits_key(layout, Which::Tree, key),
+        Op::Get { key } => fits_key(layout, Which::Tree, key),
+        Op::Await(cond) => fits_cond(layout, cond),
+        Op::OrElse => true,
+    }
+}
+
+fn fits_cond(layout: &Layout, cond: Cond) -> bool
+    ensures { IsTrue result → FitsCond layout.now cond }
+{
+    match cond {
+        Cond::Balance { account, least } => account < layout.accounts && least < AMOUNT_LIMIT,
+        Cond::Key { which, key } => fits_key(layout, which, key),
+    }
+}
+
+fn fits_key(layout: &Layout, which: Which, key: u32) -> bool
+    ensures { IsTrue result → FitsKey layout.now which key }
+{
+    let room = match which {
+        Which::List => layout.list,
+        Which::Tree => layout.tree,
+    };
+    room > 0 && key < KEY_LIMIT
+}
+
+fn is_plain(op: &Op) -> bool
+    ensures { IsTrue result → IsPlain op.now }
+{
+    !matches!(op, Op::Await(_) | Op::OrElse)
+}
+
+// The operations that fit, at most eight.
+fn ops_of(layout: &Layout, list: &[Op]) -> Ops
+    ensures { All (FitsLayout layout.now) result }
+{
+    let mut ops = Ops::new();
+    for op in list {
+        if ops.as_slice().len() < 8 && fits(layout, op) {
+            ops.push(*op);
+        }
+    }
+    ops
+}
+
+// The same without conditions and separators.
+fn plain_of(layout: &Layout, list: &[Op]) -> Ops
+    ensures fits { All (FitsLayout layout.now) result }
+    ensures plain { All IsPlain result }
+{
+    let mut ops = Ops::new();
+    for op in list {
+        if ops.as_slice().len() < 8 && fits(layout, op) && is_plain(op) {
+            ops.push(*op);
+        }
+    }
+    ops
+}
+
+// Runs a job with branches: how it ends, what was counted, and the values that it leaves.
+fn run_branches(
+    alloc: Global,
+    layout: &Layout,
+    values: Vec<Val>,
+    list: &[Op],
+) -> Result<(Outcome, Counts, Vec<Val>), AllocError>
+    requires valid { IsValid layout.now }
+    requires lawful { IsLawful layout.now values.items }
+    ensures { IfOk result (λ done. IsLawful layout.now done.2.items) }
+{
+    let mut body = CompBody::make(layout, &ops_of(layout, list));
+    let (counts, after) = run_body::<StoreLaw, CompBody>(alloc, values, &mut body)?;
+    Ok((body.outcome(), counts, after))
+}
+
+// Runs a job that lets reads go.
+fn run_releasing(
+    alloc: Global,
+    layout: &Layout,
+    values: Vec<Val>,
+    list: &[Op],
+) -> Result<(Replies, Counts, Vec<Val>), AllocError>
+    requires valid { IsValid layout.now }
+    requires lawful { IsLawful layout.now values.items }
+    ensures { IfOk result (λ done. IsLawful layout.now done.2.items) }
+{
+    let mut body = LooseJobBody::make(layout, &plain_of(layout, list));
+    let (counts, after) = run_loose::<StoreLaw, LooseJobBody>(alloc, values, &mut body)?;
+    Ok((body.replies(), counts, after))
+}
+
+// ---- beside the plain store
+
+// An operation on one of three accounts, or on one of ten keys.
+fn pick(seed: u32) -> Op {
+    let key = seed / 256 % 10;
+    let which = if seed / 4_096 % 2 == 0 {
+        Which::List
+    } else {
+        Which::Tree
+    };
+    match seed / 65_536 % 9 {
+        0 => Op::Transfer {
+            source: key % 3,
+            target: key / 3 % 3,
+            amount: u64::from(seed % 60),
+        },
+        1 => Op::Balance { account: key % 3 },
+        2 => Op::Total,
+        3 => Op::Member { which, key },
+        4 => Op::Remove { which, key },
+        5 => Op::Put {
+            key,
+            value: u64::from(seed),
+        },
+        6 => Op::Get { key },
+        _ => Op::Insert { which, key },
+    }
+}
+
+// A condition on one of the accounts, or on one of the keys.
+fn pick_cond(seed: u32) -> Cond {
+    let key = seed / 256 % 10;
+    match seed / 65_536 % 3 {
+        0 => Cond::Balance {
+            account: key % 3,
+            least: u64::from(seed % 120),
+        },
+        1 => Cond::Key {
+            which: Which::List,
+            key,
+        },
+        _ => Cond::Key {
+            which: Which::Tree,
+            key,
+        },
+    }
+}
+
+fn next_of(seed: u32) -> u32 {
+    seed.wrapping_mul(1_103_515_245).wrapping_add(12_345)
+}
+
+// One to three branches, each with a condition but for every fourth.
+fn pick_job(seed: u32) -> [Op; 8] {
+    let one = next_of(seed);
+    let two = next_of(one);
+    let three = next_of(two);
+    let four = next_of(three);
+    let first = if seed / 65_536 % 4 == 0 {
+        pick(four)
+    } else {
+        Op::Await(pick_cond(one))
+    };
+    let second = if three / 65_536 % 4 == 0 {
+        pick(one)
+    } else {
+        Op::Await(pick_cond(two))
+    };
+    let last = if one / 65_536 % 2 == 0 {
+        Op::OrElse
+    } else {
+        pick(seed)
+    };
+    [
+        first,
+        pick(two),
+        Op::OrElse,
+        second,
+        pick(three),
+        last,
+        pick(four),
+        pick(next_of(four)),
+    ]
+}
+
+// Tells whether a job ended as the plain store says.
+fn same_outcome(outcome: &Outcome, wanted: &Option<Replies>) -> bool {
+    match (outcome, wanted) {
+        (Outcome::Ran(replies), Some(wanted)) => replies.as_slice() == wanted.as_slice(),
+        (Outcome::Blocked, None) => true,
+        _ => false,
+    }
+}
+
+// How many of these jobs end as the plain store says, and leave what it leaves: each with its branches, and then its
+// operations one after the other, letting reads go. How many of them were blocked.
+fn run_beside(alloc: Global, layout: &Layout, jobs: u32) -> Result<(u32, u32), AllocError>
+    requires { IsValid layout.now }
+{
+    let mut values = opening(alloc, layout)?;
+    let mut store = PlainStore::opening(alloc, layout)?;
+    let mut seed: u32 = 1;
+    let mut same: u32 = 0;
+    let mut blocked: u32 = 0;
+    for _job in 0..jobs {
+        seed = next_of(seed);
+        let job = pick_job(seed);
+        let (outcome, _counts, after) = run_branches(alloc, layout, values, &job)?;
+        let wanted = store.apply_job(&ops_of(layout, &job))?;
+        if wanted.is_none() {
+            blocked = blocked.saturating_add(1);
+        }
+        let (replies, _loose, left) = run_releasing(alloc, layout, after, &job)?;
+        let plain = store.apply_job(&plain_of(layout, &job))?;
+        let state = read_state(alloc, layout, &left)?;
+        let holds = store.state(alloc)?;
+        let is_held = state.bank.as_slice() == holds.bank.as_slice()
+            && state.list.as_slice() == holds.list.as_slice()
+            && state.tree.as_slice() == holds.tree.as_slice();
+        if same_outcome(&outcome, &wanted)
+            && same_outcome(&Outcome::Ran(replies), &plain)
+            && is_held
+        {
+            same = same.saturating_add(1);
+        }
+        values = left;
+    }
+    Ok((same, blocked))
+}
+
+#[test]
+fn jobs_with_branches_end_as_on_the_plain_store(rt: HostRuntime) -> Result<(), Fail> {
+    let layout = Layout {
+        accounts: 3,
+        opening: 50,
+        list: 5,
+        tree: 6,
+    };
+    let (same, blocked) = run_beside(rt.alloc(), &layout, 2_000)?;
+    assert_eq!(rt; same, 2_000);
+    assert!(rt; blocked > 100);
+    Ok(())
+}
+
+// ---- worked rows
+
+fn await_balance(account: u32, least: u64) -> Op {
+    Op::Await(Cond::Balance { account, least })
+}
+
+fn pay(source: u32, target: u32, amount: u64) -> Op {
+    Op::Transfer {
+        source,
+        target,
+        amount,
+    }
+}
+
+#[test]
+fn the_first_open_branch_is_run(rt: HostRuntime) -> Result<(), Fail> {
+    let layout = Layout {
+        accounts: 2,
+        opening: 100,
+        list: 0,
+        tree: 0,
+    };
+    let values = opening(rt.alloc(), &layout)?;
+
+    // Both conditions are looked at, and no more.
+    let both = [
+        await_balance(0, 150),
+        pay(0, 1, 1),
+        Op::OrElse,
+        await_balance(1, 101),
+        Op::Total,
+    ];
+    let (outcome, counts, values) = run_branches(rt.alloc(), &layout, values, &both)?;
+    assert!(rt; same_outcome(&outcome, &None));
+    assert_eq!(rt; counts, Counts { opens: 2, kept: 2 });
+
+    // The second branch is open: one look, and two accounts to pay from and to.
+    let second = [
+        await_balance(0, 150),
+        pay(0, 1, 1),
+        Op::OrElse,
+        pay(1, 0, 60),
+    ];
+    let (outcome, counts, values) = run_branches(rt.alloc(), &layout, values, &second)?;
+    assert!(rt; ran(&outcome, &[Reply::Moved]));
+    assert_eq!(rt; counts.opens, 3);
+
+    // The first of two open branches is run.
+    let first = [await_balance(0, 150), Op::Total, Op::OrElse, pay(0, 1, 5)];
+    let (outcome, counts, values) = run_branches(rt.alloc(), &layout, values, &first)?;
+    assert!(rt; ran(&outcome, &[Reply::Yes, Reply::Number(200)]));
+    assert_eq!(rt; counts.opens, 3);
+    let state = read_state(rt.alloc(), &layout, &values)?;
+    assert_eq!(rt; state.bank.as_slice(), [160, 40].as_slice());
+    Ok(())
+}
+
+// Tells whether a job ran with these replies.
+fn ran(outcome: &Outcome, wanted: &[Reply]) -> bool {
+    match outcome {
+        Outcome::Ran(replies) => replies.as_slice() == wanted,
+        Outcome::Blocked => false,
+    }
+}
+
+fn insert(key: u32) -> Op {
+    Op::Insert {
+        which: Which::List,
+        key,
+    }
+}
+
+fn member(key: u32) -> Op {
+    Op::Member {
+        which: Which::List,
+        key,
+    }
+}
+
+#[test]
+fn a_walk_hand_over_hand_keeps_few_reads(rt: HostRuntime) -> Result<(), Fail> {
+    let layout = Layout {
+        accounts: 0,
+        opening: 0,
+        list: 8,
+        tree: 0,
+    };
+    let alloc = rt.alloc();
+    let values = opening(alloc, &layout)?;
+    let keys = [insert(10), insert(20), insert(30), insert(40), insert(50)];
+    let (replies, _counts, values) = run_releasing(alloc, &layout, values, &keys)?;
+    assert_eq!(rt; replies.as_slice(), [Reply::Yes; 5].as_slice());
+    let state = read_state(alloc, &layout, &values)?;
+    assert_eq!(rt; state.list.as_slice(), [10, 20, 30, 40, 50].as_slice());
+
+    // The head and the five nodes, each once; the nodes of 40 and 50 stay.
+    let (replies, counts, values) = run_releasing(alloc, &layout, values, &[member(50)])?;
+    assert_eq!(rt; replies.as_slice(), [Reply::Yes].as_slice());
+    assert_eq!(rt; counts, Counts { opens: 6, kept: 2 });
+
+    // Then the head and the nodes of 10 and 20 stay, too.
+    let two = [member(50), member(15)];
+    let (replies, counts, values) = run_releasing(alloc, &layout, values, &two)?;
+    assert_eq!(rt; replies.as_slice(), [Reply::Yes, Reply::No].as_slice());
+    assert_eq!(rt; counts, Counts { opens: 9, kept: 5 });
+    let (replies, _counts, values) = run_releasing(alloc, &layout, values, &[insert(5)])?;
+    assert_eq!(rt; replies.as_slice(), [Reply::Yes].as_slice());
+    let state = read_state(alloc, &layout, &values)?;
+    assert_eq!(rt; state.list.as_slice(), [5, 10, 20, 30, 40, 50].as_slice());
+    Ok(())
+}

@@ -1,0 +1,16 @@
+//! Bodies on a memory of one thread, and the plain store, as tests. They stand apart from the crates that they try, since a
+//! crate with tests is proved twice.
+#![tactic(auto)]
+
+#[cfg(test)]
+mod bank;
+#[cfg(test)]
+mod compose;
+#[cfg(test)]
+mod list;
+#[cfg(test)]
+mod mem;
+#[cfg(test)]
+mod model;
+#[cfg(test)]
+mod store;

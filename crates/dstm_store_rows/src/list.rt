@@ -1,0 +1,126 @@
+ghost use Rattle.std.specs.Prelude.{OnOk};
+ghost use Rattle.dstm_model.specs.declared.op.Which.TheVariants as which;
+ghost use Rattle.dstm_model.specs.Layout.{IsValid, FitsLayout};
+ghost use Rattle.dstm_model.specs.Objects.{objects_of};
+ghost use Rattle.dstm_mem.specs.Operations.{IsReady};
+ghost use Rattle.dstm_list.specs.List.{IsList};
+
+use dstm_list::{Node, insert, member, remove};
+use dstm_mem::{FlatMem, Mem};
+use dstm_model::{Layout, Op, Reply, Val, Which};
+use std::collections::BTreeSet;
+use std::test::Fail;
+
+#[derive(Clone, Copy, Debug, PartialEq, Eq)]
+enum Step {
+    Insert,
+    Remove,
+    Member,
+}
+
+// Runs one operation of the list.
+fn run_step<M: Mem>(mem: &mut M, layout: &Layout, step: Step, key: u32) -> Result<Reply, M::Err>
+    requires valid { IsValid layout.now }
+    requires fits { FitsLayout layout.now (Op.Member which.List key) }
+    requires ready { IsReady M.Mem (objects_of layout.now) (IsList layout.now) mem.old }
+    ensures { OnOk result (IsReady M.Mem (objects_of layout.now) (IsList layout.now) mem.new) }
+{
+    match step {
+        Step::Insert => insert(mem, layout, key),
+        Step::Remove => remove(mem, layout, key),
+        Step::Member => member(mem, layout, key),
+    }
+}
+
+// The answer to an operation on a memory of one thread.
+fn answer(mem: &mut FlatMem, layout: &Layout, step: Step, key: u32) -> Reply
+    requires valid { IsValid layout.now }
+    requires fits { FitsLayout layout.now (Op.Member which.List key) }
+    requires ready { IsReady ⟦<FlatMem as Mem>⟧ (objects_of layout.now) (IsList layout.now) mem.old }
+    ensures { IsReady ⟦<FlatMem as Mem>⟧ (objects_of layout.now) (IsList layout.now) mem.new }
+{
+    match run_step(mem, layout, step, key) {
+        Ok(reply) => reply,
+        Err(never) => match never {},
+    }
+}
+
+#[test]
+fn two_keys_fill_the_list(rt: HostRuntime) -> Result<(), Fail> {
+    let layout = Layout {
+        accounts: 1,
+        opening: 100,
+        list: 2,
+        tree: 0,
+    };
+    let money = Val { low: 100, high: 0 };
+    let none = Val { low: 0, high: 0 };
+    let one = Val { low: 1, high: 0 };
+    let two = Val { low: 2, high: 0 };
+    let values = vec![in rt.alloc(); money, none, one, two, none]?;
+    let mut mem = FlatMem::make(rt.alloc(), values)?;
+    assert_eq!(rt; answer(&mut mem, &layout, Step::Member, 0), Reply::No);
+    assert_eq!(rt; answer(&mut mem, &layout, Step::Insert, 9), Reply::Yes);
+    assert_eq!(rt; answer(&mut mem, &layout, Step::Insert, 4), Reply::Yes);
+    assert_eq!(rt; answer(&mut mem, &layout, Step::Insert, 6), Reply::Full);
+    assert_eq!(rt; answer(&mut mem, &layout, Step::Insert, 9), Reply::No);
+    assert_eq!(rt; answer(&mut mem, &layout, Step::Member, 9), Reply::Yes);
+    assert_eq!(rt; answer(&mut mem, &layout, Step::Remove, 9), Reply::Yes);
+    assert_eq!(rt; answer(&mut mem, &layout, Step::Remove, 9), Reply::No);
+    assert_eq!(rt; answer(&mut mem, &layout, Step::Insert, 0), Reply::Yes);
+    // Node 1 holds the key 0 and links to node 2, which holds the key 4.
+    let four = Val {
+        low: 4 * 2_048,
+        high: 0,
+    };
+    let after = [money, one, none, two, four];
+    assert_eq!(rt; mem.values().as_slice(), after.as_slice());
+    Ok(())
+}
+
+// What a set of at most this many keys answers.
+fn expected(keys: &mut BTreeSet<u32>, room: usize, step: Step, key: u32) -> Result<Reply, Fail> {
+    let is_there = keys.contains(&key);
+    match step {
+        Step::Member if is_there => Ok(Reply::Yes),
+        Step::Member => Ok(Reply::No),
+        Step::Remove if keys.remove(&key) => Ok(Reply::Yes),
+        Step::Remove => Ok(Reply::No),
+        Step::Insert if is_there => Ok(Reply::No),
+        Step::Insert if keys.len() == room => Ok(Reply::Full),
+        Step::Insert => {
+            keys.insert(key)?;
+            Ok(Reply::Yes)
+        }
+    }
+}
+
+#[test]
+fn a_list_answers_as_a_set_does(rt: HostRuntime) -> Result<(), Fail> {
+    let layout = Layout {
+        accounts: 0,
+        opening: 0,
+        list: 3,
+        tree: 0,
+    };
+    let none = Val { low: 0, high: 0 };
+    let one = Val { low: 1, high: 0 };
+    let two = Val { low: 2, high: 0 };
+    let three = Val { low: 3, high: 0 };
+    let values = vec![in rt.alloc(); none, one, two, three, none]?;
+    let mut mem = FlatMem::make(rt.alloc(), values)?;
+    let mut keys = BTreeSet::new(rt.alloc());
+    let mut number: u32 = 1;
+    'steps: for _ in 0..60 {
+        number = number * 17 % 1_009;
+        let key = number / 3 % 7;
+        let step = match number % 3 {
+            0 => Step::Member,
+            1 => Step::Remove,
+            _ => Step::Insert,
+        };
+        let wanted = expected(&mut keys, 3, step, key)?;
+        assert_eq!(rt; answer(&mut mem, &layout, step, key), wanted);
+    }
+    Ok(())
+}

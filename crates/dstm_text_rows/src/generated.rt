@@ -1,0 +1,131 @@
+use dstm_gen::{generate, lines_of_the_text, short_text};
+use dstm_model::{Op, Which};
+use dstm_workload::Job;
+use std::process::Abort;
+use std::test::Fail;
+
+fn expect_job(rt: &impl Abort, job: &Job, line: u64, worker: u32, ops: &[Op]) {
+    assert_eq!(rt; job.line, line);
+    assert_eq!(rt; job.worker, worker);
+    assert_eq!(rt; job.ops.as_slice(), ops);
+}
+
+fn transfer(source: u32, target: u32, amount: u64) -> Op {
+    Op::Transfer {
+        source,
+        target,
+        amount,
+    }
+}
+
+// The expected jobs come from a program of its own, in Python, that has PCG's generator XSH RR 64/32 and
+// the way in which rand's `seed_from_u64` expands a number by PCG32; its words of seed 0 begin
+// 298703107, 4236525527, 336081875, 1056616254.
+#[test]
+fn jobs_of_two_workers(rt: HostRuntime) -> Result<(), Fail> {
+    let workload = generate(rt.alloc(), 7, 3, 2)?;
+    assert_eq!(rt; workload.version, 1);
+    assert_eq!(rt; workload.workers, 2);
+    let jobs = workload.jobs.as_slice();
+    assert_eq!(rt; jobs.len(), 3);
+    let first = [
+        Op::Remove {
+            which: Which::List,
+            key: 29,
+        },
+        Op::Total,
+    ];
+    expect_job(&rt, &jobs[0], 6, 0, &first);
+    expect_job(&rt, &jobs[1], 7, 1, &[Op::Balance { account: 4 }]);
+    expect_job(&rt, &jobs[2], 8, 0, &[transfer(0, 4, 186)]);
+    lines_of_the_text();
+    short_text();
+    Ok(())
+}
+
+#[test]
+fn jobs_of_every_form(rt: HostRuntime) -> Result<(), Fail> {
+    let (list, tree) = (Which::List, Which::Tree);
+    let workload = generate(rt.alloc(), 14, 4, 3)?;
+    let jobs = workload.jobs.as_slice();
+    assert_eq!(rt; jobs.len(), 4);
+    let first = [
+        Op::Insert {
+            which: list,
+            key: 49,
+        },
+        Op::Member {
+            which: tree,
+            key: 810,
+        },
+        transfer(5, 1, 79),
+    ];
+    expect_job(&rt, &jobs[0], 6, 0, &first);
+    let second = [
+        Op::Insert {
+            which: tree,
+            key: 29,
+        },
+        Op::Balance { account: 3 },
+        Op::Remove {
+            which: tree,
+            key: 1952,
+        },
+        Op::Total,
+    ];
+    expect_job(&rt, &jobs[1], 7, 1, &second);
+    let third = [
+        Op::Remove {
+            which: list,
+            key: 125,
+        },
+        transfer(2, 3, 96),
+        Op::Member {
+            which: tree,
+            key: 1376,
+        },
+        Op::Insert {
+            which: tree,
+            key: 1498,
+        },
+    ];
+    expect_job(&rt, &jobs[2], 8, 2, &third);
+    expect_job(
+        &rt,
+        &jobs[3],
+        9,
+        0,
+        &[Op::Member {
+            which: tree,
+            key: 977,
+        }],
+    );
+    Ok(())
+}
+
+#[test]
+fn no_jobs_and_the_most(rt: HostRuntime) -> Result<(), Fail> {
+    let workload = generate(rt.alloc(), 7, 0, 1)?;
+    assert_eq!(rt; workload.workers, 1);
+    assert_eq!(rt; workload.layout.accounts, 8);
+    assert_eq!(rt; workload.layout.opening, 1_000);
+    assert_eq!(rt; workload.layout.list, 64);
+    assert_eq!(rt; workload.layout.tree, 1_023);
+    assert_eq!(rt; workload.jobs.as_slice().len(), 0);
+    let workload = generate(rt.alloc(), u64::MAX, 20_000, 32)?;
+    let jobs = workload.jobs.as_slice();
+    assert_eq!(rt; jobs.len(), 20_000);
+    let last = [
+        Op::Remove {
+            which: Which::Tree,
+            key: 94,
+        },
+        Op::Member {
+            which: Which::Tree,
+            key: 1840,
+        },
+        transfer(4, 2, 188),
+    ];
+    expect_job(&rt, &jobs[19_999], 20_005, 31, &last);
+    Ok(())
+}
