@@ -1,14 +1,12 @@
 -- The text of a workload before a line `---`.
-use Rattle.std.proofs.Common.{◌≡◌, ℕ, false, eqb, List, [], ◌∷◌, ◌++◌, Some, codes}
-use Rattle.std.proofs.Common.{refl, sym, ap, ◌∙◌, append_assoc, append-nil}
+use Rattle.std.proofs.Common.{◌≡◌, ℕ, false, eqb, List, [], ◌∷◌, ◌++◌, Some, codes, refl, sym, ap, ◌∙◌, arith}
+use Rattle.std.proofs.Common.{append_assoc, append-nil}
 use Rattle.std.specs.Str.{bytes_eq}
 use Rattle.std.proofs.lemmas.List.Elements.{All-from_recursion}
 use Rattle.dstm_text.specs.Lines.{line_feed, lines_of, split_lines}
 use Rattle.dstm_text.proofs.LineLaws.{IsFreeOf, lines_of-append}
 use Rattle.dstm_text.proofs.LineSearch.{Lacks, onto, split-append, split-at}
-use Rattle.dstm_workload.specs.declared.known.Entry.{Entry}
-use Rattle.dstm_workload.specs.declared.known.Entry.TheVariants as entry
-use Rattle.dstm_workload.specs.declared.workload.Workload.{Workload}
+use Rattle.dstm_workload.specs.declared.{known.Entry.Entry, workload.Workload.Workload}
 use Rattle.dstm_workload.specs.Workload.{IsValidWorkload}
 use Rattle.dstm_workload.specs.Writing.{joined, text_of_workload}
 use Rattle.dstm_workload.proofs.EntryLaws.{fields_of_entry}
@@ -20,8 +18,7 @@ mark = codes "---"
 -- ---- no line of the text is the mark
 
 entry_lacks : (e : Entry) → bytes_eq (joined (fields_of_entry e)) mark ≡ false
-entry_lacks (entry.Version v) = refl
-entry_lacks other = refl
+entry_lacks e = grind arith
 
 entries_lack : (es : List Entry) → Lacks mark (texts_of es)
 entries_lack [] = tt

@@ -1,9 +1,7 @@
 -- Fields that no word is, by their length.
 use Rattle.std.proofs.Common.{◌≡◌, ◌≢◌, ℕ, ◌≤◌, ◌<◌, Bool, false, List, [], ◌∷◌, length, None, codes, refl, ap, arith}
-use Rattle.std.specs.Str.{bytes_eq}
-use Rattle.std.specs.List.{find}
-use Rattle.std.proofs.lemmas.Bool.{false_from_ne_true}
-use Rattle.std.proofs.lemmas.Slice.Eq.{bytes_eq-Decides}
+use Rattle.std.specs.{Str.bytes_eq, List.find}
+use Rattle.std.proofs.lemmas.{Bool.false_from_ne_true, Slice.Eq.bytes_eq-Decides}
 use Rattle.dstm_workload.specs.declared.word.Word.{Word}
 use Rattle.dstm_workload.specs.declared.word.Word.TheVariants as word
 use Rattle.dstm_workload.specs.Words.{spelling, words, word_spelled}
@@ -18,7 +16,8 @@ other_length xs ys other = false_from_ne_true _ (λ same. other (ap length ((byt
 
 pub none_longer : (field : List ℕ) → 9 ≤ length field → word_spelled field ≡ None
 unfolding word_spelled
-none_longer field long = none_where (λ w. bytes_eq (spelling w) field) words (λ w. other_length (spelling w) field (short w))
+none_longer field long =
+    none_where (λ w. bytes_eq (spelling w) field) words (λ w. other_length (spelling w) field (short w))
   where
     short : (w : Word) → length (spelling w) ≢ length field
     short word.Tx e = omega (arith, e, long)

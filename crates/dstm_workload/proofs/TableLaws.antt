@@ -1,80 +1,41 @@
 -- The table of operations: what is read is what is written.
-use Rattle.std.proofs.Common.{◌≡◌, ℕ, ◌^◌, ◌<◌, ◌≤◌, Bool, true, false, List, [], ◌∷◌, ◌++◌}
-use Rattle.std.proofs.Common.{map, Option, Some, None, Result, Ok, Err, IfSome, is_some, unwrap_or}
-use Rattle.std.proofs.Common.{cond, refl, sym, ap, subst, ◌∙◌, append_assoc, arith}
+use Rattle.std.proofs.Common.{◌≡◌, ℕ, ◌^◌, ◌<◌, ◌≤◌, Bool, true, false, List, [], ◌∷◌, ◌++◌, map, Option, Some, None}
+use Rattle.std.proofs.Common.{Ok, IfSome, ◌↔◌, unwrap_or, cond, refl, ap, ◌∙◌, append_assoc, arith}
 use Rattle.std.specs.List.{AllByRecursion}
-use Rattle.dstm_model.specs.declared.op.Which.{Which}
+use Rattle.dstm_model.specs.Layout.{IsValid, FitsLayout, capacity}
+use Rattle.dstm_model.specs.declared.op.{Which.Which, Op.Op}
 use Rattle.dstm_model.specs.declared.op.Which.TheVariants as which
 use Rattle.dstm_model.specs.declared.op.Cond.TheVariants as cond
-use Rattle.dstm_model.specs.declared.op.Op.{Op}
 use Rattle.dstm_model.specs.declared.op.Op.TheVariants as op
-use Rattle.dstm_model.specs.Layout.{IsValid, FitsLayout, capacity}
-use Rattle.dstm_workload.specs.declared.refused.Why.{Why}
-use Rattle.dstm_workload.specs.declared.refused.Why.TheVariants.{Unknown}
-use Rattle.dstm_workload.specs.declared.word.Word.{Word}
+use Rattle.dstm_workload.specs.declared.{word.Word.Word, known.Known.Known}
 use Rattle.dstm_workload.specs.declared.word.Word.TheVariants as word
-use Rattle.dstm_workload.specs.declared.known.Bank.{Bank}
-use Rattle.dstm_workload.specs.declared.known.Known.{Known}
 use Rattle.dstm_workload.specs.Workload.{HasOp, HasValue, IsNoAwait}
 use Rattle.dstm_workload.specs.Words.{since, spelling, word_of}
-use Rattle.dstm_text.specs.Results.{◌>>=◌}
-use Rattle.dstm_workload.specs.Fields.{declared, met_by}
+use Rattle.dstm_workload.specs.Fields.{met_by}
 use Rattle.dstm_workload.specs.Known.{IsKnown, layout_of}
-use Rattle.dstm_workload.specs.Table.{Kind, Account, Amount, Key, Value, Structure, Operand, Operands, least, most, is_of_operation}
-use Rattle.dstm_workload.specs.Table.{is_met, Form, by_form}
-use Rattle.dstm_workload.specs.Table as table
-use Rattle.dstm_workload.specs.Operations.{structure_of, structure_at, operand_of, operands_at, form_at}
+use Rattle.dstm_workload.specs.Table.{Kind, Account, Key, Structure, Operand, Operands, least, most, is_of_operation}
+use Rattle.dstm_workload.specs.Table.{Need, Bank, ListNodes, TreeNodes, Nothing, is_met, Form, by_form, begun_by}
+use Rattle.dstm_workload.specs.Table.{awaited_by}
+use Rattle.dstm_workload.specs.Operations.{structure_of, structure_at, operand_of, operands_at, form_at, of_form}
 use Rattle.dstm_workload.specs.Operations.{await_of, await_at, op_of, op_at}
-use Rattle.dstm_workload.specs.Writing.{structure_name, field_of, fields_of_operands, written, fields_of_op}
+use Rattle.dstm_workload.specs.Writing.{field_of, fields_of_operands, written, fields_of_op, is_orelse}
 use Rattle.dstm_workload.proofs.LinesAgain.{IsField, all_both, decimal_is_field, numeral_again}
-use Rattle.dstm_workload.proofs.ReadLaws.{bind_ok, same_Ok, refused_never, allowed_ok, numeral_ok}
-use Rattle.dstm_workload.proofs.ReadLaws.{word_ok, word_again}
+use Rattle.dstm_workload.proofs.ReadLaws.{bind_ok, same_Ok, numeral_ok, word_ok, word_again}
 
 -- ---- what is declared
 
-size_le : (o : Option ℕ) (most : ℕ) → IfSome o (λ n. (1 ≤ n) × (n ≤ most)) → unwrap_or o 0 ≤ most
-size_le None most h = omega arith
-size_le (Some n) most h = h.1
-
-size_some : (o : Option ℕ) (most : ℕ) → IfSome o (λ n. (1 ≤ n) × (n ≤ most)) → is_some o ≡ true → 0 < unwrap_or o 0
-size_some None most h is = absurd (let no : ⊥ = cc in no)
-size_some (Some n) most h is = h.0
-
-some_size : (o : Option ℕ) → 0 < unwrap_or o 0 → is_some o ≡ true
-some_size None some = absurd (omega arith)
-some_size (Some n) some = refl
-
--- the bank of a layout where none is declared
-abbrev none : Bank
-none = record { accounts = 0; opening = 0 }
-
-bank_le : (o : Option Bank) →
-    IfSome o (λ bank. (1 ≤ bank.accounts) × (bank.accounts ≤ 4096) × (bank.opening ≤ 1000000000)) →
-    ((unwrap_or o none).accounts ≤ 4096) × ((unwrap_or o none).opening ≤ 1000000000)
-    × ((unwrap_or o none).accounts ≡ 0 → (unwrap_or o none).opening ≡ 0)
-bank_le None h = (omega arith, omega arith, λ zero. refl)
-bank_le (Some bank) h = (h.1, h.2, λ zero. absurd (omega arith))
-
-bank_some : (o : Option Bank) →
-    IfSome o (λ bank. (1 ≤ bank.accounts) × (bank.accounts ≤ 4096) × (bank.opening ≤ 1000000000)) →
-    is_some o ≡ true → 0 < (unwrap_or o none).accounts
-bank_some None h is = absurd (let no : ⊥ = cc in no)
-bank_some (Some bank) h is = h.0
-
-some_bank : (o : Option Bank) → 0 < (unwrap_or o none).accounts → is_some o ≡ true
-some_bank None some = absurd (omega arith)
-some_bank (Some bank) some = refl
-
 pub layout_is_valid : (known : Known) → IsKnown known → IsValid (layout_of known)
-layout_is_valid known h =
-    let bank = bank_le known.bank h.bank in
-    record {
-      accounts = bank.0;
-      opening = bank.1;
-      unopened = bank.2;
-      list = size_le known.list 1024 h.list;
-      tree = size_le known.tree 65535 h.tree;
-    }
+layout_is_valid known h = grind arith
+
+-- the size of what has to be declared
+abbrev size_of : Known → Need → ℕ
+size_of known Bank = (layout_of known).accounts
+size_of known ListNodes = (layout_of known).list
+size_of known TreeNodes = (layout_of known).tree
+size_of known Nothing = 1
+
+met_is : (known : Known) (need : Need) → IsKnown known → (is_met known need ≡ true) ↔ (0 < size_of known need)
+met_is known need h = grind arith
 
 -- ---- operands
 
@@ -91,10 +52,13 @@ pub record Shown : Type 0 where
   pub form : Form
   pub operands : Operands form.kinds
 
-abbrev pub shown : Op → Shown
-shown o = by_form (λ form operands. record { form = form; operands = operands }) o
+abbrev pub by : (form : Form) → Operands form.kinds → Shown
+by form operands = record { form = form; operands = operands }
 
-shown_fields : (o : Op) → written (shown o).form (shown o).operands ≡ fields_of_op o
+abbrev pub shown : Op → Shown
+shown o = by_form by o
+
+shown_fields : (o : Op) → fields_of_op o ≡ written (shown o).form (shown o).operands
 shown_fields op.OrElse = refl
 shown_fields (op.Await (cond.Balance account least)) = refl
 shown_fields (op.Await (cond.Key which.List key)) = refl
@@ -103,88 +67,80 @@ shown_fields o = refl
 
 -- its form may stand where these are declared
 abbrev pub FitsForm : Known → Shown → Type 0
-FitsForm known s = (is_met known s.form.needs ≡ true) × AllInRange known s.form.kinds s.operands
+FitsForm known s = (0 < size_of known s.form.needs) × AllInRange known s.form.kinds s.operands
+
+fits_form : (known : Known) (o : Op) → (FitsLayout (layout_of known) o × HasValue o) ↔ FitsForm known (shown o)
+fits_form known (op.Await (cond.Balance a least)) = omega arith
+fits_form known (op.Await (cond.Key which.List key)) = omega arith
+fits_form known (op.Await (cond.Key which.Tree key)) = omega arith
+fits_form known o = omega arith
 
 -- an operation that may stand here
-abbrev pub IsNoSeparator : Op → Type 0
-IsNoSeparator op.OrElse = ⊥
-IsNoSeparator o = Unit {0}
-
-pub record Stands (version : ℕ) (first : Bool) (o : Op) : Type 0 where
-  pub has : HasOp version o
-  pub awaits : first ≡ false → IsNoAwait o
-  pub alone : IsNoSeparator o
-
 pub record IsOp (version : ℕ) (known : Known) (first : Bool) (o : Op) : Type 0 where
   pub fits : FitsLayout (layout_of known) o
   pub value : HasValue o
-  pub stands : Stands version first o
+  pub has : HasOp version o
+  pub awaits : first ≡ false → IsNoAwait o
+  pub alone : is_orelse o ≡ false
+
+-- a form in the table
+record IsRow (version : ℕ) (first : Bool) (words : List Word) (form : Form) : Type 0 where
+  words_are : form.words ≡ words
+  shows : (xs : Operands form.kinds) → shown (form.makes xs) ≡ by form xs
+  writes : (xs : Operands form.kinds) → fields_of_op (form.makes xs) ≡ written form xs
+  has : (xs : Operands form.kinds) → HasOp version (form.makes xs)
+  awaits : (xs : Operands form.kinds) → first ≡ false → IsNoAwait (form.makes xs)
+  alone : (xs : Operands form.kinds) → is_orelse (form.makes xs) ≡ false
+
+begun : (version : ℕ) (first : Bool) (w : Word) → since w ≤ version → IfSome (begun_by w) (IsRow version first (w ∷ []))
+begun version first word.Tx has = search arith
+begun version first w has = search arith
+
+awaited : (version : ℕ) (w : Word) → 3 ≤ version →
+    IfSome (awaited_by w) (IsRow version true (word.Await ∷ w ∷ []))
+awaited version word.Tx has = search arith
+awaited version w has = search arith
 
 true_unless : (b : Bool) → (b ≡ false → ⊥) → b ≡ true
-true_unless true other = refl
-true_unless false other = absurd (other refl)
+true_unless b other = grind arith
 
-pub never : {A : Type 0} (b : Bool) → b ≡ true → b ≡ false → A
-never b is other = absurd (let both : ⊥ = cc in both)
+-- the first word, or the one behind `await`
+abbrev chosen_word : List Word → Word
+chosen_word [] = word.Tx
+chosen_word (w ∷ []) = w
+chosen_word (w ∷ v ∷ ws) = v
 
-module _ (version : ℕ) (low : 1 ≤ version) (high : version ≤ 3) (known : Known) (valid : IsKnown known) where
+module _ (version : ℕ) (low : 1 ≤ version) (known : Known) (valid : IsKnown known) where
   most_small : (kind : Kind) → most known kind < 2 ^ 64
   most_small Account = let few = (layout_is_valid known valid).accounts in omega arith
   most_small other = omega arith
 
-  word_is : (w : Word) → since w ≤ version → word_of version (spelling w) ≡ Some w
-  word_is w has = word_again version w has
-
   -- ---- an operand of each kind
 
-  abbrev naming : Option ℕ → Which → List (List ℕ) → Result (Which × List (List ℕ)) Why
-  naming o w rest = declared o >>= λ nodes. Ok (w, rest)
-
-  declared_again : (o : Option ℕ) (w : Which) (rest : List (List ℕ)) → is_some o ≡ true →
-      naming o w rest ≡ Ok (w, rest)
-  declared_again None w rest is = absurd (let no : ⊥ = cc in no)
-  declared_again (Some n) w rest is = refl
+  there : (o : Option ℕ) → 0 < unwrap_or o 0 → o ≡ Some (unwrap_or o 0)
+  there o some = grind arith
 
   operand_again : (kind : Kind) (x : Operand kind) (rest : List (List ℕ)) → InRange known kind x →
       operand_of version known kind (field_of kind x ∷ rest) ≡ Ok (x, rest)
   unfolding structure_at
-  operand_again Structure which.List rest some =
-      ap (structure_of known rest) (word_is word.List low)
-      ∙ declared_again known.list which.List rest (some_size known.list some)
-  operand_again Structure which.Tree rest some =
-      ap (structure_of known rest) (word_is word.Tree low)
-      ∙ declared_again known.tree which.Tree rest (some_size known.tree some)
+  operand_again Structure which.List rest some = rw (word_again version word.List low, there known.list some)
+  operand_again Structure which.Tree rest some = rw (word_again version word.Tree low, there known.tree some)
   operand_again kind n rest inside =
       let small = most_small kind in
-      let high = inside.1 in
       numeral_again (is_of_operation kind) (least kind) (most known kind) n rest (omega arith) inside.0 inside.1
 
   abbrev Reads : (kind : Kind) → List (List ℕ) → Operand kind × List (List ℕ) → Type 0
   Reads kind fields x = InRange known kind x.0 × (fields ≡ field_of kind x.0 ∷ x.1)
 
-  named : (o : Option ℕ) (w : Which) (fields : List (List ℕ)) (x : Which × List (List ℕ)) →
-      (is_some o ≡ true → 0 < capacity w (layout_of known)) →
-      naming o w fields ≡ Ok x → Reads Structure (structure_name w ∷ fields) x
-  named None w fields x some is = absurd (refused_never _ x is)
-  named (Some n) w fields x some is =
-      subst (Reads Structure (structure_name w ∷ fields)) (same_Ok (w, fields) x is) (some refl, refl)
-
   structure_ok : (field : List ℕ) (fields : List (List ℕ)) (w : Option Word) (x : Which × List (List ℕ)) →
       ((v : Word) → w ≡ Some v → field ≡ spelling v) → structure_of known fields w ≡ Ok x →
       Reads Structure (field ∷ fields) x
-  structure_ok field fields None x spelled is = absurd (refused_never _ x is)
-  structure_ok field fields (Some word.List) x spelled is =
-      subst (λ f. Reads Structure (f ∷ fields) x) (sym (spelled word.List refl))
-      (named known.list which.List fields x (size_some known.list 1024 valid.list) is)
-  structure_ok field fields (Some word.Tree) x spelled is =
-      subst (λ f. Reads Structure (f ∷ fields) x) (sym (spelled word.Tree refl))
-      (named known.tree which.Tree fields x (size_some known.tree 65535 valid.tree) is)
-  structure_ok field fields (Some other) x spelled is = absurd (refused_never _ x is)
+  structure_ok field fields w x spelled is = grind (arith, spelled word.List, spelled word.Tree, valid)
 
   operand_ok : (kind : Kind) (fields : List (List ℕ)) (x : Operand kind × List (List ℕ)) →
       operand_of version known kind fields ≡ Ok x → Reads kind fields x
   unfolding structure_at
-  operand_ok Structure [] x is = absurd (refused_never _ x is)
+  operand_ok Structure [] x is = cc
   operand_ok Structure (field ∷ fields) x is =
       structure_ok field fields (word_of version field) x (λ v w. (word_ok version field v w).1) is
   operand_ok kind fields x is =
@@ -196,7 +152,6 @@ module _ (version : ℕ) (low : 1 ≤ version) (high : version ≤ 3) (known : K
   operand_field Structure which.Tree some = (omega arith, refl)
   operand_field kind n inside =
       let small = most_small kind in
-      let high = inside.1 in
       decimal_is_field n (omega arith)
 
   -- ---- all operands
@@ -205,25 +160,19 @@ module _ (version : ℕ) (low : 1 ≤ version) (high : version ≤ 3) (known : K
       operands_at version known kinds (fields_of_operands kinds xs ++ rest) ≡ Ok (xs, rest)
   operands_again [] xs rest all = refl
   operands_again (kind ∷ kinds) xs rest all =
-      rw (
-        operand_again kind xs.0 (fields_of_operands kinds xs.1 ++ rest) all.0,
-        operands_again kinds xs.1 rest all.1,
-      ) refl
-
-  abbrev pub ReadsAll : (kinds : List Kind) → List (List ℕ) → Operands kinds × List (List ℕ) → Type 0
-  ReadsAll kinds fields x = AllInRange known kinds x.0 × (fields ≡ fields_of_operands kinds x.0 ++ x.1)
+      rw (operand_again kind xs.0 (fields_of_operands kinds xs.1 ++ rest) all.0, operands_again kinds xs.1 rest all.1)
 
   pub operands_ok : (kinds : List Kind) (fields : List (List ℕ)) (x : Operands kinds × List (List ℕ)) →
-      operands_at version known kinds fields ≡ Ok x → ReadsAll kinds fields x
-  operands_ok [] fields x is =
-      subst (ReadsAll [] fields) (same_Ok (tt, fields) x is) (tt, refl)
+      operands_at version known kinds fields ≡ Ok x →
+      AllInRange known kinds x.0 × (fields ≡ fields_of_operands kinds x.0 ++ x.1)
+  operands_ok [] fields x is = grind arith
   operands_ok (kind ∷ kinds) fields x is =
       let one = bind_ok (operand_of version known kind fields) _ x is in
       let more = bind_ok (operands_at version known kinds one.0.1) _ x one.2 in
       let this = operand_ok kind fields one.0 one.1 in
       let rest = operands_ok kinds one.0.1 more.0 more.1 in
-      subst (ReadsAll (kind ∷ kinds) fields) (same_Ok ((one.0.0, more.0.0), more.0.1) x more.2)
-      ((this.0, rest.0), this.1 ∙ ap (λ fs. field_of kind one.0.0 ∷ fs) rest.1)
+      let these = ap (λ fs. field_of kind one.0.0 ∷ fs) rest.1 in
+      rw (← same_Ok ((one.0.0, more.0.0), more.0.1) x more.2) ((this.0, rest.0), this.1 ∙ these)
 
   pub operands_fields : (kinds : List Kind) (xs : Operands kinds) → AllInRange known kinds xs →
       AllByRecursion IsField (fields_of_operands kinds xs)
@@ -232,107 +181,34 @@ module _ (version : ℕ) (low : 1 ≤ version) (high : version ≤ 3) (known : K
 
   -- ---- an operation of each form
 
-  form_again : (s : Shown) (rest : List (List ℕ)) → FitsForm known s →
-      form_at version known s.form (fields_of_operands s.form.kinds s.operands ++ rest)
-      ≡ Ok (s.form.makes s.operands, rest)
+  form_again : (o : Op) (rest : List (List ℕ)) → FitsLayout (layout_of known) o → HasValue o →
+      form_at version known (shown o).form (fields_of_operands (shown o).form.kinds (shown o).operands ++ rest)
+      ≡ Ok ((shown o).form.makes (shown o).operands, rest)
   unfolding form_at
-  form_again s rest fits = rw (fits.0, operands_again s.form.kinds s.operands rest fits.1) refl
+  form_again o rest fits value =
+      let s = shown o in
+      let there = (fits_form known o).0 (fits, value) in
+      rw ((met_is known s.form.needs valid).1 there.0, operands_again s.form.kinds s.operands rest there.1)
 
-  -- what the operands of a form make is written in that form
-  abbrev IsShown : Form → Type 0
-  IsShown form = (xs : Operands form.kinds) → shown (form.makes xs) ≡ record { form = form; operands = xs }
+  -- what is read behind these words
+  abbrev pub ReadsOp : Bool → List Word → List (List ℕ) → Op × List (List ℕ) → Type 0
+  ReadsOp first words fields x = IsOp version known first x.0 × (map spelling words ++ fields ≡ fields_of_op x.0 ++ x.1)
 
-  record Writes (first : Bool) (words : List Word) (fields : List (List ℕ)) (x : Op × List (List ℕ)) : Type 0 where
-    fits : FitsForm known (shown x.0)
-    stands : Stands version first x.0
-    are : map spelling words ++ fields ≡ fields_of_op x.0 ++ x.1
-
-  form_ok : (form : Form) (first : Bool) (fields : List (List ℕ)) (x : Op × List (List ℕ)) → IsShown form →
-      ((xs : Operands form.kinds) → Stands version first (form.makes xs)) →
-      form_at version known form fields ≡ Ok x → Writes first form.words fields x
+  form_ok : (form : Form) (first : Bool) (words : List Word) (fields : List (List ℕ)) (x : Op × List (List ℕ)) →
+      IsRow version first words form → form_at version known form fields ≡ Ok x →
+      ReadsOp first words fields x
   unfolding form_at
-  form_ok form first fields x shows stands is =
+  form_ok form first words fields x row is =
       let met = bind_ok (met_by (is_met known form.needs)) _ x is in
       let xs = bind_ok (operands_at version known form.kinds fields) _ x met.2 in
-      let needs = allowed_ok (is_met known form.needs) (Ok true) met.0 _ met.1 in
+      let needs : is_met known form.needs ≡ true = grind arith in
       let these = operands_ok form.kinds fields xs.0 xs.1 in
-      let s : Shown = record { form = form; operands = xs.0.0 } in
-      let same : s ≡ shown (form.makes xs.0.0) = sym (shows xs.0.0) in
-      let words = map spelling form.words in
-      let here : Writes first form.words fields (form.makes xs.0.0, xs.0.1) = record {
-        fits = subst (FitsForm known) same (needs.0, these.0);
-        stands = stands xs.0.0;
-        are = ap (λ fs. words ++ fs) these.1
-            ∙ sym (append_assoc words (fields_of_operands form.kinds xs.0.0) xs.0.1)
-            ∙ ap (λ (t : Shown). written t.form t.operands ++ xs.0.1) same
-            ∙ ap (λ fs. fs ++ xs.0.1) (shown_fields (form.makes xs.0.0));
-      } in
-      subst (Writes first form.words fields) (same_Ok (form.makes xs.0.0, xs.0.1) x xs.2) here
-
-  -- ---- an operation fits as its form does
-
-  bank_is : (is_some known.bank ≡ true) → 0 < (layout_of known).accounts
-  bank_is is = bank_some known.bank valid.bank is
-
-  tree_is : (is_some known.tree ≡ true) → 0 < (layout_of known).tree
-  tree_is is = size_some known.tree 65535 valid.tree is
-
-  list_is : (is_some known.list ≡ true) → 0 < (layout_of known).list
-  list_is is = size_some known.list 1024 valid.list is
-
-  fits_from : (o : Op) → FitsForm known (shown o) → FitsLayout (layout_of known) o × HasValue o
-  fits_from (op.Transfer a b x) f =
-      let some = bank_is f.0 in
-      let at_a = f.1.0.1 in
-      let at_b = f.1.1.0.1 in
-      let at_x = f.1.1.1.0.1 in
-      ((omega arith, omega arith, omega arith), tt)
-  fits_from (op.Balance a) f = let some = bank_is f.0 in let at_a = f.1.0.1 in (omega arith, tt)
-  fits_from op.Total f = (bank_is f.0, tt)
-  fits_from (op.Insert w key) f = let at_key = f.1.1.0.1 in ((f.1.0, omega arith), tt)
-  fits_from (op.Remove w key) f = let at_key = f.1.1.0.1 in ((f.1.0, omega arith), tt)
-  fits_from (op.Member w key) f = let at_key = f.1.1.0.1 in ((f.1.0, omega arith), tt)
-  fits_from (op.Put key v) f =
-      let at_key = f.1.0.1 in
-      let at_value = f.1.1.0.1 in
-      ((tree_is f.0, omega arith), omega arith)
-  fits_from (op.Get key) f = let at_key = f.1.0.1 in ((tree_is f.0, omega arith), tt)
-  fits_from (op.Await (cond.Balance a x)) f =
-      let some = bank_is f.0 in
-      let at_a = f.1.0.1 in
-      let at_x = f.1.1.0.1 in
-      ((omega arith, omega arith), tt)
-  fits_from (op.Await (cond.Key which.List key)) f = let at_key = f.1.0.1 in ((list_is f.0, omega arith), tt)
-  fits_from (op.Await (cond.Key which.Tree key)) f = let at_key = f.1.0.1 in ((tree_is f.0, omega arith), tt)
-  fits_from op.OrElse f = (tt, tt)
-
-  form_fits : (o : Op) → FitsLayout (layout_of known) o → HasValue o → FitsForm known (shown o)
-  form_fits (op.Transfer a b x) fits value =
-      let at_a = fits.0 in
-      let at_b = fits.1 in
-      let at_x = fits.2 in (
-        some_bank known.bank (omega arith),
-        ((omega arith, omega arith), ((omega arith, omega arith), ((omega arith, omega arith), tt))),
+      let there : FitsForm known (by form xs.0.0) = ((met_is known form.needs valid).0 needs, these.0) in
+      let fits = (fits_form known (form.makes xs.0.0)).1 (rw (row.shows xs.0.0) there) in
+      rw (← same_Ok (form.makes xs.0.0, xs.0.1) x xs.2) (
+        search (fits, row.has xs.0.0, row.awaits xs.0.0, row.alone xs.0.0),
+        ap (λ fs. map spelling words ++ fs) these.1 ∙ rw (row.writes xs.0.0, row.words_are, append_assoc),
       )
-  form_fits (op.Balance a) fits value = (some_bank known.bank (omega arith), ((omega arith, omega arith), tt))
-  form_fits op.Total fits value = (some_bank known.bank fits, tt)
-  form_fits (op.Insert w key) fits value = let at_key = fits.1 in (refl, (fits.0, ((omega arith, omega arith), tt)))
-  form_fits (op.Remove w key) fits value = let at_key = fits.1 in (refl, (fits.0, ((omega arith, omega arith), tt)))
-  form_fits (op.Member w key) fits value = let at_key = fits.1 in (refl, (fits.0, ((omega arith, omega arith), tt)))
-  form_fits (op.Put key v) fits value =
-      let at_key = fits.1 in
-      (some_size known.tree fits.0, ((omega arith, omega arith), ((omega arith, omega (arith, value)), tt)))
-  form_fits (op.Get key) fits value =
-      let at_key = fits.1 in (some_size known.tree fits.0, ((omega arith, omega arith), tt))
-  form_fits (op.Await (cond.Balance a x)) fits value =
-      let at_a = fits.0 in
-      let at_x = fits.1 in
-      (some_bank known.bank (omega arith), ((omega arith, omega arith), ((omega arith, omega arith), tt)))
-  form_fits (op.Await (cond.Key which.List key)) fits value =
-      let at_key = fits.1 in (some_size known.list fits.0, ((omega arith, omega arith), tt))
-  form_fits (op.Await (cond.Key which.Tree key)) fits value =
-      let at_key = fits.1 in (some_size known.tree fits.0, ((omega arith, omega arith), tt))
-  form_fits op.OrElse fits value = (refl, tt)
 
   -- ---- the fields of an operation
 
@@ -347,131 +223,59 @@ module _ (version : ℕ) (low : 1 ≤ version) (high : version ≤ 3) (known : K
   pub op_fields : (o : Op) → FitsLayout (layout_of known) o → HasValue o → AllByRecursion IsField (fields_of_op o)
   op_fields o fits value =
       let s = shown o in
-      subst (AllByRecursion IsField) (shown_fields o)
-      (all_both IsField (map spelling s.form.words) (fields_of_operands s.form.kinds s.operands)
-      (words_fields s.form.words) (operands_fields s.form.kinds s.operands (form_fits o fits value).1))
+      rw (shown_fields o) (all_both IsField (map spelling s.form.words) (fields_of_operands s.form.kinds s.operands)
+      (words_fields s.form.words) (operands_fields s.form.kinds s.operands ((fits_form known o).0 (fits, value)).1))
 
   -- ---- an operation is read as it was written
 
-  module _ (first : Bool) (rest : List (List ℕ)) where
-    -- the operation behind the words of its form
-    abbrev behind : Op → List (List ℕ)
-    behind o = fields_of_operands (shown o).form.kinds (shown o).operands ++ rest
-
-    begins : (w : Word) (o : Op) → since w ≤ version →
-        ((fields : List (List ℕ)) → op_of version known first fields (Some w) ≡ form_at version known (shown o).form fields) →
-        IsOp version known first o →
-        op_at version known first (spelling w ∷ behind o) ≡ Ok ((shown o).form.makes (shown o).operands, rest)
-    unfolding op_at
-    begins w o has forms is =
-        ap (op_of version known first (behind o)) (word_is w has)
-        ∙ forms (behind o) ∙ form_again (shown o) rest (form_fits o is.fits is.value)
-
-    awaits : (w : Word) (o : Op) → since w ≤ version →
-        ((fields : List (List ℕ)) → await_of version known fields (Some w) ≡ form_at version known (shown o).form fields) →
-        IsOp version known first o → 3 ≤ version → (first ≡ false → ⊥) →
-        op_at version known first (spelling word.Await ∷ spelling w ∷ behind o)
-        ≡ Ok ((shown o).form.makes (shown o).operands, rest)
-    unfolding op_at await_at
-    awaits w o has forms is newest begun =
-        ap (op_of version known first (spelling w ∷ behind o)) (word_is word.Await newest)
-        ∙ ap (λ b. cond b (await_at version known (spelling w ∷ behind o)) (Err Unknown)) (true_unless first begun)
-        ∙ ap (await_of version known (behind o)) (word_is w has)
-        ∙ forms (behind o) ∙ form_again (shown o) rest (form_fits o is.fits is.value)
-
-    pub op_again : (o : Op) → IsOp version known first o →
-        op_at version known first (fields_of_op o ++ rest) ≡ Ok (o, rest)
-    op_again (op.Transfer a b x) is = begins word.Transfer (op.Transfer a b x) low (λ fs. refl) is
-    op_again (op.Balance a) is = begins word.Balance (op.Balance a) low (λ fs. refl) is
-    op_again op.Total is = begins word.Total op.Total low (λ fs. refl) is
-    op_again (op.Insert w k) is = begins word.Insert (op.Insert w k) low (λ fs. refl) is
-    op_again (op.Remove w k) is = begins word.Remove (op.Remove w k) low (λ fs. refl) is
-    op_again (op.Member w k) is = begins word.Member (op.Member w k) low (λ fs. refl) is
-    op_again (op.Put k v) is = begins word.Put (op.Put k v) is.stands.has (λ fs. refl) is
-    op_again (op.Get k) is = begins word.Get (op.Get k) is.stands.has (λ fs. refl) is
-    op_again (op.Await (cond.Balance a x)) is =
-        awaits word.Balance (op.Await (cond.Balance a x)) low (λ fs. refl) is is.stands.has is.stands.awaits
-    op_again (op.Await (cond.Key which.List k)) is =
-        awaits word.List (op.Await (cond.Key which.List k)) low (λ fs. refl) is is.stands.has is.stands.awaits
-    op_again (op.Await (cond.Key which.Tree k)) is =
-        awaits word.Tree (op.Await (cond.Key which.Tree k)) low (λ fs. refl) is is.stands.has is.stands.awaits
-    op_again op.OrElse is = absurd is.stands.alone
+  pub op_again : (first : Bool) (rest : List (List ℕ)) (o : Op) → IsOp version known first o →
+      op_at version known first (fields_of_op o ++ rest) ≡ Ok (o, rest)
+  unfolding op_at await_at
+  op_again first rest op.OrElse is = cc
+  op_again first rest (op.Await (cond.Key which.Tree key)) is =
+      rw (word_again version word.Await is.has, true_unless first is.awaits, word_again version word.Tree low)
+      (form_again (op.Await (cond.Key which.Tree key)) rest is.fits is.value)
+  op_again first rest (op.Await c) is =
+      let words = (shown (op.Await c)).form.words in
+      rw (word_again version word.Await is.has, true_unless first is.awaits, word_again version (chosen_word words) low)
+      (form_again (op.Await c) rest is.fits is.value)
+  op_again first rest o is =
+      rw (word_again version (chosen_word (shown o).form.words) (omega arith)) (form_again o rest is.fits is.value)
 
   -- ---- and what is read was written
 
-  plain : (first : Bool) (o : Op) → HasOp version o → IsNoAwait o → IsNoSeparator o → Stands version first o
-  plain first o has quiet alone = record { has = has; awaits = λ behind. quiet; alone = alone }
+  row_ok : (form : Option Form) (first : Bool) (words : List Word) (w : Word) (fields : List (List ℕ))
+      (x : Op × List (List ℕ)) → IfSome form (IsRow version first words) →
+      of_form version known fields w form ≡ Ok x → ReadsOp first words fields x
+  row_ok None first words w fields x row is = cc
+  row_ok (Some form) first words w fields x row is = form_ok form first words fields x row is
 
-  condition_ok : (first : Bool) (fields : List (List ℕ)) (w : Word) (x : Op × List (List ℕ)) → 3 ≤ version →
-      first ≡ true → await_of version known fields (Some w) ≡ Ok x →
-      Writes first (word.Await ∷ w ∷ []) fields x
-  condition_ok first fields word.Balance x newest begun is =
-      form_ok table.await_balance first fields x (λ xs. refl)
-      (λ xs. record { has = newest; awaits = never first begun; alone = tt }) is
-  condition_ok first fields word.List x newest begun is =
-      form_ok table.await_list first fields x (λ xs. refl)
-      (λ xs. record { has = newest; awaits = never first begun; alone = tt }) is
-  condition_ok first fields word.Tree x newest begun is =
-      form_ok table.await_tree first fields x (λ xs. refl)
-      (λ xs. record { has = newest; awaits = never first begun; alone = tt }) is
-  condition_ok first fields other x newest begun is = absurd (refused_never _ x is)
-
-  await_ok : (first : Bool) (fields : List (List ℕ)) (x : Op × List (List ℕ)) → 3 ≤ version → first ≡ true →
-      await_at version known fields ≡ Ok x → Writes first (word.Await ∷ []) fields x
+  await_ok : (fields : List (List ℕ)) (x : Op × List (List ℕ)) → 3 ≤ version →
+      await_at version known fields ≡ Ok x → ReadsOp true (word.Await ∷ []) fields x
   unfolding await_at
-  await_ok first [] x newest begun is = absurd (refused_never _ x is)
-  await_ok first (field ∷ fields) x newest begun is =
-      elim (word_of version field) as (λ w. word_of version field ≡ w → await_of version known fields w ≡ Ok x →
-      Writes first (word.Await ∷ []) (field ∷ fields) x) [
-        | None ↦ λ spelled e. absurd (refused_never _ x e)
-        | Some w ↦ λ spelled e.
-            let writes = condition_ok first fields w x newest begun e in
-            let name = (word_ok version field w spelled).1 in
-            record {
-              fits = writes.fits;
-              stands = writes.stands;
-              are = ap (λ f. spelling word.Await ∷ f ∷ fields) name ∙ writes.are;
-            }
-      ] refl is
-
-  word_begins : (first : Bool) (fields : List (List ℕ)) (w : Word) (x : Op × List (List ℕ)) → since w ≤ version →
-      op_of version known first fields (Some w) ≡ Ok x → Writes first (w ∷ []) fields x
-  word_begins first fields word.Transfer x has is =
-      form_ok table.transfer first fields x (λ xs. refl) (λ xs. plain first _ tt tt tt) is
-  word_begins first fields word.Balance x has is =
-      form_ok table.balance first fields x (λ xs. refl) (λ xs. plain first _ tt tt tt) is
-  word_begins first fields word.Total x has is =
-      form_ok table.total first fields x (λ xs. refl) (λ xs. plain first _ tt tt tt) is
-  word_begins first fields word.Insert x has is =
-      form_ok table.insert first fields x (λ xs. refl) (λ xs. plain first _ tt tt tt) is
-  word_begins first fields word.Remove x has is =
-      form_ok table.remove first fields x (λ xs. refl) (λ xs. plain first _ tt tt tt) is
-  word_begins first fields word.Member x has is =
-      form_ok table.member first fields x (λ xs. refl) (λ xs. plain first _ tt tt tt) is
-  word_begins first fields word.Put x has is =
-      form_ok table.put first fields x (λ xs. refl) (λ xs. plain first _ has tt tt) is
-  word_begins first fields word.Get x has is =
-      form_ok table.get first fields x (λ xs. refl) (λ xs. plain first _ has tt tt) is
-  word_begins first fields word.Await x has is =
-      let begun = allowed_ok first (await_at version known fields) x Unknown is in
-      await_ok first fields x has begun.0 begun.1
-  word_begins first fields other x has is = absurd (refused_never _ x is)
+  await_ok [] x newest is = cc
+  await_ok (field ∷ fields) x newest is = awaited_word (word_of version field) refl is
+    where
+      awaited_word : (w : Option Word) → word_of version field ≡ w → await_of version known fields w ≡ Ok x →
+          ReadsOp true (word.Await ∷ []) (field ∷ fields) x
+      awaited_word None named e = cc
+      awaited_word (Some w) named e =
+          rw (word_ok version field w named).1
+          (row_ok (awaited_by w) true (word.Await ∷ w ∷ []) w fields x (awaited version w newest) e)
 
   -- what is read as an operation is one that may stand here, and its fields
   pub op_ok : (first : Bool) (fields : List (List ℕ)) (x : Op × List (List ℕ)) →
-      op_at version known first fields ≡ Ok x →
-      IsOp version known first x.0 × (fields ≡ fields_of_op x.0 ++ x.1)
+      op_at version known first fields ≡ Ok x → ReadsOp first [] fields x
   unfolding op_at
-  op_ok first [] x is = absurd (refused_never _ x is)
-  op_ok first (field ∷ fields) x is =
-      elim (word_of version field) as (λ w. word_of version field ≡ w → op_of version known first fields w ≡ Ok x →
-      IsOp version known first x.0 × (field ∷ fields ≡ fields_of_op x.0 ++ x.1)) [
-        | None ↦ λ spelled e. absurd (refused_never _ x e)
-        | Some w ↦ λ spelled e.
-            let name = word_ok version field w spelled in
-            let writes = word_begins first fields w x name.0 e in
-            let fits = fits_from x.0 writes.fits in (
-              record { fits = fits.0; value = fits.1; stands = writes.stands },
-              ap (λ f. f ∷ fields) name.1 ∙ writes.are,
-            )
-      ] refl is
+  op_ok first [] x is = cc
+  op_ok first (field ∷ fields) x is = begun_word first (word_of version field) refl is
+    where
+      begun_word : (begins : Bool) (w : Option Word) → word_of version field ≡ w →
+          op_of version known begins fields w ≡ Ok x → ReadsOp begins [] (field ∷ fields) x
+      begun_word begins None named e = cc
+      begun_word true (Some word.Await) named e =
+          let word = word_ok version field word.Await named in rw word.1 (await_ok fields x word.0 e)
+      begun_word false (Some word.Await) named e = cc
+      begun_word begins (Some w) named e =
+          let word = word_ok version field w named in
+          rw word.1 (row_ok (begun_by w) begins (w ∷ []) w fields x (begun version begins w word.0) e)

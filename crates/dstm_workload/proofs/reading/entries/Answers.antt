@@ -1,7 +1,7 @@
-use Rattle.std.proofs.Common.{sym, ◌∙◌, subst}
+use Rattle.std.proofs.Common.{sym, ◌∙◌}
 use Rattle.dstm_workload.proofs.EntryLaws.{has_room}
 use Rattle.dstm_workload.proofs.ValidLaws.{so_far_valid}
-use Rattle.dstm_workload.proofs.ReadLoop.{ReadTo, begun, goes_on}
+use Rattle.dstm_workload.proofs.ReadLoop.{begun, goes_on}
 use Rattle.dstm_workload.proofs.reading.entries.Goals as goal
 
 pub loop-text-init : goal.loop-text-init
@@ -14,11 +14,8 @@ keep-requires c =
 
 pub loop-text-preserved : goal.loop-text-preserved
 loop-text-preserved c =
-    let before = subst (λ left. ReadTo c.args.lines left c.loop-text.known c.loop-text.line c.loop-text.jobs.items)
-    c.in-Some.ensures.some c.loop-text.invariant in
-    rw (c.keep.ensures.known, c.in_ok-keep.ensures.jobs) (goes_on c.args.lines c.next.new.self c.in-Some.text.now
-    c.loop-text.known c.loop-text.line c.loop-text.jobs.items before c.in-Ok.told (sym c.entry.ensures ∙ c.in-Ok.is))
+    let before = rw c.in-Some.ensures.some at c.loop-text.invariant in
+    rw (c.keep.ensures.known, c.in_ok-keep.ensures.jobs) (goes_on before (sym c.entry.ensures ∙ c.in-Ok.is))
 
 pub returns-clause-valid : goal.returns-clause-valid
-returns-clause-valid c = λ v versioned.
-    so_far_valid c.loop-text.known c.loop-text.line c.loop-text.jobs.items v c.loop-text.invariant.so_far versioned
+returns-clause-valid c = λ v versioned. so_far_valid c.loop-text.invariant.so_far versioned
