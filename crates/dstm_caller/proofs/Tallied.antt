@@ -27,7 +27,8 @@ use Rattle.dstm_words.specs.Views.{events_by, number_or, state_by}
 use Rattle.dstm_runs.specs.Traces.Access.{Load, Store, Add}
 use Rattle.dstm_caller.specs.declared.counting.CallerSeat.TheInside.{Inside}
 use Rattle.dstm_caller.specs.Under.{is_exchange}
-use Rattle.dstm_caller.specs.Counting.{counts_by, counts_in, kills, stands, tally_of, ticked, ticked_on, Counts, IsUnbegun}
+use Rattle.dstm_caller.specs.Counting.{counts_by, counts_in, tally_of, Counts, IsUnbegun}
+use Rattle.dstm_caller.specs.Ticks.{kills, stands, ticked, ticked_on}
 
 -- a caller's counts are made by its own events
 counts_own : (s : Shape) (log : List Event) (c : ℕ) → counts_of s (events_of c log) c ≡ counts_of s log c

@@ -7,4 +7,6 @@ pub mod Opening
 pub mod Beginning
 pub mod Unbegun
 pub mod FoundValues
+pub mod Ticks
 pub mod Counting
+pub mod Places

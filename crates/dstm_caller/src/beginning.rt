@@ -15,7 +15,7 @@ ghost use Rattle.dstm_caller.specs.Under.{InTask, now};
 use crate::opening::rises;
 use crate::resolving::has_ranks;
 use crate::steps::{InCall, Steps};
-use dstm_core::{Kind, Manager, Shape, Status};
+use dstm_core::{Kind, Manager, Status};
 use dstm_model::Law;
 use dstm_words::Words;
 
@@ -33,8 +33,7 @@ impl<L: Law> Steps<L> {
             (in_beginning words.now.terms.shape fresh None (now words.now self.new)) None }
         ensures rest { self.new ≡ record self.old { seat = self.new.seat } }
     {
-        let shape = self.shape;
-        let place = shape.status(self.own);
+        let place = self.shape.status(self.own);
         let _ = self.seat.exchange(
             words,
             Kind::Quit,
@@ -63,8 +62,8 @@ impl<L: Law> Steps<L> {
             (in_beginning words.now.terms.shape fresh None (now words.now self.new)) None }
     {
         let _ = fresh;
-        let shape = self.shape;
-        self.rank = self.seat.add(words, Kind::Stamp, shape.stamps_place());
+        let place = self.shape.stamps_place();
+        self.rank = self.seat.add(words, Kind::Stamp, place);
     }
 
     /// Puts the rank of the first unused attempt.
@@ -81,8 +80,8 @@ impl<L: Law> Steps<L> {
             (in_beginning words.now.terms.shape fresh None (now words.now self.new)) None }
     {
         let _ = fresh;
-        let shape = self.shape;
-        self.seat.store(words, Kind::Rank, shape.rank(next), rank);
+        let place = self.shape.rank(next);
+        self.seat.store(words, Kind::Rank, place, rank);
         self.rank = rank;
     }
 
@@ -99,13 +98,9 @@ impl<L: Law> Steps<L> {
         ensures own { self.new.own ≡ next }
     {
         let _ = fresh;
-        let shape = self.shape;
-        self.seat.store(
-            words,
-            Kind::Begin,
-            shape.status(next),
-            Status::Active.code(),
-        );
+        let place = self.shape.status(next);
+        self.seat
+            .store(words, Kind::Begin, place, Status::Active.code());
         self.own = next;
     }
 
@@ -133,7 +128,7 @@ impl<L: Law> Steps<L> {
         ensures under { InTask L.holds words.now (Beginning fresh) B.began self.new Done None }
         ensures own { self.new.own ≡ next }
     {
-        if has_stamps(self.shape) && fresh && !stamped {
+        if has_stamps(self.shape.manager()) && fresh && !stamped {
             self.stamp::<B>(words, fresh);
             self.begin_ranked::<B>(words, fresh, false, next);
             return;
@@ -159,8 +154,8 @@ impl<L: Law> Steps<L> {
         ensures under { InTask L.holds words.now (Beginning fresh) B.began self.new Done None }
         ensures own { self.new.own ≡ next }
     {
-        if has_ranks(self.shape) && !ranked {
-            let rank = first_rank(self.shape, fresh, self.rank);
+        if has_ranks(self.shape.manager()) && !ranked {
+            let rank = first_rank(self.shape.manager(), fresh, self.rank);
             self.rank_next::<B>(words, fresh, next, rank);
             self.start::<B>(words, fresh, next);
             return;
@@ -170,17 +165,17 @@ impl<L: Law> Steps<L> {
 }
 
 // The rank of a first unused attempt: 0 in a new transaction where ranks rise, and else the one kept.
-fn first_rank(shape: Shape, fresh: bool, kept: u64) -> u64
-    ensures { result ≡ (if rises shape.manager && fresh then 0 else kept) }
+fn first_rank(manager: Manager, fresh: bool, kept: u64) -> u64
+    ensures { result ≡ (if rises manager && fresh then 0 else kept) }
 {
-    if rises(shape) && fresh { 0 } else { kept }
+    if rises(manager) && fresh { 0 } else { kept }
 }
 
 // Whether a transaction draws a stamp.
-fn has_stamps(shape: Shape) -> bool
-    ensures { result ≡ has_stamps shape.manager }
+fn has_stamps(manager: Manager) -> bool
+    ensures { result ≡ has_stamps manager }
 {
-    match shape.manager {
+    match manager {
         Manager::Greedy => true,
         Manager::Polite | Manager::Karma | Manager::Polka => false,
     }

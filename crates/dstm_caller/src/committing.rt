@@ -33,8 +33,7 @@ impl<L: Law> Steps<L> {
         ensures killed { result ≡ false → Under L.holds words.now B.began self.new Done (Some Killed) }
         ensures tries { self.new.missed < MAX_MISSED }
     {
-        let shape = self.shape;
-        let status = shape.status(self.own);
+        let status = self.shape.status(self.own);
         match self.exchange::<B>(
             words,
             Kind::Validating,
@@ -58,8 +57,8 @@ impl<L: Law> Steps<L> {
         ensures good { Under L.holds words.now B.began self.new (in_checking (now words.now self.new)) None }
         ensures tries { self.new.missed < MAX_MISSED }
     {
-        let shape = self.shape;
-        self.add::<B>(words, Kind::Draw, shape.numbers_place())
+        let place = self.shape.numbers_place();
+        self.add::<B>(words, Kind::Draw, place)
     }
 
     /// Commits the attempt. It tells whether it took effect.
@@ -75,8 +74,7 @@ impl<L: Law> Steps<L> {
         ensures killed { result ≡ false → Under L.holds words.now B.began self.new Done (Some Killed) }
         ensures drawn { (now words.now self.new).drawn ≡ (now words.now self.old).drawn }
     {
-        let shape = self.shape;
-        let status = shape.status(self.own);
+        let status = self.shape.status(self.own);
         self.exchange::<B>(
             words,
             Kind::Commit,
@@ -112,8 +110,8 @@ impl<L: Law> Steps<L> {
             × ((now words.now self.new).phase ≡ Drawn) × ((now words.now self.new).committed ≡ false) }
         ensures tries { self.new.missed < MAX_MISSED }
     {
-        let shape = self.shape;
-        let found = self.load::<B>(words, Kind::Check, shape.object(object));
+        let place = self.shape.object(object);
+        let found = self.load::<B>(words, Kind::Check, place);
         found == word
     }
 

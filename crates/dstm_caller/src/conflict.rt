@@ -63,8 +63,7 @@ impl<L: Law> Steps<L> {
             × OnErr result (self.new.missed ≡ self.old.missed + 1) }
         ensures kept { (self.new.left ≡ self.old.left) × (self.new.round ≡ self.old.round) }
     {
-        let shape = self.shape;
-        let place = shape.status(owner);
+        let place = self.shape.status(owner);
         match self.exchange::<B>(
             words,
             Kind::Kill,
@@ -97,8 +96,8 @@ impl<L: Law> Steps<L> {
         ensures left { (self.new.left + 1 ≡ self.old.left) × (self.new.missed ≡ self.old.missed) }
         ensures rounds { rounds_of self.new ≡ rounds_of self.old }
     {
-        let shape = self.shape;
-        let status = self.look::<B>(words, Kind::LookStatus, shape.status(owner), true);
+        let place = self.shape.status(owner);
+        let status = self.look::<B>(words, Kind::LookStatus, place, true);
         if self.left == 1 {
             self.round += 1;
         }
@@ -124,8 +123,7 @@ impl<L: Law> Steps<L> {
         ensures left { (self.new.left ≡ MAX_PATIENCE) × (self.new.missed ≡ self.old.missed)
             × (self.new.round ≡ self.old.round) }
     {
-        let shape = self.shape;
-        let status = shape.status(self.own);
+        let status = self.shape.status(self.own);
         let found = self.exchange::<B>(
             words,
             Kind::Pause,
@@ -172,14 +170,12 @@ impl<L: Law> Steps<L> {
         ensures rounds { (code : ℕ) → result ≡ Asked.Waits code → (rounds_of self.new ≡ self.old.round + 1)
             × (self.old.round < 1024) × (self.new.missed ≡ self.old.missed) }
     {
-        let shape = self.shape;
+        let place = self.shape.status(owner);
         match self.decider.decide(self.rank, enemy, status, self.round) {
             Choice::Kill => Asked::Kill,
             Choice::GiveWay => Asked::GiveWay,
             Choice::Wait(turns) => {
-                let code = self
-                    .seat
-                    .load(words, Kind::LookStatus, shape.status(owner), true);
+                let code = self.seat.load(words, Kind::LookStatus, place, true);
                 self.left = turns - 1;
                 if turns == 1 {
                     self.round += 1;
@@ -254,8 +250,8 @@ impl<L: Law> Steps<L> {
         ensures left { (self.new.left + 1 ≡ self.old.left) × (self.new.missed ≡ self.old.missed)
             × (self.new.round ≡ self.old.round) }
     {
-        let shape = self.shape;
-        let status = self.look::<B>(words, Kind::LookStatus, shape.status(owner), true);
+        let place = self.shape.status(owner);
+        let status = self.look::<B>(words, Kind::LookStatus, place, true);
         self.left -= 1;
         status
     }
@@ -288,8 +284,7 @@ impl<L: Law> Steps<L> {
         ensures killed { result ≡ false → Under L.holds words.now B.began self.new Done (Some Killed) }
         ensures left { (self.new.left ≡ 0) × (self.new.missed ≡ self.old.missed) × (self.new.round ≡ self.old.round) }
     {
-        let shape = self.shape;
-        let status = shape.status(self.own);
+        let status = self.shape.status(self.own);
         let found = self.exchange::<B>(
             words,
             Kind::Resume,

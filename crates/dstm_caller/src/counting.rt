@@ -7,9 +7,11 @@ ghost use Rattle.dstm_runs.specs.Traces.Access.{Load, Store, Exchange, Add};
 ghost use Rattle.dstm_words.specs.Logs.{ActsBy};
 ghost use Rattle.dstm_words.specs.Seats.{caller_state, found_in, view_of, IsOf, MayMake, StoresLawfully};
 ghost use Rattle.dstm_words.specs.Steps.{Makes};
-ghost use Rattle.dstm_caller.specs.Counting.{counts_by, kills, tally_of, ticked, IsUnbegun};
+ghost use Rattle.dstm_caller.specs.Counting.{counts_by, tally_of, IsUnbegun};
+ghost use Rattle.dstm_caller.specs.Ticks.{kills};
 ghost use Rattle.dstm_caller.specs.Under.{is_exchange};
 
+use crate::counter::Counter;
 use dstm_core::Kind;
 use dstm_model::Law;
 use dstm_words::{CoreSeat, Words};
@@ -27,7 +29,7 @@ pub struct Tally {
 #[derive(Drop)]
 pub struct CallerSeat<L: Law> {
     seat: CoreSeat<L>,
-    tally: Tally,
+    tally: Counter,
 }
 
 impl<L: Law> Model for CallerSeat<L> {
@@ -51,11 +53,7 @@ impl<L: Law> CallerSeat<L> {
     {
         CallerSeat {
             seat,
-            tally: Tally {
-                steps: 0,
-                turns: 0,
-                kills: 0,
-            },
+            tally: Counter::idle(),
         }
     }
 
@@ -63,7 +61,7 @@ impl<L: Law> CallerSeat<L> {
     pub fn tally(&self) -> Tally
         ensures { result ≡ tally_of (counts_by (view_of self.now)) }
     {
-        self.tally
+        self.tally.tally()
     }
 
     /// The seat as the words know it.
@@ -83,7 +81,7 @@ impl<L: Law> CallerSeat<L> {
         ensures event { Makes L.holds (view_of self.old) Load kind place result (view_of self.new) }
     {
         let found = words.load(&mut self.seat, kind, place);
-        tick(&mut self.tally, kind, turn, false);
+        self.tally.tick(kind, turn, false);
         found
     }
 
@@ -99,7 +97,7 @@ impl<L: Law> CallerSeat<L> {
             × Makes L.holds (view_of self.old) (Store put) kind place found (view_of self.new) }
     {
         words.store(&mut self.seat, kind, place, put);
-        tick(&mut self.tally, kind, false, false);
+        self.tally.tick(kind, false, false);
     }
 
     /// Puts a number in the word at a place if this holds the expected one. The answer holds the word found.
@@ -121,7 +119,7 @@ impl<L: Law> CallerSeat<L> {
     {
         let answer = words.exchange(&mut self.seat, kind, place, expected, put);
         let kills = kills(kind) & answer.is_ok();
-        tick(&mut self.tally, kind, false, kills);
+        self.tally.tick(kind, false, kills);
         answer
     }
 
@@ -134,7 +132,7 @@ impl<L: Law> CallerSeat<L> {
         ensures event { Makes L.holds (view_of self.old) Add kind place result (view_of self.new) }
     {
         let found = words.add(&mut self.seat, kind, place);
-        tick(&mut self.tally, kind, false, false);
+        self.tally.tick(kind, false, false);
         found
     }
 }
@@ -143,24 +141,4 @@ fn kills(kind: Kind) -> bool
     ensures { result ≡ kills kind }
 {
     matches!(kind, Kind::Kill)
-}
-
-// One step more. A Begin counts as the first one; before the first Begin nothing counts.
-fn tick(tally: &mut Tally, kind: Kind, turn: bool, kills: bool)
-    ensures { tally.new ≡ ticked kind turn kills tally.old }
-{
-    if matches!(kind, Kind::Begin) {
-        *tally = Tally {
-            steps: 1,
-            turns: 0,
-            kills: 0,
-        };
-        return;
-    }
-    if tally.steps == 0 {
-        return;
-    }
-    tally.steps = tally.steps.saturating_add(1);
-    tally.turns = tally.turns.saturating_add(u64::from(turn));
-    tally.kills = tally.kills.saturating_add(u64::from(kills));
 }

@@ -34,9 +34,9 @@ impl<L: Law> Steps<L> {
         ensures under { Under L.holds words.now B.began self.new (just PutOld) None }
         ensures rest { self.new ≡ record self.old { seat = self.new.seat } }
     {
-        let shape = self.shape;
         let own = u64::from(self.own);
-        self.store::<B>(words, Kind::PutOwner, shape.owner(locator), own)
+        let place = self.shape.owner(locator);
+        self.store::<B>(words, Kind::PutOwner, place, own)
     }
 
     /// Puts the version found as the old version of that locator.
@@ -55,8 +55,8 @@ impl<L: Law> Steps<L> {
         ensures under { Under L.holds words.now B.began self.new (just Install) None }
         ensures rest { self.new ≡ record self.old { seat = self.new.seat } }
     {
-        let shape = self.shape;
-        self.store::<B>(words, Kind::PutOld, shape.old_cell(locator), old)
+        let place = self.shape.old_cell(locator);
+        self.store::<B>(words, Kind::PutOld, place, old)
     }
 
     /// Installs that locator in the object, whose word was found. It tells whether the word was still there.
@@ -92,9 +92,9 @@ impl<L: Law> Steps<L> {
             × (result ≡ true → self.new.missed ≡ self.old.missed) }
         ensures past { IsPastOf (view_of self.old.seat).log (view_of self.new.seat).log }
     {
-        let shape = self.shape;
         let next = u64::from(locator) + 1;
-        match self.exchange::<B>(words, Kind::Install, shape.object(object), word, next) {
+        let place = self.shape.object(object);
+        match self.exchange::<B>(words, Kind::Install, place, word, next) {
             Ok(_) => {
                 self.installed += 1;
                 true
@@ -128,9 +128,8 @@ impl<L: Law> Steps<L> {
         ensures under { Under L.holds words.now B.began self.new Done None }
         ensures past { IsPastOf (view_of self.old.seat).log (view_of self.new.seat).log }
     {
-        let shape = self.shape;
         let rank = (self.rank + 1).min(MAX_RANK);
-        let place = shape.rank(self.own);
+        let place = self.shape.rank(self.own);
         self.store::<B>(words, Kind::Rank, place, rank);
         self.rank = rank;
     }

@@ -18,7 +18,7 @@ ghost use Rattle.dstm_caller.specs.Under.{IsRunning, Under, now, passed, work_of
 use crate::resolving::Found;
 use crate::slots::ReadSlot;
 use crate::steps::{InCall, Steps};
-use dstm_core::{Kind, Manager, Shape, Status};
+use dstm_core::{Kind, Manager, Status};
 use dstm_model::Law;
 use dstm_order::{Again, MAX_MISSED};
 use dstm_words::Words;
@@ -50,7 +50,7 @@ impl<L: Law> Steps<L> {
         ensures past { OnOk result (IsPastOf (view_of self.old.seat).log (view_of self.new.seat).log) }
     {
         self.pass::<B>(words, last, reads)?;
-        if rises(self.shape) {
+        if rises(self.shape.manager()) {
             self.rank_up::<B>(words);
         }
         Ok(())
@@ -96,8 +96,8 @@ impl<L: Law> Steps<L> {
         ensures under { Under L.holds words.now B.began self.new Done None }
         ensures rest { self.new ≡ record self.old { seat = self.new.seat } }
     {
-        let shape = self.shape;
-        let _ = self.load::<B>(words, Kind::Release, shape.object(object));
+        let place = self.shape.object(object);
+        let _ = self.load::<B>(words, Kind::Release, place);
     }
 
     /// Tries once to install the next locator in an object. It answers what was found of the object, or nothing where
@@ -181,10 +181,10 @@ impl<L: Law> Steps<L> {
 }
 
 // Whether an attempt's rank rises as it opens objects.
-pub(crate) fn rises(shape: Shape) -> bool
-    ensures { result ≡ rises shape.manager }
+pub(crate) fn rises(manager: Manager) -> bool
+    ensures { result ≡ rises manager }
 {
-    match shape.manager {
+    match manager {
         Manager::Karma | Manager::Polka => true,
         Manager::Polite | Manager::Greedy => false,
     }

@@ -38,8 +38,8 @@ impl<L: Law> Steps<L> {
         ensures tries { self.new.missed < MAX_MISSED }
         ensures past { IsPastOf (view_of self.old.seat).log (view_of self.new.seat).log }
     {
-        let shape = self.shape;
-        self.load::<B>(words, Kind::LookNumber, shape.numbers_place())
+        let place = self.shape.numbers_place();
+        self.load::<B>(words, Kind::LookNumber, place)
     }
 
     /// Checks the next read, of this object and word. It tells whether the object still has that word.
@@ -62,8 +62,8 @@ impl<L: Law> Steps<L> {
         ensures tries { self.new.missed < MAX_MISSED }
         ensures past { IsPastOf (view_of self.old.seat).log (view_of self.new.seat).log }
     {
-        let shape = self.shape;
-        let found = self.load::<B>(words, Kind::Check, shape.object(object));
+        let place = self.shape.object(object);
+        let found = self.load::<B>(words, Kind::Check, place);
         found == word
     }
 
@@ -88,8 +88,8 @@ impl<L: Law> Steps<L> {
         ensures tries { self.new.missed < MAX_MISSED }
         ensures past { IsPastOf (view_of self.old.seat).log (view_of self.new.seat).log }
     {
-        let shape = self.shape;
-        let found = self.load::<B>(words, Kind::LookSelf, shape.status(self.own));
+        let place = self.shape.status(self.own);
+        let found = self.load::<B>(words, Kind::LookSelf, place);
         found == Status::Active.code()
     }
 
@@ -103,11 +103,11 @@ impl<L: Law> Steps<L> {
         ensures under { Under L.holds words.now B.began self.new Done
             (Some (quit_cause (now words.now self.old) (effort_by self.old))) }
     {
-        let shape = self.shape;
+        let place = self.shape.status(self.own);
         let _ = self.exchange::<B>(
             words,
             Kind::Quit,
-            shape.status(self.own),
+            place,
             status.code(),
             Status::Aborted.code(),
         );

@@ -39,8 +39,8 @@ impl<L: Law> Steps<L> {
         ensures put { Holds words.now self.new (HighWord locator) high }
         ensures tries { self.new.missed < MAX_MISSED }
     {
-        let shape = self.shape;
-        self.store::<B>(words, Kind::PutHigh, shape.high_cell(locator), high)
+        let place = self.shape.high_cell(locator);
+        self.store::<B>(words, Kind::PutHigh, place, high)
     }
 
     /// Puts the low part of the next value.
@@ -69,8 +69,8 @@ impl<L: Law> Steps<L> {
         ensures put { Holds words.now self.new (LowWord locator) low }
         ensures tries { self.new.missed < MAX_MISSED }
     {
-        let shape = self.shape;
-        self.store::<B>(words, Kind::PutNew, shape.new_cell(locator), low)
+        let place = self.shape.new_cell(locator);
+        self.store::<B>(words, Kind::PutNew, place, low)
     }
 
     /// Puts the new values, in the order of opening. `first` is the locator of the first of them.

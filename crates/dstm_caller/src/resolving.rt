@@ -17,7 +17,7 @@ ghost use Rattle.dstm_caller.specs.Under.{Resolving, Resolved, work_of, now, eff
 
 use crate::conflict::is_live;
 use crate::steps::{InCall, Steps};
-use dstm_core::{Kind, Manager, Shape, Status};
+use dstm_core::{Kind, Manager, Status};
 use dstm_model::Law;
 use dstm_order::Again;
 use dstm_words::Words;
@@ -45,9 +45,9 @@ impl<L: Law> Steps<L> {
         ensures under { Resolving L.holds words.now B.began self.new }
         ensures rest { self.new ≡ record self.old { seat = self.new.seat } }
     {
-        let shape = self.shape;
         let locator = (word - 1) as u32;
-        self.load::<B>(words, Kind::LookOwner, shape.owner(locator)) as u32
+        let place = self.shape.owner(locator);
+        self.load::<B>(words, Kind::LookOwner, place) as u32
     }
 
     /// Looks at the status of that owner, for the first time.
@@ -63,8 +63,8 @@ impl<L: Law> Steps<L> {
         ensures under { Resolving L.holds words.now B.began self.new }
         ensures rest { self.new ≡ record self.old { seat = self.new.seat } }
     {
-        let shape = self.shape;
-        self.load::<B>(words, Kind::LookStatus, shape.status(owner))
+        let place = self.shape.status(owner);
+        self.load::<B>(words, Kind::LookStatus, place)
     }
 
     /// Looks at the rank of that owner.
@@ -80,8 +80,8 @@ impl<L: Law> Steps<L> {
         ensures under { Resolving L.holds words.now B.began self.new }
         ensures rest { self.new ≡ record self.old { seat = self.new.seat } }
     {
-        let shape = self.shape;
-        self.load::<B>(words, Kind::LookRank, shape.rank(owner))
+        let place = self.shape.rank(owner);
+        self.load::<B>(words, Kind::LookRank, place)
     }
 
     /// Looks at the old version that the locator names.
@@ -96,8 +96,8 @@ impl<L: Law> Steps<L> {
         ensures under { Resolving L.holds words.now B.began self.new }
         ensures rest { self.new ≡ record self.old { seat = self.new.seat } }
     {
-        let shape = self.shape;
-        self.load::<B>(words, Kind::LookOld, shape.old_cell((word - 1) as u32))
+        let place = self.shape.old_cell((word - 1) as u32);
+        self.load::<B>(words, Kind::LookOld, place)
     }
 
     /// Looks at the high part of the version.
@@ -111,8 +111,8 @@ impl<L: Law> Steps<L> {
         ensures under { Resolving L.holds words.now B.began self.new }
         ensures rest { self.new ≡ record self.old { seat = self.new.seat } }
     {
-        let shape = self.shape;
-        self.load::<B>(words, Kind::LookHigh, shape.high_cell((named - 1) as u32))
+        let place = self.shape.high_cell((named - 1) as u32);
+        self.load::<B>(words, Kind::LookHigh, place)
     }
 
     /// Looks at the low part of the version.
@@ -127,8 +127,8 @@ impl<L: Law> Steps<L> {
         ensures under { Resolving L.holds words.now B.began self.new }
         ensures rest { self.new ≡ record self.old { seat = self.new.seat } }
     {
-        let shape = self.shape;
-        self.load::<B>(words, Kind::LookNew, shape.new_cell((named - 1) as u32))
+        let place = self.shape.new_cell((named - 1) as u32);
+        self.load::<B>(words, Kind::LookNew, place)
     }
 
     /// Looks at the word of an object, and begins to resolve it.
@@ -146,8 +146,8 @@ impl<L: Law> Steps<L> {
             Under L.holds words.now B.began self.new (just Quit) None }
         ensures rest { self.new ≡ record self.old { seat = self.new.seat; round = 0; left = 0 } }
     {
-        let shape = self.shape;
-        let word = self.look::<B>(words, Kind::LookObj, shape.object(object), false);
+        let place = self.shape.object(object);
+        let word = self.look::<B>(words, Kind::LookObj, place, false);
         self.round = 0;
         self.left = 0;
         word
@@ -234,7 +234,7 @@ impl<L: Law> Steps<L> {
         ensures ends { IfErr result (λ again. Under L.holds words.now B.began self.new Done (Some again)) }
     {
         let _ = word;
-        if !has_ranks(self.shape) {
+        if !has_ranks(self.shape.manager()) {
             return self.settle::<B>(words, owner, 0, code);
         }
         let enemy = self.look_rank::<B>(words, owner);
@@ -300,10 +300,10 @@ impl<L: Law> Steps<L> {
 }
 
 // Whether attempts have ranks.
-pub(crate) fn has_ranks(shape: Shape) -> bool
-    ensures { result ≡ has_ranks shape.manager }
+pub(crate) fn has_ranks(manager: Manager) -> bool
+    ensures { result ≡ has_ranks manager }
 {
-    match shape.manager {
+    match manager {
         Manager::Polite => false,
         Manager::Karma | Manager::Polka | Manager::Greedy => true,
     }

@@ -12,7 +12,8 @@ ghost use Rattle.dstm_words.specs.Logs.{ActsBy};
 ghost use Rattle.dstm_caller.specs.Under.{now, effort_by, made_by, due_by, again_by, operand_of, is_exchange, MayStep, Under, Went};
 
 use crate::counting::CallerSeat;
-use dstm_core::{Kind, Shape};
+use crate::places::Places;
+use dstm_core::Kind;
 use dstm_managers::Decider;
 use dstm_model::Law;
 use dstm_words::Words;
@@ -36,7 +37,7 @@ impl InCall for Brand {
 #[derive(Drop)]
 pub struct Steps<L: Law> {
     pub seat: CallerSeat<L>,
-    pub shape: Shape,
+    pub shape: Places,
     pub decider: Decider,
     /// The attempt that was begun last.
     pub own: u32,

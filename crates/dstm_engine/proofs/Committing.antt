@@ -239,16 +239,14 @@ module _ {L : Type 0} (holds : L → List Val → Type 0) (c : Inside L) (v : Ti
         let x = st.installed in let y = v.mirror.installed in let w = few_there in
         let i = ap (λ (s : Steps L). s.installed) is in let most = v.run.valid.locators in omega arith
 
-    pub first_fits : c.number * steps.shape.locators + (steps.installed - length slots) < 2 ^ 32
+    pub first_fits : c.number * c.terms.shape.locators + (steps.installed - length slots) < 2 ^ 32
     first_fits =
         let st = static c.terms.shape (called c).log v.run.run.core c.number in
         let most = few_locators c.terms.shape v.run.valid in
         let x = st.installed in let y = v.mirror.installed in let z = v.number.0 in
         let w = few_there in let i = ap (λ (s : Steps L). s.installed) is in
-        let shape : steps.shape ≡ c.terms.shape = ap (λ (s : Steps L). s.shape) is ∙ v.shape in
         let objects = v.run.valid.some_locators in
-        subst (λ (s : Shape). c.number * s.locators + (steps.installed - length slots) < 2 ^ 32) (sym shape)
-        (below c.terms.shape.callers c.terms.shape.locators (steps.installed - length slots) z (omega arith) most)
+        below c.terms.shape.callers c.terms.shape.locators (steps.installed - length slots) z (omega arith) most
       where
         below : (callers locators n : ℕ) → c.number < callers → n ≤ locators → callers * locators < 2 ^ 32 →
             c.number * locators + n < 2 ^ 32
@@ -256,12 +254,11 @@ module _ {L : Type 0} (holds : L → List Val → Type 0) (c : Inside L) (v : Ti
             let row : (c.number + 1) * locators ≤ callers * locators = mul-le (c.number + 1) locators callers locators (omega arith) (omega arith) in
             omega arith
 
-    pub first_there : c.number * steps.shape.locators + (steps.installed - length slots)
+    pub first_there : c.number * c.terms.shape.locators + (steps.installed - length slots)
         ≡ number_or (view_of steps.seat).number 0 * home.terms.shape.locators
         + ((now home steps).installed - length (now home steps).writes)
     first_there =
-        let shape : steps.shape ≡ home.terms.shape =
-        ap (λ (s : Steps L). s.shape) is ∙ v.shape ∙ ap (λ (h : Home L). h.terms.shape) same in
+        let shape : c.terms.shape ≡ home.terms.shape = ap (λ (h : Home L). h.terms.shape) same in
         let was = now_there holds c v home same steps is in
         let i : steps.installed ≡ (now home steps).installed =
         ap (λ (s : Steps L). s.installed) is ∙ v.mirror.installed ∙ sym (ap (λ (l : LocalState). l.installed) was) in

@@ -7,7 +7,6 @@ use Rattle.dstm_caller.specs.declared.steps.Steps.{Steps}
 use Rattle.dstm_core.specs.Runs.{local}
 use Rattle.dstm_model.specs.declared.value.Val.{Val}
 use Rattle.dstm_order.specs.Calls.{answer}
-use Rattle.dstm_core.specs.declared.shape.Shape.{Shape}
 use Rattle.dstm_order.specs.Order.{due, is_spent}
 use Rattle.dstm_order.specs.Order.Due.{Done}
 use Rattle.dstm_order.specs.Tasks.{Task}
@@ -57,16 +56,14 @@ module _ {L : Type 0} (holds : L → List Val → Type 0) (c : Inside L) (v : Ti
 
   -- whether it is spent
   pub spent_there : is_spent c.terms.shape (state (called c))
-      ≡ (not (nat_lt c.begun steps.shape.attempts) || nat_lt steps.shape.locators (steps.installed + steps.shape.objects))
+      ≡ (not (nat_lt c.begun c.terms.shape.attempts)
+      || nat_lt c.terms.shape.locators (steps.installed + c.terms.shape.objects))
   spent_there =
       ap (λ b. not (nat_lt b c.terms.shape.attempts)
       || nat_lt c.terms.shape.locators ((state (called c)).installed + c.terms.shape.objects)) v.begun
       ∙ ap (λ i. not (nat_lt c.begun c.terms.shape.attempts)
-      || nat_lt c.terms.shape.locators (i + c.terms.shape.objects)) (sym v.mirror.installed)
-      ∙ ap (λ (s : Shape). not (nat_lt c.begun s.attempts) || nat_lt s.locators (c.steps.installed + s.objects))
-      (sym v.shape)
-      ∙ ap (λ (x : Steps L). not (nat_lt c.begun x.shape.attempts)
-      || nat_lt x.shape.locators (x.installed + x.shape.objects)) (sym is)
+      || nat_lt c.terms.shape.locators (i + c.terms.shape.objects))
+      (sym v.mirror.installed ∙ sym (ap (λ (s : Steps L). s.installed) is))
 
   -- a call begins
   pub starts_there : (task : Task) →

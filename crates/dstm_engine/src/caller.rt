@@ -23,7 +23,7 @@ use crate::error::Spent;
 use crate::opened::Opened;
 use crate::opening::{read_object, write_object};
 use crate::stm::Stm;
-use dstm_caller::{CallerSeat, Steps, Tally};
+use dstm_caller::{CallerSeat, Places, Steps, Tally};
 use dstm_core::{Kind, Shape, Status};
 use dstm_managers::Decider;
 use dstm_model::{Law, Val};
@@ -106,7 +106,7 @@ impl<L: Law> Caller<L> {
         let began = Snapshot::of(&decider);
         let steps = Steps {
             seat: CallerSeat::make(seat),
-            shape,
+            shape: Places::of(shape),
             decider,
             own: number * shape.attempts,
             installed: 0,
@@ -170,7 +170,7 @@ impl<L: Law> Caller<L> {
         ensures spent { IfErr result (λ _. SpentFrom L.holds self.old self.new) }
     {
         renew(&mut self.steps);
-        let shape = self.steps.shape;
+        let shape = self.terms.shape;
         let spent = is_spent(shape, self.begun, self.steps.installed);
         let next = self.number * shape.attempts + self.begun;
         let began = Snapshot::of(&self.steps.decider);
@@ -219,7 +219,7 @@ impl<L: Law> Caller<L> {
         if let Some(value) = self.opened.value(o) {
             return Ok(value);
         }
-        if self.steps.shape.all_write {
+        if self.terms.shape.all_write {
             self.write_first(stm, o)
         } else {
             self.read_first(stm, o)
@@ -292,7 +292,7 @@ impl<L: Law> Caller<L> {
         ensures stops { IfErr result (Stops L.holds (Writing o) self.old self.new) }
     {
         renew(&mut self.steps);
-        let next = self.number * self.steps.shape.locators + self.steps.installed;
+        let next = self.number * self.terms.shape.locators + self.steps.installed;
         let first = stm.first(o);
         match write_object::<L, Brand>(
             &mut self.steps,
@@ -401,7 +401,7 @@ impl<L: Law> Caller<L> {
     {
         renew(&mut self.steps);
         let writes = self.opened.writes();
-        let first = self.number * self.steps.shape.locators
+        let first = self.number * self.terms.shape.locators
             + (self.steps.installed - writes.len() as u32);
         let committed = self.steps.commit::<Brand>(
             stm.words(),

@@ -12,7 +12,7 @@ invariant_of-self g c =
     let event = made v Add c.args.kind c.args.place c.add-found.result in
     let shape = c.args.words.now.terms.shape in
     step_counts g.L.Law.holds c.args.words.now c.self.inside
-    (record { seat = c.add-found.new.seat; tally = c.tick.new.tally }) c.args.self.now Add c.args.kind c.args.place
+    (record { seat = c.add-found.new.seat; tally = c.tick.new.self }) c.args.self.now Add c.args.kind c.args.place
     c.add-found.result false false c.self.view_is c.requires.seat c.self.invariant
     (add_turns c.args.kind shape state event c.requires.adds) (add_kills c.args.kind shape state event c.requires.adds)
     c.add-found.ensures.event c.tick.ensures

@@ -10,7 +10,7 @@ invariant_of-self g c =
     let v = view_of c.self.inside.seat in
     let state = caller_state c.args.words.now.terms (view_of c.args.self.now) in
     step_counts g.L.Law.holds c.args.words.now c.self.inside
-    (record { seat = c.exchange-answer.new.seat; tally = c.tick.new.tally }) c.args.self.now
+    (record { seat = c.exchange-answer.new.seat; tally = c.tick.new.self }) c.args.self.now
     (Exchange c.args.expected c.args.put) c.args.kind c.args.place (found_in c.exchange-answer.result) false _
     c.self.view_is c.requires.seat c.self.invariant (exchange_turns c.args.kind state c.requires.exchanges)
     (rw (c.kills.ensures, c.is_ok.ensures.value) (exchange_kills c.args.kind c.exchange-answer.result

@@ -9,7 +9,7 @@ pub invariant_of-self : goal.invariant_of-self
 invariant_of-self g c =
     let v = view_of c.self.inside.seat in
     step_counts g.L.Law.holds c.args.words.now c.self.inside
-    (record { seat = c.load-found.new.seat; tally = c.tick.new.tally }) c.args.self.now Load c.args.kind c.args.place
+    (record { seat = c.load-found.new.seat; tally = c.tick.new.self }) c.args.self.now Load c.args.kind c.args.place
     c.load-found.result c.args.turn false c.self.view_is c.requires.seat c.self.invariant c.requires.turn
     (load_kills c.args.kind c.args.words.now.terms.shape (caller_state c.args.words.now.terms v)
     (made v Load c.args.kind c.args.place c.load-found.result) c.requires.loads)

@@ -10,7 +10,7 @@ invariant_of-self g c =
     let v = view_of c.self.inside.seat in
     let found = c.store.ensures.event.0 in
     step_counts g.L.Law.holds c.args.words.now c.self.inside
-    (record { seat = c.store.new.seat; tally = c.tick.new.tally }) c.args.self.now (Store c.args.put) c.args.kind
+    (record { seat = c.store.new.seat; tally = c.tick.new.self }) c.args.self.now (Store c.args.put) c.args.kind
     c.args.place found false false c.self.view_is c.requires.seat c.self.invariant (sym c.requires.no_turn)
     (sym (c.requires.no_kill (made v (Store c.args.put) c.args.kind c.args.place found))) c.store.ensures.event.1
     c.tick.ensures

@@ -20,8 +20,8 @@ use Rattle.dstm_core.specs.Words.Word.{StatusWord}
 use Rattle.dstm_caller.proofs.Stepping.{may_make, makes_by, went_adds, chosen_is, kill_keeps, give_way_keeps, manager_kept, first_turn}
 use Rattle.dstm_caller.proofs.steps.Steps.ask.Goals as goal
 
-pub status-requires-clause-below : goal.status-requires-clause-below
-status-requires-clause-below g c =
+pub status-place-requires-clause-below : goal.status-place-requires-clause-below
+status-place-requires-clause-below g c =
     rw c.requires.under.shape
     (rw c.requires.owner at
     (owner_in g.L.Law.holds c.args.words.now g.B.InCall.began c.args.self.now _ _ c.requires.under
@@ -30,9 +30,9 @@ status-requires-clause-below g c =
 
 pub load-code-requires-clause-allowed : goal.load-code-requires-clause-allowed
 load-code-requires-clause-allowed g c =
-    may_make g.L.Law.holds c.args.words.now g.B.InCall.began c.args.self.now _ _ Load LookStatus c.status.result
+    may_make g.L.Law.holds c.args.words.now g.B.InCall.began c.args.self.now _ _ Load LookStatus c.status-place.result
     c.requires.under (λ q. absurd (cc)) (record {
-      place = rw c.requires.owner (c.status.ensures
+      place = rw c.requires.owner (c.status-place.ensures
           ∙ ap (λ s. place s (StatusWord c.args.owner)) c.requires.under.shape);
       access = refl;
       may = (
@@ -91,7 +91,7 @@ returns-then-turns-eq1-clause-waits g c code is =
     } in
     let l : LocalState = now c.args.words.now old in
     let manager : Manager = c.args.words.now.terms.shape.manager in
-    let e : Event = made_by b Load LookStatus c.status.result c.load-code.result in
+    let e : Event = made_by b Load LookStatus c.status-place.result c.load-code.result in
     let chose : chosen manager l (effort_by old) ≡ Wait c.in-Wait.turns =
     chosen_is g.L.Law.holds c.args.words.now g.B.InCall.began old _ _ c.requires.under c.args.enemy c.args.status
     c.requires.enemy c.requires.status.0
@@ -100,7 +100,7 @@ returns-then-turns-eq1-clause-waits g c code is =
     under_is g.L.Law.holds c.args.words.now g.B.InCall.began old _ _ _ _ c.requires.under (ap on_choice chose) refl in
     let w : Went g.L.Law.holds c.args.words.now g.B.InCall.began old new e =
     went_adds g.L.Law.holds c.args.words.now g.B.InCall.began old new e _ _ due_wait
-    (makes_by g.L.Law.holds c.args.words.now g.B.InCall.began _ _ Load LookStatus c.status.result c.load-code.result
+    (makes_by g.L.Law.holds c.args.words.now g.B.InCall.began _ _ Load LookStatus c.status-place.result c.load-code.result
     c.requires.under.number c.load-code.ensures.event)
     c.load-code.ensures.seat refl (refl, tt) in
     let m = c.requires.under.mirror in
@@ -136,7 +136,7 @@ returns-else-turns-eq1-clause-waits g c code is =
     record old { seat = c.load-code.new.self; decider = c.decide.new.self; left = c.in-Wait.turns - 1 } in
     let l : LocalState = now c.args.words.now old in
     let manager : Manager = c.args.words.now.terms.shape.manager in
-    let e : Event = made_by b Load LookStatus c.status.result c.load-code.result in
+    let e : Event = made_by b Load LookStatus c.status-place.result c.load-code.result in
     let chose : chosen manager l (effort_by old) ≡ Wait c.in-Wait.turns =
     chosen_is g.L.Law.holds c.args.words.now g.B.InCall.began old _ _ c.requires.under c.args.enemy c.args.status
     c.requires.enemy c.requires.status.0
@@ -145,7 +145,7 @@ returns-else-turns-eq1-clause-waits g c code is =
     under_is g.L.Law.holds c.args.words.now g.B.InCall.began old _ _ _ _ c.requires.under (ap on_choice chose) refl in
     let w : Went g.L.Law.holds c.args.words.now g.B.InCall.began old new e =
     went_adds g.L.Law.holds c.args.words.now g.B.InCall.began old new e _ _ due_wait
-    (makes_by g.L.Law.holds c.args.words.now g.B.InCall.began _ _ Load LookStatus c.status.result c.load-code.result
+    (makes_by g.L.Law.holds c.args.words.now g.B.InCall.began _ _ Load LookStatus c.status-place.result c.load-code.result
     c.requires.under.number c.load-code.ensures.event)
     c.load-code.ensures.seat refl (refl, tt) in
     let m = c.requires.under.mirror in

@@ -11,8 +11,8 @@ use Rattle.dstm_caller.proofs.Checks.{next_in_shape, quit_drawn}
 use Rattle.dstm_caller.proofs.Stepping.{under_is, due_quit, again_none}
 use Rattle.dstm_caller.proofs.steps.Steps.check_drawn.Goals as goal
 
-pub object-requires-clause-below : goal.object-requires-clause-below
-object-requires-clause-below g c =
+pub object-place-requires-clause-below : goal.object-place-requires-clause-below
+object-place-requires-clause-below g c =
     let below =
     next_in_shape g.L.Law.holds c.args.words.now g.B.InCall.began c.args.self.now _ _ c.requires.under
     (inr c.requires.phase) c.requires.agreed.0 c.requires.left in
@@ -25,7 +25,7 @@ returns-clause-stale g c wrong =
     let old : LocalState = now c.args.words.now c.args.self.now in
     let new : LocalState = now c.args.words.now c.load-found.new.self in
     let effort : Effort = effort_by c.load-found.new.self in
-    let e : Event = made_by b Load Check c.object.result c.load-found.result in
+    let e : Event = made_by b Load Check c.object-place.result c.load-found.result in
     let state = c.load-found.ensures.state in
     let stale : new.stale ≡ true = rw (state, c.requires.read.1, wrong) refl in
     let live : is_outside new.phase ≡ false = rw (state, c.requires.phase) refl in

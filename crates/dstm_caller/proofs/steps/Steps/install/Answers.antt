@@ -10,7 +10,7 @@ use Rattle.dstm_caller.proofs.steps.Steps.install.Goals as goal
 
 pub returns-in-Ok-clause-under : goal.returns-in-Ok-clause-under
 returns-in-Ok-clause-under g c good =
-    let e : Event = made_by g.B.InCall.began (Exchange c.args.word (c.from-next.result + 1)) Install c.object.result
+    let e : Event = made_by g.B.InCall.began (Exchange c.args.word (c.from-next.result + 1)) Install c.object-place.result
     (found_in c.exchange.result) in
     let rest = c.exchange.ensures.rest in
     let m = c.requires.under.mirror in
@@ -36,7 +36,7 @@ returns-in-Ok-clause-under g c good =
 
 pub returns-in-Err-clause-retry : goal.returns-in-Err-clause-retry
 returns-in-Err-clause-retry g c wrong tries =
-    let e : Event = made_by g.B.InCall.began (Exchange c.args.word (c.from-next.result + 1)) Install c.object.result
+    let e : Event = made_by g.B.InCall.began (Exchange c.args.word (c.from-next.result + 1)) Install c.object-place.result
     (found_in c.exchange.result) in
     let rest = c.exchange.ensures.rest in
     let m = c.requires.under.mirror in
@@ -56,7 +56,7 @@ returns-in-Err-clause-retry g c wrong tries =
 
 pub returns-in-Err-clause-lost : goal.returns-in-Err-clause-lost
 returns-in-Err-clause-lost g c wrong lost =
-    let e : Event = made_by g.B.InCall.began (Exchange c.args.word (c.from-next.result + 1)) Install c.object.result
+    let e : Event = made_by g.B.InCall.began (Exchange c.args.word (c.from-next.result + 1)) Install c.object-place.result
     (found_in c.exchange.result) in
     let rest = c.exchange.ensures.rest in
     let m = c.requires.under.mirror in

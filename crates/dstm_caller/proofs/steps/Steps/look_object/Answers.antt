@@ -9,7 +9,7 @@ use Rattle.dstm_caller.proofs.steps.Steps.look_object.Goals as goal
 
 pub returns-clause-agreed : goal.returns-clause-agreed
 returns-clause-agreed g c agreed =
-    let e : Event = made_by g.B.InCall.began Load LookObj c.object.result c.look-word.result in
+    let e : Event = made_by g.B.InCall.began Load LookObj c.object-place.result c.look-word.result in
     let new : Steps g.row.L.Denot = record c.look-word.new.self { round = 0; left = 0 } in
     let rest = c.look-word.ensures.rest in
     let m = c.requires.under.mirror in
@@ -26,7 +26,7 @@ returns-clause-agreed g c agreed =
 
 pub returns-clause-stale : goal.returns-clause-stale
 returns-clause-stale g c stale =
-    let e : Event = made_by g.B.InCall.began Load LookObj c.object.result c.look-word.result in
+    let e : Event = made_by g.B.InCall.began Load LookObj c.object-place.result c.look-word.result in
     let new : Steps g.row.L.Denot = record c.look-word.new.self { round = 0; left = 0 } in
     let rest = c.look-word.ensures.rest in
     let m = c.requires.under.mirror in

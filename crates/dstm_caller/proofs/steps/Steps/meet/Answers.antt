@@ -6,13 +6,14 @@ use Rattle.dstm_caller.proofs.steps.Steps.meet.Goals as goal
 pub settle-requires-clause-met : goal.settle-requires-clause-met
 settle-requires-clause-met g c =
     meets_polite g.L.Law.holds c.args.words.now g.B.InCall.began c.args.self.now c.args.word c.args.owner c.args.code
-    c.requires.met (rw c.requires.met.under.shape at (sym c.has_ranks.ensures ∙ c.if-not-has_ranks.true))
+    c.requires.met
+    (rw (c.manager.ensures, c.requires.met.under.shape) at (sym c.has_ranks.ensures ∙ c.if-not-has_ranks.true))
 
 pub look_rank-enemy-requires-clause-under : goal.look_rank-enemy-requires-clause-under
 look_rank-enemy-requires-clause-under g c =
     rank_due g.L.Law.holds c.args.words.now g.B.InCall.began c.args.self.now c.args.word c.args.owner c.args.code
     c.requires.met c.requires.live
-    (rw c.requires.met.under.shape at (sym c.has_ranks.ensures ∙ c.if-not-has_ranks.false))
+    (rw (c.manager.ensures, c.requires.met.under.shape) at (sym c.has_ranks.ensures ∙ c.if-not-has_ranks.false))
 
 pub settle-requires-2-clause-met : goal.settle-requires-2-clause-met
 settle-requires-2-clause-met g c =

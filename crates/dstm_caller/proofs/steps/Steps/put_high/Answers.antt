@@ -9,8 +9,8 @@ use Rattle.dstm_caller.proofs.Puts.{past_went, holds_put}
 use Rattle.dstm_caller.proofs.Ranged.{in_word}
 use Rattle.dstm_caller.proofs.steps.Steps.put_high.Goals as goal
 
-pub high_cell-requires-clause-below : goal.high_cell-requires-clause-below
-high_cell-requires-clause-below g c =
+pub high_cell-place-requires-clause-below : goal.high_cell-place-requires-clause-below
+high_cell-place-requires-clause-below g c =
     let e : Event = made_by g.B.InCall.began (Store c.args.high) PutHigh 0 0 in
     rw c.requires.under.shape (rw c.requires.locator at
     (in_word g.L.Law.holds c.args.words.now g.B.InCall.began c.args.self.now _ _ c.requires.under PutHigh e
@@ -25,4 +25,4 @@ pub returns-clause-put : goal.returns-clause-put
 returns-clause-put g c =
     holds_put g.L.Law.holds c.args.words.now g.B.InCall.began c.args.self.now c.store.new.self _
     (HighWord c.args.locator) c.args.high c.store.ensures.went.1
-    (inl refl) (c.high_cell.ensures ∙ ap (λ s. place s (HighWord c.args.locator)) c.requires.under.shape) refl
+    (inl refl) (c.high_cell-place.ensures ∙ ap (λ s. place s (HighWord c.args.locator)) c.requires.under.shape) refl

@@ -9,8 +9,8 @@ use Rattle.dstm_caller.proofs.Puts.{past_went, holds_put}
 use Rattle.dstm_caller.proofs.Ranged.{in_word}
 use Rattle.dstm_caller.proofs.steps.Steps.put_low.Goals as goal
 
-pub new_cell-requires-clause-below : goal.new_cell-requires-clause-below
-new_cell-requires-clause-below g c =
+pub new_cell-place-requires-clause-below : goal.new_cell-place-requires-clause-below
+new_cell-place-requires-clause-below g c =
     let e : Event = made_by g.B.InCall.began (Store c.args.low) PutNew 0 0 in
     rw c.requires.under.shape (rw c.requires.locator at
     (in_word g.L.Law.holds c.args.words.now g.B.InCall.began c.args.self.now _ _ c.requires.under PutNew e
@@ -25,4 +25,4 @@ pub returns-clause-put : goal.returns-clause-put
 returns-clause-put g c =
     holds_put g.L.Law.holds c.args.words.now g.B.InCall.began c.args.self.now c.store.new.self _
     (LowWord c.args.locator) c.args.low c.store.ensures.went.1
-    (inr refl) (c.new_cell.ensures ∙ ap (λ s. place s (LowWord c.args.locator)) c.requires.under.shape) refl
+    (inr refl) (c.new_cell-place.ensures ∙ ap (λ s. place s (LowWord c.args.locator)) c.requires.under.shape) refl

@@ -5,8 +5,8 @@ use Rattle.dstm_caller.specs.Under.{made_by}
 use Rattle.dstm_caller.proofs.Ranged.{in_word}
 use Rattle.dstm_caller.proofs.steps.Steps.put_old.Goals as goal
 
-pub old_cell-requires-clause-below : goal.old_cell-requires-clause-below
-old_cell-requires-clause-below g c =
+pub old_cell-place-requires-clause-below : goal.old_cell-place-requires-clause-below
+old_cell-place-requires-clause-below g c =
     let e : Event = made_by g.B.InCall.began (Store 0) PutOld 0 0 in
     rw c.requires.under.shape (rw c.requires.locator at
     (in_word g.L.Law.holds c.args.words.now g.B.InCall.began c.args.self.now _ _ c.requires.under PutOld e

@@ -5,8 +5,8 @@ use Rattle.dstm_caller.specs.Under.{made_by}
 use Rattle.dstm_caller.proofs.Ranged.{in_word}
 use Rattle.dstm_caller.proofs.steps.Steps.put_owner.Goals as goal
 
-pub owner-requires-clause-below : goal.owner-requires-clause-below
-owner-requires-clause-below g c =
+pub owner-place-requires-clause-below : goal.owner-place-requires-clause-below
+owner-place-requires-clause-below g c =
     let e : Event = made_by g.B.InCall.began (Store 0) PutOwner 0 0 in
     rw c.requires.under.shape (rw c.requires.locator at
     (in_word g.L.Law.holds c.args.words.now g.B.InCall.began c.args.self.now _ _ c.requires.under PutOwner e

@@ -13,9 +13,9 @@ returns-clause-state g c =
     let b : Began = g.B.InCall.began in
     let old : Steps g.row.L.Denot = c.args.self.now in
     let new : Steps g.row.L.Denot = record old { seat = c.add-self.new.self; rank = c.add-self.result } in
-    let e : Event = made_by b Add Stamp c.stamps_place.result c.add-self.result in
+    let e : Event = made_by b Add Stamp c.stamps_place-place.result c.add-self.result in
     (went_adds g.L.Law.holds c.args.words.now b old new e _ _ c.requires.under
-    (makes_by g.L.Law.holds c.args.words.now b _ _ Add Stamp c.stamps_place.result c.add-self.result
+    (makes_by g.L.Law.holds c.args.words.now b _ _ Add Stamp c.stamps_place-place.result c.add-self.result
     c.requires.under.number
     c.add-self.ensures.event) c.add-self.ensures.seat refl (refl, tt)).state
 
@@ -24,11 +24,11 @@ returns-clause-under g c =
     let b : Began = g.B.InCall.began in
     let old : Steps g.row.L.Denot = c.args.self.now in
     let new : Steps g.row.L.Denot = record old { seat = c.add-self.new.self; rank = c.add-self.result } in
-    let e : Event = made_by b Add Stamp c.stamps_place.result c.add-self.result in
+    let e : Event = made_by b Add Stamp c.stamps_place-place.result c.add-self.result in
     let m = c.requires.under.mirror in
     let w : WentOn g.L.Law.holds c.args.words.now (Beginning c.args.fresh) b old new e =
     went_adds g.L.Law.holds c.args.words.now b old new e _ _ c.requires.under
-    (makes_by g.L.Law.holds c.args.words.now b _ _ Add Stamp c.stamps_place.result c.add-self.result
+    (makes_by g.L.Law.holds c.args.words.now b _ _ Add Stamp c.stamps_place-place.result c.add-self.result
     c.requires.under.number
     c.add-self.ensures.event) c.add-self.ensures.seat refl (refl, tt) in
     w.goes_on new refl (record {

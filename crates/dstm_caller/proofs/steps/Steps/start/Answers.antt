@@ -11,17 +11,17 @@ use Rattle.dstm_caller.proofs.Stepping.{makes_by, may_make, went_adds}
 use Rattle.dstm_caller.proofs.Unused.{next_in_shape}
 use Rattle.dstm_caller.proofs.steps.Steps.start.Goals as goal
 
-pub status-requires-clause-below : goal.status-requires-clause-below
-status-requires-clause-below g c =
+pub status-place-requires-clause-below : goal.status-place-requires-clause-below
+status-place-requires-clause-below g c =
     rw c.requires.under.shape (rw c.requires.next at (next_in_shape g.L.Law.holds c.args.words.now g.B.InCall.began
     c.args.self.now _ _ c.requires.under c.requires.number c.requires.unused))
 
 pub store-requires-clause-allowed : goal.store-requires-clause-allowed
 store-requires-clause-allowed g c =
     may_make g.L.Law.holds c.args.words.now g.B.InCall.began c.args.self.now _ _ (Store c.code.result) Begin
-    c.status.result c.requires.under (λ q. absurd (cc)) (record {
+    c.status-place.result c.requires.under (λ q. absurd (cc)) (record {
       place = rw c.requires.next
-          (c.status.ensures ∙ ap (λ s. place s (StatusWord c.args.next)) c.requires.under.shape);
+          (c.status-place.ensures ∙ ap (λ s. place s (StatusWord c.args.next)) c.requires.under.shape);
       access = ap Store (sym c.code.ensures);
       may = (c.requires.outside, c.requires.number, c.requires.unused, c.requires.ranked);
     })
@@ -31,9 +31,9 @@ returns-clause-state g c =
     let b : Began = g.B.InCall.began in
     let old : Steps g.row.L.Denot = c.args.self.now in
     let new : Steps g.row.L.Denot = record old { seat = c.store.new.self; own = c.args.next } in
-    let e : Event = made_by b (Store c.code.result) Begin c.status.result c.store.ensures.event.0 in
+    let e : Event = made_by b (Store c.code.result) Begin c.status-place.result c.store.ensures.event.0 in
     (went_adds g.L.Law.holds c.args.words.now b old new e _ _ c.requires.under
-    (makes_by g.L.Law.holds c.args.words.now b _ _ (Store c.code.result) Begin c.status.result c.store.ensures.event.0
+    (makes_by g.L.Law.holds c.args.words.now b _ _ (Store c.code.result) Begin c.status-place.result c.store.ensures.event.0
     c.requires.under.number c.store.ensures.event.1) c.store.ensures.seat refl (refl, tt)).state
 
 pub returns-clause-under : goal.returns-clause-under
@@ -41,12 +41,12 @@ returns-clause-under g c =
     let b : Began = g.B.InCall.began in
     let old : Steps g.row.L.Denot = c.args.self.now in
     let new : Steps g.row.L.Denot = record old { seat = c.store.new.self; own = c.args.next } in
-    let e : Event = made_by b (Store c.code.result) Begin c.status.result c.store.ensures.event.0 in
+    let e : Event = made_by b (Store c.code.result) Begin c.status-place.result c.store.ensures.event.0 in
     let m = c.requires.under.mirror in
     let one : (now c.args.words.now old).begun + 1 - 1 ≡ (now c.args.words.now old).begun = omega arith in
     let w : WentOn g.L.Law.holds c.args.words.now (Beginning c.args.fresh) b old new e =
     went_adds g.L.Law.holds c.args.words.now b old new e _ _ c.requires.under
-    (makes_by g.L.Law.holds c.args.words.now b _ _ (Store c.code.result) Begin c.status.result c.store.ensures.event.0
+    (makes_by g.L.Law.holds c.args.words.now b _ _ (Store c.code.result) Begin c.status-place.result c.store.ensures.event.0
     c.requires.under.number c.store.ensures.event.1) c.store.ensures.seat refl (refl, tt) in
     w.goes_on new refl (record {
       shape = refl;

@@ -11,8 +11,8 @@ use Rattle.dstm_caller.proofs.Stepping.{went_on, turn_left, turn_last, turn_more
 use Rattle.dstm_caller.proofs.steps.Steps.turn.Goals as goal
 use Rattle.dstm_caller.proofs.steps.Steps.turn.Goals.{then-self-eq1, else-self-eq1}
 
-pub status-requires-clause-below : goal.status-requires-clause-below
-status-requires-clause-below g c =
+pub status-place-requires-clause-below : goal.status-place-requires-clause-below
+status-place-requires-clause-below g c =
     rw c.requires.under.shape
     (rw c.requires.owner at
     (owner_in g.L.Law.holds c.args.words.now g.B.InCall.began c.args.self.now _ _ c.requires.under
@@ -25,7 +25,7 @@ returns-clause-under g c = elim c.if-self-eq1.branch [
       let rest = c.look-status.ensures.rest in
       let m = c.requires.under.mirror in
       let state = c.look-status.ensures.went.state in
-      let e : Event = made_by g.B.InCall.began Load LookStatus c.status.result c.look-status.result in
+      let e : Event = made_by g.B.InCall.began Load LookStatus c.status-place.result c.look-status.result in
       let new : Steps g.row.L.Denot = record c.if-self-eq1.self { left = c.if-self-eq1.self.left - 1 } in
       let seat = ap (λ (s : Steps g.row.L.Denot). s.seat) w.self-is in
       let here : now c.args.words.now new ≡ now c.args.words.now c.look-status.new.self =
@@ -52,7 +52,7 @@ returns-clause-under g c = elim c.if-self-eq1.branch [
       let rest = c.look-status.ensures.rest in
       let m = c.requires.under.mirror in
       let state = c.look-status.ensures.went.state in
-      let e : Event = made_by g.B.InCall.began Load LookStatus c.status.result c.look-status.result in
+      let e : Event = made_by g.B.InCall.began Load LookStatus c.status-place.result c.look-status.result in
       let new : Steps g.row.L.Denot = record c.if-self-eq1.self { left = c.if-self-eq1.self.left - 1 } in
       let seat = ap (λ (s : Steps g.row.L.Denot). s.seat) w.self-is in
       let here : now c.args.words.now new ≡ now c.args.words.now c.look-status.new.self =

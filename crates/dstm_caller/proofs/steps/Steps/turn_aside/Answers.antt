@@ -9,8 +9,8 @@ use Rattle.dstm_caller.proofs.Ranged.{owner_found_in}
 use Rattle.dstm_caller.proofs.Stepping.{went_on}
 use Rattle.dstm_caller.proofs.steps.Steps.turn_aside.Goals as goal
 
-pub status-requires-clause-below : goal.status-requires-clause-below
-status-requires-clause-below g c =
+pub status-place-requires-clause-below : goal.status-place-requires-clause-below
+status-place-requires-clause-below g c =
     rw c.requires.under.shape (rw c.requires.owner at (owner_found_in g.L.Law.holds c.args.words.now g.B.InCall.began
     c.args.self.now _ _ c.requires.under (inr c.requires.phase) c.requires.agreed.0 (rw c.requires.owner refl)
     (let live = c.requires.status.1 in grind (arith, nat_tests))))
@@ -20,7 +20,7 @@ returns-clause-under g c =
     let rest = c.look-status.ensures.rest in
     let m = c.requires.under.mirror in
     let state = c.look-status.ensures.went.state in
-    let e : Event = made_by g.B.InCall.began Load LookStatus c.status.result c.look-status.result in
+    let e : Event = made_by g.B.InCall.began Load LookStatus c.status-place.result c.look-status.result in
     let new : Steps g.row.L.Denot = record c.look-status.new.self { left = c.look-status.new.self.left - 1 } in
     went_on g.L.Law.holds c.args.words.now g.B.InCall.began c.args.self.now c.look-status.new.self new e
     c.look-status.ensures.went refl

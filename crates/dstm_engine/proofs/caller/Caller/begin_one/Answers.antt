@@ -4,7 +4,6 @@ use Rattle.dstm_caller.specs.declared.steps.Steps.{Steps}
 use Rattle.dstm_core.proofs.Static.{static}
 use Rattle.dstm_core.specs.Rules.{begin}
 use Rattle.dstm_core.specs.State.{LocalState}
-use Rattle.dstm_core.specs.declared.shape.Shape.{Shape}
 use Rattle.dstm_order.specs.Tasks.Task.{Beginning}
 use Rattle.dstm_words.specs.Seats.{Home}
 use Rattle.dstm_engine.proofs.Begins.{anew, anew_tied, begins_anew, spent_from, spent_tied}
@@ -23,9 +22,7 @@ is_spent-spent-requires g c =
     let st = static c.self.inside.terms.shape c.self.inside.steps.seat.me.0.log v.run.run.core c.self.inside.number in
     let few = st.installed in
     let installed = v.mirror.installed in
-    let shape = ap (λ (s : Shape). s.locators) v.shape in
     let new = ap (λ (s : Steps _). s.installed) c.renew.ensures in
-    let new_shape = ap (λ (s : Steps _). s.shape.locators) c.renew.ensures in
     omega arith
 
 pub overflow_add-next : goal.overflow_add-next
@@ -34,12 +31,8 @@ overflow_add-next g c =
     let st = static c.self.inside.terms.shape c.self.inside.steps.seat.me.0.log v.run.run.core c.self.inside.number in
     let few = st.begun in
     let begun = v.begun in
-    let shape : c.renew.new.steps.shape ≡ c.self.inside.terms.shape =
-    ap (λ (s : Steps _). s.shape) c.renew.ensures ∙ v.shape in
-    let small : c.self.inside.number * c.renew.new.steps.shape.attempts + c.self.inside.begun < 2 ^ 32 =
-    subst (λ (s : Shape). c.self.inside.number * s.attempts + c.self.inside.begun < 2 ^ 32) (sym shape)
-    (next_small c.self.inside.terms.shape c.self.inside.number c.self.inside.begun v.run.valid v.number.0
-    (omega arith)) in
+    let small = next_small c.self.inside.terms.shape c.self.inside.number c.self.inside.begun v.run.valid v.number.0
+    (omega arith) in
     omega arith
 
 pub begin_next-requires-clause-under : goal.begin_next-requires-clause-under

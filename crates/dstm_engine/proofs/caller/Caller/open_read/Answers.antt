@@ -1,6 +1,5 @@
 use Rattle.std.proofs.Common.{◌∙◌, ◌≡◌, ap, false, None, subst, sym, true}
 use Rattle.std.specs.Prelude.{IfErr, OnOk, if◌then◌else◌, is_some}
-use Rattle.dstm_core.specs.declared.shape.Shape.{Shape}
 use Rattle.dstm_engine.proofs.Handing.{if_err, ok_then, open_already, slots_hand}
 use Rattle.dstm_engine.proofs.Opens.{none_of, unheld_both}
 use Rattle.dstm_engine.proofs.Tying.{live_there}
@@ -93,8 +92,7 @@ returns-then-self-clause-stays g c =
     λ none_held.
     let x = c.self.inside in
     let all : (shape_of c.args.self.now).all_write ≡ true =
-    ap (λ (k : Called _). (shape_of k).all_write) (sym c.self.view_is)
-    ∙ ap (λ (s : Shape). s.all_write) (sym c.self.invariant.shape) ∙ c.if-self.true in
+    ap (λ (k : Called _). (shape_of k).all_write) (sym c.self.view_is) ∙ c.if-self.true in
     let work : reading (shape_of c.args.self.now) c.args.o ≡ Writing c.args.o =
     ap (λ b. if b then Writing c.args.o else Reading c.args.o) all in
     subst (λ w. OnOk c.write_first.result (Stays g.L.Law.holds w c.args.self.now c.write_first.new.self)) (sym work)
@@ -104,8 +102,7 @@ pub returns-then-self-clause-leaves : goal.returns-then-self-clause-leaves
 returns-then-self-clause-leaves g c =
     let x = c.self.inside in
     let all : (shape_of c.args.self.now).all_write ≡ true =
-    ap (λ (k : Called _). (shape_of k).all_write) (sym c.self.view_is)
-    ∙ ap (λ (s : Shape). s.all_write) (sym c.self.invariant.shape) ∙ c.if-self.true in
+    ap (λ (k : Called _). (shape_of k).all_write) (sym c.self.view_is) ∙ c.if-self.true in
     let work : reading (shape_of c.args.self.now) c.args.o ≡ Writing c.args.o =
     ap (λ b. if b then Writing c.args.o else Reading c.args.o) all in
     subst (λ w. IfErr c.write_first.result (Leaves g.L.Law.holds w c.args.self.now c.write_first.new.self)) (sym work)
@@ -115,8 +112,7 @@ pub returns-then-self-clause-unmarked : goal.returns-then-self-clause-unmarked
 returns-then-self-clause-unmarked g c =
     let x = c.self.inside in
     let all : (shape_of c.args.self.now).all_write ≡ true =
-    ap (λ (k : Called _). (shape_of k).all_write) (sym c.self.view_is)
-    ∙ ap (λ (s : Shape). s.all_write) (sym c.self.invariant.shape) ∙ c.if-self.true in
+    ap (λ (k : Called _). (shape_of k).all_write) (sym c.self.view_is) ∙ c.if-self.true in
     let work : reading (shape_of c.args.self.now) c.args.o ≡ Writing c.args.o =
     ap (λ b. if b then Writing c.args.o else Reading c.args.o) all in
     ok_then c.write_first.result _ _ (λ x o never. absurd (cc)) c.write_first.ensures.opens
@@ -150,8 +146,7 @@ returns-else-self-clause-stays g c =
     λ none_held.
     let x = c.self.inside in
     let all : (shape_of c.args.self.now).all_write ≡ false =
-    ap (λ (k : Called _). (shape_of k).all_write) (sym c.self.view_is)
-    ∙ ap (λ (s : Shape). s.all_write) (sym c.self.invariant.shape) ∙ c.if-self.false in
+    ap (λ (k : Called _). (shape_of k).all_write) (sym c.self.view_is) ∙ c.if-self.false in
     let work : reading (shape_of c.args.self.now) c.args.o ≡ Reading c.args.o =
     ap (λ b. if b then Writing c.args.o else Reading c.args.o) all in
     subst (λ w. OnOk c.read_first.result (Stays g.L.Law.holds w c.args.self.now c.read_first.new.self)) (sym work)
@@ -161,8 +156,7 @@ pub returns-else-self-clause-leaves : goal.returns-else-self-clause-leaves
 returns-else-self-clause-leaves g c =
     let x = c.self.inside in
     let all : (shape_of c.args.self.now).all_write ≡ false =
-    ap (λ (k : Called _). (shape_of k).all_write) (sym c.self.view_is)
-    ∙ ap (λ (s : Shape). s.all_write) (sym c.self.invariant.shape) ∙ c.if-self.false in
+    ap (λ (k : Called _). (shape_of k).all_write) (sym c.self.view_is) ∙ c.if-self.false in
     let work : reading (shape_of c.args.self.now) c.args.o ≡ Reading c.args.o =
     ap (λ b. if b then Writing c.args.o else Reading c.args.o) all in
     subst (λ w. IfErr c.read_first.result (Leaves g.L.Law.holds w c.args.self.now c.read_first.new.self)) (sym work)

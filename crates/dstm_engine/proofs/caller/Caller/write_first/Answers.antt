@@ -3,7 +3,6 @@ use Rattle.dstm_caller.specs.Under.{now}
 use Rattle.dstm_caller.specs.declared.steps.Steps.{Steps}
 use Rattle.dstm_core.proofs.Columns.{in_table}
 use Rattle.dstm_core.specs.State.{LocalState}
-use Rattle.dstm_core.specs.declared.shape.Shape.{Shape}
 use Rattle.std.specs.Prelude.{IsTrue}
 use Rattle.dstm_engine.proofs.Opens.{locator_left, no_slot_of, room_to_write, stopped, stopped_as, stopped_tied, write_marked, write_opens, write_tied}
 use Rattle.dstm_engine.proofs.Tying.{ends_here, live_there, now_there}
@@ -30,11 +29,6 @@ overflow_add-next g c =
     let words = v.run.valid.words in
     let installed : c.renew.new.steps.installed ≡ (state (called x)).installed =
     ap (λ (s : Steps _). s.installed) c.renew.ensures ∙ v.mirror.installed in
-    let shape : c.renew.new.steps.shape ≡ x.terms.shape =
-    ap (λ (s : Steps _). s.shape) c.renew.ensures ∙ v.shape in
-    let small : x.number * c.renew.new.steps.shape.locators + c.renew.new.steps.installed < 2 ^ 32 =
-    subst (λ n. x.number * c.renew.new.steps.shape.locators + n < 2 ^ 32) (sym installed)
-    (subst (λ (s : Shape). x.number * s.locators + (state (called x)).installed < 2 ^ 32) (sym shape) (omega arith)) in
     omega arith
 
 pub write_object-requires-clause-locators : goal.write_object-requires-clause-locators
