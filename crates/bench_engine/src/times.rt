@@ -22,6 +22,17 @@ pub struct Times {
 }
 
 impl Times {
+    // The times on a table. In its first attempts no object has a locator: those count for nothing.
+    fn of(table: &mut Table, clock: &impl Clock) -> anyhow::Result<Times> {
+        let _first = table.time(clock, Use::Write)?;
+        Ok(Times {
+            quit: table.time(clock, Use::Quit)?,
+            commit: table.time(clock, Use::Commit)?,
+            read: table.time(clock, Use::Read)?,
+            write: table.time(clock, Use::Write)?,
+        })
+    }
+
     // The less of each.
     fn min(self, other: Times) -> Times {
         Times {
@@ -57,7 +68,7 @@ pub fn measure(
     Ok(least)
 }
 
-// The times on a new table. In its first attempts no object has a locator: those count for nothing.
+// The times on a new table.
 fn measure_once(
     clock: &impl Clock,
     alloc: Global,
@@ -68,11 +79,5 @@ fn measure_once(
     requires few { objects ≤ MAX_OBJECTS }
 {
     let mut table = Table::make(alloc, manager, objects)?;
-    let _first = table.time(clock, Use::Write)?;
-    Ok(Times {
-        quit: table.time(clock, Use::Quit)?,
-        commit: table.time(clock, Use::Commit)?,
-        read: table.time(clock, Use::Read)?,
-        write: table.time(clock, Use::Write)?,
-    })
+    Times::of(&mut table, clock)
 }
