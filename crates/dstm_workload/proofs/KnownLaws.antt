@@ -8,7 +8,7 @@ use Rattle.dstm_workload.specs.declared.{known.Known.Known, known.Entry.Entry}
 use Rattle.dstm_workload.specs.declared.known.Entry.TheVariants as entry
 use Rattle.dstm_workload.specs.Entries.{header_of}
 use Rattle.dstm_workload.specs.Known.{IsKnown, nothing_known, with_entry, known_with}
-use Rattle.dstm_workload.specs.Reading.{told_lines, begins_with, first_of, number_in, bank_in, known_of}
+use Rattle.dstm_workload.specs.Reading.{begins_with, first_of, number_in, bank_in, known_of}
 use Rattle.dstm_workload.specs.Writing.{fields_of_ops}
 use Rattle.dstm_workload.proofs.EntryLaws.{fields_of_entry, Comes, Told, header_again}
 
@@ -60,15 +60,12 @@ both a b = record {
   transactions = a.transactions + b.transactions;
 }
 
-known-append : (xs ys : List Fields) → known_in (xs ++ ys) ≡ both (known_in xs) (known_in ys)
-known-append xs ys = simp (filter-append, filter_map-append, first-append, map-either, length-append)
+known-append : (xs ys : List (List ℕ)) → known_of (xs ++ ys) ≡ both (known_of xs) (known_of ys)
+known-append xs ys =
+    simp (filter-append, map-append, filter_map-append, first-append, map-either, length-append)
 
 both_nothing : (k : Known) → both k nothing_known ≡ k
 both_nothing k = simp (either_none, add-zero)
-
-told_lines-more : (before : List (List ℕ)) (text : List ℕ) →
-    told_lines (before ++ text ∷ []) ≡ told_lines before ++ told_lines (text ∷ [])
-told_lines-more before text = simp (filter-append, map-append)
 
 -- ---- an entry
 
@@ -101,14 +98,13 @@ with_line k line (Some version) (entry.Transaction job) is comes =
 pub known_told : (before : List (List ℕ)) (line : ℕ) (text : List ℕ) (told : Option Entry) →
     Told (known_of before) line text told →
     known_of (before ++ text ∷ []) ≡ known_with (known_of before) told
-known_told before line text told tells =
-    rw (told_lines-more before text, known-append (told_lines before) (told_lines (text ∷ []))) (more told tells)
+known_told before line text told tells = known-append before (text ∷ []) ∙ more told tells
   where
-    nothing : Told (known_of before) line text None → known_in (told_lines (text ∷ [])) ≡ nothing_known
+    nothing : Told (known_of before) line text None → known_of (text ∷ []) ≡ nothing_known
     nothing said = grind arith
 
     more : (t : Option Entry) → Told (known_of before) line text t →
-        both (known_of before) (known_in (told_lines (text ∷ []))) ≡ known_with (known_of before) t
+        both (known_of before) (known_of (text ∷ [])) ≡ known_with (known_of before) t
     more None said = ap (both (known_of before)) (nothing said) ∙ both_nothing (known_of before)
     more (Some e) said =
         let known = known_of before in rw (said.0, said.1.1) (with_line known line known.version e refl said.1.0)

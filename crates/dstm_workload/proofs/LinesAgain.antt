@@ -35,6 +35,7 @@ free_of : (c : ℕ) (p : ℕ → Bool) → ((b : ℕ) → p b ≡ true → eqb b
 free_of c p go bs all =
     All-weaker (λ b. p b ≡ true) (λ b. eqb b c ≡ false) go bs (AllPass-from_list_all p bs all)
 
+-- what one test of a byte says of another
 solid : (b : ℕ) → (is_ascii_digit b ≡ true → is_solid b ≡ true)
     × (is_solid b ≡ true → (is_printable b ≡ true) × (eqb b space ≡ false))
     × (is_printable b ≡ true → eqb b line_feed ≡ false)

@@ -76,6 +76,7 @@ module _ (version : ℕ) (low : 1 ≤ version) (known : Known) (valid : IsKnown 
       rw (branches_cons o (op.OrElse ∷ more) is.alone)
       ((onto first o ([] ∷ branches_of more)).1 (is.awaits, (All-nil IsNoAwait, are due)))
 
+  -- the first operation, and the branches behind it
   cut : (first : Bool) (o : Op) (ops : List Op) → is_orelse o ≡ false → AreFine (o ∷ ops) →
       AreBranches first (branches_of (o ∷ ops)) → IsOp version known first o × AreBranches false (branches_of ops)
   cut first o ops alone fine are =

@@ -1,6 +1,6 @@
 -- The table of operations: what is read is what is written.
 use Rattle.std.proofs.Common.{◌≡◌, ℕ, ◌^◌, ◌<◌, ◌≤◌, Bool, true, false, List, [], ◌∷◌, ◌++◌, map, Option, Some, None}
-use Rattle.std.proofs.Common.{Ok, IfSome, ◌↔◌, unwrap_or, cond, refl, ap, ◌∙◌, append_assoc, arith}
+use Rattle.std.proofs.Common.{Ok, IfSome, ◌↔◌, unwrap_or, refl, ap, ◌∙◌, append_assoc, arith}
 use Rattle.std.specs.List.{AllByRecursion}
 use Rattle.dstm_model.specs.Layout.{IsValid, FitsLayout, capacity}
 use Rattle.dstm_model.specs.declared.op.{Which.Which, Op.Op}
@@ -13,7 +13,7 @@ use Rattle.dstm_workload.specs.Workload.{HasOp, HasValue, IsNoAwait}
 use Rattle.dstm_workload.specs.Words.{since, spelling, word_of}
 use Rattle.dstm_workload.specs.Fields.{met_by}
 use Rattle.dstm_workload.specs.Known.{IsKnown, layout_of}
-use Rattle.dstm_workload.specs.Table.{Kind, Account, Key, Structure, Operand, Operands, least, most, is_of_operation}
+use Rattle.dstm_workload.specs.Table.{Kind, Account, Structure, Operand, Operands, least, most, is_of_operation}
 use Rattle.dstm_workload.specs.Table.{Need, Bank, ListNodes, TreeNodes, Nothing, is_met, Form, by_form, begun_by}
 use Rattle.dstm_workload.specs.Table.{awaited_by}
 use Rattle.dstm_workload.specs.Operations.{structure_of, structure_at, operand_of, operands_at, form_at, of_form}
@@ -92,6 +92,7 @@ record IsRow (version : ℕ) (first : Bool) (words : List Word) (form : Form) : 
   awaits : (xs : Operands form.kinds) → first ≡ false → IsNoAwait (form.makes xs)
   alone : (xs : Operands form.kinds) → is_orelse (form.makes xs) ≡ false
 
+-- what a word begins, and what is awaited by a word
 begun : (version : ℕ) (first : Bool) (w : Word) → since w ≤ version → IfSome (begun_by w) (IsRow version first (w ∷ []))
 begun version first word.Tx has = search arith
 begun version first w has = search arith

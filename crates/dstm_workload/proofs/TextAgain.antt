@@ -105,6 +105,7 @@ module _ (workload : Workload) (valid : IsValidWorkload workload) where
   abbrev where_told : ℕ → Entry → List Entry
   where_told size e = if size == 0 then [] else e ∷ []
 
+  -- what its lines before the transactions tell
   heads : List Entry
   heads =
       let layout = workload.layout in
@@ -122,6 +123,7 @@ module _ (workload : Workload) (valid : IsValidWorkload workload) where
   known : Known
   known = known_behind nothing_known heads
 
+  -- it is what the workload declares
   record AreHeads : Type 0 where
     fields : head_of workload ≡ map fields_of_entry heads
     come : AllCome nothing_known 1 heads
