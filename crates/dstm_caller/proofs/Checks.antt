@@ -13,8 +13,7 @@ use Rattle.dstm_core.specs.declared.shape.Shape.{Shape}
 use Rattle.dstm_core.specs.declared.state.Phase.TheVariants.{Outside, Running, Drawn}
 use Rattle.dstm_core.proofs.Ranges.{in_range}
 use Rattle.dstm_model.specs.declared.value.Val.{Val}
-use Rattle.dstm_words.specs.Seats.{Home, view_of}
-use Rattle.dstm_words.specs.Views.{state_by}
+use Rattle.dstm_words.specs.Seats.{Home, view_of, state_by}
 use Rattle.dstm_order.specs.declared.again.Again.{Again}
 use Rattle.dstm_order.specs.declared.again.Again.TheVariants.{Stale}
 use Rattle.dstm_order.specs.Calls.{quit_cause}

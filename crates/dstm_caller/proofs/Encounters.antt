@@ -18,8 +18,7 @@ use Rattle.dstm_order.specs.declared.again.Again.TheVariants.{Stale}
 use Rattle.dstm_order.specs.Efforts.{Effort}
 use Rattle.dstm_order.specs.Order.{Due, just, has_ranks}
 use Rattle.dstm_order.specs.Tasks.{Task}
-use Rattle.dstm_words.specs.Seats.{Home, view_of}
-use Rattle.dstm_words.specs.Views.{state_by}
+use Rattle.dstm_words.specs.Seats.{Home, view_of, state_by}
 use Rattle.dstm_caller.specs.Conflicts.{Encounters, Meets, Starts}
 use Rattle.dstm_caller.specs.declared.steps.Steps.{Steps}
 use Rattle.dstm_caller.specs.Finding.{StaysAt, word_of, is_changed}

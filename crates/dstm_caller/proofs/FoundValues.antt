@@ -13,8 +13,7 @@ use Rattle.dstm_opacity.proofs.Resolved.{resolved_stays}
 use Rattle.dstm_order.specs.Order.{Due}
 use Rattle.dstm_order.specs.Tasks.{Task}
 use Rattle.dstm_order.specs.declared.again.Again.{Again}
-use Rattle.dstm_words.specs.Seats.{Home, view_of}
-use Rattle.dstm_words.specs.Views.{state_by}
+use Rattle.dstm_words.specs.Seats.{Home, view_of, state_by}
 use Rattle.dstm_caller.specs.Finding.{IsFound}
 use Rattle.dstm_caller.specs.FoundValues.{HasValue, found_value}
 use Rattle.dstm_caller.specs.Under.{Began, InTask, now}

@@ -30,8 +30,7 @@ use Rattle.dstm_order.specs.Efforts.{Effort, chosen, status_of}
 use Rattle.dstm_order.specs.Order.{Due, just, has_ranks, rises, in_resolving, in_conflict, on_choice, when_resolved}
 use Rattle.dstm_order.specs.Tasks.{Task}
 use Rattle.dstm_order.proofs.EnemyRanks.{found_is_rank}
-use Rattle.dstm_words.specs.Seats.{Home, view_of}
-use Rattle.dstm_words.specs.Views.{state_by}
+use Rattle.dstm_words.specs.Seats.{Home, view_of, state_by}
 use Rattle.dstm_caller.specs.Conflicts.{Keeps, Meets, lets_go, patience_left, rounds_of}
 use Rattle.dstm_caller.specs.declared.steps.Steps.{Steps}
 use Rattle.dstm_caller.specs.Under.{Began, InTask, Under, Resolving, IsRunning, made_by, now, effort_by, work_of}

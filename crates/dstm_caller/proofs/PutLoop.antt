@@ -19,9 +19,7 @@ use Rattle.dstm_model.specs.declared.value.Val.{Val}
 use Rattle.dstm_model.specs.Map.{Agrees}
 use Rattle.dstm_opacity.proofs.Kept.{seen_stays}
 use Rattle.dstm_core.specs.Traces.{IsPastOf}
-use Rattle.dstm_words.specs.Seats.{Home, view_of, StoresLawfully}
-use Rattle.dstm_words.specs.Views.{state_by}
-use Rattle.dstm_words.specs.Steps.{made}
+use Rattle.dstm_words.specs.Seats.{Home, view_of, StoresLawfully, state_by, made}
 use Rattle.dstm_runs.specs.Traces.Access.{Store}
 use Rattle.dstm_core.proofs.Places.{put_at}
 use Rattle.dstm_runs.proofs.Pasts.{past_past}

@@ -15,8 +15,7 @@ use Rattle.dstm_runs.specs.Traces.Access.{Load}
 use Rattle.dstm_core.specs.Words.{IsValid, HasWord}
 use Rattle.dstm_core.proofs.Ranges.{in_range}
 use Rattle.dstm_model.specs.declared.value.Val.{Val}
-use Rattle.dstm_words.specs.Seats.{Home, view_of}
-use Rattle.dstm_words.specs.Views.{state_by}
+use Rattle.dstm_words.specs.Seats.{Home, view_of, state_by}
 use Rattle.dstm_order.specs.declared.again.Again.{Again}
 use Rattle.dstm_order.specs.Order.{Due}
 use Rattle.dstm_order.specs.Tasks.{Task}

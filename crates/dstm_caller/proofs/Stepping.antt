@@ -24,11 +24,7 @@ use Rattle.dstm_runs.proofs.Runs.{local-events_of}
 use Rattle.dstm_core.proofs.Ranges.{in_range}
 use Rattle.dstm_core.proofs.Static.{local_own}
 use Rattle.dstm_model.specs.declared.value.Val.{Val}
-use Rattle.dstm_words.specs.declared.view.View.{View}
-use Rattle.dstm_words.specs.Logs.{event_by, ActsBy}
-use Rattle.dstm_words.specs.Seats.{Home, view_of, IsOf, MayMake}
-use Rattle.dstm_words.specs.Steps.{IsRunOf, Adds, Makes}
-use Rattle.dstm_words.specs.Views.{moved, number_or, events_by, state_by}
+use Rattle.dstm_words.specs.Seats.{View, event_by, ActsBy, Home, view_of, IsOf, MayMake, IsRunOf, Adds, Makes, moved, number_or, events_by, state_by}
 use Rattle.dstm_order.specs.Calls.{answer, IsCall, answer_of}
 use Rattle.dstm_order.specs.declared.again.Again.{Again}
 use Rattle.dstm_order.specs.Efforts.{Effort, effort_after, exchanges, turn, chosen, status_of}

@@ -18,12 +18,7 @@ use Rattle.dstm_runs.proofs.Runs.{local-events_of}
 use Rattle.dstm_model.specs.declared.value.Val.{Val}
 use Rattle.dstm_order.specs.Counts.{Counts as Counted, counted, counts_after, counts_of, is_kill, no_counts, one_if}
 use Rattle.dstm_order.specs.Efforts.{is_turn}
-use Rattle.dstm_words.specs.declared.view.View.{View}
-use Rattle.dstm_words.specs.Logs.{ActsBy}
-use Rattle.dstm_words.specs.Seats.{Home, caller_state, found_in, view_of, IsOf}
-use Rattle.dstm_words.specs.Steps.{made, Makes}
-use Rattle.dstm_words.proofs.Seats.{made_as}
-use Rattle.dstm_words.specs.Views.{events_by, number_or, state_by}
+use Rattle.dstm_words.specs.Seats.{View, ActsBy, Home, caller_state, found_in, view_of, IsOf, made, Makes, events_by, number_or, state_by}
 use Rattle.dstm_runs.specs.Traces.Access.{Load, Store, Add}
 use Rattle.dstm_caller.specs.declared.counting.CallerSeat.TheInside.{Inside}
 use Rattle.dstm_caller.specs.Under.{is_exchange}
@@ -194,8 +189,7 @@ module _ {L : Type 0} (holds : L → List Val → Type 0) (home : Home L) where
   numbered v w way k p found c told q m =
       let s : Shape = home.terms.shape in
       let e : Event = made v way k p found in
-      let n : ℕ = number_or v.number found in
-      let own : e.caller ≡ c = (made_as way n k p found).0 ∙ ap (λ o. number_or o found) q in
+      let own : e.caller ≡ c = ap (λ o. number_or o found) q in
       let terms : w.terms ≡ Some home.terms = ap (λ (x : View L). x.terms) m.view ∙ told in
       let number : w.number ≡ Some c = ap (λ (x : View L). x.number) m.view ∙ ap Some own in
       let mine : events_of c w.log ≡ e ∷ events_of c v.log =
@@ -208,7 +202,6 @@ module _ {L : Type 0} (holds : L → List Val → Type 0) (home : Home L) where
       let state : caller_state home.terms v ≡ local s v.log c = ap (λ o. state_by s o v.log) q in
       ap tally_of
       (after_it ∙ counts_next s w.log v.log c e own mine
-      ∙ ap (λ i. counts_after i (local s v.log c) (counts_of s v.log c) e) (made_as way n k p found).1
       ∙ ap (λ l. counts_after k l (counts_of s v.log c) e) (sym state)
       ∙ ap (λ i. counts_after k (caller_state home.terms v) i e) (sym before_it))
 

@@ -3,9 +3,8 @@ use Rattle.std.specs.Prelude.{◌≡◌, ℕ, List, Option, Some, IsSome}
 use Rattle.dstm_core.specs.Events.{Event}
 use Rattle.dstm_core.specs.Runs.{local}
 use Rattle.dstm_order.specs.Counts.{Counts as Counted, counts_of, no_counts}
-use Rattle.dstm_words.specs.declared.view.Terms.{Terms}
-use Rattle.dstm_words.specs.declared.view.View.{View}
-use Rattle.dstm_words.specs.Seats.{view_of}
+use Rattle.dstm_words.specs.declared.terms.Terms.{Terms}
+use Rattle.dstm_words.specs.Seats.{View, view_of}
 use Rattle.dstm_caller.specs.Ticks.{stands}
 use Rattle.dstm_caller.specs.declared.counting.Tally.{Tally}
 use Rattle.dstm_caller.specs.declared.counting.CallerSeat.TheInside.{Inside}

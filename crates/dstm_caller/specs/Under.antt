@@ -10,11 +10,8 @@ use Rattle.dstm_core.specs.State.{LocalState, own_attempt, keep_resolved, record
 use Rattle.dstm_core.specs.Traces.{Access, IsPastOf, events_of}
 use Rattle.dstm_core.specs.Words.{place}
 use Rattle.dstm_model.specs.declared.value.Val.{Val}
-use Rattle.dstm_words.specs.declared.view.Terms.{Terms}
-use Rattle.dstm_words.specs.declared.view.View.{View}
-use Rattle.dstm_words.specs.Logs.{event_by}
-use Rattle.dstm_words.specs.Seats.{Home, view_of, caller_state, IsOf}
-use Rattle.dstm_words.specs.Steps.{IsRunOf}
+use Rattle.dstm_words.specs.declared.terms.Terms.{Terms}
+use Rattle.dstm_words.specs.Seats.{View, event_by, Home, view_of, caller_state, IsOf, IsRunOf}
 use Rattle.rand_pcg.specs.Lcg.{Lcg}
 use Rattle.dstm_order.specs.Calls.{Obeys, state_after, effort_of, newest_of, answer}
 use Rattle.dstm_order.specs.declared.again.Again.{Again}

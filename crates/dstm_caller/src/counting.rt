@@ -4,9 +4,7 @@ ghost use Rattle.dstm_core.specs.Events.{Event};
 ghost use Rattle.dstm_order.specs.Counts.{is_kill};
 ghost use Rattle.dstm_order.specs.Efforts.{is_turn};
 ghost use Rattle.dstm_runs.specs.Traces.Access.{Load, Store, Exchange, Add};
-ghost use Rattle.dstm_words.specs.Logs.{ActsBy};
-ghost use Rattle.dstm_words.specs.Seats.{caller_state, found_in, view_of, IsOf, MayMake, StoresLawfully};
-ghost use Rattle.dstm_words.specs.Steps.{Makes};
+ghost use Rattle.dstm_words.specs.Seats.{ActsBy, caller_state, found_in, view_of, IsOf, MayMake, StoresLawfully, Makes};
 ghost use Rattle.dstm_caller.specs.Counting.{counts_by, tally_of, IsUnbegun};
 ghost use Rattle.dstm_caller.specs.Ticks.{kills};
 ghost use Rattle.dstm_caller.specs.Under.{is_exchange};
@@ -35,7 +33,7 @@ pub struct CallerSeat<L: Law> {
 impl<L: Law> Model for CallerSeat<L> {
     ghost use Rattle.std.specs.Prelude.{ℕ};
     ghost use Rattle.atomic_table.specs.declared.shared.Seat.{Seat};
-    ghost use Rattle.dstm_words.specs.declared.view.View.{View};
+    ghost use Rattle.dstm_words.specs.Seats.{View};
     ghost use Rattle.dstm_caller.specs.Counting.{Counts};
 
     ghost Value = { Seat ℕ (View L) };

@@ -7,8 +7,7 @@ ghost use Rattle.dstm_runs.specs.Traces.Access.{Load, Store, Exchange, Add};
 ghost use Rattle.dstm_order.specs.Efforts.{effort_after, is_turn};
 ghost use Rattle.dstm_order.specs.Order.Due.{Step};
 ghost use Rattle.dstm_order.specs.Order.{just};
-ghost use Rattle.dstm_words.specs.Seats.{found_in, view_of, StoresLawfully};
-ghost use Rattle.dstm_words.specs.Logs.{ActsBy};
+ghost use Rattle.dstm_words.specs.Seats.{found_in, view_of, StoresLawfully, ActsBy};
 ghost use Rattle.dstm_caller.specs.Under.{now, effort_by, made_by, due_by, again_by, operand_of, is_exchange, MayStep, Under, Went};
 
 use crate::counting::CallerSeat;

@@ -24,5 +24,6 @@ pub mod SmallRanks
 pub mod Counted
 pub mod Spare
 pub mod LeftWords
+pub mod Sharing
 pub mod PutOnce
 pub mod Absent

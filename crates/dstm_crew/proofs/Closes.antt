@@ -7,8 +7,7 @@ use Rattle.dstm_model.specs.Map.{state_after}
 use Rattle.dstm_core.specs.declared.shape.Shape.{Shape}
 use Rattle.dstm_core.specs.Events.{Event}
 use Rattle.dstm_core.specs.Histories.{CoreRun, history_of}
-use Rattle.dstm_words.specs.Seats.{Home}
-use Rattle.dstm_words.specs.Steps.{IsRunOf}
+use Rattle.dstm_words.specs.Seats.{Home, IsRunOf}
 use Rattle.dstm_answers.specs.Committed.{Committed, committed_in, done_by}
 use Rattle.dstm_answers.proofs.Stays.{entries_are_history}
 use Rattle.dstm_engine.specs.Attempts.{done}

@@ -23,7 +23,7 @@ use Rattle.dstm_core.proofs.Counted.{begins_are_counted}
 use Rattle.dstm_core.proofs.Static.{running, static}
 use Rattle.dstm_progress.proofs.Bound.{alone_is_bounded}
 use Rattle.dstm_progress.proofs.Prices.{prices_by_count}
-use Rattle.dstm_words.specs.Steps.{IsRunOf}
+use Rattle.dstm_words.specs.Seats.{IsRunOf}
 use Rattle.dstm_engine.proofs.Alone.{Begun, begun_at, bounded, cancel}
 use Rattle.dstm_engine.specs.Mirror.{Tied, called}
 use Rattle.dstm_engine.specs.declared.caller.Caller.TheInside.{Inside}

@@ -12,10 +12,7 @@ use Rattle.dstm_order.specs.Order.{due}
 use Rattle.dstm_order.specs.Order.Due.{Done}
 use Rattle.dstm_order.specs.Tasks.{Task}
 use Rattle.dstm_order.specs.declared.again.Again.{Again}
-use Rattle.dstm_words.specs.Seats.{IsOf, caller_state, view_of}
-use Rattle.dstm_words.specs.Steps.{IsRunOf}
-use Rattle.dstm_words.specs.Views.{number_or}
-use Rattle.dstm_words.specs.declared.view.View.{View}
+use Rattle.dstm_words.specs.Seats.{IsOf, caller_state, view_of, IsRunOf, number_or, View}
 use Rattle.dstm_engine.specs.Began.{began_of}
 use Rattle.dstm_engine.specs.Callers.{Called, shape_of, state}
 use Rattle.dstm_engine.specs.Calls.{Performs}

@@ -20,9 +20,7 @@ use Rattle.dstm_mem.specs.Memory.{AgreesWith, value_in, with_set}
 use Rattle.dstm_model.specs.Map.{Agrees, no_value, with_writes}
 use Rattle.dstm_model.specs.declared.value.Val.{Val}
 use Rattle.dstm_opacity.proofs.Tidy.{Apart, WritesOnce, tidy}
-use Rattle.dstm_words.specs.Seats.{Home, caller_state, view_of}
-use Rattle.dstm_words.specs.Views.{number_or}
-use Rattle.dstm_words.specs.declared.view.View.{View}
+use Rattle.dstm_words.specs.Seats.{Home, caller_state, view_of, number_or, View}
 use Rattle.dstm_engine.proofs.Holding.{old_there}
 use Rattle.dstm_engine.proofs.Opens.{none_of, unset, writes_length}
 use Rattle.dstm_engine.proofs.Setting.{opened_slot, with_new_apart}

@@ -15,16 +15,13 @@ use Rattle.dstm_core.specs.declared.event.Kind.TheVariants.{Enrol}
 use Rattle.dstm_core.specs.declared.shape.Shape.{Shape}
 use Rattle.dstm_order.specs.Calls.{IsCall}
 use Rattle.dstm_order.specs.Tasks.Task.{Enrolling}
-use Rattle.dstm_words.specs.declared.view.Terms.{Terms}
-use Rattle.dstm_words.specs.declared.view.View.{View}
-use Rattle.dstm_words.specs.Steps.{IsRunOf, Makes, made}
-use Rattle.dstm_words.specs.Views.{given_part, kept_part}
+use Rattle.dstm_words.specs.declared.terms.Terms.{Terms}
+use Rattle.dstm_words.specs.Seats.{View, IsRunOf, Makes, made, given_part, kept_part, Home}
 use Rattle.dstm_engine.specs.Callers.{Called}
 use Rattle.atomic_table.specs.Seated.{TableId}
 use Rattle.atomic_table.specs.declared.shared.Seat.{Seat}
 use Rattle.dstm_core.specs.declared.shape.Manager.{Manager}
 use Rattle.dstm_managers.specs.Choices.{started}
-use Rattle.dstm_words.specs.Seats.{Home}
 use Rattle.dstm_engine.specs.Enrolled.{enrolled_as}
 use Rattle.dstm_engine.specs.Tables.{Enrols, Founding, unnumbered}
 

@@ -10,8 +10,7 @@ use Rattle.dstm_answers.specs.Committed.{Committed}
 use Rattle.dstm_answers.proofs.Standing.{done_stands}
 use Rattle.dstm_mem.specs.Memory.{HoldsAtMost}
 use Rattle.dstm_mem.proofs.Few.{named_few}
-use Rattle.dstm_words.specs.Seats.{Home}
-use Rattle.dstm_words.specs.Steps.{IsRunOf}
+use Rattle.dstm_words.specs.Seats.{Home, IsRunOf}
 use Rattle.dstm_engine.specs.Attempts.{Commits, ReadsAtMost, done}
 use Rattle.dstm_engine.specs.Callers.{Called, held, is_live, law_of, live_held, shape_of, start_of}
 

@@ -20,8 +20,7 @@ use Rattle.dstm_core.specs.State.{LocalState}
 use Rattle.dstm_order.specs.Order.{Due}
 use Rattle.dstm_order.specs.Tasks.{Task}
 use Rattle.dstm_order.specs.declared.again.Again.{Again}
-use Rattle.dstm_words.specs.Seats.{Home, view_of}
-use Rattle.dstm_words.specs.Views.{state_by}
+use Rattle.dstm_words.specs.Seats.{Home, view_of, state_by}
 use Rattle.dstm_engine.proofs.Alone.{cancel}
 use Rattle.dstm_engine.proofs.Keeping.{DropsNone, goes_on_holding}
 use Rattle.dstm_engine.specs.Attempts.{Admits}

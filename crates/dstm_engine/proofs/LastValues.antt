@@ -17,10 +17,8 @@ use Rattle.dstm_model.specs.Map.{no_value, state_after, value_at}
 use Rattle.dstm_model.specs.declared.value.Val.{Val}
 use Rattle.dstm_opacity.proofs.Opacity.{state_is_current}
 use Rattle.dstm_opacity.specs.Laws.{IsCurrent}
-use Rattle.dstm_words.specs.Rule.{LeftBy}
-use Rattle.dstm_words.specs.Steps.{IsRunOf}
-use Rattle.dstm_words.specs.declared.view.Terms.{Terms}
-use Rattle.dstm_words.specs.declared.view.View.{View}
+use Rattle.dstm_words.specs.Seats.{LeftBy, IsRunOf, View}
+use Rattle.dstm_words.specs.declared.terms.Terms.{Terms}
 use Rattle.dstm_engine.specs.Closing.{AreLeft, IsOwned, IsVersion}
 
 named : (s : Shape) (log : List Event) (v : ℕ) → Names s log v → IsVersion s v

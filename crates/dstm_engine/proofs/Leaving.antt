@@ -17,9 +17,7 @@ use Rattle.dstm_order.specs.Calls.{IsCall}
 use Rattle.dstm_order.specs.Tasks.Task.{Leaving}
 use Rattle.rand_pcg.specs.Lcg.{Lcg}
 use Rattle.dstm_words.proofs.Seats.{state_after}
-use Rattle.dstm_words.specs.Seats.{Home, caller_state}
-use Rattle.dstm_words.specs.Steps.{IsRunOf, Makes, made}
-use Rattle.dstm_words.specs.declared.view.View.{View}
+use Rattle.dstm_words.specs.Seats.{Home, caller_state, IsRunOf, Makes, made, View}
 use Rattle.dstm_engine.specs.Callers.{Called, is_live, seat_view, shape_of, state}
 use Rattle.dstm_engine.specs.Calls.{IsMade, Performs}
 

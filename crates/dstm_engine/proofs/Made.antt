@@ -11,8 +11,7 @@ use Rattle.dstm_answers.proofs.Standing.{done_stands}
 use Rattle.dstm_mem.specs.Memory.{AgreesWith, with_set}
 use Rattle.dstm_order.specs.declared.again.Again.{Again}
 use Rattle.dstm_answers.specs.Committed.{Committed}
-use Rattle.dstm_words.specs.Seats.{Home}
-use Rattle.dstm_words.specs.Steps.{IsRunOf}
+use Rattle.dstm_words.specs.Seats.{Home, IsRunOf}
 use Rattle.dstm_engine.specs.Attempts.{Admits, Commits, Settles, done}
 use Rattle.dstm_engine.specs.Callers.{Called, begun_log, held, is_live, is_opened, law_of, shape_of, since_begin, start_of, state, written}
 use Rattle.dstm_engine.specs.Endings.{Attempts}

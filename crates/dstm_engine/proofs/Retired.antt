@@ -20,9 +20,8 @@ use Rattle.rand_pcg.specs.Lcg.{Lcg}
 use Rattle.dstm_engine.specs.Attempts.{done}
 use Rattle.dstm_engine.specs.Callers.{Called, seat_view, shape_of, start_of, state}
 use Rattle.dstm_engine.specs.Calls.{Performs}
-use Rattle.dstm_words.specs.declared.view.View.{View}
-use Rattle.dstm_words.specs.Steps.{IsRunOf, Joined}
-use Rattle.dstm_words.specs.declared.view.Terms.{Terms}
+use Rattle.dstm_words.specs.Seats.{View, IsRunOf, Joined}
+use Rattle.dstm_words.specs.declared.terms.Terms.{Terms}
 
 quit_only : (b : Bool) (e : Event) → IsDue (if b then Done else just Quit) e → e.kind ≡ Quit
 quit_only true e h = absurd h

@@ -6,7 +6,7 @@ use Rattle.std.proofs.Crossing.{crosses}
 use Rattle.dstm_caller.proofs.steps.Steps.TheSendSync as Steps
 use Rattle.dstm_engine.proofs.opened.Opened.TheSendSync as Opened
 use Rattle.dstm_model.specs.declared.value.Law.{Ghosts}
-use Rattle.dstm_words.specs.contracts.view.Terms as Terms
+use Rattle.dstm_words.specs.contracts.terms.Terms as Terms
 use Rattle.dstm_engine.specs.contracts.caller.Caller as Caller
 use Rattle.dstm_engine.specs.contracts.caller.Caller.TheInside as Inside
 

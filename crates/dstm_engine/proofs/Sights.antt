@@ -27,7 +27,7 @@ use Rattle.dstm_order.specs.Passes.{EndsInPass, EndsInRank, is_open}
 use Rattle.dstm_order.specs.Tasks.{Work}
 use Rattle.dstm_order.specs.Tasks.Task.{Doing}
 use Rattle.dstm_progress.proofs.Own.{IsNewest, newest_own, own_state}
-use Rattle.dstm_words.specs.Steps.{IsRunOf}
+use Rattle.dstm_words.specs.Seats.{IsRunOf}
 use Rattle.rand_pcg.specs.Lcg.{Lcg}
 use Rattle.dstm_engine.proofs.Alone.{cancel}
 use Rattle.dstm_engine.proofs.Rechecking.{sight_keeps}

@@ -1,7 +1,7 @@
 -- What a table was told is known by the values.
 use Rattle.std.proofs.Common.{◌≡◌, ◌∙◌, ap}
 use Rattle.std.specs.declared.snapshot.Snapshot.{Snapshot}
-use Rattle.dstm_words.specs.declared.view.Terms.{Terms}
+use Rattle.dstm_words.specs.declared.terms.Terms.{Terms}
 
 snapshot_same : {T : Type 0} (a b : Snapshot T) → a.value ≡ b.value → a ≡ b
 snapshot_same a b h = ap (λ v. record a { value = v }) h

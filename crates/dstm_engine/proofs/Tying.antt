@@ -11,9 +11,7 @@ use Rattle.dstm_order.specs.Order.{due, is_spent}
 use Rattle.dstm_order.specs.Order.Due.{Done}
 use Rattle.dstm_order.specs.Tasks.{Task}
 use Rattle.dstm_order.specs.declared.again.Again.{Again}
-use Rattle.dstm_words.specs.Seats.{Home, caller_state, view_of}
-use Rattle.dstm_words.specs.Views.{number_or}
-use Rattle.dstm_words.specs.declared.view.View.{View}
+use Rattle.dstm_words.specs.Seats.{Home, caller_state, view_of, number_or, View}
 use Rattle.dstm_engine.proofs.Calling.{StepsOf, began_is, now_is, starts}
 use Rattle.dstm_engine.specs.Began.{began_of}
 use Rattle.dstm_engine.specs.Callers.{is_live, is_running, state}

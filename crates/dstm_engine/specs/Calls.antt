@@ -13,7 +13,7 @@ use Rattle.dstm_order.specs.Tasks.{Task, Work}
 use Rattle.dstm_order.specs.Tasks.Work.{Reading, Writing}
 use Rattle.dstm_progress.specs.Alone.{AreCalls, Made, all_events, generator_after, last_answer}
 use Rattle.dstm_progress.specs.Oldest.{OpensToWrite}
-use Rattle.dstm_words.specs.Steps.{IsRunOf}
+use Rattle.dstm_words.specs.Seats.{IsRunOf}
 use Rattle.dstm_engine.specs.Callers.{Called, shape_of, state, is_live, begun_log}
 
 -- what the newest of some calls answered, which were made one after the other

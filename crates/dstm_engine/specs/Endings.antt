@@ -4,7 +4,7 @@ use Rattle.dstm_model.specs.declared.value.Val.{Val}
 use Rattle.dstm_order.specs.declared.again.Again.{Again}
 use Rattle.dstm_order.specs.Tasks.Task.{Beginning}
 use Rattle.dstm_core.specs.Traces.{IsPastOf}
-use Rattle.dstm_words.specs.Steps.{IsRunOf}
+use Rattle.dstm_words.specs.Seats.{IsRunOf}
 use Rattle.dstm_engine.specs.declared.error.Ended.{Ended}
 use Rattle.dstm_engine.specs.declared.error.Ended.TheVariants as ended
 use Rattle.dstm_causes.specs.Ends.{StaysAt}

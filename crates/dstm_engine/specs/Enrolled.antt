@@ -2,8 +2,8 @@
 use Rattle.std.specs.Prelude.{ℕ, true, [], None}
 use Rattle.atomic_table.specs.declared.shared.Seat.{Seat}
 use Rattle.dstm_managers.specs.Choices.{DeciderState}
-use Rattle.dstm_words.specs.declared.view.Terms.{Terms}
-use Rattle.dstm_words.specs.declared.view.View.{View}
+use Rattle.dstm_words.specs.declared.terms.Terms.{Terms}
+use Rattle.dstm_words.specs.Seats.{View}
 use Rattle.dstm_engine.specs.Callers.{Called}
 
 abbrev pub enrolled_as : {L : Type 0} → Terms L → Seat ℕ (View L) → ℕ → DeciderState → Called L

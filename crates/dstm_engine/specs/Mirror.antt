@@ -11,7 +11,7 @@ use Rattle.dstm_caller.specs.Under.{IsMirror}
 use Rattle.dstm_caller.specs.Writes.{AreWrites}
 use Rattle.dstm_caller.specs.declared.slots.ReadSlot.{ReadSlot}
 use Rattle.dstm_caller.specs.declared.slots.WriteSlot.{WriteSlot}
-use Rattle.dstm_words.specs.Steps.{IsRunOf}
+use Rattle.dstm_words.specs.Seats.{IsRunOf}
 use Rattle.dstm_engine.specs.declared.caller.Caller.TheInside.{Inside}
 use Rattle.dstm_engine.specs.Callers.{Called, shape_of, start_of, seat_view, state, entry}
 use Rattle.dstm_engine.specs.Attempts.{Sighted}

@@ -5,11 +5,8 @@ use Rattle.dstm_core.specs.Events.{Event}
 use Rattle.dstm_core.specs.Traces.{events_of}
 use Rattle.dstm_order.specs.Tasks.Task.{Enrolling, Leaving}
 use Rattle.dstm_managers.specs.Choices.{started}
-use Rattle.dstm_words.specs.declared.view.Terms.{Terms}
-use Rattle.dstm_words.specs.declared.view.View.{View}
-use Rattle.dstm_words.specs.Seats.{Home}
-use Rattle.dstm_words.specs.Steps.{Joined}
-use Rattle.dstm_words.specs.Views.{founder, kept_part}
+use Rattle.dstm_words.specs.declared.terms.Terms.{Terms}
+use Rattle.dstm_words.specs.Seats.{View, Home, Joined, founder, kept_part}
 use Rattle.dstm_engine.specs.declared.error.EnrolError.{EnrolError}
 use Rattle.dstm_engine.specs.declared.error.EnrolError.TheVariants.{Full, Memory}
 use Rattle.dstm_answers.specs.Committed.{done_by}

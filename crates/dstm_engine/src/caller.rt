@@ -15,8 +15,7 @@ ghost use Rattle.dstm_engine.specs.Opens.{Continues, IsOver, Opens, Stops};
 ghost use Rattle.dstm_engine.specs.Transactions.{BeginsAnew, IsStaleOrKilled, Leaves, SpentFrom, Stays, given_back, is_ok, new_value, tx_place};
 ghost use Rattle.dstm_order.specs.Tasks.Task.{Doing, Leaving};
 ghost use Rattle.dstm_order.specs.Tasks.Work.{Committing, Reading, Rechecking, Releasing, Writing};
-ghost use Rattle.dstm_words.specs.Seats.{Home};
-ghost use Rattle.dstm_words.specs.Steps.{IsRunOf};
+ghost use Rattle.dstm_words.specs.Seats.{Home, IsRunOf};
 
 use crate::beginning::{begin_next, renew};
 use crate::error::Spent;

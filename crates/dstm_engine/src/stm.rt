@@ -5,13 +5,11 @@ ghost use Rattle.dstm_engine.specs.Callers.{Called};
 ghost use Rattle.dstm_engine.specs.Tables.{Enrols, Retires, founded};
 ghost use Rattle.dstm_model.specs.Map.{state_after, value_at};
 ghost use Rattle.dstm_opacity.specs.Laws.{IsCurrent};
-ghost use Rattle.dstm_words.specs.Seats.{view_of, CanEnrol, IsOf, IsOut};
-ghost use Rattle.dstm_words.specs.Steps.{IsRunOf, Joined, Makes};
+ghost use Rattle.dstm_words.specs.Seats.{view_of, CanEnrol, IsOf, IsOut, IsRunOf, Joined, Makes, given_part, kept_part};
 ghost use Rattle.dstm_core.specs.Runs.{local};
 ghost use Rattle.dstm_core.specs.State.{first};
 ghost use Rattle.dstm_runs.specs.Traces.Access.{Add};
 ghost use Rattle.dstm_core.specs.Words.Word.{CallersWord};
-ghost use Rattle.dstm_words.specs.Views.{given_part, kept_part};
 ghost use Rattle.dstm_engine.specs.Tables.{IsFull};
 
 use crate::caller::Caller;

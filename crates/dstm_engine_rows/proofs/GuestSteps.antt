@@ -11,12 +11,8 @@ use Rattle.dstm_core.specs.declared.event.Kind.TheVariants.{Enrol, Rank, Begin, 
 use Rattle.dstm_core.specs.declared.shape.Shape.{Shape}
 use Rattle.dstm_model.specs.declared.value.Val.{Val}
 use Rattle.dstm_runs.specs.Traces.Access.{Load, Store, Exchange, Add}
-use Rattle.dstm_words.specs.Logs.{ActsBy, event_by}
-use Rattle.dstm_words.specs.Seats.{Home, IsOf, MayMake, caller_state, view_of}
-use Rattle.dstm_words.specs.Steps.{Makes, made}
-use Rattle.dstm_words.specs.Views.{number_or}
-use Rattle.dstm_words.specs.declared.view.Terms.{Terms}
-use Rattle.dstm_words.specs.declared.view.View.{View}
+use Rattle.dstm_words.specs.Seats.{ActsBy, event_by, Home, IsOf, MayMake, caller_state, view_of, Makes, made, number_or, View}
+use Rattle.dstm_words.specs.declared.terms.Terms.{Terms}
 use Rattle.dstm_words.proofs.Seats.{number_after, state_after}
 use Rattle.dstm_engine_rows.specs.Guests.{GoesOnBy, IsGuest, is_add, is_exchange, is_load, is_store}
 

@@ -6,8 +6,7 @@ use Rattle.dstm_core.specs.Local.{Tracked}
 use Rattle.dstm_core.specs.Rules.{after}
 use Rattle.dstm_core.specs.declared.event.Kind.{Kind}
 use Rattle.dstm_core.specs.declared.event.Kind.TheVariants.{Enrol, Rank, Begin, LookObj, PutOwner, PutOld, Install, LookNumber, LookSelf, PutHigh, PutNew, Validating, Draw, Commit}
-use Rattle.dstm_words.specs.declared.view.View.{View}
-use Rattle.dstm_words.specs.Seats.{Home, IsOf, IsOut, caller_state, view_of}
+use Rattle.dstm_words.specs.Seats.{View, Home, IsOf, IsOut, caller_state, view_of}
 
 -- it adds one to a word
 abbrev pub is_add : Kind → Bool

@@ -9,8 +9,7 @@ use Rattle.dstm_model.specs.declared.layout.Layout.{Layout}
 use Rattle.dstm_model.specs.declared.value.Val.{Val}
 use Rattle.dstm_model.specs.Map.{state_after}
 use Rattle.dstm_model.specs.Objects.{objects_of}
-use Rattle.dstm_words.specs.Seats.{Home}
-use Rattle.dstm_words.specs.Steps.{IsRunOf}
+use Rattle.dstm_words.specs.Seats.{Home, IsRunOf}
 use Rattle.dstm_engine.specs.Tables.{Founding}
 use Rattle.dstm_store.specs.declared.law.StoreLaw.{StoreLaw}
 use Rattle.dstm_store.specs.Whole.{IsLawful}

@@ -7,9 +7,8 @@ use Rattle.dstm_answers.proofs.Stays.{told_stays}
 use Rattle.dstm_core.specs.Events.{Event}
 use Rattle.dstm_core.specs.Runs.{Core}
 use Rattle.dstm_core.specs.Traces.{IsPastOf, events_of}
-use Rattle.dstm_words.specs.Seats.{Home}
-use Rattle.dstm_words.specs.declared.view.Terms.{Terms}
-use Rattle.dstm_words.specs.Steps.{IsRunOf}
+use Rattle.dstm_words.specs.Seats.{Home, IsRunOf}
+use Rattle.dstm_words.specs.declared.terms.Terms.{Terms}
 use Rattle.dstm_store.specs.declared.law.StoreLaw.{StoreLaw}
 use Rattle.dstm_workload.specs.declared.workload.Workload.{Workload}
 use Rattle.dstm_report.specs.Turns.{job_at}

@@ -19,7 +19,7 @@ use Rattle.dstm_core.specs.State.{own_attempt}
 use Rattle.dstm_answers.specs.Committed.{Committed, by_caller, committed, committed_in, done_by}
 use Rattle.dstm_answers.proofs.Merging.{in_order}
 use Rattle.dstm_answers.proofs.Told.{each_is_told}
-use Rattle.dstm_words.specs.declared.view.Terms.{Terms}
+use Rattle.dstm_words.specs.declared.terms.Terms.{Terms}
 use Rattle.dstm_store.specs.declared.law.StoreLaw.{StoreLaw}
 use Rattle.dstm_workload.specs.declared.workload.Job.{Job}
 use Rattle.dstm_workload.specs.declared.workload.Workload.{Workload}

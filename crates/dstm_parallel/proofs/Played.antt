@@ -11,7 +11,7 @@ use Rattle.dstm_model.specs.Map.{state_after}
 use Rattle.dstm_core.specs.Histories.{history_of}
 use Rattle.dstm_answers.specs.Committed.{Committed, committed_in}
 use Rattle.dstm_answers.proofs.Stays.{entries_are_history}
-use Rattle.dstm_words.specs.Steps.{AreApart}
+use Rattle.dstm_words.specs.Seats.{AreApart}
 use Rattle.dstm_engine.specs.Tables.{Recorded}
 use Rattle.dstm_store.specs.declared.law.StoreLaw.{StoreLaw}
 use Rattle.dstm_store.specs.Whole.{StandsFor}

@@ -3,8 +3,7 @@ use Rattle.std.proofs.Common.{◌≡◌, ◌∙◌, ◌+◌, ℕ, List, [], ◌�
 use Rattle.std.specs.Prelude.{All}
 use Rattle.std.proofs.lemmas.List.{append-nil, length-map, map_push}
 use Rattle.std.proofs.lemmas.List.Elements.{All-cons, All-head, All-nil, All-push, All-tail}
-use Rattle.dstm_words.specs.Seats.{Home}
-use Rattle.dstm_words.specs.Steps.{AreApart}
+use Rattle.dstm_words.specs.Seats.{Home, AreApart}
 use Rattle.dstm_engine.specs.Callers.{Called}
 use Rattle.dstm_engine.specs.Tables.{Enrols, Founding, founded}
 use Rattle.dstm_store.specs.declared.law.StoreLaw.{StoreLaw}

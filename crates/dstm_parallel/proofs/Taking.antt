@@ -6,9 +6,7 @@ use Rattle.std.proofs.lemmas.List.Elements.{All-cons, All-head, All-nil, All-pus
 use Rattle.dstm_core.specs.Events.{Event}
 use Rattle.dstm_core.specs.Traces.{IsPastOf, events_of}
 use Rattle.dstm_runs.proofs.Pasts.{past_past}
-use Rattle.dstm_words.specs.declared.view.View.{View}
-use Rattle.dstm_words.specs.Seats.{Home}
-use Rattle.dstm_words.specs.Steps.{AreApart, Joined}
+use Rattle.dstm_words.specs.Seats.{View, Home, AreApart, Joined}
 use Rattle.dstm_engine.specs.Callers.{Called, seat_view}
 use Rattle.dstm_engine.specs.Tables.{Founding, Retires}
 use Rattle.dstm_store.specs.declared.law.StoreLaw.{StoreLaw}

@@ -5,7 +5,7 @@ use Rattle.std.proofs.lemmas.Bool.{cases_Bool, cases_eq, eq-eqb, ne_eqb}
 use Rattle.std.proofs.lemmas.List.{append-nil, length-map, map-append}
 use Rattle.std.proofs.lemmas.List.Elements.{All-append, All-from_recursion, filter-append, recursion_from_All}
 use Rattle.std.proofs.lemmas.List.FromFn.{length-range_with_len}
-use Rattle.dstm_words.specs.Steps.{AreApart}
+use Rattle.dstm_words.specs.Seats.{AreApart}
 use Rattle.dstm_workload.specs.declared.workload.Job.{Job}
 use Rattle.dstm_workload.specs.declared.workload.Workload.{Workload}
 use Rattle.dstm_workload.specs.Workload.{IsJob, IsValidWorkload}

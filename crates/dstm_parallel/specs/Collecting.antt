@@ -4,8 +4,8 @@ use Rattle.std.specs.List.{slice_get}
 use Rattle.std.specs.Option.{option_map}
 use Rattle.dstm_core.specs.Events.{Event}
 use Rattle.dstm_answers.specs.Committed.{Committed, committed_in}
-use Rattle.dstm_words.specs.declared.view.Terms.{Terms}
-use Rattle.dstm_words.specs.Steps.{AreApart}
+use Rattle.dstm_words.specs.declared.terms.Terms.{Terms}
+use Rattle.dstm_words.specs.Seats.{AreApart}
 use Rattle.dstm_store.specs.declared.law.StoreLaw.{StoreLaw}
 use Rattle.dstm_workload.specs.declared.workload.Workload.{Workload}
 use Rattle.dstm_workload.specs.Workload.{IsValidWorkload}

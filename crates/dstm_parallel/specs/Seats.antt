@@ -3,8 +3,7 @@
 use Rattle.std.specs.Prelude.{◌≡◌, ℕ, List, [], map, Some, All}
 use Rattle.dstm_core.specs.Events.{Event}
 use Rattle.dstm_core.specs.Traces.{IsPastOf, events_of}
-use Rattle.dstm_words.specs.Seats.{Home}
-use Rattle.dstm_words.specs.Steps.{AreApart}
+use Rattle.dstm_words.specs.Seats.{Home, AreApart}
 use Rattle.dstm_engine.specs.Attempts.{done}
 use Rattle.dstm_engine.specs.Callers.{Called, state}
 use Rattle.dstm_engine.specs.Tables.{Founding}

@@ -5,8 +5,8 @@ use Rattle.dstm_model.specs.Map.{state_after}
 use Rattle.dstm_core.specs.Events.{Event}
 use Rattle.dstm_core.specs.Histories.{history_of}
 use Rattle.dstm_answers.specs.Committed.{done_by}
-use Rattle.dstm_words.specs.declared.view.Terms.{Terms}
-use Rattle.dstm_words.specs.Steps.{AreApart}
+use Rattle.dstm_words.specs.declared.terms.Terms.{Terms}
+use Rattle.dstm_words.specs.Seats.{AreApart}
 use Rattle.dstm_engine.specs.Tables.{Recorded}
 use Rattle.dstm_store.specs.declared.law.StoreLaw.{StoreLaw}
 use Rattle.dstm_workload.specs.declared.workload.Job.{Job}

@@ -1,6 +1,6 @@
 ghost use Rattle.std.specs.Prelude.{◌≡◌, ◌<◌, ◌≤◌, ◌+◌, ◌++◌, ◌∷◌, [], List, length, vec_len, vec_capacity, IfNone, IfSome, OnOk, ℕ};
 ghost use Rattle.dstm_core.specs.Events.{Event};
-ghost use Rattle.dstm_words.specs.declared.view.Terms.{Terms};
+ghost use Rattle.dstm_words.specs.declared.terms.Terms.{Terms};
 ghost use Rattle.dstm_rounds.specs.declared.options.Options.{Options as Choices};
 ghost use Rattle.dstm_parallel.specs.Collecting.{AreRunBy, AreTaken, CanCollect, HasCollected, IsFit, IsNext, IsRowOf, lesser_of, number_at};
 

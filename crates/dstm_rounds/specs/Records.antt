@@ -30,7 +30,7 @@ use Rattle.dstm_rounds.specs.declared.round.Round.{Round}
 use Rattle.dstm_rounds.specs.declared.round.Round.TheVariants.{Dstm}
 use Rattle.dstm_rounds.specs.Attempts.{HasCommitted, WasGivenUp, seen_last}
 use Rattle.dstm_causes.specs.Disturbed.{Disturbed}
-use Rattle.dstm_words.specs.declared.view.Terms.{Terms}
+use Rattle.dstm_words.specs.declared.terms.Terms.{Terms}
 use Rattle.dstm_rounds.specs.Rounds.{is_parallel, rows_in, left_by, has_job, workers_in, most_jobs, attempts_for, locators_for}
 
 -- ---- what a record tells, by its engine

@@ -1,8 +1,2 @@
-pub mod Lists
-pub mod Logs
-pub mod Locals
 pub mod Keeping
-pub mod Parting
-pub mod Ends
-pub mod Moves
 pub mod Seats

@@ -2,8 +2,10 @@
 //! the log that its seat has seen, and that log is a core run.
 #![tactic(auto)]
 
-mod view;
+mod machine;
+mod terms;
 mod words;
 
-pub use view::{CoreSeat, Old, Terms, View};
+pub use machine::{Core, CoreSeat};
+pub use terms::Terms;
 pub use words::Words;

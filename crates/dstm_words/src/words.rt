@@ -1,41 +1,29 @@
 // The words, and the steps on them.
-ghost use Rattle.std.specs.Prelude.{◌≡◌, ◌≢◌, ℕ, ◌<◌, ◌≤◌, List, [], length, true, None, IfOk, MatchResult, vec_capacity};
-ghost use Rattle.std.specs.Mem.Slots.{slots_items, slots_len, IsFull};
+ghost use Rattle.std.specs.Prelude.{◌≡◌, ◌≢◌, ℕ, ◌<◌, length, true, None, IfOk, MatchResult};
 ghost use Rattle.dstm_runs.specs.Traces.Access.{Load, Store, Exchange, Add};
 ghost use Rattle.dstm_core.specs.Words.{IsValid};
-ghost use Rattle.dstm_words.specs.Logs.{ActsBy};
-ghost use Rattle.dstm_words.specs.Rule.{LeftBy};
-ghost use Rattle.dstm_words.specs.Seats.{view_of, found_in, IsOf, IsOut, MayMake, StoresLawfully};
-ghost use Rattle.dstm_words.specs.Steps.{Makes, Joined};
-ghost use Rattle.dstm_words.specs.Views.{founder, kept_part, given_part};
+ghost use Rattle.dstm_words.specs.Seats.{view_of, founder, found_in, kept_part, given_part, ActsBy, IsOf, IsOut, Joined, LeftBy, Makes, MayMake, StoresLawfully};
 
-use crate::view::{
-    Adders, CoreRule, CoreSeat, Exchanges, Loads, Meeting, Parting, Stores, Terms, Told, View,
-};
-use atomic_table::{Closed, Table};
+use crate::machine::{Core, CoreSeat};
+use crate::terms::Terms;
 use dstm_core::{Kind, Shape};
 use dstm_model::{Law, Val};
 use std::alloc::{AllocError, Global};
-use std::marker::{Brand, Model};
+use std::marker::Model;
 use std::snapshot::Snapshot;
 
 /// The words of a table. Threads share it by reference, and each steps with a seat of its own.
 #[derive(Drop)]
 pub struct Words<L: Law> {
-    table: Table<u8, View<L>, Terms<L>, CoreRule, Global>,
+    words: dstm_seats::Words<Core<L>>,
 }
 
 impl<L: Law> Model for Words<L> {
-    ghost use Rattle.std.specs.Prelude.{◌≡◌};
-    ghost use Rattle.dstm_core.specs.Words.{word_count};
     ghost use Rattle.dstm_words.specs.Seats.{Home};
 
     ghost Value = { Home L };
 
-    ghost view = { λ w. record { table = w.table.shared.table_id; terms = w.table.shared.key } };
-
-    ghost invariant = { λ w. (w.table.shared.table_id.slots ≡ 0)
-        × (w.table.shared.table_id.words ≡ word_count w.table.shared.key.shape) };
+    ghost view = { λ w. w.words };
 }
 
 impl<L: Law> Words<L> {
@@ -74,8 +62,8 @@ impl<L: Law> Words<L> {
         ensures new { IfOk result (λ t. view_of t.1 ≡ founder terms.now) }
     {
         let zeros = vec![in alloc; 0u64; terms.shape.words() as usize]?;
-        let (table, seat) = Table::of_words(alloc, zeros.as_slice(), terms)?;
-        Ok((Words { table }, seat))
+        let (words, seat) = dstm_seats::Words::make(alloc, terms, zeros.as_slice())?;
+        Ok((Words { words }, seat))
     }
 
     /// Loads the word at a place. `kind` is what the seat's caller loads it for.
@@ -86,7 +74,7 @@ impl<L: Law> Words<L> {
         ensures seat { IsOf self.now seat.new }
         ensures event { Makes L.holds (view_of seat.old) Load kind place result (view_of seat.new) }
     {
-        self.load_as::<Brand>(seat, kind, place)
+        self.words.load(seat, kind, place)
     }
 
     /// Stores a number in the word at a place.
@@ -98,7 +86,7 @@ impl<L: Law> Words<L> {
         ensures event { (found : ℕ)
             × Makes L.holds (view_of seat.old) (Store put) kind place found (view_of seat.new) }
     {
-        self.store_as::<Brand>(seat, kind, place, put)
+        self.words.store(seat, kind, place, put)
     }
 
     /// Puts a number in the word at a place if this holds the expected one. The answer holds the word found.
@@ -117,12 +105,7 @@ impl<L: Law> Words<L> {
             (view_of seat.new) }
         ensures answer { MatchResult result (λ found. found ≡ expected) (λ found. found ≢ expected) }
     {
-        let found = self.exchange_as::<Brand>(seat, kind, place, expected, put);
-        if found == expected {
-            Ok(found)
-        } else {
-            Err(found)
-        }
+        self.words.exchange(seat, kind, place, expected, put)
     }
 
     /// Adds one to the word at a place. A seat with no number enrols by it: the number found is its number.
@@ -134,7 +117,7 @@ impl<L: Law> Words<L> {
         ensures seat { IsOf self.now seat.new }
         ensures event { Makes L.holds (view_of seat.old) Add kind place result (view_of seat.new) }
     {
-        self.add_as::<Brand>(seat, kind, place)
+        self.words.add(seat, kind, place)
     }
 
     /// Cuts a new seat off the first one, which has seen as much and gets an enrolment where one is left.
@@ -146,7 +129,7 @@ impl<L: Law> Words<L> {
         ensures other { IsOf self.now result }
         ensures given { view_of result ≡ given_part (view_of seat.old) }
     {
-        self.table.shared.split_seat::<Parting>(seat)
+        self.words.split(seat)
     }
 
     /// Joins a seat to the first one, which it was split from. Then the first one meets the longest log.
@@ -158,8 +141,7 @@ impl<L: Law> Words<L> {
         ensures seat { IsOf self.now seat.new }
         ensures joined { Joined L.holds (view_of seat.old) (view_of other) (view_of seat.new) }
     {
-        self.table.shared.join_seat::<Parting>(seat, other);
-        let _found = self.table.shared.load::<Meeting>(seat, 0);
+        self.words.join(seat, other)
     }
 
     /// The words as they stand. On want of memory the table is given up.
@@ -167,87 +149,7 @@ impl<L: Law> Words<L> {
         requires { IsOf self seat }
         ensures { IfOk result (λ words. LeftBy L.holds self.terms (view_of seat) words.items) }
     {
-        let Words { table } = self;
-        let count = table.word_count();
-        let mut words = Vec::with_capacity(alloc, count)?;
-        let closed = table.close_with(seat);
-        copy_words(&closed, &mut words, count);
-        closed.free();
-        Ok(words)
-    }
-
-    // The four steps. The kind of event that a step tells is a ghost parameter of its play, so each public call
-    // picks it for one of these.
-    fn load_as<J: Told>(&self, seat: &mut CoreSeat<L>, kind: Kind, place: u64) -> u64
-        requires kind { kind ≡ J.kind }
-        requires seat { IsOf self.now seat.old }
-        requires loads { ActsBy kind Load }
-        requires allowed { MayMake self.now.terms (view_of seat.old) Load kind place }
-        ensures seat { IsOf self.now seat.new }
-        ensures event { Makes L.holds (view_of seat.old) Load kind place result (view_of seat.new) }
-    {
-        let _ = kind;
-        self.table.shared.load::<Loads<J>>(seat, place as usize)
-    }
-
-    fn store_as<J: Told>(&self, seat: &mut CoreSeat<L>, kind: Kind, place: u64, put: u64)
-        requires kind { kind ≡ J.kind }
-        requires seat { IsOf self.now seat.old }
-        requires allowed { MayMake self.now.terms (view_of seat.old) (Store put) kind place }
-        requires lawful { StoresLawfully L.holds self.now.terms (view_of seat.old) kind place put }
-        ensures seat { IsOf self.now seat.new }
-        ensures event { (found : ℕ)
-            × Makes L.holds (view_of seat.old) (Store put) kind place found (view_of seat.new) }
-    {
-        let _ = kind;
-        self.table
-            .shared
-            .store::<Stores<J>>(seat, place as usize, put)
-    }
-
-    fn exchange_as<J: Told>(
-        &self,
-        seat: &mut CoreSeat<L>,
-        kind: Kind,
-        place: u64,
-        expected: u64,
-        put: u64,
-    ) -> u64
-        requires kind { kind ≡ J.kind }
-        requires seat { IsOf self.now seat.old }
-        requires allowed { MayMake self.now.terms (view_of seat.old) (Exchange expected put) kind place }
-        ensures seat { IsOf self.now seat.new }
-        ensures event { Makes L.holds (view_of seat.old) (Exchange expected put) kind place result
-            (view_of seat.new) }
-    {
-        let _ = kind;
-        self.table
-            .shared
-            .compare_exchange::<Exchanges<J>>(seat, place as usize, expected, put)
-    }
-
-    fn add_as<J: Told>(&self, seat: &mut CoreSeat<L>, kind: Kind, place: u64) -> u64
-        requires kind { kind ≡ J.kind }
-        requires seat { IsOf self.now seat.old }
-        requires adds { ActsBy kind Add }
-        requires allowed { MayMake self.now.terms (view_of seat.old) Add kind place }
-        requires enrolment { (view_of seat.old).number ≡ None → 0 < (view_of seat.old).enrolments }
-        ensures seat { IsOf self.now seat.new }
-        ensures event { Makes L.holds (view_of seat.old) Add kind place result (view_of seat.new) }
-    {
-        let _ = kind;
-        self.table
-            .shared
-            .fetch_add::<Adders<J>>(seat, place as usize, 1)
-    }
-}
-
-fn copy_words(closed: &Closed<u8, Global>, words: &mut Vec<u64>, count: usize)
-    requires full { (slots_len closed.now.words ≡ count) × IsFull closed.now.words }
-    requires room { (words.old.items ≡ []) × (count ≤ vec_capacity words.old) }
-    ensures { words.new.items ≡ slots_items closed.now.words }
-{
-    for i in 0..count {
-        words.push_reserved(closed.word(i));
+        let Words { words } = self;
+        words.close(alloc, seat)
     }
 }

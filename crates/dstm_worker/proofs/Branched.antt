@@ -37,8 +37,7 @@ use Rattle.dstm_order.specs.Order.{IsDue, just}
 use Rattle.dstm_order.specs.Order.Due.{Done}
 use Rattle.dstm_order.specs.Tasks.Task.{Leaving}
 use Rattle.dstm_runs.proofs.Pasts.{past_past}
-use Rattle.dstm_words.specs.Seats.{Home}
-use Rattle.dstm_words.specs.Steps.{IsRunOf}
+use Rattle.dstm_words.specs.Seats.{Home, IsRunOf}
 use Rattle.rand_pcg.specs.Lcg.{Lcg}
 use Rattle.dstm_engine.proofs.Alone.{cancel, log_parts}
 use Rattle.dstm_engine.proofs.Made as made

@@ -18,7 +18,7 @@ use Rattle.dstm_causes.specs.Disturbed.{Disturbed, count_of}
 use Rattle.dstm_engine.proofs.Alone.{cancel}
 use Rattle.dstm_engine.specs.Attempts.{completes_pass}
 use Rattle.dstm_store.specs.declared.law.StoreLaw.{StoreLaw}
-use Rattle.dstm_words.specs.declared.view.Terms.{Terms}
+use Rattle.dstm_words.specs.declared.terms.Terms.{Terms}
 use Rattle.dstm_workload.specs.declared.workload.Job.{Job}
 use Rattle.dstm_workload.specs.declared.workload.Workload.{Workload}
 use Rattle.dstm_rounds.specs.Attempts.{HasCommitted, quits, seen_last}

@@ -20,8 +20,7 @@ use Rattle.rand_pcg.specs.Lcg.{Lcg}
 use Rattle.dstm_order.specs.Calls.{IsCall}
 use Rattle.dstm_order.specs.Tasks.Task.{Enrolling}
 use Rattle.dstm_managers.specs.Choices.{started}
-use Rattle.dstm_words.specs.Seats.{Home}
-use Rattle.dstm_words.specs.Steps.{IsRunOf}
+use Rattle.dstm_words.specs.Seats.{Home, IsRunOf}
 use Rattle.dstm_engine.specs.Attempts.{done}
 use Rattle.dstm_engine.specs.Callers.{Called, is_running, shape_of, start_of, state}
 use Rattle.dstm_engine.specs.Tables.{Enrols, Founding}

@@ -21,8 +21,7 @@ use Rattle.dstm_causes.proofs.Ends.{named, spent_used_up}
 use Rattle.dstm_causes.proofs.OwnEvents.{after_own, allowed_own}
 use Rattle.dstm_causes.proofs.Sound.{number_stays, sound}
 use Rattle.dstm_order.specs.declared.again.Again.{Again}
-use Rattle.dstm_words.specs.Seats.{Home}
-use Rattle.dstm_words.specs.Steps.{IsRunOf}
+use Rattle.dstm_words.specs.Seats.{Home, IsRunOf}
 use Rattle.dstm_answers.specs.Committed.{Committed}
 use Rattle.dstm_engine.specs.Attempts.{ReadsAtMost, Settles, done}
 use Rattle.dstm_engine.specs.Callers.{Called, law_of, shape_of, state}

@@ -1,6 +1,6 @@
 -- Attempts that make sure again that what they have read stands.
 use Rattle.std.specs.Prelude.{◌≡◌, ℕ, ◌+◌, ◌<◌, true}
-use Rattle.dstm_words.specs.Steps.{IsRunOf}
+use Rattle.dstm_words.specs.Seats.{IsRunOf}
 use Rattle.dstm_engine.specs.Attempts.{sights}
 use Rattle.dstm_engine.specs.Callers.{Called, entry, held, is_live, shape_of, start_of, state}
 use Rattle.dstm_store.specs.declared.law.StoreLaw.{StoreLaw}

@@ -5,7 +5,7 @@ use Rattle.dstm_model.specs.declared.layout.Layout.{Layout}
 use Rattle.dstm_core.specs.Traces.{IsPastOf}
 use Rattle.dstm_core.specs.Words.{code_of}
 use Rattle.dstm_core.specs.declared.status.Status.TheVariants as status
-use Rattle.dstm_words.specs.Steps.{IsRunOf}
+use Rattle.dstm_words.specs.Seats.{IsRunOf}
 use Rattle.dstm_answers.specs.Committed.{Committed}
 use Rattle.dstm_causes.specs.Disturbed.{Disturbed, count_of}
 use Rattle.dstm_causes.specs.Ends.{StaysAt}

@@ -8,7 +8,7 @@ use Rattle.dstm_core.specs.Runs.{local}
 use Rattle.dstm_answers.specs.Committed.{Committed}
 use Rattle.dstm_causes.specs.Disturbed.{Disturbed}
 use Rattle.dstm_words.specs.Seats.{Home}
-use Rattle.dstm_words.specs.declared.view.Terms.{Terms}
+use Rattle.dstm_words.specs.declared.terms.Terms.{Terms}
 use Rattle.dstm_engine.specs.Attempts as attempts
 use Rattle.dstm_engine.specs.Attempts.{done}
 use Rattle.dstm_engine.specs.Callers.{law_of, shape_of, state}

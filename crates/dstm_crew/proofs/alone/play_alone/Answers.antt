@@ -1,6 +1,6 @@
 use Rattle.std.proofs.Common.{[], ◌∷◌, ◌++◌, arith, ap, subst, ◌∙◌}
 use Rattle.dstm_engine.specs.Tables.{Recorded}
-use Rattle.dstm_words.specs.Steps.{IsRunOf}
+use Rattle.dstm_words.specs.Seats.{IsRunOf}
 use Rattle.dstm_store.specs.declared.law.StoreLaw.{StoreLaw}
 use Rattle.dstm_rounds.specs.declared.round.Round.{Round}
 use Rattle.dstm_rounds.specs.declared.round.Round.TheVariants.{Dstm}

@@ -2,7 +2,7 @@ use Rattle.std.proofs.Common.{Some, ap, ◌∙◌}
 use Rattle.dstm_core.specs.declared.event.Kind.TheVariants.{Enrol}
 use Rattle.dstm_core.specs.State.{LocalState}
 use Rattle.dstm_runs.specs.Traces.Access.{Add}
-use Rattle.dstm_words.specs.Views.{state_by}
+use Rattle.dstm_words.specs.Seats.{state_by}
 use Rattle.dstm_words.proofs.Seats.{state_after}
 use Rattle.dstm_engine_rows.proofs.words.enrol.Goals as goal
 

@@ -5,8 +5,7 @@ use Rattle.dstm_core.specs.Rules.{AllowedAs, after}
 use Rattle.dstm_core.specs.State.{LocalState, first}
 use Rattle.dstm_runs.specs.Traces.Access.{Load, Store, Exchange}
 use Rattle.dstm_core.proofs.Columns.{in_table}
-use Rattle.dstm_words.specs.Seats.{caller_state}
-use Rattle.dstm_words.specs.Steps.{made}
+use Rattle.dstm_words.specs.Seats.{caller_state, made}
 use Rattle.dstm_words.proofs.Seats.{state_after}
 use Rattle.dstm_engine_rows.proofs.words.try_once.Goals as goal
 

@@ -5,7 +5,7 @@ use Rattle.dstm_core.specs.declared.shape.Shape.{Shape}
 use Rattle.dstm_engine.specs.Tables.{Founding, Recorded}
 use Rattle.dstm_model.specs.Objects.{objects_of}
 use Rattle.dstm_store.specs.declared.law.StoreLaw.{StoreLaw}
-use Rattle.dstm_words.specs.Steps.{IsRunOf}
+use Rattle.dstm_words.specs.Seats.{IsRunOf}
 use Rattle.dstm_rounds.specs.Records.{IsDstmMade}
 use Rattle.dstm_rounds.specs.Rounds.{locators_for}
 use Rattle.dstm_worker.specs.declared.worker.Worker.{Worker}

@@ -1,7 +1,6 @@
 use Rattle.std.proofs.Common.{false}
 use Rattle.dstm_runs.specs.Traces.Access.{Add}
-use Rattle.dstm_words.specs.Seats.{caller_state, view_of}
-use Rattle.dstm_words.specs.Steps.{made}
+use Rattle.dstm_words.specs.Seats.{caller_state, view_of, made}
 use Rattle.dstm_caller.proofs.Tallied.{add_kills, add_turns, step_counts}
 use Rattle.dstm_caller.proofs.counting.CallerSeat.add.Goals as goal
 

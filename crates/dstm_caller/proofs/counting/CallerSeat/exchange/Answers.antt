@@ -1,7 +1,6 @@
 use Rattle.std.proofs.Common.{false, refl}
 use Rattle.dstm_runs.specs.Traces.Access.{Exchange}
-use Rattle.dstm_words.specs.Seats.{caller_state, view_of, found_in}
-use Rattle.dstm_words.specs.Steps.{made}
+use Rattle.dstm_words.specs.Seats.{caller_state, view_of, found_in, made}
 use Rattle.dstm_caller.proofs.Tallied.{exchange_kills, exchange_turns, step_counts}
 use Rattle.dstm_caller.proofs.counting.CallerSeat.exchange.Goals as goal
 

@@ -1,7 +1,6 @@
 use Rattle.std.proofs.Common.{false}
 use Rattle.dstm_runs.specs.Traces.Access.{Load}
-use Rattle.dstm_words.specs.Seats.{caller_state, view_of}
-use Rattle.dstm_words.specs.Steps.{made}
+use Rattle.dstm_words.specs.Seats.{caller_state, view_of, made}
 use Rattle.dstm_caller.proofs.Tallied.{load_kills, step_counts}
 use Rattle.dstm_caller.proofs.counting.CallerSeat.load.Goals as goal
 

@@ -1,7 +1,6 @@
 use Rattle.std.proofs.Common.{false, sym}
 use Rattle.dstm_runs.specs.Traces.Access.{Store}
-use Rattle.dstm_words.specs.Seats.{view_of}
-use Rattle.dstm_words.specs.Steps.{made}
+use Rattle.dstm_words.specs.Seats.{view_of, made}
 use Rattle.dstm_caller.proofs.Tallied.{step_counts}
 use Rattle.dstm_caller.proofs.counting.CallerSeat.store.Goals as goal
 

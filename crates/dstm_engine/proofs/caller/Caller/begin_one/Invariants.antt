@@ -1,7 +1,6 @@
 use Rattle.dstm_caller.proofs.Stepping.{began_as}
 use Rattle.dstm_order.specs.Tasks.Task.{Beginning}
-use Rattle.dstm_words.specs.Seats.{view_of}
-use Rattle.dstm_words.specs.Views.{number_or}
+use Rattle.dstm_words.specs.Seats.{view_of, number_or}
 use Rattle.dstm_engine.proofs.caller.Caller.begin_one.Given as goal
 
 abbrev pub ghosts-begin_next : goal.ghosts-begin_next

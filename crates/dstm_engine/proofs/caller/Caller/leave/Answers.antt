@@ -6,9 +6,7 @@ use Rattle.dstm_core.specs.Words.{place}
 use Rattle.dstm_core.specs.Words.Word.{StatusWord}
 use Rattle.dstm_core.specs.declared.event.Kind.TheVariants.{Quit}
 use Rattle.dstm_order.specs.Tasks.Task.{Leaving}
-use Rattle.dstm_words.specs.Seats.{Home, found_in}
-use Rattle.dstm_words.specs.Steps.{Makes}
-use Rattle.dstm_words.specs.declared.view.View.{View}
+use Rattle.dstm_words.specs.Seats.{Home, found_in, Makes, View}
 use Rattle.dstm_engine.specs.Callers.{Called, is_running, seat_view, shape_of, state}
 use Rattle.dstm_engine.specs.Calls.{Performs}
 use Rattle.dstm_engine.specs.Mirror.{called, phase_by}

@@ -3,10 +3,7 @@ use Rattle.dstm_runs.specs.Traces.Access.{Add}
 use Rattle.dstm_core.specs.Words.{place}
 use Rattle.dstm_core.specs.Words.Word.{CallersWord}
 use Rattle.dstm_core.specs.declared.event.Kind.TheVariants.{Enrol}
-use Rattle.dstm_words.specs.Seats.{Home}
-use Rattle.dstm_words.specs.Steps.{Makes}
-use Rattle.dstm_words.specs.Views.{given_part}
-use Rattle.dstm_words.specs.declared.view.View.{View}
+use Rattle.dstm_words.specs.Seats.{Home, Makes, given_part, View}
 use Rattle.dstm_engine.specs.Enrolled.{enrolled_as}
 use Rattle.dstm_engine.specs.Tables.{Founding}
 use Rattle.dstm_managers.specs.Choices.{DeciderState}

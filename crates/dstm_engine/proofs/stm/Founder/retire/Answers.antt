@@ -1,7 +1,5 @@
 use Rattle.std.proofs.Common.{◌∙◌, ◌≡◌, Some, ap, sym, subst}
-use Rattle.dstm_words.specs.Seats.{Home}
-use Rattle.dstm_words.specs.Steps.{Joined}
-use Rattle.dstm_words.specs.declared.view.View.{View}
+use Rattle.dstm_words.specs.Seats.{Home, Joined, View}
 use Rattle.dstm_engine.specs.Callers.{seat_view}
 use Rattle.dstm_engine.specs.Tables.{Founding}
 use Rattle.dstm_engine.proofs.Enrolling.{keeps_rest}

@@ -4,8 +4,7 @@ use Rattle.dstm_core.specs.declared.shape.Shape.{Shape}
 use Rattle.dstm_model.specs.Map.{state_after}
 use Rattle.dstm_opacity.proofs.Opacity.{prefix_is_lawful}
 use Rattle.dstm_opacity.specs.Laws.{IsCurrent}
-use Rattle.dstm_words.specs.Seats.{Home}
-use Rattle.dstm_words.specs.Steps.{IsRunOf}
+use Rattle.dstm_words.specs.Seats.{Home, IsRunOf}
 use Rattle.dstm_engine.proofs.LastValues.{last_current, last_run, last_state, told_by}
 use Rattle.dstm_engine.proofs.stm.Stm.last_values.Goals as goal
 

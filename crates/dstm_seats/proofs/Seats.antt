@@ -1,0 +1,64 @@
+-- What a seat knows after a step: its number, and the state of its caller.
+use Rattle.std.proofs.Common.{◌≡◌, ◌≢◌, ℕ, List, [], ◌∷◌, ◌++◌, Some, None, refl, sym, ap, ◌∙◌, subst}
+use Rattle.std.specs.Prelude.{Option, Contains}
+use Rattle.dstm_runs.specs.declared.event.Event.{Event}
+use Rattle.dstm_runs.specs.Machines.{Machine, local}
+use Rattle.dstm_runs.specs.Sharing.{Shared}
+use Rattle.dstm_runs.specs.Traces.{Access, IsPastOf, events_of}
+use Rattle.dstm_runs.proofs.Runs.{local_own, local-events_of}
+use Rattle.dstm_seats.specs.declared.view.View.{View}
+use Rattle.dstm_seats.specs.Seats.{events_by, made, number_or, numbers_by, own_events, state_by, Adds, Joined, Makes}
+use Rattle.dstm_seats.proofs.Lists.{apart_of}
+use Rattle.dstm_seats.proofs.Logs.{own_event, none_since}
+
+-- a caller's state is that of its own events
+state_of_events : {K B S : Type 0} (machine : Machine K B S) (table : B) (o : Option ℕ) (log : List (Event K))
+    (found : ℕ) → local machine table (events_by o log) (number_or o found) ≡ state_by machine table o log
+state_of_events machine table (Some c) log found = local-events_of machine table log c
+state_of_events machine table None log found = refl
+
+module _ {K T B S : Type 0} (shared : Shared K T B S) where
+  pub number_after : (v w : View K T) (way : Access) (kind : K) (place found : ℕ) →
+      Makes shared v way kind place found w → w.number ≡ Some (number_or v.number found)
+  number_after v w way kind place found m = ap (λ x. x.number) m.view
+
+  -- the state of the seat's caller after its event
+  pub state_after : (table : B) (v w : View K T) (way : Access) (kind : K) (place found : ℕ) →
+      Makes shared v way kind place found w →
+      state_by shared.machine table w.number w.log
+      ≡ shared.machine.after table (state_by shared.machine table v.number v.log) (made v way kind place found)
+  state_after table v w way kind place found m =
+      let c : ℕ = number_or v.number found in
+      let e : Event K = made v way kind place found in
+      let state : List (Event K) → S = λ log. local shared.machine table log c in
+      ap (λ o. state_by shared.machine table o w.log) (ap (λ x. x.number) m.view)
+      ∙ sym (local-events_of shared.machine table w.log c) ∙ ap state m.mine
+      ∙ local_own shared.machine table (own_events v) e
+      ∙ ap (λ l. shared.machine.after table l e) (state_of_events shared.machine table v.number v.log found)
+
+  -- the numbers of the seat after it
+  pub numbers_after : (v w : View K T) (way : Access) (kind : K) (place found : ℕ) →
+      Makes shared v way kind place found w →
+      w.numbers ≡ numbers_by v.number (number_or v.number found) v.numbers
+  numbers_after v w way kind place found m = ap (λ x. x.numbers) m.view
+
+  -- the log before is a past of the log after
+  pub past_after : (v w : View K T) (e : Event K) → Adds shared v e w → IsPastOf v.log w.log
+  past_after v w e a = record { later = e ∷ a.log.0; whole = sym a.log.1 }
+
+  -- in between its caller made no event
+  pub quiet_since : (v w : View K T) (e : Event K) (a : Adds shared v e w) → v.number ≡ Some e.caller →
+      events_of e.caller a.log.0 ≡ []
+  quiet_since v w e a is =
+      let c : ℕ = e.caller in
+      let log : List (Event K) = a.log.0 ++ v.log in
+      let all : events_of c w.log ≡ e ∷ events_of c log = ap (events_of c) a.log.1 ∙ own_event log e in
+      let mine : events_of c w.log ≡ e ∷ events_of c v.log = a.mine ∙ ap (λ o. e ∷ events_by o v.log) is in
+      let same : events_of c log ≡ events_of c v.log = cc in
+      none_since c v.log a.log.0 log refl same
+
+  -- a seat that is joined has other numbers than the first one
+  pub numbers_differ : (v other w : View K T) (m n : ℕ) → Joined shared v other w → Contains v.numbers m →
+      Contains other.numbers n → m ≢ n
+  numbers_differ v other w m n j left right same =
+      apart_of v.numbers other.numbers n j.unlike (subst (Contains v.numbers) same left) right

@@ -1,0 +1,19 @@
+use Rattle.std.proofs.Common.{ℕ, List, ap, sym, subst, arith}
+use Rattle.dstm_seats.specs.Seats.{LeftBy}
+use Rattle.dstm_seats.proofs.Ends.{left_by}
+use Rattle.dstm_seats.proofs.words.Words.close.Goals as goal
+
+pub free-requires : goal.free-requires
+free-requires g c k l =
+    let none = c.self.invariant.0 in
+    let counts = c.close_with-closed.ensures.counts.1 in
+    absurd (omega arith)
+
+pub returns : goal.returns
+returns g c =
+    let key = c.self.inside.table.shared.key in
+    let Left : g.row.M-Terms.Denot → List ℕ → Type 0 = λ terms ws.
+    LeftBy g.M.Machine.shared terms c.args.seat.me.0 ws in
+    let words = subst (Left key) (sym {A = List ℕ} c.copy_words.ensures)
+    (left_by g.M.Machine.shared g.M.Machine.enrolling key _ _ _ _ c.close_with-closed.ensures.values.2) in
+    subst (λ terms. Left terms c.copy_words.new.words.items) (ap (λ h. h.terms) c.self.view_is) words

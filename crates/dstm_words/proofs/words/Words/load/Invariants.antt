@@ -1,4 +1,0 @@
-use Rattle.dstm_words.proofs.words.Words.load.Given as goal
-
-abbrev pub ghosts-load_as : goal.ghosts-load_as
-ghosts-load_as g a = record { kind = a.kind }
