@@ -1,5 +1,5 @@
 // A table whose attempts are timed.
-ghost use Rattle.std.specs.Prelude.{◌≡◌, ◌<◌, ◌≤◌, All};
+ghost use Rattle.std.specs.Prelude.{◌≡◌, ◌<◌, ◌≤◌, All, IfOk};
 ghost use Rattle.std.proofs.Props.{props};
 ghost use Rattle.bench_engine.specs.Places.{Exist};
 
@@ -7,7 +7,7 @@ use crate::attempts::{Use, try_all};
 use crate::places::{ATTEMPTS, MAX_OBJECTS, choose_all, shape_of};
 use anyhow::bail;
 use dstm_core::Manager;
-use dstm_engine::{Caller, Stm};
+use dstm_engine::{Caller, Founder, Stm};
 use dstm_model::{AnyLaw, Val};
 use std::alloc::Global;
 use std::time::{Clock, Instant};
@@ -32,10 +32,8 @@ impl Table {
         let lists = choose_all(alloc, &shape)?;
         let start = vec![in alloc; Val { low: 1, high: 0 }; objects as usize]?;
         let (stm, mut founder) = Stm::make(alloc, start, shape, AnyLaw)?;
-        match founder.caller(alloc, &stm, 1) {
-            Ok(caller) => Ok(Table { stm, caller, lists }),
-            Err(_) => bail!("no caller"),
-        }
+        let caller = caller(alloc, &stm, &mut founder)?;
+        Ok(Table { stm, caller, lists })
     }
 
     /// The nanoseconds that an attempt takes, by the mean of one with each list of objects.
@@ -47,5 +45,20 @@ impl Table {
             bail!("an attempt was left");
         }
         Ok(1e9 * took.as_secs_f64() / f64::from(ATTEMPTS))
+    }
+}
+
+// A new caller of the table.
+fn caller(
+    alloc: Global,
+    stm: &Stm<AnyLaw>,
+    founder: &mut Founder<AnyLaw>,
+) -> anyhow::Result<Caller<AnyLaw>>
+    requires table { founder.old.home ≡ stm.now }
+    ensures { IfOk result (λ k. k.home ≡ stm.now) }
+{
+    match founder.caller(alloc, stm, 1) {
+        Ok(caller) => Ok(caller),
+        Err(_) => bail!("no caller"),
     }
 }
