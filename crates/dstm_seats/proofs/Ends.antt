@@ -86,11 +86,18 @@ module _ {K T B S : Type 0} (shared : Shared K T B S) (laws : Enrolling shared) 
   left_by ws xs id v f =
       let s = f.0 in
       let k : Kept shared key s = f.1.0 in
+      let sees : Sees shared key k.log id v = k.seats id v f.1.1 in
       record {
         log = k.log;
-        past = (k.seats id v f.1.1).past;
+        past = sees.past;
         run = k.run;
         wide = ap length (sym f.2) ∙ k.wide;
         left = λ i l. ap (λ (x : List ℕ). get_or x i 0) (sym f.2) ∙ k.left i l;
         whole = λ first none. closes s k id v f.1.1 first none;
+        few =
+            let all = k.tickets in
+            let its = sum_at (λ (x : V). x.enrolments) s.views id v f.1.1 in omega arith;
+        known = sees.known;
+        unlike = sees.unlike;
+        fresh = k.fresh;
       }

@@ -15,8 +15,8 @@ use Rattle.dstm_runs.proofs.Pasts.{past_self, past_more}
 use Rattle.dstm_runs.proofs.Runs.{elsewhere, local_other, put_at}
 use Rattle.dstm_runs.specs.Sharing.{Enrolling, Shared}
 use Rattle.dstm_seats.specs.declared.view.View.{View}
-use Rattle.dstm_seats.specs.Rule.{enrolled, Sees, Kept}
-use Rattle.dstm_seats.specs.Seats.{events_by, moved, number_or, numbers_by, own_events, spent_by, state_by, Adds, AreApart, GoesOn, KeepsSince}
+use Rattle.dstm_seats.specs.Rule.{Sees, Kept}
+use Rattle.dstm_seats.specs.Seats.{enrolled, events_by, moved, number_or, numbers_by, own_events, spent_by, state_by, Adds, AreApart, GoesOn, KeepsSince}
 use Rattle.dstm_seats.proofs.Lists.{some_of, none_some, inside_of, each_set, sum_set, sum_at, one_of, head_of}
 use Rattle.dstm_seats.proofs.Logs.{others_event, own_event, none_before, none_since, local_same}
 

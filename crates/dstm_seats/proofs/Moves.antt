@@ -6,7 +6,6 @@ use mathlib.Core.Logic.{dite}
 use native.Mathlib.Decide.{ℕ_discrete}
 use prog.Atomic.{either}
 use Rattle.atomic_table.specs.Table.{Me, Allows}
-use Rattle.dstm_runs.specs.declared.event.Event.{Event}
 use Rattle.dstm_runs.specs.Traces.{Access}
 use Rattle.dstm_runs.specs.Traces.Access.{Load, Store, Exchange, Add}
 use Rattle.dstm_seats.specs.declared.view.View.{View}

@@ -8,13 +8,9 @@ use Rattle.dstm_runs.specs.Machines.{held, local}
 use Rattle.dstm_runs.specs.Sharing.{Shared}
 use Rattle.dstm_runs.specs.Traces.{IsPastOf, events_of}
 use Rattle.dstm_seats.specs.declared.view.View.{View}
-use Rattle.dstm_seats.specs.Seats.{AreApart, GoesOn}
+use Rattle.dstm_seats.specs.Seats.{AreApart, GoesOn, enrolled}
 
 module _ {K T B S : Type 0} (shared : Shared K T B S) (key : T) where
-  -- how many callers have enrolled
-  abbrev pub enrolled : List (Event K) → ℕ
-  enrolled log = held shared.machine (shared.table key) log (shared.callers_place (shared.table key))
-
   -- what holds of the view of the seat that has this place among the seats
   pub record Sees (log : List (Event K)) (id : ℕ) (v : View K T) : Type 0 where
     -- what it has seen is a past of the log, which has no more events of its numbers
@@ -22,7 +18,7 @@ module _ {K T B S : Type 0} (shared : Shared K T B S) (key : T) where
     pub olds : All (GoesOn log v.numbers) v.olds
     pub mine : (n : ℕ) → Contains v.numbers n → events_of n log ≡ events_of n v.log
     -- its numbers are different ones, whose callers have enrolled
-    pub known : (n : ℕ) → Contains v.numbers n → n < enrolled log
+    pub known : (n : ℕ) → Contains v.numbers n → n < enrolled shared key log
     pub unlike : AreApart v.numbers
     pub begun : (n : ℕ) → Contains v.numbers n →
         shared.number (local shared.machine (shared.table key) v.log n) ≡ Some n
@@ -44,11 +40,12 @@ module _ {K T B S : Type 0} (shared : Shared K T B S) (key : T) where
     pub left : (p : ℕ) → p < shared.word_count (shared.table key) →
         slice_index s.words p ≡ held shared.machine (shared.table key) log p
     -- a number whose caller has not enrolled has no event, and no two seats have the same number
-    pub fresh : (n : ℕ) → enrolled log ≤ n → events_of n log ≡ []
+    pub fresh : (n : ℕ) → enrolled shared key log ≤ n → events_of n log ≡ []
     pub seats : (id : ℕ) (v : View K T) → get_elem? s.views id ≡ some v → Sees log id v
     pub apart : (i j : ℕ) (v w : View K T) (n : ℕ) →
         get_elem? s.views i ≡ some v → get_elem? s.views j ≡ some w →
         Contains v.numbers n → Contains w.numbers n → i ≡ j
     -- no more callers can enrol than there may be, and the first seat counts the seats that are out
-    pub tickets : sum_by (λ v. v.enrolments) s.views + enrolled log ≤ shared.machine.callers (shared.table key)
+    pub tickets :
+        sum_by (λ v. v.enrolments) s.views + enrolled shared key log ≤ shared.machine.callers (shared.table key)
     pub outs : sum_by (λ v. v.out) s.views ≡ sum_by (λ v. v.apart) s.views

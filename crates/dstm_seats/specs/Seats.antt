@@ -1,6 +1,6 @@
 -- What the calls on words say, in reading order: a seat and its table, the next event of its caller, what a step
 -- tells, how seats are split and joined, and what the words hold in the end.
-use Rattle.std.specs.Prelude.{◌≡◌, ◌≢◌, ℕ, ◌+◌, ◌-◌, ◌^◌, ◌<◌, ◌==◌, nat_lt, min, true, false, if◌then◌else◌, List, [], ◌∷◌, ◌++◌, length, slice_index, Option, Some, None, Result, Ok, Err, All, Contains, IfSome}
+use Rattle.std.specs.Prelude.{◌≡◌, ◌≢◌, ℕ, ◌+◌, ◌-◌, ◌^◌, ◌<◌, ◌≤◌, ◌==◌, nat_lt, min, true, false, if◌then◌else◌, List, [], ◌∷◌, ◌++◌, length, slice_index, Option, Some, None, Result, Ok, Err, All, Contains, IfSome}
 use Rattle.atomic_table.specs.declared.shared.Seat.{Seat}
 use Rattle.atomic_table.specs.Seated.{TableId}
 use Rattle.dstm_runs.specs.declared.event.Event.{Event}
@@ -264,6 +264,10 @@ module _ {K T B S : Type 0} (shared : Shared K T B S) where
 
   -- ---- the words in the end
 
+  -- how many callers have enrolled
+  abbrev pub enrolled : T → List (Event K) → ℕ
+  enrolled key log = held shared.machine (shared.table key) log (shared.callers_place (shared.table key))
+
   -- The words are what a log leaves that goes on from what the seat had seen. Where it is the first seat and
   -- none is out, this log is its own.
   pub record LeftBy (key : T) (v : View K T) (words : List ℕ) : Type 0 where
@@ -274,3 +278,10 @@ module _ {K T B S : Type 0} (shared : Shared K T B S) where
     pub left : (p : ℕ) → p < shared.word_count (shared.table key) →
         slice_index words p ≡ held shared.machine (shared.table key) log p
     pub whole : v.first ≡ true → v.out ≡ 0 → log ≡ v.log
+    -- how many callers have enrolled, and may yet
+    pub few : v.enrolments + enrolled key log ≤ shared.machine.callers (shared.table key)
+    -- the seat's numbers are different ones, whose callers have enrolled
+    pub known : (n : ℕ) → Contains v.numbers n → n < enrolled key log
+    pub unlike : AreApart v.numbers
+    -- a number whose caller has not enrolled has no event
+    pub fresh : (n : ℕ) → enrolled key log ≤ n → events_of n log ≡ []

@@ -1,4 +1,4 @@
-use Rattle.std.proofs.Common.{◌≡◌, ◌<◌, Some, arith, sym, subst}
+use Rattle.std.proofs.Common.{◌<◌, arith, sym, subst}
 use Rattle.dstm_runs.specs.Traces.Access.{Store}
 use Rattle.dstm_seats.specs.Seats.{Home, IsOf, MakesKept, MayMake}
 use Rattle.dstm_seats.proofs.Moves.{place_inside, stores}
