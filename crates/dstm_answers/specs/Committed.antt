@@ -2,9 +2,9 @@
 -- both, and the same entries are told from one caller's own events.
 --
 -- Events and committed attempts have the newest first.
-use Rattle.std.specs.Prelude.{ℕ, ◌==◌, ◌&&◌, Bool, true, false, List, [], ◌∷◌, if◌then◌else◌, filter}
+use Rattle.std.specs.Prelude.{ℕ, ◌==◌, ◌&&◌, Bool, true, false, List, [], ◌∷◌, if◌then◌else◌}
+pub use Rattle.dstm_model.specs.Answers.{Committed, by_caller}
 use Rattle.dstm_model.specs.declared.value.Val.{Val}
-use Rattle.dstm_model.specs.Map.{Entry}
 use Rattle.dstm_core.specs.Events.{Event}
 use Rattle.dstm_core.specs.declared.event.Kind.{Kind}
 use Rattle.dstm_core.specs.declared.event.Kind.TheVariants.{Commit}
@@ -14,12 +14,6 @@ use Rattle.dstm_core.specs.Histories.{entry_of, is_draw, will_of}
 use Rattle.dstm_core.specs.Runs.{local}
 use Rattle.dstm_core.specs.State.{LocalState, or_zero, own_attempt}
 use Rattle.dstm_core.specs.Words.{code_of}
-
--- a committed attempt: its caller, the number that its Draw found, and its entry
-pub record Committed : Type 0 where
-  pub caller : ℕ
-  pub number : ℕ
-  pub entry : Entry
 
 -- ---- the history, with the caller and the number of each entry
 
@@ -38,10 +32,6 @@ committed shape start will run (event ∷ before) =
 -- the attempts that commit in a run
 abbrev pub committed_in : Shape → List Val → List Event → List Committed
 committed_in shape start run = committed shape start (will_of shape run) run run
-
--- those of one caller
-abbrev pub by_caller : ℕ → List Committed → List Committed
-by_caller c attempts = filter (λ (attempt : Committed). attempt.caller == c) attempts
 
 -- ---- the same, told from one caller's own events
 

@@ -1,7 +1,9 @@
 -- Laws of what the callers of a core run have committed.
-use Rattle.std.specs.Prelude.{◌≡◌, ℕ, ◌<◌, List, [], ◌∷◌, ◌++◌, length, map, reverse}
+use Rattle.std.specs.Prelude.{◌≡◌, ℕ, List, ◌++◌, map, reverse}
+pub use Rattle.dstm_model.specs.Answers.{AreBelow, CallersTellAll, NumbersFall, Stands}
+use Rattle.dstm_model.specs.Answers as answers
 use Rattle.dstm_model.specs.declared.value.Val.{Val}
-use Rattle.dstm_model.specs.Map.{Agrees, Entry, state_after}
+use Rattle.dstm_model.specs.Map.{Entry}
 use Rattle.dstm_core.specs.Events.{Event}
 use Rattle.dstm_core.specs.declared.shape.Shape.{Shape}
 use Rattle.dstm_core.specs.Histories.{CoreRun, history_of}
@@ -29,44 +31,15 @@ ToldStays {L = L} holds =
     events_of c (later ++ before) ≡ events_of c before →
     done_by shape start (later ++ before) (later ++ before) c ≡ done_by shape start before before c
 
--- each number is below n
-abbrev pub AreBelow : ℕ → List Committed → Type 0
-AreBelow n [] = Unit {0}
-AreBelow n (attempt ∷ attempts) = (attempt.number < n) × AreBelow n attempts
-
--- each number is greater than those of the attempts that stand after it in the list
-abbrev pub NumbersFall : List Committed → Type 0
-NumbersFall [] = Unit {0}
-NumbersFall (attempt ∷ attempts) = AreBelow attempt.number attempts × NumbersFall attempts
-
 -- the attempts that commit in a run stand in the order of their numbers, the newest first
 abbrev pub CommittedInOrder : {L : Type 0} → (L → List Val → Type 0) → Type 0
 CommittedInOrder {L = L} holds =
     (law : L) (shape : Shape) (start : List Val) (run : List Event) →
     CoreRun shape start (holds law) run → NumbersFall (committed_in shape start run)
 
--- attempts in the order of their numbers are told by what each caller's are
-abbrev pub CallersTellAll : Type 0
-CallersTellAll =
-    (one other : List Committed) → NumbersFall one → NumbersFall other →
-    ((c : ℕ) → by_caller c one ≡ by_caller c other) → one ≡ other
-
--- an attempt stands among some, with these after it and these before it
-pub record Stands (attempt : Committed) (attempts : List Committed) : Type 0 where
-  pub newer : List Committed
-  pub older : List Committed
-  pub is : attempts ≡ newer ++ attempt ∷ older
-
 -- An entry stands in a history: it has read what those before it leave, and this is lawful.
-pub record StandsIn (shape : Shape) (start : List Val) (holds : List Val → Type 0) (history : List Entry)
-    (entry : Entry) :
-    Type 0 where
-  pub before : List Entry
-  pub after : List Entry
-  pub is : history ≡ before ++ entry ∷ after
-  pub objects : length (state_after start before) ≡ shape.objects
-  pub reads : Agrees (state_after start before) entry.reads
-  pub lawful : holds start → holds (state_after start before)
+abbrev pub StandsIn : Shape → List Val → (List Val → Type 0) → List Entry → Entry → Type 0
+StandsIn shape start holds history entry = answers.StandsIn shape.objects start holds history entry
 
 -- what a caller has committed stands in the history of every later run
 abbrev pub DoneStands : {L : Type 0} → (L → List Val → Type 0) → Type 0

@@ -3,3 +3,5 @@ pub mod Branches
 pub mod Transfers
 pub mod Objects
 pub mod Entries
+pub mod Merging
+pub mod Standing

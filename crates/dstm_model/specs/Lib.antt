@@ -3,3 +3,4 @@ pub mod Layout
 pub mod Store
 pub mod Job
 pub mod Objects
+pub mod Answers

@@ -2,6 +2,7 @@
 //! layouts, operations with their replies, and the plain store that every run is measured against.
 #![tactic(auto)]
 
+mod answers;
 mod job;
 mod layout;
 mod op;
@@ -10,6 +11,7 @@ mod state;
 mod store;
 mod value;
 
+pub use answers::callers_tell_all;
 pub use job::{Ops, Replies};
 pub use layout::{
     AMOUNT_LIMIT, KEY_LIMIT, Layout, MAX_ACCOUNTS, MAX_LIST_NODES, MAX_OPENING, MAX_TREE_NODES,
