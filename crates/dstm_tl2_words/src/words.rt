@@ -54,8 +54,26 @@ impl<L: Law> Words<L> {
             law: Snapshot::of(&law),
             start: Snapshot::of(&first),
         };
+        Words::of_terms(alloc, &terms, start)
+    }
+
+    /// A new table that was told this, and its first seat. `start` has the first value of each object.
+    pub fn of_terms(
+        alloc: Global,
+        terms: &Terms<L>,
+        start: &[Val],
+    ) -> Result<(Words<L>, Tl2Seat<L>), AllocError>
+        requires start { terms.now.start.value.items ≡ start.now }
+        requires callers { terms.now.callers ≤ 64 }
+        requires attempts { terms.now.attempts ≤ 65536 }
+        requires objects { length start.now ≤ 1048576 }
+        requires lawful { L.holds terms.now.law.value start.now }
+        ensures terms { IfOk result (λ t. t.0.terms ≡ terms.now) }
+        ensures seat { IfOk result (λ t. IsOf t.0 t.1) }
+        ensures new { IfOk result (λ t. view_of t.1 ≡ founder terms.now) }
+    {
         let words = first_words(alloc, start)?;
-        let (words, seat) = dstm_seats::Words::make(alloc, &terms, words.as_slice())?;
+        let (words, seat) = dstm_seats::Words::make(alloc, terms, words.as_slice())?;
         Ok((Words { words }, seat))
     }
 
