@@ -1,0 +1,14 @@
+pub mod Going
+pub mod Looking
+pub mod Slotted
+pub mod GivingBack
+pub mod LockingAll
+pub mod Stepping
+pub mod Bounds
+pub mod Slots
+pub mod Placing
+pub mod Held
+pub mod InRun
+pub mod WritingBack
+pub mod Checking
+pub mod Committing
