@@ -1,0 +1,83 @@
+-- A caller after a call: its attempt, and what it has committed.
+use Rattle.std.proofs.Common.{◌≡◌, ◌<◌, ◌⊎◌, ◌∷◌, ◌++◌, ◌∙◌, List, [], ap, sym, subst, true, false, Option, None}
+use Rattle.dstm_model.specs.declared.value.Val.{Val}
+use Rattle.dstm_tl2.specs.Runs.{Run, local}
+use Rattle.dstm_tl2.specs.State.{is_valid}
+use Rattle.dstm_tl2.specs.Words.{Table}
+use Rattle.dstm_tl2_words.specs.Seats.{Home}
+use Rattle.dstm_tl2_caller.specs.declared.again.TlAgain.{TlAgain}
+use Rattle.dstm_tl2_caller.specs.Calls.{state_after}
+use Rattle.dstm_tl2_caller.specs.Tasks.{Task}
+use Rattle.dstm_tl2_engine.specs.Attempts.{attempt_of, done}
+use Rattle.dstm_tl2_engine.specs.Callers.{TlCalled, begun_log, state, table_of_caller}
+use Rattle.dstm_tl2_engine.specs.Calls.{Performs}
+use Rattle.dstm_tl2_engine.specs.Outcomes.{IsLeft, own_since}
+use Rattle.dstm_tl2_engine.proofs.CallKinds.{commits_in, samples_in, uncommitting, unsampled}
+use Rattle.dstm_tl2_engine.proofs.Done.{begun_after, invalid_after, local_then, quiet_after, since_after, valid_after}
+use Rattle.dstm_tl2_engine.proofs.Left.{is_left}
+
+module _ {L : Type 0} (holds : L → List Val → Type 0) (k n : TlCalled L) (task : Task) (again : Option TlAgain)
+    (p : Performs holds task k n again) where
+  run_then : Run (table_of_caller k) n.log
+  run_then = p.run.run.run
+
+  pub table_then : table_of_caller n ≡ table_of_caller k
+  table_then = ap (λ (h : Home L). table_of_caller (record k { home = h })) p.same.0
+
+  -- the caller's state after it, in the words of before
+  pub state_of : state n ≡ local (table_of_caller k) n.log k.number
+  state_of = ap (λ t. local t n.log n.number) table_then ∙ ap (local (table_of_caller k) n.log) p.same.1
+
+  pub state_by_events : state n ≡ state_after (table_of_caller k) (state k) p.events
+  state_by_events = state_of ∙ local_then (table_of_caller k) k.number k.log n.log p.events p.own
+
+  done_of : done n ≡ done (record k { log = n.log })
+  done_of =
+      ap (λ (h : Home L). done (record n { home = h })) p.same.0
+      ∙ ap (λ c. done (record k { log = n.log; number = c })) p.same.1
+
+  -- the attempt stays where the call does not begin one
+  pub attempt_kept : samples_in task ≡ false → begun_log n.number n.log ≡ begun_log k.number k.log
+  attempt_kept none =
+      ap (λ c. begun_log c n.log) p.same.1
+      ∙ begun_after k.number k.log n.log p.events p.seen p.own
+      (unsampled task (table_of_caller k) (state k) p.events none p.call.obeys)
+
+  -- its events are those of the call, behind the earlier ones
+  pub own_since_then : samples_in task ≡ false → own_since n ≡ p.events ++ own_since k
+  own_since_then none =
+      ap (λ c. own_since (record n { number = c })) p.same.1
+      ∙ since_after k.number k.log n.log p.events p.seen p.own
+      (unsampled task (table_of_caller k) (state k) p.events none p.call.obeys)
+
+  -- a call that draws and checks nothing commits nothing
+  pub done_quiet : commits_in task ≡ false → done n ≡ done k
+  done_quiet none =
+      done_of
+      ∙ quiet_after (table_of_caller k) k.number k.log n.log p.events p.seen p.own run_then
+      (uncommitting task (table_of_caller k) (state k) p.events none p.call.obeys)
+
+  -- nor does one whose attempt is not valid in the end
+  pub done_invalid : samples_in task ≡ false → is_valid (state n) ≡ false → done n ≡ done k
+  done_invalid none invalid =
+      done_of
+      ∙ invalid_after (table_of_caller k) k.number k.log n.log p.events p.seen p.own run_then
+      (unsampled task (table_of_caller k) (state k) p.events none p.call.obeys)
+      (ap is_valid (sym state_of) ∙ invalid)
+
+  -- A CALL THAT HAS COMMITTED: what it has committed is the attempt as the state is in the end.
+  pub done_valid : samples_in task ≡ false → is_valid (state k) ≡ false → is_valid (state n) ≡ true →
+      done n ≡ attempt_of k.number (state n) ∷ done k
+  done_valid none before valid =
+      done_of
+      ∙ valid_after (table_of_caller k) k.number k.log n.log p.events p.seen p.own run_then
+      (unsampled task (table_of_caller k) (state k) p.events none p.call.obeys) before
+      (ap is_valid (sym state_of) ∙ valid)
+      ∙ ap (λ l. attempt_of k.number l ∷ done k) (sym state_of)
+
+  -- what is left of an attempt that failed or has drawn nothing, once nothing is locked any more
+  pub left_after : (state n).holds ≡ [] → ((state n).failed ≡ true) ⊎ ((state n).drawn ≡ None) →
+      1 < (table_of_caller k).callers → IsLeft n
+  left_after free over others =
+      is_left n (subst (λ t. Run t n.log) (sym table_then) run_then) free over
+      (subst (λ (t : Table). 1 < t.callers) (sym table_then) others)

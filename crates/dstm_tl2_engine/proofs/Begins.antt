@@ -1,0 +1,347 @@
+-- A caller after it was to give back what it had locked, or to begin an attempt.
+use Rattle.std.proofs.Common.{◌<◌, ◌≤◌, ◌+◌, ◌==◌, ◌∙◌, ◌∷◌, ◌≡◌, Bool, List, None, Option, Some, [], ap, arith, false, length, map, refl, subst, sym, take, true, ℕ}
+use Rattle.std.specs.Prelude.{IfSome, IsSome, nat_le, nat_lt, not, if◌then◌else◌}
+use Rattle.std.specs.Option.{option_or}
+use Rattle.std.proofs.lemmas.Bool.{eq-eqb}
+use Rattle.std.proofs.lemmas.List.{length-map, length-take-le}
+use Rattle.std.proofs.lemmas.List.Elements.{All-cons, All-nil}
+use Rattle.dstm_mem.proofs.WithSet.{with_set-nothing}
+use Rattle.dstm_mem.specs.Memory.{value_in}
+use Rattle.dstm_model.specs.Map.{value_at}
+use Rattle.dstm_model.specs.declared.value.Val.{Val}
+use Rattle.dstm_runs.specs.Traces.Access.{Load}
+use Rattle.dstm_tl2.specs.declared.kind.Kind.TheVariants.{Sample}
+use Rattle.dstm_tl2.specs.Histories.{read_values}
+use Rattle.dstm_tl2.specs.Rules.{Event, begin, new_hold}
+use Rattle.dstm_tl2.specs.Runs.{local}
+use Rattle.dstm_tl2.specs.Sharing.{table_of}
+use Rattle.dstm_tl2.specs.State.{Hold, LocalState, Read, read_of}
+use Rattle.dstm_tl2.specs.Words.{Table}
+use Rattle.dstm_tl2_words.specs.Seats.{Home, view_of}
+use Rattle.dstm_tl2_caller.specs.Calls.{Obeys, newest_of, state_after}
+use Rattle.dstm_tl2_caller.specs.Order.{IsDue, has_sampled, in_giving_back, is_spent}
+use Rattle.dstm_tl2_caller.specs.Order.Due.{Done, Just}
+use Rattle.dstm_tl2_caller.specs.Reads.{AtRest}
+use Rattle.dstm_tl2_caller.specs.Tasks.{Task}
+use Rattle.dstm_tl2_caller.specs.Tasks.Task.{Beginning, Returning}
+use Rattle.dstm_tl2_caller.specs.Under.{Began, Under, made_by, now}
+use Rattle.dstm_tl2_caller.specs.declared.again.TlAgain.{TlAgain}
+use Rattle.dstm_tl2_caller.specs.declared.steps.Steps.{Steps}
+use Rattle.dstm_tl2_engine.proofs.Calling.{began_is, begun_as}
+use Rattle.dstm_tl2_engine.proofs.Done.{NoCommits, may_commit, quiet_after}
+use Rattle.dstm_tl2_engine.proofs.Tying.{Kept, kept, now_there, performs_then, state_then, steps_of}
+use Rattle.dstm_tl2_engine.specs.Attempts.{Admits, done}
+use Rattle.dstm_tl2_engine.specs.Began.{began_of}
+use Rattle.dstm_tl2_engine.specs.Callers.{TlCalled, begun_log, held, state, written}
+use Rattle.dstm_tl2_engine.specs.Mirror.{Tied, called}
+use Rattle.dstm_tl2_engine.specs.Outcomes.{IsLeft}
+use Rattle.dstm_tl2_engine.specs.Transactions.{BeginsAnew, HasLocked, IsLawful, SpentFrom}
+use Rattle.dstm_tl2_engine.specs.declared.caller.TlCaller.TheInside.{Inside}
+
+-- ---- nothing is locked
+
+-- a list has no element where its image has none
+map_empty : {A B : Type 0} (f : A → B) (xs : List A) → map f xs ≡ [] → xs ≡ []
+map_empty f [] q = refl
+map_empty f (x ∷ xs) q = absurd (cc)
+
+no_value : {A : Type 0} (o : Option A) → (IsSome o → ⊥) → o ≡ None
+no_value None h = refl
+no_value (Some x) h = absurd (h refl)
+
+-- WHERE NOTHING IS LOCKED, and still all that the attempt writes is, it writes nothing: so each map that it admits
+-- stays as it is.
+pub lawful_unlocked : {L : Type 0} (holds : L → List Val → Type 0) (k : TlCalled L) → (state k).holds ≡ [] →
+    ((o : ℕ) → IsSome (value_in k.set o) → IsSome (value_in k.writes o)) → HasLocked k → IsLawful holds k
+lawful_unlocked holds k free sets locked map admits =
+    subst (holds k.home.terms.law.value) (sym (with_set-nothing map (written k) unset)) admits.lawful
+  where
+    none : k.writes ≡ []
+    none = map_empty (new_hold (state k)) k.writes (sym locked.all ∙ free)
+
+    unset : (o : ℕ) → written k o ≡ None
+    unset o =
+        no_value (written k o)
+        (λ some. let bad : IsSome (value_in [] o) = subst (λ ws. IsSome (value_in ws o)) none (sets o some) in cc)
+
+-- so many writes are locked as there are holds
+pub none_locked : (s : LocalState) (writes : List (ℕ × Val)) (count : ℕ) → count ≤ length writes →
+    s.holds ≡ map (new_hold s) (take count writes) → s.holds ≡ [] → count ≡ 0
+none_locked s writes count few locks free =
+    sym (length-take-le count writes few)
+    ∙ sym (length-map (take count writes) (new_hold s))
+    ∙ ap length (sym locks ∙ free)
+
+-- ---- the events of these calls
+
+abbrev Quiet : Event → Type 0
+Quiet e = may_commit e.kind ≡ false
+
+-- those that give back commit nothing
+gives_none : (t : Table) (holds : List Hold) (e : Event) → IsDue t (in_giving_back holds) e → may_commit e.kind ≡ false
+gives_none t [] e d = absurd d
+gives_none t (h ∷ holds) e d = ap may_commit d.0
+
+pub returning_none : (t : Table) (l : LocalState) (es : List Event) → Obeys Returning t l es → NoCommits es
+returning_none t l [] o = All-nil Quiet
+returning_none t l (e ∷ es) o =
+    All-cons Quiet e es (gives_none t (state_after t l es).holds e o.1) (returning_none t l es o.0)
+
+due_none : (a b c : Bool) (t : Table) (holds : List Hold) (e : Event) →
+    IsDue t (if a then Done else if b then in_giving_back holds else if c then Done else Just Sample) e →
+    may_commit e.kind ≡ false
+due_none true b c t holds e d = absurd d
+due_none false true c t holds e d = gives_none t holds e d
+due_none false false true t holds e d = absurd d
+due_none false false false t holds e d = ap may_commit d
+
+pub beginning_none : (t : Table) (l : LocalState) (es : List Event) → Obeys Beginning t l es → NoCommits es
+beginning_none t l [] o = All-nil Quiet
+beginning_none t l (e ∷ es) o =
+    All-cons Quiet e es
+    (due_none (has_sampled (newest_of es)) (not (length (state_after t l es).holds == 0))
+    (is_spent t (state_after t l es)) t (state_after t l es).holds e o.1)
+    (beginning_none t l es o.0)
+
+-- ---- the caller then
+
+-- what it had locked was given back
+abbrev pub freed : {L : Type 0} → Inside L → Steps L → Inside L
+freed c new = record c { steps = new; locked = 0 }
+
+-- it has begun an attempt
+abbrev pub anew : {L : Type 0} → Inside L → Steps L → Inside L
+anew c new = record c {
+  steps = new;
+  begun = c.begun + 1;
+  locked = 0;
+  left = None;
+  opened = record c.opened { reads = []; writes = []; set = [] };
+}
+
+module _ {L : Type 0} (holds : L → List Val → Type 0) (c : Inside L) (v : Tied holds c) (task : Task) (new : Steps L)
+    (u : Under holds (called c).home (began_of task (called c)) new Done None) where
+  st : local (table_of c.terms) (view_of new.seat).log c.number ≡ now (called c).home new
+  st = state_then holds c v task new Done None u
+
+  k : Kept holds c new
+  k = kept holds c v task new Done None u
+
+  -- nothing was committed
+  pub same_done : NoCommits u.events → done (called (record c { steps = new })) ≡ done (called c)
+  same_done none =
+      quiet_after (table_of c.terms) c.number (called c).log (view_of new.seat).log u.events u.seen u.own u.run.run.run
+      none
+
+  -- ---- what was locked was given back
+
+  module _ (gave : Bool) (is : now (called c).home new ≡ record (state (called c)) { holds = []; gave_back = gave })
+      (idle : c.locked ≡ 0 → new ≡ c.steps) where
+    now_free : state (called (freed c new)) ≡ record (state (called c)) { holds = []; gave_back = gave }
+    now_free = st ∙ is
+
+    pub is_free : (state (called (freed c new))).holds ≡ []
+    is_free = ap (λ (l : LocalState). l.holds) now_free
+
+    same_reads : (state (called (freed c new))).reads ≡ (state (called c)).reads
+    same_reads = ap (λ (l : LocalState). l.reads) now_free
+
+    pub same_begun : (state (called (freed c new))).begun ≡ (state (called c)).begun
+    same_begun = ap (λ (l : LocalState). l.begun) now_free
+
+    -- where nothing was locked, nothing was done
+    pub still : (state (called c)).holds ≡ [] → new ≡ c.steps
+    still free = idle (none_locked (state (called c)) c.opened.writes c.locked v.few v.locks free)
+
+    left_then : IfSome c.left (λ again. IsLeft (called (freed c new)))
+    left_then = by c.left v.left
+      where
+        by : (left : Option TlAgain) → IfSome left (λ again. IsLeft (called c)) →
+            IfSome left (λ again. IsLeft (called (freed c new)))
+        by None h = tt
+        by (Some again) h =
+            subst (λ (x : Steps L). IsLeft (called (record c { steps = x }))) (sym (still h.given_back.free)) h
+
+    pub freed_tied : Tied holds (freed c new)
+    freed_tied = record {
+      seat = k.seat;
+      run = k.run;
+      number = k.number;
+      places = k.places;
+      begun = same_begun ∙ v.begun;
+      sample = k.sample;
+      objects = k.objects;
+      reads = v.reads ∙ sym same_reads;
+      writes_read = λ o none. v.writes_read o (subst (λ rs. read_of o rs ≡ None) same_reads none);
+      puts = λ o. subst (λ (rs : List Read). IfSome (value_in c.opened.writes o)
+          (λ w. Some w ≡ option_or (value_in c.opened.set o) (value_in (read_values rs) o))) (sym same_reads)
+          (v.puts o);
+      sets = v.sets;
+      seen = k.seen;
+      locks = is_free;
+      may = λ some. absurd (some refl);
+      few = omega arith;
+      lawful = lawful_unlocked holds (called (freed c new)) is_free v.sets;
+      left = left_then;
+    }
+
+    pub freed_kept : called (freed c new) ≡ record (called c) { log = (view_of new.seat).log }
+    freed_kept = ap (λ home. record (called (freed c new)) { home = home }) k.home
+
+    pub freed_rest : (state (called c)).holds ≡ [] → called (freed c new) ≡ called c
+    freed_rest free = ap (λ (x : Steps L). called (record c { steps = x })) (still free)
+
+  -- ---- an attempt was begun
+
+  module _ (is : now (called c).home new ≡ begin (state (called c)) new.sample) where
+    is_begun : state (called (anew c new)) ≡ begin (state (called c)) new.sample
+    is_begun = st ∙ is
+
+    is_unlocked : (state (called (anew c new))).holds ≡ []
+    is_unlocked = ap (λ (l : LocalState). l.holds) is_begun
+
+    unread : (o : ℕ) → held (called (anew c new)) o ≡ None
+    unread o = ap (λ (l : LocalState). value_in (read_values l.reads) o) is_begun
+
+    pub anew_tied : Tied holds (anew c new)
+    anew_tied = record {
+      seat = k.seat;
+      run = k.run;
+      number = k.number;
+      places = k.places;
+      begun = ap (λ (l : LocalState). l.begun) is_begun ∙ ap (λ n. n + 1) v.begun;
+      sample = k.sample;
+      objects = k.objects;
+      reads = sym (ap (λ (l : LocalState). l.reads) is_begun);
+      writes_read = λ o none. refl;
+      puts = λ o. tt;
+      sets = λ o some. some;
+      seen = k.seen;
+      locks = is_unlocked;
+      may = λ some. absurd (some refl);
+      few = omega arith;
+      lawful = lawful_unlocked holds (called (anew c new)) is_unlocked (λ o some. some);
+      left = tt;
+    }
+
+    pub anew_rest : AtRest (state (called (anew c new)))
+    anew_rest = subst AtRest (sym is_begun) (record {
+      begun = omega arith;
+      no_look = refl;
+      untold = (refl, refl, refl);
+      undrawn = refl;
+      sound = (refl, refl);
+    })
+
+    pub anew_admits : Admits holds (called (anew c new)) c.terms.start.value.items
+    anew_admits = record {
+      length = refl;
+      lawful = u.run.lawful;
+      agrees = λ o. subst (λ h. IfSome h (λ w. value_at c.terms.start.value.items o ≡ w)) (sym (unread o)) tt;
+    }
+
+    pub anew_caller : called (anew c new)
+        ≡ record (called c) { log = (view_of new.seat).log; writes = []; set = []; left = None }
+    anew_caller = ap (λ home. record (called (anew c new)) { home = home }) k.home
+
+    pub anew_begun : (sample : ℕ) × (state (called (anew c new)) ≡ begin (state (called c)) sample)
+    anew_begun = (new.sample, is_begun)
+
+-- where the newest event of the log is the caller's Sample, its attempt begins there
+pub at_begin_of : (b : Began) (log : List Event) (p found : ℕ) →
+    ((before : List Event) × (log ≡ made_by b Load Sample p found ∷ before)) → log ≡ begun_log b.number log
+at_begin_of b log p found top =
+    subst (λ log. log ≡ begun_log b.number log) (sym top.1) (rw (eq-eqb b.number b.number refl) refl)
+
+-- ---- a call that was to begin an attempt
+
+module _ {L : Type 0} (holds : L → List Val → Type 0) (c : Inside L) (v : Tied holds c) (new : Steps L)
+    (u : Under holds (called c).home (began_of Beginning (called c)) new Done None) where
+  done_then : done (called (record c { steps = new })) ≡ done (called c)
+  done_then =
+      same_done holds c v Beginning new u (beginning_none (table_of c.terms) (state (called c)) u.events u.obeys)
+
+  pub spent_from : (gave : Bool) →
+      now (called c).home new ≡ record (state (called c)) { holds = []; gave_back = gave } →
+      (c.locked ≡ 0 → new ≡ c.steps) → is_spent (table_of c.terms) (state (called c)) ≡ true →
+      SpentFrom holds (called c) (called (freed c new))
+  spent_from gave is idle spent = record {
+    steps = performs_then holds c Beginning new None u c.opened c.left;
+    caller = freed_kept holds c v Beginning new u gave is idle;
+    free = is_free holds c v Beginning new u gave is idle;
+    begun = same_begun holds c v Beginning new u gave is idle;
+    same_done = done_then;
+    spent = spent;
+  }
+
+  pub begins_anew : now (called c).home new ≡ begin (state (called c)) new.sample → (p : ℕ) →
+      ((before : List Event)
+      × ((view_of new.seat).log ≡ made_by (began_of Beginning (called c)) Load Sample p new.sample ∷ before)) →
+      is_spent (table_of c.terms) (state (called c)) ≡ false → BeginsAnew holds (called c) (called (anew c new))
+  begins_anew is p top enough = record {
+    steps = performs_then holds c Beginning new None u (record c.opened { reads = []; writes = []; set = [] }) None;
+    caller = anew_caller holds c v Beginning new u is;
+    begun = anew_begun holds c v Beginning new u is;
+    at_begin = at_begin_of (began_of Beginning (called c)) (view_of new.seat).log p new.sample top;
+    same_done = done_then;
+    enough = enough;
+    admits = (c.terms.start.value.items, anew_admits holds c v Beginning new u is);
+  }
+
+-- ---- a call that was to give back
+
+module _ {L : Type 0} (holds : L → List Val → Type 0) (c : Inside L) (v : Tied holds c) (new : Steps L)
+    (u : Under holds (called c).home (began_of Returning (called c)) new Done None) where
+  pub returns_done : done (called (freed c new)) ≡ done (called c)
+  returns_done =
+      same_done holds c v Returning new u (returning_none (table_of c.terms) (state (called c)) u.events u.obeys)
+
+-- ---- the same from what the steps tell of their table
+
+module _ {L : Type 0} (holds : L → List Val → Type 0) (c : Inside L) (v : Tied holds c) (home : Home L)
+    (same : (called c).home ≡ home) (new : Steps L) where
+  pub freed_here : (gave : Bool) → now home new ≡ record (now home c.steps) { holds = []; gave_back = gave } →
+      now (called c).home new ≡ record (state (called c)) { holds = []; gave_back = gave }
+  freed_here gave is =
+      subst (λ (h : Home L). now h new ≡ record (state (called c)) { holds = []; gave_back = gave }) (sym same)
+      (is ∙ ap (λ (l : LocalState). record l { holds = []; gave_back = gave }) (now_there holds c v home same))
+
+  pub begun_here : now home new ≡ begin (now home c.steps) new.sample →
+      now (called c).home new ≡ begin (state (called c)) new.sample
+  begun_here is =
+      subst (λ (h : Home L). now h new ≡ begin (state (called c)) new.sample) (sym same)
+      (is ∙ ap (λ (l : LocalState). begin l new.sample) (now_there holds c v home same))
+
+  pub top_here : (p : ℕ) →
+      ((before : List Event)
+      × ((view_of new.seat).log ≡ made_by (begun_as home Beginning c.steps) Load Sample p new.sample ∷ before)) →
+      (before : List Event)
+      × ((view_of new.seat).log ≡ made_by (began_of Beginning (called c)) Load Sample p new.sample ∷ before)
+  top_here p top =
+      subst (λ (b : Began). (before : List Event)
+      × ((view_of new.seat).log ≡ made_by b Load Sample p new.sample ∷ before))
+      (began_is holds (called c) Beginning c.steps (steps_of holds c v))
+      (subst (λ (h : Home L). (before : List Event)
+      × ((view_of new.seat).log ≡ made_by (begun_as h Beginning c.steps) Load Sample p new.sample ∷ before))
+      (sym same) top)
+
+-- whether the caller is spent, by what it counts
+pub spent_is : {L : Type 0} (holds : L → List Val → Type 0) (c : Inside L) → Tied holds c →
+    is_spent (table_of c.terms) (state (called c)) ≡ not (nat_lt c.begun c.terms.attempts)
+spent_is holds c v = ap (λ n. not (nat_lt n c.terms.attempts)) v.begun
+
+-- the test whether it is
+pub spent_by : {L : Type 0} (holds : L → List Val → Type 0) (c : Inside L) → Tied holds c → c.terms.attempts ≤ c.begun →
+    (nat_le c.terms.attempts c.begun ≡ true) × (is_spent (table_of c.terms) (state (called c)) ≡ true)
+spent_by holds c v all = (grind (arith, all), spent_is holds c v ∙ ap not (tested c.begun c.terms.attempts all))
+  where
+    tested : (n m : ℕ) → m ≤ n → nat_lt n m ≡ false
+    tested n m h = grind arith
+
+pub unspent_by : {L : Type 0} (holds : L → List Val → Type 0) (c : Inside L) → Tied holds c →
+    c.begun < c.terms.attempts →
+    (nat_le c.terms.attempts c.begun ≡ false) × (is_spent (table_of c.terms) (state (called c)) ≡ false)
+unspent_by holds c v left = (grind (arith, left), spent_is holds c v ∙ ap not (tested c.begun c.terms.attempts left))
+  where
+    tested : (n m : ℕ) → n < m → nat_lt n m ≡ true
+    tested n m h = grind arith

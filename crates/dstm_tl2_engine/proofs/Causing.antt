@@ -1,0 +1,74 @@
+-- Why a call has left its attempt, from what it answers.
+use Rattle.std.proofs.Common.{◌++◌, ◌≡◌, ◌⊎◌, ◌∷◌, List, [], Some, ap, inl, inr, refl, subst, true, false}
+use Rattle.std.specs.Prelude.{Bool, if◌then◌else◌}
+use Rattle.std.proofs.lemmas.Bool.{cases_Bool}
+use Rattle.dstm_tl2.specs.Failing.{fails, is_locked}
+use Rattle.dstm_tl2.specs.Rules.{Event}
+use Rattle.dstm_tl2.specs.State.{LocalState}
+use Rattle.dstm_tl2.specs.Words.{Table}
+use Rattle.dstm_tl2_caller.specs.Calls.{Causes, Found, answer_of, cause, is_look_lock, state_after}
+use Rattle.dstm_tl2_caller.specs.declared.again.TlAgain.{TlAgain}
+use Rattle.dstm_tl2_caller.specs.declared.again.TlAgain.TheVariants.{Changed, Locked, Newer}
+
+-- the event that ends the attempt is the cause
+cause_is : (t : Table) (l : LocalState) (es : List Event) (e : Event) → fails e.kind (state_after t l es) e ≡ true →
+    Causes (cause e) t l (e ∷ es)
+cause_is t l es e f = by (is_locked e.found) refl (is_look_lock e.kind) refl
+  where
+    here : Found t l (e ∷ es) e.place
+    here = record { event = e; later = []; before = es; in_call = refl; object = refl; fails = f }
+
+    by : (b : Bool) → is_locked e.found ≡ b → (d : Bool) → is_look_lock e.kind ≡ d →
+        Causes (if b then Locked e.place else if d then Newer e.place else Changed e.place) t l (e ∷ es)
+    by true p d q = (here, p)
+    by false p true q = (here, p, q)
+    by false p false q = (here, p, q)
+
+-- a later event leaves the cause
+cause_stays : (again : TlAgain) (t : Table) (l : LocalState) (es : List Event) (e : Event) → Causes again t l es →
+    Causes again t l (e ∷ es)
+cause_stays again t l es e = by again
+  where
+    more : {o : _} → Found t l es o → Found t l (e ∷ es) o
+    more f = record {
+      event = f.event;
+      later = e ∷ f.later;
+      before = f.before;
+      in_call = ap (λ (xs : List Event). e ∷ xs) f.in_call;
+      object = f.object;
+      fails = f.fails;
+    }
+
+    by : (again : TlAgain) → Causes again t l es → Causes again t l (e ∷ es)
+    by (Locked o) c = (more c.0, c.1)
+    by (Newer o) c = (more c.0, c.1, c.2)
+    by (Changed o) c = (more c.0, c.1, c.2)
+
+-- WHAT A CALL ANSWERS HAS ITS CAUSE among the events of the call.
+pub causes_of : (t : Table) (l : LocalState) (es : List Event) (again : TlAgain) → answer_of t l es ≡ Some again →
+    Causes again t l es
+causes_of t l [] again h = absurd (cc)
+causes_of t l (e ∷ es) again h =
+    by (causes_of t l es again) (cases_Bool (fails e.kind (state_after t l es) e))
+  where
+    by : (answer_of t l es ≡ Some again → Causes again t l es) →
+        (fails e.kind (state_after t l es) e ≡ true) ⊎ (fails e.kind (state_after t l es) e ≡ false) →
+        Causes again t l (e ∷ es)
+    by ih (inl q) =
+        let same : Some (cause e) ≡ Some again = rw q at h in
+        let is : cause e ≡ again = cc in
+        subst (λ a. Causes a t l (e ∷ es)) is (cause_is t l es e q)
+    by ih (inr q) = cause_stays again t l es e (ih (rw q at h))
+
+-- the event that has ended an attempt, among the events of a call
+pub found_of : (t : Table) (l : LocalState) (es : List Event) (again : TlAgain) → answer_of t l es ≡ Some again →
+    (event : Event) × (later : List Event) × (before : List Event)
+    × (es ≡ later ++ event ∷ before) × (fails event.kind (state_after t l before) event ≡ true)
+found_of t l es again h = by again (causes_of t l es again h)
+  where
+    by : (again : TlAgain) → Causes again t l es →
+        (event : Event) × (later : List Event) × (before : List Event)
+        × (es ≡ later ++ event ∷ before) × (fails event.kind (state_after t l before) event ≡ true)
+    by (Locked o) c = (c.0.event, c.0.later, c.0.before, c.0.in_call, c.0.fails)
+    by (Newer o) c = (c.0.event, c.0.later, c.0.before, c.0.in_call, c.0.fails)
+    by (Changed o) c = (c.0.event, c.0.later, c.0.before, c.0.in_call, c.0.fails)

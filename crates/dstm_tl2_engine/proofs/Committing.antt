@@ -1,0 +1,394 @@
+-- A caller after a call that locks or commits.
+use Rattle.std.proofs.Common.{◌≡◌, ◌≢◌, ◌<◌, ◌≤◌, ◌∙◌, ℕ, List, [], ◌∷◌, refl, ap, sym, subst, true, false, inl, inr, Bool, Option, Some, None, length, map, take, arith}
+use Rattle.std.specs.List.{All}
+use Rattle.std.specs.Prelude.{◌⊎◌, ◌||◌, IfSome, IsSome, is_none, is_some, if◌then◌else◌}
+use Rattle.std.specs.Option.{option_or}
+use Rattle.std.proofs.Math.Seq.{take-length}
+use Rattle.std.proofs.lemmas.List.{length-map, length-take-le}
+use Rattle.dstm_mem.proofs.Pairs.{AgreesWith-of_agrees, with_writes-with_set}
+use Rattle.dstm_mem.proofs.WithSet.{unset_stays}
+use Rattle.dstm_mem.specs.Memory.{value_in, with_set}
+use Rattle.dstm_model.specs.declared.value.Val.{Val}
+use Rattle.dstm_model.specs.Map.{Agrees, KeepsLaw, NamesOnce, value_at, with_writes}
+use Rattle.dstm_tl2.specs.Histories.{entry_of, read_values}
+use Rattle.dstm_tl2.specs.Rules.{Event, IsTold, new_hold}
+use Rattle.dstm_tl2.specs.Sharing.{table_of}
+use Rattle.dstm_tl2.specs.State.{LocalState, is_valid, or_writes, or_zero, read_of, recorded}
+use Rattle.dstm_tl2.specs.Words.{objects}
+use Rattle.dstm_tl2_words.specs.Seats.{Home, view_of}
+use Rattle.dstm_tl2_caller.specs.declared.again.TlAgain.{TlAgain}
+use Rattle.dstm_tl2_caller.specs.declared.steps.Steps.{Steps}
+use Rattle.dstm_tl2_caller.specs.Calls.{answer_of}
+use Rattle.dstm_tl2_caller.specs.Order.Due.{Done}
+use Rattle.dstm_tl2_caller.specs.Reads.{AtRest}
+use Rattle.dstm_tl2_caller.specs.Tasks.{Work}
+use Rattle.dstm_tl2_caller.specs.Tasks.Task.{Doing}
+use Rattle.dstm_tl2_caller.specs.Tasks.Work.{Finishing, Locking}
+use Rattle.dstm_tl2_caller.specs.Under as under
+use Rattle.dstm_tl2_caller.specs.Under.{Lists, Under, now}
+use Rattle.dstm_tl2_engine.specs.Attempts.{Commits, done}
+use Rattle.dstm_tl2_engine.specs.Began.{began_of}
+use Rattle.dstm_tl2_engine.specs.Callers.{TlCalled, handed, held, is_live, state, table_of_caller, written}
+use Rattle.dstm_tl2_engine.specs.Calls.{Performs}
+use Rattle.dstm_tl2_engine.specs.Mirror.{Tied, called}
+use Rattle.dstm_tl2_engine.specs.Outcomes.{IsLeft}
+use Rattle.dstm_tl2_engine.specs.Transactions.{HasLocked, IsLawful, Leaves, Stays}
+use Rattle.dstm_tl2_engine.specs.declared.caller.TlCaller.TheInside.{Inside}
+use Rattle.dstm_tl2_engine.proofs.AfterCall.{attempt_kept, done_invalid, done_valid, left_after}
+use Rattle.dstm_tl2_engine.proofs.Causing.{causes_of}
+use Rattle.dstm_tl2_engine.proofs.Done.{failed_invalid, undrawn_invalid}
+use Rattle.dstm_tl2_engine.proofs.Others.{others_of}
+use Rattle.dstm_tl2_engine.proofs.Tying.{kept, now_there, performs_then, state_then}
+use Rattle.dstm_tl2_engine.proofs.Working.{KeptBy, TellsOnce, are_closing, closes, closing_keeps, one_is, tell_once, works_on}
+
+-- ---- what is written, and what is set
+
+-- For a map that agrees with what was read the writes are what is set: what was opened and not set has the value read.
+told_as_set : (values : List Val) (reads writes : List (ℕ × Val)) (set : ℕ → Option Val) → Agrees values reads →
+    ((o : ℕ) → IfSome (value_in writes o) (λ v. Some v ≡ option_or (set o) (value_in reads o))) →
+    ((o : ℕ) → IsSome (set o) → IsSome (value_in writes o)) →
+    with_writes values writes ≡ with_set values set
+told_as_set values reads writes set agrees puts sets =
+    with_writes-with_set values writes
+    ∙ unset_stays values (value_in reads) set (value_in writes) (AgreesWith-of_agrees values reads agrees) puts sets
+
+put_is : (x h : Option Val) → IfSome x (λ v. Some v ≡ h) → x ≡ (if is_some x then h else None)
+put_is None h is = refl
+put_is (Some v) h is = is
+
+unset_is : (w x : Option Val) → (IsSome w → IsSome x) → is_some x ≡ false → w ≡ None
+unset_is None x sets shut = refl
+unset_is (Some v) None sets shut = let some = sets refl in absurd (cc)
+unset_is (Some v) (Some y) sets shut = absurd (cc)
+
+no_answer : (x : Option TlAgain) → is_none x ≡ true → x ≡ None
+no_answer None live = refl
+no_answer (Some again) live = absurd (cc)
+
+-- as many locks as writes
+all_locked : (l : LocalState) (writes : List (ℕ × Val)) (count : ℕ) → count ≤ length writes →
+    map (new_hold l) (take count writes) ≡ map (new_hold l) writes → count ≡ length writes
+all_locked l writes count few same =
+    sym (length-take-le count writes few) ∙ sym (length-map (take count writes) (new_hold l)) ∙ ap length same
+    ∙ length-map writes (new_hold l)
+
+-- the locks depend on the reads alone
+same_locks : (l m : LocalState) (writes : List (ℕ × Val)) → l.reads ≡ m.reads →
+    map (new_hold l) writes ≡ map (new_hold m) writes
+same_locks l m writes same =
+    ap (λ reads. map (λ (w : ℕ × Val). record {
+      object = w.0;
+      word = recorded w.0 reads;
+      value = w.1;
+      low_put = false;
+      high_put = false;
+    }) writes) same
+
+-- what was told, if anything was
+told_is : (told : Option (List (ℕ × Val))) (writes : List (ℕ × Val)) → (told ≢ None → told ≡ Some writes) →
+    (told ≡ None) ⊎ (told ≡ Some writes)
+told_is None writes is = inl refl
+told_is (Some ws) writes is = inr (is (λ q. cc))
+
+told_some : (told : Option (List (ℕ × Val))) (writes : List (ℕ × Val)) → (told ≡ None) ⊎ (told ≡ Some writes) →
+    told ≢ None → told ≡ Some writes
+told_some told writes (inl none) some = absurd (some none)
+told_some told writes (inr is) some = is
+
+-- ---- a caller's fields
+
+module _ {L : Type 0} (holds : L → List Val → Type 0) (c : Inside L) (v : Tied holds c) where
+  -- the condition of a commit, as the draw needs it
+  pub keeps_law : IsLawful holds (called c) →
+      KeepsLaw (holds c.terms.law.value) (objects (table_of c.terms)) (entry_of (state (called c)) c.opened.writes)
+  keeps_law lawful values size was agrees =
+      subst (holds c.terms.law.value)
+      (sym (told_as_set values (read_values (state (called c)).reads) c.opened.writes (written (called c)) agrees v.puts
+      v.sets))
+      (lawful values (record {
+        length = size;
+        lawful = was;
+        agrees = AgreesWith-of_agrees values (read_values (state (called c)).reads) agrees;
+      }))
+
+  -- where all that it writes is locked, it is all that it has open
+  pub all_counted : HasLocked (called c) → c.locked ≡ length c.opened.writes
+  all_counted locked = all_locked (state (called c)) c.opened.writes c.locked v.few (sym v.locks ∙ locked.all)
+
+  pub told_there : HasLocked (called c) → IsTold (state (called c)) c.opened.writes
+  told_there locked = told_is (state (called c)).writes c.opened.writes locked.told
+
+  -- ---- after a call that locks or commits
+
+  module _ (work : Work) (is : closes work ≡ true) (new : Steps L) (answer : Option TlAgain)
+      (u : Under holds (called c).home (began_of (Doing work) (called c)) new Done answer) (locked : ℕ)
+      (left : Option TlAgain) where
+    abbrev pub closed_as : Inside L
+    closed_as = record c { steps = new; locked = locked; left = left }
+
+    abbrev next : TlCalled L
+    next = called closed_as
+
+    pub then_is : state next ≡ now (called c).home new
+    then_is = state_then holds c v (Doing work) new Done answer u
+
+    pub then_keeps : KeptBy (state (called c)) (state next) (is_some answer)
+    then_keeps =
+        subst (λ a. KeptBy (state (called c)) (state next) (is_some a)) u.gives
+        (subst (λ l. KeptBy (state (called c)) l (is_some (answer_of (table_of c.terms) (state (called c)) u.events)))
+        (sym (then_is ∙ u.state))
+        (closing_keeps (table_of c.terms) (state (called c)) u.events
+        (are_closing work (table_of c.terms) (state (called c)) u.events is u.obeys)))
+
+    held_then : (o : ℕ) → held next o ≡ held (called c) o
+    held_then o = ap (λ rs. value_in (read_values rs) o) then_keeps.reads
+
+    pub then_steps : Performs holds (Doing work) (called c) next answer
+    then_steps = performs_then holds c (Doing work) new answer u c.opened left
+
+    pub then_kept : next ≡ record (called c) { log = (view_of new.seat).log; left = left }
+    then_kept =
+        ap (λ h. record next { home = h }) (kept holds c v (Doing work) new Done answer u).home
+
+    -- the condition of a commit stays
+    pub then_lawful : IsLawful holds (called c) → IsLawful holds next
+    then_lawful lawful values admits =
+        lawful values (record {
+          length = admits.length;
+          lawful = admits.lawful;
+          agrees = λ o.
+              subst (λ h. IfSome h (λ x. value_at values o ≡ x)) (held_then o) (admits.agrees o);
+        })
+
+    pub closed_tied : locked ≤ length c.opened.writes →
+        (now (called c).home new).holds ≡ map (new_hold (now (called c).home new)) (take locked c.opened.writes) →
+        (locked ≢ 0 → (now (called c).home new).drawn ≡ None) →
+        (HasLocked next → IsLawful holds next) → IfSome left (λ again. IsLeft next) → Tied holds closed_as
+    closed_tied few locks may lawful is_left =
+        let k = kept holds c v (Doing work) new Done answer u in record {
+          seat = k.seat;
+          run = k.run;
+          number = k.number;
+          places = k.places;
+          begun = then_keeps.begun ∙ v.begun;
+          sample = k.sample;
+          objects = k.objects;
+          reads = v.reads ∙ sym then_keeps.reads;
+          writes_read = λ o none. v.writes_read o (ap (read_of o) (sym then_keeps.reads) ∙ none);
+          puts = λ o.
+              subst (λ h. IfSome (value_in c.opened.writes o) (λ x. Some x ≡ option_or (written (called c) o) h))
+              (sym (held_then o)) (v.puts o);
+          sets = v.sets;
+          seen = k.seen;
+          locks = subst (λ (l : LocalState). l.holds ≡ map (new_hold l) (take locked c.opened.writes)) (sym then_is)
+              locks;
+          may = λ some. ap (λ (l : LocalState). l.drawn) then_is ∙ may some;
+          few = few;
+          lawful = lawful;
+          left = is_left;
+        }
+
+    pub closed_stays : answer ≡ None → Stays holds work (called c) next
+    closed_stays none = record {
+      steps = subst (Performs holds (Doing work) (called c) next) none then_steps;
+      attempt = attempt_kept holds (called c) next (Doing work) answer then_steps refl;
+    }
+
+    -- nothing is committed where the attempt is not valid in the end
+    pub closed_done : is_valid (state next) ≡ false → done next ≡ done (called c)
+    closed_done invalid = done_invalid holds (called c) next (Doing work) answer then_steps refl invalid
+
+  -- ---- a call that has left its attempt
+
+  module _ (work : Work) (is : closes work ≡ true) (new : Steps L) (again : TlAgain)
+      (u : Under holds (called c).home (began_of (Doing work) (called c)) new Done (Some again))
+      (once : NamesOnce (objects (table_of c.terms)) (works_on work))
+      (free : (now (called c).home new).holds ≡ []) where
+    abbrev pub left_as : Inside L
+    left_as = closed_as work is new (Some again) u 0 (Some again)
+
+    left_failed : (state (called left_as)).failed ≡ true
+    left_failed =
+        (then_keeps work is new (Some again) u 0 (Some again)).failed ∙ or_true (state (called c)).failed
+      where
+        or_true : (b : Bool) → (b || true) ≡ true
+        or_true true = refl
+        or_true false = refl
+
+    left_free : (state (called left_as)).holds ≡ []
+    left_free = ap (λ (l : LocalState). l.holds) (then_is work is new (Some again) u 0 (Some again)) ∙ free
+
+    others : 1 < c.terms.callers
+    others =
+        others_of (table_of c.terms) c.number (view_of new.seat).log (called c).log u.events again u.run.run.run
+        v.number.0 u.own u.gives
+        (λ event later early is_in.
+        (one_is (TellsOnce (objects (table_of c.terms))) later event early
+        (subst (All (λ (e : Event). TellsOnce (objects (table_of c.terms)) e.kind)) is_in
+        (tell_once (objects (table_of c.terms)) work (table_of c.terms) (state (called c)) u.events is once
+        u.obeys))).1)
+
+    pub left_is : IsLeft (called left_as)
+    left_is =
+        left_after holds (called c) (called left_as) (Doing work) (Some again)
+        (then_steps work is new (Some again) u 0 (Some again)) left_free (inl left_failed) others
+
+    pub left_tied : Tied holds left_as
+    left_tied =
+        closed_tied work is new (Some again) u 0 (Some again) (omega arith) free (λ some. absurd (some refl))
+        (λ locked. absurd (let sound = locked.sound.0 in let failed = left_failed in cc)) left_is
+
+    pub left_leaves : Leaves holds work (called c) (called left_as) again
+    left_leaves = record {
+      steps = then_steps work is new (Some again) u 0 (Some again);
+      cause =
+          causes_of (table_of_caller (called c)) (state (called c))
+          (then_steps work is new (Some again) u 0 (Some again)).events again
+          (sym (then_steps work is new (Some again) u 0 (Some again)).answers);
+      left = left_is;
+      attempt =
+          attempt_kept holds (called c) (called left_as) (Doing work) (Some again)
+          (then_steps work is new (Some again) u 0 (Some again)) refl;
+      done =
+          closed_done work is new (Some again) u 0 (Some again) (failed_invalid (state (called left_as)) left_failed);
+    }
+
+  -- ---- a call that has locked
+
+  module _ (new : Steps L)
+      (u : Under holds (called c).home (began_of (Doing (Locking c.opened.writes)) (called c)) new Done None)
+      (rest : AtRest (state (called c))) (live : is_live (called c) ≡ true)
+      (state_is : under.HasLocked (state (called c)) c.opened.writes (length c.opened.writes)
+      (now (called c).home new))
+      (locks : (now (called c).home new).holds
+      ≡ map (new_hold (now (called c).home new)) (take (length c.opened.writes) c.opened.writes)) where
+    abbrev pub locked_as : Inside L
+    locked_as = closed_as (Locking c.opened.writes) refl new None u (length c.opened.writes) c.left
+
+    is_then : state (called locked_as) ≡ now (called c).home new
+    is_then = then_is (Locking c.opened.writes) refl new None u (length c.opened.writes) c.left
+
+    pub locked_undrawn : (now (called c).home new).drawn ≡ None
+    locked_undrawn = ap (λ (l : LocalState). l.drawn) state_is.same ∙ rest.undrawn
+
+    pub has_locked : HasLocked (called locked_as)
+    has_locked = record {
+      begun = subst (λ n. 0 < n)
+          (sym (ap (λ (l : LocalState). l.begun) is_then ∙ ap (λ (l : LocalState). l.begun) state_is.same)) rest.begun;
+      locked = ap (λ (l : LocalState). l.locked) is_then ∙ ap (λ (l : LocalState). l.locked) state_is.same;
+      told = subst (λ (l : LocalState). l.writes ≢ None → l.writes ≡ Some c.opened.writes) (sym is_then)
+          (told_some (now (called c).home new).writes c.opened.writes state_is.told);
+      all = subst (λ (l : LocalState). l.holds ≡ map (new_hold l) c.opened.writes) (sym is_then)
+          (locks ∙ ap (map (new_hold (now (called c).home new))) (take-length c.opened.writes));
+      undrawn = ap (λ (l : LocalState). l.drawn) is_then ∙ locked_undrawn;
+      sound = (
+        ap (λ (l : LocalState). l.failed) is_then ∙ ap (λ (l : LocalState). l.failed) state_is.same ∙ rest.sound.0,
+        ap (λ (l : LocalState). l.gave_back) is_then ∙ ap (λ (l : LocalState). l.gave_back) state_is.same
+            ∙ rest.sound.1,
+      );
+      live = live;
+    }
+
+    pub locked_tied : IsLawful holds (called c) → Tied holds locked_as
+    locked_tied lawful =
+        closed_tied (Locking c.opened.writes) refl new None u (length c.opened.writes) c.left (omega arith) locks
+        (λ some. locked_undrawn)
+        (λ locked. then_lawful (Locking c.opened.writes) refl new None u (length c.opened.writes) c.left lawful)
+        (subst (λ x. IfSome x (λ again. IsLeft (called locked_as))) (sym (no_answer c.left live)) tt)
+
+    pub locked_stays : Stays holds (Locking c.opened.writes) (called c) (called locked_as)
+    locked_stays = closed_stays (Locking c.opened.writes) refl new None u (length c.opened.writes) c.left refl
+
+    pub locked_kept : called locked_as ≡ record (called c) { log = (view_of new.seat).log; left = None }
+    locked_kept =
+        then_kept (Locking c.opened.writes) refl new None u (length c.opened.writes) c.left
+        ∙ ap (λ x. record (called c) { log = (view_of new.seat).log; left = x }) (no_answer c.left live)
+
+    pub locked_done : done (called locked_as) ≡ done (called c)
+    locked_done =
+        closed_done (Locking c.opened.writes) refl new None u (length c.opened.writes) c.left
+        (undrawn_invalid (state (called locked_as)) has_locked.undrawn)
+
+  -- ---- a call that has finished
+
+  module _ (new : Steps L)
+      (u : Under holds (called c).home (began_of (Doing (Finishing c.opened.writes)) (called c)) new Done None)
+      (locked : HasLocked (called c)) (number : ℕ) (valid : is_valid (now (called c).home new) ≡ true)
+      (drawn : (now (called c).home new).drawn ≡ Some number)
+      (told : (now (called c).home new).writes ≡ Some c.opened.writes)
+      (free : (now (called c).home new).holds ≡ []) where
+    abbrev pub finished_as : Inside L
+    finished_as = closed_as (Finishing c.opened.writes) refl new None u 0 c.left
+
+    by_then : state (called finished_as) ≡ now (called c).home new
+    by_then = then_is (Finishing c.opened.writes) refl new None u 0 c.left
+
+    pub finished_tied : Tied holds finished_as
+    finished_tied =
+        closed_tied (Finishing c.opened.writes) refl new None u 0 c.left (omega arith) free (λ some. absurd (some refl))
+        (λ more. absurd (let none : (now (called c).home new).drawn ≡ None =
+        ap (λ (l : LocalState). l.drawn) (sym by_then) ∙ more.undrawn in cc))
+        (subst (λ x. IfSome x (λ again. IsLeft (called finished_as))) (sym (no_answer c.left locked.live)) tt)
+
+    pub finished_stays : Stays holds (Finishing c.opened.writes) (called c) (called finished_as)
+    finished_stays = closed_stays (Finishing c.opened.writes) refl new None u 0 c.left refl
+
+    pub finished_kept : called finished_as ≡ record (called c) { log = (view_of new.seat).log; left = None }
+    finished_kept =
+        then_kept (Finishing c.opened.writes) refl new None u 0 c.left
+        ∙ ap (λ x. record (called c) { log = (view_of new.seat).log; left = x }) (no_answer c.left locked.live)
+
+    pub finished_commits : Commits (called c) (called finished_as) number
+    finished_commits = record {
+      valid = ap is_valid by_then ∙ valid;
+      drawn = ap (λ (l : LocalState). l.drawn) by_then ∙ drawn;
+      free = ap (λ (l : LocalState). l.holds) by_then ∙ free;
+      entry = entry_of (state (called finished_as)) (or_writes (state (called finished_as)).writes);
+      done =
+          done_valid holds (called c) (called finished_as) (Doing (Finishing c.opened.writes)) None
+          (then_steps (Finishing c.opened.writes) refl new None u 0 c.left) refl
+          (undrawn_invalid (state (called c)) locked.undrawn) (ap is_valid by_then ∙ valid)
+          ∙ ap (λ n. record {
+            caller = c.number;
+            number = n;
+            entry = entry_of (state (called finished_as)) (or_writes (state (called finished_as)).writes);
+          } ∷ done (called c)) (ap (λ (l : LocalState). or_zero l.drawn) by_then ∙ ap or_zero drawn);
+      reads = λ o. held_then (Finishing c.opened.writes) refl new None u 0 c.left o;
+      writes = λ o.
+          ap (λ (l : LocalState). value_in (or_writes l.writes) o) by_then
+          ∙ ap (λ ws. value_in (or_writes ws) o) told
+          ∙ put_is (value_in c.opened.writes o) (handed (called c) o) (v.puts o);
+      only = λ o. unset_is (written (called c) o) (value_in c.opened.writes o) (v.sets o);
+    }
+
+  -- ---- in the words of a call's caller
+
+  module _ (home : Home L) (same : (called c).home ≡ home) where
+    pub free_here : (new : Steps L) → (now home new).holds ≡ [] → (now (called c).home new).holds ≡ []
+    free_here new free = subst (λ (x : Home L). (now x new).holds ≡ []) (sym same) free
+
+    pub locks_here : (new : Steps L) (count : ℕ) → Lists home new c.opened count → count ≡ length c.opened.writes →
+        (now (called c).home new).holds
+        ≡ map (new_hold (now (called c).home new)) (take (length c.opened.writes) c.opened.writes)
+    locks_here new count lists all =
+        subst (λ (x : Home L). (now x new).holds
+        ≡ map (new_hold (now x new)) (take (length c.opened.writes) c.opened.writes)) (sym same)
+        (lists.held ∙ ap (λ n. map (new_hold (now home new)) (take n c.opened.writes)) all)
+
+    pub locked_here : (new : Steps L) →
+        under.HasLocked (now home c.steps) c.opened.writes (length c.opened.writes) (now home new) →
+        under.HasLocked (state (called c)) c.opened.writes (length c.opened.writes) (now (called c).home new)
+    locked_here new h =
+        subst (λ l. under.HasLocked l c.opened.writes (length c.opened.writes) (now (called c).home new))
+        (now_there holds c v (called c).home refl)
+        (subst (λ (x : Home L). under.HasLocked (now x c.steps) c.opened.writes (length c.opened.writes) (now x new))
+        (sym same) h)
+
+    pub law_there : IsLawful holds (called c) →
+        KeepsLaw (holds home.terms.law.value) (objects (table_of home.terms))
+        (entry_of (now home c.steps) c.opened.writes)
+    law_there lawful =
+        subst (λ (x : Home L). KeepsLaw (holds x.terms.law.value) (objects (table_of x.terms))
+        (entry_of (now x c.steps) c.opened.writes)) same
+        (subst (λ l. KeepsLaw (holds c.terms.law.value) (objects (table_of c.terms)) (entry_of l c.opened.writes))
+        (sym (now_there holds c v (called c).home refl)) (keeps_law lawful))

@@ -1,0 +1,60 @@
+-- What a call on an attempt says, from what its caller's call says.
+use Rattle.std.proofs.Common.{◌∙◌, ◌∷◌, ◌≡◌, ◌⊎◌, List, [], ap, false, inl, inr, subst, sym, true, ℕ}
+use Rattle.std.specs.Prelude.{Err, IfOk, IsSome, Ok, OnOk, Result, is_some}
+use Rattle.std.proofs.lemmas.Bool.{cases_Bool, cases_eq}
+use Rattle.dstm_mem.specs.Memory.{MarksAtMost, value_in}
+use Rattle.dstm_model.specs.declared.value.Val.{Val}
+use Rattle.dstm_tl2_caller.proofs.Slots.{value_in-with_other, value_in-with_value}
+use Rattle.dstm_tl2_caller.specs.Opened.{with_value}
+use Rattle.dstm_tl2_caller.specs.declared.again.TlAgain.{TlAgain}
+use Rattle.dstm_tl2_engine.proofs.Opens.{not_some, value_in-last, value_in-more, value_in-stays}
+use Rattle.dstm_tl2_engine.specs.Callers.{TlCalled, is_opened}
+use Rattle.dstm_tl2_engine.specs.Transactions.{Marks}
+
+-- ---- what is open for writing
+
+marks_at_most : {L : Type 0} (o : ℕ) (k n : TlCalled L) (value : Val) → Marks o k n value →
+    MarksAtMost o (is_opened k) (is_opened n)
+marks_at_most o k n value m = record {
+  kept = λ p some.
+      ap (λ ws. is_some (value_in ws p)) m.writes
+      ∙ ap is_some (value_in-stays k.writes ((o, value) ∷ []) p some) ∙ some;
+  others = λ p other.
+      ap (λ ws. is_some (value_in ws p)) m.writes ∙ ap is_some (value_in-more k.writes o value p other);
+}
+
+marks_now : {L : Type 0} (o : ℕ) (k n : TlCalled L) (value : Val) → is_opened k o ≡ false → Marks o k n value →
+    is_opened n o ≡ true
+marks_now o k n value unopened m =
+    ap (λ ws. is_some (value_in ws o)) m.writes
+    ∙ ap is_some (value_in-last k.writes o value (not_some (value_in k.writes o) unopened))
+
+-- an open for writing marks the object, and no other
+pub opens_marked : {L : Type 0} (o : ℕ) (k n : TlCalled L) (r : Result Val TlAgain) →
+    (is_opened k o ≡ true → n ≡ k) → (is_opened k o ≡ false → IfOk r (λ v. Marks o k n v)) →
+    OnOk r (MarksAtMost o (is_opened k) (is_opened n)) × OnOk r (is_opened n o ≡ true)
+opens_marked o k n (Err e) again marks = (tt, tt)
+opens_marked o k n (Ok v) again marks = by (cases_Bool (is_opened k o))
+  where
+    by : (is_opened k o ≡ true) ⊎ (is_opened k o ≡ false) →
+        MarksAtMost o (is_opened k) (is_opened n) × (is_opened n o ≡ true)
+    by (inl open_now) =
+        let same : n ≡ k = again open_now in (
+          record {
+            kept = λ p some. ap (λ (k : TlCalled _). is_opened k p) same ∙ some;
+            others = λ p other. ap (λ (k : TlCalled _). is_opened k p) same;
+          },
+          ap (λ (k : TlCalled _). is_opened k o) same ∙ open_now,
+        )
+    by (inr not_yet) = (marks_at_most o k n v (marks not_yet), marks_now o k n v not_yet (marks not_yet))
+
+-- a set leaves what is open for writing
+pub set_opened : (o : ℕ) (v : Val) (writes : List (ℕ × Val)) (p : ℕ) → IsSome (value_in writes o) →
+    is_some (value_in (with_value o v writes) p) ≡ is_some (value_in writes p)
+set_opened o v writes p some = by (cases_eq p o)
+  where
+    by : (p ≡ o) ⊎ (p ≡ o → ⊥) → is_some (value_in (with_value o v writes) p) ≡ is_some (value_in writes p)
+    by (inl same) =
+        subst (λ n. is_some (value_in (with_value o v writes) n) ≡ is_some (value_in writes n)) (sym same)
+        (ap is_some (value_in-with_value o v writes some) ∙ sym some)
+    by (inr other) = ap is_some (value_in-with_other o v writes p other)

@@ -1,0 +1,24 @@
+-- Lemmas of the tables, their founders and callers.
+pub mod AfterCall
+pub mod Begins
+pub mod Both
+pub mod CallKinds
+pub mod Calling
+pub mod Causing
+pub mod Committing
+pub mod Done
+pub mod Enrolling
+pub mod Handing
+pub mod LastValues
+pub mod Left
+pub mod Opens
+pub mod Others
+pub mod Retired
+pub mod Seeing
+pub mod Setting
+pub mod Telling
+pub mod Tying
+pub mod Resting
+pub mod Settling
+pub mod Made
+pub mod Working

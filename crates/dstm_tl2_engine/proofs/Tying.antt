@@ -1,0 +1,120 @@
+-- A caller whose fields stand for what contracts see of it, before and after a call.
+use Rattle.std.proofs.Common.{◌<◌, ◌∙◌, ◌≡◌, List, [], ap, refl, subst, sym}
+use Rattle.std.specs.Prelude.{None, Option, Some, is_some}
+use Rattle.dstm_model.specs.declared.value.Val.{Val}
+use Rattle.dstm_tl2.specs.Runs.{local}
+use Rattle.dstm_tl2.specs.Sharing.{IsRunOf, table_of}
+use Rattle.dstm_tl2.specs.State.{LocalState}
+use Rattle.dstm_tl2_words.specs.Seats.{Home, View, caller_state, view_of}
+use Rattle.dstm_tl2_caller.proofs.Bounds.{number_now}
+use Rattle.dstm_tl2_caller.specs.Opened.{OpenedAs}
+use Rattle.dstm_tl2_caller.specs.Order.{Due, due}
+use Rattle.dstm_tl2_caller.specs.Order.Due.{Done}
+use Rattle.dstm_tl2_caller.specs.Tasks.{Task}
+use Rattle.dstm_tl2_caller.specs.Under.{Lists, Under, now}
+use Rattle.dstm_tl2_caller.specs.declared.again.TlAgain.{TlAgain}
+use Rattle.dstm_tl2_caller.specs.declared.steps.Steps.{Steps}
+use Rattle.dstm_tl2_engine.proofs.Calling.{StepsOf, began_is, begun_as, now_is, performs, starts}
+use Rattle.dstm_tl2_engine.proofs.Seeing.{seen_now}
+use Rattle.dstm_tl2_engine.specs.Attempts.{Seen}
+use Rattle.dstm_tl2_engine.specs.Began.{began_of}
+use Rattle.dstm_tl2_engine.specs.Callers.{objects_of, seat_view, state}
+use Rattle.dstm_tl2_engine.specs.Calls.{Performs}
+use Rattle.dstm_tl2_engine.specs.Mirror.{Tied, called}
+use Rattle.dstm_tl2_engine.specs.declared.caller.TlCaller.TheInside.{Inside}
+
+-- ---- before a call
+
+module _ {L : Type 0} (holds : L → List Val → Type 0) (c : Inside L) (v : Tied holds c) where
+  pub steps_of : StepsOf holds (called c) c.steps
+  steps_of = record {
+    seat = (refl, v.seat.1, ap (λ (w : View L). w.terms) v.seat.0);
+    view = v.seat.0;
+    number = v.number.0;
+    run = v.run;
+    places = v.places;
+    sample = sym v.sample;
+  }
+
+  module _ (home : Home L) (same : (called c).home ≡ home) where
+    -- the state that they know
+    pub now_there : now home c.steps ≡ state (called c)
+    now_there =
+        subst (λ (h : Home L). now h c.steps ≡ state (called c)) same (now_is holds (called c) c.steps steps_of)
+
+    -- the lists are those of the machine
+    pub lists_there : Lists home c.steps c.opened c.locked
+    lists_there =
+        subst (λ (h : Home L). Lists h c.steps c.opened c.locked) same
+        (let is : now (called c).home c.steps ≡ state (called c) = now_is holds (called c) c.steps steps_of in record {
+          objects = v.objects;
+          reads = v.reads ∙ sym (ap (λ (l : LocalState). l.reads) is);
+          held = rw is v.locks;
+        })
+
+    -- a call begins
+    pub starts_there : (task : Task) →
+        Under holds home (begun_as home task c.steps) c.steps
+        (due task (table_of home.terms) None (now home c.steps)) None
+    starts_there task =
+        subst (λ (h : Home L). Under holds h (begun_as h task c.steps) c.steps
+        (due task (table_of h.terms) None (now h c.steps)) None) same (starts holds (called c) task c.steps steps_of)
+
+    -- and ends
+    pub ends_here : (task : Task) (new : Steps L) (d : Due) (again : Option TlAgain) →
+        Under holds home (begun_as home task c.steps) new d again →
+        Under holds (called c).home (began_of task (called c)) new d again
+    ends_here task new d again u =
+        subst (λ b. Under holds (called c).home b new d again) (began_is holds (called c) task c.steps steps_of)
+        (subst (λ (h : Home L). Under holds h (begun_as h task c.steps) new d again) (sym same) u)
+
+-- ---- after it
+
+-- the caller with these steps
+abbrev pub with_steps : {L : Type 0} → Inside L → Steps L → Inside L
+with_steps c new = record c { steps = new }
+
+-- WHAT EVERY CALL KEEPS of a caller's fields, whatever it does to those that are not named here.
+pub record Kept {L : Type 0} (holds : L → List Val → Type 0) (c : Inside L) (new : Steps L) : Type 0 where
+  pub seat : (new.seat.me.0 ≡ seat_view (called (with_steps c new))) × (new.seat.me.1 ≡ [])
+  pub run : IsRunOf holds c.terms new.seat.me.0.log
+  pub number : (c.number < c.terms.callers) × ((state (called (with_steps c new))).number ≡ Some c.number)
+  pub places : new.places ≡ objects_of (called (with_steps c new))
+  pub sample : (state (called (with_steps c new))).sample ≡ new.sample
+  pub objects : c.opened.objects ≡ objects_of (called (with_steps c new))
+  pub seen : Seen holds (called (with_steps c new))
+  pub home : (called (with_steps c new)).home ≡ (called c).home
+
+module _ {L : Type 0} (holds : L → List Val → Type 0) (c : Inside L) (v : Tied holds c) (task : Task) (new : Steps L)
+    (d : Due) (again : Option TlAgain) (u : Under holds (called c).home (began_of task (called c)) new d again) where
+  -- the state of the caller then
+  pub state_then : local (table_of c.terms) (view_of new.seat).log c.number ≡ now (called c).home new
+  state_then = sym (ap (caller_state c.terms) u.view)
+
+  pub home_then : (called (with_steps c new)).home ≡ (called c).home
+  home_then = ap (λ t. record (called c).home { table = t }) u.seat.0
+
+  pub kept : Kept holds c new
+  kept = record {
+    seat = (u.view, u.seat.1);
+    run = u.run;
+    number = (
+      v.number.0,
+      ap (λ (l : LocalState). l.number) state_then
+          ∙ number_now holds (called c).home (began_of task (called c)) new d again u (ap is_some v.number.1),
+    );
+    places = u.places;
+    sample = ap (λ (l : LocalState). l.sample) state_then ∙ sym u.sample;
+    objects = v.objects;
+    seen = seen_now holds (called (with_steps c new)) u.run;
+    home = home_then;
+  }
+
+-- the call is one of the caller's, whatever becomes of its lists
+pub performs_then : {L : Type 0} (holds : L → List Val → Type 0) (c : Inside L) (task : Task) (new : Steps L)
+    (again : Option TlAgain) → Under holds (called c).home (began_of task (called c)) new Done again →
+    (opened : OpenedAs) (left : Option TlAgain) →
+    Performs holds task (called c) (called (record c { steps = new; opened = opened; left = left })) again
+performs_then holds c task new again u opened left =
+    performs holds (called c) task new again (called (record c { steps = new; opened = opened; left = left })) u refl
+    (ap (λ t. record (called c).home { table = t }) u.seat.0) refl

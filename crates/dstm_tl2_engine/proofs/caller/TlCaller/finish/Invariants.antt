@@ -1,0 +1,9 @@
+use Rattle.dstm_tl2_caller.specs.Tasks.Task.{Doing}
+use Rattle.dstm_tl2_caller.specs.Tasks.Work.{Finishing}
+use Rattle.dstm_tl2_engine.proofs.Calling.{begun_as}
+use Rattle.dstm_tl2_engine.proofs.caller.TlCaller.finish.Given as goal
+
+abbrev pub ghosts-finish : goal.ghosts-finish
+ghosts-finish g a = record {
+  began = begun_as a.words.now (Doing (Finishing a.opened.now.writes)) a.self.now;
+}

@@ -1,0 +1,160 @@
+use Rattle.std.proofs.Common.{◌∙◌, ◌≡◌, ap, None, sym}
+use Rattle.std.specs.Prelude.{is_some}
+use Rattle.dstm_mem.specs.Memory.{value_in}
+use Rattle.dstm_tl2_engine.proofs.Opens.{held_opened, IsRead, none_some, no_slot_unheld, pushed_marks, pushed_opens, pushed_stays, pushed_steps, pushed_tied, pushed_value, put_held, read_before, read_by}
+use Rattle.dstm_tl2_engine.specs.Callers.{TlCalled, held}
+use Rattle.dstm_tl2_engine.proofs.caller.TlCaller.open_write.Goals as goal
+use Rattle.dstm_tl2_engine.proofs.caller.TlCaller.open_write.Goals.{in-Some-read, in-None+in_ok-value-in-None}
+
+pub returns-in-Some-clause-stays : goal.returns-in-Some-clause-stays
+returns-in-Some-clause-stays g c =
+    λ none.
+    absurd (none_some (held c.args.self.now c.args.o) none
+    (put_held g.L.Law.holds c.self.inside c.self.invariant c.args.self.now c.self.view_is c.args.o
+    (ap is_some (sym c.write.ensures ∙ c.in-Some.is))))
+
+pub returns-in-Some-clause-opens : goal.returns-in-Some-clause-opens
+returns-in-Some-clause-opens g c =
+    held_opened g.L.Law.holds c.self.inside c.self.invariant c.args.self.now c.self.view_is c.args.o
+    (put_held g.L.Law.holds c.self.inside c.self.invariant c.args.self.now c.self.view_is c.args.o
+    (ap is_some (sym c.write.ensures ∙ c.in-Some.is)))
+
+pub read_first-requires-clause-unread : goal.read_first-requires-clause-unread
+read_first-requires-clause-unread g c =
+    no_slot_unheld g.L.Law.holds c.self.inside c.self.invariant c.args.self.now c.self.view_is c.args.o
+    (sym c.read.ensures ∙ c.in-None.is)
+
+pub returns-in_err-value-in-None-clause-answered : goal.returns-in_err-value-in-None-clause-answered
+returns-in_err-value-in-None-clause-answered g c =
+    λ some.
+    absurd (none_some (held c.args.self.now c.args.o)
+    (no_slot_unheld g.L.Law.holds c.self.inside c.self.invariant c.args.self.now c.self.view_is c.args.o
+    (sym c.read.ensures ∙ c.in-None.is)) some)
+
+pub returns-in_err-value-in-None-clause-steps : goal.returns-in_err-value-in-None-clause-steps
+returns-in_err-value-in-None-clause-steps g c =
+    λ some.
+    absurd (none_some (held c.args.self.now c.args.o)
+    (no_slot_unheld g.L.Law.holds c.self.inside c.self.invariant c.args.self.now c.self.view_is c.args.o
+    (sym c.read.ensures ∙ c.in-None.is)) some)
+
+pub invariant_of-self : goal.invariant_of-self
+invariant_of-self g c =
+    let r : IsRead g.L.Law.holds c.args.o c.args.self.now c.match-read.self c.match-read.value =
+    elim c.match-read.branch [
+      | in-Some-read w ↦
+          read_before g.L.Law.holds c.self.inside c.self.invariant c.args.self.now c.match-read.self c.self.view_is
+          c.args.o w.in-Some-read.slot c.match-read.value c.requires.live c.requires.rest
+          (sym c.read.ensures ∙ w.in-Some-read.is) w.self-is w.value-is
+      | in-None+in_ok-value-in-None w ↦
+          let e = w.in_ok-value-in-None.ensures in
+          read_by g.L.Law.holds c.args.o c.args.self.now w.read_first.new.self c.match-read.self
+          w.in_ok-value-in-None.value c.match-read.value
+          (no_slot_unheld g.L.Law.holds c.self.inside c.self.invariant c.args.self.now c.self.view_is c.args.o
+          (sym c.read.ensures ∙ w.in-None.is)) e.stays e.kept e.opens e.rest e.value w.self-is w.value-is
+    ] in
+    let unopened : value_in c.args.self.now.writes c.args.o ≡ None =
+    ap (λ (k : TlCalled _). value_in k.writes c.args.o) (sym c.self.view_is) ∙ sym c.write.ensures ∙ c.in_default.is in
+    pushed_tied g.L.Law.holds c.args.o c.args.self.now c.match-read.self c.match-read.value r c.self-2.inside
+    c.self-2.invariant c.self-2.view_is unopened c.push_write.new.self c.push_write.ensures
+
+pub returns-clause-stays : goal.returns-clause-stays
+returns-clause-stays g c =
+    let r : IsRead g.L.Law.holds c.args.o c.args.self.now c.match-read.self c.match-read.value =
+    elim c.match-read.branch [
+      | in-Some-read w ↦
+          read_before g.L.Law.holds c.self.inside c.self.invariant c.args.self.now c.match-read.self c.self.view_is
+          c.args.o w.in-Some-read.slot c.match-read.value c.requires.live c.requires.rest
+          (sym c.read.ensures ∙ w.in-Some-read.is) w.self-is w.value-is
+      | in-None+in_ok-value-in-None w ↦
+          let e = w.in_ok-value-in-None.ensures in
+          read_by g.L.Law.holds c.args.o c.args.self.now w.read_first.new.self c.match-read.self
+          w.in_ok-value-in-None.value c.match-read.value
+          (no_slot_unheld g.L.Law.holds c.self.inside c.self.invariant c.args.self.now c.self.view_is c.args.o
+          (sym c.read.ensures ∙ w.in-None.is)) e.stays e.kept e.opens e.rest e.value w.self-is w.value-is
+    ] in
+    let unopened : value_in c.args.self.now.writes c.args.o ≡ None =
+    ap (λ (k : TlCalled _). value_in k.writes c.args.o) (sym c.self.view_is) ∙ sym c.write.ensures ∙ c.in_default.is in
+    pushed_stays g.L.Law.holds c.args.o c.args.self.now c.match-read.self c.match-read.value r c.self-2.inside
+    c.self-2.invariant c.self-2.view_is unopened c.push_write.new.self c.push_write.ensures
+
+pub returns-clause-steps : goal.returns-clause-steps
+returns-clause-steps g c =
+    let r : IsRead g.L.Law.holds c.args.o c.args.self.now c.match-read.self c.match-read.value =
+    elim c.match-read.branch [
+      | in-Some-read w ↦
+          read_before g.L.Law.holds c.self.inside c.self.invariant c.args.self.now c.match-read.self c.self.view_is
+          c.args.o w.in-Some-read.slot c.match-read.value c.requires.live c.requires.rest
+          (sym c.read.ensures ∙ w.in-Some-read.is) w.self-is w.value-is
+      | in-None+in_ok-value-in-None w ↦
+          let e = w.in_ok-value-in-None.ensures in
+          read_by g.L.Law.holds c.args.o c.args.self.now w.read_first.new.self c.match-read.self
+          w.in_ok-value-in-None.value c.match-read.value
+          (no_slot_unheld g.L.Law.holds c.self.inside c.self.invariant c.args.self.now c.self.view_is c.args.o
+          (sym c.read.ensures ∙ w.in-None.is)) e.stays e.kept e.opens e.rest e.value w.self-is w.value-is
+    ] in
+    let unopened : value_in c.args.self.now.writes c.args.o ≡ None =
+    ap (λ (k : TlCalled _). value_in k.writes c.args.o) (sym c.self.view_is) ∙ sym c.write.ensures ∙ c.in_default.is in
+    pushed_steps g.L.Law.holds c.args.o c.args.self.now c.match-read.self c.match-read.value r c.self-2.inside
+    c.self-2.invariant c.self-2.view_is unopened c.push_write.new.self c.push_write.ensures
+
+pub returns-clause-marks : goal.returns-clause-marks
+returns-clause-marks g c =
+    let r : IsRead g.L.Law.holds c.args.o c.args.self.now c.match-read.self c.match-read.value =
+    elim c.match-read.branch [
+      | in-Some-read w ↦
+          read_before g.L.Law.holds c.self.inside c.self.invariant c.args.self.now c.match-read.self c.self.view_is
+          c.args.o w.in-Some-read.slot c.match-read.value c.requires.live c.requires.rest
+          (sym c.read.ensures ∙ w.in-Some-read.is) w.self-is w.value-is
+      | in-None+in_ok-value-in-None w ↦
+          let e = w.in_ok-value-in-None.ensures in
+          read_by g.L.Law.holds c.args.o c.args.self.now w.read_first.new.self c.match-read.self
+          w.in_ok-value-in-None.value c.match-read.value
+          (no_slot_unheld g.L.Law.holds c.self.inside c.self.invariant c.args.self.now c.self.view_is c.args.o
+          (sym c.read.ensures ∙ w.in-None.is)) e.stays e.kept e.opens e.rest e.value w.self-is w.value-is
+    ] in
+    let unopened : value_in c.args.self.now.writes c.args.o ≡ None =
+    ap (λ (k : TlCalled _). value_in k.writes c.args.o) (sym c.self.view_is) ∙ sym c.write.ensures ∙ c.in_default.is in
+    λ unmarked.
+    pushed_marks g.L.Law.holds c.args.o c.args.self.now c.match-read.self c.match-read.value r c.self-2.inside
+    c.self-2.invariant c.self-2.view_is unopened c.push_write.new.self c.push_write.ensures
+
+pub returns-clause-opens : goal.returns-clause-opens
+returns-clause-opens g c =
+    let r : IsRead g.L.Law.holds c.args.o c.args.self.now c.match-read.self c.match-read.value =
+    elim c.match-read.branch [
+      | in-Some-read w ↦
+          read_before g.L.Law.holds c.self.inside c.self.invariant c.args.self.now c.match-read.self c.self.view_is
+          c.args.o w.in-Some-read.slot c.match-read.value c.requires.live c.requires.rest
+          (sym c.read.ensures ∙ w.in-Some-read.is) w.self-is w.value-is
+      | in-None+in_ok-value-in-None w ↦
+          let e = w.in_ok-value-in-None.ensures in
+          read_by g.L.Law.holds c.args.o c.args.self.now w.read_first.new.self c.match-read.self
+          w.in_ok-value-in-None.value c.match-read.value
+          (no_slot_unheld g.L.Law.holds c.self.inside c.self.invariant c.args.self.now c.self.view_is c.args.o
+          (sym c.read.ensures ∙ w.in-None.is)) e.stays e.kept e.opens e.rest e.value w.self-is w.value-is
+    ] in
+    let unopened : value_in c.args.self.now.writes c.args.o ≡ None =
+    ap (λ (k : TlCalled _). value_in k.writes c.args.o) (sym c.self.view_is) ∙ sym c.write.ensures ∙ c.in_default.is in
+    pushed_opens g.L.Law.holds c.args.o c.args.self.now c.match-read.self c.match-read.value r c.self-2.inside
+    c.self-2.invariant c.self-2.view_is unopened c.push_write.new.self c.push_write.ensures
+
+pub returns-clause-value : goal.returns-clause-value
+returns-clause-value g c =
+    let r : IsRead g.L.Law.holds c.args.o c.args.self.now c.match-read.self c.match-read.value =
+    elim c.match-read.branch [
+      | in-Some-read w ↦
+          read_before g.L.Law.holds c.self.inside c.self.invariant c.args.self.now c.match-read.self c.self.view_is
+          c.args.o w.in-Some-read.slot c.match-read.value c.requires.live c.requires.rest
+          (sym c.read.ensures ∙ w.in-Some-read.is) w.self-is w.value-is
+      | in-None+in_ok-value-in-None w ↦
+          let e = w.in_ok-value-in-None.ensures in
+          read_by g.L.Law.holds c.args.o c.args.self.now w.read_first.new.self c.match-read.self
+          w.in_ok-value-in-None.value c.match-read.value
+          (no_slot_unheld g.L.Law.holds c.self.inside c.self.invariant c.args.self.now c.self.view_is c.args.o
+          (sym c.read.ensures ∙ w.in-None.is)) e.stays e.kept e.opens e.rest e.value w.self-is w.value-is
+    ] in
+    let unopened : value_in c.args.self.now.writes c.args.o ≡ None =
+    ap (λ (k : TlCalled _). value_in k.writes c.args.o) (sym c.self.view_is) ∙ sym c.write.ensures ∙ c.in_default.is in
+    pushed_value g.L.Law.holds c.args.o c.args.self.now c.match-read.self c.match-read.value r c.self-2.inside
+    c.self-2.invariant c.self-2.view_is unopened c.push_write.new.self c.push_write.ensures

@@ -1,0 +1,11 @@
+pub mod Callers
+pub mod Calls
+pub mod Began
+pub mod Attempts
+pub mod Outcomes
+pub mod Transactions
+pub mod Endings
+pub mod Tables
+pub mod Mirror
+pub mod Closing
+pub mod Opens
