@@ -9,15 +9,8 @@ use Rattle.dstm_tl2.specs.Rules.{Event}
 use Rattle.dstm_tl2.specs.State.{is_valid}
 use Rattle.dstm_tl2.specs.Words.{Table}
 pub use Rattle.dstm_tl2_answers.specs.Committed.{Committed, commits, attempt_of, done_by}
+pub use Rattle.dstm_tl2_answers.specs.Laws.{StandsIn}
 use Rattle.dstm_tl2_engine.specs.Callers.{TlCalled, table_of_caller, objects_of, start_of, law_of, state, held, written, handed, is_opened}
-
--- An entry stands in a history: it agrees with the state that those before it leave, and this is lawful.
-pub record StandsIn (table : Table) (holds : List Val → Type 0) (history : List Entry) (entry : Entry) : Type 0 where
-  pub before : List Entry
-  pub after : List Entry
-  pub is : history ≡ before ++ entry ∷ after
-  pub reads : Agrees (state_after table.start before) entry.reads
-  pub lawful : holds table.start → holds (state_after table.start before)
 
 module _ {L : Type 0} where
   abbrev pub done : TlCalled L → List Committed
