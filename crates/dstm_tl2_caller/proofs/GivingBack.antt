@@ -21,7 +21,8 @@ use Rattle.dstm_tl2_caller.specs.Order.Due.{Done, FreeAs, Just}
 use Rattle.dstm_tl2_caller.specs.Tasks.{Task, Work}
 use Rattle.dstm_tl2_caller.specs.Tasks.Task.{Enrolling, Beginning, Returning, Doing}
 use Rattle.dstm_tl2_caller.specs.Under.{Began, Lists, Under, Went, freed_first, in_freeing, made_by, now, when_free}
-use Rattle.dstm_tl2_caller.proofs.Going.{frees_in, static_now}
+use Rattle.dstm_tl2_caller.proofs.Bounds.{static_now}
+use Rattle.dstm_tl2_caller.proofs.Going.{frees_in}
 use Rattle.dstm_tl2_caller.proofs.Held.{apart_take, holds_from, later_unnamed, unheld}
 use Rattle.dstm_tl2_caller.proofs.Slots.{WritesApart}
 use Rattle.dstm_tl2_caller.proofs.Stepping.{under_is}

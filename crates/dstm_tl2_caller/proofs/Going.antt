@@ -1,24 +1,21 @@
 -- How a call goes on: what is due after its newest event.
-use Rattle.std.proofs.Common.{◌≡◌, ◌≢◌, ℕ, List, [], ◌∷◌, true, false, Some, is_some, refl, sym, ap, subst}
+use Rattle.std.proofs.Common.{◌≡◌, ◌≢◌, ℕ, List, [], ◌∷◌, true, false, Some, is_some, refl, ap}
 use Rattle.std.specs.Prelude.{Option, Bool, not, length, ◌==◌, if◌then◌else◌}
 use Rattle.dstm_model.specs.declared.value.Val.{Val}
-use Rattle.dstm_tl2.proofs.Static.{Static, static}
 use Rattle.dstm_tl2.specs.declared.kind.Kind.TheVariants.{Enrol, Sample}
 use Rattle.dstm_tl2.specs.Rules.{Event}
-use Rattle.dstm_tl2.specs.Runs.{local, tl2}
 use Rattle.dstm_tl2.specs.Sharing.{table_of}
 use Rattle.dstm_tl2.specs.State.{Hold, LocalState}
 use Rattle.dstm_tl2.specs.Words.{Table}
-use Rattle.dstm_seats.specs.Seats.{state_by}
-use Rattle.dstm_tl2_words.specs.Seats.{Home, view_of}
+use Rattle.dstm_tl2_words.specs.Seats.{Home}
 use Rattle.dstm_tl2_caller.specs.declared.again.TlAgain.{TlAgain}
 use Rattle.dstm_tl2_caller.specs.declared.steps.Steps.{Steps}
-use Rattle.dstm_tl2_caller.specs.Order.{Due, due, has_sampled, in_giving_back, is_spent, next}
+use Rattle.dstm_tl2_caller.specs.Order.{due, has_sampled, in_giving_back, is_spent, next}
 use Rattle.dstm_tl2_caller.specs.Order.Due.{Done, FreeAs, Just, LookAt}
 use Rattle.dstm_tl2_caller.specs.Tasks.{Task, Work}
 use Rattle.dstm_tl2_caller.specs.Tasks.Task.{Enrolling, Beginning, Returning, Doing}
 use Rattle.dstm_tl2_caller.specs.Under.{Began, Under, Went, answer_by, now}
-use Rattle.dstm_tl2_caller.proofs.Stepping.{number_of, under_is}
+use Rattle.dstm_tl2_caller.proofs.Stepping.{under_is}
 
 -- giving back is never a look
 gives_no_look : (holds : List Hold) (o : ℕ) (A : Type 0) → in_giving_back holds ≡ LookAt o → A
@@ -67,13 +64,3 @@ module _ {L : Type 0} (holds : L → List Val → Type 0) (home : Home L) (began
   goes_on work old new again event task went =
       under_is holds home began new _ _ _ _ went.goes_on
       (ap (λ task. due task (table_of home.terms) (Some event) (now home new)) task) refl
-
-  -- what a run tells of the state of the call's caller
-  pub static_now : (steps : Steps L) (next : Due) (again : Option TlAgain) →
-      Under holds home began steps next again → Static (table_of home.terms) (now home steps)
-  static_now steps next again under =
-      let table : Table = table_of home.terms in
-      let log : List Event = (view_of steps.seat).log in
-      let here : now home steps ≡ local table log began.number =
-      ap (λ o. state_by tl2 table o log) (number_of holds home began steps next again under) in
-      subst (Static table) (sym here) (static table log under.run.run.run began.number)

@@ -24,7 +24,8 @@ use Rattle.dstm_tl2_caller.proofs.Going.{goes_on}
 use Rattle.dstm_tl2_caller.proofs.Held.{holds_more}
 use Rattle.dstm_tl2_caller.proofs.GivingBack.{freed_done}
 use Rattle.dstm_tl2_caller.proofs.Stepping.{is_something, under_is}
-use Rattle.dstm_tl2_caller.proofs.Slotted.{slot_there, slot_word, written}
+use Rattle.dstm_tl2_caller.proofs.Slots.{is_written_at}
+use Rattle.dstm_tl2_caller.proofs.Slotted.{slot_there, slot_word}
 
 -- ---- the state of an attempt that locks
 
@@ -215,7 +216,7 @@ module _ {L : Type 0} (holds : L → List Val → Type 0) (home : Home L) (began
       pub was_read : is_some (read_of o (now home old).reads) ≡ true
       was_read =
           let open_o : IsSome (value_in opened.writes o) =
-          subst (λ o. IsSome (value_in opened.writes o)) at (written opened.writes i left) in
+          subst (λ o. IsSome (value_in opened.writes o)) at (is_written_at opened.writes i left) in
           subst (λ (state : LocalState). is_some (read_of o state.reads) ≡ true) (sym so_far.has.same)
           (is_something (read_of o (now home start).reads) (read o open_o))
 

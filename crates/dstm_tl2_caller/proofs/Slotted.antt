@@ -1,10 +1,8 @@
 -- The lists of an attempt beside what the machine has recorded of it.
-use Rattle.std.proofs.Common.{◌≡◌, ◌≢◌, ◌⊎◌, ◌∙◌, ℕ, ◌<◌, ◌≤◌, List, [], ◌∷◌, true, Some, None, is_some, inl, inr, refl, sym, ap, zero, suc, length, get_or, map, arith}
+use Rattle.std.proofs.Common.{◌≡◌, ◌≢◌, ◌∙◌, ℕ, ◌<◌, ◌≤◌, List, true, Some, None, is_some, refl, sym, ap, length, get_or, map, arith}
 use Rattle.std.specs.Prelude.{Option, IfSome, IsSome}
-use Rattle.std.proofs.lemmas.Bool.{cases_eq, eq-eqb, ne_eqb}
 use Rattle.std.proofs.lemmas.List.{get_or_default}
 use Rattle.dstm_model.specs.declared.value.Val.{Val}
-use Rattle.dstm_mem.specs.Memory.{value_in}
 use Rattle.dstm_tl2.specs.State.{no_write, read_of, recorded}
 use Rattle.dstm_tl2_caller.specs.declared.opened.ReadSlot.{ReadSlot}
 use Rattle.dstm_tl2_caller.specs.Opened.{read_slot, write_at}
@@ -29,17 +27,6 @@ slot_word slots o word there is = go (read_slot slots o) refl there is
         IfSome found (λ slot. word ≡ slot.word) → word ≡ recorded o (map slot_read slots)
     go None q there is = absurd (cc)
     go (Some slot) q there is = is ∙ sym (recorded-slots slots o slot q)
-
--- each of the writes is open for writing
-pub written : (writes : List (ℕ × Val)) (i : ℕ) → i < length writes → IsSome (value_in writes (write_at writes i).0)
-written [] i within = absurd (omega arith)
-written (w ∷ ws) zero within = rw (eq-eqb w.0 w.0 refl) refl
-written (w ∷ ws) (suc i) within = go (cases_eq w.0 (write_at ws i).0) (written ws i (omega arith))
-  where
-    go : (w.0 ≡ (write_at ws i).0) ⊎ (w.0 ≡ (write_at ws i).0 → ⊥) → IsSome (value_in ws (write_at ws i).0) →
-        IsSome (value_in (w ∷ ws) (write_at ws i).0)
-    go (inl q) rest = rw (eq-eqb w.0 (write_at ws i).0 q) refl
-    go (inr q) rest = rw (ne_eqb w.0 (write_at ws i).0 q) rest
 
 -- the object of a write that was found in the list at its place
 pub object_at : (writes items : List (ℕ × Val)) (i count : ℕ) (write : ℕ × Val) → items ≡ writes →
