@@ -15,9 +15,8 @@ use Rattle.dstm_core.specs.Events.{Event}
 use Rattle.dstm_core.specs.declared.event.Kind.{Kind}
 use Rattle.dstm_core.specs.declared.event.Kind.TheVariants.{Draw}
 use Rattle.dstm_core.specs.declared.shape.Shape.{Shape}
-use Rattle.dstm_core.proofs.Columns.{numbers, step}
 use Rattle.dstm_core.proofs.Places.{put_at}
-use Rattle.dstm_answers.specs.Committed.{Committed, committed, committed_in}
+use Rattle.dstm_answers.specs.Committed.{committed, committed_in}
 use Rattle.dstm_answers.specs.Laws.{AreBelow, NumbersFall}
 use Rattle.dstm_opacity.proofs.Numbers.{numbers_up}
 

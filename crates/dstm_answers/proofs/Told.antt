@@ -1,6 +1,7 @@
 -- Of each caller the history has exactly the attempts that its own Commits tell.
 use Rattle.std.proofs.Common.{◌&&◌, ◌*◌, ◌++◌, ◌<◌, ◌==◌, ◌∙◌, ◌∷◌, ◌≡◌, ◌≢◌, ◌≤◌, ◌⊎◌, Bool, List, [], ap, arith, cond, false, inl, inr, refl, subst, sym, true, ℕ}
 use Rattle.std.proofs.lemmas.Bool.{cases_Bool, cond_both, eq-eqb, eqb-false, ne_eqb}
+use Rattle.dstm_model.proofs.Merging.{other_list, own_list}
 use Rattle.dstm_model.specs.declared.value.Val.{Val}
 use Rattle.dstm_core.specs.Histories.{entry_of, is_draw, will_of}
 use Rattle.dstm_core.specs.Rules.{AllowedAs, after}
@@ -11,7 +12,7 @@ use Rattle.dstm_core.specs.Words.{place}
 use Rattle.dstm_core.specs.Words.Word.{StatusWord}
 use Rattle.dstm_core.specs.Events.{Event}
 use Rattle.dstm_core.specs.declared.event.Kind.{Kind}
-use Rattle.dstm_core.specs.declared.event.Kind.TheVariants.{Begin, Check, Commit, Draw, Install, LookSelf, Pause, PutHigh, PutNew, Quit, Resume, Validating as ToValidating}
+use Rattle.dstm_core.specs.declared.event.Kind.TheVariants.{Check, Commit, Draw, Quit}
 use Rattle.dstm_core.specs.declared.shape.Shape.{Shape}
 use Rattle.dstm_core.specs.declared.state.Phase.{Phase}
 use Rattle.dstm_core.specs.declared.state.Phase.TheVariants.{Drawn, Outside}
@@ -229,16 +230,6 @@ ends s run es e p core = record { commits = commits; fails = fails; quits = quit
             (λ _. refl) (λ _. y)
 
 -- ---- all along a run
-
-own_list : (b : Bool) (x : Committed) (xs : List Committed) →
-    by_caller x.caller (cond b (x ∷ xs) xs) ≡ cond b (x ∷ by_caller x.caller xs) (by_caller x.caller xs)
-own_list true x xs = rw (eq-eqb x.caller x.caller refl) refl
-own_list false x xs = refl
-
-other_list : (b : Bool) (c : ℕ) (x : Committed) (xs : List Committed) → x.caller ≢ c →
-    by_caller c (cond b (x ∷ xs) xs) ≡ by_caller c xs
-other_list true c x xs h = rw (ne_eqb x.caller c h) refl
-other_list false c x xs h = refl
 
 other_done : (b : Bool) (x : Committed) (xs : List Committed) → b ≡ false → xs ≡ cond (b && true) (x ∷ xs) xs
 other_done false x xs h = refl

@@ -1,10 +1,11 @@
 -- The example is a core run.
 use Rattle.std.proofs.Common.{[], arith, inl, refl}
+use Rattle.dstm_core.specs.Runs.{core}
 use Rattle.dstm_order.specs.Drive.{two}
-use Rattle.dstm_opacity.proofs.Fitting.{AllFit, core_then, enrol, fit, ◌also◌}
+use Rattle.dstm_runs.proofs.Fitting.{AllFit, enrol, fit, run_then, ◌also◌}
 use Rattle.dstm_causes.specs.Example.{SomeAgain, installed, installs, opens}
 
-installs_fit : AllFit two [] installs
+installs_fit : AllFit core two [] installs
 installs_fit =
     enrol refl (omega arith) refl (refl, (refl, refl), refl, tt)
     also enrol refl (omega arith) refl (refl, (refl, refl), refl, tt)
@@ -18,7 +19,7 @@ installs_fit =
     also fit refl (omega arith) (λ q. cc) (refl, (refl, refl), (refl, refl, refl, refl, refl, refl), omega arith)
     also tt
 
-opens_fit : AllFit two installed opens
+opens_fit : AllFit core two installed opens
 opens_fit =
     fit refl (omega arith) (λ q. cc) (refl, (refl, refl), (refl, refl, refl), omega arith)
     also fit refl (omega arith) (λ q. cc) (refl, (refl, refl), (λ q. cc), omega arith)
@@ -27,7 +28,7 @@ opens_fit =
 pub some_again : SomeAgain
 some_again = record {
   call = record {
-    core = core_then two installed opens (core_then two [] installs tt installs_fit) opens_fit;
+    core = run_then core two installed opens (run_then core two [] installs tt installs_fit) opens_fit;
     own = refl;
     call = record { obeys = ((tt, (refl, refl)), (refl, tt)); done = refl };
   };

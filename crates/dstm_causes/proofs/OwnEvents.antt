@@ -1,12 +1,13 @@
 -- A caller's own events since some log.
 use Rattle.std.proofs.Common.{◌++◌, ◌∙◌, ◌≡◌, List, [], ap, append-nil, subst, sym, ℕ}
+use Rattle.dstm_runs.proofs.Own as runs
 use Rattle.dstm_core.specs.Events.{Event}
-use Rattle.dstm_core.specs.Runs.{Core, local}
+use Rattle.dstm_core.specs.Runs.{Core, core, local}
 use Rattle.dstm_core.specs.State.{first}
 use Rattle.dstm_core.specs.Traces.{events_of}
 use Rattle.dstm_core.specs.declared.shape.Shape.{Shape}
 use Rattle.dstm_order.specs.Calls.{state_after}
-use Rattle.dstm_progress.proofs.Own.{AreAllowed, allowed_split, own_allowed, own_state, state_both}
+use Rattle.dstm_progress.proofs.Own.{AreAllowed, allowed_split, own_allowed, own_state}
 
 -- its state is that after all its own events
 pub whole_state : (s : Shape) (c : ℕ) (run : List Event) → local s run c ≡ state_after s first (events_of c run)
@@ -18,9 +19,7 @@ whole_allowed s c run core = own_allowed s c run [] (subst (Core s) (sym (append
 pub after_own : (s : Shape) (c : ℕ) (run before events : List Event) →
     events_of c run ≡ events ++ events_of c before →
     local s run c ≡ state_after s (local s before c) events
-after_own s c run before events own =
-    whole_state s c run ∙ ap (state_after s first) own ∙ state_both s first events (events_of c before)
-    ∙ ap (λ l. state_after s l events) (sym (whole_state s c before))
+after_own s = runs.after_own core s
 
 pub allowed_own : (s : Shape) (c : ℕ) (run before events : List Event) → Core s run →
     events_of c run ≡ events ++ events_of c before → AreAllowed s (local s before c) events

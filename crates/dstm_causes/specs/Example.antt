@@ -1,9 +1,10 @@
 -- A call that answers Again.
 use Rattle.std.specs.Prelude.{◌≡◌, List, [], ◌∷◌, Some}
+use Rattle.dstm_runs.specs.Traces.{continued}
 use Rattle.dstm_core.specs.Events.{Event}
 use Rattle.dstm_core.specs.Runs.{local}
 use Rattle.dstm_core.specs.declared.event.Kind.TheVariants.{Begin, Enrol, Install, LookNumber, LookObj, PutOld, PutOwner, Quit}
-use Rattle.dstm_opacity.specs.Example.{event, then}
+use Rattle.dstm_opacity.specs.Example.{event}
 use Rattle.dstm_order.specs.Calls.{answer_of}
 use Rattle.dstm_order.specs.Drive.{two, zeros}
 use Rattle.dstm_order.specs.Tasks.Task.{Doing}
@@ -27,7 +28,7 @@ installs =
     []
 
 abbrev pub installed : List Event
-installed = then [] installs
+installed = continued [] installs
 
 -- then caller 0 opens the object for writing, finds its read stale and quits
 abbrev pub opens : List Event
@@ -35,6 +36,6 @@ opens = event 0 LookObj 0 3 3 3 ∷ event 0 Quit 2 1 1 5 ∷ []
 
 -- and is told so
 pub record SomeAgain : Type 0 where
-  pub call : IsCallIn (Doing (Writing 0)) two 0 zeros (then [] opens) installed (then installed opens)
+  pub call : IsCallIn (Doing (Writing 0)) two 0 zeros (continued [] opens) installed (continued installed opens)
   pub current : IsCurrent (local two installed 0)
-  pub answers : answer_of (Doing (Writing 0)) two (local two installed 0) zeros (then [] opens) ≡ Some (Stale 0)
+  pub answers : answer_of (Doing (Writing 0)) two (local two installed 0) zeros (continued [] opens) ≡ Some (Stale 0)

@@ -1,9 +1,10 @@
 -- An attempt that is given up, and what is known of it.
-use Rattle.std.proofs.Common.{◌||◌, ◌+◌, ◌++◌, ◌==◌, ◌∙◌, ◌∷◌, ◌<◌, ◌≡◌, ◌⊎◌, Bool, List, None, Option, Some, [], ap, arith, cond, false, inl, inr, refl, subst, sym, true, ℕ}
+use Rattle.std.proofs.Common.{◌||◌, ◌+◌, ◌==◌, ◌∙◌, ◌∷◌, ◌<◌, ◌≡◌, ◌⊎◌, Bool, List, None, Option, Some, [], ap, arith, cond, false, inl, inr, refl, subst, true, ℕ}
 use Rattle.std.specs.Prelude.{IfSome, count_by, if◌then◌else◌, is_some}
 use Rattle.std.proofs.lemmas.Bool.{cases_Bool}
-use Rattle.std.proofs.lemmas.List.Elements.{filter-append}
+use Rattle.std.proofs.lemmas.List.Elements.{All-cons, All-nil}
 use Rattle.std.proofs.lemmas.List.Sums.{sum_by-cons}
+use Rattle.dstm_runs.proofs.Attempts.{NoneBegins, begun_after}
 use Rattle.dstm_core.specs.Counts.{begin_count, is_begin}
 use Rattle.dstm_core.specs.Events.{Event}
 use Rattle.dstm_core.specs.Rules.{is_outside}
@@ -24,7 +25,7 @@ use Rattle.dstm_core.proofs.Static.{running, static}
 use Rattle.dstm_progress.proofs.Bound.{alone_is_bounded}
 use Rattle.dstm_progress.proofs.Prices.{prices_by_count}
 use Rattle.dstm_words.specs.Seats.{IsRunOf}
-use Rattle.dstm_engine.proofs.Alone.{Begun, begun_at, bounded, cancel}
+use Rattle.dstm_engine.proofs.Alone.{Begun, begun_at, bounded}
 use Rattle.dstm_engine.specs.Mirror.{Tied, called}
 use Rattle.dstm_engine.specs.declared.caller.Caller.TheInside.{Inside}
 use Rattle.dstm_engine.specs.Callers.{Called, begun_log, is_live, is_running, shape_of, state}
@@ -53,30 +54,6 @@ fresh_ended k (Some again) h = (
 
 -- ---- the last Begin in a longer log
 
-abbrev NoneBegins : List Event → Type 0
-NoneBegins [] = Unit {0}
-NoneBegins (e ∷ es) = (is_begin e.kind ≡ false) × NoneBegins es
-
-begun_more : (c : ℕ) (later before : List Event) → NoneBegins (events_of c later) →
-    begun_log c (later ++ before) ≡ begun_log c before
-begun_more c [] before h = refl
-begun_more c (e ∷ later) before h = by (begun_more c later before) (cases_Bool (e.caller == c)) h
-  where
-    by : (NoneBegins (events_of c later) → begun_log c (later ++ before) ≡ begun_log c before) →
-        (e.caller == c ≡ true) ⊎ (e.caller == c ≡ false) → NoneBegins (events_of c (e ∷ later)) →
-        begun_log c (e ∷ (later ++ before)) ≡ begun_log c before
-    by ih (inl q) h = let all : NoneBegins (e ∷ events_of c later) = rw q at h in rw (q, all.0) (ih all.1)
-    by ih (inr q) h = let all : NoneBegins (events_of c later) = rw q at h in rw q (ih all)
-
--- a call without a Begin keeps the last one
-pub begun_stays : (c : ℕ) (later before events : List Event) →
-    events_of c (later ++ before) ≡ events ++ events_of c before → NoneBegins events →
-    begun_log c (later ++ before) ≡ begun_log c before
-begun_stays c later before events own none =
-    begun_more c later before
-    (subst NoneBegins (sym (cancel (events_of c later) events (events_of c before)
-    (sym (filter-append (λ (e : Event). e.caller == c) later before) ∙ own))) none)
-
 quit_begins : (k : Kind) → k ≡ Quit → is_begin k ≡ false
 quit_begins Quit h = refl
 quit_begins k h = absurd (cc)
@@ -85,21 +62,18 @@ quit_due : (b : Bool) (e : Event) → IsDue (if b then Done else just Quit) e �
 quit_due true e h = absurd h
 quit_due false e h = quit_begins e.kind h.0
 
-leaving_begins : (s : Shape) (l : LocalState) (gen : Lcg) (es : List Event) → Obeys Leaving s l gen es → NoneBegins es
-leaving_begins s l gen [] h = tt
-leaving_begins s l gen (e ∷ es) h = (
-  quit_due (is_outside (state_after s l es).phase) e h.1,
-  leaving_begins s l gen es h.0,
-)
+leaving_begins : (s : Shape) (l : LocalState) (gen : Lcg) (es : List Event) → Obeys Leaving s l gen es → NoneBegins is_begin es
+leaving_begins s l gen [] h = All-nil (λ (e : Event). is_begin e.kind ≡ false)
+leaving_begins s l gen (e ∷ es) h =
+    All-cons (λ (e : Event). is_begin e.kind ≡ false) e es (quit_due (is_outside (state_after s l es).phase) e h.1)
+    (leaving_begins s l gen es h.0)
 
 pub leaving_keeps : {L : Type 0} (holds : L → List Val → Type 0) (k n : Called L) → Performs holds Leaving k n None →
     begun_log n.number n.log ≡ begun_log k.number k.log
 leaving_keeps holds k n p =
     ap (λ c. begun_log c n.log) p.same.1
-    ∙ subst (λ xs. begun_log k.number xs ≡ begun_log k.number k.log) p.seen.whole
-    (begun_stays k.number p.seen.later k.log p.events
-    (subst (λ xs. events_of k.number xs ≡ p.events ++ events_of k.number k.log) (sym p.seen.whole) p.own)
-    (leaving_begins (shape_of k) (state k) k.generator p.events p.call.obeys))
+    ∙ begun_after is_begin k.number k.log n.log p.events p.seen p.own
+    (leaving_begins (shape_of k) (state k) k.generator p.events p.call.obeys)
 
 -- ---- what is known of an attempt that ends
 

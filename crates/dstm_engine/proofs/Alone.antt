@@ -1,7 +1,9 @@
 -- The laws of progress, as a caller's log has them.
-use Rattle.std.proofs.Common.{◌&&◌, ◌++◌, ◌+◌, ◌*◌, ◌==◌, ◌≤◌, ◌∙◌, ◌∷◌, ◌≡◌, ◌⊎◌, Bool, List, [], ap, arith, cond, false, inl, inr, length, length-append, refl, subst, sym, true, ℕ}
+use Rattle.std.proofs.Common.{◌&&◌, ◌++◌, ◌+◌, ◌*◌, ◌==◌, ◌≤◌, ◌∙◌, ◌∷◌, ◌≡◌, ◌⊎◌, List, [], ap, arith, false, inl, inr, length, refl, subst, sym, true, ℕ}
+use Rattle.std.proofs.lemmas.List.{append_cancel_right}
 use Rattle.std.proofs.lemmas.Bool.{and_parts, cases_Bool, cond_both, eq-eqb, eqb-true}
 use Rattle.std.proofs.lemmas.List.Elements.{filter-append}
+use Rattle.dstm_runs.proofs.Attempts.{log_parts}
 use Rattle.dstm_core.specs.Runs.{Core, local}
 use Rattle.dstm_core.specs.State.{LocalState}
 use Rattle.dstm_core.specs.Traces.{events_of}
@@ -18,38 +20,18 @@ use Rattle.dstm_engine.specs.Callers.{Called, begun_log, shape_of, since_begin, 
 use Rattle.dstm_engine.specs.Calls.{IsTold}
 use Rattle.dstm_engine.specs.Outcomes as outcomes
 
--- a log is what stands since a caller's last Begin, on what stood then
-pub log_parts : (c : ℕ) (log : List Event) → log ≡ since_begin c log ++ begun_log c log
-log_parts c [] = refl
-log_parts c (e ∷ log) = go (log_parts c log) ((e.caller == c) && is_begin e.kind)
-  where
-    go : log ≡ since_begin c log ++ begun_log c log → (b : Bool) →
-        e ∷ log ≡ cond b [] (e ∷ since_begin c log) ++ cond b (e ∷ log) (begun_log c log)
-    go ih true = refl
-    go ih false = ap (λ xs. e ∷ xs) ih
-
 all_of : (c : ℕ) (es : List Event) → AreOf c es → events_of c es ≡ es
 all_of c [] h = refl
 all_of c (e ∷ es) h = rw (eq-eqb e.caller c h.0, all_of c es h.1) refl
-
-pub cancel : {A : Type 0} → (xs ys zs : List A) → xs ++ zs ≡ ys ++ zs → xs ≡ ys
-cancel [] [] zs h = refl
-cancel [] (y ∷ ys) zs h =
-    let a : length zs ≡ length (y ∷ (ys ++ zs)) = ap length h in let b = length-append ys zs in absurd (omega arith)
-cancel (x ∷ xs) [] zs h =
-    let a : length (x ∷ (xs ++ zs)) ≡ length zs = ap length h in let b = length-append xs zs in absurd (omega arith)
-cancel (x ∷ xs) (y ∷ ys) zs h =
-    let t : xs ++ zs ≡ ys ++ zs = cc in let head : x ≡ y = cc in
-    ap (λ v. v ∷ xs) head ∙ ap (λ vs. y ∷ vs) (cancel xs ys zs t)
 
 -- where no other made a step since, the events since the Begin are those of the calls
 since_is : (c : ℕ) (log calls : List Event) → events_of c log ≡ calls ++ events_of c (begun_log c log) →
     AreOf c (since_begin c log) → since_begin c log ≡ calls
 since_is c log calls told own =
-    cancel (since_begin c log) calls (events_of c (begun_log c log))
+    append_cancel_right (since_begin c log) calls (events_of c (begun_log c log))
     (ap (λ xs. xs ++ events_of c (begun_log c log)) (sym (all_of c (since_begin c log) own))
     ∙ sym (filter-append (λ (e : Event). e.caller == c) (since_begin c log) (begun_log c log))
-    ∙ ap (events_of c) (sym (log_parts c log)) ∙ told)
+    ∙ ap (events_of c) (sym (log_parts is_begin c log)) ∙ told)
 
 is_kind : (k : Kind) → is_begin k ≡ true → k ≡ Begin
 is_kind Begin h = refl
@@ -86,7 +68,7 @@ module _ {L : Type 0} (k : Called L) (t : IsTold k) (alone : outcomes.IsAlone k)
   -- the log is that of the calls, on what stood at the Begin
   pub whole : k.log ≡ all_events t.calls ++ b.begin ∷ b.before
   whole =
-      log_parts k.number k.log ∙ ap (λ xs. xs ++ begun_log k.number k.log) since
+      log_parts is_begin k.number k.log ∙ ap (λ xs. xs ++ begun_log k.number k.log) since
       ∙ ap (λ xs. all_events t.calls ++ xs) b.is
 
   -- so the laws speak of this attempt

@@ -24,7 +24,7 @@ use Rattle.dstm_words.specs.Seats.{Home, caller_state, view_of, number_or, View}
 use Rattle.dstm_engine.proofs.Holding.{old_there}
 use Rattle.dstm_engine.proofs.Opens.{none_of, unset, writes_length}
 use Rattle.dstm_engine.proofs.Setting.{opened_slot, with_new_apart}
-use Rattle.dstm_engine.proofs.Settling.{agrees_held, writes_same}
+use Rattle.dstm_mem.proofs.Settling.{agrees_held, writes_same}
 use Rattle.dstm_engine.proofs.Tying.{now_there, renewed}
 use Rattle.dstm_engine.specs.Attempts.{Admits}
 use Rattle.dstm_engine.specs.Callers.{handed, held, is_opened, law_of, state, written}

@@ -2,7 +2,7 @@
 use Rattle.std.proofs.Common.{◌++◌, ◌==◌, ◌∙◌, ◌∷◌, ◌≡◌, ◌≢◌, ◌⊎◌, List, Option, [], ap, append_assoc, false, inl, inr, refl, subst, sym, true, ℕ}
 use Rattle.std.specs.Prelude.{if◌then◌else◌}
 use Rattle.std.proofs.lemmas.Bool.{cases_Bool, eqb-true}
-use Rattle.std.proofs.lemmas.List.Elements.{filter-append}
+use Rattle.dstm_runs.proofs.Own.{own_later}
 use Rattle.dstm_core.proofs.Underway.{not_begin}
 use Rattle.dstm_core.specs.Counts.{is_begin}
 use Rattle.dstm_core.specs.declared.event.Kind.{Kind}
@@ -31,7 +31,6 @@ use Rattle.dstm_order.specs.Passes.{misses}
 use Rattle.dstm_caller.specs.Under.{Began, InTask}
 use Rattle.dstm_caller.specs.declared.steps.Steps.{Steps}
 use Rattle.dstm_words.specs.Seats.{Home}
-use Rattle.dstm_engine.proofs.Alone.{cancel}
 use Rattle.dstm_engine.specs.Callers.{Called, begun_log, shape_of, state}
 use Rattle.dstm_engine.specs.Calls.{IsTold, Performs, begun_state, newest_answer}
 
@@ -141,11 +140,7 @@ doing_more s work gen c (e ∷ later) before run h =
 pub doing_keeps : {L : Type 0} (holds : L → List Val → Type 0) (work : Work) (k n : Called L) (again : Option Again) →
     Performs holds (Doing work) k n again → begun_log n.number n.log ≡ begun_log k.number k.log
 doing_keeps holds work k n again p =
-    let own : events_of k.number (p.seen.later ++ k.log) ≡ p.events ++ events_of k.number k.log =
-    subst (λ xs. events_of k.number xs ≡ p.events ++ events_of k.number k.log) (sym p.seen.whole) p.own in
-    let events : events_of k.number p.seen.later ≡ p.events =
-    cancel (events_of k.number p.seen.later) p.events (events_of k.number k.log)
-    (sym (filter-append (λ (e : Event). e.caller == k.number) p.seen.later k.log) ∙ own) in
+    let events : events_of k.number p.seen.later ≡ p.events = own_later k.number k.log n.log p.events p.seen p.own in
     ap (λ c. begun_log c n.log) p.same.1
     ∙ subst (λ xs. begun_log k.number xs ≡ begun_log k.number k.log) p.seen.whole
     (doing_more (shape_of k) work k.generator k.number p.seen.later k.log

@@ -1,11 +1,10 @@
 -- A caller that was made.
-use Rattle.std.proofs.Common.{◌++◌, ◌<◌, ◌==◌, ◌∙◌, ◌∷◌, ◌≡◌, List, [], ◌+◌, ap, refl, subst, sym, ℕ}
+use Rattle.std.proofs.Common.{◌<◌, ◌∙◌, ◌∷◌, ◌≡◌, List, [], ◌+◌, ap, refl, subst, sym, ℕ}
 use Rattle.std.specs.Prelude.{Option, Some, IfSome}
-use Rattle.std.proofs.lemmas.Bool.{eq-eqb}
-use Rattle.std.proofs.lemmas.List.Elements.{filter-append}
 use Rattle.rand_pcg.specs.Lcg.{Lcg}
 use Rattle.dstm_model.specs.declared.value.Val.{Val}
 use Rattle.dstm_core.specs.Runs.{core, local}
+use Rattle.dstm_runs.proofs.Quiet.{none_before_only}
 use Rattle.dstm_runs.proofs.Runs.{local-events_of}
 use Rattle.dstm_core.specs.State.{LocalState, first}
 use Rattle.dstm_core.specs.Traces.{events_of}
@@ -30,19 +29,6 @@ enrolling : (s : Shape) (l : LocalState) (gen : Lcg) (e : Event) → e.kind ≡ 
 enrolling s l gen e k h =
     subst (λ (l : LocalState). IsCall Enrolling s l gen (e ∷ [])) (sym h)
     (record { obeys = (tt, (k, tt)); done = rw k refl })
-
-no_more : (c : ℕ) (xs ys : List Event) (e : Event) → e.caller ≡ c → events_of c (e ∷ (xs ++ ys)) ≡ e ∷ [] →
-    events_of c ys ≡ []
-no_more c xs ys e own h =
-    let all : e ∷ events_of c (xs ++ ys) ≡ e ∷ [] = rw (eq-eqb e.caller c own) at h in
-    let more : events_of c (xs ++ ys) ≡ [] = cc in
-    let parts : events_of c xs ++ events_of c ys ≡ [] =
-    sym (filter-append (λ (x : Event). x.caller == c) xs ys) ∙ more in
-    empty (events_of c xs) (events_of c ys) parts
-  where
-    empty : (us vs : List Event) → us ++ vs ≡ [] → vs ≡ []
-    empty [] vs q = q
-    empty (u ∷ us) vs q = absurd (cc)
 
 pub enrols : {L : Type 0} (holds : L → List Val → Type 0) (f g : Founding L) (seed found p : ℕ) (w : View L)
     (k : Called L) →
@@ -74,7 +60,7 @@ enrols {L = L} holds f g seed found p w k terms m few is now =
     e = made (given_part f.view) Add Enrol p found
 
     none : events_of found f.view.log ≡ []
-    none = no_more found m.log.0 f.view.log (made (given_part f.view) Add Enrol p found) refl
+    none = none_before_only found m.log.0 f.view.log (made (given_part f.view) Add Enrol p found) refl
         (subst (λ xs. events_of found xs ≡ made (given_part f.view) Add Enrol p found ∷ []) m.log.1 m.mine)
 
     new : local f.home.terms.shape f.view.log found ≡ first

@@ -1,7 +1,7 @@
 -- What an attempt held before an open it holds after it.
-use Rattle.std.proofs.Common.{◌++◌, ◌<◌, ◌==◌, ◌∙◌, ◌≡◌, ◌≢◌, List, None, Option, Some, ap, refl, subst, sym, ℕ}
+use Rattle.std.proofs.Common.{◌++◌, ◌<◌, ◌∙◌, ◌≡◌, ◌≢◌, List, None, Option, Some, ap, refl, subst, sym, ℕ}
 use Rattle.std.specs.Prelude.{option_map, IfSome}
-use Rattle.std.proofs.lemmas.List.Elements.{filter-append}
+use Rattle.dstm_runs.proofs.Own.{own_later}
 use Rattle.dstm_core.proofs.Pasts.{core_past}
 use Rattle.dstm_core.specs.Events.{Event}
 use Rattle.dstm_core.specs.Histories.{entry_of, version_value}
@@ -21,7 +21,6 @@ use Rattle.dstm_order.specs.Order.{Due}
 use Rattle.dstm_order.specs.Tasks.{Task}
 use Rattle.dstm_order.specs.declared.again.Again.{Again}
 use Rattle.dstm_words.specs.Seats.{Home, view_of, state_by}
-use Rattle.dstm_engine.proofs.Alone.{cancel}
 use Rattle.dstm_engine.proofs.Keeping.{DropsNone, goes_on_holding}
 use Rattle.dstm_engine.specs.Attempts.{Admits}
 use Rattle.dstm_engine.specs.Callers.{Called, held}
@@ -64,9 +63,7 @@ module _ (s : Shape) (start : List Val) (old log : List Event) (c : ℕ) (core :
 
   module _ (es : List Event) (own : events_of c log ≡ es ++ events_of c old) (none : DropsNone es) where
     pub since : events_of c past.later ≡ es
-    since =
-        cancel (events_of c past.later) es (events_of c old)
-        (sym (filter-append (λ (e : Event). e.caller == c) past.later old) ∙ ap (events_of c) past.whole ∙ own)
+    since = own_later c old log es past own
 
     -- what was held is held
     pub still_held : (o : ℕ) (v : Val) → held_by s start old c o ≡ Some v → held_by s start log c o ≡ Some v

@@ -1,8 +1,11 @@
 -- A call that has left its attempt, and one that has not.
 use Rattle.std.proofs.Common.{◌++◌, ◌<◌, ◌∙◌, ◌∷◌, ◌≡◌, ◌≢◌, List, None, Option, Some, [], ap, append_assoc, false, inl, inr, refl, subst, sym, true, ℕ, ◌==◌, map}
+use Rattle.std.proofs.lemmas.List.{append_cancel_right}
 use Rattle.std.specs.Prelude.{Bool, IfSome, is_some}
 use base.Fml.{GName}
 use Rattle.std.proofs.lemmas.List.Elements.{filter-append}
+use Rattle.dstm_core.specs.Counts.{is_begin}
+use Rattle.dstm_runs.proofs.Attempts.{log_parts}
 use Rattle.dstm_causes.proofs.Causes.{again_has_its_cause, has_left}
 use Rattle.dstm_answers.specs.Committed.{done_by}
 use Rattle.dstm_caller.proofs.Stepping.{call_of}
@@ -51,7 +54,7 @@ use Rattle.dstm_engine.specs.Began.{began_of}
 use Rattle.dstm_engine.specs.Mirror.{AtRest, Tied, called, phase_by, slot_old, slot_value, slot_word}
 use Rattle.dstm_engine.specs.declared.caller.Caller.TheInside.{Inside}
 use Rattle.dstm_engine.proofs.Abandoning.{has_begin}
-use Rattle.dstm_engine.proofs.Alone.{Begun, cancel, commits, log_parts}
+use Rattle.dstm_engine.proofs.Alone.{Begun, commits}
 use Rattle.dstm_engine.proofs.Continuing.{doing_keeps, more_answer, more_calls, told_more, told_state}
 use Rattle.dstm_engine.proofs.Locators.{enough_still}
 use Rattle.dstm_engine.specs.Callers.{Called, begun_log, entry, is_running, shape_of, since_begin, state}
@@ -120,7 +123,7 @@ module _ {L : Type 0} (holds : L → List Val → Type 0) (k n : Called L) (work
 
   whole : n.log ≡ since ++ b.begin ∷ b.before
   whole =
-      log_parts k.number n.log
+      log_parts is_begin k.number n.log
       ∙ ap (λ xs. since ++ xs) (ap (λ c. begun_log c n.log) (sym p.same.1) ∙ same_begin ∙ b.is)
 
   core : Core (shape_of k) (since ++ b.begin ∷ b.before)
@@ -137,7 +140,7 @@ module _ {L : Type 0} (holds : L → List Val → Type 0) (k n : Called L) (work
   -- the calls on the attempt made all its caller's events since
   made : AreMade (shape_of k) k.began call told.calls since b.begin b.before
   made = record {
-    own = ap (λ c. events_of c since) b.own ∙ cancel (events_of k.number since) (p.events ++ all_events told.calls)
+    own = ap (λ c. events_of c since) b.own ∙ append_cancel_right (events_of k.number since) (p.events ++ all_events told.calls)
         (events_of k.number (b.begin ∷ b.before))
         (sym (filter-append (λ (e : Event). e.caller == k.number) since (b.begin ∷ b.before))
         ∙ ap (events_of k.number) (sym whole) ∙ p.own ∙ ap (λ xs. p.events ++ xs) told.own

@@ -4,7 +4,6 @@ pub mod Telling
 pub mod Leaving
 pub mod Retired
 pub mod LastValues
-pub mod Settling
 pub mod Alone
 pub mod Made
 pub mod Slots

@@ -2,6 +2,8 @@
 use Rattle.std.proofs.Common.{◌≡◌, ◌++◌, ◌∙◌, ◌∷◌, ℕ, List, [], refl, sym, ap, subst, length}
 use Rattle.std.specs.Prelude.{IfSome, Option, Some, None, false, ◌+◌}
 use base.Fml.{GName}
+use Rattle.dstm_core.specs.Counts.{is_begin}
+use Rattle.dstm_runs.proofs.Attempts.{log_parts}
 use Rattle.dstm_model.specs.declared.value.Val.{Val}
 use Rattle.dstm_model.specs.Map.{Agrees, state_after, with_writes}
 use Rattle.dstm_core.specs.Histories.{CoreRun, history_of}
@@ -24,12 +26,11 @@ use Rattle.dstm_core.specs.declared.status.Status.TheVariants as status
 use Rattle.dstm_progress.proofs.Own.{calls_begun}
 use Rattle.dstm_progress.specs.Alone.{all_events}
 use Rattle.dstm_runs.proofs.Pasts.{past_past}
-use Rattle.dstm_engine.proofs.Alone.{log_parts}
 use Rattle.dstm_engine.proofs.Continuing.{told_state}
 use Rattle.dstm_engine.specs.Calls.{begun_state}
 use Rattle.dstm_engine.specs.Outcomes.{IsEnded, IsLeft, Promises}
 use Rattle.dstm_engine.specs.Transactions.{BeginsAnew, TxPlace, tx_place}
-use Rattle.dstm_engine.proofs.Settling.{agrees_held, writes_same}
+use Rattle.dstm_mem.proofs.Settling.{agrees_held, writes_same}
 
 -- a value that is set changes no map that is admitted
 pub set_admits : {L : Type 0} (holds : L → List Val → Type 0) (k n : Called L) → n ≡ record k { set = n.set } →
@@ -78,7 +79,7 @@ module _ {L : Type 0} (holds : L → List Val → Type 0) (k b t : Called L) (r 
         (record {
           later = since_begin n.number n.log;
           whole = ap (λ xs. since_begin n.number n.log ++ xs) there
-              ∙ sym (log_parts n.number n.log);
+              ∙ sym (log_parts is_begin n.number n.log);
         });
     run = subst (λ (x : Home L). IsRunOf holds x.terms n.log) home run;
     same = (nh ∙ home, nn ∙ number);
@@ -165,8 +166,3 @@ module _ {L : Type 0} (holds : L → List Val → Type 0) (k b t : Called L) (r 
   -- the reference that the attempt has is the one that it was begun with
   pub same_name : (s : GName) → q ≡ s → s ≡ r
   same_name s own = sym (ap (λ (p : TxPlace L). p.reference) place ∙ own)
-
--- what holds of a caller as its attempt left it holds of it in the end, since the attempt had its reference
-pub in_the_end : {L : Type 0} {A : Type 0} (P : Called L → Type 0) (a b : A) (x n : Called L) → (a ≡ b → x ≡ n) → a ≡ b →
-    P n → P x
-in_the_end P a b x n same is h = subst P (sym (same is)) h

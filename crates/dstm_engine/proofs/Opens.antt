@@ -3,7 +3,7 @@ use Rattle.std.proofs.Common.{◌++◌, ◌<◌, ◌==◌, ◌∙◌, ◌∷◌,
 use Rattle.std.specs.Prelude.{IsSome, IsTrue, if◌then◌else◌, is_some, option_map}
 use Rattle.std.specs.Option.{option_or}
 use Rattle.std.proofs.lemmas.Bool.{cases_Bool, cases_eq, eq-eqb, ne_eqb}
-use Rattle.std.proofs.lemmas.List.{length-map}
+use Rattle.std.proofs.lemmas.List.{length-map, map-append}
 use Rattle.dstm_caller.proofs.Stepping.{call_of}
 use Rattle.dstm_caller.specs.Reads.{words_of}
 use Rattle.dstm_caller.specs.Under.{InTask, now}
@@ -46,7 +46,7 @@ use Rattle.dstm_engine.proofs.Left.{call_there, current_there, left_as, left_don
 use Rattle.dstm_engine.proofs.Rechecking.{held_stay}
 use Rattle.dstm_engine.proofs.Setting.{opened_slot, set_pairs_push}
 use Rattle.dstm_engine.proofs.Sights.{open_sees, sees_all, sighted_admits}
-use Rattle.dstm_engine.proofs.Slots.{slot_read, slots_push, words_push, words_without}
+use Rattle.dstm_engine.proofs.Slots.{slot_read, words_push, words_without}
 use Rattle.dstm_engine.proofs.Tying.{state_then}
 use Rattle.dstm_engine.specs.Attempts.{Sighted, done}
 use Rattle.dstm_engine.specs.Began.{began_of}
@@ -453,7 +453,7 @@ module _ {L : Type 0} (holds : L → List Val → Type 0) (c : Inside L) (v : Ti
   words : words_of (now (called c).home new).reads ≡ map slot_word read_opened.reads
   words =
       ap words_of adds.reads ∙ words_push (state (called c)).reads _ ∙ ap (λ xs. xs ++ (o, word) ∷ []) (v.reads live)
-      ∙ sym (slots_push c.opened.reads _)
+      ∙ sym (map-append slot_word c.opened.reads (_ ∷ []))
 
   values : read_values c.terms.shape c.terms.start.value.items (view_of new.seat).log (now (called c).home new).reads
       ≡ map slot_value read_opened.reads

@@ -1,5 +1,6 @@
 -- A recheck that has not left its attempt, and what a log tells of the values that are held.
 use Rattle.std.proofs.Common.{◌++◌, ◌<◌, ◌==◌, ◌∙◌, ◌∷◌, ◌≡◌, ◌≢◌, ◌⊎◌, List, None, Some, [], ap, arith, false, inl, inr, length, refl, subst, sym, true, ℕ}
+use Rattle.std.proofs.lemmas.List.{append_cancel_right}
 use Rattle.std.specs.Prelude.{IfSome, ◌||◌}
 use Rattle.std.proofs.lemmas.Bool.{cases_Bool, cond_both, eq-eqb, eqb-true}
 use Rattle.dstm_core.proofs.Static.{local_own}
@@ -36,7 +37,6 @@ use Rattle.dstm_order.specs.Calls.{effort_of}
 use Rattle.dstm_order.specs.Efforts.{Effort}
 use Rattle.dstm_order.specs.Order.{IsDue, due, next}
 use Rattle.dstm_progress.proofs.Calls.{nothing_due}
-use Rattle.dstm_engine.proofs.Alone.{cancel}
 use Rattle.dstm_engine.specs.Attempts.{Sighted, completes_pass, is_look_self}
 use Rattle.dstm_engine.specs.Callers.{Called, shape_of, start_of}
 use Rattle.dstm_engine.proofs.Plain.{are_plain, is_plain}
@@ -259,7 +259,7 @@ one_more_sight s start c log before (y ∷ later) e es x whole own none =
     let rest : later ++ before ≡ x.before = cc in
     let at_head = head_own c log (es ++ events_of c before) x.before x.sight x.is (own_head x.sight x.before x.is) in
     let own_rest : events_of c later ≡ es =
-    cancel (events_of c later) es (events_of c before)
+    append_cancel_right (events_of c later) es (events_of c before)
     (sym (filter-append (λ (z : Event). z.caller == c) later before) ∙ ap (events_of c) rest ∙ at_head.1) in
     let count : count_of completes_pass s x.before c i ≡ count_of completes_pass s before c i =
     ap (λ xs. count_of completes_pass s xs c i) (sym rest)

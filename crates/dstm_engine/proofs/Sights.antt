@@ -1,5 +1,6 @@
 -- An open that has not left its attempt ends with a sight of it.
 use Rattle.std.proofs.Common.{◌++◌, ◌==◌, ◌∙◌, ◌∷◌, ◌≡◌, ◌≢◌, ◌⊎◌, List, [], ap, append_assoc, false, inl, inr, refl, subst, sym, true, ℕ}
+use Rattle.std.proofs.lemmas.List.{append_cancel_right}
 use Rattle.std.specs.Prelude.{Option, None, Some, IfSome}
 use Rattle.std.proofs.lemmas.Bool.{cases_Bool, eq-eqb, eqb-true}
 use Rattle.std.proofs.lemmas.List.Elements.{filter-append}
@@ -29,7 +30,6 @@ use Rattle.dstm_order.specs.Tasks.Task.{Doing}
 use Rattle.dstm_progress.proofs.Own.{IsNewest, newest_own, own_state}
 use Rattle.dstm_words.specs.Seats.{IsRunOf}
 use Rattle.rand_pcg.specs.Lcg.{Lcg}
-use Rattle.dstm_engine.proofs.Alone.{cancel}
 use Rattle.dstm_engine.proofs.Rechecking.{sight_keeps}
 use Rattle.dstm_engine.specs.Attempts.{Admits, Sighted}
 use Rattle.dstm_engine.specs.Callers.{Called, held, law_of, shape_of, start_of, state}
@@ -53,7 +53,7 @@ newest_state s c log rest e own n =
     let mine : e.caller == c ≡ true = eq-eqb e.caller c n.own in
     let here : events_of c (e ∷ n.before) ≡ e ∷ rest = rw mine (ap (λ xs. e ∷ xs) n.rest) in
     let none : events_of c n.later ≡ [] =
-    cancel (events_of c n.later) [] (e ∷ rest)
+    append_cancel_right (events_of c n.later) [] (e ∷ rest)
     (ap (λ xs. events_of c n.later ++ xs) (sym here)
     ∙ sym (filter-append (λ (x : Event). x.caller == c) n.later (e ∷ n.before))
     ∙ ap (events_of c) (sym n.run) ∙ own) in

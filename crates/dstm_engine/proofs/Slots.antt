@@ -1,9 +1,11 @@
 -- What is open of an object, by where it stands.
-use Rattle.std.proofs.Common.{◌+◌, ◌++◌, ◌-◌, ◌<◌, ◌==◌, ◌∙◌, ◌∷◌, ◌≡◌, ◌≢◌, List, None, Some, [], ap, arith, cond, false, filter, inl, inr, length, length-append, map, refl, subst, sym, true, ℕ, ◌⊎◌}
+use Rattle.std.proofs.Common.{◌&&◌, ◌+◌, ◌++◌, ◌-◌, ◌<◌, ◌==◌, ◌∙◌, ◌∷◌, ◌≡◌, ◌≢◌, List, None, Some, [], ap, arith, cond, false, filter, inl, inr, length, length-append, map, refl, subst, sym, true, ℕ, ◌⊎◌}
 use Prim.Native.Nat.{zero, suc}
 use Rattle.std.specs.Prelude.{IsSome, if◌then◌else◌, is_some, option_map, slice_index_or, slice_set}
-use Rattle.std.proofs.lemmas.List.{get_or_default, get_or-set_other, get_or-set_same, length-set}
-use Rattle.std.proofs.lemmas.Bool.{cases_Bool, cases_eq, cond_both, eqb-true, eq-eqb}
+use Rattle.std.proofs.lemmas.List.{get_or_append_left, get_or_default, get_or-set_other, get_or-set_same, length-set}
+use Rattle.std.proofs.lemmas.Bool.{and_from, and_parts, cases_Bool, cases_eq, cond_both, eqb-true, eq-eqb}
+use Rattle.std.proofs.Math.Seq.{get_or-append_seam}
+use Rattle.dstm_mem.proofs.Finding.{find_filter, find_none, find_one}
 use Rattle.dstm_caller.specs.Finding.{word_of}
 use Rattle.dstm_caller.specs.Reads.{kept, words_of}
 use Rattle.dstm_core.specs.State.{drop_read, read_of}
@@ -18,79 +20,35 @@ use Rattle.dstm_engine.specs.declared.opened.Place.{Place}
 -- no slot is a kept read of the object
 pub read_none : (slots : List ReadSlot) (o : ℕ) → ((i : ℕ) → IsReadOf slots o i → ⊥) →
     read_slot (filter is_kept slots) o ≡ None
-read_none [] o none = refl
-read_none (s ∷ slots) o none = by (read_none slots o rest) (cases_Bool s.kept)
-  where
-    rest : (i : ℕ) → IsReadOf slots o i → ⊥
-    rest i r = none (suc i) (record { within = let w = r.within in omega arith; kept = r.kept; object = r.object })
-
-    by : read_slot (filter is_kept slots) o ≡ None → (s.kept ≡ true) ⊎ (s.kept ≡ false) →
-        read_slot (filter is_kept (s ∷ slots)) o ≡ None
-    by ih (inl k) = at (cases_Bool (s.object == o))
-      where
-        at : (s.object == o ≡ true) ⊎ (s.object == o ≡ false) → read_slot (filter is_kept (s ∷ slots)) o ≡ None
-        at (inl q) = absurd (none 0 (record { within = omega arith; kept = k; object = eqb-true s.object o q }))
-        at (inr q) = rw (k, q) ih
-    by ih (inr k) = rw k ih
+read_none slots o none =
+    find_filter (λ (s : ReadSlot). s.object == o) is_kept slots
+    ∙ find_none (λ (s : ReadSlot). s.kept && (s.object == o)) no_read slots
+    (λ i lt q. let two = and_parts (read_at slots i).kept ((read_at slots i).object == o) q in
+    none i (record { within = lt; kept = two.0; object = eqb-true (read_at slots i).object o two.1 }))
 
 -- the slot is the only kept read of the object
 pub read_one : (slots : List ReadSlot) (o n : ℕ) → IsReadOf slots o n → ((i : ℕ) → IsReadOf slots o i → i ≡ n) →
     read_slot (filter is_kept slots) o ≡ Some (read_at slots n)
-read_one [] o n r only = let w = r.within in absurd (omega arith)
-read_one (s ∷ slots) o zero r only = rw (r.kept, eq-eqb s.object o r.object) refl
-read_one (s ∷ slots) o (suc n) r only = by (read_one slots o n later rest) (cases_Bool s.kept)
-  where
-    later : IsReadOf slots o n
-    later = record { within = let w = r.within in omega arith; kept = r.kept; object = r.object }
-
-    rest : (i : ℕ) → IsReadOf slots o i → i ≡ n
-    rest i q =
-        let e = only (suc i) (record { within = let w = q.within in omega arith; kept = q.kept; object = q.object }) in
-        omega arith
-
-    by : read_slot (filter is_kept slots) o ≡ Some (read_at slots n) → (s.kept ≡ true) ⊎ (s.kept ≡ false) →
-        read_slot (filter is_kept (s ∷ slots)) o ≡ Some (read_at (s ∷ slots) (suc n))
-    by ih (inl k) = at (cases_Bool (s.object == o))
-      where
-        at : (s.object == o ≡ true) ⊎ (s.object == o ≡ false) →
-            read_slot (filter is_kept (s ∷ slots)) o ≡ Some (read_at (s ∷ slots) (suc n))
-        at (inl q) =
-            let e = only 0 (record { within = omega arith; kept = k; object = eqb-true s.object o q }) in
-            absurd (omega arith)
-        at (inr q) = rw (k, q) ih
-    by ih (inr k) = rw k ih
+read_one slots o n r only =
+    find_filter (λ (s : ReadSlot). s.object == o) is_kept slots
+    ∙ find_one (λ (s : ReadSlot). s.kept && (s.object == o)) no_read slots n r.within
+    (and_from (read_at slots n).kept ((read_at slots n).object == o) r.kept (eq-eqb (read_at slots n).object o r.object))
+    (λ i lt q. let two = and_parts (read_at slots i).kept ((read_at slots i).object == o) q in
+    only i (record { within = lt; kept = two.0; object = eqb-true (read_at slots i).object o two.1 }))
 
 -- no slot is the object's
 pub write_none : (slots : List WriteSlot) (o : ℕ) → ((i : ℕ) → IsWriteOf slots o i → ⊥) → write_slot slots o ≡ None
-write_none [] o none = refl
-write_none (s ∷ slots) o none = by (write_none slots o rest) (cases_Bool (s.object == o))
-  where
-    rest : (i : ℕ) → IsWriteOf slots o i → ⊥
-    rest i r = none (suc i) (record { within = let w = r.within in omega arith; object = r.object })
-
-    by : write_slot slots o ≡ None → (s.object == o ≡ true) ⊎ (s.object == o ≡ false) →
-        write_slot (s ∷ slots) o ≡ None
-    by ih (inl q) = absurd (none 0 (record { within = omega arith; object = eqb-true s.object o q }))
-    by ih (inr q) = rw q ih
+write_none slots o none =
+    find_none (λ (s : WriteSlot). s.object == o) no_write slots
+    (λ i lt q. none i (record { within = lt; object = eqb-true (write_at slots i).object o q }))
 
 -- the slot is the only one of the object
 pub write_one : (slots : List WriteSlot) (o n : ℕ) → IsWriteOf slots o n →
     ((i : ℕ) → IsWriteOf slots o i → i ≡ n) → write_slot slots o ≡ Some (write_at slots n)
-write_one [] o n r only = let w = r.within in absurd (omega arith)
-write_one (s ∷ slots) o zero r only = rw (eq-eqb s.object o r.object) refl
-write_one (s ∷ slots) o (suc n) r only = by (write_one slots o n later rest) (cases_Bool (s.object == o))
-  where
-    later : IsWriteOf slots o n
-    later = record { within = let w = r.within in omega arith; object = r.object }
-
-    rest : (i : ℕ) → IsWriteOf slots o i → i ≡ n
-    rest i q = let e = only (suc i) (record { within = let w = q.within in omega arith; object = q.object }) in omega arith
-
-    by : write_slot slots o ≡ Some (write_at slots n) → (s.object == o ≡ true) ⊎ (s.object == o ≡ false) →
-        write_slot (s ∷ slots) o ≡ Some (write_at (s ∷ slots) (suc n))
-    by ih (inl q) =
-        let e = only 0 (record { within = omega arith; object = eqb-true s.object o q }) in absurd (omega arith)
-    by ih (inr q) = rw q ih
+write_one slots o n r only =
+    find_one (λ (s : WriteSlot). s.object == o) no_write slots n r.within
+    (eq-eqb (write_at slots n).object o r.object)
+    (λ i lt q. only i (record { within = lt; object = eqb-true (write_at slots i).object o q }))
 
 module _ (reads : List ReadSlot) (writes : List WriteSlot) (places : List Place)
     (p : ArePlaced reads writes places) (o : ℕ) (below : o < length places) where
@@ -319,10 +277,6 @@ words_all (s ∷ slots) = by (words_all slots) (cases_Bool s.kept)
     by ih (inr q) = rw q ih
 
 -- one read more
-pub slots_push : (slots : List ReadSlot) (s : ReadSlot) → map slot_word (slots ++ s ∷ []) ≡ map slot_word slots ++ slot_word s ∷ []
-slots_push [] s = refl
-slots_push (x ∷ slots) s = ap (λ xs. slot_word x ∷ xs) (slots_push slots s)
-
 pub words_push : (reads : List Read) (r : Read) → words_of (reads ++ r ∷ []) ≡ words_of reads ++ (r.object, r.word) ∷ []
 words_push [] r = refl
 words_push (x ∷ reads) r = ap (λ xs. (x.object, x.word) ∷ xs) (words_push reads r)
@@ -736,15 +690,6 @@ read_split (y ∷ rs) s x (suc i) r =
     by (inl q) = inl (record { within = let w = q.within in omega arith; kept = q.kept; object = q.object })
     by (inr q) = inr (let e = q.0 in omega arith, q.1)
 
-read_at-push : (rs : List ReadSlot) (s : ReadSlot) (i : ℕ) → i < length rs → read_at (rs ++ s ∷ []) i ≡ read_at rs i
-read_at-push [] s i lt = absurd (omega arith)
-read_at-push (y ∷ rs) s zero lt = refl
-read_at-push (y ∷ rs) s (suc i) lt = read_at-push rs s i (omega arith)
-
-read_at-last : (rs : List ReadSlot) (s : ReadSlot) → read_at (rs ++ s ∷ []) (length rs) ≡ s
-read_at-last [] s = refl
-read_at-last (y ∷ rs) s = read_at-last rs s
-
 module _ (reads : List ReadSlot) (writes : List WriteSlot) (places : List Place) (s : ReadSlot) (n : ℕ)
     (p : ArePlaced reads writes places) (below : s.object < length places) (kept_is : s.kept ≡ true)
     (none : read_slot (filter is_kept reads) s.object ≡ None) (is : n ≡ length reads + 1) where
@@ -792,12 +737,12 @@ module _ (reads : List ReadSlot) (writes : List WriteSlot) (places : List Place)
       by : (i ≡ length reads) ⊎ (i ≡ length reads → ⊥) → (read_at (reads ++ s ∷ []) i).object < length noted
       by (inl last) =
           subst (λ (x : ReadSlot). x.object < length noted)
-          (sym (ap (read_at (reads ++ s ∷ [])) last ∙ read_at-last reads s))
+          (sym (ap (read_at (reads ++ s ∷ [])) last ∙ get_or-append_seam reads s [] no_read))
           (let z = size_noted in omega (arith, below))
       by (inr earlier) =
           let longer = length-append reads (s ∷ []) in
           let within : i < length reads = omega arith in
-          subst (λ (x : ReadSlot). x.object < length noted) (sym (read_at-push reads s i within))
+          subst (λ (x : ReadSlot). x.object < length noted) (sym (get_or_append_left reads (s ∷ []) no_read i within))
           (let b = p.reads_below i within in let z = size_noted in omega arith)
 
   places_noted : (x : ℕ) → x < length noted → (place_at noted x).read ≢ 0 →
@@ -813,17 +758,17 @@ module _ (reads : List ReadSlot) (writes : List WriteSlot) (places : List Place)
           subst (IsReadOf (reads ++ s ∷ []) x) (let e : length reads ≡ (place_at noted x).read - 1 = omega arith in e)
           (record {
             within = omega (arith, longer);
-            kept = ap (λ (y : ReadSlot). y.kept) (read_at-last reads s) ∙ kept_is;
-            object = ap (λ (y : ReadSlot). y.object) (read_at-last reads s) ∙ sym same;
+            kept = ap (λ (y : ReadSlot). y.kept) (get_or-append_seam reads s [] no_read) ∙ kept_is;
+            object = ap (λ (y : ReadSlot). y.object) (get_or-append_seam reads s [] no_read) ∙ sym same;
           })
       by (inr other) =
           let at = ap (λ (q : Place). q.read) (noted_other x other) in
           let r = p.read_places x (let z = size_noted in omega arith) (λ z. some (at ∙ z)) in
           subst (λ k. IsReadOf (reads ++ s ∷ []) x (k - 1)) (sym at) (record {
             within = let w = r.within in omega (arith, longer);
-            kept = ap (λ (y : ReadSlot). y.kept) (read_at-push reads s ((place_at places x).read - 1) r.within) ∙ r.kept;
+            kept = ap (λ (y : ReadSlot). y.kept) (get_or_append_left reads (s ∷ []) no_read ((place_at places x).read - 1) r.within) ∙ r.kept;
             object =
-                ap (λ (y : ReadSlot). y.object) (read_at-push reads s ((place_at places x).read - 1) r.within) ∙ r.object;
+                ap (λ (y : ReadSlot). y.object) (get_or_append_left reads (s ∷ []) no_read ((place_at places x).read - 1) r.within) ∙ r.object;
           })
 
   pub placed_noted : ArePlaced (reads ++ s ∷ []) writes noted

@@ -1,9 +1,10 @@
 -- What contracts see of a caller, and of its last attempt.
-use Rattle.std.specs.Prelude.{ℕ, ◌==◌, ◌&&◌, Bool, true, false, List, [], ◌∷◌, Option, is_some, if◌then◌else◌, None}
+use Rattle.std.specs.Prelude.{ℕ, ◌&&◌, Bool, true, false, List, Option, is_some, if◌then◌else◌, None}
 use Rattle.std.specs.Option.{option_or}
 use Rattle.rand_pcg.specs.Lcg.{Lcg}
 use Rattle.dstm_model.specs.declared.value.Val.{Val}
 use Rattle.dstm_model.specs.Map.{Entry}
+use Rattle.dstm_runs.specs.Attempts as attempts
 use Rattle.dstm_core.specs.Events.{Event}
 use Rattle.dstm_core.specs.Counts.{is_begin}
 use Rattle.dstm_core.specs.declared.shape.Shape.{Shape}
@@ -86,12 +87,8 @@ module _ {L : Type 0} where
 
 -- the log as it was after the last Begin of caller c
 abbrev pub begun_log : ℕ → List Event → List Event
-begun_log c [] = []
-begun_log c (event ∷ before) =
-    if (event.caller == c) && is_begin event.kind then event ∷ before else begun_log c before
+begun_log c log = attempts.begun_log is_begin c log
 
 -- the events after the last Begin of caller c, of all callers
 abbrev pub since_begin : ℕ → List Event → List Event
-since_begin c [] = []
-since_begin c (event ∷ before) =
-    if (event.caller == c) && is_begin event.kind then [] else event ∷ since_begin c before
+since_begin c log = attempts.since_begun is_begin c log

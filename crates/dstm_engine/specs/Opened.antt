@@ -1,5 +1,5 @@
 -- What an attempt has open.
-use Rattle.std.specs.Prelude.{◌≡◌, ◌≢◌, ℕ, ◌+◌, ◌-◌, ◌*◌, ◌^◌, ◌<◌, ◌≤◌, ◌==◌, Bool, true, false, List, [], ◌∷◌, filter, length, slice_index_or, vec_capacity, Option, None, Some, if◌then◌else◌}
+use Rattle.std.specs.Prelude.{◌≡◌, ◌≢◌, ℕ, ◌+◌, ◌-◌, ◌*◌, ◌^◌, ◌<◌, ◌≤◌, ◌==◌, Bool, true, false, List, [], ◌∷◌, filter, find, length, slice_index_or, vec_capacity, Option, None, Some, if◌then◌else◌}
 use Rattle.dstm_caller.specs.Writes.{to_put}
 use Rattle.dstm_caller.specs.declared.slots.ReadSlot.{ReadSlot}
 use Rattle.dstm_caller.specs.declared.slots.WriteSlot.{WriteSlot}
@@ -24,13 +24,11 @@ slots_value (Some write) read = Some (to_put write)
 
 -- the read of an object
 abbrev pub read_slot : List ReadSlot → ℕ → Option ReadSlot
-read_slot [] o = None
-read_slot (slot ∷ slots) o = if slot.object == o then Some slot else read_slot slots o
+read_slot slots o = find (λ (slot : ReadSlot). slot.object == o) slots
 
 -- what an object is open for writing with
 abbrev pub write_slot : List WriteSlot → ℕ → Option WriteSlot
-write_slot [] o = None
-write_slot (slot ∷ slots) o = if slot.object == o then Some slot else write_slot slots o
+write_slot slots o = find (λ (slot : WriteSlot). slot.object == o) slots
 
 -- the reads without that of an object
 abbrev pub without_read : ℕ → List ReadSlot → List ReadSlot

@@ -1,5 +1,5 @@
 -- Committed attempts in the order of their numbers: lists in which each caller's part is the same.
-use Rattle.std.proofs.Common.{◌<◌, ◌==◌, ◌≤◌, ◌∙◌, ◌∷◌, ◌≡◌, ◌⊎◌, List, [], ap, arith, cond, false, inl, inr, refl, sym, true, ℕ}
+use Rattle.std.proofs.Common.{◌<◌, ◌==◌, ◌≤◌, ◌∙◌, ◌∷◌, ◌≡◌, ◌≢◌, ◌⊎◌, Bool, List, [], ap, arith, cond, false, inl, inr, refl, sym, true, ℕ}
 use Rattle.std.proofs.lemmas.Bool.{cases_Bool, cases_eq, eq-eqb, ne_eqb}
 use Rattle.dstm_model.specs.Answers.{AreBelow, Committed, NumbersFall, by_caller}
 
@@ -10,6 +10,18 @@ below_more n m (x ∷ xs) h b = (let y = b.0 in omega arith, below_more n m xs h
 
 head_is : (x : Committed) (xs : List Committed) → by_caller x.caller (x ∷ xs) ≡ x ∷ by_caller x.caller xs
 head_is x xs = rw (eq-eqb x.caller x.caller refl) refl
+
+-- one attempt more of a caller, if it is one
+pub own_list : (b : Bool) (x : Committed) (xs : List Committed) →
+    by_caller x.caller (cond b (x ∷ xs) xs) ≡ cond b (x ∷ by_caller x.caller xs) (by_caller x.caller xs)
+own_list true x xs = head_is x xs
+own_list false x xs = refl
+
+-- and of another caller
+pub other_list : (b : Bool) (c : ℕ) (x : Committed) (xs : List Committed) → x.caller ≢ c →
+    by_caller c (cond b (x ∷ xs) xs) ≡ by_caller c xs
+other_list true c x xs h = rw (ne_eqb x.caller c h) refl
+other_list false c x xs h = refl
 
 -- an attempt that stands first among its caller's is in the list, so its number is not above the first
 first_below : (c : ℕ) (x : Committed) (part ys : List Committed) (n : ℕ) → by_caller c ys ≡ x ∷ part →

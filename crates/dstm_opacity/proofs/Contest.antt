@@ -1,18 +1,19 @@
 -- The contest is a core run.
 use Rattle.std.proofs.Common.{◌≡◌, ◌∷◌, Bool, List, [], ap, arith, drop, false, cond, inl, inr, length, refl, take, true, ◌⊎◌}
 use Rattle.std.proofs.lemmas.Bool.{cases_Bool}
+use Rattle.dstm_runs.specs.Traces.{continued}
 use Rattle.dstm_model.specs.declared.value.Val.{Val}
 use Rattle.dstm_model.specs.Map.{with_writes}
 use Rattle.dstm_core.specs.Events.{Event}
 use Rattle.dstm_core.specs.declared.event.Kind.{Kind}
 use Rattle.dstm_core.specs.declared.event.Kind.TheVariants.{PutNew}
 use Rattle.dstm_core.specs.Histories.{Lawful}
-use Rattle.dstm_core.specs.Runs.{Core, Fits}
-use Rattle.dstm_opacity.proofs.Fitting.{AllFit, core_then, enrol, fit, ◌also◌}
+use Rattle.dstm_core.specs.Runs.{Core, Fits, core}
+use Rattle.dstm_runs.proofs.Fitting.{AllFit, enrol, fit, run_then, ◌also◌}
 use Rattle.dstm_opacity.specs.Contest.{SomeContest, before_release, lawful, release, rival_commits, rival_kills, rival_reads, run, shape, start, writer_leaves, writer_opens}
-use Rattle.dstm_opacity.specs.Example.{event, then, val}
+use Rattle.dstm_opacity.specs.Example.{event, val}
 
-writer_opens-fit : AllFit shape [] writer_opens
+writer_opens-fit : AllFit core shape [] writer_opens
 writer_opens-fit =
     enrol refl (omega arith) refl (refl, (refl, refl), refl, tt) also
     fit refl (omega arith) (λ q. cc) (refl, (refl, refl), (refl, omega arith, inl (inl refl, inl refl)), omega arith) also
@@ -24,7 +25,7 @@ writer_opens-fit =
     fit refl (omega arith) (λ q. cc) (refl, (refl, refl), (refl, inl refl, refl, refl), omega arith) also
     tt
 
-rival_reads-fit : AllFit shape (then [] writer_opens) rival_reads
+rival_reads-fit : AllFit core shape (continued [] writer_opens) rival_reads
 rival_reads-fit =
     enrol refl (omega arith) refl (refl, (refl, refl), refl, tt) also
     fit refl (omega arith) (λ q. cc) (refl, (refl, refl), (refl, omega arith, inl (inl refl, inl refl)), omega arith) also
@@ -39,9 +40,9 @@ release-fits : Fits shape before_release release
 release-fits = fit refl (omega arith) (λ q. cc) (refl, (refl, refl), (refl, refl, refl), omega arith)
 
 abbrev after_release : List Event
-after_release = then (release ∷ before_release) rival_kills
+after_release = continued (release ∷ before_release) rival_kills
 
-rival_kills-fit : AllFit shape (release ∷ before_release) rival_kills
+rival_kills-fit : AllFit core shape (release ∷ before_release) rival_kills
 rival_kills-fit =
     fit refl (omega arith) (λ q. cc) (refl, (refl, refl), (refl, refl, refl), omega arith) also
     fit refl (omega arith) (λ q. cc) (refl, (refl, refl), (refl, refl, omega arith), omega arith) also
@@ -50,13 +51,13 @@ rival_kills-fit =
     fit refl (omega arith) (λ q. cc) (refl, (refl, refl), (refl, refl, refl, refl, tt), omega arith) also
     tt
 
-writer_leaves-fit : AllFit shape after_release writer_leaves
+writer_leaves-fit : AllFit core shape after_release writer_leaves
 writer_leaves-fit =
     fit refl (omega arith) (λ q. cc) (refl, (refl, refl), (refl, refl), tt) also
     fit refl (omega arith) (λ q. cc) (refl, (refl, refl), (refl, refl, refl, inl refl), omega arith) also
     tt
 
-rival_commits-fit : AllFit shape (then after_release writer_leaves) rival_commits
+rival_commits-fit : AllFit core shape (continued after_release writer_leaves) rival_commits
 rival_commits-fit =
     fit refl (omega arith) (λ q. cc) (refl, (refl, refl), (refl, refl, refl), omega arith) also
     fit refl (omega arith) (λ q. cc) (refl, (refl, refl), (refl, refl, omega arith), omega arith) also
@@ -71,11 +72,11 @@ rival_commits-fit =
 
 run_fits : Core shape run
 run_fits =
-    let opened = core_then shape [] writer_opens tt writer_opens-fit in
-    let read = core_then shape (then [] writer_opens) rival_reads opened rival_reads-fit in
-    let killed = core_then shape (release ∷ before_release) rival_kills (read, release-fits) rival_kills-fit in
-    let left = core_then shape after_release writer_leaves killed writer_leaves-fit in
-    core_then shape (then after_release writer_leaves) rival_commits left rival_commits-fit
+    let opened = run_then core shape [] writer_opens tt writer_opens-fit in
+    let read = run_then core shape (continued [] writer_opens) rival_reads opened rival_reads-fit in
+    let killed = run_then core shape (release ∷ before_release) rival_kills (read, release-fits) rival_kills-fit in
+    let left = run_then core shape after_release writer_leaves killed writer_leaves-fit in
+    run_then core shape (continued after_release writer_leaves) rival_commits left rival_commits-fit
 
 -- ---- the law
 
@@ -89,7 +90,7 @@ puts_none (e ∷ events) = cond (is_put_new e.kind) false (puts_none events)
 
 -- events that put no new value keep every law
 lawful_then : (before events : List Event) → puts_none events ≡ true → Lawful shape start lawful before →
-    Lawful shape start lawful (then before events)
+    Lawful shape start lawful (continued before events)
 unfolding puts_none is_put_new
 lawful_then before [] q law = law
 lawful_then before (e ∷ events) q law = go (cases_Bool (is_put_new e.kind))
@@ -97,8 +98,8 @@ lawful_then before (e ∷ events) q law = go (cases_Bool (is_put_new e.kind))
   where
     go : (is_put_new e.kind ≡ true) ⊎ (is_put_new e.kind ≡ false) →
         (puts_none events ≡ true → Lawful shape start lawful (e ∷ before) →
-        Lawful shape start lawful (then (e ∷ before) events)) →
-        Lawful shape start lawful (then (e ∷ before) events)
+        Lawful shape start lawful (continued (e ∷ before) events)) →
+        Lawful shape start lawful (continued (e ∷ before) events)
     go (inl z) ih = absurd (let w : false ≡ true = rw z at q in cc)
     go (inr z) ih = ih (rw z at q) (law, λ k. absurd (let w = ap is_put_new k in cc))
 
@@ -109,17 +110,17 @@ first_of (x ∷ xs) n = refl
 
 -- the run up to the one event that puts a new value
 abbrev opened : List Event
-opened = then (then after_release writer_leaves) (take 5 rival_commits)
+opened = continued (continued after_release writer_leaves) (take 5 rival_commits)
 
 run_lawful : Lawful shape start lawful run
 unfolding puts_none is_put_new
 run_lawful =
     let before = lawful_then (release ∷ before_release) rival_kills refl (
-      lawful_then (then [] writer_opens) rival_reads refl (lawful_then [] writer_opens refl tt),
+      lawful_then (continued [] writer_opens) rival_reads refl (lawful_then [] writer_opens refl tt),
       λ k. absurd (cc),
     ) in
     let left = lawful_then after_release writer_leaves refl before in
-    let put = lawful_then (then after_release writer_leaves) (take 5 rival_commits) refl left in
+    let put = lawful_then (continued after_release writer_leaves) (take 5 rival_commits) refl left in
     lawful_then (event 1 PutNew 20 0 0 9 ∷ opened) (drop 6 rival_commits) refl
     (put, λ k w map n holds agrees. first_of map n)
 

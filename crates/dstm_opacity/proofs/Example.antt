@@ -1,14 +1,15 @@
 -- The example is a core run.
 use Rattle.std.proofs.Common.{◌∷◌, List, [], inl, inr, refl, arith}
+use Rattle.dstm_runs.specs.Traces.{continued}
 use Rattle.dstm_model.specs.declared.value.Val.{Val}
 use Rattle.dstm_core.specs.Events.{Event}
 use Rattle.dstm_core.specs.declared.shape.Shape.{Shape}
 use Rattle.dstm_core.specs.Histories.{Lawful}
-use Rattle.dstm_core.specs.Runs.{Core, Fits}
-use Rattle.dstm_opacity.proofs.Fitting.{AllFit, core_then, enrol, fit, ◌also◌}
-use Rattle.dstm_opacity.specs.Example.{SomeRun, before_commit, before_sight, reader_checks, reader_commit, reader_draws, run, shape, sight, start, then, writer_again, writer_commits}
+use Rattle.dstm_core.specs.Runs.{Core, Fits, core}
+use Rattle.dstm_runs.proofs.Fitting.{AllFit, enrol, fit, run_then, ◌also◌}
+use Rattle.dstm_opacity.specs.Example.{SomeRun, before_commit, before_sight, reader_checks, reader_commit, reader_draws, run, shape, sight, start, writer_again, writer_commits}
 
-writer_commits-fit : AllFit shape [] writer_commits
+writer_commits-fit : AllFit core shape [] writer_commits
 writer_commits-fit =
     enrol refl (omega arith) refl (refl, (refl, refl), refl, tt) also
     fit refl (omega arith) (λ q. cc) (refl, (refl, refl), (refl, refl, omega arith, inl refl), omega arith) also
@@ -23,7 +24,7 @@ writer_commits-fit =
     fit refl (omega arith) (λ q. cc) (refl, (refl, refl), (refl, refl, inl refl), omega arith) also
     tt
 
-reader_checks-fit : AllFit shape (then [] writer_commits) reader_checks
+reader_checks-fit : AllFit core shape (continued [] writer_commits) reader_checks
 reader_checks-fit =
     enrol refl (omega arith) refl (refl, (refl, refl), refl, tt) also
     fit refl (omega arith) (λ q. cc) (refl, (refl, refl), (refl, refl, omega arith, inl refl), omega arith) also
@@ -39,7 +40,7 @@ reader_checks-fit =
 sight-fits : Fits shape before_sight sight
 sight-fits = fit refl (omega arith) (λ q. cc) (refl, (refl, refl), (refl, refl, refl, inl refl), omega arith)
 
-reader_draws-fit : AllFit shape (sight ∷ before_sight) reader_draws
+reader_draws-fit : AllFit core shape (sight ∷ before_sight) reader_draws
 reader_draws-fit =
     fit refl (omega arith) (λ q. cc) (refl, (refl, refl), (inl (refl, refl), refl), omega arith) also
     fit refl (omega arith) (λ q. cc) (refl, (refl, refl), (refl, refl), tt) also
@@ -48,7 +49,7 @@ reader_draws-fit =
 reader_commit-fits : Fits shape before_commit reader_commit
 reader_commit-fits = fit refl (omega arith) (λ q. cc) (refl, (refl, refl), (refl, refl, inr refl), omega arith)
 
-writer_again-fit : AllFit shape (reader_commit ∷ before_commit) writer_again
+writer_again-fit : AllFit core shape (reader_commit ∷ before_commit) writer_again
 writer_again-fit =
     fit refl (omega arith) (λ q. cc) (refl, (refl, refl), (refl, refl, omega arith, inl refl), omega arith) also
     fit refl (omega arith) (λ q. cc) (refl, (refl, refl), (refl, refl, refl), omega arith) also
@@ -68,10 +69,10 @@ writer_again-fit =
 
 run_fits : Core shape run
 run_fits =
-    let written = core_then shape [] writer_commits tt writer_commits-fit in
-    let checked = core_then shape (then [] writer_commits) reader_checks written reader_checks-fit in
-    let drawn = core_then shape (sight ∷ before_sight) reader_draws (checked, sight-fits) reader_draws-fit in
-    core_then shape (reader_commit ∷ before_commit) writer_again (drawn, reader_commit-fits) writer_again-fit
+    let written = run_then core shape [] writer_commits tt writer_commits-fit in
+    let checked = run_then core shape (continued [] writer_commits) reader_checks written reader_checks-fit in
+    let drawn = run_then core shape (sight ∷ before_sight) reader_draws (checked, sight-fits) reader_draws-fit in
+    run_then core shape (reader_commit ∷ before_commit) writer_again (drawn, reader_commit-fits) writer_again-fit
 
 -- each run is one of the law that holds for every map
 any_lawful : (s : Shape) (values : List Val) (es : List Event) → Lawful s values (λ map. Unit {0}) es

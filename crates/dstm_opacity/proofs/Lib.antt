@@ -27,7 +27,6 @@ pub mod Entries
 pub mod Found
 pub mod Kept
 pub mod Opacity
-pub mod Fitting
 pub mod Example
 pub mod Contest
 pub mod Resolved

@@ -1,6 +1,7 @@
 -- A core run of a law that binds, under Karma: caller 0 writes an object; caller 1 reads another object and lets it
 -- go, meets caller 0's attempt, aborts it, and then writes the object and commits.
 use Rattle.std.specs.Prelude.{◌≡◌, false, List, [], ◌∷◌, length}
+use Rattle.dstm_runs.specs.Traces.{continued}
 use Rattle.dstm_model.specs.declared.value.Val.{Val}
 use Rattle.dstm_model.specs.Map.{Entry, value_at}
 use Rattle.dstm_core.specs.Events.{Event}
@@ -14,7 +15,7 @@ use Rattle.dstm_core.specs.Runs.{local}
 use Rattle.dstm_core.specs.Traces.{word}
 use Rattle.dstm_core.specs.Words.{IsValid, code_of}
 use Rattle.dstm_core.specs.Words.Word.{StatusWord}
-use Rattle.dstm_opacity.specs.Example.{event, then, val}
+use Rattle.dstm_opacity.specs.Example.{event, val}
 
 abbrev pub shape : Shape
 shape = record { objects = 2; callers = 2; attempts = 2; locators = 2; manager = Karma; all_write = false }
@@ -82,10 +83,10 @@ rival_commits =
     event 1 Commit 4 3 3 4 ∷ []
 
 abbrev pub before_release : List Event
-before_release = then (then [] writer_opens) rival_reads
+before_release = continued (continued [] writer_opens) rival_reads
 
 abbrev pub run : List Event
-run = then (then (then (release ∷ before_release) rival_kills) writer_leaves) rival_commits
+run = continued (continued (continued (release ∷ before_release) rival_kills) writer_leaves) rival_commits
 
 -- the transaction that commits
 abbrev pub history : List Entry

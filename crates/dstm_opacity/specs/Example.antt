@@ -1,6 +1,7 @@
 -- A core run: caller 0 writes the object and commits; caller 1 reads what was written, and commits by the
 -- number alone, with no Check after its Draw; then it writes the object too.
 use Rattle.std.specs.Prelude.{◌≡◌, ℕ, false, List, [], ◌∷◌, length}
+use Rattle.dstm_runs.specs.Traces.{continued}
 use Rattle.dstm_model.specs.declared.value.Val.{Val}
 use Rattle.dstm_model.specs.Map.{Entry}
 use Rattle.dstm_core.specs.Events.{Event}
@@ -30,11 +31,6 @@ event caller kind place expected found put = record {
   found = found;
   put = put;
 }
-
--- the run goes on with some events, here the oldest first
-abbrev pub then : List Event → List Event → List Event
-then before [] = before
-then before (event ∷ events) = then (event ∷ before) events
 
 -- caller 0 puts (9, 0)
 abbrev pub writer_commits : List Event
@@ -97,13 +93,13 @@ writer_again =
     event 1 Commit 4 3 3 4 ∷ []
 
 abbrev pub before_sight : List Event
-before_sight = then (then [] writer_commits) reader_checks
+before_sight = continued (continued [] writer_commits) reader_checks
 
 abbrev pub before_commit : List Event
-before_commit = then (sight ∷ before_sight) reader_draws
+before_commit = continued (sight ∷ before_sight) reader_draws
 
 abbrev pub run : List Event
-run = then (reader_commit ∷ before_commit) writer_again
+run = continued (reader_commit ∷ before_commit) writer_again
 
 -- the three transactions, in the order of their numbers
 abbrev pub history : List Entry

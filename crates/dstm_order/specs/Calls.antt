@@ -1,10 +1,13 @@
 -- Calls of the engine: the events of a call, and what it answers.
 use Rattle.std.specs.Prelude.{◌≡◌, ℕ, ◌-◌, ◌==◌, ◌&&◌, ◌||◌, Bool, true, false, not, List, [], ◌∷◌, slice_get, Option, Some, None, is_some, if◌then◌else◌}
+use Rattle.dstm_runs.specs.Machines as machines
+pub use Rattle.dstm_runs.specs.Traces.{newest_of}
 use Rattle.dstm_core.specs.Events.{Event}
 use Rattle.dstm_core.specs.declared.event.Kind.{Kind}
 use Rattle.dstm_core.specs.declared.event.Kind.TheVariants.{Quit}
 use Rattle.dstm_core.specs.declared.shape.Shape.{Shape}
-use Rattle.dstm_core.specs.Rules.{after, is_outside}
+use Rattle.dstm_core.specs.Rules.{is_outside}
+use Rattle.dstm_core.specs.Runs.{core}
 use Rattle.dstm_core.specs.State.{LocalState, or_read, res}
 use Rattle.rand_pcg.specs.Lcg.{Lcg}
 use Rattle.dstm_order.specs.declared.again.Again.{Again}
@@ -20,8 +23,7 @@ use Rattle.dstm_order.specs.Tasks.Task.{Doing}
 
 -- the caller's state after its events
 abbrev pub state_after : Shape → LocalState → List Event → LocalState
-state_after shape state [] = state
-state_after shape state (event ∷ events) = after event.kind shape (state_after shape state events) event
+state_after shape state events = machines.state_after core shape state events
 
 -- what the call has behind it after its events
 abbrev pub effort_of : Shape → LocalState → Lcg → List Event → Effort
@@ -29,10 +31,6 @@ effort_of shape state generator [] = no_effort generator
 effort_of shape state generator (event ∷ events) =
     effort_after event.kind shape.manager (state_after shape state events)
     (effort_of shape state generator events) event
-
-abbrev pub newest_of : List Event → Option Event
-newest_of [] = None
-newest_of (event ∷ events) = Some event
 
 -- what is due after its events
 abbrev pub due_after : Task → Shape → LocalState → Lcg → List Event → Due

@@ -1,12 +1,7 @@
 -- The examples are core runs.
-use Rattle.std.proofs.Common.{◌≡◌, ◌≢◌, ◌<◌, ℕ, suc, zero, List, true, inl, inr, refl, arith}
-use Rattle.dstm_core.specs.Rules.{AllowedAs}
-use Rattle.dstm_core.specs.Runs.{Core, Fits, local}
-use Rattle.dstm_core.specs.Traces.{at}
-use Rattle.dstm_core.specs.Events.{Event}
-use Rattle.dstm_core.specs.declared.event.Kind.TheVariants.{Enrol}
+use Rattle.std.proofs.Common.{◌≡◌, ◌≢◌, ◌<◌, ℕ, suc, zero, true, inl, inr, refl, arith}
+use Rattle.dstm_core.specs.Runs.{Core, local}
 use Rattle.dstm_core.specs.declared.shape.Manager.TheVariants.{Greedy, Karma}
-use Rattle.dstm_core.specs.declared.shape.Shape.{Shape}
 use Rattle.dstm_order.specs.Drive.{nine, small, zeros}
 use Rattle.dstm_order.specs.Calls.{IsCall}
 use Rattle.dstm_order.specs.Tasks.Task.{Doing}
@@ -14,7 +9,7 @@ use Rattle.dstm_order.specs.Tasks.Work.{Committing, Writing}
 use Rattle.dstm_progress.specs.Alone.{IsAlone}
 use Rattle.dstm_progress.specs.Example.{SomeAttempts, before, begun, begun_oldest, committed, newest, opened, or_event, the_calls}
 use Rattle.dstm_progress.specs.Oldest.{IsOldest}
-use Rattle.dstm_opacity.proofs.Fitting.{enrol, fit}
+use Rattle.dstm_runs.proofs.Fitting.{enrol, fit}
 
 core_begun : Core (small Karma) begun
 core_begun = (

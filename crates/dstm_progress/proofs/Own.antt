@@ -2,13 +2,13 @@
 use Rattle.std.proofs.Common.{◌++◌, ◌+◌, ◌∙◌, ◌∷◌, ◌≡◌, ◌≢◌, ◌⊎◌, List, [], ap, inl, inr, refl, subst, sym, ℕ}
 use Rattle.std.proofs.lemmas.Bool.{cases_eq, eq-eqb, ne_eqb}
 use Rattle.dstm_core.specs.Rules.{AllowedAs, after}
-use Rattle.dstm_core.specs.Runs.{Core, local}
+use Rattle.dstm_core.specs.Runs.{Core, core, local}
 use Rattle.dstm_core.specs.State.{LocalState}
 use Rattle.dstm_core.specs.Traces.{events_of}
 use Rattle.dstm_core.specs.Events.{Event}
 use Rattle.dstm_core.specs.declared.event.Kind.TheVariants.{Begin}
 use Rattle.dstm_core.specs.declared.shape.Shape.{Shape}
-use Rattle.dstm_core.proofs.Static.{local_other, local_own}
+use Rattle.dstm_runs.proofs.Own as runs
 use Rattle.dstm_core.proofs.Statuses.{begin_may}
 use Rattle.dstm_order.specs.Calls.{Obeys, effort_of, newest_of, state_after}
 use Rattle.dstm_order.specs.Tasks.{Work}
@@ -34,22 +34,11 @@ other_cons c e es h = rw (ne_eqb e.caller c h) refl
 -- the state of a caller is that after its own events
 pub own_state : (s : Shape) (c : ℕ) (later es : List Event) →
     local s (later ++ es) c ≡ state_after s (local s es c) (events_of c later)
-own_state s c [] es = refl
-own_state s c (e ∷ later) es = go (cases_eq e.caller c) (own_state s c later es)
-  where
-    own : local s (later ++ es) e.caller ≡ state_after s (local s es e.caller) (events_of e.caller later) →
-        local s (e ∷ (later ++ es)) e.caller ≡ state_after s (local s es e.caller) (events_of e.caller
-        (e ∷ later))
-    own ih = local_own s (later ++ es) e ∙ ap (λ l. after e.kind s l e) ih
-        ∙ ap (state_after s (local s es e.caller)) (sym (own_cons e later))
+own_state s = runs.own_state core s
 
-    go : (e.caller ≡ c) ⊎ (e.caller ≡ c → ⊥) →
-        local s (later ++ es) c ≡ state_after s (local s es c) (events_of c later) →
-        local s (e ∷ (later ++ es)) c ≡ state_after s (local s es c) (events_of c (e ∷ later))
-    go (inl q) ih = subst (λ c. local s (later ++ es) c ≡ state_after s (local s es c) (events_of c later) →
-        local s (e ∷ (later ++ es)) c ≡ state_after s (local s es c) (events_of c (e ∷ later))) q own ih
-    go (inr n) ih = local_other s (later ++ es) e c n ∙ ih
-        ∙ ap (state_after s (local s es c)) (sym (other_cons c e later n))
+pub state_both : (s : Shape) (l : LocalState) (xs ys : List Event) →
+    state_after s l (xs ++ ys) ≡ state_after s (state_after s l ys) xs
+state_both s = runs.state_both core s
 
 -- and each of them was allowed
 pub own_allowed : (s : Shape) (c : ℕ) (later es : List Event) → Core s (later ++ es) →
@@ -73,16 +62,6 @@ pub allowed_split : (s : Shape) (l : LocalState) (xs ys : List Event) → AreAll
 allowed_split s l [] ys h = (tt, h)
 allowed_split s l (x ∷ xs) ys h = let r = allowed_split s l xs ys h.0 in
     ((r.0, subst (λ m. AllowedAs x.kind s m x) (state_both s l xs ys) h.1), r.1)
-  where
-    state_both : (s : Shape) (l : LocalState) (xs ys : List Event) →
-        state_after s l (xs ++ ys) ≡ state_after s (state_after s l ys) xs
-    state_both s l [] ys = refl
-    state_both s l (x ∷ xs) ys = ap (λ m. after x.kind s m x) (state_both s l xs ys)
-
-pub state_both : (s : Shape) (l : LocalState) (xs ys : List Event) →
-    state_after s l (xs ++ ys) ≡ state_after s (state_after s l ys) xs
-state_both s l [] ys = refl
-state_both s l (x ∷ xs) ys = ap (λ m. after x.kind s m x) (state_both s l xs ys)
 
 -- the newest own event of a run, and what stands before it
 pub record IsNewest (c : ℕ) (log : List Event) (e : Event) (others : List Event) : Type 0 where

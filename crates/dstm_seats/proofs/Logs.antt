@@ -1,19 +1,15 @@
 -- Logs: their pasts, the events of one caller in them, and its state.
 use Rattle.std.proofs.Common.{◌≡◌, ◌≢◌, ℕ, suc, ◌<◌, ◌≤◌, cond, List, [], ◌∷◌, ◌++◌, length, refl, sym, ap, ◌∙◌, subst, ⊎_elim, arith, length-append, eq-eqb, ne_eqb}
-use Rattle.std.specs.Prelude.{◌==◌}
 use Rattle.std.proofs.lemmas.Bool.Decides.{leb_tells}
-use Rattle.std.proofs.lemmas.List.Elements.{filter-append}
 use Rattle.dstm_runs.specs.declared.event.Event.{Event}
 use Rattle.dstm_runs.specs.Traces.{IsPastOf, events_of}
 use Rattle.dstm_runs.specs.Machines.{Machine, local}
+use Rattle.dstm_runs.proofs.Own.{own_append}
 use Rattle.dstm_runs.proofs.Runs.{local-events_of}
 use Rattle.dstm_seats.specs.Seats.{longer}
 
 module _ {K : Type 0} where
   -- ---- the events of one caller
-
-  pub events_of-append : (n : ℕ) (xs ys : List (Event K)) → events_of n (xs ++ ys) ≡ events_of n xs ++ events_of n ys
-  events_of-append n xs ys = filter-append (λ event. event.caller == n) xs ys
 
   -- an event of another caller
   pub others_event : (n : ℕ) (log : List (Event K)) (e : Event K) → e.caller ≢ n →
@@ -33,7 +29,7 @@ module _ {K : Type 0} where
       events_of n later ≡ []
   none_since n before later log whole same =
       let all : length (events_of n log) ≡ length (events_of n later ++ events_of n before) =
-      ap (λ l. length (events_of n l)) (sym whole) ∙ ap length (events_of-append n later before) in
+      ap (λ l. length (events_of n l)) (sym whole) ∙ ap length (own_append n later before) in
       let mine : length (events_of n log) ≡ length (events_of n before) = ap length same in
       nil_of (events_of n later) (omega (arith, length-append (events_of n later) (events_of n before)))
 
@@ -42,7 +38,7 @@ module _ {K : Type 0} where
       events_of n before ≡ []
   none_before n before later log whole none =
       let all : length (events_of n log) ≡ length (events_of n later ++ events_of n before) =
-      ap (λ l. length (events_of n l)) (sym whole) ∙ ap length (events_of-append n later before) in
+      ap (λ l. length (events_of n l)) (sym whole) ∙ ap length (own_append n later before) in
       let zero : length (events_of n log) ≡ 0 = ap length none in
       nil_of (events_of n before) (omega (arith, length-append (events_of n later) (events_of n before)))
 
@@ -80,9 +76,9 @@ module _ {K : Type 0} where
       events_of n log ≡ events_of n ys
   quiet_between n log xs ys p q same =
       let all : length (events_of n log) ≡ length (events_of n q.later ++ events_of n ys) =
-      ap (λ l. length (events_of n l)) (sym q.whole) ∙ ap length (events_of-append n q.later ys) in
+      ap (λ l. length (events_of n l)) (sym q.whole) ∙ ap length (own_append n q.later ys) in
       let some : length (events_of n ys) ≡ length (events_of n p.later ++ events_of n xs) =
-      ap (λ l. length (events_of n l)) (sym p.whole) ∙ ap length (events_of-append n p.later xs) in
+      ap (λ l. length (events_of n l)) (sym p.whole) ∙ ap length (own_append n p.later xs) in
       let mine : length (events_of n log) ≡ length (events_of n xs) = ap length same in
       let none : events_of n q.later ≡ [] =
       nil_of (events_of n q.later)
@@ -91,7 +87,7 @@ module _ {K : Type 0} where
         length-append (events_of n q.later) (events_of n ys),
         length-append (events_of n p.later) (events_of n xs),
       )) in
-      ap (events_of n) (sym q.whole) ∙ events_of-append n q.later ys ∙ ap (λ l. l ++ events_of n ys) none
+      ap (events_of n) (sym q.whole) ∙ own_append n q.later ys ∙ ap (λ l. l ++ events_of n ys) none
 
   module _ (log xs ys : List (Event K)) (p : IsPastOf xs log) (q : IsPastOf ys log) where
     -- a fact of the longer of two logs

@@ -1,12 +1,13 @@
 -- What a caller has committed is told by its own events, and which of them keep it.
-use Rattle.std.proofs.Common.{◌≡◌, ◌==◌, ◌<◌, ◌⊎◌, ◌∷◌, ◌++◌, ◌∙◌, ℕ, inl, inr, List, [], refl, ap, arith, sym, subst, true, false, Bool, Option, Some, None, is_some, length, cond}
+use Rattle.std.proofs.Common.{◌≡◌, ◌==◌, ◌⊎◌, ◌∷◌, ◌++◌, ◌∙◌, ℕ, inl, inr, List, [], refl, ap, arith, sym, subst, true, false, Bool, Option, Some, None, is_some, length, cond}
 use Rattle.std.specs.List.{All}
-use Rattle.std.specs.Prelude.{◌&&◌, ◌||◌, not}
-use Rattle.std.proofs.lemmas.Bool.{and_from, and_left, and_right, cases_Bool, cond-false, cond-true, cond_both, eq-eqb, eqb-true, not_from_true, or_right}
-use Rattle.std.proofs.lemmas.List.{append_cancel_right}
-use Rattle.std.proofs.lemmas.List.Elements.{All-head, All-tail, filter-append}
+use Rattle.std.specs.Prelude.{◌&&◌, not}
+use Rattle.std.proofs.lemmas.Bool.{and_from, and_left, and_right, cases_Bool, cond-false, cond-true, cond_both, eqb-true, not_from_true, or_right}
+use Rattle.std.proofs.lemmas.List.Elements.{All-head, All-tail}
 use Rattle.dstm_model.specs.declared.value.Val.{Val}
 use Rattle.dstm_runs.specs.Traces.{IsPastOf, events_of}
+use Rattle.dstm_runs.proofs.Attempts.{NoneBegins}
+use Rattle.dstm_runs.proofs.Own.{local_mine, local_others, own_append, own_first, own_later, own_other}
 use Rattle.dstm_runs.proofs.Runs as runs
 use Rattle.dstm_tl2.specs.declared.kind.Kind.{Kind}
 use Rattle.dstm_tl2.specs.declared.kind.Kind.TheVariants.{Sample, LookAgain, Lock, Draw, Check}
@@ -20,46 +21,11 @@ use Rattle.dstm_tl2.proofs.Foretelling.{valid_parts}
 use Rattle.dstm_tl2.proofs.Static.{Static, static, valid_drawn}
 use Rattle.dstm_tl2_answers.specs.Committed.{Committed, attempt_of, commits, done_by}
 
--- ---- a caller's own events
-
-pub own_first : (e : Event) (es : List Event) (c : ℕ) → (e.caller == c) ≡ true →
-    events_of c (e ∷ es) ≡ e ∷ events_of c es
-own_first e es c q = cond-true (e.caller == c) (e ∷ events_of c es) (events_of c es) q
-
-pub own_other : (e : Event) (es : List Event) (c : ℕ) → (e.caller == c) ≡ false →
-    events_of c (e ∷ es) ≡ events_of c es
-own_other e es c q = cond-false (e.caller == c) (e ∷ events_of c es) (events_of c es) q
-
-pub own_append : (c : ℕ) (more es : List Event) → events_of c (more ++ es) ≡ events_of c more ++ events_of c es
-own_append c more es = filter-append (λ (e : Event). e.caller == c) more es
-
--- the events of a caller since a past, where its own events since then are known
-pub own_later : (c : ℕ) (old new events : List Event) → (p : IsPastOf old new) →
-    events_of c new ≡ events ++ events_of c old → events_of c p.later ≡ events
-own_later c old new events p own =
-    append_cancel_right (events_of c p.later) events (events_of c old)
-    (sym (own_append c p.later old) ∙ ap (events_of c) p.whole ∙ own)
-
--- its state after an event of its own, and after one of another caller
-pub local_mine : (t : Table) (es : List Event) (e : Event) (c : ℕ) → (e.caller == c) ≡ true →
-    local t (e ∷ es) c ≡ after e.kind t (local t es c) e
-local_mine t es e c q = cond-true (e.caller == c) (after e.kind t (local t es c) e) (local t es c) q
-
-pub local_others : (t : Table) (es : List Event) (e : Event) (c : ℕ) → (e.caller == c) ≡ false →
-    local t (e ∷ es) c ≡ local t es c
-local_others t es e c q = cond-false (e.caller == c) (after e.kind t (local t es c) e) (local t es c) q
-
 -- an own event of a run is allowed in the caller's state
 pub allowed_mine : (t : Table) (es : List Event) (e : Event) (c : ℕ) → Run t (e ∷ es) → (e.caller == c) ≡ true →
     AllowedAs e.kind t (local t es c) e
 allowed_mine t es e c run q =
     subst (λ n. AllowedAs e.kind t (local t es n) e) (eqb-true e.caller c q) run.1.allowed
-
--- equal own events make equal states
-pub same_local : (t : Table) (es fs : List Event) (c : ℕ) → events_of c es ≡ events_of c fs →
-    local t es c ≡ local t fs c
-same_local t es fs c q =
-    sym (runs.local-events_of tl2 t es c) ∙ ap (λ xs. local t xs c) q ∙ runs.local-events_of tl2 t fs c
 
 -- ---- what it has committed
 
@@ -74,7 +40,7 @@ done_mine t es e c q =
     ap (λ b. cond (b && (is_valid (local t (e ∷ es) c) && not (is_valid (local t es c))))
     (attempt_of c (local t (e ∷ es) c) ∷ done_by t es c) (done_by t es c)) q
     ∙ ap (λ l. cond (is_valid l && not (is_valid (local t es c))) (attempt_of c l ∷ done_by t es c) (done_by t es c))
-    (local_mine t es e c q)
+    (local_mine tl2 t es e c q)
 
 -- an event with which nothing is committed
 pub done_still : (t : Table) (es : List Event) (e : Event) (c : ℕ) → commits t c e es ≡ false →
@@ -125,7 +91,7 @@ later_done_by t more es c none =
 
 -- none of the events is a Sample
 abbrev pub NoSamples : List Event → Type 0
-NoSamples events = All (λ (e : Event). is_sample e.kind ≡ false) events
+NoSamples events = NoneBegins is_sample events
 
 -- only by these an attempt becomes valid
 abbrev pub may_commit : Kind → Bool
@@ -225,7 +191,7 @@ module _ (t : Table) (c : ℕ) where
       go (inl q) (inr v) =
           and_right (e.caller == c) (is_valid (local t (e ∷ es) c) && not (is_valid (local t es c)))
           (and_left (is_valid (local t (e ∷ es) c)) (not (is_valid (local t es c)))
-          (ap is_valid (local_mine t es e c q) ∙ invalid q v h))
+          (ap is_valid (local_mine tl2 t es e c q) ∙ invalid q v h))
 
   -- where none of the own events is a Draw or a Check, nothing more is committed
   pub quiet_done : (more es : List Event) → Run t (more ++ es) → NoCommits (events_of c more) →
@@ -263,7 +229,7 @@ module _ (t : Table) (c : ℕ) where
           (allowed_mine t (more ++ es) e c run q)
           (All-head (λ (e : Event). is_sample e.kind ≡ false) e (events_of c more) all) w in
           let yes : is_valid (local t (e ∷ (more ++ es)) c) ≡ true =
-          ap is_valid (local_mine t (more ++ es) e c q) ∙ stays.0 in
+          ap is_valid (local_mine tl2 t (more ++ es) e c q) ∙ stays.0 in
           absurd (cc)
       go (inl q) (inr w) ih =
           let all : NoSamples (e ∷ events_of c more) = subst NoSamples (own_first e more c q) none in
@@ -274,7 +240,7 @@ module _ (t : Table) (c : ℕ) where
       go (inr q) w ih =
           done_other t (more ++ es) e c q
           ∙ ih (subst NoSamples (own_other e more c q) none)
-          (ap is_valid (sym (local_others t (more ++ es) e c q)) ∙ v)
+          (ap is_valid (sym (local_others tl2 t (more ++ es) e c q)) ∙ v)
 
   -- WHERE IT BECOMES VALID, exactly this attempt is committed, and it is the one of the state in the end.
   pub becomes_valid_once : (more es : List Event) → Run t (more ++ es) → NoSamples (events_of c more) →
@@ -301,7 +267,7 @@ module _ (t : Table) (c : ℕ) where
           (not_from_true (is_valid (local t (more ++ es) c)) w)))
           ∙ ih (All-tail (λ (e : Event). is_sample e.kind ≡ false) e (events_of c more) all) w
           ∙ ap (λ x. x ∷ done_by t es c)
-          (sym (ap (attempt_of c) (local_mine t (more ++ es) e c q) ∙ stays.1))
+          (sym (ap (attempt_of c) (local_mine tl2 t (more ++ es) e c q) ∙ stays.1))
       go (inl q) (inr w) ih =
           let all : NoSamples (e ∷ events_of c more) = subst NoSamples (own_first e more c q) none in
           done_now t (more ++ es) e c (and_from (e.caller == c)
@@ -314,8 +280,8 @@ module _ (t : Table) (c : ℕ) where
       go (inr q) w ih =
           done_other t (more ++ es) e c q
           ∙ ih (subst NoSamples (own_other e more c q) none)
-          (ap is_valid (sym (local_others t (more ++ es) e c q)) ∙ v)
-          ∙ ap (λ l. attempt_of c l ∷ done_by t es c) (sym (local_others t (more ++ es) e c q))
+          (ap is_valid (sym (local_others tl2 t (more ++ es) e c q)) ∙ v)
+          ∙ ap (λ l. attempt_of c l ∷ done_by t es c) (sym (local_others tl2 t (more ++ es) e c q))
 
   -- ---- the same of a call, by its own events
 

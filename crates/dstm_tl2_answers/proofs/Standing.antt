@@ -1,8 +1,7 @@
 -- The entries of what callers have committed are the history, in the order of the numbers, and what a caller has
 -- committed stands there.
-use Rattle.std.proofs.Common.{◌&&◌, ◌+◌, ◌++◌, ◌<◌, ◌≤◌, ◌∙◌, ◌∷◌, ◌≡◌, ◌⊎◌, Bool, List, [], ap, arith, cond, false, inl, inr, map, refl, reverse, subst, sym, true, ℕ}
-use Rattle.std.proofs.lemmas.Bool.{and_parts, cases_Bool, cond_both}
-use Rattle.dstm_model.specs.Map.{Entry}
+use Rattle.std.proofs.Common.{◌&&◌, ◌+◌, ◌++◌, ◌∷◌, ◌≡◌, ◌⊎◌, Bool, List, [], ap, arith, cond, false, inl, inr, map, refl, reverse, subst, sym, true, ℕ}
+use Rattle.std.proofs.lemmas.Bool.{cond_both}
 use Rattle.dstm_model.specs.declared.value.Val.{Val}
 use Rattle.dstm_model.proofs.Merging.{below_more}
 use Rattle.dstm_model.proofs.Standing.{stands_all, stands_cons, stands_in}

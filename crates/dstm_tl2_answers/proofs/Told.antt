@@ -1,6 +1,7 @@
 -- Of each caller the history has exactly the attempts that its own events tell.
-use Rattle.std.proofs.Common.{◌&&◌, ◌++◌, ◌<◌, ◌==◌, ◌∙◌, ◌∷◌, ◌≡◌, ◌≢◌, ◌⊎◌, Bool, List, None, Option, Some, [], ap, arith, cond, false, inl, inr, is_some, not, refl, sym, subst, true, ℕ}
+use Rattle.std.proofs.Common.{◌&&◌, ◌++◌, ◌==◌, ◌∙◌, ◌∷◌, ◌≡◌, ◌≢◌, ◌⊎◌, Bool, List, None, Option, Some, [], ap, arith, cond, false, inl, inr, is_some, not, refl, sym, subst, true, ℕ}
 use Rattle.std.proofs.lemmas.Bool.{and_from, and_left, and_right, cases_Bool, cond-false, cond-true, eq-eqb, ne_eqb, not_from_true}
+use Rattle.dstm_model.proofs.Merging.{other_list, own_list}
 use Rattle.dstm_runs.specs.Traces.{IsPastOf}
 use Rattle.dstm_runs.proofs.Pasts.{past_past, past_self, run_before}
 use Rattle.dstm_runs.proofs.Runs as runs
@@ -8,15 +9,15 @@ use Rattle.dstm_tl2.specs.declared.kind.Kind.{Kind}
 use Rattle.dstm_tl2.specs.Histories.{entry_of, is_draw, is_sample, is_validated, will_of, writes_of}
 use Rattle.dstm_tl2.specs.Rules.{AllowedAs, Event, after}
 use Rattle.dstm_tl2.specs.Runs.{Run, local, tl2}
-use Rattle.dstm_tl2.specs.State.{LocalState, is_valid, or_writes, or_zero}
+use Rattle.dstm_tl2.specs.State.{LocalState, is_valid, or_zero}
 use Rattle.dstm_tl2.specs.Words.{Table}
-use Rattle.dstm_tl2.proofs.Clock.{Drew, Keeps, NewDraw, Samples, Turn, clock_ok, clock_up, drawn_how, turn, unique}
+use Rattle.dstm_tl2.proofs.Clock.{NewDraw, Turn, clock_ok, clock_up, drawn_how, turn, unique}
 use Rattle.dstm_tl2.proofs.Clock.Turn.{keeps, samples, drew}
 use Rattle.dstm_tl2.proofs.Foretelling.{Fails, fails_more, or_none, shown, valid_will, will_more}
 use Rattle.dstm_tl2.proofs.SinceDraw.{Checks, Rests, check_by}
-use Rattle.dstm_tl2.proofs.Static.{Static, static, valid_drawn}
+use Rattle.dstm_tl2.proofs.Static.{Static, static}
 use Rattle.dstm_tl2_answers.specs.Committed.{Committed, attempt_of, by_caller, committed, committed_in, done_by}
-use Rattle.dstm_tl2_answers.proofs.Done.{done_mine, done_other, more_done, stays_valid, undrawn_invalid}
+use Rattle.dstm_tl2_answers.proofs.Done.{done_mine, done_other, stays_valid, undrawn_invalid}
 
 -- ---- the attempt under way
 
@@ -256,16 +257,6 @@ ends t run es e p r = record {
     own = runs.local_own tl2 t es e
 
 -- ---- all along a run
-
-own_list : (b : Bool) (x : Committed) (xs : List Committed) →
-    by_caller x.caller (cond b (x ∷ xs) xs) ≡ cond b (x ∷ by_caller x.caller xs) (by_caller x.caller xs)
-own_list true x xs = rw (eq-eqb x.caller x.caller refl) refl
-own_list false x xs = refl
-
-other_list : (b : Bool) (c : ℕ) (x : Committed) (xs : List Committed) → x.caller ≢ c →
-    by_caller c (cond b (x ∷ xs) xs) ≡ by_caller c xs
-other_list true c x xs h = rw (ne_eqb x.caller c h) refl
-other_list false c x xs h = refl
 
 told : (t : Table) (run es : List Event) → Run t run → IsPastOf es run → (c : ℕ) →
     by_caller c (committed t (will_of t run) es) ≡ pending (will_of t run) c (local t es c) ++ done_by t es c

@@ -1,6 +1,6 @@
 -- The loop of the checks: the slots that it has before it hold the reads that are left to check.
 use Prim.Native.Nat.{zero, suc}
-use Rattle.std.proofs.Common.{◌≡◌, ◌≢◌, ◌==◌, ◌<◌, ◌≤◌, ◌+◌, ◌∷◌, ◌∙◌, ◌⊎◌, ℕ, inl, inr, Bool, List, [], refl, ap, arith, sym, subst, true, false, Option, Some, None, is_some, length, drop}
+use Rattle.std.proofs.Common.{◌≡◌, ◌≢◌, ◌==◌, ◌<◌, ◌≤◌, ◌+◌, ◌∷◌, ◌∙◌, ◌⊎◌, ℕ, inl, inr, Bool, List, [], refl, ap, arith, sym, subst, true, false, Option, Some, None, is_some, length, drop, length-drop}
 use Rattle.std.specs.Prelude.{◌||◌, not, is_none, IfNone, map, filter, slice_get, if◌then◌else◌}
 use Rattle.std.proofs.lemmas.Bool.{cases_Bool, eq-eqb, ne_eqb}
 use Rattle.std.proofs.lemmas.List.{drop_all, drop_more}
@@ -60,9 +60,7 @@ next_left (s ∷ reads) (suc i) r rest q = let n = next_left reads i r rest q in
     }
 
 none_left : (reads : List Read) (i : ℕ) → drop i reads ≡ [] → i ≤ length reads → i ≡ length reads
-none_left [] i q l = omega arith
-none_left (r ∷ reads) zero q l = absurd (cc)
-none_left (r ∷ reads) (suc i) q l = let n = none_left reads i q (omega arith) in omega arith
+none_left reads i q l = let n : length (drop i reads) ≡ 0 = ap length q in omega (arith, length-drop i reads)
 
 none_is : (x : Option Val) (none : Bool) → is_some x ≡ not none → is_none x ≡ none
 none_is None true h = refl

@@ -1,15 +1,16 @@
 -- What is open of an object, by where it stands.
 use Rattle.std.proofs.Common.{◌+◌, ◌++◌, ◌-◌, ◌<◌, ◌≤◌, ◌∙◌, ◌∷◌, ◌≡◌, ◌≢◌, List, None, Some, [], ap, arith, cond, false, inl, inr, length, length-append, refl, subst, sym, true, ℕ, ◌⊎◌}
 use Rattle.std.specs.Prelude.{IsSome, is_some, slice_index_or, slice_set}
-use Rattle.std.proofs.lemmas.List.{get_or_default, get_or-set_other, get_or-set_same, length-set}
+use Rattle.std.proofs.Math.Seq.{get_or-append_seam}
+use Rattle.std.proofs.lemmas.List.{get_or_append_left, get_or_default, get_or-set_other, get_or-set_same, length-set}
 use Rattle.std.proofs.lemmas.Bool.{cases_Bool, cases_eq}
 use Rattle.dstm_mem.specs.Memory.{value_in}
 use Rattle.dstm_model.specs.declared.value.Val.{Val}
 use Rattle.dstm_tl2.specs.State.{no_write}
-use Rattle.dstm_tl2_caller.specs.Opened.{ArePlaced, IsReadOf, IsWriteOf, no_place, place_at, read_at, read_slot, set_writes, with_value, write_at}
+use Rattle.dstm_tl2_caller.specs.Opened.{ArePlaced, IsReadOf, IsWriteOf, no_place, no_slot, place_at, read_at, read_slot, set_writes, with_value, write_at}
 use Rattle.dstm_tl2_caller.specs.declared.opened.Place.{Place}
 use Rattle.dstm_tl2_caller.specs.declared.opened.ReadSlot.{ReadSlot}
-use Rattle.dstm_tl2_caller.proofs.Slots.{ReadsApart, WritesApart, length-with_value, object-with_value, read_at-last, read_at-push, read_none, read_one, reads_few, set_push, set_same, value_in-set, value_in-with_other, value_in-with_value, with_value_is, write_at-last, write_at-push, write_none, write_one, writes_few}
+use Rattle.dstm_tl2_caller.proofs.Slots.{ReadsApart, WritesApart, length-with_value, object-with_value, read_none, read_one, reads_few, set_push, set_same, value_in-set, value_in-with_other, value_in-with_value, with_value_is, write_none, write_one, writes_few}
 
 module _ (reads : List ReadSlot) (writes : List (ℕ × Val)) (places : List Place)
     (p : ArePlaced reads writes places) where
@@ -162,14 +163,14 @@ module _ (reads : List ReadSlot) (writes : List (ℕ × Val)) (places : List Pla
       by (inl last) =
           inr (
             last,
-            ap (λ (y : ReadSlot). y.object) (sym (read_at-last reads s))
+            ap (λ (y : ReadSlot). y.object) (sym (get_or-append_seam reads s [] no_slot))
                 ∙ ap (λ k. (read_at (reads ++ s ∷ []) k).object) (sym last) ∙ r.object,
           )
       by (inr earlier) =
           let within : i < length reads = let w = r.within in let l = longer_reads in omega arith in
           inl (record {
             within = within;
-            object = ap (λ (y : ReadSlot). y.object) (sym (read_at-push reads s i within)) ∙ r.object;
+            object = ap (λ (y : ReadSlot). y.object) (sym (get_or_append_left reads (s ∷ []) no_slot i within)) ∙ r.object;
           })
 
   noted_new : (x i : ℕ) → IsReadOf reads x i ⊎ ((i ≡ length reads) × (s.object ≡ x)) → (place_at noted x).read ≡ i + 1
@@ -203,7 +204,7 @@ module _ (reads : List ReadSlot) (writes : List (ℕ × Val)) (places : List Pla
           subst (IsReadOf (reads ++ s ∷ []) x) (let e : length reads ≡ (place_at noted x).read - 1 = omega arith in e)
           (record {
             within = omega (arith, longer_reads);
-            object = ap (λ (y : ReadSlot). y.object) (read_at-last reads s) ∙ sym same;
+            object = ap (λ (y : ReadSlot). y.object) (get_or-append_seam reads s [] no_slot) ∙ sym same;
           })
       by (inr other) =
           let at = ap (λ (y : Place). y.read) (noted_other x other) in
@@ -211,7 +212,7 @@ module _ (reads : List ReadSlot) (writes : List (ℕ × Val)) (places : List Pla
           subst (λ k. IsReadOf (reads ++ s ∷ []) x (k - 1)) (sym at) (record {
             within = let w = r.within in omega (arith, longer_reads);
             object =
-                ap (λ (y : ReadSlot). y.object) (read_at-push reads s ((place_at places x).read - 1) r.within) ∙ r.object;
+                ap (λ (y : ReadSlot). y.object) (get_or_append_left reads (s ∷ []) no_slot ((place_at places x).read - 1) r.within) ∙ r.object;
           })
 
   pub placed_noted : ArePlaced (reads ++ s ∷ []) writes noted
@@ -275,14 +276,14 @@ module _ (reads : List ReadSlot) (writes : List (ℕ × Val)) (places : List Pla
       by (inl last) =
           inr (
             last,
-            ap (λ (y : ℕ × Val). y.0) (sym (write_at-last writes (o, v)))
+            ap (λ (y : ℕ × Val). y.0) (sym (get_or-append_seam writes (o, v) [] no_write))
                 ∙ ap (λ k. (write_at new_writes k).0) (sym last) ∙ r.object,
           )
       by (inr earlier) =
           let within : i < length writes = let w = r.within in let l = longer_writes in omega arith in
           inl (record {
             within = within;
-            object = ap (λ (y : ℕ × Val). y.0) (sym (write_at-push writes (o, v) i within)) ∙ r.object;
+            object = ap (λ (y : ℕ × Val). y.0) (sym (get_or_append_left writes ((o, v) ∷ []) no_write i within)) ∙ r.object;
           })
 
   opened_new : (x i : ℕ) → IsWriteOf writes x i ⊎ ((i ≡ length writes) × (o ≡ x)) → (place_at opened x).write ≡ i + 1
@@ -315,7 +316,7 @@ module _ (reads : List ReadSlot) (writes : List (ℕ × Val)) (places : List Pla
           subst (IsWriteOf new_writes x) (let e : length writes ≡ (place_at opened x).write - 1 = omega arith in e)
           (record {
             within = omega (arith, longer_writes);
-            object = ap (λ (y : ℕ × Val). y.0) (write_at-last writes (o, v)) ∙ sym same;
+            object = ap (λ (y : ℕ × Val). y.0) (get_or-append_seam writes (o, v) [] no_write) ∙ sym same;
           })
       by (inr other) =
           let at = ap (λ (y : Place). y.write) (opened_other x other) in
@@ -323,7 +324,7 @@ module _ (reads : List ReadSlot) (writes : List (ℕ × Val)) (places : List Pla
           subst (λ k. IsWriteOf new_writes x (k - 1)) (sym at) (record {
             within = let w = r.within in omega (arith, longer_writes);
             object =
-                ap (λ (y : ℕ × Val). y.0) (write_at-push writes (o, v) ((place_at places x).write - 1) r.within)
+                ap (λ (y : ℕ × Val). y.0) (get_or_append_left writes ((o, v) ∷ []) no_write ((place_at places x).write - 1) r.within)
                 ∙ r.object;
           })
 

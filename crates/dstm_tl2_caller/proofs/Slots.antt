@@ -8,6 +8,7 @@ use Rattle.std.proofs.lemmas.List.{get_or-map, get_or_default, length-map}
 use Rattle.std.proofs.lemmas.Map.Entries.{lookup-filter-keys}
 use Rattle.std.proofs.lemmas.Map.Keys.{IsDistinct-from_apart}
 use Rattle.std.proofs.lemmas.Map.Steps.{length-le_from_distinct_below}
+use Rattle.dstm_mem.proofs.Finding.{find_none, find_one, lookup_find}
 use Rattle.dstm_mem.specs.Memory.{value_in}
 use Rattle.dstm_model.specs.declared.value.Val.{Val}
 use Rattle.dstm_model.specs.Map.{IsUnnamed, NamesOnce}
@@ -22,86 +23,35 @@ use Rattle.dstm_tl2_caller.specs.declared.opened.ReadSlot.{ReadSlot}
 
 -- no slot is a read of the object
 pub read_none : (slots : List ReadSlot) (o : ℕ) → ((i : ℕ) → IsReadOf slots o i → ⊥) → read_slot slots o ≡ None
-read_none [] o none = refl
-read_none (s ∷ slots) o none = by (read_none slots o rest) (cases_Bool (s.object == o))
-  where
-    rest : (i : ℕ) → IsReadOf slots o i → ⊥
-    rest i r = none (suc i) (record { within = let w = r.within in omega arith; object = r.object })
-
-    by : read_slot slots o ≡ None → (s.object == o ≡ true) ⊎ (s.object == o ≡ false) → read_slot (s ∷ slots) o ≡ None
-    by ih (inl q) = absurd (none 0 (record { within = omega arith; object = eqb-true s.object o q }))
-    by ih (inr q) = rw q ih
+read_none slots o none =
+    find_none (λ (s : ReadSlot). s.object == o) no_slot slots
+    (λ i lt q. none i (record { within = lt; object = eqb-true (read_at slots i).object o q }))
 
 -- the slot is the only read of the object
 pub read_one : (slots : List ReadSlot) (o n : ℕ) → IsReadOf slots o n → ((i : ℕ) → IsReadOf slots o i → i ≡ n) →
     read_slot slots o ≡ Some (read_at slots n)
-read_one [] o n r only = let w = r.within in absurd (omega arith)
-read_one (s ∷ slots) o zero r only = rw (eq-eqb s.object o r.object) refl
-read_one (s ∷ slots) o (suc n) r only = by (read_one slots o n later rest) (cases_Bool (s.object == o))
-  where
-    later : IsReadOf slots o n
-    later = record { within = let w = r.within in omega arith; object = r.object }
-
-    rest : (i : ℕ) → IsReadOf slots o i → i ≡ n
-    rest i q = let e = only (suc i) (record { within = let w = q.within in omega arith; object = q.object }) in omega arith
-
-    by : read_slot slots o ≡ Some (read_at slots n) → (s.object == o ≡ true) ⊎ (s.object == o ≡ false) →
-        read_slot (s ∷ slots) o ≡ Some (read_at (s ∷ slots) (suc n))
-    by ih (inl q) =
-        let e = only 0 (record { within = omega arith; object = eqb-true s.object o q }) in absurd (omega arith)
-    by ih (inr q) = rw q ih
+read_one slots o n r only =
+    find_one (λ (s : ReadSlot). s.object == o) no_slot slots n r.within
+    (eq-eqb (read_at slots n).object o r.object)
+    (λ i lt q. only i (record { within = lt; object = eqb-true (read_at slots i).object o q }))
 
 -- no write is the object's
 pub write_none : (writes : List (ℕ × Val)) (o : ℕ) → ((i : ℕ) → IsWriteOf writes o i → ⊥) → value_in writes o ≡ None
-write_none [] o none = refl
-write_none (w ∷ writes) o none = by (write_none writes o rest) (cases_Bool (w.0 == o))
-  where
-    rest : (i : ℕ) → IsWriteOf writes o i → ⊥
-    rest i r = none (suc i) (record { within = let w = r.within in omega arith; object = r.object })
-
-    by : value_in writes o ≡ None → (w.0 == o ≡ true) ⊎ (w.0 == o ≡ false) → value_in (w ∷ writes) o ≡ None
-    by ih (inl q) = absurd (none 0 (record { within = omega arith; object = eqb-true w.0 o q }))
-    by ih (inr q) = rw q ih
+write_none writes o none =
+    lookup_find (λ p. p == o) writes
+    ∙ ap (option_map (λ (w : ℕ × Val). w.1))
+    (find_none (λ (w : ℕ × Val). w.0 == o) no_write writes
+    (λ i lt q. none i (record { within = lt; object = eqb-true (write_at writes i).0 o q })))
 
 -- the write is the only one of the object
 pub write_one : (writes : List (ℕ × Val)) (o n : ℕ) → IsWriteOf writes o n →
     ((i : ℕ) → IsWriteOf writes o i → i ≡ n) → value_in writes o ≡ Some (write_at writes n).1
-write_one [] o n r only = let w = r.within in absurd (omega arith)
-write_one (w ∷ writes) o zero r only = rw (eq-eqb w.0 o r.object) refl
-write_one (w ∷ writes) o (suc n) r only = by (write_one writes o n later rest) (cases_Bool (w.0 == o))
-  where
-    later : IsWriteOf writes o n
-    later = record { within = let w = r.within in omega arith; object = r.object }
-
-    rest : (i : ℕ) → IsWriteOf writes o i → i ≡ n
-    rest i q = let e = only (suc i) (record { within = let w = q.within in omega arith; object = q.object }) in omega arith
-
-    by : value_in writes o ≡ Some (write_at writes n).1 → (w.0 == o ≡ true) ⊎ (w.0 == o ≡ false) →
-        value_in (w ∷ writes) o ≡ Some (write_at (w ∷ writes) (suc n)).1
-    by ih (inl q) =
-        let e = only 0 (record { within = omega arith; object = eqb-true w.0 o q }) in absurd (omega arith)
-    by ih (inr q) = rw q ih
-
--- ---- one element more
-
-pub read_at-push : (rs : List ReadSlot) (s : ReadSlot) (i : ℕ) → i < length rs → read_at (rs ++ s ∷ []) i ≡ read_at rs i
-read_at-push [] s i lt = absurd (omega arith)
-read_at-push (y ∷ rs) s zero lt = refl
-read_at-push (y ∷ rs) s (suc i) lt = read_at-push rs s i (omega arith)
-
-pub read_at-last : (rs : List ReadSlot) (s : ReadSlot) → read_at (rs ++ s ∷ []) (length rs) ≡ s
-read_at-last [] s = refl
-read_at-last (y ∷ rs) s = read_at-last rs s
-
-pub write_at-push : (ws : List (ℕ × Val)) (w : ℕ × Val) (i : ℕ) → i < length ws →
-    write_at (ws ++ w ∷ []) i ≡ write_at ws i
-write_at-push [] w i lt = absurd (omega arith)
-write_at-push (y ∷ ws) w zero lt = refl
-write_at-push (y ∷ ws) w (suc i) lt = write_at-push ws w i (omega arith)
-
-pub write_at-last : (ws : List (ℕ × Val)) (w : ℕ × Val) → write_at (ws ++ w ∷ []) (length ws) ≡ w
-write_at-last [] w = refl
-write_at-last (y ∷ ws) w = write_at-last ws w
+write_one writes o n r only =
+    lookup_find (λ p. p == o) writes
+    ∙ ap (option_map (λ (w : ℕ × Val). w.1))
+    (find_one (λ (w : ℕ × Val). w.0 == o) no_write writes n r.within
+    (eq-eqb (write_at writes n).0 o r.object)
+    (λ i lt q. only i (record { within = lt; object = eqb-true (write_at writes i).0 o q })))
 
 -- ---- another value for an object
 
@@ -368,12 +318,6 @@ pub recorded_at : (slots : List ReadSlot) (i : ℕ) → ReadsApart slots → i <
     recorded (read_at slots i).object (map slot_read slots) ≡ (read_at slots i).word
 recorded_at slots i apart lt =
     recorded-slots slots (read_at slots i).object (read_at slots i) (read_slot_at slots i apart lt)
-
--- one read more
-pub slots_push : (slots : List ReadSlot) (s : ReadSlot) →
-    map slot_read (slots ++ s ∷ []) ≡ map slot_read slots ++ slot_read s ∷ []
-slots_push [] s = refl
-slots_push (x ∷ slots) s = ap (λ xs. slot_read x ∷ xs) (slots_push slots s)
 
 -- ---- the writes
 

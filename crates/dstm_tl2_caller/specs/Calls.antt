@@ -1,9 +1,12 @@
 -- Calls of the engine: the events of a call, what it answers, and why.
 use Rattle.std.specs.Prelude.{◌≡◌, ℕ, Bool, true, false, List, [], ◌∷◌, ◌++◌, Option, Some, None, if◌then◌else◌}
+use Rattle.dstm_runs.specs.Machines as machines
+pub use Rattle.dstm_runs.specs.Traces.{newest_of}
 use Rattle.dstm_tl2.specs.declared.kind.Kind.{Kind}
 use Rattle.dstm_tl2.specs.declared.kind.Kind.TheVariants.{LookLock}
 use Rattle.dstm_tl2.specs.Failing.{fails, is_locked}
-use Rattle.dstm_tl2.specs.Rules.{Event, after}
+use Rattle.dstm_tl2.specs.Rules.{Event}
+use Rattle.dstm_tl2.specs.Runs.{tl2}
 use Rattle.dstm_tl2.specs.State.{LocalState}
 use Rattle.dstm_tl2.specs.Words.{Table}
 use Rattle.dstm_tl2_caller.specs.declared.again.TlAgain.{TlAgain}
@@ -16,12 +19,7 @@ use Rattle.dstm_tl2_caller.specs.Tasks.{Task}
 
 -- the caller's state after its events
 abbrev pub state_after : Table → LocalState → List Event → LocalState
-state_after table state [] = state
-state_after table state (event ∷ events) = after event.kind table (state_after table state events) event
-
-abbrev pub newest_of : List Event → Option Event
-newest_of [] = None
-newest_of (event ∷ events) = Some event
+state_after table state events = machines.state_after tl2 table state events
 
 -- what is due after its events
 abbrev pub due_after : Task → Table → LocalState → List Event → Due

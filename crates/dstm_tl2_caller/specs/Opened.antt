@@ -1,5 +1,5 @@
 -- What an attempt has open.
-use Rattle.std.specs.Prelude.{◌≡◌, ◌≢◌, ℕ, ◌+◌, ◌-◌, ◌^◌, ◌<◌, ◌≤◌, ◌==◌, true, false, List, [], ◌∷◌, filter, length, slice_index_or, vec_capacity, Option, None, Some, if◌then◌else◌}
+use Rattle.std.specs.Prelude.{◌≡◌, ◌≢◌, ℕ, ◌+◌, ◌-◌, ◌^◌, ◌<◌, ◌≤◌, ◌==◌, true, false, List, [], ◌∷◌, filter, find, length, slice_index_or, vec_capacity, Option, None, Some, if◌then◌else◌}
 use Rattle.dstm_model.specs.Map.{no_value}
 use Rattle.dstm_model.specs.declared.value.Val.{Val}
 use Rattle.dstm_tl2.specs.State.{no_write}
@@ -15,8 +15,7 @@ pub record OpenedAs : Type 0 where
 
 -- the read of an object
 abbrev pub read_slot : List ReadSlot → ℕ → Option ReadSlot
-read_slot [] o = None
-read_slot (slot ∷ slots) o = if slot.object == o then Some slot else read_slot slots o
+read_slot slots o = find (λ (slot : ReadSlot). slot.object == o) slots
 
 -- the value that an object's slots hand out: the new one, or else the one that was read
 abbrev pub slots_value : Option Val → Option ReadSlot → Option Val

@@ -1,7 +1,8 @@
 -- A caller after a call: its attempt, and what it has committed.
 use Rattle.std.proofs.Common.{◌≡◌, ◌<◌, ◌⊎◌, ◌∷◌, ◌++◌, ◌∙◌, List, [], ap, sym, subst, true, false, Option, None}
 use Rattle.dstm_model.specs.declared.value.Val.{Val}
-use Rattle.dstm_tl2.specs.Runs.{Run, local}
+use Rattle.dstm_tl2.specs.Histories.{is_sample}
+use Rattle.dstm_tl2.specs.Runs.{Run, local, tl2}
 use Rattle.dstm_tl2.specs.State.{is_valid}
 use Rattle.dstm_tl2.specs.Words.{Table}
 use Rattle.dstm_tl2_words.specs.Seats.{Home}
@@ -13,7 +14,9 @@ use Rattle.dstm_tl2_engine.specs.Callers.{TlCalled, begun_log, state, table_of_c
 use Rattle.dstm_tl2_engine.specs.Calls.{Performs}
 use Rattle.dstm_tl2_engine.specs.Outcomes.{IsLeft, own_since}
 use Rattle.dstm_tl2_engine.proofs.CallKinds.{commits_in, samples_in, uncommitting, unsampled}
-use Rattle.dstm_tl2_engine.proofs.Done.{begun_after, invalid_after, local_then, quiet_after, since_after, valid_after}
+use Rattle.dstm_runs.proofs.Attempts.{begun_after, since_after}
+use Rattle.dstm_runs.proofs.Own.{after_own}
+use Rattle.dstm_tl2_answers.proofs.Done.{invalid_after, quiet_after, valid_after}
 use Rattle.dstm_tl2_engine.proofs.Left.{is_left}
 
 module _ {L : Type 0} (holds : L → List Val → Type 0) (k n : TlCalled L) (task : Task) (again : Option TlAgain)
@@ -29,7 +32,7 @@ module _ {L : Type 0} (holds : L → List Val → Type 0) (k n : TlCalled L) (ta
   state_of = ap (λ t. local t n.log n.number) table_then ∙ ap (local (table_of_caller k) n.log) p.same.1
 
   pub state_by_events : state n ≡ state_after (table_of_caller k) (state k) p.events
-  state_by_events = state_of ∙ local_then (table_of_caller k) k.number k.log n.log p.events p.own
+  state_by_events = state_of ∙ after_own tl2 (table_of_caller k) k.number n.log k.log p.events p.own
 
   done_of : done n ≡ done (record k { log = n.log })
   done_of =
@@ -40,14 +43,14 @@ module _ {L : Type 0} (holds : L → List Val → Type 0) (k n : TlCalled L) (ta
   pub attempt_kept : samples_in task ≡ false → begun_log n.number n.log ≡ begun_log k.number k.log
   attempt_kept none =
       ap (λ c. begun_log c n.log) p.same.1
-      ∙ begun_after k.number k.log n.log p.events p.seen p.own
+      ∙ begun_after is_sample k.number k.log n.log p.events p.seen p.own
       (unsampled task (table_of_caller k) (state k) p.events none p.call.obeys)
 
   -- its events are those of the call, behind the earlier ones
   pub own_since_then : samples_in task ≡ false → own_since n ≡ p.events ++ own_since k
   own_since_then none =
       ap (λ c. own_since (record n { number = c })) p.same.1
-      ∙ since_after k.number k.log n.log p.events p.seen p.own
+      ∙ since_after is_sample k.number k.log n.log p.events p.seen p.own
       (unsampled task (table_of_caller k) (state k) p.events none p.call.obeys)
 
   -- a call that draws and checks nothing commits nothing

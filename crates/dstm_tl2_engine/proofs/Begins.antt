@@ -28,7 +28,7 @@ use Rattle.dstm_tl2_caller.specs.Under.{Began, Under, made_by, now}
 use Rattle.dstm_tl2_caller.specs.declared.again.TlAgain.{TlAgain}
 use Rattle.dstm_tl2_caller.specs.declared.steps.Steps.{Steps}
 use Rattle.dstm_tl2_engine.proofs.Calling.{began_is, begun_as}
-use Rattle.dstm_tl2_engine.proofs.Done.{NoCommits, may_commit, quiet_after}
+use Rattle.dstm_tl2_answers.proofs.Done.{NoCommits, may_commit, quiet_after}
 use Rattle.dstm_tl2_engine.proofs.Tying.{Kept, kept, now_there, performs_then, state_then, steps_of}
 use Rattle.dstm_tl2_engine.specs.Attempts.{Admits, done}
 use Rattle.dstm_tl2_engine.specs.Began.{began_of}

@@ -13,7 +13,7 @@ use Rattle.dstm_tl2.specs.declared.kind.Kind.TheVariants.{Enrol, Sample, LookLoc
 use Rattle.dstm_tl2.specs.Failing.{fails}
 use Rattle.dstm_tl2.specs.Histories.{read_values}
 use Rattle.dstm_tl2.specs.Rules.{Event, after}
-use Rattle.dstm_tl2.specs.Runs.{local}
+use Rattle.dstm_tl2.specs.Runs.{local, tl2}
 use Rattle.dstm_tl2.specs.Sharing.{IsRunOf, table_of}
 use Rattle.dstm_tl2.specs.State.{LocalState}
 use Rattle.dstm_tl2.specs.Words.{Table}
@@ -30,7 +30,7 @@ use Rattle.dstm_tl2_engine.specs.Callers.{TlCalled, handed, held, is_opened, sta
 use Rattle.dstm_tl2_engine.specs.Calls.{Performs}
 use Rattle.dstm_tl2_engine.specs.Transactions.{HasLocked, Leaves, Stays}
 use Rattle.dstm_tl2_engine.proofs.Causing.{causes_of}
-use Rattle.dstm_tl2_engine.proofs.Done.{local_then}
+use Rattle.dstm_runs.proofs.Own.{after_own}
 use Rattle.dstm_tl2_engine.proofs.Working.{are_closing, are_finishing, closing_keeps, is_closing, is_finishing, step_keeps}
 
 -- ---- the events of two calls, one behind the other
@@ -208,7 +208,7 @@ module _ {L : Type 0} (holds : L → List Val → Type 0) where
   state_by k n task again p =
       ap (λ (h : Home L). local (table_of h.terms) n.log n.number) p.same.0
       ∙ ap (local (table_of_caller k) n.log) p.same.1
-      ∙ local_then (table_of_caller k) k.number k.log n.log p.events p.own
+      ∙ after_own tl2 (table_of_caller k) k.number n.log k.log p.events p.own
 
   -- A COMMIT LOCKS, AND THEN IT FINISHES.
   pub both : (k m n : TlCalled L) (writes : List (ℕ × Val)) (again : Option TlAgain) →

@@ -18,7 +18,7 @@ use Rattle.dstm_tl2_caller.specs.Order.Due.{Just, LookAt, PutLow, PutHigh, FreeA
 use Rattle.dstm_tl2_caller.specs.Tasks.{Task, Work}
 use Rattle.dstm_tl2_caller.specs.Tasks.Task.{Enrolling, Beginning, Returning, Doing}
 use Rattle.dstm_tl2_caller.specs.Tasks.Work.{Opening, Locking, Finishing, Committing}
-use Rattle.dstm_tl2_engine.proofs.Done.{NoCommits, NoSamples, may_commit}
+use Rattle.dstm_tl2_answers.proofs.Done.{NoCommits, NoSamples, may_commit}
 
 -- ---- what is due
 

@@ -36,7 +36,7 @@ use Rattle.dstm_tl2_engine.specs.Transactions.{HasLocked, IsLawful, Leaves, Stay
 use Rattle.dstm_tl2_engine.specs.declared.caller.TlCaller.TheInside.{Inside}
 use Rattle.dstm_tl2_engine.proofs.AfterCall.{attempt_kept, done_invalid, done_valid, left_after}
 use Rattle.dstm_tl2_engine.proofs.Causing.{causes_of}
-use Rattle.dstm_tl2_engine.proofs.Done.{failed_invalid, undrawn_invalid}
+use Rattle.dstm_tl2_answers.proofs.Done.{failed_invalid, undrawn_invalid}
 use Rattle.dstm_tl2_engine.proofs.Others.{others_of}
 use Rattle.dstm_tl2_engine.proofs.Tying.{kept, now_there, performs_then, state_then}
 use Rattle.dstm_tl2_engine.proofs.Working.{KeptBy, TellsOnce, are_closing, closes, closing_keeps, one_is, tell_once, works_on}

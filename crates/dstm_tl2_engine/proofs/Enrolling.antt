@@ -1,11 +1,10 @@
 -- A caller that was made.
-use Rattle.std.proofs.Common.{◌++◌, ◌<◌, ◌==◌, ◌∙◌, ◌∷◌, ◌≡◌, List, [], ◌+◌, ap, refl, subst, sym, ℕ}
+use Rattle.std.proofs.Common.{◌<◌, ◌∙◌, ◌∷◌, ◌≡◌, List, [], ◌+◌, ap, refl, subst, sym, ℕ}
 use Rattle.std.specs.Prelude.{Option, Some, IfSome}
-use Rattle.std.proofs.lemmas.Bool.{eq-eqb}
-use Rattle.std.proofs.lemmas.List.Elements.{filter-append}
 use Rattle.atomic_table.specs.Seated.{TableId}
 use Rattle.atomic_table.specs.declared.shared.Seat.{Seat}
 use Rattle.dstm_model.specs.declared.value.Val.{Val}
+use Rattle.dstm_runs.proofs.Quiet.{none_before_only}
 use Rattle.dstm_runs.proofs.Runs.{local-events_of}
 use Rattle.dstm_runs.specs.Traces.{events_of}
 use Rattle.dstm_runs.specs.Traces.Access.{Add}
@@ -26,19 +25,6 @@ enrolling : (t : Table) (l : LocalState) (e : Event) → e.kind ≡ Enrol → l 
 enrolling t l e k h =
     subst (λ (l : LocalState). IsCall Enrolling t l (e ∷ [])) (sym h)
     (record { obeys = (tt, k); done = rw k refl })
-
-no_more : (c : ℕ) (xs ys : List Event) (e : Event) → e.caller ≡ c → events_of c (e ∷ (xs ++ ys)) ≡ e ∷ [] →
-    events_of c ys ≡ []
-no_more c xs ys e own h =
-    let all : e ∷ events_of c (xs ++ ys) ≡ e ∷ [] = rw (eq-eqb e.caller c own) at h in
-    let more : events_of c (xs ++ ys) ≡ [] = cc in
-    let parts : events_of c xs ++ events_of c ys ≡ [] =
-    sym (filter-append (λ (x : Event). x.caller == c) xs ys) ∙ more in
-    empty (events_of c xs) (events_of c ys) parts
-  where
-    empty : (us vs : List Event) → us ++ vs ≡ [] → vs ≡ []
-    empty [] vs q = q
-    empty (u ∷ us) vs q = absurd (cc)
 
 pub enrols : {L : Type 0} (holds : L → List Val → Type 0) (f g : TlFounding L) (found p : ℕ) (w : View L)
     (k : TlCalled L) →
@@ -71,7 +57,7 @@ enrols {L = L} holds f g found p w k terms m few is now there =
     e = made (given_part f.view) Add Enrol p found
 
     none : events_of found f.view.log ≡ []
-    none = no_more found m.log.0 f.view.log (made (given_part f.view) Add Enrol p found) refl
+    none = none_before_only found m.log.0 f.view.log (made (given_part f.view) Add Enrol p found) refl
         (subst (λ xs. events_of found xs ≡ made (given_part f.view) Add Enrol p found ∷ []) m.log.1 m.mine)
 
     new : local (table_of f.home.terms) f.view.log found ≡ first

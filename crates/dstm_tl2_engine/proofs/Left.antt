@@ -10,7 +10,7 @@ use Rattle.dstm_tl2.specs.declared.kind.Kind.{Kind}
 use Rattle.dstm_tl2.specs.declared.kind.Kind.TheVariants.{Enrol, Sample, LookLock, LookLow, LookHigh, LookAgain, Lock, Draw, Check, WriteLow, WriteHigh, Unlock}
 use Rattle.dstm_tl2.specs.Histories.{is_sample}
 use Rattle.dstm_tl2.specs.Rules.{AllowedAs, Event, MayUnlock, after, high_object, lock, low_object, new_hold, record_read}
-use Rattle.dstm_tl2.specs.Runs.{Run, local}
+use Rattle.dstm_tl2.specs.Runs.{Run, local, tl2}
 use Rattle.dstm_tl2.specs.State.{Hold, LocalState, Read, hold_of, is_valid, look_of, marked, next_write, or_hold, recorded, with_high, with_low, without}
 use Rattle.dstm_tl2.specs.Words.{Table, objects}
 use Rattle.dstm_tl2.proofs.Foretelling.{valid_parts}
@@ -18,7 +18,9 @@ use Rattle.dstm_tl2.proofs.Holds.{hold_of-append, marked_other, marked_own, or_e
 use Rattle.dstm_tl2.proofs.Static.{Static, static}
 use Rattle.dstm_tl2_engine.specs.Callers.{TlCalled, since_sample, state, table_of_caller}
 use Rattle.dstm_tl2_engine.specs.Outcomes.{GivesBack, HasGivenBack, IsLeft, has_locked, is_lock, is_write, last_at, own_since}
-use Rattle.dstm_tl2_engine.proofs.Done.{allowed_mine, failed_invalid, local_mine, local_others, own_first, own_other, since_at, since_still, undrawn_invalid, untold_invalid}
+use Rattle.dstm_runs.proofs.Attempts.{since_at, since_still}
+use Rattle.dstm_runs.proofs.Own.{local_mine, local_others, own_first, own_other}
+use Rattle.dstm_tl2_answers.proofs.Done.{allowed_mine, failed_invalid, undrawn_invalid, untold_invalid}
 
 -- ---- lists
 
@@ -440,21 +442,21 @@ attempt t (e ∷ es) run c =
         Attempt t (local t (e ∷ es) c) (events_of c (since_sample c (e ∷ es)))
     go (inl q) (inl r) ih =
         subst (Attempt t (local t (e ∷ es) c))
-        (sym (ap (events_of c) (since_at e es c (and_from (e.caller == c) (is_sample e.kind) q r))))
-        (subst (λ l. Attempt t l []) (sym (local_mine t es e c q))
+        (sym (ap (events_of c) (since_at is_sample e es c (and_from (e.caller == c) (is_sample e.kind) q r))))
+        (subst (λ l. Attempt t l []) (sym (local_mine tl2 t es e c q))
         (just_sampled t (local t es c) e e.kind r))
     go (inl q) (inr r) ih =
         subst (Attempt t (local t (e ∷ es) c))
-        (sym (ap (events_of c) (since_still e es c (and_right (e.caller == c) (is_sample e.kind) r))
+        (sym (ap (events_of c) (since_still is_sample e es c (and_right (e.caller == c) (is_sample e.kind) r))
         ∙ own_first e (since_sample c es) c q))
-        (subst (λ l. Attempt t l (e ∷ events_of c (since_sample c es))) (sym (local_mine t es e c q))
+        (subst (λ l. Attempt t l (e ∷ events_of c (since_sample c es))) (sym (local_mine tl2 t es e c q))
         (attempt_by t (local t es c) (static t es run.0 c) (events_of c (since_sample c es)) ih e e.kind refl r
         (allowed_mine t es e c run q)))
     go (inr q) r ih =
         subst (Attempt t (local t (e ∷ es) c))
-        (sym (ap (events_of c) (since_still e es c (and_left (e.caller == c) (is_sample e.kind) q))
+        (sym (ap (events_of c) (since_still is_sample e es c (and_left (e.caller == c) (is_sample e.kind) q))
         ∙ own_other e (since_sample c es) c q))
-        (subst (λ l. Attempt t l (events_of c (since_sample c es))) (sym (local_others t es e c q)) ih)
+        (subst (λ l. Attempt t l (events_of c (since_sample c es))) (sym (local_others tl2 t es e c q)) ih)
 
 module _ (t : Table) (es : List Event) (run : Run t es) (c : ℕ) where
   abbrev l : LocalState

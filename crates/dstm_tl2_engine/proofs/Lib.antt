@@ -6,7 +6,7 @@ pub mod CallKinds
 pub mod Calling
 pub mod Causing
 pub mod Committing
-pub mod Done
+pub mod Begun
 pub mod Enrolling
 pub mod Handing
 pub mod LastValues
@@ -19,6 +19,6 @@ pub mod Setting
 pub mod Telling
 pub mod Tying
 pub mod Resting
-pub mod Settling
 pub mod Made
 pub mod Working
+pub mod Sends

@@ -1,25 +1,27 @@
 -- An attempt that was made, from the clauses of its calls.
-use Rattle.std.proofs.Common.{◌≡◌, ◌++◌, ◌∙◌, ◌∷◌, ◌==◌, ◌&&◌, ℕ, List, [], Bool, true, false, cond, refl, sym, ap, subst, length}
-use Rattle.std.specs.Prelude.{Option, None, ◌+◌}
+use Rattle.std.proofs.Common.{◌≡◌, ◌++◌, ◌∙◌, ◌∷◌, ℕ, List, [], sym, ap, subst, length}
+use Rattle.std.specs.Prelude.{Option, ◌+◌}
 use base.Fml.{GName}
 use Rattle.dstm_model.specs.declared.value.Val.{Val}
 use Rattle.dstm_model.specs.Map.{Agrees, state_after, with_writes}
 use Rattle.dstm_model.proofs.Entries.{states_keep_length}
 use Rattle.dstm_mem.specs.Memory.{AgreesWith, with_set}
+use Rattle.dstm_runs.proofs.Attempts.{log_parts}
 use Rattle.dstm_runs.proofs.Pasts.{past_past}
 use Rattle.dstm_tl2.specs.Histories.{LawfulRun, history_of, is_sample}
 use Rattle.dstm_tl2.specs.Rules.{Event}
 use Rattle.dstm_tl2.specs.Runs.{local}
 use Rattle.dstm_tl2.specs.Sharing.{IsRunOf}
 use Rattle.dstm_tl2.specs.State.{LocalState}
+use Rattle.dstm_tl2_answers.proofs.Standing.{done_stands}
 use Rattle.dstm_tl2_words.specs.Seats.{Home}
 use Rattle.dstm_tl2_caller.specs.declared.again.TlAgain.{TlAgain}
 use Rattle.dstm_tl2_engine.specs.Attempts.{Admits, Committed, Commits, Seen, Settles, StandsIn, done}
 use Rattle.dstm_tl2_engine.specs.Callers.{TlCalled, begun_log, held, is_opened, law_of, objects_of, since_sample, start_of, state, table_of_caller, written}
 use Rattle.dstm_tl2_engine.specs.Endings.{Attempts}
 use Rattle.dstm_tl2_engine.specs.Transactions.{BeginsAnew, TxPlace, tx_place}
-use Rattle.dstm_tl2_engine.proofs.Done.{begun_count}
-use Rattle.dstm_tl2_engine.proofs.Settling.{agrees_held, last_stands, writes_same}
+use Rattle.dstm_tl2_engine.proofs.Begun.{begun_count}
+use Rattle.dstm_mem.proofs.Settling.{agrees_held, writes_same}
 
 -- a value that is set changes no map that is admitted
 pub set_admits : {L : Type 0} (holds : L → List Val → Type 0) (k n : TlCalled L) →
@@ -39,16 +41,6 @@ set_admits holds k n same map = (
 -- a caller is itself with what its last attempt was left for
 pub still : {L : Type 0} (k : TlCalled L) (again : Option TlAgain) → k.left ≡ again → k ≡ record k { log = k.log; left = again }
 still k again is = ap (λ (l : Option TlAgain). record k { left = l }) is
-
--- a log is what came since the last Sample, behind what stood there
-pub log_parts : (c : ℕ) (log : List Event) → log ≡ since_sample c log ++ begun_log c log
-log_parts c [] = refl
-log_parts c (e ∷ log) = go (log_parts c log) ((e.caller == c) && is_sample e.kind)
-  where
-    go : log ≡ since_sample c log ++ begun_log c log → (b : Bool) →
-        e ∷ log ≡ cond b [] (e ∷ since_sample c log) ++ cond b (e ∷ log) (begun_log c log)
-    go ih true = refl
-    go ih false = ap (λ xs. e ∷ xs) ih
 
 module _ {L : Type 0} (holds : L → List Val → Type 0) (k b t : TlCalled L) (r q : GName) (h j : Home L)
     (begins : BeginsAnew holds k b) (place : tx_place r h t ≡ tx_place q j b) where
@@ -77,7 +69,7 @@ module _ {L : Type 0} (holds : L → List Val → Type 0) (k b t : TlCalled L) (
         past_past k.log b.log n.log begins.steps.seen
         (record {
           later = since_sample n.number n.log;
-          whole = ap (λ xs. since_sample n.number n.log ++ xs) there ∙ sym (log_parts n.number n.log);
+          whole = ap (λ xs. since_sample n.number n.log ++ xs) there ∙ sym (log_parts is_sample n.number n.log);
         });
     run = subst (λ (x : Home L). IsRunOf holds x.terms n.log) home run;
     same = (nh ∙ home, nn ∙ number);
@@ -144,8 +136,9 @@ module _ {L : Type 0} (holds : L → List Val → Type 0) (k b t : TlCalled L) (
       stands : (later : List Event) → LawfulRun (table_of_caller n) (holds (law_of n)) (later ++ n.log) →
           StandsIn (table_of_caller n) (holds (law_of n)) (history_of (table_of_caller n) (later ++ n.log)) commits.entry
       stands later core =
-          last_stands (table_of_caller n) (holds (law_of n)) later n.log n.number
-          (record { caller = k.number; number = drawn; entry = commits.entry }) (done k) core told
+          done_stands (table_of_caller n) (holds (law_of n)) later n.log n.number
+          (record { caller = k.number; number = drawn; entry = commits.entry }) core
+          (record { newer = []; older = done k; is = told })
 
       in_run : (later : List Event) → (st : StandsIn (table_of_caller n) (holds (law_of n))
           (history_of (table_of_caller n) (later ++ n.log)) commits.entry) →
@@ -164,8 +157,3 @@ module _ {L : Type 0} (holds : L → List Val → Type 0) (k b t : TlCalled L) (
   -- the reference that the attempt has is the one that it was begun with
   pub same_name : (s : GName) → q ≡ s → s ≡ r
   same_name s own = sym (ap (λ (p : TxPlace L). p.reference) place ∙ own)
-
--- what holds of a caller as its attempt left it holds of it in the end, since the attempt had its reference
-pub in_the_end : {L : Type 0} {A : Type 0} (P : TlCalled L → Type 0) (a b : A) (x n : TlCalled L) → (a ≡ b → x ≡ n) →
-    a ≡ b → P n → P x
-in_the_end P a b x n same is h = subst P (sym (same is)) h

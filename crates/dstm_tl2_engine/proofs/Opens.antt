@@ -17,7 +17,7 @@ use Rattle.dstm_tl2.specs.Rules.{Event, new_hold}
 use Rattle.dstm_tl2.specs.Sharing.{IsRunOf}
 use Rattle.dstm_tl2.specs.State.{LocalState, Read, read_of}
 use Rattle.dstm_tl2_words.specs.Seats.{Home, view_of}
-use Rattle.dstm_tl2_caller.proofs.Slots.{read_of-slots, slots_push}
+use Rattle.dstm_tl2_caller.proofs.Slots.{read_of-slots}
 use Rattle.dstm_tl2_caller.specs.Opened.{OpenedAs, read_slot, slots_value}
 use Rattle.dstm_tl2_caller.specs.Order.Due.{Done, LookAt}
 use Rattle.dstm_tl2_caller.specs.Reads.{AtRest, slot_read}
@@ -322,7 +322,7 @@ module _ {L : Type 0} (holds : L → List Val → Type 0) (c : Inside L) (v : Ti
           begun = ap (λ (l : LocalState). l.begun) read_state ∙ v.begun;
           sample = k.sample;
           objects = k.objects;
-          reads = slots_push c.opened.reads slot ∙ ap (λ rs. rs ++ slot_read slot ∷ []) v.reads ∙ sym reads_now;
+          reads = map-append slot_read c.opened.reads (slot ∷ []) ∙ ap (λ rs. rs ++ slot_read slot ∷ []) v.reads ∙ sym reads_now;
           writes_read = λ p none. v.writes_read p
               (unread_before (state (called c)).reads (slot_read slot) p
               (ap (read_of p) (sym reads_now) ∙ none));

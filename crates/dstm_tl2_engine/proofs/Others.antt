@@ -14,7 +14,7 @@ use Rattle.dstm_tl2.specs.Words.{Table, objects}
 use Rattle.dstm_tl2_caller.specs.Calls.{answer_of, state_after}
 use Rattle.dstm_tl2_caller.specs.declared.again.TlAgain.{TlAgain}
 use Rattle.dstm_tl2_engine.proofs.Causing.{found_of}
-use Rattle.dstm_tl2_engine.proofs.Done.{local_then}
+use Rattle.dstm_runs.proofs.Own.{after_own}
 
 -- where one of a caller's events stands in the log
 pub record StandsAt (c : ℕ) (log : List Event) (event : Event) (older : List Event) : Type 0 where
@@ -100,7 +100,7 @@ others_of t c log before es again run inside own gives once =
             never_fails t s.before event (run_past tl2 t s.later (event ∷ s.before) (subst (Run t) s.whole run)) alone
             (once event later early is) in
             let state : local t s.before event.caller ≡ state_after t (local t before c) early =
-            ap (local t s.before) s.own ∙ local_then t c before s.before early s.rest in
+            ap (local t s.before) s.own ∙ after_own tl2 t c s.before before early s.rest in
             let no : fails event.kind (state_after t (local t before c) early) event ≡ false =
             ap (λ (l : LocalState). fails event.kind l event) (sym state) ∙ never in cc
 

@@ -4,13 +4,14 @@ use Rattle.std.specs.Prelude.{Contains, None}
 use Rattle.std.proofs.lemmas.List.Elements.{Contains-append_cases}
 use Rattle.dstm_model.specs.declared.value.Val.{Val}
 use Rattle.dstm_seats.proofs.Lists.{one_of}
-use Rattle.dstm_tl2.specs.Runs.{local}
+use Rattle.dstm_tl2.specs.Runs.{local, tl2}
 use Rattle.dstm_tl2.specs.Sharing.{table_of}
 use Rattle.dstm_tl2.specs.State.{LocalState}
 use Rattle.dstm_tl2.specs.declared.terms.Terms.{Terms}
 use Rattle.dstm_tl2_words.specs.Seats.{Home, Joined, View}
 use Rattle.dstm_tl2_caller.specs.Tasks.Task.{Returning}
-use Rattle.dstm_tl2_engine.proofs.Done.{same_done_by, same_local}
+use Rattle.dstm_runs.proofs.Own.{same_local}
+use Rattle.dstm_tl2_answers.proofs.Done.{same_done_by}
 use Rattle.dstm_tl2_engine.specs.Attempts.{done, done_by}
 use Rattle.dstm_tl2_engine.specs.Callers.{TlCalled, seat_view, state, table_of_caller}
 use Rattle.dstm_tl2_engine.specs.Calls.{Performs}
@@ -38,10 +39,10 @@ returned_more {L = L} holds terms made v w k joined told nothing back = record {
 
     free : (n : ℕ) → Contains v.numbers n ⊎ Contains (k.number ∷ []) n → (local (table_of terms) w.log n).holds ≡ []
     free n (inl has) =
-        ap (λ (x : LocalState). x.holds) (same_local (table_of terms) w.log v.log n (joined.kept n has))
+        ap (λ (x : LocalState). x.holds) (same_local tl2 (table_of terms) w.log v.log n (joined.kept n has))
         ∙ back.free n has
     free n (inr has) =
-        ap (λ (x : LocalState). x.holds) (same_local (table_of terms) w.log k.log n (joined.other_kept n has))
+        ap (λ (x : LocalState). x.holds) (same_local tl2 (table_of terms) w.log k.log n (joined.other_kept n has))
         ∙ ap (λ m. (local (table_of terms) k.log m).holds) (one_of k.number n has)
         ∙ ap (λ t. (local (table_of t) k.log k.number).holds) (sym told)
         ∙ nothing

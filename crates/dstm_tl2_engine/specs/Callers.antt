@@ -1,8 +1,9 @@
 -- What contracts see of a caller, and of its last attempt.
-use Rattle.std.specs.Prelude.{ℕ, ◌==◌, ◌&&◌, Bool, false, not, nat_lt, List, [], ◌∷◌, length, Option, Some, is_some, is_none, if◌then◌else◌}
+use Rattle.std.specs.Prelude.{ℕ, ◌==◌, ◌&&◌, Bool, not, nat_lt, List, length, Option, is_some, is_none}
 use Rattle.std.specs.Option.{option_or}
 use Rattle.dstm_model.specs.declared.value.Val.{Val}
 use Rattle.dstm_mem.specs.Memory.{value_in}
+use Rattle.dstm_runs.specs.Attempts as attempts
 use Rattle.dstm_tl2.specs.Histories.{is_sample, read_values}
 use Rattle.dstm_tl2.specs.Rules.{Event}
 use Rattle.dstm_tl2.specs.Runs.{local}
@@ -72,12 +73,8 @@ is_resting state =
 
 -- the log as it was after the last Sample of caller c
 abbrev pub begun_log : ℕ → List Event → List Event
-begun_log c [] = []
-begun_log c (event ∷ before) =
-    if (event.caller == c) && is_sample event.kind then event ∷ before else begun_log c before
+begun_log c log = attempts.begun_log is_sample c log
 
 -- the events after the last Sample of caller c, of all callers
 abbrev pub since_sample : ℕ → List Event → List Event
-since_sample c [] = []
-since_sample c (event ∷ before) =
-    if (event.caller == c) && is_sample event.kind then [] else event ∷ since_sample c before
+since_sample c log = attempts.since_begun is_sample c log

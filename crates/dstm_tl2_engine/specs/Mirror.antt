@@ -1,14 +1,14 @@
 -- How the fields of a caller stand for what contracts see of it.
-use Rattle.std.specs.Prelude.{◌≡◌, ◌≢◌, ℕ, ◌<◌, ◌≤◌, true, false, List, [], length, map, take, None, Some, IfSome, IsSome}
+use Rattle.std.specs.Prelude.{◌≡◌, ◌≢◌, ℕ, ◌<◌, ◌≤◌, List, [], length, map, take, None, Some, IfSome, IsSome}
 use Rattle.dstm_mem.specs.Memory.{value_in}
 use Rattle.dstm_model.specs.declared.value.Val.{Val}
 use Rattle.dstm_tl2.specs.Rules.{new_hold}
 use Rattle.dstm_tl2.specs.State.{read_of}
 use Rattle.dstm_tl2.specs.Sharing.{IsRunOf}
 use Rattle.dstm_tl2_engine.specs.declared.caller.TlCaller.TheInside.{Inside}
-use Rattle.dstm_tl2_caller.specs.Reads.{AtRest, slot_read}
+use Rattle.dstm_tl2_caller.specs.Reads.{slot_read}
 use Rattle.dstm_tl2_engine.specs.Attempts.{Seen}
-use Rattle.dstm_tl2_engine.specs.Callers.{TlCalled, handed, is_live, objects_of, seat_view, state}
+use Rattle.dstm_tl2_engine.specs.Callers.{TlCalled, handed, objects_of, seat_view, state}
 use Rattle.dstm_tl2_engine.specs.Outcomes.{IsLeft}
 use Rattle.dstm_tl2_engine.specs.Transactions.{HasLocked, IsLawful}
 

@@ -4,3 +4,5 @@
 
 #[cfg(test)]
 mod meetings;
+#[cfg(test)]
+mod threads;

@@ -4,7 +4,8 @@ use Rattle.dstm_engine.specs.Callers.{Called}
 use Rattle.dstm_engine.specs.Endings.{Attempts}
 use Rattle.dstm_engine.specs.Outcomes.{IsEnded}
 use Rattle.dstm_engine.proofs.Abandoning.{under_way}
-use Rattle.dstm_engine.proofs.Made.{made, settled, in_the_end, same_done, same_name}
+use Rattle.dstm_mem.proofs.InTheEnd.{in_the_end}
+use Rattle.dstm_engine.proofs.Made.{made, settled, same_done, same_name}
 use Rattle.dstm_engine.proofs.making.attempt.Goals as goal
 
 -- The caller ends as the attempt left it, since this has the reference that it was begun with.

@@ -1,10 +1,11 @@
 use Rattle.std.proofs.Common.{◌++◌, ◌∙◌, ◌∷◌, [], ap, map, refl, sym}
+use Rattle.std.proofs.lemmas.List.{map-append}
 use Rattle.dstm_caller.proofs.FoundValues.{has_value}
 use Rattle.dstm_caller.specs.FoundValues.{found_value}
 use Rattle.dstm_caller.specs.Reads.{words_of}
 use Rattle.dstm_caller.specs.Under.{doing, now}
 use Rattle.dstm_engine.proofs.OpenStates.{adds_read, found_still, last_read, object_still, owed_read, record_read}
-use Rattle.dstm_engine.proofs.Slots.{slots_push, words_push}
+use Rattle.dstm_engine.proofs.Slots.{words_push}
 use Rattle.dstm_engine.specs.Mirror.{slot_word}
 use Rattle.dstm_engine.specs.Opened.{OpenedAs}
 use Rattle.dstm_engine.proofs.opening.read_object.Goals as goal
@@ -17,7 +18,7 @@ conclude-requires-clause-slots g c =
     let found = c.in_ok-found.found in
     let e = c.in_ok-found.ensures in
     c.reads.ensures ∙ ap (λ (o : OpenedAs). map slot_word o.reads) c.push_read.ensures
-    ∙ slots_push c.args.opened.now.reads _ ∙ ap (λ xs. xs ++ (c.args.object, found.word) ∷ []) c.requires.slots
+    ∙ map-append slot_word c.args.opened.now.reads (_ ∷ []) ∙ ap (λ xs. xs ++ (c.args.object, found.word) ∷ []) c.requires.slots
     ∙ sym (ap words_of (record_read old before c.args.object found e.attempt e.object e.found c.requires.unread)
     ∙ words_push old.reads _)
 

@@ -6,7 +6,8 @@ use Rattle.dstm_tl2_engine.specs.Endings.{Attempts}
 use Rattle.dstm_tl2_engine.specs.Outcomes.{IsLeft}
 use Rattle.std.proofs.lemmas.Bool.{and_parts}
 use Rattle.dstm_tl2_engine.proofs.Resting.{rests}
-use Rattle.dstm_tl2_engine.proofs.Made.{in_the_end, made, same_done, same_name, settled, still}
+use Rattle.dstm_mem.proofs.InTheEnd.{in_the_end}
+use Rattle.dstm_tl2_engine.proofs.Made.{made, same_done, same_name, settled, still}
 use Rattle.dstm_tl2_engine.proofs.making.tl_attempt.Goals as goal
 
 pub commit-requires-clause-rest : goal.commit-requires-clause-rest

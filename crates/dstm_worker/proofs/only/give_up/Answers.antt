@@ -1,6 +1,7 @@
 use Rattle.std.proofs.Common.{ap, refl}
 use Rattle.std.specs.Prelude.{◌≡◌}
-use Rattle.dstm_engine.proofs.Made.{in_the_end, same_name}
+use Rattle.dstm_mem.proofs.InTheEnd.{in_the_end}
+use Rattle.dstm_engine.proofs.Made.{same_name}
 use Rattle.dstm_engine.specs.Callers.{Called}
 use Rattle.dstm_worker.specs.Only.{HasGivenUp}
 use Rattle.dstm_worker.specs.Tries.{keeps}

@@ -5,7 +5,8 @@ use Rattle.dstm_model.specs.Objects.{objects_of}
 use Rattle.dstm_mem.specs.Memory.{with_set}
 use Rattle.dstm_order.specs.declared.again.Again.{Again}
 use Rattle.dstm_words.specs.Seats.{Home}
-use Rattle.dstm_engine.proofs.Made.{in_the_end, same_name, home, same_done}
+use Rattle.dstm_mem.proofs.InTheEnd.{in_the_end}
+use Rattle.dstm_engine.proofs.Made.{same_name, home, same_done}
 use Rattle.dstm_engine.proofs.Abandoning.{under_way}
 use Rattle.dstm_engine.specs.Callers.{Called, is_opened, shape_of, written}
 use Rattle.dstm_engine.specs.Outcomes.{IsLeft, Promises}

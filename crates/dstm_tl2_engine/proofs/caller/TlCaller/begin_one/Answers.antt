@@ -1,15 +1,14 @@
-use Rattle.std.proofs.Common.{◌∙◌, ◌≡◌, ◌+◌, None, ap, subst, sym, true, false}
+use Rattle.std.proofs.Common.{◌∙◌, ◌≡◌, None, ap, subst, sym, true, false}
 use Rattle.dstm_tl2.specs.Sharing.{table_of}
 use Rattle.dstm_tl2.specs.Words.{place}
 use Rattle.dstm_tl2.specs.Words.Word.{ClockWord}
 use Rattle.dstm_tl2_caller.specs.Opened.{OpenedAs}
-use Rattle.dstm_tl2_caller.specs.Order.{is_spent}
 use Rattle.dstm_tl2_caller.specs.Order.Due.{Done}
 use Rattle.dstm_tl2_caller.specs.Tasks.Task.{Beginning}
 use Rattle.dstm_tl2_caller.specs.Under.{now}
 use Rattle.dstm_tl2_engine.proofs.Begins.{anew, anew_tied, begins_anew, begun_here, freed_here, freed_tied, spent_by, spent_from, top_here, unspent_by}
 use Rattle.dstm_tl2_engine.proofs.Tying.{ends_here}
-use Rattle.dstm_tl2_engine.specs.Callers.{TlCalled, state}
+use Rattle.dstm_tl2_engine.specs.Callers.{TlCalled}
 use Rattle.dstm_tl2_engine.specs.Mirror.{Tied, called}
 use Rattle.dstm_tl2_engine.specs.Transactions.{BeginsAnew, SpentFrom}
 use Rattle.dstm_tl2_engine.proofs.caller.TlCaller.begin_one.Goals as goal
