@@ -1,8 +1,7 @@
 -- What an attempt at a job with branches leaves, from the clauses of its calls.
 use Rattle.std.proofs.Common.{◌≡◌, ◌≢◌, ◌∙◌, ◌+◌, ◌<◌, ◌≤◌, ◌++◌, ◌∷◌, ℕ, Bool, List, [], None, true, false, refl, sym, ap, subst, arith, length, add-zero}
-use Rattle.std.specs.Prelude.{Option, IfSome, if◌then◌else◌, ◌==◌, ◌&&◌}
+use Rattle.std.specs.Prelude.{Option, IfSome, if◌then◌else◌, ◌&&◌}
 use Rattle.std.proofs.lemmas.Bool.{cond_both}
-use Rattle.std.proofs.lemmas.List.Elements.{filter-append}
 use base.Fml.{GName}
 use Rattle.dstm_model.specs.declared.value.Val.{Val}
 use Rattle.dstm_model.specs.declared.layout.Layout.{Layout}
@@ -36,10 +35,12 @@ use Rattle.dstm_order.specs.Calls.{IsCall, Obeys, state_after}
 use Rattle.dstm_order.specs.Order.{IsDue, just}
 use Rattle.dstm_order.specs.Order.Due.{Done}
 use Rattle.dstm_order.specs.Tasks.Task.{Leaving}
+use Rattle.dstm_core.specs.Counts.{is_begin}
+use Rattle.dstm_runs.proofs.Attempts.{log_parts}
+use Rattle.dstm_runs.proofs.Own.{own_later}
 use Rattle.dstm_runs.proofs.Pasts.{past_past}
 use Rattle.dstm_words.specs.Seats.{Home, IsRunOf}
 use Rattle.rand_pcg.specs.Lcg.{Lcg}
-use Rattle.dstm_engine.proofs.Alone.{cancel, log_parts}
 use Rattle.dstm_engine.proofs.Made as made
 use Rattle.dstm_engine.specs.Attempts.{Admits, Commits, Settles, completes_pass, done, is_look_self}
 use Rattle.dstm_engine.specs.Callers.{Called, begun_log, entry, is_live, is_opened, is_running, live_opened, law_of, shape_of, since_begin, start_of, state, written}
@@ -97,7 +98,7 @@ module _ (k b t : Called StoreLaw) (r q : GName) (h j : Home StoreLaw) (begins :
           past_past k.log b.log n.log begins.steps.seen
           (record {
             later = since_begin n.number n.log;
-            whole = ap (λ (xs : List Event). since_begin n.number n.log ++ xs) there ∙ sym (log_parts n.number n.log);
+            whole = ap (λ (xs : List Event). since_begin n.number n.log ++ xs) there ∙ sym (log_parts is_begin n.number n.log);
           });
       rest = record { run = run; enrolled = numbered n run (omega (arith, begun)); over = over };
     };
@@ -205,9 +206,7 @@ module _ (s : Shape) (start : List Val) (c : ℕ) (old new : List Event) (g : Lc
   gave = abandon_quits s (local s old c) g events call run
 
   later_own : events_of c past.later ≡ events
-  later_own =
-      cancel (events_of c past.later) events (events_of c old)
-      (sym (filter-append (λ (e : Event). e.caller == c) past.later old) ∙ ap (events_of c) past.whole ∙ own)
+  later_own = own_later c old new events past own
 
   pub same_attempt : (local s new c).begun ≡ (local s old c).begun
   same_attempt = (leaving s c g events old new (record { core = core; own = own; call = call })).1

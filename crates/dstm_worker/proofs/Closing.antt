@@ -1,8 +1,8 @@
 -- What is known of a caller's attempts by its own log is known by every longer log in which it has made no more events: so
 -- by the record of its table.
-use Rattle.std.proofs.Common.{◌≡◌, ◌⊎◌, ◌∙◌, ◌<◌, ◌≤◌, ◌++◌, ◌==◌, ℕ, List, [], sym, ap, subst, inl, inr, arith}
+use Rattle.std.proofs.Common.{◌≡◌, ◌⊎◌, ◌∙◌, ◌<◌, ◌≤◌, ◌++◌, ℕ, List, [], sym, ap, subst, inl, inr, arith}
 use Rattle.std.specs.Prelude.{Option}
-use Rattle.std.proofs.lemmas.List.Elements.{filter-append}
+use Rattle.dstm_runs.proofs.Own.{own_later}
 use Rattle.dstm_model.specs.declared.value.Val.{Val}
 use Rattle.dstm_model.specs.declared.layout.Layout.{Layout}
 use Rattle.dstm_core.specs.Events.{Event}
@@ -15,7 +15,6 @@ use Rattle.dstm_causes.proofs.Disturbing.{disturbed_stays}
 use Rattle.dstm_causes.proofs.Ends.{callers_in_range}
 use Rattle.dstm_causes.proofs.OwnEvents.{after_own}
 use Rattle.dstm_causes.specs.Disturbed.{Disturbed, count_of}
-use Rattle.dstm_engine.proofs.Alone.{cancel}
 use Rattle.dstm_engine.specs.Attempts.{completes_pass}
 use Rattle.dstm_store.specs.declared.law.StoreLaw.{StoreLaw}
 use Rattle.dstm_words.specs.declared.terms.Terms.{Terms}
@@ -48,9 +47,7 @@ module _ (terms : Terms StoreLaw) (c : ℕ) (old new : List Event) (core : Core 
   whole = subst (Core terms.shape) (sym past.whole) core
 
   quiet : events_of c past.later ≡ []
-  quiet =
-      cancel (events_of c past.later) [] (events_of c old)
-      (sym (filter-append (λ (event : Event). event.caller == c) past.later old) ∙ ap (events_of c) past.whole ∙ own)
+  quiet = own_later c old new [] past own
 
   committed : (i : ℕ) → 0 < i → i ≤ (local terms.shape old c).begun → HasCommitted terms.shape old c i →
       HasCommitted terms.shape new c i

@@ -2,7 +2,7 @@
 use Rattle.std.proofs.Common.{◌≡◌, ◌∙◌, ◌⊎◌, ◌++◌, ◌∷◌, ◌==◌, ◌||◌, ℕ, List, [], true, false, None, refl, sym, ap, subst, inl, inr}
 use Rattle.std.specs.Prelude.{if◌then◌else◌}
 use Rattle.std.proofs.lemmas.Bool.{and_from, cases_Bool, cond_both, eq-eqb, eqb-true}
-use Rattle.std.proofs.lemmas.List.Elements.{filter-append}
+use Rattle.dstm_runs.proofs.Own.{own_later}
 use Rattle.dstm_model.specs.declared.value.Val.{Val}
 use Rattle.dstm_core.specs.Events.{Event}
 use Rattle.dstm_core.specs.Histories.{read_values, old_values}
@@ -30,7 +30,6 @@ use Rattle.dstm_order.specs.declared.TheConstants.{MAX_MISSED}
 use Rattle.dstm_progress.proofs.Own.{IsNewest, newest_own}
 use Rattle.dstm_words.specs.Seats.{Home, IsRunOf}
 use Rattle.rand_pcg.specs.Lcg.{Lcg}
-use Rattle.dstm_engine.proofs.Alone.{cancel}
 use Rattle.dstm_engine.proofs.Plain.{are_plain, is_plain}
 use Rattle.dstm_engine.proofs.Rechecking.{begins_pass, sight_keeps}
 use Rattle.dstm_engine.specs.Attempts.{completes_pass, is_look_self}
@@ -108,10 +107,7 @@ quiet_later : (c : ℕ) (log later before rest : List Event) (e : Event) → log
 quiet_later c log later before rest e whole own same all =
     let here : events_of c (e ∷ before) ≡ e ∷ rest =
     rw (eq-eqb e.caller c own) (ap (λ (xs : List Event). e ∷ xs) same) in
-    cancel (events_of c later) [] (e ∷ rest)
-    (ap (λ (xs : List Event). events_of c later ++ xs) (sym here)
-    ∙ sym (filter-append (λ (x : Event). x.caller == c) later (e ∷ before))
-    ∙ ap (events_of c) (sym whole) ∙ all)
+    own_later c (e ∷ before) log [] (record { later = later; whole = sym whole }) (all ∙ sym here)
 
 module _ (s : Shape) (start : List Val) (c : ℕ) (log old : List Event) (g : Lcg) where
   -- the log of a caller that has just rechecked its attempt, which runs
