@@ -1,11 +1,14 @@
 -- What a caller has committed stays, and is told by its own events alone.
-use Rattle.std.proofs.Common.{◌&&◌, ◌++◌, ◌==◌, ◌∙◌, ◌∷◌, ◌≡◌, ◌⊎◌, Bool, List, [], ap, arith, cond, false, inl, inr, length, length-append, map, refl, reverse, subst, sym, true, ℕ}
-use Rattle.std.proofs.lemmas.Bool.{and_parts, cases_Bool, eqb-true}
-use Rattle.std.proofs.lemmas.List.Elements.{filter-append}
+use Rattle.std.proofs.Common.{◌&&◌, ◌++◌, ◌==◌, ◌∙◌, ◌∷◌, ◌≡◌, ◌⊎◌, List, [], ap, false, inl, inr, map, refl, reverse, subst, sym, true, ℕ}
+use Rattle.std.proofs.lemmas.Bool.{and_left, and_parts, and_right, cases_Bool, eqb-true}
+use Rattle.std.proofs.lemmas.List.Elements.{All-nil}
+use Rattle.std.specs.List.{All}
 use Rattle.dstm_model.specs.declared.value.Val.{Val}
-use Rattle.dstm_core.specs.Histories.{entry_of, history, is_draw, history_of, will_of}
+use Rattle.dstm_history.proofs.Callers as histories
+use Rattle.dstm_history.proofs.Gathered.{told_none}
+use Rattle.dstm_core.specs.Histories.{commits_at, entry_at, entry_of, is_draw, history_of, will_of}
 use Rattle.dstm_core.specs.Runs.{Core, local}
-use Rattle.dstm_core.specs.State.{or_zero, own_attempt}
+use Rattle.dstm_core.specs.State.{or_zero}
 use Rattle.dstm_core.specs.Traces.{IsPastOf, events_of}
 use Rattle.dstm_core.specs.Events.{Event}
 use Rattle.dstm_core.specs.declared.event.Kind.{Kind}
@@ -16,28 +19,15 @@ use Rattle.dstm_opacity.proofs.Draws.{commit_may}
 use Rattle.dstm_opacity.proofs.Kept.{drawn_entry_stays}
 use Rattle.dstm_opacity.proofs.KeptLaw.{entry_same}
 use Rattle.dstm_core.proofs.Pasts.{core_before}
-use Rattle.dstm_runs.proofs.Pasts.{past_past}
-use Rattle.dstm_answers.specs.Committed.{Committed, attempt_of, committed, committed_in, done_by, has_committed, is_commit}
+use Rattle.dstm_runs.proofs.Own.{own_later}
+use Rattle.dstm_runs.proofs.Pasts.{past_past, past_self}
+use Rattle.dstm_answers.specs.Committed.{Committed, attempt_of, commits_by, committed_in, done_by, has_committed, is_commit}
 
 -- the entries are the history
-entries : (s : Shape) (start : List Val) (will : ℕ → Bool) (run es : List Event) →
-    map (λ (x : Committed). x.entry) (committed s start will run es) ≡ history s start will run es
-entries s start will run [] = refl
-entries s start will run (e ∷ es) =
-    go (entries s start will run es) (is_draw e.kind && will (own_attempt s (local s es e.caller)))
-  where
-    go : map (λ (x : Committed). x.entry) (committed s start will run es) ≡ history s start will run es →
-        (b : Bool) → map (λ (x : Committed). x.entry)
-        (cond b (record { caller = e.caller; number = e.found; entry = entry_of s start run (local s es e.caller) }
-        ∷ committed s start will run es) (committed s start will run es))
-        ≡ cond b (entry_of s start run (local s es e.caller) ∷ history s start will run es)
-        (history s start will run es)
-    go ih true = ap (λ xs. entry_of s start run (local s es e.caller) ∷ xs) ih
-    go ih false = ih
-
 pub entries_are_history : (s : Shape) (start : List Val) (run : List Event) →
     history_of s start run ≡ reverse (map (λ (x : Committed). x.entry) (committed_in s start run))
-entries_are_history s start run = ap reverse (sym (entries s start (will_of s run) run run))
+entries_are_history s start run =
+    histories.entries_are_history (commits_at s (will_of s run)) (entry_at s start run) run
 
 is_kind : (k : Kind) → is_commit k ≡ true → k ≡ Commit
 is_kind Commit h = refl
@@ -48,11 +38,11 @@ draws Draw h = refl
 draws k h = absurd (cc)
 
 -- the entry of an attempt that commits is that of its Draw, in each run
-entry_at : (s : Shape) (start : List Val) (run es : List Event) (e : Event) → IsPastOf (e ∷ es) run → Core s run →
+entry_stays : (s : Shape) (start : List Val) (run es : List Event) (e : Event) → IsPastOf (e ∷ es) run → Core s run →
     (d : DrawOf s es (local s es e.caller)) →
     entry_of s start run (local s es e.caller)
     ≡ entry_of s start (d.draw ∷ d.before) (local s d.before d.draw.caller)
-entry_at s start run es e p core d =
+entry_stays s start run es e p core d =
     sym (entry_same s start run (local s es e.caller) (local s d.before d.draw.caller) d.reads d.writes)
     ∙ subst (λ xs. entry_of s start xs (local s d.before d.draw.caller)
     ≡ entry_of s start (d.draw ∷ d.before) (local s d.before d.draw.caller)) here.whole
@@ -81,7 +71,7 @@ same_told s start run one (e ∷ es) core other p q c =
         (commit_may s (local s es e.caller) e e.kind (is_kind e.kind k) here.1.allowed) in
         subst (λ n. attempt_of s start run n (local s es n) ≡ attempt_of s start one n (local s es n)) h
         (ap (λ x. record { caller = e.caller; number = or_zero (local s es e.caller).drawn; entry = x })
-        (entry_at s start run es e p core d ∙ sym (entry_at s start one es e q other d)))
+        (entry_stays s start run es e p core d ∙ sym (entry_stays s start one es e q other d)))
 
     go : done_by s start run es c ≡ done_by s start one es c →
         ((e.caller == c) && has_committed e ≡ true) ⊎ ((e.caller == c) && has_committed e ≡ false) →
@@ -92,73 +82,34 @@ same_told s start run one (e ∷ es) core other p q c =
         let three = and_parts (is_commit e.kind) (e.found == 3) two.1 in
         rw (h, before, entry (eqb-true e.caller c two.0) three.0) refl
 
-nothing : {A : Type 0} → (xs ys : List A) → xs ++ ys ≡ ys → xs ≡ []
-nothing [] ys h = refl
-nothing (x ∷ xs) ys h =
-    let a : length (x ∷ (xs ++ ys)) ≡ length ys = ap length h in let b = length-append xs ys in absurd (omega arith)
-
--- events of others tell nothing of a caller
-quiet_told : (s : Shape) (start : List Val) (run more es : List Event) (c : ℕ) → events_of c more ≡ [] →
-    done_by s start run (more ++ es) c ≡ done_by s start run es c
-quiet_told s start run [] es c h = refl
-quiet_told s start run (e ∷ more) es c h = go (quiet_told s start run more es c) (cases_Bool (e.caller == c))
-  where
-    go : (events_of c more ≡ [] → done_by s start run (more ++ es) c ≡ done_by s start run es c) →
-        (e.caller == c ≡ true) ⊎ (e.caller == c ≡ false) →
-        done_by s start run (e ∷ (more ++ es)) c ≡ done_by s start run es c
-    go ih (inl q) = let x : e ∷ events_of c more ≡ [] = rw q at h in absurd (cc)
-    go ih (inr q) = let x : events_of c more ≡ [] = rw q at h in rw q (ih x)
-
-pub told_stays : (s : Shape) (start : List Val) (later before : List Event) (c : ℕ) → Core s (later ++ before) →
-    events_of c (later ++ before) ≡ events_of c before →
-    done_by s start (later ++ before) (later ++ before) c ≡ done_by s start before before c
-told_stays s start later before c core h =
-    quiet_told s start (later ++ before) later before c
-    (nothing (events_of c later) (events_of c before)
-    (sym (filter-append (λ (e : Event). e.caller == c) later before) ∙ h))
-    ∙ same_told s start (later ++ before) before before core (core_before s before (later ++ before) past core) past
-    (record { later = []; whole = refl }) c
-  where
-    past : IsPastOf before (later ++ before)
-    past = record { later = later; whole = refl }
-
 -- no event of these is a Commit that succeeded
 abbrev pub NoneCommits : List Event → Type 0
-NoneCommits [] = Unit {0}
-NoneCommits (e ∷ es) = (has_committed e ≡ false) × NoneCommits es
+NoneCommits events = All (λ (e : Event). has_committed e ≡ false) events
 
+-- such events add nothing to what their caller has committed
 none_told : (s : Shape) (start : List Val) (run more es : List Event) (c : ℕ) → NoneCommits (events_of c more) →
     done_by s start run (more ++ es) c ≡ done_by s start run es c
-none_told s start run [] es c h = refl
-none_told s start run (e ∷ more) es c h = go (none_told s start run more es c) (cases_Bool (e.caller == c))
-  where
-    go : (NoneCommits (events_of c more) → done_by s start run (more ++ es) c ≡ done_by s start run es c) →
-        (e.caller == c ≡ true) ⊎ (e.caller == c ≡ false) →
-        done_by s start run (e ∷ (more ++ es)) c ≡ done_by s start run es c
-    go ih (inl q) =
-        let x : NoneCommits (e ∷ events_of c more) = rw q at h in
-        rw (q, x.0) (ih x.1)
-    go ih (inr q) = let x : NoneCommits (events_of c more) = rw q at h in rw q (ih x)
+none_told s start run more es c none =
+    told_none (commits_by c) (λ e before. attempt_of s start run c (local s before c)) (λ es. Unit {0})
+    (λ e es is. tt) (λ e. has_committed e ≡ false) c (λ e es other. and_left (e.caller == c) (has_committed e) other)
+    (λ e es is other. and_right (e.caller == c) (has_committed e) other) more es tt none
 
 -- a call that makes no Commit that succeeds adds nothing to what its caller has committed
 pub call_adds_none : (s : Shape) (start : List Val) (later before : List Event) (c : ℕ) (events : List Event) →
     Core s (later ++ before) → events_of c (later ++ before) ≡ events ++ events_of c before → NoneCommits events →
     done_by s start (later ++ before) (later ++ before) c ≡ done_by s start before before c
 call_adds_none s start later before c events core own none =
-    none_told s start (later ++ before) later before c (subst NoneCommits (sym same) none)
+    none_told s start (later ++ before) later before c
+    (subst NoneCommits (sym (own_later c before (later ++ before) events past own)) none)
     ∙ same_told s start (later ++ before) before before core (core_before s before (later ++ before) past core) past
-    (record { later = []; whole = refl }) c
+    (past_self before) c
   where
     past : IsPastOf before (later ++ before)
     past = record { later = later; whole = refl }
 
-    cancel : (xs ys zs : List Event) → xs ++ zs ≡ ys ++ zs → xs ≡ ys
-    cancel [] ys zs h = sym (nothing ys zs (sym h))
-    cancel (x ∷ xs) [] zs h = nothing (x ∷ xs) zs h
-    cancel (x ∷ xs) (y ∷ ys) zs h =
-        let t : xs ++ zs ≡ ys ++ zs = cc in let head : x ≡ y = cc in
-        ap (λ v. v ∷ xs) head ∙ ap (λ vs. y ∷ vs) (cancel xs ys zs t)
-
-    same : events_of c later ≡ events
-    same = cancel (events_of c later) events (events_of c before)
-        (sym (filter-append (λ (e : Event). e.caller == c) later before) ∙ own)
+-- nor do events of others
+pub told_stays : (s : Shape) (start : List Val) (later before : List Event) (c : ℕ) → Core s (later ++ before) →
+    events_of c (later ++ before) ≡ events_of c before →
+    done_by s start (later ++ before) (later ++ before) c ≡ done_by s start before before c
+told_stays s start later before c core same =
+    call_adds_none s start later before c [] core same (All-nil (λ (e : Event). has_committed e ≡ false))

@@ -1,11 +1,12 @@
 -- Of each caller the history has exactly the attempts that its own Commits tell.
 use Rattle.std.proofs.Common.{◌&&◌, ◌*◌, ◌++◌, ◌<◌, ◌==◌, ◌∙◌, ◌∷◌, ◌≡◌, ◌≢◌, ◌≤◌, ◌⊎◌, Bool, List, [], ap, arith, cond, false, inl, inr, refl, subst, sym, true, ℕ}
-use Rattle.std.proofs.lemmas.Bool.{cases_Bool, cond_both, eq-eqb, eqb-false, ne_eqb}
-use Rattle.dstm_model.proofs.Merging.{other_list, own_list}
+use Rattle.std.proofs.lemmas.Bool.{and_left, cases_Bool, cond_both, eq-eqb, eqb-false, ne_eqb}
+use Rattle.dstm_history.proofs.Callers.{parts_are_done}
+use Rattle.dstm_history.proofs.Gathered.{told_still}
 use Rattle.dstm_model.specs.declared.value.Val.{Val}
-use Rattle.dstm_core.specs.Histories.{entry_of, is_draw, will_of}
+use Rattle.dstm_core.specs.Histories.{commits_at, entry_at, entry_of, is_draw, will_of}
 use Rattle.dstm_core.specs.Rules.{AllowedAs, after}
-use Rattle.dstm_core.specs.Runs.{Core, local}
+use Rattle.dstm_core.specs.Runs.{Core, core as dstm, local}
 use Rattle.dstm_core.specs.State.{LocalState, given, own_attempt}
 use Rattle.dstm_core.specs.Traces.{IsPastOf, at, word}
 use Rattle.dstm_core.specs.Words.{place}
@@ -21,9 +22,9 @@ use Rattle.dstm_core.proofs.Places.{put_at}
 use Rattle.dstm_core.proofs.Static.{Static, callers, static}
 use Rattle.dstm_core.proofs.Statuses.{OwnStatus, finished_stays, own_status}
 use Rattle.dstm_core.proofs.Pasts.{core_before}
-use Rattle.dstm_runs.proofs.Pasts.{past_past}
+use Rattle.dstm_runs.proofs.Pasts.{past_more, past_past, past_self}
 use Rattle.dstm_opacity.proofs.SinceDraw.{drawn_may}
-use Rattle.dstm_answers.specs.Committed.{Committed, attempt_of, by_caller, committed, committed_in, done_by, has_committed, is_commit}
+use Rattle.dstm_answers.specs.Committed.{Committed, attempt_of, by_caller, commits_by, committed, committed_in, done_by, has_committed, is_commit}
 use Rattle.dstm_opacity.proofs.Commits.{drawn_back}
 
 -- the attempt has drawn its number and is under way
@@ -231,36 +232,29 @@ ends s run es e p core = record { commits = commits; fails = fails; quits = quit
 
 -- ---- all along a run
 
-other_done : (b : Bool) (x : Committed) (xs : List Committed) → b ≡ false → xs ≡ cond (b && true) (x ∷ xs) xs
-other_done false x xs h = refl
-other_done true x xs h = absurd (cc)
-
 told : (s : Shape) (start : List Val) (run es : List Event) → Core s run → IsPastOf es run → (c : ℕ) →
     by_caller c (committed s start (will_of s run) run es)
     ≡ pending s start run (will_of s run) c (local s es c) ++ done_by s start run es c
-told s start run [] core p c = refl
-told s start run (e ∷ es) core p c =
-    callers s es e
-    (λ c l. by_caller c (committed s start (will_of s run) run (e ∷ es))
-    ≡ pending s start run (will_of s run) c l ++ done_by s start run (e ∷ es) c)
-    (own (told s start run es core past e.caller)) (λ d. other d (told s start run es core past d)) c
+told s start run es core past c =
+    parts_are_done (commits_at s (will_of s run)) (entry_at s start run) dstm s
+    (pending s start run (will_of s run)) (done_by s start run) (λ es. IsPastOf es run) before (λ c. refl) own other
+    es past c
   where
-    here : Core s (e ∷ es)
-    here = core_before s (e ∷ es) run p core
+    before : (e : Event) (es : List Event) → IsPastOf (e ∷ es) run → IsPastOf es run
+    before e es p = past_past es (e ∷ es) run (past_more es es e (past_self es)) p
 
-    past : IsPastOf es run
-    past = past_past es (e ∷ es) run (record { later = e ∷ []; whole = refl }) p
-
-    own : by_caller e.caller (committed s start (will_of s run) run es)
+    own : (e : Event) (es : List Event) → IsPastOf (e ∷ es) run →
+        by_caller e.caller (committed s start (will_of s run) run es)
         ≡ pending s start run (will_of s run) e.caller (local s es e.caller) ++ done_by s start run es e.caller →
-        by_caller e.caller (committed s start (will_of s run) run (e ∷ es))
+        cond (is_draw e.kind && will_of s run (own_attempt s (local s es e.caller)))
+        (record { caller = e.caller; number = e.found; entry = entry_of s start run (local s es e.caller) }
+        ∷ by_caller e.caller (committed s start (will_of s run) run es))
+        (by_caller e.caller (committed s start (will_of s run) run es))
         ≡ pending s start run (will_of s run) e.caller (after e.kind s (local s es e.caller) e)
         ++ done_by s start run (e ∷ es) e.caller
-    own ih =
-        own_list (is_draw e.kind && will_of s run (own_attempt s (local s es e.caller)))
-        (record { caller = e.caller; number = e.found; entry = entry_of s start run (local s es e.caller) })
-        (committed s start (will_of s run) run es)
-        ∙ own_step s start run (will_of s run) e.caller (local s es e.caller) e e.kind
+    own e es p ih =
+        let here : Core s (e ∷ es) = core_before s (e ∷ es) run p core in
+        own_step s start run (will_of s run) e.caller (local s es e.caller) e e.kind
         (by_caller e.caller (committed s start (will_of s run) run es)) (done_by s start run es e.caller) refl
         (static s es here.0 e.caller) here.1.allowed (ends s run es e p core) ih
         ∙ ap (λ b. pending s start run (will_of s run) e.caller (after e.kind s (local s es e.caller) e)
@@ -268,19 +262,11 @@ told s start run (e ∷ es) core p c =
         (attempt_of s start run e.caller (local s es e.caller) ∷ done_by s start run es e.caller)
         (done_by s start run es e.caller)) (sym (eq-eqb e.caller e.caller refl))
 
-    other : (c : ℕ) →
-        by_caller c (committed s start (will_of s run) run es)
-        ≡ pending s start run (will_of s run) c (local s es c) ++ done_by s start run es c →
-        e.caller ≢ c → by_caller c (committed s start (will_of s run) run (e ∷ es))
-        ≡ pending s start run (will_of s run) c (local s es c) ++ done_by s start run (e ∷ es) c
-    other c ih h =
-        other_list (is_draw e.kind && will_of s run (own_attempt s (local s es e.caller))) c
-        (record { caller = e.caller; number = e.found; entry = entry_of s start run (local s es e.caller) })
-        (committed s start (will_of s run) run es) h
-        ∙ ih
-        ∙ ap (λ b. pending s start run (will_of s run) c (local s es c)
-        ++ cond (b && has_committed e) (attempt_of s start run c (local s es c) ∷ done_by s start run es c)
-        (done_by s start run es c)) (sym (ne_eqb e.caller c h))
+    other : (e : Event) (es : List Event) (c : ℕ) → e.caller ≢ c →
+        done_by s start run (e ∷ es) c ≡ done_by s start run es c
+    other e es c h =
+        told_still (commits_by c) (λ e before. attempt_of s start run c (local s before c)) e es
+        (and_left (e.caller == c) (has_committed e) (ne_eqb e.caller c h))
 
 -- who has an attempt under way is a caller of the shape
 pub is_known : (s : Shape) (es : List Event) → Core s es → (c : ℕ) → (local s es c).phase ≢ Outside → c < s.callers

@@ -2,32 +2,26 @@
 -- both, and the same entries are told from one caller's own events.
 --
 -- Events and committed attempts have the newest first.
-use Rattle.std.specs.Prelude.{ℕ, ◌==◌, ◌&&◌, Bool, true, false, List, [], ◌∷◌, if◌then◌else◌}
+use Rattle.std.specs.Prelude.{ℕ, ◌==◌, ◌&&◌, Bool, true, false, List}
 pub use Rattle.dstm_model.specs.Answers.{Committed, by_caller}
+use Rattle.dstm_history.specs.Histories.{gathered}
+use Rattle.dstm_history.specs.Histories as histories
 use Rattle.dstm_model.specs.declared.value.Val.{Val}
 use Rattle.dstm_core.specs.Events.{Event}
 use Rattle.dstm_core.specs.declared.event.Kind.{Kind}
 use Rattle.dstm_core.specs.declared.event.Kind.TheVariants.{Commit}
 use Rattle.dstm_core.specs.declared.shape.Shape.{Shape}
 use Rattle.dstm_core.specs.declared.status.Status.TheVariants as status
-use Rattle.dstm_core.specs.Histories.{entry_of, is_draw, will_of}
+use Rattle.dstm_core.specs.Histories.{commits_at, entry_at, entry_of, will_of}
 use Rattle.dstm_core.specs.Runs.{local}
-use Rattle.dstm_core.specs.State.{LocalState, or_zero, own_attempt}
+use Rattle.dstm_core.specs.State.{LocalState, or_zero}
 use Rattle.dstm_core.specs.Words.{code_of}
 
 -- ---- the history, with the caller and the number of each entry
 
 -- the attempts that commit, as `will` tells, and have their Draw among some events
 abbrev pub committed : Shape → List Val → (ℕ → Bool) → List Event → List Event → List Committed
-committed shape start will run [] = []
-committed shape start will run (event ∷ before) =
-    if is_draw event.kind && will (own_attempt shape (local shape before event.caller))
-    then record {
-      caller = event.caller;
-      number = event.found;
-      entry = entry_of shape start run (local shape before event.caller);
-    } ∷ committed shape start will run before
-    else committed shape start will run before
+committed shape start will run before = histories.committed (commits_at shape will) (entry_at shape start run) before
 
 -- the attempts that commit in a run
 abbrev pub committed_in : Shape → List Val → List Event → List Committed
@@ -51,10 +45,11 @@ attempt_of shape start run c state = record {
   entry = entry_of shape start run state;
 }
 
+-- the event is a Commit of caller c that succeeded
+abbrev pub commits_by : ℕ → Event → List Event → Bool
+commits_by c event before = (event.caller == c) && has_committed event
+
 -- the attempts that a caller has committed by its own Commits; the run tells what the versions hold
 abbrev pub done_by : Shape → List Val → List Event → List Event → ℕ → List Committed
-done_by shape start run [] c = []
-done_by shape start run (event ∷ before) c =
-    if (event.caller == c) && has_committed event
-    then attempt_of shape start run c (local shape before c) ∷ done_by shape start run before c
-    else done_by shape start run before c
+done_by shape start run before c =
+    gathered (commits_by c) (λ event before. attempt_of shape start run c (local shape before c)) before

@@ -1,7 +1,8 @@
 -- What a call on an attempt adds to what its caller has committed.
 use Rattle.std.proofs.Common.{◌&&◌, ◌++◌, ◌+◌, ◌==◌, ◌∙◌, ◌∷◌, ◌≡◌, ◌≢◌, ◌⊎◌, List, [], add-one, ap, append_assoc, arith, false, inl, inr, length, length-append, refl, subst, sym, true, ℕ}
 use Rattle.std.proofs.lemmas.Bool.{and_parts, cases_Bool, cond_both, eq-eqb}
-use Rattle.std.proofs.lemmas.List.Elements.{filter-append}
+use Rattle.std.proofs.lemmas.List.Elements.{All-cons, All-nil, filter-append}
+use Rattle.dstm_runs.proofs.Own.{own_first}
 use Rattle.dstm_answers.specs.Committed.{attempt_of, done_by, has_committed, is_commit}
 use Rattle.dstm_answers.proofs.Stays.{NoneCommits, call_adds_none, same_told, told_stays}
 use Rattle.dstm_core.specs.Events.{Event}
@@ -34,13 +35,12 @@ commit_sets s l e k is q = absurd (cc)
 
 none_commits : (w : Work) (s : Shape) (l : LocalState) (g : Lcg) (es : List Event) → Obeys (Doing w) s l g es →
     AreAllowed s l es → Sound l → (state_after s l es).committed ≡ false → NoneCommits es
-none_commits w s l g [] o a h un = tt
+none_commits w s l g [] o a h un = All-nil (λ (e : Event). has_committed e ≡ false)
 none_commits w s l g (e ∷ es) o a h un =
     let old = state_after s l es in
-    let inside : old.phase ≢ Outside = λ z. nothing_due w s (newest_of es) old (effort_of s l g es) e z o.1 in (
-      none (cases_Bool (has_committed e)),
-      none_commits w s l g es o.0 a.0 h ((sound_after s l es a.0 h).goes inside),
-    )
+    let inside : old.phase ≢ Outside = λ z. nothing_due w s (newest_of es) old (effort_of s l g es) e z o.1 in
+    All-cons (λ (e : Event). has_committed e ≡ false) e es (none (cases_Bool (has_committed e)))
+    (none_commits w s l g es o.0 a.0 h ((sound_after s l es a.0 h).goes inside))
   where
     none : (has_committed e ≡ true) ⊎ (has_committed e ≡ false) → has_committed e ≡ false
     none (inr q) = q
@@ -90,9 +90,6 @@ one_past [] before others e es q = inr (record { later = others; whole = sym q }
 one_past (x ∷ later) before [] e es q = inl (record { later = later; whole = cc })
 one_past (x ∷ later) before (y ∷ others) e es q = one_past later before others e es (cc)
 
-own_cons : (c : ℕ) (e : Event) (es : List Event) → e.caller ≡ c → events_of c (e ∷ es) ≡ e ∷ events_of c es
-own_cons c e es q = rw (eq-eqb e.caller c q) refl
-
 -- what stood as the call began stands before its newest event
 began_before : (c : ℕ) (before : List Event) (e : Event) (es rest : List Event) → e.caller ≡ c →
     events_of c es ≡ rest ++ events_of c before → IsPastOf before es ⊎ IsPastOf (e ∷ es) before → IsPastOf before es
@@ -102,7 +99,7 @@ began_before c before e es rest q own (inr p) =
   where
     whole : events_of c before ≡ events_of c p.later ++ e ∷ events_of c es
     whole = ap (events_of c) (sym p.whole) ∙ filter-append (λ (e : Event). e.caller == c) p.later (e ∷ es)
-        ∙ ap (λ xs. events_of c p.later ++ xs) (own_cons c e es q)
+        ∙ ap (λ xs. events_of c p.later ++ xs) (own_first e es c (eq-eqb e.caller c q))
 
     longer : length (events_of c before) ≡ length (events_of c p.later) + (length (events_of c es) + 1)
     longer =
@@ -144,7 +141,7 @@ added_by w s start c g e es later before core own o a h un commits =
     at_end =
         ap (λ xs. done_by s start xs xs c) n.run
         ∙ told_stays s start n.later (e ∷ n.before) c whole
-        (ap (events_of c) (sym n.run) ∙ own ∙ ap (λ xs. e ∷ xs) (sym n.rest) ∙ sym (own_cons c e n.before n.own))
+        (ap (events_of c) (sym n.run) ∙ own ∙ ap (λ xs. e ∷ xs) (sym n.rest) ∙ sym (own_first e n.before c (eq-eqb e.caller c n.own)))
 
     one : done_by s start run (e ∷ n.before) c
         ≡ attempt_of s start run c (local s n.before c) ∷ done_by s start run n.before c

@@ -1,5 +1,5 @@
 -- A caller's own events since some log.
-use Rattle.std.proofs.Common.{◌++◌, ◌∙◌, ◌≡◌, List, [], ap, append-nil, subst, sym, ℕ}
+use Rattle.std.proofs.Common.{◌++◌, ◌≡◌, List, [], append-nil, subst, sym, ℕ}
 use Rattle.dstm_runs.proofs.Own as runs
 use Rattle.dstm_core.specs.Events.{Event}
 use Rattle.dstm_core.specs.Runs.{Core, core, local}
@@ -7,11 +7,11 @@ use Rattle.dstm_core.specs.State.{first}
 use Rattle.dstm_core.specs.Traces.{events_of}
 use Rattle.dstm_core.specs.declared.shape.Shape.{Shape}
 use Rattle.dstm_order.specs.Calls.{state_after}
-use Rattle.dstm_progress.proofs.Own.{AreAllowed, allowed_split, own_allowed, own_state}
+use Rattle.dstm_progress.proofs.Own.{AreAllowed, allowed_split, own_allowed}
 
 -- its state is that after all its own events
 pub whole_state : (s : Shape) (c : ℕ) (run : List Event) → local s run c ≡ state_after s first (events_of c run)
-whole_state s c run = ap (λ xs. local s xs c) (sym (append-nil run)) ∙ own_state s c run []
+whole_state s c run = runs.whole_state core s c run
 
 pub whole_allowed : (s : Shape) (c : ℕ) (run : List Event) → Core s run → AreAllowed s first (events_of c run)
 whole_allowed s c run core = own_allowed s c run [] (subst (Core s) (sym (append-nil run)) core)

@@ -1,9 +1,10 @@
 -- What the laws of core runs say, from the lemmas.
-use Rattle.std.proofs.Common.{◌≤◌, ◌-◌, ◌∷◌, ◌++◌, ℕ, inl, inr, List, [], arith}
+use Rattle.std.proofs.Common.{◌≤◌, ◌-◌, ◌∷◌, ◌++◌, ℕ, inl, inr, List, arith}
 use Rattle.dstm_model.specs.declared.value.Val.{Val}
 use Rattle.dstm_core.specs.Events.{Event}
 use Rattle.dstm_core.specs.declared.shape.Shape.{Shape}
-use Rattle.dstm_core.specs.Histories.{CoreRun, Lawful}
+use Rattle.dstm_runs.proofs.Runs.{each_past}
+use Rattle.dstm_core.specs.Histories.{CoreRun, Lawful, PutsLawfully}
 use Rattle.dstm_core.specs.Laws.{IsFinished, Installs, StaysInstalled}
 use Rattle.dstm_core.specs.Runs.{Core}
 use Rattle.dstm_core.proofs.Locators.{install_fresh, installed_stays}
@@ -12,8 +13,7 @@ use Rattle.dstm_core.proofs.Stores.{low_once, high_once}
 
 pub lawful_past : (s : Shape) (start : List Val) (holds : List Val → Type 0) (more es : List Event) →
     Lawful s start holds (more ++ es) → Lawful s start holds es
-lawful_past s start holds [] es law = law
-lawful_past s start holds (e ∷ more) es law = lawful_past s start holds more es law.0
+lawful_past s start holds more es law = each_past (PutsLawfully s start holds) more es law
 
 pub core_run_past : (s : Shape) (start : List Val) (holds : List Val → Type 0) (more es : List Event) →
     CoreRun s start holds (more ++ es) → CoreRun s start holds es

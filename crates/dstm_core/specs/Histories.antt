@@ -2,6 +2,8 @@
 use Rattle.std.specs.Prelude.{◌≡◌, ℕ, ◌+◌, ◌-◌, ◌==◌, ◌&&◌, Bool, true, false, List, [], ◌∷◌, ◌++◌, length, reverse, if◌then◌else◌}
 use Rattle.dstm_model.specs.declared.value.Val.{Val}
 use Rattle.dstm_model.specs.Map.{Entry, value_at, KeepsLaw}
+use Rattle.dstm_history.specs.Histories.{gathered}
+use Rattle.dstm_runs.specs.Traces.{Each}
 use Rattle.dstm_core.specs.Events.{Event}
 use Rattle.dstm_core.specs.declared.event.Kind.{Kind}
 use Rattle.dstm_core.specs.declared.event.Kind.TheVariants.{LookNumber, LookSelf, PutNew, Draw}
@@ -77,14 +79,19 @@ drawn shape (event ∷ before) a =
 abbrev pub will_of : Shape → List Event → ℕ → Bool
 will_of shape run a = word shape run (StatusWord a) == code_of status.Committed
 
+-- the event is the Draw of an attempt that commits, as `will` tells
+abbrev pub commits_at : Shape → (ℕ → Bool) → Event → List Event → Bool
+commits_at shape will event before =
+    is_draw event.kind && will (own_attempt shape (local shape before event.caller))
+
+-- the entry of the attempt that makes an event
+abbrev pub entry_at : Shape → List Val → List Event → Event → List Event → Entry
+entry_at shape start run event before = entry_of shape start run (local shape before event.caller)
+
 -- the entries of the attempts that commit, as `will` tells, and have their Draw among some events: the newest
 -- draw first. The whole run tells what the versions hold.
 abbrev pub history : Shape → List Val → (ℕ → Bool) → List Event → List Event → List Entry
-history shape start will run [] = []
-history shape start will run (event ∷ before) =
-    if is_draw event.kind && will (own_attempt shape (local shape before event.caller))
-    then entry_of shape start run (local shape before event.caller) ∷ history shape start will run before
-    else history shape start will run before
+history shape start will run before = gathered (commits_at shape will) (entry_at shape start run) before
 
 -- the prefix of the history at a place of a run, in the order of the draws: `before` is what stands before it
 abbrev pub prefix_at : Shape → List Val → List Event → List Event → List Entry
@@ -119,13 +126,14 @@ seen shape start run before c = (entry_of shape start run (local shape before c)
 -- ---- the law
 
 -- with each attempt's last PutNew its entry keeps the law
+abbrev pub PutsLawfully : Shape → List Val → (List Val → Type 0) → Event → List Event → Type 0
+PutsLawfully shape start holds event before =
+    event.kind ≡ PutNew →
+    (local shape before event.caller).written + 1 ≡ length (local shape before event.caller).writes →
+    KeepsLaw holds shape.objects (entry_of shape start (event ∷ before) (local shape before event.caller))
+
 abbrev pub Lawful : Shape → List Val → (List Val → Type 0) → List Event → Type 0
-Lawful shape start holds [] = Unit {0}
-Lawful shape start holds (event ∷ before) =
-    Lawful shape start holds before
-    × (event.kind ≡ PutNew
-    → (local shape before event.caller).written + 1 ≡ length (local shape before event.caller).writes
-    → KeepsLaw holds shape.objects (entry_of shape start (event ∷ before) (local shape before event.caller)))
+Lawful shape start holds trace = Each (PutsLawfully shape start holds) trace
 
 -- a core run of a shape, first values and a law
 pub record CoreRun (shape : Shape) (start : List Val) (holds : List Val → Type 0) (run : List Event) : Type 0 where

@@ -4,7 +4,7 @@ use Rattle.std.specs.Prelude.{Option, Some, IfSome}
 use Rattle.rand_pcg.specs.Lcg.{Lcg}
 use Rattle.dstm_model.specs.declared.value.Val.{Val}
 use Rattle.dstm_core.specs.Runs.{core, local}
-use Rattle.dstm_runs.proofs.Quiet.{none_before_only}
+use Rattle.dstm_runs.proofs.Own.{none_before_only}
 use Rattle.dstm_runs.proofs.Runs.{local-events_of}
 use Rattle.dstm_core.specs.State.{LocalState, first}
 use Rattle.dstm_core.specs.Traces.{events_of}

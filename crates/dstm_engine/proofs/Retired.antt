@@ -3,7 +3,8 @@ use Rattle.std.proofs.Common.{◌&&◌, ◌++◌, ◌==◌, ◌∙◌, ◌∷◌
 use Rattle.std.specs.Prelude.{Bool, Contains, IfSome, None, Option, Some, if◌then◌else◌}
 use Rattle.dstm_model.specs.declared.value.Val.{Val}
 use Rattle.dstm_answers.proofs.Stays.{NoneCommits, call_adds_none, told_stays}
-use Rattle.dstm_answers.specs.Committed.{done_by, is_commit}
+use Rattle.std.proofs.lemmas.List.Elements.{All-cons, All-nil}
+use Rattle.dstm_answers.specs.Committed.{done_by, has_committed, is_commit}
 use Rattle.dstm_core.specs.Rules.{is_outside}
 use Rattle.dstm_core.specs.Runs.{Core}
 use Rattle.dstm_core.specs.State.{LocalState}
@@ -33,11 +34,10 @@ quits_none e k h = absurd (cc)
 
 -- a call that leaves an attempt makes no Commit
 leaving_none : (s : Shape) (l : LocalState) (gen : Lcg) (es : List Event) → Obeys Leaving s l gen es → NoneCommits es
-leaving_none s l gen [] h = tt
-leaving_none s l gen (e ∷ es) h = (
-  quits_none e e.kind (quit_only (is_outside (state_after s l es).phase) e h.1),
-  leaving_none s l gen es h.0,
-)
+leaving_none s l gen [] h = All-nil (λ (e : Event). has_committed e ≡ false)
+leaving_none s l gen (e ∷ es) h =
+    All-cons (λ (e : Event). has_committed e ≡ false) e es
+    (quits_none e e.kind (quit_only (is_outside (state_after s l es).phase) e h.1)) (leaving_none s l gen es h.0)
 
 -- an attempt that is quit adds nothing to what its caller has committed
 pub leaving_done : {L : Type 0} (holds : L → List Val → Type 0) (k quit : Called L) →

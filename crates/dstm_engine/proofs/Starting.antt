@@ -8,6 +8,7 @@ use Rattle.dstm_core.specs.Words.{IsValid}
 use Rattle.dstm_core.specs.declared.shape.Shape.{Shape}
 use Rattle.dstm_core.specs.declared.state.Phase.TheVariants.{Outside, Running}
 use Rattle.dstm_answers.proofs.Stays.{NoneCommits}
+use Rattle.std.proofs.lemmas.List.Elements.{All-cons, All-nil}
 use Rattle.dstm_answers.specs.Committed.{has_committed}
 use Rattle.dstm_core.specs.Events.{Event}
 use Rattle.dstm_core.specs.declared.event.Kind.{Kind}
@@ -127,11 +128,10 @@ due_is_quiet s fresh o l e =
 -- a call that begins an attempt commits nothing
 pub beginning_none : (s : Shape) (fresh : Bool) (l : LocalState) (gen : Lcg) (es : List Event) →
     Obeys (Beginning fresh) s l gen es → NoneCommits es
-beginning_none s fresh l gen [] h = tt
-beginning_none s fresh l gen (e ∷ es) h = (
-  (due_is_quiet s fresh (newest_of es) (state_after s l es) e h.1).0,
-  beginning_none s fresh l gen es h.0,
-)
+beginning_none s fresh l gen [] h = All-nil (λ (e : Event). has_committed e ≡ false)
+beginning_none s fresh l gen (e ∷ es) h =
+    All-cons (λ (e : Event). has_committed e ≡ false) e es
+    (due_is_quiet s fresh (newest_of es) (state_after s l es) e h.1).0 (beginning_none s fresh l gen es h.0)
 
 -- and leaves the generator as it is
 pub beginning_still : (s : Shape) (fresh : Bool) (l : LocalState) (gen : Lcg) (es : List Event) →

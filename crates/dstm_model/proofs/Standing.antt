@@ -1,5 +1,5 @@
 -- What a caller has committed stands among all that was committed, and so in the history.
-use Rattle.std.proofs.Common.{◌++◌, ◌==◌, ◌∙◌, ◌∷◌, ◌≡◌, ◌⊎◌, List, [], ap, append_assoc, false, inl, inr, length, map, refl, reverse, subst, true, ℕ}
+use Rattle.std.proofs.Common.{◌++◌, ◌==◌, ◌∙◌, ◌∷◌, ◌≡◌, ◌⊎◌, List, [], ap, append_assoc, false, inl, inr, length, map, refl, reverse, subst, sym, true, ℕ}
 use Rattle.std.proofs.lemmas.Bool.{cases_Bool}
 use Rattle.std.proofs.lemmas.List.{reverse-append}
 use Rattle.dstm_model.specs.Answers.{Committed, Stands, StandsIn, by_caller}
@@ -10,6 +10,15 @@ use Rattle.dstm_model.proofs.Entries.{reverse_cons, states_keep_length}
 -- it stands among one more
 pub stands_cons : (x y : Committed) (xs : List Committed) → Stands x xs → Stands x (y ∷ xs)
 stands_cons x y xs h = record { newer = y ∷ h.newer; older = h.older; is = ap (λ zs. y ∷ zs) h.is }
+
+-- and among any more
+pub stands_more : (x : Committed) (newer xs : List Committed) → Stands x xs → Stands x (newer ++ xs)
+stands_more x newer xs h =
+    record {
+      newer = newer ++ h.newer;
+      older = h.older;
+      is = ap (λ zs. newer ++ zs) h.is ∙ sym (append_assoc newer h.newer (x ∷ h.older));
+    }
 
 -- what stands among one caller's attempts stands among all
 pub stands_all : (c : ℕ) (x : Committed) (xs : List Committed) → Stands x (by_caller c xs) → Stands x xs

@@ -1,13 +1,10 @@
 -- The prefix at a sight's place holds the entry of each Commit that stands before the attempt's Begin.
 use Rattle.std.proofs.Common.{◌*◌, ◌++◌, ◌<◌, ◌==◌, ◌∙◌, ◌∷◌, ◌≡◌, ◌≢◌, ◌⊎◌, Bool, List, Some, [], ap, append_assoc, arith, inl, inr, refl, subst, sym, true, ℕ}
-use Rattle.std.proofs.lemmas.Bool.{cond_both, eq-eqb}
-use Rattle.std.proofs.lemmas.List.{reverse-append}
-use Rattle.std.proofs.lemmas.List.Elements.{Contains-append_left, Contains-push}
+use Rattle.std.proofs.lemmas.Bool.{and_from, cond_both, eq-eqb}
 use Rattle.std.specs.List.{Contains}
 use Rattle.std.specs.Prelude.{reverse}
-use Rattle.dstm_model.specs.Map.{Entry}
 use Rattle.dstm_model.specs.declared.value.Val.{Val}
-use Rattle.dstm_core.specs.Histories.{entry_of, history, is_draw, pass_place, prefix_at, will_of}
+use Rattle.dstm_core.specs.Histories.{commits_at, entry_at, entry_of, history, is_draw, pass_place, prefix_at, will_of}
 use Rattle.dstm_core.specs.Rules.{AllowedAs, after}
 use Rattle.dstm_core.specs.Runs.{Core, local}
 use Rattle.dstm_core.specs.State.{LocalState, given, own_attempt}
@@ -26,11 +23,10 @@ use Rattle.dstm_core.proofs.Statuses.{finished_stays}
 use Rattle.dstm_opacity.proofs.Begins.{before_attempt, begun_before, pass_begun}
 use Rattle.dstm_opacity.proofs.Draws.{commit_may}
 use Rattle.dstm_opacity.proofs.KeptLaw.{entry_same}
-use Rattle.dstm_model.proofs.Entries.{reverse_cons}
+use Rattle.dstm_history.proofs.Gathered.{told_among}
 use Rattle.dstm_core.proofs.Pasts.{core_before}
 use Rattle.dstm_runs.proofs.Pasts.{past_more, past_past}
 use Rattle.dstm_opacity.proofs.Numbers.{pass_past}
-use Rattle.dstm_opacity.proofs.Orders.{history_more}
 use Rattle.dstm_opacity.proofs.Passes.{check_after}
 use Rattle.dstm_opacity.proofs.SinceDraw.{drawn_may}
 use Rattle.dstm_opacity.specs.Laws.{HoldCommitsBefore, IsBeginOf, IsCommit}
@@ -146,24 +142,10 @@ pub in_prefix : (s : Shape) (start : List Val) (will : ℕ → Bool) (run before
     IsPastOf (d ∷ before) es → is_draw d.kind ≡ true → will (own_attempt s (local s before d.caller)) ≡ true →
     Contains (reverse (history s start will run es)) (entry_of s start run (local s before d.caller))
 in_prefix s start will run before es d p k w =
-    subst (λ xs. Contains (reverse (history s start will run xs)) x) p.whole there
-  where
-    x : Entry
-    x = entry_of s start run (local s before d.caller)
-
-    older : List Entry
-    older = history s start will run before
-
-    newest : reverse (history s start will run (d ∷ before)) ≡ reverse older ++ x ∷ []
-    newest = rw (k, w) (reverse_cons x older)
-
-    there : Contains (reverse (history s start will run (p.later ++ d ∷ before))) x
-    there =
-        let more = history_more s start will run p.later (d ∷ before) in
-        subst (λ xs. Contains xs x)
-        (sym (ap reverse more.1 ∙ reverse-append more.0 (history s start will run (d ∷ before))))
-        (Contains-append_left (reverse (history s start will run (d ∷ before))) (reverse more.0) x
-        (subst (λ xs. Contains xs x) (sym newest) (Contains-push (reverse older) x)))
+    subst (λ xs. Contains (reverse (history s start will run xs)) (entry_of s start run (local s before d.caller)))
+    p.whole
+    (told_among (commits_at s will) (entry_at s start run) p.later d before
+    (and_from (is_draw d.kind) (will (own_attempt s (local s before d.caller))) k w))
 
 -- a Commit that succeeds
 commit_puts : (s : Shape) (l : LocalState) (e : Event) (k : Kind) → k ≡ Commit → e.found ≡ e.expected →

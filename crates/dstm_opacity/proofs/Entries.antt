@@ -1,12 +1,11 @@
 -- Each entry of a history names objects of the shape, and each at most once.
-use Rattle.std.proofs.Common.{◌&&◌, ◌++◌, ◌<◌, ◌==◌, ◌∷◌, ◌≡◌, ◌≢◌, ◌⊎◌, Bool, List, None, Some, [], false, inl, inr, true, ℕ}
+use Rattle.std.proofs.Common.{◌++◌, ◌<◌, ◌==◌, ◌∷◌, ◌≡◌, ◌≢◌, ◌⊎◌, Bool, List, None, Some, [], false, inl, inr, true, ℕ}
 use Rattle.std.proofs.lemmas.Bool.{and_parts, cases_Bool, eqb-false}
-use Rattle.std.proofs.lemmas.List.Elements.{All-nil, All-push}
 use Rattle.std.specs.List.{All}
 use Rattle.std.specs.Prelude.{reverse}
 use Rattle.dstm_model.specs.Map.{IsEntry, IsUnnamed, NamesOnce}
 use Rattle.dstm_model.specs.declared.value.Val.{Val}
-use Rattle.dstm_core.specs.Histories.{entry_of, history, is_draw, new_values, old_values, read_values}
+use Rattle.dstm_core.specs.Histories.{commits_at, entry_at, entry_of, history, is_draw, new_values, old_values, read_values}
 use Rattle.dstm_core.specs.Runs.{Core, local}
 use Rattle.dstm_core.specs.State.{own_attempt, read_of, write_of}
 use Rattle.dstm_core.specs.Events.{Event}
@@ -15,7 +14,7 @@ use Rattle.dstm_core.specs.declared.state.Phase.TheVariants.{Outside}
 use Rattle.dstm_core.specs.declared.state.Read.{Read}
 use Rattle.dstm_core.specs.declared.state.Write.{Write}
 use Rattle.dstm_opacity.proofs.Draws.{draw_may}
-use Rattle.dstm_model.proofs.Entries.{reverse_cons}
+use Rattle.dstm_history.proofs.Gathered.{told_all}
 use Rattle.dstm_opacity.proofs.Recorded.{ReadsNamed, reads}
 use Rattle.dstm_opacity.proofs.Tidy.{Apart, ReadsOnce, WritesOnce, read_apart, tidy}
 use Rattle.dstm_opacity.proofs.Written.{WritesOk, written}
@@ -87,23 +86,12 @@ entry_once s start run es c core lt out =
 -- each entry of the history
 pub entries_once : (s : Shape) (start : List Val) (will : ℕ → Bool) (run es : List Event) → Core s es →
     All (IsEntry s.objects) (reverse (history s start will run es))
-entries_once s start will run [] core = All-nil (IsEntry s.objects)
-entries_once s start will run (e ∷ es) core =
-    go (cases_Bool (is_draw e.kind && will (own_attempt s (local s es e.caller))))
-    (entries_once s start will run es core.0)
+entries_once s start will run es core =
+    told_all (commits_at s will) (entry_at s start run) (Core s) (λ e es core. core.0) (IsEntry s.objects) entry es core
   where
-    entry : is_draw e.kind ≡ true → IsEntry s.objects (entry_of s start run (local s es e.caller))
-    entry d =
-        let v = draw_may s (local s es e.caller) e e.kind d core.1.allowed in
+    entry : (e : Event) (es : List Event) → Core s (e ∷ es) → commits_at s will e es ≡ true →
+        IsEntry s.objects (entry_of s start run (local s es e.caller))
+    entry e es core h =
+        let two = and_parts (is_draw e.kind) (will (own_attempt s (local s es e.caller))) h in
+        let v = draw_may s (local s es e.caller) e e.kind two.0 core.1.allowed in
         entry_once s start run es e.caller core.0 core.1.caller (λ z. cc)
-
-    go : (is_draw e.kind && will (own_attempt s (local s es e.caller)) ≡ true)
-        ⊎ (is_draw e.kind && will (own_attempt s (local s es e.caller)) ≡ false) →
-        All (IsEntry s.objects) (reverse (history s start will run es)) →
-        All (IsEntry s.objects) (reverse (history s start will run (e ∷ es)))
-    go (inl q) ih =
-        let two = and_parts (is_draw e.kind) (will (own_attempt s (local s es e.caller))) q in
-        rw (q, reverse_cons (entry_of s start run (local s es e.caller)) (history s start will run es))
-        (All-push (IsEntry s.objects) (reverse (history s start will run es))
-        (entry_of s start run (local s es e.caller)) ih (entry two.0))
-    go (inr q) ih = rw q ih

@@ -1,9 +1,9 @@
 -- The state after every prefix of a history is lawful.
-use Rattle.std.proofs.Common.{◌&&◌, ◌++◌, ◌∙◌, ◌∷◌, ◌≡◌, ◌≢◌, ◌⊎◌, List, [], ap, append_assoc, inl, inr, length, refl, subst, sym, true, ℕ}
-use Rattle.std.proofs.lemmas.Bool.{and_parts, cond_both}
+use Rattle.std.proofs.Common.{◌++◌, ◌∙◌, ◌∷◌, ◌≡◌, ◌≢◌, ◌⊎◌, List, [], ap, append_assoc, inl, inr, length, refl, subst, sym, true, ℕ}
+use Rattle.std.proofs.lemmas.Bool.{and_parts}
 use Rattle.dstm_model.specs.Map.{with_writes, KeepsLaw}
 use Rattle.dstm_model.specs.declared.value.Val.{Val}
-use Rattle.dstm_core.specs.Histories.{Lawful, entry_of, history, is_draw, pass_place, will_of}
+use Rattle.dstm_core.specs.Histories.{Lawful, commits_at, entry_at, entry_of, history, is_draw, pass_place, will_of}
 use Rattle.dstm_core.specs.Runs.{Core, local}
 use Rattle.dstm_core.specs.State.{own_attempt}
 use Rattle.dstm_core.specs.Events.{Event}
@@ -13,12 +13,13 @@ use Rattle.dstm_core.specs.declared.shape.Shape.{Shape}
 use Rattle.dstm_core.specs.declared.state.Phase.TheVariants.{Outside, Validating}
 use Rattle.dstm_core.proofs.Pasts.{core_past}
 use Rattle.dstm_core.proofs.Prefixes.{lawful_past}
+use Rattle.dstm_history.proofs.Histories as histories
+use Rattle.dstm_history.proofs.Orders.{map_after, state_length}
 use Rattle.dstm_opacity.proofs.Draws.{draw_may, drawn_yes}
 use Rattle.dstm_opacity.proofs.KeptLaw.{law_ok}
 use Rattle.dstm_opacity.proofs.Legal.{legal_entry}
 use Rattle.dstm_opacity.proofs.Numbers.{pass_past}
 use Rattle.dstm_opacity.proofs.Recorded.{reads, reads_more}
-use Rattle.dstm_opacity.proofs.States.{map_after, state_length}
 use Rattle.dstm_opacity.proofs.Values.{WritesKept, entry_later, entry_stays, kept_from, kept_more, puts_value}
 use Rattle.dstm_opacity.proofs.Written.{written}
 
@@ -79,31 +80,23 @@ law_entry s start holds es d more long core law k w h =
 pub lawful_from : (s : Shape) (start : List Val) (holds : List Val → Type 0) (run : List Event) →
     length start ≡ s.objects → Core s run → Lawful s start holds run → holds start → (es more : List Event) →
     more ++ es ≡ run → holds (map_after start (history s start (will_of s run) run es))
-lawful_from s start holds run long core law h [] more q = h
-lawful_from s start holds run long core law h (d ∷ es) more q =
-    add (lawful_from s start holds run long core law h es (more ++ d ∷ []) (append_assoc more (d ∷ []) es ∙ q))
+lawful_from s start holds run long core law h es more q =
+    histories.lawful_from (commits_at s (will_of s run)) (entry_at s start run) start run holds entry h es more q
   where
-    law_q : Lawful s start holds es
-    law_q = (lawful_past s start holds more (d ∷ es) (subst (Lawful s start holds) (sym q) law)).0
-
-    entry : is_draw d.kind ≡ true → will_of s run (own_attempt s (local s es d.caller)) ≡ true →
+    entry : (d : Event) (es more : List Event) → more ++ d ∷ es ≡ run → commits_at s (will_of s run) d es ≡ true →
         holds (map_after start (history s start (will_of s run) run es)) →
         holds (with_writes (map_after start (history s start (will_of s run) run es))
         (entry_of s start run (local s es d.caller)).writes)
-    entry = subst
+    entry d es more q is =
+        let two = and_parts (is_draw d.kind) (will_of s run (own_attempt s (local s es d.caller))) is in
+        let keeps : Lawful s start holds es =
+        (lawful_past s start holds more (d ∷ es) (subst (Lawful s start holds) (sym q) law)).0 in
+        subst
         (λ r. is_draw d.kind ≡ true → will_of s r (own_attempt s (local s es d.caller)) ≡ true →
         holds (map_after start (history s start (will_of s r) r es)) →
         holds (with_writes (map_after start (history s start (will_of s r) r es))
         (entry_of s start r (local s es d.caller)).writes)) q
-        (law_entry s start holds es d more long (subst (Core s) (sym q) core) law_q)
-
-    add : holds (map_after start (history s start (will_of s run) run es)) →
-        holds (map_after start (history s start (will_of s run) run (d ∷ es)))
-    add ih = cond_both (is_draw d.kind && will_of s run (own_attempt s (local s es d.caller)))
-        (entry_of s start run (local s es d.caller) ∷ history s start (will_of s run) run es)
-        (history s start (will_of s run) run es) (λ x. holds (map_after start x))
-        (λ z. let two = and_parts (is_draw d.kind) (will_of s run (own_attempt s (local s es d.caller))) z in
-        entry two.0 two.1 ih) (λ _. ih)
+        (law_entry s start holds es d more long (subst (Core s) (sym q) core) keeps) two.0 two.1
 
 -- the state after every prefix of the history is lawful: a prefix has the draws of a part of the run
 pub law_at_every_prefix : (s : Shape) (start : List Val) (holds : List Val → Type 0) (more es : List Event) →

@@ -1,9 +1,9 @@
 -- The history of a core run is legal.
-use Rattle.std.proofs.Common.{◌&&◌, ◌++◌, ◌∙◌, ◌∷◌, ◌≡◌, ◌≢◌, List, [], ap, append_assoc, false, length, refl, subst, sym, true}
-use Rattle.std.proofs.lemmas.Bool.{and_parts, cond_both}
-use Rattle.dstm_model.specs.Map.{Agrees, Entry}
+use Rattle.std.proofs.Common.{◌++◌, ◌∙◌, ◌∷◌, ◌≡◌, ◌≢◌, List, [], ap, append_assoc, false, length, refl, subst, sym, true}
+use Rattle.std.proofs.lemmas.Bool.{and_parts}
+use Rattle.dstm_model.specs.Map.{Agrees}
 use Rattle.dstm_model.specs.declared.value.Val.{Val}
-use Rattle.dstm_core.specs.Histories.{drawn, entry_of, history, is_draw, will_of}
+use Rattle.dstm_core.specs.Histories.{commits_at, drawn, entry_at, entry_of, history, is_draw, will_of}
 use Rattle.dstm_core.specs.Runs.{Core, local}
 use Rattle.dstm_core.specs.State.{own_attempt}
 use Rattle.dstm_core.specs.Traces.{IsPastOf, word}
@@ -14,19 +14,16 @@ use Rattle.dstm_core.specs.declared.state.Phase.TheVariants.{Outside, Validating
 use Rattle.dstm_core.proofs.Columns.{own_in}
 use Rattle.dstm_core.proofs.Static.{static}
 use Rattle.dstm_core.proofs.Pasts.{core_past}
+use Rattle.dstm_history.proofs.Histories.{legal_from}
+use Rattle.dstm_history.proofs.Orders.{Legal, map_after}
 use Rattle.dstm_opacity.proofs.Current.{Foretells}
 use Rattle.dstm_opacity.proofs.Draws.{draw_may, drawn_phase, is_drawn}
 use Rattle.dstm_opacity.proofs.Numbers.{foretells_before}
 use Rattle.dstm_opacity.proofs.Recorded.{reads}
 use Rattle.dstm_opacity.proofs.Sights.{foretold}
 use Rattle.dstm_opacity.proofs.SinceDraw.{draw_agreed}
-use Rattle.dstm_opacity.proofs.States.{agrees_state, map_after, old_current}
+use Rattle.dstm_opacity.proofs.States.{agrees_state, old_current}
 use Rattle.dstm_opacity.proofs.Written.{WritesOk, written}
-
--- entries one after the other, the newest first: each agrees with the map that those before it leave
-abbrev pub Legal : List Val → List Entry → Type 0
-Legal start [] = Unit {0}
-Legal start (x ∷ xs) = Legal start xs × Agrees (map_after start xs) x.reads
 
 -- an entry agrees with the state at its draw
 pub legal_entry : (s : Shape) (start : List Val) (es : List Event) (d : Event) (more : List Event) →
@@ -68,30 +65,19 @@ legal_entry s start es d more long core k w =
     live z = let n = told.none (own_attempt s (local s es d.caller))
         (own_in s d.caller (local s es d.caller) (static s es core_d.0 d.caller) core_d.1.caller out) z in cc
 
--- the history is legal
-legal_from : (s : Shape) (start : List Val) (run : List Event) → length start ≡ s.objects → Core s run →
-    (es more : List Event) → more ++ es ≡ run → Legal start (history s start (will_of s run) run es)
-legal_from s start run long core [] more q = tt
-legal_from s start run long core (d ∷ es) more q =
-    legal_cons (legal_from s start run long core es (more ++ d ∷ []) (append_assoc more (d ∷ []) es ∙ q))
+-- so the whole history is legal
+pub committed_legal : (s : Shape) (start : List Val) (run : List Event) → length start ≡ s.objects →
+    Core s run → Legal start (history s start (will_of s run) run run)
+committed_legal s start run long core =
+    legal_from (commits_at s (will_of s run)) (entry_at s start run) start run entry run [] refl
   where
-    entry : is_draw d.kind ≡ true → will_of s run (own_attempt s (local s es d.caller)) ≡ true →
+    entry : (d : Event) (es more : List Event) → more ++ d ∷ es ≡ run → commits_at s (will_of s run) d es ≡ true →
         Agrees (map_after start (history s start (will_of s run) run es))
         (entry_of s start run (local s es d.caller)).reads
-    entry = subst
+    entry d es more q h =
+        let two = and_parts (is_draw d.kind) (will_of s run (own_attempt s (local s es d.caller))) h in
+        subst
         (λ r. is_draw d.kind ≡ true → will_of s r (own_attempt s (local s es d.caller)) ≡ true →
         Agrees (map_after start (history s start (will_of s r) r es))
         (entry_of s start r (local s es d.caller)).reads) q
-        (legal_entry s start es d more long (subst (Core s) (sym q) core))
-
-    legal_cons : Legal start (history s start (will_of s run) run es) →
-        Legal start (history s start (will_of s run) run (d ∷ es))
-    legal_cons ih =
-        cond_both (is_draw d.kind && will_of s run (own_attempt s (local s es d.caller))) _ _ (Legal start)
-        (λ z. let two = and_parts (is_draw d.kind) (will_of s run (own_attempt s (local s es d.caller))) z in
-        (ih, entry two.0 two.1)) (λ _. ih)
-
--- so the whole history is
-pub committed_legal : (s : Shape) (start : List Val) (run : List Event) → length start ≡ s.objects →
-    Core s run → Legal start (history s start (will_of s run) run run)
-committed_legal s start run long core = legal_from s start run long core run [] refl
+        (legal_entry s start es d more long (subst (Core s) (sym q) core)) two.0 two.1

@@ -21,7 +21,6 @@ pub mod LawfulStates
 pub mod Closing
 pub mod Begins
 pub mod Tidy
-pub mod Orders
 pub mod Commits
 pub mod Entries
 pub mod Found

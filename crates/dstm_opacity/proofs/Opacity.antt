@@ -1,11 +1,9 @@
 -- What the laws say, from the lemmas: histories with their oldest entry first.
 use Rattle.std.proofs.Common.{◌*◌, ◌++◌, ◌<◌, ◌∙◌, ◌∷◌, ◌≡◌, ◌≢◌, ◌⊎◌, List, None, Option, Some, [], ap, append_assoc, false, is_some, length, refl, subst, sym, true, ℕ}
-use Rattle.std.proofs.lemmas.Bool.{eq-eqb}
-use Rattle.std.proofs.lemmas.List.{reverse-append, reverse-reverse}
-use Rattle.std.specs.Prelude.{reverse}
+use Rattle.std.proofs.lemmas.Bool.{and_from, eq-eqb}
 use Rattle.dstm_model.specs.Map.{Agrees, Entry, state_after, value_at}
 use Rattle.dstm_model.specs.declared.value.Val.{Val}
-use Rattle.dstm_core.specs.Histories.{CoreRun, IsSight, entry_of, history, history_of, is_draw, pass_place, prefix_at, seen, will_of}
+use Rattle.dstm_core.specs.Histories.{CoreRun, IsSight, commits_at, entry_at, entry_of, history, history_of, is_draw, pass_place, prefix_at, seen, will_of}
 use Rattle.dstm_core.specs.Laws.{Installs}
 use Rattle.dstm_core.specs.Runs.{Core, local}
 use Rattle.dstm_core.specs.State.{own_attempt}
@@ -27,12 +25,12 @@ use Rattle.dstm_opacity.proofs.Entries.{entries_once}
 use Rattle.dstm_opacity.proofs.LastPass.{look_self_may}
 use Rattle.dstm_opacity.proofs.LawfulStates.{lawful_from}
 use Rattle.dstm_opacity.proofs.Legal.{committed_legal}
-use Rattle.dstm_model.proofs.Entries.{reverse_cons}
+use Rattle.dstm_history.proofs.Gathered.{told_next, told_prefix}
+use Rattle.dstm_history.proofs.Histories as histories
+use Rattle.dstm_history.proofs.Orders.{legal_reversed, map_after, state_length, state_reversed}
 use Rattle.dstm_runs.proofs.Pasts.{past_past}
 use Rattle.dstm_opacity.proofs.Numbers.{pass_past}
-use Rattle.dstm_opacity.proofs.Orders.{PartIs, history_more, legal_reversed, part_is, state_reversed}
 use Rattle.dstm_opacity.proofs.Sights.{pass_agrees}
-use Rattle.dstm_opacity.proofs.States.{map_after, state_length}
 use Rattle.dstm_opacity.proofs.Writers.{writers_in_draw_order}
 use Rattle.dstm_opacity.specs.Example.{run, start}
 use Rattle.dstm_opacity.specs.Laws.{HasCommitted, IsCurrent, IsEarlier, IsSeen, IsSerial, maker_of}
@@ -97,28 +95,15 @@ pub prefix_is_lawful : (s : Shape) (start : List Val) (holds : List Val → Type
     (prefix rest : List Entry) → CoreRun s start holds run → history_of s start run ≡ prefix ++ rest →
     holds start → holds (state_after start prefix)
 prefix_is_lawful s start holds run prefix rest r q h =
-    go (part_is s start (will_of s run) run run (reverse rest) (reverse prefix) newest)
-  where
-    newest : history s start (will_of s run) run run ≡ reverse rest ++ reverse prefix
-    newest =
-        sym (reverse-reverse (history s start (will_of s run) run run)) ∙ ap reverse q
-        ∙ reverse-append prefix rest
-
-    go : PartIs s start (will_of s run) run run (reverse prefix) → holds (state_after start prefix)
-    go p = subst holds
-        (ap (map_after start) p.is ∙ sym (state_reversed start (reverse prefix))
-        ∙ ap (state_after start) (reverse-reverse prefix))
-        (lawful_from s start holds run r.values r.core r.law h p.past p.is_past.later p.is_past.whole)
+    histories.prefix_is_lawful (commits_at s (will_of s run)) (entry_at s start run) start run holds
+    (λ es more whole. lawful_from s start holds run r.values r.core r.law h es more whole) prefix rest q
 
 -- the prefix at a place is one
 pub place_prefix : (s : Shape) (start : List Val) (more es : List Event) →
     (rest : List Entry)
     × (history_of s start (more ++ es) ≡ prefix_at s start (more ++ es) es ++ rest)
 place_prefix s start more es =
-    let x = history_more s start (will_of s (more ++ es)) (more ++ es) more es in (
-      reverse x.0,
-      ap reverse x.1 ∙ reverse-append x.0 (history s start (will_of s (more ++ es)) (more ++ es) es),
-    )
+    told_prefix (commits_at s (will_of s (more ++ es))) (entry_at s start (more ++ es)) more es
 
 -- an attempt that commits stands in the history
 pub entry_stands : (s : Shape) (start : List Val) (more es : List Event) (d : Event) → d.kind ≡ Draw →
@@ -126,34 +111,10 @@ pub entry_stands : (s : Shape) (start : List Val) (more es : List Event) (d : Ev
     (rest : List Entry)
     × (history_of s start (more ++ d ∷ es)
     ≡ prefix_at s start (more ++ d ∷ es) es ++ entry_of s start (more ++ d ∷ es) (local s es d.caller) ∷ rest)
-entry_stands s start more es d k done = (reverse newer.0, all)
-  where
-    run : List Event
-    run = more ++ d ∷ es
-
-    x : Entry
-    x = entry_of s start (more ++ d ∷ es) (local s es d.caller)
-
-    older : List Entry
-    older = history s start (will_of s (more ++ d ∷ es)) (more ++ d ∷ es) es
-
-    newer : (newer : List Entry)
-        × (history s start (will_of s (more ++ d ∷ es)) (more ++ d ∷ es) (more ++ d ∷ es)
-        ≡ newer ++ history s start (will_of s (more ++ d ∷ es)) (more ++ d ∷ es) (d ∷ es))
-    newer = history_more s start (will_of s (more ++ d ∷ es)) (more ++ d ∷ es) more (d ∷ es)
-
-    will : will_of s (more ++ d ∷ es) (own_attempt s (local s es d.caller)) ≡ true
-    will = eq-eqb _ 4 done
-
-    newest : reverse (history s start (will_of s (more ++ d ∷ es)) (more ++ d ∷ es) (d ∷ es))
-        ≡ reverse older ++ x ∷ []
-    newest = rw (ap is_draw k, will) (reverse_cons x older)
-
-    all : reverse (history s start (will_of s (more ++ d ∷ es)) (more ++ d ∷ es) (more ++ d ∷ es))
-        ≡ reverse older ++ x ∷ reverse newer.0
-    all = ap reverse newer.1
-        ∙ reverse-append newer.0 (history s start (will_of s (more ++ d ∷ es)) (more ++ d ∷ es) (d ∷ es))
-        ∙ ap (λ xs. xs ++ reverse newer.0) newest ∙ append_assoc (reverse older) (x ∷ []) (reverse newer.0)
+entry_stands s start more es d k done =
+    told_next (commits_at s (will_of s (more ++ d ∷ es))) (entry_at s start (more ++ d ∷ es)) more d es
+    (and_from (is_draw d.kind) (will_of s (more ++ d ∷ es) (own_attempt s (local s es d.caller))) (ap is_draw k)
+    (eq-eqb _ 4 done))
 
 -- the whole history leaves the current values
 pub state_is_current : (s : Shape) (start : List Val) (holds : List Val → Type 0) (run : List Event) →

@@ -21,7 +21,8 @@ use Rattle.dstm_opacity.proofs.Current.{Foretells}
 use Rattle.dstm_opacity.proofs.LastPass.{look_self_may, pass_agreed}
 use Rattle.dstm_opacity.proofs.Numbers.{foretells_before, pass_past}
 use Rattle.dstm_opacity.proofs.Passes.{passes}
-use Rattle.dstm_opacity.proofs.States.{agrees_state, map_after, old_current}
+use Rattle.dstm_history.proofs.Orders.{map_after}
+use Rattle.dstm_opacity.proofs.States.{agrees_state, old_current}
 
 -- the statuses in the end tell which attempts commit
 pub foretold : (s : Shape) (run : List Event) → Foretells s (will_of s run) run

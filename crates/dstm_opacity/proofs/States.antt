@@ -1,8 +1,8 @@
 -- The state after the entries of a history has the values of the current versions.
-use Rattle.std.proofs.Common.{◌&&◌, ◌++◌, ◌+◌, ◌<◌, ◌==◌, ◌∙◌, ◌∷◌, ◌≡◌, ◌≢◌, ◌⊎◌, Bool, List, None, Option, Some, [], ap, arith, false, get_or-set_other, get_or-set_same, inl, inr, length, length-set, refl, slice_get, suc, sym, true, ℕ}
+use Rattle.std.proofs.Common.{◌&&◌, ◌++◌, ◌+◌, ◌<◌, ◌==◌, ◌∙◌, ◌∷◌, ◌≡◌, ◌≢◌, ◌⊎◌, Bool, List, None, Option, Some, [], ap, arith, false, get_or-set_other, get_or-set_same, inl, inr, length, refl, slice_get, suc, sym, true, ℕ}
 use Rattle.std.proofs.lemmas.Bool.{cases_Bool, cases_eq, cond_both, eq-eqb, ne_eqb}
 use Rattle.dstm_model.proofs.Entries.{with_length}
-use Rattle.dstm_model.specs.Map.{Agrees, Entry, value_at, with_writes}
+use Rattle.dstm_model.specs.Map.{Agrees, value_at, with_writes}
 use Rattle.dstm_model.specs.declared.value.Val.{Val}
 use Rattle.dstm_core.specs.Histories.{drawn, entry_of, history, is_draw, new_value, new_values, old_values, read_values, version_value}
 use Rattle.dstm_core.specs.Runs.{Core, local}
@@ -13,20 +13,11 @@ use Rattle.dstm_core.specs.Events.{Event}
 use Rattle.dstm_core.specs.declared.shape.Shape.{Shape}
 use Rattle.dstm_core.specs.declared.state.Read.{Read}
 use Rattle.dstm_core.specs.declared.state.Write.{Write}
+use Rattle.dstm_history.proofs.Orders.{map_after, state_length}
 use Rattle.dstm_opacity.proofs.Current.{Foretells, current, meant_undrawn}
 use Rattle.dstm_opacity.proofs.Recorded.{ReadsNamed}
 use Rattle.dstm_opacity.proofs.Versions.{meant, version_at}
 use Rattle.dstm_opacity.proofs.Written.{WritesOk}
-
--- the map after some entries, the newest first
-abbrev pub map_after : List Val → List Entry → List Val
-map_after start [] = start
-map_after start (x ∷ xs) = with_writes (map_after start xs) x.writes
-
--- the map keeps its length
-pub state_length : (xs : List Entry) (m : List Val) → length (map_after m xs) ≡ length m
-state_length [] m = refl
-state_length (x ∷ xs) m = with_length x.writes (map_after m xs) ∙ state_length xs m
 
 written_value : Shape → List Event → Option Write → Val → Val
 written_value s run None d = d

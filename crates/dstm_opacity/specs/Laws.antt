@@ -3,9 +3,10 @@
 -- A run has its newest event first: in the run `later ++ event ∷ before` the events of `before` stand
 -- before the event. Histories and their prefixes have the oldest entry first.
 use Rattle.std.specs.Prelude.{◌≡◌, ◌≢◌, ◌⊎◌, ℕ, ◌<◌, true, false, List, ◌∷◌, ◌++◌, length}
-use Rattle.std.specs.List.{All, Contains}
+use Rattle.std.specs.List.{Contains}
 use Rattle.dstm_model.specs.declared.value.Val.{Val}
-use Rattle.dstm_model.specs.Map.{Entry, value_at, Agrees, IsEntry, IsLegal, state_after}
+use Rattle.dstm_model.specs.Map.{Entry, value_at, Agrees, state_after}
+use Rattle.dstm_history.specs.Histories as histories
 use Rattle.dstm_core.specs.Events.{Event}
 use Rattle.dstm_core.specs.declared.event.Kind.TheVariants.{Begin, LookHigh, LookNew, PutHigh, PutNew, Draw, Commit}
 use Rattle.dstm_core.specs.declared.shape.Shape.{Shape}
@@ -96,9 +97,8 @@ PassAgrees {L = L} holds =
 -- the committed transactions are a run of one thread, in the order of the numbers drawn: each read what
 -- those before it left. Each names an object at most once among its reads, and at most once among its
 -- writes.
-pub record IsSerial (shape : Shape) (start : List Val) (history : List Entry) : Type 0 where
-  pub legal : IsLegal start history
-  pub entries : All (IsEntry shape.objects) history
+abbrev pub IsSerial : Shape → List Val → List Entry → Type 0
+IsSerial shape start history = histories.IsSerial shape.objects start history
 
 -- the history of a core run is legal from the first values
 abbrev pub CommittedLegal : {L : Type 0} → (L → List Val → Type 0) → Type 0

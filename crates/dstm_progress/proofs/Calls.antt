@@ -1,7 +1,6 @@
 -- A call on an attempt that is alone leaves it only by its commit.
 use Rattle.std.proofs.Common.{◌++◌, ◌-◌, ◌/◌, ◌<◌, ◌==◌, ◌∙◌, ◌∷◌, ◌≡◌, ◌≢◌, ◌⊎◌, List, Option, None, Some, [], ap, arith, false, inl, inr, is_some, length, refl, subst, sym, true, ℕ}
 use Rattle.std.proofs.lemmas.Bool.{cond_both, eq-eqb}
-use Rattle.std.proofs.lemmas.Bool.Decides.{nat_tests}
 use Rattle.dstm_core.specs.Rules.{AllowedAs, after, is_outside}
 use Rattle.dstm_core.specs.Runs.{Core, local}
 use Rattle.dstm_core.specs.State.{LocalState, given, is_live, or_unresolved, or_zero, own_attempt, res}
@@ -15,7 +14,7 @@ use Rattle.dstm_core.specs.declared.shape.Manager.{Manager}
 use Rattle.dstm_core.specs.declared.shape.Manager.TheVariants.{Greedy}
 use Rattle.dstm_core.specs.declared.shape.Shape.{Shape}
 use Rattle.dstm_core.specs.declared.state.Phase.{Phase}
-use Rattle.dstm_core.specs.declared.state.Phase.TheVariants.{Outside, Running, Paused, Putting, Validating, Drawn}
+use Rattle.dstm_core.specs.declared.state.Phase.TheVariants.{Outside, Running, Paused, Putting, Validating}
 use Rattle.dstm_core.proofs.Basic.{Names, OwnerIs, basic, res_known}
 use Rattle.dstm_core.proofs.Places.{put_at}
 use Rattle.dstm_core.proofs.Static.{has_owner, local_own, local_other}
@@ -24,7 +23,7 @@ use Rattle.dstm_core.proofs.Statuses.{begin_put}
 use Rattle.dstm_model.specs.declared.value.Val.{Val}
 use Rattle.dstm_opacity.proofs.Versions.{owner_of, status_of}
 use Rattle.dstm_order.specs.Calls.{Obeys, effort_of, newest_of, state_after}
-use Rattle.dstm_order.specs.Efforts.{Effort, effort_after, turn_in}
+use Rattle.dstm_order.specs.Efforts.{Effort, effort_after}
 use Rattle.dstm_order.specs.Order.{Due, IsDue, at_first, due, in_putting, in_resolving, is_paused, next, next_or_first, when_resolved}
 use Rattle.dstm_order.specs.Order.Due.{Done, Step}
 use Rattle.dstm_order.specs.Tasks.{Work}

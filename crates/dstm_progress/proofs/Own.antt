@@ -1,6 +1,6 @@
 -- A caller's own events in a run of several callers.
 use Rattle.std.proofs.Common.{◌++◌, ◌+◌, ◌∙◌, ◌∷◌, ◌≡◌, ◌≢◌, ◌⊎◌, List, [], ap, inl, inr, refl, subst, sym, ℕ}
-use Rattle.std.proofs.lemmas.Bool.{cases_eq, eq-eqb, ne_eqb}
+use Rattle.std.proofs.lemmas.Bool.{cases_eq}
 use Rattle.dstm_core.specs.Rules.{AllowedAs, after}
 use Rattle.dstm_core.specs.Runs.{Core, core, local}
 use Rattle.dstm_core.specs.State.{LocalState}
@@ -25,12 +25,6 @@ abbrev pub AreAllowed : Shape → LocalState → List Event → Type 0
 AreAllowed s l [] = Unit {0}
 AreAllowed s l (e ∷ es) = AreAllowed s l es × AllowedAs e.kind s (state_after s l es) e
 
-own_cons : (e : Event) (es : List Event) → events_of e.caller (e ∷ es) ≡ e ∷ events_of e.caller es
-own_cons e es = rw (eq-eqb e.caller e.caller refl) refl
-
-other_cons : (c : ℕ) (e : Event) (es : List Event) → e.caller ≢ c → events_of c (e ∷ es) ≡ events_of c es
-other_cons c e es h = rw (ne_eqb e.caller c h) refl
-
 -- the state of a caller is that after its own events
 pub own_state : (s : Shape) (c : ℕ) (later es : List Event) →
     local s (later ++ es) c ≡ state_after s (local s es c) (events_of c later)
@@ -48,14 +42,14 @@ own_allowed s c (e ∷ later) es core = go (cases_eq e.caller c) (own_allowed s 
   where
     own : AreAllowed s (local s es e.caller) (events_of e.caller later) →
         AreAllowed s (local s es e.caller) (events_of e.caller (e ∷ later))
-    own ih = subst (AreAllowed s (local s es e.caller)) (sym (own_cons e later))
+    own ih = subst (AreAllowed s (local s es e.caller)) (sym (runs.own_event e later))
         (ih, subst (λ l. AllowedAs e.kind s l e) (own_state s e.caller later es) core.1.allowed)
 
     go : (e.caller ≡ c) ⊎ (e.caller ≡ c → ⊥) → AreAllowed s (local s es c) (events_of c later) →
         AreAllowed s (local s es c) (events_of c (e ∷ later))
     go (inl q) ih = subst (λ c. AreAllowed s (local s es c) (events_of c later) →
         AreAllowed s (local s es c) (events_of c (e ∷ later))) q own ih
-    go (inr n) ih = subst (AreAllowed s (local s es c)) (sym (other_cons c e later n)) ih
+    go (inr n) ih = subst (AreAllowed s (local s es c)) (sym (runs.others_event c e later n)) ih
 
 pub allowed_split : (s : Shape) (l : LocalState) (xs ys : List Event) → AreAllowed s l (xs ++ ys) →
     AreAllowed s (state_after s l ys) xs × AreAllowed s l ys
@@ -96,9 +90,9 @@ newest_own c (x ∷ run) e rest h = go (cases_eq x.caller c) (newest_own c run e
 
     go : (x.caller ≡ c) ⊎ (x.caller ≡ c → ⊥) → (events_of c run ≡ e ∷ rest → IsNewest c run e rest) →
         IsNewest c (x ∷ run) e rest
-    go (inl q) ih = own q (sym (ap (λ c. x ∷ events_of c run) q) ∙ sym (own_cons x run)
+    go (inl q) ih = own q (sym (ap (λ c. x ∷ events_of c run) q) ∙ sym (runs.own_event x run)
         ∙ ap (λ c. events_of c (x ∷ run)) q ∙ h)
-    go (inr n) ih = other (ih (sym (other_cons c x run n) ∙ h))
+    go (inr n) ih = other (ih (sym (runs.others_event c x run n) ∙ h))
 
 -- no call begins an attempt
 pub call_begun : (s : Shape) (w : Work) (l : LocalState) (g : Lcg) (events : List Event) →

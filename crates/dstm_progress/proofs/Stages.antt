@@ -1,5 +1,5 @@
 -- Each step of a call on an attempt that is alone leads from one stage of the call to the next.
-use Rattle.std.proofs.Common.{◌++◌, ◌+◌, ◌-◌, ◌<◌, ◌==◌, ◌&&◌, ◌||◌, ◌∙◌, ◌∷◌, ◌≡◌, ◌≢◌, ◌≤◌, ◌⊎◌, List, Option, None, Some, [], ap, arith, false, if◌then◌else◌, inl, inr, is_none, is_some, length, length-append, nat_lt, refl, subst, sym, true, ℕ}
+use Rattle.std.proofs.Common.{◌+◌, ◌-◌, ◌<◌, ◌==◌, ◌&&◌, ◌||◌, ◌∙◌, ◌≡◌, ◌≢◌, ◌≤◌, ◌⊎◌, List, Option, None, Some, [], ap, arith, false, if◌then◌else◌, inl, inr, is_none, is_some, length, nat_lt, refl, subst, sym, true, ℕ}
 use Rattle.std.proofs.lemmas.Bool.{and_right, cases_Bool, cond_both, eq-eqb, ltb-true, ltb-false, or_parts, or_right}
 use Rattle.std.proofs.lemmas.Bool.Decides.{nat_tests}
 use Rattle.dstm_core.specs.Rules.{AllowedAs, after, install}
@@ -14,7 +14,6 @@ use Rattle.dstm_core.specs.declared.shape.Shape.{Shape}
 use Rattle.dstm_core.specs.declared.state.Phase.TheVariants.{Outside, Running, Putting, Validating, Drawn}
 use Rattle.dstm_core.specs.declared.state.Read.{Read}
 use Rattle.dstm_core.specs.declared.state.Resolution.{Resolution}
-use Rattle.dstm_core.specs.declared.state.Write.{Write}
 use Rattle.dstm_model.specs.declared.value.Val.{Val}
 use Rattle.dstm_managers.specs.Meetings.{IsRank, most_turns}
 use Rattle.dstm_managers.specs.declared.decider.Choice.{Choice}

@@ -1,6 +1,6 @@
 -- A caller's own events, and its state by them.
-use Rattle.std.proofs.Common.{◌≡◌, ◌==◌, ◌⊎◌, ◌∷◌, ◌++◌, ◌∙◌, if◌then◌else◌, ℕ, inl, inr, List, [], refl, ap, sym, true, false}
-use Rattle.std.proofs.lemmas.Bool.{cases_Bool, cond-false, cond-true}
+use Rattle.std.proofs.Common.{◌≡◌, ◌≢◌, ◌==◌, ◌⊎◌, ◌∷◌, ◌++◌, ◌∙◌, ℕ, inl, inr, List, [], refl, ap, append-nil, sym, true, false}
+use Rattle.std.proofs.lemmas.Bool.{cases_Bool, cond-false, cond-true, eq-eqb, ne_eqb}
 use Rattle.std.proofs.lemmas.List.{append_cancel_right}
 use Rattle.std.proofs.lemmas.List.Elements.{filter-append}
 use Rattle.dstm_runs.specs.declared.event.Event.{Event}
@@ -18,6 +18,14 @@ module _ {K : Type 0} where
   pub own_other : (e : Event K) (es : List (Event K)) (c : ℕ) → (e.caller == c) ≡ false →
       events_of c (e ∷ es) ≡ events_of c es
   own_other e es c q = cond-false (e.caller == c) (e ∷ events_of c es) (events_of c es) q
+
+  -- the same by the numbers of the callers
+  pub own_event : (e : Event K) (es : List (Event K)) → events_of e.caller (e ∷ es) ≡ e ∷ events_of e.caller es
+  own_event e es = own_first e es e.caller (eq-eqb e.caller e.caller refl)
+
+  pub others_event : (c : ℕ) (e : Event K) (es : List (Event K)) → e.caller ≢ c →
+      events_of c (e ∷ es) ≡ events_of c es
+  others_event c e es other = own_other e es c (ne_eqb e.caller c other)
 
   pub own_append : (c : ℕ) (more es : List (Event K)) →
       events_of c (more ++ es) ≡ events_of c more ++ events_of c es
@@ -80,19 +88,34 @@ module _ {K T S : Type 0} (machine : Machine K T S) (table : T) where
           ∙ ih
           ∙ ap (state_after machine table (local machine table es c)) (sym (own_other e later c q))
 
+  -- all of them
+  pub whole_state : (c : ℕ) (es : List (Event K)) →
+      local machine table es c ≡ state_after machine table machine.first (events_of c es)
+  whole_state c es = ap (λ xs. local machine table xs c) (sym (append-nil es)) ∙ own_state c es []
+
+  -- where it makes none, it stays
+  pub local_quiet : (more es : List (Event K)) (c : ℕ) → events_of c more ≡ [] →
+      local machine table (more ++ es) c ≡ local machine table es c
+  local_quiet more es c none =
+      own_state c more es ∙ ap (state_after machine table (local machine table es c)) none
+
   -- from what it was before them
   pub after_own : (c : ℕ) (new old events : List (Event K)) → events_of c new ≡ events ++ events_of c old →
       local machine table new c ≡ state_after machine table (local machine table old c) events
   after_own c new old events own =
-      whole new
+      whole_state c new
       ∙ ap (state_after machine table machine.first) own
       ∙ state_both machine.first events (events_of c old)
-      ∙ ap (λ s. state_after machine table s events) (sym (whole old))
-    where
-      all : (es : List (Event K)) → local machine table (es ++ []) c ≡ local machine table es c
-      all [] = refl
-      all (e ∷ es) = ap (λ s. if e.caller == c then machine.after table s e else s) (all es)
+      ∙ ap (λ s. state_after machine table s events) (sym (whole_state c old))
 
-      whole : (es : List (Event K)) →
-          local machine table es c ≡ state_after machine table machine.first (events_of c es)
-      whole es = sym (all es) ∙ own_state c es []
+-- a caller whose only event is the last had none before it
+pub none_before_only : {K : Type 0} (c : ℕ) (xs ys : List (Event K)) (e : Event K) → e.caller ≡ c →
+    events_of c (e ∷ (xs ++ ys)) ≡ e ∷ [] → events_of c ys ≡ []
+none_before_only {K = K} c xs ys e own only =
+    let all : e ∷ events_of c (xs ++ ys) ≡ e ∷ [] = sym (own_first e (xs ++ ys) c (eq-eqb e.caller c own)) ∙ only in
+    let more : events_of c (xs ++ ys) ≡ [] = cc in
+    empty (events_of c xs) (events_of c ys) (sym (own_append c xs ys) ∙ more)
+  where
+    empty : (us vs : List (Event K)) → us ++ vs ≡ [] → vs ≡ []
+    empty [] vs q = q
+    empty (u ∷ us) vs q = absurd (cc)

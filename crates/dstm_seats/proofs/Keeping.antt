@@ -18,7 +18,8 @@ use Rattle.dstm_seats.specs.declared.view.View.{View}
 use Rattle.dstm_seats.specs.Rule.{Sees, Kept}
 use Rattle.dstm_seats.specs.Seats.{enrolled, events_by, moved, number_or, numbers_by, own_events, spent_by, state_by, Adds, AreApart, GoesOn, KeepsSince}
 use Rattle.dstm_seats.proofs.Lists.{some_of, none_some, inside_of, each_set, sum_set, sum_at, one_of, head_of}
-use Rattle.dstm_seats.proofs.Logs.{others_event, own_event, none_before, none_since, local_same}
+use Rattle.dstm_seats.proofs.Logs.{none_before, none_since}
+use Rattle.dstm_runs.proofs.Own.{others_event, own_event, same_local}
 
 module _ {K T B S : Type 0} (shared : Shared K T B S) (laws : Enrolling shared) (key : T) where
   abbrev pub V : Type 0
@@ -50,9 +51,9 @@ module _ {K T B S : Type 0} (shared : Shared K T B S) (laws : Enrolling shared) 
         (λ o g. record {
           past = past_more o.log log e g.past;
           among = g.among;
-          quiet = λ n has. others_event n log e (other n (g.among n has)) ∙ g.quiet n has;
+          quiet = λ n has. others_event n e log (other n (g.among n has)) ∙ g.quiet n has;
         }) u.olds f.olds;
-    mine = λ n has. others_event n log e (other n has) ∙ f.mine n has;
+    mine = λ n has. others_event n e log (other n has) ∙ f.mine n has;
     known = λ n has. let l = f.known n has in omega arith;
     unlike = f.unlike;
     begun = f.begun;
@@ -119,7 +120,7 @@ module _ {K T B S : Type 0} (shared : Shared K T B S) (laws : Enrolling shared) 
       (laws.named table k.log e (laws.follows key (e ∷ k.log) t.run)))
       (λ other. ⊎_elim (λ (is : n ≡ e.caller). absurd (other (sym is)))
       (λ was. ap shared.number (local_other shared.machine table k.log e n other
-      ∙ local_same shared.machine table k.log v.log n ((k.seats id v at_id).mine n was))
+      ∙ same_local shared.machine table k.log v.log n ((k.seats id v at_id).mine n was))
       ∙ (k.seats id v at_id).begun n was)
       (t.numbers n has))
 
@@ -142,7 +143,7 @@ module _ {K T B S : Type 0} (shared : Shared K T B S) (laws : Enrolling shared) 
             (λ away. get_or-set_other s.words at_place p e.put 0 away ∙ k.left p l
             ∙ sym (elsewhere _ k.log e p (λ x. away (sym x ∙ there))));
         fresh = λ n above. let a = t.known in let m = t.more in
-            others_event n k.log e (λ x. omega arith) ∙ k.fresh n (omega arith);
+            others_event n e k.log (λ x. omega arith) ∙ k.fresh n (omega arith);
         seats = each_set (λ j u. Sees shared key log j u) s.views id w
             (record {
               past = subst (λ l. IsPastOf l log) (sym t.log) (past_self log);
@@ -201,7 +202,7 @@ module _ {K T B S : Type 0} (shared : Shared K T B S) (laws : Enrolling shared) 
       let mine : events_of e.caller k.log ≡ events_of e.caller v.log =
       subst (λ c. events_of c k.log ≡ events_of c v.log) (sym caller) same in
       let stays : state v.log m ≡ state k.log e.caller =
-      sym (local_same shared.machine table k.log v.log m same) ∙ ap (state k.log) (sym caller) in
+      sym (same_local shared.machine table k.log v.log m same) ∙ ap (state k.log) (sym caller) in
       let ok : Allowed (state k.log e.caller) e =
       subst (λ l. Allowed l e) stays may in
       let later = laws.later table (state v.log m) e m (f.begun m has) may in
@@ -256,7 +257,7 @@ module _ {K T B S : Type 0} (shared : Shared K T B S) (laws : Enrolling shared) 
       let nothing : events_of e.caller v.log ≡ [] =
       none_before e.caller v.log past.later k.log past.whole none in
       let stays : shared.machine.first ≡ state k.log e.caller =
-      sym (local_same shared.machine table k.log [] e.caller none) in
+      sym (same_local shared.machine table k.log [] e.caller none) in
       let next : enrolled shared key (e ∷ k.log) ≡ e.caller + 1 =
       ap (word (e ∷ k.log)) (sym enrol.1) ∙ put_at _ k.log e e.place refl ∙ enrol.2 ∙ ap (λ n. n + 1) (sym caller) in
       let ns : numbers_by v.number e.caller v.numbers ≡ e.caller ∷ v.numbers =
@@ -339,8 +340,8 @@ module _ {K T B S : Type 0} (shared : Shared K T B S) (laws : Enrolling shared) 
           record {
             view = refl;
             log = (past.later, ap (λ l. e ∷ l) (sym past.whole));
-            mine = own_event k.log e ∙ ap (λ l. e ∷ l) turn.mine;
-            others = λ n has other. others_event n k.log e (λ x. other (sym x))
+            mine = own_event e k.log ∙ ap (λ l. e ∷ l) turn.mine;
+            others = λ n has other. others_event n e k.log (λ x. other (sym x))
                 ∙ (k.seats id v at_id).mine n has;
             run = subst (λ (o : Option T). IfSome o (λ terms. shared.IsRunOf terms log))
                 (sym live) turn.run;

@@ -1,23 +1,13 @@
--- Logs: their pasts, the events of one caller in them, and its state.
-use Rattle.std.proofs.Common.{◌≡◌, ◌≢◌, ℕ, suc, ◌<◌, ◌≤◌, cond, List, [], ◌∷◌, ◌++◌, length, refl, sym, ap, ◌∙◌, subst, ⊎_elim, arith, length-append, eq-eqb, ne_eqb}
+-- Logs: their pasts, and the events of one caller in them.
+use Rattle.std.proofs.Common.{◌≡◌, ℕ, suc, ◌<◌, ◌≤◌, cond, List, [], ◌∷◌, ◌++◌, length, refl, sym, ap, ◌∙◌, subst, ⊎_elim, arith, length-append}
 use Rattle.std.proofs.lemmas.Bool.Decides.{leb_tells}
 use Rattle.dstm_runs.specs.declared.event.Event.{Event}
 use Rattle.dstm_runs.specs.Traces.{IsPastOf, events_of}
-use Rattle.dstm_runs.specs.Machines.{Machine, local}
 use Rattle.dstm_runs.proofs.Own.{own_append}
-use Rattle.dstm_runs.proofs.Runs.{local-events_of}
 use Rattle.dstm_seats.specs.Seats.{longer}
 
 module _ {K : Type 0} where
   -- ---- the events of one caller
-
-  -- an event of another caller
-  pub others_event : (n : ℕ) (log : List (Event K)) (e : Event K) → e.caller ≢ n →
-      events_of n (e ∷ log) ≡ events_of n log
-  others_event n log e other = rw (ne_eqb e.caller n other) refl
-
-  pub own_event : (log : List (Event K)) (e : Event K) → events_of e.caller (e ∷ log) ≡ e ∷ events_of e.caller log
-  own_event log e = rw (eq-eqb e.caller e.caller refl) refl
 
   nil_of : (xs : List (Event K)) → length xs ≡ 0 → xs ≡ []
   nil_of [] e = refl
@@ -122,11 +112,3 @@ module _ {K : Type 0} where
     longer_whole_right is =
         of_longer (λ l. l ≡ log) (λ _. is)
         (λ l. whole log xs p (let n : length ys ≡ length log = ap length is in omega arith))
-
-module _ {K B S : Type 0} (machine : Machine K B S) (table : B) where
-  -- a caller's state is the same in two logs that have the same events of it
-  pub local_same : (log other : List (Event K)) (c : ℕ) → events_of c log ≡ events_of c other →
-      local machine table log c ≡ local machine table other c
-  local_same log other c same =
-      sym (local-events_of machine table log c) ∙ ap (λ l. local machine table l c) same
-      ∙ local-events_of machine table other c

@@ -21,7 +21,8 @@ use Rattle.dstm_runs.specs.Sharing.{Enrolling, Shared}
 use Rattle.dstm_runs.proofs.Pasts.{past_self, past_all}
 use Rattle.dstm_seats.proofs.Keeping.{apart_set}
 use Rattle.dstm_seats.proofs.Lists.{off, none_some, inside_of, each_set, set_comm, sum_set, sum_at, sum_zero, no_number, apart_append}
-use Rattle.dstm_seats.proofs.Logs.{local_same, longer_past, quiet_left, quiet_right, longer_whole_left, longer_whole_right}
+use Rattle.dstm_seats.proofs.Logs.{longer_past, quiet_left, quiet_right, longer_whole_left, longer_whole_right}
+use Rattle.dstm_runs.proofs.Own.{same_local}
 
 module _ {K T B S : Type 0} (shared : Shared K T B S) (laws : Enrolling shared) (key : T) where
   abbrev V : Type 0
@@ -139,7 +140,7 @@ module _ {K T B S : Type 0} (shared : Shared K T B S) (laws : Enrolling shared) 
               known = f.known;
               unlike = f.unlike;
               begun = λ n has. ap shared.number
-                  (local_same shared.machine (shared.table key) k.log v.log n (f.mine n has))
+                  (same_local shared.machine (shared.table key) k.log v.log n (f.mine n has))
                   ∙ f.begun n has;
               number = f.number;
               first = f.first;
@@ -205,7 +206,7 @@ module _ {K T B S : Type 0} (shared : Shared K T B S) (laws : Enrolling shared) 
       let again =
       λ (n : ℕ) (past : List (Event K)) (is : events_of n log ≡ events_of n past)
       (now : events_of n log ≡ events_of n seen).
-      ap shared.number (local_same shared.machine (shared.table key) seen past n (sym now ∙ is)) in
+      ap shared.number (same_local shared.machine (shared.table key) seen past n (sym now ∙ is)) in
       record {
         past = longer_past log v.log u.log f.past g.past;
         olds = All-cons (GoesOn log both) (old_of v) (old_of u ∷ [])

@@ -9,7 +9,8 @@ use Rattle.dstm_runs.proofs.Runs.{local_own, local-events_of}
 use Rattle.dstm_seats.specs.declared.view.View.{View}
 use Rattle.dstm_seats.specs.Seats.{events_by, made, number_or, numbers_by, own_events, state_by, Adds, Joined, Makes}
 use Rattle.dstm_seats.proofs.Lists.{apart_of}
-use Rattle.dstm_seats.proofs.Logs.{own_event, none_since}
+use Rattle.dstm_seats.proofs.Logs.{none_since}
+use Rattle.dstm_runs.proofs.Own.{own_event}
 
 -- a caller's state is that of its own events
 state_of_events : {K B S : Type 0} (machine : Machine K B S) (table : B) (o : Option ℕ) (log : List (Event K))
@@ -52,7 +53,7 @@ module _ {K T B S : Type 0} (shared : Shared K T B S) where
   quiet_since v w e a is =
       let c : ℕ = e.caller in
       let log : List (Event K) = a.log.0 ++ v.log in
-      let all : events_of c w.log ≡ e ∷ events_of c log = ap (events_of c) a.log.1 ∙ own_event log e in
+      let all : events_of c w.log ≡ e ∷ events_of c log = ap (events_of c) a.log.1 ∙ own_event e log in
       let mine : events_of c w.log ≡ e ∷ events_of c v.log = a.mine ∙ ap (λ o. e ∷ events_by o v.log) is in
       let same : events_of c log ≡ events_of c v.log = cc in
       none_since c v.log a.log.0 log refl same

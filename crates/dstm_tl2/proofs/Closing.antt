@@ -2,11 +2,11 @@
 use Rattle.std.proofs.Common.{◌≡◌, ◌<◌, ◌*◌, ◌⊎◌, ◌∷◌, ◌++◌, ◌∙◌, ℕ, inl, inr, List, [], refl, ap, arith, append_assoc, sym, subst, true, Bool, Some}
 use Rattle.std.specs.List.{Contains}
 use Rattle.std.specs.Prelude.{reverse}
-use Rattle.std.proofs.lemmas.List.{reverse-append}
+use Rattle.std.proofs.lemmas.Bool.{and_from}
 use Rattle.dstm_model.specs.declared.value.Val.{Val}
 use Rattle.dstm_model.specs.Map.{Agrees, Entry, state_after, value_at}
 use Rattle.dstm_runs.proofs.Runs as runs
-use Rattle.dstm_tl2.specs.Histories.{LawfulRun, entry_of, history, history_of, is_draw, prefix_at, read_values, sample_place, will_of, writes_of}
+use Rattle.dstm_tl2.specs.Histories.{LawfulRun, commits_at, entry_at, entry_of, history, history_of, is_draw, prefix_at, read_values, sample_place, will_of, writes_of}
 use Rattle.dstm_tl2.specs.Laws.{IsSeen, IsSerial, Tells}
 use Rattle.dstm_tl2.specs.Rules.{Event}
 use Rattle.dstm_tl2.specs.Runs.{Run, local, tl2, word}
@@ -14,9 +14,9 @@ use Rattle.dstm_tl2.specs.State.{Read, is_valid, or_writes}
 use Rattle.dstm_tl2.specs.Words.{Table, objects}
 use Rattle.dstm_tl2.specs.Words.Word.{LockWord}
 use Rattle.dstm_tl2.proofs.Clock.{Draws, NoDraw, clock_step}
-use Rattle.dstm_tl2.proofs.Commits.{history_more, valid_stands}
+use Rattle.dstm_history.proofs.Gathered.{told_next}
+use Rattle.dstm_tl2.proofs.Commits.{valid_stands}
 use Rattle.dstm_tl2.proofs.Foretelling.{told, valid_will, will_more}
-use Rattle.dstm_model.proofs.Entries.{reverse_cons}
 use Rattle.dstm_tl2.proofs.Legal.{committed_legal, lawful_from, lawful_past, state_is}
 use Rattle.dstm_tl2.proofs.Looks.{Seen, sample_at}
 use Rattle.dstm_tl2.proofs.Orders.{entries_once}
@@ -113,34 +113,20 @@ pub commit_stands : (t : Table) (later between before : List Event) (d : Event) 
     (rest : List Entry)
     × (history_of t (later ++ (between ++ d ∷ before)) ≡ prefix_at t (later ++ (between ++ d ∷ before)) before
     ++ entry_of (local t before d.caller) (writes_of d.kind) ∷ rest)
-commit_stands t later between before d run k v q = (
-  reverse newer.0,
-  subst (λ es. reverse (history t will es) ≡ reverse (history t will before) ++ x ∷ reverse newer.0)
-      (append_assoc later between (d ∷ before))
-      (ap reverse newer.1 ∙ reverse-append newer.0 (history t will (d ∷ before))
-      ∙ ap (λ xs. xs ++ reverse newer.0) (ap reverse newest ∙ reverse_cons x (history t will before))
-      ∙ append_assoc (reverse (history t will before)) (x ∷ []) (reverse newer.0)),
-)
+commit_stands t later between before d run k v q =
+    subst (λ es. (rest : List Entry)
+    × (reverse (history t will es) ≡ reverse (history t will before)
+    ++ entry_of (local t before d.caller) (writes_of d.kind) ∷ rest))
+    (append_assoc later between (d ∷ before))
+    (told_next (commits_at will) (entry_at t) (later ++ between) d before
+    (and_from (is_draw d.kind) (will d.found) k sure))
   where
     will : ℕ → Bool
     will = will_of t (later ++ (between ++ d ∷ before))
 
-    x : Entry
-    x = entry_of (local t before d.caller) (writes_of d.kind)
-
     sure : will_of t (later ++ (between ++ d ∷ before)) d.found ≡ true
     sure = will_more t later (between ++ d ∷ before) d.found
         (valid_will t (between ++ d ∷ before) d.caller d.found q v)
-
-    newest : history t (will_of t (later ++ (between ++ d ∷ before))) (d ∷ before)
-        ≡ entry_of (local t before d.caller) (writes_of d.kind)
-        ∷ history t (will_of t (later ++ (between ++ d ∷ before))) before
-    newest = rw (k, sure) refl
-
-    newer : (newer : List Entry)
-        × (history t (will_of t (later ++ (between ++ d ∷ before))) ((later ++ between) ++ d ∷ before)
-        ≡ newer ++ history t (will_of t (later ++ (between ++ d ∷ before))) (d ∷ before))
-    newer = history_more t (will_of t (later ++ (between ++ d ∷ before))) (later ++ between) (d ∷ before)
 
 -- a prefix of a run is one
 pub run_past : (t : Table) (holds : List Val → Type 0) (more es : List Event) → LawfulRun t holds (more ++ es) →

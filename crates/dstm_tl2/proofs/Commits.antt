@@ -1,14 +1,13 @@
 -- The entry of an attempt that is valid stands in the history wherever its draw does.
-use Rattle.std.proofs.Common.{◌&&◌, ◌≡◌, ◌⊎◌, ◌∷◌, ◌++◌, ◌∙◌, ℕ, inl, inr, List, [], refl, ap, append_assoc, sym, subst, true, Bool, Option, Some, None, is_some}
+use Rattle.std.proofs.Common.{◌≡◌, ◌⊎◌, ◌∷◌, ◌++◌, ◌∙◌, ℕ, inl, inr, List, [], refl, ap, append_assoc, sym, subst, true, Bool, Option, Some, None, is_some}
 use Rattle.std.specs.List.{Contains}
 use Rattle.std.specs.Prelude.{reverse}
-use Rattle.std.proofs.lemmas.Bool.{cases_eq, cond_both}
-use Rattle.std.proofs.lemmas.List.Elements.{Contains-append_left, Contains-push}
-use Rattle.std.proofs.lemmas.List.{reverse-append}
+use Rattle.std.proofs.lemmas.Bool.{and_from, cases_eq}
 use Rattle.dstm_runs.specs.Traces.{IsPastOf}
 use Rattle.dstm_model.specs.Map.{Entry}
 use Rattle.dstm_runs.proofs.Runs as runs
-use Rattle.dstm_tl2.specs.Histories.{entry_of, history, is_draw, read_values, will_of, writes_of}
+use Rattle.dstm_history.proofs.Gathered.{told_among}
+use Rattle.dstm_tl2.specs.Histories.{commits_at, entry_at, entry_of, history, is_draw, read_values, will_of, writes_of}
 use Rattle.dstm_tl2.specs.Rules.{AllowedAs, Event, after}
 use Rattle.dstm_tl2.specs.Runs.{Run, local, tl2}
 use Rattle.dstm_tl2.specs.State.{LocalState, is_valid, or_writes}
@@ -16,7 +15,6 @@ use Rattle.dstm_tl2.specs.Words.{Table}
 use Rattle.dstm_tl2.proofs.Clock.{NewDraw, Turn, drawn_how, turn}
 use Rattle.dstm_tl2.proofs.Clock.Turn.{keeps, samples, drew}
 use Rattle.dstm_tl2.proofs.Foretelling.{valid_will, will_more}
-use Rattle.dstm_model.proofs.Entries.{reverse_cons}
 use Rattle.dstm_tl2.proofs.SinceDraw.{Checks, Rests, check_by}
 use Rattle.dstm_tl2.proofs.Static.{static, valid_drawn}
 
@@ -93,45 +91,12 @@ draw_of t (e ∷ es) c n run h =
     draw_of_step t es e c n run h (λ x. draw_of t es c n run.0 x) (drawn_how t es e run c n h)
     (cases_eq e.caller c)
 
--- a later part of the history stands before an earlier one
-pub history_more : (t : Table) (will : ℕ → Bool) (more es : List Event) →
-    (newer : List Entry) × (history t will (more ++ es) ≡ newer ++ history t will es)
-history_more t will [] es = ([], refl)
-history_more t will (e ∷ more) es = go (history_more t will more es)
-  where
-    go : (newer : List Entry) × (history t will (more ++ es) ≡ newer ++ history t will es) →
-        (newer : List Entry) × (history t will (e ∷ (more ++ es)) ≡ newer ++ history t will es)
-    go h = cond_both (is_draw e.kind && will e.found) _ _
-        (λ (xs : List Entry). (newer : List Entry) × (xs ≡ newer ++ history t will es))
-        (λ _. (
-          entry_of (local t (more ++ es) e.caller) (writes_of e.kind) ∷ h.0,
-          ap (λ xs. entry_of (local t (more ++ es) e.caller) (writes_of e.kind) ∷ xs) h.1,
-        ))
-        (λ _. h)
-
 -- the entry of a draw stands in each history that has the draw
 pub entry_stands : (t : Table) (will : ℕ → Bool) (q : List Event) (d : Event) (more : List Event) →
     is_draw d.kind ≡ true → will d.found ≡ true →
     Contains (reverse (history t will (more ++ d ∷ q))) (entry_of (local t q d.caller) (writes_of d.kind))
-entry_stands t will q d more k w = go (history_more t will more (d ∷ q))
-  where
-    x : Entry
-    x = entry_of (local t q d.caller) (writes_of d.kind)
-
-    newest : history t will (d ∷ q) ≡ entry_of (local t q d.caller) (writes_of d.kind) ∷ history t will q
-    newest = rw (k, w) refl
-
-    here : Contains (reverse (history t will (d ∷ q))) (entry_of (local t q d.caller) (writes_of d.kind))
-    here = subst (λ xs. Contains xs (entry_of (local t q d.caller) (writes_of d.kind)))
-        (sym (ap reverse newest ∙ reverse_cons (entry_of (local t q d.caller) (writes_of d.kind)) (history t will q)))
-        (Contains-push (reverse (history t will q)) (entry_of (local t q d.caller) (writes_of d.kind)))
-
-    go : (newer : List Entry) × (history t will (more ++ d ∷ q) ≡ newer ++ history t will (d ∷ q)) →
-        Contains (reverse (history t will (more ++ d ∷ q))) (entry_of (local t q d.caller) (writes_of d.kind))
-    go h = subst (λ xs. Contains xs (entry_of (local t q d.caller) (writes_of d.kind)))
-        (sym (ap reverse h.1 ∙ reverse-append h.0 (history t will (d ∷ q))))
-        (Contains-append_left (reverse (history t will (d ∷ q))) (reverse h.0)
-        (entry_of (local t q d.caller) (writes_of d.kind)) here)
+entry_stands t will q d more k w =
+    told_among (commits_at will) (entry_at t) more d q (and_from (is_draw d.kind) (will d.found) k w)
 
 -- so does that of an attempt that is valid before
 pub valid_stands : (t : Table) (run early between : List Event) (c : ℕ) → Run t run → IsPastOf (between ++ early) run →

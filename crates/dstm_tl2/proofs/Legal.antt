@@ -1,14 +1,17 @@
 -- The history is legal, and keeps the law.
-use Rattle.std.proofs.Common.{◌&&◌, ◌≡◌, ◌<◌, ◌*◌, ◌⊎◌, ◌∷◌, ◌++◌, ◌∙◌, ℕ, inl, inr, List, [], refl, ap, arith, append_assoc, sym, subst, true, false, Bool, Option, Some, None, is_some}
+use Rattle.std.proofs.Common.{◌≡◌, ◌<◌, ◌*◌, ◌⊎◌, ◌∷◌, ◌++◌, ◌∙◌, ℕ, inl, inr, List, [], refl, ap, arith, append_assoc, sym, subst, true, false, Bool, Option, Some, None, is_some}
 use Rattle.std.specs.Prelude.{is_none, reverse}
-use Rattle.std.proofs.lemmas.Bool.{and_parts, cases_Bool, cases_eq, cond_both, eq-eqb, ne_eqb}
-use Rattle.dstm_model.proofs.Entries.{legal_snoc, reverse_cons, state_snoc}
+use Rattle.std.proofs.lemmas.Bool.{and_parts, cases_eq, eq-eqb, ne_eqb}
+use Rattle.dstm_history.proofs.Histories as histories
+use Rattle.dstm_history.proofs.Histories.{legal_from}
+use Rattle.dstm_history.proofs.Orders.{legal_reversed, state_reversed}
 use Rattle.dstm_model.specs.declared.value.Val.{Val}
-use Rattle.dstm_model.specs.Map.{Agrees, Entry, IsLegal, state_after, value_at, with_writes}
+use Rattle.dstm_model.specs.Map.{Agrees, IsLegal, state_after, value_at, with_writes}
 use Rattle.dstm_runs.proofs.Runs as runs
+use Rattle.dstm_runs.proofs.Runs.{each_past}
 use Rattle.dstm_tl2.specs.declared.kind.Kind.{Kind}
 use Rattle.dstm_tl2.specs.declared.kind.Kind.TheVariants.{Draw}
-use Rattle.dstm_tl2.specs.Histories.{Lawful, entry_of, history, is_draw, read_values, sample_place, will_of, writes_of}
+use Rattle.dstm_tl2.specs.Histories.{DrawsLawfully, Lawful, commits_at, entry_at, history, is_draw, read_values, sample_place, will_of, writes_of}
 use Rattle.dstm_tl2.specs.Rules.{AllowedAs, Event}
 use Rattle.dstm_tl2.specs.Runs.{Run, local, tl2}
 use Rattle.dstm_tl2.specs.State.{Hold, LocalState, Read, hold_of, read_of, recorded, unwritten, write_of}
@@ -133,86 +136,47 @@ entry_agrees t q d more run is w =
     (draw_current t (will_of t (more ++ d ∷ q)) q d more run (told t (more ++ d ∷ q) (more ++ d ∷ q) [] run refl)
     is w)
 
--- ---- lists of entries, with the newest first or the oldest first
-
 -- the state after the entries of a history
 pub state_is : (t : Table) (will : ℕ → Bool) (es : List Event) →
     state_after t.start (reverse (history t will es)) ≡ state t will es
-state_is t will [] = refl
-state_is t will (e ∷ es) = go (cases_Bool (is_draw e.kind && will e.found)) (state_is t will es)
-  where
-    go : (is_draw e.kind && will e.found ≡ true) ⊎ (is_draw e.kind && will e.found ≡ false) →
-        state_after t.start (reverse (history t will es)) ≡ state t will es →
-        state_after t.start (reverse (history t will (e ∷ es))) ≡ state t will (e ∷ es)
-    go (inl q) ih =
-        rw q (ap (state_after t.start)
-        (reverse_cons (entry_of (local t es e.caller) (writes_of e.kind)) (history t will es))
-        ∙ state_snoc t.start (reverse (history t will es)) (entry_of (local t es e.caller) (writes_of e.kind))
-        ∙ ap (λ m. with_writes m (writes_of e.kind)) ih)
-    go (inr q) ih = rw q ih
-
-legal_from : (t : Table) (run : List Event) → Run t run → (es more : List Event) → more ++ es ≡ run →
-    IsLegal t.start (reverse (history t (will_of t run) es))
-legal_from t run r [] more q = tt
-legal_from t run r (d ∷ es) more q =
-    add (legal_from t run r es (more ++ d ∷ []) (append_assoc more (d ∷ []) es ∙ q))
-  where
-    entry : is_draw d.kind ≡ true → will_of t run d.found ≡ true →
-        Agrees (state t (will_of t run) es) (read_values (local t es d.caller).reads)
-    entry = subst
-        (λ run. is_draw d.kind ≡ true → will_of t run d.found ≡ true →
-        Agrees (state t (will_of t run) es) (read_values (local t es d.caller).reads)) q
-        (entry_agrees t es d more (subst (Run t) (sym q) r))
-
-    add : IsLegal t.start (reverse (history t (will_of t run) es)) →
-        IsLegal t.start (reverse (history t (will_of t run) (d ∷ es)))
-    add before =
-        cond_both (is_draw d.kind && will_of t run d.found)
-        (entry_of (local t es d.caller) (writes_of d.kind) ∷ history t (will_of t run) es)
-        (history t (will_of t run) es) (λ (xs : List Entry). IsLegal t.start (reverse xs))
-        (λ z. let two = and_parts (is_draw d.kind) (will_of t run d.found) z in
-        subst (IsLegal t.start)
-        (sym (reverse_cons (entry_of (local t es d.caller) (writes_of d.kind)) (history t (will_of t run) es)))
-        (legal_snoc t.start (reverse (history t (will_of t run) es))
-        (entry_of (local t es d.caller) (writes_of d.kind)) before
-        (subst (λ m. Agrees m (read_values (local t es d.caller).reads)) (sym (state_is t (will_of t run) es))
-        (entry two.0 two.1))))
-        (λ _. before)
+state_is t will es = state_reversed t.start (history t will es)
 
 -- so the whole history is legal
 pub committed_legal : (t : Table) (run : List Event) → Run t run →
     IsLegal t.start (reverse (history t (will_of t run) run))
-committed_legal t run r = legal_from t run r run [] refl
+committed_legal t run r =
+    legal_reversed t.start (history t (will_of t run) run)
+    (legal_from (commits_at (will_of t run)) (entry_at t) t.start run entry run [] refl)
+  where
+    entry : (d : Event) (es more : List Event) → more ++ d ∷ es ≡ run → commits_at (will_of t run) d es ≡ true →
+        Agrees (state t (will_of t run) es) (read_values (local t es d.caller).reads)
+    entry d es more q h =
+        let two = and_parts (is_draw d.kind) (will_of t run d.found) h in
+        subst
+        (λ run. is_draw d.kind ≡ true → will_of t run d.found ≡ true →
+        Agrees (state t (will_of t run) es) (read_values (local t es d.caller).reads)) q
+        (entry_agrees t es d more (subst (Run t) (sym q) r)) two.0 two.1
 
 -- ---- the law
 
 pub lawful_past : (t : Table) (holds : List Val → Type 0) (more es : List Event) → Lawful t holds (more ++ es) →
     Lawful t holds es
-lawful_past t holds [] es l = l
-lawful_past t holds (e ∷ more) es l = lawful_past t holds more es l.0
+lawful_past t holds more es l = each_past (DrawsLawfully t holds) more es l
 
 -- the state after the draws of every past of a run is lawful
 pub lawful_from : (t : Table) (holds : List Val → Type 0) (run : List Event) → Run t run → Lawful t holds run →
     holds t.start → (es more : List Event) → more ++ es ≡ run → holds (state t (will_of t run) es)
-lawful_from t holds run r law h [] more q = h
-lawful_from t holds run r law h (d ∷ es) more q =
-    add (lawful_from t holds run r law h es (more ++ d ∷ []) (append_assoc more (d ∷ []) es ∙ q))
+lawful_from t holds run r law h es more q =
+    histories.lawful_from (commits_at (will_of t run)) (entry_at t) t.start run holds keeps h es more q
   where
-    keeps_law : Lawful t holds (d ∷ es)
-    keeps_law = lawful_past t holds more (d ∷ es) (subst (Lawful t holds) (sym q) law)
-
-    entry : is_draw d.kind ≡ true → will_of t run d.found ≡ true →
-        Agrees (state t (will_of t run) es) (read_values (local t es d.caller).reads)
-    entry = subst
+    keeps : (d : Event) (es more : List Event) → more ++ d ∷ es ≡ run → commits_at (will_of t run) d es ≡ true →
+        holds (state t (will_of t run) es) →
+        holds (with_writes (state t (will_of t run) es) (writes_of d.kind))
+    keeps d es more q is before =
+        let two = and_parts (is_draw d.kind) (will_of t run d.found) is in
+        let now : Lawful t holds (d ∷ es) = lawful_past t holds more (d ∷ es) (subst (Lawful t holds) (sym q) law) in
+        now.1 two.0 (state t (will_of t run) es) (state_length t (will_of t run) es) before
+        (subst
         (λ run. is_draw d.kind ≡ true → will_of t run d.found ≡ true →
         Agrees (state t (will_of t run) es) (read_values (local t es d.caller).reads)) q
-        (entry_agrees t es d more (subst (Run t) (sym q) r))
-
-    add : holds (state t (will_of t run) es) → holds (state t (will_of t run) (d ∷ es))
-    add before =
-        cond_both (is_draw d.kind && will_of t run d.found)
-        (with_writes (state t (will_of t run) es) (writes_of d.kind)) (state t (will_of t run) es) holds
-        (λ z. let two = and_parts (is_draw d.kind) (will_of t run d.found) z in
-        keeps_law.1 two.0 (state t (will_of t run) es) (state_length t (will_of t run) es) before
-        (entry two.0 two.1))
-        (λ _. before)
+        (entry_agrees t es d more (subst (Run t) (sym q) r)) two.0 two.1)

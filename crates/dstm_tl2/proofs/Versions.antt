@@ -5,7 +5,9 @@ use Rattle.dstm_runs.specs.Traces.{IsPastOf}
 use Rattle.dstm_model.proofs.Entries.{with_length}
 use Rattle.dstm_model.specs.declared.value.Val.{Val}
 use Rattle.dstm_model.specs.Map.{value_at, with_writes}
-use Rattle.dstm_tl2.specs.Histories.{is_draw, writes_of}
+use Rattle.dstm_history.proofs.Orders as orders
+use Rattle.dstm_history.proofs.Orders.{map_after}
+use Rattle.dstm_tl2.specs.Histories.{entry_at, history, is_draw, writes_of}
 use Rattle.dstm_tl2.specs.Rules.{Event}
 use Rattle.dstm_tl2.specs.Runs.{Run}
 use Rattle.dstm_tl2.specs.State.{write_of}
@@ -31,16 +33,10 @@ version_at will (e ∷ es) o =
 
 -- the map of the values
 abbrev pub state : Table → (ℕ → Bool) → List Event → List Val
-state t will [] = t.start
-state t will (e ∷ es) =
-    if is_draw e.kind && will e.found then with_writes (state t will es) (writes_of e.kind) else state t will es
+state t will es = map_after t.start (history t will es)
 
 pub state_length : (t : Table) (will : ℕ → Bool) (es : List Event) → length (state t will es) ≡ objects t
-state_length t will [] = refl
-state_length t will (e ∷ es) =
-    cond_both (is_draw e.kind && will e.found) _ (state t will es) (λ (m : List Val). length m ≡ objects t)
-    (λ _. with_length (writes_of e.kind) (state t will es) ∙ state_length t will es)
-    (λ _. state_length t will es)
+state_length t will es = orders.state_length (history t will es) t.start
 
 with_value : (ws : List (ℕ × Val)) (m : List Val) (o : ℕ) → o < length m →
     value_at (with_writes m ws) o ≡ value_or (write_of o ws) (value_at m o)
@@ -67,8 +63,8 @@ still t will es e o b h = record {
   version = cond_both (is_draw e.kind && will e.found) _ (version_at will es o)
       (λ n. n ≡ version_at will es o)
       (λ q. ap (λ x. version_or x (e.found + 1) (version_at will es o)) (none q)) (λ _. refl);
-  value = cond_both (is_draw e.kind && will e.found) _ (state t will es)
-      (λ (m : List Val). value_at m o ≡ value_at (state t will es) o)
+  value = cond_both (is_draw e.kind && will e.found) (entry_at t e es ∷ history t will es) (history t will es)
+      (λ xs. value_at (map_after t.start xs) o ≡ value_at (state t will es) o)
       (λ q. with_value (writes_of e.kind) (state t will es) o long
       ∙ ap (λ x. value_or x (value_at (state t will es) o)) (none q)) (λ _. refl);
 }

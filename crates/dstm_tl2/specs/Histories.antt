@@ -2,8 +2,10 @@
 use Rattle.std.specs.Prelude.{◌≡◌, ℕ, ◌==◌, ◌&&◌, ◌||◌, Bool, true, false, List, [], ◌∷◌, map, reverse, if◌then◌else◌}
 use Rattle.dstm_model.specs.declared.value.Val.{Val}
 use Rattle.dstm_model.specs.Map.{Entry, KeepsLaw}
+use Rattle.dstm_history.specs.Histories.{gathered}
 use Rattle.dstm_tl2.specs.declared.kind.Kind.{Kind}
 use Rattle.dstm_tl2.specs.declared.kind.Kind.TheVariants.{Sample, Lock, Draw}
+use Rattle.dstm_runs.specs.Traces.{Each}
 use Rattle.dstm_tl2.specs.Rules.{Event}
 use Rattle.dstm_tl2.specs.Runs.{local, Run}
 use Rattle.dstm_tl2.specs.State.{LocalState, Read, or_zero, is_valid}
@@ -41,14 +43,18 @@ will_of table [] n = false
 will_of table (event ∷ before) n =
     is_validated (local table (event ∷ before) event.caller) n || will_of table before n
 
+-- the event is the Draw of an attempt that commits, as `will` tells by its number
+abbrev pub commits_at : (ℕ → Bool) → Event → List Event → Bool
+commits_at will event before = is_draw event.kind && will event.found
+
+-- the entry of the attempt that makes a Draw
+abbrev pub entry_at : Table → Event → List Event → Entry
+entry_at table draw before = entry_of (local table before draw.caller) (writes_of draw.kind)
+
 -- the entries of the attempts that commit, as `will` tells by their numbers, and have their Draw among some
 -- events: the newest draw first
 abbrev pub history : Table → (ℕ → Bool) → List Event → List Entry
-history table will [] = []
-history table will (event ∷ before) =
-    if is_draw event.kind && will event.found
-    then entry_of (local table before event.caller) (writes_of event.kind) ∷ history table will before
-    else history table will before
+history table will before = gathered (commits_at will) (entry_at table) before
 
 -- the prefix of the history at a place of a run, in the order of the draws: `before` is what stands before it
 abbrev pub prefix_at : Table → List Event → List Event → List Entry
@@ -65,12 +71,12 @@ sample_place c (event ∷ before) =
     if (event.caller == c) && is_sample event.kind then before else sample_place c before
 
 -- each attempt keeps the law with its Draw
+abbrev pub DrawsLawfully : Table → (List Val → Type 0) → Event → List Event → Type 0
+DrawsLawfully table holds event before =
+    is_draw event.kind ≡ true → KeepsLaw holds (objects table) (entry_at table event before)
+
 abbrev pub Lawful : Table → (List Val → Type 0) → List Event → Type 0
-Lawful table holds [] = Unit {0}
-Lawful table holds (event ∷ before) =
-    Lawful table holds before
-    × (is_draw event.kind ≡ true
-    → KeepsLaw holds (objects table) (entry_of (local table before event.caller) (writes_of event.kind)))
+Lawful table holds trace = Each (DrawsLawfully table holds) trace
 
 -- a run of a table under a law
 pub record LawfulRun (table : Table) (holds : List Val → Type 0) (trace : List Event) : Type 0 where

@@ -2,10 +2,11 @@
 use Rattle.std.proofs.Common.{◌≡◌, ◌==◌, ◌⊎◌, ◌∷◌, ◌++◌, ◌∙◌, ℕ, inl, inr, List, [], refl, ap, arith, sym, subst, true, false, Bool, Option, Some, None, is_some, length, cond}
 use Rattle.std.specs.List.{All}
 use Rattle.std.specs.Prelude.{◌&&◌, not}
-use Rattle.std.proofs.lemmas.Bool.{and_from, and_left, and_right, cases_Bool, cond-false, cond-true, cond_both, eqb-true, not_from_true, or_right}
+use Rattle.std.proofs.lemmas.Bool.{and_from, and_left, and_right, cases_Bool, cond_both, eqb-true, not_from_true, or_right}
 use Rattle.std.proofs.lemmas.List.Elements.{All-head, All-tail}
 use Rattle.dstm_model.specs.declared.value.Val.{Val}
 use Rattle.dstm_runs.specs.Traces.{IsPastOf, events_of}
+use Rattle.dstm_history.proofs.Gathered.{told_none, told_now, told_still}
 use Rattle.dstm_runs.proofs.Attempts.{NoneBegins}
 use Rattle.dstm_runs.proofs.Own.{local_mine, local_others, own_append, own_first, own_later, own_other}
 use Rattle.dstm_runs.proofs.Runs as runs
@@ -45,21 +46,23 @@ done_mine t es e c q =
 -- an event with which nothing is committed
 pub done_still : (t : Table) (es : List Event) (e : Event) (c : ℕ) → commits t c e es ≡ false →
     done_by t (e ∷ es) c ≡ done_by t es c
-done_still t es e c h =
-    cond-false (commits t c e es) (attempt_of c (local t (e ∷ es) c) ∷ done_by t es c) (done_by t es c) h
+done_still t es e c h = told_still (commits t c) (λ e es. attempt_of c (local t (e ∷ es) c)) e es h
 
 -- an event with which its attempt is
 pub done_now : (t : Table) (es : List Event) (e : Event) (c : ℕ) → commits t c e es ≡ true →
     done_by t (e ∷ es) c ≡ attempt_of c (local t (e ∷ es) c) ∷ done_by t es c
-done_now t es e c h =
-    cond-true (commits t c e es) (attempt_of c (local t (e ∷ es) c) ∷ done_by t es c) (done_by t es c) h
+done_now t es e c h = told_now (commits t c) (λ e es. attempt_of c (local t (e ∷ es) c)) e es h
+
+-- an event of another caller commits nothing
+pub other_commits : (t : Table) (es : List Event) (e : Event) (c : ℕ) → (e.caller == c) ≡ false →
+    commits t c e es ≡ false
+other_commits t es e c q =
+    and_left (e.caller == c) (is_valid (local t (e ∷ es) c) && not (is_valid (local t es c))) q
 
 -- an event of another caller changes nothing
 pub done_other : (t : Table) (es : List Event) (e : Event) (c : ℕ) → (e.caller == c) ≡ false →
     done_by t (e ∷ es) c ≡ done_by t es c
-done_other t es e c q =
-    done_still t es e c
-    (and_left (e.caller == c) (is_valid (local t (e ∷ es) c) && not (is_valid (local t es c))) q)
+done_other t es e c q = done_still t es e c (other_commits t es e c q)
 
 -- IT IS TOLD BY ITS OWN EVENTS.
 pub done_own : (t : Table) (es : List Event) (c : ℕ) → done_by t (events_of c es) c ≡ done_by t es c
@@ -196,20 +199,10 @@ module _ (t : Table) (c : ℕ) where
   -- where none of the own events is a Draw or a Check, nothing more is committed
   pub quiet_done : (more es : List Event) → Run t (more ++ es) → NoCommits (events_of c more) →
       done_by t (more ++ es) c ≡ done_by t es c
-  quiet_done [] es run none = refl
-  quiet_done (e ∷ more) es run none =
-      go (cases_Bool (e.caller == c)) (λ h. quiet_done more es run.0 h)
-    where
-      go : (e.caller == c ≡ true) ⊎ (e.caller == c ≡ false) →
-          (NoCommits (events_of c more) → done_by t (more ++ es) c ≡ done_by t es c) →
-          done_by t (e ∷ (more ++ es)) c ≡ done_by t es c
-      go (inl q) ih =
-          let all : NoCommits (e ∷ events_of c more) = subst NoCommits (own_first e more c q) none in
-          done_still t (more ++ es) e c (never_commits (more ++ es) e run
-          (inl (All-head (λ (e : Event). may_commit e.kind ≡ false) e (events_of c more) all)))
-          ∙ ih (All-tail (λ (e : Event). may_commit e.kind ≡ false) e (events_of c more) all)
-      go (inr q) ih =
-          done_other t (more ++ es) e c q ∙ ih (subst NoCommits (own_other e more c q) none)
+  quiet_done more es run none =
+      told_none (commits t c) (λ e es. attempt_of c (local t (e ∷ es) c)) (Run t) (λ e es run. run.0)
+      (λ e. may_commit e.kind ≡ false) c (λ e es other. other_commits t es e c other)
+      (λ e es run may. never_commits es e run (inl may)) more es run none
 
   -- Nothing more is committed where the attempt is not valid in the end.
   pub invalid_done : (more es : List Event) → Run t (more ++ es) → NoSamples (events_of c more) →

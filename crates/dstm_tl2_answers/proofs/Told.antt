@@ -1,12 +1,12 @@
 -- Of each caller the history has exactly the attempts that its own events tell.
-use Rattle.std.proofs.Common.{◌&&◌, ◌++◌, ◌==◌, ◌∙◌, ◌∷◌, ◌≡◌, ◌≢◌, ◌⊎◌, Bool, List, None, Option, Some, [], ap, arith, cond, false, inl, inr, is_some, not, refl, sym, subst, true, ℕ}
+use Rattle.std.proofs.Common.{◌&&◌, ◌++◌, ◌==◌, ◌∙◌, ◌∷◌, ◌≡◌, ◌⊎◌, Bool, List, None, Option, Some, [], ap, arith, cond, false, inl, inr, is_some, not, refl, sym, subst, true, ℕ}
 use Rattle.std.proofs.lemmas.Bool.{and_from, and_left, and_right, cases_Bool, cond-false, cond-true, eq-eqb, ne_eqb, not_from_true}
-use Rattle.dstm_model.proofs.Merging.{other_list, own_list}
+use Rattle.dstm_history.proofs.Callers.{parts_are_done}
 use Rattle.dstm_runs.specs.Traces.{IsPastOf}
-use Rattle.dstm_runs.proofs.Pasts.{past_past, past_self, run_before}
+use Rattle.dstm_runs.proofs.Pasts.{past_more, past_past, past_self, run_before}
 use Rattle.dstm_runs.proofs.Runs as runs
 use Rattle.dstm_tl2.specs.declared.kind.Kind.{Kind}
-use Rattle.dstm_tl2.specs.Histories.{entry_of, is_draw, is_sample, is_validated, will_of, writes_of}
+use Rattle.dstm_tl2.specs.Histories.{commits_at, entry_at, entry_of, is_draw, is_sample, is_validated, will_of, writes_of}
 use Rattle.dstm_tl2.specs.Rules.{AllowedAs, Event, after}
 use Rattle.dstm_tl2.specs.Runs.{Run, local, tl2}
 use Rattle.dstm_tl2.specs.State.{LocalState, is_valid, or_zero}
@@ -260,47 +260,31 @@ ends t run es e p r = record {
 
 told : (t : Table) (run es : List Event) → Run t run → IsPastOf es run → (c : ℕ) →
     by_caller c (committed t (will_of t run) es) ≡ pending (will_of t run) c (local t es c) ++ done_by t es c
-told t run [] r p c = refl
-told t run (e ∷ es) r p c =
-    runs.callers tl2 t es e
-    (λ c l. by_caller c (committed t (will_of t run) (e ∷ es)) ≡ pending (will_of t run) c l ++ done_by t (e ∷ es) c)
-    (own (told t run es r past e.caller)) (λ d h. other d (told t run es r past d) h) c
+told t run es r p c =
+    parts_are_done (commits_at (will_of t run)) (entry_at t) tl2 t (pending (will_of t run)) (done_by t)
+    (λ es. IsPastOf es run) before (λ c. refl) own (λ e es c h. done_other t es e c (ne_eqb e.caller c h)) es p c
   where
-    here : Run t (e ∷ es)
-    here = run_before tl2 t (e ∷ es) run p r
+    before : (e : Event) (es : List Event) → IsPastOf (e ∷ es) run → IsPastOf es run
+    before e es p = past_past es (e ∷ es) run (past_more es es e (past_self es)) p
 
-    past : IsPastOf es run
-    past = past_past es (e ∷ es) run (record { later = e ∷ []; whole = refl }) p
-
-    new : Committed
-    new = record {
-      caller = e.caller;
-      number = e.found;
-      entry = entry_of (local t es e.caller) (writes_of e.kind);
-    }
-
-    own : by_caller e.caller (committed t (will_of t run) es)
+    own : (e : Event) (es : List Event) → IsPastOf (e ∷ es) run →
+        by_caller e.caller (committed t (will_of t run) es)
         ≡ pending (will_of t run) e.caller (local t es e.caller) ++ done_by t es e.caller →
-        by_caller e.caller (committed t (will_of t run) (e ∷ es))
+        cond (is_draw e.kind && will_of t run e.found)
+        (record {
+          caller = e.caller;
+          number = e.found;
+          entry = entry_of (local t es e.caller) (writes_of e.kind);
+        } ∷ by_caller e.caller (committed t (will_of t run) es))
+        (by_caller e.caller (committed t (will_of t run) es))
         ≡ pending (will_of t run) e.caller (after e.kind t (local t es e.caller) e) ++ done_by t (e ∷ es) e.caller
-    own ih =
-        own_list (is_draw e.kind && will_of t run e.found) new (committed t (will_of t run) es)
-        ∙ own_step t (will_of t run) e.caller (local t es e.caller) e e.kind
+    own e es p ih =
+        let here : Run t (e ∷ es) = run_before tl2 t (e ∷ es) run p r in
+        own_step t (will_of t run) e.caller (local t es e.caller) e e.kind
         (by_caller e.caller (committed t (will_of t run) es)) (done_by t es e.caller)
         (static t es here.0 e.caller) here.1.allowed (turn t es e here.1) (ends t run es e p r) ih
         ∙ ap (λ ds. pending (will_of t run) e.caller (after e.kind t (local t es e.caller) e) ++ ds)
         (sym (done_mine t es e e.caller (eq-eqb e.caller e.caller refl)))
-
-    other : (c : ℕ) →
-        by_caller c (committed t (will_of t run) es)
-        ≡ pending (will_of t run) c (local t es c) ++ done_by t es c →
-        e.caller ≢ c → by_caller c (committed t (will_of t run) (e ∷ es))
-        ≡ pending (will_of t run) c (local t es c) ++ done_by t (e ∷ es) c
-    other c ih h =
-        other_list (is_draw e.kind && will_of t run e.found) c new (committed t (will_of t run) es) h
-        ∙ ih
-        ∙ ap (λ ds. pending (will_of t run) c (local t es c) ++ ds)
-        (sym (done_other t es e c (ne_eqb e.caller c h)))
 
 -- at the end of a run no attempt is pending
 pub each_is_told : (t : Table) (run : List Event) → Run t run → (c : ℕ) →

@@ -2,9 +2,11 @@
 -- both, and the same entries are told from one caller's own events.
 --
 -- Events and committed attempts have the newest first.
-use Rattle.std.specs.Prelude.{ℕ, ◌==◌, ◌&&◌, Bool, not, List, [], ◌∷◌, if◌then◌else◌}
+use Rattle.std.specs.Prelude.{ℕ, ◌==◌, ◌&&◌, Bool, not, List, ◌∷◌}
 pub use Rattle.dstm_model.specs.Answers.{Committed, by_caller}
-use Rattle.dstm_tl2.specs.Histories.{entry_of, is_draw, will_of, writes_of}
+use Rattle.dstm_history.specs.Histories.{gathered}
+use Rattle.dstm_history.specs.Histories as histories
+use Rattle.dstm_tl2.specs.Histories.{commits_at, entry_at, entry_of, will_of}
 use Rattle.dstm_tl2.specs.Rules.{Event}
 use Rattle.dstm_tl2.specs.Runs.{local}
 use Rattle.dstm_tl2.specs.State.{LocalState, is_valid, or_writes, or_zero}
@@ -14,15 +16,7 @@ use Rattle.dstm_tl2.specs.Words.{Table}
 
 -- the attempts that commit, as `will` tells by their numbers, and have their Draw among some events
 abbrev pub committed : Table → (ℕ → Bool) → List Event → List Committed
-committed table will [] = []
-committed table will (event ∷ before) =
-    if is_draw event.kind && will event.found
-    then record {
-      caller = event.caller;
-      number = event.found;
-      entry = entry_of (local table before event.caller) (writes_of event.kind);
-    } ∷ committed table will before
-    else committed table will before
+committed table will before = histories.committed (commits_at will) (entry_at table) before
 
 -- the attempts that commit in a run
 abbrev pub committed_in : Table → List Event → List Committed
@@ -44,7 +38,5 @@ attempt_of c state = record {
 
 -- the attempts that a caller has committed, told from its own events
 abbrev pub done_by : Table → List Event → ℕ → List Committed
-done_by table [] c = []
-done_by table (event ∷ before) c =
-    if commits table c event before then attempt_of c (local table (event ∷ before) c) ∷ done_by table before c
-    else done_by table before c
+done_by table before c =
+    gathered (commits table c) (λ event before. attempt_of c (local table (event ∷ before) c)) before

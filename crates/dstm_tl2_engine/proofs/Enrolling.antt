@@ -4,7 +4,7 @@ use Rattle.std.specs.Prelude.{Option, Some, IfSome}
 use Rattle.atomic_table.specs.Seated.{TableId}
 use Rattle.atomic_table.specs.declared.shared.Seat.{Seat}
 use Rattle.dstm_model.specs.declared.value.Val.{Val}
-use Rattle.dstm_runs.proofs.Quiet.{none_before_only}
+use Rattle.dstm_runs.proofs.Own.{none_before_only}
 use Rattle.dstm_runs.proofs.Runs.{local-events_of}
 use Rattle.dstm_runs.specs.Traces.{events_of}
 use Rattle.dstm_runs.specs.Traces.Access.{Add}

@@ -12,7 +12,7 @@ use Rattle.dstm_core.specs.Runs.{core, local}
 use Rattle.dstm_core.specs.State.{LocalState}
 use Rattle.dstm_core.specs.Traces.{events_of}
 use Rattle.dstm_core.proofs.Enrolment.{enrols}
-use Rattle.dstm_runs.proofs.Quiet.{local_quiet}
+use Rattle.dstm_runs.proofs.Own.{local_quiet}
 use Rattle.dstm_seats.specs.Seats.{MakesKept}
 use Rattle.dstm_words.specs.declared.terms.Terms.{Terms}
 use Rattle.dstm_words.specs.Seats.{caller_state, event_by, made, number_or, shared, state_by, MayMake, PutsLawfully, StoresLawfully, View}

@@ -1,0 +1,4 @@
+pub mod Gathered
+pub mod Orders
+pub mod Histories
+pub mod Callers
