@@ -9,7 +9,7 @@ use Rattle.dstm_core.specs.declared.shape.Manager.{Manager}
 use Rattle.dstm_core.specs.declared.shape.Shape.{Shape}
 use Rattle.dstm_core.specs.declared.state.Phase.TheVariants.{Running}
 use Rattle.dstm_core.specs.Rules.{is_outside, after, access, target, May, AllowedAs}
-use Rattle.dstm_core.specs.Runs.{core, local}
+use Rattle.dstm_core.specs.Runs.{local}
 use Rattle.dstm_core.specs.State.{LocalState, given, res, or_zero}
 use Rattle.dstm_core.specs.Traces.{Access, Acts, events_of}
 use Rattle.dstm_runs.specs.Traces.Access.{Load, Store, Exchange, Add}
@@ -20,11 +20,10 @@ use Rattle.dstm_managers.specs.declared.decider.Choice.TheVariants as decision
 use Rattle.dstm_managers.specs.Choices.{DeciderState, choice, next_word, takes_word, without_word, decider_after as decided}
 use Rattle.dstm_core.specs.Words.{HasWord, code_of}
 use Rattle.dstm_runs.proofs.Pasts.{past_past}
-use Rattle.dstm_runs.proofs.Runs.{local-events_of}
 use Rattle.dstm_core.proofs.Ranges.{in_range}
-use Rattle.dstm_core.proofs.Static.{local_own}
 use Rattle.dstm_model.specs.declared.value.Val.{Val}
-use Rattle.dstm_words.specs.Seats.{View, event_by, ActsBy, Home, view_of, IsOf, MayMake, IsRunOf, Adds, Makes, moved, number_or, events_by, state_by}
+use Rattle.dstm_seats.proofs.Seats as seats
+use Rattle.dstm_words.specs.Seats.{View, caller_view, event_by, ActsBy, Home, view_of, IsOf, MayMake, IsRunOf, Adds, Makes, number_or, shared, state_by}
 use Rattle.dstm_order.specs.Calls.{answer, IsCall, answer_of}
 use Rattle.dstm_order.specs.declared.again.Again.{Again}
 use Rattle.dstm_order.specs.Efforts.{Effort, effort_after, exchanges, turn, chosen, status_of}
@@ -34,7 +33,7 @@ use Rattle.dstm_order.specs.declared.TheConstants.{MAX_MISSED}
 use Rattle.dstm_order.specs.Tasks.{Task, Work}
 use Rattle.dstm_order.specs.Tasks.Task.{Doing}
 use Rattle.dstm_caller.specs.declared.steps.Steps.{Steps}
-use Rattle.dstm_caller.specs.Under.{Began, InTask, caller_view, Under, is_exchange, MayStep, After, Went, WentOn, IsMirror, again_by, operand_of, now, effort_by, made_by, due_next_by, answer_by, work_of}
+use Rattle.dstm_caller.specs.Under.{Began, InTask, Under, is_exchange, MayStep, After, Went, WentOn, IsMirror, again_by, operand_of, now, effort_by, made_by, due_next_by, answer_by, work_of}
 
 -- what the rules say of an event that acts in some way does not depend on what it finds
 may_load : (k : Kind) (s : Shape) (l : LocalState) (c p found : ℕ) → MayStep s l k Load (event_by Load c k p 0) →
@@ -157,39 +156,25 @@ module _ {L : Type 0} (holds : L → List Val → Type 0) (home : Home L) (b : B
   -- the event that the seat makes is the caller's
   pub makes_by : (v w : View L) (way : Access) (k : Kind) (p found : ℕ) → v.number ≡ Some b.number →
       Makes holds v way k p found w → Adds holds v (made_by b way k p found) w
-  makes_by v w way k p found n m =
-      subst (λ c. Adds holds v (event_by way c k p found) w) (ap (λ o. number_or o found) n) m
+  makes_by v w way k p found n m = seats.makes_by (shared holds) b.number v w way k p found n m
 
   module _ {task : Task} (old new : Steps L) (e : Event) (d : Due) (a : Option Again)
       (u : InTask holds home task b old d a) (m : Adds holds (view_of old.seat) e (view_of new.seat))
       (c : e.caller ≡ b.number) where
     number_now : (view_of new.seat).number ≡ Some b.number
-    number_now = ap (λ x. x.number) m.view ∙ ap Some c
+    number_now = seats.number_now (shared holds) b.number (view_of old.seat) (view_of new.seat) e u.number m c
 
     own_now : events_of b.number (view_of new.seat).log ≡ e ∷ events_of b.number (view_of old.seat).log
-    own_now =
-        subst (λ n. events_of n (view_of new.seat).log ≡ e ∷ events_of b.number (view_of old.seat).log) c
-        (m.mine ∙ ap (λ o. e ∷ events_by o (view_of old.seat).log) u.number)
+    own_now = seats.own_now (shared holds) b.number (view_of old.seat) (view_of new.seat) e u.number m c
 
     view_now : view_of new.seat ≡ caller_view home.terms b.number (view_of new.seat).log
     view_now =
-        m.view ∙ ap (λ (v : View L). moved v e (view_of new.seat).log) u.view
-        ∙ ap (λ n. record (caller_view home.terms b.number (view_of new.seat).log) { number = Some n }) c
+        seats.view_now (shared holds) b.number (view_of old.seat) (view_of new.seat) e u.number m c home.terms u.view
 
     -- the state after it
     pub state_now : now home new ≡ after e.kind home.terms.shape (now home old) e
     state_now =
-        let s : Shape = home.terms.shape in
-        let log = (view_of new.seat).log in
-        let before = events_of b.number (view_of old.seat).log in
-        let here : now home new ≡ local s log e.caller = ap (λ o. state_by s o log) (number_now ∙ ap Some (sym c)) in
-        let events : local s log e.caller ≡ local s (e ∷ before) e.caller =
-        sym (local-events_of core s log e.caller) ∙ ap (λ l. local s l e.caller)
-        (subst (λ n. events_of n log ≡ e ∷ before) (sym c) own_now) in
-        let was : local s before e.caller ≡ now home old =
-        ap (local s before) c ∙ local-events_of core s (view_of old.seat).log b.number
-        ∙ ap (λ o. state_by s o (view_of old.seat).log) (sym u.number) in
-        here ∙ events ∙ local_own s before e ∙ ap (λ l. after e.kind s l e) was
+        seats.state_now (shared holds) b.number (view_of old.seat) (view_of new.seat) e u.number m c home.terms.shape
 
     -- the call goes on
     pub under_adds : IsOf home new.seat → IsDue d e → After home old new e →

@@ -1,5 +1,5 @@
 -- A call under way.
-use Rattle.std.specs.Prelude.{◌≡◌, ℕ, ◌<◌, Bool, true, false, not, length, ◌||◌, ◌==◌, List, [], ◌∷◌, ◌++◌, Option, Some, None, IfSome}
+use Rattle.std.specs.Prelude.{◌≡◌, ℕ, ◌<◌, Bool, true, false, not, length, ◌||◌, ◌==◌, List, ◌∷◌, ◌++◌, Option, Some, None, IfSome}
 use Rattle.dstm_core.specs.Events.{Event}
 use Rattle.dstm_core.specs.declared.event.Kind.{Kind}
 use Rattle.dstm_core.specs.declared.event.Kind.TheVariants.{LookObj, Install, Release, Rank, PutHigh, PutNew, Validating as ToValidating, Commit, Kill, Quit, Pause, Resume}
@@ -10,8 +10,7 @@ use Rattle.dstm_core.specs.State.{LocalState, own_attempt, keep_resolved, record
 use Rattle.dstm_core.specs.Traces.{Access, IsPastOf, events_of}
 use Rattle.dstm_core.specs.Words.{place}
 use Rattle.dstm_model.specs.declared.value.Val.{Val}
-use Rattle.dstm_words.specs.declared.terms.Terms.{Terms}
-use Rattle.dstm_words.specs.Seats.{View, event_by, Home, view_of, caller_state, IsOf, IsRunOf}
+use Rattle.dstm_words.specs.Seats.{caller_view, event_by, Home, view_of, caller_state, IsOf, IsRunOf}
 use Rattle.rand_pcg.specs.Lcg.{Lcg}
 use Rattle.dstm_order.specs.Calls.{Obeys, state_after, effort_of, newest_of, answer}
 use Rattle.dstm_order.specs.declared.again.Again.{Again}
@@ -70,20 +69,6 @@ pub record MayStep (shape : Shape) (state : LocalState) (kind : Kind) (way : Acc
   pub may : May kind shape state event
 
 module _ {L : Type 0} where
-  -- what the seat of a caller knows, which was split from the first one
-  abbrev pub caller_view : Terms L → (number : ℕ) → List Event → View L
-  caller_view terms number log = record {
-    terms = Some terms;
-    log = log;
-    number = Some number;
-    numbers = number ∷ [];
-    enrolments = 0;
-    first = false;
-    out = 0;
-    apart = 1;
-    olds = [];
-  }
-
   -- the state of the caller
   abbrev pub now : Home L → Steps L → LocalState
   now home steps = caller_state home.terms (view_of steps.seat)

@@ -15,7 +15,7 @@ use Rattle.dstm_core.specs.Runs.{local}
 use Rattle.dstm_core.specs.State.{LocalState, write_of}
 use Rattle.dstm_mem.specs.Memory.{value_in}
 use Rattle.dstm_order.specs.declared.again.Again.{Again}
-use Rattle.dstm_caller.specs.Under.{caller_view}
+use Rattle.dstm_words.specs.Seats.{caller_view}
 use Rattle.dstm_words.specs.Seats.{View, Home}
 
 pub record Called (L : Type 0) : Type 0 where

@@ -1,5 +1,6 @@
 -- What a seat knows after a step: its number, and the state of its caller.
 use Rattle.std.proofs.Common.{◌≡◌, ◌≢◌, ℕ, List, [], ◌∷◌, ◌++◌, Some, None, refl, sym, ap, ◌∙◌, subst}
+use Rattle.std.proofs.lemmas.Bool.{eq-eqb}
 use Rattle.std.specs.Prelude.{Option, Contains}
 use Rattle.dstm_runs.specs.declared.event.Event.{Event}
 use Rattle.dstm_runs.specs.Machines.{Machine, local}
@@ -7,10 +8,10 @@ use Rattle.dstm_runs.specs.Sharing.{Shared}
 use Rattle.dstm_runs.specs.Traces.{Access, IsPastOf, events_of}
 use Rattle.dstm_runs.proofs.Runs.{local_own, local-events_of}
 use Rattle.dstm_seats.specs.declared.view.View.{View}
-use Rattle.dstm_seats.specs.Seats.{events_by, made, number_or, numbers_by, own_events, state_by, Adds, Joined, Makes}
+use Rattle.dstm_seats.specs.Seats.{caller_view, event_by, events_by, made, moved, number_or, numbers_by, own_events, state_by, Adds, Joined, Makes}
 use Rattle.dstm_seats.proofs.Lists.{apart_of}
 use Rattle.dstm_seats.proofs.Logs.{none_since}
-use Rattle.dstm_runs.proofs.Own.{own_event}
+use Rattle.dstm_runs.proofs.Own.{own_event, own_first, same_local}
 
 -- a caller's state is that of its own events
 state_of_events : {K B S : Type 0} (machine : Machine K B S) (table : B) (o : Option ℕ) (log : List (Event K))
@@ -36,6 +37,41 @@ module _ {K T B S : Type 0} (shared : Shared K T B S) where
       ∙ sym (local-events_of shared.machine table w.log c) ∙ ap state m.mine
       ∙ local_own shared.machine table (own_events v) e
       ∙ ap (λ l. shared.machine.after table l e) (state_of_events shared.machine table v.number v.log found)
+
+  -- ---- the same of a caller that has its number
+
+  -- the event that it makes
+  pub makes_by : (c : ℕ) (v w : View K T) (way : Access) (kind : K) (place found : ℕ) → v.number ≡ Some c →
+      Makes shared v way kind place found w → Adds shared v (event_by way c kind place found) w
+  makes_by c v w way kind place found n m =
+      subst (λ c. Adds shared v (event_by way c kind place found) w) (ap (λ o. number_or o found) n) m
+
+  module _ (c : ℕ) (v w : View K T) (e : Event K) (n : v.number ≡ Some c) (m : Adds shared v e w)
+      (mine : e.caller ≡ c) where
+    pub number_now : w.number ≡ Some c
+    number_now = ap (λ (x : View K T). x.number) m.view ∙ ap Some mine
+
+    -- its events are one more
+    pub own_now : events_of c w.log ≡ e ∷ events_of c v.log
+    own_now =
+        subst (λ c. events_of c w.log ≡ e ∷ own_events v) mine m.mine ∙ ap (λ o. e ∷ events_by o v.log) n
+
+    pub view_now : (terms : T) → v ≡ caller_view terms c v.log → w ≡ caller_view terms c w.log
+    view_now terms is =
+        m.view ∙ ap (λ (x : View K T). moved x e w.log) is
+        ∙ ap (λ n. record (caller_view terms c w.log) { number = Some n }) mine
+
+    pub state_now : (table : B) →
+        state_by shared.machine table w.number w.log
+        ≡ shared.machine.after table (state_by shared.machine table v.number v.log) e
+    state_now table =
+        ap (λ o. state_by shared.machine table o w.log) (number_now ∙ ap Some (sym mine))
+        ∙ same_local shared.machine table w.log (e ∷ v.log) e.caller
+        (subst (λ c. events_of c w.log ≡ events_of c (e ∷ v.log)) (sym mine)
+        (own_now ∙ sym (own_first e v.log c (eq-eqb e.caller c mine))))
+        ∙ local_own shared.machine table v.log e
+        ∙ ap (λ c. shared.machine.after table (local shared.machine table v.log c) e) mine
+        ∙ ap (λ o. shared.machine.after table (state_by shared.machine table o v.log) e) (sym n)
 
   -- the numbers of the seat after it
   pub numbers_after : (v w : View K T) (way : Access) (kind : K) (place found : ℕ) →

@@ -41,6 +41,20 @@ module _ {K T : Type 0} where
     olds = [];
   }
 
+  -- what the seat of a caller knows, which was split from the first one
+  abbrev pub caller_view : T → (number : ℕ) → List (Event K) → View K T
+  caller_view terms number log = record {
+    terms = Some terms;
+    log = log;
+    number = Some number;
+    numbers = number ∷ [];
+    enrolments = 0;
+    first = false;
+    out = 0;
+    apart = 1;
+    olds = [];
+  }
+
 -- the view of the first seat of a new table
 abbrev pub founder : {K T B S : Type 0} → Shared K T B S → T → View K T
 founder shared terms = founder_of terms (shared.machine.callers (shared.table terms))

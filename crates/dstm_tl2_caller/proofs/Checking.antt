@@ -1,9 +1,10 @@
 -- The loop of the checks: the slots that it has before it hold the reads that are left to check.
 use Prim.Native.Nat.{zero, suc}
 use Rattle.std.proofs.Common.{◌≡◌, ◌≢◌, ◌==◌, ◌<◌, ◌≤◌, ◌+◌, ◌∷◌, ◌∙◌, ◌⊎◌, ℕ, inl, inr, Bool, List, [], refl, ap, arith, sym, subst, true, false, Option, Some, None, is_some, length, drop, length-drop}
-use Rattle.std.specs.Prelude.{◌||◌, not, is_none, IfNone, map, filter, slice_get, if◌then◌else◌}
+use Rattle.std.specs.Prelude.{◌||◌, not, is_none, IfNone, map, filter, slice_get, slice_index_or, if◌then◌else◌}
 use Rattle.std.proofs.lemmas.Bool.{cases_Bool, eq-eqb, ne_eqb}
 use Rattle.std.proofs.lemmas.List.{drop_all, drop_more}
+use Rattle.std.proofs.lemmas.Option.{slice_get-get_or}
 use Rattle.dstm_mem.specs.Memory.{value_in}
 use Rattle.dstm_model.specs.declared.value.Val.{Val}
 use Rattle.dstm_runs.specs.Traces.Access.{Load}
@@ -45,19 +46,17 @@ tail_of [] = []
 tail_of (r ∷ rs) = rs
 
 next_left : (reads : List Read) (i : ℕ) (r : Read) (rest : List Read) → drop i reads ≡ r ∷ rest → Next reads i r rest
-next_left [] zero r rest q = absurd (cc)
-next_left [] (suc i) r rest q = absurd (cc)
-next_left (s ∷ reads) zero r rest q = record {
-  left = omega arith;
-  read = ap head_or q;
-  later = ap tail_of q;
+next_left reads i r rest q = record {
+  left = left;
+  read = ap or_read (slice_get-get_or reads i no_read left) ∙ ap head_or parts;
+  later = ap tail_of parts;
 }
-next_left (s ∷ reads) (suc i) r rest q = let n = next_left reads i r rest q in
-    record {
-      left = let l = n.left in omega arith;
-      read = n.read;
-      later = let e : suc i + 1 ≡ suc (i + 1) = omega arith in rw e n.later;
-    }
+  where
+    left : i < length reads
+    left = let n : length (drop i reads) ≡ length (r ∷ rest) = ap length q in omega (arith, length-drop i reads)
+
+    parts : slice_index_or reads i no_read ∷ drop (i + 1) reads ≡ r ∷ rest
+    parts = sym (drop_more reads i no_read left) ∙ q
 
 none_left : (reads : List Read) (i : ℕ) → drop i reads ≡ [] → i ≤ length reads → i ≡ length reads
 none_left reads i q l = let n : length (drop i reads) ≡ 0 = ap length q in omega (arith, length-drop i reads)

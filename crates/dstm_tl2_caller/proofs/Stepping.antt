@@ -6,25 +6,24 @@ use Rattle.dstm_model.specs.declared.value.Val.{Val}
 use Rattle.dstm_runs.specs.Traces.{Access, Acts, IsPastOf, events_of}
 use Rattle.dstm_runs.specs.Traces.Access.{Exchange, Add}
 use Rattle.dstm_runs.proofs.Pasts.{past_past}
-use Rattle.dstm_runs.proofs.Runs.{local_own, local-events_of}
-use Rattle.dstm_seats.specs.Seats.{event_by, events_by, moved, number_or, state_by, Adds}
+use Rattle.dstm_seats.proofs.Seats as seats
+use Rattle.dstm_seats.specs.Seats.{event_by, Adds}
 use Rattle.dstm_tl2.specs.declared.kind.Kind.{Kind}
 use Rattle.dstm_tl2.specs.declared.kind.Kind.TheVariants.{Sample, LookAgain, Lock}
 use Rattle.dstm_tl2.specs.Histories.{is_sample}
 use Rattle.dstm_tl2.specs.Rules.{AllowedAs, Event, IsTold, after, lock, record_read}
-use Rattle.dstm_tl2.specs.Runs.{local, tl2}
 use Rattle.dstm_tl2.specs.Sharing.{IsRunOf, shared, table_of}
 use Rattle.dstm_tl2.specs.State.{LocalState, look_of, next_write, read_of, recorded}
 use Rattle.dstm_tl2.specs.Words.{Table, objects, place}
 use Rattle.dstm_tl2.specs.Words.Word.{ClockWord}
-use Rattle.dstm_tl2_words.specs.Seats.{view_of, Home, IsOf, Makes, View}
+use Rattle.dstm_tl2_words.specs.Seats.{caller_view, view_of, Home, IsOf, Makes, View}
 use Rattle.dstm_tl2_caller.specs.declared.again.TlAgain.{TlAgain}
 use Rattle.dstm_tl2_caller.specs.declared.steps.Steps.{Steps}
 use Rattle.dstm_tl2_caller.specs.Calls.{answer_of, state_after, IsCall}
 use Rattle.dstm_tl2_caller.specs.Order.{Due, IsDue, draws, due, locks}
 use Rattle.dstm_tl2_caller.specs.Order.Due.{Done}
 use Rattle.dstm_tl2_caller.specs.Tasks.{Task}
-use Rattle.dstm_tl2_caller.specs.Under.{answer_by, caller_view, made_by, now, Began, Under, Went}
+use Rattle.dstm_tl2_caller.specs.Under.{answer_by, made_by, now, Began, Under, Went}
 
 pub is_something : {A : Type 0} (o : Option A) → o ≢ None → is_some o ≡ true
 is_something None h = absurd (h refl)
@@ -73,42 +72,22 @@ module _ {L : Type 0} (holds : L → List Val → Type 0) (home : Home L) (b : B
       (view_of steps.seat).number ≡ Some b.number
   number_of steps d a u = ap (λ (v : View L). v.number) u.view
 
-  -- the event that the seat makes is the caller's
-  makes_by : (v w : View L) (way : Access) (k : Kind) (p found : ℕ) → v.number ≡ Some b.number →
-      Makes holds v way k p found w → Adds (shared holds) v (made_by b way k p found) w
-  makes_by v w way k p found n m =
-      subst (λ c. Adds (shared holds) v (event_by way c k p found) w) (ap (λ o. number_or o found) n) m
-
   module _ (old new : Steps L) (e : Event) (d : Due) (a : Option TlAgain) (u : Under holds home b old d a)
       (m : Adds (shared holds) (view_of old.seat) e (view_of new.seat)) (c : e.caller ≡ b.number) where
-    number_now : (view_of new.seat).number ≡ Some b.number
-    number_now = ap (λ (v : View L). v.number) m.view ∙ ap Some c
-
     own_now : events_of b.number (view_of new.seat).log ≡ e ∷ events_of b.number (view_of old.seat).log
     own_now =
-        subst (λ n. events_of n (view_of new.seat).log ≡ e ∷ events_of b.number (view_of old.seat).log) c
-        (m.mine ∙ ap (λ o. e ∷ events_by o (view_of old.seat).log) (number_of old d a u))
+        seats.own_now (shared holds) b.number (view_of old.seat) (view_of new.seat) e (number_of old d a u) m c
 
     view_now : view_of new.seat ≡ caller_view home.terms b.number (view_of new.seat).log
     view_now =
-        m.view ∙ ap (λ (v : View L). moved v e (view_of new.seat).log) u.view
-        ∙ ap (λ n. record (caller_view home.terms b.number (view_of new.seat).log) { number = Some n }) c
+        seats.view_now (shared holds) b.number (view_of old.seat) (view_of new.seat) e (number_of old d a u) m c
+        home.terms u.view
 
     -- the state after it
     state_now : now home new ≡ after e.kind (table_of home.terms) (now home old) e
     state_now =
-        let t : Table = table_of home.terms in
-        let log : List Event = (view_of new.seat).log in
-        let before : List Event = events_of b.number (view_of old.seat).log in
-        let here : now home new ≡ local t log e.caller =
-        ap (λ o. state_by tl2 t o log) (number_now ∙ ap Some (sym c)) in
-        let events : local t log e.caller ≡ local t (e ∷ before) e.caller =
-        sym (local-events_of tl2 t log e.caller) ∙ ap (λ l. local t l e.caller)
-        (subst (λ n. events_of n log ≡ e ∷ before) (sym c) own_now) in
-        let was : local t before e.caller ≡ now home old =
-        ap (local t before) c ∙ local-events_of tl2 t (view_of old.seat).log b.number
-        ∙ ap (λ o. state_by tl2 t o (view_of old.seat).log) (sym (number_of old d a u)) in
-        here ∙ events ∙ local_own tl2 t before e ∙ ap (λ l. after e.kind t l e) was
+        seats.state_now (shared holds) b.number (view_of old.seat) (view_of new.seat) e (number_of old d a u) m c
+        (table_of home.terms)
 
     -- the call goes on
     under_adds : IsOf home new.seat → IsDue (table_of home.terms) d e → new.places ≡ old.places →
@@ -146,7 +125,8 @@ module _ {L : Type 0} (holds : L → List Val → Type 0) (home : Home L) (b : B
       subst (λ p. Makes holds (view_of old.seat) way k p found (view_of new.seat)) there
       (subst (λ k. Makes holds (view_of old.seat) way k at found (view_of new.seat)) same makes) in
       let adds : Adds (shared holds) (view_of old.seat) e (view_of new.seat) =
-      makes_by (view_of old.seat) (view_of new.seat) way k p found (number_of old d a u) makes_k in
+      seats.makes_by (shared holds) b.number (view_of old.seat) (view_of new.seat) way k p found (number_of old d a u)
+      makes_k in
       record {
         state = state_now old new e d a u adds refl;
         goes_on = under_adds old new e d a u adds refl seat is places sample;

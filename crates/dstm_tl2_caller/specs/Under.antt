@@ -1,16 +1,15 @@
 -- A call under way.
-use Rattle.std.specs.Prelude.{◌≡◌, ℕ, ◌<◌, List, [], ◌∷◌, ◌++◌, map, take, false, Option, Some, None, if◌then◌else◌}
+use Rattle.std.specs.Prelude.{◌≡◌, ℕ, ◌<◌, List, [], ◌∷◌, ◌++◌, map, take, Option, Some, None, if◌then◌else◌}
 use Rattle.dstm_model.specs.declared.value.Val.{Val}
 use Rattle.dstm_runs.specs.Traces.{Access, IsPastOf, events_of}
 use Rattle.dstm_tl2.specs.declared.kind.Kind.{Kind}
 use Rattle.dstm_tl2.specs.declared.kind.Kind.TheVariants.{Sample}
-use Rattle.dstm_tl2.specs.declared.terms.Terms.{Terms}
 use Rattle.dstm_tl2.specs.Failing.{fails}
 use Rattle.dstm_tl2.specs.Rules.{Event, IsTold, after, new_hold}
 use Rattle.dstm_tl2.specs.Sharing.{IsRunOf, table_of}
 use Rattle.dstm_tl2.specs.State.{LocalState, Hold, first, hold_of}
 use Rattle.dstm_tl2.specs.Words.{Table, objects}
-use Rattle.dstm_tl2_words.specs.Seats.{Home, View, view_of, caller_state, IsOf}
+use Rattle.dstm_tl2_words.specs.Seats.{caller_view, Home, view_of, caller_state, IsOf}
 use Rattle.dstm_seats.specs.Seats.{event_by}
 use Rattle.dstm_tl2_caller.specs.declared.again.TlAgain.{TlAgain}
 use Rattle.dstm_tl2_caller.specs.declared.steps.Steps.{Steps}
@@ -70,20 +69,6 @@ pub record IsFirst (state : LocalState) (write : ℕ × Val) (rest : List Hold) 
   pub once : hold_of write.0 rest ≡ None
 
 module _ {L : Type 0} where
-  -- what the seat of a caller knows, which was split from the first one
-  abbrev pub caller_view : Terms L → (number : ℕ) → List Event → View L
-  caller_view terms number log = record {
-    terms = Some terms;
-    log = log;
-    number = Some number;
-    numbers = number ∷ [];
-    enrolments = 0;
-    first = false;
-    out = 0;
-    apart = 1;
-    olds = [];
-  }
-
   -- the state of the caller
   abbrev pub now : Home L → Steps L → LocalState
   now home steps = caller_state home.terms (view_of steps.seat)

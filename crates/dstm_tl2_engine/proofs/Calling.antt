@@ -9,7 +9,8 @@ use Rattle.dstm_tl2_caller.proofs.Stepping.{began_as, call_begins, call_of}
 use Rattle.dstm_tl2_caller.specs.Order.{due}
 use Rattle.dstm_tl2_caller.specs.Order.Due.{Done}
 use Rattle.dstm_tl2_caller.specs.Tasks.{Task}
-use Rattle.dstm_tl2_caller.specs.Under.{Began, Under, caller_view, now}
+use Rattle.dstm_tl2_caller.specs.Under.{Began, Under, now}
+use Rattle.dstm_tl2_words.specs.Seats.{caller_view}
 use Rattle.dstm_tl2_caller.specs.declared.again.TlAgain.{TlAgain}
 use Rattle.dstm_tl2_caller.specs.declared.steps.Steps.{Steps}
 use Rattle.dstm_tl2_engine.specs.Began.{began_of}

@@ -11,7 +11,7 @@ use Rattle.dstm_tl2.specs.Sharing.{table_of}
 use Rattle.dstm_tl2.specs.State.{LocalState}
 use Rattle.dstm_tl2.specs.Words.{Table, objects}
 use Rattle.dstm_tl2_words.specs.Seats.{View, Home}
-use Rattle.dstm_tl2_caller.specs.Under.{caller_view}
+use Rattle.dstm_tl2_words.specs.Seats.{caller_view}
 use Rattle.dstm_tl2_caller.specs.declared.again.TlAgain.{TlAgain}
 
 pub record TlCalled (L : Type 0) : Type 0 where

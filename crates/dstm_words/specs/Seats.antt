@@ -2,7 +2,7 @@
 -- tells, how seats are split and joined, and what the words hold in the end. These are the notions of `dstm_seats`,
 -- for DSTM's machine under a law `holds`.
 use Rattle.std.specs.Prelude.{◌≡◌, ℕ, ◌+◌, ◌^◌, ◌<◌, List, ◌∷◌, [], ◌++◌, length, Option}
-pub use Rattle.dstm_seats.specs.Seats.{view_of, found_in, number_or, events_by, event_by, made, own_events, moved, kept_part, given_part, joined, met, longer, old_of, nobody, IsOf, CanEnrol, IsOut, AreApart, GoesOn}
+pub use Rattle.dstm_seats.specs.Seats.{view_of, caller_view, found_in, number_or, events_by, event_by, made, own_events, moved, kept_part, given_part, joined, met, longer, old_of, nobody, IsOf, CanEnrol, IsOut, AreApart, GoesOn}
 use Rattle.dstm_seats.specs.Seats as seats
 use Rattle.dstm_seats.specs.declared.view.View as views
 use Rattle.dstm_runs.specs.Sharing.{Shared}
