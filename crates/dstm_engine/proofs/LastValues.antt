@@ -1,8 +1,8 @@
 -- The values that the words of a closed table tell.
-use Rattle.std.proofs.Common.{◌*◌, ◌+◌, ◌-◌, ◌<◌, ◌==◌, ◌∙◌, ◌≡◌, ◌≢◌, ◌⊎◌, List, arith, inl, inr, refl, subst, sym, true, ℕ}
-use Rattle.std.specs.Prelude.{length, slice_index, slice_set}
-use Rattle.std.proofs.lemmas.Bool.{cases_eq, cond_both, eqb-false}
-use Rattle.std.proofs.lemmas.List.{ext_get_or, get_or-set_other, get_or-set_same}
+use Rattle.std.proofs.Common.{◌*◌, ◌-◌, ◌<◌, ◌==◌, ◌∙◌, ◌≡◌, ◌≢◌, List, arith, inl, inr, refl, subst, sym, true, ℕ}
+use Rattle.std.specs.Prelude.{length, slice_index}
+use Rattle.std.proofs.lemmas.Bool.{cond_both, eqb-false}
+use Rattle.std.proofs.lemmas.List.{ext_get_or}
 use Rattle.dstm_core.specs.Histories.{history_of}
 use Rattle.dstm_core.specs.Left.{value_left, version_left, word_left}
 use Rattle.dstm_core.specs.Traces.{word}
@@ -60,18 +60,6 @@ module _ (s : Shape) (words : List ℕ) (l : AreLeft s words) where
           cond_both (v == 0) _ _ (IsVersion s) (λ _ some. absurd (some refl))
           (λ q. cond_both (word_left s words (StatusWord (word_left s words (OwnerWord (v - 1)))) == 4) _ _
           (IsVersion s) (λ _. named s l.log v n) (λ _. old_is v n (eqb-false v 0 q)))
-
--- one object more has its current value
-pub settled_more : (s : Shape) (start values : List Val) (words : List ℕ) (o : ℕ) (new : Val) → o < length values →
-    new ≡ value_left s start words o → ((k : ℕ) → k < o → value_at values k ≡ value_left s start words k) →
-    (k : ℕ) → k < o + 1 → value_at (slice_set values o new) k ≡ value_left s start words k
-settled_more s start values words o new below is settled k lt = by (cases_eq k o)
-  where
-    by : (k ≡ o) ⊎ (k ≡ o → ⊥) → value_at (slice_set values o new) k ≡ value_left s start words k
-    by (inl same) =
-        subst (λ n. value_at (slice_set values o new) n ≡ value_left s start words n) (sym same)
-        (get_or-set_same values o new no_value below ∙ is)
-    by (inr other) = get_or-set_other values o k new no_value other ∙ settled k (omega (arith, lt, other))
 
 -- maps with the current values are the same
 pub same_current : (s : Shape) (start : List Val) (log : List Event) (one other : List Val) →

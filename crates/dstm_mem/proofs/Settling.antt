@@ -1,9 +1,11 @@
 -- What an entry that commits says of its body's maps.
-use Rattle.std.proofs.Common.{◌≡◌, ◌∙◌, ℕ, List, refl, sym, ap, subst, cond, true, false}
-use Rattle.std.specs.Prelude.{Bool, Option, Some, None, IfSome, unwrap_or}
+use Rattle.std.proofs.Common.{◌≡◌, ◌∙◌, ◌+◌, ◌<◌, ◌⊎◌, ℕ, List, arith, inl, inr, length, refl, sym, ap, subst, cond, true, false}
+use Rattle.std.proofs.lemmas.Bool.{cases_eq}
+use Rattle.std.proofs.lemmas.List.{get_or-set_other, get_or-set_same}
+use Rattle.std.specs.Prelude.{Bool, Option, Some, None, IfSome, slice_set, unwrap_or}
 use Rattle.std.specs.Option.{option_or}
 use Rattle.dstm_model.specs.declared.value.Val.{Val}
-use Rattle.dstm_model.specs.Map.{Agrees, value_at, with_writes}
+use Rattle.dstm_model.specs.Map.{Agrees, no_value, value_at, with_writes}
 use Rattle.dstm_mem.specs.Memory.{AgreesWith, value_in, with_set}
 use Rattle.dstm_mem.proofs.Pairs.{AgreesWith-of_agrees, with_writes-with_set}
 use Rattle.dstm_mem.proofs.WithSet.{length-with_set, value_at-with_set, with_set-of_values}
@@ -36,3 +38,14 @@ pub agrees_held : (map : List Val) (held : ℕ → Option Val) (reads : List (�
 agrees_held map held reads agrees same o =
     let P : Option Val → Type 0 = λ h. IfSome h (λ v. value_at map o ≡ v) in
     subst P (same o) (AgreesWith-of_agrees map reads agrees o)
+
+-- one object more of a map has its value
+pub settled_more : (value : ℕ → Val) (map : List Val) (o : ℕ) (new : Val) → o < length map → new ≡ value o →
+    ((k : ℕ) → k < o → value_at map k ≡ value k) → (k : ℕ) → k < o + 1 → value_at (slice_set map o new) k ≡ value k
+settled_more value map o new below is settled k lt = by (cases_eq k o)
+  where
+    by : (k ≡ o) ⊎ (k ≡ o → ⊥) → value_at (slice_set map o new) k ≡ value k
+    by (inl same) =
+        subst (λ n. value_at (slice_set map o new) n ≡ value n) (sym same)
+        (get_or-set_same map o new no_value below ∙ is)
+    by (inr other) = get_or-set_other map o k new no_value other ∙ settled k (omega (arith, lt, other))

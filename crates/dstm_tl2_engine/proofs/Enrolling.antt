@@ -18,7 +18,7 @@ use Rattle.dstm_tl2.specs.Words.{Table}
 use Rattle.dstm_tl2_words.specs.Seats.{View, Makes, made, given_part, kept_part, Home}
 use Rattle.dstm_tl2_caller.specs.Calls.{IsCall}
 use Rattle.dstm_tl2_caller.specs.Tasks.Task.{Enrolling}
-use Rattle.dstm_tl2_engine.specs.Callers.{TlCalled, state}
+use Rattle.dstm_tl2_engine.specs.Callers.{TlCalled}
 use Rattle.dstm_tl2_engine.specs.Tables.{Enrols, TlFounding, enrolled_as, unnumbered}
 
 enrolling : (t : Table) (l : LocalState) (e : Event) → e.kind ≡ Enrol → l ≡ first → IsCall Enrolling t l (e ∷ [])

@@ -1,8 +1,8 @@
 -- The values that the words of a closed table tell.
 use Rattle.std.proofs.Common.{◌*◌, ◌+◌, ◌<◌, ◌≤◌, ◌∙◌, ◌∷◌, ◌≡◌, ◌≢◌, ◌⊎◌, List, [], append-nil, arith, inl, inr, refl, ap, subst, sym, true, None, ℕ, zero, suc}
-use Rattle.std.specs.Prelude.{Contains, length, slice_set}
+use Rattle.std.specs.Prelude.{Contains, length}
 use Rattle.std.proofs.lemmas.Bool.{cases_eq, cases_lt}
-use Rattle.std.proofs.lemmas.List.{ext_get_or, get_or-set_other, get_or-set_same}
+use Rattle.std.proofs.lemmas.List.{ext_get_or}
 use Rattle.std.proofs.lemmas.List.Elements.{Contains-append_right}
 use Rattle.dstm_mem.proofs.Few.{first_or_other}
 use Rattle.dstm_model.proofs.Entries.{states_keep_length}
@@ -29,18 +29,6 @@ use Rattle.dstm_tl2_engine.specs.Closing.{value_left}
 use Rattle.dstm_tl2_engine.specs.Tables.{HasReturned}
 
 -- ---- the loop over the objects
-
--- one object more has its current value
-pub settled_more : (objects : ℕ) (values : List Val) (words : List ℕ) (o : ℕ) (new : Val) → o < length values →
-    new ≡ value_left objects words o → ((k : ℕ) → k < o → value_at values k ≡ value_left objects words k) →
-    (k : ℕ) → k < o + 1 → value_at (slice_set values o new) k ≡ value_left objects words k
-settled_more objects values words o new below is settled k lt = by (cases_eq k o)
-  where
-    by : (k ≡ o) ⊎ (k ≡ o → ⊥) → value_at (slice_set values o new) k ≡ value_left objects words k
-    by (inl same) =
-        subst (λ n. value_at (slice_set values o new) n ≡ value_left objects words n) (sym same)
-        (get_or-set_same values o new no_value below ∙ is)
-    by (inr other) = get_or-set_other values o k new no_value other ∙ settled k (omega (arith, lt, other))
 
 -- the values have those of a table, by what the table was told
 pub told_by : (values start first : List Val) (words found : List ℕ) → first ≡ start → found ≡ words →

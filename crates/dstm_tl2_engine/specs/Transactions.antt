@@ -1,5 +1,5 @@
 -- What the calls of an attempt say.
-use Rattle.std.specs.Prelude.{◌≡◌, ◌≢◌, ◌+◌, ◌<◌, ℕ, Bool, true, false, List, [], ◌∷◌, ◌++◌, length, map, Option, None, Some, Result, Ok, Err}
+use Rattle.std.specs.Prelude.{◌≡◌, ◌≢◌, ◌<◌, ℕ, Bool, true, false, List, [], ◌∷◌, ◌++◌, length, map, Option, None, Some, Result, Ok, Err}
 use base.Fml.{GName}
 use Rattle.dstm_model.specs.declared.value.Val.{Val}
 use Rattle.dstm_mem.specs.Memory.{with_set}

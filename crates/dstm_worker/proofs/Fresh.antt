@@ -2,7 +2,7 @@
 use Rattle.std.proofs.Common.{◌≡◌, ◌⊎◌, ◌==◌, ◌&&◌, ℕ, true, false, List, [], ◌∷◌, ◌++◌, Some, is_some, refl, ap, sym, subst, ◌∙◌, inl, inr}
 use Rattle.std.proofs.lemmas.Bool.{cases_Bool, cond_both, eqb-true, eq-eqb}
 use Rattle.std.proofs.lemmas.List.{append-nil}
-use Rattle.std.proofs.lemmas.List.Elements.{filter-append}
+use Rattle.std.proofs.lemmas.List.Elements.{All-cons, All-nil, filter-append}
 use Rattle.std.proofs.lemmas.Option.{none-some}
 use Rattle.dstm_core.specs.Events.{Event}
 use Rattle.dstm_core.specs.declared.event.Kind.{Kind}
@@ -13,7 +13,7 @@ use Rattle.dstm_core.specs.Runs.{Core, core, local}
 use Rattle.dstm_core.specs.State.{LocalState, first, given}
 use Rattle.dstm_core.specs.Traces.{events_of}
 use Rattle.dstm_runs.proofs.Runs.{local-events_of}
-use Rattle.dstm_answers.specs.Committed.{is_commit, done_by}
+use Rattle.dstm_answers.specs.Committed.{done_by, has_committed, is_commit}
 use Rattle.dstm_answers.proofs.Stays.{call_adds_none}
 use Rattle.dstm_causes.proofs.Ends.{callers_in_range}
 use Rattle.rand_pcg.specs.Lcg.{Lcg}
@@ -112,7 +112,9 @@ module _ (f g : Founding StoreLaw) (seed : ℕ) (k : Called StoreLaw) (enrols : 
       (call_adds_none shape (start_of k) k.log [] k.number (enrols.enrol ∷ [])
       (subst (Core shape) (sym whole) run.run.core)
       (ap (events_of k.number) whole ∙ enrols.own)
-      (ap (λ b. b && (enrols.enrol.found == 3)) (enrols_none enrols.enrol enrols.enrol.kind kind), tt))
+      (All-cons (λ (e : Event). has_committed e ≡ false) enrols.enrol []
+      (ap (λ b. b && (enrols.enrol.found == 3)) (enrols_none enrols.enrol enrols.enrol.kind kind))
+      (All-nil (λ (e : Event). has_committed e ≡ false))))
 
   pub fresh_home : k.home ≡ f.home
   fresh_home = at_home

@@ -1,7 +1,7 @@
 use Rattle.std.proofs.Common.{◌<◌, ◌∙◌, ◌≡◌, ap, arith, refl, length}
 use Rattle.std.proofs.lemmas.List.{length-set}
 use Rattle.dstm_tl2_engine.specs.Closing.{value_left}
-use Rattle.dstm_tl2_engine.proofs.LastValues.{settled_more}
+use Rattle.dstm_mem.proofs.Settling.{settled_more}
 use Rattle.dstm_tl2_engine.proofs.closing.settle.Goals as goal
 
 pub loop-o-preserved : goal.loop-o-preserved
@@ -13,7 +13,7 @@ loop-o-preserved c =
     let same = v.same in let count = c.len-objects.ensures in omega (arith, c.loop-o-test.true) in
     record {
       same = length-set values o _ ∙ v.same;
-      settled = settled_more c.len-objects.result values c.args.words.now o _ below refl v.settled;
+      settled = settled_more (value_left c.len-objects.result c.args.words.now) values o _ below refl v.settled;
     }
 
 pub returns-clause-values : goal.returns-clause-values

@@ -1,4 +1,4 @@
-use Rattle.std.proofs.Common.{◌*◌, ◌+◌, ◌<◌, ◌∙◌, ◌≡◌, ◌^◌, None, ap, arith, false, not, subst, sym}
+use Rattle.std.proofs.Common.{◌∙◌, ◌≡◌, None, ap, arith, false, not, subst, sym}
 use Rattle.dstm_caller.specs.Under.{now}
 use Rattle.dstm_caller.specs.declared.steps.Steps.{Steps}
 use Rattle.dstm_core.proofs.Static.{static}

@@ -1,4 +1,4 @@
-use Rattle.std.proofs.Common.{◌∙◌, ◌≡◌, ap, subst, sym, true, None}
+use Rattle.std.proofs.Common.{rules, ◌∙◌, ◌≡◌, ap, subst, sym, true, None}
 use Rattle.dstm_caller.specs.Under.{now}
 use Rattle.dstm_core.specs.State.{LocalState, drop_read, read_of}
 use Rattle.std.specs.Prelude.{is_some, not, ◌&&◌}
@@ -52,8 +52,8 @@ invariant_of-self g c =
     subst (λ (o : OpenedAs). Tied g.L.Law.holds (record x { steps = c.release.new.self; opened = o }))
     (sym c.drop_read.ensures) (released_tied g.L.Law.holds x c.self.invariant live c.args.o c.release.new.self u is read)
 
-pub returns-clause-held : goal.returns-clause-held
-returns-clause-held g c =
+pub returns : goal.returns
+returns g c =
     let x = c.self.inside in
     let home : (called x).home ≡ c.words.result.now =
     ap (λ (k : Called _). k.home) c.self.view_is ∙ c.requires.table ∙ sym c.words.ensures in
@@ -76,73 +76,32 @@ returns-clause-held g c =
       pass = None;
       checked = 0;
     }) was) in
-    subst (λ (o : OpenedAs). HoldsWithout c.args.o (held c.args.self.now) (held (called (record x { steps = c.release.new.self; opened = o })))) (sym c.drop_read.ensures)
-    (subst (λ (k : Called _). HoldsWithout c.args.o (held k) (held (called (record x {
-      steps = c.release.new.self;
-      opened = record x.opened { reads = without_read c.args.o x.opened.reads };
-    })))) c.self.view_is
-    (holds_without g.L.Law.holds x c.self.invariant live c.args.o c.release.new.self u is read))
-
-pub returns-clause-place : goal.returns-clause-place
-returns-clause-place g c =
-    let x = c.self.inside in
-    let home : (called x).home ≡ c.words.result.now =
-    ap (λ (k : Called _). k.home) c.self.view_is ∙ c.requires.table ∙ sym c.words.ensures in
-    let read : is_some (held (called x) c.args.o) && not (is_opened (called x) c.args.o) ≡ true =
-    ap (λ (k : Called _). is_some (held k c.args.o) && not (is_opened k c.args.o)) c.self.view_is ∙ c.requires.read in
-    let was = now_there g.L.Law.holds x c.self.invariant c.words.result.now home c.renew.new.steps c.renew.ensures in
-    let live : x.live ≡ true =
-    live_there g.L.Law.holds x c.self.invariant ∙ ap is_live c.self.view_is ∙ c.requires.live in
-    let u = ends_here g.L.Law.holds x c.self.invariant c.words.result.now home c.renew.new.steps c.renew.ensures
-    (Doing (Releasing c.args.o)) c.release.new.self None c.release.ensures.under in
-    let is =
-    subst (λ (h : Home _). now h c.release.new.self ≡ record (state (called x)) {
-      reads = drop_read c.args.o (state (called x)).reads;
-      resolution = None;
-      pass = None;
-      checked = 0;
-    }) (sym home) (c.release.ensures.state ∙ ap (λ (l : LocalState). record l {
-      reads = drop_read c.args.o l.reads;
-      resolution = None;
-      pass = None;
-      checked = 0;
-    }) was) in
-    λ name table.
-    subst (λ (o : OpenedAs). tx_place name table (called (record x { steps = c.release.new.self; opened = o })) ≡ tx_place name table c.args.self.now) (sym c.drop_read.ensures)
-    (subst (λ (k : Called _). tx_place name table (called (record x {
-      steps = c.release.new.self;
-      opened = record x.opened { reads = without_read c.args.o x.opened.reads };
-    })) ≡ tx_place name table k) c.self.view_is
-    (released_place g.L.Law.holds x c.self.invariant live c.args.o c.release.new.self u is read name table))
-
-pub returns-clause-widens : goal.returns-clause-widens
-returns-clause-widens g c =
-    let x = c.self.inside in
-    let home : (called x).home ≡ c.words.result.now =
-    ap (λ (k : Called _). k.home) c.self.view_is ∙ c.requires.table ∙ sym c.words.ensures in
-    let read : is_some (held (called x) c.args.o) && not (is_opened (called x) c.args.o) ≡ true =
-    ap (λ (k : Called _). is_some (held k c.args.o) && not (is_opened k c.args.o)) c.self.view_is ∙ c.requires.read in
-    let was = now_there g.L.Law.holds x c.self.invariant c.words.result.now home c.renew.new.steps c.renew.ensures in
-    let live : x.live ≡ true =
-    live_there g.L.Law.holds x c.self.invariant ∙ ap is_live c.self.view_is ∙ c.requires.live in
-    let u = ends_here g.L.Law.holds x c.self.invariant c.words.result.now home c.renew.new.steps c.renew.ensures
-    (Doing (Releasing c.args.o)) c.release.new.self None c.release.ensures.under in
-    let is =
-    subst (λ (h : Home _). now h c.release.new.self ≡ record (state (called x)) {
-      reads = drop_read c.args.o (state (called x)).reads;
-      resolution = None;
-      pass = None;
-      checked = 0;
-    }) (sym home) (c.release.ensures.state ∙ ap (λ (l : LocalState). record l {
-      reads = drop_read c.args.o l.reads;
-      resolution = None;
-      pass = None;
-      checked = 0;
-    }) was) in
-    λ map.
-    subst (λ (o : OpenedAs). Admits g.L.Law.holds c.args.self.now map → Admits g.L.Law.holds (called (record x { steps = c.release.new.self; opened = o })) map) (sym c.drop_read.ensures)
-    (subst (λ (k : Called _). Admits g.L.Law.holds k map → Admits g.L.Law.holds (called (record x {
-      steps = c.release.new.self;
-      opened = record x.opened { reads = without_read c.args.o x.opened.reads };
-    })) map) c.self.view_is
-    (released_widens g.L.Law.holds x c.self.invariant live c.args.o c.release.new.self u is read map))
+    record {
+      steps = search rules;
+      kept = search rules;
+      held =
+          subst (λ (o : OpenedAs). HoldsWithout c.args.o (held c.args.self.now) (held (called (record x { steps = c.release.new.self; opened = o })))) (sym c.drop_read.ensures)
+          (subst (λ (k : Called _). HoldsWithout c.args.o (held k) (held (called (record x {
+            steps = c.release.new.self;
+            opened = record x.opened { reads = without_read c.args.o x.opened.reads };
+          })))) c.self.view_is
+          (holds_without g.L.Law.holds x c.self.invariant live c.args.o c.release.new.self u is read));
+      opened = search rules;
+      live = search rules;
+      place =
+          λ name table.
+          subst (λ (o : OpenedAs). tx_place name table (called (record x { steps = c.release.new.self; opened = o })) ≡ tx_place name table c.args.self.now) (sym c.drop_read.ensures)
+          (subst (λ (k : Called _). tx_place name table (called (record x {
+            steps = c.release.new.self;
+            opened = record x.opened { reads = without_read c.args.o x.opened.reads };
+          })) ≡ tx_place name table k) c.self.view_is
+          (released_place g.L.Law.holds x c.self.invariant live c.args.o c.release.new.self u is read name table));
+      widens =
+          λ map.
+          subst (λ (o : OpenedAs). Admits g.L.Law.holds c.args.self.now map → Admits g.L.Law.holds (called (record x { steps = c.release.new.self; opened = o })) map) (sym c.drop_read.ensures)
+          (subst (λ (k : Called _). Admits g.L.Law.holds k map → Admits g.L.Law.holds (called (record x {
+            steps = c.release.new.self;
+            opened = record x.opened { reads = without_read c.args.o x.opened.reads };
+          })) map) c.self.view_is
+          (released_widens g.L.Law.holds x c.self.invariant live c.args.o c.release.new.self u is read map));
+    }

@@ -1,4 +1,4 @@
-use Rattle.std.proofs.Common.{◌*◌, ◌+◌, ◌<◌, ◌∙◌, ◌≡◌, ◌^◌, ap, arith, None, refl, Some, subst, sym, true}
+use Rattle.std.proofs.Common.{rules, ◌*◌, ◌+◌, ◌<◌, ◌∙◌, ◌≡◌, ap, arith, None, refl, Some, subst, sym, true}
 use Rattle.dstm_caller.specs.Under.{now}
 use Rattle.dstm_caller.specs.declared.steps.Steps.{Steps}
 use Rattle.dstm_core.proofs.Columns.{in_table}
@@ -89,8 +89,8 @@ invariant_of-self g c =
     (write_tied g.L.Law.holds x c.self.invariant live c.args.o e.version c.in-Ok.old new u adds valued
     c.write_object.new.last last unopened)
 
-pub returns-in-Ok-clause-opens : goal.returns-in-Ok-clause-opens
-returns-in-Ok-clause-opens g c =
+pub returns-in-Ok : goal.returns-in-Ok
+returns-in-Ok g c =
     let x = c.self.inside in
     let home : (called x).home ≡ c.words.result.now =
     ap (λ (k : Called _). k.home) c.self.view_is ∙ c.requires.table ∙ sym c.words.ensures in
@@ -108,45 +108,30 @@ returns-in-Ok-clause-opens g c =
     subst (λ (h : Home _). HasVersion h new c.args.o e.version c.in-Ok.old) (sym home) e.valued in
     let last = c.in-Ok.ensures.last ∙ ap (λ (h : Home _). (now h new).last_pass) (sym home) in
     let unopened = ap (λ (k : Called _). is_opened k c.args.o) c.self.view_is ∙ c.requires.unopened in
-    subst (λ (k : Called _). Opens g.L.Law.holds (Writing c.args.o) c.args.o k (called (record x {
-      steps = new;
-      last_number = c.write_object.new.last;
-      opened = c.write_object.new.opened;
-    })) c.in-Ok.old) c.self.view_is
-    (subst (λ (o : OpenedAs). Opens g.L.Law.holds (Writing c.args.o) c.args.o (called x) (called (record x {
-      steps = new;
-      last_number = c.write_object.new.last;
-      opened = o;
-    })) c.in-Ok.old) (sym e.listed)
-    (write_opens g.L.Law.holds x c.self.invariant live c.args.o e.version c.in-Ok.old new u adds valued
-    c.write_object.new.last last unopened))
-
-pub returns-in-Ok-clause-marked : goal.returns-in-Ok-clause-marked
-returns-in-Ok-clause-marked g c =
-    let x = c.self.inside in
-    let home : (called x).home ≡ c.words.result.now =
-    ap (λ (k : Called _). k.home) c.self.view_is ∙ c.requires.table ∙ sym c.words.ensures in
-    let live : x.live ≡ true =
-    live_there g.L.Law.holds x c.self.invariant ∙ ap is_live c.self.view_is ∙ c.requires.live in
-    let new = c.write_object.new.steps in
-    let u = ends_here g.L.Law.holds x c.self.invariant c.words.result.now home c.renew.new.steps c.renew.ensures
-    (Doing (Writing c.args.o)) new None c.in-Ok.ensures.ends_well in
-    let e = c.in-Ok.ensures.opens in
-    let was = now_there g.L.Law.holds x c.self.invariant c.words.result.now home c.renew.new.steps c.renew.ensures in
-    let adds : AddsWrite c.args.o e.version (state (called x)) (now (called x).home new) =
-    subst (λ (h : Home _). AddsWrite c.args.o e.version (state (called x)) (now h new)) (sym home)
-    (subst (λ (l : LocalState). AddsWrite c.args.o e.version l (now c.words.result.now new)) was e.adds) in
-    let valued : HasVersion (called x).home new c.args.o e.version c.in-Ok.old =
-    subst (λ (h : Home _). HasVersion h new c.args.o e.version c.in-Ok.old) (sym home) e.valued in
-    let last = c.in-Ok.ensures.last ∙ ap (λ (h : Home _). (now h new).last_pass) (sym home) in
-    let unopened = ap (λ (k : Called _). is_opened k c.args.o) c.self.view_is ∙ c.requires.unopened in
-    subst (λ (o : OpenedAs). IsTrue (is_opened (called (record x {
-      steps = new;
-      last_number = c.write_object.new.last;
-      opened = o;
-    })) c.args.o)) (sym e.listed)
-    (write_marked g.L.Law.holds x c.self.invariant live c.args.o e.version c.in-Ok.old new u adds valued
-    c.write_object.new.last last unopened)
+    record {
+      opens =
+          subst (λ (k : Called _). Opens g.L.Law.holds (Writing c.args.o) c.args.o k (called (record x {
+            steps = new;
+            last_number = c.write_object.new.last;
+            opened = c.write_object.new.opened;
+          })) c.in-Ok.old) c.self.view_is
+          (subst (λ (o : OpenedAs). Opens g.L.Law.holds (Writing c.args.o) c.args.o (called x) (called (record x {
+            steps = new;
+            last_number = c.write_object.new.last;
+            opened = o;
+          })) c.in-Ok.old) (sym e.listed)
+          (write_opens g.L.Law.holds x c.self.invariant live c.args.o e.version c.in-Ok.old new u adds valued
+          c.write_object.new.last last unopened));
+      marked =
+          subst (λ (o : OpenedAs). IsTrue (is_opened (called (record x {
+            steps = new;
+            last_number = c.write_object.new.last;
+            opened = o;
+          })) c.args.o)) (sym e.listed)
+          (write_marked g.L.Law.holds x c.self.invariant live c.args.o e.version c.in-Ok.old new u adds valued
+          c.write_object.new.last last unopened);
+      stops = search rules;
+    }
 
 pub invariant_of-self-in-Err : goal.invariant_of-self-in-Err
 invariant_of-self-in-Err g c =

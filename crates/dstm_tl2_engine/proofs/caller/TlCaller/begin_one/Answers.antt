@@ -1,4 +1,4 @@
-use Rattle.std.proofs.Common.{◌∙◌, ◌≡◌, None, ap, subst, sym, true, false}
+use Rattle.std.proofs.Common.{◌∙◌, ◌≡◌, None, ap, subst, sym}
 use Rattle.dstm_tl2.specs.Sharing.{table_of}
 use Rattle.dstm_tl2.specs.Words.{place}
 use Rattle.dstm_tl2.specs.Words.Word.{ClockWord}

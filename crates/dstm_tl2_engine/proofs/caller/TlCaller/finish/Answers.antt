@@ -1,4 +1,4 @@
-use Rattle.std.proofs.Common.{◌∙◌, ◌≡◌, None, Some, ap, refl, subst, sym, true}
+use Rattle.std.proofs.Common.{rules, ◌∙◌, ◌≡◌, None, Some, ap, refl, subst, sym, true}
 use Rattle.dstm_model.specs.Map.{NamesOnce}
 use Rattle.dstm_tl2.specs.Sharing.{table_of}
 use Rattle.dstm_tl2.specs.State.{is_valid}
@@ -46,8 +46,8 @@ invariant_of-self g c =
     (left_tied g.L.Law.holds x v (Finishing x.opened.writes) refl new c.in-Err.again u once
     (free_here g.L.Law.holds x v words home new c.in-Err.ensures.free.1))
 
-pub returns-in-Err-clause-leaves : goal.returns-in-Err-clause-leaves
-returns-in-Err-clause-leaves g c =
+pub returns-in-Err : goal.returns-in-Err
+returns-in-Err g c =
     let x = c.self.inside in
     let v = c.self.invariant in
     let new = c.finish-committed.new.self in
@@ -60,26 +60,17 @@ returns-in-Err-clause-leaves g c =
     let u =
     ends_here g.L.Law.holds x v words home (Doing (Finishing x.opened.writes)) new Done (Some c.in-Err.again)
     c.in-Err.ensures.ends in
-    subst (λ (k : TlCalled _). Leaves g.L.Law.holds (Finishing k.writes) k
-    (called (record x { steps = new; left = Some c.in-Err.again })) c.in-Err.again) c.self.view_is
-    (left_leaves g.L.Law.holds x v (Finishing x.opened.writes) refl new c.in-Err.again u once
-    (free_here g.L.Law.holds x v words home new c.in-Err.ensures.free.1))
-
-pub returns-in-Err-clause-seen : goal.returns-in-Err-clause-seen
-returns-in-Err-clause-seen g c =
-    let x = c.self.inside in
-    let v = c.self.invariant in
-    let new = c.finish-committed.new.self in
-    let words = c.words.result.now in
-    let home : (called x).home ≡ words =
-    ap (λ (k : TlCalled _). k.home) c.self.view_is ∙ c.requires.table ∙ sym c.words.ensures in
-    let once : NamesOnce (objects (table_of x.terms)) x.opened.writes =
-    subst (λ n. NamesOnce n x.opened.writes) v.objects
-    (writes_once x.opened.objects x.opened.writes c.writes.ensures.below c.writes.ensures.apart) in
-    let u =
-    ends_here g.L.Law.holds x v words home (Doing (Finishing x.opened.writes)) new Done (Some c.in-Err.again)
-    c.in-Err.ensures.ends in
-    (kept g.L.Law.holds x v (Doing (Finishing x.opened.writes)) new Done (Some c.in-Err.again) u).seen
+    record {
+      stays = search rules;
+      leaves =
+          subst (λ (k : TlCalled _). Leaves g.L.Law.holds (Finishing k.writes) k
+          (called (record x { steps = new; left = Some c.in-Err.again })) c.in-Err.again) c.self.view_is
+          (left_leaves g.L.Law.holds x v (Finishing x.opened.writes) refl new c.in-Err.again u once
+          (free_here g.L.Law.holds x v words home new c.in-Err.ensures.free.1));
+      number = search rules;
+      kept = search rules;
+      seen = (kept g.L.Law.holds x v (Doing (Finishing x.opened.writes)) new Done (Some c.in-Err.again) u).seen;
+    }
 
 pub invariant_of-self-in_default : goal.invariant_of-self-in_default
 invariant_of-self-in_default g c =
@@ -103,8 +94,8 @@ invariant_of-self-in_default g c =
     subst (λ n. Tied g.L.Law.holds (record x { steps = new; locked = n })) (sym c.in_default.ensures.free.0)
     (finished_tied g.L.Law.holds x v new u locked c.in_default.field-0 valid drawn told free)
 
-pub returns-in_default-clause-stays : goal.returns-in_default-clause-stays
-returns-in_default-clause-stays g c =
+pub returns-in_default : goal.returns-in_default
+returns-in_default g c =
     let x = c.self.inside in
     let v = c.self.invariant in
     let new = c.finish-committed.new.self in
@@ -122,51 +113,17 @@ returns-in_default-clause-stays g c =
     let told : (now (called x).home new).writes ≡ Some x.opened.writes =
     subst (λ (h : Home _). (now h new).writes ≡ Some x.opened.writes) (sym home) c.in_default.ensures.valid.2 in
     let free = free_here g.L.Law.holds x v words home new c.in_default.ensures.free.1 in
-    let r = c.in_default.is in rw r
-    (subst (λ (k : TlCalled _). Stays g.L.Law.holds (Finishing k.writes) k (called (record x { steps = new })))
-    c.self.view_is
-    (finished_stays g.L.Law.holds x v new u locked c.in_default.field-0 valid drawn told free))
-
-pub returns-in_default-clause-number : goal.returns-in_default-clause-number
-returns-in_default-clause-number g c =
-    let x = c.self.inside in
-    let v = c.self.invariant in
-    let new = c.finish-committed.new.self in
-    let words = c.words.result.now in
-    let home : (called x).home ≡ words =
-    ap (λ (k : TlCalled _). k.home) c.self.view_is ∙ c.requires.table ∙ sym c.words.ensures in
-    let locked : HasLocked (called x) = subst HasLocked (sym c.self.view_is) c.requires.locked in
-    let u =
-    ends_here g.L.Law.holds x v words home (Doing (Finishing x.opened.writes)) new Done None
-    c.in_default.ensures.ends_well in
-    let valid : is_valid (now (called x).home new) ≡ true =
-    subst (λ (h : Home _). is_valid (now h new) ≡ true) (sym home) c.in_default.ensures.valid.0 in
-    let drawn : (now (called x).home new).drawn ≡ Some c.in_default.field-0 =
-    subst (λ (h : Home _). (now h new).drawn ≡ Some c.in_default.field-0) (sym home) c.in_default.ensures.valid.1 in
-    let told : (now (called x).home new).writes ≡ Some x.opened.writes =
-    subst (λ (h : Home _). (now h new).writes ≡ Some x.opened.writes) (sym home) c.in_default.ensures.valid.2 in
-    let free = free_here g.L.Law.holds x v words home new c.in_default.ensures.free.1 in
-    let r = c.in_default.is in rw r
-    (subst (λ (k : TlCalled _). Commits k (called (record x { steps = new })) c.in_default.field-0) c.self.view_is
-    (finished_commits g.L.Law.holds x v new u locked c.in_default.field-0 valid drawn told free))
-
-pub returns-in_default-clause-seen : goal.returns-in_default-clause-seen
-returns-in_default-clause-seen g c =
-    let x = c.self.inside in
-    let v = c.self.invariant in
-    let new = c.finish-committed.new.self in
-    let words = c.words.result.now in
-    let home : (called x).home ≡ words =
-    ap (λ (k : TlCalled _). k.home) c.self.view_is ∙ c.requires.table ∙ sym c.words.ensures in
-    let locked : HasLocked (called x) = subst HasLocked (sym c.self.view_is) c.requires.locked in
-    let u =
-    ends_here g.L.Law.holds x v words home (Doing (Finishing x.opened.writes)) new Done None
-    c.in_default.ensures.ends_well in
-    let valid : is_valid (now (called x).home new) ≡ true =
-    subst (λ (h : Home _). is_valid (now h new) ≡ true) (sym home) c.in_default.ensures.valid.0 in
-    let drawn : (now (called x).home new).drawn ≡ Some c.in_default.field-0 =
-    subst (λ (h : Home _). (now h new).drawn ≡ Some c.in_default.field-0) (sym home) c.in_default.ensures.valid.1 in
-    let told : (now (called x).home new).writes ≡ Some x.opened.writes =
-    subst (λ (h : Home _). (now h new).writes ≡ Some x.opened.writes) (sym home) c.in_default.ensures.valid.2 in
-    let free = free_here g.L.Law.holds x v words home new c.in_default.ensures.free.1 in
-    (kept g.L.Law.holds x v (Doing (Finishing x.opened.writes)) new Done None u).seen
+    let r = c.in_default.is in
+    rw r (record {
+      stays =
+          subst (λ (k : TlCalled _). Stays g.L.Law.holds (Finishing k.writes) k (called (record x { steps = new })))
+          c.self.view_is
+          (finished_stays g.L.Law.holds x v new u locked c.in_default.field-0 valid drawn told free);
+      leaves = search rules;
+      number =
+          subst (λ (k : TlCalled _). Commits k (called (record x { steps = new })) c.in_default.field-0)
+          c.self.view_is
+          (finished_commits g.L.Law.holds x v new u locked c.in_default.field-0 valid drawn told free);
+      kept = search rules;
+      seen = (kept g.L.Law.holds x v (Doing (Finishing x.opened.writes)) new Done None u).seen;
+    })

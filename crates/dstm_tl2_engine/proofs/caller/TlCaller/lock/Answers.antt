@@ -1,4 +1,4 @@
-use Rattle.std.proofs.Common.{◌∙◌, ◌≡◌, None, Some, ap, refl, subst, sym, true}
+use Rattle.std.proofs.Common.{rules, ◌∙◌, ◌≡◌, None, Some, ap, refl, subst, sym, true}
 use Rattle.dstm_model.specs.Map.{NamesOnce}
 use Rattle.dstm_tl2.specs.Sharing.{table_of}
 use Rattle.dstm_tl2.specs.Words.{objects}
@@ -35,8 +35,8 @@ invariant_of-self g c =
     (left_tied g.L.Law.holds x v (Locking x.opened.writes) refl new c.in-Err.again u once
     (free_here g.L.Law.holds x v words home new c.in-Err.ensures.free.1))
 
-pub returns-in-Err-clause-leaves : goal.returns-in-Err-clause-leaves
-returns-in-Err-clause-leaves g c =
+pub returns-in-Err : goal.returns-in-Err
+returns-in-Err g c =
     let x = c.self.inside in
     let v = c.self.invariant in
     let new = c.lock_all-locked.new.self in
@@ -49,26 +49,18 @@ returns-in-Err-clause-leaves g c =
     let u =
     ends_here g.L.Law.holds x v words home (Doing (Locking x.opened.writes)) new Done (Some c.in-Err.again)
     c.in-Err.ensures.ends in
-    subst (λ (k : TlCalled _). Leaves g.L.Law.holds (Locking k.writes) k
-    (called (record x { steps = new; left = Some c.in-Err.again })) c.in-Err.again) c.self.view_is
-    (left_leaves g.L.Law.holds x v (Locking x.opened.writes) refl new c.in-Err.again u once
-    (free_here g.L.Law.holds x v words home new c.in-Err.ensures.free.1))
-
-pub returns-in-Err-clause-seen : goal.returns-in-Err-clause-seen
-returns-in-Err-clause-seen g c =
-    let x = c.self.inside in
-    let v = c.self.invariant in
-    let new = c.lock_all-locked.new.self in
-    let words = c.words.result.now in
-    let home : (called x).home ≡ words =
-    ap (λ (k : TlCalled _). k.home) c.self.view_is ∙ c.requires.table ∙ sym c.words.ensures in
-    let once : NamesOnce (objects (table_of x.terms)) x.opened.writes =
-    subst (λ n. NamesOnce n x.opened.writes) v.objects
-    (writes_once x.opened.objects x.opened.writes c.writes.ensures.below c.writes.ensures.apart) in
-    let u =
-    ends_here g.L.Law.holds x v words home (Doing (Locking x.opened.writes)) new Done (Some c.in-Err.again)
-    c.in-Err.ensures.ends in
-    (kept g.L.Law.holds x v (Doing (Locking x.opened.writes)) new Done (Some c.in-Err.again) u).seen
+    record {
+      stays = search rules;
+      leaves =
+          subst (λ (k : TlCalled _). Leaves g.L.Law.holds (Locking k.writes) k
+          (called (record x { steps = new; left = Some c.in-Err.again })) c.in-Err.again) c.self.view_is
+          (left_leaves g.L.Law.holds x v (Locking x.opened.writes) refl new c.in-Err.again u once
+          (free_here g.L.Law.holds x v words home new c.in-Err.ensures.free.1));
+      kept = search rules;
+      locked = search rules;
+      done = search rules;
+      seen = (kept g.L.Law.holds x v (Doing (Locking x.opened.writes)) new Done (Some c.in-Err.again) u).seen;
+    }
 
 pub invariant_of-self-in_default : goal.invariant_of-self-in_default
 invariant_of-self-in_default g c =
@@ -93,8 +85,8 @@ invariant_of-self-in_default g c =
     subst (λ n. Tied g.L.Law.holds (record x { steps = new; locked = n })) (sym c.in_default.ensures.all)
     (locked_tied g.L.Law.holds x v new u rest live state_is locks lawful)
 
-pub returns-in_default-clause-stays : goal.returns-in_default-clause-stays
-returns-in_default-clause-stays g c =
+pub returns-in_default : goal.returns-in_default
+returns-in_default g c =
     let x = c.self.inside in
     let v = c.self.invariant in
     let new = c.lock_all-locked.new.self in
@@ -111,91 +103,18 @@ returns-in_default-clause-stays g c =
     let locks =
     locks_here g.L.Law.holds x v words home new c.lock_all-locked.new.locked c.lock_all-locked.ensures.lists
     c.in_default.ensures.all in
-    let r = c.in_default.is in rw r
-    (subst (λ (k : TlCalled _). Stays g.L.Law.holds (Locking k.writes) k (called (record x { steps = new })))
-    c.self.view_is
-    (locked_stays g.L.Law.holds x v new u rest live state_is locks))
-
-pub returns-in_default-clause-kept : goal.returns-in_default-clause-kept
-returns-in_default-clause-kept g c =
-    let x = c.self.inside in
-    let v = c.self.invariant in
-    let new = c.lock_all-locked.new.self in
-    let words = c.words.result.now in
-    let home : (called x).home ≡ words =
-    ap (λ (k : TlCalled _). k.home) c.self.view_is ∙ c.requires.table ∙ sym c.words.ensures in
-    let live : is_live (called x) ≡ true = ap is_live c.self.view_is ∙ c.requires.live in
-    let rest : AtRest (state (called x)) =
-    subst (λ (k : TlCalled _). AtRest (state k)) (sym c.self.view_is) c.requires.rest in
-    let u =
-    ends_here g.L.Law.holds x v words home (Doing (Locking x.opened.writes)) new Done None
-    (c.in_default.ensures.goes_on (Locking x.opened.writes) refl) in
-    let state_is = locked_here g.L.Law.holds x v words home new c.in_default.ensures.state in
-    let locks =
-    locks_here g.L.Law.holds x v words home new c.lock_all-locked.new.locked c.lock_all-locked.ensures.lists
-    c.in_default.ensures.all in
-    let r = c.in_default.is in rw r
-    (subst (λ (k : TlCalled _).
-    called (record x { steps = new }) ≡ record k { log = (view_of new.seat).log; left = None }) c.self.view_is
-    (locked_kept g.L.Law.holds x v new u rest live state_is locks))
-
-pub returns-in_default-clause-locked : goal.returns-in_default-clause-locked
-returns-in_default-clause-locked g c =
-    let x = c.self.inside in
-    let v = c.self.invariant in
-    let new = c.lock_all-locked.new.self in
-    let words = c.words.result.now in
-    let home : (called x).home ≡ words =
-    ap (λ (k : TlCalled _). k.home) c.self.view_is ∙ c.requires.table ∙ sym c.words.ensures in
-    let live : is_live (called x) ≡ true = ap is_live c.self.view_is ∙ c.requires.live in
-    let rest : AtRest (state (called x)) =
-    subst (λ (k : TlCalled _). AtRest (state k)) (sym c.self.view_is) c.requires.rest in
-    let u =
-    ends_here g.L.Law.holds x v words home (Doing (Locking x.opened.writes)) new Done None
-    (c.in_default.ensures.goes_on (Locking x.opened.writes) refl) in
-    let state_is = locked_here g.L.Law.holds x v words home new c.in_default.ensures.state in
-    let locks =
-    locks_here g.L.Law.holds x v words home new c.lock_all-locked.new.locked c.lock_all-locked.ensures.lists
-    c.in_default.ensures.all in
-    let r = c.in_default.is in rw r (has_locked g.L.Law.holds x v new u rest live state_is locks)
-
-pub returns-in_default-clause-done : goal.returns-in_default-clause-done
-returns-in_default-clause-done g c =
-    let x = c.self.inside in
-    let v = c.self.invariant in
-    let new = c.lock_all-locked.new.self in
-    let words = c.words.result.now in
-    let home : (called x).home ≡ words =
-    ap (λ (k : TlCalled _). k.home) c.self.view_is ∙ c.requires.table ∙ sym c.words.ensures in
-    let live : is_live (called x) ≡ true = ap is_live c.self.view_is ∙ c.requires.live in
-    let rest : AtRest (state (called x)) =
-    subst (λ (k : TlCalled _). AtRest (state k)) (sym c.self.view_is) c.requires.rest in
-    let u =
-    ends_here g.L.Law.holds x v words home (Doing (Locking x.opened.writes)) new Done None
-    (c.in_default.ensures.goes_on (Locking x.opened.writes) refl) in
-    let state_is = locked_here g.L.Law.holds x v words home new c.in_default.ensures.state in
-    let locks =
-    locks_here g.L.Law.holds x v words home new c.lock_all-locked.new.locked c.lock_all-locked.ensures.lists
-    c.in_default.ensures.all in
-    let r = c.in_default.is in rw r
-    (locked_done g.L.Law.holds x v new u rest live state_is locks ∙ ap done c.self.view_is)
-
-pub returns-in_default-clause-seen : goal.returns-in_default-clause-seen
-returns-in_default-clause-seen g c =
-    let x = c.self.inside in
-    let v = c.self.invariant in
-    let new = c.lock_all-locked.new.self in
-    let words = c.words.result.now in
-    let home : (called x).home ≡ words =
-    ap (λ (k : TlCalled _). k.home) c.self.view_is ∙ c.requires.table ∙ sym c.words.ensures in
-    let live : is_live (called x) ≡ true = ap is_live c.self.view_is ∙ c.requires.live in
-    let rest : AtRest (state (called x)) =
-    subst (λ (k : TlCalled _). AtRest (state k)) (sym c.self.view_is) c.requires.rest in
-    let u =
-    ends_here g.L.Law.holds x v words home (Doing (Locking x.opened.writes)) new Done None
-    (c.in_default.ensures.goes_on (Locking x.opened.writes) refl) in
-    let state_is = locked_here g.L.Law.holds x v words home new c.in_default.ensures.state in
-    let locks =
-    locks_here g.L.Law.holds x v words home new c.lock_all-locked.new.locked c.lock_all-locked.ensures.lists
-    c.in_default.ensures.all in
-    (kept g.L.Law.holds x v (Doing (Locking x.opened.writes)) new Done None u).seen
+    let r = c.in_default.is in
+    rw r (record {
+      stays =
+          subst (λ (k : TlCalled _). Stays g.L.Law.holds (Locking k.writes) k (called (record x { steps = new })))
+          c.self.view_is
+          (locked_stays g.L.Law.holds x v new u rest live state_is locks);
+      leaves = search rules;
+      kept =
+          subst (λ (k : TlCalled _).
+          called (record x { steps = new }) ≡ record k { log = (view_of new.seat).log; left = None }) c.self.view_is
+          (locked_kept g.L.Law.holds x v new u rest live state_is locks);
+      locked = has_locked g.L.Law.holds x v new u rest live state_is locks;
+      done = locked_done g.L.Law.holds x v new u rest live state_is locks ∙ ap done c.self.view_is;
+      seen = (kept g.L.Law.holds x v (Doing (Locking x.opened.writes)) new Done None u).seen;
+    })

@@ -1,4 +1,4 @@
-use Rattle.std.proofs.Common.{◌∙◌, ◌≡◌, ap, None, sym}
+use Rattle.std.proofs.Common.{rules, ◌∙◌, ◌≡◌, ap, None, sym}
 use Rattle.std.specs.Prelude.{is_some}
 use Rattle.dstm_mem.specs.Memory.{value_in}
 use Rattle.dstm_tl2_engine.proofs.Opens.{held_opened, IsRead, none_some, no_slot_unheld, pushed_marks, pushed_opens, pushed_stays, pushed_steps, pushed_tied, pushed_value, put_held, read_before, read_by}
@@ -58,8 +58,8 @@ invariant_of-self g c =
     pushed_tied g.L.Law.holds c.args.o c.args.self.now c.match-read.self c.match-read.value r c.self-2.inside
     c.self-2.invariant c.self-2.view_is unopened c.push_write.new.self c.push_write.ensures
 
-pub returns-clause-stays : goal.returns-clause-stays
-returns-clause-stays g c =
+pub returns : goal.returns
+returns g c =
     let r : IsRead g.L.Law.holds c.args.o c.args.self.now c.match-read.self c.match-read.value =
     elim c.match-read.branch [
       | in-Some-read w ↦
@@ -75,86 +75,27 @@ returns-clause-stays g c =
     ] in
     let unopened : value_in c.args.self.now.writes c.args.o ≡ None =
     ap (λ (k : TlCalled _). value_in k.writes c.args.o) (sym c.self.view_is) ∙ sym c.write.ensures ∙ c.in_default.is in
-    pushed_stays g.L.Law.holds c.args.o c.args.self.now c.match-read.self c.match-read.value r c.self-2.inside
-    c.self-2.invariant c.self-2.view_is unopened c.push_write.new.self c.push_write.ensures
-
-pub returns-clause-steps : goal.returns-clause-steps
-returns-clause-steps g c =
-    let r : IsRead g.L.Law.holds c.args.o c.args.self.now c.match-read.self c.match-read.value =
-    elim c.match-read.branch [
-      | in-Some-read w ↦
-          read_before g.L.Law.holds c.self.inside c.self.invariant c.args.self.now c.match-read.self c.self.view_is
-          c.args.o w.in-Some-read.slot c.match-read.value c.requires.live c.requires.rest
-          (sym c.read.ensures ∙ w.in-Some-read.is) w.self-is w.value-is
-      | in-None+in_ok-value-in-None w ↦
-          let e = w.in_ok-value-in-None.ensures in
-          read_by g.L.Law.holds c.args.o c.args.self.now w.read_first.new.self c.match-read.self
-          w.in_ok-value-in-None.value c.match-read.value
-          (no_slot_unheld g.L.Law.holds c.self.inside c.self.invariant c.args.self.now c.self.view_is c.args.o
-          (sym c.read.ensures ∙ w.in-None.is)) e.stays e.kept e.opens e.rest e.value w.self-is w.value-is
-    ] in
-    let unopened : value_in c.args.self.now.writes c.args.o ≡ None =
-    ap (λ (k : TlCalled _). value_in k.writes c.args.o) (sym c.self.view_is) ∙ sym c.write.ensures ∙ c.in_default.is in
-    pushed_steps g.L.Law.holds c.args.o c.args.self.now c.match-read.self c.match-read.value r c.self-2.inside
-    c.self-2.invariant c.self-2.view_is unopened c.push_write.new.self c.push_write.ensures
-
-pub returns-clause-marks : goal.returns-clause-marks
-returns-clause-marks g c =
-    let r : IsRead g.L.Law.holds c.args.o c.args.self.now c.match-read.self c.match-read.value =
-    elim c.match-read.branch [
-      | in-Some-read w ↦
-          read_before g.L.Law.holds c.self.inside c.self.invariant c.args.self.now c.match-read.self c.self.view_is
-          c.args.o w.in-Some-read.slot c.match-read.value c.requires.live c.requires.rest
-          (sym c.read.ensures ∙ w.in-Some-read.is) w.self-is w.value-is
-      | in-None+in_ok-value-in-None w ↦
-          let e = w.in_ok-value-in-None.ensures in
-          read_by g.L.Law.holds c.args.o c.args.self.now w.read_first.new.self c.match-read.self
-          w.in_ok-value-in-None.value c.match-read.value
-          (no_slot_unheld g.L.Law.holds c.self.inside c.self.invariant c.args.self.now c.self.view_is c.args.o
-          (sym c.read.ensures ∙ w.in-None.is)) e.stays e.kept e.opens e.rest e.value w.self-is w.value-is
-    ] in
-    let unopened : value_in c.args.self.now.writes c.args.o ≡ None =
-    ap (λ (k : TlCalled _). value_in k.writes c.args.o) (sym c.self.view_is) ∙ sym c.write.ensures ∙ c.in_default.is in
-    λ unmarked.
-    pushed_marks g.L.Law.holds c.args.o c.args.self.now c.match-read.self c.match-read.value r c.self-2.inside
-    c.self-2.invariant c.self-2.view_is unopened c.push_write.new.self c.push_write.ensures
-
-pub returns-clause-opens : goal.returns-clause-opens
-returns-clause-opens g c =
-    let r : IsRead g.L.Law.holds c.args.o c.args.self.now c.match-read.self c.match-read.value =
-    elim c.match-read.branch [
-      | in-Some-read w ↦
-          read_before g.L.Law.holds c.self.inside c.self.invariant c.args.self.now c.match-read.self c.self.view_is
-          c.args.o w.in-Some-read.slot c.match-read.value c.requires.live c.requires.rest
-          (sym c.read.ensures ∙ w.in-Some-read.is) w.self-is w.value-is
-      | in-None+in_ok-value-in-None w ↦
-          let e = w.in_ok-value-in-None.ensures in
-          read_by g.L.Law.holds c.args.o c.args.self.now w.read_first.new.self c.match-read.self
-          w.in_ok-value-in-None.value c.match-read.value
-          (no_slot_unheld g.L.Law.holds c.self.inside c.self.invariant c.args.self.now c.self.view_is c.args.o
-          (sym c.read.ensures ∙ w.in-None.is)) e.stays e.kept e.opens e.rest e.value w.self-is w.value-is
-    ] in
-    let unopened : value_in c.args.self.now.writes c.args.o ≡ None =
-    ap (λ (k : TlCalled _). value_in k.writes c.args.o) (sym c.self.view_is) ∙ sym c.write.ensures ∙ c.in_default.is in
-    pushed_opens g.L.Law.holds c.args.o c.args.self.now c.match-read.self c.match-read.value r c.self-2.inside
-    c.self-2.invariant c.self-2.view_is unopened c.push_write.new.self c.push_write.ensures
-
-pub returns-clause-value : goal.returns-clause-value
-returns-clause-value g c =
-    let r : IsRead g.L.Law.holds c.args.o c.args.self.now c.match-read.self c.match-read.value =
-    elim c.match-read.branch [
-      | in-Some-read w ↦
-          read_before g.L.Law.holds c.self.inside c.self.invariant c.args.self.now c.match-read.self c.self.view_is
-          c.args.o w.in-Some-read.slot c.match-read.value c.requires.live c.requires.rest
-          (sym c.read.ensures ∙ w.in-Some-read.is) w.self-is w.value-is
-      | in-None+in_ok-value-in-None w ↦
-          let e = w.in_ok-value-in-None.ensures in
-          read_by g.L.Law.holds c.args.o c.args.self.now w.read_first.new.self c.match-read.self
-          w.in_ok-value-in-None.value c.match-read.value
-          (no_slot_unheld g.L.Law.holds c.self.inside c.self.invariant c.args.self.now c.self.view_is c.args.o
-          (sym c.read.ensures ∙ w.in-None.is)) e.stays e.kept e.opens e.rest e.value w.self-is w.value-is
-    ] in
-    let unopened : value_in c.args.self.now.writes c.args.o ≡ None =
-    ap (λ (k : TlCalled _). value_in k.writes c.args.o) (sym c.self.view_is) ∙ sym c.write.ensures ∙ c.in_default.is in
-    pushed_value g.L.Law.holds c.args.o c.args.self.now c.match-read.self c.match-read.value r c.self-2.inside
-    c.self-2.invariant c.self-2.view_is unopened c.push_write.new.self c.push_write.ensures
+    record {
+      again = search rules;
+      answered = search rules;
+      stays =
+          pushed_stays g.L.Law.holds c.args.o c.args.self.now c.match-read.self c.match-read.value r c.self-2.inside
+          c.self-2.invariant c.self-2.view_is unopened c.push_write.new.self c.push_write.ensures;
+      steps =
+          pushed_steps g.L.Law.holds c.args.o c.args.self.now c.match-read.self c.match-read.value r c.self-2.inside
+          c.self-2.invariant c.self-2.view_is unopened c.push_write.new.self c.push_write.ensures;
+      marks = λ unmarked.
+          pushed_marks g.L.Law.holds c.args.o c.args.self.now c.match-read.self c.match-read.value r c.self-2.inside
+          c.self-2.invariant c.self-2.view_is unopened c.push_write.new.self c.push_write.ensures;
+      leaves = search rules;
+      kept = search rules;
+      continues = search rules;
+      opens =
+          pushed_opens g.L.Law.holds c.args.o c.args.self.now c.match-read.self c.match-read.value r c.self-2.inside
+          c.self-2.invariant c.self-2.view_is unopened c.push_write.new.self c.push_write.ensures;
+      rest = search rules;
+      seen = search rules;
+      value =
+          pushed_value g.L.Law.holds c.args.o c.args.self.now c.match-read.self c.match-read.value r c.self-2.inside
+          c.self-2.invariant c.self-2.view_is unopened c.push_write.new.self c.push_write.ensures;
+    }
