@@ -1,3 +1,4 @@
+use Rattle.std.proofs.Common.{rules}
 use Rattle.dstm_tl2_engine.proofs.Opens.{first_reads, first_tied, left_stops, left_tied, read_at_rest, read_under, read_unread, slot_exists, slot_unread}
 use Rattle.dstm_tl2_engine.proofs.caller.TlCaller.read_first.Goals as goal
 
@@ -41,75 +42,37 @@ invariant_of-self-in-Err g c =
     c.args.stm.now c.requires.table c.words.ensures c.args.o c.requires.rest c.requires.unread
     c.read.new.self c.in-Err.again c.in-Err.ensures.ends c.in-Err.ensures.same
 
-pub returns-in-Ok-clause-stays : goal.returns-in-Ok-clause-stays
-returns-in-Ok-clause-stays g c =
-    (first_reads g.L.Law.holds c.self.inside c.self.invariant c.args.self.now c.self.view_is c.words.result.now
+pub returns-in-Ok : goal.returns-in-Ok
+returns-in-Ok g c =
+    let read =
+    first_reads g.L.Law.holds c.self.inside c.self.invariant c.args.self.now c.self.view_is c.words.result.now
     c.args.stm.now c.requires.table c.words.ensures c.args.o c.requires.rest c.requires.unread
     c.requires.live c.read.new.self c.in-Ok.slot c.in-Ok.ensures.object c.in-Ok.ensures.ends_well c.in-Ok.ensures.reads
-    c.push_read.new.self c.push_read.ensures).stays
+    c.push_read.new.self c.push_read.ensures in
+    record {
+      stays = read.stays;
+      leaves = search rules;
+      kept = read.kept;
+      continues = read.continues;
+      opens = read.opens;
+      rest = read.rest;
+      seen = read.seen;
+      value = read.reads;
+    }
 
-pub returns-in-Ok-clause-kept : goal.returns-in-Ok-clause-kept
-returns-in-Ok-clause-kept g c =
-    (first_reads g.L.Law.holds c.self.inside c.self.invariant c.args.self.now c.self.view_is c.words.result.now
+pub returns-in-Err : goal.returns-in-Err
+returns-in-Err g c =
+    let left =
+    left_stops g.L.Law.holds c.self.inside c.self.invariant c.args.self.now c.self.view_is c.words.result.now
     c.args.stm.now c.requires.table c.words.ensures c.args.o c.requires.rest c.requires.unread
-    c.requires.live c.read.new.self c.in-Ok.slot c.in-Ok.ensures.object c.in-Ok.ensures.ends_well c.in-Ok.ensures.reads
-    c.push_read.new.self c.push_read.ensures).kept
-
-pub returns-in-Ok-clause-continues : goal.returns-in-Ok-clause-continues
-returns-in-Ok-clause-continues g c =
-    (first_reads g.L.Law.holds c.self.inside c.self.invariant c.args.self.now c.self.view_is c.words.result.now
-    c.args.stm.now c.requires.table c.words.ensures c.args.o c.requires.rest c.requires.unread
-    c.requires.live c.read.new.self c.in-Ok.slot c.in-Ok.ensures.object c.in-Ok.ensures.ends_well c.in-Ok.ensures.reads
-    c.push_read.new.self c.push_read.ensures).continues
-
-pub returns-in-Ok-clause-opens : goal.returns-in-Ok-clause-opens
-returns-in-Ok-clause-opens g c =
-    (first_reads g.L.Law.holds c.self.inside c.self.invariant c.args.self.now c.self.view_is c.words.result.now
-    c.args.stm.now c.requires.table c.words.ensures c.args.o c.requires.rest c.requires.unread
-    c.requires.live c.read.new.self c.in-Ok.slot c.in-Ok.ensures.object c.in-Ok.ensures.ends_well c.in-Ok.ensures.reads
-    c.push_read.new.self c.push_read.ensures).opens
-
-pub returns-in-Ok-clause-rest : goal.returns-in-Ok-clause-rest
-returns-in-Ok-clause-rest g c =
-    (first_reads g.L.Law.holds c.self.inside c.self.invariant c.args.self.now c.self.view_is c.words.result.now
-    c.args.stm.now c.requires.table c.words.ensures c.args.o c.requires.rest c.requires.unread
-    c.requires.live c.read.new.self c.in-Ok.slot c.in-Ok.ensures.object c.in-Ok.ensures.ends_well c.in-Ok.ensures.reads
-    c.push_read.new.self c.push_read.ensures).rest
-
-pub returns-in-Ok-clause-seen : goal.returns-in-Ok-clause-seen
-returns-in-Ok-clause-seen g c =
-    (first_reads g.L.Law.holds c.self.inside c.self.invariant c.args.self.now c.self.view_is c.words.result.now
-    c.args.stm.now c.requires.table c.words.ensures c.args.o c.requires.rest c.requires.unread
-    c.requires.live c.read.new.self c.in-Ok.slot c.in-Ok.ensures.object c.in-Ok.ensures.ends_well c.in-Ok.ensures.reads
-    c.push_read.new.self c.push_read.ensures).seen
-
-pub returns-in-Ok-clause-value : goal.returns-in-Ok-clause-value
-returns-in-Ok-clause-value g c =
-    (first_reads g.L.Law.holds c.self.inside c.self.invariant c.args.self.now c.self.view_is c.words.result.now
-    c.args.stm.now c.requires.table c.words.ensures c.args.o c.requires.rest c.requires.unread
-    c.requires.live c.read.new.self c.in-Ok.slot c.in-Ok.ensures.object c.in-Ok.ensures.ends_well c.in-Ok.ensures.reads
-    c.push_read.new.self c.push_read.ensures).reads
-
-pub returns-in-Err-clause-leaves : goal.returns-in-Err-clause-leaves
-returns-in-Err-clause-leaves g c =
-    (left_stops g.L.Law.holds c.self.inside c.self.invariant c.args.self.now c.self.view_is c.words.result.now
-    c.args.stm.now c.requires.table c.words.ensures c.args.o c.requires.rest c.requires.unread
-    c.read.new.self c.in-Err.again c.in-Err.ensures.ends c.in-Err.ensures.same).leaves
-
-pub returns-in-Err-clause-kept : goal.returns-in-Err-clause-kept
-returns-in-Err-clause-kept g c =
-    (left_stops g.L.Law.holds c.self.inside c.self.invariant c.args.self.now c.self.view_is c.words.result.now
-    c.args.stm.now c.requires.table c.words.ensures c.args.o c.requires.rest c.requires.unread
-    c.read.new.self c.in-Err.again c.in-Err.ensures.ends c.in-Err.ensures.same).kept
-
-pub returns-in-Err-clause-continues : goal.returns-in-Err-clause-continues
-returns-in-Err-clause-continues g c =
-    (left_stops g.L.Law.holds c.self.inside c.self.invariant c.args.self.now c.self.view_is c.words.result.now
-    c.args.stm.now c.requires.table c.words.ensures c.args.o c.requires.rest c.requires.unread
-    c.read.new.self c.in-Err.again c.in-Err.ensures.ends c.in-Err.ensures.same).continues
-
-pub returns-in-Err-clause-seen : goal.returns-in-Err-clause-seen
-returns-in-Err-clause-seen g c =
-    (left_stops g.L.Law.holds c.self.inside c.self.invariant c.args.self.now c.self.view_is c.words.result.now
-    c.args.stm.now c.requires.table c.words.ensures c.args.o c.requires.rest c.requires.unread
-    c.read.new.self c.in-Err.again c.in-Err.ensures.ends c.in-Err.ensures.same).seen
+    c.read.new.self c.in-Err.again c.in-Err.ensures.ends c.in-Err.ensures.same in
+    record {
+      stays = search rules;
+      leaves = left.leaves;
+      kept = left.kept;
+      continues = left.continues;
+      opens = search rules;
+      rest = search rules;
+      seen = left.seen;
+      value = search rules;
+    }
