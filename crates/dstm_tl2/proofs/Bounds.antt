@@ -1,4 +1,5 @@
 -- How large the clock is, the lock words, and the numbers that a caller has of them.
+use Rattle.std.proofs.lemmas.List.Elements.{All-head, All-tail}
 use Rattle.std.proofs.Common.{◌≡◌, ◌+◌, ◌*◌, ◌^◌, ◌<◌, ◌≤◌, ◌⊎◌, ◌∷◌, ℕ, inl, inr, List, [], refl, arith, Some}
 use Rattle.std.proofs.lemmas.Bool.{cases_eq, eq-eqb, ne_eqb}
 use Rattle.std.proofs.lemmas.Nat.{mul-le}
@@ -16,7 +17,7 @@ use Rattle.dstm_tl2.proofs.Counts.{clock_bound}
 use Rattle.dstm_tl2.proofs.Foretelling.{told}
 use Rattle.dstm_tl2.proofs.Stands.{Stands, stands}
 use Rattle.dstm_tl2.proofs.Stands.Stands.{free, waits, commits}
-use Rattle.dstm_tl2.proofs.Static.{ReadsOk, static}
+use Rattle.dstm_tl2.proofs.Static.{ReadOk, ReadsOk, static}
 use Rattle.dstm_tl2.proofs.Versions.{version_at, version_below}
 
 -- ---- by the clock
@@ -44,11 +45,12 @@ found_bound t es e run b =
 
 recorded_by : (t : Table) (sample : ℕ) (rs : List Read) (o : ℕ) → ReadsOk t sample rs → recorded o rs ≤ 2 * sample
 recorded_by t sample [] o h = omega arith
-recorded_by t sample (r ∷ rs) o h = go (cases_eq r.object o) (recorded_by t sample rs o h.2)
+recorded_by t sample (r ∷ rs) o h =
+    go (cases_eq r.object o) (recorded_by t sample rs o (All-tail (ReadOk t sample) r rs h))
   where
     go : (r.object ≡ o) ⊎ (r.object ≡ o → ⊥) → recorded o rs ≤ 2 * sample → recorded o (r ∷ rs) ≤ 2 * sample
     go (inl q) ih =
-        let v = h.1 in let x : r.word ≡ 2 * v.0 = v.1 in let y : v.0 ≤ sample = v.2 in
+        let v = (All-head (ReadOk t sample) r rs h).1 in let x : r.word ≡ 2 * v.0 = v.1 in let y : v.0 ≤ sample = v.2 in
         rw (recorded, eq-eqb r.object o q) (omega arith)
     go (inr q) ih = rw (recorded, ne_eqb r.object o q) ih
 

@@ -1,4 +1,5 @@
 -- The history is legal, and keeps the law.
+use Rattle.std.proofs.lemmas.List.Elements.{All-head, All-tail}
 use Rattle.std.proofs.Common.{◌≡◌, ◌<◌, ◌*◌, ◌⊎◌, ◌∷◌, ◌++◌, ◌∙◌, ℕ, inl, inr, List, [], refl, ap, arith, append_assoc, sym, subst, true, false, Bool, Option, Some, None, is_some}
 use Rattle.std.specs.Prelude.{is_none, reverse}
 use Rattle.std.proofs.lemmas.Bool.{and_parts, cases_eq, eq-eqb, ne_eqb}
@@ -20,10 +21,10 @@ use Rattle.dstm_tl2.proofs.Foretelling.{told}
 use Rattle.dstm_tl2.proofs.Holds.{hold_value}
 use Rattle.dstm_tl2.proofs.Looks.{Seen, sample_at}
 use Rattle.dstm_tl2.proofs.Sampled.{seen_by}
-use Rattle.dstm_tl2.proofs.SinceDraw.{AllCurrent, draw_current}
+use Rattle.dstm_tl2.proofs.SinceDraw.{Current, AllCurrent, draw_current}
 use Rattle.dstm_tl2.proofs.Stands.{Stands, Told, draw_holds, stands}
 use Rattle.dstm_tl2.proofs.Stands.Stands.{free, waits, commits}
-use Rattle.dstm_tl2.proofs.Static.{ReadsOk, static}
+use Rattle.dstm_tl2.proofs.Static.{ReadOk, ReadsOk, static}
 use Rattle.dstm_tl2.proofs.Versions.{state, state_length, unchanged, version_at, version_below}
 
 -- ---- an entry agrees with the state at its draw
@@ -106,20 +107,25 @@ module _ (t : Table) (will : ℕ → Bool) (q : List Event) (d : Event) (run : R
       AllCurrent will q (unwritten (writes_of d.kind) rs) → Agrees (state t will q) (read_values rs)
   agrees_from [] s ok cur = tt
   agrees_from (r ∷ rs) s ok cur =
-      by (write_of r.object (writes_of d.kind)) refl (λ x. agrees_from rs s.2 ok.2 x)
+      by (write_of r.object (writes_of d.kind)) refl (λ x. agrees_from rs s.2 (All-tail (ReadOk t l.sample) r rs ok) x)
     where
+      within : r.object < objects t
+      within = (All-head (ReadOk t l.sample) r rs ok).0
+
       by : (w : Option Val) → write_of r.object (writes_of d.kind) ≡ w →
           (AllCurrent will q (unwritten (writes_of d.kind) rs) → Agrees (state t will q) (read_values rs)) →
           Agrees (state t will q) (read_values (r ∷ rs))
       by None w rest =
           let test : is_none (write_of r.object (writes_of d.kind)) ≡ true = ap is_none w in
           let now : AllCurrent will q (r ∷ unwritten (writes_of d.kind) rs) = rw test at cur in
-          let one = now.0 in let two = s.0 in
-          (stays r.object ok.0 (omega arith) ∙ s.1, rest now.1)
+          let one = All-head (Current will q) r (unwritten (writes_of d.kind) rs) now in let two = s.0 in (
+            stays r.object within (omega arith) ∙ s.1,
+            rest (All-tail (Current will q) r (unwritten (writes_of d.kind) rs) now),
+          )
       by (Some v) w rest =
           let test : is_none (write_of r.object (writes_of d.kind)) ≡ false = ap is_none w in
           let now : AllCurrent will q (unwritten (writes_of d.kind) rs) = rw test at cur in
-          (stays r.object ok.0 (written r.object v ok.0 w) ∙ s.1, rest now)
+          (stays r.object within (written r.object v within w) ∙ s.1, rest now)
 
   pub agrees_draw : AllCurrent will q (unwritten (writes_of d.kind) l.reads) →
       Agrees (state t will q) (read_values l.reads)

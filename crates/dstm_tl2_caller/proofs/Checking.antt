@@ -1,5 +1,5 @@
 -- The loop of the checks: the slots that it has before it hold the reads that are left to check.
-use Prim.Native.Nat.{zero, suc}
+use Rattle.std.proofs.lemmas.List.Elements.{All-filter, All-get_or}
 use Rattle.std.proofs.Common.{◌≡◌, ◌≢◌, ◌==◌, ◌<◌, ◌≤◌, ◌+◌, ◌∷◌, ◌∙◌, ◌⊎◌, ℕ, inl, inr, Bool, List, [], refl, ap, arith, sym, subst, true, false, Option, Some, None, is_some, length, drop, length-drop}
 use Rattle.std.specs.Prelude.{◌||◌, not, is_none, IfNone, map, filter, slice_get, slice_index_or, if◌then◌else◌}
 use Rattle.std.proofs.lemmas.Bool.{cases_Bool, eq-eqb, ne_eqb}
@@ -13,7 +13,7 @@ use Rattle.dstm_tl2.specs.Failing.{is_locked}
 use Rattle.dstm_tl2.specs.Sharing.{table_of}
 use Rattle.dstm_tl2.specs.State.{LocalState, Read, is_valid, next_check, no_read, or_read, or_writes, to_check, unwritten, write_of}
 use Rattle.dstm_tl2.specs.Words.{Table, objects}
-use Rattle.dstm_tl2.proofs.Static.{ReadsOk}
+use Rattle.dstm_tl2.proofs.Static.{ReadOk, ReadsOk}
 use Rattle.dstm_tl2_words.specs.Seats.{Home}
 use Rattle.dstm_tl2_caller.specs.declared.again.TlAgain.{TlAgain}
 use Rattle.dstm_tl2_caller.specs.declared.again.TlAgain.TheVariants.{Changed, Locked}
@@ -111,17 +111,9 @@ slot_skip ws slots reads i c same h is =
 
 get_below : (t : Table) (sample : ℕ) (p : Read → Bool) (rs : List Read) (i : ℕ) → ReadsOk t sample rs →
     i < length (filter p rs) → (or_read (slice_get (filter p rs) i)).object < objects t
-get_below t sample p [] i h below = absurd (omega arith)
-get_below t sample p (r ∷ rs) i h below =
-    go (p r) refl i below (λ j b. get_below t sample p rs j h.2 b)
-  where
-    go : (x : Bool) → p r ≡ x → (i : ℕ) → i < length (filter p (r ∷ rs)) →
-        ((j : ℕ) → j < length (filter p rs) → (or_read (slice_get (filter p rs) j)).object < objects t) →
-        (or_read (slice_get (filter p (r ∷ rs)) i)).object < objects t
-    go true q zero below ih = rw q h.0
-    go true q (suc j) below ih =
-        let b : suc j < length (r ∷ filter p rs) = rw q at below in rw q (ih j (omega arith))
-    go false q i below ih = rw q (ih i (rw q at below))
+get_below t sample p rs i h below =
+    subst (λ (r : Read). r.object < objects t) (sym (ap or_read (slice_get-get_or (filter p rs) i no_read below)))
+    (All-get_or (ReadOk t sample) (filter p rs) i no_read below (All-filter p (ReadOk t sample) rs h)).0
 
 pub check_below : {L : Type 0} (holds : L → List Val → Type 0) (home : Home L) (b : Began) (steps : Steps L)
     (d : Due) (a : Option TlAgain) → Under holds home b steps d a →

@@ -1,4 +1,5 @@
 -- What holds of a call under way since its log is a run: of the objects that it has locked, and of its new versions.
+use Rattle.std.proofs.lemmas.List.Elements.{All-head, All-tail}
 use Rattle.std.proofs.Common.{◌≡◌, ◌==◌, ◌<◌, ◌+◌, ◌*◌, ◌⊎◌, ◌∷◌, ℕ, inl, inr, List, [], refl, arith, subst, true, false, Option, Some, None, is_some}
 use Rattle.std.proofs.lemmas.Bool.{cases_eq, ne_eqb}
 use Rattle.dstm_model.specs.declared.value.Val.{Val}
@@ -7,7 +8,7 @@ use Rattle.dstm_tl2.specs.Sharing.{table_of}
 use Rattle.dstm_tl2.specs.State.{Hold, Read, hold_of, read_of}
 use Rattle.dstm_tl2.specs.Words.{Table, objects}
 use Rattle.dstm_tl2.proofs.Clock.{ClockOk, clock_ok}
-use Rattle.dstm_tl2.proofs.Static.{ReadsOk}
+use Rattle.dstm_tl2.proofs.Static.{ReadOk, ReadsOk}
 use Rattle.dstm_tl2_words.specs.Seats.{Home, view_of}
 use Rattle.dstm_tl2_caller.specs.declared.again.TlAgain.{TlAgain}
 use Rattle.dstm_tl2_caller.specs.declared.steps.Steps.{Steps}
@@ -19,10 +20,11 @@ use Rattle.dstm_tl2_caller.proofs.Bounds.{now_is, static_now}
 pub read_below : (t : Table) (sample : ℕ) (rs : List Read) (o : ℕ) → ReadsOk t sample rs →
     is_some (read_of o rs) ≡ true → o < objects t
 read_below t sample [] o h i = absurd (cc)
-read_below t sample (r ∷ rs) o h i = go (cases_eq r.object o) (λ j. read_below t sample rs o h.2 j)
+read_below t sample (r ∷ rs) o h i =
+    go (cases_eq r.object o) (λ j. read_below t sample rs o (All-tail (ReadOk t sample) r rs h) j)
   where
     go : (r.object ≡ o) ⊎ (r.object ≡ o → ⊥) → (is_some (read_of o rs) ≡ true → o < objects t) → o < objects t
-    go (inl q) ih = let b = h.0 in omega arith
+    go (inl q) ih = let b = (All-head (ReadOk t sample) r rs h).0 in omega arith
     go (inr q) ih = ih (rw (ne_eqb r.object o q) at i)
 
 module _ {L : Type 0} (holds : L → List Val → Type 0) (home : Home L) (b : Began) (steps : Steps L) (d : Due)
