@@ -1,6 +1,7 @@
 -- Each event of a call takes off what is left of its price.
 use Rattle.std.proofs.Common.{◌≡◌, ◌==◌, ◌+◌, ◌-◌, ◌*◌, ◌≤◌, ◌⊎◌, ◌∷◌, ◌++◌, ℕ, inl, inr, List, [], refl, ap, arith, sym, subst, true, false, Bool, Option, Some, None, is_some, length, length-append}
 use Rattle.std.specs.Prelude.{◌||◌, ◌<◌, is_none, not, if◌then◌else◌}
+use Rattle.std.proofs.lemmas.List.Filters.{length-filter_both}
 use Rattle.std.proofs.lemmas.Bool.{cases_Bool, cond-false, cond-true, cond_both, eq-eqb, eqb-false}
 use Rattle.dstm_model.specs.declared.value.Val.{Val}
 use Rattle.dstm_tl2.specs.declared.kind.Kind.{Kind}
@@ -101,18 +102,13 @@ without_cheaper o (h ∷ hs) =
     cond_both (h.object == o) (without o hs) (h ∷ without o hs) (λ xs. writing xs ≤ writing (h ∷ hs)) (λ _. omega arith)
     (λ _. omega arith)
 
-low_cheaper : (o : ℕ) (hs : List Hold) → writing (marked with_low o hs) ≤ writing hs
-low_cheaper o [] = omega arith
-low_cheaper o (h ∷ hs) =
-    let ih = low_cheaper o hs in
-    cond_both (h.object == o) (with_low h ∷ marked with_low o hs) (h ∷ marked with_low o hs)
-    (λ xs. writing xs ≤ writing (h ∷ hs)) (λ _. omega arith) (λ _. omega arith)
-
-high_cheaper : (o : ℕ) (hs : List Hold) → writing (marked with_high o hs) ≤ writing hs
-high_cheaper o [] = omega arith
-high_cheaper o (h ∷ hs) =
-    let ih = high_cheaper o hs in
-    cond_both (h.object == o) (with_high h ∷ marked with_high o hs) (h ∷ marked with_high o hs)
+-- a part that is written makes none of them cost more
+marked_cheaper : (change : Hold → Hold) → ((h : Hold) → hold_cost (change h) ≤ hold_cost h) → (o : ℕ) (hs : List Hold) →
+    writing (marked change o hs) ≤ writing hs
+marked_cheaper change less o [] = omega arith
+marked_cheaper change less o (h ∷ hs) =
+    let ih = marked_cheaper change less o hs in let one = less h in
+    cond_both (h.object == o) (change h ∷ marked change o hs) (h ∷ marked change o hs)
     (λ xs. writing xs ≤ writing (h ∷ hs)) (λ _. omega arith) (λ _. omega arith)
 
 -- the first of them is given back
@@ -136,12 +132,12 @@ first_written t n (h ∷ hs) e d = go (cases_Bool h.low_put) (cases_Bool h.high_
     go (inr a) b =
         let due : (e.kind ≡ WriteLow) × (e.place ≡ objects t + h.object) = rw a at d in
         let same : h.object ≡ low_object t e.place = let q = due.1 in omega arith in
-        let rest = low_cheaper (low_object t e.place) hs in
+        let rest = marked_cheaper with_low (λ h. omega arith) (low_object t e.place) hs in
         puts_low due.0 (rw (eq-eqb h.object (low_object t e.place) same, a) (omega arith))
     go (inl a) (inr b) =
         let due : (e.kind ≡ WriteHigh) × (e.place ≡ 2 * objects t + h.object) = rw (a, b) at d in
         let same : h.object ≡ high_object t e.place = let q = due.1 in omega arith in
-        let rest = high_cheaper (high_object t e.place) hs in
+        let rest = marked_cheaper with_high (λ h. omega arith) (high_object t e.place) hs in
         puts_high due.0 (rw (eq-eqb h.object (high_object t e.place) same, b) (omega arith))
     go (inl a) (inl b) =
         let due : (e.kind ≡ Unlock) × (e.place ≡ h.object) × (e.put ≡ 2 * n + 2) = rw (a, b) at d in
@@ -151,11 +147,9 @@ first_written t n (h ∷ hs) e d = go (cases_Bool h.low_put) (cases_Bool h.high_
 -- ---- each event takes one off
 
 unwritten_less : (ws : List (ℕ × Val)) (rs : List Read) → length (unwritten ws rs) ≤ length rs
-unwritten_less ws [] = omega arith
-unwritten_less ws (r ∷ rs) =
-    let ih = unwritten_less ws rs in
-    cond_both (is_none (write_of r.object ws)) (r ∷ unwritten ws rs) (unwritten ws rs)
-    (λ xs. length xs ≤ length (r ∷ rs)) (λ _. omega arith) (λ _. omega arith)
+unwritten_less ws rs =
+    let both = length-filter_both (λ (r : Read). is_none (write_of r.object ws))
+    (λ (r : Read). not (is_none (write_of r.object ws))) (λ r. refl) rs in omega arith
 
 module _ (t : Table) (w : Work) (l : LocalState) (e : Event) where
   of_kind : (n : ℕ) (k : Kind) → e.kind ≡ k → Takes t w l e n k → Takes t w l e n e.kind
