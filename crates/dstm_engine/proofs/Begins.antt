@@ -1,8 +1,9 @@
 -- A caller after it was to begin an attempt.
-use Rattle.std.proofs.Common.{◌++◌, ◌+◌, ◌==◌, ◌≤◌, ◌∙◌, ◌∷◌, ◌≡◌, ◌⊎◌, List, None, [], ap, arith, false, inl, inr, length, refl, subst, sym, true, ℕ}
+use Rattle.std.proofs.Common.{◌++◌, ◌+◌, ◌<◌, ◌==◌, ◌≤◌, ◌∙◌, ◌∷◌, ◌≡◌, ◌⊎◌, List, None, [], ap, arith, false, inl, inr, length, refl, subst, sym, true, ℕ}
 use Rattle.std.specs.Prelude.{IfSome, is_some}
 use Rattle.std.specs.declared.snapshot.Snapshot.{Snapshot}
 use Rattle.std.proofs.lemmas.Bool.{cases_Bool, eq-eqb}
+use Rattle.std.proofs.lemmas.List.Elements.{All-nil}
 use Rattle.dstm_answers.proofs.Stays.{call_adds_none}
 use Rattle.dstm_answers.specs.Committed.{done_by}
 use Rattle.dstm_caller.specs.Reads.{words_of}
@@ -27,6 +28,7 @@ use Rattle.dstm_order.specs.Order.{has_begun, is_spent}
 use Rattle.dstm_order.specs.Order.Due.{Done}
 use Rattle.dstm_order.specs.Tasks.Task.{Beginning}
 use Rattle.dstm_progress.proofs.Own.{newest_own}
+use Rattle.dstm_progress.specs.Alone.{Made}
 use Rattle.dstm_words.specs.Seats.{view_of}
 use Rattle.dstm_engine.proofs.Calling.{performs}
 use Rattle.dstm_engine.proofs.Leaving.{not_made}
@@ -218,6 +220,7 @@ module _ {L : Type 0} (holds : L → List Val → Type 0) (c : Inside L) (v : Ti
         calls = [];
         own = ap (events_of c.number) at_begin;
         are_calls = tt;
+        each = All-nil (λ (call : Made). 0 < length call.events);
         generator = same_decider ∙ sym (ap (λ (d : DeciderState). d.generator) took);
         left = refl;
         writes = λ w. tt;

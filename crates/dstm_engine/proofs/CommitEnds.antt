@@ -99,6 +99,7 @@ module _ {L : Type 0} (holds : L → List Val → Type 0) (c : Inside L) (v : Ti
       (Committing (new_value (called c))) (record (called committed_as) { left = left }) None
       (performed holds c v live (Committing (new_value (called c))) new None u
       (record (called committed_as) { left = left }) refl refl refl refl)
+      (current_there holds c v live (Committing (new_value (called c))) new None u).live
       committed_attempt refl none (λ _. tt)
 
   pub committed_tied : Tied holds committed_as

@@ -1,14 +1,18 @@
 -- One call more on an attempt.
-use Rattle.std.proofs.Common.{◌++◌, ◌==◌, ◌∙◌, ◌∷◌, ◌≡◌, ◌≢◌, ◌⊎◌, List, Option, [], ap, append_assoc, false, inl, inr, refl, subst, sym, true, ℕ}
+use Rattle.std.proofs.Common.{◌++◌, ◌<◌, ◌==◌, ◌||◌, ◌∙◌, ◌∷◌, ◌≡◌, ◌≢◌, ◌⊎◌, List, Option, [], ap, append_assoc, arith, false, inl, inr, length, refl, subst, sym, true, ℕ}
 use Rattle.std.specs.Prelude.{if◌then◌else◌}
-use Rattle.std.proofs.lemmas.Bool.{cases_Bool, eqb-true}
+use Rattle.std.proofs.lemmas.Bool.{cases_Bool, cond_both, eqb-true}
+use Rattle.std.proofs.lemmas.List.Elements.{All-cons}
 use Rattle.dstm_runs.proofs.Own.{own_later}
 use Rattle.dstm_core.proofs.Underway.{not_begin}
 use Rattle.dstm_core.specs.Counts.{is_begin}
 use Rattle.dstm_core.specs.declared.event.Kind.{Kind}
-use Rattle.dstm_core.specs.declared.event.Kind.TheVariants.{Begin}
+use Rattle.dstm_core.specs.declared.event.Kind.TheVariants.{Begin, Quit}
+use Rattle.dstm_core.specs.declared.state.Phase.{Phase}
 use Rattle.dstm_core.specs.declared.state.Phase.TheVariants.{Outside}
-use Rattle.dstm_order.specs.Order.{Due, IsDue, due}
+use Rattle.dstm_core.specs.Rules.{is_outside}
+use Rattle.dstm_order.specs.declared.TheConstants.{MAX_MISSED}
+use Rattle.dstm_order.specs.Order.{Due, IsDue, at_first, due, just}
 use Rattle.dstm_order.specs.Order.Due.{Done}
 use Rattle.dstm_core.specs.Events.{Event}
 use Rattle.dstm_core.specs.Runs.{Core, local}
@@ -20,6 +24,7 @@ use Rattle.dstm_order.specs.Calls.{IsCall, Obeys, answer_of, effort_of, newest_o
 use Rattle.dstm_order.specs.Efforts.{Effort}
 use Rattle.dstm_order.specs.Tasks.{Task, Work}
 use Rattle.dstm_order.specs.Tasks.Task.{Doing}
+use Rattle.dstm_order.specs.Tasks.Work.{Committing, Reading, Rechecking, Releasing, Writing}
 use Rattle.dstm_order.specs.declared.again.Again.{Again}
 use Rattle.dstm_causes.proofs.OwnEvents.{after_own}
 use Rattle.dstm_progress.proofs.Own.{own_state}
@@ -33,6 +38,31 @@ use Rattle.dstm_caller.specs.declared.steps.Steps.{Steps}
 use Rattle.dstm_words.specs.Seats.{Home}
 use Rattle.dstm_engine.specs.Callers.{Called, begun_log, shape_of, state}
 use Rattle.dstm_engine.specs.Calls.{IsTold, Performs, begun_state, newest_answer}
+
+-- ---- a call on a live attempt makes a step
+
+first_due : (work : Work) (l : LocalState) → at_first work l ≢ Done
+first_due (Reading o) l h = cc
+first_due (Writing o) l h = cc
+first_due (Releasing o) l h = cc
+first_due Rechecking l h = cc
+first_due (Committing v) l h =
+    cond_both (l.written == length l.writes) _ _ (λ (d : Due). d ≢ Done) (λ _ q. cc) (λ _.
+    cond_both l.high_put _ _ (λ (d : Due). d ≢ Done) (λ _ q. cc) (λ _ q. cc)) h
+
+outside_is : (p : Phase) → is_outside p ≡ true → p ≡ Outside
+outside_is Outside h = refl
+outside_is p h = absurd (cc)
+
+makes_step : (work : Work) (s : Shape) (l : LocalState) (g : Lcg) (es : List Event) → l.phase ≢ Outside →
+    IsCall (Doing work) s l g es → 0 < length es
+makes_step work s l g [] live call =
+    absurd (cond_both (is_outside l.phase) _ _ (λ (d : Due). d ≢ Done) (λ out. absurd (live (outside_is l.phase out)))
+    (λ _. cond_both (l.stale || (0 == MAX_MISSED)) (just Quit) (at_first work l) (λ (d : Due). d ≢ Done) (λ _ q. cc)
+    (λ _. first_due work l)) call.done)
+makes_step work s l g (e ∷ es) live call = omega arith
+
+-- ---- the calls on an attempt
 
 module _ {L : Type 0} (k : Called L) (t : IsTold k) where
   -- the state of a caller after the calls on its attempt
@@ -60,9 +90,9 @@ module _ {L : Type 0} (k : Called L) (t : IsTold k) where
         ∙ ap (λ (g : Lcg). answer_of (Doing work) (shape_of k)
         (state_after (shape_of k) (begun_state k) (all_events t.calls)) g p.events) t.generator
 
-    pub told_more : begun_log n.number n.log ≡ begun_log k.number k.log → n.began ≡ k.began → n.left ≡ again →
-        ((shape_of k).all_write ≡ true → IsNoReading work) → IsTold n
-    told_more same_begin same_generator left writes =
+    pub told_more : (state k).phase ≢ Outside → begun_log n.number n.log ≡ begun_log k.number k.log →
+        n.began ≡ k.began → n.left ≡ again → ((shape_of k).all_write ≡ true → IsNoReading work) → IsTold n
+    told_more live same_begin same_generator left writes =
         let s = shape_of k in
         let call = one_more in
         let shape : shape_of n ≡ s = ap (λ h. h.terms.shape) p.same.0 in
@@ -81,6 +111,8 @@ module _ {L : Type 0} (k : Called L) (t : IsTold k) where
               subst (λ s. AreCalls s (begun_state n) n.began (call ∷ t.calls)) (sym shape)
               (subst (λ (l : LocalState). AreCalls s l n.began (call ∷ t.calls)) (sym began)
               (subst (λ (g : Lcg). AreCalls s (begun_state k) g (call ∷ t.calls)) (sym same_generator) more_calls));
+          each = All-cons (λ (call : Made). 0 < length call.events) call t.calls
+              (makes_step work s (state k) k.generator p.events live p.call) t.each;
           generator =
               p.generator
               ∙ ap (λ (l : LocalState). (effort_of s l k.generator p.events).generator) (sym told_state)

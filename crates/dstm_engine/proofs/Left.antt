@@ -189,7 +189,7 @@ module _ {L : Type 0} (holds : L → List Val → Type 0) (k n : Called L) (work
   }
 
   pub told_then : IsTold n
-  told_then = told_more k told holds work n (Some again) p same_begin same_generator left writes
+  told_then = told_more k told holds work n (Some again) p current.live same_begin same_generator left writes
 
   shape : shape_of k ≡ shape_of n
   shape = sym (ap (λ (h : Home L). h.terms.shape) p.same.0)

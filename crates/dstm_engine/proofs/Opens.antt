@@ -145,6 +145,7 @@ module _ {L : Type 0} (holds : L → List Val → Type 0) (c : Inside L) (v : Ti
   told : IsTold (called opened_as)
   told =
       told_more (called c) (told_there holds c v live work new None u) holds work (called opened_as) None steps
+      (current_there holds c v live work new None u).live
       opened_attempt refl (v.left live) no_reading
 
   pub opened_tied : Tied holds opened_as

@@ -150,6 +150,7 @@ module _ {L : Type 0} (holds : L → List Val → Type 0) (c : Inside L) (v : Ti
   told : IsTold (called then)
   told =
       told_more (called c) (told_there holds c v live Rechecking new None u) holds Rechecking (called then) None steps
+      (current_there holds c v live Rechecking new None u).live
       (doing_keeps holds Rechecking (called c) (called then) None steps) refl (v.left live) (λ _. tt)
 
   pub rechecked_tied : Tied holds then

@@ -32,7 +32,7 @@ use Rattle.dstm_order.specs.Tasks.Work.{Releasing}
 use Rattle.dstm_words.specs.Seats.{Home, view_of}
 use Rattle.dstm_engine.proofs.Continuing.{doing_keeps, told_more}
 use Rattle.dstm_engine.proofs.Holding.{old_there}
-use Rattle.dstm_engine.proofs.Left.{on_tied, same_place, performed, told_there}
+use Rattle.dstm_engine.proofs.Left.{current_there, on_tied, same_place, performed, told_there}
 use Rattle.dstm_engine.proofs.Opens.{none_of}
 use Rattle.dstm_engine.proofs.Setting.{opened_slot}
 use Rattle.dstm_engine.proofs.Steady.{stay}
@@ -234,7 +234,8 @@ module _ {L : Type 0} (holds : L → List Val → Type 0) (c : Inside L) (v : Ti
   told : IsTold (called released)
   told =
       told_more (called c) (told_there holds c v live (Releasing o) new None u) holds (Releasing o) (called released) None
-      steps (doing_keeps holds (Releasing o) (called c) (called released) None steps) refl (v.left live) (λ _. tt)
+      steps (current_there holds c v live (Releasing o) new None u).live
+      (doing_keeps holds (Releasing o) (called c) (called released) None steps) refl (v.left live) (λ _. tt)
 
   -- the newest sight covers what is still held
   sighted : Sighted (called released)

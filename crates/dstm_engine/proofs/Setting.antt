@@ -120,6 +120,7 @@ set_tied holds c o v t live = record {
     calls = x.calls;
     own = x.own;
     are_calls = x.are_calls;
+    each = x.each;
     generator = x.generator;
     left = x.left;
     writes = x.writes;

@@ -1,5 +1,5 @@
 -- What a call of the engine does.
-use Rattle.std.specs.Prelude.{◌≡◌, ◌⊎◌, ℕ, true, List, [], ◌∷◌, ◌++◌, Option, None, IsSome, is_some, ◌||◌, if◌then◌else◌}
+use Rattle.std.specs.Prelude.{◌≡◌, ◌⊎◌, ℕ, ◌<◌, true, List, [], ◌∷◌, ◌++◌, length, All, Option, None, IsSome, is_some, ◌||◌, if◌then◌else◌}
 use Rattle.rand_pcg.specs.Lcg.{Lcg}
 use Rattle.dstm_model.specs.declared.value.Val.{Val}
 use Rattle.dstm_core.specs.Events.{Event}
@@ -39,11 +39,13 @@ module _ {L : Type 0} where
   IsUnderWay k = is_live k || is_some k.left ≡ true
 
   -- The caller's own events since its last Begin are those of calls made one after the other, the newest of which
-  -- answered what the caller was given last. Where all opens are for writing none of them opened for reading.
+  -- answered what the caller was given last. Each has made a step: none was made on an attempt that is over. Where all
+  -- opens are for writing none of them opened for reading.
   pub record IsTold (k : Called L) : Type 0 where
     pub calls : List Made
     pub own : events_of k.number k.log ≡ all_events calls ++ events_of k.number (begun_log k.number k.log)
     pub are_calls : AreCalls (shape_of k) (begun_state k) k.began calls
+    pub each : All (λ (call : Made). 0 < length call.events) calls
     pub generator : k.generator ≡ generator_after (shape_of k) (begun_state k) k.began calls
     pub left : k.left ≡ newest_answer (shape_of k) (begun_state k) k.began calls
     pub writes : (shape_of k).all_write ≡ true → OpensToWrite calls

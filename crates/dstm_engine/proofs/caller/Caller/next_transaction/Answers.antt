@@ -23,6 +23,7 @@ invariant_of-self g c = let v = c.self.invariant in record {
     calls = t.calls;
     own = t.own;
     are_calls = t.are_calls;
+    each = t.each;
     generator = t.generator;
     left = t.left;
     writes = t.writes;
