@@ -58,6 +58,13 @@ use Rattle.dstm_rounds.specs.Attempts.{is_quit, quits, seen_last}
 use Rattle.dstm_worker.specs.declared.style.Style.TheVariants.{Branches}
 use Rattle.dstm_worker.specs.declared.trying.Finished.{Finished}
 use Rattle.dstm_worker.specs.Rechecks.{HasRechecked}
+use Rattle.dstm_engine.specs.Calls.{IsTold}
+use Rattle.dstm_order.specs.Tasks.Task.{Beginning}
+use Rattle.dstm_bycalls.specs.Makes.{Makes}
+use Rattle.dstm_bycalls.specs.Retries.{TriesAgain, is_new}
+use Rattle.dstm_bycalls.proofs.Adding.{makes_both, makes_one}
+use Rattle.dstm_bycalls.proofs.Attempting.{told_makes}
+use Rattle.dstm_bycalls.proofs.Fresh.{same_aborted}
 use Rattle.dstm_worker.specs.Tries.{keeps, AtRest, DidJob, OneMore, StoodAt, WasKept}
 use Rattle.dstm_worker.proofs.Answered.{answered_branch}
 use Rattle.dstm_worker.proofs.Begun.{begun_there, count_later}
@@ -86,11 +93,29 @@ module _ (k b t : Called StoreLaw) (r q : GName) (h j : Home StoreLaw) (begins :
   number : t.number ≡ k.number
   number = made.number keeps k b t r q h j begins place
 
+  -- the calls on it, where the caller is told by them
+  pub calls_by : AtRest k → (n : Called StoreLaw) → n.home ≡ t.home → n.number ≡ t.number → n.began ≡ t.began →
+      begun_log n.number n.log ≡ begun_log t.number t.log → IsTold n → Makes TriesAgain k n
+  calls_by rest n nh nn nb log told =
+      makes_both TriesAgain k b n (makes_one TriesAgain keeps (Beginning k.fresh) k b None rest.fresh begins.steps)
+      (told_makes b n (nh ∙ ap (λ (p : TxPlace StoreLaw). p.home) place) (nn ∙ ap (λ (p : TxPlace StoreLaw). p.number) place)
+      (begins.at_begin ∙ sym (ap (λ (p : TxPlace StoreLaw). p.began) place) ∙ sym log)
+      (ap (λ (x : Called StoreLaw). x.generator) begins.caller
+      ∙ sym (nb ∙ ap (λ (p : TxPlace StoreLaw). p.generator) place ∙ ap (λ (x : Called StoreLaw). x.began) begins.caller)) told)
+
+  -- its transaction goes on
+  pub stays_same : t.fresh ≡ false
+  stays_same = made.goes_on keeps k b t r q h j begins place
+
+  pub aborted_fresh : (n : Called StoreLaw) → n.fresh ≡ t.fresh → IsRunOf keeps n.home.terms n.log →
+      StaysAt (shape_of n) n.log n.number 5 → 1 ≤ (state n).begun → n.fresh ≡ is_new (state n)
+  aborted_fresh n same run stays some = same ∙ stays_same ∙ sym (same_aborted n run.run.core stays some)
+
   -- the caller as the attempt left it
   pub one_more_by : (n : Called StoreLaw) → n.home ≡ t.home → n.number ≡ t.number →
       begun_log n.number n.log ≡ begun_log t.number t.log → IsRunOf keeps n.home.terms n.log → is_live n ≡ false →
-      OneMore k n
-  one_more_by n nh nn log run over = record {
+      Makes TriesAgain k n → (1 ≤ (state n).begun → n.fresh ≡ is_new (state n)) → OneMore k n
+  one_more_by n nh nn log run over calls fresh = record {
     on = record {
       home = nh ∙ home;
       number = nn ∙ number;
@@ -100,7 +125,13 @@ module _ (k b t : Called StoreLaw) (r q : GName) (h j : Home StoreLaw) (begins :
             later = since_begin n.number n.log;
             whole = ap (λ (xs : List Event). since_begin n.number n.log ++ xs) there ∙ sym (log_parts is_begin n.number n.log);
           });
-      rest = record { run = run; enrolled = numbered n run (omega (arith, begun)); over = over };
+      made = calls;
+      rest = record {
+        run = run;
+        enrolled = numbered n run (omega (arith, begun));
+        over = over;
+        fresh = fresh (omega (arith, begun));
+      };
     };
     begun = begun;
   }
@@ -132,11 +163,13 @@ module _ (k b t : Called StoreLaw) (r q : GName) (h j : Home StoreLaw) (begins :
   }
 
   -- the same of an attempt that had been left as it was given up
-  pub was_kept_dead : (n : Called StoreLaw) (again : Again) → n ≡ t → IsLeft t again → IsRunOf keeps t.home.terms n.log →
-      WasKept k n
-  was_kept_dead n again same left run =
+  pub was_kept_dead : (n : Called StoreLaw) (again : Again) → AtRest k → IsTold t → n ≡ t → IsLeft t again →
+      IsRunOf keeps t.home.terms n.log → WasKept k n
+  was_kept_dead n again rest told same left run =
       let there = ap (λ (x : Called StoreLaw). x.log) same in
-      let one = one_more_by t refl refl refl (subst (IsRunOf keeps t.home.terms) there run) left.over in
+      let run_t = subst (IsRunOf keeps t.home.terms) there run in
+      let one = one_more_by t refl refl refl run_t left.over (calls_by rest t refl refl refl refl told)
+      (aborted_fresh t refl run_t left.aborted) in
       subst (WasKept k) (sym same) (was_kept_by t again one left refl)
 
   -- it ran the first open branch of the job, and committed
@@ -250,7 +283,7 @@ pub rests : (u n : Called StoreLaw) → Performs keeps Leaving u n None → is_l
 rests u n p = ap is_running (outside u n p)
 
 -- what it quit is aborted, and stays so
-aborts : (u n : Called StoreLaw) → Performs keeps Leaving u n None → IsRunOf keeps u.home.terms u.log → is_live u ≡ true →
+pub aborts : (u n : Called StoreLaw) → Performs keeps Leaving u n None → IsRunOf keeps u.home.terms u.log → is_live u ≡ true →
     0 < (state n).begun → StaysAt (shape_of n) n.log n.number (code_of status.Aborted)
 aborts u n p run live some =
     subst (λ (b : Bool). StaysAt (shape_of n) n.log n.number (ended_as b)) committed

@@ -25,6 +25,7 @@ use Rattle.dstm_engine.specs.Attempts.{done}
 use Rattle.dstm_engine.specs.Callers.{Called, is_running, shape_of, start_of, state}
 use Rattle.dstm_engine.specs.Tables.{Enrols, Founding}
 use Rattle.dstm_store.specs.declared.law.StoreLaw.{StoreLaw}
+use Rattle.dstm_bycalls.specs.Retries.{is_new}
 use Rattle.dstm_worker.specs.Tries.{AtRest, keeps}
 
 -- an event that stands first among a caller's is that caller's
@@ -99,6 +100,7 @@ module _ (f g : Founding StoreLaw) (seed : ℕ) (k : Called StoreLaw) (enrols : 
     run = run;
     enrolled = ((callers_in_range (shape_of k) k.log k.number run.run.core).1 (ap (λ (l : LocalState). is_some l.number) now)).1;
     over = ap (λ (l : LocalState). is_running l.phase) now;
+    fresh = ap (λ (x : Called StoreLaw). x.fresh) enrols.caller ∙ sym (ap is_new now);
   }
 
   pub fresh_begun : (state k).begun ≡ 0

@@ -41,6 +41,9 @@ use Rattle.dstm_worker.specs.declared.style.Style.{Style}
 use Rattle.dstm_worker.specs.declared.style.Style.TheVariants.{Loose}
 use Rattle.dstm_worker.specs.declared.trying.Finished.{Finished}
 use Rattle.dstm_worker.proofs.Answered.{answered_plain}
+use Rattle.dstm_bycalls.proofs.Attempting.{attempt_makes}
+use Rattle.dstm_bycalls.proofs.Fresh.{new_after}
+use Rattle.dstm_bycalls.proofs.Spent.{spent_fresh, spent_makes}
 use Rattle.dstm_worker.specs.Tries.{keeps, AtRest, OneMore, DidJob, WasKept, IsSpentFrom}
 
 -- a table of the store's law has the objects of its layout
@@ -90,14 +93,20 @@ has_committed n run number stays =
 pub run_there : (k n : Called StoreLaw) → n.home ≡ k.home → IsRunOf keeps k.home.terms n.log → IsRunOf keeps n.home.terms n.log
 run_there k n home run = subst (λ (h : Home StoreLaw). IsRunOf keeps h.terms n.log) (sym home) run
 
-pub one_more : (k n : Called StoreLaw) (again : Option Again) → Attempts keeps k n again → OneMore k n
-one_more k n again a =
+pub one_more : (k n : Called StoreLaw) (again : Option Again) → AtRest k → Attempts keeps k n again → OneMore k n
+one_more k n again rest a =
     let run = run_there k n a.same.0 a.run in record {
       on = record {
         home = a.same.0;
         number = a.same.1;
         seen = a.seen;
-        rest = record { run = run; enrolled = numbered n run (let b = a.begun in omega arith); over = a.over };
+        made = attempt_makes keeps k n again rest.fresh a;
+        rest = record {
+          run = run;
+          enrolled = numbered n run (let b = a.begun in omega arith);
+          over = a.over;
+          fresh = a.fresh ∙ sym (new_after keeps k n again a);
+        };
       };
       begun = a.begun;
     }
@@ -108,11 +117,11 @@ FewReads style job k n =
     style ≡ Loose → (shape_of n).all_write ≡ false → (by : Committed) → done n ≡ by ∷ done k → KeepsFew job by
 
 pub did_job : (style : Style) (layout : Layout) (job : Job) (k n : Called StoreLaw) (finished : Finished)
-    (is_right : List Val → List Val → Type 0) → Attempts keeps k n None → Settles keeps is_right k n finished.number →
+    (is_right : List Val → List Val → Type 0) → AtRest k → Attempts keeps k n None → Settles keeps is_right k n finished.number →
     ((s : Settles keeps is_right k n finished.number) → IsAnsweredBy layout job.ops finished.replies s.entry) →
     FewReads style job k n → DidJob style layout job k n finished
-did_job style layout job k n finished is_right a s answered few =
-    let made = one_more k n None a in record {
+did_job style layout job k n finished is_right rest a s answered few =
+    let made = one_more k n None rest a in record {
       made = made;
       committed = has_committed n made.on.rest.run made.on.rest.enrolled (a.status refl);
       by = record { caller = k.number; number = finished.number; entry = s.entry };
@@ -122,12 +131,12 @@ did_job style layout job k n finished is_right a s answered few =
           few loose reads (record { caller = k.number; number = finished.number; entry = s.entry }) s.done;
     }
 
-pub was_kept : (k n : Called StoreLaw) (again : Again) → Attempts keeps k n (Some again) → done n ≡ done k → WasKept k n
-was_kept k n again a same =
+pub was_kept : (k n : Called StoreLaw) (again : Again) → AtRest k → Attempts keeps k n (Some again) → done n ≡ done k → WasKept k n
+was_kept k n again rest a same =
     let left : IsLeft n again × Promises n again =
     subst (λ o. IfSome o (λ (x : Again). IsLeft n x × Promises n x)) (sym a.answers) a.ended.left in
     record {
-      made = one_more k n (Some again) a;
+      made = one_more k n (Some again) rest a;
       disturbed = left.0.disturbed;
       others = left.0.callers;
       same_done = same;
@@ -145,7 +154,9 @@ is_spent_from k n rest s =
         home = home;
         number = number;
         seen = s.steps.seen;
+        made = spent_makes keeps k n rest.fresh s;
         rest = record {
+          fresh = spent_fresh keeps k n rest.fresh s;
           run = run;
           enrolled = number_kept k n s.steps.events home number run own rest.enrolled;
           over = s.live;
@@ -173,7 +184,7 @@ module _ (style : Style) (layout : Layout) (job : Job) (k n : Called StoreLaw) (
       Settles keeps (λ before after. DoesAll body.task before after body.replies) k n finished.number →
       FewReads style job k n → DidJob style layout job k n finished
   did_plain body same ops replies plain settles few =
-      did_job style layout job k n finished _ a settles (λ s.
+      did_job style layout job k n finished _ rest a settles (λ s.
       subst (λ (rs : List Reply). IsAnsweredBy layout job.ops rs s.entry) (sym replies)
       (answered_plain layout job.ops body.replies (shape_of k).objects size s.entry plain (λ map length is agrees.
       let right = s.right map length (lawful map is) agrees in

@@ -17,6 +17,8 @@ use Rattle.dstm_words.specs.Seats.{Home}
 use Rattle.dstm_engine.specs.Callers.{Called, shape_of, state}
 use Rattle.dstm_store.specs.declared.law.StoreLaw.{StoreLaw}
 use Rattle.dstm_rounds.specs.Attempts.{HasCommitted}
+use Rattle.dstm_bycalls.specs.Retries.{TriesAgain}
+use Rattle.dstm_bycalls.proofs.Adding.{makes_both, makes_none}
 use Rattle.dstm_worker.specs.Tries.{AtRest, GoesOn, WasNotWasted}
 
 -- an attempt that has committed stays committed
@@ -43,13 +45,14 @@ in_range k rest =
 -- ---- a caller that goes on
 
 pub goes_nowhere : (k : Called StoreLaw) → AtRest k → GoesOn k k
-goes_nowhere k rest = record { home = refl; number = refl; seen = record { later = []; whole = refl }; rest = rest }
+goes_nowhere k rest = record { home = refl; number = refl; seen = record { later = []; whole = refl }; made = makes_none TriesAgain k; rest = rest }
 
 pub goes_on : (k n m : Called StoreLaw) → GoesOn k n → GoesOn n m → GoesOn k m
 goes_on k n m first second = record {
   home = second.home ∙ first.home;
   number = second.number ∙ first.number;
   seen = past_past k.log n.log m.log first.seen second.seen;
+  made = makes_both TriesAgain k n m first.made second.made;
   rest = second.rest;
 }
 

@@ -13,6 +13,8 @@ use Rattle.dstm_order.specs.Order.{is_spent}
 use Rattle.dstm_engine.specs.Attempts.{completes_pass, done}
 use Rattle.dstm_engine.specs.Callers.{Called, shape_of, start_of, state, is_live}
 use Rattle.dstm_store.specs.declared.law.StoreLaw.{StoreLaw}
+use Rattle.dstm_bycalls.specs.Makes.{Makes}
+use Rattle.dstm_bycalls.specs.Retries.{TriesAgain, is_new}
 use Rattle.dstm_store.specs.Whole.{IsLawful}
 use Rattle.dstm_workload.specs.declared.workload.Job.{Job}
 use Rattle.dstm_rounds.specs.Answers.{IsAnsweredBy}
@@ -35,12 +37,16 @@ pub record AtRest (k : Called StoreLaw) : Type 0 where
   pub run : IsRunOf keeps k.home.terms k.log
   pub enrolled : (state k).number ≡ Some k.number
   pub over : is_live k ≡ false
+  -- its next attempt is of a new transaction where none was begun, or the last one committed
+  pub fresh : k.fresh ≡ is_new (state k)
 
 -- it is the same caller of the same table, and its log went on
 pub record GoesOn (k n : Called StoreLaw) : Type 0 where
   pub home : n.home ≡ k.home
   pub number : n.number ≡ k.number
   pub seen : IsPastOf k.log n.log
+  -- by calls, each transaction again until it committed
+  pub made : Makes TriesAgain k n
   pub rest : AtRest n
 
 -- attempt i of the caller committed, or others kept it from that

@@ -1,4 +1,4 @@
-use Rattle.std.proofs.Common.{ap, refl}
+use Rattle.std.proofs.Common.{◌∙◌, ap, refl, sym}
 use Rattle.std.specs.Prelude.{◌≡◌}
 use Rattle.dstm_mem.proofs.InTheEnd.{in_the_end}
 use Rattle.dstm_engine.proofs.Made.{same_name}
@@ -6,7 +6,8 @@ use Rattle.dstm_engine.specs.Callers.{Called}
 use Rattle.dstm_worker.specs.Only.{HasGivenUp}
 use Rattle.dstm_worker.specs.Tries.{keeps}
 use Rattle.dstm_worker.proofs.Alone.{gave_up, stays_lawful, was_spent}
-use Rattle.dstm_worker.proofs.Branched.{one_more_by}
+use Rattle.dstm_worker.proofs.Branched.{calls_by, one_more_by}
+use Rattle.dstm_bycalls.proofs.Fresh.{new_committed}
 use Rattle.dstm_worker.proofs.Made.{is_spent_from, run_there}
 use Rattle.dstm_worker.proofs.only.give_up.Goals as goal
 
@@ -33,6 +34,10 @@ returns-clause-given_up c =
     let name = same_name keeps k b b r r h h begins refl _ c.in-Ok.ensures.same in
     let nh : n.home ≡ b.home = ap (λ (x : Called _). x.home) kept in
     let one = one_more_by k b b r r h h begins refl n nh (ap (λ (x : Called _). x.number) kept)
-    c.in-Ok-commit.ensures.attempt (run_there b n nh c.in-Ok-commit.ensures.stays.steps.run) c.in-Ok-commit.ensures.number.over in
+    c.in-Ok-commit.ensures.attempt (run_there b n nh c.in-Ok-commit.ensures.stays.steps.run) c.in-Ok-commit.ensures.number.over
+    (calls_by k b b r r h h begins refl c.requires.rest n nh (ap (λ (x : Called _). x.number) kept)
+    (ap (λ (x : Called _). x.began) kept) c.in-Ok-commit.ensures.attempt c.in-Ok-commit.ensures.ended.told)
+    (λ some. ap (λ (x : Called _). x.fresh) kept ∙ sym (new_committed n
+    (run_there b n nh c.in-Ok-commit.ensures.stays.steps.run).run.core c.in-Ok-commit.ensures.number.status some)) in
     in_the_end (λ (x : Called _). HasGivenUp k x c.in-Ok-commit.number) _ _ _ _ (assumption c) name
     (gave_up k b n c.in-Ok-commit.number begins one c.in-Ok-commit.ensures.number)

@@ -1,5 +1,5 @@
-use Rattle.std.proofs.Common.{◌∙◌, ap, subst, sym, ℕ, false}
-use Rattle.std.specs.Prelude.{◌≡◌, ◌≢◌, None, Some, Option, IfSome}
+use Rattle.std.proofs.Common.{◌∙◌, ◌||◌, refl, ap, subst, sym, ℕ, false}
+use Rattle.std.specs.Prelude.{◌≡◌, ◌≢◌, is_some, None, Some, Option, IfSome}
 use Rattle.dstm_model.specs.declared.layout.Layout.{Layout}
 use Rattle.dstm_model.specs.Objects.{objects_of}
 use Rattle.dstm_mem.specs.Memory.{with_set}
@@ -16,8 +16,12 @@ use Rattle.dstm_store.specs.declared.job.JobTask.{JobTask}
 use Rattle.dstm_store.specs.Whole.{IsLawful}
 use Rattle.dstm_worker.specs.declared.style.Style.TheVariants.{Branches}
 use Rattle.dstm_worker.specs.Tries.{keeps, DidJob, WasKept, StoodAt}
+use Rattle.dstm_order.specs.Tasks.Task.{Leaving}
+use Rattle.dstm_bycalls.specs.Retries.{TriesAgain}
+use Rattle.dstm_bycalls.proofs.Adding.{makes_both, makes_one}
+use Rattle.dstm_bycalls.proofs.Fresh.{new_committed}
 use Rattle.dstm_worker.proofs.Made.{is_spent_from, objects_are, run_there}
-use Rattle.dstm_worker.proofs.Branched.{right_for, one_more_by, was_kept_by, was_kept_dead, did_branch, rests, stood_at, unopened_by}
+use Rattle.dstm_worker.proofs.Branched.{aborted_fresh, aborts, calls_by, right_for, one_more_by, was_kept_by, was_kept_dead, did_branch, rests, stood_at, unopened_by}
 use Rattle.dstm_worker.proofs.trying.attempt_branches.Goals as goal
 
 -- The caller ends as the attempt left it, since this has the reference that it was begun with.
@@ -50,7 +54,11 @@ returns-in-Ok-commit c =
     let name = same_name keeps k b t _ _ _ _ begins place _ c.in-Ok.ensures.same in
     let nh : n.home ≡ t.home = ap (λ (x : Called _). x.home) kept in
     let one = one_more_by k b t _ _ _ _ begins place n nh (ap (λ (x : Called _). x.number) kept)
-    c.in-Ok-commit.ensures.attempt (run_there t n nh c.in-Ok-commit.ensures.stays.steps.run) c.in-Ok-commit.ensures.number.over in
+    c.in-Ok-commit.ensures.attempt (run_there t n nh c.in-Ok-commit.ensures.stays.steps.run) c.in-Ok-commit.ensures.number.over
+    (calls_by k b t _ _ _ _ begins place c.requires.rest n nh (ap (λ (x : Called _). x.number) kept)
+    (ap (λ (x : Called _). x.began) kept) c.in-Ok-commit.ensures.attempt c.in-Ok-commit.ensures.ended.told)
+    (λ some. ap (λ (x : Called _). x.fresh) kept ∙ sym (new_committed n
+    (run_there t n nh c.in-Ok-commit.ensures.stays.steps.run).run.core c.in-Ok-commit.ensures.number.status some)) in
     in_the_end (λ (x : Called _). DidJob Branches c.args.layout.now c.args.job.now k x
     (record { number = c.in-Ok-commit.number; replies = c.in-Ran.replies })) _ _ _ _ (assumption c) name
     (did_branch k b t _ _ _ _ begins place c.args.layout.now c.args.job.now
@@ -75,7 +83,11 @@ returns-in-Err-commit c =
     let nh : n.home ≡ t.home = ap (λ (x : Called _). x.home) kept in
     let left = c.in-Err-commit.ensures.leaves.left in
     let one = one_more_by k b t _ _ _ _ begins place n nh (ap (λ (x : Called _). x.number) kept)
-    c.in-Err-commit.ensures.attempt (run_there t n nh c.in-Err-commit.ensures.leaves.steps.run) left.over in
+    c.in-Err-commit.ensures.attempt (run_there t n nh c.in-Err-commit.ensures.leaves.steps.run) left.over
+    (calls_by k b t _ _ _ _ begins place c.requires.rest n nh (ap (λ (x : Called _). x.number) kept)
+    (ap (λ (x : Called _). x.began) kept) c.in-Err-commit.ensures.attempt c.in-Err-commit.ensures.ended.told)
+    (aborted_fresh k b t _ _ _ _ begins place n (ap (λ (x : Called _). x.fresh) kept)
+    (run_there t n nh c.in-Err-commit.ensures.leaves.steps.run) left.aborted) in
     in_the_end (λ (x : Called _). WasKept k x) _ _ _ _ (assumption c) name
     (was_kept_by k b t _ _ _ _ begins place n _ one left c.in-Err-commit.ensures.done)
 
@@ -94,7 +106,13 @@ returns-in-Ok-rechecked c =
     let name = same_name keeps k b u _ _ _ _ begins place _ c.in-Ok.ensures.same in
     let nh : n.home ≡ u.home = left.steps.same.0 in
     let one = one_more_by k b u _ _ _ _ begins place n nh left.steps.same.1 left.attempt
-    (run_there u n nh left.steps.run) (rests u n left.steps) in
+    (run_there u n nh left.steps.run) (rests u n left.steps)
+    (makes_both TriesAgain k u n (calls_by k b u _ _ _ _ begins place c.requires.rest u refl refl refl refl
+    (left.ended (ap (λ x. x || is_some u.left) rechecked.stands.live)).told)
+    (makes_one TriesAgain keeps Leaving u n None tt left.steps))
+    (λ some. aborted_fresh k b u _ _ _ _ begins place n (ap (λ (x : Called _). x.fresh) left.kept)
+    (run_there u n nh left.steps.run)
+    (aborts u n left.steps (rechecked.stands.newest c.requires.some).run rechecked.stands.live some) some) in
     let there : t.home ≡ k.home = home keeps k b t _ _ _ _ begins ran.leads.place in
     let law = ap (λ (h : Home _). h.terms.law.value.layout) there ∙ c.requires.law in
     let size = ap (λ (h : Home _). h.terms.shape.objects) there ∙ objects_are k c.requires.rest
@@ -128,7 +146,8 @@ returns-in-Err-rechecked c =
     let name = same_name keeps k b u _ _ _ _ begins place _ c.in-Ok.ensures.same in
     let left : u.left ≢ None = λ none. let some = rechecked.dead in cc in
     in_the_end (λ (x : Called _). WasKept k x) _ _ _ _ (assumption c) name
-    (was_kept_dead k b u _ _ _ _ begins place c.abandon.new.self.0 _ (c.abandon.ensures.dead left) rechecked.left
+    (was_kept_dead k b u _ _ _ _ begins place c.abandon.new.self.0 _ c.requires.rest
+    (c.abandon.ensures.ended (under_way u _ rechecked.dead)).told (c.abandon.ensures.dead left) rechecked.left
     c.abandon.ensures.steps.run)
 
 pub returns-in-Err-run : goal.returns-in-Err-run
@@ -144,6 +163,6 @@ returns-in-Err-run c =
     let left : t.left ≢ None = λ none. let some = again in cc in
     let ended = c.abandon-in-Err-run.ensures.ended (under_way t _ again) in
     in_the_end (λ (x : Called _). WasKept k x) _ _ _ _ (assumption c) name
-    (was_kept_dead k b t _ _ _ _ begins place c.abandon-in-Err-run.new.self.0 _ (c.abandon-in-Err-run.ensures.dead left)
+    (was_kept_dead k b t _ _ _ _ begins place c.abandon-in-Err-run.new.self.0 _ c.requires.rest ended.told (c.abandon-in-Err-run.ensures.dead left)
     (subst (λ (o : Option Again). IfSome o (λ (x : Again). IsLeft t x × Promises t x)) again ended.left).0
     c.abandon-in-Err-run.ensures.steps.run)

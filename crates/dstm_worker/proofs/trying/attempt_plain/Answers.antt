@@ -22,7 +22,7 @@ returns-in-Err-Again c =
     let k = c.args.caller.now in
     let n = c.attempt.new.caller in
     let was = subst (λ (e : Ended). EndsBy keeps k n e) c.in-Err-Again.field-0-is c.in-Err-Again.ensures.ended in
-    was_kept k n c.in-Err-Again.field-0-0 was.0 was.1
+    was_kept k n c.in-Err-Again.field-0-0 c.requires.rest was.0 was.1
 
 pub returns-in-Err-Spent : goal.returns-in-Err-Spent
 returns-in-Err-Spent c =
