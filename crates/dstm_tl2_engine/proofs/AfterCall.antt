@@ -1,5 +1,5 @@
 -- A caller after a call: its attempt, and what it has committed.
-use Rattle.std.proofs.Common.{◌≡◌, ◌<◌, ◌⊎◌, ◌∷◌, ◌++◌, ◌∙◌, List, [], ap, sym, subst, true, false, Option, None}
+use Rattle.std.proofs.Common.{◌≡◌, ◌<◌, ◌⊎◌, ◌∷◌, ◌++◌, ◌∙◌, List, [], ap, sym, subst, true, false, Option, None, Some}
 use Rattle.dstm_model.specs.declared.value.Val.{Val}
 use Rattle.dstm_tl2.specs.Histories.{is_sample}
 use Rattle.dstm_tl2.specs.Runs.{Run, local, tl2}
@@ -9,10 +9,13 @@ use Rattle.dstm_tl2_words.specs.Seats.{Home}
 use Rattle.dstm_tl2_caller.specs.declared.again.TlAgain.{TlAgain}
 use Rattle.dstm_tl2_caller.specs.Calls.{state_after}
 use Rattle.dstm_tl2_caller.specs.Tasks.{Task}
+use Rattle.dstm_tl2_causes.specs.Ended.{Disturbed}
+use Rattle.dstm_tl2_causes.proofs.Disturbing.{answers_disturb}
 use Rattle.dstm_tl2_engine.specs.Attempts.{attempt_of, done}
 use Rattle.dstm_tl2_engine.specs.Callers.{TlCalled, begun_log, state, table_of_caller}
 use Rattle.dstm_tl2_engine.specs.Calls.{Performs}
 use Rattle.dstm_tl2_engine.specs.Outcomes.{IsLeft, own_since}
+use Rattle.dstm_tl2_engine.proofs.Begun.{begun_count}
 use Rattle.dstm_tl2_engine.proofs.CallKinds.{commits_in, samples_in, uncommitting, unsampled}
 use Rattle.dstm_runs.proofs.Attempts.{begun_after, since_after}
 use Rattle.dstm_runs.proofs.Own.{after_own}
@@ -78,9 +81,23 @@ module _ {L : Type 0} (holds : L → List Val → Type 0) (k n : TlCalled L) (ta
       (ap is_valid (sym state_of) ∙ valid)
       ∙ ap (λ l. attempt_of k.number l ∷ done k) (sym state_of)
 
+  -- a call that answers why its attempt was left has disturbed it
+  disturbed : (why : TlAgain) → again ≡ Some why → samples_in task ≡ false →
+      Disturbed (table_of_caller n) n.log n.number (state n).begun
+  disturbed why is none =
+      subst (λ (t : Table). Disturbed t n.log n.number (local t n.log n.number).begun) (sym table_then)
+      (subst (λ c. Disturbed (table_of_caller k) n.log c (local (table_of_caller k) n.log c).begun) (sym p.same.1)
+      (answers_disturb (table_of_caller k) k.number n.log k.log p.events why p.own
+      (begun_count (table_of_caller k) k.number n.log
+      ∙ ap (λ xs. (local (table_of_caller k) xs k.number).begun)
+      (begun_after is_sample k.number k.log n.log p.events p.seen p.own
+      (unsampled task (table_of_caller k) (state k) p.events none p.call.obeys))
+      ∙ sym (begun_count (table_of_caller k) k.number k.log))
+      (sym p.answers ∙ is)))
+
   -- what is left of an attempt that failed or has drawn nothing, once nothing is locked any more
-  pub left_after : (state n).holds ≡ [] → ((state n).failed ≡ true) ⊎ ((state n).drawn ≡ None) →
-      1 < (table_of_caller k).callers → IsLeft n
-  left_after free over others =
-      is_left n (subst (λ t. Run t n.log) (sym table_then) run_then) free over
+  pub left_after : (why : TlAgain) → again ≡ Some why → samples_in task ≡ false → (state n).holds ≡ [] →
+      ((state n).failed ≡ true) ⊎ ((state n).drawn ≡ None) → 1 < (table_of_caller k).callers → IsLeft n
+  left_after why is none free over others =
+      is_left n (subst (λ t. Run t n.log) (sym table_then) run_then) free over (disturbed why is none)
       (subst (λ (t : Table). 1 < t.callers) (sym table_then) others)

@@ -1,6 +1,6 @@
 -- An attempt that was made, from the clauses of its calls.
 use Rattle.std.proofs.Common.{◌≡◌, ◌++◌, ◌∙◌, ◌∷◌, ℕ, List, [], sym, ap, subst, length}
-use Rattle.std.specs.Prelude.{Option, ◌+◌}
+use Rattle.std.specs.Prelude.{Option, None, true, ◌+◌}
 use base.Fml.{GName}
 use Rattle.dstm_model.specs.declared.value.Val.{Val}
 use Rattle.dstm_model.specs.Map.{Agrees, state_after, with_writes}
@@ -12,7 +12,7 @@ use Rattle.dstm_tl2.specs.Histories.{LawfulRun, history_of, is_sample}
 use Rattle.dstm_tl2.specs.Rules.{Event}
 use Rattle.dstm_tl2.specs.Runs.{local}
 use Rattle.dstm_tl2.specs.Sharing.{IsRunOf}
-use Rattle.dstm_tl2.specs.State.{LocalState}
+use Rattle.dstm_tl2.specs.State.{LocalState, is_valid}
 use Rattle.dstm_tl2_answers.proofs.Standing.{done_stands}
 use Rattle.dstm_tl2_words.specs.Seats.{Home}
 use Rattle.dstm_tl2_caller.specs.declared.again.TlAgain.{TlAgain}
@@ -55,14 +55,16 @@ module _ {L : Type 0} (holds : L → List Val → Type 0) (k b t : TlCalled L) (
 
   -- the last call on the attempt went on with the log, and answered this
   pub made : (n : TlCalled L) (again : Option TlAgain) → n ≡ record t { log = n.log; left = again } →
-      begun_log n.number n.log ≡ begun_log t.number t.log → (state n).holds ≡ [] → Seen holds n →
-      IsRunOf holds t.home.terms n.log → Attempts holds k n again
-  made n again kept log free seen run = record {
+      begun_log n.number n.log ≡ begun_log t.number t.log → (state n).holds ≡ [] →
+      (again ≡ None → is_valid (state n) ≡ true) → Seen holds n → IsRunOf holds t.home.terms n.log →
+      Attempts holds k n again
+  made n again kept log free valid seen run = record {
     began = b;
     begins = begins.steps;
     at_begin = there;
     answers = sym (ap (λ (c : TlCalled L). c.left) kept);
     free = free;
+    valid = valid;
     begun = counted;
     seen = seen;
     past =

@@ -1,8 +1,9 @@
 -- How an attempt ends.
-use Rattle.std.specs.Prelude.{◌≡◌, ◌+◌, List, [], Option, Some, None}
+use Rattle.std.specs.Prelude.{◌≡◌, ◌+◌, true, List, [], Option, Some, None}
 use Rattle.dstm_model.specs.declared.value.Val.{Val}
 use Rattle.dstm_runs.specs.Traces.{IsPastOf}
 use Rattle.dstm_tl2.specs.Sharing.{IsRunOf}
+use Rattle.dstm_tl2.specs.State.{is_valid}
 use Rattle.dstm_tl2_caller.specs.declared.again.TlAgain.{TlAgain}
 use Rattle.dstm_tl2_engine.specs.declared.error.TlEnded.{TlEnded}
 use Rattle.dstm_tl2_engine.specs.declared.error.TlEnded.TheVariants as ended
@@ -19,13 +20,14 @@ IsSpent (ended.Again again) = ⊥
 
 module _ {L : Type 0} (holds : L → List Val → Type 0) where
   -- AN ATTEMPT WAS MADE: it began, calls were made on it, and the newest of these answered this. Nothing is locked any
-  -- more. The log went on.
+  -- more; where it answered nothing the attempt is valid. The log went on.
   pub record Attempts (k n : TlCalled L) (again : Option TlAgain) : Type 0 where
     pub began : TlCalled L
     pub begins : Performs holds Beginning k began None
     pub at_begin : began.log ≡ begun_log n.number n.log
     pub answers : again ≡ n.left
     pub free : (state n).holds ≡ []
+    pub valid : again ≡ None → is_valid (state n) ≡ true
     pub begun : (state n).begun ≡ (state k).begun + 1
     pub seen : Seen holds n
     pub past : IsPastOf k.log n.log

@@ -4,6 +4,7 @@ use Rattle.dstm_runs.specs.Traces.{events_of}
 use Rattle.dstm_tl2.specs.declared.kind.Kind.{Kind}
 use Rattle.dstm_tl2.specs.declared.kind.Kind.TheVariants.{Lock, WriteLow, WriteHigh, Unlock}
 use Rattle.dstm_tl2.specs.Rules.{Event}
+use Rattle.dstm_tl2_causes.specs.Ended.{Disturbed}
 use Rattle.dstm_tl2_engine.specs.Callers.{TlCalled, since_sample, state, table_of_caller}
 
 abbrev pub is_lock : Kind → Bool
@@ -42,9 +43,10 @@ module _ {L : Type 0} where
     pub last : (o : ℕ) (lock : Event) → Contains (own_since k) lock → has_locked o lock ≡ true →
         (event : Event) × (last_at o (own_since k) ≡ Some event) × GivesBack lock event
 
-  -- What is known of a caller whose attempt was left: it has given back what it had locked, it has written nothing,
-  -- and the table has another caller.
+  -- What is known of a caller whose attempt was left: it was disturbed, it has given back what it had locked, it has
+  -- written nothing, and the table has another caller.
   pub record IsLeft (n : TlCalled L) : Type 0 where
+    pub disturbed : Disturbed (table_of_caller n) n.log n.number (state n).begun
     pub given_back : HasGivenBack n
     pub unwritten : All (λ (event : Event). is_write event.kind ≡ false) (own_since n)
     pub others : 1 < (table_of_caller n).callers

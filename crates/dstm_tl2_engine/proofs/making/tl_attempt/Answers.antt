@@ -23,7 +23,7 @@ returns-in-Ok-commit-clause-attempts g c =
     in_the_end (λ n. Attempts g.L.Law.holds c.args.caller.now n None) _ _ _ _ (assumption c) name
     (made g.L.Law.holds c.args.caller.now c.in-Ok.tx.caller.now c.run.new.mem.caller.now _ _ _ _ begins place c.commit.new.self.0 None
     c.in-Ok-commit.ensures.kept c.in-Ok-commit.ensures.stays.attempt c.in-Ok-commit.ensures.number.free
-    c.in-Ok-commit.ensures.seen c.in-Ok-commit.ensures.stays.steps.run)
+    (λ _. c.in-Ok-commit.ensures.number.valid) c.in-Ok-commit.ensures.seen c.in-Ok-commit.ensures.stays.steps.run)
 
 pub returns-in-Ok-commit-clause-settles : goal.returns-in-Ok-commit-clause-settles
 returns-in-Ok-commit-clause-settles g c =
@@ -46,7 +46,7 @@ returns-in-Err-commit-clause-ended g c =
     × (done n ≡ done c.args.caller.now)) _ _ _ _ (assumption c) name (
       (made g.L.Law.holds c.args.caller.now c.in-Ok.tx.caller.now c.run.new.mem.caller.now _ _ _ _ begins place c.commit.new.self.0 (Some c.in-Err-commit.again)
           c.in-Err-commit.ensures.kept leaves.attempt leaves.left.given_back.free
-          c.in-Err-commit.ensures.seen leaves.steps.run),
+          (λ none. absurd (cc)) c.in-Err-commit.ensures.seen leaves.steps.run),
       leaves.left,
       (leaves.done ∙ same_done g.L.Law.holds c.args.caller.now c.in-Ok.tx.caller.now c.run.new.mem.caller.now _ _ _ _ begins place),
     )
@@ -62,7 +62,7 @@ returns-in-Err-run-clause-ended g c =
     × (done n ≡ done c.args.caller.now) in
     in_the_end P _ _ _ _ (assumption c) name (subst P (sym c.abandon.ensures.same) (
       (made g.L.Law.holds c.args.caller.now c.in-Ok.tx.caller.now c.run.new.mem.caller.now _ _ _ _ begins place c.run.new.mem.caller.now (Some c.in-Err-run.again)
-          (still c.run.new.mem.caller.now _ over) refl left.given_back.free c.abandon.ensures.seen c.abandon.ensures.run),
+          (still c.run.new.mem.caller.now _ over) refl left.given_back.free (λ none. absurd (cc)) c.abandon.ensures.seen c.abandon.ensures.run),
       left,
       same_done g.L.Law.holds c.args.caller.now c.in-Ok.tx.caller.now c.run.new.mem.caller.now _ _ _ _ begins place,
     ))
