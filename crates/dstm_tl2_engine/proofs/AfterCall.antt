@@ -3,22 +3,23 @@ use Rattle.std.proofs.Common.{◌≡◌, ◌<◌, ◌⊎◌, ◌∷◌, ◌++◌
 use Rattle.dstm_model.specs.declared.value.Val.{Val}
 use Rattle.dstm_tl2.specs.Histories.{is_sample}
 use Rattle.dstm_tl2.specs.Runs.{Run, local, tl2}
-use Rattle.dstm_tl2.specs.State.{is_valid}
+use Rattle.dstm_tl2.specs.State.{LocalState, is_valid}
 use Rattle.dstm_tl2.specs.Words.{Table}
 use Rattle.dstm_tl2_words.specs.Seats.{Home}
 use Rattle.dstm_tl2_caller.specs.declared.again.TlAgain.{TlAgain}
-use Rattle.dstm_tl2_caller.specs.Calls.{state_after}
+use Rattle.dstm_tl2_caller.specs.Calls.{answer_of, state_after}
 use Rattle.dstm_tl2_caller.specs.Tasks.{Task}
 use Rattle.dstm_tl2_causes.specs.Ended.{Disturbed}
 use Rattle.dstm_tl2_causes.proofs.Disturbing.{answers_disturb}
 use Rattle.dstm_tl2_engine.specs.Attempts.{attempt_of, done}
-use Rattle.dstm_tl2_engine.specs.Callers.{TlCalled, begun_log, state, table_of_caller}
+use Rattle.dstm_tl2_engine.specs.Callers.{TlCalled, begun_log, since_sample, state, table_of_caller}
 use Rattle.dstm_tl2_engine.specs.Calls.{Performs}
-use Rattle.dstm_tl2_engine.specs.Outcomes.{IsLeft, own_since}
+use Rattle.dstm_tl2_engine.specs.Outcomes.{IsLeft, begun_state, own_since}
 use Rattle.dstm_tl2_engine.proofs.Begun.{begun_count}
 use Rattle.dstm_tl2_engine.proofs.CallKinds.{commits_in, samples_in, uncommitting, unsampled}
-use Rattle.dstm_runs.proofs.Attempts.{begun_after, since_after}
-use Rattle.dstm_runs.proofs.Own.{after_own}
+use Rattle.dstm_tl2_engine.proofs.Causing.{answers_since}
+use Rattle.dstm_runs.proofs.Attempts.{begun_after, log_parts, since_after}
+use Rattle.dstm_runs.proofs.Own.{after_own, own_state}
 use Rattle.dstm_tl2_answers.proofs.Done.{invalid_after, quiet_after, valid_after}
 use Rattle.dstm_tl2_engine.proofs.Left.{is_left}
 
@@ -95,9 +96,29 @@ module _ {L : Type 0} (holds : L → List Val → Type 0) (k n : TlCalled L) (ta
       ∙ sym (begun_count (table_of_caller k) k.number k.log))
       (sym p.answers ∙ is)))
 
+  -- and the events of its attempt answer the same
+  caused : (why : TlAgain) → again ≡ Some why → samples_in task ≡ false →
+      answer_of (table_of_caller n) (begun_state n) (own_since n) ≡ Some why
+  caused why is none =
+      let t = table_of_caller k in
+      let began : begun_state n ≡ begun_state k =
+      ap (λ (x : Table). local x (begun_log n.number n.log) n.number) table_then
+      ∙ ap (λ xs. local t xs n.number) (attempt_kept none)
+      ∙ ap (local t (begun_log k.number k.log)) p.same.1 in
+      let since : state k ≡ state_after t (begun_state k) (own_since k) =
+      ap (λ xs. local t xs k.number) (log_parts is_sample k.number k.log)
+      ∙ own_state tl2 t k.number (since_sample k.number k.log) (begun_log k.number k.log) in
+      ap (λ (x : Table). answer_of x (begun_state n) (own_since n)) table_then
+      ∙ ap (λ (l : LocalState). answer_of t l (own_since n)) began
+      ∙ ap (answer_of t (begun_state k)) (own_since_then none)
+      ∙ answers_since t (begun_state k) p.events (own_since k) why
+      (subst (λ (l : LocalState). answer_of t l p.events ≡ Some why) since (sym p.answers ∙ is))
+
   -- what is left of an attempt that failed or has drawn nothing, once nothing is locked any more
-  pub left_after : (why : TlAgain) → again ≡ Some why → samples_in task ≡ false → (state n).holds ≡ [] →
-      ((state n).failed ≡ true) ⊎ ((state n).drawn ≡ None) → 1 < (table_of_caller k).callers → IsLeft n
-  left_after why is none free over others =
-      is_left n (subst (λ t. Run t n.log) (sym table_then) run_then) free over (disturbed why is none)
+  pub left_after : (why : TlAgain) → again ≡ Some why → n.left ≡ Some why → samples_in task ≡ false →
+      (state n).holds ≡ [] → ((state n).failed ≡ true) ⊎ ((state n).drawn ≡ None) → 1 < (table_of_caller k).callers →
+      IsLeft n
+  left_after why is left none free over others =
+      is_left n (subst (λ t. Run t n.log) (sym table_then) run_then) free over (left ∙ sym (caused why is none))
+      (disturbed why is none)
       (subst (λ (t : Table). 1 < t.callers) (sym table_then) others)

@@ -1,9 +1,11 @@
 -- Why a call has left its attempt, from what it answers.
-use Rattle.std.proofs.Common.{◌++◌, ◌≡◌, ◌⊎◌, ◌∷◌, List, [], Some, ap, inl, inr, refl, subst, true, false}
+use Rattle.std.proofs.Common.{◌++◌, ◌∙◌, ◌≡◌, ◌⊎◌, ◌∷◌, List, [], Some, ap, inl, inr, refl, subst, true, false}
 use Rattle.std.specs.Prelude.{Bool, if◌then◌else◌}
 use Rattle.std.proofs.lemmas.Bool.{cases_Bool}
 use Rattle.dstm_tl2.specs.Failing.{fails, is_locked}
+use Rattle.dstm_runs.proofs.Own.{state_both}
 use Rattle.dstm_tl2.specs.Rules.{Event}
+use Rattle.dstm_tl2.specs.Runs.{tl2}
 use Rattle.dstm_tl2.specs.State.{LocalState}
 use Rattle.dstm_tl2.specs.Words.{Table}
 use Rattle.dstm_tl2_caller.specs.Calls.{Causes, Found, answer_of, cause, is_look_lock, state_after}
@@ -59,6 +61,23 @@ causes_of t l (e ∷ es) again h =
         let is : cause e ≡ again = cc in
         subst (λ a. Causes a t l (e ∷ es)) is (cause_is t l es e q)
     by ih (inr q) = cause_stays again t l es e (ih (rw q at h))
+
+-- what a call answers, its events answer with those before it
+pub answers_since : (t : Table) (l : LocalState) (es before : List Event) (again : TlAgain) →
+    answer_of t (state_after t l before) es ≡ Some again → answer_of t l (es ++ before) ≡ Some again
+answers_since t l [] before again h = absurd (cc)
+answers_since t l (e ∷ es) before again h =
+    by (answers_since t l es before again) (cases_Bool (fails e.kind (state_after t (state_after t l before) es) e))
+  where
+    same : fails e.kind (state_after t l (es ++ before)) e ≡ fails e.kind (state_after t (state_after t l before) es) e
+    same = ap (λ (m : LocalState). fails e.kind m e) (state_both tl2 t l es before)
+
+    by : (answer_of t (state_after t l before) es ≡ Some again → answer_of t l (es ++ before) ≡ Some again) →
+        (fails e.kind (state_after t (state_after t l before) es) e ≡ true)
+        ⊎ (fails e.kind (state_after t (state_after t l before) es) e ≡ false) →
+        answer_of t l (e ∷ (es ++ before)) ≡ Some again
+    by ih (inl q) = rw (same ∙ q) (rw q at h)
+    by ih (inr q) = rw (same ∙ q) (ih (rw q at h))
 
 -- the event that has ended an attempt, among the events of a call
 pub found_of : (t : Table) (l : LocalState) (es : List Event) (again : TlAgain) → answer_of t l es ≡ Some again →

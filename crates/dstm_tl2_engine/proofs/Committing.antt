@@ -231,7 +231,7 @@ module _ {L : Type 0} (holds : L → List Val → Type 0) (c : Inside L) (v : Ti
     pub left_is : IsLeft (called left_as)
     left_is =
         left_after holds (called c) (called left_as) (Doing work) (Some again)
-        (then_steps work is new (Some again) u 0 (Some again)) again refl refl left_free (inl left_failed) others
+        (then_steps work is new (Some again) u 0 (Some again)) again refl refl refl left_free (inl left_failed) others
 
     pub left_tied : Tied holds left_as
     left_tied =

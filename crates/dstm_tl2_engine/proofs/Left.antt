@@ -16,9 +16,10 @@ use Rattle.dstm_tl2.specs.Words.{Table, objects}
 use Rattle.dstm_tl2.proofs.Foretelling.{valid_parts}
 use Rattle.dstm_tl2.proofs.Holds.{hold_of-append, marked_other, marked_own, or_else, without_other, without_own}
 use Rattle.dstm_tl2.proofs.Static.{Static, static}
+use Rattle.dstm_tl2_caller.specs.Calls.{answer_of}
 use Rattle.dstm_tl2_causes.specs.Ended.{Disturbed}
 use Rattle.dstm_tl2_engine.specs.Callers.{TlCalled, since_sample, state, table_of_caller}
-use Rattle.dstm_tl2_engine.specs.Outcomes.{GivesBack, HasGivenBack, IsLeft, has_locked, is_lock, is_write, last_at, own_since}
+use Rattle.dstm_tl2_engine.specs.Outcomes.{GivesBack, HasGivenBack, IsLeft, begun_state, has_locked, is_lock, is_write, last_at, own_since}
 use Rattle.dstm_runs.proofs.Attempts.{since_at, since_still}
 use Rattle.dstm_runs.proofs.Own.{local_mine, local_others, own_first, own_other}
 use Rattle.dstm_tl2_answers.proofs.Done.{allowed_mine, failed_invalid, undrawn_invalid, untold_invalid}
@@ -522,6 +523,12 @@ module _ {L : Type 0} (n : TlCalled L) (run : Run (table_of_caller n) n.log) (fr
   pub has_not_written : All (λ (e : Event). is_write e.kind ≡ false) (own_since n)
   has_not_written = invalid_unwritten (table_of_caller n) n.log run n.number invalid
 
-  pub is_left : Disturbed (table_of_caller n) n.log n.number (state n).begun → 1 < (table_of_caller n).callers → IsLeft n
-  is_left disturbed others =
-      record { disturbed = disturbed; given_back = has_given_back; unwritten = has_not_written; others = others }
+  pub is_left : n.left ≡ answer_of (table_of_caller n) (begun_state n) (own_since n) →
+      Disturbed (table_of_caller n) n.log n.number (state n).begun → 1 < (table_of_caller n).callers → IsLeft n
+  is_left cause disturbed others = record {
+    cause = cause;
+    disturbed = disturbed;
+    given_back = has_given_back;
+    unwritten = has_not_written;
+    others = others;
+  }

@@ -393,7 +393,7 @@ module _ {L : Type 0} (holds : L → List Val → Type 0) (c : Inside L) (v : Ti
 
     pub stopped_left : IsLeft (called stopped_as)
     stopped_left =
-        left_after holds (called c) (called stopped_as) (Doing (Opening o)) (Some again) steps_stopped again refl refl
+        left_after holds (called c) (called stopped_as) (Doing (Opening o)) (Some again) steps_stopped again refl refl refl
         (ap (λ (l : LocalState). l.holds) stopped_state ∙ rest.untold.2)
         (inr (ap (λ (l : LocalState). l.drawn) stopped_state ∙ rest.undrawn))
         (others_of (table_of_caller (called c)) c.number (called stopped_as).log (called c).log steps_stopped.events

@@ -4,8 +4,11 @@ use Rattle.dstm_runs.specs.Traces.{events_of}
 use Rattle.dstm_tl2.specs.declared.kind.Kind.{Kind}
 use Rattle.dstm_tl2.specs.declared.kind.Kind.TheVariants.{Lock, WriteLow, WriteHigh, Unlock}
 use Rattle.dstm_tl2.specs.Rules.{Event}
+use Rattle.dstm_tl2.specs.Runs.{local}
+use Rattle.dstm_tl2.specs.State.{LocalState}
+use Rattle.dstm_tl2_caller.specs.Calls.{answer_of}
 use Rattle.dstm_tl2_causes.specs.Ended.{Disturbed}
-use Rattle.dstm_tl2_engine.specs.Callers.{TlCalled, since_sample, state, table_of_caller}
+use Rattle.dstm_tl2_engine.specs.Callers.{TlCalled, begun_log, since_sample, state, table_of_caller}
 
 abbrev pub is_lock : Kind → Bool
 is_lock (Lock writes) = true
@@ -43,9 +46,14 @@ module _ {L : Type 0} where
     pub last : (o : ℕ) (lock : Event) → Contains (own_since k) lock → has_locked o lock ≡ true →
         (event : Event) × (last_at o (own_since k) ≡ Some event) × GivesBack lock event
 
-  -- What is known of a caller whose attempt was left: it was disturbed, it has given back what it had locked, it has
-  -- written nothing, and the table has another caller.
+  -- the caller as its last attempt began
+  abbrev pub begun_state : TlCalled L → LocalState
+  begun_state k = local (table_of_caller k) (begun_log k.number k.log) k.number
+
+  -- What is known of a caller whose attempt was left: why is what its own events in the attempt answer; it was disturbed,
+  -- it has given back what it had locked, it has written nothing, and the table has another caller.
   pub record IsLeft (n : TlCalled L) : Type 0 where
+    pub cause : n.left ≡ answer_of (table_of_caller n) (begun_state n) (own_since n)
     pub disturbed : Disturbed (table_of_caller n) n.log n.number (state n).begun
     pub given_back : HasGivenBack n
     pub unwritten : All (λ (event : Event). is_write event.kind ≡ false) (own_since n)
