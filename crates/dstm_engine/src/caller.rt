@@ -1,5 +1,5 @@
 ghost use base.Fml.{GName};
-ghost use Rattle.std.specs.Prelude.{List, Ok, Err, OnOk, MatchResult, cond, ◌≡◌, ◌≢◌, ◌<◌, ◌≤◌, ◌*◌, ℕ, true, false, [], None, Some, IfErr, IfOk, IsSome, IsTrue, is_some, not, nat_lt, ◌||◌, ◌&&◌, ◌+◌};
+ghost use Rattle.std.specs.Prelude.{List, Ok, Err, OnOk, MatchResult, cond, ◌≡◌, ◌≢◌, ◌<◌, ◌≤◌, ◌*◌, ℕ, true, false, [], None, Some, IfErr, IfOk, IfSome, IsSome, IsTrue, is_some, not, nat_lt, ◌||◌, ◌&&◌, ◌+◌};
 ghost use Rattle.dstm_core.specs.State.{first};
 ghost use Rattle.dstm_core.specs.Words.{IsValid};
 ghost use Rattle.dstm_engine.specs.Callers.{begun_log, handed, held, is_live, is_opened, law_of, live_held, live_opened, seat_view, shape_of, state, written};
@@ -11,6 +11,7 @@ ghost use Rattle.dstm_engine.specs.Outcomes.{IsEnded};
 ghost use Rattle.dstm_engine.specs.Enrolled.{enrolled_as};
 ghost use Rattle.dstm_caller.specs.Counting.{tally_of};
 ghost use Rattle.dstm_order.specs.Counts.{counts_of};
+ghost use Rattle.dstm_order.specs.declared.again.Again.{Again as Cause};
 ghost use Rattle.dstm_engine.specs.Opens.{Continues, IsOver, Opens, Stops};
 ghost use Rattle.dstm_engine.specs.Transactions.{BeginsAnew, IsStaleOrKilled, Leaves, SpentFrom, Stays, given_back, is_ok, new_value, tx_place};
 ghost use Rattle.dstm_order.specs.Tasks.Task.{Doing, Leaving};
@@ -195,6 +196,7 @@ impl<L: Law> Caller<L> {
     }
 
     // Opens an object for reading: answers the value last set, or else the one that is held.
+    #[inline(always)]
     pub(crate) fn open_read(&mut self, stm: &Stm<L>, o: u32) -> Result<Val, Again>
         requires table { self.old.home ≡ stm.now }
         requires exists { o < (shape_of self.old).objects }
@@ -219,13 +221,14 @@ impl<L: Law> Caller<L> {
             return Ok(value);
         }
         if self.terms.shape.all_write {
-            self.write_first(stm, o)
+            self.write_out(stm, o)
         } else {
-            self.read_first(stm, o)
+            self.read_out(stm, o)
         }
     }
 
     // Opens an object for reading and writing, with the same answer.
+    #[inline(always)]
     pub(crate) fn open_write(&mut self, stm: &Stm<L>, o: u32) -> Result<Val, Again>
         requires table { self.old.home ≡ stm.now }
         requires exists { o < (shape_of self.old).objects }
@@ -247,10 +250,92 @@ impl<L: Law> Caller<L> {
         if let Some(slot) = self.opened.write(o) {
             return Ok(slot.to_put());
         }
-        self.write_first(stm, o)
+        self.write_out(stm, o)
+    }
+
+    // The cause for which the last attempt was left.
+    fn cause(&self) -> Again
+        requires left { IsSome self.now.left }
+        ensures { self.now.left ≡ Some result }
+    {
+        match self.left {
+            Some(again) => again,
+            None => unreachable!(),
+        }
+    }
+
+    // Opens an object for reading that is not held. Where that fails, the cause is kept.
+    #[inline(never)]
+    fn read_kept(&mut self, stm: &Stm<L>, o: u32) -> Option<Val>
+        requires table { self.old.home ≡ stm.now }
+        requires exists { o < (shape_of self.old).objects }
+        requires live { IsTrue (is_live self.old) }
+        requires unheld { held self.old o ≡ None }
+        requires reads { (shape_of self.old).all_write ≡ false }
+        ensures opens { IfSome result (Opens L.holds (Reading o) o self.old self.new) }
+        ensures unmarked { IfSome result (λ _. (p : ℕ) → is_opened self.new p ≡ is_opened self.old p) }
+        ensures stops { result ≡ None → (again : Cause) × Stops L.holds (Reading o) self.old self.new again }
+    {
+        match self.read_first(stm, o) {
+            Ok(value) => Some(value),
+            Err(_) => None,
+        }
+    }
+
+    // The same, and it answers the cause.
+    #[inline(always)]
+    fn read_out(&mut self, stm: &Stm<L>, o: u32) -> Result<Val, Again>
+        requires table { self.old.home ≡ stm.now }
+        requires exists { o < (shape_of self.old).objects }
+        requires live { IsTrue (is_live self.old) }
+        requires unheld { held self.old o ≡ None }
+        requires reads { (shape_of self.old).all_write ≡ false }
+        ensures opens { IfOk result (Opens L.holds (Reading o) o self.old self.new) }
+        ensures unmarked { OnOk result ((p : ℕ) → is_opened self.new p ≡ is_opened self.old p) }
+        ensures stops { IfErr result (Stops L.holds (Reading o) self.old self.new) }
+    {
+        match self.read_kept(stm, o) {
+            Some(value) => Ok(value),
+            None => Err(self.cause()),
+        }
+    }
+
+    // Opens an object for writing that is not open for it. Where that fails, the cause is kept.
+    #[inline(never)]
+    fn write_kept(&mut self, stm: &Stm<L>, o: u32) -> Option<Val>
+        requires table { self.old.home ≡ stm.now }
+        requires exists { o < (shape_of self.old).objects }
+        requires live { IsTrue (is_live self.old) }
+        requires unopened { is_opened self.old o ≡ false }
+        ensures opens { IfSome result (Opens L.holds (Writing o) o self.old self.new) }
+        ensures marked { IfSome result (λ _. IsTrue (is_opened self.new o)) }
+        ensures stops { result ≡ None → (again : Cause) × Stops L.holds (Writing o) self.old self.new again }
+    {
+        match self.write_first(stm, o) {
+            Ok(value) => Some(value),
+            Err(_) => None,
+        }
+    }
+
+    // The same, and it answers the cause.
+    #[inline(always)]
+    fn write_out(&mut self, stm: &Stm<L>, o: u32) -> Result<Val, Again>
+        requires table { self.old.home ≡ stm.now }
+        requires exists { o < (shape_of self.old).objects }
+        requires live { IsTrue (is_live self.old) }
+        requires unopened { is_opened self.old o ≡ false }
+        ensures opens { IfOk result (Opens L.holds (Writing o) o self.old self.new) }
+        ensures marked { OnOk result (IsTrue (is_opened self.new o)) }
+        ensures stops { IfErr result (Stops L.holds (Writing o) self.old self.new) }
+    {
+        match self.write_kept(stm, o) {
+            Some(value) => Ok(value),
+            None => Err(self.cause()),
+        }
     }
 
     // Opens an object for reading that is not held.
+    #[inline(always)]
     fn read_first(&mut self, stm: &Stm<L>, o: u32) -> Result<Val, Again>
         requires table { self.old.home ≡ stm.now }
         requires exists { o < (shape_of self.old).objects }
@@ -281,6 +366,7 @@ impl<L: Law> Caller<L> {
     }
 
     // Opens an object for writing that is not open for it.
+    #[inline(always)]
     fn write_first(&mut self, stm: &Stm<L>, o: u32) -> Result<Val, Again>
         requires table { self.old.home ≡ stm.now }
         requires exists { o < (shape_of self.old).objects }

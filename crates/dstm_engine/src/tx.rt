@@ -61,6 +61,7 @@ impl<'a, L: Law> Tx<'a, L> {
     }
 
     /// Opens an object for reading: answers the value last set, or else the one that is held.
+    #[inline(always)]
     pub fn open_read(&mut self, o: u32) -> Result<Val, Again>
         requires exists { o < (shape_of self.old.caller.now).objects }
         requires live { IsTrue (is_live self.old.caller.now) }
@@ -96,6 +97,7 @@ impl<'a, L: Law> Tx<'a, L> {
     }
 
     /// Opens an object for reading and writing, with the same answer.
+    #[inline(always)]
     pub fn open_write(&mut self, o: u32) -> Result<Val, Again>
         requires exists { o < (shape_of self.old.caller.now).objects }
         requires live { IsTrue (is_live self.old.caller.now) }
@@ -259,10 +261,12 @@ impl<'a, L: Law> Mem for Tx<'a, L> {
 
     ghost Admits = { λ t. Admits L.holds t.caller.now };
 
+    #[inline(always)]
     fn open_read(&mut self, o: u32) -> Result<Val, Again> {
         Tx::open_read(self, o)
     }
 
+    #[inline(always)]
     fn open_write(&mut self, o: u32) -> Result<Val, Again> {
         Tx::open_write(self, o)
     }

@@ -21,6 +21,7 @@ pub fn node_object(layout: &Layout, number: u32) -> u32
 }
 
 /// Opens an object of the list for reading, and answers what it holds.
+#[inline(always)]
 pub fn look<M: Mem>(mem: &mut M, layout: &Layout, object: u32) -> Result<Node, M::Err>
     requires list { IsOfList layout.now object }
     requires objects { M.objects mem.old ≡ objects_of layout.now }

@@ -25,25 +25,26 @@ pub struct JobTask {
 }
 
 /// The body of one job. It keeps the replies of the last run that ended without an error.
-#[derive(Debug, Drop)]
-pub struct JobBody {
-    task: JobTask,
+#[derive(Drop)]
+pub struct JobBody<'a> {
+    layout: &'a Layout,
+    ops: &'a Ops,
     replies: Replies,
 }
 
-impl Model for JobBody {
+impl<'a> Model for JobBody<'a> {
     ghost use Rattle.dstm_store.specs.Job.{Job, CanRun};
 
     ghost Value = { Job };
 
-    ghost view = { λ job. record { task = job.task; replies = job.replies } };
+    ghost view = { λ job. record { task = record { layout = job.layout.now; ops = job.ops.now }; replies = job.replies } };
 
-    ghost invariant = { λ job. CanRun job.task };
+    ghost invariant = { λ job. CanRun (record { layout = job.layout.now; ops = job.ops.now }) };
 }
 
-impl JobBody {
+impl<'a> JobBody<'a> {
     /// The body of a job that did not run yet.
-    pub fn make(layout: &Layout, ops: &Ops) -> JobBody
+    pub fn make(layout: &'a Layout, ops: &'a Ops) -> JobBody<'a>
         requires valid { IsValid layout.now }
         requires fits { All (FitsLayout layout.now) ops.now }
         requires plain { All IsPlain ops.now }
@@ -51,12 +52,9 @@ impl JobBody {
         ensures ops { result.task.ops ≡ ops.now }
         ensures replies { result.replies ≡ [] }
     {
-        let task = JobTask {
-            layout: *layout,
-            ops: ops.copy(),
-        };
         JobBody {
-            task,
+            layout,
+            ops,
             replies: Replies::new(),
         }
     }
@@ -68,9 +66,17 @@ impl JobBody {
     {
         self.replies.copy()
     }
+
+    /// The same, at the body's end.
+    pub fn into_replies(self) -> Replies
+        ensures { result ≡ self.entry.replies }
+    {
+        let JobBody { replies, .. } = self;
+        replies
+    }
 }
 
-impl Body<StoreLaw> for JobBody {
+impl<'a> Body<StoreLaw> for JobBody<'a> {
     ghost use Rattle.dstm_store.specs.Job.{DoesAll, Audits};
 
     type Task = JobTask;
@@ -88,7 +94,7 @@ impl Body<StoreLaw> for JobBody {
     ghost audits = { λ job. Audits job.task };
 
     fn run<M: Mem>(&mut self, mem: &mut M) -> Result<(), M::Err> {
-        self.replies = run_all::<M, KeepsReads>(mem, &self.task.layout, self.task.ops.as_slice())?;
+        self.replies = run_all::<M, KeepsReads>(mem, self.layout, self.ops.as_slice())?;
         Ok(())
     }
 }

@@ -290,7 +290,7 @@ fn run_job(
         DoesAll (record { layout = layout.now; ops = ops.now }) values.items done.1.items done.0) }
 {
     let mut body = JobBody::make(layout, ops);
-    let after = run_flat::<StoreLaw, JobBody>(alloc, values, &mut body)?;
+    let after = run_flat::<StoreLaw, JobBody<'_>>(alloc, values, &mut body)?;
     Ok((body.replies(), after))
 }
 

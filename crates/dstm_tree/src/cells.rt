@@ -49,6 +49,7 @@ pub(crate) fn name(number: u16) -> Val
 }
 
 // Reads one of the tree's objects.
+#[inline(always)]
 pub(crate) fn read<M: Mem>(mem: &mut M, layout: &Layout, object: u32) -> Result<Val, M::Err>
     requires first { tree_begin layout.now ≤ object }
     requires exists { object < objects_of layout.now }
@@ -79,6 +80,7 @@ pub(crate) fn write<M: Mem>(
 }
 
 // Reads the number of the root.
+#[inline(always)]
 pub(crate) fn read_root<M: Mem>(mem: &mut M, layout: &Layout) -> Result<u16, M::Err>
     requires tree { HasTree layout.now }
     requires ready { IsReady M.Mem (objects_of layout.now) (IsTree layout.now) mem.old }
@@ -90,6 +92,7 @@ pub(crate) fn read_root<M: Mem>(mem: &mut M, layout: &Layout) -> Result<u16, M::
 }
 
 // Reads a node.
+#[inline(always)]
 pub(crate) fn read_node<M: Mem>(mem: &mut M, layout: &Layout, number: u16) -> Result<Node, M::Err>
     requires number { number ≤ layout.now.tree }
     requires ready { IsOpen M.Mem layout.now mem.old }

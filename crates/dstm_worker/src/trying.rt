@@ -126,7 +126,7 @@ fn attempt_plain(
     match attempt(caller, stm, &mut body) {
         Ok(done) => Tried::Done(Finished {
             number: done.number,
-            replies: body.replies(),
+            replies: body.into_replies(),
         }),
         Err(Ended::Again(_)) => Tried::Again,
         Err(Ended::Spent) => Tried::Spent,

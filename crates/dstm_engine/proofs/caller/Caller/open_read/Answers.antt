@@ -42,8 +42,8 @@ returns-in-Some-clause-value g c =
     let h = slots_hand g.L.Law.holds x v live c.args.o in
     sym c.in-Some.is ∙ c.value.ensures ∙ h.value ∙ ap (λ (k : Called _). handed k c.args.o) c.self.view_is
 
-pub write_first-requires-clause-unopened : goal.write_first-requires-clause-unopened
-write_first-requires-clause-unopened g c =
+pub write_out-requires-clause-unopened : goal.write_out-requires-clause-unopened
+write_out-requires-clause-unopened g c =
     let x = c.self.inside in
     let v = c.self.invariant in
     let live : x.live ≡ true = live_there g.L.Law.holds x v ∙ ap is_live c.self.view_is ∙ c.requires.live in
@@ -53,8 +53,8 @@ write_first-requires-clause-unopened g c =
     ap (λ (k : Called _). is_opened k c.args.o) (sym c.self.view_is)
     ∙ ap is_some (unheld_both g.L.Law.holds x v live c.args.o none).0
 
-pub read_first-requires-clause-unheld : goal.read_first-requires-clause-unheld
-read_first-requires-clause-unheld g c =
+pub read_out-requires-clause-unheld : goal.read_out-requires-clause-unheld
+read_out-requires-clause-unheld g c =
     let x = c.self.inside in
     let v = c.self.invariant in
     let live : x.live ≡ true = live_there g.L.Law.holds x v ∙ ap is_live c.self.view_is ∙ c.requires.live in
@@ -95,8 +95,8 @@ returns-then-self-clause-stays g c =
     ap (λ (k : Called _). (shape_of k).all_write) (sym c.self.view_is) ∙ c.if-self.true in
     let work : reading (shape_of c.args.self.now) c.args.o ≡ Writing c.args.o =
     ap (λ b. if b then Writing c.args.o else Reading c.args.o) all in
-    subst (λ w. OnOk c.write_first.result (Stays g.L.Law.holds w c.args.self.now c.write_first.new.self)) (sym work)
-    (ok_then c.write_first.result _ _ (λ x o. o.stays) c.write_first.ensures.opens)
+    subst (λ w. OnOk c.write_out.result (Stays g.L.Law.holds w c.args.self.now c.write_out.new.self)) (sym work)
+    (ok_then c.write_out.result _ _ (λ x o. o.stays) c.write_out.ensures.opens)
 
 pub returns-then-self-clause-leaves : goal.returns-then-self-clause-leaves
 returns-then-self-clause-leaves g c =
@@ -105,8 +105,8 @@ returns-then-self-clause-leaves g c =
     ap (λ (k : Called _). (shape_of k).all_write) (sym c.self.view_is) ∙ c.if-self.true in
     let work : reading (shape_of c.args.self.now) c.args.o ≡ Writing c.args.o =
     ap (λ b. if b then Writing c.args.o else Reading c.args.o) all in
-    subst (λ w. IfErr c.write_first.result (Leaves g.L.Law.holds w c.args.self.now c.write_first.new.self)) (sym work)
-    (if_err c.write_first.result _ _ (λ e s. s.leaves) c.write_first.ensures.stops)
+    subst (λ w. IfErr c.write_out.result (Leaves g.L.Law.holds w c.args.self.now c.write_out.new.self)) (sym work)
+    (if_err c.write_out.result _ _ (λ e s. s.leaves) c.write_out.ensures.stops)
 
 pub returns-then-self-clause-unmarked : goal.returns-then-self-clause-unmarked
 returns-then-self-clause-unmarked g c =
@@ -115,7 +115,7 @@ returns-then-self-clause-unmarked g c =
     ap (λ (k : Called _). (shape_of k).all_write) (sym c.self.view_is) ∙ c.if-self.true in
     let work : reading (shape_of c.args.self.now) c.args.o ≡ Writing c.args.o =
     ap (λ b. if b then Writing c.args.o else Reading c.args.o) all in
-    ok_then c.write_first.result _ _ (λ x o never. absurd (cc)) c.write_first.ensures.opens
+    ok_then c.write_out.result _ _ (λ x o never. absurd (cc)) c.write_out.ensures.opens
 
 pub returns-else-self-clause-again : goal.returns-else-self-clause-again
 returns-else-self-clause-again g c =
@@ -149,8 +149,8 @@ returns-else-self-clause-stays g c =
     ap (λ (k : Called _). (shape_of k).all_write) (sym c.self.view_is) ∙ c.if-self.false in
     let work : reading (shape_of c.args.self.now) c.args.o ≡ Reading c.args.o =
     ap (λ b. if b then Writing c.args.o else Reading c.args.o) all in
-    subst (λ w. OnOk c.read_first.result (Stays g.L.Law.holds w c.args.self.now c.read_first.new.self)) (sym work)
-    (ok_then c.read_first.result _ _ (λ x o. o.stays) c.read_first.ensures.opens)
+    subst (λ w. OnOk c.read_out.result (Stays g.L.Law.holds w c.args.self.now c.read_out.new.self)) (sym work)
+    (ok_then c.read_out.result _ _ (λ x o. o.stays) c.read_out.ensures.opens)
 
 pub returns-else-self-clause-leaves : goal.returns-else-self-clause-leaves
 returns-else-self-clause-leaves g c =
@@ -159,5 +159,5 @@ returns-else-self-clause-leaves g c =
     ap (λ (k : Called _). (shape_of k).all_write) (sym c.self.view_is) ∙ c.if-self.false in
     let work : reading (shape_of c.args.self.now) c.args.o ≡ Reading c.args.o =
     ap (λ b. if b then Writing c.args.o else Reading c.args.o) all in
-    subst (λ w. IfErr c.read_first.result (Leaves g.L.Law.holds w c.args.self.now c.read_first.new.self)) (sym work)
-    (if_err c.read_first.result _ _ (λ e s. s.leaves) c.read_first.ensures.stops)
+    subst (λ w. IfErr c.read_out.result (Leaves g.L.Law.holds w c.args.self.now c.read_out.new.self)) (sym work)
+    (if_err c.read_out.result _ _ (λ e s. s.leaves) c.read_out.ensures.stops)

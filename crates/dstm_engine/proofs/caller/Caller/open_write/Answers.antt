@@ -55,8 +55,8 @@ returns-in-Some-clause-value g c =
     ap (λ w. slots_value w (read_slot x.opened.reads c.args.o)) (sym c.write.ensures ∙ c.in-Some.is) in
     ap Some c.to_put.ensures ∙ sym slots ∙ h.value ∙ ap (λ (k : Called _). handed k c.args.o) c.self.view_is
 
-pub write_first-requires-clause-unopened : goal.write_first-requires-clause-unopened
-write_first-requires-clause-unopened g c =
+pub write_out-requires-clause-unopened : goal.write_out-requires-clause-unopened
+write_out-requires-clause-unopened g c =
     let x = c.self.inside in
     let v = c.self.invariant in
     let live : x.live ≡ true = live_there g.L.Law.holds x v ∙ ap is_live c.self.view_is ∙ c.requires.live in
@@ -91,8 +91,8 @@ returns-clause-answered g c =
 
 pub returns-clause-stays : goal.returns-clause-stays
 returns-clause-stays g c =
-    λ not_open. ok_then c.write_first.result _ _ (λ x o. o.stays) c.write_first.ensures.opens
+    λ not_open. ok_then c.write_out.result _ _ (λ x o. o.stays) c.write_out.ensures.opens
 
 pub returns-clause-leaves : goal.returns-clause-leaves
 returns-clause-leaves g c =
-    if_err c.write_first.result _ _ (λ e s. s.leaves) c.write_first.ensures.stops
+    if_err c.write_out.result _ _ (λ e s. s.leaves) c.write_out.ensures.stops

@@ -9,13 +9,13 @@ use Rattle.dstm_store.proofs.job.JobBodyBodyStoreLaw.run.Goals as goal
 
 pub run_all-requires-clause-ready : goal.run_all-requires-clause-ready
 run_all-requires-clause-ready g c =
-    ready-fresh g.M.Mem c.self.inside.task.layout c.args.mem.now g.met.M.Mem.admitted_length c.requires.fresh
+    ready-fresh g.M.Mem c.self.inside.layout.now c.args.mem.now g.met.M.Mem.admitted_length c.requires.fresh
     (λ map admitted.
     subst (λ (job : Job). IsLawful job.task.layout map) (sym c.self.view_is) (c.requires.lawful map admitted))
 
 pub returns-clause-right : goal.returns-clause-right
 returns-clause-right g c map admitted =
-    let layout = c.self.inside.task.layout in
+    let layout = c.self.inside.layout.now in
     let after = with_set map (g.M.Mem.written c.run_all.new.mem) in
     let replies = c.in_ok-self-inside.field-0 in
     subst (λ (ops : List Op). DoesAll (record { layout = layout; ops = ops }) map after replies)
