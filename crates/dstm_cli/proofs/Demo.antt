@@ -9,8 +9,8 @@ use Rattle.dstm_report.specs.declared.report.Report.{Report}
 use Rattle.dstm_report.specs.declared.verdict.Verdict.{Verdict}
 use Rattle.dstm_report.specs.declared.verdict.Verdict.TheVariants.{Lawful}
 use Rattle.dstm_report.specs.Lawful.{IsLawful, store_after}
-use Rattle.dstm_rounds.specs.declared.round.Round.{Round}
-use Rattle.dstm_rounds.specs.Records.{StandFor}
+use Rattle.dstm_records.specs.declared.round.Round.{Round}
+use Rattle.dstm_records.specs.Records.{StandFor}
 use Rattle.dstm_cli.specs.Command.{default_options, demo_text, workload_for, IsDemo}
 
 -- the balances that a lawful report tells have the sum that the accounts were opened with, where it tells them

@@ -22,10 +22,10 @@ use Rattle.dstm_report.specs.declared.verdict.Verdict.TheVariants.{Lawful, NotLa
 use Rattle.dstm_report.specs.Reading.{report_of, IsHeld}
 use Rattle.dstm_report.specs.Text.{report_text}
 use Rattle.dstm_report.specs.Lawful.{IsLawful, Tells}
-use Rattle.dstm_rounds.specs.declared.options.Options.{Options}
-use Rattle.dstm_rounds.specs.declared.round.Round.{Round}
-use Rattle.dstm_rounds.specs.Records.{StandFor}
-use Rattle.dstm_rounds.specs.Running.{IsClosed}
+use Rattle.dstm_records.specs.declared.options.Options.{Options}
+use Rattle.dstm_records.specs.declared.round.Round.{Round}
+use Rattle.dstm_records.specs.Records.{StandFor}
+use Rattle.dstm_records.specs.Running.{IsClosed}
 use Rattle.dstm_cli.specs.declared.failure.Failure.{Failure}
 use Rattle.dstm_cli.specs.declared.failure.Failure.TheVariants.{TooLong, Refused, NoReport, ReportForm}
 

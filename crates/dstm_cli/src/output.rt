@@ -7,7 +7,7 @@ ghost use Rattle.dstm_workload.specs.Workload.{IsValidWorkload};
 ghost use Rattle.dstm_workload.specs.Writing.{text_of_workload};
 ghost use Rattle.dstm_report.specs.declared.report.Report.{Report as TheReport};
 ghost use Rattle.dstm_report.specs.Lawful.{IsLawful, Tells};
-ghost use Rattle.dstm_rounds.specs.Running.{added, IsClosed};
+ghost use Rattle.dstm_records.specs.Running.{added, IsClosed};
 ghost use Rattle.dstm_cli.specs.Command.{
   run_input,
   check_input,

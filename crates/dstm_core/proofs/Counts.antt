@@ -11,14 +11,14 @@ use Rattle.dstm_core.specs.Rules.{access, after, AllowedAs}
 use Rattle.dstm_core.specs.Runs.{local, Core, Fits}
 use Rattle.dstm_core.specs.State.{LocalState, given}
 use Rattle.dstm_core.specs.Traces.{at, word}
-use Rattle.dstm_runs.specs.Traces.Access.{Add}
+use Rattle.dstm_machines.specs.Traces.Access.{Add}
 use Rattle.dstm_core.specs.Words.{Word, place, IsValid}
 use Rattle.dstm_core.specs.declared.shape.TheConstants.{MAX_CALLERS, MAX_ATTEMPTS}
 use Rattle.std.proofs.lemmas.Nat.{mul-le}
 use Rattle.dstm_core.specs.Words.Word.{CallersWord, NumbersWord, StampsWord}
 use Rattle.dstm_core.proofs.Static.{Static, static, running, callers, local_own}
 use Rattle.dstm_core.proofs.Columns.{step, Same, enrolled, numbers, stamps}
-use Rattle.dstm_runs.proofs.Totals.{total, total-≤, total-<, total-bound}
+use Rattle.dstm_machines.proofs.Totals.{total, total-≤, total-<, total-bound}
 
 -- the attempts of a caller that can draw no number any more
 abbrev pub spent_by : Phase → ℕ → ℕ

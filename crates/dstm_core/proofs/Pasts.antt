@@ -1,7 +1,7 @@
 -- What stands before some events of a core run is a core run.
 use Rattle.std.proofs.Common.{◌++◌, List}
-use Rattle.dstm_runs.proofs.Pasts.{run_before}
-use Rattle.dstm_runs.proofs.Runs as runs
+use Rattle.dstm_machines.proofs.Pasts.{run_before}
+use Rattle.dstm_machines.proofs.Runs as runs
 use Rattle.dstm_core.specs.declared.shape.Shape.{Shape}
 use Rattle.dstm_core.specs.Events.{Event}
 use Rattle.dstm_core.specs.Runs.{Core, core as machine}

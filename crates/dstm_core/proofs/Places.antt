@@ -1,6 +1,6 @@
 -- Two words of a shape lie at two places.
 use Rattle.std.proofs.Common.{◌≡◌, ◌∷◌, ℕ, List, refl, ap, arith}
-use Rattle.dstm_runs.proofs.Runs as runs
+use Rattle.dstm_machines.proofs.Runs as runs
 use Rattle.dstm_core.specs.Words.Word.{ObjectWord, StatusWord, RankWord, OwnerWord, OldWord, LowWord, HighWord, CallersWord, NumbersWord, StampsWord}
 use Rattle.dstm_core.specs.declared.shape.Shape.{Shape}
 use Rattle.dstm_core.specs.Events.{Event}

@@ -3,7 +3,7 @@ use Rattle.std.proofs.Common.{◌≤◌, ◌-◌, ◌∷◌, ◌++◌, ℕ, inl,
 use Rattle.dstm_model.specs.declared.value.Val.{Val}
 use Rattle.dstm_core.specs.Events.{Event}
 use Rattle.dstm_core.specs.declared.shape.Shape.{Shape}
-use Rattle.dstm_runs.proofs.Runs.{each_past}
+use Rattle.dstm_machines.proofs.Runs.{each_past}
 use Rattle.dstm_core.specs.Histories.{CoreRun, Lawful, PutsLawfully}
 use Rattle.dstm_core.specs.Laws.{IsFinished, Installs, StaysInstalled}
 use Rattle.dstm_core.specs.Runs.{Core}

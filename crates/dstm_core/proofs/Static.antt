@@ -13,7 +13,7 @@ use Rattle.dstm_core.specs.declared.state.Write.{Write}
 use Rattle.dstm_core.specs.State.{LocalState, or_zero, next_locator, given, version, is_resolved, or_unresolved, res, keep_resolved, or_write}
 use Rattle.dstm_core.specs.Rules.{leave, install, after, AllowedAs}
 use Rattle.dstm_core.specs.Runs.{local, Core, core as machine}
-use Rattle.dstm_runs.proofs.Runs as runs
+use Rattle.dstm_machines.proofs.Runs as runs
 
 -- a resolution is of an object of the shape
 abbrev pub InShape : Shape → Option Resolution → Type 0

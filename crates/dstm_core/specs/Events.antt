@@ -1,5 +1,5 @@
 -- Events of the machine.
-use Rattle.dstm_runs.specs.declared.event.Event as trace
+use Rattle.dstm_machines.specs.declared.event.Event as trace
 use Rattle.dstm_core.specs.declared.event.Kind.{Kind}
 
 abbrev pub Event : Type 0

@@ -2,8 +2,8 @@
 use Rattle.std.specs.Prelude.{◌≡◌, ℕ, ◌+◌, ◌-◌, ◌==◌, ◌&&◌, Bool, true, false, List, [], ◌∷◌, ◌++◌, length, reverse, if◌then◌else◌}
 use Rattle.dstm_model.specs.declared.value.Val.{Val}
 use Rattle.dstm_model.specs.Map.{Entry, value_at, KeepsLaw}
-use Rattle.dstm_history.specs.Histories.{gathered}
-use Rattle.dstm_runs.specs.Traces.{Each}
+use Rattle.dstm_machines.specs.Histories.{gathered}
+use Rattle.dstm_machines.specs.Traces.{Each}
 use Rattle.dstm_core.specs.Events.{Event}
 use Rattle.dstm_core.specs.declared.event.Kind.{Kind}
 use Rattle.dstm_core.specs.declared.event.Kind.TheVariants.{LookNumber, LookSelf, PutNew, Draw}

@@ -11,7 +11,7 @@ use Rattle.dstm_core.specs.Histories.{CoreRun}
 use Rattle.dstm_core.specs.Rules.{access}
 use Rattle.dstm_core.specs.Runs.{local}
 use Rattle.dstm_core.specs.Traces.{Access, word}
-use Rattle.dstm_runs.specs.Traces.Access.{Load}
+use Rattle.dstm_machines.specs.Traces.Access.{Load}
 use Rattle.dstm_core.specs.Words.{Word, place, code_of}
 use Rattle.dstm_core.specs.Words.Word.{StatusWord, OwnerWord, OldWord, LowWord, HighWord}
 

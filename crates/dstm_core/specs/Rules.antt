@@ -14,7 +14,7 @@ use Rattle.dstm_core.specs.declared.state.Resolution.{Resolution}
 use Rattle.dstm_core.specs.declared.status.Status.TheVariants as status
 use Rattle.dstm_core.specs.State.{LocalState, or_zero, next_attempt, own_attempt, next_locator, given, is_live, read_of, write_of, drop_read, is_other, next_read, next_write, res, version, is_resolved, keep_resolved, record_resolved}
 use Rattle.dstm_core.specs.Traces.{Access, Acts}
-use Rattle.dstm_runs.specs.Traces.Access.{Load, Store, Exchange, Add}
+use Rattle.dstm_machines.specs.Traces.Access.{Load, Store, Exchange, Add}
 use Rattle.dstm_core.specs.Words.{Word, HasWord, place, code_of}
 use Rattle.dstm_core.specs.Words.Word.{ObjectWord, StatusWord, RankWord, OwnerWord, OldWord, LowWord, HighWord, CallersWord, NumbersWord, StampsWord}
 

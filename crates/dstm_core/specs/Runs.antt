@@ -1,7 +1,7 @@
 -- Core runs: the runs of the machine of the memory.
 use Rattle.std.specs.Prelude.{◌≡◌, ℕ, List}
-use Rattle.dstm_runs.specs.Machines as machines
-use Rattle.dstm_runs.specs.Machines.{Machine}
+use Rattle.dstm_machines.specs.Machines as machines
+use Rattle.dstm_machines.specs.Machines.{Machine}
 use Rattle.dstm_core.specs.declared.event.Kind.{Kind}
 use Rattle.dstm_core.specs.declared.event.Kind.TheVariants.{Enrol}
 use Rattle.dstm_core.specs.declared.shape.Shape.{Shape}

@@ -1,7 +1,7 @@
 -- Traces of the machine: what the words hold after some events. Each word holds 0 at first.
 use Rattle.std.specs.Prelude.{ℕ, List}
-pub use Rattle.dstm_runs.specs.Traces.{Access, Acts, IsPastOf, events_of}
-use Rattle.dstm_runs.specs.Traces as traces
+pub use Rattle.dstm_machines.specs.Traces.{Access, Acts, IsPastOf, events_of}
+use Rattle.dstm_machines.specs.Traces as traces
 use Rattle.dstm_core.specs.declared.shape.Shape.{Shape}
 use Rattle.dstm_core.specs.Events.{Event}
 use Rattle.dstm_core.specs.Words.{Word, place}

@@ -58,4 +58,4 @@ pub enum Kind {
 }
 
 /// One load, store, exchange or add on one word of a table.
-pub type Event = dstm_runs::Event<Kind>;
+pub type Event = dstm_machines::Event<Kind>;

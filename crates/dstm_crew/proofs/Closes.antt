@@ -8,8 +8,8 @@ use Rattle.dstm_core.specs.declared.shape.Shape.{Shape}
 use Rattle.dstm_core.specs.Events.{Event}
 use Rattle.dstm_core.specs.Histories.{CoreRun, history_of}
 use Rattle.dstm_words.specs.Seats.{Home, IsRunOf}
-use Rattle.dstm_answers.specs.Committed.{Committed, committed_in, done_by}
-use Rattle.dstm_answers.proofs.Stays.{entries_are_history}
+use Rattle.dstm_opacity.specs.Committed.{Committed, committed_in, done_by}
+use Rattle.dstm_opacity.proofs.Stays.{entries_are_history}
 use Rattle.dstm_engine.specs.Attempts.{done}
 use Rattle.dstm_engine.specs.Callers.{Called, shape_of, start_of}
 use Rattle.dstm_engine.specs.Tables.{Founding}
@@ -19,20 +19,20 @@ use Rattle.dstm_workload.specs.declared.workload.Workload.{Workload}
 use Rattle.dstm_report.specs.declared.report.Row.{Row}
 use Rattle.dstm_report.specs.Lawful.{store_after}
 use Rattle.dstm_report.specs.Turns.{Turning}
-use Rattle.dstm_rounds.specs.declared.options.Options.{Options}
-use Rattle.dstm_rounds.specs.declared.round.Round.{Round}
-use Rattle.dstm_rounds.specs.declared.round.Round.TheVariants.{Dstm}
-use Rattle.dstm_rounds.specs.Records.{IsDstmMade, IsRoundOf, IsRun, TellOf, values_of}
-use Rattle.dstm_rounds.specs.Rounds.{attempts_for, is_parallel, most_jobs, workers_left}
-use Rattle.dstm_rounds.specs.Running.{AddsRound, Begins, count_left, turns_behind}
-use Rattle.dstm_rounds.specs.Told.{AreTold}
-use Rattle.dstm_rounds.proofs.Collecting.{Collected}
-use Rattle.dstm_rounds.proofs.Only.{entries_reverse, only_done}
-use Rattle.dstm_rounds.proofs.Sights.{sights_agree}
-use Rattle.dstm_rounds.proofs.Told.{fewer_left, rows_told}
-use Rattle.dstm_worker.specs.Tries.{keeps}
-use Rattle.dstm_worker.proofs.Staying.{in_range}
-use Rattle.dstm_alone.specs.Alone.{CanRunAlone, HasRunAlone}
+use Rattle.dstm_records.specs.declared.options.Options.{Options}
+use Rattle.dstm_records.specs.declared.round.Round.{Round}
+use Rattle.dstm_records.specs.declared.round.Round.TheVariants.{Dstm}
+use Rattle.dstm_records.specs.Records.{IsDstmMade, IsRoundOf, IsRun, TellOf, values_of}
+use Rattle.dstm_records.specs.Rounds.{attempts_for, is_parallel, most_jobs, workers_left}
+use Rattle.dstm_records.specs.Running.{AddsRound, Begins, count_left, turns_behind}
+use Rattle.dstm_records.specs.Told.{AreTold}
+use Rattle.dstm_records.proofs.Collecting.{Collected}
+use Rattle.dstm_records.proofs.Only.{entries_reverse, only_done}
+use Rattle.dstm_records.proofs.Sights.{sights_agree}
+use Rattle.dstm_records.proofs.Told.{fewer_left, rows_told}
+use Rattle.dstm_crew.specs.Tries.{keeps}
+use Rattle.dstm_crew.proofs.Staying.{in_range}
+use Rattle.dstm_crew.specs.Alone.{CanRunAlone, HasRunAlone}
 use Rattle.dstm_crew.specs.Opened.{IsOpened, with_jobs}
 
 -- in an alone round one caller runs a job of each worker that has jobs left

@@ -5,7 +5,7 @@ use Rattle.std.specs.Prelude.{◌||◌, filter, IfSome, option_copied}
 use Rattle.std.specs.List.{range_with_len, slice_get}
 use Rattle.dstm_workload.specs.declared.workload.Job.{Job}
 use Rattle.dstm_report.specs.Lawful.{first_job}
-use Rattle.dstm_rounds.specs.Rounds.{has_job}
+use Rattle.dstm_records.specs.Rounds.{has_job}
 
 -- those from this one on
 abbrev pub from_on : (workers : ℕ) → List Job → (worker : ℕ) → List ℕ

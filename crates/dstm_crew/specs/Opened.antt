@@ -11,9 +11,9 @@ use Rattle.dstm_engine.specs.Tables.{Founding}
 use Rattle.dstm_store.specs.declared.law.StoreLaw.{StoreLaw}
 use Rattle.dstm_workload.specs.declared.workload.Job.{Job}
 use Rattle.dstm_workload.specs.declared.workload.Workload.{Workload}
-use Rattle.dstm_rounds.specs.declared.options.Options.{Options}
-use Rattle.dstm_rounds.specs.Rounds.{attempts_for, has_job, locators_for}
-use Rattle.dstm_worker.specs.Tries.{AtRest}
+use Rattle.dstm_records.specs.declared.options.Options.{Options}
+use Rattle.dstm_records.specs.Rounds.{attempts_for, has_job, locators_for}
+use Rattle.dstm_crew.specs.Tries.{AtRest}
 
 -- the workers below this number that have one of these jobs, in rising order
 abbrev pub with_jobs : (workers : ℕ) → List Job → List ℕ

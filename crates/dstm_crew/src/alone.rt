@@ -2,15 +2,15 @@ ghost use Rattle.std.specs.Prelude.{◌≡◌, ◌<◌, ◌≤◌, ◌+◌, ◌=
 ghost use Rattle.std.specs.List.{slice_get};
 ghost use Rattle.dstm_workload.specs.Workload.{IsValidWorkload};
 ghost use Rattle.dstm_store.specs.Whole.{IsLawful};
-ghost use Rattle.dstm_rounds.specs.Rounds.{is_parallel};
-ghost use Rattle.dstm_rounds.specs.Running.{turns_behind, AddsClosed, Begins, HasPlayed};
+ghost use Rattle.dstm_records.specs.Rounds.{is_parallel};
+ghost use Rattle.dstm_records.specs.Running.{turns_behind, AddsClosed, Begins, HasPlayed};
 ghost use Rattle.dstm_crew.specs.Opened.{IsOpened, with_jobs};
 
-use dstm_alone::run_alone;
+use crate::sweeping::run_alone;
 use dstm_engine::{Caller, EnrolError, Founder, Stm};
 use dstm_model::Val;
+use dstm_records::{Options, Round, shape_for};
 use dstm_report::{Row, Turns};
-use dstm_rounds::{Options, Round, shape_for};
 use dstm_store::StoreLaw;
 use dstm_workload::Workload;
 use std::alloc::{AllocError, Global};

@@ -1,10 +1,33 @@
 //! The crew: workers that run the jobs of a workload on tables, round by round, and the report of it.
+//!
+//! In a parallel round the workers that have jobs left run them beside one another, on a table of their own, and what they
+//! did is told in the order of the numbers that their transactions drew. In an alone round one caller runs the first job
+//! left of each worker, and gives one up where all are blocked.
 #![tactic(auto)]
 
 mod alone;
+mod beside;
+mod collecting;
 mod crew;
+mod gate;
+mod only;
+mod playing;
+mod retiring;
 mod rounds;
+mod running;
+mod seats;
+mod share;
+mod sharing;
+mod sizing;
+mod style;
+mod sweeping;
+mod trying;
+mod worker;
 
 pub use crew::run_crew;
-pub use dstm_rounds::{Options, Round, Rounds};
-pub use dstm_worker::{Gate, OpenGate};
+pub use dstm_records::{Options, Round, Rounds};
+pub use gate::{Gate, OpenGate};
+pub use only::{OnlyTried, give_up, try_alone};
+pub use style::Style;
+pub use trying::Finished;
+pub use worker::Worker;

@@ -1,12 +1,12 @@
 ghost use Rattle.std.specs.Prelude.{◌≡◌, ◌<◌, ◌≤◌, ◌+◌, [], length, vec_len, vec_capacity, IfOk, IfErr};
-ghost use Rattle.dstm_rounds.specs.Running.{added, turns_behind, AddsClosed, Begins, HasEnded, HasPlayed};
+ghost use Rattle.dstm_records.specs.Running.{added, turns_behind, AddsClosed, Begins, HasEnded, HasPlayed};
 
 use crate::alone::play_alone;
+use crate::gate::Gate;
+use crate::playing::play_parallel;
 use dstm_model::Val;
-use dstm_parallel::play_parallel;
+use dstm_records::{Options, Round};
 use dstm_report::{Row, Turns};
-use dstm_rounds::{Options, Round};
-use dstm_worker::Gate;
 use dstm_workload::Workload;
 use std::alloc::{AllocError, Global};
 use std::thread::Threads;

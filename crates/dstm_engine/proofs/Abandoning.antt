@@ -4,7 +4,7 @@ use Rattle.std.specs.Prelude.{IfSome, count_by, if◌then◌else◌, is_some}
 use Rattle.std.proofs.lemmas.Bool.{cases_Bool}
 use Rattle.std.proofs.lemmas.List.Elements.{All-cons, All-nil}
 use Rattle.std.proofs.lemmas.List.Sums.{sum_by-cons}
-use Rattle.dstm_runs.proofs.Attempts.{NoneBegins, begun_after}
+use Rattle.dstm_machines.proofs.Attempts.{NoneBegins, begun_after}
 use Rattle.dstm_core.specs.Counts.{begin_count, is_begin}
 use Rattle.dstm_core.specs.Events.{Event}
 use Rattle.dstm_core.specs.Rules.{is_outside}

@@ -3,7 +3,7 @@ use Rattle.std.proofs.Common.{◌&&◌, ◌++◌, ◌+◌, ◌*◌, ◌==◌, �
 use Rattle.std.proofs.lemmas.List.{append_cancel_right}
 use Rattle.std.proofs.lemmas.Bool.{and_parts, cases_Bool, cond_both, eq-eqb, eqb-true}
 use Rattle.std.proofs.lemmas.List.Elements.{filter-append}
-use Rattle.dstm_runs.proofs.Attempts.{log_parts}
+use Rattle.dstm_machines.proofs.Attempts.{log_parts}
 use Rattle.dstm_core.specs.Runs.{Core, local}
 use Rattle.dstm_core.specs.State.{LocalState}
 use Rattle.dstm_core.specs.Traces.{events_of}

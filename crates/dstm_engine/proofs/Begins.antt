@@ -4,12 +4,12 @@ use Rattle.std.specs.Prelude.{IfSome, is_some}
 use Rattle.std.specs.declared.snapshot.Snapshot.{Snapshot}
 use Rattle.std.proofs.lemmas.Bool.{cases_Bool, eq-eqb}
 use Rattle.std.proofs.lemmas.List.Elements.{All-nil}
-use Rattle.dstm_answers.proofs.Stays.{call_adds_none}
-use Rattle.dstm_answers.specs.Committed.{done_by}
-use Rattle.dstm_caller.specs.Reads.{words_of}
-use Rattle.dstm_caller.specs.Under.{InTask, now}
-use Rattle.dstm_caller.specs.Writes.{AreWrites}
-use Rattle.dstm_caller.specs.declared.steps.Steps.{Steps}
+use Rattle.dstm_opacity.proofs.Stays.{call_adds_none}
+use Rattle.dstm_opacity.specs.Committed.{done_by}
+use Rattle.dstm_steps.specs.Reads.{words_of}
+use Rattle.dstm_steps.specs.Under.{InTask, now}
+use Rattle.dstm_steps.specs.Writes.{AreWrites}
+use Rattle.dstm_steps.specs.declared.steps.Steps.{Steps}
 use Rattle.dstm_core.proofs.Stamps.{standing}
 use Rattle.dstm_core.specs.Events.{Event}
 use Rattle.dstm_core.specs.Rules.{begin}

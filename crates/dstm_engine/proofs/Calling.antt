@@ -1,10 +1,10 @@
 -- A call of a caller, from what its steps know.
 use Rattle.std.proofs.Common.{◌<◌, ◌∙◌, ◌≡◌, List, ap, subst, sym}
 use Rattle.std.specs.Prelude.{None, Option}
-use Rattle.dstm_caller.proofs.Stepping.{began_as, call_begins, call_of}
-use Rattle.dstm_caller.specs.Under.{InTask, IsMirror, effort_by, now}
+use Rattle.dstm_steps.proofs.Stepping.{began_as, call_begins, call_of}
+use Rattle.dstm_steps.specs.Under.{InTask, IsMirror, effort_by, now}
 use Rattle.dstm_words.specs.Seats.{caller_view}
-use Rattle.dstm_caller.specs.declared.steps.Steps.{Steps}
+use Rattle.dstm_steps.specs.declared.steps.Steps.{Steps}
 use Rattle.dstm_core.specs.Traces.{IsPastOf, events_of}
 use Rattle.dstm_model.specs.declared.value.Val.{Val}
 use Rattle.dstm_order.specs.Calls.{answer}

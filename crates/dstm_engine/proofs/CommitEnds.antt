@@ -1,14 +1,14 @@
 -- A caller after a commit.
 use Rattle.std.proofs.Common.{◌<◌, ◌∙◌, ◌∷◌, ◌≡◌, List, None, Option, Some, ap, arith, cond, false, refl, subst, sym, true, ℕ}
 use Rattle.std.specs.Prelude.{Bool, IfSome}
-use Rattle.dstm_answers.specs.Committed.{attempt_of, done_by}
-use Rattle.dstm_caller.proofs.Stepping.{call_of}
-use Rattle.dstm_caller.specs.Under.{InTask, now}
-use Rattle.dstm_caller.specs.declared.steps.Steps.{Steps}
-use Rattle.dstm_causes.proofs.Adding.{is_added}
-use Rattle.dstm_causes.proofs.Committing.{commit_ends}
-use Rattle.dstm_causes.proofs.OwnEvents.{after_own, allowed_own}
-use Rattle.dstm_causes.specs.Ends.{IsCallIn, StaysAt}
+use Rattle.dstm_opacity.specs.Committed.{attempt_of, done_by}
+use Rattle.dstm_steps.proofs.Stepping.{call_of}
+use Rattle.dstm_steps.specs.Under.{InTask, now}
+use Rattle.dstm_steps.specs.declared.steps.Steps.{Steps}
+use Rattle.dstm_progress.proofs.Adding.{is_added}
+use Rattle.dstm_progress.proofs.Committing.{commit_ends}
+use Rattle.dstm_progress.proofs.OwnEvents.{after_own, allowed_own}
+use Rattle.dstm_progress.specs.Ends.{IsCallIn, StaysAt}
 use Rattle.dstm_core.specs.Words.{code_of}
 use Rattle.dstm_core.specs.declared.status.Status.TheVariants as status
 use Rattle.dstm_core.specs.Histories.{entry_of, new_values}

@@ -4,11 +4,11 @@ use Rattle.std.specs.Option.{option_or}
 use Rattle.std.specs.Prelude.{All, is_some, slice_index_or, unwrap_or}
 use Rattle.std.proofs.lemmas.Bool.{cases_Bool, eq-eqb, eqb-true}
 use Rattle.std.proofs.lemmas.Nat.{mul-le}
-use Rattle.dstm_caller.proofs.Ranged.{few_locators}
-use Rattle.dstm_caller.specs.Under.{now}
-use Rattle.dstm_caller.specs.Writes.{AreWrites, IsLawful, or_old, puts_of, to_put}
-use Rattle.dstm_caller.specs.declared.slots.WriteSlot.{WriteSlot}
-use Rattle.dstm_caller.specs.declared.steps.Steps.{Steps}
+use Rattle.dstm_steps.proofs.Ranged.{few_locators}
+use Rattle.dstm_steps.specs.Under.{now}
+use Rattle.dstm_steps.specs.Writes.{AreWrites, IsLawful, or_old, puts_of, to_put}
+use Rattle.dstm_steps.specs.declared.slots.WriteSlot.{WriteSlot}
+use Rattle.dstm_steps.specs.declared.steps.Steps.{Steps}
 use Rattle.dstm_core.proofs.Static.{static}
 use Rattle.dstm_core.specs.Events.{Event}
 use Rattle.dstm_core.specs.Histories.{entry_of, old_values, read_values, seen}

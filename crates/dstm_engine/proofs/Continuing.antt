@@ -3,7 +3,7 @@ use Rattle.std.proofs.Common.{◌++◌, ◌<◌, ◌==◌, ◌||◌, ◌∙◌, 
 use Rattle.std.specs.Prelude.{if◌then◌else◌}
 use Rattle.std.proofs.lemmas.Bool.{cases_Bool, cond_both, eqb-true}
 use Rattle.std.proofs.lemmas.List.Elements.{All-cons}
-use Rattle.dstm_runs.proofs.Own.{own_later}
+use Rattle.dstm_machines.proofs.Own.{own_later}
 use Rattle.dstm_core.proofs.Underway.{not_begin}
 use Rattle.dstm_core.specs.Counts.{is_begin}
 use Rattle.dstm_core.specs.declared.event.Kind.{Kind}
@@ -26,15 +26,15 @@ use Rattle.dstm_order.specs.Tasks.{Task, Work}
 use Rattle.dstm_order.specs.Tasks.Task.{Doing}
 use Rattle.dstm_order.specs.Tasks.Work.{Committing, Reading, Rechecking, Releasing, Writing}
 use Rattle.dstm_order.specs.declared.again.Again.{Again}
-use Rattle.dstm_causes.proofs.OwnEvents.{after_own}
+use Rattle.dstm_progress.proofs.OwnEvents.{after_own}
 use Rattle.dstm_progress.proofs.Own.{own_state}
 use Rattle.dstm_progress.specs.Alone.{AreCalls, Made, all_events, generator_after, last_answer}
 use Rattle.dstm_progress.specs.Oldest.{IsNoReading}
 use Rattle.rand_pcg.specs.Lcg.{Lcg}
 use Rattle.dstm_order.proofs.Misses.{missed_is}
 use Rattle.dstm_order.specs.Passes.{misses}
-use Rattle.dstm_caller.specs.Under.{Began, InTask}
-use Rattle.dstm_caller.specs.declared.steps.Steps.{Steps}
+use Rattle.dstm_steps.specs.Under.{Began, InTask}
+use Rattle.dstm_steps.specs.declared.steps.Steps.{Steps}
 use Rattle.dstm_words.specs.Seats.{Home}
 use Rattle.dstm_engine.specs.Callers.{Called, begun_log, shape_of, state}
 use Rattle.dstm_engine.specs.Calls.{IsTold, Performs, begun_state, newest_answer}

@@ -4,11 +4,11 @@ use Rattle.std.specs.Prelude.{Option, Some, IfSome}
 use Rattle.rand_pcg.specs.Lcg.{Lcg}
 use Rattle.dstm_model.specs.declared.value.Val.{Val}
 use Rattle.dstm_core.specs.Runs.{core, local}
-use Rattle.dstm_runs.proofs.Own.{none_before_only}
-use Rattle.dstm_runs.proofs.Runs.{local-events_of}
+use Rattle.dstm_machines.proofs.Own.{none_before_only}
+use Rattle.dstm_machines.proofs.Runs.{local-events_of}
 use Rattle.dstm_core.specs.State.{LocalState, first}
 use Rattle.dstm_core.specs.Traces.{events_of}
-use Rattle.dstm_runs.specs.Traces.Access.{Add}
+use Rattle.dstm_machines.specs.Traces.Access.{Add}
 use Rattle.dstm_core.specs.Events.{Event}
 use Rattle.dstm_core.specs.declared.event.Kind.TheVariants.{Enrol}
 use Rattle.dstm_core.specs.declared.shape.Shape.{Shape}

@@ -6,8 +6,8 @@ use Rattle.dstm_model.specs.declared.value.Val.{Val}
 use Rattle.dstm_model.specs.Map.{IsEntry, NamesOnce}
 use Rattle.dstm_core.specs.Histories.{history_of, will_of}
 use Rattle.dstm_opacity.proofs.Entries.{entries_once}
-use Rattle.dstm_answers.specs.Committed.{Committed}
-use Rattle.dstm_answers.proofs.Standing.{done_stands}
+use Rattle.dstm_opacity.specs.Committed.{Committed}
+use Rattle.dstm_opacity.proofs.Standing.{done_stands}
 use Rattle.dstm_mem.specs.Memory.{HoldsAtMost}
 use Rattle.dstm_mem.proofs.Few.{named_few}
 use Rattle.dstm_words.specs.Seats.{Home, IsRunOf}

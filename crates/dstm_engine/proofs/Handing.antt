@@ -3,10 +3,10 @@ use Rattle.std.proofs.Common.{◌++◌, ◌==◌, ◌∙◌, ◌∷◌, ◌≡�
 use Rattle.std.specs.Prelude.{Err, IfErr, IfOk, Ok, OnOk, Result, if◌then◌else◌, is_some, option_map}
 use Rattle.std.specs.Option.{option_or}
 use Rattle.std.proofs.lemmas.Bool.{cases_Bool, cond_both, eqb-true}
-use Rattle.dstm_caller.specs.Finding.{word_of}
-use Rattle.dstm_caller.specs.Writes.{AreWrites, or_old}
-use Rattle.dstm_caller.specs.declared.slots.ReadSlot.{ReadSlot}
-use Rattle.dstm_caller.specs.declared.slots.WriteSlot.{WriteSlot}
+use Rattle.dstm_steps.specs.Finding.{word_of}
+use Rattle.dstm_steps.specs.Writes.{AreWrites, or_old}
+use Rattle.dstm_steps.specs.declared.slots.ReadSlot.{ReadSlot}
+use Rattle.dstm_steps.specs.declared.slots.WriteSlot.{WriteSlot}
 use Rattle.dstm_core.specs.Histories.{old_values}
 use Rattle.dstm_core.specs.State.{read_of, write_of}
 use Rattle.dstm_core.specs.declared.state.Read.{Read}

@@ -1,7 +1,7 @@
 -- What an attempt held before an open it holds after it.
 use Rattle.std.proofs.Common.{◌++◌, ◌<◌, ◌∙◌, ◌≡◌, ◌≢◌, List, None, Option, Some, ap, refl, subst, sym, ℕ}
 use Rattle.std.specs.Prelude.{option_map, IfSome}
-use Rattle.dstm_runs.proofs.Own.{own_later}
+use Rattle.dstm_machines.proofs.Own.{own_later}
 use Rattle.dstm_core.proofs.Pasts.{core_past}
 use Rattle.dstm_core.specs.Events.{Event}
 use Rattle.dstm_core.specs.Histories.{entry_of, version_value}
@@ -14,8 +14,8 @@ use Rattle.dstm_model.specs.Map.{value_at}
 use Rattle.dstm_model.specs.declared.value.Val.{Val}
 use Rattle.dstm_opacity.proofs.Held.{held_is_seen, version_held}
 use Rattle.dstm_opacity.proofs.Kept.{seen_stays}
-use Rattle.dstm_caller.specs.Under.{Began, InTask, now}
-use Rattle.dstm_caller.specs.declared.steps.Steps.{Steps}
+use Rattle.dstm_steps.specs.Under.{Began, InTask, now}
+use Rattle.dstm_steps.specs.declared.steps.Steps.{Steps}
 use Rattle.dstm_core.specs.State.{LocalState}
 use Rattle.dstm_order.specs.Order.{Due}
 use Rattle.dstm_order.specs.Tasks.{Task}

@@ -4,7 +4,7 @@ use Rattle.std.specs.Prelude.{IfSome, None, Option, Some, is_some}
 use Rattle.dstm_model.specs.declared.value.Val.{Val}
 use Rattle.dstm_core.specs.Rules.{AllowedAs, leave}
 use Rattle.dstm_core.specs.State.{LocalState, given, own_attempt}
-use Rattle.dstm_runs.specs.Traces.Access.{Exchange}
+use Rattle.dstm_machines.specs.Traces.Access.{Exchange}
 use Rattle.dstm_core.specs.Words.{IsValid, place}
 use Rattle.dstm_core.specs.Words.Word.{StatusWord}
 use Rattle.dstm_core.specs.Events.{Event}

@@ -5,20 +5,20 @@ use Rattle.std.specs.Prelude.{Bool, IfSome, is_some}
 use base.Fml.{GName}
 use Rattle.std.proofs.lemmas.List.Elements.{filter-append}
 use Rattle.dstm_core.specs.Counts.{is_begin}
-use Rattle.dstm_runs.proofs.Attempts.{log_parts}
-use Rattle.dstm_causes.proofs.Causes.{again_has_its_cause, has_left}
-use Rattle.dstm_answers.specs.Committed.{done_by}
-use Rattle.dstm_caller.proofs.Stepping.{call_of}
-use Rattle.dstm_caller.specs.Under.{InTask}
-use Rattle.dstm_caller.specs.declared.steps.Steps.{Steps}
-use Rattle.dstm_causes.proofs.Adding.{adds_nothing}
-use Rattle.dstm_causes.proofs.Leaving.{is_aborted, keeps_its_attempt, was_disturbed}
-use Rattle.dstm_causes.proofs.Sound.{number_stays}
-use Rattle.dstm_causes.proofs.Others.{has_another, shows_another}
-use Rattle.dstm_causes.proofs.OwnEvents.{after_own, allowed_own}
-use Rattle.dstm_causes.proofs.Staying.{call_stays}
-use Rattle.dstm_causes.specs.Disturbed.{Disturbed, HasOther}
-use Rattle.dstm_causes.specs.Ends.{IsCallIn, IsCurrent, StaysAt}
+use Rattle.dstm_machines.proofs.Attempts.{log_parts}
+use Rattle.dstm_progress.proofs.Causes.{again_has_its_cause, has_left}
+use Rattle.dstm_opacity.specs.Committed.{done_by}
+use Rattle.dstm_steps.proofs.Stepping.{call_of}
+use Rattle.dstm_steps.specs.Under.{InTask}
+use Rattle.dstm_steps.specs.declared.steps.Steps.{Steps}
+use Rattle.dstm_progress.proofs.Adding.{adds_nothing}
+use Rattle.dstm_progress.proofs.Leaving.{is_aborted, keeps_its_attempt, was_disturbed}
+use Rattle.dstm_progress.proofs.Sound.{number_stays}
+use Rattle.dstm_progress.proofs.Others.{has_another, shows_another}
+use Rattle.dstm_progress.proofs.OwnEvents.{after_own, allowed_own}
+use Rattle.dstm_progress.proofs.Staying.{call_stays}
+use Rattle.dstm_progress.specs.Disturbed.{Disturbed, HasOther}
+use Rattle.dstm_progress.specs.Ends.{IsCallIn, IsCurrent, StaysAt}
 use Rattle.dstm_core.proofs.Pasts.{core_past}
 use Rattle.dstm_core.proofs.Static.{running, static}
 use Rattle.dstm_core.specs.Events.{Event}
@@ -45,8 +45,8 @@ use Rattle.dstm_words.specs.Seats.{Home, view_of}
 use Rattle.dstm_engine.proofs.Calling.{performs}
 use Rattle.dstm_engine.proofs.Lasting.{Lasts, call_lasts}
 use Rattle.dstm_engine.proofs.Tying.{live_there, mirror_then}
-use Rattle.dstm_caller.specs.Reads.{words_of}
-use Rattle.dstm_caller.specs.Writes.{AreWrites}
+use Rattle.dstm_steps.specs.Reads.{words_of}
+use Rattle.dstm_steps.specs.Writes.{AreWrites}
 use Rattle.dstm_core.specs.Histories.{old_values, read_values}
 use Rattle.dstm_engine.specs.Attempts.{Sighted, done}
 use Rattle.dstm_engine.specs.Opened.{OpenedAs}

@@ -34,3 +34,8 @@ pub mod PutValues
 pub mod Committing
 pub mod CommitEnds
 pub mod Sends
+pub mod AddingUp
+pub mod Anew
+pub mod Attempting
+pub mod Living
+pub mod Spending

@@ -3,7 +3,7 @@ use Rattle.std.proofs.Common.{◌++◌, ◌+◌, ◌≤◌, ◌∙◌, ◌∷◌
 use Rattle.std.specs.Prelude.{nat_lt}
 use Rattle.std.proofs.lemmas.Bool.Decides.{nat_tests}
 use Rattle.std.proofs.lemmas.Bool.{or_parts}
-use Rattle.dstm_runs.proofs.Attempts.{kept_since, log_parts}
+use Rattle.dstm_machines.proofs.Attempts.{kept_since, log_parts}
 use Rattle.dstm_core.proofs.Begun.{begun_how}
 use Rattle.dstm_core.proofs.Spare.{locators_used}
 use Rattle.dstm_core.proofs.Static.{local_own}

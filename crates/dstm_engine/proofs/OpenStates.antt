@@ -2,10 +2,10 @@
 use Rattle.std.proofs.Common.{◌++◌, ◌+◌, ◌==◌, ◌∙◌, ◌∷◌, ◌≡◌, ◌⊎◌, ◌||◌, Bool, List, None, Option, Some, [], ap, arith, false, inl, inr, is_some, length, length-append, ne_eqb, refl, subst, sym, true, ℕ}
 use Rattle.std.specs.Prelude.{is_none}
 use Rattle.std.proofs.lemmas.Bool.{cases_Bool, cond_both, eq-eqb}
-use Rattle.dstm_caller.specs.Finding.{IsFound, KeepsAttempt}
-use Rattle.dstm_caller.specs.Opening.{Acquired, HeldApart, risen}
-use Rattle.dstm_caller.specs.Under.{IsRunning, passed}
-use Rattle.dstm_caller.specs.declared.resolving.Found.{Found}
+use Rattle.dstm_steps.specs.Finding.{IsFound, KeepsAttempt}
+use Rattle.dstm_steps.specs.Opening.{Acquired, HeldApart, risen}
+use Rattle.dstm_steps.specs.Under.{IsRunning, passed}
+use Rattle.dstm_steps.specs.declared.resolving.Found.{Found}
 use Rattle.dstm_core.specs.Rules.{install}
 use Rattle.dstm_core.specs.State.{LocalState, drop_read, is_resolved, keep_resolved, next_locator, or_unresolved, or_zero, read_of, record_resolved, res, version, write_of}
 use Rattle.dstm_core.specs.declared.shape.Manager.{Manager}

@@ -4,22 +4,22 @@ use Rattle.std.specs.Prelude.{IsSome, IsTrue, if◌then◌else◌, is_some, opti
 use Rattle.std.specs.Option.{option_or}
 use Rattle.std.proofs.lemmas.Bool.{cases_Bool, cases_eq, eq-eqb, ne_eqb}
 use Rattle.std.proofs.lemmas.List.{length-map, map-append}
-use Rattle.dstm_caller.proofs.Stepping.{call_of}
-use Rattle.dstm_caller.specs.Reads.{words_of}
-use Rattle.dstm_caller.specs.Under.{InTask, now}
-use Rattle.dstm_caller.specs.Writes.{AreWrites}
-use Rattle.dstm_caller.specs.declared.slots.ReadSlot.{ReadSlot}
-use Rattle.dstm_caller.specs.declared.slots.WriteSlot.{WriteSlot}
-use Rattle.dstm_caller.specs.declared.steps.Steps.{Steps}
-use Rattle.dstm_answers.specs.Committed.{done_by}
-use Rattle.dstm_causes.proofs.Adding.{adds_nothing}
-use Rattle.dstm_causes.specs.Ends.{IsCallIn}
+use Rattle.dstm_steps.proofs.Stepping.{call_of}
+use Rattle.dstm_steps.specs.Reads.{words_of}
+use Rattle.dstm_steps.specs.Under.{InTask, now}
+use Rattle.dstm_steps.specs.Writes.{AreWrites}
+use Rattle.dstm_steps.specs.declared.slots.ReadSlot.{ReadSlot}
+use Rattle.dstm_steps.specs.declared.slots.WriteSlot.{WriteSlot}
+use Rattle.dstm_steps.specs.declared.steps.Steps.{Steps}
+use Rattle.dstm_opacity.specs.Committed.{done_by}
+use Rattle.dstm_progress.proofs.Adding.{adds_nothing}
+use Rattle.dstm_progress.specs.Ends.{IsCallIn}
 use Rattle.dstm_mem.proofs.Pairs.{value_in-other, value_in-same}
 use Rattle.dstm_model.specs.Map.{IsUnnamed, no_value}
 use Rattle.dstm_opacity.proofs.Entries.{entry_once}
 use Rattle.dstm_opacity.proofs.Maps.{few_are_named}
 use Rattle.dstm_opacity.proofs.Room.{one_more_write}
-use Rattle.dstm_caller.specs.Finding.{word_of}
+use Rattle.dstm_steps.specs.Finding.{word_of}
 use Rattle.dstm_core.specs.Events.{Event}
 use Rattle.dstm_core.specs.Histories.{old_values, read_values, version_value}
 use Rattle.dstm_core.specs.Runs.{Core, local}

@@ -1,13 +1,13 @@
 -- A caller after a recheck.
 use Rattle.std.proofs.Common.{◌++◌, ◌+◌, ◌∙◌, ◌∷◌, ◌≡◌, ◌≢◌, List, None, Option, Some, [], ap, cond, refl, subst, sym, true, ℕ}
-use Rattle.dstm_caller.proofs.Stepping.{call_of}
-use Rattle.dstm_caller.specs.Reads.{words_of}
-use Rattle.dstm_caller.specs.Under.{InTask, now, passed}
-use Rattle.dstm_caller.specs.Writes.{AreWrites}
-use Rattle.dstm_caller.specs.declared.steps.Steps.{Steps}
-use Rattle.dstm_causes.proofs.Causes.{again_has_its_cause}
-use Rattle.dstm_causes.proofs.OwnEvents.{after_own}
-use Rattle.dstm_causes.specs.Causes.{Causes}
+use Rattle.dstm_steps.proofs.Stepping.{call_of}
+use Rattle.dstm_steps.specs.Reads.{words_of}
+use Rattle.dstm_steps.specs.Under.{InTask, now, passed}
+use Rattle.dstm_steps.specs.Writes.{AreWrites}
+use Rattle.dstm_steps.specs.declared.steps.Steps.{Steps}
+use Rattle.dstm_progress.proofs.Causes.{again_has_its_cause}
+use Rattle.dstm_progress.proofs.OwnEvents.{after_own}
+use Rattle.dstm_progress.specs.Causes.{Causes}
 use Rattle.dstm_core.specs.Events.{Event}
 use Rattle.dstm_core.specs.State.{LocalState}
 use Rattle.dstm_core.specs.declared.event.Kind.{Kind}
@@ -31,7 +31,7 @@ use Rattle.dstm_engine.proofs.Plain.{ArePlain, are_plain, is_plain}
 use Rattle.dstm_engine.proofs.Rechecking.{EndsInSight, begins_pass, one_more_sight, one_self, recheck_sights, sighted_of}
 use Rattle.dstm_engine.proofs.Steady.{olds_then, same_generator, same_there, values_then}
 use Rattle.dstm_engine.proofs.Tying.{state_then}
-use Rattle.dstm_causes.specs.Disturbed.{count_of}
+use Rattle.dstm_progress.specs.Disturbed.{count_of}
 use Rattle.dstm_core.specs.Traces.{events_of}
 use Rattle.dstm_engine.specs.Attempts.{Sighted, completes_pass, sights}
 use Rattle.dstm_engine.specs.Began.{began_of}

@@ -25,13 +25,13 @@ use Rattle.dstm_order.specs.Tasks.Task.{Doing}
 use Rattle.dstm_order.specs.Tasks.Work.{Rechecking}
 use Rattle.dstm_progress.proofs.Own.{newest_own}
 use Rattle.rand_pcg.specs.Lcg.{Lcg}
-use Rattle.dstm_causes.proofs.OwnEvents.{after_own}
+use Rattle.dstm_progress.proofs.OwnEvents.{after_own}
 use Rattle.dstm_order.specs.declared.TheConstants.{MAX_MISSED}
 use Rattle.std.specs.Prelude.{◌+◌, if◌then◌else◌}
 use Rattle.std.proofs.Common.{length-append}
 use Rattle.std.proofs.lemmas.List.Elements.{filter-append}
-use Rattle.dstm_causes.proofs.StaleReads.{not_quit}
-use Rattle.dstm_causes.specs.Disturbed.{count_of}
+use Rattle.dstm_progress.proofs.StaleReads.{not_quit}
+use Rattle.dstm_progress.specs.Disturbed.{count_of}
 use Rattle.dstm_core.specs.Rules.{is_outside}
 use Rattle.dstm_order.specs.Calls.{effort_of}
 use Rattle.dstm_order.specs.Efforts.{Effort}

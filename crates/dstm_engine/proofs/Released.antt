@@ -3,11 +3,11 @@ use Rattle.std.proofs.Common.{◌&&◌, ◌++◌, ◌==◌, ◌∙◌, ◌∷◌
 use Rattle.std.specs.Prelude.{IfSome, is_some, if◌then◌else◌, option_map}
 use base.Fml.{GName}
 use Rattle.std.proofs.lemmas.Bool.{and_parts, cases_Bool, cases_eq, eqb-true}
-use Rattle.dstm_caller.specs.Reads.{words_of}
-use Rattle.dstm_caller.specs.Under.{InTask, now}
-use Rattle.dstm_caller.specs.Writes.{AreWrites}
-use Rattle.dstm_caller.specs.declared.slots.ReadSlot.{ReadSlot}
-use Rattle.dstm_caller.specs.declared.steps.Steps.{Steps}
+use Rattle.dstm_steps.specs.Reads.{words_of}
+use Rattle.dstm_steps.specs.Under.{InTask, now}
+use Rattle.dstm_steps.specs.Writes.{AreWrites}
+use Rattle.dstm_steps.specs.declared.slots.ReadSlot.{ReadSlot}
+use Rattle.dstm_steps.specs.declared.steps.Steps.{Steps}
 use Rattle.dstm_core.proofs.Pasts.{core_past}
 use Rattle.dstm_core.specs.Events.{Event}
 use Rattle.dstm_core.specs.Histories.{IsSight, old_values, read_values, seen, version_value}

@@ -2,9 +2,9 @@
 use Rattle.std.proofs.Common.{◌&&◌, ◌++◌, ◌==◌, ◌∙◌, ◌∷◌, ◌≡◌, List, [], arith, refl, subst, sym, true, false}
 use Rattle.std.specs.Prelude.{Bool, Contains, IfSome, None, Option, Some, if◌then◌else◌}
 use Rattle.dstm_model.specs.declared.value.Val.{Val}
-use Rattle.dstm_answers.proofs.Stays.{NoneCommits, call_adds_none, told_stays}
+use Rattle.dstm_opacity.proofs.Stays.{NoneCommits, call_adds_none, told_stays}
 use Rattle.std.proofs.lemmas.List.Elements.{All-cons, All-nil}
-use Rattle.dstm_answers.specs.Committed.{done_by, has_committed, is_commit}
+use Rattle.dstm_opacity.specs.Committed.{done_by, has_committed, is_commit}
 use Rattle.dstm_core.specs.Rules.{is_outside}
 use Rattle.dstm_core.specs.Runs.{Core}
 use Rattle.dstm_core.specs.State.{LocalState}

@@ -3,7 +3,7 @@ use denote.RattleType.{RattleType}
 use denote.Param.Send.{IsSend, sendable, view_send}
 use denote.Param.SendFields.{declared_send}
 use Rattle.std.proofs.Crossing.{crosses}
-use Rattle.dstm_caller.proofs.steps.Steps.TheSendSync as Steps
+use Rattle.dstm_steps.proofs.steps.Steps.TheSendSync as Steps
 use Rattle.dstm_engine.proofs.opened.Opened.TheSendSync as Opened
 use Rattle.dstm_model.specs.declared.value.Law.{Ghosts}
 use Rattle.dstm_words.specs.contracts.terms.Terms as Terms

@@ -2,8 +2,8 @@
 use Rattle.std.proofs.Common.{◌++◌, ◌==◌, ◌∙◌, ◌∷◌, ◌≡◌, ◌≢◌, ◌⊎◌, List, None, Option, Some, [], ap, cond, false, inl, inr, map, refl, subst, sym, true, ℕ}
 use Rattle.std.specs.Prelude.{IfSome, is_some}
 use Rattle.std.proofs.lemmas.Bool.{cases_Bool, cond_both, eqb-true, ne_eqb}
-use Rattle.dstm_caller.specs.Writes.{AreWrites}
-use Rattle.dstm_caller.specs.declared.slots.WriteSlot.{WriteSlot}
+use Rattle.dstm_steps.specs.Writes.{AreWrites}
+use Rattle.dstm_steps.specs.declared.slots.WriteSlot.{WriteSlot}
 use Rattle.dstm_core.specs.State.{write_of}
 use Rattle.dstm_core.specs.declared.state.Write.{Write}
 use Rattle.dstm_mem.specs.Memory.{SetsOnly, value_in}

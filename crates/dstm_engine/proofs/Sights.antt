@@ -4,7 +4,7 @@ use Rattle.std.proofs.lemmas.List.{append_cancel_right}
 use Rattle.std.specs.Prelude.{Option, None, Some, IfSome}
 use Rattle.std.proofs.lemmas.Bool.{cases_Bool, eq-eqb, eqb-true}
 use Rattle.std.proofs.lemmas.List.Elements.{filter-append}
-use Rattle.dstm_causes.proofs.OwnEvents.{after_own}
+use Rattle.dstm_progress.proofs.OwnEvents.{after_own}
 use Rattle.dstm_core.proofs.Static.{local_own}
 use Rattle.dstm_core.specs.Events.{Event}
 use Rattle.dstm_core.specs.Histories.{CoreRun, IsSight, old_values, read_values, seen}

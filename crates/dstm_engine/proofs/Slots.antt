@@ -6,12 +6,12 @@ use Rattle.std.proofs.lemmas.List.{get_or_append_left, get_or_default, get_or-se
 use Rattle.std.proofs.lemmas.Bool.{and_from, and_parts, cases_Bool, cases_eq, cond_both, eqb-true, eq-eqb}
 use Rattle.std.proofs.Math.Seq.{get_or-append_seam}
 use Rattle.dstm_mem.proofs.Finding.{find_filter, find_none, find_one}
-use Rattle.dstm_caller.specs.Finding.{word_of}
-use Rattle.dstm_caller.specs.Reads.{kept, words_of}
+use Rattle.dstm_steps.specs.Finding.{word_of}
+use Rattle.dstm_steps.specs.Reads.{kept, words_of}
 use Rattle.dstm_core.specs.State.{drop_read, read_of}
 use Rattle.dstm_core.specs.declared.state.Read.{Read}
-use Rattle.dstm_caller.specs.declared.slots.ReadSlot.{ReadSlot}
-use Rattle.dstm_caller.specs.declared.slots.WriteSlot.{WriteSlot}
+use Rattle.dstm_steps.specs.declared.slots.ReadSlot.{ReadSlot}
+use Rattle.dstm_steps.specs.declared.slots.WriteSlot.{WriteSlot}
 use Rattle.dstm_engine.specs.Opened.{AreApart, ArePlaced, IsReadOf, IsWriteOf, is_kept, no_place, no_read, no_write, place_at, read_at, read_slot, with_set_slot, without_read, write_at, write_slot}
 use Rattle.dstm_engine.specs.Mirror.{slot_word}
 use Rattle.dstm_model.specs.declared.value.Val.{Val}

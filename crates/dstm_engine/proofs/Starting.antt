@@ -1,15 +1,15 @@
 -- The state in which an attempt begins.
 use Rattle.std.proofs.Common.{◌*◌, ◌+◌, ◌<◌, ◌≤◌, ◌≡◌, Bool, arith, false, is_some, refl, true, ℕ, None, ◌^◌, not, ◌||◌, ◌&&◌, inl, inr, ◌⊎◌, List, [], ◌∷◌, ◌∙◌}
 use Rattle.std.specs.Prelude.{Option, if◌then◌else◌, nat_lt}
-use Rattle.dstm_caller.specs.Beginning.{CanBegin, KeepsRank}
+use Rattle.dstm_steps.specs.Beginning.{CanBegin, KeepsRank}
 use Rattle.dstm_core.proofs.Columns.{in_table}
 use Rattle.dstm_core.specs.State.{LocalState, next_attempt}
 use Rattle.dstm_core.specs.Words.{IsValid}
 use Rattle.dstm_core.specs.declared.shape.Shape.{Shape}
 use Rattle.dstm_core.specs.declared.state.Phase.TheVariants.{Outside, Running}
-use Rattle.dstm_answers.proofs.Stays.{NoneCommits}
+use Rattle.dstm_opacity.proofs.Stays.{NoneCommits}
 use Rattle.std.proofs.lemmas.List.Elements.{All-cons, All-nil}
-use Rattle.dstm_answers.specs.Committed.{has_committed}
+use Rattle.dstm_opacity.specs.Committed.{has_committed}
 use Rattle.dstm_core.specs.Events.{Event}
 use Rattle.dstm_core.specs.declared.event.Kind.{Kind}
 use Rattle.dstm_core.specs.declared.event.Kind.TheVariants.{Begin, Quit, Rank, Stamp}

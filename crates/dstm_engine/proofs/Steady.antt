@@ -1,9 +1,9 @@
 -- What a caller holds after a recheck or a commit.
 use Rattle.std.proofs.Common.{◌++◌, ◌∙◌, ◌≡◌, List, Option, ap, map, subst, sym, true, ℕ}
 use Rattle.std.specs.Prelude.{is_some}
-use Rattle.dstm_caller.specs.Under.{InTask}
-use Rattle.dstm_caller.specs.declared.steps.Steps.{Steps}
-use Rattle.dstm_causes.proofs.OwnEvents.{after_own}
+use Rattle.dstm_steps.specs.Under.{InTask}
+use Rattle.dstm_steps.specs.declared.steps.Steps.{Steps}
+use Rattle.dstm_progress.proofs.OwnEvents.{after_own}
 use Rattle.dstm_core.specs.Histories.{old_values, read_values}
 use Rattle.dstm_core.specs.Runs.{Core, local}
 use Rattle.dstm_core.specs.State.{write_of}

@@ -1,9 +1,9 @@
 -- A caller whose fields stand for what contracts see of it, before and after a call.
 use Rattle.std.proofs.Common.{◌∙◌, ◌≡◌, List, ap, refl, subst, sym}
 use Rattle.std.specs.Prelude.{Bool, true, false, None, Option, not, nat_lt, ◌||◌, ◌+◌}
-use Rattle.dstm_caller.proofs.Stepping.{began_as}
-use Rattle.dstm_caller.specs.Under.{InTask, IsMirror, effort_by, now}
-use Rattle.dstm_caller.specs.declared.steps.Steps.{Steps}
+use Rattle.dstm_steps.proofs.Stepping.{began_as}
+use Rattle.dstm_steps.specs.Under.{InTask, IsMirror, effort_by, now}
+use Rattle.dstm_steps.specs.declared.steps.Steps.{Steps}
 use Rattle.dstm_core.specs.Runs.{local}
 use Rattle.dstm_model.specs.declared.value.Val.{Val}
 use Rattle.dstm_order.specs.Calls.{answer}

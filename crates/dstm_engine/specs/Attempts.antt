@@ -2,11 +2,11 @@
 use Rattle.std.specs.Prelude.{◌≡◌, ℕ, ◌≤◌, ◌==◌, Bool, false, List, ◌∷◌, ◌++◌, length, None, Some, if◌then◌else◌}
 use Rattle.dstm_model.specs.declared.value.Val.{Val}
 use Rattle.dstm_model.specs.Map.{Agrees, Entry, state_after, with_writes}
-use Rattle.dstm_answers.specs.Committed.{Committed, done_by}
-use Rattle.dstm_answers.specs.Laws.{StandsIn}
+use Rattle.dstm_opacity.specs.Committed.{Committed, done_by}
+use Rattle.dstm_opacity.specs.Telling.{StandsIn}
 use Rattle.std.specs.Prelude.{◌&&◌, true}
-use Rattle.dstm_causes.specs.Disturbed.{count_of}
-use Rattle.dstm_causes.specs.Ends.{StaysAt}
+use Rattle.dstm_progress.specs.Disturbed.{count_of}
+use Rattle.dstm_progress.specs.Ends.{StaysAt}
 use Rattle.dstm_core.specs.State.{LocalState, given}
 use Rattle.dstm_core.specs.declared.event.Kind.{Kind}
 use Rattle.dstm_core.specs.declared.event.Kind.TheVariants.{LookSelf}

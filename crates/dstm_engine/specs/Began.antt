@@ -1,5 +1,5 @@
 -- How a call of a caller began.
-use Rattle.dstm_caller.specs.Under.{Began}
+use Rattle.dstm_steps.specs.Under.{Began}
 use Rattle.dstm_order.specs.Tasks.{Task}
 use Rattle.dstm_engine.specs.Callers.{Called, state}
 

@@ -4,7 +4,7 @@ use Rattle.std.specs.Option.{option_or}
 use Rattle.rand_pcg.specs.Lcg.{Lcg}
 use Rattle.dstm_model.specs.declared.value.Val.{Val}
 use Rattle.dstm_model.specs.Map.{Entry}
-use Rattle.dstm_runs.specs.Attempts as attempts
+use Rattle.dstm_machines.specs.Attempts as attempts
 use Rattle.dstm_core.specs.Events.{Event}
 use Rattle.dstm_core.specs.Counts.{is_begin}
 use Rattle.dstm_core.specs.declared.shape.Shape.{Shape}

@@ -13,3 +13,5 @@ pub mod Transactions
 pub mod Endings
 pub mod Places
 pub mod Opens
+pub mod Makes
+pub mod Lives

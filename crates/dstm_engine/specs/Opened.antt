@@ -1,8 +1,8 @@
 -- What an attempt has open.
 use Rattle.std.specs.Prelude.{◌≡◌, ◌≢◌, ℕ, ◌+◌, ◌-◌, ◌*◌, ◌^◌, ◌<◌, ◌≤◌, ◌==◌, Bool, true, false, List, [], ◌∷◌, filter, find, length, slice_index_or, vec_capacity, Option, None, Some, if◌then◌else◌}
-use Rattle.dstm_caller.specs.Writes.{to_put}
-use Rattle.dstm_caller.specs.declared.slots.ReadSlot.{ReadSlot}
-use Rattle.dstm_caller.specs.declared.slots.WriteSlot.{WriteSlot}
+use Rattle.dstm_steps.specs.Writes.{to_put}
+use Rattle.dstm_steps.specs.declared.slots.ReadSlot.{ReadSlot}
+use Rattle.dstm_steps.specs.declared.slots.WriteSlot.{WriteSlot}
 use Rattle.dstm_model.specs.Map.{no_value}
 use Rattle.dstm_model.specs.declared.value.Val.{Val}
 use Rattle.dstm_engine.specs.declared.opened.Opened.TheInside.{Inside}

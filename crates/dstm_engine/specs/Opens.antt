@@ -1,7 +1,7 @@
 -- What an open of an object leaves.
 use Rattle.std.specs.Prelude.{◌≡◌, ℕ, false, List, [], ◌∷◌, ◌++◌, true, None, Some}
-use Rattle.dstm_caller.specs.Under.{now}
-use Rattle.dstm_caller.specs.declared.steps.Steps.{Steps}
+use Rattle.dstm_steps.specs.Under.{now}
+use Rattle.dstm_steps.specs.declared.steps.Steps.{Steps}
 use Rattle.dstm_core.specs.Histories.{version_value}
 use Rattle.dstm_core.specs.State.{LocalState, drop_read}
 use Rattle.dstm_core.specs.declared.state.Phase.TheVariants.{Running}

@@ -1,7 +1,7 @@
 -- What is known of an attempt that was left; what is promised to one that is alone, and to the oldest transaction.
 use Rattle.std.specs.Prelude.{false, ◌≡◌, ◌≢◌, ℕ, ◌+◌, ◌*◌, ◌<◌, ◌≤◌, true, List, None, IfSome}
-use Rattle.dstm_causes.specs.Disturbed.{Disturbed, HasOther}
-use Rattle.dstm_causes.specs.Ends.{StaysAt}
+use Rattle.dstm_progress.specs.Disturbed.{Disturbed, HasOther}
+use Rattle.dstm_progress.specs.Ends.{StaysAt}
 use Rattle.dstm_core.specs.Words.{code_of}
 use Rattle.dstm_core.specs.declared.shape.Manager.{Manager}
 use Rattle.dstm_core.specs.declared.status.Status.TheVariants as status

@@ -9,7 +9,7 @@ use Rattle.dstm_words.specs.declared.terms.Terms.{Terms}
 use Rattle.dstm_words.specs.Seats.{View, Home, Joined, founder, kept_part}
 use Rattle.dstm_engine.specs.declared.error.EnrolError.{EnrolError}
 use Rattle.dstm_engine.specs.declared.error.EnrolError.TheVariants.{Full, Memory}
-use Rattle.dstm_answers.specs.Committed.{done_by}
+use Rattle.dstm_opacity.specs.Committed.{done_by}
 use Rattle.dstm_engine.specs.Attempts.{done}
 use Rattle.dstm_engine.specs.Callers.{Called, is_live, seat_view, shape_of, start_of}
 use Rattle.dstm_engine.specs.Calls.{Performs}

@@ -1,7 +1,7 @@
 // To begin an attempt, by a caller's steps.
 ghost use Rattle.std.specs.Prelude.{◌≡◌, None, is_some, true, false};
-ghost use Rattle.dstm_caller.specs.Beginning.{KeepsRank};
-ghost use Rattle.dstm_caller.specs.Under.{InTask, now};
+ghost use Rattle.dstm_steps.specs.Beginning.{KeepsRank};
+ghost use Rattle.dstm_steps.specs.Under.{InTask, now};
 ghost use Rattle.dstm_core.specs.Rules.{begin};
 ghost use Rattle.dstm_core.specs.State.{next_attempt};
 ghost use Rattle.dstm_engine.specs.Beginnings.{ended};
@@ -10,9 +10,9 @@ ghost use Rattle.dstm_order.specs.Order.{in_beginning, is_spent};
 ghost use Rattle.dstm_order.specs.Order.Due.{Done};
 ghost use Rattle.dstm_order.specs.Tasks.Task.{Beginning};
 
-use dstm_caller::{InCall, Steps};
 use dstm_core::Status;
 use dstm_model::Law;
+use dstm_steps::{InCall, Steps};
 use dstm_words::Words;
 
 // Quits the last attempt where it is live, and begins the next one unless the caller is spent.

@@ -5,6 +5,7 @@ mod beginning;
 mod caller;
 mod closing;
 mod error;
+pub mod laws;
 mod making;
 mod opened;
 mod opening;
@@ -12,7 +13,7 @@ mod stm;
 mod tx;
 
 pub use caller::Caller;
-pub use dstm_caller::Tally;
+pub use dstm_steps::Tally;
 pub use error::{Done, Ended, EnrolError, Spent};
 pub use making::{attempt, attempt_loose};
 pub use stm::{Founder, Record, Stm};

@@ -1,12 +1,12 @@
 // What an attempt has open, and where each object stands in it.
 ghost use Rattle.std.specs.Prelude.{◌≡◌, ◌≢◌, ◌⊎◌, ℕ, List, ◌+◌, ◌*◌, ◌^◌, ◌<◌, ◌≤◌, [], ◌∷◌, ◌++◌, true, None, IfOk, IsSome, filter, length, map, vec_capacity};
-ghost use Rattle.dstm_caller.specs.Reads.{kept};
+ghost use Rattle.dstm_steps.specs.Reads.{kept};
 ghost use Rattle.dstm_engine.specs.Mirror.{slot_word};
 ghost use Rattle.dstm_engine.specs.Opened.{OpenedAs, is_kept, place_at, read_at, read_slot, slots_value, with_set_slot, without_read, write_at, write_slot, AreApart, ArePlaced};
-ghost use Rattle.dstm_caller.specs.declared.slots.WriteSlot.{WriteSlot};
+ghost use Rattle.dstm_steps.specs.declared.slots.WriteSlot.{WriteSlot};
 
-use dstm_caller::{ReadSlot, WriteSlot};
 use dstm_model::Val;
+use dstm_steps::{ReadSlot, WriteSlot};
 use std::alloc::{AllocError, Global};
 use std::marker::Model;
 

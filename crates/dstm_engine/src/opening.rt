@@ -1,10 +1,10 @@
 // To open an object, by a caller's steps.
 ghost use Rattle.std.specs.Prelude.{◌≡◌, ◌<◌, false, None, Some, IfErr, IfOk, OnOk, length, map, option_map};
-ghost use Rattle.dstm_caller.specs.FoundValues.{found_value};
-ghost use Rattle.dstm_caller.specs.declared.slots.ReadSlot.{ReadSlot as Slot};
-ghost use Rattle.dstm_caller.specs.Under.{IsRunning, Under, now, work_of};
+ghost use Rattle.dstm_steps.specs.FoundValues.{found_value};
+ghost use Rattle.dstm_steps.specs.declared.slots.ReadSlot.{ReadSlot as Slot};
+ghost use Rattle.dstm_steps.specs.Under.{IsRunning, Under, now, work_of};
 ghost use Rattle.dstm_core.specs.State.{next_locator, read_of, write_of};
-ghost use Rattle.dstm_caller.specs.Reads.{words_of};
+ghost use Rattle.dstm_steps.specs.Reads.{words_of};
 ghost use Rattle.dstm_engine.specs.Mirror.{set_pairs, slot_word};
 ghost use Rattle.dstm_engine.specs.Opened.{read_slot, write_slot};
 ghost use Rattle.dstm_engine.specs.Opens.{OpensToRead, OpensToWrite};
@@ -15,9 +15,9 @@ ghost use Rattle.dstm_core.specs.declared.event.Kind.TheVariants.{LookObj};
 ghost use Rattle.dstm_order.specs.Tasks.Work.{Reading, Writing};
 
 use crate::opened::Opened;
-use dstm_caller::{Found, InCall, ReadSlot, Steps, WriteSlot};
 use dstm_model::{Law, Val};
 use dstm_order::Again;
+use dstm_steps::{Found, InCall, ReadSlot, Steps, WriteSlot};
 use dstm_words::Words;
 
 // Opens an object for reading that is not held, and had this value first.

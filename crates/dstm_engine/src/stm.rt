@@ -8,7 +8,7 @@ ghost use Rattle.dstm_opacity.specs.Laws.{IsCurrent};
 ghost use Rattle.dstm_words.specs.Seats.{view_of, CanEnrol, IsOf, IsOut, IsRunOf, Joined, Makes, given_part, kept_part};
 ghost use Rattle.dstm_core.specs.Runs.{local};
 ghost use Rattle.dstm_core.specs.State.{first};
-ghost use Rattle.dstm_runs.specs.Traces.Access.{Add};
+ghost use Rattle.dstm_machines.specs.Traces.Access.{Add};
 ghost use Rattle.dstm_core.specs.Words.Word.{CallersWord};
 ghost use Rattle.dstm_engine.specs.Tables.{IsFull};
 

@@ -12,7 +12,7 @@ use Rattle.dstm_core.proofs.Basic.{Names, basic}
 use Rattle.dstm_opacity.proofs.Current.{current}
 use Rattle.dstm_opacity.proofs.Draws.{committed_drawn}
 use Rattle.dstm_opacity.proofs.Sights.{foretold}
-use Rattle.dstm_history.proofs.Orders.{map_after}
+use Rattle.dstm_machines.proofs.Orders.{map_after}
 use Rattle.dstm_opacity.proofs.States.{state_value}
 use Rattle.dstm_opacity.proofs.Versions.{meant, owner_of}
 

@@ -23,9 +23,9 @@ use Rattle.dstm_core.proofs.Statuses.{finished_stays}
 use Rattle.dstm_opacity.proofs.Begins.{before_attempt, begun_before, pass_begun}
 use Rattle.dstm_opacity.proofs.Draws.{commit_may}
 use Rattle.dstm_opacity.proofs.KeptLaw.{entry_same}
-use Rattle.dstm_history.proofs.Gathered.{told_among}
+use Rattle.dstm_machines.proofs.Gathered.{told_among}
 use Rattle.dstm_core.proofs.Pasts.{core_before}
-use Rattle.dstm_runs.proofs.Pasts.{past_more, past_past}
+use Rattle.dstm_machines.proofs.Pasts.{past_more, past_past}
 use Rattle.dstm_opacity.proofs.Numbers.{pass_past}
 use Rattle.dstm_opacity.proofs.Passes.{check_after}
 use Rattle.dstm_opacity.proofs.SinceDraw.{drawn_may}

@@ -1,7 +1,7 @@
 -- The contest is a core run.
 use Rattle.std.proofs.Common.{◌≡◌, ◌∷◌, Bool, List, [], ap, arith, drop, false, cond, inl, inr, length, refl, take, true, ◌⊎◌}
 use Rattle.std.proofs.lemmas.Bool.{cases_Bool}
-use Rattle.dstm_runs.specs.Traces.{continued}
+use Rattle.dstm_machines.specs.Traces.{continued}
 use Rattle.dstm_model.specs.declared.value.Val.{Val}
 use Rattle.dstm_model.specs.Map.{with_writes}
 use Rattle.dstm_core.specs.Events.{Event}
@@ -9,7 +9,7 @@ use Rattle.dstm_core.specs.declared.event.Kind.{Kind}
 use Rattle.dstm_core.specs.declared.event.Kind.TheVariants.{PutNew}
 use Rattle.dstm_core.specs.Histories.{Lawful}
 use Rattle.dstm_core.specs.Runs.{Core, Fits, core}
-use Rattle.dstm_runs.proofs.Fitting.{AllFit, enrol, fit, run_then, ◌also◌}
+use Rattle.dstm_machines.proofs.Fitting.{AllFit, enrol, fit, run_then, ◌also◌}
 use Rattle.dstm_opacity.specs.Contest.{SomeContest, before_release, lawful, release, rival_commits, rival_kills, rival_reads, run, shape, start, writer_leaves, writer_opens}
 use Rattle.dstm_opacity.specs.Example.{event, val}
 

@@ -14,7 +14,7 @@ use Rattle.dstm_core.specs.declared.state.Phase.TheVariants.{Outside}
 use Rattle.dstm_core.specs.declared.state.Read.{Read}
 use Rattle.dstm_core.specs.declared.state.Write.{Write}
 use Rattle.dstm_opacity.proofs.Draws.{draw_may}
-use Rattle.dstm_history.proofs.Gathered.{told_all}
+use Rattle.dstm_machines.proofs.Gathered.{told_all}
 use Rattle.dstm_opacity.proofs.Recorded.{ReadsNamed, reads}
 use Rattle.dstm_opacity.proofs.Tidy.{Apart, ReadsOnce, WritesOnce, read_apart, tidy}
 use Rattle.dstm_opacity.proofs.Written.{WritesOk, written}

@@ -1,12 +1,12 @@
 -- The example is a core run.
 use Rattle.std.proofs.Common.{◌∷◌, List, [], inl, inr, refl, arith}
-use Rattle.dstm_runs.specs.Traces.{continued}
+use Rattle.dstm_machines.specs.Traces.{continued}
 use Rattle.dstm_model.specs.declared.value.Val.{Val}
 use Rattle.dstm_core.specs.Events.{Event}
 use Rattle.dstm_core.specs.declared.shape.Shape.{Shape}
 use Rattle.dstm_core.specs.Histories.{Lawful}
 use Rattle.dstm_core.specs.Runs.{Core, Fits, core}
-use Rattle.dstm_runs.proofs.Fitting.{AllFit, enrol, fit, run_then, ◌also◌}
+use Rattle.dstm_machines.proofs.Fitting.{AllFit, enrol, fit, run_then, ◌also◌}
 use Rattle.dstm_opacity.specs.Example.{SomeRun, before_commit, before_sight, reader_checks, reader_commit, reader_draws, run, shape, sight, start, writer_again, writer_commits}
 
 writer_commits-fit : AllFit core shape [] writer_commits

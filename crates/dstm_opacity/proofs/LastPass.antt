@@ -23,7 +23,7 @@ use Rattle.dstm_core.proofs.Static.{has_high, has_owner, has_status, has_version
 use Rattle.dstm_opacity.proofs.Current.{Foretells, current, meant_same, named_meant, version_quiet}
 use Rattle.dstm_opacity.proofs.Draws.{drawn_same}
 use Rattle.dstm_core.proofs.Pasts.{core_before}
-use Rattle.dstm_runs.proofs.Pasts.{past_more}
+use Rattle.dstm_machines.proofs.Pasts.{past_more}
 use Rattle.dstm_opacity.proofs.Numbers.{agreed_same, no_draw, numbers_later, numbers_up, pass_past, version_past}
 use Rattle.dstm_opacity.proofs.Recorded.{ReadsNamed, resolved_version}
 use Rattle.dstm_opacity.proofs.States.{Agreed, Cur, agreed_by_index, agreed_drop, agreed_snoc}

@@ -13,8 +13,8 @@ use Rattle.dstm_core.specs.declared.shape.Shape.{Shape}
 use Rattle.dstm_core.specs.declared.state.Phase.TheVariants.{Outside, Validating}
 use Rattle.dstm_core.proofs.Pasts.{core_past}
 use Rattle.dstm_core.proofs.Prefixes.{lawful_past}
-use Rattle.dstm_history.proofs.Histories as histories
-use Rattle.dstm_history.proofs.Orders.{map_after, state_length}
+use Rattle.dstm_machines.proofs.Histories as histories
+use Rattle.dstm_machines.proofs.Orders.{map_after, state_length}
 use Rattle.dstm_opacity.proofs.Draws.{draw_may, drawn_yes}
 use Rattle.dstm_opacity.proofs.KeptLaw.{law_ok}
 use Rattle.dstm_opacity.proofs.Legal.{legal_entry}

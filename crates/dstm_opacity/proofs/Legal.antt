@@ -14,8 +14,8 @@ use Rattle.dstm_core.specs.declared.state.Phase.TheVariants.{Outside, Validating
 use Rattle.dstm_core.proofs.Columns.{own_in}
 use Rattle.dstm_core.proofs.Static.{static}
 use Rattle.dstm_core.proofs.Pasts.{core_past}
-use Rattle.dstm_history.proofs.Histories.{legal_from}
-use Rattle.dstm_history.proofs.Orders.{Legal, map_after}
+use Rattle.dstm_machines.proofs.Histories.{legal_from}
+use Rattle.dstm_machines.proofs.Orders.{Legal, map_after}
 use Rattle.dstm_opacity.proofs.Current.{Foretells}
 use Rattle.dstm_opacity.proofs.Draws.{draw_may, drawn_phase, is_drawn}
 use Rattle.dstm_opacity.proofs.Numbers.{foretells_before}

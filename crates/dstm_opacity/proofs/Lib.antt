@@ -35,3 +35,7 @@ pub mod Held
 pub mod Covered
 pub mod Maps
 pub mod Room
+pub mod Told
+pub mod Stays
+pub mod Merging
+pub mod Standing

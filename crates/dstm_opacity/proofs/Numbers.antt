@@ -16,7 +16,7 @@ use Rattle.dstm_core.proofs.Columns.{numbers, step}
 use Rattle.dstm_core.proofs.Locators.{no_return}
 use Rattle.dstm_core.proofs.Places.{put_at}
 use Rattle.dstm_core.proofs.Pasts.{core_past}
-use Rattle.dstm_runs.proofs.Pasts.{past_more}
+use Rattle.dstm_machines.proofs.Pasts.{past_more}
 use Rattle.dstm_opacity.proofs.Current.{Foretells, foretells_past, version_quiet}
 use Rattle.dstm_opacity.proofs.States.{Agreed}
 use Rattle.dstm_opacity.proofs.Versions.{version_at}

@@ -25,10 +25,10 @@ use Rattle.dstm_opacity.proofs.Entries.{entries_once}
 use Rattle.dstm_opacity.proofs.LastPass.{look_self_may}
 use Rattle.dstm_opacity.proofs.LawfulStates.{lawful_from}
 use Rattle.dstm_opacity.proofs.Legal.{committed_legal}
-use Rattle.dstm_history.proofs.Gathered.{told_next, told_prefix}
-use Rattle.dstm_history.proofs.Histories as histories
-use Rattle.dstm_history.proofs.Orders.{legal_reversed, map_after, state_length, state_reversed}
-use Rattle.dstm_runs.proofs.Pasts.{past_past}
+use Rattle.dstm_machines.proofs.Gathered.{told_next, told_prefix}
+use Rattle.dstm_machines.proofs.Histories as histories
+use Rattle.dstm_machines.proofs.Orders.{legal_reversed, map_after, state_length, state_reversed}
+use Rattle.dstm_machines.proofs.Pasts.{past_past}
 use Rattle.dstm_opacity.proofs.Numbers.{pass_past}
 use Rattle.dstm_opacity.proofs.Sights.{pass_agrees}
 use Rattle.dstm_opacity.proofs.Writers.{writers_in_draw_order}

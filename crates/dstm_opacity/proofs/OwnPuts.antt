@@ -20,7 +20,7 @@ use Rattle.dstm_core.proofs.Pasts.{core_past}
 use Rattle.dstm_core.proofs.PutOnce.{high_word_stays, low_word_stays}
 use Rattle.dstm_core.proofs.Static.{local_own, numbered-get, static}
 use Rattle.dstm_core.proofs.Stores.{high_in, high_settled, settled, settled_in}
-use Rattle.dstm_runs.proofs.Own.{local_quiet}
+use Rattle.dstm_machines.proofs.Own.{local_quiet}
 use Rattle.dstm_opacity.proofs.Kept.{high_aim, high_put_stays, low_aim, low_put_stays}
 
 -- after a PutHigh the same write is next, and after a PutNew one more is put

@@ -21,7 +21,7 @@ use Rattle.dstm_opacity.proofs.Current.{Foretells}
 use Rattle.dstm_opacity.proofs.LastPass.{look_self_may, pass_agreed}
 use Rattle.dstm_opacity.proofs.Numbers.{foretells_before, pass_past}
 use Rattle.dstm_opacity.proofs.Passes.{passes}
-use Rattle.dstm_history.proofs.Orders.{map_after}
+use Rattle.dstm_machines.proofs.Orders.{map_after}
 use Rattle.dstm_opacity.proofs.States.{agrees_state, old_current}
 
 -- the statuses in the end tell which attempts commit

@@ -13,7 +13,7 @@ use Rattle.dstm_core.specs.Events.{Event}
 use Rattle.dstm_core.specs.declared.shape.Shape.{Shape}
 use Rattle.dstm_core.specs.declared.state.Read.{Read}
 use Rattle.dstm_core.specs.declared.state.Write.{Write}
-use Rattle.dstm_history.proofs.Orders.{map_after, state_length}
+use Rattle.dstm_machines.proofs.Orders.{map_after, state_length}
 use Rattle.dstm_opacity.proofs.Current.{Foretells, current, meant_undrawn}
 use Rattle.dstm_opacity.proofs.Recorded.{ReadsNamed}
 use Rattle.dstm_opacity.proofs.Versions.{meant, version_at}

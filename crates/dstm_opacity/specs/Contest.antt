@@ -1,7 +1,7 @@
 -- A core run of a law that binds, under Karma: caller 0 writes an object; caller 1 reads another object and lets it
 -- go, meets caller 0's attempt, aborts it, and then writes the object and commits.
 use Rattle.std.specs.Prelude.{◌≡◌, false, List, [], ◌∷◌, length}
-use Rattle.dstm_runs.specs.Traces.{continued}
+use Rattle.dstm_machines.specs.Traces.{continued}
 use Rattle.dstm_model.specs.declared.value.Val.{Val}
 use Rattle.dstm_model.specs.Map.{Entry, value_at}
 use Rattle.dstm_core.specs.Events.{Event}

@@ -1,7 +1,7 @@
 -- A core run: caller 0 writes the object and commits; caller 1 reads what was written, and commits by the
 -- number alone, with no Check after its Draw; then it writes the object too.
 use Rattle.std.specs.Prelude.{◌≡◌, ℕ, false, List, [], ◌∷◌, length}
-use Rattle.dstm_runs.specs.Traces.{continued}
+use Rattle.dstm_machines.specs.Traces.{continued}
 use Rattle.dstm_model.specs.declared.value.Val.{Val}
 use Rattle.dstm_model.specs.Map.{Entry}
 use Rattle.dstm_core.specs.Events.{Event}

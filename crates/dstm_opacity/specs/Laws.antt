@@ -6,7 +6,7 @@ use Rattle.std.specs.Prelude.{◌≡◌, ◌≢◌, ◌⊎◌, ℕ, ◌<◌, tru
 use Rattle.std.specs.List.{Contains}
 use Rattle.dstm_model.specs.declared.value.Val.{Val}
 use Rattle.dstm_model.specs.Map.{Entry, value_at, Agrees, state_after}
-use Rattle.dstm_history.specs.Histories as histories
+use Rattle.dstm_machines.specs.Histories as histories
 use Rattle.dstm_core.specs.Events.{Event}
 use Rattle.dstm_core.specs.declared.event.Kind.TheVariants.{Begin, LookHigh, LookNew, PutHigh, PutNew, Draw, Commit}
 use Rattle.dstm_core.specs.declared.shape.Shape.{Shape}

@@ -16,6 +16,7 @@ ghost use Rattle.dstm_opacity.specs.Laws.{
   SeenStays,
   WritersInDrawOrder,
 };
+ghost use Rattle.dstm_opacity.specs.Telling.{CommittedInOrder, DoneStands, EachIsTold, EntriesAreHistory, ToldStays};
 
 use dstm_model::Law;
 
@@ -83,4 +84,29 @@ pub fn seen_stays()
 /// The value found of a version stays the value of that version.
 pub fn found_stays()
     ensures { FoundStays }
+{}
+
+/// The entries of the committed attempts are the history.
+pub fn entries_are_history()
+    ensures { EntriesAreHistory }
+{}
+
+/// Of each caller the history has exactly the attempts that its own `Commit`s tell, in their order.
+pub fn each_is_told<L: Law>()
+    ensures { EachIsTold L.holds }
+{}
+
+/// What a caller has committed is told by its own events alone, and is the same in every later run.
+pub fn told_stays<L: Law>()
+    ensures { ToldStays L.holds }
+{}
+
+/// The attempts that commit in a run stand in the order of their numbers.
+pub fn committed_in_order<L: Law>()
+    ensures { CommittedInOrder L.holds }
+{}
+
+/// What a caller has committed stands in the history of every later run.
+pub fn done_stands<L: Law>()
+    ensures { DoneStands L.holds }
 {}

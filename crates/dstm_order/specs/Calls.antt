@@ -1,7 +1,7 @@
 -- Calls of the engine: the events of a call, and what it answers.
 use Rattle.std.specs.Prelude.{◌≡◌, ℕ, ◌-◌, ◌==◌, ◌&&◌, ◌||◌, Bool, true, false, not, List, [], ◌∷◌, slice_get, Option, Some, None, is_some, if◌then◌else◌}
-use Rattle.dstm_runs.specs.Machines as machines
-pub use Rattle.dstm_runs.specs.Traces.{newest_of}
+use Rattle.dstm_machines.specs.Machines as machines
+pub use Rattle.dstm_machines.specs.Traces.{newest_of}
 use Rattle.dstm_core.specs.Events.{Event}
 use Rattle.dstm_core.specs.declared.event.Kind.{Kind}
 use Rattle.dstm_core.specs.declared.event.Kind.TheVariants.{Quit}

@@ -12,7 +12,7 @@ use Rattle.dstm_core.specs.Rules.{access, after, target}
 use Rattle.dstm_core.specs.Runs.{local}
 use Rattle.dstm_core.specs.State.{LocalState}
 use Rattle.dstm_core.specs.Traces.{Access, at}
-use Rattle.dstm_runs.specs.Traces.Access.{Load, Store, Exchange, Add}
+use Rattle.dstm_machines.specs.Traces.Access.{Load, Store, Exchange, Add}
 use Rattle.dstm_core.specs.Words.{place}
 use Rattle.dstm_model.specs.declared.value.Val.{Val}
 use Rattle.rand_pcg.specs.Lcg.{Lcg}

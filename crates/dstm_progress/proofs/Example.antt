@@ -9,7 +9,7 @@ use Rattle.dstm_order.specs.Tasks.Work.{Committing, Writing}
 use Rattle.dstm_progress.specs.Alone.{IsAlone}
 use Rattle.dstm_progress.specs.Example.{SomeAttempts, before, begun, begun_oldest, committed, newest, opened, or_event, the_calls}
 use Rattle.dstm_progress.specs.Oldest.{IsOldest}
-use Rattle.dstm_runs.proofs.Fitting.{enrol, fit}
+use Rattle.dstm_machines.proofs.Fitting.{enrol, fit}
 
 core_begun : Core (small Karma) begun
 core_begun = (

@@ -8,7 +8,7 @@ use Rattle.dstm_core.specs.Traces.{events_of}
 use Rattle.dstm_core.specs.Events.{Event}
 use Rattle.dstm_core.specs.declared.event.Kind.TheVariants.{Begin}
 use Rattle.dstm_core.specs.declared.shape.Shape.{Shape}
-use Rattle.dstm_runs.proofs.Own as runs
+use Rattle.dstm_machines.proofs.Own as runs
 use Rattle.dstm_core.proofs.Statuses.{begin_may}
 use Rattle.dstm_order.specs.Calls.{Obeys, effort_of, newest_of, state_after}
 use Rattle.dstm_order.specs.Tasks.{Work}

@@ -8,9 +8,9 @@ use Rattle.atomic_table.specs.Table.{State, opening, Final, Seen}
 use Rattle.dstm_seats.specs.declared.view.View.{View}
 use Rattle.dstm_seats.specs.Rule.{Sees, Kept}
 use Rattle.dstm_seats.specs.Seats.{founder, GoesOn, LeftBy}
-use Rattle.dstm_runs.specs.Sharing.{Enrolling, Shared}
-use Rattle.dstm_runs.proofs.Pasts.{past_self}
-use Rattle.dstm_runs.specs.Traces.{IsPastOf}
+use Rattle.dstm_machines.specs.Sharing.{Enrolling, Shared}
+use Rattle.dstm_machines.proofs.Pasts.{past_self}
+use Rattle.dstm_machines.specs.Traces.{IsPastOf}
 use Rattle.dstm_seats.proofs.Lists.{off, none_some, sum_at, no_number}
 use Rattle.dstm_seats.proofs.Logs.{past_nil}
 use Rattle.dstm_seats.proofs.Parting.{outs}

@@ -8,18 +8,18 @@ use mathlib.Core.Option.{some}
 use native.Mathlib.Decide.{ℕ_discrete}
 use Rattle.atomic_table.specs.Table.{State, Me, keeps, stepped, Allows}
 use Rattle.atomic_table.proofs.Lists.{at_set, set_here}
-use Rattle.dstm_runs.specs.declared.event.Event.{Event}
-use Rattle.dstm_runs.specs.Traces.{IsPastOf, events_of}
-use Rattle.dstm_runs.specs.Machines.{Fits, held, local}
-use Rattle.dstm_runs.proofs.Pasts.{past_self, past_more}
-use Rattle.dstm_runs.proofs.Runs.{elsewhere, local_other, put_at}
-use Rattle.dstm_runs.specs.Sharing.{Enrolling, Shared}
+use Rattle.dstm_machines.specs.declared.event.Event.{Event}
+use Rattle.dstm_machines.specs.Traces.{IsPastOf, events_of}
+use Rattle.dstm_machines.specs.Machines.{Fits, held, local}
+use Rattle.dstm_machines.proofs.Pasts.{past_self, past_more}
+use Rattle.dstm_machines.proofs.Runs.{elsewhere, local_other, put_at}
+use Rattle.dstm_machines.specs.Sharing.{Enrolling, Shared}
 use Rattle.dstm_seats.specs.declared.view.View.{View}
 use Rattle.dstm_seats.specs.Rule.{Sees, Kept}
 use Rattle.dstm_seats.specs.Seats.{enrolled, events_by, moved, number_or, numbers_by, own_events, spent_by, state_by, Adds, AreApart, GoesOn, KeepsSince}
 use Rattle.dstm_seats.proofs.Lists.{some_of, none_some, inside_of, each_set, sum_set, sum_at, one_of, head_of}
 use Rattle.dstm_seats.proofs.Logs.{none_before, none_since}
-use Rattle.dstm_runs.proofs.Own.{others_event, own_event, same_local}
+use Rattle.dstm_machines.proofs.Own.{others_event, own_event, same_local}
 
 module _ {K T B S : Type 0} (shared : Shared K T B S) (laws : Enrolling shared) (key : T) where
   abbrev pub V : Type 0

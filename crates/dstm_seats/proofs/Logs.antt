@@ -1,9 +1,9 @@
 -- Logs: their pasts, and the events of one caller in them.
 use Rattle.std.proofs.Common.{◌≡◌, ℕ, suc, ◌<◌, ◌≤◌, cond, List, [], ◌∷◌, ◌++◌, length, refl, sym, ap, ◌∙◌, subst, ⊎_elim, arith, length-append}
 use Rattle.std.proofs.lemmas.Bool.Decides.{leb_tells}
-use Rattle.dstm_runs.specs.declared.event.Event.{Event}
-use Rattle.dstm_runs.specs.Traces.{IsPastOf, events_of}
-use Rattle.dstm_runs.proofs.Own.{own_append}
+use Rattle.dstm_machines.specs.declared.event.Event.{Event}
+use Rattle.dstm_machines.specs.Traces.{IsPastOf, events_of}
+use Rattle.dstm_machines.proofs.Own.{own_append}
 use Rattle.dstm_seats.specs.Seats.{longer}
 
 module _ {K : Type 0} where

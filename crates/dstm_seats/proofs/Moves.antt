@@ -6,12 +6,12 @@ use mathlib.Core.Logic.{dite}
 use native.Mathlib.Decide.{ℕ_discrete}
 use prog.Atomic.{either}
 use Rattle.atomic_table.specs.Table.{Me, Allows}
-use Rattle.dstm_runs.specs.Traces.{Access}
-use Rattle.dstm_runs.specs.Traces.Access.{Load, Store, Exchange, Add}
+use Rattle.dstm_machines.specs.Traces.{Access}
+use Rattle.dstm_machines.specs.Traces.Access.{Load, Store, Exchange, Add}
 use Rattle.dstm_seats.specs.declared.view.View.{View}
 use Rattle.dstm_seats.specs.Rule.{Kept}
 use Rattle.dstm_seats.specs.Seats.{caller_state, event_by, made, state_by, MakesKept, Makes, MayMake}
-use Rattle.dstm_runs.specs.Sharing.{Enrolling, Shared}
+use Rattle.dstm_machines.specs.Sharing.{Enrolling, Shared}
 use Rattle.dstm_seats.proofs.Keeping.{steps}
 
 -- the two ways to write a choice of two numbers

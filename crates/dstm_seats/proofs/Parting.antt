@@ -11,18 +11,18 @@ use mathlib.Core.Option.{some, some-injective}
 use native.Mathlib.Decide.{ℕ_discrete}
 use Rattle.atomic_table.specs.Table.{State, Me, keeps, Allows, Splits, Joins}
 use Rattle.atomic_table.proofs.Lists.{at_set, set_here, set_else, at_snoc, at_longer}
-use Rattle.dstm_runs.specs.declared.event.Event.{Event}
-use Rattle.dstm_runs.specs.Traces.{IsPastOf, events_of}
+use Rattle.dstm_machines.specs.declared.event.Event.{Event}
+use Rattle.dstm_machines.specs.Traces.{IsPastOf, events_of}
 use Rattle.dstm_seats.specs.declared.view.Old.{Old}
 use Rattle.dstm_seats.specs.declared.view.View.{View}
 use Rattle.dstm_seats.specs.Rule.{Sees, Kept}
 use Rattle.dstm_seats.specs.Seats.{kept_part, given_part, old_of, joined, nobody, met, longer, GoesOn, Joined, Meets}
-use Rattle.dstm_runs.specs.Sharing.{Enrolling, Shared}
-use Rattle.dstm_runs.proofs.Pasts.{past_self, past_all}
+use Rattle.dstm_machines.specs.Sharing.{Enrolling, Shared}
+use Rattle.dstm_machines.proofs.Pasts.{past_self, past_all}
 use Rattle.dstm_seats.proofs.Keeping.{apart_set}
 use Rattle.dstm_seats.proofs.Lists.{off, none_some, inside_of, each_set, set_comm, sum_set, sum_at, sum_zero, no_number, apart_append}
 use Rattle.dstm_seats.proofs.Logs.{longer_past, quiet_left, quiet_right, longer_whole_left, longer_whole_right}
-use Rattle.dstm_runs.proofs.Own.{same_local}
+use Rattle.dstm_machines.proofs.Own.{same_local}
 
 module _ {K T B S : Type 0} (shared : Shared K T B S) (laws : Enrolling shared) (key : T) where
   abbrev V : Type 0

@@ -2,16 +2,16 @@
 use Rattle.std.proofs.Common.{◌≡◌, ◌≢◌, ℕ, List, [], ◌∷◌, ◌++◌, Some, None, refl, sym, ap, ◌∙◌, subst}
 use Rattle.std.proofs.lemmas.Bool.{eq-eqb}
 use Rattle.std.specs.Prelude.{Option, Contains}
-use Rattle.dstm_runs.specs.declared.event.Event.{Event}
-use Rattle.dstm_runs.specs.Machines.{Machine, local}
-use Rattle.dstm_runs.specs.Sharing.{Shared}
-use Rattle.dstm_runs.specs.Traces.{Access, IsPastOf, events_of}
-use Rattle.dstm_runs.proofs.Runs.{local_own, local-events_of}
+use Rattle.dstm_machines.specs.declared.event.Event.{Event}
+use Rattle.dstm_machines.specs.Machines.{Machine, local}
+use Rattle.dstm_machines.specs.Sharing.{Shared}
+use Rattle.dstm_machines.specs.Traces.{Access, IsPastOf, events_of}
+use Rattle.dstm_machines.proofs.Runs.{local_own, local-events_of}
 use Rattle.dstm_seats.specs.declared.view.View.{View}
 use Rattle.dstm_seats.specs.Seats.{caller_view, event_by, events_by, made, moved, number_or, numbers_by, own_events, state_by, Adds, Joined, Makes}
 use Rattle.dstm_seats.proofs.Lists.{apart_of}
 use Rattle.dstm_seats.proofs.Logs.{none_since}
-use Rattle.dstm_runs.proofs.Own.{own_event, own_first, same_local}
+use Rattle.dstm_machines.proofs.Own.{own_event, own_first, same_local}
 
 -- a caller's state is that of its own events
 state_of_events : {K B S : Type 0} (machine : Machine K B S) (table : B) (o : Option ℕ) (log : List (Event K))

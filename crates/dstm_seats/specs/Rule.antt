@@ -3,10 +3,10 @@ use Rattle.std.specs.Prelude.{◌≡◌, ℕ, ◌+◌, ◌<◌, ◌≤◌, true,
 use lib.ListN.{get_elem?}
 use mathlib.Core.Option.{some}
 use Rattle.atomic_table.specs.Table.{State}
-use Rattle.dstm_runs.specs.declared.event.Event.{Event}
-use Rattle.dstm_runs.specs.Machines.{held, local}
-use Rattle.dstm_runs.specs.Sharing.{Shared}
-use Rattle.dstm_runs.specs.Traces.{IsPastOf, events_of}
+use Rattle.dstm_machines.specs.declared.event.Event.{Event}
+use Rattle.dstm_machines.specs.Machines.{held, local}
+use Rattle.dstm_machines.specs.Sharing.{Shared}
+use Rattle.dstm_machines.specs.Traces.{IsPastOf, events_of}
 use Rattle.dstm_seats.specs.declared.view.View.{View}
 use Rattle.dstm_seats.specs.Seats.{AreApart, GoesOn, enrolled}
 

@@ -3,11 +3,11 @@
 use Rattle.std.specs.Prelude.{◌≡◌, ◌≢◌, ℕ, ◌+◌, ◌-◌, ◌^◌, ◌<◌, ◌≤◌, ◌==◌, nat_lt, min, true, false, if◌then◌else◌, List, [], ◌∷◌, ◌++◌, length, slice_index, Option, Some, None, Result, Ok, Err, All, Contains, IfSome}
 use Rattle.atomic_table.specs.declared.shared.Seat.{Seat}
 use Rattle.atomic_table.specs.Seated.{TableId}
-use Rattle.dstm_runs.specs.declared.event.Event.{Event}
-use Rattle.dstm_runs.specs.Machines.{Machine, Fits, held, local}
-use Rattle.dstm_runs.specs.Sharing.{Shared}
-use Rattle.dstm_runs.specs.Traces.{Access, IsPastOf, events_of}
-use Rattle.dstm_runs.specs.Traces.Access.{Load, Store, Exchange, Add}
+use Rattle.dstm_machines.specs.declared.event.Event.{Event}
+use Rattle.dstm_machines.specs.Machines.{Machine, Fits, held, local}
+use Rattle.dstm_machines.specs.Sharing.{Shared}
+use Rattle.dstm_machines.specs.Traces.{Access, IsPastOf, events_of}
+use Rattle.dstm_machines.specs.Traces.Access.{Load, Store, Exchange, Add}
 use Rattle.dstm_seats.specs.declared.view.Old.{Old}
 use Rattle.dstm_seats.specs.declared.view.View.{View}
 

@@ -2,7 +2,7 @@
 ghost use Rattle.std.specs.Prelude.{◌≡◌, ℕ, IfSome};
 
 use atomic_table::{Join, Play, Seat, Split, TableRule};
-use dstm_runs::{Event, Machine};
+use dstm_machines::{Event, Machine};
 use std::collections::LinkedList;
 use std::marker::{Brand, PhantomData};
 
@@ -68,7 +68,7 @@ pub struct Loads<M, J> {
 }
 
 impl<M: Machine, J: Told<M::Kind>> Play<u8, View<M::Kind, M::Terms>> for Loads<M, J> {
-    ghost use Rattle.dstm_runs.specs.Traces.Access.{Load};
+    ghost use Rattle.dstm_machines.specs.Traces.Access.{Load};
     ghost use Rattle.dstm_seats.specs.Seats.{Makes};
 
     ghost then = { λ s m found n. (n.1 ≡ m.1)
@@ -81,7 +81,7 @@ pub struct Stores<M, J> {
 }
 
 impl<M: Machine, J: Told<M::Kind>> Play<u8, View<M::Kind, M::Terms>> for Stores<M, J> {
-    ghost use Rattle.dstm_runs.specs.Traces.Access.{Store};
+    ghost use Rattle.dstm_machines.specs.Traces.Access.{Store};
     ghost use Rattle.dstm_seats.specs.Seats.{Makes};
 
     ghost then = { λ s m put n. (n.1 ≡ m.1)
@@ -94,7 +94,7 @@ pub struct Exchanges<M, J> {
 }
 
 impl<M: Machine, J: Told<M::Kind>> Play<u8, View<M::Kind, M::Terms>> for Exchanges<M, J> {
-    ghost use Rattle.dstm_runs.specs.Traces.Access.{Exchange};
+    ghost use Rattle.dstm_machines.specs.Traces.Access.{Exchange};
     ghost use Rattle.dstm_seats.specs.Seats.{Makes};
 
     ghost then = { λ s m found n. (n.1 ≡ m.1)
@@ -107,7 +107,7 @@ pub struct Adders<M, J> {
 }
 
 impl<M: Machine, J: Told<M::Kind>> Play<u8, View<M::Kind, M::Terms>> for Adders<M, J> {
-    ghost use Rattle.dstm_runs.specs.Traces.Access.{Add};
+    ghost use Rattle.dstm_machines.specs.Traces.Access.{Add};
     ghost use Rattle.dstm_seats.specs.Seats.{Makes};
 
     ghost then = { λ s m found n. (n.1 ≡ m.1)

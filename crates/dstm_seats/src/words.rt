@@ -1,14 +1,14 @@
 // The words, and the steps on them.
 ghost use Rattle.std.specs.Prelude.{◌≡◌, ◌≢◌, ℕ, ◌<◌, ◌≤◌, List, [], length, slice_index_or, true, Some, None, IfOk, MatchResult, vec_capacity};
 ghost use Rattle.std.specs.Mem.Slots.{slots_items, slots_len, IsFull};
-ghost use Rattle.dstm_runs.specs.Traces.Access.{Load, Store, Exchange, Add};
+ghost use Rattle.dstm_machines.specs.Traces.Access.{Load, Store, Exchange, Add};
 ghost use Rattle.dstm_seats.specs.Seats.{view_of, founder, found_in, kept_part, given_part, IsOf, IsOut, Joined, MakesKept, LeftBy, Makes, MayMake};
 
 use crate::view::{
     Adders, Exchanges, Loads, MachineRule, MachineSeat, Meeting, Parting, Stores, Told, View,
 };
 use atomic_table::{Closed, Table};
-use dstm_runs::Machine;
+use dstm_machines::Machine;
 use std::alloc::{AllocError, Global};
 use std::marker::{Brand, Model};
 

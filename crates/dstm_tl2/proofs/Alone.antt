@@ -7,8 +7,8 @@ use Rattle.std.proofs.lemmas.Bool.Decides.{nat_tests}
 use Rattle.std.proofs.lemmas.List.Elements.{All-contains, All-contains_itself, All-filter, Contains-append_right, Contains-push_cases, filter_passes}
 use Rattle.dstm_model.specs.declared.value.Val.{Val}
 use Rattle.dstm_model.specs.Map.{IsUnnamed, NamesOnce}
-use Rattle.dstm_runs.specs.Traces.{at}
-use Rattle.dstm_runs.proofs.Runs as runs
+use Rattle.dstm_machines.specs.Traces.{at}
+use Rattle.dstm_machines.proofs.Runs as runs
 use Rattle.dstm_tl2.specs.declared.kind.Kind.{Kind}
 use Rattle.dstm_tl2.specs.declared.kind.Kind.TheVariants.{Sample, LookLock, LookLow, LookHigh, LookAgain, Lock, Draw, Check, WriteLow, WriteHigh, Unlock}
 use Rattle.dstm_tl2.specs.Failing.{fails, is_readable}

@@ -5,7 +5,7 @@ use Rattle.std.specs.Prelude.{reverse}
 use Rattle.std.proofs.lemmas.Bool.{and_from}
 use Rattle.dstm_model.specs.declared.value.Val.{Val}
 use Rattle.dstm_model.specs.Map.{Agrees, Entry, state_after, value_at}
-use Rattle.dstm_runs.proofs.Runs as runs
+use Rattle.dstm_machines.proofs.Runs as runs
 use Rattle.dstm_tl2.specs.Histories.{LawfulRun, commits_at, entry_at, entry_of, history, history_of, is_draw, prefix_at, read_values, sample_place, will_of, writes_of}
 use Rattle.dstm_tl2.specs.Laws.{IsSeen, IsSerial, Tells}
 use Rattle.dstm_tl2.specs.Rules.{Event}
@@ -14,7 +14,7 @@ use Rattle.dstm_tl2.specs.State.{Read, is_valid, or_writes}
 use Rattle.dstm_tl2.specs.Words.{Table, objects}
 use Rattle.dstm_tl2.specs.Words.Word.{LockWord}
 use Rattle.dstm_tl2.proofs.Clock.{Draws, NoDraw, clock_step}
-use Rattle.dstm_history.proofs.Gathered.{told_next}
+use Rattle.dstm_machines.proofs.Gathered.{told_next}
 use Rattle.dstm_tl2.proofs.Commits.{valid_stands}
 use Rattle.dstm_tl2.proofs.Foretelling.{told, valid_will, will_more}
 use Rattle.dstm_tl2.proofs.Legal.{committed_legal, lawful_from, lawful_past, state_is}

@@ -3,10 +3,10 @@ use Rattle.std.proofs.Common.{◌≡◌, ◌⊎◌, ◌∷◌, ◌++◌, ◌∙�
 use Rattle.std.specs.List.{Contains}
 use Rattle.std.specs.Prelude.{reverse}
 use Rattle.std.proofs.lemmas.Bool.{and_from, cases_eq}
-use Rattle.dstm_runs.specs.Traces.{IsPastOf}
+use Rattle.dstm_machines.specs.Traces.{IsPastOf}
 use Rattle.dstm_model.specs.Map.{Entry}
-use Rattle.dstm_runs.proofs.Runs as runs
-use Rattle.dstm_history.proofs.Gathered.{told_among}
+use Rattle.dstm_machines.proofs.Runs as runs
+use Rattle.dstm_machines.proofs.Gathered.{told_among}
 use Rattle.dstm_tl2.specs.Histories.{commits_at, entry_at, entry_of, history, is_draw, read_values, will_of, writes_of}
 use Rattle.dstm_tl2.specs.Rules.{AllowedAs, Event, after}
 use Rattle.dstm_tl2.specs.Runs.{Run, local, tl2}

@@ -2,8 +2,8 @@
 use Rattle.std.proofs.Common.{◌≡◌, ◌+◌, ◌-◌, ◌*◌, ◌^◌, ◌<◌, ◌≤◌, ◌==◌, ◌⊎◌, ◌∷◌, ℕ, inl, inr, List, [], ap, arith, sym, subst, true, Option, Some, None}
 use Rattle.std.proofs.lemmas.Bool.{cond_both}
 use Rattle.std.proofs.lemmas.Nat.{mul-le}
-use Rattle.dstm_runs.proofs.Runs as runs
-use Rattle.dstm_runs.proofs.Totals.{total, total-≤, total-<, total-bound}
+use Rattle.dstm_machines.proofs.Runs as runs
+use Rattle.dstm_machines.proofs.Totals.{total, total-≤, total-<, total-bound}
 use Rattle.dstm_tl2.specs.declared.kind.Kind.{Kind}
 use Rattle.dstm_tl2.specs.declared.kind.Kind.TheVariants.{Enrol, Sample, LookAgain, Lock, Draw}
 use Rattle.dstm_tl2.specs.Histories.{is_draw}

@@ -3,13 +3,13 @@ use Rattle.std.proofs.lemmas.List.Elements.{All-head, All-tail}
 use Rattle.std.proofs.Common.{◌≡◌, ◌<◌, ◌*◌, ◌⊎◌, ◌∷◌, ◌++◌, ◌∙◌, ℕ, inl, inr, List, [], refl, ap, arith, append_assoc, sym, subst, true, false, Bool, Option, Some, None, is_some}
 use Rattle.std.specs.Prelude.{is_none, reverse}
 use Rattle.std.proofs.lemmas.Bool.{and_parts, cases_eq, eq-eqb, ne_eqb}
-use Rattle.dstm_history.proofs.Histories as histories
-use Rattle.dstm_history.proofs.Histories.{legal_from}
-use Rattle.dstm_history.proofs.Orders.{legal_reversed, state_reversed}
+use Rattle.dstm_machines.proofs.Histories as histories
+use Rattle.dstm_machines.proofs.Histories.{legal_from}
+use Rattle.dstm_machines.proofs.Orders.{legal_reversed, state_reversed}
 use Rattle.dstm_model.specs.declared.value.Val.{Val}
 use Rattle.dstm_model.specs.Map.{Agrees, IsLegal, state_after, value_at, with_writes}
-use Rattle.dstm_runs.proofs.Runs as runs
-use Rattle.dstm_runs.proofs.Runs.{each_past}
+use Rattle.dstm_machines.proofs.Runs as runs
+use Rattle.dstm_machines.proofs.Runs.{each_past}
 use Rattle.dstm_tl2.specs.declared.kind.Kind.{Kind}
 use Rattle.dstm_tl2.specs.declared.kind.Kind.TheVariants.{Draw}
 use Rattle.dstm_tl2.specs.Histories.{DrawsLawfully, Lawful, commits_at, entry_at, history, is_draw, read_values, sample_place, will_of, writes_of}

@@ -9,8 +9,8 @@ use Rattle.dstm_tl2.specs.Histories.{LawfulRun, commits_at, entry_at, entry_of, 
 use Rattle.dstm_tl2.specs.Rules.{Event}
 use Rattle.dstm_tl2.specs.Runs.{Run, local}
 use Rattle.dstm_tl2.specs.Words.{Table, objects}
-use Rattle.dstm_history.proofs.Gathered.{told_all, told_prefix}
-use Rattle.dstm_history.proofs.Histories as histories
+use Rattle.dstm_machines.proofs.Gathered.{told_all, told_prefix}
+use Rattle.dstm_machines.proofs.Histories as histories
 use Rattle.dstm_tl2.proofs.Legal.{lawful_from}
 use Rattle.dstm_tl2.proofs.Stands.{Told}
 use Rattle.dstm_tl2.proofs.Tidy.{reads_once, writes_once}

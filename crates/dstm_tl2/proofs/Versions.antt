@@ -1,12 +1,12 @@
 -- Versions and values after the draws of the attempts that commit: `will` tells which these are, by their numbers.
 use Rattle.std.proofs.Common.{◌&&◌, ◌≡◌, ◌≢◌, ◌<◌, ◌≤◌, ◌+◌, ◌⊎◌, ◌∷◌, ◌++◌, ◌∙◌, ℕ, inl, inr, List, [], refl, ap, arith, sym, subst, true, false, Bool, Option, Some, None, length, get_or-set_same, get_or-set_other, if◌then◌else◌}
 use Rattle.std.proofs.lemmas.Bool.{and_parts, cases_Bool, cases_eq, cond_both, eq-eqb, ne_eqb}
-use Rattle.dstm_runs.specs.Traces.{IsPastOf}
+use Rattle.dstm_machines.specs.Traces.{IsPastOf}
 use Rattle.dstm_model.proofs.Entries.{with_length}
 use Rattle.dstm_model.specs.declared.value.Val.{Val}
 use Rattle.dstm_model.specs.Map.{value_at, with_writes}
-use Rattle.dstm_history.proofs.Orders as orders
-use Rattle.dstm_history.proofs.Orders.{map_after}
+use Rattle.dstm_machines.proofs.Orders as orders
+use Rattle.dstm_machines.proofs.Orders.{map_after}
 use Rattle.dstm_tl2.specs.Histories.{entry_at, history, is_draw, writes_of}
 use Rattle.dstm_tl2.specs.Rules.{Event}
 use Rattle.dstm_tl2.specs.Runs.{Run}

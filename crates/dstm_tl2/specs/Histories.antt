@@ -2,10 +2,10 @@
 use Rattle.std.specs.Prelude.{◌≡◌, ℕ, ◌==◌, ◌&&◌, ◌||◌, Bool, true, false, List, [], ◌∷◌, map, reverse, if◌then◌else◌}
 use Rattle.dstm_model.specs.declared.value.Val.{Val}
 use Rattle.dstm_model.specs.Map.{Entry, KeepsLaw}
-use Rattle.dstm_history.specs.Histories.{gathered}
+use Rattle.dstm_machines.specs.Histories.{gathered}
 use Rattle.dstm_tl2.specs.declared.kind.Kind.{Kind}
 use Rattle.dstm_tl2.specs.declared.kind.Kind.TheVariants.{Sample, Lock, Draw}
-use Rattle.dstm_runs.specs.Traces.{Each}
+use Rattle.dstm_machines.specs.Traces.{Each}
 use Rattle.dstm_tl2.specs.Rules.{Event}
 use Rattle.dstm_tl2.specs.Runs.{local, Run}
 use Rattle.dstm_tl2.specs.State.{LocalState, Read, or_zero, is_valid}

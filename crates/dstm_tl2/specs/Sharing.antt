@@ -2,7 +2,7 @@
 use Rattle.std.specs.Prelude.{◌≡◌, ◌⊎◌, ◌≤◌, List, true, length}
 use Rattle.dstm_model.specs.Map.{KeepsLaw}
 use Rattle.dstm_model.specs.declared.value.Val.{Val}
-use Rattle.dstm_runs.specs.Sharing.{Shared}
+use Rattle.dstm_machines.specs.Sharing.{Shared}
 use Rattle.dstm_tl2.specs.declared.kind.Kind.{Kind}
 use Rattle.dstm_tl2.specs.declared.kind.Kind.TheVariants.{Enrol}
 use Rattle.dstm_tl2.specs.declared.terms.Terms.{Terms}

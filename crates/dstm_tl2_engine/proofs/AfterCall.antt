@@ -6,11 +6,11 @@ use Rattle.dstm_tl2.specs.Runs.{Run, local, tl2}
 use Rattle.dstm_tl2.specs.State.{LocalState, is_valid}
 use Rattle.dstm_tl2.specs.Words.{Table}
 use Rattle.dstm_tl2_words.specs.Seats.{Home}
-use Rattle.dstm_tl2_caller.specs.declared.again.TlAgain.{TlAgain}
-use Rattle.dstm_tl2_caller.specs.Calls.{answer_of, state_after}
-use Rattle.dstm_tl2_caller.specs.Tasks.{Task}
-use Rattle.dstm_tl2_causes.specs.Ended.{Disturbed}
-use Rattle.dstm_tl2_causes.proofs.Disturbing.{answers_disturb}
+use Rattle.dstm_tl2_order.specs.declared.again.TlAgain.{TlAgain}
+use Rattle.dstm_tl2_order.specs.Calls.{answer_of, state_after}
+use Rattle.dstm_tl2_order.specs.Tasks.{Task}
+use Rattle.dstm_tl2_order.specs.Ended.{Disturbed}
+use Rattle.dstm_tl2_order.proofs.Disturbing.{answers_disturb}
 use Rattle.dstm_tl2_engine.specs.Attempts.{attempt_of, done}
 use Rattle.dstm_tl2_engine.specs.Callers.{TlCalled, begun_log, since_sample, state, table_of_caller}
 use Rattle.dstm_tl2_engine.specs.Calls.{Performs}
@@ -18,9 +18,9 @@ use Rattle.dstm_tl2_engine.specs.Outcomes.{IsLeft, begun_state, own_since}
 use Rattle.dstm_tl2_engine.proofs.Begun.{begun_count}
 use Rattle.dstm_tl2_engine.proofs.CallKinds.{commits_in, samples_in, uncommitting, unsampled}
 use Rattle.dstm_tl2_engine.proofs.Causing.{answers_since}
-use Rattle.dstm_runs.proofs.Attempts.{begun_after, log_parts, since_after}
-use Rattle.dstm_runs.proofs.Own.{after_own, own_state}
-use Rattle.dstm_tl2_answers.proofs.Done.{invalid_after, quiet_after, valid_after}
+use Rattle.dstm_machines.proofs.Attempts.{begun_after, log_parts, since_after}
+use Rattle.dstm_machines.proofs.Own.{after_own, own_state}
+use Rattle.dstm_tl2.proofs.Done.{invalid_after, quiet_after, valid_after}
 use Rattle.dstm_tl2_engine.proofs.Left.{is_left}
 
 module _ {L : Type 0} (holds : L → List Val → Type 0) (k n : TlCalled L) (task : Task) (again : Option TlAgain)

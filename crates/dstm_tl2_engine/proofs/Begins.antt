@@ -9,7 +9,7 @@ use Rattle.dstm_mem.proofs.WithSet.{with_set-nothing}
 use Rattle.dstm_mem.specs.Memory.{value_in}
 use Rattle.dstm_model.specs.Map.{value_at}
 use Rattle.dstm_model.specs.declared.value.Val.{Val}
-use Rattle.dstm_runs.specs.Traces.Access.{Load}
+use Rattle.dstm_machines.specs.Traces.Access.{Load}
 use Rattle.dstm_tl2.specs.declared.kind.Kind.TheVariants.{Sample}
 use Rattle.dstm_tl2.specs.Histories.{read_values}
 use Rattle.dstm_tl2.specs.Rules.{Event, begin, new_hold}
@@ -18,17 +18,17 @@ use Rattle.dstm_tl2.specs.Sharing.{table_of}
 use Rattle.dstm_tl2.specs.State.{Hold, LocalState, Read, read_of}
 use Rattle.dstm_tl2.specs.Words.{Table}
 use Rattle.dstm_tl2_words.specs.Seats.{Home, view_of}
-use Rattle.dstm_tl2_caller.specs.Calls.{Obeys, newest_of, state_after}
-use Rattle.dstm_tl2_caller.specs.Order.{IsDue, has_sampled, in_giving_back, is_spent}
-use Rattle.dstm_tl2_caller.specs.Order.Due.{Done, Just}
-use Rattle.dstm_tl2_caller.specs.Reads.{AtRest}
-use Rattle.dstm_tl2_caller.specs.Tasks.{Task}
-use Rattle.dstm_tl2_caller.specs.Tasks.Task.{Beginning, Returning}
-use Rattle.dstm_tl2_caller.specs.Under.{Began, Under, made_by, now}
-use Rattle.dstm_tl2_caller.specs.declared.again.TlAgain.{TlAgain}
-use Rattle.dstm_tl2_caller.specs.declared.steps.Steps.{Steps}
+use Rattle.dstm_tl2_order.specs.Calls.{Obeys, newest_of, state_after}
+use Rattle.dstm_tl2_order.specs.Order.{IsDue, has_sampled, in_giving_back, is_spent}
+use Rattle.dstm_tl2_order.specs.Order.Due.{Done, Just}
+use Rattle.dstm_tl2_steps.specs.Reads.{AtRest}
+use Rattle.dstm_tl2_order.specs.Tasks.{Task}
+use Rattle.dstm_tl2_order.specs.Tasks.Task.{Beginning, Returning}
+use Rattle.dstm_tl2_steps.specs.Under.{Began, Under, made_by, now}
+use Rattle.dstm_tl2_order.specs.declared.again.TlAgain.{TlAgain}
+use Rattle.dstm_tl2_steps.specs.declared.steps.Steps.{Steps}
 use Rattle.dstm_tl2_engine.proofs.Calling.{began_is, begun_as}
-use Rattle.dstm_tl2_answers.proofs.Done.{NoCommits, may_commit, quiet_after}
+use Rattle.dstm_tl2.proofs.Done.{NoCommits, may_commit, quiet_after}
 use Rattle.dstm_tl2_engine.proofs.Tying.{Kept, kept, now_there, performs_then, state_then, steps_of}
 use Rattle.dstm_tl2_engine.specs.Attempts.{Admits, done}
 use Rattle.dstm_tl2_engine.specs.Began.{began_of}

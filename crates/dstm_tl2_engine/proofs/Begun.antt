@@ -1,7 +1,7 @@
 -- How many attempts a caller has begun.
 use Rattle.std.proofs.Common.{◌≡◌, ◌==◌, ℕ, List, refl, true, false, Some, None}
 use Rattle.std.proofs.lemmas.Bool.{cond_both}
-use Rattle.dstm_runs.proofs.Attempts.{kept_since}
+use Rattle.dstm_machines.proofs.Attempts.{kept_since}
 use Rattle.dstm_tl2.specs.declared.kind.Kind.{Kind}
 use Rattle.dstm_tl2.specs.declared.kind.Kind.TheVariants.{Sample, LookAgain, Lock}
 use Rattle.dstm_tl2.specs.Histories.{is_sample}

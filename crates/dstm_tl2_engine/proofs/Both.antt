@@ -6,8 +6,8 @@ use Rattle.std.specs.Option.{option_or}
 use Rattle.std.proofs.lemmas.List.Elements.{All-cons, All-head, All-nil}
 use Rattle.dstm_mem.specs.Memory.{value_in}
 use Rattle.dstm_model.specs.declared.value.Val.{Val}
-use Rattle.dstm_runs.proofs.Pasts.{past_past}
-use Rattle.dstm_runs.specs.Traces.{events_of}
+use Rattle.dstm_machines.proofs.Pasts.{past_past}
+use Rattle.dstm_machines.specs.Traces.{events_of}
 use Rattle.dstm_tl2.specs.declared.kind.Kind.{Kind}
 use Rattle.dstm_tl2.specs.declared.kind.Kind.TheVariants.{Enrol, Sample, LookLock, LookLow, LookHigh, LookAgain, Lock, Draw, Check, WriteLow, WriteHigh, Unlock}
 use Rattle.dstm_tl2.specs.Failing.{fails}
@@ -18,19 +18,19 @@ use Rattle.dstm_tl2.specs.Sharing.{IsRunOf, table_of}
 use Rattle.dstm_tl2.specs.State.{LocalState}
 use Rattle.dstm_tl2.specs.Words.{Table}
 use Rattle.dstm_tl2_words.specs.Seats.{Home}
-use Rattle.dstm_tl2_caller.specs.declared.again.TlAgain.{TlAgain}
-use Rattle.dstm_tl2_caller.specs.Calls.{IsCall, Obeys, answer_of, cause, due_after, newest_of, state_after}
-use Rattle.dstm_tl2_caller.specs.Order.{IsDue, draws, in_giving_back, in_locking, locks, next, next_or_first, when_locked}
-use Rattle.dstm_tl2_caller.specs.Order.Due.{Done, Just}
-use Rattle.dstm_tl2_caller.specs.Tasks.{Task, Work}
-use Rattle.dstm_tl2_caller.specs.Tasks.Task.{Doing}
-use Rattle.dstm_tl2_caller.specs.Tasks.Work.{Committing, Finishing, Locking}
+use Rattle.dstm_tl2_order.specs.declared.again.TlAgain.{TlAgain}
+use Rattle.dstm_tl2_order.specs.Calls.{IsCall, Obeys, answer_of, cause, due_after, newest_of, state_after}
+use Rattle.dstm_tl2_order.specs.Order.{IsDue, draws, in_giving_back, in_locking, locks, next, next_or_first, when_locked}
+use Rattle.dstm_tl2_order.specs.Order.Due.{Done, Just}
+use Rattle.dstm_tl2_order.specs.Tasks.{Task, Work}
+use Rattle.dstm_tl2_order.specs.Tasks.Task.{Doing}
+use Rattle.dstm_tl2_order.specs.Tasks.Work.{Committing, Finishing, Locking}
 use Rattle.dstm_tl2_engine.specs.Attempts.{Commits, done}
 use Rattle.dstm_tl2_engine.specs.Callers.{TlCalled, handed, held, is_opened, state, table_of_caller, written}
 use Rattle.dstm_tl2_engine.specs.Calls.{Performs}
 use Rattle.dstm_tl2_engine.specs.Transactions.{HasLocked, Leaves, Stays}
 use Rattle.dstm_tl2_engine.proofs.Causing.{causes_of}
-use Rattle.dstm_runs.proofs.Own.{after_own}
+use Rattle.dstm_machines.proofs.Own.{after_own}
 use Rattle.dstm_tl2_engine.proofs.Working.{are_closing, are_finishing, closing_keeps, is_closing, is_finishing, step_keeps}
 
 -- ---- the events of two calls, one behind the other

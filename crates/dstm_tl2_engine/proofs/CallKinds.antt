@@ -12,13 +12,13 @@ use Rattle.dstm_tl2.specs.Histories.{is_sample}
 use Rattle.dstm_tl2.specs.Rules.{Event}
 use Rattle.dstm_tl2.specs.State.{Hold, LocalState, or_zero, to_check}
 use Rattle.dstm_tl2.specs.Words.{Table}
-use Rattle.dstm_tl2_caller.specs.Calls.{Obeys, due_after, state_after}
-use Rattle.dstm_tl2_caller.specs.Order.{Due, IsDue, at_first, due, has_sampled, in_checking, in_giving_back, in_locking, in_writing_back, is_spent, locks, next, when_locked}
-use Rattle.dstm_tl2_caller.specs.Order.Due.{Just, LookAt, PutLow, PutHigh, FreeAs, Done}
-use Rattle.dstm_tl2_caller.specs.Tasks.{Task, Work}
-use Rattle.dstm_tl2_caller.specs.Tasks.Task.{Enrolling, Beginning, Returning, Doing}
-use Rattle.dstm_tl2_caller.specs.Tasks.Work.{Opening, Locking, Finishing, Committing}
-use Rattle.dstm_tl2_answers.proofs.Done.{NoCommits, NoSamples, may_commit}
+use Rattle.dstm_tl2_order.specs.Calls.{Obeys, due_after, state_after}
+use Rattle.dstm_tl2_order.specs.Order.{Due, IsDue, at_first, due, has_sampled, in_checking, in_giving_back, in_locking, in_writing_back, is_spent, locks, next, when_locked}
+use Rattle.dstm_tl2_order.specs.Order.Due.{Just, LookAt, PutLow, PutHigh, FreeAs, Done}
+use Rattle.dstm_tl2_order.specs.Tasks.{Task, Work}
+use Rattle.dstm_tl2_order.specs.Tasks.Task.{Enrolling, Beginning, Returning, Doing}
+use Rattle.dstm_tl2_order.specs.Tasks.Work.{Opening, Locking, Finishing, Committing}
+use Rattle.dstm_tl2.proofs.Done.{NoCommits, NoSamples, may_commit}
 
 -- ---- what is due
 

@@ -2,17 +2,17 @@
 use Rattle.std.proofs.Common.{◌<◌, ◌∙◌, ◌≡◌, List, ap, subst, sym}
 use Rattle.std.specs.Prelude.{None, Option}
 use Rattle.dstm_model.specs.declared.value.Val.{Val}
-use Rattle.dstm_runs.specs.Traces.{IsPastOf, events_of}
+use Rattle.dstm_machines.specs.Traces.{IsPastOf, events_of}
 use Rattle.dstm_tl2.specs.Sharing.{IsRunOf, table_of}
 use Rattle.dstm_tl2_words.specs.Seats.{Home, IsOf, View, caller_state, number_or, view_of}
-use Rattle.dstm_tl2_caller.proofs.Stepping.{began_as, call_begins, call_of}
-use Rattle.dstm_tl2_caller.specs.Order.{due}
-use Rattle.dstm_tl2_caller.specs.Order.Due.{Done}
-use Rattle.dstm_tl2_caller.specs.Tasks.{Task}
-use Rattle.dstm_tl2_caller.specs.Under.{Began, Under, now}
+use Rattle.dstm_tl2_steps.proofs.Stepping.{began_as, call_begins, call_of}
+use Rattle.dstm_tl2_order.specs.Order.{due}
+use Rattle.dstm_tl2_order.specs.Order.Due.{Done}
+use Rattle.dstm_tl2_order.specs.Tasks.{Task}
+use Rattle.dstm_tl2_steps.specs.Under.{Began, Under, now}
 use Rattle.dstm_tl2_words.specs.Seats.{caller_view}
-use Rattle.dstm_tl2_caller.specs.declared.again.TlAgain.{TlAgain}
-use Rattle.dstm_tl2_caller.specs.declared.steps.Steps.{Steps}
+use Rattle.dstm_tl2_order.specs.declared.again.TlAgain.{TlAgain}
+use Rattle.dstm_tl2_steps.specs.declared.steps.Steps.{Steps}
 use Rattle.dstm_tl2_engine.specs.Began.{began_of}
 use Rattle.dstm_tl2_engine.specs.Callers.{TlCalled, objects_of, state}
 use Rattle.dstm_tl2_engine.specs.Calls.{Performs}

@@ -3,14 +3,14 @@ use Rattle.std.proofs.Common.{◌++◌, ◌∙◌, ◌≡◌, ◌⊎◌, ◌∷�
 use Rattle.std.specs.Prelude.{Bool, if◌then◌else◌}
 use Rattle.std.proofs.lemmas.Bool.{cases_Bool}
 use Rattle.dstm_tl2.specs.Failing.{fails, is_locked}
-use Rattle.dstm_runs.proofs.Own.{state_both}
+use Rattle.dstm_machines.proofs.Own.{state_both}
 use Rattle.dstm_tl2.specs.Rules.{Event}
 use Rattle.dstm_tl2.specs.Runs.{tl2}
 use Rattle.dstm_tl2.specs.State.{LocalState}
 use Rattle.dstm_tl2.specs.Words.{Table}
-use Rattle.dstm_tl2_caller.specs.Calls.{Causes, Found, answer_of, cause, is_look_lock, state_after}
-use Rattle.dstm_tl2_caller.specs.declared.again.TlAgain.{TlAgain}
-use Rattle.dstm_tl2_caller.specs.declared.again.TlAgain.TheVariants.{Changed, Locked, Newer}
+use Rattle.dstm_tl2_order.specs.Calls.{Causes, Found, answer_of, cause, is_look_lock, state_after}
+use Rattle.dstm_tl2_order.specs.declared.again.TlAgain.{TlAgain}
+use Rattle.dstm_tl2_order.specs.declared.again.TlAgain.TheVariants.{Changed, Locked, Newer}
 
 -- the event that ends the attempt is the cause
 cause_is : (t : Table) (l : LocalState) (es : List Event) (e : Event) → fails e.kind (state_after t l es) e ≡ true →

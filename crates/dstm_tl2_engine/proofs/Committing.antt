@@ -16,16 +16,16 @@ use Rattle.dstm_tl2.specs.Sharing.{table_of}
 use Rattle.dstm_tl2.specs.State.{LocalState, is_valid, or_writes, or_zero, read_of, recorded}
 use Rattle.dstm_tl2.specs.Words.{objects}
 use Rattle.dstm_tl2_words.specs.Seats.{Home, view_of}
-use Rattle.dstm_tl2_caller.specs.declared.again.TlAgain.{TlAgain}
-use Rattle.dstm_tl2_caller.specs.declared.steps.Steps.{Steps}
-use Rattle.dstm_tl2_caller.specs.Calls.{answer_of}
-use Rattle.dstm_tl2_caller.specs.Order.Due.{Done}
-use Rattle.dstm_tl2_caller.specs.Reads.{AtRest}
-use Rattle.dstm_tl2_caller.specs.Tasks.{Work}
-use Rattle.dstm_tl2_caller.specs.Tasks.Task.{Doing}
-use Rattle.dstm_tl2_caller.specs.Tasks.Work.{Finishing, Locking}
-use Rattle.dstm_tl2_caller.specs.Under as under
-use Rattle.dstm_tl2_caller.specs.Under.{Lists, Under, now}
+use Rattle.dstm_tl2_order.specs.declared.again.TlAgain.{TlAgain}
+use Rattle.dstm_tl2_steps.specs.declared.steps.Steps.{Steps}
+use Rattle.dstm_tl2_order.specs.Calls.{answer_of}
+use Rattle.dstm_tl2_order.specs.Order.Due.{Done}
+use Rattle.dstm_tl2_steps.specs.Reads.{AtRest}
+use Rattle.dstm_tl2_order.specs.Tasks.{Work}
+use Rattle.dstm_tl2_order.specs.Tasks.Task.{Doing}
+use Rattle.dstm_tl2_order.specs.Tasks.Work.{Finishing, Locking}
+use Rattle.dstm_tl2_steps.specs.Under as under
+use Rattle.dstm_tl2_steps.specs.Under.{Lists, Under, now}
 use Rattle.dstm_tl2_engine.specs.Attempts.{Commits, done}
 use Rattle.dstm_tl2_engine.specs.Began.{began_of}
 use Rattle.dstm_tl2_engine.specs.Callers.{TlCalled, handed, held, is_live, state, table_of_caller, written}
@@ -36,7 +36,7 @@ use Rattle.dstm_tl2_engine.specs.Transactions.{HasLocked, IsLawful, Leaves, Stay
 use Rattle.dstm_tl2_engine.specs.declared.caller.TlCaller.TheInside.{Inside}
 use Rattle.dstm_tl2_engine.proofs.AfterCall.{attempt_kept, done_invalid, done_valid, left_after}
 use Rattle.dstm_tl2_engine.proofs.Causing.{causes_of}
-use Rattle.dstm_tl2_answers.proofs.Done.{failed_invalid, undrawn_invalid}
+use Rattle.dstm_tl2.proofs.Done.{failed_invalid, undrawn_invalid}
 use Rattle.dstm_tl2_engine.proofs.Others.{others_of}
 use Rattle.dstm_tl2_engine.proofs.Tying.{kept, now_there, performs_then, state_then}
 use Rattle.dstm_tl2_engine.proofs.Working.{KeptBy, TellsOnce, are_closing, closes, closing_keeps, one_is, tell_once, works_on}

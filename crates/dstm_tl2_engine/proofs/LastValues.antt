@@ -8,7 +8,7 @@ use Rattle.dstm_mem.proofs.Few.{first_or_other}
 use Rattle.dstm_model.proofs.Entries.{states_keep_length}
 use Rattle.dstm_model.specs.Map.{no_value, state_after, value_at}
 use Rattle.dstm_model.specs.declared.value.Val.{Val}
-use Rattle.dstm_runs.proofs.Runs.{local-events_of}
+use Rattle.dstm_machines.proofs.Runs.{local-events_of}
 use Rattle.dstm_seats.specs.Seats.{AreApart, enrolled}
 use Rattle.dstm_tl2.proofs.Closing.{current}
 use Rattle.dstm_tl2.proofs.Foretelling.{told}

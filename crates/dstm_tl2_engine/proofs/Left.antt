@@ -5,7 +5,7 @@ use Rattle.std.specs.Prelude.{◌&&◌, ◌||◌}
 use Rattle.std.proofs.lemmas.Bool.{and_from, and_left, and_parts, and_right, cases_Bool, cases_eq, cond_both, eq-eqb, eqb-true, ne_eqb, or_left, or_right}
 use Rattle.std.proofs.lemmas.List.Elements.{All-cons, All-contains, All-nil, Contains-append_cases, Contains-push_cases}
 use Rattle.dstm_model.specs.declared.value.Val.{Val}
-use Rattle.dstm_runs.specs.Traces.{events_of}
+use Rattle.dstm_machines.specs.Traces.{events_of}
 use Rattle.dstm_tl2.specs.declared.kind.Kind.{Kind}
 use Rattle.dstm_tl2.specs.declared.kind.Kind.TheVariants.{Enrol, Sample, LookLock, LookLow, LookHigh, LookAgain, Lock, Draw, Check, WriteLow, WriteHigh, Unlock}
 use Rattle.dstm_tl2.specs.Histories.{is_sample}
@@ -16,13 +16,13 @@ use Rattle.dstm_tl2.specs.Words.{Table, objects}
 use Rattle.dstm_tl2.proofs.Foretelling.{valid_parts}
 use Rattle.dstm_tl2.proofs.Holds.{hold_of-append, marked_other, marked_own, or_else, without_other, without_own}
 use Rattle.dstm_tl2.proofs.Static.{Static, static}
-use Rattle.dstm_tl2_caller.specs.Calls.{answer_of}
-use Rattle.dstm_tl2_causes.specs.Ended.{Disturbed}
+use Rattle.dstm_tl2_order.specs.Calls.{answer_of}
+use Rattle.dstm_tl2_order.specs.Ended.{Disturbed}
 use Rattle.dstm_tl2_engine.specs.Callers.{TlCalled, since_sample, state, table_of_caller}
 use Rattle.dstm_tl2_engine.specs.Outcomes.{GivesBack, HasGivenBack, IsLeft, begun_state, has_locked, is_lock, is_write, last_at, own_since}
-use Rattle.dstm_runs.proofs.Attempts.{since_at, since_still}
-use Rattle.dstm_runs.proofs.Own.{local_mine, local_others, own_first, own_other}
-use Rattle.dstm_tl2_answers.proofs.Done.{allowed_mine, failed_invalid, undrawn_invalid, untold_invalid}
+use Rattle.dstm_machines.proofs.Attempts.{since_at, since_still}
+use Rattle.dstm_machines.proofs.Own.{local_mine, local_others, own_first, own_other}
+use Rattle.dstm_tl2.proofs.Done.{allowed_mine, failed_invalid, undrawn_invalid, untold_invalid}
 
 -- ---- lists
 

@@ -6,16 +6,16 @@ use Rattle.dstm_model.specs.declared.value.Val.{Val}
 use Rattle.dstm_model.specs.Map.{Agrees, state_after, with_writes}
 use Rattle.dstm_model.proofs.Entries.{states_keep_length}
 use Rattle.dstm_mem.specs.Memory.{AgreesWith, with_set}
-use Rattle.dstm_runs.proofs.Attempts.{log_parts}
-use Rattle.dstm_runs.proofs.Pasts.{past_past}
+use Rattle.dstm_machines.proofs.Attempts.{log_parts}
+use Rattle.dstm_machines.proofs.Pasts.{past_past}
 use Rattle.dstm_tl2.specs.Histories.{LawfulRun, history_of, is_sample}
 use Rattle.dstm_tl2.specs.Rules.{Event}
 use Rattle.dstm_tl2.specs.Runs.{local}
 use Rattle.dstm_tl2.specs.Sharing.{IsRunOf}
 use Rattle.dstm_tl2.specs.State.{LocalState, is_valid}
-use Rattle.dstm_tl2_answers.proofs.Standing.{done_stands}
+use Rattle.dstm_tl2.proofs.Standing.{done_stands}
 use Rattle.dstm_tl2_words.specs.Seats.{Home}
-use Rattle.dstm_tl2_caller.specs.declared.again.TlAgain.{TlAgain}
+use Rattle.dstm_tl2_order.specs.declared.again.TlAgain.{TlAgain}
 use Rattle.dstm_tl2_engine.specs.Attempts.{Admits, Committed, Commits, Seen, Settles, StandsIn, done}
 use Rattle.dstm_tl2_engine.specs.Callers.{TlCalled, begun_log, held, is_opened, law_of, objects_of, since_sample, start_of, state, table_of_caller, written}
 use Rattle.dstm_tl2_engine.specs.Endings.{Attempts}

@@ -17,16 +17,16 @@ use Rattle.dstm_tl2.specs.Rules.{Event, new_hold}
 use Rattle.dstm_tl2.specs.Sharing.{IsRunOf}
 use Rattle.dstm_tl2.specs.State.{LocalState, Read, read_of}
 use Rattle.dstm_tl2_words.specs.Seats.{Home, view_of}
-use Rattle.dstm_tl2_caller.proofs.Slots.{read_of-slots}
-use Rattle.dstm_tl2_caller.specs.Opened.{OpenedAs, read_slot, slots_value}
-use Rattle.dstm_tl2_caller.specs.Order.Due.{Done, LookAt}
-use Rattle.dstm_tl2_caller.specs.Reads.{AtRest, slot_read}
-use Rattle.dstm_tl2_caller.specs.Tasks.Task.{Doing}
-use Rattle.dstm_tl2_caller.specs.Tasks.Work.{Opening}
-use Rattle.dstm_tl2_caller.specs.Under.{Under, now}
-use Rattle.dstm_tl2_caller.specs.declared.again.TlAgain.{TlAgain}
-use Rattle.dstm_tl2_caller.specs.declared.opened.ReadSlot.{ReadSlot}
-use Rattle.dstm_tl2_caller.specs.declared.steps.Steps.{Steps}
+use Rattle.dstm_tl2_steps.proofs.Slots.{read_of-slots}
+use Rattle.dstm_tl2_steps.specs.Opened.{OpenedAs, read_slot, slots_value}
+use Rattle.dstm_tl2_order.specs.Order.Due.{Done, LookAt}
+use Rattle.dstm_tl2_steps.specs.Reads.{AtRest, slot_read}
+use Rattle.dstm_tl2_order.specs.Tasks.Task.{Doing}
+use Rattle.dstm_tl2_order.specs.Tasks.Work.{Opening}
+use Rattle.dstm_tl2_steps.specs.Under.{Under, now}
+use Rattle.dstm_tl2_order.specs.declared.again.TlAgain.{TlAgain}
+use Rattle.dstm_tl2_steps.specs.declared.opened.ReadSlot.{ReadSlot}
+use Rattle.dstm_tl2_steps.specs.declared.steps.Steps.{Steps}
 use Rattle.dstm_tl2_engine.proofs.AfterCall.{attempt_kept, done_quiet, left_after}
 use Rattle.dstm_tl2_engine.proofs.Begins.{lawful_unlocked}
 use Rattle.dstm_tl2_engine.proofs.CallKinds.{is_look, opening_looks}

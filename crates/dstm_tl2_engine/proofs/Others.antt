@@ -2,8 +2,8 @@
 use Rattle.std.proofs.Common.{◌++◌, ◌<◌, ◌∙◌, ◌∷◌, ◌≡◌, ◌⊎◌, List, [], Some, ap, append_assoc, arith, false, inl, inr, subst, sym, true, ℕ}
 use Rattle.std.proofs.lemmas.Bool.{cases_eq, cases_order, eq-eqb, ne_eqb}
 use Rattle.dstm_model.specs.Map.{NamesOnce}
-use Rattle.dstm_runs.proofs.Runs.{run_past}
-use Rattle.dstm_runs.specs.Traces.{events_of}
+use Rattle.dstm_machines.proofs.Runs.{run_past}
+use Rattle.dstm_machines.specs.Traces.{events_of}
 use Rattle.dstm_tl2.proofs.Alone.{never_fails}
 use Rattle.dstm_tl2.specs.Failing.{fails}
 use Rattle.dstm_tl2.specs.Histories.{writes_of}
@@ -11,10 +11,10 @@ use Rattle.dstm_tl2.specs.Rules.{Event}
 use Rattle.dstm_tl2.specs.Runs.{Run, local, tl2}
 use Rattle.dstm_tl2.specs.State.{LocalState}
 use Rattle.dstm_tl2.specs.Words.{Table, objects}
-use Rattle.dstm_tl2_caller.specs.Calls.{answer_of, state_after}
-use Rattle.dstm_tl2_caller.specs.declared.again.TlAgain.{TlAgain}
+use Rattle.dstm_tl2_order.specs.Calls.{answer_of, state_after}
+use Rattle.dstm_tl2_order.specs.declared.again.TlAgain.{TlAgain}
 use Rattle.dstm_tl2_engine.proofs.Causing.{found_of}
-use Rattle.dstm_runs.proofs.Own.{after_own}
+use Rattle.dstm_machines.proofs.Own.{after_own}
 
 -- where one of a caller's events stands in the log
 pub record StandsAt (c : ℕ) (log : List Event) (event : Event) (older : List Event) : Type 0 where

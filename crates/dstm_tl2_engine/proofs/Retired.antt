@@ -9,9 +9,9 @@ use Rattle.dstm_tl2.specs.Sharing.{table_of}
 use Rattle.dstm_tl2.specs.State.{LocalState}
 use Rattle.dstm_tl2.specs.declared.terms.Terms.{Terms}
 use Rattle.dstm_tl2_words.specs.Seats.{Home, Joined, View}
-use Rattle.dstm_tl2_caller.specs.Tasks.Task.{Returning}
-use Rattle.dstm_runs.proofs.Own.{same_local}
-use Rattle.dstm_tl2_answers.proofs.Done.{same_done_by}
+use Rattle.dstm_tl2_order.specs.Tasks.Task.{Returning}
+use Rattle.dstm_machines.proofs.Own.{same_local}
+use Rattle.dstm_tl2.proofs.Done.{same_done_by}
 use Rattle.dstm_tl2_engine.specs.Attempts.{done, done_by}
 use Rattle.dstm_tl2_engine.specs.Callers.{TlCalled, seat_view, state, table_of_caller}
 use Rattle.dstm_tl2_engine.specs.Calls.{Performs}

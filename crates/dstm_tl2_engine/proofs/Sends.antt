@@ -3,8 +3,8 @@ use denote.RattleType.{RattleType}
 use denote.Param.Send.{IsSend, sendable, view_send}
 use denote.Param.SendFields.{declared_send}
 use Rattle.std.proofs.Crossing.{crosses}
-use Rattle.dstm_tl2_caller.proofs.opened.Opened.TheSendSync as Opened
-use Rattle.dstm_tl2_caller.proofs.steps.Steps.TheSendSync as Steps
+use Rattle.dstm_tl2_steps.proofs.opened.Opened.TheSendSync as Opened
+use Rattle.dstm_tl2_steps.proofs.steps.Steps.TheSendSync as Steps
 use Rattle.dstm_model.specs.declared.value.Law.{Ghosts}
 use Rattle.dstm_tl2.specs.contracts.terms.Terms as Terms
 use Rattle.dstm_tl2_engine.specs.contracts.caller.TlCaller as TlCaller

@@ -11,10 +11,10 @@ use Rattle.dstm_tl2.specs.Sharing.{IsRunOf}
 use Rattle.dstm_tl2.specs.State.{LocalState, first}
 use Rattle.dstm_tl2.specs.declared.terms.Terms.{Terms}
 use Rattle.dstm_tl2_words.specs.Seats.{View}
-use Rattle.dstm_tl2_caller.proofs.Slots.{value_in-with_other, value_in-with_value}
-use Rattle.dstm_tl2_caller.specs.Opened.{OpenedAs, with_value}
-use Rattle.dstm_tl2_caller.specs.Reads.{AtRest, slot_read}
-use Rattle.dstm_tl2_caller.specs.declared.again.TlAgain.{TlAgain}
+use Rattle.dstm_tl2_steps.proofs.Slots.{value_in-with_other, value_in-with_value}
+use Rattle.dstm_tl2_steps.specs.Opened.{OpenedAs, with_value}
+use Rattle.dstm_tl2_steps.specs.Reads.{AtRest, slot_read}
+use Rattle.dstm_tl2_order.specs.declared.again.TlAgain.{TlAgain}
 use Rattle.dstm_tl2_engine.proofs.Begins.{lawful_unlocked, none_locked}
 use Rattle.dstm_tl2_engine.proofs.Seeing.{seen_now}
 use Rattle.dstm_tl2_engine.specs.Callers.{held, is_live, objects_of, seat_view, state}

@@ -6,14 +6,14 @@ use Rattle.dstm_tl2.specs.Runs.{local}
 use Rattle.dstm_tl2.specs.Sharing.{IsRunOf, table_of}
 use Rattle.dstm_tl2.specs.State.{LocalState}
 use Rattle.dstm_tl2_words.specs.Seats.{Home, View, caller_state, view_of}
-use Rattle.dstm_tl2_caller.proofs.Bounds.{number_now}
-use Rattle.dstm_tl2_caller.specs.Opened.{OpenedAs}
-use Rattle.dstm_tl2_caller.specs.Order.{Due, due}
-use Rattle.dstm_tl2_caller.specs.Order.Due.{Done}
-use Rattle.dstm_tl2_caller.specs.Tasks.{Task}
-use Rattle.dstm_tl2_caller.specs.Under.{Lists, Under, now}
-use Rattle.dstm_tl2_caller.specs.declared.again.TlAgain.{TlAgain}
-use Rattle.dstm_tl2_caller.specs.declared.steps.Steps.{Steps}
+use Rattle.dstm_tl2_steps.proofs.Bounds.{number_now}
+use Rattle.dstm_tl2_steps.specs.Opened.{OpenedAs}
+use Rattle.dstm_tl2_order.specs.Order.{Due, due}
+use Rattle.dstm_tl2_order.specs.Order.Due.{Done}
+use Rattle.dstm_tl2_order.specs.Tasks.{Task}
+use Rattle.dstm_tl2_steps.specs.Under.{Lists, Under, now}
+use Rattle.dstm_tl2_order.specs.declared.again.TlAgain.{TlAgain}
+use Rattle.dstm_tl2_steps.specs.declared.steps.Steps.{Steps}
 use Rattle.dstm_tl2_engine.proofs.Calling.{StepsOf, began_is, begun_as, now_is, performs, starts}
 use Rattle.dstm_tl2_engine.proofs.Seeing.{seen_now}
 use Rattle.dstm_tl2_engine.specs.Attempts.{Seen}

@@ -14,12 +14,12 @@ use Rattle.dstm_tl2.specs.Histories.{writes_of}
 use Rattle.dstm_tl2.specs.Rules.{Event, after, lock}
 use Rattle.dstm_tl2.specs.State.{LocalState, or_zero}
 use Rattle.dstm_tl2.specs.Words.{Table}
-use Rattle.dstm_tl2_caller.specs.declared.again.TlAgain.{TlAgain}
-use Rattle.dstm_tl2_caller.specs.Calls.{Obeys, answer_of, cause, state_after}
-use Rattle.dstm_tl2_caller.specs.Order.{at_first, draws, in_checking, in_giving_back, in_locking, in_writing_back, locks, next, when_locked}
-use Rattle.dstm_tl2_caller.specs.Tasks.{Work}
-use Rattle.dstm_tl2_caller.specs.Tasks.Task.{Doing}
-use Rattle.dstm_tl2_caller.specs.Tasks.Work.{Committing, Finishing, Locking, Opening}
+use Rattle.dstm_tl2_order.specs.declared.again.TlAgain.{TlAgain}
+use Rattle.dstm_tl2_order.specs.Calls.{Obeys, answer_of, cause, state_after}
+use Rattle.dstm_tl2_order.specs.Order.{at_first, draws, in_checking, in_giving_back, in_locking, in_writing_back, locks, next, when_locked}
+use Rattle.dstm_tl2_order.specs.Tasks.{Work}
+use Rattle.dstm_tl2_order.specs.Tasks.Task.{Doing}
+use Rattle.dstm_tl2_order.specs.Tasks.Work.{Committing, Finishing, Locking, Opening}
 use Rattle.dstm_tl2_engine.proofs.CallKinds.{Dues, checking, each_due, giving_back, locking, writing_back}
 
 -- ---- what such a call makes

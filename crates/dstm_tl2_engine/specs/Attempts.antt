@@ -7,8 +7,8 @@ use Rattle.dstm_tl2.specs.Histories.{LawfulRun, history_of, prefix_at, sample_pl
 use Rattle.dstm_tl2.specs.Laws.{IsSeen}
 use Rattle.dstm_tl2.specs.Rules.{Event}
 use Rattle.dstm_tl2.specs.State.{is_valid}
-pub use Rattle.dstm_tl2_answers.specs.Committed.{Committed, commits, attempt_of, done_by}
-pub use Rattle.dstm_tl2_answers.specs.Laws.{StandsIn}
+pub use Rattle.dstm_tl2.specs.Committed.{Committed, commits, attempt_of, done_by}
+pub use Rattle.dstm_tl2.specs.Telling.{StandsIn}
 use Rattle.dstm_tl2_engine.specs.Callers.{TlCalled, table_of_caller, objects_of, start_of, law_of, state, held, written, handed, is_opened}
 
 module _ {L : Type 0} where

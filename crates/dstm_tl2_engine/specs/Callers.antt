@@ -3,7 +3,7 @@ use Rattle.std.specs.Prelude.{ℕ, ◌==◌, ◌&&◌, Bool, not, nat_lt, List, 
 use Rattle.std.specs.Option.{option_or}
 use Rattle.dstm_model.specs.declared.value.Val.{Val}
 use Rattle.dstm_mem.specs.Memory.{value_in}
-use Rattle.dstm_runs.specs.Attempts as attempts
+use Rattle.dstm_machines.specs.Attempts as attempts
 use Rattle.dstm_tl2.specs.Histories.{is_sample, read_values}
 use Rattle.dstm_tl2.specs.Rules.{Event}
 use Rattle.dstm_tl2.specs.Runs.{local}
@@ -12,7 +12,7 @@ use Rattle.dstm_tl2.specs.State.{LocalState}
 use Rattle.dstm_tl2.specs.Words.{Table, objects}
 use Rattle.dstm_tl2_words.specs.Seats.{View, Home}
 use Rattle.dstm_tl2_words.specs.Seats.{caller_view}
-use Rattle.dstm_tl2_caller.specs.declared.again.TlAgain.{TlAgain}
+use Rattle.dstm_tl2_order.specs.declared.again.TlAgain.{TlAgain}
 
 pub record TlCalled (L : Type 0) : Type 0 where
   pub home : Home L  -- its table, and what this was told

@@ -1,12 +1,12 @@
 -- What a call of the engine does.
 use Rattle.std.specs.Prelude.{◌≡◌, List, ◌++◌, Option}
 use Rattle.dstm_model.specs.declared.value.Val.{Val}
-use Rattle.dstm_runs.specs.Traces.{IsPastOf, events_of}
+use Rattle.dstm_machines.specs.Traces.{IsPastOf, events_of}
 use Rattle.dstm_tl2.specs.Rules.{Event}
 use Rattle.dstm_tl2.specs.Sharing.{IsRunOf}
-use Rattle.dstm_tl2_caller.specs.declared.again.TlAgain.{TlAgain}
-use Rattle.dstm_tl2_caller.specs.Calls.{IsCall, answer_of}
-use Rattle.dstm_tl2_caller.specs.Tasks.{Task}
+use Rattle.dstm_tl2_order.specs.declared.again.TlAgain.{TlAgain}
+use Rattle.dstm_tl2_order.specs.Calls.{IsCall, answer_of}
+use Rattle.dstm_tl2_order.specs.Tasks.{Task}
 use Rattle.dstm_tl2_engine.specs.Callers.{TlCalled, state, table_of_caller}
 
 module _ {L : Type 0} (holds : L → List Val → Type 0) where

@@ -1,17 +1,17 @@
 -- How an attempt ends.
 use Rattle.std.specs.Prelude.{◌≡◌, ◌+◌, true, List, [], Option, Some, None}
 use Rattle.dstm_model.specs.declared.value.Val.{Val}
-use Rattle.dstm_runs.specs.Traces.{IsPastOf}
+use Rattle.dstm_machines.specs.Traces.{IsPastOf}
 use Rattle.dstm_tl2.specs.Sharing.{IsRunOf}
 use Rattle.dstm_tl2.specs.State.{is_valid}
-use Rattle.dstm_tl2_caller.specs.declared.again.TlAgain.{TlAgain}
+use Rattle.dstm_tl2_order.specs.declared.again.TlAgain.{TlAgain}
 use Rattle.dstm_tl2_engine.specs.declared.error.TlEnded.{TlEnded}
 use Rattle.dstm_tl2_engine.specs.declared.error.TlEnded.TheVariants as ended
 use Rattle.dstm_tl2_engine.specs.Attempts.{Seen, done}
 use Rattle.dstm_tl2_engine.specs.Callers.{TlCalled, begun_log, state}
 use Rattle.dstm_tl2_engine.specs.Calls.{Performs}
 use Rattle.dstm_tl2_engine.specs.Outcomes.{IsLeft}
-use Rattle.dstm_tl2_caller.specs.Tasks.Task.{Beginning}
+use Rattle.dstm_tl2_order.specs.Tasks.Task.{Beginning}
 use Rattle.dstm_tl2_engine.specs.Transactions.{SpentFrom}
 
 abbrev pub IsSpent : TlEnded → Type 0

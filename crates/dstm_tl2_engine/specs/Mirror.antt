@@ -6,7 +6,7 @@ use Rattle.dstm_tl2.specs.Rules.{new_hold}
 use Rattle.dstm_tl2.specs.State.{read_of}
 use Rattle.dstm_tl2.specs.Sharing.{IsRunOf}
 use Rattle.dstm_tl2_engine.specs.declared.caller.TlCaller.TheInside.{Inside}
-use Rattle.dstm_tl2_caller.specs.Reads.{slot_read}
+use Rattle.dstm_tl2_steps.specs.Reads.{slot_read}
 use Rattle.dstm_tl2_engine.specs.Attempts.{Seen}
 use Rattle.dstm_tl2_engine.specs.Callers.{TlCalled, handed, objects_of, seat_view, state}
 use Rattle.dstm_tl2_engine.specs.Outcomes.{IsLeft}

@@ -1,13 +1,13 @@
 -- What is known of an attempt that was left.
 use Rattle.std.specs.Prelude.{◌≡◌, ℕ, ◌<◌, ◌==◌, ◌&&◌, Bool, true, false, List, [], ◌∷◌, Option, None, Some, All, Contains, if◌then◌else◌}
-use Rattle.dstm_runs.specs.Traces.{events_of}
+use Rattle.dstm_machines.specs.Traces.{events_of}
 use Rattle.dstm_tl2.specs.declared.kind.Kind.{Kind}
 use Rattle.dstm_tl2.specs.declared.kind.Kind.TheVariants.{Lock, WriteLow, WriteHigh, Unlock}
 use Rattle.dstm_tl2.specs.Rules.{Event}
 use Rattle.dstm_tl2.specs.Runs.{local}
 use Rattle.dstm_tl2.specs.State.{LocalState}
-use Rattle.dstm_tl2_caller.specs.Calls.{answer_of}
-use Rattle.dstm_tl2_causes.specs.Ended.{Disturbed}
+use Rattle.dstm_tl2_order.specs.Calls.{answer_of}
+use Rattle.dstm_tl2_order.specs.Ended.{Disturbed}
 use Rattle.dstm_tl2_engine.specs.Callers.{TlCalled, begun_log, since_sample, state, table_of_caller}
 
 abbrev pub is_lock : Kind → Bool

@@ -2,7 +2,7 @@
 use Rattle.std.specs.Prelude.{◌≡◌, ℕ, ◌+◌, ◌<◌, ◌≤◌, List, [], ◌∷◌, ◌++◌, length, None, Some, Contains}
 use Rattle.atomic_table.specs.declared.shared.Seat.{Seat}
 use Rattle.dstm_model.specs.declared.value.Val.{Val}
-use Rattle.dstm_runs.specs.Traces.{events_of}
+use Rattle.dstm_machines.specs.Traces.{events_of}
 use Rattle.dstm_tl2.specs.Rules.{Event}
 use Rattle.dstm_tl2.specs.Runs.{local}
 use Rattle.dstm_tl2.specs.Sharing.{table_of}
@@ -14,7 +14,7 @@ use Rattle.dstm_tl2_engine.specs.declared.error.TlEnrol.TheVariants.{Full, Memor
 use Rattle.dstm_tl2_engine.specs.Attempts.{done, done_by}
 use Rattle.dstm_tl2_engine.specs.Callers.{TlCalled, seat_view, state, table_of_caller}
 use Rattle.dstm_tl2_engine.specs.Calls.{Performs}
-use Rattle.dstm_tl2_caller.specs.Tasks.Task.{Enrolling, Returning}
+use Rattle.dstm_tl2_order.specs.Tasks.Task.{Enrolling, Returning}
 
 pub record TlFounding (L : Type 0) : Type 0 where
   pub home : Home L  -- its table, and what this was told

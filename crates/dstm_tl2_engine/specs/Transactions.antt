@@ -5,15 +5,15 @@ use Rattle.dstm_model.specs.declared.value.Val.{Val}
 use Rattle.dstm_mem.specs.Memory.{with_set}
 use Rattle.dstm_tl2.specs.Rules.{Event, begin, new_hold}
 use Rattle.dstm_tl2_words.specs.Seats.{Home}
-use Rattle.dstm_tl2_caller.specs.declared.again.TlAgain.{TlAgain}
+use Rattle.dstm_tl2_order.specs.declared.again.TlAgain.{TlAgain}
 use Rattle.dstm_tl2_engine.specs.Attempts.{Admits, Committed, Seen, done}
 use Rattle.dstm_tl2_engine.specs.Callers.{TlCalled, state, table_of_caller, law_of, is_live, held, written, begun_log}
-use Rattle.dstm_tl2_caller.specs.Calls.{Causes}
+use Rattle.dstm_tl2_order.specs.Calls.{Causes}
 use Rattle.dstm_tl2_engine.specs.Calls.{Performs}
-use Rattle.dstm_tl2_caller.specs.Order.{is_spent}
+use Rattle.dstm_tl2_order.specs.Order.{is_spent}
 use Rattle.dstm_tl2_engine.specs.Outcomes.{IsLeft}
-use Rattle.dstm_tl2_caller.specs.Tasks.{Work}
-use Rattle.dstm_tl2_caller.specs.Tasks.Task.{Beginning, Doing}
+use Rattle.dstm_tl2_order.specs.Tasks.{Work}
+use Rattle.dstm_tl2_order.specs.Tasks.Task.{Beginning, Doing}
 
 -- which attempt it is: the reference that it borrows, the table, the caller, and the log as it began
 pub record TxPlace (L : Type 0) : Type 0 where

@@ -1,20 +1,20 @@
 // To give back and to begin, by a caller's steps.
 ghost use Rattle.std.specs.Prelude.{◌≡◌, ◌≢◌, ◌≤◌, List, [], ◌∷◌, None, is_some, length, true, false};
-ghost use Rattle.dstm_runs.specs.Traces.Access.{Load};
+ghost use Rattle.dstm_machines.specs.Traces.Access.{Load};
 ghost use Rattle.dstm_tl2.specs.Rules.{Event, begin};
 ghost use Rattle.dstm_tl2.specs.Sharing.{table_of};
 ghost use Rattle.dstm_tl2.specs.Words.{place};
 ghost use Rattle.dstm_tl2.specs.Words.Word.{ClockWord};
 ghost use Rattle.dstm_tl2.specs.declared.kind.Kind.TheVariants.{Sample};
 ghost use Rattle.dstm_tl2_words.specs.Seats.{view_of};
-ghost use Rattle.dstm_tl2_caller.specs.Order.{is_spent};
-ghost use Rattle.dstm_tl2_caller.specs.Order.Due.{Done};
-ghost use Rattle.dstm_tl2_caller.specs.Tasks.{Work};
-ghost use Rattle.dstm_tl2_caller.specs.Tasks.Task.{Beginning, Doing};
-ghost use Rattle.dstm_tl2_caller.specs.Under.{in_freeing, made_by, now, when_free, Lists, Under};
+ghost use Rattle.dstm_tl2_order.specs.Order.{is_spent};
+ghost use Rattle.dstm_tl2_order.specs.Order.Due.{Done};
+ghost use Rattle.dstm_tl2_order.specs.Tasks.{Work};
+ghost use Rattle.dstm_tl2_order.specs.Tasks.Task.{Beginning, Doing};
+ghost use Rattle.dstm_tl2_steps.specs.Under.{in_freeing, made_by, now, when_free, Lists, Under};
 
 use dstm_model::Law;
-use dstm_tl2_caller::{InCall, Opened, Steps};
+use dstm_tl2_steps::{InCall, Opened, Steps};
 use dstm_tl2_words::Words;
 
 // Gives back what the last attempt still has locked, if anything is.

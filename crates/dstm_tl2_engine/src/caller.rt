@@ -6,13 +6,13 @@ ghost use Rattle.dstm_tl2.specs.State.{first};
 ghost use Rattle.dstm_tl2_engine.specs.Attempts.{Commits, Seen, done};
 ghost use Rattle.dstm_tl2_engine.specs.Callers.{handed, held, is_live, is_opened, objects_of, seat_view, state, written};
 ghost use Rattle.dstm_tl2_engine.specs.Calls.{Performs};
-ghost use Rattle.dstm_tl2_caller.specs.Reads.{AtRest};
+ghost use Rattle.dstm_tl2_steps.specs.Reads.{AtRest};
 ghost use Rattle.dstm_tl2_engine.specs.Outcomes.{IsLeft};
-ghost use Rattle.dstm_tl2_caller.specs.Opened.{with_value};
+ghost use Rattle.dstm_tl2_steps.specs.Opened.{with_value};
 ghost use Rattle.dstm_tl2_engine.specs.Opens.{Continues, HasOpened};
 ghost use Rattle.dstm_tl2_engine.specs.Tables.{enrolled_as};
-ghost use Rattle.dstm_tl2_caller.specs.Tasks.Task.{Returning};
-ghost use Rattle.dstm_tl2_caller.specs.Tasks.Work.{Committing, Finishing, Locking, Opening};
+ghost use Rattle.dstm_tl2_order.specs.Tasks.Task.{Returning};
+ghost use Rattle.dstm_tl2_order.specs.Tasks.Work.{Committing, Finishing, Locking, Opening};
 ghost use Rattle.dstm_tl2_engine.specs.Transactions.{BeginsAnew, IsLawful, HasLocked, Leaves, Marks, SpentFrom, Stays, given_back, is_ok};
 
 use crate::beginning::{begin_next, free_first};
@@ -20,7 +20,8 @@ use crate::error::TlSpent;
 use crate::stm::TlStm;
 use dstm_model::{Law, Val};
 use dstm_tl2::Terms;
-use dstm_tl2_caller::{Opened, Places, Steps, TlAgain};
+use dstm_tl2_order::TlAgain;
+use dstm_tl2_steps::{Opened, Places, Steps};
 use dstm_tl2_words::Tl2Seat;
 use std::marker::{Brand, Model};
 

@@ -1,5 +1,5 @@
 // What calls answer.
-use dstm_tl2_caller::TlAgain;
+use dstm_tl2_order::TlAgain;
 use std::alloc::AllocError;
 
 /// Why an attempt did not commit.

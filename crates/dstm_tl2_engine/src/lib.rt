@@ -13,7 +13,7 @@ mod table;
 mod tx;
 
 pub use caller::TlCaller;
-pub use dstm_tl2_caller::TlAgain;
+pub use dstm_tl2_order::TlAgain;
 pub use error::{TlDone, TlEnded, TlEnrol, TlSpent};
 pub use locked::{TlHeld, TlLocked};
 pub use making::tl_attempt;

@@ -1,13 +1,13 @@
 ghost use Rattle.std.specs.Prelude.{◌≡◌, IfOk, OnOk, IfErr};
 ghost use Rattle.dstm_tl2_engine.specs.Attempts.{Commits, Seen};
-ghost use Rattle.dstm_tl2_caller.specs.Tasks.Work.{Finishing};
+ghost use Rattle.dstm_tl2_order.specs.Tasks.Work.{Finishing};
 ghost use Rattle.dstm_tl2_engine.specs.Transactions.{HasLocked, Leaves, Stays, given_back};
 
 use crate::caller::TlCaller;
 use crate::stm::TlStm;
 use crate::table::TlTable;
 use dstm_model::Law;
-use dstm_tl2_caller::TlAgain;
+use dstm_tl2_order::TlAgain;
 
 /// An attempt that has locked the objects that it writes. One that is dropped holds them until its caller begins the
 /// next one or is retired. `S` stands for its table.

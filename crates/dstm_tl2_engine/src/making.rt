@@ -2,7 +2,7 @@ ghost use Rattle.std.specs.Prelude.{◌≡◌, ◌↔◌, None, IfOk, IfErr, tru
 ghost use Rattle.dstm_tl2_engine.specs.Attempts.{Settles};
 ghost use Rattle.dstm_tl2_engine.specs.Callers.{law_of, state, table_of_caller};
 ghost use Rattle.dstm_tl2_engine.specs.Endings.{Attempts, EndsBy, IsSpent};
-ghost use Rattle.dstm_tl2_caller.specs.Order.{is_spent};
+ghost use Rattle.dstm_tl2_order.specs.Order.{is_spent};
 
 use crate::caller::TlCaller;
 use crate::error::{TlDone, TlEnded, TlSpent};

@@ -1,6 +1,6 @@
 ghost use Rattle.std.specs.Prelude.{◌≡◌, ◌↔◌, ◌+◌, ◌<◌, ◌≤◌, length, true, IfOk, IfErr, Some};
 ghost use Rattle.dstm_model.specs.Map.{state_after};
-ghost use Rattle.dstm_runs.specs.Traces.Access.{Add};
+ghost use Rattle.dstm_machines.specs.Traces.Access.{Add};
 ghost use Rattle.dstm_tl2.specs.declared.kind.Kind.TheVariants.{Enrol};
 ghost use Rattle.dstm_tl2.specs.Histories.{history_of};
 ghost use Rattle.dstm_tl2.specs.Runs.{local};
@@ -16,7 +16,7 @@ use crate::closing::settle;
 use crate::error::TlEnrol;
 use dstm_model::{Law, Val};
 use dstm_tl2::{Kind, Terms};
-use dstm_tl2_caller::Opened;
+use dstm_tl2_steps::Opened;
 use dstm_tl2_words::{Tl2Seat, Words};
 use std::alloc::{AllocError, Global};
 use std::marker::Model;

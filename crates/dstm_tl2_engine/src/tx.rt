@@ -6,10 +6,10 @@ ghost use Rattle.dstm_tl2_engine.specs.contracts.caller.TlCaller.{the_row};
 ghost use Rattle.dstm_tl2_engine.specs.Attempts.{Admits, Commits, Seen, done};
 ghost use Rattle.dstm_tl2_engine.specs.Callers.{handed, held, is_live, is_opened, objects_of, state, written};
 ghost use Rattle.dstm_tl2.specs.Sharing.{IsRunOf};
-ghost use Rattle.dstm_tl2_caller.specs.Reads.{AtRest};
+ghost use Rattle.dstm_tl2_steps.specs.Reads.{AtRest};
 ghost use Rattle.dstm_tl2_engine.specs.Outcomes.{IsLeft};
-ghost use Rattle.dstm_tl2_caller.specs.Opened.{with_value};
-ghost use Rattle.dstm_tl2_caller.specs.Tasks.Work.{Committing, Locking, Opening};
+ghost use Rattle.dstm_tl2_steps.specs.Opened.{with_value};
+ghost use Rattle.dstm_tl2_order.specs.Tasks.Work.{Committing, Locking, Opening};
 ghost use Rattle.dstm_tl2_engine.specs.Transactions.{BeginsAnew, IsLawful, HasLocked, Leaves, LeavesFrom, Marks, SpentFrom, Stays, given_back, is_ok, tx_place};
 
 use crate::caller::TlCaller;
@@ -19,7 +19,7 @@ use crate::stm::TlStm;
 use crate::table::TlTable;
 use dstm_mem::Mem;
 use dstm_model::{Law, Val};
-use dstm_tl2_caller::TlAgain;
+use dstm_tl2_order::TlAgain;
 
 /// An attempt under way, which has locked nothing. `S` stands for its table.
 #[derive(Drop)]

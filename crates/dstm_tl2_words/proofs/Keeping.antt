@@ -3,9 +3,9 @@ use Rattle.std.proofs.Common.{◌≡◌, ℕ, ◌+◌, ◌^◌, ◌<◌, List, [
 use Rattle.std.specs.Prelude.{Option}
 use Rattle.dstm_model.specs.declared.value.Val.{Val}
 use Rattle.dstm_model.specs.Map.{KeepsLaw}
-use Rattle.dstm_runs.specs.Traces.{Access, events_of}
-use Rattle.dstm_runs.specs.Traces.Access.{Load, Store, Exchange, Add}
-use Rattle.dstm_runs.proofs.Own.{local_quiet}
+use Rattle.dstm_machines.specs.Traces.{Access, events_of}
+use Rattle.dstm_machines.specs.Traces.Access.{Load, Store, Exchange, Add}
+use Rattle.dstm_machines.proofs.Own.{local_quiet}
 use Rattle.dstm_seats.specs.Seats.{state_by, MakesKept}
 use Rattle.dstm_tl2.specs.declared.kind.Kind.{Kind}
 use Rattle.dstm_tl2.specs.declared.kind.Kind.TheVariants.{Draw}

@@ -2,7 +2,7 @@
 use Rattle.std.proofs.Common.{◌≡◌, ◌≢◌, ℕ, List, Some}
 use Rattle.std.specs.Prelude.{Contains}
 use Rattle.dstm_model.specs.declared.value.Val.{Val}
-use Rattle.dstm_runs.specs.Traces.{Access}
+use Rattle.dstm_machines.specs.Traces.{Access}
 use Rattle.dstm_seats.proofs.Seats as seats
 use Rattle.dstm_tl2.specs.declared.kind.Kind.{Kind}
 use Rattle.dstm_tl2.specs.declared.terms.Terms.{Terms}

@@ -5,7 +5,7 @@ use Rattle.std.specs.Prelude.{◌≡◌, ℕ, ◌^◌, ◌<◌, List, true}
 pub use Rattle.dstm_seats.specs.Seats.{view_of, caller_view, found_in, number_or, events_by, event_by, made, own_events, moved, kept_part, given_part, joined, met, longer, old_of, nobody, IsOf, CanEnrol, IsOut, AreApart, GoesOn}
 use Rattle.dstm_seats.specs.Seats as seats
 use Rattle.dstm_seats.specs.declared.view.View as views
-use Rattle.dstm_runs.specs.Traces.{Access}
+use Rattle.dstm_machines.specs.Traces.{Access}
 use Rattle.dstm_model.specs.declared.value.Val.{Val}
 use Rattle.dstm_model.specs.Map.{KeepsLaw}
 use Rattle.dstm_tl2.specs.declared.kind.Kind.{Kind}

@@ -1,6 +1,6 @@
 use atomic_table::Seat;
+use dstm_machines::Machine;
 use dstm_model::Law;
-use dstm_runs::Machine;
 use dstm_seats::View;
 use dstm_tl2::{Kind, Terms};
 use std::marker::PhantomData;

@@ -1,6 +1,6 @@
 // The words, and the steps on them.
 ghost use Rattle.std.specs.Prelude.{◌≡◌, ◌≢◌, ◌⊎◌, ℕ, ◌<◌, ◌≤◌, length, true, None, IfOk, MatchResult};
-ghost use Rattle.dstm_runs.specs.Traces.Access.{Load, Store, Exchange, Add};
+ghost use Rattle.dstm_machines.specs.Traces.Access.{Load, Store, Exchange, Add};
 ghost use Rattle.dstm_tl2.specs.declared.kind.Kind.TheVariants.{Enrol};
 ghost use Rattle.dstm_tl2.specs.Histories.{is_draw};
 ghost use Rattle.dstm_tl2.specs.Words.{words_of};

@@ -3,7 +3,7 @@ use Rattle.std.proofs.Common.{◌≡◌, ℕ, ◌+◌, ◌^◌, ◌<◌, List, �
 use Rattle.std.specs.Prelude.{Option}
 use Rattle.dstm_model.specs.declared.value.Val.{Val}
 use Rattle.dstm_model.specs.Map.{KeepsLaw}
-use Rattle.dstm_runs.specs.Traces.Access.{Store, Exchange}
+use Rattle.dstm_machines.specs.Traces.Access.{Store, Exchange}
 use Rattle.dstm_core.specs.Events.{Event}
 use Rattle.dstm_core.specs.declared.event.Kind.{Kind}
 use Rattle.dstm_core.specs.Histories.{entry_of}
@@ -12,7 +12,7 @@ use Rattle.dstm_core.specs.Runs.{core, local}
 use Rattle.dstm_core.specs.State.{LocalState}
 use Rattle.dstm_core.specs.Traces.{events_of}
 use Rattle.dstm_core.proofs.Enrolment.{enrols}
-use Rattle.dstm_runs.proofs.Own.{local_quiet}
+use Rattle.dstm_machines.proofs.Own.{local_quiet}
 use Rattle.dstm_seats.specs.Seats.{MakesKept}
 use Rattle.dstm_words.specs.declared.terms.Terms.{Terms}
 use Rattle.dstm_words.specs.Seats.{caller_state, event_by, made, number_or, shared, state_by, MayMake, PutsLawfully, StoresLawfully, View}

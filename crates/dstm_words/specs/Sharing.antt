@@ -2,7 +2,7 @@
 use Rattle.std.specs.Prelude.{List}
 use Rattle.std.proofs.Common.{refl, arith}
 use Rattle.dstm_model.specs.declared.value.Val.{Val}
-use Rattle.dstm_runs.specs.Sharing.{Enrolling}
+use Rattle.dstm_machines.specs.Sharing.{Enrolling}
 use Rattle.dstm_core.proofs.Counts.{add_fits}
 use Rattle.dstm_core.proofs.Enrolment.{enrols}
 use Rattle.dstm_core.proofs.Sharing.{inside, later, named}

@@ -1,8 +1,8 @@
 use crate::terms::Terms;
 use atomic_table::Seat;
 use dstm_core::Kind;
+use dstm_machines::Machine;
 use dstm_model::Law;
-use dstm_runs::Machine;
 use dstm_seats::View;
 use std::marker::PhantomData;
 

@@ -1,6 +1,6 @@
 // The words, and the steps on them.
 ghost use Rattle.std.specs.Prelude.{◌≡◌, ◌≢◌, ℕ, ◌<◌, length, true, None, IfOk, MatchResult};
-ghost use Rattle.dstm_runs.specs.Traces.Access.{Load, Store, Exchange, Add};
+ghost use Rattle.dstm_machines.specs.Traces.Access.{Load, Store, Exchange, Add};
 ghost use Rattle.dstm_core.specs.Words.{IsValid};
 ghost use Rattle.dstm_words.specs.Seats.{view_of, founder, found_in, kept_part, given_part, ActsBy, IsOf, IsOut, Joined, LeftBy, Makes, MayMake, StoresLawfully};
 

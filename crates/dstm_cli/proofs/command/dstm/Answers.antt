@@ -1,7 +1,7 @@
 use Rattle.std.proofs.Common.{◌≡◌, ◌⊎◌, ℕ, subst, sym, ◌∙◌, inl, inr, ⊎_elim, arith}
 use Rattle.std.specs.Prelude.{IfSome}
 use Rattle.dstm_io.specs.Count.{Rises}
-use Rattle.dstm_rounds.specs.Running.{added}
+use Rattle.dstm_records.specs.Running.{added}
 use Rattle.dstm_cli.specs.declared.failure.Failure.{Failure}
 use Rattle.dstm_cli.specs.Failure.{message_of}
 use Rattle.dstm_cli.specs.Command.{asked, Refuses}

@@ -3,7 +3,7 @@ use Rattle.std.proofs.Math.Seq.{drop-length}
 use Rattle.std.proofs.lemmas.Result.{err_from_is_err_and}
 use Rattle.dstm_io.specs.Sink.{AppendsPart}
 use Rattle.dstm_command.specs.declared.command.Command.{Command}
-use Rattle.dstm_rounds.specs.Running.{added}
+use Rattle.dstm_records.specs.Running.{added}
 use Rattle.dstm_cli.specs.declared.failure.Failure.TheVariants.{WriteFault}
 use Rattle.dstm_cli.specs.Command.{asked, Answers}
 use Rattle.dstm_cli.specs.Ending.{Happened, EndsAs}

@@ -1,6 +1,6 @@
 use Rattle.std.proofs.lemmas.Result.{IfOk-weaker}
 use Rattle.dstm_report.proofs.Totals.{total_stays}
-use Rattle.dstm_rounds.specs.Running.{added}
+use Rattle.dstm_records.specs.Running.{added}
 use Rattle.dstm_cli.proofs.Demo.{is_demo, told_balances}
 use Rattle.dstm_cli.proofs.output.demo_text.Goals as goal
 

@@ -2,7 +2,7 @@ use Rattle.std.proofs.Common.{◌≡◌, ◌∙◌, ◌&&◌, Bool, true, false,
 use Rattle.std.specs.Prelude.{◌==◌}
 use Rattle.dstm_core.specs.declared.shape.Shape.{Shape}
 use Rattle.dstm_store.specs.declared.law.StoreLaw.{StoreLaw}
-use Rattle.dstm_worker.proofs.Fresh.{fresh_begun, fresh_done, fresh_installed, fresh_rest}
+use Rattle.dstm_crew.proofs.Fresh.{fresh_begun, fresh_done, fresh_installed, fresh_rest}
 use Rattle.dstm_crew.proofs.alone.open_table.Goals as goal
 
 pub returns-in-Ok : goal.returns-in-Ok

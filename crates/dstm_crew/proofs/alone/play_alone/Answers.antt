@@ -2,10 +2,10 @@ use Rattle.std.proofs.Common.{[], ◌∷◌, ◌++◌, arith, ap, subst, ◌∙�
 use Rattle.dstm_engine.specs.Tables.{Recorded}
 use Rattle.dstm_words.specs.Seats.{IsRunOf}
 use Rattle.dstm_store.specs.declared.law.StoreLaw.{StoreLaw}
-use Rattle.dstm_rounds.specs.declared.round.Round.{Round}
-use Rattle.dstm_rounds.specs.declared.round.Round.TheVariants.{Dstm}
-use Rattle.dstm_rounds.specs.Running.{AddsClosed}
-use Rattle.dstm_worker.specs.Tries.{keeps}
+use Rattle.dstm_records.specs.declared.round.Round.{Round}
+use Rattle.dstm_records.specs.declared.round.Round.TheVariants.{Dstm}
+use Rattle.dstm_records.specs.Running.{AddsClosed}
+use Rattle.dstm_crew.specs.Tries.{keeps}
 use Rattle.dstm_crew.proofs.Closes.{adds_alone, can_run, opened_for}
 use Rattle.dstm_crew.proofs.Played.{if_err, nothing_added}
 use Rattle.dstm_crew.proofs.alone.play_alone.Goals as goal

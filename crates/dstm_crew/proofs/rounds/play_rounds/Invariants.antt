@@ -1,6 +1,6 @@
 use Rattle.std.proofs.Common.{◌≡◌}
-use Rattle.dstm_rounds.specs.Running.{turns_behind}
-use Rattle.dstm_rounds.proofs.Running.{Reached, rounds_left}
+use Rattle.dstm_records.specs.Running.{turns_behind}
+use Rattle.dstm_records.proofs.Running.{Reached, rounds_left}
 use Rattle.dstm_crew.proofs.rounds.play_rounds.Given as goal
 
 abbrev pub invariant-loop-more : goal.invariant-loop-more

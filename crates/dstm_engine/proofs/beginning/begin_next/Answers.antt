@@ -1,5 +1,5 @@
 use Rattle.std.proofs.Common.{◌∙◌, None, subst, sym}
-use Rattle.dstm_caller.specs.Under.{InTask, now}
+use Rattle.dstm_steps.specs.Under.{InTask, now}
 use Rattle.dstm_order.specs.Tasks.Task.{Beginning}
 use Rattle.dstm_engine.proofs.Starting.{Ended, can_begin, ended_is, keeps_rank, spent_due}
 use Rattle.dstm_engine.proofs.beginning.begin_next.Goals as goal

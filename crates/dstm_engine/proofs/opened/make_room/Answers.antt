@@ -2,7 +2,7 @@ use Rattle.std.proofs.Common.{◌+◌, ◌<◌, ◌∙◌, ◌≡◌, ◌≢◌,
 use Rattle.std.specs.Prelude.{List}
 use Rattle.std.specs.Vec.{with_items}
 use Rattle.std.proofs.lemmas.List.{with_items_is}
-use Rattle.dstm_caller.specs.declared.slots.ReadSlot.{ReadSlot}
+use Rattle.dstm_steps.specs.declared.slots.ReadSlot.{ReadSlot}
 use Rattle.dstm_engine.proofs.Slots.{apart_together, below_together, filter_again, placed_together}
 use Rattle.dstm_engine.specs.Opened.{AreApart, ArePlaced, is_kept, place_at, read_at}
 use Rattle.dstm_engine.proofs.opened.make_room.Goals as goal

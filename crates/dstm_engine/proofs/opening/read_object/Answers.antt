@@ -1,9 +1,9 @@
 use Rattle.std.proofs.Common.{◌++◌, ◌∙◌, ◌∷◌, [], ap, map, refl, sym}
 use Rattle.std.proofs.lemmas.List.{map-append}
-use Rattle.dstm_caller.proofs.FoundValues.{has_value}
-use Rattle.dstm_caller.specs.FoundValues.{found_value}
-use Rattle.dstm_caller.specs.Reads.{words_of}
-use Rattle.dstm_caller.specs.Under.{doing, now}
+use Rattle.dstm_steps.proofs.FoundValues.{has_value}
+use Rattle.dstm_steps.specs.FoundValues.{found_value}
+use Rattle.dstm_steps.specs.Reads.{words_of}
+use Rattle.dstm_steps.specs.Under.{doing, now}
 use Rattle.dstm_engine.proofs.OpenStates.{adds_read, found_still, last_read, object_still, owed_read, record_read}
 use Rattle.dstm_engine.proofs.Slots.{words_push}
 use Rattle.dstm_engine.specs.Mirror.{slot_word}

@@ -1,8 +1,8 @@
 use Rattle.std.proofs.Common.{◌++◌, ◌∙◌, ◌∷◌, None, [], ap, map, refl, sym}
-use Rattle.dstm_caller.specs.FoundValues.{found_value}
-use Rattle.dstm_caller.specs.Reads.{words_of}
-use Rattle.dstm_caller.specs.Under.{doing, now}
-use Rattle.dstm_caller.specs.declared.slots.ReadSlot.{ReadSlot}
+use Rattle.dstm_steps.specs.FoundValues.{found_value}
+use Rattle.dstm_steps.specs.Reads.{words_of}
+use Rattle.dstm_steps.specs.Under.{doing, now}
+use Rattle.dstm_steps.specs.declared.slots.ReadSlot.{ReadSlot}
 use Rattle.std.specs.Prelude.{option_map}
 use Rattle.dstm_engine.proofs.OpenStates.{acquired_held, acquired_reads, acquired_runs, adds_write, last_write}
 use Rattle.dstm_engine.proofs.HeldStill.{version_goes}

@@ -1,5 +1,5 @@
 use Rattle.std.proofs.Common.{Some, ap, ◌∙◌}
-use Rattle.dstm_runs.specs.Traces.Access.{Add}
+use Rattle.dstm_machines.specs.Traces.Access.{Add}
 use Rattle.dstm_seats.specs.Seats.{state_by}
 use Rattle.dstm_tl2.specs.declared.kind.Kind.TheVariants.{Enrol}
 use Rattle.dstm_tl2.specs.Runs.{tl2}

@@ -1,5 +1,5 @@
 use Rattle.std.proofs.Common.{ap, ◌∙◌}
-use Rattle.dstm_runs.specs.Traces.Access.{Load}
+use Rattle.dstm_machines.specs.Traces.Access.{Load}
 use Rattle.dstm_tl2.specs.declared.kind.Kind.TheVariants.{Sample}
 use Rattle.dstm_tl2.specs.Rules.{begin}
 use Rattle.dstm_tl2.specs.State.{LocalState}

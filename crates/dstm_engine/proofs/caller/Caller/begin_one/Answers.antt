@@ -1,6 +1,6 @@
 use Rattle.std.proofs.Common.{◌∙◌, ◌≡◌, None, ap, arith, false, not, subst, sym}
-use Rattle.dstm_caller.specs.Under.{now}
-use Rattle.dstm_caller.specs.declared.steps.Steps.{Steps}
+use Rattle.dstm_steps.specs.Under.{now}
+use Rattle.dstm_steps.specs.declared.steps.Steps.{Steps}
 use Rattle.dstm_core.proofs.Static.{static}
 use Rattle.dstm_core.specs.Rules.{begin}
 use Rattle.dstm_core.specs.State.{LocalState}

@@ -5,7 +5,7 @@ use Rattle.dstm_engine.proofs.Left.{left_as, left_attempt, left_done, left_ended
 use Rattle.dstm_engine.proofs.Steady.{same_generator}
 use Rattle.dstm_engine.specs.Began.{began_of}
 use Rattle.dstm_engine.specs.Transactions.{Leaves, Stays, new_value}
-use Rattle.dstm_caller.specs.Under.{InTask, now}
+use Rattle.dstm_steps.specs.Under.{InTask, now}
 use Rattle.dstm_order.specs.Order.Due.{Done}
 use Rattle.dstm_order.specs.Tasks.Task.{Doing}
 use Rattle.dstm_order.specs.Tasks.Work.{Committing}

@@ -1,7 +1,7 @@
 use Rattle.std.proofs.Common.{◌*◌, ◌<◌, ◌∙◌, ◌≡◌, ap, sym, subst, None}
 use Rattle.dstm_core.specs.State.{LocalState, own_attempt}
 use Rattle.dstm_core.specs.declared.shape.Shape.{Shape}
-use Rattle.dstm_runs.specs.Traces.Access.{Exchange}
+use Rattle.dstm_machines.specs.Traces.Access.{Exchange}
 use Rattle.dstm_core.specs.Words.{place}
 use Rattle.dstm_core.specs.Words.Word.{StatusWord}
 use Rattle.dstm_core.specs.declared.event.Kind.TheVariants.{Quit}

@@ -1,6 +1,6 @@
 use Rattle.std.proofs.Common.{◌∙◌, ◌≡◌, ap, false, Some, subst, sym, true}
 use Rattle.std.specs.Prelude.{is_some}
-use Rattle.dstm_caller.specs.Writes.{to_put}
+use Rattle.dstm_steps.specs.Writes.{to_put}
 use Rattle.dstm_engine.proofs.Handing.{if_err, ok_then, open_already, slots_hand}
 use Rattle.dstm_engine.proofs.Setting.{opened_slot}
 use Rattle.dstm_engine.proofs.Tying.{live_there}

@@ -1,5 +1,5 @@
 use Rattle.std.proofs.Common.{◌<◌, ◌∙◌, ◌≡◌, ap, None, refl, Some, subst, sym, true}
-use Rattle.dstm_caller.specs.Under.{now}
+use Rattle.dstm_steps.specs.Under.{now}
 use Rattle.dstm_core.specs.State.{LocalState, read_of, write_of}
 use Rattle.dstm_engine.proofs.Opens.{read_opens, read_tied, room_to_read, stopped, stopped_as, stopped_tied, unheld_both, unheld_slot}
 use Rattle.dstm_engine.proofs.Tying.{ends_here, live_there, now_there}

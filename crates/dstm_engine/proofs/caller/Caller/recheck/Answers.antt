@@ -7,7 +7,7 @@ use Rattle.dstm_engine.specs.Attempts.{sights}
 use Rattle.dstm_engine.specs.Callers.{Called, held, is_live, is_opened, is_running, state}
 use Rattle.dstm_engine.specs.Mirror.{called}
 use Rattle.dstm_engine.specs.Transactions.{Leaves, Stays, tx_place}
-use Rattle.dstm_caller.specs.Under.{now, passed}
+use Rattle.dstm_steps.specs.Under.{now, passed}
 use Rattle.dstm_order.specs.Tasks.Task.{Doing}
 use Rattle.dstm_order.specs.Tasks.Work.{Rechecking}
 use Rattle.dstm_words.specs.Seats.{Home, view_of}

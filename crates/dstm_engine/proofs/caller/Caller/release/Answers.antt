@@ -1,5 +1,5 @@
 use Rattle.std.proofs.Common.{rules, ◌∙◌, ◌≡◌, ap, subst, sym, true, None}
-use Rattle.dstm_caller.specs.Under.{now}
+use Rattle.dstm_steps.specs.Under.{now}
 use Rattle.dstm_core.specs.State.{LocalState, drop_read, read_of}
 use Rattle.std.specs.Prelude.{is_some, not, ◌&&◌}
 use Rattle.dstm_engine.proofs.Released.{holds_without, read_there, released_place, released_tied, released_widens}

@@ -1,5 +1,5 @@
 use Rattle.std.proofs.Common.{◌∙◌, ap}
-use Rattle.dstm_caller.specs.Counting.{counts_by, tally_of}
+use Rattle.dstm_steps.specs.Counting.{counts_by, tally_of}
 use Rattle.dstm_order.specs.Counts.{counts_of}
 use Rattle.dstm_engine.specs.Callers.{Called, shape_of}
 use Rattle.dstm_engine.proofs.caller.Caller.tally.Goals as goal

@@ -1,6 +1,6 @@
 use Rattle.std.proofs.Common.{rules, ◌*◌, ◌+◌, ◌<◌, ◌∙◌, ◌≡◌, ap, arith, None, refl, Some, subst, sym, true}
-use Rattle.dstm_caller.specs.Under.{now}
-use Rattle.dstm_caller.specs.declared.steps.Steps.{Steps}
+use Rattle.dstm_steps.specs.Under.{now}
+use Rattle.dstm_steps.specs.declared.steps.Steps.{Steps}
 use Rattle.dstm_core.proofs.Columns.{in_table}
 use Rattle.dstm_core.specs.State.{LocalState}
 use Rattle.std.specs.Prelude.{IsTrue}

@@ -1,4 +1,4 @@
-use Rattle.dstm_caller.proofs.Stepping.{began_as}
+use Rattle.dstm_steps.proofs.Stepping.{began_as}
 use Rattle.dstm_order.specs.Tasks.Task.{Doing}
 use Rattle.dstm_order.specs.Tasks.Work.{Writing}
 use Rattle.dstm_words.specs.Seats.{view_of, number_or}

@@ -2,7 +2,7 @@ use Rattle.std.proofs.Common.{◌+◌, ◌-◌, ◌<◌, ◌∙◌, ◌≡◌, �
 use Rattle.std.specs.Prelude.{slice_set}
 use Rattle.std.proofs.lemmas.List.{get_or_default, length-set}
 use Rattle.std.specs.Vec.{with_item}
-use Rattle.dstm_caller.specs.declared.slots.ReadSlot.{ReadSlot}
+use Rattle.dstm_steps.specs.declared.slots.ReadSlot.{ReadSlot}
 use Rattle.dstm_engine.specs.Opened.{HasPlaces, OpenedAs, is_kept, no_place, no_read, place_at, read_at, read_slot, without_read}
 use Rattle.dstm_engine.specs.declared.opened.Place.{Place}
 use Rattle.dstm_engine.proofs.Slots.{fewer_left, kept_left, no_read_there, placed_left, size_freed, size_left, without_none}

@@ -1,5 +1,5 @@
 use Rattle.std.proofs.Common.{◌∙◌, ap, map}
-use Rattle.dstm_caller.specs.Reads.{kept}
+use Rattle.dstm_steps.specs.Reads.{kept}
 use Rattle.dstm_engine.specs.Mirror.{slot_word}
 use Rattle.dstm_engine.specs.Opened.{OpenedAs}
 use Rattle.dstm_engine.proofs.Slots.{words_all}

@@ -1,5 +1,5 @@
 use Rattle.std.proofs.Common.{◌≡◌, ◌∙◌, Some, ap, sym, subst, ◌<◌}
-use Rattle.dstm_runs.specs.Traces.Access.{Add}
+use Rattle.dstm_machines.specs.Traces.Access.{Add}
 use Rattle.dstm_core.specs.Words.{place}
 use Rattle.dstm_core.specs.Words.Word.{CallersWord}
 use Rattle.dstm_core.specs.declared.event.Kind.TheVariants.{Enrol}

@@ -1,5 +1,5 @@
 use Rattle.std.proofs.Common.{◌<◌, arith, sym, subst}
-use Rattle.dstm_runs.specs.Traces.Access.{Exchange}
+use Rattle.dstm_machines.specs.Traces.Access.{Exchange}
 use Rattle.dstm_seats.specs.Seats.{Home, IsOf, MakesKept, MayMake}
 use Rattle.dstm_seats.proofs.Moves.{place_inside, exchanges}
 use Rattle.dstm_seats.proofs.words.Words.exchange_as.Goals as goal

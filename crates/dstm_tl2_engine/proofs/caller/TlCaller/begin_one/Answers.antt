@@ -2,10 +2,10 @@ use Rattle.std.proofs.Common.{◌∙◌, ◌≡◌, None, ap, subst, sym}
 use Rattle.dstm_tl2.specs.Sharing.{table_of}
 use Rattle.dstm_tl2.specs.Words.{place}
 use Rattle.dstm_tl2.specs.Words.Word.{ClockWord}
-use Rattle.dstm_tl2_caller.specs.Opened.{OpenedAs}
-use Rattle.dstm_tl2_caller.specs.Order.Due.{Done}
-use Rattle.dstm_tl2_caller.specs.Tasks.Task.{Beginning}
-use Rattle.dstm_tl2_caller.specs.Under.{now}
+use Rattle.dstm_tl2_steps.specs.Opened.{OpenedAs}
+use Rattle.dstm_tl2_order.specs.Order.Due.{Done}
+use Rattle.dstm_tl2_order.specs.Tasks.Task.{Beginning}
+use Rattle.dstm_tl2_steps.specs.Under.{now}
 use Rattle.dstm_tl2_engine.proofs.Begins.{anew, anew_tied, begins_anew, begun_here, freed_here, freed_tied, spent_by, spent_from, top_here, unspent_by}
 use Rattle.dstm_tl2_engine.proofs.Tying.{ends_here}
 use Rattle.dstm_tl2_engine.specs.Callers.{TlCalled}

@@ -1,4 +1,4 @@
-use Rattle.dstm_tl2_caller.specs.Tasks.Task.{Beginning}
+use Rattle.dstm_tl2_order.specs.Tasks.Task.{Beginning}
 use Rattle.dstm_tl2_engine.proofs.Calling.{begun_as}
 use Rattle.dstm_tl2_engine.proofs.caller.TlCaller.begin_one.Given as goal
 

@@ -1,5 +1,5 @@
 use Rattle.std.proofs.lemmas.Result.{IfErr-weaker, IfOk-weaker, err_from_is_err_and, on_ok_weaker}
-use Rattle.dstm_tl2_caller.specs.Tasks.Work.{Committing, Finishing}
+use Rattle.dstm_tl2_order.specs.Tasks.Work.{Committing, Finishing}
 use Rattle.dstm_tl2_engine.proofs.Both.{commit_commits, commit_leaves, commit_lost, commit_stays}
 use Rattle.dstm_tl2_engine.specs.Attempts.{Commits}
 use Rattle.dstm_tl2_engine.specs.Transactions.{Leaves}

@@ -1,5 +1,5 @@
 use Rattle.std.proofs.Common.{subst, sym}
-use Rattle.dstm_tl2_caller.specs.Opened.{OpenedAs}
+use Rattle.dstm_tl2_steps.specs.Opened.{OpenedAs}
 use Rattle.dstm_tl2_engine.proofs.Setting.{enrolled_tied, new_inside}
 use Rattle.dstm_tl2_engine.specs.Mirror.{Tied}
 use Rattle.dstm_tl2_engine.proofs.caller.TlCaller.enrolled.Goals as goal

@@ -4,11 +4,11 @@ use Rattle.dstm_tl2.specs.Sharing.{table_of}
 use Rattle.dstm_tl2.specs.State.{is_valid}
 use Rattle.dstm_tl2.specs.Words.{objects}
 use Rattle.dstm_tl2_words.specs.Seats.{Home}
-use Rattle.dstm_tl2_caller.proofs.Slots.{writes_once}
-use Rattle.dstm_tl2_caller.specs.Order.Due.{Done}
-use Rattle.dstm_tl2_caller.specs.Tasks.Task.{Doing}
-use Rattle.dstm_tl2_caller.specs.Tasks.Work.{Finishing}
-use Rattle.dstm_tl2_caller.specs.Under.{now}
+use Rattle.dstm_tl2_steps.proofs.Slots.{writes_once}
+use Rattle.dstm_tl2_order.specs.Order.Due.{Done}
+use Rattle.dstm_tl2_order.specs.Tasks.Task.{Doing}
+use Rattle.dstm_tl2_order.specs.Tasks.Work.{Finishing}
+use Rattle.dstm_tl2_steps.specs.Under.{now}
 use Rattle.dstm_tl2_engine.proofs.Committing.{finished_commits, finished_stays, finished_tied, free_here, law_there, left_leaves, left_tied}
 use Rattle.dstm_tl2_engine.proofs.Tying.{ends_here, kept}
 use Rattle.dstm_tl2_engine.specs.Attempts.{Commits}

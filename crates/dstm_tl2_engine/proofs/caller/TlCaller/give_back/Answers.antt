@@ -1,7 +1,7 @@
 use Rattle.std.proofs.Common.{◌∙◌, ◌≡◌, None, ap, subst, sym}
-use Rattle.dstm_tl2_caller.specs.Order.Due.{Done}
-use Rattle.dstm_tl2_caller.specs.Tasks.Task.{Returning}
-use Rattle.dstm_tl2_caller.specs.Under.{now}
+use Rattle.dstm_tl2_order.specs.Order.Due.{Done}
+use Rattle.dstm_tl2_order.specs.Tasks.Task.{Returning}
+use Rattle.dstm_tl2_steps.specs.Under.{now}
 use Rattle.dstm_tl2_engine.proofs.Begins.{freed_here, freed_tied, returns_done}
 use Rattle.dstm_tl2_engine.proofs.Tying.{ends_here}
 use Rattle.dstm_tl2_engine.specs.Attempts.{done}

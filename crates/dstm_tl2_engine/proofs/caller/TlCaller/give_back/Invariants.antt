@@ -1,4 +1,4 @@
-use Rattle.dstm_tl2_caller.specs.Tasks.Task.{Returning}
+use Rattle.dstm_tl2_order.specs.Tasks.Task.{Returning}
 use Rattle.dstm_tl2_engine.proofs.Calling.{begun_as}
 use Rattle.dstm_tl2_engine.proofs.caller.TlCaller.give_back.Given as goal
 

@@ -3,11 +3,11 @@ use Rattle.dstm_model.specs.Map.{NamesOnce}
 use Rattle.dstm_tl2.specs.Sharing.{table_of}
 use Rattle.dstm_tl2.specs.Words.{objects}
 use Rattle.dstm_tl2_words.specs.Seats.{view_of}
-use Rattle.dstm_tl2_caller.proofs.Slots.{writes_once}
-use Rattle.dstm_tl2_caller.specs.Order.Due.{Done}
-use Rattle.dstm_tl2_caller.specs.Reads.{AtRest}
-use Rattle.dstm_tl2_caller.specs.Tasks.Task.{Doing}
-use Rattle.dstm_tl2_caller.specs.Tasks.Work.{Locking}
+use Rattle.dstm_tl2_steps.proofs.Slots.{writes_once}
+use Rattle.dstm_tl2_order.specs.Order.Due.{Done}
+use Rattle.dstm_tl2_steps.specs.Reads.{AtRest}
+use Rattle.dstm_tl2_order.specs.Tasks.Task.{Doing}
+use Rattle.dstm_tl2_order.specs.Tasks.Work.{Locking}
 use Rattle.dstm_tl2_engine.proofs.Committing.{free_here, has_locked, left_leaves, left_tied, locked_done, locked_here, locked_kept, locked_stays, locked_tied, locks_here}
 use Rattle.dstm_tl2_engine.proofs.Tying.{ends_here, kept}
 use Rattle.dstm_tl2_engine.specs.Attempts.{done}

@@ -1,5 +1,5 @@
 use Rattle.std.proofs.Common.{◌∙◌, ap, subst, sym}
-use Rattle.dstm_tl2_caller.specs.Reads.{AtRest}
+use Rattle.dstm_tl2_steps.specs.Reads.{AtRest}
 use Rattle.dstm_tl2_engine.proofs.Setting.{set_tied}
 use Rattle.dstm_tl2_engine.specs.Callers.{TlCalled, is_live, is_opened, state}
 use Rattle.dstm_tl2_engine.proofs.caller.TlCaller.set.Goals as goal

@@ -1,5 +1,5 @@
 use Rattle.std.proofs.Common.{sym, subst}
-use Rattle.dstm_runs.specs.Traces.Access.{Add}
+use Rattle.dstm_machines.specs.Traces.Access.{Add}
 use Rattle.dstm_tl2_words.specs.Seats.{Home, DrawsLawfully, MayMake}
 use Rattle.dstm_tl2_words.proofs.Keeping.{add_keeps}
 use Rattle.dstm_tl2_words.proofs.words.Words.add.Goals as goal

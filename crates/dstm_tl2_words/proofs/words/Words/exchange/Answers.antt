@@ -1,5 +1,5 @@
 use Rattle.std.proofs.Common.{sym, subst}
-use Rattle.dstm_runs.specs.Traces.Access.{Exchange}
+use Rattle.dstm_machines.specs.Traces.Access.{Exchange}
 use Rattle.dstm_tl2_words.specs.Seats.{Home, MayMake}
 use Rattle.dstm_tl2_words.proofs.Keeping.{exchange_keeps}
 use Rattle.dstm_tl2_words.proofs.words.Words.exchange.Goals as goal

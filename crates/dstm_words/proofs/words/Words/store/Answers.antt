@@ -1,5 +1,5 @@
 use Rattle.std.proofs.Common.{sym, subst}
-use Rattle.dstm_runs.specs.Traces.Access.{Store}
+use Rattle.dstm_machines.specs.Traces.Access.{Store}
 use Rattle.dstm_words.specs.Seats.{Home, MayMake, StoresLawfully}
 use Rattle.dstm_words.proofs.Keeping.{store_keeps}
 use Rattle.dstm_words.proofs.words.Words.store.Goals as goal

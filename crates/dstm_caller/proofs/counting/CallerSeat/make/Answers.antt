@@ -1,6 +1,0 @@
-use Rattle.dstm_caller.proofs.Tallied.{unbegun_counts}
-use Rattle.dstm_caller.proofs.counting.CallerSeat.make.Goals as goal
-
-pub invariant_of-result : goal.invariant_of-result
-invariant_of-result g c =
-    unbegun_counts (record { seat = c.args.seat; tally = c.idle.result }) c.requires.unbegun c.idle.ensures

@@ -1,5 +1,0 @@
-use Rattle.dstm_causes.proofs.Ends.{callers_in_range, spent_used_up}
-use Rattle.dstm_causes.proofs.laws.callers_are_in_range.Goals as goal
-
-pub returns : goal.returns
-returns c = record { callers = callers_in_range; spent = spent_used_up }

@@ -1,5 +1,0 @@
-use Rattle.dstm_causes.proofs.Leaving.{keeps_its_attempt}
-use Rattle.dstm_causes.proofs.laws.every_call_keeps_its_attempt.Goals as goal
-
-pub returns : goal.returns
-returns c = keeps_its_attempt

@@ -1,5 +1,0 @@
-use Rattle.dstm_causes.proofs.Adding.{adds_nothing, is_added}
-use Rattle.dstm_causes.proofs.laws.every_commit_is_added.Goals as goal
-
-pub returns : goal.returns
-returns c = record { added = is_added; other = adds_nothing }

@@ -1,5 +1,0 @@
-use Rattle.dstm_causes.proofs.Ends.{end_stays}
-use Rattle.dstm_causes.proofs.laws.every_end_stays.Goals as goal
-
-pub returns : goal.returns
-returns c = end_stays

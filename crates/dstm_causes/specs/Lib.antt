@@ -1,5 +1,0 @@
-pub mod Causes
-pub mod Disturbed
-pub mod Ends
-pub mod Laws
-pub mod Example

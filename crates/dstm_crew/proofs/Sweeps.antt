@@ -1,0 +1,552 @@
+-- The steps of an alone round.
+use Rattle.std.proofs.Common.{◌≡◌, ◌≢◌, ◌⊎◌, ℕ, suc, ◌+◌, ◌-◌, ◌<◌, ◌≤◌, Bool, true, false, cond, eqb, List, [], ◌∷◌, ◌++◌, length, reverse, Option, None, Some, refl, ap, sym, subst, ◌∙◌, inl, inr, arith, append_assoc, true≢false}
+use Rattle.std.specs.Prelude.{IfSome, All, ◌==◌, ◌&&◌, not, filter, if◌then◌else◌}
+use Rattle.std.specs.List.{range_with_len}
+use Rattle.std.proofs.lemmas.Bool.{cases_eq, ne_eqb, cases_lt, le-ltb, lt-ltb}
+use Rattle.std.proofs.lemmas.List.Filters.{length-filter_both}
+use Rattle.std.proofs.lemmas.List.FromFn.{length-range_with_len}
+use Rattle.std.proofs.lemmas.List.{append-nil, length-append}
+use Rattle.std.proofs.lemmas.List.Elements.{filter-append, recursion_from_All, All-from_recursion, All-append}
+use mathlib.Core.List.{reverse-cons}
+use Rattle.dstm_model.specs.Job.{apply_job}
+use Rattle.dstm_model.specs.declared.reply.Reply.{Reply}
+use Rattle.dstm_model.specs.declared.reply.Reply.TheVariants.{Never}
+use Rattle.dstm_model.specs.declared.value.Val.{Val}
+use Rattle.dstm_model.specs.declared.layout.Layout.{Layout}
+use Rattle.dstm_core.specs.declared.shape.Shape.{Shape}
+use Rattle.dstm_core.specs.Histories.{CoreRun}
+use Rattle.dstm_core.specs.State.{LocalState}
+use Rattle.dstm_opacity.specs.Committed.{Committed, committed_in, done_by}
+use Rattle.dstm_engine.specs.Attempts.{done}
+use Rattle.dstm_engine.specs.Callers.{Called, shape_of, start_of, state, law_of}
+use Rattle.dstm_words.specs.Seats.{Home}
+use Rattle.dstm_store.specs.declared.law.StoreLaw.{StoreLaw}
+use Rattle.dstm_store.specs.Whole.{IsLawful, StandsFor}
+use Rattle.dstm_workload.specs.declared.workload.Job.{Job}
+use Rattle.dstm_workload.specs.declared.workload.Workload.{Workload}
+use Rattle.dstm_report.specs.declared.report.Row.{Row}
+use Rattle.dstm_report.specs.Lawful.{first_job, jobs_left, store_after}
+use Rattle.dstm_report.specs.Turns.{Turning, without_first}
+use Rattle.dstm_workload.specs.Workload.{IsJob, IsValidWorkload}
+use Rattle.dstm_report.proofs.Rising.{all_blocked, each-filter, first_holds, rise_all, someone, turn_ends}
+use Rattle.dstm_records.specs.Records.{count_done, is_given_up}
+use Rattle.dstm_records.specs.Rounds.{attempts_for, has_job, left_by, locators_for, workers_left}
+use Rattle.std.proofs.lemmas.Option.{none-some}
+use Rattle.dstm_records.specs.Answers.{IsAnsweredBy}
+use Rattle.dstm_records.specs.Told.{AreTold, IsGivenUp, IsTold}
+use Rattle.dstm_records.proofs.Collecting.{Collected}
+use Rattle.dstm_records.proofs.Only.{only_done}
+use Rattle.dstm_records.proofs.Told.{AreTold-push, rows_told}
+use Rattle.dstm_crew.specs.Only.{HasGivenUp, StoodAlone, WasSpent, left_by as values_left}
+use Rattle.dstm_crew.specs.declared.style.Style.{Style}
+use Rattle.dstm_crew.specs.declared.style.Style.TheVariants.{Branches, Loose, Plain}
+use Rattle.dstm_crew.specs.Styles.{style_of}
+use Rattle.dstm_crew.specs.declared.trying.Finished.{Finished}
+use Rattle.dstm_crew.specs.Tries.{AtRest, DidJob, GoesOn}
+use Rattle.dstm_order.specs.Order.{is_spent}
+use Rattle.dstm_crew.proofs.Staying.{goes_on, goes_nowhere, in_range}
+use Rattle.dstm_crew.specs.Alone.{CanRunAlone, Goes, HasRunAlone, Leads, MayStep, Sweeps, is_done, still_waiting}
+use Rattle.dstm_crew.specs.declared.sweeping.Swept.{Swept}
+use Rattle.dstm_crew.specs.declared.sweeping.Swept.TheVariants as swept
+use Rattle.dstm_records.specs.Running.{turns_behind}
+
+-- ---- how many jobs of a worker were done
+
+counts : ℕ → Row → Bool
+counts worker row = (row.worker == worker) && not (is_given_up row.replies)
+
+count_push : (worker : ℕ) (rows : List Row) (row : Row) →
+    count_done worker (rows ++ row ∷ []) ≡ count_done worker rows + count_done worker (row ∷ [])
+count_push worker rows row =
+    ap length (filter-append (λ (r : Row). (r.worker == worker) && not (is_given_up r.replies)) rows (row ∷ []))
+    ∙ length-append (filter (λ (r : Row). (r.worker == worker) && not (is_given_up r.replies)) rows)
+    (filter (λ (r : Row). (r.worker == worker) && not (is_given_up r.replies)) (row ∷ []))
+
+count_other : (worker : ℕ) (row : Row) → row.worker ≢ worker → count_done worker (row ∷ []) ≡ 0
+count_other worker row other = rw (ne_eqb row.worker worker other) refl
+
+count_given : (worker : ℕ) (row : Row) → row.replies ≡ Never ∷ [] → count_done worker (row ∷ []) ≡ 0
+count_given worker row given =
+    by (row.worker == worker) (is_given_up row.replies) (ap is_given_up given)
+  where
+    by : (a b : Bool) → b ≡ true → length (cond (a && not b) (row ∷ []) []) ≡ 0
+    by false b is = refl
+    by true true is = refl
+    by true false is = absurd (true≢false (sym is))
+
+count_one : (worker : ℕ) (row : Row) → count_done worker (row ∷ []) ≤ 1
+count_one worker row = by ((row.worker == worker) && not (is_given_up row.replies))
+  where
+    by : (b : Bool) → length (cond b (row ∷ []) []) ≤ 1
+    by true = omega arith
+    by false = omega arith
+
+-- ---- the store that the caller's transactions have left
+
+-- the only caller has the number 0
+number_zero : (k : Called StoreLaw) → AtRest k → (shape_of k).callers ≡ 1 → k.number ≡ 0
+number_zero k rest only = let below = (in_range k rest).0 in omega (arith, only, below)
+
+-- a caller that goes on has the same table
+shape_same : (k n : Called StoreLaw) → GoesOn k n → shape_of n ≡ shape_of k
+shape_same k n on = ap (λ (h : Home StoreLaw). h.terms.shape) on.home
+
+core_of : (layout : Layout) (k : Called StoreLaw) → AtRest k → (law_of k).layout ≡ layout →
+    CoreRun (shape_of k) (start_of k) (IsLawful layout) k.log
+core_of layout k rest law =
+    subst (λ (l : Layout). CoreRun (shape_of k) (start_of k) (IsLawful l) k.log) law rest.run.run
+
+pub told_committed : (k : Called StoreLaw) → AtRest k → (shape_of k).callers ≡ 1 →
+    committed_in (shape_of k) (start_of k) k.log ≡ done k
+told_committed k rest only =
+    only_done (shape_of k) (start_of k) k.log rest.run.run.core only
+    ∙ ap (done_by (shape_of k) (start_of k) k.log k.log) (sym (number_zero k rest only))
+
+-- a caller with an attempt and enough locators is not spent
+spent_not : (s : Shape) (l : LocalState) → l.begun < s.attempts → l.installed + s.objects ≤ s.locators →
+    is_spent s l ≡ true → ⊥
+spent_not s l less enough spent =
+    true≢false (sym spent ∙ rw (lt-ltb l.begun s.attempts less, le-ltb s.locators (l.installed + s.objects) enough) refl)
+
+module _ (workload : Workload) (number : ℕ) (table : Home StoreLaw) (first : Called StoreLaw) (before : List Row)
+    (begun : Turning) (can : CanRunAlone workload number table first before begun) where
+  only_of : (k : Called StoreLaw) → GoesOn first k → (shape_of k).callers ≡ 1
+  only_of k on = ap (λ (s : Shape). s.callers) (shape_same first k on) ∙ can.only
+
+  law_is : (k : Called StoreLaw) → GoesOn first k → (law_of k).layout ≡ workload.layout
+  law_is k on = ap (λ (h : Home StoreLaw). h.terms.law.value.layout) on.home ∙ can.law
+
+  -- the rows are good, and the store after them is what the caller's transactions have left
+  pub collected : (k : Called StoreLaw) (rows now : List Row) (turns : Turning) →
+      Goes workload number first k before rows now turns →
+      Collected workload before now (start_of k) (reverse (done k)) []
+  collected k rows now turns goes =
+      let only = only_of k goes.on in
+      let same = told_committed k goes.on.rest only in
+      subst (λ (ds : List Committed). Collected workload before now (start_of k) (reverse ds) []) same
+      (rows_told workload before now (shape_of k) (start_of k) k.log number can.valid
+      (core_of workload.layout k goes.on.rest (law_is k goes.on))
+      (recursion_from_All (λ row. row.round < number) before can.earlier)
+      (subst (λ (vs : List Val). StandsFor workload.layout vs (store_after workload before))
+      (sym (ap (λ (h : Home StoreLaw). h.terms.start.value.items) goes.on.home)) can.stands)
+      (subst (λ (ds : List Committed). AreTold workload before now (reverse ds)) (sym same) goes.told)
+      (recursion_from_All (λ row. row.round ≡ number) now goes.in_round))
+
+  stands_now : (k : Called StoreLaw) (rows now : List Row) (turns : Turning) →
+      Goes workload number first k before rows now turns →
+      StandsFor workload.layout (values_left k) (store_after workload rows)
+  stands_now k rows now turns goes =
+      subst (λ (rs : List Row). StandsFor workload.layout (values_left k) (store_after workload rs)) (sym goes.rows_are)
+      (collected k rows now turns goes).stands
+
+  -- ---- one row more
+
+  -- the caller went on and committed nothing
+  still : (k n : Called StoreLaw) (rows now : List Row) (turns : Turning) →
+      Goes workload number first k before rows now turns → GoesOn k n → done n ≡ done k →
+      Goes workload number first n before rows now turns
+  still k n rows now turns goes on same = record {
+    rows_are = goes.rows_are;
+    turns_are = goes.turns_are;
+    on = goes_on first k n goes.on on;
+    told = subst (λ (ds : List Committed). AreTold workload before now (reverse ds)) (sym same) goes.told;
+    in_round = goes.in_round;
+  }
+
+  -- a transaction has committed, and its row was made
+  row_goes : (k n : Called StoreLaw) (rows now : List Row) (turns behind : Turning) (by : Committed) (row : Row) (job : Job) →
+      Goes workload number first k before rows now turns → GoesOn k n → done n ≡ by ∷ done k →
+      first_job row.worker turns.left ≡ Some job → row.line ≡ job.line → row.round ≡ number → row.number ≡ by.number →
+      (IsAnsweredBy workload.layout job.ops row.replies by.entry ⊎ IsGivenUp workload rows row by) →
+      behind ≡ record turns { left = without_first row.worker turns.left } →
+      Goes workload number first n before (rows ++ row ∷ []) (now ++ row ∷ []) behind
+  row_goes k n rows now turns behind by row job goes on newest turn line round drew answer turned =
+      let left : turns.left ≡ jobs_left workload.jobs rows = ap (λ (t : Turning). t.left) goes.turns_are in
+      let turn_there : first_job row.worker (jobs_left workload.jobs rows) ≡ Some job =
+      ap (first_job row.worker) (sym left) ∙ turn in
+      let told : IsTold workload rows row by =
+      record { job = job; turn = turn_there; line = line; number = drew; answer = answer } in
+      record {
+        rows_are = ap (λ (rs : List Row). rs ++ row ∷ []) goes.rows_are ∙ append_assoc before now (row ∷ []);
+        turns_are = turned
+            ∙ ap (λ (t : Turning). record { jobs = t.jobs; left = without_first row.worker t.left }) goes.turns_are
+            ∙ ap (λ (l : List Job). record { jobs = workload.jobs; left = l })
+            (turn_ends workload.jobs rows row job (rise_all workload.jobs can.valid.rising) turn_there line);
+        on = goes_on first k n goes.on on;
+        told = subst (AreTold workload before (now ++ row ∷ []))
+            (sym (ap reverse newest ∙ reverse-cons by (done k)))
+            (AreTold-push workload before now row (reverse (done k)) by goes.told
+            (subst (λ (rs : List Row). IsTold workload rs row by) goes.rows_are told));
+        in_round = All-append (λ (r : Row). r.round ≡ number) now (row ∷ []) goes.in_round
+            (All-from_recursion (λ (r : Row). r.round ≡ number) (row ∷ []) (round, tt));
+      }
+
+  -- each job left is of one of the workers
+  small_left : (rows : List Row) → All (λ job. job.worker < workload.workers) (jobs_left workload.jobs rows)
+  small_left rows =
+      All-from_recursion (λ (job : Job). job.worker < workload.workers) (jobs_left workload.jobs rows)
+      (each-filter (λ (job : Job). job.worker < workload.workers) _ workload.jobs
+      (recursion_from_All (λ (job : Job). job.worker < workload.workers) workload.jobs
+      (λ k d lt. (can.valid.each k d lt).worker)))
+
+  -- ---- where a pass stands
+
+  none_in : (rows : List Row) (row : Row) → rows ++ row ∷ [] ≡ [] → ⊥
+  none_in rows row is = let n = length-append rows (row ∷ []) in let m = ap length is in omega (arith, n, m)
+
+  -- no worker's job has been tried yet
+  pub sweep_begins : Sweeps workload number first first before before begun 0 false
+  sweep_begins = record {
+    now = [];
+    goes = record {
+      rows_are = sym (append-nil before);
+      turns_are = can.turns_are;
+      on = goes_nowhere first can.rest;
+      told = subst (λ (ds : List Committed). AreTold workload before [] (reverse ds)) (sym can.none_done) tt;
+      in_round = All-from_recursion (λ (r : Row). r.round ≡ number) [] tt;
+    };
+    few = λ w below. absurd (omega (arith, below));
+    others = λ w past. refl;
+    has_row = λ yes. absurd (true≢false (sym yes));
+    none_done = λ none w. refl;
+    blocked = λ none w below. absurd (omega (arith, below));
+    unused = λ none. can.none_installed;
+    few_tries = λ none.
+        let z = can.none_begun in
+        let all : workload.workers - 0 ≡ workload.workers = omega arith in
+        let same = ap (λ n. length (filter (has_job (left_by workload before)) (range_with_len 0 n))) all in
+        omega (arith, z, same);
+  }
+
+  -- the workers that are still waiting behind a worker
+  waiting_less : (w : ℕ) (left : List Job) → w < workload.workers →
+      length (still_waiting workload (w + 1) left) ≤ length (still_waiting workload w left)
+  waiting_less w left below =
+      let next : workload.workers - w ≡ suc (workload.workers - (w + 1)) = omega (arith, below) in
+      subst (λ n. length (still_waiting workload (w + 1) left) ≤ length (filter (has_job left) (range_with_len w n))) (sym next)
+      (by (has_job left w))
+    where
+      by : (b : Bool) → length (still_waiting workload (w + 1) left)
+          ≤ length (cond b (w ∷ still_waiting workload (w + 1) left) (still_waiting workload (w + 1) left))
+      by true = omega arith
+      by false = omega arith
+
+  waiting_one : (w : ℕ) (left : List Job) → w < workload.workers → has_job left w ≡ true →
+      length (still_waiting workload (w + 1) left) + 1 ≡ length (still_waiting workload w left)
+  waiting_one w left below has =
+      let next : workload.workers - w ≡ suc (workload.workers - (w + 1)) = omega (arith, below) in
+      subst (λ n. length (still_waiting workload (w + 1) left) + 1 ≡ length (filter (has_job left) (range_with_len w n))) (sym next)
+      (rw has (omega arith))
+
+  -- the worker has no job left
+  pub step_none : (k : Called StoreLaw) (rows : List Row) (turns : Turning) (w : ℕ) (some : Bool) → w < workload.workers →
+      first_job w turns.left ≡ None → Sweeps workload number first k before rows turns w some →
+      Sweeps workload number first k before rows turns (w + 1) some
+  step_none k rows turns w some inside none s =
+      let left : turns.left ≡ jobs_left workload.jobs rows = ap (λ (t : Turning). t.left) s.goes.turns_are in
+      record {
+        now = s.now;
+        goes = s.goes;
+        few = λ v below.
+            elim (cases_lt v w) [
+              | inl before_it ↦ s.few v before_it
+              | inr from_it ↦ let zero_ = s.others v from_it in omega (arith, zero_)
+            ];
+        others = λ v past. s.others v (omega (arith, past));
+        has_row = s.has_row;
+        none_done = s.none_done;
+        blocked = λ not_some v below.
+            elim (cases_lt v w) [
+              | inl before_it ↦ s.blocked not_some v before_it
+              | inr from_it ↦
+                  let is : v ≡ w = omega (arith, below, from_it) in
+                  subst (λ (o : Option Job). IfSome o (λ job. apply_job job.ops (store_after workload rows) ≡ None))
+                  (sym (ap (λ (u : ℕ). first_job u (jobs_left workload.jobs rows)) is
+                  ∙ ap (first_job w) (sym left) ∙ none)) tt
+            ];
+        unused = s.unused;
+        few_tries = λ empty. let t = s.few_tries empty in let l = waiting_less w (left_by workload before) inside in omega (arith, t, l);
+      }
+
+  -- a worker whose turn it may be has a job left
+  has_turn : (w : ℕ) (left : List Job) (job : Job) → first_job w left ≡ Some job → has_job left w ≡ true
+  has_turn w [] job is = absurd (none-some job is)
+  has_turn w (one ∷ left) job is = by (eqb one.worker w) refl is (has_turn w left job)
+    where
+      by : (b : Bool) → b ≡ eqb one.worker w → cond b (Some one) (first_job w left) ≡ Some job →
+          (first_job w left ≡ Some job → has_job left w ≡ true) → has_job (one ∷ left) w ≡ true
+      by true here is further = rw (sym here) refl
+      by false here is further = rw (sym here) (further is)
+
+  -- the job of the worker is blocked
+  pub step_blocked : (style : Style) (k n : Called StoreLaw) (rows : List Row) (turns : Turning) (w : ℕ) (some : Bool)
+      (job : Job) → w < workload.workers → (style ≡ Branches → workload.version ≡ 3) →
+      first_job w turns.left ≡ Some job → StoodAlone style workload.layout job k n →
+      Sweeps workload number first k before rows turns w some →
+      Sweeps workload number first n before rows turns (w + 1) some
+  step_blocked style k n rows turns w some job inside third turn stood s =
+      let goes = still k n rows s.now turns s.goes stood.made.on stood.same_done in
+      let left : turns.left ≡ jobs_left workload.jobs rows = ap (λ (t : Turning). t.left) s.goes.turns_are in
+      let there : first_job w (jobs_left workload.jobs rows) ≡ Some job = ap (first_job w) (sym left) ∙ turn in
+      record {
+        now = s.now;
+        goes = goes;
+        few = λ v below.
+            elim (cases_lt v w) [
+              | inl before_it ↦ s.few v before_it
+              | inr from_it ↦ let zero_ = s.others v from_it in omega (arith, zero_)
+            ];
+        others = λ v past. s.others v (omega (arith, past));
+        has_row = s.has_row;
+        none_done = s.none_done;
+        blocked = λ not_some v below.
+            elim (cases_lt v w) [
+              | inl before_it ↦ s.blocked not_some v before_it
+              | inr from_it ↦
+                  let is : v ≡ w = omega (arith, below, from_it) in
+                  subst (λ (o : Option Job). IfSome o (λ job. apply_job job.ops (store_after workload rows) ≡ None))
+                  (sym (ap (λ (u : ℕ). first_job u (jobs_left workload.jobs rows)) is ∙ there))
+                  (stood.blocked (store_after workload rows) (stands_now n rows s.now turns goes))
+            ];
+        unused = λ empty.
+            stood.unused (ap (λ (sh : Shape). sh.all_write) (shape_same first k s.goes.on) ∙ can.reads (third stood.branches))
+            ∙ s.unused empty;
+        few_tries = λ empty.
+            let t = s.few_tries empty in
+            let rows_is : rows ≡ before =
+            s.goes.rows_are ∙ ap (λ (rs : List Row). before ++ rs) empty ∙ append-nil before in
+            let turn_before : first_job w (left_by workload before) ≡ Some job =
+            ap (λ (rs : List Row). first_job w (jobs_left workload.jobs rs)) (sym rows_is) ∙ there in
+            let one = waiting_one w (left_by workload before) inside (has_turn w (left_by workload before) job turn_before) in
+            let more = stood.made.begun in
+            omega (arith, t, one, more);
+      }
+
+  -- the job of the worker was done
+  pub step_done : (style : Style) (k n : Called StoreLaw) (rows : List Row) (turns behind : Turning) (w : ℕ)
+      (some : Bool) (job : Job) (finished : Finished) (row : Row) → first_job w turns.left ≡ Some job →
+      DidJob style workload.layout job k n finished → row.worker ≡ w → row.line ≡ job.line → row.round ≡ number →
+      row.number ≡ finished.number → row.replies ≡ finished.replies →
+      behind ≡ record turns { left = without_first row.worker turns.left } →
+      Sweeps workload number first k before rows turns w some →
+      Sweeps workload number first n before (rows ++ row ∷ []) behind (w + 1) true
+  step_done style k n rows turns behind w some job finished row turn did worker line round drew replies turned s =
+      let answered : IsAnsweredBy workload.layout job.ops row.replies did.by.entry =
+      subst (λ (rs : List Reply). IsAnsweredBy workload.layout job.ops rs did.by.entry) (sym replies) did.is.answered in
+      let here : first_job row.worker turns.left ≡ Some job = ap (λ v. first_job v turns.left) worker ∙ turn in
+      record {
+        now = s.now ++ row ∷ [];
+        goes = row_goes k n rows s.now turns behind did.by row job s.goes did.made.on did.newest here line round
+            (drew ∙ did.is.number) (inl answered) turned;
+        few = λ v below.
+            elim (cases_lt v w) [
+              | inl before_it ↦
+                  let f = s.few v before_it in
+                  let p = count_push v s.now row in
+                  let z = count_other v row (λ e. omega (arith, worker, e, before_it)) in
+                  omega (arith, f, p, z)
+              | inr from_it ↦
+                  let f = s.others v from_it in
+                  let p = count_push v s.now row in
+                  let o = count_one v row in
+                  omega (arith, f, p, o)
+            ];
+        others = λ v past.
+            let f = s.others v (omega (arith, past)) in
+            let p = count_push v s.now row in
+            let z = count_other v row (λ e. omega (arith, worker, e, past)) in
+            omega (arith, f, p, z);
+        has_row = λ yes_. let n_ = length-append s.now (row ∷ []) in omega (arith, n_);
+        none_done = λ none_. absurd (true≢false none_);
+        blocked = λ none_. absurd (true≢false none_);
+        unused = λ empty. absurd (none_in s.now row empty);
+        few_tries = λ empty. absurd (none_in s.now row empty);
+      }
+
+  -- ---- where a round ends
+
+  end_by : (k : Called StoreLaw) (rows now : List Row) (turns : Turning) (w : ℕ) →
+      Goes workload number first k before rows now turns → ((v : ℕ) → v < w → count_done v now ≤ 1) →
+      ((v : ℕ) → w ≤ v → count_done v now ≡ 0) → 0 < length now → HasRunAlone workload number first k before rows turns
+  end_by k rows now turns w goes few others has = record {
+    now = now;
+    goes = goes;
+    some = has;
+    few = λ v.
+        elim (cases_lt v w) [
+          | inl before_it ↦ few v before_it
+          | inr from_it ↦ let z = others v from_it in omega (arith, z)
+        ];
+  }
+
+  pub end_done : (k : Called StoreLaw) (rows : List Row) (turns : Turning) (w : ℕ) →
+      Sweeps workload number first k before rows turns w true → HasRunAlone workload number first k before rows turns
+  end_done k rows turns w s = end_by k rows s.now turns w s.goes s.few s.others (s.has_row refl)
+
+  -- a caller that has used nothing and has tried few jobs is not spent
+  not_spent : (k : Called StoreLaw) → GoesOn first k → (state k).installed ≡ 0 →
+      (state k).begun ≤ length (workers_left workload before) → is_spent (shape_of k) (state k) ≡ true → ⊥
+  not_spent k on none few spent =
+      let same = shape_same first k on in
+      let attempts : (shape_of k).attempts ≡ attempts_for (length (workers_left workload before)) =
+      ap (λ (s : Shape). s.attempts) same ∙ can.attempts in
+      let locators : (shape_of k).locators ≡ locators_for (shape_of k).objects =
+      ap (λ (s : Shape). s.locators) same ∙ can.locators
+      ∙ ap (λ (s : Shape). locators_for s.objects) (sym same) in
+      let has = has_job (left_by workload before) in
+      let workers = length-filter_both has (λ w. not (has w)) (λ w. refl) (range_with_len 0 workload.workers) in
+      let all = length-range_with_len 0 workload.workers in
+      let most = can.valid.workers in
+      let begun_less : (state k).begun < (shape_of k).attempts = omega (arith, attempts, few, workers, all, most) in
+      let enough : (state k).installed + (shape_of k).objects ≤ (shape_of k).locators = omega (arith, none, locators) in
+      spent_not (shape_of k) (state k) begun_less enough spent
+
+  -- the caller is spent, which has a row behind
+  pub spent_after : (k n : Called StoreLaw) (rows : List Row) (turns : Turning) (w : ℕ) (some : Bool) → WasSpent k n →
+      (s : Sweeps workload number first k before rows turns w some) →
+      (s.now ≡ [] → (state k).begun ≤ length (workers_left workload before)) →
+      HasRunAlone workload number first n before rows turns
+  spent_after k n rows turns w some was s few = by s.now refl
+    where
+      by : (now : List Row) → s.now ≡ now → HasRunAlone workload number first n before rows turns
+      by (row ∷ now) is =
+          end_by n rows s.now turns w (still k n rows s.now turns s.goes was.on was.same_done) s.few s.others
+          (let some_ = ap length is in omega (arith, some_))
+      by [] is = absurd (not_spent k s.goes.on (s.unused is) (few is) was.spent)
+
+  -- the caller is spent, after a try of a worker that has a job left
+  pub step_spent : (k n : Called StoreLaw) (rows : List Row) (turns : Turning) (w : ℕ) (some : Bool) (job : Job) →
+      w < workload.workers → first_job w turns.left ≡ Some job → WasSpent k n →
+      Sweeps workload number first k before rows turns w some →
+      HasRunAlone workload number first n before rows turns
+  step_spent k n rows turns w some job inside turn was s =
+      spent_after k n rows turns w some was s (λ empty. let t = s.few_tries empty in omega (arith, t))
+
+  -- ---- giving up
+
+  -- where all are blocked, that of a worker was given up
+  pub step_given_up : (k n : Called StoreLaw) (rows : List Row) (turns behind : Turning) (job : Job) (drawn : ℕ) (row : Row) →
+      first_job job.worker turns.left ≡ Some job → HasGivenUp k n drawn → row.worker ≡ job.worker → row.line ≡ job.line →
+      row.round ≡ number → row.number ≡ drawn → row.replies ≡ Never ∷ [] →
+      behind ≡ record turns { left = without_first row.worker turns.left } →
+      Sweeps workload number first k before rows turns workload.workers false →
+      Sweeps workload number first n before (rows ++ row ∷ []) behind 0 false
+  step_given_up k n rows turns behind job drawn row turn gave worker line round drew replies turned s =
+      let left : turns.left ≡ jobs_left workload.jobs rows = ap (λ (t : Turning). t.left) s.goes.turns_are in
+      let here : first_job row.worker turns.left ≡ Some job = ap (λ v. first_job v turns.left) worker ∙ turn in
+      let small : All (λ job. job.worker < workload.workers) (jobs_left workload.jobs rows) = small_left rows in
+      let given : IsGivenUp workload rows row gave.by = record {
+        replies = replies;
+        nothing_read = gave.nothing_read;
+        nothing_written = gave.nothing_written;
+        blocked = all_blocked workload.workers (jobs_left workload.jobs rows) (store_after workload rows) small (s.blocked refl);
+      } in
+      record {
+        now = s.now ++ row ∷ [];
+        goes = row_goes k n rows s.now turns behind gave.by row job s.goes gave.made.on gave.newest here line round
+            (drew ∙ gave.drew) (inr given) turned;
+        few = λ v below. absurd (omega (arith, below));
+        others = λ v past.
+            let f = s.none_done refl v in let p = count_push v s.now row in let z = count_given v row replies in
+            omega (arith, f, p, z);
+        has_row = λ yes_. absurd (true≢false (sym yes_));
+        none_done = λ none_ v.
+            let f = s.none_done refl v in let p = count_push v s.now row in let z = count_given v row replies in
+            omega (arith, f, p, z);
+        blocked = λ none_ v below. absurd (omega (arith, below));
+        unused = λ empty. absurd (none_in s.now row empty);
+        few_tries = λ empty. absurd (none_in s.now row empty);
+      }
+
+  -- the caller is spent
+  pub given_up_spent : (k n : Called StoreLaw) (rows : List Row) (turns : Turning) → WasSpent k n →
+      Sweeps workload number first k before rows turns workload.workers false →
+      HasRunAlone workload number first n before rows turns
+  given_up_spent k n rows turns was s =
+      spent_after k n rows turns workload.workers false was s (λ empty. let t = s.few_tries empty in omega (arith, t))
+
+  -- no job is left
+  pub end_empty : (k : Called StoreLaw) (rows : List Row) (turns : Turning) →
+      ((v : ℕ) → v < workload.workers → first_job v turns.left ≡ None) →
+      Sweeps workload number first k before rows turns workload.workers false →
+      HasRunAlone workload number first k before rows turns
+  end_empty k rows turns none s = by s.now refl
+    where
+      by : (now : List Row) → s.now ≡ now → HasRunAlone workload number first k before rows turns
+      by (row ∷ now) is =
+          end_by k rows s.now turns workload.workers s.goes s.few s.others (let some_ = ap length is in omega (arith, some_))
+      by [] is =
+          let rows_is : rows ≡ before =
+          s.goes.rows_are ∙ ap (λ (rs : List Row). before ++ rs) is ∙ append-nil before in
+          let left : turns.left ≡ left_by workload before =
+          ap (λ (t : Turning). t.left) s.goes.turns_are ∙ ap (λ (rs : List Row). jobs_left workload.jobs rs) rows_is in
+          absurd (someone workload.workers (left_by workload before) can.some_left (small_left before)
+          (λ v below. ap (first_job v) (sym left) ∙ none v below))
+
+-- ---- what each step counts on
+
+-- the first job left of a worker is one of the workload
+pub job_is : (workload : Workload) (rows : List Row) (turns : Turning) (w : ℕ) (job : Job) → IsValidWorkload workload →
+    turns ≡ turns_behind workload rows → first_job w turns.left ≡ Some job → IsJob workload job
+job_is workload rows turns w job valid are turn =
+    first_holds (IsJob workload) w turns.left job
+    (subst (All (IsJob workload)) (sym (ap (λ (t : Turning). t.left) are))
+    (All-from_recursion (IsJob workload) (jobs_left workload.jobs rows)
+    (each-filter (IsJob workload) _ workload.jobs (recursion_from_All (IsJob workload) workload.jobs valid.each))))
+    turn
+
+pub may_on : (workload : Workload) (table : Home StoreLaw) (k n : Called StoreLaw) (rows behind : List Row)
+    (turns turned : Turning) → MayStep workload table k rows turns → GoesOn k n → turned ≡ turns_behind workload behind →
+    MayStep workload table n behind turned
+may_on workload table k n rows behind turns turned may on are = record {
+  valid = may.valid;
+  home = on.home ∙ may.home;
+  only = ap (λ (s : Shape). s.callers) (shape_same k n on) ∙ may.only;
+  law = ap (λ (h : Home StoreLaw). h.terms.law.value.layout) on.home ∙ may.law;
+  rest = on.rest;
+  turns_are = are;
+}
+
+-- behind one row more
+pub turns_after : (workload : Workload) (rows : List Row) (turns turned : Turning) (row : Row) (job : Job) →
+    IsValidWorkload workload → turns ≡ turns_behind workload rows → first_job row.worker turns.left ≡ Some job →
+    row.line ≡ job.line → turned ≡ record turns { left = without_first row.worker turns.left } →
+    turned ≡ turns_behind workload (rows ++ row ∷ [])
+turns_after workload rows turns turned row job valid are turn line is =
+    is ∙ ap (λ (t : Turning). record { jobs = t.jobs; left = without_first row.worker t.left }) are
+    ∙ ap (λ (l : List Job). record { jobs = workload.jobs; left = l })
+    (turn_ends workload.jobs rows row job (rise_all workload.jobs valid.rising)
+    (ap (first_job row.worker) (sym (ap (λ (t : Turning). t.left) are)) ∙ turn) line)
+
+-- a job of version 3 alone has branches
+pub third_of : (version : ℕ) (release : Bool) → style_of version release ≡ Branches → version ≡ 3
+third_of version release is = by (cases_eq version 3)
+  where
+    by : (version ≡ 3) ⊎ (version ≡ 3 → ⊥) → version ≡ 3
+    by (inl third) = third
+    by (inr other) = absurd (others release (sym is ∙ rw (ne_eqb version 3 other) refl))
+      where
+        others : (r : Bool) → Branches ≡ (if r then Loose else Plain) → ⊥
+        others true e = cc
+        others false e = cc
+
+-- a pass that has ended, but not for want of attempts
+pub swept_leads : (workload : Workload) (number : ℕ) (first n : Called StoreLaw) (before rows : List Row) (turns : Turning)
+    (next : ℕ) (ended : Swept) → (ended ≡ swept.Spent → ⊥) →
+    Sweeps workload number first n before rows turns next (is_done ended) →
+    Leads workload number first n before rows turns next false ended
+swept_leads workload number first n before rows turns next swept.Done other sweeps = sweeps
+swept_leads workload number first n before rows turns next swept.Blocked other sweeps = sweeps
+swept_leads workload number first n before rows turns next swept.Spent other sweeps = absurd (other refl)
+
+-- the caller of an alone round that begins may step
+pub may_begin : (workload : Workload) (number : ℕ) (table : Home StoreLaw) (first : Called StoreLaw) (before : List Row)
+    (begun : Turning) → CanRunAlone workload number table first before begun → MayStep workload table first before begun
+may_begin workload number table first before begun can = record {
+  valid = can.valid;
+  home = can.home;
+  only = can.only;
+  law = can.law;
+  rest = can.rest;
+  turns_are = can.turns_are;
+}

@@ -1,0 +1,291 @@
+-- A worker that has run some of its jobs.
+use Rattle.std.proofs.Common.{◌≡◌, ◌≢◌, ◌∙◌, ◌⊎◌, ◌<◌, ◌≤◌, ◌++◌, ◌∷◌, ◌==◌, ℕ, Bool, List, [], true, false, Some, refl, sym, ap, subst, inl, inr, arith, length, reverse, get_or}
+use Rattle.std.specs.Prelude.{All, Option, zip, if◌then◌else◌}
+use Rattle.std.specs.Option.{option_map}
+use Rattle.std.proofs.lemmas.Bool.{cases_eq, cases_lt, eq-eqb, eqb-true, ne_eqb}
+use Rattle.std.proofs.lemmas.List.Elements.{All-cons, All-head, All-nil, All-tail, All-weaker}
+use Rattle.std.proofs.lemmas.Option.{slice_get-get_or}
+use mathlib.Core.List.{reverse-cons}
+use Rattle.dstm_model.specs.declared.layout.Layout.{Layout}
+use Rattle.dstm_model.specs.declared.op.Op.{Op}
+use Rattle.dstm_model.specs.declared.op.Op.TheVariants.{Transfer, Balance, Total, Insert, Remove, Member, Put, Get, Await, OrElse}
+use Rattle.dstm_model.specs.Store.{IsPlain}
+use Rattle.dstm_opacity.specs.Committed.{Committed}
+use Rattle.dstm_progress.specs.Disturbed.{Disturbed}
+use Rattle.dstm_words.specs.Seats.{Home}
+use Rattle.dstm_engine.specs.Attempts as attempts
+use Rattle.dstm_engine.specs.Attempts.{done}
+use Rattle.dstm_engine.specs.Callers.{Called, shape_of, state}
+use Rattle.dstm_store.specs.declared.law.StoreLaw.{StoreLaw}
+use Rattle.dstm_workload.specs.declared.workload.Job.{Job}
+use Rattle.dstm_workload.specs.declared.workload.Workload.{Workload}
+use Rattle.dstm_workload.specs.Workload.{HasOp, IsJob, IsValidWorkload}
+use Rattle.dstm_report.specs.Turns.{job_at}
+use Rattle.dstm_records.specs.declared.options.Options.{Options}
+use Rattle.dstm_records.specs.Attempts.{HasCommitted}
+use Rattle.dstm_records.specs.Records.{IsReleasing, KeepsFew, StoodBlocked, Waited}
+use Rattle.dstm_crew.specs.declared.style.Style.{Style}
+use Rattle.dstm_crew.specs.declared.style.Style.TheVariants.{Plain, Loose, Branches}
+use Rattle.dstm_crew.specs.declared.trying.Finished.{Finished}
+use Rattle.dstm_crew.specs.declared.trying.Left.{Left}
+use Rattle.dstm_crew.specs.declared.trying.Left.TheVariants as left
+use Rattle.dstm_crew.specs.declared.worker.Worker.{Worker}
+use Rattle.dstm_crew.specs.Styles.{style_of, CanTry}
+use Rattle.dstm_crew.specs.Tries.{AtRest, GoesOn, WasNotWasted, IsDone, NoneWastedSince, HasDone, HasLeft, HasNoneLeft, StaysBlocked}
+use Rattle.dstm_crew.specs.Workers.{AreDone, next_job, HasRun}
+use Rattle.dstm_crew.proofs.Staying.{goes_nowhere, goes_on}
+use Rattle.dstm_crew.proofs.Retrying.{earlier}
+
+-- ---- styles
+
+branches_by : (third release : Bool) → (if third then Branches else if release then Loose else Plain) ≡ Branches → third ≡ true
+branches_by true release is = refl
+branches_by false true is = cc
+branches_by false false is = cc
+
+-- only a workload of version 3 is run by branches
+pub third_version : (version : ℕ) (release : Bool) → style_of version release ≡ Branches → version ≡ 3
+third_version version release is = eqb-true version 3 (branches_by (version == 3) release is)
+
+-- a workload whose reads are given up early is run loosely
+pub loose_style : (options : Options) (version : ℕ) → IsReleasing options version →
+    style_of version options.release ≡ Loose
+loose_style options version is =
+    let low = is.no_conditions in rw (ne_eqb version 3 (λ e. omega arith), is.release) refl
+
+-- without conditions all operations are plain
+plain_op : (version : ℕ) (op : Op) → version ≤ 2 → HasOp version op → IsPlain op
+plain_op version (Transfer a b x) few has = tt
+plain_op version (Balance a) few has = tt
+plain_op version Total few has = tt
+plain_op version (Insert w k) few has = tt
+plain_op version (Remove w k) few has = tt
+plain_op version (Member w k) few has = tt
+plain_op version (Put k v) few has = tt
+plain_op version (Get k) few has = tt
+plain_op version (Await c) few has = absurd (omega arith)
+plain_op version OrElse few has = absurd (omega arith)
+
+pub can_try : (workload : Workload) (release : Bool) (job : Job) → IsValidWorkload workload → IsJob workload job →
+    CanTry (style_of workload.version release) workload.layout job
+can_try workload release job valid is = record {
+  valid = valid.layout;
+  fits = is.fits;
+  plain = λ other. All-weaker (HasOp workload.version) IsPlain (λ op has. plain_op workload.version op (few other) has) job.ops
+      is.version;
+}
+  where
+    few : style_of workload.version release ≢ Branches → workload.version ≤ 2
+    few other = by (cases_eq workload.version 3)
+      where
+        by : (workload.version ≡ 3) ⊎ (workload.version ≡ 3 → ⊥) → workload.version ≤ 2
+        by (inl third) = absurd (other (rw (eq-eqb workload.version 3 third) refl))
+        by (inr lower) = let newest = valid.newest in omega arith
+
+-- ---- what was done
+
+pub AreDone-push : (layout : Layout) (jobs : List Job) (places : List ℕ) (finished : List Finished) (by : List Committed)
+    (next : Finished) (last : Committed) (place : ℕ) → length finished < length places →
+    place ≡ get_or places (length finished) place → AreDone layout jobs places finished by →
+    IsDone layout (job_at jobs place) next last →
+    AreDone layout jobs places (finished ++ next ∷ []) (by ++ last ∷ [])
+AreDone-push layout jobs [] finished by next last place more at are is = absurd (omega (arith, more))
+AreDone-push layout jobs (p ∷ places) [] [] next last place more at are is =
+    (subst (λ (q : ℕ). IsDone layout (job_at jobs q) next last) at is, tt)
+AreDone-push layout jobs (p ∷ places) [] (d ∷ by) next last place more at are is = absurd are
+AreDone-push layout jobs (p ∷ places) (f ∷ finished) [] next last place more at are is = absurd are
+AreDone-push layout jobs (p ∷ places) (f ∷ finished) (d ∷ by) next last place more at are is =
+    (are.0, AreDone-push layout jobs places finished by next last place (omega (arith, more)) at are.1 is)
+
+-- ---- what transactions keep of their reads
+
+-- a transaction keeps few reads for the job at its place
+abbrev pub FewAt : List Job → ℕ × Committed → Type 0
+FewAt jobs told = KeepsFew (job_at jobs told.0) told.1
+
+none_kept : (jobs : List Job) (places : List ℕ) → All (FewAt jobs) (zip places [])
+none_kept jobs [] = All-nil (FewAt jobs)
+none_kept jobs (place ∷ places) = All-nil (FewAt jobs)
+
+few-push : (layout : Layout) (jobs : List Job) (places : List ℕ) (finished : List Finished) (by : List Committed)
+    (last : Committed) (place : ℕ) → length finished < length places → place ≡ get_or places (length finished) place →
+    AreDone layout jobs places finished by → All (FewAt jobs) (zip places by) → KeepsFew (job_at jobs place) last →
+    All (FewAt jobs) (zip places (by ++ last ∷ []))
+few-push layout jobs [] finished by last place more at are few is = absurd (omega (arith, more))
+few-push layout jobs (p ∷ places) [] [] last place more at are few is =
+    All-cons (FewAt jobs) (p, last) (zip places []) (subst (λ (q : ℕ). KeepsFew (job_at jobs q) last) at is)
+    (none_kept jobs places)
+few-push layout jobs (p ∷ places) [] (d ∷ by) last place more at are few is = absurd are
+few-push layout jobs (p ∷ places) (f ∷ finished) [] last place more at are few is = absurd are
+few-push layout jobs (p ∷ places) (f ∷ finished) (d ∷ by) last place more at are few is =
+    All-cons (FewAt jobs) (p, d) (zip places (by ++ last ∷ [])) (All-head (FewAt jobs) (p, d) (zip places by) few)
+    (few-push layout jobs places finished by last place (omega (arith, more)) at are.1
+    (All-tail (FewAt jobs) (p, d) (zip places by) few) is)
+
+-- ---- where a worker stands after some jobs
+
+pub record Stands (workload : Workload) (style : Style) (k n : Called StoreLaw) (places : List ℕ)
+    (finished : List Finished) : Type 0 where
+  pub on : GoesOn k n
+  pub none_wasted : NoneWastedSince k n (state n).begun
+  pub done : AreDone workload.layout workload.jobs places finished (reverse (done n))
+  pub few_reads : style ≡ Loose → (shape_of n).all_write ≡ false →
+      All (FewAt workload.jobs) (zip places (reverse (attempts.done n)))
+
+pub at_start : (workload : Workload) (style : Style) (k : Called StoreLaw) (places : List ℕ) → AtRest k →
+    done k ≡ [] → Stands workload style k k places []
+at_start workload style k places rest none = record {
+  on = goes_nowhere k rest;
+  none_wasted = λ i some few. absurd (omega arith);
+  done = subst (λ (ds : List Committed). AreDone workload.layout workload.jobs places [] (reverse ds)) (sym none) tt;
+  few_reads = λ loose reads.
+      subst (λ (ds : List Committed). All (FewAt workload.jobs) (zip places (reverse ds))) (sym none)
+      (none_kept workload.jobs places);
+}
+
+-- no attempt was wasted up to some number
+then_none : (k n m : Called StoreLaw) (most : ℕ) → GoesOn k n → GoesOn n m → NoneWastedSince k n (state n).begun →
+    NoneWastedSince n m most → NoneWastedSince k m most
+then_none k n m most on more first second i after before = by (cases_lt (state n).begun i)
+  where
+    by : ((state n).begun < i) ⊎ (i ≤ (state n).begun) → WasNotWasted m i
+    by (inl late) = second i late before
+    by (inr early) = earlier k n m (state n).begun on.rest more (omega arith) first i after early
+
+-- reads stay reads on the whole table
+same_reads : (n m : Called StoreLaw) → GoesOn n m → (shape_of m).all_write ≡ false → (shape_of n).all_write ≡ false
+same_reads n m on reads = ap (λ (h : Home StoreLaw). h.terms.shape.all_write) (sym on.home) ∙ reads
+
+-- one job more was done
+pub one_done : (workload : Workload) (style : Style) (k n m : Called StoreLaw) (places : List ℕ)
+    (finished : List Finished) (next : Finished) (job : Job) (place : ℕ) → Stands workload style k n places finished →
+    HasDone style workload.layout job n m next → length finished < length places →
+    place ≡ get_or places (length finished) place → job ≡ job_at workload.jobs place →
+    Stands workload style k m places (finished ++ next ∷ [])
+one_done workload style k n m places finished next job place stands was more at is = record {
+  on = goes_on k n m stands.on was.on;
+  none_wasted = then_none k n m (state m).begun stands.on was.on stands.none_wasted was.none_wasted;
+  done =
+      subst (AreDone workload.layout workload.jobs places (finished ++ next ∷ []))
+      (sym (ap reverse was.newest ∙ reverse-cons was.by (done n)))
+      (AreDone-push workload.layout workload.jobs places finished (reverse (done n)) next was.by place more at stands.done
+      (subst (λ (j : Job). IsDone workload.layout j next was.by) is was.is));
+  few_reads = λ loose reads.
+      subst (λ (by : List Committed). All (FewAt workload.jobs) (zip places by))
+      (sym (ap reverse was.newest ∙ reverse-cons was.by (done n)))
+      (few-push workload.layout workload.jobs places finished (reverse (done n)) was.by place more at stands.done
+      (stands.few_reads loose (same_reads n m was.on reads))
+      (subst (λ (j : Job). KeepsFew j was.by) is (was.few_reads loose reads)));
+}
+
+-- ---- a worker that stops
+
+-- the job that is next
+pub next_is : (jobs : List Job) (places : List ℕ) (finished : List Finished) (job : Job) (place : ℕ) →
+    length finished < length places → place ≡ get_or places (length finished) place → job ≡ job_at jobs place →
+    Some job ≡ next_job jobs places finished
+next_is jobs places finished job place more at is =
+    ap Some is
+    ∙ ap (option_map (job_at jobs))
+    (sym (slice_get-get_or places (length finished) place more ∙ ap Some (sym at)))
+
+module _ (workload : Workload) (options : Options) (old new : Worker) (unbegun : (state old.caller).begun ≡ 0)
+    (style : Style) (is_style : style ≡ style_of workload.version options.release)
+    (number : new.number ≡ old.number) (places : new.places.items ≡ old.places.items) where
+  abbrev next : Option Job
+  next = next_job workload.jobs new.places.items new.done.items
+
+  -- an attempt that was not wasted, nor stood at the job that is next
+  not_wasted : (i : ℕ) → WasNotWasted new.caller i →
+      HasCommitted (shape_of new.caller) new.caller.log new.caller.number i
+      ⊎ (Disturbed (shape_of new.caller) new.caller.log new.caller.number i
+      ⊎ Waited workload next new.caller.home.terms new.caller.log new.caller.number i)
+  not_wasted i (inl committed) = inl committed
+  not_wasted i (inr disturbed) = inr (inl disturbed)
+
+  -- it was loose, where reads are given up early
+  was_loose : IsReleasing options workload.version → style ≡ Loose
+  was_loose releasing = is_style ∙ loose_style options workload.version releasing
+
+  -- what it kept before its last attempts, which committed nothing
+  same_few : (n : Called StoreLaw) → Stands workload style old.caller n new.places.items new.done.items →
+      GoesOn n new.caller → done new.caller ≡ done n → IsReleasing options workload.version →
+      (shape_of new.caller).all_write ≡ false →
+      All (FewAt workload.jobs) (zip new.places.items (reverse (done new.caller)))
+  same_few n stands on same releasing reads =
+      subst (λ (ds : List Committed). All (FewAt workload.jobs) (zip new.places.items (reverse ds))) (sym same)
+      (stands.few_reads (was_loose releasing) (same_reads n new.caller on reads))
+
+  -- all its jobs are done
+  pub all_done : Stands workload style old.caller new.caller new.places.items new.done.items →
+      length new.done.items ≡ length new.places.items → HasRun workload options old new
+  all_done stands all = record {
+    number = number;
+    places = places;
+    on = stands.on;
+    done = stands.done;
+    none_wasted = λ i some few. not_wasted i (stands.none_wasted i (omega arith) few);
+    left = λ few. absurd (omega arith);
+    few_reads = λ releasing. stands.few_reads (was_loose releasing);
+  }
+
+  -- no attempt is left
+  pub stopped_spent : (n : Called StoreLaw) → Stands workload style old.caller n new.places.items new.done.items →
+      HasNoneLeft n new.caller → HasRun workload options old new
+  stopped_spent n stands was = record {
+    number = number;
+    places = places;
+    on = goes_on old.caller n new.caller stands.on was.on;
+    done =
+        subst (λ (ds : List Committed). AreDone workload.layout workload.jobs new.places.items new.done.items (reverse ds))
+        (sym was.same_done) stands.done;
+    none_wasted = λ i some few.
+        not_wasted i (then_none old.caller n new.caller (state new.caller).begun stands.on was.on stands.none_wasted
+        was.none_wasted i (omega arith) few);
+    left = λ few. inl was.spent;
+    few_reads = same_few n stands was.on was.same_done;
+  }
+
+  -- its last attempt stood at the job that is next
+  pub stopped_blocked : (n : Called StoreLaw) (release : Bool) (job : Job) →
+      Stands workload style old.caller n new.places.items new.done.items →
+      StaysBlocked (style_of workload.version release) workload.layout job n new.caller →
+      Some job ≡ next_job workload.jobs new.places.items new.done.items → HasRun workload options old new
+  stopped_blocked n release job stands was is = record {
+    number = number;
+    places = places;
+    on = goes_on old.caller n new.caller stands.on was.on;
+    done =
+        subst (λ (ds : List Committed). AreDone workload.layout workload.jobs new.places.items new.done.items (reverse ds))
+        (sym was.same_done) stands.done;
+    none_wasted = λ i some few. by i some few (cases_eq i (state new.caller).begun);
+    left = λ few. inr (let b = was.is_last in omega arith, waited);
+    few_reads = same_few n stands was.on was.same_done;
+  }
+    where
+      waited : Waited workload next new.caller.home.terms new.caller.log new.caller.number (state new.caller).begun
+      waited = record {
+        version = third_version workload.version release was.branches;
+        stood =
+            subst (StoodBlocked workload.layout new.caller.home.terms new.caller.log new.caller.number
+            (state new.caller).begun) is was.stood;
+      }
+
+      by : (i : ℕ) → 0 < i → i ≤ (state new.caller).begun →
+          (i ≡ (state new.caller).begun) ⊎ (i ≡ (state new.caller).begun → ⊥) →
+          HasCommitted (shape_of new.caller) new.caller.log new.caller.number i
+          ⊎ (Disturbed (shape_of new.caller) new.caller.log new.caller.number i
+          ⊎ Waited workload next new.caller.home.terms new.caller.log new.caller.number i)
+      by i some few (inl last) =
+          inr (inr (subst (Waited workload next new.caller.home.terms new.caller.log new.caller.number) (sym last) waited))
+      by i some few (inr other) =
+          not_wasted i (then_none old.caller n new.caller was.last stands.on was.on stands.none_wasted was.none_wasted i
+          (omega arith) (let b = was.is_last in omega arith))
+
+  -- why ever it left the job that is next
+  pub stopped : (n : Called StoreLaw) (release : Bool) (job : Job) (why : Left) →
+      Stands workload style old.caller n new.places.items new.done.items →
+      HasLeft (style_of workload.version release) workload.layout job n new.caller why →
+      Some job ≡ next_job workload.jobs new.places.items new.done.items → HasRun workload options old new
+  stopped n release job left.Spent stands was is = stopped_spent n stands was
+  stopped n release job left.Blocked stands was is = stopped_blocked n release job stands was is

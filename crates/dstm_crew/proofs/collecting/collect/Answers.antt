@@ -1,0 +1,83 @@
+use Rattle.std.proofs.Common.{Option, length, IsSome, sym, ap, subst, arith, rules}
+use Rattle.dstm_workload.specs.declared.workload.Job.{Job}
+use Rattle.dstm_report.specs.Turns.{Turning}
+use Rattle.dstm_report.proofs.Rising.{length-without_first}
+use Rattle.dstm_crew.proofs.Merged.{collects_first, collects_last, collects_more, its_turn}
+use Rattle.dstm_crew.proofs.collecting.collect.Goals as goal
+
+pub loop-least-init : goal.loop-least-init
+loop-least-init c = (
+  collects_first c.args.workload.now c.args.round c.args.shares.now c.args.rows.now.items c.args.turns.now c.in_ok-next.next.items
+      c.requires.can (c.in_ok-next.ensures.items_if_clones_equal (λ y h. h)),
+  c.requires.room,
+)
+
+pub push_row-requires-clause-done : goal.push_row-requires-clause-done
+push_row-requires-clause-done c =
+    (its_turn c.args.workload.now c.args.round c.args.rows.now.items c.args.shares.now c.loop-least.rows.items c.loop-least.turns
+    c.loop-least.next.items c.deref.result.now c.in-Some.least c.index-shares-least.result c.index-place.result.now
+    c.loop-least.invariant.0 c.deref.ensures.value c.in-Some.ensures.some c.index-shares-least.is c.index-place.ensures).some
+
+pub push_row-requires-clause-fit : goal.push_row-requires-clause-fit
+push_row-requires-clause-fit c =
+    (its_turn c.args.workload.now c.args.round c.args.rows.now.items c.args.shares.now c.loop-least.rows.items c.loop-least.turns
+    c.loop-least.next.items c.deref.result.now c.in-Some.least c.index-shares-least.result c.index-place.result.now
+    c.loop-least.invariant.0 c.deref.ensures.value c.in-Some.ensures.some c.index-shares-least.is c.index-place.ensures).fit
+
+pub push_row-requires-clause-room : goal.push_row-requires-clause-room
+push_row-requires-clause-room c =
+    let t = its_turn c.args.workload.now c.args.round c.args.rows.now.items c.args.shares.now c.loop-least.rows.items c.loop-least.turns
+    c.loop-least.next.items c.deref.result.now c.in-Some.least c.index-shares-least.result c.index-place.result.now
+    c.loop-least.invariant.0 c.deref.ensures.value c.in-Some.ensures.some c.index-shares-least.is c.index-place.ensures in
+    let one = length-without_first c.index-shares-least.result.worker c.loop-least.turns.left t.job t.first in
+    let room = c.loop-least.invariant.1 in
+    omega (arith, one, room)
+
+pub pass-requires : goal.pass-requires
+pass-requires c =
+    let t = its_turn c.args.workload.now c.args.round c.args.rows.now.items c.args.shares.now c.loop-least.rows.items c.loop-least.turns
+    c.loop-least.next.items c.deref.result.now c.in-Some.least c.index-shares-least.result c.index-place.result.now
+    c.loop-least.invariant.0 c.deref.ensures.value c.in-Some.ensures.some c.index-shares-least.is c.index-place.ensures in
+    subst (λ (o : Option Job). IsSome o) (sym t.first) (search rules)
+
+pub overflow_add-place : goal.overflow_add-place
+overflow_add-place c =
+    let t = its_turn c.args.workload.now c.args.round c.args.rows.now.items c.args.shares.now c.loop-least.rows.items c.loop-least.turns
+    c.loop-least.next.items c.deref.result.now c.in-Some.least c.index-shares-least.result c.index-place.result.now
+    c.loop-least.invariant.0 c.deref.ensures.value c.in-Some.ensures.some c.index-shares-least.is c.index-place.ensures in
+    let some = t.some in
+    let small = c.index-shares-least.result.done.small in
+    let ok = c.index-shares-least.result.done.ok in
+    omega (arith, some, small, ok.0, ok.1)
+
+pub loop-least-preserved : goal.loop-least-preserved
+loop-least-preserved c =
+    let t = its_turn c.args.workload.now c.args.round c.args.rows.now.items c.args.shares.now c.loop-least.rows.items c.loop-least.turns
+    c.loop-least.next.items c.deref.result.now c.in-Some.least c.index-shares-least.result c.index-place.result.now
+    c.loop-least.invariant.0 c.deref.ensures.value c.in-Some.ensures.some c.index-shares-least.is c.index-place.ensures in
+    let one = length-without_first c.index-shares-least.result.worker c.loop-least.turns.left t.job t.first in
+    let fewer = ap (λ (turns : Turning). length turns.left) c.pass.ensures in
+    let room = c.loop-least.invariant.1 in
+    let len = c.push_row.ensures.len in
+    let cap = c.push_row.ensures.capacity in (
+      collects_more c.args.workload.now c.args.round c.args.rows.now.items c.args.shares.now c.loop-least.rows.items
+          c.push_row.new.rows.items c.loop-least.turns c.pass.new.self c.loop-least.next.items c.deref.result.now c.in-Some.least
+          c.index-shares-least.result c.index-place.result.now c.push_row.ensures.row.0 c.loop-least.invariant.0 c.deref.ensures.value
+          c.in-Some.ensures.some t c.push_row.ensures.row.1.0 c.push_row.ensures.row.1.1 c.pass.ensures,
+      omega (arith, one, fewer, room, len, cap),
+    )
+
+pub loop-least-smaller : goal.loop-least-smaller
+loop-least-smaller c =
+    let t = its_turn c.args.workload.now c.args.round c.args.rows.now.items c.args.shares.now c.loop-least.rows.items c.loop-least.turns
+    c.loop-least.next.items c.deref.result.now c.in-Some.least c.index-shares-least.result c.index-place.result.now
+    c.loop-least.invariant.0 c.deref.ensures.value c.in-Some.ensures.some c.index-shares-least.is c.index-place.ensures in
+    let one = length-without_first c.index-shares-least.result.worker c.loop-least.turns.left t.job t.first in
+    let fewer = ap (λ (turns : Turning). length turns.left) c.pass.ensures in
+    omega (arith, one, fewer)
+
+pub returns-clause-collected : goal.returns-clause-collected
+returns-clause-collected c = λ options terms log callers run.
+    collects_last c.args.workload.now options c.args.round terms log c.args.shares.now callers c.args.rows.now.items
+    c.loop-least.rows.items c.loop-least.turns c.loop-least.next.items c.deref.result.now c.loop-least.invariant.0
+    c.deref.ensures.value c.in_default.ensures.none run

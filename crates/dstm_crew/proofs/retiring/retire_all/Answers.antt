@@ -1,0 +1,35 @@
+use Rattle.std.proofs.Common.{◌≡◌, ◌++◌, ◌∷◌, List, [], map, ap, rules, subst, sym, ◌∙◌}
+use Rattle.std.proofs.lemmas.List.{map_push}
+use Rattle.std.specs.Vec.Iter.{into_iter_items}
+use Rattle.dstm_crew.specs.declared.worker.Worker.{Worker}
+use Rattle.dstm_crew.specs.declared.share.Share.{Share}
+use Rattle.dstm_crew.specs.Seats.{share_of}
+use Rattle.dstm_crew.proofs.Taking.{Takes, takes_at_first, takes_one}
+use Rattle.dstm_crew.proofs.retiring.retire_all.Goals as goal
+
+pub loop-worker-init : goal.loop-worker-init
+loop-worker-init c =
+    let workers = c.args.workers.items in
+    let all : into_iter_items c.into_iter-worker-iterator.result ≡ workers = search rules in (
+      subst (λ (ws : List Worker). Takes c.args.stm.now workers [] ws c.args.founder.now) (sym all)
+          (takes_at_first c.args.stm.now workers c.args.founder.now c.requires.founder c.requires.rest),
+      search rules,
+      search rules,
+    )
+
+pub loop-worker-preserved : goal.loop-worker-preserved
+loop-worker-preserved c =
+    let workers = c.args.workers.items in
+    let yielded = c.loop-worker.yielded in
+    let worker : Worker = c.in-Some.worker in
+    let takes =
+    subst (λ (ws : List Worker). Takes c.args.stm.now workers yielded ws c.loop-worker.founder) c.in-Some.ensures.steps.0
+    c.loop-worker.invariant.0 in (
+      takes_one c.args.stm.now workers yielded (into_iter_items c.next.new.self) c.loop-worker.founder c.retire.new.founder worker
+          takes c.retire.ensures.retired,
+      c.push_reserved.ensures.items
+          ∙ ap (λ (ss : List Share). ss ++ c.retire.result ∷ []) c.loop-worker.invariant.1
+          ∙ ap (λ (s : Share). map share_of yielded ++ s ∷ []) c.retire.ensures.share
+          ∙ sym (map_push share_of yielded worker),
+      search rules,
+    )

@@ -1,0 +1,22 @@
+use Rattle.std.proofs.Common.{◌≡◌, ◌++◌, ◌∷◌, List, [], rules, subst, sym}
+use Rattle.std.specs.Vec.Iter.{into_iter_items}
+use Rattle.dstm_crew.specs.declared.worker.Worker.{Worker}
+use Rattle.dstm_crew.specs.declared.share.Share.{Share}
+use Rattle.dstm_crew.proofs.Seating.{Seats, seats_one}
+use Rattle.dstm_crew.proofs.seats.seat_all.Goals as goal
+
+pub loop-share-preserved : goal.loop-share-preserved
+loop-share-preserved c =
+    let table = c.args.stm.now in
+    let shares = c.args.shares.items in
+    let workers = c.loop-share.workers.items in
+    let left = into_iter_items c.next.new.self in
+    let seats =
+    subst (λ (ss : List Share). Seats table shares workers ss c.loop-share.founder) c.in-Some.ensures.steps.0
+    c.loop-share.invariant.0 in
+    let now : c.push_reserved.new.self.items ≡ workers ++ c.in_ok-seat.field-0 ∷ [] = c.push_reserved.ensures.items in (
+      subst (λ (ws : List Worker). Seats table shares ws left c.seat.new.founder) (sym now)
+          (seats_one table shares workers left c.loop-share.founder c.seat.new.founder c.in-Some.share c.in_ok-seat.field-0 _ seats
+          c.in_ok-seat.ensures.share c.in_ok-seat.ensures.enrols),
+      search rules,
+    )

@@ -1,0 +1,10 @@
+use Rattle.std.proofs.Common.{◌≡◌, Some, rules, ap, ◌∙◌}
+use Rattle.dstm_report.specs.Lawful.{first_job}
+use Rattle.dstm_report.proofs.Rising.{first_own}
+use Rattle.dstm_crew.proofs.sweeping.least_left.Goals as goal
+
+pub returns-in-Some-clause-some : goal.returns-in-Some-clause-some
+returns-in-Some-clause-some c =
+    let job = c.in-Some.job.now in
+    let turn : first_job c.loop-worker.worker c.args.turns.now.left ≡ Some job = search rules in
+    ap (λ w. first_job w c.args.turns.now.left) (first_own c.loop-worker.worker c.args.turns.now.left job turn) ∙ turn

@@ -1,0 +1,91 @@
+use Rattle.std.proofs.Common.{◌≡◌, ◌+◌, List, [], ◌∷◌, ◌++◌, false, length, rules, arith, refl, ap, sym, subst, ◌∙◌}
+use Rattle.dstm_model.specs.declared.reply.Reply.TheVariants.{Never}
+use Rattle.dstm_report.specs.declared.report.Row.{Row}
+use Rattle.dstm_report.specs.Turns.{Turning}
+use Rattle.dstm_report.proofs.Rising.{length-without_first}
+use Rattle.dstm_crew.specs.Alone.{MayStep, Sweeps}
+use Rattle.dstm_crew.proofs.Sweeps.{end_done, end_empty, given_up_spent, may_begin, may_on, step_given_up, sweep_begins, turns_after}
+use Rattle.dstm_crew.proofs.sweeping.run_alone.Goals as goal
+
+pub loop-turns-init : goal.loop-turns-init
+loop-turns-init c = (
+  may_begin c.args.workload.now c.args.number c.args.stm.now c.args.caller.now c.args.rows.now.items c.args.turns.now
+      c.requires.can,
+  c.requires.room,
+  sweep_begins c.args.workload.now c.args.number c.args.stm.now c.args.caller.now c.args.rows.now.items c.args.turns.now
+      c.requires.can,
+)
+
+pub returns-in-Done : goal.returns-in-Done
+returns-in-Done c =
+    let swept = c.in-Done.ensures.swept c.args.caller.now c.args.rows.now.items c.args.turns.now c.requires.can
+    c.loop-turns.invariant.2 in
+    end_done c.args.workload.now c.args.number c.args.stm.now c.args.caller.now c.args.rows.now.items c.args.turns.now
+    c.requires.can c.sweep.new.caller c.sweep.new.rows.items c.sweep.new.turns c.args.workload.now.workers swept
+
+pub returns-in-Spent : goal.returns-in-Spent
+returns-in-Spent c =
+    c.in-Spent.ensures.swept c.args.caller.now c.args.rows.now.items c.args.turns.now c.requires.can c.loop-turns.invariant.2
+
+pub returns-in_default : goal.returns-in_default
+returns-in_default c =
+    let swept = c.in-Blocked.ensures.swept c.args.caller.now c.args.rows.now.items c.args.turns.now c.requires.can
+    c.loop-turns.invariant.2 in
+    end_empty c.args.workload.now c.args.number c.args.stm.now c.args.caller.now c.args.rows.now.items c.args.turns.now
+    c.requires.can c.sweep.new.caller c.sweep.new.rows.items c.sweep.new.turns c.in_default.ensures.none swept
+
+pub returns-in_default-give_up : goal.returns-in_default-give_up
+returns-in_default-give_up c =
+    let swept = c.in-Blocked.ensures.swept c.args.caller.now c.args.rows.now.items c.args.turns.now c.requires.can
+    c.loop-turns.invariant.2 in
+    given_up_spent c.args.workload.now c.args.number c.args.stm.now c.args.caller.now c.args.rows.now.items c.args.turns.now
+    c.requires.can c.sweep.new.caller c.give_up.new.caller c.sweep.new.rows.items c.sweep.new.turns
+    c.in_default-give_up.ensures.spent swept
+
+pub loop-turns-smaller : goal.loop-turns-smaller
+loop-turns-smaller c =
+    let job = c.in-Some.job.now in
+    let turn = c.in-Some.ensures.some in
+    let fewer : length c.push_row.new.turns.left + 1 ≡ length c.sweep.new.turns.left =
+    ap (λ (t : Turning). length t.left + 1) c.push_row.ensures.turns
+    ∙ length-without_first job.worker c.sweep.new.turns.left job turn in
+    let less = c.in-Blocked.ensures.fewer in
+    omega (arith, fewer, less)
+
+pub loop-turns-preserved : goal.loop-turns-preserved
+loop-turns-preserved c =
+    let workload = c.args.workload.now in
+    let job = c.in-Some.job.now in
+    let rows = c.sweep.new.rows.items in
+    let turns = c.sweep.new.turns in
+    let turn = c.in-Some.ensures.some in
+    let drawn = c.in-Some-give_up.drawn in
+    let gave = c.in-Some-give_up.ensures.given_up in
+    let never : c.push.new.self ≡ Never ∷ [] = search rules in
+    let row : Row = record {
+      line = job.line;
+      worker = job.worker;
+      round = c.args.number;
+      number = drawn;
+      replies = c.push.new.self;
+    } in
+    let fewer : length c.push_row.new.turns.left + 1 ≡ length turns.left =
+    ap (λ (t : Turning). length t.left + 1) c.push_row.ensures.turns ∙ length-without_first job.worker turns.left job turn in
+    let may : MayStep workload c.args.stm.now c.give_up.new.caller (rows ++ row ∷ []) c.push_row.new.turns =
+    may_on workload c.args.stm.now c.sweep.new.caller c.give_up.new.caller rows (rows ++ row ∷ []) turns c.push_row.new.turns
+    c.in-Blocked.ensures.may gave.made.on
+    (turns_after workload rows turns c.push_row.new.turns row job c.in-Blocked.ensures.may.valid
+    c.in-Blocked.ensures.may.turns_are turn refl c.push_row.ensures.turns) in
+    let swept = c.in-Blocked.ensures.swept c.args.caller.now c.args.rows.now.items c.args.turns.now c.requires.can
+    c.loop-turns.invariant.2 in
+    let goes : Sweeps workload c.args.number c.args.caller.now c.give_up.new.caller c.args.rows.now.items (rows ++ row ∷ [])
+    c.push_row.new.turns 0 false =
+    step_given_up workload c.args.number c.args.stm.now c.args.caller.now c.args.rows.now.items c.args.turns.now
+    c.requires.can c.sweep.new.caller c.give_up.new.caller rows turns c.push_row.new.turns job drawn row turn gave refl refl
+    refl refl never c.push_row.ensures.turns swept in (
+      subst (λ (rs : List Row). MayStep workload c.args.stm.now c.give_up.new.caller rs c.push_row.new.turns)
+          (sym c.push_row.ensures.rows) may,
+      omega (arith, fewer, c.push_row.ensures.len, c.in-Blocked.ensures.room, c.push_row.ensures.capacity),
+      subst (λ (rs : List Row). Sweeps workload c.args.number c.args.caller.now c.give_up.new.caller c.args.rows.now.items rs
+          c.push_row.new.turns 0 false) (sym c.push_row.ensures.rows) goes,
+    )

@@ -1,0 +1,111 @@
+use Rattle.std.proofs.Common.{◌≡◌, ◌+◌, List, [], ◌∷◌, ◌++◌, true, length, Some, rules, arith, refl, ap, sym, subst, ◌∙◌}
+use Rattle.dstm_report.specs.declared.report.Row.{Row}
+use Rattle.dstm_report.specs.Lawful.{first_job}
+use Rattle.dstm_report.specs.Turns.{Turning}
+use Rattle.dstm_report.proofs.Rising.{first_own, length-without_first}
+use Rattle.dstm_crew.specs.Styles.{CanTry}
+use Rattle.dstm_crew.proofs.Worked.{can_try}
+use Rattle.dstm_crew.specs.Alone.{MayStep, Sweeps}
+use Rattle.dstm_crew.proofs.Sweeps.{job_is, may_on, step_blocked, step_done, step_none, step_spent, third_of, turns_after}
+use Rattle.dstm_crew.proofs.sweeping.try_first.Goals as goal
+
+pub returns-in_default-clause-stepped : goal.returns-in_default-clause-stepped
+returns-in_default-clause-stepped c first before begun some can sweeps =
+    step_none c.args.workload.now c.args.number c.args.stm.now first before begun can c.args.caller.now c.args.rows.now.items
+    c.args.turns.now c.args.worker some c.requires.worker (search rules) sweeps
+
+pub try_alone-requires-clause-can : goal.try_alone-requires-clause-can
+try_alone-requires-clause-can c =
+    let workload = c.args.workload.now in
+    let job = c.in-Some.job.now in
+    let turn : first_job c.args.worker c.args.turns.now.left ≡ Some job = search rules in
+    subst (λ s. CanTry s workload.layout job) (sym c.of-style.ensures)
+    (can_try workload c.args.options.now.release job c.requires.may.valid
+    (job_is workload c.args.rows.now.items c.args.turns.now c.args.worker job c.requires.may.valid
+    c.requires.may.turns_are turn))
+
+pub push_row-requires-clause-turn : goal.push_row-requires-clause-turn
+push_row-requires-clause-turn c =
+    let job = c.in-Some.job.now in
+    let left = c.args.turns.now.left in
+    let turn : first_job c.args.worker left ≡ Some job = search rules in
+    ap (λ w. first_job w left) (first_own c.args.worker left job turn) ∙ turn
+
+pub returns-in-Done-clause-may : goal.returns-in-Done-clause-may
+returns-in-Done-clause-may c =
+    let workload = c.args.workload.now in
+    let job = c.in-Some.job.now in
+    let rows = c.args.rows.now.items in
+    let left = c.args.turns.now.left in
+    let own : first_job c.args.worker left ≡ Some job = search rules in
+    let turn = ap (λ w. first_job w left) (first_own c.args.worker left job own) ∙ own in
+    let row : Row = record {
+      line = job.line;
+      worker = job.worker;
+      round = c.args.number;
+      number = c.in-Done.finished.number;
+      replies = c.in-Done.finished.replies;
+    } in
+    subst (λ (rs : List Row). MayStep workload c.args.stm.now c.try_alone.new.caller rs c.push_row.new.turns)
+    (sym c.push_row.ensures.rows)
+    (may_on workload c.args.stm.now c.args.caller.now c.try_alone.new.caller rows (rows ++ row ∷ []) c.args.turns.now
+    c.push_row.new.turns c.requires.may c.in-Done.ensures.made.on
+    (turns_after workload rows c.args.turns.now c.push_row.new.turns row job c.requires.may.valid c.requires.may.turns_are turn
+    refl c.push_row.ensures.turns))
+
+pub returns-in-Done-clause-room : goal.returns-in-Done-clause-room
+returns-in-Done-clause-room c =
+    let job = c.in-Some.job.now in
+    let left = c.args.turns.now.left in
+    let own : first_job c.args.worker left ≡ Some job = search rules in
+    let turn = ap (λ w. first_job w left) (first_own c.args.worker left job own) ∙ own in
+    let fewer : length c.push_row.new.turns.left + 1 ≡ length left =
+    ap (λ (t : Turning). length t.left + 1) c.push_row.ensures.turns ∙ length-without_first job.worker left job turn in
+    omega (arith, fewer, c.push_row.ensures.len, c.requires.room, c.push_row.ensures.capacity)
+
+pub returns-in-Done-clause-fewer : goal.returns-in-Done-clause-fewer
+returns-in-Done-clause-fewer c =
+    let job = c.in-Some.job.now in
+    let left = c.args.turns.now.left in
+    let own : first_job c.args.worker left ≡ Some job = search rules in
+    let turn = ap (λ w. first_job w left) (first_own c.args.worker left job own) ∙ own in
+    let fewer : length c.push_row.new.turns.left + 1 ≡ length left =
+    ap (λ (t : Turning). length t.left + 1) c.push_row.ensures.turns ∙ length-without_first job.worker left job turn in
+    omega (arith, fewer)
+
+pub returns-in-Done-clause-stepped : goal.returns-in-Done-clause-stepped
+returns-in-Done-clause-stepped c first before begun some can sweeps =
+    let workload = c.args.workload.now in
+    let job = c.in-Some.job.now in
+    let rows = c.args.rows.now.items in
+    let left = c.args.turns.now.left in
+    let own : first_job c.args.worker left ≡ Some job = search rules in
+    let row : Row = record {
+      line = job.line;
+      worker = job.worker;
+      round = c.args.number;
+      number = c.in-Done.finished.number;
+      replies = c.in-Done.finished.replies;
+    } in
+    subst (λ (rs : List Row). Sweeps workload c.args.number first c.try_alone.new.caller before rs c.push_row.new.turns
+    (c.args.worker + 1) true)
+    (sym c.push_row.ensures.rows)
+    (step_done workload c.args.number c.args.stm.now first before begun can c.of-style.result c.args.caller.now
+    c.try_alone.new.caller rows c.args.turns.now c.push_row.new.turns c.args.worker some job c.in-Done.finished row own c.in-Done.ensures
+    (first_own c.args.worker left job own) refl refl refl refl c.push_row.ensures.turns sweeps)
+
+pub returns-in-Blocked-clause-stepped : goal.returns-in-Blocked-clause-stepped
+returns-in-Blocked-clause-stepped c first before begun some can sweeps =
+    let workload = c.args.workload.now in
+    let job = c.in-Some.job.now in
+    let turn : first_job c.args.worker c.args.turns.now.left ≡ Some job = search rules in
+    step_blocked workload c.args.number c.args.stm.now first before begun can c.of-style.result c.args.caller.now
+    c.try_alone.new.caller c.args.rows.now.items c.args.turns.now c.args.worker some job c.requires.worker
+    (λ is. third_of workload.version c.args.options.now.release (sym c.of-style.ensures ∙ is)) turn c.in-Blocked.ensures sweeps
+
+pub returns-in-Spent-clause-stepped : goal.returns-in-Spent-clause-stepped
+returns-in-Spent-clause-stepped c first before begun some can sweeps =
+    let job = c.in-Some.job.now in
+    let turn : first_job c.args.worker c.args.turns.now.left ≡ Some job = search rules in
+    step_spent c.args.workload.now c.args.number c.args.stm.now first before begun can c.args.caller.now c.try_alone.new.caller
+    c.args.rows.now.items c.args.turns.now c.args.worker some job c.requires.worker turn c.in-Spent.ensures sweeps

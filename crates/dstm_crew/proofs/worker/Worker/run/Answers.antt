@@ -1,0 +1,79 @@
+use Rattle.std.proofs.Common.{◌≡◌, ◌<◌, ℕ, List, [], ◌∷◌, ◌++◌, get_or, length, rules, refl, sym, ap, subst, ◌∙◌}
+use Rattle.std.proofs.lemmas.List.{get_or_default}
+use Rattle.dstm_workload.specs.declared.workload.Job.{Job}
+use Rattle.dstm_report.specs.Turns.{job_at, no_job}
+use Rattle.dstm_crew.specs.declared.style.Style.{Style}
+use Rattle.dstm_crew.specs.declared.trying.Finished.{Finished}
+use Rattle.dstm_crew.specs.Tries.{HasLeft}
+use Rattle.dstm_crew.proofs.Worked.{Stands, at_start, one_done, next_is, stopped}
+use Rattle.dstm_crew.proofs.worker.Worker.run.Goals as goal
+
+pub loop-at-init : goal.loop-at-init
+loop-at-init g c =
+    let workload = c.args.workload.now in
+    let k = c.args.self.now.caller in
+    let places = c.args.self.now.places.items in
+    let ready = c.requires.ready in
+    let stands : Stands workload c.of-style.result k k places [] =
+    at_start workload c.of-style.result k places ready.rest ready.none_done in (
+      refl,
+      refl,
+      ap length ready.empty,
+      ready.room,
+      subst (λ (fs : List Finished). Stands workload c.of-style.result k k places fs) (sym ready.empty) stands,
+    )
+
+pub loop-at-preserved : goal.loop-at-preserved
+loop-at-preserved g c =
+    let workload = c.args.workload.now in
+    let k = c.args.self.now.caller in
+    let n = c.loop-at.self.caller in
+    let m = c.try_job.new.caller in
+    let places = c.loop-at.self.places.items in
+    let finished = c.loop-at.self.done.items in
+    let next : Finished = c.in-Ok.finished in
+    let place = c.index.result.now in
+    let count : length finished ≡ c.loop-at.at = c.loop-at.invariant.2 in
+    let more : length finished < length places = search rules in
+    let at : place ≡ get_or places (length finished) place =
+    c.index.ensures ∙ ap (λ (i : ℕ). get_or places i place) (sym count) in
+    let jobs : c.as_slice-jobs.result.now ≡ workload.jobs = c.as_slice-jobs.ensures in
+    let inside : place < length c.as_slice-jobs.result.now = search rules in
+    let job = c.index-jobs-index.result in
+    let is : job ≡ job_at workload.jobs place =
+    c.index-jobs-index.is ∙ get_or_default c.as_slice-jobs.result.now place job no_job inside
+    ∙ ap (λ (js : List Job). job_at js place) jobs in
+    let style = c.of-style.result in
+    let stands : Stands workload style k m places (finished ++ next ∷ []) =
+    one_done workload style k n m places finished next job place c.loop-at.invariant.4 c.in-Ok.ensures.done more at is in
+    let items : c.push_reserved.new.self.items ≡ finished ++ next ∷ [] = c.push_reserved.ensures.items in (
+      c.loop-at.invariant.0,
+      c.loop-at.invariant.1,
+      search rules,
+      search rules,
+      subst (λ (fs : List Finished). Stands workload style k m places fs) (sym items) stands,
+    )
+
+pub returns-in-Err : goal.returns-in-Err
+returns-in-Err g c =
+    let workload = c.args.workload.now in
+    let n = c.loop-at.self.caller in
+    let m = c.try_job.new.caller in
+    let places = c.loop-at.self.places.items in
+    let finished = c.loop-at.self.done.items in
+    let place = c.index.result.now in
+    let count : length finished ≡ c.loop-at.at = c.loop-at.invariant.2 in
+    let more : length finished < length places = search rules in
+    let at : place ≡ get_or places (length finished) place =
+    c.index.ensures ∙ ap (λ (i : ℕ). get_or places i place) (sym count) in
+    let jobs : c.as_slice-jobs.result.now ≡ workload.jobs = c.as_slice-jobs.ensures in
+    let inside : place < length c.as_slice-jobs.result.now = search rules in
+    let job = c.index-jobs-index.result in
+    let is : job ≡ job_at workload.jobs place =
+    c.index-jobs-index.is ∙ get_or_default c.as_slice-jobs.result.now place job no_job inside
+    ∙ ap (λ (js : List Job). job_at js place) jobs in
+    stopped workload c.args.options.now c.args.self.now _ c.requires.ready.none_begun c.of-style.result c.of-style.ensures
+    c.loop-at.invariant.0 (ap (λ v. v.items) c.loop-at.invariant.1) n
+    c.args.options.now.release job c.in-Err.field-0 c.loop-at.invariant.4
+    (subst (λ (s : Style). HasLeft s workload.layout job n m c.in-Err.field-0) c.of-style.ensures c.in-Err.ensures.left)
+    (next_is workload.jobs places finished job place more at is)

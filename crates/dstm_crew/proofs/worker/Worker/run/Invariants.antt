@@ -1,0 +1,10 @@
+use Rattle.std.proofs.Common.{◌≡◌, ◌≤◌, length}
+use Rattle.std.specs.Prelude.{vec_capacity}
+use Rattle.dstm_crew.proofs.Worked.{Stands}
+use Rattle.dstm_crew.proofs.worker.Worker.run.Given as goal
+
+abbrev pub invariant-loop-at : goal.invariant-loop-at
+invariant-loop-at g l =
+    (l.self.number ≡ l.fn.self.number) × (l.self.places ≡ l.fn.self.places)
+    × (length l.self.done.items ≡ l.at) × (length l.self.places.items ≤ vec_capacity l.self.done)
+    × Stands l.workload l.style l.fn.self.caller l.self.caller l.self.places.items l.self.done.items

@@ -1,0 +1,109 @@
+-- Collecting: what the workers of a parallel round have done, in the order of the numbers that the transactions drew.
+use Rattle.std.specs.Prelude.{◌≡◌, ℕ, ◌<◌, ◌≤◌, ◌==◌, nat_le, if◌then◌else◌, List, [], ◌∷◌, ◌++◌, length, map, reverse, zip, true, All, Option, Some, None, IfSome, slice_index, slice_index_or}
+use Rattle.std.specs.List.{slice_get}
+use Rattle.std.specs.Option.{option_map}
+use Rattle.dstm_core.specs.Events.{Event}
+use Rattle.dstm_opacity.specs.Committed.{Committed, committed_in}
+use Rattle.dstm_words.specs.declared.terms.Terms.{Terms}
+use Rattle.dstm_words.specs.Seats.{AreApart}
+use Rattle.dstm_store.specs.declared.law.StoreLaw.{StoreLaw}
+use Rattle.dstm_workload.specs.declared.workload.Workload.{Workload}
+use Rattle.dstm_workload.specs.Workload.{IsValidWorkload}
+use Rattle.dstm_report.specs.declared.report.Row.{Row}
+use Rattle.dstm_report.specs.Lawful.{first_job}
+use Rattle.dstm_report.specs.Turns.{Turning, job_at, jobs_of}
+use Rattle.dstm_records.specs.declared.options.Options.{Options}
+use Rattle.dstm_records.specs.Records.{IsDstmRun, IsReleasing, KeepsFewReads}
+use Rattle.dstm_records.specs.Rounds.{has_job, left_by}
+use Rattle.dstm_records.specs.Running.{turns_behind}
+use Rattle.dstm_records.specs.Told.{AreTold}
+use Rattle.dstm_crew.specs.Workers.{next_job}
+use Rattle.dstm_crew.specs.declared.share.Share.{Share}
+use Rattle.dstm_crew.specs.Shares.{AreShared}
+
+-- the share's jobs are jobs of the workload, and no more was done than it has
+pub record IsFit (workload : Workload) (share : Share) : Type 0 where
+  pub within : All (λ place. place < length workload.jobs) share.places.items
+  pub enough : length share.done.items ≤ length share.places.items
+
+-- Shares of different workers, each with its worker's jobs that are left behind these rows.
+pub record CanCollect (workload : Workload) (shares : List Share) (rows : List Row) (turns : Turning) : Type 0 where
+  pub valid : IsValidWorkload workload
+  pub turns_are : turns ≡ turns_behind workload rows
+  pub fit : All (IsFit workload) shares
+  pub apart : AreApart (map (λ share. share.worker) shares)
+  pub jobs : All (λ share. map (job_at workload.jobs) share.places.items ≡ jobs_of share.worker turns.left) shares
+
+-- ---- whose row comes next
+
+-- the number of what stands at this place of what was done of a share
+abbrev pub number_at : Share → ℕ → Option ℕ
+number_at share place = option_map (λ finished. finished.number) (slice_get share.done.items place)
+
+-- the next number of each share, of which so much was taken already
+abbrev pub heads : List Share → (next : List ℕ) → List (Option ℕ)
+heads shares next = map (λ pair. number_at pair.0 pair.1) (zip shares next)
+
+abbrev pub head : List Share → (next : List ℕ) → ℕ → Option ℕ
+head shares next place = slice_index_or (heads shares next) place None
+
+-- no share has a lower number next than the one at this place
+pub record IsNext (shares : List Share) (next : List ℕ) (place : ℕ) : Type 0 where
+  pub number : ℕ
+  pub own : head shares next place ≡ Some number
+  pub least : (other : ℕ) → IfSome (head shares next other) (λ n. number ≤ n)
+
+-- a place and a number, unless what was found before has a number that is not greater
+abbrev pub lesser_of : Option (ℕ × ℕ) → (place number : ℕ) → Option (ℕ × ℕ)
+lesser_of None place number = Some (place, number)
+lesser_of (Some found) place number = if nat_le found.1 number then Some found else Some (place, number)
+
+-- nothing is left of any share
+abbrev pub AreTaken : List Share → (next : List ℕ) → Type 0
+AreTaken shares next = (place : ℕ) → head shares next place ≡ None
+
+-- the row of what stands at this place of what was done of a share
+pub record IsRowOf (workload : Workload) (round : ℕ) (share : Share) (place : ℕ) (row : Row) : Type 0 where
+  pub line : row.line ≡ (job_at workload.jobs (slice_index share.places.items place)).line
+  pub worker : row.worker ≡ share.worker
+  pub round_is : row.round ≡ round
+  pub number : Some row.number ≡ number_at share place
+  pub replies : option_map (λ finished. finished.replies) (slice_get share.done.items place) ≡ Some row.replies
+
+-- ---- what is collected
+
+-- they were run on a closed table, by all its callers
+pub record AreRunBy (workload : Workload) (options : Options) (terms : Terms StoreLaw) (log : List Event)
+    (shares : List Share) (callers : List ℕ) : Type 0 where
+  pub run : IsDstmRun workload.layout terms log
+  pub count : length callers ≡ terms.shape.callers
+  pub apart : AreApart callers
+  pub shared : AreShared workload options terms log shares callers
+
+-- the caller by which a worker's share was run
+abbrev pub caller_of : List Share → (callers : List ℕ) → (worker : ℕ) → ℕ
+caller_of [] callers worker = 0
+caller_of (share ∷ shares) [] worker = 0
+caller_of (share ∷ shares) (c ∷ callers) worker =
+    if share.worker == worker then c else caller_of shares callers worker
+
+-- what was committed on a table, the oldest first
+abbrev pub all_committed : Terms StoreLaw → List Event → List Committed
+all_committed terms log = reverse (committed_in terms.shape terms.start.value.items log)
+
+-- The rows behind those before tell of all that was committed on the table, one for one and in order: a worker's rows of
+-- what its caller committed. What is left of a worker's jobs is what was not done of its share.
+pub record HasCollected (workload : Workload) (options : Options) (number : ℕ) (terms : Terms StoreLaw) (log : List Event)
+    (shares : List Share) (callers : List ℕ) (before rows : List Row) (turns : Turning) : Type 0 where
+  pub now : List Row
+  pub rows_are : rows ≡ before ++ now
+  pub turns_are : turns ≡ turns_behind workload rows
+  pub in_round : All (λ row. row.round ≡ number) now
+  pub told : AreTold workload before now (all_committed terms log)
+  pub own : All (λ told. told.1.caller ≡ caller_of shares callers told.0.worker) (zip now (all_committed terms log))
+  pub few_reads : IsReleasing options workload.version → terms.shape.all_write ≡ options.all_write →
+      All (KeepsFewReads workload) (zip now (all_committed terms log))
+  pub next : All (λ share. first_job share.worker (left_by workload rows)
+      ≡ next_job workload.jobs share.places.items share.done.items) shares
+  pub fewer : All (λ share. has_job (left_by workload rows) share.worker ≡ true
+      → length share.done.items < length share.places.items) shares

@@ -1,0 +1,96 @@
+ghost use Rattle.std.specs.Prelude.{◌≡◌, ◌<◌, ◌≤◌, ◌+◌, ◌++◌, ◌∷◌, [], List, length, vec_len, vec_capacity, IfNone, IfSome, OnOk, ℕ};
+ghost use Rattle.dstm_core.specs.Events.{Event};
+ghost use Rattle.dstm_words.specs.declared.terms.Terms.{Terms};
+ghost use Rattle.dstm_records.specs.declared.options.Options.{Options as Choices};
+ghost use Rattle.dstm_crew.specs.Collecting.{AreRunBy, AreTaken, CanCollect, HasCollected, IsFit, IsNext, IsRowOf, lesser_of, number_at};
+
+use crate::share::Share;
+use dstm_report::{Row, Turns};
+use dstm_store::StoreLaw;
+use dstm_workload::Workload;
+use std::alloc::{AllocError, Global};
+
+/// Adds a row for all that was done of the shares, in the order of the numbers: the share with the least next number goes
+/// next. There are few shares, so each of them is looked at for each row.
+pub(crate) fn collect(
+    alloc: Global,
+    workload: &Workload,
+    round: u64,
+    shares: &[Share],
+    turns: &mut Turns<'_>,
+    rows: &mut Vec<Row>,
+) -> Result<(), AllocError>
+    requires can { CanCollect workload.now shares.now rows.old.items turns.old }
+    requires room { vec_len rows.old + length turns.old.left ≤ vec_capacity rows.old }
+    ensures room { OnOk result (vec_len rows.new + length turns.new.left ≤ vec_capacity rows.new) }
+    ensures collected { OnOk result ((options : Choices) (terms : Terms StoreLaw) (log : List Event) (callers : List ℕ) →
+        AreRunBy workload.now options terms log shares.now callers →
+        HasCollected workload.now options round terms log shares.now callers rows.old.items rows.new.items turns.new) }
+{
+    let mut next = vec![in alloc; 0; shares.len()]?;
+    while let Some(least) = next_share(shares, &next) {
+        let share = &shares[least];
+        let place = next[least];
+        push_row(workload, round, share, place, rows);
+        turns.pass(share.worker);
+        next[least] = place + 1;
+    }
+    Ok(())
+}
+
+// The place of the share with the least next number.
+fn next_share(shares: &[Share], next: &[usize]) -> Option<usize>
+    requires { length next.now ≡ length shares.now }
+    ensures some { IfSome result (IsNext shares.now next.now) }
+    ensures within { IfSome result (λ place. place < length shares.now) }
+    ensures none { IfNone result (AreTaken shares.now next.now) }
+{
+    let mut least: Option<(usize, u64)> = None;
+    for place in 0..shares.len() {
+        if let Some(number) = number_of(&shares[place], next[place]) {
+            least = lesser(least, place, number);
+        }
+    }
+    match least {
+        Some((place, _)) => Some(place),
+        None => None,
+    }
+}
+
+// The place and the number that were found before, or these where the number is less.
+fn lesser(found: Option<(usize, u64)>, place: usize, number: u64) -> Option<(usize, u64)>
+    ensures { result ≡ lesser_of found place number }
+{
+    match found {
+        Some((before, least)) if least <= number => Some((before, least)),
+        _ => Some((place, number)),
+    }
+}
+
+// The number of what stands at a place of what was done.
+fn number_of(share: &Share, place: usize) -> Option<u64>
+    ensures { result ≡ number_at share.now place }
+{
+    let finished = share.done.get(place)?;
+    Some(finished.number)
+}
+
+// Adds the row of what stands at a place of what was done.
+fn push_row(workload: &Workload, round: u64, share: &Share, place: usize, rows: &mut Vec<Row>)
+    requires done { place < length share.now.done.items }
+    requires fit { IsFit workload.now share.now }
+    requires room { vec_len rows.old < vec_capacity rows.old }
+    ensures row { (row : Row) × ((rows.new.items ≡ rows.old.items ++ row ∷ []) × IsRowOf workload.now round share.now place row) }
+    ensures len { vec_len rows.new ≡ vec_len rows.old + 1 }
+    ensures capacity { vec_capacity rows.new ≡ vec_capacity rows.old }
+{
+    let finished = &share.done[place];
+    let job = &workload.jobs.as_slice()[share.places[place]];
+    rows.push_reserved(Row {
+        line: job.line,
+        worker: share.worker,
+        round,
+        number: finished.number,
+        replies: finished.replies.copy(),
+    });
+}

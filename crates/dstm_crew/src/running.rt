@@ -1,0 +1,58 @@
+ghost use Rattle.std.specs.Prelude.{◌≡◌, ◌<◌, ◌≤◌, ◌++◌, ◌∷◌, [], true, length, vec_len, vec_capacity, All, IfOk, IfErr};
+ghost use Rattle.dstm_engine.specs.Tables.{Recorded};
+ghost use Rattle.dstm_store.specs.Whole.{IsLawful};
+ghost use Rattle.dstm_workload.specs.Workload.{IsValidWorkload};
+ghost use Rattle.dstm_records.specs.Rounds.{is_parallel};
+ghost use Rattle.dstm_crew.specs.Shares.{IsOpen, WereRun};
+
+use crate::beside::run_all;
+use crate::gate::Gate;
+use crate::retiring::retire_all;
+use crate::seats::seat_all;
+use crate::share::Share;
+use crate::sizing::shape_for;
+use dstm_engine::Stm;
+use dstm_model::Val;
+use dstm_records::{Options, Round};
+use dstm_store::StoreLaw;
+use dstm_workload::Workload;
+use std::alloc::{AllocError, Global};
+use std::thread::Threads;
+
+/// Makes a table from these values, runs each share by a caller of its own, the workers beside one another, retires the
+/// callers and closes the table. Its record is put behind the others, for which there has to be room.
+pub(crate) fn run_shares<R: Threads + Sync, G: Gate + Sync>(
+    rt: &R,
+    alloc: Global,
+    workload: &Workload,
+    options: &Options,
+    gate: &G,
+    number: u64,
+    values: Vec<Val>,
+    shares: Vec<Share>,
+    rounds: &mut Vec<Round>,
+) -> Result<(Vec<Share>, Vec<Val>), AllocError>
+    requires valid { IsValidWorkload workload.now }
+    requires parallel { is_parallel number ≡ true }
+    requires lawful { IsLawful workload.now.layout values.items }
+    requires some { 0 < length shares.items }
+    requires few { length shares.items ≤ 32 }
+    requires shares { All (IsOpen workload.now) shares.items }
+    requires room { vec_len rounds.old < vec_capacity rounds.old }
+    ensures run { IfOk result (λ r. (table : Recorded StoreLaw) ×
+        ((rounds.new.items ≡ rounds.old.items ++ Round.Dstm table ∷ [])
+        × WereRun workload.now options.now number values.items r.1.items shares.items r.0.items table)) }
+    ensures none { IfErr result (λ _. rounds.new.items ≡ rounds.old.items) }
+{
+    let shape = shape_for(workload, options, values.len(), &shares);
+    let law = StoreLaw {
+        layout: workload.layout,
+    };
+    let (stm, mut founder) = Stm::make(alloc, values, shape, law)?;
+    let mut workers = seat_all(alloc, options, &stm, &mut founder, shares)?;
+    run_all(rt, &stm, workload, options, gate, number == 0, &mut workers);
+    let shares = retire_all(alloc, &stm, &mut founder, workers)?;
+    let (left, record) = stm.close(alloc, founder)?;
+    rounds.push_reserved(Round::Dstm(record));
+    Ok((shares, left))
+}

@@ -1,0 +1,51 @@
+ghost use Rattle.std.specs.Prelude.{◌≡◌};
+ghost use Rattle.dstm_workload.specs.Workload.{IsValidWorkload};
+ghost use Rattle.dstm_crew.specs.Workers.{IsReady, HasRun};
+
+use crate::gate::Gate;
+use crate::style::Style;
+use crate::trying::{Finished, try_job};
+use dstm_engine::{Caller, Stm};
+use dstm_records::Options;
+use dstm_store::StoreLaw;
+use dstm_workload::Workload;
+
+/// A worker in a parallel round.
+#[derive(Drop)]
+pub struct Worker {
+    pub number: u32,
+    pub caller: Caller<StoreLaw>,
+    /// Where its jobs stand that are left, in file order.
+    pub places: Vec<usize>,
+    /// What was done of them, from the first on. There is room for all.
+    pub done: Vec<Finished>,
+}
+
+impl Worker {
+    /// Runs its jobs in file order, each until it is done, until it has none, its caller is spent, or a job stays
+    /// blocked. If there is a gate, it passes it once before the first attempt at each job.
+    pub fn run<G: Gate>(
+        &mut self,
+        stm: &Stm<StoreLaw>,
+        workload: &Workload,
+        options: &Options,
+        gate: Option<&G>,
+    )
+        requires valid { IsValidWorkload workload.now }
+        requires ready { IsReady workload.now stm.now self.old }
+        ensures { HasRun workload.now options.now self.old self.new }
+    {
+        let style = Style::of(workload.version, options.release);
+        let jobs = workload.jobs.as_slice();
+        for at in 0..self.places.len() {
+            let job = &jobs[self.places[at]];
+            if let Some(gate) = gate {
+                gate.pass(self.number, job.line);
+            }
+            match try_job(style, &mut self.caller, stm, &workload.layout, job) {
+                Ok(finished) => self.done.push_reserved(finished),
+                Err(_) => return,
+            }
+        }
+    }
+}

@@ -1,0 +1,160 @@
+ghost use Rattle.std.specs.Prelude.{◌≡◌, ◌<◌, [], All, IfOk};
+ghost use Rattle.dstm_engine.specs.Attempts.{done};
+ghost use Rattle.dstm_engine.specs.Callers.{law_of, shape_of, state};
+ghost use Rattle.dstm_model.specs.Layout.{IsValid};
+ghost use Rattle.dstm_workload.specs.Workload.{IsValidWorkload};
+ghost use Rattle.dstm_crew.specs.Tries.{AtRest};
+
+use dstm_core::{Manager, Shape};
+use dstm_crew::{Finished, OnlyTried, OpenGate, Style, Worker, give_up, try_alone};
+use dstm_engine::{Caller, Founder, Stm};
+use dstm_model::{Layout, Reply};
+use dstm_records::Options;
+use dstm_store::{StoreLaw, opening, read_state};
+use dstm_workload::{Workload, read_workload};
+use std::alloc::{AllocError, Global};
+use std::test::Fail;
+
+// A table on the opening values, and its only caller.
+fn open_table(
+    alloc: Global,
+    layout: &Layout,
+) -> Result<(Stm<StoreLaw>, Founder<StoreLaw>, Caller<StoreLaw>), Fail>
+    requires { IsValid layout.now }
+    ensures founder { IfOk result (λ t. t.1.home ≡ t.0) }
+    ensures out { IfOk result (λ t. t.1.view.out ≡ 1) }
+    ensures guests { IfOk result (λ t. t.1.guests ≡ 0) }
+    ensures home { IfOk result (λ t. t.2.home ≡ t.0) }
+    ensures law { IfOk result (λ t. (law_of t.2).layout ≡ layout.now) }
+    ensures only { IfOk result (λ t. (shape_of t.2).callers ≡ 1) }
+    ensures rest { IfOk result (λ t. AtRest t.2) }
+    ensures begun { IfOk result (λ t. (state t.2).begun ≡ 0) }
+    ensures done { IfOk result (λ t. done t.2 ≡ []) }
+{
+    let start = opening(alloc, layout)?;
+    if start.len() > 1_000 {
+        return Err(Fail::new("too large"));
+    }
+    let shape = Shape {
+        objects: start.len() as u32,
+        callers: 1,
+        attempts: 16,
+        locators: 2_000,
+        manager: Manager::Polka,
+        all_write: false,
+    };
+    let (stm, mut founder) = Stm::make(alloc, start, shape, StoreLaw { layout: *layout })?;
+    match founder.caller(alloc, &stm, 7) {
+        Ok(caller) => Ok((stm, founder, caller)),
+        Err(_) => Err(Fail::new("no caller")),
+    }
+}
+
+// All places of so many jobs.
+fn places_of(alloc: Global, count: usize) -> Result<Vec<usize>, AllocError>
+    ensures { IfOk result (λ places. All (λ place. place < count) places.items) }
+{
+    let mut places = Vec::new(alloc);
+    for place in 0..count {
+        places.push(place)?;
+    }
+    Ok(places)
+}
+
+// Runs the jobs of a workload by one worker, on a table of its own: what was done, and the balances that this left.
+fn run_worker(
+    alloc: Global,
+    workload: &Workload,
+    release: bool,
+) -> Result<(Vec<Finished>, Vec<u64>), Fail>
+    requires { IsValidWorkload workload.now }
+{
+    let options = Options {
+        manager: Manager::Polka,
+        seed: 7,
+        all_write: false,
+        release,
+    };
+    let (stm, mut founder, caller) = open_table(alloc, &workload.layout)?;
+    let places = places_of(alloc, workload.jobs.as_slice().len())?;
+    let done = Vec::with_capacity(alloc, places.len())?;
+    let mut worker = Worker {
+        number: 0,
+        caller,
+        places,
+        done,
+    };
+    worker.run(&stm, workload, &options, Some(&OpenGate));
+    let Worker { caller, done, .. } = worker;
+    founder.retire(&stm, caller);
+    let (values, _record) = stm.close(alloc, founder)?;
+    let state = read_state(alloc, &workload.layout, &values)?;
+    let mut bank = Vec::new(alloc);
+    bank.extend_from_slice(state.bank.as_slice())?;
+    Ok((done, bank))
+}
+
+// Jobs are done in file order, each under the next number.
+#[test]
+fn a_worker_runs_its_jobs(rt: HostRuntime) -> Result<(), Fail> {
+    let text =
+        b"dstm 1\nbank 2 100\nlist 4\ntx 0 transfer 0 1 30 ; total\ntx 0 insert list 7 ; member list 7\n";
+    let workload = read_workload(rt.alloc(), text)?;
+    for release in [false, true] {
+        let (done, bank) = run_worker(rt.alloc(), &workload, release)?;
+        assert_eq!(rt; done.len(), 2);
+        assert_eq!(rt; done[0].number, 0);
+        assert_eq!(rt;
+            done[0].replies.as_slice(),
+            [Reply::Moved, Reply::Number(200)].as_slice()
+        );
+        assert_eq!(rt; done[1].number, 1);
+        assert_eq!(rt;
+            done[1].replies.as_slice(),
+            [Reply::Yes, Reply::Yes].as_slice()
+        );
+        assert_eq!(rt; bank.as_slice(), [70, 130].as_slice());
+    }
+    Ok(())
+}
+
+// A worker runs the first open branch, and leaves at a job that stays blocked.
+#[test]
+fn a_worker_runs_branches(rt: HostRuntime) -> Result<(), Fail> {
+    let text =
+        b"dstm 3\nbank 2 100\ntx 0 await balance 0 150 ; total orelse transfer 1 0 60\ntx 0 await balance 1 50\n\
+        tx 0 total\n";
+    let workload = read_workload(rt.alloc(), text)?;
+    let (done, bank) = run_worker(rt.alloc(), &workload, false)?;
+    assert_eq!(rt; done.len(), 1);
+    assert_eq!(rt; done[0].replies.as_slice(), [Reply::Moved].as_slice());
+    assert_eq!(rt; bank.as_slice(), [160, 40].as_slice());
+    Ok(())
+}
+
+// The only caller of a table stands at a blocked job, gives it up, and does the next one.
+#[test]
+fn an_only_caller_gives_up_a_blocked_job(rt: HostRuntime) -> Result<(), Fail> {
+    let alloc = rt.alloc();
+    let text = b"dstm 3\nbank 1 5\ntx 0 await balance 0 6\ntx 0 balance 0\n";
+    let workload = read_workload(alloc, text)?;
+    let layout = &workload.layout;
+    let style = Style::of(workload.version, false);
+    let (stm, _founder, mut caller) = open_table(alloc, layout)?;
+    let [first, second] = workload.jobs.as_slice() else {
+        return Err(Fail::new("two jobs"));
+    };
+    let OnlyTried::Blocked = try_alone(style, &mut caller, &stm, layout, first) else {
+        return Err(Fail::new("not blocked"));
+    };
+    let Some(number) = give_up(&mut caller, &stm) else {
+        return Err(Fail::new("spent"));
+    };
+    assert_eq!(rt; number, 0);
+    let OnlyTried::Done(finished) = try_alone(style, &mut caller, &stm, layout, second) else {
+        return Err(Fail::new("not done"));
+    };
+    assert_eq!(rt; finished.number, 1);
+    assert_eq!(rt; finished.replies.as_slice(), [Reply::Number(5)].as_slice());
+    Ok(())
+}

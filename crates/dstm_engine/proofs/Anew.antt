@@ -1,0 +1,91 @@
+-- Whether the next attempt is of a new transaction, after an attempt that was made.
+use Rattle.std.proofs.Common.{◌≡◌, ◌≢◌, ◌∙◌, ◌⊎◌, ◌==◌, ◌||◌, ◌+◌, ◌-◌, ◌<◌, ◌≤◌, Bool, true, false, List, [], ap, arith, inl, inr, refl, subst, sym, ℕ}
+use Rattle.std.specs.Prelude.{Option, None, Some, IfSome, is_none}
+use Rattle.std.proofs.lemmas.Bool.{cases_Bool, ne_eqb}
+use Rattle.dstm_core.specs.Events.{Event}
+use Rattle.dstm_core.specs.Runs.{Core, local}
+use Rattle.dstm_core.specs.State.{LocalState, given, own_attempt}
+use Rattle.dstm_core.specs.Traces.{word}
+use Rattle.dstm_core.specs.Words.Word.{StatusWord}
+use Rattle.dstm_core.specs.declared.shape.Shape.{Shape}
+use Rattle.dstm_core.specs.declared.state.Phase.{Phase}
+use Rattle.dstm_core.specs.declared.state.Phase.TheVariants.{Outside}
+use Rattle.dstm_core.proofs.Statuses.{own_status}
+use Rattle.dstm_core.proofs.Underway.{is_outside_now}
+use Rattle.dstm_progress.proofs.Ends.{callers_in_range, end_stays}
+use Rattle.dstm_progress.proofs.Sound.{sound}
+use Rattle.dstm_progress.specs.Ends.{StaysAt, ended_as}
+use Rattle.dstm_model.specs.declared.value.Val.{Val}
+use Rattle.dstm_order.specs.declared.again.Again.{Again}
+use Rattle.dstm_engine.specs.Callers.{Called, shape_of, state}
+use Rattle.dstm_engine.specs.Endings.{Attempts}
+use Rattle.dstm_engine.specs.Outcomes.{IsLeft, Promises}
+use Rattle.dstm_order.specs.Retries.{is_new}
+
+not_new : (n m : ℕ) (b : Bool) → n ≡ m + 1 → (n == 0 || b) ≡ b
+not_new n m b q = let z : n == 0 ≡ false = ne_eqb n 0 (λ h. absurd (omega (arith, q, h))) in rw z refl
+
+below_4 : (p : Phase) → given p < 4
+below_4 Outside = omega arith
+below_4 p = omega arith
+
+module _ (s : Shape) (log : List Event) (c : ℕ) (core : Core s log) (some : 1 ≤ (local s log c).begun) where
+  -- an attempt whose status is committed has committed
+  committed_there : word s log (StatusWord (own_attempt s (local s log c))) ≡ 4 → (local s log c).committed ≡ true
+  committed_there is = by (is_outside_now (local s log c).phase) (cases_Bool (local s log c).committed)
+    where
+      by : ((local s log c).phase ≡ Outside) ⊎ ((local s log c).phase ≢ Outside) →
+          ((local s log c).committed ≡ true) ⊎ ((local s log c).committed ≡ false) → (local s log c).committed ≡ true
+      by o (inl q) = q
+      by (inl out) (inr q) =
+          absurd (let five : 4 ≡ 5 = sym is ∙ end_stays s log c out some [] core ∙ ap ended_as q in omega (arith, five))
+      by (inr inside) (inr q) =
+          absurd (either (own_status s log core c
+          ((callers_in_range s log c core).1 ((sound s log core c).number some)).0 inside))
+        where
+          either : (word s log (StatusWord (own_attempt s (local s log c))) ≡ given (local s log c).phase)
+              ⊎ (word s log (StatusWord (own_attempt s (local s log c))) ≡ 5) → ⊥
+          either (inl g) = let less = below_4 (local s log c).phase in omega (arith, is, g, less)
+          either (inr g) = omega (arith, is, g)
+
+  -- one whose status is aborted has not
+  aborted_there : word s log (StatusWord (own_attempt s (local s log c))) ≡ 5 → (local s log c).committed ≡ false
+  aborted_there is = by (is_outside_now (local s log c).phase) (cases_Bool (local s log c).committed)
+    where
+      by : ((local s log c).phase ≡ Outside) ⊎ ((local s log c).phase ≢ Outside) →
+          ((local s log c).committed ≡ true) ⊎ ((local s log c).committed ≡ false) → (local s log c).committed ≡ false
+      by o (inr q) = q
+      by (inl out) (inl q) =
+          absurd (let five : 5 ≡ 4 = sym is ∙ end_stays s log c out some [] core ∙ ap ended_as q in omega (arith, five))
+      by (inr inside) (inl q) = absurd (let no_way = (sound s log core c).goes inside in cc)
+
+-- the next attempt is of a new transaction once one has committed, and of the same one once it was aborted
+pub new_committed : {L : Type 0} (n : Called L) → Core (shape_of n) n.log → StaysAt (shape_of n) n.log n.number 4 →
+    1 ≤ (state n).begun → is_new (state n) ≡ true
+new_committed n core stays some =
+    not_new (state n).begun ((state n).begun - 1) (state n).committed (omega (arith, some))
+    ∙ committed_there (shape_of n) n.log n.number core some (stays [] core)
+
+pub same_aborted : {L : Type 0} (n : Called L) → Core (shape_of n) n.log → StaysAt (shape_of n) n.log n.number 5 →
+    1 ≤ (state n).begun → is_new (state n) ≡ false
+same_aborted n core stays some =
+    not_new (state n).begun ((state n).begun - 1) (state n).committed (omega (arith, some))
+    ∙ aborted_there (shape_of n) n.log n.number core some (stays [] core)
+
+pub new_after : {L : Type 0} (holds : L → List Val → Type 0) (k n : Called L) (again : Option Again) →
+    Attempts holds k n again → is_new (state n) ≡ is_none again
+new_after holds k n again a = not_new (state n).begun (state k).begun (state n).committed a.begun ∙ by again a.answers a.status
+  where
+    core : Core (shape_of n) n.log
+    core = subst (λ h. Core h.terms.shape n.log) (sym a.same.0) a.run.run.core
+
+    some : 1 ≤ (state n).begun
+    some = let b = a.begun in omega (arith, b)
+
+    by : (o : Option Again) → o ≡ n.left → (o ≡ None → StaysAt (shape_of n) n.log n.number 4) →
+        (state n).committed ≡ is_none o
+    by None left stays = committed_there (shape_of n) n.log n.number core some (stays refl [] core)
+    by (Some x) left stays =
+        let was : IsLeft n x × Promises n x =
+        subst (λ o. IfSome o (λ (y : Again). IsLeft n y × Promises n y)) (sym left) a.ended.left in
+        aborted_there (shape_of n) n.log n.number core some (was.0.aborted [] core)

@@ -1,0 +1,92 @@
+-- The calls of an attempt.
+use Rattle.std.proofs.Common.{◌≡◌, ◌∙◌, ◌⊎◌, ◌++◌, ◌∷◌, ◌&&◌, ◌==◌, ◌||◌, ◌+◌, Bool, true, false, not, List, [], None, Some, ap, append_assoc, arith, inl, inr, refl, subst, sym, ℕ}
+use Rattle.std.specs.Prelude.{Option, is_none, is_some, if◌then◌else◌}
+use Rattle.std.proofs.lemmas.Bool.{and_parts, cases_Bool, cond_both, eqb-true}
+use Rattle.rand_pcg.specs.Lcg.{Lcg}
+use Rattle.dstm_core.specs.Events.{Event}
+use Rattle.dstm_core.specs.Rules.{is_outside}
+use Rattle.dstm_core.specs.Runs.{local}
+use Rattle.dstm_core.specs.State.{LocalState}
+use Rattle.dstm_core.specs.Traces.{events_of}
+use Rattle.dstm_core.specs.declared.shape.Shape.{Shape}
+use Rattle.dstm_model.specs.declared.value.Val.{Val}
+use Rattle.dstm_order.specs.Calls.{IsCall, effort_of, state_after}
+use Rattle.dstm_order.specs.Tasks.{Task, Work}
+use Rattle.dstm_order.specs.Tasks.Task.{Beginning, Doing}
+use Rattle.dstm_order.specs.declared.again.Again.{Again}
+use Rattle.dstm_progress.specs.Alone.{AreCalls, Made, all_events, generator_after}
+use Rattle.dstm_engine.specs.Callers.{Called, begun_log, shape_of, state}
+use Rattle.dstm_engine.specs.Calls.{IsTold, Performs, begun_state}
+use Rattle.dstm_engine.specs.Endings.{Attempts}
+use Rattle.dstm_order.specs.Made.{AreMade, Call, events_in, generator_by, state_by}
+use Rattle.dstm_engine.specs.Makes.{Makes}
+use Rattle.dstm_order.specs.Retries.{TriesAgain, is_new}
+use Rattle.dstm_engine.proofs.AddingUp.{makes_both, makes_one}
+
+-- the calls on an attempt, as calls
+abbrev pub doing : List Made → List Call
+doing [] = []
+doing (m ∷ ms) = record { task = Doing m.work; events = m.events } ∷ doing ms
+
+doing_events : (ms : List Made) → events_in (doing ms) ≡ all_events ms
+doing_events [] = refl
+doing_events (m ∷ ms) = ap (λ es. m.events ++ es) (doing_events ms)
+
+module _ (s : Shape) (l : LocalState) (g : Lcg) where
+  doing_state : (ms : List Made) → state_after s l (all_events ms) ≡ state_by s l g (doing ms)
+  doing_state ms = ap (state_after s l) (sym (doing_events ms))
+
+  doing_generator : (ms : List Made) → generator_after s l g ms ≡ generator_by s l g (doing ms)
+  doing_generator [] = refl
+  doing_generator (m ∷ ms) =
+      ap (λ (n : LocalState). (effort_of s n (generator_after s l g ms) m.events).generator) (doing_state ms)
+      ∙ ap (λ (h : Lcg). (effort_of s (state_by s l g (doing ms)) h m.events).generator) (doing_generator ms)
+
+  doing_made : (ms : List Made) → AreCalls s l g ms → AreMade s l g TriesAgain (doing ms)
+  doing_made [] are = tt
+  doing_made (m ∷ ms) are = (
+    doing_made ms are.0,
+    tt,
+    subst (λ (h : Lcg). IsCall (Doing m.work) s (state_by s l g (doing ms)) h m.events) (doing_generator ms)
+        (subst (λ (n : LocalState). IsCall (Doing m.work) s n (generator_after s l g ms) m.events) (doing_state ms) are.1),
+  )
+
+-- from the Begin on
+module _ {L : Type 0} (began n : Called L) (home : n.home ≡ began.home) (number : n.number ≡ began.number)
+    (at_begin : began.log ≡ begun_log n.number n.log) (generator : began.generator ≡ n.began) (t : IsTold n) where
+  same_shape : shape_of n ≡ shape_of began
+  same_shape = ap (λ h. h.terms.shape) home
+
+  same_state : begun_state n ≡ state began
+  same_state =
+      ap (λ (s : Shape). local s (begun_log n.number n.log) n.number) same_shape
+      ∙ ap (λ es. local (shape_of began) es n.number) (sym at_begin)
+      ∙ ap (local (shape_of began) began.log) number
+
+  pub told_makes : Makes TriesAgain began n
+  told_makes = record {
+    calls = doing t.calls;
+    own =
+        t.own
+        ∙ ap (λ es. es ++ events_of n.number (begun_log n.number n.log)) (sym (doing_events t.calls))
+        ∙ ap (λ es. events_in (doing t.calls) ++ events_of n.number es) (sym at_begin)
+        ∙ ap (λ c. events_in (doing t.calls) ++ events_of c began.log) number;
+    made =
+        doing_made (shape_of began) (state began) began.generator t.calls
+        (subst (λ (s : Shape). AreCalls s (state began) began.generator t.calls) same_shape
+        (subst (λ (l : LocalState). AreCalls (shape_of n) l began.generator t.calls) same_state
+        (subst (λ (g : Lcg). AreCalls (shape_of n) (begun_state n) g t.calls) (sym generator) t.are_calls)));
+    generator =
+        t.generator
+        ∙ ap (λ (s : Shape). generator_after s (begun_state n) n.began t.calls) same_shape
+        ∙ ap (λ (l : LocalState). generator_after (shape_of began) l n.began t.calls) same_state
+        ∙ ap (λ (g : Lcg). generator_after (shape_of began) (state began) g t.calls) (sym generator)
+        ∙ doing_generator (shape_of began) (state began) began.generator t.calls;
+    same = (home, number);
+  }
+
+pub attempt_makes : {L : Type 0} (holds : L → List Val → Type 0) (k n : Called L) (again : Option Again) →
+    k.fresh ≡ is_new (state k) → Attempts holds k n again → Makes TriesAgain k n
+attempt_makes holds k n again fresh a =
+    makes_both TriesAgain k a.began n (makes_one TriesAgain holds (Beginning k.fresh) k a.began None fresh a.begins)
+    (told_makes a.began n (a.same.0 ∙ sym a.begins.same.0) (a.same.1 ∙ sym a.begins.same.1) a.at_begin a.generator a.ended.told)

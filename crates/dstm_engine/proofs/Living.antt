@@ -1,0 +1,63 @@
+-- The life of a caller.
+use Rattle.std.proofs.Common.{◌≡◌, ◌∙◌, ◌⊎◌, ◌++◌, ◌∷◌, ◌==◌, true, false, List, [], None, ap, arith, inl, inr, refl, subst, sym, ℕ}
+use Rattle.std.specs.Prelude.{Contains}
+use Rattle.std.proofs.lemmas.Bool.{cases_Bool}
+use Rattle.rand_pcg.specs.Lcg.{Lcg}
+use Rattle.dstm_core.specs.Events.{Event}
+use Rattle.dstm_core.specs.Traces.{events_of}
+use Rattle.dstm_core.specs.declared.shape.Shape.{Shape}
+use Rattle.dstm_model.specs.declared.value.Val.{Val}
+use Rattle.dstm_machines.proofs.Own.{own_append, own_first, own_other}
+use Rattle.dstm_managers.specs.Choices.{started}
+use Rattle.dstm_order.specs.Tasks.Task.{Enrolling, Leaving}
+use Rattle.dstm_engine.specs.Callers.{Called, seat_view, shape_of, state}
+use Rattle.dstm_engine.specs.Tables.{Enrols, Founding, Retires, unnumbered}
+use Rattle.dstm_order.specs.Made.{ByCalls}
+use Rattle.dstm_engine.specs.Makes.{Makes}
+use Rattle.dstm_order.specs.Retries.{TriesAgain}
+use Rattle.dstm_engine.specs.Lives.{ALifeIsCalls}
+use Rattle.dstm_engine.proofs.AddingUp.{makes_all, makes_both, makes_one}
+
+-- an own event is one of the caller
+own_is : (c : ℕ) (es : List Event) (e : Event) (rest : List Event) → events_of c es ≡ e ∷ rest → (e.caller == c) ≡ true
+own_is c [] e rest q = absurd (cc)
+own_is c (x ∷ es) e rest q = by (own_is c es e rest) (cases_Bool (x.caller == c))
+  where
+    by : (events_of c es ≡ e ∷ rest → (e.caller == c) ≡ true) →
+        (x.caller == c ≡ true) ⊎ (x.caller == c ≡ false) → (e.caller == c) ≡ true
+    by ih (inl own) =
+        let same : x ≡ e = let all = sym (own_first x es c own) ∙ q in cc in
+        subst (λ (y : Event). (y.caller == c) ≡ true) same own
+    by ih (inr other) = ih (sym (own_other x es c other) ∙ q)
+
+empty_right : (xs ys : List Event) → xs ++ ys ≡ [] → ys ≡ []
+empty_right [] ys q = q
+empty_right (x ∷ xs) ys q = absurd (cc)
+
+-- before its Enrol it had none
+none_before : (c : ℕ) (e : Event) (between old : List Event) → events_of c (e ∷ (between ++ old)) ≡ e ∷ [] →
+    events_of c old ≡ []
+none_before c e between old q =
+    let mine = own_is c (e ∷ (between ++ old)) e [] q in
+    let all : e ∷ events_of c (between ++ old) ≡ e ∷ [] = sym (own_first e (between ++ old) c mine) ∙ q in
+    let rest : events_of c (between ++ old) ≡ [] = cc in
+    empty_right (events_of c between) (events_of c old) (sym (own_append c between old) ∙ rest)
+
+pub a_life_is_calls : {L : Type 0} (holds : L → List Val → Type 0) → ALifeIsCalls L holds
+a_life_is_calls holds f g later last seed k n log enrols makes retires known =
+    let u : Called _ = record (unnumbered f seed) { number = k.number } in
+    let quit = retires.quit in
+    let born : Makes TriesAgain u k = makes_one TriesAgain holds Enrolling u k None tt enrols.steps in
+    let gone : Makes TriesAgain n quit = makes_one TriesAgain holds Leaving n quit None tt retires.steps in
+    let life : Makes TriesAgain u quit =
+    makes_both TriesAgain u n quit (makes_both TriesAgain u k n born makes) gone in
+    let none : events_of u.number u.log ≡ [] =
+    none_before k.number enrols.enrol enrols.log.0 f.view.log (ap (events_of k.number) (sym enrols.log.1) ∙ enrols.own) in
+    let one_of : Contains (quit.number ∷ []) quit.number = (0, omega arith, refl) in
+    let there : events_of quit.number log ≡ events_of quit.number quit.log =
+    ap (λ c. events_of c log) retires.steps.same.1 ∙ known ∙ ap (λ c. events_of c last.view.log) (sym retires.steps.same.1)
+    ∙ retires.joined.other_kept quit.number one_of in
+    let by : ByCalls TriesAgain (shape_of u) u.generator log quit.number = makes_all TriesAgain u quit log none life there in
+    let shape : shape_of u ≡ shape_of n = ap (λ h. h.terms.shape) (sym (makes.same.0 ∙ born.same.0)) in
+    subst (λ c. ByCalls TriesAgain (shape_of n) (started (shape_of n).manager seed).generator log c) retires.steps.same.1
+    (subst (λ (s : Shape). ByCalls TriesAgain s (started s.manager seed).generator log quit.number) shape by)

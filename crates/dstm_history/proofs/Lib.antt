@@ -1,4 +1,0 @@
-pub mod Gathered
-pub mod Orders
-pub mod Histories
-pub mod Callers

@@ -1,5 +1,0 @@
-use Rattle.dstm_history.proofs.Callers.{entries_are_history}
-use Rattle.dstm_history.proofs.entries_are_history.Goals as goal
-
-pub returns : goal.returns
-returns g c = λ commits entry trace. entries_are_history commits entry trace

@@ -1,5 +1,0 @@
-use Rattle.dstm_history.proofs.Gathered.{told_prefix}
-use Rattle.dstm_history.proofs.places_have_prefixes.Goals as goal
-
-pub returns : goal.returns
-returns g c = λ commits entry later before. told_prefix commits entry later before

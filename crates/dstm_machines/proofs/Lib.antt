@@ -1,0 +1,10 @@
+pub mod Runs
+pub mod Pasts
+pub mod Totals
+pub mod Own
+pub mod Attempts
+pub mod Fitting
+pub mod Gathered
+pub mod Orders
+pub mod Histories
+pub mod Callers

@@ -1,0 +1,6 @@
+pub mod Traces
+pub mod Machines
+pub mod Sharing
+pub mod Attempts
+pub mod Histories
+pub mod Laws

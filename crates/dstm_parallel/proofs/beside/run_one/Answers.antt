@@ -1,6 +1,0 @@
-use Rattle.dstm_parallel.proofs.Ended.{has_ended}
-use Rattle.dstm_parallel.proofs.beside.run_one.Goals as goal
-
-pub returns-clause-ended : goal.returns-clause-ended
-returns-clause-ended g c =
-    has_ended c.args.workload.now c.args.options.now c.args.stm.now c.args.worker.now c.run.new.self c.requires.ready c.run.ensures

@@ -1,0 +1,97 @@
+-- How an attempt is left: by an event at its own status, which it finds or makes finished.
+use Rattle.std.proofs.Common.{◌==◌, ◌∙◌, ◌≡◌, ◌≢◌, ◌⊎◌, [], ap, false, inl, inr, length, refl, true, ℕ}
+use Rattle.std.proofs.lemmas.Bool.{cases_Bool, cond_both, eq-eqb}
+use Rattle.dstm_core.specs.Events.{Event}
+use Rattle.dstm_core.specs.Rules.{AllowedAs, after}
+use Rattle.dstm_core.specs.State.{LocalState, given, own_attempt}
+use Rattle.dstm_core.specs.Words.{place}
+use Rattle.dstm_core.specs.Words.Word.{StatusWord}
+use Rattle.dstm_core.specs.declared.event.Kind.{Kind}
+use Rattle.dstm_core.specs.declared.event.Kind.TheVariants.{Begin, Commit, Draw, Install, LookSelf, Pause, PutHigh, PutNew, Quit, Resume, Validating as ToValidating}
+use Rattle.dstm_core.specs.declared.shape.Shape.{Shape}
+use Rattle.dstm_core.specs.declared.state.Phase.TheVariants.{Outside, Paused, Putting, Running, Validating}
+use Rattle.dstm_progress.specs.Causes.{is_at_own}
+
+-- it commits, or it is aborted: it quits, or finds that another has aborted it
+pub data LeftHow (s : Shape) (l : LocalState) (e : Event) (k : Kind) : Type 0 where
+  by_commit : (after k s l e).committed ≡ true → e.put ≡ 4 → LeftHow s l e k
+  by_quit : k ≡ Quit → (after k s l e).committed ≡ false → e.put ≡ 5 → LeftHow s l e k
+  by_other : is_at_own k ≡ true → e.found ≡ 5 → (after k s l e).committed ≡ false → e.put ≡ 5 → LeftHow s l e k
+
+pub record Left (s : Shape) (l : LocalState) (e : Event) (k : Kind) : Type 0 where
+  pub at : e.place ≡ place s (StatusWord (own_attempt s l))
+  pub same : own_attempt s (after k s l e) ≡ own_attempt s l
+  pub how : LeftHow s l e k
+
+-- a word that is not the one given was aborted
+aborted : (e : Event) (g : ℕ) → (e.found == g) ≡ false → (e.found ≡ g) ⊎ (e.found ≡ 5) → e.found ≡ 5
+aborted e g q (inl x) = absurd (let y = eq-eqb e.found g x in cc)
+aborted e g q (inr x) = x
+
+pub left_how : (s : Shape) (l : LocalState) (e : Event) (k : Kind) → AllowedAs k s l e → l.phase ≢ Outside →
+    l.committed ≡ false → (after k s l e).phase ≡ Outside →
+    (e.place ≡ place s (StatusWord (own_attempt s l)) → (e.found ≡ given l.phase) ⊎ (e.found ≡ 5)) → Left s l e k
+left_how s l e Begin a i n o f = absurd (cc)
+left_how s l e PutHigh a i n o f = absurd (cc)
+left_how s l e PutNew a i n o f = absurd (cc)
+left_how s l e Draw a i n o f = absurd (cc)
+left_how s l e Install a i n o f = absurd (i
+    (cond_both (e.found == e.expected) _ _ (λ (m : LocalState). m.phase ≡ Outside → l.phase ≡ Outside) (λ _ q. q)
+    (λ _ q. q) o))
+left_how s l e LookSelf a i n o f = go (cases_Bool (e.found == given l.phase))
+  where
+    go : (e.found == given l.phase ≡ true) ⊎ (e.found == given l.phase ≡ false) → Left s l e LookSelf
+    go (inl q) = absurd (i (rw q at o))
+    go (inr q) = let five = aborted e (given l.phase) q (f a.0) in record {
+      at = a.0;
+      same = rw q refl;
+      how = by_other refl five (rw q n) (a.1.1 ∙ five);
+    }
+left_how s l e ToValidating a i n o f = go (cases_Bool (e.found == 1))
+  where
+    was : ((l.phase ≡ Running) × (l.writes ≡ [])) ⊎ ((l.phase ≡ Putting) × (l.written ≡ length l.writes)) →
+        given l.phase ≡ 1
+    was (inl x) = ap given x.0
+    was (inr x) = ap given x.0
+
+    go : (e.found == 1 ≡ true) ⊎ (e.found == 1 ≡ false) → Left s l e ToValidating
+    go (inl q) = absurd (let x : Validating ≡ Outside = rw q at o in cc)
+    go (inr q) = let five = aborted e 1 q (rw (was a.2.0) at f a.0) in record {
+      at = a.0;
+      same = rw q refl;
+      how = by_other refl five (rw q n) (a.1.1 ∙ rw q five);
+    }
+left_how s l e Commit a i n o f = go (cases_Bool (e.found == 3))
+  where
+    go : (e.found == 3 ≡ true) ⊎ (e.found == 3 ≡ false) → Left s l e Commit
+    go (inl q) = record { at = a.0; same = refl; how = by_commit q (a.1.1 ∙ rw q refl) }
+    go (inr q) = let five = aborted e 3 q (rw (ap given a.2.0) at f a.0) in record {
+      at = a.0;
+      same = refl;
+      how = by_other refl five q (a.1.1 ∙ rw q five);
+    }
+left_how s l e Quit a i n o f = go (cases_Bool (e.found == given l.phase))
+  where
+    go : (e.found == given l.phase ≡ true) ⊎ (e.found == given l.phase ≡ false) → Left s l e Quit
+    go (inl q) = record { at = a.0; same = refl; how = by_quit refl n (a.1.1 ∙ rw q refl) }
+    go (inr q) = let five = aborted e (given l.phase) q (f a.0) in
+        record { at = a.0; same = refl; how = by_quit refl n (a.1.1 ∙ rw q five) }
+left_how s l e Pause a i n o f = go (cases_Bool (e.found == 1))
+  where
+    go : (e.found == 1 ≡ true) ⊎ (e.found == 1 ≡ false) → Left s l e Pause
+    go (inl q) = absurd (let x : Paused ≡ Outside = rw q at o in cc)
+    go (inr q) = let five = aborted e 1 q (rw (ap given a.2.0) at f a.0) in record {
+      at = a.0;
+      same = rw q refl;
+      how = by_other refl five (rw q n) (a.1.1 ∙ rw q five);
+    }
+left_how s l e Resume a i n o f = go (cases_Bool (e.found == 2))
+  where
+    go : (e.found == 2 ≡ true) ⊎ (e.found == 2 ≡ false) → Left s l e Resume
+    go (inl q) = absurd (let x : Running ≡ Outside = rw q at o in cc)
+    go (inr q) = let five = aborted e 2 q (rw (ap given a.2.0) at f a.0) in record {
+      at = a.0;
+      same = rw q refl;
+      how = by_other refl five (rw q n) (a.1.1 ∙ rw q five);
+    }
+left_how s l e k a i n o f = absurd (i o)

@@ -1,0 +1,160 @@
+-- No Release without a call that lets a read go.
+use Rattle.std.proofs.Common.{◌&&◌, ◌≡◌, ◌≢◌, ◌⊎◌, ◌∙◌, ◌++◌, ◌∷◌, ◌==◌, ◌||◌, Bool, List, [], Some, None, true, false, ap, inl, inr, refl, subst, sym, not, ℕ}
+use Rattle.std.specs.Prelude.{Option, if◌then◌else◌, is_some}
+use Rattle.std.proofs.lemmas.Bool.{cases_Bool, cond_both, eq-eqb}
+use Rattle.rand_pcg.specs.Lcg.{Lcg}
+use Rattle.dstm_core.specs.Events.{Event}
+use Rattle.dstm_core.specs.Rules.{is_outside}
+use Rattle.dstm_core.specs.State.{LocalState, first}
+use Rattle.dstm_core.specs.Traces.{events_of}
+use Rattle.dstm_core.specs.declared.event.Kind.{Kind}
+use Rattle.dstm_core.specs.declared.event.Kind.TheVariants.{Begin, Check, Commit, Draw, Enrol, Install, LookNumber, LookSelf, PutHigh, PutNew, PutOld, PutOwner, Quit, Rank, Release, Stamp, Validating as ToValidating}
+use Rattle.dstm_core.specs.declared.shape.Manager.{Manager}
+use Rattle.dstm_core.specs.declared.shape.Shape.{Shape}
+use Rattle.dstm_machines.specs.Traces.{Each}
+use Rattle.dstm_machines.proofs.Own.{own_first, own_other}
+use Rattle.dstm_order.specs.Calls.{Obeys, effort_of, newest_of, state_after}
+use Rattle.dstm_order.specs.Efforts.{Effort}
+use Rattle.dstm_order.specs.Order.{Due, IsDue, at_first, due, has_begun, has_ranks, has_stamps, in_beginning, in_resolving, is_spent, just, next, next_or_first, rises, when_resolved}
+use Rattle.dstm_order.specs.Order.Due.{Done, Step}
+use Rattle.dstm_order.specs.declared.TheConstants.{MAX_MISSED}
+use Rattle.dstm_order.specs.Tasks.{Task, Work}
+use Rattle.dstm_order.specs.Tasks.Task.{Beginning, Doing, Enrolling, Leaving}
+use Rattle.dstm_order.specs.Tasks.Work.{Reading, Writing, Releasing, Rechecking, Committing}
+use Rattle.dstm_order.proofs.Rows.{checking_by, checks_by, giving_way_by, pass_by, passed_by, put_by, putting_by, resolving_by}
+use Rattle.dstm_order.specs.Made.{AreMade, ByCalls, Call, events_in, generator_by, state_by}
+use Rattle.dstm_order.specs.Retries.{KeepsReads}
+use Rattle.dstm_progress.specs.Lives.{NoReleases}
+
+abbrev is_release : Kind → Bool
+is_release Release = true
+is_release k = false
+
+abbrev NoRelease : Due → Type 0
+NoRelease (Step k n) = is_release k ≡ false
+NoRelease Done = Unit {0}
+
+abbrev Holds : Work → Type 0
+Holds (Releasing o) = ⊥
+Holds w = Unit {0}
+
+resolved_no : (w : Work) → NoRelease (when_resolved w)
+resolved_no (Reading o) = refl
+resolved_no (Writing o) = refl
+resolved_no (Releasing o) = tt
+resolved_no Rechecking = tt
+resolved_no (Committing v) = tt
+
+first_no : (w : Work) (l : LocalState) → Holds w → NoRelease (at_first w l)
+first_no (Reading o) l h = refl
+first_no (Writing o) l h = refl
+first_no (Releasing o) l h = absurd h
+first_no Rechecking l h = refl
+first_no (Committing v) l h = putting_by NoRelease v l refl (λ n. refl) (λ n. refl)
+
+resolving_no : (w : Work) (m : Manager) (l : LocalState) (f : Effort) → NoRelease (in_resolving m l f (when_resolved w))
+resolving_no w m l f =
+    resolving_by NoRelease m l f (when_resolved w) (record {
+      owner = refl;
+      status = refl;
+      rank = refl;
+      old = refl;
+      high = refl;
+      new = refl;
+      kill = refl;
+      pause = refl;
+    }) (λ _. giving_way_by NoRelease l f refl refl refl) (resolved_no w)
+
+next_no : (k : Kind) (e : Event) (w : Work) (m : Manager) (l : LocalState) (f : Effort) → Holds w →
+    NoRelease (next k e w m l f)
+next_no PutOwner e w m l f h = refl
+next_no PutOld e w m l f h = refl
+next_no Install e w m l f h = cond_both (e.found == e.expected) _ _ NoRelease (λ _. refl) (λ _. first_no w l h)
+next_no LookNumber e w m l f h = pass_by NoRelease l refl refl
+next_no Check e w m l f h = checks_by NoRelease l.phase l refl refl refl
+next_no LookSelf e w m l f h = passed_by NoRelease w m l tt (λ n. refl)
+next_no PutHigh e w m l f h = put_by NoRelease w l tt refl (λ n. refl) (λ n. refl)
+next_no PutNew e w m l f h = put_by NoRelease w l tt refl (λ n. refl) (λ n. refl)
+next_no ToValidating e w m l f h = refl
+next_no Draw e w m l f h = checking_by NoRelease l refl refl
+next_no Rank e w m l f h = tt
+next_no Release e w m l f h = tt
+next_no Commit e w m l f h = tt
+next_no Quit e w m l f h = tt
+next_no Enrol e w m l f h = tt
+next_no Stamp e w m l f h = tt
+next_no Begin e w m l f h = tt
+next_no k e w m l f h = resolving_no w m l f
+
+table_no : (o : Option Event) (w : Work) (m : Manager) (l : LocalState) (f : Effort) → Holds w →
+    NoRelease (next_or_first o w m l f)
+table_no None w m l f h = first_no w l h
+table_no (Some e) w m l f h = next_no e.kind e w m l f h
+
+due_no : (t : Task) (s : Shape) (o : Option Event) (l m : LocalState) (f : Effort) → KeepsReads m t → NoRelease (due t s o l f)
+due_no Enrolling s o l m f h = cond_both (is_some l.number) _ _ NoRelease (λ _. tt) (λ _. refl)
+due_no (Beginning fresh) s o l m f h =
+    cond_both (has_begun o) _ _ NoRelease (λ _. tt) (λ _.
+    cond_both (not (is_outside l.phase)) _ _ NoRelease (λ _. refl) (λ _.
+    cond_both (is_spent s l) _ _ NoRelease (λ _. tt) (λ _.
+    cond_both (has_stamps s.manager && fresh && not l.stamped) (just Stamp)
+    (if has_ranks s.manager && not l.ranked then Step Rank (if rises s.manager && fresh then 0 else l.rank) else just Begin)
+    NoRelease (λ _. refl) (λ _.
+    cond_both (has_ranks s.manager && not l.ranked) (Step Rank (if rises s.manager && fresh then 0 else l.rank)) (just Begin)
+    NoRelease (λ _. refl) (λ _. refl)))))
+due_no Leaving s o l m f h = cond_both (is_outside l.phase) _ _ NoRelease (λ _. tt) (λ _. refl)
+due_no (Doing w) s o l m f h =
+    cond_both (is_outside l.phase) _ _ NoRelease (λ _. tt) (λ _.
+    cond_both (l.stale || f.missed == MAX_MISSED) _ _ NoRelease (λ _. refl) (λ _. table_no o w s.manager l f (held w h)))
+  where
+    held : (w : Work) → KeepsReads m (Doing w) → Holds w
+    held (Releasing o) h = h
+    held (Reading o) h = tt
+    held (Writing o) h = tt
+    held Rechecking h = tt
+    held (Committing v) h = tt
+
+not_release : (d : Due) (e : Event) → NoRelease d → IsDue d e → e.kind ≢ Release
+not_release (Step k n) e other is q = absurd (let x : true ≡ false = ap is_release (sym q ∙ is.0) ∙ other in cc)
+not_release Done e other is q = is
+
+abbrev NoneIn : List Event → Type 0
+NoneIn [] = Unit {0}
+NoneIn (e ∷ es) = NoneIn es × (e.kind ≢ Release)
+
+none_both : (xs ys : List Event) → NoneIn xs → NoneIn ys → NoneIn (xs ++ ys)
+none_both [] ys a b = b
+none_both (x ∷ xs) ys a b = (none_both xs ys a.0 b, a.1)
+
+call_none : (t : Task) (s : Shape) (l : LocalState) (g : Lcg) (es : List Event) → KeepsReads l t → Obeys t s l g es → NoneIn es
+call_none t s l g [] may h = tt
+call_none t s l g (e ∷ es) may h = (
+  call_none t s l g es may h.0,
+  not_release (due t s (newest_of es) (state_after s l es) (effort_of s l g es)) e
+      (due_no t s (newest_of es) (state_after s l es) l (effort_of s l g es) may) h.1,
+)
+
+calls_none : (s : Shape) (l : LocalState) (g : Lcg) (cs : List Call) → AreMade s l g KeepsReads cs → NoneIn (events_in cs)
+calls_none s l g [] m = tt
+calls_none s l g (c ∷ cs) m =
+    none_both c.events (events_in cs)
+    (call_none c.task s (state_by s l g cs) (generator_by s l g cs) c.events m.1 m.2.obeys) (calls_none s l g cs m.0)
+
+abbrev NoneOf : ℕ → List Event → Type 0
+NoneOf c log = Each (λ (event : Event) before. event.caller ≡ c → event.kind ≢ Release) log
+
+log_none : (c : ℕ) (log : List Event) → NoneIn (events_of c log) → NoneOf c log
+log_none c [] h = tt
+log_none c (e ∷ es) h = by (λ own. log_none c es own) (cases_Bool (e.caller == c))
+  where
+    by : (NoneIn (events_of c es) → NoneOf c es) → (e.caller == c ≡ true) ⊎ (e.caller == c ≡ false) → NoneOf c (e ∷ es)
+    by ih (inl q) =
+        let own : NoneIn (e ∷ events_of c es) = subst NoneIn (own_first e es c q) h in
+        (ih own.0, λ here. own.1)
+    by ih (inr q) = (
+      ih (subst NoneIn (own_other e es c q) h),
+      λ here. absurd (let no_way : true ≡ false = sym (eq-eqb e.caller c here) ∙ q in cc),
+    )
+
+pub no_releases : NoReleases
+no_releases s g log c by = log_none c log (subst NoneIn (sym by.own) (calls_none s first g by.calls by.made))

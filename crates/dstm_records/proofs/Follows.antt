@@ -1,0 +1,127 @@
+-- A transaction that committed, and the row that tells of it: what it answered on every map that it could have read it
+-- answered on the map that those before it left.
+use Rattle.std.proofs.Common.{◌≡◌, false, eqb, List, [], ◌∷◌, ◌++◌, Option, Some, None, refl, ap, sym, subst, ◌∙◌, true≢false, append_assoc}
+use Rattle.std.specs.Prelude.{IsSomeAnd, IfSome, find}
+use Rattle.std.proofs.lemmas.List.{append-nil}
+use Rattle.dstm_model.specs.declared.value.Val.{Val}
+use Rattle.dstm_model.specs.declared.reply.Reply.{Reply}
+use Rattle.dstm_model.specs.Job.{JobOutcome, apply_job}
+use Rattle.dstm_model.specs.Map.{Entry, Agrees, IsLegal, with_writes, state_after}
+use Rattle.dstm_model.specs.Store.{Store, opening_store}
+use Rattle.dstm_opacity.specs.Committed.{Committed}
+use Rattle.dstm_store.specs.Whole.{StandsFor}
+use Rattle.dstm_workload.specs.declared.workload.Job.{Job}
+use Rattle.dstm_workload.specs.declared.workload.Workload.{Workload}
+use Rattle.dstm_report.specs.declared.report.Row.{Row}
+use Rattle.dstm_report.specs.Lawful.{after_rows, after_job, store_left, store_after, first_job, jobs_left, last_row}
+use Rattle.dstm_report.specs.Lawful.{IsBefore, AllBlocked, AnswersWhere, IsGoodRow}
+use Rattle.dstm_records.specs.Answers.{IsAnsweredBy}
+use Rattle.dstm_records.specs.Records.{is_given_up, job_of, GivesReplies, TellsOf, TellOf, entries_of}
+
+-- ---- the store after one row more
+
+after_rows-push : (jobs : List Job) (rows : List Row) (row : Row) (store : Store) →
+    after_rows jobs (rows ++ row ∷ []) store ≡ after_job (find (λ job. eqb job.line row.line) jobs)
+    (after_rows jobs rows store)
+after_rows-push jobs [] row store = refl
+after_rows-push jobs (first ∷ rows) row store =
+    after_rows-push jobs rows row (after_job (find (λ job. eqb job.line first.line) jobs) store)
+
+-- the store after a row, whose job is known
+pub store_push : (workload : Workload) (before : List Row) (row : Row) (job : Job) →
+    job_of workload row ≡ Some job →
+    store_after workload (before ++ row ∷ []) ≡ store_left (apply_job job.ops (store_after workload before))
+    (store_after workload before)
+store_push workload before row job is =
+    after_rows-push workload.jobs before row (opening_store workload.layout)
+    ∙ ap (λ (o : Option Job). after_job o (store_after workload before)) is
+
+-- ---- the row of a job that was done
+
+left_by : (P : JobOutcome → Type 0) (Q : Store → Type 0) (o : Option JobOutcome) (store : Store) →
+    ((outcome : JobOutcome) → P outcome → Q outcome.store) → IsSomeAnd o P → Q (store_left o store)
+left_by P Q None store each some = absurd some
+left_by P Q (Some outcome) store each some = each outcome some
+
+weaker : (P Q : JobOutcome → Type 0) (o : Option JobOutcome) → ((outcome : JobOutcome) → P outcome → Q outcome) →
+    IsSomeAnd o P → IsSomeAnd o Q
+weaker P Q None each some = absurd some
+weaker P Q (Some outcome) each some = each outcome some
+
+-- a transaction that began at the map that those before it left, and its row
+pub tells : (workload : Workload) (before : List Row) (row : Row) (map : List Val) (done : Committed) (job : Job) →
+    StandsFor workload.layout map (store_after workload before) → Agrees map done.entry.reads →
+    row.number ≡ done.number → job_of workload row ≡ Some job → is_given_up row.replies ≡ false →
+    IsAnsweredBy workload.layout job.ops row.replies done.entry →
+    TellsOf workload before row map done
+tells workload before row map done job stands agrees number is kept answered =
+    let there = store_after workload before in
+    let layout = workload.layout in
+    let leaves : StandsFor layout (with_writes map done.entry.writes) (store_left (apply_job job.ops there) there) =
+    left_by _ (StandsFor layout (with_writes map done.entry.writes)) (apply_job job.ops there) there
+    (λ outcome h. h.1) (answered map there stands agrees) in
+    record {
+      number = number;
+      store = subst (StandsFor layout (with_writes map done.entry.writes)) (sym (store_push workload before row job is)) leaves;
+      replies = λ _ lawful held holds reads.
+          subst (λ (o : Option Job). GivesReplies o held row.replies) (sym is)
+          (weaker _ _ (apply_job job.ops held) (λ outcome h. h.0) (answered lawful held holds reads));
+      nothing_read = λ given_up. absurd (true≢false (sym given_up ∙ kept));
+      nothing_written = λ given_up. absurd (true≢false (sym given_up ∙ kept));
+    }
+
+-- what such a row answers is what its job answers on the store after the rows before
+pub answers_there : (workload : Workload) (before : List Row) (replies : List Reply) (map : List Val) (entry : Entry) (job : Job) →
+    StandsFor workload.layout map (store_after workload before) → Agrees map entry.reads →
+    IsAnsweredBy workload.layout job.ops replies entry →
+    IsSomeAnd (apply_job job.ops (store_after workload before)) (λ outcome. replies ≡ outcome.replies)
+answers_there workload before replies map entry job stands agrees answered =
+    weaker _ _ (apply_job job.ops (store_after workload before)) (λ outcome h. h.0)
+    (answered map (store_after workload before) stands agrees)
+
+-- ---- rows behind rows
+
+-- one more row, and one more transaction
+pub TellOf-push : (workload : Workload) (before rows : List Row) (row : Row) (map : List Val) (done : List Committed) (next : Committed) →
+    TellOf workload before rows map done →
+    TellsOf workload (before ++ rows) row (state_after map (entries_of done)) next →
+    TellOf workload before (rows ++ row ∷ []) map (done ++ next ∷ [])
+TellOf-push workload before [] row map [] next told tell =
+    (subst (λ (b : List Row). TellsOf workload b row map next) (append-nil before) tell, tt)
+TellOf-push workload before [] row map (done ∷ more) next told tell = absurd told
+TellOf-push workload before (first ∷ rows) row map [] next told tell = absurd told
+TellOf-push workload before (first ∷ rows) row map (done ∷ more) next told tell = (
+  told.0,
+  TellOf-push workload (before ++ first ∷ []) rows row (with_writes map done.entry.writes) more next told.1
+      (subst (λ (b : List Row). TellsOf workload b row (state_after map (entries_of (done ∷ more))) next)
+      (sym (append_assoc before (first ∷ []) rows)) tell),
+)
+
+-- in a legal list each transaction agrees with the map that those before it leave
+pub agrees_next : (map : List Val) (done : List Entry) (next : Entry) (more : List Entry) →
+    IsLegal map (done ++ next ∷ more) → Agrees (state_after map done) next.reads
+agrees_next map [] next more legal = legal.0
+agrees_next map (first ∷ done) next more legal = agrees_next (with_writes map first.writes) done next more legal.1
+
+-- ---- good rows
+
+answer_of : (Stuck : Type 0) (o : Option JobOutcome) (replies : List Reply) → IsSomeAnd o (λ outcome. replies ≡ outcome.replies) →
+    AnswersWhere Stuck o replies
+answer_of Stuck None replies some = absurd some
+answer_of Stuck (Some outcome) replies some = some
+
+-- the row of a transaction that answered its job stands rightly behind the rows before it
+pub good_row : (workload : Workload) (before : List Row) (row : Row) (map : List Val) (entry : Entry) (job : Job) →
+    StandsFor workload.layout map (store_after workload before) → Agrees map entry.reads →
+    first_job row.worker (jobs_left workload.jobs before) ≡ Some job → row.line ≡ job.line →
+    IfSome (last_row before) (λ previous. IsBefore previous row) →
+    IsAnsweredBy workload.layout job.ops row.replies entry →
+    IsGoodRow workload before row
+good_row workload before row map entry job stands agrees turn line number answered = record {
+  job = job;
+  turn = turn;
+  line = line;
+  number = number;
+  replies = answer_of (AllBlocked workload before) (apply_job job.ops (store_after workload before)) row.replies
+      (answers_there workload before row.replies map entry job stands agrees answered);
+}

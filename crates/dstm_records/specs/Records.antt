@@ -1,0 +1,245 @@
+-- What it says that the records of rounds stand for a report: its rows are the transactions that committed on those
+-- tables, one for one, and no round was passed over without need.
+use Rattle.std.specs.Prelude.{◌≡◌, ◌⊎◌, ℕ, ◌+◌, ◌*◌, ◌<◌, ◌≤◌, ◌==◌, ◌&&◌, Bool, true, false, not, List, [], ◌∷◌, ◌++◌, length, map, reverse, filter, find, zip, Option, Some, None, IsSomeAnd, All, Contains}
+use Rattle.dstm_model.specs.declared.value.Val.{Val}
+use Rattle.dstm_model.specs.declared.layout.Layout.{Layout}
+use Rattle.dstm_model.specs.declared.reply.Reply.{Reply}
+use Rattle.dstm_model.specs.declared.reply.Reply.TheVariants.{Never}
+use Rattle.dstm_model.specs.Job.{apply_job}
+use Rattle.dstm_model.specs.Map.{Entry, Agrees, with_writes, state_after}
+use Rattle.dstm_model.specs.Objects.{objects_of}
+use Rattle.dstm_model.specs.Store.{Store}
+use Rattle.dstm_core.specs.declared.shape.Shape.{Shape}
+use Rattle.dstm_core.specs.Events.{Event}
+use Rattle.dstm_core.specs.Histories.{CoreRun}
+use Rattle.dstm_core.specs.Runs.{local}
+use Rattle.dstm_core.specs.State.{LocalState}
+use Rattle.dstm_core.specs.Words.{IsValid}
+use Rattle.dstm_opacity.specs.Committed.{Committed, committed_in}
+use Rattle.dstm_store.specs.declared.law.StoreLaw.{StoreLaw}
+use Rattle.dstm_store.specs.Looks.{is_list_member}
+use Rattle.dstm_store.specs.Opening.{opening_values}
+use Rattle.dstm_store.specs.Whole.{StandsFor, IsLawful}
+use Rattle.dstm_workload.specs.declared.workload.Job.{Job}
+use Rattle.dstm_workload.specs.declared.workload.Workload.{Workload}
+use Rattle.dstm_report.specs.declared.report.Row.{Row}
+use Rattle.dstm_report.specs.declared.report.Report.{Report}
+use Rattle.dstm_report.specs.Lawful.{first_job, store_after}
+use Rattle.dstm_records.specs.declared.options.Options.{Options}
+use Rattle.dstm_records.specs.declared.round.Round.{Round}
+use Rattle.dstm_records.specs.declared.round.Round.TheVariants.{Dstm}
+use Rattle.dstm_records.specs.Attempts.{HasCommitted, WasGivenUp, seen_last}
+use Rattle.dstm_progress.specs.Disturbed.{Disturbed}
+use Rattle.dstm_words.specs.declared.terms.Terms.{Terms}
+use Rattle.dstm_records.specs.Rounds.{is_parallel, rows_in, left_by, has_job, workers_in, most_jobs, attempts_for, locators_for}
+
+-- ---- what a record tells, by its engine
+
+-- what was in the objects when the round began
+abbrev pub start_of : Round → List Val
+start_of (Dstm table) = table.terms.start.value.items
+
+abbrev pub callers_of : Round → ℕ
+callers_of (Dstm table) = table.terms.shape.callers
+
+-- the transactions that committed, in the order of the numbers that they drew
+abbrev pub committed_of : Round → List Committed
+committed_of (Dstm table) = reverse (committed_in table.terms.shape table.terms.start.value.items table.log)
+
+abbrev pub entries_of : List Committed → List Entry
+entries_of committed = map (λ done. done.entry) committed
+
+-- what the round left in the objects
+abbrev pub values_of : Round → List Val
+values_of round = state_after (start_of round) (entries_of (committed_of round))
+
+-- the table has the store's law and objects, and its log is a run of the engine
+pub record IsDstmRun (layout : Layout) (terms : Terms StoreLaw) (log : List Event) : Type 0 where
+  pub law : terms.law.value.layout ≡ layout
+  pub valid : IsValid terms.shape
+  pub objects : terms.shape.objects ≡ objects_of layout
+  pub run : CoreRun terms.shape terms.start.value.items (IsLawful layout) log
+
+abbrev pub IsRun : Layout → Round → Type 0
+IsRun layout (Dstm table) = IsDstmRun layout table.terms table.log
+
+-- ---- how a table was made
+
+-- the table is as the options and the jobs of its callers want it
+pub record IsDstmMade (options : Options) (version number jobs : ℕ) (shape : Shape) : Type 0 where
+  pub attempts : shape.attempts ≡ attempts_for jobs
+  pub locators : shape.locators ≡ locators_for shape.objects
+  pub manager : shape.manager ≡ options.manager
+  pub all_write : is_parallel number ≡ true → shape.all_write ≡ options.all_write
+  pub reads : is_parallel number ≡ false → version ≡ 3 → shape.all_write ≡ false
+
+abbrev pub IsMade : Options → (version number jobs : ℕ) → Round → Type 0
+IsMade options version number jobs (Dstm table) = IsDstmMade options version number jobs table.terms.shape
+
+-- ---- rows and transactions
+
+-- a job is given up by the reply `never` alone
+abbrev pub is_given_up : List Reply → Bool
+is_given_up (Never ∷ []) = true
+is_given_up replies = false
+
+-- the job of a row
+abbrev pub job_of : Workload → Row → Option Job
+job_of workload row = find (λ job. job.line == row.line) workload.jobs
+
+-- on this store the job gives these replies
+abbrev pub GivesReplies : Option Job → Store → List Reply → Type 0
+GivesReplies job store replies =
+    IsSomeAnd job (λ j. IsSomeAnd (apply_job j.ops store) (λ outcome. replies ≡ outcome.replies))
+
+-- A row tells of a transaction that committed, which began at this map. Some rows stand before it.
+pub record TellsOf (workload : Workload) (before : List Row) (row : Row) (map : List Val) (done : Committed) : Type 0 where
+  -- its number is the one that the transaction drew
+  pub number : row.number ≡ done.number
+  -- what the transaction left stands for the store after the row
+  pub store : StandsFor workload.layout (with_writes map done.entry.writes) (store_after workload (before ++ row ∷ []))
+  -- its replies are the job's on every lawful map with the values that the transaction read
+  pub replies :
+      is_given_up row.replies ≡ false → (lawful : List Val) (held : Store)
+      → StandsFor workload.layout lawful held → Agrees lawful done.entry.reads
+      → GivesReplies (job_of workload row) held row.replies
+  -- where the job was given up, the transaction read and wrote nothing
+  pub nothing_read : is_given_up row.replies ≡ true → done.entry.reads ≡ []
+  pub nothing_written : is_given_up row.replies ≡ true → done.entry.writes ≡ []
+
+-- the rows tell of the transactions, one for one and in order
+abbrev pub TellOf : Workload → List Row → List Row → List Val → List Committed → Type 0
+TellOf workload before [] map [] = Unit {0}
+TellOf workload before [] map (done ∷ more) = ⊥
+TellOf workload before (row ∷ rows) map [] = ⊥
+TellOf workload before (row ∷ rows) map (done ∷ more) =
+    TellsOf workload before row map done
+    × TellOf workload (before ++ row ∷ []) rows (with_writes map done.entry.writes) more
+
+-- ---- parallel rounds
+
+-- the workers have callers of their own, one for one
+pub record ArePaired (workers : List ℕ) (callers : ℕ) (caller : ℕ → ℕ) : Type 0 where
+  pub count : length workers ≡ callers
+  pub within : (worker : ℕ) → Contains workers worker → caller worker < callers
+  pub apart :
+      (one other : ℕ) → Contains workers one → Contains workers other
+      → caller one ≡ caller other → one ≡ other
+
+-- the job is blocked on every lawful map that has these values
+abbrev pub IsBlockedWith : Layout → List (ℕ × Val) → Option Job → Type 0
+IsBlockedWith layout values job =
+    IsSomeAnd job (λ j. (map : List Val) (held : Store) → StandsFor layout map held → Agrees map values →
+    apply_job j.ops held ≡ None)
+
+-- the attempt stood at a blocked job: it was given up, and the job is blocked on every lawful map with the values that
+-- its newest sight covers
+pub record StoodBlocked (layout : Layout) (terms : Terms StoreLaw) (log : List Event) (c i : ℕ) (job : Option Job) : Type 0 where
+  pub given_up : WasGivenUp terms.shape log c i
+  pub blocked : IsBlockedWith layout (seen_last terms.shape terms.start.value.items log log c i) job
+
+-- in version 3 an attempt may have stood at this job
+pub record Waited (workload : Workload) (job : Option Job) (terms : Terms StoreLaw) (log : List Event) (c i : ℕ) : Type 0 where
+  pub version : workload.version ≡ 3
+  pub stood : StoodBlocked workload.layout terms log c i job
+
+-- the first job of a worker that these rows leave
+abbrev pub next_of : Workload → List Row → ℕ → Option Job
+next_of workload rows worker = first_job worker (left_by workload rows)
+
+-- the caller has no attempt left, or too few locators for another one
+abbrev pub IsSpent : Shape → LocalState → Type 0
+IsSpent shape state = (state.begun ≡ shape.attempts) ⊎ (shape.locators < state.installed + shape.objects)
+
+-- why a worker left a round with jobs left: its caller was spent, or its last attempt stood at a blocked job
+abbrev pub HadToLeave : Workload → List Row → Round → ℕ → ℕ → Type 0
+HadToLeave workload rows (Dstm table) worker c =
+    let state = local table.terms.shape table.log c in
+    IsSpent table.terms.shape state
+    ⊎ ((0 < state.begun) × Waited workload (next_of workload rows worker) table.terms table.log c state.begun)
+
+-- each attempt of a worker's caller committed, or was disturbed, or stood at a blocked job
+abbrev pub HadCause : Workload → List Row → Round → ℕ → ℕ → Type 0
+HadCause workload rows (Dstm table) worker c =
+    (i : ℕ) → 0 < i → i ≤ (local table.terms.shape table.log c).begun →
+    HasCommitted table.terms.shape table.log c i
+    ⊎ (Disturbed table.terms.shape table.log c i ⊎ Waited workload (next_of workload rows worker) table.terms table.log c i)
+
+-- a parallel round: each of its workers has a caller of its own
+pub record IsParallel (workload : Workload) (number : ℕ) (before rows : List Row) (round : Round) : Type 0 where
+  pub caller : ℕ → ℕ
+  pub paired : ArePaired (workers_in workload number before) (callers_of round) caller
+  -- a worker's rows tell of what its caller committed
+  pub own : All (λ told. told.1.caller ≡ caller told.0.worker) (zip rows (committed_of round))
+  -- a worker that still has jobs left had to leave
+  pub left :
+      (worker : ℕ) → Contains (workers_in workload number before) worker
+      → has_job (left_by workload (before ++ rows)) worker ≡ true
+      → HadToLeave workload (before ++ rows) round worker (caller worker)
+  -- no attempt was wasted
+  pub attempts :
+      (worker : ℕ) → Contains (workers_in workload number before) worker
+      → HadCause workload (before ++ rows) round worker (caller worker)
+
+-- ---- alone rounds
+
+-- how many rows of a worker tell of jobs that were not given up
+abbrev pub count_done : ℕ → List Row → ℕ
+count_done worker rows = length (filter (λ row. (row.worker == worker) && not (is_given_up row.replies)) rows)
+
+-- an alone round: its one caller runs at most one job of each worker, and some job
+pub record IsAlone (rows : List Row) (round : Round) : Type 0 where
+  pub one_caller : callers_of round ≡ 1
+  pub some_row : 0 < length rows
+  pub few : (worker : ℕ) → count_done worker rows ≤ 1
+
+-- ---- early release
+
+-- a transaction of a job that only looks keys up in the list keeps at most three reads for each
+abbrev pub KeepsFew : Job → Committed → Type 0
+KeepsFew job by = All (λ op. is_list_member op ≡ true) job.ops → length by.entry.reads ≤ 3 * length job.ops
+
+-- the same of the job of a row
+abbrev pub KeepsFewReads : Workload → Row × Committed → Type 0
+KeepsFewReads workload told = (job : Job) → job_of workload told.0 ≡ Some job → KeepsFew job told.1
+
+-- reads are given up early: of a workload that has no conditions, with reads that stay reads
+pub record IsReleasing (options : Options) (version : ℕ) : Type 0 where
+  pub release : options.release ≡ true
+  pub reads : options.all_write ≡ false
+  pub no_conditions : version ≤ 2
+
+-- ---- a round, and all rounds
+
+-- The record of a round stands for its rows. Some rows of earlier rounds stand before them, and left these values.
+pub record IsRoundOf (workload : Workload) (options : Options) (number : ℕ) (before rows : List Row)
+    (values : List Val) (round : Round) : Type 0 where
+  -- its table has the store's law and objects, and what happened on it is a run
+  pub run : IsRun workload.layout round
+  -- it has attempts and locators for the jobs that are left, and is as the options say
+  pub made : IsMade options workload.version number (most_jobs workload number before) round
+  -- it began with what the round before left
+  pub begins : start_of round ≡ values
+  -- the rows tell of the transactions that committed on it, one for one, in the order of their numbers
+  pub rows_tell : TellOf workload before rows values (committed_of round)
+  -- its workers ran beside one another, or one caller ran alone
+  pub parallel : is_parallel number ≡ true → IsParallel workload number before rows round
+  pub alone : is_parallel number ≡ false → IsAlone rows round
+  -- with early release, walks along the list keep few reads
+  pub released :
+      IsReleasing options workload.version → is_parallel number ≡ true
+      → All (KeepsFewReads workload) (zip rows (committed_of round))
+
+-- the records, from the one of this round on, stand for the rows of their rounds
+abbrev pub AreRoundsOf : Workload → Options → List Row → ℕ → List Row → List Val → List Round → Type 0
+AreRoundsOf workload options rows number before values [] = Unit {0}
+AreRoundsOf workload options rows number before values (round ∷ rounds) =
+    IsRoundOf workload options number before (rows_in number rows) values round
+    × AreRoundsOf workload options rows (number + 1) (before ++ rows_in number rows) (values_of round) rounds
+
+-- The records stand for a report: there is a round 0, it began with the opening values, each record stands for the rows
+-- of its round, and each row is of a round that has a record.
+pub record StandFor (workload : Workload) (options : Options) (rounds : List Round) (report : Report) : Type 0 where
+  pub some : 0 < length rounds
+  pub each : AreRoundsOf workload options report.rows 0 [] (opening_values workload.layout) rounds
+  pub all_rows : All (λ row. row.round < length rounds) report.rows

@@ -1,0 +1,234 @@
+-- What is due on the way to a conflict.
+use Rattle.std.proofs.Common.{◌≡◌, ◌≢◌, ◌⊎◌, ℕ, ◌<◌, ◌≤◌, ◌==◌, ◌&&◌, Bool, true, false, None, Some, refl, ap, sym, arith, ne_eqb, ◌∙◌, inl, inr, List}
+use Rattle.std.specs.Prelude.{Option, Result, Ok, Err, OnOk}
+use Rattle.std.proofs.lemmas.Bool.{cases_eq}
+use Rattle.std.proofs.lemmas.Bool.Decides.{nat_tests}
+use Rattle.dstm_core.specs.declared.event.Kind.TheVariants.{LookObj, LookOwner, LookStatus, LookRank}
+use Rattle.dstm_core.specs.declared.shape.Shape.{Shape}
+use Rattle.dstm_core.specs.declared.state.Phase.TheVariants.{Running}
+use Rattle.dstm_core.specs.declared.state.Read.{Read}
+use Rattle.dstm_core.specs.Rules.{after}
+use Rattle.dstm_core.specs.Runs.{local}
+use Rattle.dstm_core.specs.State.{LocalState, res, is_live, is_other, read_of}
+use Rattle.dstm_machines.specs.Traces.Access.{Load}
+use Rattle.dstm_model.specs.declared.value.Val.{Val}
+use Rattle.dstm_order.specs.Calls.{quit_cause}
+use Rattle.dstm_order.specs.declared.again.Again.{Again}
+use Rattle.dstm_order.specs.declared.again.Again.TheVariants.{Stale}
+use Rattle.dstm_order.specs.Efforts.{Effort}
+use Rattle.dstm_order.specs.Order.{Due, just, has_ranks}
+use Rattle.dstm_order.specs.Tasks.{Task}
+use Rattle.dstm_words.specs.Seats.{Home, view_of, state_by}
+use Rattle.dstm_steps.specs.Conflicts.{Encounters, Meets, Starts}
+use Rattle.dstm_steps.specs.declared.steps.Steps.{Steps}
+use Rattle.dstm_steps.specs.Finding.{StaysAt, word_of, is_changed}
+use Rattle.dstm_steps.specs.Under.{Began, InTask, Under, Resolving, made_by, now}
+use Rattle.dstm_steps.proofs.Finding.{stays_resolving, stays_then}
+use Rattle.dstm_steps.proofs.Meeting.{code_in, version_live}
+use Rattle.dstm_steps.proofs.Stepping.{under_is}
+use Rattle.dstm_steps.proofs.Undrawn.{running_undrawn}
+
+-- a code that is not live is that of a finished attempt
+pub code_over : (code : ℕ) → (0 < code) × (code ≤ 5) → is_live code ≡ false → (code ≡ 4) ⊎ (code ≡ 5)
+code_over code named over = go (cases_eq code 4)
+  where
+    go : (code ≡ 4) ⊎ (code ≢ 4) → (code ≡ 4) ⊎ (code ≡ 5)
+    go (inl q) = inl q
+    go (inr q) = inr (grind (arith, nat_tests))
+
+-- an attempt that runs has drawn no number
+pub undrawn : {L : Type 0} {task : Task} (holds : L → List Val → Type 0) (home : Home L) (b : Began) (steps : Steps L)
+    (d : Due) (a : Option Again) → InTask holds home task b steps d a → (now home steps).phase ≡ Running →
+    (now home steps).drawn ≡ None
+undrawn holds home b steps d a u p =
+    let here : now home steps ≡ local home.terms.shape (view_of steps.seat).log b.number =
+    ap (λ o. state_by home.terms.shape o (view_of steps.seat).log) u.number in
+    ap (λ (l : LocalState). l.drawn) here
+    ∙ running_undrawn home.terms.shape (view_of steps.seat).log u.run.run.core b.number
+    (sym (ap (λ (l : LocalState). l.phase) here) ∙ p)
+
+-- the word of a recorded read is another one
+pub other_is : (word : ℕ) (read : Option Read) → is_other word read ≡ is_changed (word_of read) word
+other_is word None = refl
+other_is word (Some read) = refl
+
+-- a LookObj finds the read stale where its word is another one
+pub stale_is : (s : Shape) (b : Began) (old new : LocalState) (object word : ℕ) (read : Option ℕ) →
+    new ≡ after LookObj s old (made_by b Load LookObj object word) → word_of (read_of object old.reads) ≡ read →
+    new.stale ≡ is_changed read word
+stale_is s b old new object word read q r =
+    ap (λ (l : LocalState). l.stale) q ∙ other_is word (read_of object old.reads)
+    ∙ ap (λ o. is_changed o word) r
+
+-- a fact of each answer that is no error, from another
+pub on_ok : {T E P Q : Type 0} (r : Result T E) → (P → Q) → OnOk r P → OnOk r Q
+on_ok (Ok v) f h = f h
+on_ok (Err e) f h = tt
+
+-- the object whose read was found stale as it was resolved
+pub stale_found : (l : LocalState) (c : Effort) (object : ℕ) → l.stale ≡ true → l.pass ≡ None → l.drawn ≡ None →
+    (res l).object ≡ object → quit_cause l c ≡ Stale object
+stale_found l c object stale pass drawn same = rw (stale, pass, drawn, same) refl
+
+-- a LookObj that found no read stale keeps the attempt
+pub stays_object : (old new : LocalState) (object word : ℕ) (changed : Bool) → new ≡ record old {
+  resolution = Some (record {
+    object = object;
+    word = word;
+    owner = None;
+    status = None;
+    rank = None;
+    old = None;
+    high = None;
+    value = None;
+  });
+  stale = changed;
+  pass = None;
+  checked = 0;
+} → old.stale ≡ false → changed ≡ false →
+    new ≡ record old { resolution = new.resolution; pass = new.pass; checked = new.checked }
+stays_object old new object word changed q agreed same =
+    q ∙ rw (
+      ap (λ (l : LocalState). l.resolution) q,
+      ap (λ (l : LocalState). l.pass) q,
+      ap (λ (l : LocalState). l.checked) q,
+    )
+    (ap (λ b. record old {
+      resolution = Some (record {
+        object = object;
+        word = word;
+        owner = None;
+        status = None;
+        rank = None;
+        old = None;
+        high = None;
+        value = None;
+      });
+      stale = b;
+      pass = None;
+      checked = 0;
+    }) (same ∙ sym agreed))
+
+-- a look at the owner's rank keeps the attempt
+pub stays_rank : (s : Shape) (b : Began) (old new : LocalState) (n : ℕ) →
+    new ≡ after LookRank s old (made_by b Load LookRank 0 n) → StaysAt old new
+stays_rank s b old new n q = stays_resolving old new (record (res old) { rank = Some n }) q refl refl
+
+module _ {L : Type 0} (holds : L → List Val → Type 0) (home : Home L) (b : Began) where
+  -- the owner is looked at first
+  pub owner_due : (steps : Steps L) (word : ℕ) → Starts holds home b steps word →
+      Under holds home b steps (just LookOwner) None
+  owner_due steps word st =
+      let other : ((res (now home steps)).word == 0) ≡ false =
+      ne_eqb (res (now home steps)).word 0 (λ q. let x = st.some in let y = st.word_is in omega arith) in
+      under_is holds home b steps _ _ _ _ st.under (rw (st.running.phase, other, st.status, st.owner) refl) refl
+
+  module _ (old new : Steps L) (word owner : ℕ) (st : Starts holds home b old word)
+      (state : now home new ≡ after LookOwner home.terms.shape (now home old) (made_by b Load LookOwner 0 owner))
+      (under : Resolving holds home b new) where
+    -- then its status
+    pub status_due : Under holds home b new (just LookStatus) None
+    status_due =
+        let other : ((res (now home old)).word == 0) ≡ false =
+        ne_eqb (res (now home old)).word 0 (λ q. let x = st.some in let y = st.word_is in omega arith) in
+        under_is holds home b new _ _ _ _ under (rw (state, st.running.phase, other, st.status) refl) refl
+
+    pub encounters : (last : Steps L) (code : ℕ) → now home last ≡ after LookStatus home.terms.shape (now home new)
+        (made_by b Load LookStatus 0 code) → Resolving holds home b last → new.left ≡ old.left → new.round ≡ old.round →
+        new.missed ≡ old.missed → last.left ≡ new.left → last.round ≡ new.round → last.missed ≡ new.missed →
+        Encounters holds home b last word owner code
+    encounters last code then goes l r m l2 r2 m2 =
+        let status : (res (now home last)).status ≡ Some code = ap (λ l. (res l).status) then in
+        record {
+          under = goes;
+          running = record {
+            phase = ap (λ (l : LocalState). l.phase) then ∙ ap (λ (l : LocalState). l.phase) state ∙ st.running.phase;
+            agreed = ap (λ (l : LocalState). l.stale) then ∙ ap (λ (l : LocalState). l.stale) state ∙ st.running.agreed;
+            uncommitted = ap (λ (l : LocalState). l.committed) then ∙ ap (λ (l : LocalState). l.committed) state
+                ∙ st.running.uncommitted;
+          };
+          word_is = ap (λ l. (res l).word) then ∙ ap (λ l. (res l).word) state ∙ st.word_is;
+          some = st.some;
+          owner_is = ap (λ l. (res l).owner) then ∙ ap (λ l. (res l).owner) state;
+          status = status;
+          rank = ap (λ l. (res l).rank) then ∙ ap (λ l. (res l).rank) state ∙ st.rank;
+          old = ap (λ l. (res l).old) then ∙ ap (λ l. (res l).old) state ∙ st.old;
+          high = ap (λ l. (res l).high) then ∙ ap (λ l. (res l).high) state ∙ st.high;
+          value = ap (λ l. (res l).value) then ∙ ap (λ l. (res l).value) state ∙ st.value;
+          named = code_in holds home b last _ _ goes code status;
+          left = l2 ∙ l ∙ st.left;
+          round = r2 ∙ r ∙ st.round;
+          tries = let t = st.tries in omega arith;
+        }
+
+    pub stays_encounter : (last : Steps L) (code : ℕ) → now home last ≡ after LookStatus home.terms.shape (now home new)
+        (made_by b Load LookStatus 0 code) → StaysAt (now home old) (now home last)
+    stays_encounter last code then =
+        stays_then (now home old) (now home new) (now home last)
+        (stays_resolving (now home old) (now home new) (record (res (now home old)) { owner = Some owner }) state
+        refl refl)
+        (stays_resolving (now home new) (now home last) (record (res (now home new)) { status = Some code }) then
+        refl refl)
+
+  -- where there are ranks that of a live owner is looked at
+  pub rank_due : (steps : Steps L) (word owner code : ℕ) → Encounters holds home b steps word owner code →
+      is_live code ≡ true → has_ranks home.terms.shape.manager ≡ true → Under holds home b steps (just LookRank) None
+  rank_due steps word owner code en live ranks =
+      under_is holds home b steps _ _ _ _ en.under
+      (rw (
+        en.running.phase,
+        en.owner_is,
+        en.status,
+        version_live (res (now home steps)).word code (res (now home steps)).old (rw en.word_is en.some) live,
+        live,
+        ranks,
+        en.rank,
+      ) refl) refl
+
+  -- under Polite the conflict begins at once
+  pub meets_polite : (steps : Steps L) (word owner code : ℕ) → Encounters holds home b steps word owner code →
+      has_ranks home.terms.shape.manager ≡ false → Meets holds home b Running steps owner code
+  meets_polite steps word owner code en none = record {
+    under = en.under;
+    in_phase = en.running.phase;
+    agreed = en.running.agreed;
+    uncommitted = en.running.uncommitted;
+    word = rw en.word_is en.some;
+    owner_is = en.owner_is;
+    status = en.status;
+    rank = rw none refl;
+    old = en.old;
+    high = en.high;
+    value = en.value;
+    named = en.named;
+    rounds = let r = en.round in omega arith;
+    waiting = λ _ h. let l = en.left in omega arith;
+    tries = en.tries;
+  }
+
+  -- else once the rank was found
+  pub meets_ranked : (old new : Steps L) (word owner code n : ℕ) → Encounters holds home b old word owner code →
+      now home new ≡ after LookRank home.terms.shape (now home old) (made_by b Load LookRank 0 n) →
+      Resolving holds home b new → new.left ≡ old.left → new.round ≡ old.round → new.missed ≡ old.missed →
+      Meets holds home b Running new owner code
+  meets_ranked old new word owner code n en state under left round missed = record {
+    under = under;
+    in_phase = ap (λ (l : LocalState). l.phase) state ∙ en.running.phase;
+    agreed = ap (λ (l : LocalState). l.stale) state ∙ en.running.agreed;
+    uncommitted = ap (λ (l : LocalState). l.committed) state ∙ en.running.uncommitted;
+    word = rw (ap (λ l. (res l).word) state, en.word_is) en.some;
+    owner_is = ap (λ l. (res l).owner) state ∙ en.owner_is;
+    status = ap (λ l. (res l).status) state ∙ en.status;
+    rank = rw (ap (λ l. (res l).rank) state) (no_rank (has_ranks home.terms.shape.manager));
+    old = ap (λ l. (res l).old) state ∙ en.old;
+    high = ap (λ l. (res l).high) state ∙ en.high;
+    value = ap (λ l. (res l).value) state ∙ en.value;
+    named = en.named;
+    rounds = let r = en.round in omega arith;
+    waiting = λ _ h. let l = en.left in omega arith;
+    tries = let t = en.tries in omega arith;
+  }
+    where
+      no_rank : (b : Bool) → (b && false) ≡ false
+      no_rank true = refl
+      no_rank false = refl

@@ -1,0 +1,86 @@
+use Rattle.std.proofs.Common.{◌∙◌, refl, ap, subst}
+use Rattle.dstm_core.specs.Events.{Event}
+use Rattle.dstm_core.specs.declared.event.Kind.TheVariants.{Quit}
+use Rattle.dstm_core.specs.Words.{place}
+use Rattle.dstm_core.specs.Words.Word.{StatusWord}
+use Rattle.dstm_machines.specs.Traces.Access.{Exchange}
+use Rattle.dstm_steps.specs.declared.steps.Steps.{Steps}
+use Rattle.dstm_steps.specs.Under.{Began, WentOn, made_by}
+use Rattle.dstm_words.specs.Seats.{found_in}
+use Rattle.dstm_steps.specs.Under.{InTask, due_next_by, answer_by}
+use Rattle.dstm_steps.proofs.Checks.{own_in_shape}
+use Rattle.dstm_steps.proofs.Stepping.{makes_by, may_make, went_adds}
+use Rattle.dstm_steps.proofs.steps.Steps.leave.Goals as goal
+
+pub status-place-requires-clause-below : goal.status-place-requires-clause-below
+status-place-requires-clause-below g c =
+    let own = own_in_shape g.L.Law.holds c.args.words.now g.B.InCall.began c.args.self.now _ _ c.requires.under
+    c.requires.live in
+    let shape = c.requires.under.shape in rw shape own
+
+pub exchange-requires-clause-allowed : goal.exchange-requires-clause-allowed
+exchange-requires-clause-allowed g c =
+    may_make g.L.Law.holds c.args.words.now g.B.InCall.began c.args.self.now _ _
+    (Exchange c.code.result c.code-2.result)
+    Quit c.status-place.result c.requires.under (λ q. absurd (cc)) (record {
+      place = rw (← c.requires.under.mirror.own)
+          (c.status-place.ensures ∙ ap (λ s. place s (StatusWord c.args.self.now.own)) c.requires.under.shape);
+      access = rw (← c.requires.status, c.code.ensures, c.code-2.ensures) refl;
+      may = c.requires.live;
+    })
+
+pub returns-clause-state : goal.returns-clause-state
+returns-clause-state g c =
+    let b : Began = g.B.InCall.began in
+    let old : Steps g.row.L.Denot = c.args.self.now in
+    let new : Steps g.row.L.Denot = record old { seat = c.exchange.new.self } in
+    let e : Event =
+    made_by b (Exchange c.code.result c.code-2.result) Quit c.status-place.result (found_in c.exchange.result) in
+    (went_adds g.L.Law.holds c.args.words.now b old new e _ _ c.requires.under
+    (makes_by g.L.Law.holds c.args.words.now b _ _ (Exchange c.code.result c.code-2.result) Quit c.status-place.result
+    (found_in c.exchange.result) c.requires.under.number c.exchange.ensures.event) c.exchange.ensures.seat refl
+    (refl, tt)).state
+
+pub returns-clause-leaves : goal.returns-clause-leaves
+returns-clause-leaves g c task =
+    let b : Began = g.B.InCall.began in
+    let old : Steps g.row.L.Denot = c.args.self.now in
+    let new : Steps g.row.L.Denot = record old { seat = c.exchange.new.self } in
+    let e : Event =
+    made_by b (Exchange c.code.result c.code-2.result) Quit c.status-place.result (found_in c.exchange.result) in
+    let m = c.requires.under.mirror in
+    let w : WentOn g.L.Law.holds c.args.words.now b.task b old new e =
+    went_adds g.L.Law.holds c.args.words.now b old new e _ _ c.requires.under
+    (makes_by g.L.Law.holds c.args.words.now b _ _ (Exchange c.code.result c.code-2.result) Quit c.status-place.result
+    (found_in c.exchange.result) c.requires.under.number c.exchange.ensures.event) c.exchange.ensures.seat refl
+    (refl, tt) in
+    rw w.state at (subst (λ t. InTask g.L.Law.holds c.args.words.now t b new (due_next_by c.args.words.now t new e)
+    (answer_by c.args.words.now t new e)) task
+    (w.goes_on new refl (record {
+      shape = refl;
+      manager = refl;
+      mirror = record { own = m.own; installed = m.installed; rank = m.rank };
+      effort = refl;
+    })))
+
+pub returns-clause-begins : goal.returns-clause-begins
+returns-clause-begins g c fresh task =
+    let b : Began = g.B.InCall.began in
+    let old : Steps g.row.L.Denot = c.args.self.now in
+    let new : Steps g.row.L.Denot = record old { seat = c.exchange.new.self } in
+    let e : Event =
+    made_by b (Exchange c.code.result c.code-2.result) Quit c.status-place.result (found_in c.exchange.result) in
+    let m = c.requires.under.mirror in
+    let w : WentOn g.L.Law.holds c.args.words.now b.task b old new e =
+    went_adds g.L.Law.holds c.args.words.now b old new e _ _ c.requires.under
+    (makes_by g.L.Law.holds c.args.words.now b _ _ (Exchange c.code.result c.code-2.result) Quit c.status-place.result
+    (found_in c.exchange.result) c.requires.under.number c.exchange.ensures.event) c.exchange.ensures.seat refl
+    (refl, tt) in
+    subst (λ t. InTask g.L.Law.holds c.args.words.now t b new (due_next_by c.args.words.now t new e)
+    (answer_by c.args.words.now t new e)) task
+    (w.goes_on new refl (record {
+      shape = refl;
+      manager = refl;
+      mirror = record { own = m.own; installed = m.installed; rank = m.rank };
+      effort = refl;
+    }))

@@ -1,0 +1,157 @@
+use Rattle.std.proofs.Common.{◌≡◌, ◌+◌, refl, ap, subst, arith, inr, length}
+use Rattle.dstm_core.specs.Events.{Event}
+use Rattle.dstm_core.specs.declared.event.Kind.TheVariants.{PutHigh}
+use Rattle.dstm_core.specs.State.{LocalState}
+use Rattle.dstm_machines.specs.Traces.Access.{Store}
+use Rattle.dstm_steps.specs.Under.{made_by}
+use Rattle.dstm_steps.specs.Writes.{ArePut}
+use Rattle.dstm_steps.proofs.PutLoop.{ready, next_put, numbered, lawful_put, puts_more, puts_all, puts_kept}
+use Rattle.dstm_machines.proofs.Pasts.{past_past}
+use Rattle.dstm_steps.proofs.Ranged.{few_locators, in_word}
+use Rattle.dstm_steps.proofs.Stepping.{under_is}
+use Rattle.dstm_steps.proofs.steps.Steps.put_values.Goals as goal
+
+pub overflow_cast-locator : goal.overflow_cast-locator
+overflow_cast-locator g c =
+    let n = next_put g.L.Law.holds c.args.words.now g.B.InCall.began c.args.self.now c.loop-i.self c.args.first
+    c.args.writes.now c.loop-i.i
+    c.requires.slots (numbered g.L.Law.holds c.args.words.now g.B.InCall.began c.args.self.now _ _ c.requires.under
+    c.args.first c.requires.first)
+    c.requires.values c.loop-i.invariant.writes c.loop-i.invariant.written c.loop-i-test.true in
+    let few = few_locators c.args.words.now.terms.shape c.requires.under.run.valid in
+    let e : Event = made_by g.B.InCall.began (Store 0) PutHigh 0 0 in
+    let below = rw n.locator_is at
+    (in_word g.L.Law.holds c.args.words.now g.B.InCall.began c.loop-i.self _ _ c.loop-i.invariant.under PutHigh e
+    (λ q. absurd (cc))
+    (c.loop-i.invariant.phase, c.loop-i.invariant.agreed, n.left, c.loop-i.invariant.none)) in
+    omega arith
+
+pub overflow_add-locator : goal.overflow_add-locator
+overflow_add-locator g c =
+    let n = next_put g.L.Law.holds c.args.words.now g.B.InCall.began c.args.self.now c.loop-i.self c.args.first
+    c.args.writes.now c.loop-i.i
+    c.requires.slots (numbered g.L.Law.holds c.args.words.now g.B.InCall.began c.args.self.now _ _ c.requires.under
+    c.args.first c.requires.first)
+    c.requires.values c.loop-i.invariant.writes c.loop-i.invariant.written c.loop-i-test.true in
+    let few = few_locators c.args.words.now.terms.shape c.requires.under.run.valid in
+    let e : Event = made_by g.B.InCall.began (Store 0) PutHigh 0 0 in
+    let below = rw n.locator_is at
+    (in_word g.L.Law.holds c.args.words.now g.B.InCall.began c.loop-i.self _ _ c.loop-i.invariant.under PutHigh e
+    (λ q. absurd (cc))
+    (c.loop-i.invariant.phase, c.loop-i.invariant.agreed, n.left, c.loop-i.invariant.none)) in
+    omega arith
+
+pub put_high-requires-clause-under : goal.put_high-requires-clause-under
+put_high-requires-clause-under g c =
+    let n = next_put g.L.Law.holds c.args.words.now g.B.InCall.began c.args.self.now c.loop-i.self c.args.first
+    c.args.writes.now c.loop-i.i
+    c.requires.slots (numbered g.L.Law.holds c.args.words.now g.B.InCall.began c.args.self.now _ _ c.requires.under
+    c.args.first c.requires.first)
+    c.requires.values c.loop-i.invariant.writes c.loop-i.invariant.written c.loop-i-test.true in
+    under_is g.L.Law.holds c.args.words.now g.B.InCall.began c.loop-i.self _ _ _ _ c.loop-i.invariant.under
+    (rw c.to_put-value.ensures (n.high c.loop-i.invariant.none)) refl
+
+pub put_high-requires-clause-next : goal.put_high-requires-clause-next
+put_high-requires-clause-next g c =
+    let n = next_put g.L.Law.holds c.args.words.now g.B.InCall.began c.args.self.now c.loop-i.self c.args.first
+    c.args.writes.now c.loop-i.i
+    c.requires.slots (numbered g.L.Law.holds c.args.words.now g.B.InCall.began c.args.self.now _ _ c.requires.under
+    c.args.first c.requires.first)
+    c.requires.values c.loop-i.invariant.writes c.loop-i.invariant.written c.loop-i-test.true in
+    (n.left, c.loop-i.invariant.none)
+
+pub put_high-requires-clause-locator : goal.put_high-requires-clause-locator
+put_high-requires-clause-locator g c =
+    let n = next_put g.L.Law.holds c.args.words.now g.B.InCall.began c.args.self.now c.loop-i.self c.args.first
+    c.args.writes.now c.loop-i.i
+    c.requires.slots (numbered g.L.Law.holds c.args.words.now g.B.InCall.began c.args.self.now _ _ c.requires.under
+    c.args.first c.requires.first)
+    c.requires.values c.loop-i.invariant.writes c.loop-i.invariant.written c.loop-i-test.true in
+    n.locator_is
+
+pub put_low-requires-clause-under : goal.put_low-requires-clause-under
+put_low-requires-clause-under g c =
+    let n = next_put g.L.Law.holds c.args.words.now g.B.InCall.began c.args.self.now c.put_high.new.self c.args.first
+    c.args.writes.now c.loop-i.i
+    c.requires.slots (numbered g.L.Law.holds c.args.words.now g.B.InCall.began c.args.self.now _ _ c.requires.under
+    c.args.first c.requires.first)
+    c.requires.values (rw c.put_high.ensures.state c.loop-i.invariant.writes)
+    (rw c.put_high.ensures.state c.loop-i.invariant.written) c.loop-i-test.true in
+    under_is g.L.Law.holds c.args.words.now g.B.InCall.began c.put_high.new.self _ _ _ _ c.put_high.ensures.under
+    (rw c.to_put-value.ensures (n.low (rw c.put_high.ensures.state refl))) refl
+
+pub put_low-requires-clause-next : goal.put_low-requires-clause-next
+put_low-requires-clause-next g c =
+    let n = next_put g.L.Law.holds c.args.words.now g.B.InCall.began c.args.self.now c.put_high.new.self c.args.first
+    c.args.writes.now c.loop-i.i
+    c.requires.slots (numbered g.L.Law.holds c.args.words.now g.B.InCall.began c.args.self.now _ _ c.requires.under
+    c.args.first c.requires.first)
+    c.requires.values (rw c.put_high.ensures.state c.loop-i.invariant.writes)
+    (rw c.put_high.ensures.state c.loop-i.invariant.written) c.loop-i-test.true in
+    (n.left, rw c.put_high.ensures.state refl)
+
+pub put_low-requires-clause-locator : goal.put_low-requires-clause-locator
+put_low-requires-clause-locator g c =
+    let n = next_put g.L.Law.holds c.args.words.now g.B.InCall.began c.args.self.now c.put_high.new.self c.args.first
+    c.args.writes.now c.loop-i.i
+    c.requires.slots (numbered g.L.Law.holds c.args.words.now g.B.InCall.began c.args.self.now _ _ c.requires.under
+    c.args.first c.requires.first)
+    c.requires.values (rw c.put_high.ensures.state c.loop-i.invariant.writes)
+    (rw c.put_high.ensures.state c.loop-i.invariant.written) c.loop-i-test.true in
+    n.locator_is
+
+pub put_low-requires-clause-lawful : goal.put_low-requires-clause-lawful
+put_low-requires-clause-lawful g c =
+    let state = c.put_high.ensures.state in
+    let inv = c.loop-i.invariant in
+    rw c.to_put-value.ensures
+    (lawful_put g.L.Law.holds c.args.words.now g.B.InCall.began c.args.self.now c.put_high.new.self _ _ _ _
+    c.requires.under c.put_high.ensures.under c.args.first c.args.writes.now c.loop-i.i
+    (λ q. let p = c.requires.running.phase in cc) c.requires.slots
+    (numbered g.L.Law.holds c.args.words.now g.B.InCall.began c.args.self.now _ _ c.requires.under c.args.first
+    c.requires.first)
+    c.requires.lawful (past_past _ _ _ inv.past c.put_high.ensures.past)
+    (rw state inv.reads) (rw state inv.writes) (rw state inv.written)
+    (puts_kept g.L.Law.holds c.args.words.now g.B.InCall.began c.loop-i.self c.put_high.new.self c.args.first
+    c.args.writes.now c.loop-i.i c.put_high.ensures.past inv.put)
+    (rw c.to_put-value.ensures at c.put_high.ensures.put))
+
+pub loop-i-preserved : goal.loop-i-preserved
+loop-i-preserved g c =
+    let high = c.put_high.ensures in
+    let low = c.put_low.ensures in
+    let inv = c.loop-i.invariant in
+    record {
+      under = low.under;
+      phase = inr (rw low.state refl);
+      begun = λ q. absurd (let p = ap (λ (l : LocalState). l.phase) low.state in cc);
+      agreed = rw (low.state, high.state) inv.agreed;
+      uncommitted = rw (low.state, high.state) inv.uncommitted;
+      reads = rw (low.state, high.state) inv.reads;
+      writes = rw (low.state, high.state) inv.writes;
+      last = rw (low.state, high.state) inv.last;
+      written = rw (low.state, high.state) (ap (λ n. n + 1) inv.written);
+      none = rw low.state refl;
+      past = past_past _ _ _ inv.past (past_past _ _ _ high.past low.past);
+      put = puts_more g.L.Law.holds c.args.words.now g.B.InCall.began c.loop-i.self c.put_high.new.self
+          c.put_low.new.self c.args.first c.args.writes.now c.loop-i.i
+          high.past low.past inv.put (rw c.to_put-value.ensures at high.put) (rw c.to_put-value.ensures at low.put);
+      tries = low.tries;
+    }
+
+pub returns-clause-under : goal.returns-clause-under
+returns-clause-under g c =
+    under_is g.L.Law.holds c.args.words.now g.B.InCall.began c.loop-i.self _ _ _ _ c.loop-i.invariant.under
+    (puts_all g.L.Law.holds c.args.words.now g.B.InCall.began c.args.self.now c.loop-i.self c.args.first
+    c.args.writes.now c.loop-i.i c.requires.slots c.loop-i.invariant c.loop-i.auto.i-end c.loop-i-test.false) refl
+
+pub returns-clause-put : goal.returns-clause-put
+returns-clause-put g c =
+    let i : c.loop-i.i ≡ length c.args.writes.now =
+    (let a = c.loop-i.auto.i-end in let b = c.loop-i-test.false in omega arith) in
+    subst (ArePut c.args.words.now c.loop-i.self c.args.first c.args.writes.now) i c.loop-i.invariant.put
+
+pub returns-clause-ready : goal.returns-clause-ready
+returns-clause-ready g c =
+    ready g.L.Law.holds c.args.words.now g.B.InCall.began c.args.self.now c.loop-i.self c.args.first
+    c.args.writes.now c.loop-i.i c.requires.slots c.loop-i.invariant c.loop-i.auto.i-end c.loop-i-test.false

@@ -1,0 +1,66 @@
+use Rattle.std.proofs.Common.{◌∙◌, refl, ap, false, None}
+use Rattle.dstm_core.specs.Events.{Event}
+use Rattle.dstm_core.specs.declared.event.Kind.TheVariants.{Rank}
+use Rattle.dstm_core.specs.State.{LocalState}
+use Rattle.dstm_core.specs.Words.{place}
+use Rattle.dstm_core.specs.Words.Word.{RankWord}
+use Rattle.dstm_machines.specs.Traces.Access.{Store}
+use Rattle.dstm_order.specs.Tasks.Task.{Beginning}
+use Rattle.dstm_steps.specs.declared.steps.Steps.{Steps}
+use Rattle.dstm_steps.specs.Under.{Began, WentOn, made_by, now}
+use Rattle.dstm_core.specs.Rules.{is_outside}
+use Rattle.dstm_steps.proofs.Stepping.{makes_by, may_make, went_adds}
+use Rattle.dstm_steps.proofs.Unused.{next_in_shape}
+use Rattle.dstm_steps.proofs.steps.Steps.rank_next.Goals as goal
+
+pub rank-place-requires-clause-below : goal.rank-place-requires-clause-below
+rank-place-requires-clause-below g c =
+    rw c.requires.under.shape (rw c.requires.next at (next_in_shape g.L.Law.holds c.args.words.now g.B.InCall.began
+    c.args.self.now _ _ c.requires.under c.requires.number c.requires.unused))
+
+pub store-requires-clause-allowed : goal.store-requires-clause-allowed
+store-requires-clause-allowed g c =
+    may_make g.L.Law.holds c.args.words.now g.B.InCall.began c.args.self.now _ _ (Store c.args.rank) Rank c.rank-place.result
+    c.requires.under (λ q. absurd (cc)) (record {
+      place = rw (c.requires.outside, c.requires.next)
+          (c.rank-place.ensures ∙ ap (λ s. place s (RankWord c.args.next)) c.requires.under.shape);
+      access = refl;
+      may = rw c.requires.outside (c.requires.number, c.requires.unused, c.requires.may);
+    })
+
+pub returns-clause-state : goal.returns-clause-state
+returns-clause-state g c =
+    let b : Began = g.B.InCall.began in
+    let old : Steps g.row.L.Denot = c.args.self.now in
+    let new : Steps g.row.L.Denot = record old { seat = c.store.new.self; rank = c.args.rank } in
+    let e : Event = made_by b (Store c.args.rank) Rank c.rank-place.result c.store.ensures.event.0 in
+    let state : LocalState = now c.args.words.now old in
+    let w : WentOn g.L.Law.holds c.args.words.now (Beginning c.args.fresh) b old new e =
+    went_adds g.L.Law.holds c.args.words.now b old new e _ _ c.requires.under
+    (makes_by g.L.Law.holds c.args.words.now b _ _ (Store c.args.rank) Rank c.rank-place.result c.store.ensures.event.0
+    c.requires.under.number c.store.ensures.event.1) c.store.ensures.seat refl (refl, refl) in
+    w.state ∙ ap (λ p. record state {
+      rank = c.args.rank;
+      ranked = is_outside p;
+      owed = false;
+      pass = None;
+      checked = 0;
+    }) c.requires.outside
+
+pub returns-clause-under : goal.returns-clause-under
+returns-clause-under g c =
+    let b : Began = g.B.InCall.began in
+    let old : Steps g.row.L.Denot = c.args.self.now in
+    let new : Steps g.row.L.Denot = record old { seat = c.store.new.self; rank = c.args.rank } in
+    let e : Event = made_by b (Store c.args.rank) Rank c.rank-place.result c.store.ensures.event.0 in
+    let m = c.requires.under.mirror in
+    let w : WentOn g.L.Law.holds c.args.words.now (Beginning c.args.fresh) b old new e =
+    went_adds g.L.Law.holds c.args.words.now b old new e _ _ c.requires.under
+    (makes_by g.L.Law.holds c.args.words.now b _ _ (Store c.args.rank) Rank c.rank-place.result c.store.ensures.event.0
+    c.requires.under.number c.store.ensures.event.1) c.store.ensures.seat refl (refl, refl) in
+    w.goes_on new refl (record {
+      shape = refl;
+      manager = refl;
+      mirror = record { own = m.own; installed = m.installed; rank = refl };
+      effort = refl;
+    })

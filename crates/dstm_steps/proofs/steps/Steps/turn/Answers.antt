@@ -1,0 +1,78 @@
+use Rattle.std.proofs.Common.{◌≡◌, refl, ap, ◌∙◌, ◌-◌, arith}
+use Rattle.std.proofs.lemmas.Bool.Decides.{nat_tests}
+use Rattle.dstm_core.specs.Events.{Event}
+use Rattle.dstm_core.specs.declared.event.Kind.TheVariants.{LookStatus}
+use Rattle.dstm_machines.specs.Traces.Access.{Load}
+use Rattle.dstm_words.specs.Seats.{caller_state, view_of}
+use Rattle.dstm_steps.specs.declared.steps.Steps.{Steps}
+use Rattle.dstm_steps.specs.Under.{made_by, now, effort_by}
+use Rattle.dstm_steps.proofs.Ranged.{owner_in}
+use Rattle.dstm_steps.proofs.Stepping.{went_on, turn_left, turn_last, turn_more}
+use Rattle.dstm_steps.proofs.steps.Steps.turn.Goals as goal
+use Rattle.dstm_steps.proofs.steps.Steps.turn.Goals.{then-self-eq1, else-self-eq1}
+
+pub status-place-requires-clause-below : goal.status-place-requires-clause-below
+status-place-requires-clause-below g c =
+    rw c.requires.under.shape
+    (rw c.requires.owner at
+    (owner_in g.L.Law.holds c.args.words.now g.B.InCall.began c.args.self.now _ _ c.requires.under
+    c.requires.running (rw c.requires.owner refl)
+    (let live = c.requires.status.1 in grind (arith, nat_tests))))
+
+pub returns-clause-under : goal.returns-clause-under
+returns-clause-under g c = elim c.if-self-eq1.branch [
+  | then-self-eq1 w ↦
+      let rest = c.look-status.ensures.rest in
+      let m = c.requires.under.mirror in
+      let state = c.look-status.ensures.went.state in
+      let e : Event = made_by g.B.InCall.began Load LookStatus c.status-place.result c.look-status.result in
+      let new : Steps g.row.L.Denot = record c.if-self-eq1.self { left = c.if-self-eq1.self.left - 1 } in
+      let seat = ap (λ (s : Steps g.row.L.Denot). s.seat) w.self-is in
+      let here : now c.args.words.now new ≡ now c.args.words.now c.look-status.new.self =
+      ap (λ s. caller_state c.args.words.now.terms (view_of s)) seat in
+      went_on g.L.Law.holds c.args.words.now g.B.InCall.began c.args.self.now c.look-status.new.self new e
+      c.look-status.ensures.went seat
+      (record {
+        shape = rw (w.self-is, rest) refl;
+        manager = rw (w.self-is, rest) refl;
+        mirror = record {
+          own = rw (w.self-is, rest) m.own;
+          installed = rw (w.self-is, rest) m.installed;
+          rank =
+              rw (w.self-is, rest) m.rank;
+        };
+        effort = turn_left c.args.words.now.terms.shape.manager (now c.args.words.now c.args.self.now)
+            (effort_by c.args.self.now) e c.requires.status.0 c.requires.running.phase c.requires.left
+            ∙ turn_last c.args.self.now.left (effort_by c.args.self.now) (rw rest at w.if-self-eq1.true)
+            ∙ (rw (w.self-is, rest) refl);
+      })
+      (rw (here, state, c.requires.running.phase) refl) (rw (here, state) c.requires.running.agreed)
+      (rw (w.self-is, rest) c.requires.tries)
+  | else-self-eq1 w ↦
+      let rest = c.look-status.ensures.rest in
+      let m = c.requires.under.mirror in
+      let state = c.look-status.ensures.went.state in
+      let e : Event = made_by g.B.InCall.began Load LookStatus c.status-place.result c.look-status.result in
+      let new : Steps g.row.L.Denot = record c.if-self-eq1.self { left = c.if-self-eq1.self.left - 1 } in
+      let seat = ap (λ (s : Steps g.row.L.Denot). s.seat) w.self-is in
+      let here : now c.args.words.now new ≡ now c.args.words.now c.look-status.new.self =
+      ap (λ s. caller_state c.args.words.now.terms (view_of s)) seat in
+      went_on g.L.Law.holds c.args.words.now g.B.InCall.began c.args.self.now c.look-status.new.self new e
+      c.look-status.ensures.went seat
+      (record {
+        shape = rw (w.self-is, rest) refl;
+        manager = rw (w.self-is, rest) refl;
+        mirror = record {
+          own = rw (w.self-is, rest) m.own;
+          installed = rw (w.self-is, rest) m.installed;
+          rank =
+              rw (w.self-is, rest) m.rank;
+        };
+        effort = turn_left c.args.words.now.terms.shape.manager (now c.args.words.now c.args.self.now)
+            (effort_by c.args.self.now) e c.requires.status.0 c.requires.running.phase c.requires.left
+            ∙ turn_more c.args.self.now.left (effort_by c.args.self.now) (rw rest at w.if-self-eq1.false)
+            ∙ (rw (w.self-is, rest) refl);
+      })
+      (rw (here, state, c.requires.running.phase) refl) (rw (here, state) c.requires.running.agreed)
+      (rw (w.self-is, rest) c.requires.tries)
+]

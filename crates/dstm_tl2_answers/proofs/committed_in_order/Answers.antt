@@ -1,5 +1,0 @@
-use Rattle.dstm_tl2_answers.proofs.Standing.{in_order}
-use Rattle.dstm_tl2_answers.proofs.committed_in_order.Goals as goal
-
-pub returns : goal.returns
-returns g c = λ law table run is. in_order table run is.run

@@ -1,5 +1,0 @@
-use Rattle.dstm_tl2_answers.proofs.Told.{each_is_told}
-use Rattle.dstm_tl2_answers.proofs.each_is_told.Goals as goal
-
-pub returns : goal.returns
-returns g c = λ law table run caller is. each_is_told table run is.run caller

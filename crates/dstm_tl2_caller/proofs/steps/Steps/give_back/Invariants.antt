@@ -1,5 +1,0 @@
-use Rattle.dstm_tl2_caller.proofs.GivingBack.{GivesBack}
-use Rattle.dstm_tl2_caller.proofs.steps.Steps.give_back.Given as goal
-
-abbrev pub invariant-loop-i : goal.invariant-loop-i
-invariant-loop-i g l = GivesBack g.L.Law.holds l.words g.B.InCall.began l.fn.self l.opened.writes l.locked l.i l.self

@@ -1,0 +1,6 @@
+pub mod Tasks
+pub mod Order
+pub mod Calls
+pub mod Laws
+pub mod Ended
+pub mod Ends

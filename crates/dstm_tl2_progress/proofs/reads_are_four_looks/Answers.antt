@@ -1,5 +1,0 @@
-use Rattle.dstm_tl2_progress.proofs.Looks.{four_looks}
-use Rattle.dstm_tl2_progress.proofs.reads_are_four_looks.Goals as goal
-
-pub returns : goal.returns
-returns c = λ object table state events call answer. four_looks object table state events call answer

@@ -1,0 +1,248 @@
+-- Locking what an attempt writes, in the order of opening.
+use Rattle.std.proofs.Common.{◌≡◌, ◌≢◌, ◌∙◌, ℕ, ◌+◌, ◌<◌, ◌≤◌, List, [], ◌∷◌, ◌++◌, true, false, Some, None, is_some, inl, inr, refl, sym, ap, subst, length, map, take, arith}
+use Rattle.std.specs.Prelude.{Option, IfSome, IsSome, if◌then◌else◌}
+use Rattle.std.proofs.lemmas.Bool.{eq-eqb, ne_eqb}
+use Rattle.dstm_model.specs.declared.value.Val.{Val}
+use Rattle.dstm_machines.specs.Traces.Access.{Exchange}
+use Rattle.dstm_tl2.specs.Failing.{is_locked}
+use Rattle.dstm_tl2.specs.Rules.{lock, new_hold}
+use Rattle.dstm_tl2.specs.Sharing.{table_of}
+use Rattle.dstm_tl2.specs.State.{LocalState, read_of, recorded}
+use Rattle.dstm_mem.specs.Memory.{value_in}
+use Rattle.dstm_tl2_words.specs.Seats.{Home}
+use Rattle.dstm_tl2_order.specs.declared.again.TlAgain.{TlAgain}
+use Rattle.dstm_tl2_order.specs.declared.again.TlAgain.TheVariants.{Locked, Changed}
+use Rattle.dstm_tl2_steps.specs.declared.steps.Steps.{Steps}
+use Rattle.dstm_tl2_steps.specs.Opened.{OpenedAs, read_slot, write_at}
+use Rattle.dstm_tl2_order.specs.Order.{in_locking, locks, when_locked}
+use Rattle.dstm_tl2_order.specs.Order.Due.{Done, Just}
+use Rattle.dstm_tl2_steps.specs.Reads.{AtRest, slot_read}
+use Rattle.dstm_tl2_order.specs.Tasks.{Work}
+use Rattle.dstm_tl2_order.specs.Tasks.Task.{Doing}
+use Rattle.dstm_tl2_steps.specs.Under.{Began, HasLocked, Lists, Under, Went, in_freeing, made_by, now, when_free}
+use Rattle.dstm_tl2_steps.proofs.Going.{goes_on}
+use Rattle.dstm_tl2_steps.proofs.Held.{holds_more}
+use Rattle.dstm_tl2_steps.proofs.GivingBack.{freed_done}
+use Rattle.dstm_tl2_steps.proofs.Stepping.{is_something, under_is}
+use Rattle.dstm_tl2_steps.proofs.Slots.{is_written_at}
+use Rattle.dstm_tl2_steps.proofs.Slotted.{slot_there, slot_word}
+
+-- ---- the state of an attempt that locks
+
+-- an attempt at rest has locked none
+pub locked_none : (start : LocalState) (writes : List (ℕ × Val)) → AtRest start → HasLocked start writes 0 start
+locked_none start writes rest = record {
+  told = inl rest.untold.0;
+  same = ap (λ n. record start { locked = n }) rest.untold.1
+      ∙ ap (λ holds. record start { locked = 0; holds = holds }) rest.untold.2;
+}
+
+-- one more is locked
+pub locked_more : (start state : LocalState) (writes : List (ℕ × Val)) (i : ℕ) → start.look ≡ None →
+    HasLocked start writes i state → i < length writes → HasLocked start writes (i + 1) (lock state writes)
+locked_more start state writes i no_look has left = record {
+  told = inr refl;
+  same = ap (λ (state : LocalState). lock state writes) has.same
+      ∙ ap (λ look. record start {
+        look = look;
+        writes = Some writes;
+        locked = i + 1;
+        holds = map (new_hold start) (take i writes) ++ new_hold start (write_at writes i) ∷ [];
+      }) (sym no_look)
+      ∙ ap (λ holds. record start { writes = Some writes; locked = i + 1; holds = holds })
+      (sym (holds_more start writes i left));
+}
+
+module _ {L : Type 0} (holds : L → List Val → Type 0) (home : Home L) (began : Began) where
+  -- Since a state of the call so many objects were locked, and the next is to be locked.
+  pub record Locks (start : Steps L) (writes : List (ℕ × Val)) (i : ℕ) (steps : Steps L) : Type 0 where
+    pub has : HasLocked (now home start) writes i (now home steps)
+    pub within : i ≤ length writes
+    pub under : (work : Work) → began.task ≡ Doing work →
+        Under holds home began steps (in_locking writes work (now home steps)) None
+
+  pub locks_none : (start : Steps L) (writes : List (ℕ × Val)) →
+      ((work : Work) × (began.task ≡ Doing work)
+      × Under holds home began start (in_locking writes work (now home start)) None) →
+      AtRest (now home start) → Locks start writes 0 start
+  locks_none start writes call rest = record {
+    has = locked_none (now home start) writes rest;
+    within = omega arith;
+    under = λ work task.
+        let same : call.0 ≡ work = (let both = sym call.1 ∙ task in cc) in
+        subst (λ work. Under holds home began start (in_locking writes work (now home start)) None) same call.2;
+  }
+
+  module _ (start old : Steps L) (opened : OpenedAs) (i : ℕ) (lists : Lists home start opened 0)
+      (rest : AtRest (now home start)) (so_far : Locks start opened.writes i old) where
+    -- the first writes are locked, so many
+    pub lists_now : Lists home old opened i
+    lists_now = record {
+      objects = lists.objects;
+      reads = lists.reads ∙ sym (ap (λ (state : LocalState). state.reads) so_far.has.same);
+      held = ap (λ (state : LocalState). state.holds) so_far.has.same
+          ∙ ap (λ (state : LocalState). map (new_hold state) (take i opened.writes)) (sym so_far.has.same);
+    }
+
+    module _ (left : i < length opened.writes) (work : Work) (task : began.task ≡ Doing work) where
+      -- to lock the next one is due
+      pub next_locks : (items : List (ℕ × Val)) → items ≡ opened.writes →
+          Under holds home began old (Just (locks items)) None
+      next_locks items same_items =
+          let count : (now home old).locked ≡ i = ap (λ (state : LocalState). state.locked) so_far.has.same in
+          under_is holds home began old _ _ _ _ (so_far.under work task)
+          (rw (ne_eqb (now home old).locked (length opened.writes) (λ q. omega arith))
+          (ap (λ items. Just (locks items)) (sym same_items))) refl
+
+      module _ (new : Steps L) (o word found : ℕ) (items : List (ℕ × Val)) (same_items : items ≡ opened.writes)
+          (went_with : Went holds home began old new None
+          (made_by began (Exchange word (word + 1)) (locks items) o found)) where
+        went : Went holds home began old new None
+            (made_by began (Exchange word (word + 1)) (locks opened.writes) o found)
+        went =
+            subst (λ items. Went holds home began old new None
+            (made_by began (Exchange word (word + 1)) (locks items) o found)) same_items went_with
+
+        -- it is locked
+        locked_now : found ≡ word → now home new ≡ lock (now home old) opened.writes
+        locked_now same = went.state ∙ rw (eq-eqb found word same) refl
+
+        pub locks_one : found ≡ word → Locks start opened.writes (i + 1) new
+        locks_one same =
+            let state : now home new ≡ lock (now home old) opened.writes = locked_now same in
+            let sound : (now home new).failed ≡ false =
+            ap (λ (state : LocalState). state.failed) state
+            ∙ ap (λ (state : LocalState). state.failed) so_far.has.same ∙ rest.sound.0 in record {
+              has = subst (HasLocked (now home start) opened.writes (i + 1)) (sym state)
+                  (locked_more (now home start) (now home old) opened.writes i rest.no_look so_far.has left);
+              within = omega arith;
+              under = λ work task.
+                  under_is holds home began new _ _ _ _ (goes_on holds home began work old new None _ task went)
+                  (rw sound refl) (rw (eq-eqb found word same) refl);
+            }
+
+        -- it had another word, which ends the attempt
+        lost_now : found ≢ word → now home new ≡ record (now home old) {
+          look = None;
+          writes = Some opened.writes;
+          failed = true;
+        }
+        lost_now other = went.state ∙ rw (ne_eqb found word other) refl
+
+        pub lost : found ≢ word → now home new ≡ record (now home start) {
+          writes = Some opened.writes;
+          locked = i;
+          holds = map (new_hold (now home start)) (take i opened.writes);
+          failed = true;
+        }
+        lost other =
+            lost_now other
+            ∙ ap (λ (state : LocalState). record state {
+              look = None;
+              writes = Some opened.writes;
+              failed = true;
+            }) so_far.has.same
+            ∙ ap (λ look. record (now home start) {
+              look = look;
+              writes = Some opened.writes;
+              locked = i;
+              holds = map (new_hold (now home start)) (take i opened.writes);
+              failed = true;
+            }) (sym rest.no_look)
+
+        -- and once what was locked is given back
+        pub lost_free : (last : Steps L) → found ≢ word →
+            now home last ≡ record (now home new) { holds = []; gave_back = (now home last).gave_back } →
+            now home last ≡ record (now home start) {
+              writes = (now home last).writes;
+              locked = (now home last).locked;
+              holds = [];
+              failed = true;
+              gave_back = (now home last).gave_back;
+            }
+        lost_free last other free =
+            let same : now home last ≡ record (now home start) {
+              writes = Some opened.writes;
+              locked = i;
+              holds = [];
+              failed = true;
+              gave_back = (now home last).gave_back;
+            } =
+            free ∙ ap (λ (state : LocalState). record state {
+              holds = [];
+              gave_back = (now home last).gave_back;
+            }) (lost other) in
+            same ∙ ap (λ (state : LocalState). record (now home start) {
+              writes = state.writes;
+              locked = state.locked;
+              holds = [];
+              failed = true;
+              gave_back = (now home last).gave_back;
+            }) (sym same)
+
+        pub lost_under : (again : TlAgain) → found ≢ word →
+            again ≡ (if is_locked found then Locked o else Changed o) →
+            Under holds home began new (in_freeing began.task (table_of home.terms) (now home new)) (Some again)
+        lost_under again other is =
+            let failed : (now home new).failed ≡ true =
+            ap (λ (state : LocalState). state.failed) (lost_now other) in
+            under_is holds home began new _ _ _ _ (goes_on holds home began work old new None _ task went)
+            (rw failed (freed_done (now home new).holds
+            ∙ ap (λ task. in_freeing task (table_of home.terms) (now home new)) (sym task)))
+            (rw (ne_eqb found word other) (ap Some (sym is)))
+
+        -- and ends the call
+        pub lost_ends : (last : Steps L) (again : TlAgain) → found ≢ word →
+            again ≡ (if is_locked found then Locked o else Changed o) →
+            ((again : Option TlAgain) →
+            Under holds home began new (in_freeing began.task (table_of home.terms) (now home new)) again →
+            Under holds home began last (when_free began.task (table_of home.terms) (now home last)) again) →
+            Under holds home began last Done (Some again)
+        lost_ends last again other is frees =
+            under_is holds home began last _ _ _ _ (frees (Some again) (lost_under again other is))
+            (ap (λ task. when_free task (table_of home.terms) (now home last)) task) refl
+
+        pub lost_lists : found ≢ word → Lists home new opened i
+        lost_lists other = record {
+          objects = lists.objects;
+          reads = lists.reads ∙ sym (ap (λ (state : LocalState). state.reads) (lost other));
+          held = ap (λ (state : LocalState). state.holds) (lost other)
+              ∙ ap (λ (state : LocalState). map (new_hold state) (take i opened.writes)) (sym (lost other));
+        }
+
+    -- what an object to be written was read as
+    module _ (read : (o : ℕ) → IsSome (value_in opened.writes o) → read_of o (now home start).reads ≢ None)
+        (left : i < length opened.writes) (o : ℕ) (at : (write_at opened.writes i).0 ≡ o) where
+      pub was_read : is_some (read_of o (now home old).reads) ≡ true
+      was_read =
+          let open_o : IsSome (value_in opened.writes o) =
+          subst (λ o. IsSome (value_in opened.writes o)) at (is_written_at opened.writes i left) in
+          subst (λ (state : LocalState). is_some (read_of o state.reads) ≡ true) (sym so_far.has.same)
+          (is_something (read_of o (now home start).reads) (read o open_o))
+
+      reads_now : map slot_read opened.reads ≡ (now home old).reads
+      reads_now = lists.reads ∙ sym (ap (λ (state : LocalState). state.reads) so_far.has.same)
+
+      pub has_slot : IsSome (read_slot opened.reads o)
+      has_slot =
+          slot_there opened.reads o (subst (λ rs. is_some (read_of o rs) ≡ true) (sym reads_now) was_read)
+
+      pub has_word : (word : ℕ) → IfSome (read_slot opened.reads o) (λ slot. word ≡ slot.word) →
+          recorded o (now home old).reads ≡ word
+      has_word word is = sym (slot_word opened.reads o word has_slot is ∙ ap (recorded o) reads_now)
+
+  -- all are locked
+  module _ (start steps : Steps L) (writes : List (ℕ × Val)) (i : ℕ) (so_far : Locks start writes i steps)
+      (all : length writes ≤ i) where
+    pub locks_all : (i ≡ length writes) × HasLocked (now home start) writes (length writes) (now home steps)
+    locks_all =
+        let within = so_far.within in
+        let count : i ≡ length writes = omega arith in
+        (count, subst (λ n. HasLocked (now home start) writes n (now home steps)) count so_far.has)
+
+    pub then_goes_on : (work : Work) → began.task ≡ Doing work → Under holds home began steps (when_locked work) None
+    then_goes_on work task =
+        let count : (now home steps).locked ≡ length writes =
+        ap (λ (state : LocalState). state.locked) so_far.has.same ∙ locks_all.0 in
+        under_is holds home began steps _ _ _ _ (so_far.under work task)
+        (rw (eq-eqb (now home steps).locked (length writes) count) refl) refl

@@ -1,0 +1,529 @@
+-- What is open of an object, by where it stands.
+use Rattle.std.proofs.Common.{◌+◌, ◌++◌, ◌-◌, ◌<◌, ◌≤◌, ◌∙◌, ◌∷◌, ◌≡◌, ◌≢◌, List, None, Some, [], ap, arith, cond, false, inl, inr, length, length-append, refl, subst, sym, true, ℕ, ◌⊎◌}
+use Rattle.std.specs.Prelude.{IsSome, is_some, slice_index_or, slice_set}
+use Rattle.std.proofs.Math.Seq.{get_or-append_seam}
+use Rattle.std.proofs.lemmas.List.{get_or_append_left, get_or_default, get_or-set_other, get_or-set_same, length-set}
+use Rattle.std.proofs.lemmas.Bool.{cases_Bool, cases_eq}
+use Rattle.dstm_mem.specs.Memory.{value_in}
+use Rattle.dstm_model.specs.declared.value.Val.{Val}
+use Rattle.dstm_tl2.specs.State.{no_write}
+use Rattle.dstm_tl2_steps.specs.Opened.{ArePlaced, IsReadOf, IsWriteOf, no_place, no_slot, place_at, read_at, read_slot, set_writes, with_value, write_at}
+use Rattle.dstm_tl2_steps.specs.declared.opened.Place.{Place}
+use Rattle.dstm_tl2_steps.specs.declared.opened.ReadSlot.{ReadSlot}
+use Rattle.dstm_tl2_steps.proofs.Slots.{ReadsApart, WritesApart, length-with_value, object-with_value, read_none, read_one, reads_few, set_push, set_same, value_in-set, value_in-with_other, value_in-with_value, with_value_is, write_none, write_one, writes_few}
+
+module _ (reads : List ReadSlot) (writes : List (ℕ × Val)) (places : List Place)
+    (p : ArePlaced reads writes places) where
+  -- no object stands twice
+  pub reads_apart : ReadsApart reads
+  reads_apart i j lower lt same =
+      let a = p.reads_placed (read_at reads i).object i (record { within = omega arith; object = refl }) in
+      let b = p.reads_placed (read_at reads i).object j (record { within = lt; object = sym same }) in omega arith
+
+  pub writes_apart : WritesApart writes
+  writes_apart i j lower lt same =
+      let a = p.writes_placed (write_at writes i).0 i (record { within = omega arith; object = refl }) in
+      let b = p.writes_placed (write_at writes i).0 j (record { within = lt; object = sym same }) in omega arith
+
+  -- so there are no more of them than objects
+  pub few_reads : length reads ≤ length places
+  few_reads = reads_few (length places) reads p.reads_below reads_apart
+
+  pub few_writes : length writes ≤ length places
+  few_writes = writes_few (length places) writes p.writes_below writes_apart
+
+  module _ (o : ℕ) (below : o < length places) where
+    -- an object that stands nowhere among the reads has no read
+    pub no_read_there : (place_at places o).read ≡ 0 → read_slot reads o ≡ None
+    no_read_there none = read_none reads o (λ i r. let q = p.reads_placed o i r in omega arith)
+
+    -- an object's read stands in its place
+    pub read_there : (place_at places o).read ≢ 0 →
+        read_slot reads o ≡ Some (read_at reads ((place_at places o).read - 1))
+    read_there some =
+        read_one reads o ((place_at places o).read - 1) (p.read_places o below some)
+        (λ i r. let q = p.reads_placed o i r in omega arith)
+
+    -- the same of what is open for writing
+    pub no_write_there : (place_at places o).write ≡ 0 → value_in writes o ≡ None
+    no_write_there none = write_none writes o (λ i r. let q = p.writes_placed o i r in omega arith)
+
+    pub write_there : (place_at places o).write ≢ 0 →
+        value_in writes o ≡ Some (write_at writes ((place_at places o).write - 1)).1
+    write_there some =
+        write_one writes o ((place_at places o).write - 1) (p.write_places o below some)
+        (λ i r. let q = p.writes_placed o i r in omega arith)
+
+    -- an object that was not read stands nowhere among the reads
+    pub unread_there : read_slot reads o ≡ None → (place_at places o).read ≡ 0
+    unread_there none = by (cases_eq (place_at places o).read 0)
+      where
+        by : ((place_at places o).read ≡ 0) ⊎ ((place_at places o).read ≡ 0 → ⊥) → (place_at places o).read ≡ 0
+        by (inl q) = q
+        by (inr some) = let there = read_there some in absurd (cc)
+
+    -- an object that is not open for writing stands nowhere among the writes
+    pub unopened_there : value_in writes o ≡ None → (place_at places o).write ≡ 0
+    unopened_there none = by (cases_eq (place_at places o).write 0)
+      where
+        by : ((place_at places o).write ≡ 0) ⊎ ((place_at places o).write ≡ 0 → ⊥) → (place_at places o).write ≡ 0
+        by (inl q) = q
+        by (inr some) = let there = write_there some in absurd (cc)
+
+    -- and was not set
+    pub unset_there : value_in writes o ≡ None → (place_at places o).set ≡ false
+    unset_there none = by (cases_Bool (place_at places o).set)
+      where
+        by : ((place_at places o).set ≡ true) ⊎ ((place_at places o).set ≡ false) → (place_at places o).set ≡ false
+        by (inl q) = absurd (p.set_places o q (unopened_there none))
+        by (inr q) = q
+
+    -- an object that is open for writing stands among the writes
+    pub write_stands : IsSome (value_in writes o) → (place_at places o).write ≢ 0
+    write_stands some none =
+        let z : is_some (value_in writes o) ≡ true = some in let none_is = no_write_there none in absurd (cc)
+
+-- ---- a place that is changed
+
+module _ (places : List Place) (o : ℕ) (q : Place) (below : o < length places) where
+  abbrev pub put : List Place
+  put = slice_set places o q
+
+  pub size_put : length put ≡ length places
+  size_put = length-set places o q
+
+  pub put_here : place_at put o ≡ q
+  put_here = get_or-set_same places o q no_place below
+
+  pub put_other : (x : ℕ) → x ≢ o → place_at put x ≡ place_at places x
+  put_other x other = get_or-set_other places o x q no_place other
+
+  -- what the change keeps of its place it keeps of all
+  pub put_read : q.read ≡ (place_at places o).read → (x : ℕ) → (place_at put x).read ≡ (place_at places x).read
+  put_read is x = by (cases_eq x o)
+    where
+      by : (x ≡ o) ⊎ (x ≡ o → ⊥) → (place_at put x).read ≡ (place_at places x).read
+      by (inl same) =
+          subst (λ n. (place_at put n).read ≡ (place_at places n).read) (sym same)
+          (ap (λ (y : Place). y.read) put_here ∙ is)
+      by (inr other) = ap (λ (y : Place). y.read) (put_other x other)
+
+  pub put_write : q.write ≡ (place_at places o).write → (x : ℕ) → (place_at put x).write ≡ (place_at places x).write
+  put_write is x = by (cases_eq x o)
+    where
+      by : (x ≡ o) ⊎ (x ≡ o → ⊥) → (place_at put x).write ≡ (place_at places x).write
+      by (inl same) =
+          subst (λ n. (place_at put n).write ≡ (place_at places n).write) (sym same)
+          (ap (λ (y : Place). y.write) put_here ∙ is)
+      by (inr other) = ap (λ (y : Place). y.write) (put_other x other)
+
+  pub put_set : q.set ≡ (place_at places o).set → (x : ℕ) → (place_at put x).set ≡ (place_at places x).set
+  put_set is x = by (cases_eq x o)
+    where
+      by : (x ≡ o) ⊎ (x ≡ o → ⊥) → (place_at put x).set ≡ (place_at places x).set
+      by (inl same) =
+          subst (λ n. (place_at put n).set ≡ (place_at places n).set) (sym same)
+          (ap (λ (y : Place). y.set) put_here ∙ is)
+      by (inr other) = ap (λ (y : Place). y.set) (put_other x other)
+
+-- ---- one read more
+
+module _ (reads : List ReadSlot) (writes : List (ℕ × Val)) (places : List Place) (s : ReadSlot) (n : ℕ)
+    (p : ArePlaced reads writes places) (below : s.object < length places)
+    (none : read_slot reads s.object ≡ None) (is : n ≡ length reads + 1) where
+  abbrev noted_place : Place
+  noted_place = record (place_at places s.object) { read = n }
+
+  abbrev pub noted : List Place
+  noted = put places s.object noted_place below
+
+  pub size_noted : length noted ≡ length places
+  size_noted = size_put places s.object noted_place below
+
+  noted_here : place_at noted s.object ≡ noted_place
+  noted_here = put_here places s.object noted_place below
+
+  noted_other : (x : ℕ) → x ≢ s.object → place_at noted x ≡ place_at places x
+  noted_other = put_other places s.object noted_place below
+
+  noted_write : (x : ℕ) → (place_at noted x).write ≡ (place_at places x).write
+  noted_write = put_write places s.object noted_place below refl
+
+  pub noted_set : (x : ℕ) → (place_at noted x).set ≡ (place_at places x).set
+  noted_set = put_set places s.object noted_place below refl
+
+  longer_reads : length (reads ++ s ∷ []) ≡ length reads + 1
+  longer_reads = let a = length-append reads (s ∷ []) in omega arith
+
+  -- a slot is one of those before, or the last one
+  read_split : (x i : ℕ) → IsReadOf (reads ++ s ∷ []) x i → IsReadOf reads x i ⊎ ((i ≡ length reads) × (s.object ≡ x))
+  read_split x i r = by (cases_eq i (length reads))
+    where
+      by : (i ≡ length reads) ⊎ (i ≡ length reads → ⊥) → IsReadOf reads x i ⊎ ((i ≡ length reads) × (s.object ≡ x))
+      by (inl last) =
+          inr (
+            last,
+            ap (λ (y : ReadSlot). y.object) (sym (get_or-append_seam reads s [] no_slot))
+                ∙ ap (λ k. (read_at (reads ++ s ∷ []) k).object) (sym last) ∙ r.object,
+          )
+      by (inr earlier) =
+          let within : i < length reads = let w = r.within in let l = longer_reads in omega arith in
+          inl (record {
+            within = within;
+            object = ap (λ (y : ReadSlot). y.object) (sym (get_or_append_left reads (s ∷ []) no_slot i within)) ∙ r.object;
+          })
+
+  noted_new : (x i : ℕ) → IsReadOf reads x i ⊎ ((i ≡ length reads) × (s.object ≡ x)) → (place_at noted x).read ≡ i + 1
+  noted_new x i (inl r) =
+      let unread = unread_there reads writes places p s.object below none in
+      ap (λ (y : Place). y.read) (noted_other x (λ same.
+      let here = p.reads_placed s.object i (subst (λ o. IsReadOf reads o i) same r) in absurd (omega arith)))
+      ∙ p.reads_placed x i r
+  noted_new x i (inr q) =
+      subst (λ o. (place_at noted o).read ≡ i + 1) q.1
+      (ap (λ (y : Place). y.read) noted_here ∙ is ∙ ap (λ k. k + 1) (sym q.0))
+
+  below_noted : (i : ℕ) → i < length (reads ++ s ∷ []) → (read_at (reads ++ s ∷ []) i).object < length noted
+  below_noted i lt = by (read_split _ i (record { within = lt; object = refl }))
+    where
+      by : IsReadOf reads (read_at (reads ++ s ∷ []) i).object i
+          ⊎ ((i ≡ length reads) × (s.object ≡ (read_at (reads ++ s ∷ []) i).object)) →
+          (read_at (reads ++ s ∷ []) i).object < length noted
+      by (inl r) =
+          subst (λ k. k < length noted) r.object (let b = p.reads_below i r.within in let z = size_noted in omega arith)
+      by (inr q) = subst (λ k. k < length noted) q.1 (let z = size_noted in omega (arith, below))
+
+  places_noted : (x : ℕ) → x < length noted → (place_at noted x).read ≢ 0 →
+      IsReadOf (reads ++ s ∷ []) x ((place_at noted x).read - 1)
+  places_noted x lt some = by (cases_eq x s.object)
+    where
+      by : (x ≡ s.object) ⊎ (x ≡ s.object → ⊥) → IsReadOf (reads ++ s ∷ []) x ((place_at noted x).read - 1)
+      by (inl same) =
+          let at : (place_at noted x).read ≡ n =
+          ap (λ o. (place_at noted o).read) same ∙ ap (λ (y : Place). y.read) noted_here in
+          subst (IsReadOf (reads ++ s ∷ []) x) (let e : length reads ≡ (place_at noted x).read - 1 = omega arith in e)
+          (record {
+            within = omega (arith, longer_reads);
+            object = ap (λ (y : ReadSlot). y.object) (get_or-append_seam reads s [] no_slot) ∙ sym same;
+          })
+      by (inr other) =
+          let at = ap (λ (y : Place). y.read) (noted_other x other) in
+          let r = p.read_places x (let z = size_noted in omega arith) (λ z. some (at ∙ z)) in
+          subst (λ k. IsReadOf (reads ++ s ∷ []) x (k - 1)) (sym at) (record {
+            within = let w = r.within in omega (arith, longer_reads);
+            object =
+                ap (λ (y : ReadSlot). y.object) (get_or_append_left reads (s ∷ []) no_slot ((place_at places x).read - 1) r.within) ∙ r.object;
+          })
+
+  pub placed_noted : ArePlaced (reads ++ s ∷ []) writes noted
+  placed_noted = record {
+    reads_below = below_noted;
+    reads_placed = λ x i r. noted_new x i (read_split x i r);
+    read_places = places_noted;
+    writes_below = λ i lt. let b = p.writes_below i lt in let z = size_noted in omega arith;
+    writes_placed = λ x i r. noted_write x ∙ p.writes_placed x i r;
+    write_places = λ x lt some.
+        subst (λ k. IsWriteOf writes x (k - 1)) (sym (noted_write x))
+        (p.write_places x (let z = size_noted in omega arith) (λ z. some (noted_write x ∙ z)));
+    set_places = λ x yes none. p.set_places x (sym (noted_set x) ∙ yes) (sym (noted_write x) ∙ none);
+  }
+
+  -- so there was room for it
+  pub room_read : length reads < length places
+  room_read =
+      let few = few_reads (reads ++ s ∷ []) writes noted placed_noted in let z = size_noted in let l = longer_reads in
+      omega arith
+
+  pub set_noted : set_writes noted writes ≡ set_writes places writes
+  set_noted = set_same places noted writes noted_set
+
+-- ---- one object more is open for writing
+
+module _ (reads : List ReadSlot) (writes : List (ℕ × Val)) (places : List Place) (o : ℕ) (v : Val) (n : ℕ)
+    (p : ArePlaced reads writes places) (below : o < length places)
+    (none : value_in writes o ≡ None) (is : n ≡ length writes + 1) where
+  abbrev new_writes : List (ℕ × Val)
+  new_writes = writes ++ (o, v) ∷ []
+
+  abbrev opened_place : Place
+  opened_place = record (place_at places o) { write = n }
+
+  abbrev pub opened : List Place
+  opened = put places o opened_place below
+
+  pub size_opened : length opened ≡ length places
+  size_opened = size_put places o opened_place below
+
+  opened_here : place_at opened o ≡ opened_place
+  opened_here = put_here places o opened_place below
+
+  opened_other : (x : ℕ) → x ≢ o → place_at opened x ≡ place_at places x
+  opened_other = put_other places o opened_place below
+
+  opened_read : (x : ℕ) → (place_at opened x).read ≡ (place_at places x).read
+  opened_read = put_read places o opened_place below refl
+
+  opened_set : (x : ℕ) → (place_at opened x).set ≡ (place_at places x).set
+  opened_set = put_set places o opened_place below refl
+
+  longer_writes : length new_writes ≡ length writes + 1
+  longer_writes = let a = length-append writes ((o, v) ∷ []) in omega arith
+
+  write_split : (x i : ℕ) → IsWriteOf new_writes x i → IsWriteOf writes x i ⊎ ((i ≡ length writes) × (o ≡ x))
+  write_split x i r = by (cases_eq i (length writes))
+    where
+      by : (i ≡ length writes) ⊎ (i ≡ length writes → ⊥) → IsWriteOf writes x i ⊎ ((i ≡ length writes) × (o ≡ x))
+      by (inl last) =
+          inr (
+            last,
+            ap (λ (y : ℕ × Val). y.0) (sym (get_or-append_seam writes (o, v) [] no_write))
+                ∙ ap (λ k. (write_at new_writes k).0) (sym last) ∙ r.object,
+          )
+      by (inr earlier) =
+          let within : i < length writes = let w = r.within in let l = longer_writes in omega arith in
+          inl (record {
+            within = within;
+            object = ap (λ (y : ℕ × Val). y.0) (sym (get_or_append_left writes ((o, v) ∷ []) no_write i within)) ∙ r.object;
+          })
+
+  opened_new : (x i : ℕ) → IsWriteOf writes x i ⊎ ((i ≡ length writes) × (o ≡ x)) → (place_at opened x).write ≡ i + 1
+  opened_new x i (inl r) =
+      let unopened = unopened_there reads writes places p o below none in
+      ap (λ (y : Place). y.write) (opened_other x (λ same.
+      let here = p.writes_placed o i (subst (λ k. IsWriteOf writes k i) same r) in absurd (omega arith)))
+      ∙ p.writes_placed x i r
+  opened_new x i (inr q) =
+      subst (λ k. (place_at opened k).write ≡ i + 1) q.1
+      (ap (λ (y : Place). y.write) opened_here ∙ is ∙ ap (λ k. k + 1) (sym q.0))
+
+  below_opened : (i : ℕ) → i < length new_writes → (write_at new_writes i).0 < length opened
+  below_opened i lt = by (write_split _ i (record { within = lt; object = refl }))
+    where
+      by : IsWriteOf writes (write_at new_writes i).0 i ⊎ ((i ≡ length writes) × (o ≡ (write_at new_writes i).0)) →
+          (write_at new_writes i).0 < length opened
+      by (inl r) =
+          subst (λ k. k < length opened) r.object (let b = p.writes_below i r.within in let z = size_opened in omega arith)
+      by (inr q) = subst (λ k. k < length opened) q.1 (let z = size_opened in omega (arith, below))
+
+  places_opened : (x : ℕ) → x < length opened → (place_at opened x).write ≢ 0 →
+      IsWriteOf new_writes x ((place_at opened x).write - 1)
+  places_opened x lt some = by (cases_eq x o)
+    where
+      by : (x ≡ o) ⊎ (x ≡ o → ⊥) → IsWriteOf new_writes x ((place_at opened x).write - 1)
+      by (inl same) =
+          let at : (place_at opened x).write ≡ n =
+          ap (λ k. (place_at opened k).write) same ∙ ap (λ (y : Place). y.write) opened_here in
+          subst (IsWriteOf new_writes x) (let e : length writes ≡ (place_at opened x).write - 1 = omega arith in e)
+          (record {
+            within = omega (arith, longer_writes);
+            object = ap (λ (y : ℕ × Val). y.0) (get_or-append_seam writes (o, v) [] no_write) ∙ sym same;
+          })
+      by (inr other) =
+          let at = ap (λ (y : Place). y.write) (opened_other x other) in
+          let r = p.write_places x (let z = size_opened in omega arith) (λ z. some (at ∙ z)) in
+          subst (λ k. IsWriteOf new_writes x (k - 1)) (sym at) (record {
+            within = let w = r.within in omega (arith, longer_writes);
+            object =
+                ap (λ (y : ℕ × Val). y.0) (get_or_append_left writes ((o, v) ∷ []) no_write ((place_at places x).write - 1) r.within)
+                ∙ r.object;
+          })
+
+  -- what was set is open for writing, as before
+  set_opened_places : (x : ℕ) → (place_at opened x).set ≡ true → (place_at opened x).write ≢ 0
+  set_opened_places x was_set = by (cases_eq x o)
+    where
+      by : (x ≡ o) ⊎ (x ≡ o → ⊥) → (place_at opened x).write ≢ 0
+      by (inl same) zero_there =
+          let at : (place_at opened x).write ≡ n =
+          ap (λ k. (place_at opened k).write) same ∙ ap (λ (y : Place). y.write) opened_here in omega arith
+      by (inr other) zero_there =
+          p.set_places x (sym (opened_set x) ∙ was_set) (sym (ap (λ (y : Place). y.write) (opened_other x other)) ∙ zero_there)
+
+  pub placed_opened : ArePlaced reads new_writes opened
+  placed_opened = record {
+    reads_below = λ i lt. let b = p.reads_below i lt in let z = size_opened in omega arith;
+    reads_placed = λ x i r. opened_read x ∙ p.reads_placed x i r;
+    read_places = λ x lt some.
+        subst (λ k. IsReadOf reads x (k - 1)) (sym (opened_read x))
+        (p.read_places x (let z = size_opened in omega arith) (λ z. some (opened_read x ∙ z)));
+    writes_below = below_opened;
+    writes_placed = λ x i r. opened_new x i (write_split x i r);
+    write_places = places_opened;
+    set_places = set_opened_places;
+  }
+
+  -- so there was room for it
+  pub room_write : length writes < length places
+  room_write =
+      let few = few_writes reads new_writes opened placed_opened in
+      let z = size_opened in let l = longer_writes in omega arith
+
+  -- it is not set
+  pub set_opened : set_writes opened new_writes ≡ set_writes places writes
+  set_opened =
+      set_push opened writes (o, v) (opened_set o ∙ unset_there reads writes places p o below none)
+      ∙ set_same places opened writes opened_set
+
+-- ---- a value that is set
+
+module _ (reads : List ReadSlot) (writes : List (ℕ × Val)) (places : List Place) (o : ℕ) (v : Val)
+    (p : ArePlaced reads writes places) (below : o < length places) (some : IsSome (value_in writes o)) where
+  abbrev set_place : Place
+  set_place = record (place_at places o) { set = true }
+
+  abbrev pub with_set : List Place
+  with_set = put places o set_place below
+
+  pub size_set : length with_set ≡ length places
+  size_set = size_put places o set_place below
+
+  set_read : (x : ℕ) → (place_at with_set x).read ≡ (place_at places x).read
+  set_read = put_read places o set_place below refl
+
+  set_write : (x : ℕ) → (place_at with_set x).write ≡ (place_at places x).write
+  set_write = put_write places o set_place below refl
+
+  -- the value stands in the object's place
+  pub set_there : slice_set writes ((place_at places o).write - 1)
+      ((write_at writes ((place_at places o).write - 1)).0, v) ≡ with_value o v writes
+  set_there =
+      with_value_is writes o ((place_at places o).write - 1) v
+      (p.write_places o below (write_stands reads writes places p o below some))
+      (λ i r. let q = p.writes_placed o i r in omega arith)
+
+  -- as the call finds it
+  pub set_found : (q : Place) (w : ℕ × Val) → q ≡ place_at places o → w ≡ slice_index_or writes (q.write - 1) w →
+      slice_set writes (q.write - 1) (w.0, v) ≡ with_value o v writes
+  set_found q w at found =
+      let n = (place_at places o).write - 1 in
+      let there = p.write_places o below (write_stands reads writes places p o below some) in
+      let slot : w ≡ write_at writes n =
+      found ∙ ap (λ (y : Place). slice_index_or writes (y.write - 1) w) at
+      ∙ get_or_default writes n w no_write there.within in
+      ap (λ (y : Place). slice_set writes (y.write - 1) (w.0, v)) at
+      ∙ ap (λ (y : ℕ × Val). slice_set writes n (y.0, v)) slot ∙ set_there
+
+  set_set_places : (x : ℕ) → (place_at with_set x).set ≡ true → (place_at with_set x).write ≢ 0
+  set_set_places x was_set = by (cases_eq x o)
+    where
+      by : (x ≡ o) ⊎ (x ≡ o → ⊥) → (place_at with_set x).write ≢ 0
+      by (inl same) zero_there =
+          write_stands reads writes places p o below some
+          (ap (λ k. (place_at places k).write) (sym same) ∙ sym (set_write x) ∙ zero_there)
+      by (inr other) zero_there =
+          p.set_places x (ap (λ (y : Place). y.set) (sym (put_other places o set_place below x other)) ∙ was_set)
+          (sym (set_write x) ∙ zero_there)
+
+  pub placed_set : ArePlaced reads (with_value o v writes) with_set
+  placed_set = record {
+    reads_below = λ i lt. let b = p.reads_below i lt in let z = size_set in omega arith;
+    reads_placed = λ x i r. set_read x ∙ p.reads_placed x i r;
+    read_places = λ x lt yes.
+        subst (λ k. IsReadOf reads x (k - 1)) (sym (set_read x))
+        (p.read_places x (let z = size_set in omega arith) (λ z. yes (set_read x ∙ z)));
+    writes_below = λ i lt.
+        subst (λ x. x < length with_set) (sym (object-with_value o v writes i))
+        (let b = p.writes_below i (let q = length-with_value o v writes in omega arith) in
+        let z = size_set in omega arith);
+    writes_placed = λ x i r. set_write x ∙ p.writes_placed x i (record {
+      within = let q = length-with_value o v writes in let w = r.within in omega arith;
+      object = sym (object-with_value o v writes i) ∙ r.object;
+    });
+    write_places = λ x lt yes.
+        let r = p.write_places x (let z = size_set in omega arith) (λ z. yes (set_write x ∙ z)) in
+        subst (λ k. IsWriteOf (with_value o v writes) x (k - 1)) (sym (set_write x)) (record {
+          within = let q = length-with_value o v writes in let w = r.within in omega arith;
+          object = object-with_value o v writes ((place_at places x).write - 1) ∙ r.object;
+        });
+    set_places = set_set_places;
+  }
+
+  -- the object was set to it
+  pub set_here : value_in (set_writes with_set (with_value o v writes)) o ≡ Some v
+  set_here =
+      value_in-set with_set (with_value o v writes) o
+      ∙ ap (λ b. cond b (value_in (with_value o v writes) o) None)
+      (ap (λ (y : Place). y.set) (put_here places o set_place below))
+      ∙ value_in-with_value o v writes some
+
+  -- and the others to what they were set before
+  pub set_others : (x : ℕ) → x ≢ o →
+      value_in (set_writes with_set (with_value o v writes)) x ≡ value_in (set_writes places writes) x
+  set_others x other =
+      value_in-set with_set (with_value o v writes) x
+      ∙ ap (λ (y : Place). cond y.set (value_in (with_value o v writes) x) None)
+      (put_other places o set_place below x other)
+      ∙ ap (λ y. cond (place_at places x).set y None) (value_in-with_other o v writes x other)
+      ∙ sym (value_in-set places writes x)
+
+-- ---- nothing is open any more
+
+-- first the reads are forgotten, then the writes
+module _ (reads : List ReadSlot) (writes : List (ℕ × Val)) (places unread again forgotten : List Place)
+    (p : ArePlaced reads writes places) (size : length unread ≡ length places) (same : again ≡ unread)
+    (size_again : length forgotten ≡ length again)
+    (read_done : (i : ℕ) → i < length reads → (place_at unread (read_at reads i).object).read ≡ 0)
+    (read_same : (o : ℕ) → ((place_at unread o).read ≡ 0) ⊎ ((place_at unread o).read ≡ (place_at places o).read))
+    (write_kept : (o : ℕ) → (place_at unread o).write ≡ (place_at places o).write)
+    (set_kept : (o : ℕ) → (place_at unread o).set ≡ (place_at places o).set)
+    (write_done : (i : ℕ) → i < length writes → ((place_at forgotten (write_at writes i).0).write ≡ 0)
+    × ((place_at forgotten (write_at writes i).0).set ≡ false))
+    (write_same : (o : ℕ) → (((place_at forgotten o).write ≡ 0) × ((place_at forgotten o).set ≡ false))
+    ⊎ (((place_at forgotten o).write ≡ (place_at again o).write)
+    × ((place_at forgotten o).set ≡ (place_at again o).set)))
+    (read_kept : (o : ℕ) → (place_at forgotten o).read ≡ (place_at again o).read) where
+  pub size_forgotten : length forgotten ≡ length places
+  size_forgotten = size_again ∙ ap length same ∙ size
+
+  read_then : (o : ℕ) → (place_at forgotten o).read ≡ (place_at unread o).read
+  read_then o = read_kept o ∙ ap (λ xs. (place_at xs o).read) same
+
+  -- no object stands among the reads
+  no_reads : (o : ℕ) → o < length places → (place_at forgotten o).read ≡ 0
+  no_reads o lt = by (read_same o) (cases_eq (place_at places o).read 0)
+    where
+      by : ((place_at unread o).read ≡ 0) ⊎ ((place_at unread o).read ≡ (place_at places o).read) →
+          ((place_at places o).read ≡ 0) ⊎ ((place_at places o).read ≡ 0 → ⊥) → (place_at forgotten o).read ≡ 0
+      by (inl gone) known = read_then o ∙ gone
+      by (inr as_before) (inl none) = read_then o ∙ as_before ∙ none
+      by (inr as_before) (inr some) =
+          let r = p.read_places o lt some in
+          read_then o ∙ ap (λ n. (place_at unread n).read) (sym r.object) ∙ read_done ((place_at places o).read - 1) r.within
+
+  -- nor among the writes
+  no_writes : (o : ℕ) → o < length places → (place_at forgotten o).write ≡ 0
+  no_writes o lt = by (write_same o) (cases_eq (place_at places o).write 0)
+    where
+      by : (((place_at forgotten o).write ≡ 0) × ((place_at forgotten o).set ≡ false))
+          ⊎ (((place_at forgotten o).write ≡ (place_at again o).write)
+          × ((place_at forgotten o).set ≡ (place_at again o).set)) →
+          ((place_at places o).write ≡ 0) ⊎ ((place_at places o).write ≡ 0 → ⊥) → (place_at forgotten o).write ≡ 0
+      by (inl gone) known = gone.0
+      by (inr as_before) (inl none) =
+          as_before.0 ∙ ap (λ xs. (place_at xs o).write) same ∙ write_kept o ∙ none
+      by (inr as_before) (inr some) =
+          let r = p.write_places o lt some in
+          ap (λ n. (place_at forgotten n).write) (sym r.object) ∙ (write_done ((place_at places o).write - 1) r.within).0
+
+  none_set : (o : ℕ) → (place_at forgotten o).set ≡ true → (place_at forgotten o).write ≢ 0
+  none_set o was_set none = by (write_same o)
+    where
+      by : (((place_at forgotten o).write ≡ 0) × ((place_at forgotten o).set ≡ false))
+          ⊎ (((place_at forgotten o).write ≡ (place_at again o).write)
+          × ((place_at forgotten o).set ≡ (place_at again o).set)) → ⊥
+      by (inl gone) = let unset = gone.1 in absurd (cc)
+      by (inr as_before) =
+          p.set_places o
+          (sym (as_before.1 ∙ ap (λ xs. (place_at xs o).set) same ∙ set_kept o) ∙ was_set)
+          (sym (as_before.0 ∙ ap (λ xs. (place_at xs o).write) same ∙ write_kept o) ∙ none)
+
+  pub nothing_placed : ArePlaced [] [] forgotten
+  nothing_placed = record {
+    reads_below = λ i lt. absurd (omega arith);
+    reads_placed = λ o i r. let w = r.within in absurd (omega arith);
+    read_places = λ o lt some. absurd (some (no_reads o (let z = size_forgotten in omega arith)));
+    writes_below = λ i lt. absurd (omega arith);
+    writes_placed = λ o i r. let w = r.within in absurd (omega arith);
+    write_places = λ o lt some. absurd (some (no_writes o (let z = size_forgotten in omega arith)));
+    set_places = none_set;
+  }

@@ -1,0 +1,4 @@
+pub mod Opened
+pub mod Reads
+pub mod Under
+pub mod Places

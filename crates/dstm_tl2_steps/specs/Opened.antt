@@ -1,0 +1,78 @@
+-- What an attempt has open.
+use Rattle.std.specs.Prelude.{◌≡◌, ◌≢◌, ℕ, ◌+◌, ◌-◌, ◌^◌, ◌<◌, ◌≤◌, ◌==◌, true, false, List, [], ◌∷◌, filter, find, length, slice_index_or, vec_capacity, Option, None, Some, if◌then◌else◌}
+use Rattle.dstm_model.specs.Map.{no_value}
+use Rattle.dstm_model.specs.declared.value.Val.{Val}
+use Rattle.dstm_tl2.specs.State.{no_write}
+use Rattle.dstm_tl2_steps.specs.declared.opened.Opened.TheInside.{Inside}
+use Rattle.dstm_tl2_steps.specs.declared.opened.Place.{Place}
+use Rattle.dstm_tl2_steps.specs.declared.opened.ReadSlot.{ReadSlot}
+
+pub record OpenedAs : Type 0 where
+  pub objects : ℕ  -- of the table
+  pub reads : List ReadSlot  -- the oldest first
+  pub writes : List (ℕ × Val)  -- the objects open for writing, each with its new value, the oldest first
+  pub set : List (ℕ × Val)  -- those of them that were set
+
+-- the read of an object
+abbrev pub read_slot : List ReadSlot → ℕ → Option ReadSlot
+read_slot slots o = find (λ (slot : ReadSlot). slot.object == o) slots
+
+-- the value that an object's slots hand out: the new one, or else the one that was read
+abbrev pub slots_value : Option Val → Option ReadSlot → Option Val
+slots_value None None = None
+slots_value None (Some read) = Some read.value
+slots_value (Some value) read = Some value
+
+-- the writes with another value for an object
+abbrev pub with_value : ℕ → Val → List (ℕ × Val) → List (ℕ × Val)
+with_value o v [] = []
+with_value o v (w ∷ ws) = if w.0 == o then (o, v) ∷ ws else w ∷ with_value o v ws
+
+-- ---- where each object stands
+
+abbrev pub no_slot : ReadSlot
+no_slot = record { object = 0; word = 0; value = no_value }
+
+abbrev pub no_place : Place
+no_place = record { read = 0; write = 0; set = false }
+
+abbrev pub read_at : List ReadSlot → ℕ → ReadSlot
+read_at slots i = slice_index_or slots i no_slot
+
+abbrev pub write_at : List (ℕ × Val) → ℕ → ℕ × Val
+write_at writes i = slice_index_or writes i no_write
+
+abbrev pub place_at : List Place → ℕ → Place
+place_at places o = slice_index_or places o no_place
+
+-- the writes that were set
+abbrev pub set_writes : List Place → List (ℕ × Val) → List (ℕ × Val)
+set_writes places writes = filter (λ (w : ℕ × Val). (place_at places w.0).set) writes
+
+-- the slot of the read of the object
+pub record IsReadOf (slots : List ReadSlot) (o i : ℕ) : Type 0 where
+  pub within : i < length slots
+  pub object : (read_at slots i).object ≡ o
+
+-- the slot of the object as it is open for writing
+pub record IsWriteOf (writes : List (ℕ × Val)) (o i : ℕ) : Type 0 where
+  pub within : i < length writes
+  pub object : (write_at writes i).0 ≡ o
+
+-- the slots that stand in these places; only what is open for writing was set
+pub record ArePlaced (reads : List ReadSlot) (writes : List (ℕ × Val)) (places : List Place) : Type 0 where
+  pub reads_below : (i : ℕ) → i < length reads → (read_at reads i).object < length places
+  pub reads_placed : (o i : ℕ) → IsReadOf reads o i → (place_at places o).read ≡ i + 1
+  pub read_places : (o : ℕ) → o < length places → (place_at places o).read ≢ 0 →
+      IsReadOf reads o ((place_at places o).read - 1)
+  pub writes_below : (i : ℕ) → i < length writes → (write_at writes i).0 < length places
+  pub writes_placed : (o i : ℕ) → IsWriteOf writes o i → (place_at places o).write ≡ i + 1
+  pub write_places : (o : ℕ) → o < length places → (place_at places o).write ≢ 0 →
+      IsWriteOf writes o ((place_at places o).write - 1)
+  pub set_places : (o : ℕ) → (place_at places o).set ≡ true → (place_at places o).write ≢ 0
+
+pub record HasPlaces (o : Inside) : Type 0 where
+  pub placed : ArePlaced o.reads.items o.writes.items o.places.items
+  pub room : (length o.places.items ≤ vec_capacity o.reads) × (length o.places.items ≤ vec_capacity o.writes)
+  pub few : (length o.reads.items ≤ length o.places.items) × (length o.writes.items ≤ length o.places.items)
+      × (length o.places.items < 2 ^ 31)

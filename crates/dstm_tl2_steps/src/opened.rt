@@ -1,0 +1,214 @@
+// What an attempt has open, and where each object stands in it.
+ghost use Rattle.std.specs.Prelude.{IfSome, ◌≡◌, ◌≢◌, ◌⊎◌, ℕ, ◌+◌, ◌^◌, ◌<◌, ◌≤◌, [], ◌∷◌, ◌++◌, Some, None, IfOk, IsSome, length, false, true};
+ghost use Rattle.dstm_mem.specs.Memory.{value_in};
+ghost use Rattle.dstm_tl2_steps.specs.Opened.{OpenedAs, place_at, read_at, read_slot, set_writes, slots_value, with_value, write_at};
+
+use dstm_model::Val;
+use std::alloc::{AllocError, Global};
+use std::marker::Model;
+
+/// A read of an object: the lock word that was found, and the value.
+#[derive(Clone, Copy, Debug, PartialEq, Eq)]
+pub struct ReadSlot {
+    pub object: u32,
+    pub word: u64,
+    pub value: Val,
+}
+
+// Where an object stands in the two lists: its slot plus 1, or 0. What is open for writing may have been set.
+#[derive(Clone, Copy, Debug)]
+pub struct Place {
+    read: u32,
+    write: u32,
+    set: bool,
+}
+
+/// The reads and the writes of an attempt. There is room for all objects from the making on.
+#[derive(Drop)]
+pub struct Opened {
+    reads: Vec<ReadSlot>,
+    writes: Vec<(u32, Val)>,
+    places: Vec<Place>,
+}
+
+impl Model for Opened {
+    ghost use Rattle.std.specs.Prelude.{IfSome, length};
+    ghost use Rattle.dstm_tl2_steps.specs.Opened.{HasPlaces, OpenedAs, set_writes};
+
+    ghost Value = { OpenedAs };
+
+    ghost view = { λ o. record {
+      objects = length o.places.items;
+      reads = o.reads.items;
+      writes = o.writes.items;
+      set = set_writes o.places.items o.writes.items;
+    } };
+
+    ghost invariant = { HasPlaces };
+}
+
+impl Opened {
+    /// Room for all objects.
+    pub fn make(alloc: Global, objects: u32) -> Result<Opened, AllocError>
+        requires few { objects < 2 ^ 31 }
+        ensures { IfOk result (λ o. o ≡ record { objects = objects; reads = []; writes = []; set = [] }) }
+    {
+        let nowhere = Place {
+            read: 0,
+            write: 0,
+            set: false,
+        };
+        Ok(Opened {
+            reads: Vec::with_capacity(alloc, objects as usize)?,
+            writes: Vec::with_capacity(alloc, objects as usize)?,
+            places: vec![in alloc; nowhere; objects as usize]?,
+        })
+    }
+
+    /// The read of an object.
+    pub fn read(&self, o: u32) -> Option<ReadSlot>
+        requires exists { o < self.now.objects }
+        ensures { result ≡ read_slot self.now.reads o }
+    {
+        let place = self.places[o as usize].read;
+        if place == 0 {
+            return None;
+        }
+        Some(self.reads[place as usize - 1])
+    }
+
+    /// The new value of an object that is open for writing.
+    pub fn write(&self, o: u32) -> Option<Val>
+        requires exists { o < self.now.objects }
+        ensures { result ≡ value_in self.now.writes o }
+    {
+        let place = self.places[o as usize].write;
+        if place == 0 {
+            return None;
+        }
+        Some(self.writes[place as usize - 1].1)
+    }
+
+    /// The new value of an object, or else the one that was read.
+    pub fn value(&self, o: u32) -> Option<Val>
+        requires exists { o < self.now.objects }
+        ensures { result ≡ slots_value (value_in self.now.writes o) (read_slot self.now.reads o) }
+    {
+        match self.write(o) {
+            Some(value) => Some(value),
+            None => self.read(o).map(|slot| slot.value),
+        }
+    }
+
+    /// The lock word that was found as an object was read.
+    pub fn word(&self, o: u32) -> u64
+        requires exists { o < self.now.objects }
+        requires read { IsSome (read_slot self.now.reads o) }
+        ensures { IfSome (read_slot self.now.reads o) (λ slot. result ≡ slot.word) }
+    {
+        match self.read(o) {
+            Some(slot) => slot.word,
+            None => 0,
+        }
+    }
+
+    /// The reads, the oldest first.
+    pub fn reads(&self) -> &[ReadSlot]
+        ensures items { result.now ≡ self.now.reads }
+        ensures below { (i : ℕ) → i < length self.now.reads → (read_at self.now.reads i).object < self.now.objects }
+        ensures apart { (i j : ℕ) → i < j → j < length self.now.reads →
+            (read_at self.now.reads i).object ≢ (read_at self.now.reads j).object }
+        ensures few { (length self.now.reads ≤ self.now.objects) × (self.now.objects < 2 ^ 31) }
+    {
+        &self.reads
+    }
+
+    /// The writes, the oldest first.
+    pub fn writes(&self) -> &Vec<(u32, Val)>
+        ensures items { result.now.items ≡ self.now.writes }
+        ensures below { (i : ℕ) → i < length self.now.writes → (write_at self.now.writes i).0 < self.now.objects }
+        ensures apart { (i j : ℕ) → i < j → j < length self.now.writes →
+            (write_at self.now.writes i).0 ≢ (write_at self.now.writes j).0 }
+        ensures few { (length self.now.writes ≤ self.now.objects) × (self.now.objects < 2 ^ 31) }
+    {
+        &self.writes
+    }
+
+    /// Records a read.
+    pub fn push_read(&mut self, slot: ReadSlot)
+        requires exists { slot.object < self.old.objects }
+        requires unread { read_slot self.old.reads slot.object ≡ None }
+        ensures { self.new ≡ record self.old { reads = self.old.reads ++ slot ∷ [] } }
+    {
+        self.reads.push_reserved(slot);
+        self.places[slot.object as usize].read = self.reads.len() as u32;
+    }
+
+    /// Opens an object for writing, which keeps its value until one is set.
+    pub fn push_write(&mut self, o: u32, value: Val)
+        requires exists { o < self.old.objects }
+        requires unopened { value_in self.old.writes o ≡ None }
+        ensures { self.new ≡ record self.old { writes = self.old.writes ++ (o, value) ∷ [] } }
+    {
+        self.writes.push_reserved((o, value));
+        self.places[o as usize].write = self.writes.len() as u32;
+    }
+
+    /// Sets the value of an object that is open for writing.
+    pub fn set(&mut self, o: u32, value: Val)
+        requires exists { o < self.old.objects }
+        requires opened { IsSome (value_in self.old.writes o) }
+        ensures writes { self.new.writes ≡ with_value o value self.old.writes }
+        ensures set { (p : ℕ) → p ≢ o → value_in self.new.set p ≡ value_in self.old.set p }
+        ensures value { value_in self.new.set o ≡ Some value }
+        ensures rest { (self.new.objects ≡ self.old.objects) × (self.new.reads ≡ self.old.reads) }
+    {
+        let place = &mut self.places[o as usize];
+        place.set = true;
+        self.writes[place.write as usize - 1].1 = value;
+    }
+
+    /// Nothing is open any more.
+    pub fn clear(&mut self)
+        ensures { self.new ≡ record self.old { reads = []; writes = []; set = [] } }
+    {
+        forget_reads(&mut self.places, &self.reads);
+        forget_writes(&mut self.places, &self.writes);
+        self.reads.clear();
+        self.writes.clear();
+    }
+}
+
+// No object stands among the reads any more.
+fn forget_reads(places: &mut [Place], reads: &[ReadSlot])
+    requires below { (i : ℕ) → i < length reads.now → (read_at reads.now i).object < length places.old }
+    ensures size { length places.new ≡ length places.old }
+    ensures done { (i : ℕ) → i < length reads.now → (place_at places.new (read_at reads.now i).object).read ≡ 0 }
+    ensures same { (o : ℕ) → ((place_at places.new o).read ≡ 0)
+        ⊎ ((place_at places.new o).read ≡ (place_at places.old o).read) }
+    ensures writes { (o : ℕ) → (place_at places.new o).write ≡ (place_at places.old o).write }
+    ensures set { (o : ℕ) → (place_at places.new o).set ≡ (place_at places.old o).set }
+{
+    for slot in reads {
+        places[slot.object as usize].read = 0;
+    }
+}
+
+// No object stands among the writes any more.
+fn forget_writes(places: &mut [Place], writes: &[(u32, Val)])
+    requires below { (i : ℕ) → i < length writes.now → (write_at writes.now i).0 < length places.old }
+    ensures size { length places.new ≡ length places.old }
+    ensures done { (i : ℕ) → i < length writes.now →
+        ((place_at places.new (write_at writes.now i).0).write ≡ 0)
+        × ((place_at places.new (write_at writes.now i).0).set ≡ false) }
+    ensures same { (o : ℕ) → (((place_at places.new o).write ≡ 0) × ((place_at places.new o).set ≡ false))
+        ⊎ (((place_at places.new o).write ≡ (place_at places.old o).write)
+        × ((place_at places.new o).set ≡ (place_at places.old o).set)) }
+    ensures reads { (o : ℕ) → (place_at places.new o).read ≡ (place_at places.old o).read }
+{
+    for write in writes {
+        let place = &mut places[write.0 as usize];
+        place.write = 0;
+        place.set = false;
+    }
+}

@@ -1,5 +1,0 @@
-pub mod Styles
-pub mod Tries
-pub mod Rechecks
-pub mod Workers
-pub mod Only
