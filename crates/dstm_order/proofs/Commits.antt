@@ -13,9 +13,8 @@ use Rattle.dstm_core.specs.Rules.{after, is_outside}
 use Rattle.dstm_core.specs.State.{LocalState}
 use Rattle.dstm_model.specs.declared.value.Val.{Val}
 use Rattle.rand_pcg.specs.Lcg.{Lcg}
-use Rattle.dstm_order.specs.declared.TheConstants.{MAX_MISSED}
 use Rattle.dstm_order.specs.Calls.{Obeys, state_after, effort_of, newest_of, due_after}
-use Rattle.dstm_order.specs.Efforts.{Effort}
+use Rattle.dstm_order.specs.Efforts.{Effort, most_missed}
 use Rattle.dstm_order.specs.Order.{Due, IsDue, due, next, next_or_first, in_putting, in_pass, in_checks}
 use Rattle.dstm_order.specs.Order.Due.{Step, Done}
 use Rattle.dstm_order.specs.Passes.{EveryCommitIsValidated}
@@ -68,7 +67,7 @@ module _ (v : ℕ → Val) where
       InCommit (due (Doing (Committing v)) s newest l c)
   due_commits s newest l c h =
       cond_both (is_outside l.phase) _ _ InCommit (λ _. refl) (λ _.
-      cond_both (l.stale || c.missed == MAX_MISSED) _ _ InCommit (λ _. refl) (λ _. h))
+      cond_both (l.stale || c.missed == most_missed) _ _ InCommit (λ _. refl) (λ _. h))
 
   is_kind : (d : Due) (e : Event) → IsDue d e → InCommit d → in_commit e.kind ≡ true
   is_kind (Step k n) e is h = rw (is.0) h

@@ -13,9 +13,8 @@ use Rattle.dstm_core.specs.declared.state.Phase.TheVariants.{Outside, Running, P
 use Rattle.dstm_core.specs.Rules.{after, is_outside}
 use Rattle.dstm_core.specs.State.{LocalState, given}
 use Rattle.rand_pcg.specs.Lcg.{Lcg}
-use Rattle.dstm_order.specs.declared.TheConstants.{MAX_MISSED}
 use Rattle.dstm_order.specs.Calls.{Obeys, state_after, effort_of, due_after}
-use Rattle.dstm_order.specs.Efforts.{Effort}
+use Rattle.dstm_order.specs.Efforts.{Effort, most_missed}
 use Rattle.dstm_order.specs.Order.{Due, IsDue, just, due, next, next_or_first, at_first, when_resolved, when_passed, in_resolving, in_checks, rises}
 use Rattle.dstm_order.specs.Order.Due.{Step, Done}
 use Rattle.dstm_order.specs.Passes.{is_open, EndsInPass, EndsInRank, EveryOpenEndsInPass}
@@ -136,7 +135,7 @@ due_opens : (w : Work) (s : Shape) (newest : Option Event) (l : LocalState) (c :
     IsOpen (next_or_first newest w s.manager l c) → IsOpen (due (Doing w) s newest l c)
 due_opens w s newest l c h =
     cond_both (is_outside l.phase) _ _ IsOpen (λ _. refl) (λ _.
-    cond_both (l.stale || c.missed == MAX_MISSED) _ _ IsOpen (λ _. refl) (λ _. h))
+    cond_both (l.stale || c.missed == most_missed) _ _ IsOpen (λ _. refl) (λ _. h))
 
 is_kind : (d : Due) (e : Event) → IsDue d e → IsOpen d → in_open e.kind ≡ true
 is_kind (Step k n) e is h = rw (is.0) h
@@ -280,10 +279,10 @@ passed_is w m l h = absurd (cc)
 ends_table : (w : Work) (s : Shape) (newest : Option Event) (l : LocalState) (c : Effort) →
     due (Doing w) s newest l c ≡ Done → is_outside l.phase ≡ false → next_or_first newest w s.manager l c ≡ Done
 ends_table w s newest l c q live =
-    cond_both (is_outside l.phase) Done (if l.stale || c.missed == MAX_MISSED then just Quit else table)
+    cond_both (is_outside l.phase) Done (if l.stale || c.missed == most_missed then just Quit else table)
     (λ d. d ≡ Done → table ≡ Done)
     (λ x _. absurd (cc))
-    (λ _. cond_both (l.stale || c.missed == MAX_MISSED) (just Quit) table (λ d. d ≡ Done → table ≡ Done)
+    (λ _. cond_both (l.stale || c.missed == most_missed) (just Quit) table (λ d. d ≡ Done → table ≡ Done)
     (λ _ p. absurd (cc)) (λ _ p. p)) q
   where
     table : Due

@@ -12,9 +12,8 @@ use Rattle.dstm_core.specs.declared.state.Phase.TheVariants.{Drawn}
 use Rattle.dstm_core.specs.Rules.{after, is_outside}
 use Rattle.dstm_core.specs.State.{LocalState, next_read, or_read}
 use Rattle.rand_pcg.specs.Lcg.{Lcg}
-use Rattle.dstm_order.specs.declared.TheConstants.{MAX_MISSED}
 use Rattle.dstm_order.specs.Calls.{Obeys, state_after, effort_of, newest_of, due_after}
-use Rattle.dstm_order.specs.Efforts.{Effort}
+use Rattle.dstm_order.specs.Efforts.{Effort, most_missed}
 use Rattle.dstm_order.specs.Order.{Due, IsDue, just, due, next, next_or_first, at_first, when_resolved, in_resolving, in_pass, in_checking, in_checks, is_same}
 use Rattle.dstm_order.specs.Order.Due.{Step, Done}
 use Rattle.dstm_order.specs.Passes.{AreChecks, checks_needed, Validates, EveryPassIsComplete}
@@ -103,11 +102,11 @@ goes (Step k n) = true
 pub goes_on : (w : Work) (s : Shape) (newest : Option Event) (l : LocalState) (c : Effort) (d : Due) →
     due (Doing w) s newest l c ≡ d → goes d ≡ true → GoesOn w s newest l c d
 goes_on w s newest l c d q h =
-    cond_both (is_outside l.phase) Done (if l.stale || c.missed == MAX_MISSED then just Quit else table) Goal
+    cond_both (is_outside l.phase) Done (if l.stale || c.missed == most_missed then just Quit else table) Goal
     (λ _ p. let x = ap goes p in absurd (cc))
-    (λ _. cond_both (l.stale || c.missed == MAX_MISSED) (just Quit) table Goal
+    (λ _. cond_both (l.stale || c.missed == most_missed) (just Quit) table Goal
     (λ _ p. let x = ap goes p in absurd (cc))
-    (λ r p. record { agreed = (or_parts l.stale (c.missed == MAX_MISSED) r).0; table = p })) q
+    (λ r p. record { agreed = (or_parts l.stale (c.missed == most_missed) r).0; table = p })) q
   where
     table : Due
     table = next_or_first newest w s.manager l c

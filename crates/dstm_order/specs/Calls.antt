@@ -12,8 +12,7 @@ use Rattle.dstm_core.specs.State.{LocalState, or_read, res}
 use Rattle.rand_pcg.specs.Lcg.{Lcg}
 use Rattle.dstm_order.specs.declared.again.Again.{Again}
 use Rattle.dstm_order.specs.declared.again.Again.TheVariants.{Stale, Killed, Lost, Waited}
-use Rattle.dstm_order.specs.declared.TheConstants.{MAX_MISSED}
-use Rattle.dstm_order.specs.Efforts.{Effort, no_effort, effort_after}
+use Rattle.dstm_order.specs.Efforts.{Effort, no_effort, effort_after, most_missed}
 use Rattle.dstm_order.specs.Order.{Due, IsDue, due}
 use Rattle.dstm_order.specs.Order.Due.{Done}
 use Rattle.dstm_order.specs.Tasks.{Task}
@@ -71,7 +70,7 @@ stale_object state =
 abbrev pub quit_cause : LocalState → Effort → Again
 quit_cause state effort =
     if state.stale then Stale (stale_object state)
-    else if effort.missed == MAX_MISSED then Lost
+    else if effort.missed == most_missed then Lost
     else Waited
 
 abbrev pub cause : Option Event → LocalState → Effort → Again

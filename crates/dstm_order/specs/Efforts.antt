@@ -14,7 +14,14 @@ use Rattle.dstm_managers.specs.declared.decider.Choice.{Choice}
 use Rattle.dstm_managers.specs.declared.decider.Choice.TheVariants as decision
 use Rattle.dstm_managers.specs.Choices.{DeciderState, choice, next_word, decider_after as decided}
 use Rattle.rand_pcg.specs.Lcg.{Lcg}
-use Rattle.dstm_order.specs.declared.TheConstants.{MAX_PATIENCE}
+
+-- an attempt quits once so many exchanges of one call have failed,
+abbrev pub most_missed : ℕ
+most_missed = 64
+
+-- and after so many turns of giving way
+abbrev pub most_patience : ℕ
+most_patience = 4096
 
 pub record Effort : Type 0 where
   pub missed : ℕ  -- how many exchanges of this call failed, those on the own status aside
@@ -95,6 +102,6 @@ effort_after LookStatus manager state effort event =
     if is_turn LookStatus state then turn_in state.phase manager state effort else effort
 effort_after Install manager state effort event = exchanges effort event
 effort_after Kill manager state effort event = exchanges effort event
-effort_after Pause manager state effort event = record effort { left = MAX_PATIENCE }
+effort_after Pause manager state effort event = record effort { left = most_patience }
 effort_after Resume manager state effort event = record effort { left = 0 }
 effort_after kind manager state effort event = effort

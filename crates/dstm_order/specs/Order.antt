@@ -19,8 +19,7 @@ use Rattle.dstm_core.specs.Words.{code_of}
 use Rattle.dstm_managers.specs.declared.decider.Choice.{Choice}
 use Rattle.dstm_managers.specs.declared.decider.Choice.TheVariants as decision
 use Rattle.dstm_model.specs.declared.value.Val.{Val}
-use Rattle.dstm_order.specs.declared.TheConstants.{MAX_MISSED}
-use Rattle.dstm_order.specs.Efforts.{Effort, chosen}
+use Rattle.dstm_order.specs.Efforts.{Effort, chosen, most_missed}
 use Rattle.dstm_order.specs.Tasks.{Task, Work}
 use Rattle.dstm_order.specs.Tasks.Task.{Enrolling, Beginning, Leaving, Doing}
 use Rattle.dstm_order.specs.Tasks.Work.{Reading, Writing, Releasing, Rechecking, Committing}
@@ -263,5 +262,5 @@ due (Beginning fresh) shape newest state effort = in_beginning shape fresh newes
 due Leaving shape newest state effort = if is_outside state.phase then Done else just Quit
 due (Doing work) shape newest state effort =
     if is_outside state.phase then Done
-    else if state.stale || effort.missed == MAX_MISSED then just Quit
+    else if state.stale || effort.missed == most_missed then just Quit
     else next_or_first newest work shape.manager state effort

@@ -8,8 +8,17 @@ ghost use Rattle.dstm_core.specs.declared.state.Phase.TheVariants.{Outside};
 ghost use Rattle.dstm_core.specs.Runs.{local};
 ghost use Rattle.dstm_order.specs.Calls.{stale_object};
 ghost use Rattle.dstm_order.specs.Counts.{counts_of};
+ghost use Rattle.dstm_order.specs.Efforts.{most_missed, most_patience};
+ghost use Rattle.dstm_order.specs.declared.TheConstants.{MAX_MISSED, MAX_PATIENCE};
 ghost use Rattle.dstm_order.specs.Passes.{EveryPassIsComplete, EveryCommitIsValidated, EveryOpenEndsInPass, EveryMissCounts};
 ghost use Rattle.dstm_order.specs.Drive.{small, opens_ranked, opens_unranked, meets_guest, row, rows_of, three, reads_three, two, overtaken, first_kinds, kinds_of};
+
+/// The limits that the code counts to are those of the order of steps: 64 failed exchanges of a call, and 4096 turns of
+/// giving way.
+pub fn limits_are_those_of_the_order()
+    ensures missed { MAX_MISSED ≡ most_missed }
+    ensures patience { MAX_PATIENCE ≡ most_patience }
+{}
 
 /// A call that has come to a LookSelf has just made a complete pass: LookNumber, then, unless the number is the one
 /// with which the last complete pass began, one Check of each recorded read, in order, each of which found the

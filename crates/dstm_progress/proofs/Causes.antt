@@ -16,14 +16,13 @@ use Rattle.dstm_core.specs.declared.state.Phase.TheVariants.{Outside, Paused}
 use Rattle.dstm_core.proofs.Pasts.{core_past}
 use Rattle.dstm_core.proofs.Underway.{is_outside_now}
 use Rattle.dstm_order.specs.Calls.{Obeys, answer, answer_of, cause, due_after, effort_of, is_quit, newest_of, quit_cause, state_after}
-use Rattle.dstm_order.specs.Efforts.{Effort}
+use Rattle.dstm_order.specs.Efforts.{Effort, most_missed}
 use Rattle.dstm_order.specs.Order.{IsDue, just, next_or_first}
 use Rattle.dstm_order.specs.Order.Due.{Step}
 use Rattle.dstm_order.specs.Tasks.{Work}
 use Rattle.dstm_order.specs.Tasks.Task.{Doing}
 use Rattle.dstm_order.specs.declared.again.Again.{Again}
 use Rattle.dstm_order.specs.declared.again.Again.TheVariants.{Killed}
-use Rattle.dstm_order.specs.declared.TheConstants.{MAX_MISSED}
 use Rattle.dstm_order.proofs.Misses.{missed_is}
 use Rattle.dstm_order.proofs.Validations.{due_kind}
 use Rattle.dstm_progress.proofs.Answers.{none_committed, none_inside, quit_effort, quit_is, quit_keeps, some_cause}
@@ -68,7 +67,7 @@ is_paused_now p = inr (λ q. cc)
 waited : (w : Work) (s : Shape) (l : LocalState) (g : Lcg) (e : Event) (es : List Event) →
     Obeys (Doing w) s l g (e ∷ es) → AreAllowed s l es → Sound l → e.kind ≡ Quit →
     (state_after s l es).phase ≢ Outside → (state_after s l es).stale ≡ false →
-    ((effort_of s l g es).missed == MAX_MISSED) ≡ false → WaitsOut s l (e ∷ es)
+    ((effort_of s l g es).missed == most_missed) ≡ false → WaitsOut s l (e ∷ es)
 waited w s l g e es o a h k i st m = go (is_paused_now old.phase)
   where
     old : LocalState
@@ -118,7 +117,7 @@ quits : (w : Work) (s : Shape) (l : LocalState) (g : Lcg) (e : Event) (es : List
     quit_cause (state_after s l (e ∷ es)) (effort_of s l g (e ∷ es)) ≡ again → Causes again s l (e ∷ es)
 quits w s l g e es again o a h was k i q =
     subst (λ a. Causes a s l (e ∷ es)) q
-    (go (cases_Bool new.stale) (cases_Bool ((effort_of s l g (e ∷ es)).missed == MAX_MISSED)))
+    (go (cases_Bool new.stale) (cases_Bool ((effort_of s l g (e ∷ es)).missed == most_missed)))
   where
     old : LocalState
     old = state_after s l es
@@ -136,14 +135,14 @@ quits w s l g e es again o a h was k i q =
     effort = quit_effort s old (effort_of s l g es) e e.kind k
 
     go : (new.stale ≡ true) ⊎ (new.stale ≡ false) →
-        (f.missed == MAX_MISSED ≡ true) ⊎ (f.missed == MAX_MISSED ≡ false) →
+        (f.missed == most_missed ≡ true) ⊎ (f.missed == most_missed ≡ false) →
         Causes (quit_cause new f) s l (e ∷ es)
     go (inl y) z = rw y (subst (λ p. Has finds_stale p s l (e ∷ es)) (sym (quit_object s old e e.kind k))
         (stale_now w s l g e es o.0 a h was i (sym same ∙ y)))
-    go (inr y) (inl z) = rw (y, z) (sym (missed_is s l g (e ∷ es)) ∙ eqb-true f.missed MAX_MISSED z)
+    go (inr y) (inl z) = rw (y, z) (sym (missed_is s l g (e ∷ es)) ∙ eqb-true f.missed most_missed z)
     go (inr y) (inr z) =
         rw (y, z) (waited w s l g e es o a h k i (sym same ∙ y)
-        (ap (λ (f : Effort). f.missed == MAX_MISSED) (sym effort) ∙ z))
+        (ap (λ (f : Effort). f.missed == most_missed) (sym effort) ∙ z))
 
 -- ---- a call that ends otherwise
 

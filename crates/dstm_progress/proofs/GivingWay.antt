@@ -15,13 +15,12 @@ use Rattle.dstm_core.specs.declared.shape.Shape.{Shape}
 use Rattle.dstm_core.specs.declared.state.Phase.TheVariants.{Drawn, Outside, Paused, Putting, Running}
 use Rattle.dstm_core.specs.declared.state.Resolution.{Resolution}
 use Rattle.dstm_order.specs.Calls.{Obeys, effort_of, newest_of, state_after}
-use Rattle.dstm_order.specs.Efforts.{Effort, effort_after}
+use Rattle.dstm_order.specs.Efforts.{Effort, effort_after, most_patience}
 use Rattle.dstm_order.specs.Order.{Due, at_first, enemy_code, in_giving_way, in_resolving, is_paused, just, next, next_or_first, when_resolved}
 use Rattle.dstm_order.specs.Order.Due.{Step}
 use Rattle.dstm_order.specs.Tasks.{Work}
 use Rattle.dstm_order.specs.Tasks.Task.{Doing}
 use Rattle.dstm_order.specs.Tasks.Work.{Reading, Writing, Releasing, Rechecking, Committing}
-use Rattle.dstm_order.specs.declared.TheConstants.{MAX_PATIENCE}
 use Rattle.dstm_order.proofs.Rows.{putting_by}
 use Rattle.dstm_progress.proofs.Alone.{live_some}
 use Rattle.dstm_progress.proofs.Oldest.{paused_how}
@@ -91,7 +90,7 @@ pause_res s l e Pause q = cond_both (e.found == 1) _ _ (λ (m : LocalState). res
 pause_res s l e k q = absurd (cc)
 
 pause_left : (m : Manager) (l : LocalState) (f : Effort) (e : Event) (k : Kind) → k ≡ Pause →
-    (effort_after k m l f e).left ≡ MAX_PATIENCE
+    (effort_after k m l f e).left ≡ most_patience
 pause_left m l f e Pause q = refl
 pause_left m l f e k q = absurd (cc)
 
@@ -145,7 +144,7 @@ pub record GaveWay (w : Work) (s : Shape) (l : LocalState) (g : Lcg) (es : List 
   pub owner : (res (state_after s l es)).owner ≡ (res (state_after s l before)).owner
   pub status : is_some (res (state_after s l es)).status ≡ true
   pub places : AllAt (place s (StatusWord (or_zero (res (state_after s l before)).owner))) looks
-  pub count : (effort_of s l g es).left + length looks ≡ MAX_PATIENCE
+  pub count : (effort_of s l g es).left + length looks ≡ most_patience
   pub all : AllPass gives_way s l looks (pause ∷ before)
 
 -- the Pause itself

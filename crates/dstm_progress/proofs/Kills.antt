@@ -13,10 +13,9 @@ use Rattle.dstm_core.specs.declared.shape.Shape.{Shape}
 use Rattle.dstm_managers.specs.declared.decider.Choice.{Choice}
 use Rattle.dstm_managers.specs.declared.decider.Choice.TheVariants as decision
 use Rattle.dstm_order.specs.Calls.{Obeys, effort_of, newest_of, state_after}
-use Rattle.dstm_order.specs.Efforts.{Effort, chosen}
+use Rattle.dstm_order.specs.Efforts.{Effort, chosen, most_missed}
 use Rattle.dstm_order.specs.Order.{Due, IsDue, at_first, due, enemy_code, has_ranks, in_conflict, in_resolving, is_paused, just, next, next_or_first, on_choice, when_resolved}
 use Rattle.dstm_order.specs.Order.Due.{Done, Step}
-use Rattle.dstm_order.specs.declared.TheConstants.{MAX_MISSED}
 use Rattle.dstm_order.specs.Tasks.{Task, Work}
 use Rattle.dstm_order.specs.Tasks.Task.{Doing}
 use Rattle.dstm_order.specs.Tasks.Work.{Reading, Writing, Releasing, Rechecking, Committing}
@@ -113,7 +112,7 @@ due_row : (w : Work) (s : Shape) (o : Option Event) (l : LocalState) (f : Effort
 due_row w s o l f =
     let C : Due → Type 0 = Chosen (chosen s.manager l f) in
     cond_both (is_outside l.phase) _ _ C (λ _. never (chosen s.manager l f) Done refl) (λ _.
-    cond_both (l.stale || f.missed == MAX_MISSED) _ _ C (λ _. never (chosen s.manager l f) (just Quit) refl) (λ _.
+    cond_both (l.stale || f.missed == most_missed) _ _ C (λ _. never (chosen s.manager l f) (just Quit) refl) (λ _.
     table_row s.manager l f o w))
 
 due_kills : (d : Due) (e : Event) → IsDue d e → e.kind ≡ Kill → kills d ≡ true

@@ -14,10 +14,9 @@ use Rattle.dstm_core.specs.declared.shape.Shape.{Shape}
 use Rattle.dstm_machines.specs.Traces.{Each}
 use Rattle.dstm_machines.proofs.Own.{own_first, own_other}
 use Rattle.dstm_order.specs.Calls.{Obeys, effort_of, newest_of, state_after}
-use Rattle.dstm_order.specs.Efforts.{Effort}
+use Rattle.dstm_order.specs.Efforts.{Effort, most_missed}
 use Rattle.dstm_order.specs.Order.{Due, IsDue, at_first, due, has_begun, has_ranks, has_stamps, in_beginning, in_resolving, is_spent, just, next, next_or_first, rises, when_resolved}
 use Rattle.dstm_order.specs.Order.Due.{Done, Step}
-use Rattle.dstm_order.specs.declared.TheConstants.{MAX_MISSED}
 use Rattle.dstm_order.specs.Tasks.{Task, Work}
 use Rattle.dstm_order.specs.Tasks.Task.{Beginning, Doing, Enrolling, Leaving}
 use Rattle.dstm_order.specs.Tasks.Work.{Reading, Writing, Releasing, Rechecking, Committing}
@@ -105,7 +104,7 @@ due_no (Beginning fresh) s o l m f h =
 due_no Leaving s o l m f h = cond_both (is_outside l.phase) _ _ NoRelease (λ _. tt) (λ _. refl)
 due_no (Doing w) s o l m f h =
     cond_both (is_outside l.phase) _ _ NoRelease (λ _. tt) (λ _.
-    cond_both (l.stale || f.missed == MAX_MISSED) _ _ NoRelease (λ _. refl) (λ _. table_no o w s.manager l f (held w h)))
+    cond_both (l.stale || f.missed == most_missed) _ _ NoRelease (λ _. refl) (λ _. table_no o w s.manager l f (held w h)))
   where
     held : (w : Work) → KeepsReads m (Doing w) → Holds w
     held (Releasing o) h = h

@@ -9,13 +9,12 @@ use Rattle.dstm_core.specs.declared.event.Kind.TheVariants.{Quit}
 use Rattle.dstm_core.specs.declared.shape.Shape.{Shape}
 use Rattle.dstm_core.specs.declared.state.Phase.TheVariants.{Outside}
 use Rattle.dstm_order.specs.Calls.{Obeys, due_after, effort_of, newest_of, state_after}
-use Rattle.dstm_order.specs.Efforts.{Effort}
+use Rattle.dstm_order.specs.Efforts.{Effort, most_missed}
 use Rattle.dstm_order.specs.Order.{Due, due, just, next_or_first}
 use Rattle.dstm_order.specs.Order.Due.{Done, Step}
 use Rattle.dstm_order.specs.Passes.{is_miss, misses}
 use Rattle.dstm_order.specs.Tasks.{Work}
 use Rattle.dstm_order.specs.Tasks.Task.{Doing}
-use Rattle.dstm_order.specs.declared.TheConstants.{MAX_MISSED}
 use Rattle.dstm_order.proofs.Misses.{missed_is}
 use Rattle.dstm_order.proofs.Validations.{due_kind}
 use Rattle.dstm_progress.specs.Alone.{AreCalls, Made, all_events, generator_after}
@@ -29,28 +28,28 @@ use Rattle.dstm_progress.proofs.StaleReads.{not_quit}
 
 -- what the table says of a live attempt that is not stale, where too few exchanges have failed
 pub table_says : (w : Work) (s : Shape) (n : Option Event) (l : LocalState) (f : Effort) (d : Due) →
-    l.phase ≢ Outside → l.stale ≡ false → (f.missed == MAX_MISSED) ≡ false → due (Doing w) s n l f ≡ d →
+    l.phase ≢ Outside → l.stale ≡ false → (f.missed == most_missed) ≡ false → due (Doing w) s n l f ≡ d →
     next_or_first n w s.manager l f ≡ d
 table_says w s n l f d i st m q = sym (same w s n l f i st m) ∙ q
   where
     same : (w : Work) (s : Shape) (n : Option Event) (l : LocalState) (f : Effort) → l.phase ≢ Outside →
-        l.stale ≡ false → (f.missed == MAX_MISSED) ≡ false → due (Doing w) s n l f ≡ next_or_first n w s.manager l f
+        l.stale ≡ false → (f.missed == most_missed) ≡ false → due (Doing w) s n l f ≡ next_or_first n w s.manager l f
     same w s n l f i st m = rw (inside_phase l.phase i, st, m) refl
 
 -- where something other than a Quit is due on a live attempt, it is not stale and too few exchanges have failed
 pub unless_quit : (w : Work) (s : Shape) (n : Option Event) (l : LocalState) (f : Effort) (d : Due) →
     l.phase ≢ Outside → due (Doing w) s n l f ≡ d → just Quit ≢ d →
-    (l.stale ≡ false) × ((f.missed == MAX_MISSED) ≡ false)
-unless_quit w s n l f d i q h = go (cases_Bool (l.stale || (f.missed == MAX_MISSED)))
+    (l.stale ≡ false) × ((f.missed == most_missed) ≡ false)
+unless_quit w s n l f d i q h = go (cases_Bool (l.stale || (f.missed == most_missed)))
   where
-    go : (l.stale || (f.missed == MAX_MISSED) ≡ true) ⊎ (l.stale || (f.missed == MAX_MISSED) ≡ false) →
-        (l.stale ≡ false) × ((f.missed == MAX_MISSED) ≡ false)
+    go : (l.stale || (f.missed == most_missed) ≡ true) ⊎ (l.stale || (f.missed == most_missed) ≡ false) →
+        (l.stale ≡ false) × ((f.missed == most_missed) ≡ false)
     go (inl x) = absurd (h (rw (inside_phase l.phase i, x) at q))
-    go (inr x) = or_parts l.stale (f.missed == MAX_MISSED) x
+    go (inr x) = or_parts l.stale (f.missed == most_missed) x
 
 fewer : (s : Shape) (l : LocalState) (g : Lcg) (es : List Event) →
-    ((effort_of s l g es).missed == MAX_MISSED) ≡ false → misses es ≢ MAX_MISSED
-fewer s l g es h q = eqb-false (effort_of s l g es).missed MAX_MISSED h (missed_is s l g es ∙ q)
+    ((effort_of s l g es).missed == most_missed) ≡ false → misses es ≢ most_missed
+fewer s l g es h q = eqb-false (effort_of s l g es).missed most_missed h (missed_is s l g es ∙ q)
 
 one_more : (e : Event) (es : List Event) → misses (e ∷ es) ≤ misses es + 1
 one_more e es =
@@ -58,7 +57,7 @@ one_more e es =
     (λ _. omega arith)
 
 not_too_many : (w : Work) (s : Shape) (l : LocalState) (g : Lcg) (es : List Event) → Obeys (Doing w) s l g es →
-    (state_after s l es).phase ≢ Outside → misses es ≤ MAX_MISSED
+    (state_after s l es).phase ≢ Outside → misses es ≤ most_missed
 not_too_many w s l g [] o i = omega arith
 not_too_many w s l g (e ∷ es) o i =
     let old = state_after s l es in

@@ -16,7 +16,7 @@ use Rattle.dstm_model.specs.declared.value.Val.{Val}
 use Rattle.dstm_order.specs.Calls.{IsCall, answer_of, newest_of, state_after}
 use Rattle.dstm_order.specs.declared.again.Again.{Again}
 use Rattle.dstm_order.specs.declared.again.Again.TheVariants.{Waited}
-use Rattle.dstm_order.specs.declared.TheConstants.{MAX_MISSED}
+use Rattle.dstm_order.specs.Efforts.{most_missed}
 use Rattle.dstm_order.specs.Order.{has_begun, is_spent}
 use Rattle.dstm_order.specs.Passes.{misses}
 use Rattle.dstm_order.specs.Tasks.{Work}
@@ -131,7 +131,7 @@ EveryCallThatStays =
     (work : Work) (shape : Shape) (state : LocalState) (generator : Lcg) (events : List Event) →
     IsCall (Doing work) shape state generator events →
     (state_after shape state events).phase ≢ Outside →
-    IsCurrent (state_after shape state events) × (misses events < MAX_MISSED)
+    IsCurrent (state_after shape state events) × (misses events < most_missed)
 
 -- so an attempt that is under way after the calls on it is current
 abbrev pub AttemptsStayCurrent : Type 0

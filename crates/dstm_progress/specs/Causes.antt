@@ -12,7 +12,7 @@ use Rattle.dstm_core.specs.Words.{code_of, place}
 use Rattle.dstm_core.specs.Words.Word.{StatusWord}
 use Rattle.dstm_order.specs.declared.again.Again.{Again}
 use Rattle.dstm_order.specs.declared.again.Again.TheVariants.{Stale, Killed, Lost, Waited}
-use Rattle.dstm_order.specs.declared.TheConstants.{MAX_MISSED, MAX_PATIENCE}
+use Rattle.dstm_order.specs.Efforts.{most_missed, most_patience}
 use Rattle.dstm_order.specs.Calls.{state_after}
 use Rattle.dstm_order.specs.Order.{is_paused}
 use Rattle.dstm_order.specs.Passes.{misses}
@@ -82,7 +82,7 @@ pub record WaitsOut (shape : Shape) (state : LocalState) (events : List Event) :
   pub pauses : pause.kind ≡ Pause
   pub older : or_zero (res (state_after shape state before)).rank ≤ (state_after shape state before).rank
   pub one_enemy : AllAt (place shape (StatusWord (or_zero (res (state_after shape state before)).owner))) looks
-  pub count : length looks ≡ MAX_PATIENCE
+  pub count : length looks ≡ most_patience
   pub all : AllPass gives_way shape state looks (pause ∷ before)
 
 -- THE CAUSE of each Again, in the events of the call that gave it: an event found the object of a read changed; or
@@ -91,5 +91,5 @@ abbrev pub Causes : Again → Shape → LocalState → List Event → Type 0
 Causes (Stale o) shape state events = Has finds_stale o shape state events
 Causes Killed shape state events =
     Has finds_aborted (place shape (StatusWord (own_attempt shape state))) shape state events
-Causes Lost shape state events = misses events ≡ MAX_MISSED
+Causes Lost shape state events = misses events ≡ most_missed
 Causes Waited shape state events = WaitsOut shape state events

@@ -5,7 +5,7 @@ use Rattle.dstm_core.specs.declared.shape.Manager.TheVariants.{Greedy}
 use Rattle.dstm_core.specs.declared.shape.Shape.{Shape}
 use Rattle.dstm_core.specs.Runs.{local}
 use Rattle.dstm_core.specs.State.{LocalState}
-use Rattle.dstm_order.specs.declared.TheConstants.{MAX_MISSED, MAX_PATIENCE}
+use Rattle.dstm_order.specs.Efforts.{most_missed, most_patience}
 use Rattle.dstm_order.specs.Passes.{is_miss}
 use Rattle.dstm_progress.specs.Causes.{finds_stale, finds_aborted, gives_way}
 
@@ -27,8 +27,8 @@ count_of test shape (event ∷ before) c i =
 pub data Disturbed (shape : Shape) (log : List Event) (c i : ℕ) : Type 0 where
   became_stale : 1 ≤ count_of finds_stale shape log c i → Disturbed shape log c i
   was_aborted : 1 ≤ count_of finds_aborted shape log c i → Disturbed shape log c i
-  missed : MAX_MISSED ≤ count_of fails shape log c i → Disturbed shape log c i
-  gave_way : shape.manager ≡ Greedy → MAX_PATIENCE ≤ count_of gives_way shape log c i → Disturbed shape log c i
+  missed : most_missed ≤ count_of fails shape log c i → Disturbed shape log c i
+  gave_way : shape.manager ≡ Greedy → most_patience ≤ count_of gives_way shape log c i → Disturbed shape log c i
 
 -- another caller's event stands among these
 pub record HasOther (c : ℕ) (events : List Event) : Type 0 where
