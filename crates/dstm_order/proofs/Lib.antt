@@ -4,3 +4,4 @@ pub mod EnemyRanks
 pub mod Validations
 pub mod Commits
 pub mod Opens
+pub mod Beginnings

@@ -6,6 +6,7 @@ ghost use Rattle.dstm_core.specs.declared.event.Kind.TheVariants.{LookNumber, Ch
 ghost use Rattle.dstm_core.specs.declared.shape.Manager.TheVariants.{Polite, Karma, Polka};
 ghost use Rattle.dstm_core.specs.declared.state.Phase.TheVariants.{Outside};
 ghost use Rattle.dstm_core.specs.Runs.{local};
+ghost use Rattle.dstm_order.specs.Beginnings.{EveryNewTransactionBeginsAnew, EveryRetryKeepsItsRank};
 ghost use Rattle.dstm_order.specs.Calls.{stale_object};
 ghost use Rattle.dstm_order.specs.Counts.{counts_of};
 ghost use Rattle.dstm_order.specs.Efforts.{most_missed, most_patience};
@@ -41,6 +42,18 @@ pub fn opens_end_in_a_pass()
 /// A call counts each of its exchanges of an object or of an enemy's status that failed.
 pub fn misses_are_counted()
     ensures { EveryMissCounts }
+{}
+
+/// A call that is to begin the same transaction again draws no stamp, and its caller keeps its rank; the attempt that it
+/// begins has this rank, under each manager but Polite.
+pub fn retries_begin_with_their_rank()
+    ensures { EveryRetryKeepsItsRank }
+{}
+
+/// A call that begins a new transaction draws exactly one stamp under Greedy, which is the rank of its attempt, and else
+/// none. Under Karma and Polka the rank is 0.
+pub fn new_transactions_begin_anew()
+    ensures { EveryNewTransactionBeginsAnew }
 {}
 
 /// A caller opens an object for writing and commits, beside a guest that was to do the same and stopped: after
