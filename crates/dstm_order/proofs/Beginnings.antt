@@ -13,8 +13,8 @@ use Rattle.dstm_core.specs.declared.shape.Shape.{Shape}
 use Rattle.rand_pcg.specs.Lcg.{Lcg}
 use Rattle.dstm_order.specs.Beginnings.{BeginsAgain, BeginsNew, EveryNewTransactionBeginsAnew, EveryRetryKeepsItsRank, IsClear, ranks_of, stamps_of, with_rank, with_stamp}
 use Rattle.dstm_order.specs.Calls.{Obeys, newest_of, state_after}
-use Rattle.dstm_order.specs.Order.{Due, IsDue, has_begun, has_ranks, has_stamps, in_beginning, is_begin, is_spent, just, rises}
-use Rattle.dstm_order.specs.Order.Due.{Done, Step}
+use Rattle.dstm_order.specs.Order.{Due, IsDue, has_begun, has_ranks, has_stamps, in_beginning, is_begin, is_spent, rises}
+use Rattle.dstm_order.specs.Order.Due.{Done}
 use Rattle.dstm_order.specs.Tasks.Task.{Beginning}
 
 -- ---- how far a call has come before its Begin

@@ -2,15 +2,16 @@
 //! nothing.
 
 ghost use Rattle.std.specs.Prelude.{◌≡◌, true, [], ◌∷◌};
-ghost use Rattle.dstm_core.specs.declared.event.Kind.TheVariants.{LookNumber, Check, Quit};
-ghost use Rattle.dstm_core.specs.declared.shape.Manager.TheVariants.{Polite, Karma, Polka};
+ghost use Rattle.dstm_core.specs.declared.event.Kind.TheVariants.{Check, Install, Kill, LookHigh, LookNew, LookNumber, LookObj, LookOld, LookOwner, LookRank, LookSelf, LookStatus, Pause, PutOld, PutOwner, Quit, Resume};
+ghost use Rattle.dstm_core.specs.declared.shape.Manager.TheVariants.{Greedy, Polite, Karma, Polka};
 ghost use Rattle.dstm_core.specs.declared.state.Phase.TheVariants.{Outside};
 ghost use Rattle.dstm_core.specs.Runs.{local};
-ghost use Rattle.dstm_order.specs.Beginnings.{EveryNewTransactionBeginsAnew, EveryRetryKeepsItsRank};
+ghost use Rattle.dstm_order.specs.Beginnings.{EveryNewTransactionBeginsAnew, EveryRetryKeepsItsRank, ranks_of, stamps_of};
 ghost use Rattle.dstm_order.specs.Calls.{stale_object};
 ghost use Rattle.dstm_order.specs.Counts.{counts_of};
 ghost use Rattle.dstm_order.specs.Efforts.{most_missed, most_patience};
 ghost use Rattle.dstm_order.specs.declared.TheConstants.{MAX_MISSED, MAX_PATIENCE};
+ghost use Rattle.dstm_order.specs.Greedy.{a_younger, an_older, gives_way, greedy, kinds_since, meets_a_younger, meets_one_that_waits, one_begins_to_wait, two_older, two_transactions};
 ghost use Rattle.dstm_order.specs.Passes.{EveryPassIsComplete, EveryCommitIsValidated, EveryOpenEndsInPass, EveryMissCounts};
 ghost use Rattle.dstm_order.specs.Drive.{small, opens_ranked, opens_unranked, meets_guest, row, rows_of, three, reads_three, two, overtaken, first_kinds, kinds_of};
 
@@ -73,6 +74,40 @@ pub fn meeting_a_guest_that_stopped()
         row 19 1 1 0 ∷ row 19 1 1 0 ∷ row 19 1 1 0
         ∷ row 13 0 0 0 ∷ row 13 0 0 0 ∷ row 13 0 0 0 ∷ row 13 0 0 0 ∷ row 13 0 0 0 ∷ row 13 0 0 0 ∷ [] }
     ensures commits { (local (small Karma) (meets_guest Karma opens_ranked 7) 1).committed ≡ true }
+{}
+
+/// A caller opens an object under Greedy that another has opened. To an older one it gives way, and looks at its status
+/// until it has committed. A younger one it aborts at once, and so one that waits; if the enemy begins to wait while it
+/// gives way itself, it goes on and aborts it. Kinds of events stand with the newest first.
+pub fn meetings_under_greedy()
+    ensures older { kinds_since an_older gives_way ≡
+        LookSelf ∷ LookNumber ∷ Install ∷ PutOld ∷ PutOwner ∷ LookNew ∷ LookHigh ∷ Resume
+        ∷ LookStatus ∷ LookStatus ∷ LookStatus ∷ LookStatus ∷ Pause
+        ∷ LookRank ∷ LookStatus ∷ LookOwner ∷ LookObj ∷ [] }
+    ensures younger { kinds_since a_younger meets_a_younger ≡
+        LookSelf ∷ LookNumber ∷ Install ∷ PutOld ∷ PutOwner ∷ LookOld ∷ Kill
+        ∷ LookRank ∷ LookStatus ∷ LookOwner ∷ LookObj ∷ [] }
+    ensures waiting { kinds_since two_older meets_one_that_waits ≡
+        LookSelf ∷ LookNumber ∷ Install ∷ PutOld ∷ PutOwner ∷ LookOld ∷ Kill
+        ∷ LookRank ∷ LookStatus ∷ LookOwner ∷ LookObj ∷ [] }
+    ensures begins_to_wait { kinds_since two_older one_begins_to_wait ≡
+        LookSelf ∷ LookNumber ∷ Install ∷ PutOld ∷ PutOwner ∷ LookOld ∷ Kill ∷ Resume
+        ∷ LookStatus ∷ LookStatus ∷ Pause
+        ∷ LookRank ∷ LookStatus ∷ LookOwner ∷ LookObj ∷ [] }
+    ensures counts { counts_of greedy gives_way 1 ≡ record { steps = 18; turns = 4; kills = 0 } }
+    ensures kills { counts_of greedy one_begins_to_wait 1 ≡ record { steps = 16; turns = 2; kills = 1 } }
+{}
+
+/// A caller commits a transaction, leaves the next one after an open, and makes this again. Under Greedy each of the two
+/// draws one stamp, and each attempt has the stamp of its transaction. Under Karma and Polka each transaction begins
+/// with the rank 0, each open raises it by one, and the attempt that is made again begins with the rank that the one
+/// before it had. Stamps drawn and ranks stored stand with the newest first.
+pub fn stamps_and_ranks()
+    ensures stamps { stamps_of (two_transactions Greedy) ≡ 1 ∷ 0 ∷ [] }
+    ensures greedy { ranks_of (two_transactions Greedy) ≡ 1 ∷ 1 ∷ 0 ∷ [] }
+    ensures karma { ranks_of (two_transactions Karma) ≡ 2 ∷ 1 ∷ 1 ∷ 0 ∷ 1 ∷ 0 ∷ [] }
+    ensures polka { ranks_of (two_transactions Polka) ≡ 2 ∷ 1 ∷ 1 ∷ 0 ∷ 1 ∷ 0 ∷ [] }
+    ensures polite { ranks_of (two_transactions Polite) ≡ [] }
 {}
 
 /// A caller that reads three objects and commits, alone.
