@@ -193,7 +193,7 @@ kill_succeeds s es e core u k = let l = local s es e.caller in
 -- ---- the attempt after an event of its own
 
 -- nothing becomes stale
-fresh_after : (s : Shape) (es : List Event) (e : Event) (k : Kind) → e.found ≡ at es e.place →
+pub fresh_after : (s : Shape) (es : List Event) (e : Event) (k : Kind) → e.found ≡ at es e.place →
     AllowedAs k s (local s es e.caller) e → (local s es e.caller).stale ≡ false →
     AreNow s es (local s es e.caller).reads → (after k s (local s es e.caller) e).stale ≡ false
 fresh_after s es e Begin f a h n = refl

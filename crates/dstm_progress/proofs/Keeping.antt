@@ -1,11 +1,11 @@
 -- Retries keep their rank.
-use Rattle.std.proofs.Common.{◌≡◌, ◌≢◌, ◌⊎◌, ◌∙◌, ◌++◌, ◌∷◌, ◌==◌, ◌&&◌, ◌||◌, Bool, List, [], Some, None, true, false, ap, append-nil, inl, inr, refl, subst, sym, not, ℕ}
+use Rattle.std.proofs.Common.{◌≡◌, ◌≢◌, ◌⊎◌, ◌∙◌, ◌++◌, ◌∷◌, ◌==◌, ◌&&◌, Bool, List, [], true, false, ap, inl, inr, refl, subst, sym, not, ℕ}
 use Rattle.std.specs.Prelude.{Option, if◌then◌else◌}
-use Rattle.std.proofs.lemmas.Bool.{and_parts, cases_Bool, cond_both, eqb-true, eq-eqb}
+use Rattle.std.proofs.lemmas.Bool.{and_parts, cases_Bool, cond_both, eq-eqb}
 use Rattle.rand_pcg.specs.Lcg.{Lcg}
 use Rattle.dstm_core.specs.Events.{Event}
 use Rattle.dstm_core.specs.Rules.{AllowedAs, after, is_outside}
-use Rattle.dstm_core.specs.Runs.{Core, local}
+use Rattle.dstm_core.specs.Runs.{local}
 use Rattle.dstm_core.specs.State.{LocalState, first}
 use Rattle.dstm_core.specs.Traces.{events_of}
 use Rattle.dstm_core.specs.declared.event.Kind.{Kind}
@@ -18,12 +18,11 @@ use Rattle.dstm_progress.proofs.OwnEvents.{whole_allowed, whole_state}
 use Rattle.dstm_progress.proofs.Own.{AreAllowed, allowed_split, state_both}
 use Rattle.dstm_progress.proofs.Calls.{nothing_due}
 use Rattle.dstm_order.specs.Calls.{Obeys, effort_of, newest_of, state_after}
-use Rattle.dstm_order.specs.Efforts.{Effort}
-use Rattle.dstm_order.specs.Order.{Due, IsDue, due, has_begun, has_ranks, has_stamps, in_beginning, is_begin, is_spent, just, rises}
+use Rattle.dstm_order.specs.Order.{Due, IsDue, has_begun, has_ranks, has_stamps, in_beginning, is_begin, is_spent, just, rises}
 use Rattle.dstm_order.specs.Order.Due.{Done, Step}
 use Rattle.dstm_order.specs.Tasks.{Task, Work}
 use Rattle.dstm_order.specs.Tasks.Task.{Beginning, Doing, Enrolling, Leaving}
-use Rattle.dstm_order.specs.Made.{AreMade, ByCalls, Call, events_in, generator_by, state_by}
+use Rattle.dstm_order.specs.Made.{AreMade, Call, events_in, generator_by, state_by}
 use Rattle.dstm_order.specs.Retries.{KeepsRank, TriesAgain, is_new}
 use Rattle.dstm_progress.specs.Lives.{RetriesKeep}
 

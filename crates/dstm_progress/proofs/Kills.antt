@@ -1,22 +1,21 @@
 -- A Kill is chosen by the manager.
-use Rattle.std.proofs.Common.{◌≡◌, ◌≢◌, ◌⊎◌, ◌∙◌, ◌&&◌, ◌∷◌, ◌==◌, ◌||◌, Bool, List, [], Some, None, true, false, ap, inl, inr, refl, subst, sym, not, ℕ, length, nat_lt, is_none}
-use Rattle.std.specs.Prelude.{Option, if◌then◌else◌, is_some}
-use Rattle.std.proofs.lemmas.Bool.{cases_Bool, cond_both}
-use Rattle.rand_pcg.specs.Lcg.{Lcg}
+use Rattle.std.proofs.Common.{◌≡◌, ◌∙◌, ◌&&◌, ◌==◌, ◌||◌, Bool, Some, None, true, false, refl, subst, sym, nat_lt, is_none}
+use Rattle.std.specs.Prelude.{Option}
+use Rattle.std.proofs.lemmas.Bool.{cond_both}
 use Rattle.dstm_core.specs.Events.{Event}
 use Rattle.dstm_core.specs.Rules.{is_outside}
 use Rattle.dstm_core.specs.State.{LocalState, is_live, is_resolved, res, version}
 use Rattle.dstm_core.specs.declared.event.Kind.{Kind}
-use Rattle.dstm_core.specs.declared.event.Kind.TheVariants.{Begin, Check, Commit, Draw, Enrol, Install, Kill, LookHigh, LookNew, LookNumber, LookOld, LookOwner, LookRank, LookSelf, LookStatus, Pause, PutHigh, PutNew, PutOld, PutOwner, Quit, Rank, Release, Resume, LookObj, Stamp, Validating as ToValidating}
+use Rattle.dstm_core.specs.declared.event.Kind.TheVariants.{Begin, Check, Commit, Draw, Enrol, Install, Kill, LookHigh, LookNew, LookNumber, LookOld, LookOwner, LookRank, LookSelf, LookStatus, PutHigh, PutNew, PutOld, PutOwner, Quit, Rank, Release, Resume, LookObj, Stamp, Validating as ToValidating}
 use Rattle.dstm_core.specs.declared.shape.Manager.{Manager}
 use Rattle.dstm_core.specs.declared.shape.Shape.{Shape}
 use Rattle.dstm_managers.specs.declared.decider.Choice.{Choice}
 use Rattle.dstm_managers.specs.declared.decider.Choice.TheVariants as decision
-use Rattle.dstm_order.specs.Calls.{Obeys, effort_of, newest_of, state_after}
+use Rattle.dstm_order.specs.Calls.{effort_of, newest_of, state_after}
 use Rattle.dstm_order.specs.Efforts.{Effort, chosen, most_missed}
 use Rattle.dstm_order.specs.Order.{Due, IsDue, at_first, due, enemy_code, has_ranks, in_conflict, in_resolving, is_paused, just, next, next_or_first, on_choice, when_resolved}
 use Rattle.dstm_order.specs.Order.Due.{Done, Step}
-use Rattle.dstm_order.specs.Tasks.{Task, Work}
+use Rattle.dstm_order.specs.Tasks.{Work}
 use Rattle.dstm_order.specs.Tasks.Task.{Doing}
 use Rattle.dstm_order.specs.Tasks.Work.{Reading, Writing, Releasing, Rechecking, Committing}
 use Rattle.dstm_order.proofs.Rows.{checking_by, checks_by, giving_way_by, pass_by, passed_by, put_by, putting_by}

@@ -32,3 +32,4 @@ pub mod Overtaken
 pub mod Keeping
 pub mod Releases
 pub mod Kills
+pub mod Disturbers

@@ -28,7 +28,7 @@ use Rattle.dstm_core.specs.State.{LocalState}
 use Rattle.dstm_progress.proofs.Causes.{has_left}
 
 -- all events are the caller's own, or one is not
-own_or_other : (c : ℕ) (es : List Event) → AreOf c es ⊎ HasOther c es
+pub own_or_other : (c : ℕ) (es : List Event) → AreOf c es ⊎ HasOther c es
 own_or_other c [] = inl tt
 own_or_other c (e ∷ es) = go (cases_eq e.caller c) (own_or_other c es)
   where
@@ -68,7 +68,7 @@ shows_another = λ s g call calls later begin before again core k h q n.
         }) h.live q))
 
 -- on a table for one caller all events are its own
-one_alone : (s : Shape) (es : List Event) (c : ℕ) → Core s es → c < s.callers → s.callers ≤ 1 → AreOf c es
+pub one_alone : (s : Shape) (es : List Event) (c : ℕ) → Core s es → c < s.callers → s.callers ≤ 1 → AreOf c es
 one_alone s [] c core b few = tt
 one_alone s (e ∷ es) c core b few =
     (let x = core.1.caller in omega arith, one_alone s es c core.0 b few)

@@ -15,13 +15,13 @@ use Rattle.dstm_machines.specs.Traces.{Each}
 use Rattle.dstm_machines.proofs.Own.{own_first, own_other}
 use Rattle.dstm_order.specs.Calls.{Obeys, effort_of, newest_of, state_after}
 use Rattle.dstm_order.specs.Efforts.{Effort, most_missed}
-use Rattle.dstm_order.specs.Order.{Due, IsDue, at_first, due, has_begun, has_ranks, has_stamps, in_beginning, in_resolving, is_spent, just, next, next_or_first, rises, when_resolved}
+use Rattle.dstm_order.specs.Order.{Due, IsDue, at_first, due, has_begun, has_ranks, has_stamps, in_resolving, is_spent, just, next, next_or_first, rises, when_resolved}
 use Rattle.dstm_order.specs.Order.Due.{Done, Step}
 use Rattle.dstm_order.specs.Tasks.{Task, Work}
 use Rattle.dstm_order.specs.Tasks.Task.{Beginning, Doing, Enrolling, Leaving}
 use Rattle.dstm_order.specs.Tasks.Work.{Reading, Writing, Releasing, Rechecking, Committing}
 use Rattle.dstm_order.proofs.Rows.{checking_by, checks_by, giving_way_by, pass_by, passed_by, put_by, putting_by, resolving_by}
-use Rattle.dstm_order.specs.Made.{AreMade, ByCalls, Call, events_in, generator_by, state_by}
+use Rattle.dstm_order.specs.Made.{AreMade, Call, events_in, generator_by, state_by}
 use Rattle.dstm_order.specs.Retries.{KeepsReads}
 use Rattle.dstm_progress.specs.Lives.{NoReleases}
 

@@ -5,6 +5,7 @@ use Rattle.std.specs.Prelude.{None, ◌≡◌, ◌≢◌, ℕ, ◌≤◌, ◌<�
 use Rattle.dstm_opacity.specs.Committed.{attempt_of, done_by}
 use Rattle.dstm_core.specs.Events.{Event}
 use Rattle.dstm_core.specs.declared.event.Kind.TheVariants.{Begin}
+use Rattle.dstm_core.specs.declared.shape.Manager.TheVariants.{Greedy}
 use Rattle.dstm_core.specs.declared.shape.Shape.{Shape}
 use Rattle.dstm_core.specs.declared.state.Phase.TheVariants.{Outside}
 use Rattle.dstm_core.specs.declared.status.Status.TheVariants as status
@@ -16,7 +17,7 @@ use Rattle.dstm_model.specs.declared.value.Val.{Val}
 use Rattle.dstm_order.specs.Calls.{IsCall, answer_of, newest_of, state_after}
 use Rattle.dstm_order.specs.declared.again.Again.{Again}
 use Rattle.dstm_order.specs.declared.again.Again.TheVariants.{Waited}
-use Rattle.dstm_order.specs.Efforts.{most_missed}
+use Rattle.dstm_order.specs.Efforts.{most_missed, most_patience}
 use Rattle.dstm_order.specs.Order.{has_begun, is_spent}
 use Rattle.dstm_order.specs.Passes.{misses}
 use Rattle.dstm_order.specs.Tasks.{Work}
@@ -25,8 +26,8 @@ use Rattle.dstm_order.specs.Tasks.Work.{Committing}
 use Rattle.dstm_progress.specs.Alone.{AreCalls, Made, all_events, last_answer}
 use Rattle.dstm_progress.specs.Oldest.{AreMade}
 use Rattle.rand_pcg.specs.Lcg.{Lcg}
-use Rattle.dstm_progress.specs.Causes.{Causes}
-use Rattle.dstm_progress.specs.Disturbed.{Disturbed, HasOther}
+use Rattle.dstm_progress.specs.Causes.{Causes, gives_way}
+use Rattle.dstm_progress.specs.Disturbed.{Disturbed, HasOther, count_of}
 use Rattle.dstm_progress.specs.Ends.{Begins, BeginsNone, IsCallIn, IsCurrent, StaysAt, ended_as}
 
 -- ---- why an attempt is left
@@ -60,6 +61,27 @@ abbrev pub DisturbedStays : Type 0
 DisturbedStays =
     (shape : Shape) (later before : List Event) (c i : ℕ) → Disturbed shape before c i →
     Disturbed shape (later ++ before) c i
+
+-- A DISTURBANCE IS ANOTHER'S. An attempt that was disturbed shows that another caller has made a step since its Begin, but
+-- for one that under Greedy gave way for so many turns: that may be to an attempt that had stopped before.
+abbrev pub DisturbedByAnother : Type 0
+DisturbedByAnother =
+    (shape : Shape) (later : List Event) (begin : Event) (before : List Event) →
+    Core shape (later ++ begin ∷ before) → begin.kind ≡ Begin →
+    (shape.manager ≡ Greedy → count_of gives_way shape (later ++ begin ∷ before) begin.caller
+    (local shape (begin ∷ before) begin.caller).begun < most_patience) →
+    Disturbed shape (later ++ begin ∷ before) begin.caller (local shape (begin ∷ before) begin.caller).begun →
+    HasOther begin.caller later
+
+-- And any attempt that was disturbed shows that another caller has made a step,
+abbrev pub DisturbedBesideAnother : Type 0
+DisturbedBesideAnother =
+    (shape : Shape) (log : List Event) (c i : ℕ) → Core shape log → Disturbed shape log c i → HasOther c log
+
+-- so that on a table for one caller none was
+abbrev pub NoneIsDisturbedAlone : Type 0
+NoneIsDisturbedAlone =
+    (shape : Shape) (log : List Event) (c i : ℕ) → Core shape log → Disturbed shape log c i → 1 < shape.callers
 
 -- a call keeps the attempt that it works on the last one
 abbrev pub EveryCallKeepsItsAttempt : Type 0
