@@ -5,3 +5,4 @@ pub mod Objects
 pub mod Operations
 pub mod Lists
 pub mod Walked
+pub mod Reading

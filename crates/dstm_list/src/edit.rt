@@ -1,13 +1,14 @@
-ghost use Rattle.std.specs.Prelude.{◌≡◌, ◌≢◌, List, IfOk, OnOk, is_some};
+ghost use Rattle.std.specs.Prelude.{◌≡◌, ◌≢◌, List, IfOk, OnOk, IsTrue, is_some};
 ghost use Rattle.dstm_model.specs.declared.value.Val.{Val};
 ghost use Rattle.dstm_model.specs.declared.op.Which.TheVariants as which;
 ghost use Rattle.dstm_model.specs.Layout.{IsValid, FitsLayout};
 ghost use Rattle.dstm_model.specs.Store.{yes_or_no};
-ghost use Rattle.dstm_model.specs.Objects.{objects_of, Does};
+ghost use Rattle.dstm_model.specs.Objects.{objects_of, list_begin, free_object, node_object, Does};
 ghost use Rattle.dstm_mem.specs.Memory.{with_set};
 ghost use Rattle.dstm_mem.specs.Operations.{IsReady, Leads, OnlyReads, OpensToSet};
 ghost use Rattle.dstm_list.specs.List.{IsList, IsOfList, SameOutside, SameButThree};
 ghost use Rattle.dstm_list.specs.Place.{Finds};
+ghost use Rattle.dstm_list.specs.Reads.{AddsNoRead, AddsReadOf};
 
 use crate::node::Node;
 use crate::object::{look, node_object, replace};
@@ -16,7 +17,8 @@ use dstm_mem::Mem;
 use dstm_model::{Layout, Op, Reply};
 
 /// Adds a key at its place. Where the reply is Yes it sets the node that was the first free one, the head of the
-/// free chain, and the head or the node that now links to the new node; else it sets nothing.
+/// free chain, and the head or the node that now links to the new node; else it sets nothing. What it reads stays a
+/// read only where the reply is Full, and is the head of the free chain.
 pub fn insert_at<M: Mem>(
     mem: &mut M,
     layout: &Layout,
@@ -38,6 +40,9 @@ pub fn insert_at<M: Mem>(
     ensures marks { OnOk result (OpensToSet M.Mem mem.old mem.new) }
     ensures sets { OnOk result (SameOutside layout.now (M.written mem.old) (M.written mem.new)) }
     ensures few { OnOk result (SameButThree layout.now (M.written mem.old) (M.written mem.new)) }
+    ensures looked { OnOk result (AddsReadOf M.Mem (free_object (list_begin layout.now)) mem.old mem.new) }
+    ensures reads { IfOk result (λ reply. reply ≢ Reply.Full → AddsNoRead M.Mem mem.old mem.new) }
+    ensures link_opened { IfOk result (λ reply. reply ≡ Reply.Yes → IsTrue (M.is_opened mem.new place.link)) }
     ensures holds { OnOk result (SameOutside layout.now (M.held mem.old) (M.held mem.new)) }
     ensures opens { OnOk result (SameOutside layout.now (M.is_opened mem.old) (M.is_opened mem.new)) }
 
@@ -67,7 +72,7 @@ pub fn insert_at<M: Mem>(
 }
 
 /// Takes the key at a place out. Where the reply is Yes it sets the key's node, the head of the free chain, and the
-/// head or the node that linked to the key's node; else it sets nothing.
+/// head or the node that linked to the key's node; else it sets nothing. It reads nothing but what it sets.
 pub fn remove_at<M: Mem>(
     mem: &mut M,
     layout: &Layout,
@@ -89,6 +94,11 @@ pub fn remove_at<M: Mem>(
     ensures marks { OnOk result (OpensToSet M.Mem mem.old mem.new) }
     ensures sets { OnOk result (SameOutside layout.now (M.written mem.old) (M.written mem.new)) }
     ensures few { OnOk result (SameButThree layout.now (M.written mem.old) (M.written mem.new)) }
+    ensures reads { OnOk result (AddsNoRead M.Mem mem.old mem.new) }
+    ensures there { IfOk result (λ reply. reply ≡ yes_or_no (is_some place.node)) }
+    ensures link_opened { IfOk result (λ reply. reply ≡ Reply.Yes → IsTrue (M.is_opened mem.new place.link)) }
+    ensures node_opened { IfOk result (λ reply. reply ≡ Reply.Yes →
+        IsTrue (M.is_opened mem.new (node_object (list_begin layout.now) place.before.next))) }
     ensures holds { OnOk result (SameOutside layout.now (M.held mem.old) (M.held mem.new)) }
     ensures opens { OnOk result (SameOutside layout.now (M.is_opened mem.old) (M.is_opened mem.new)) }
 

@@ -6,6 +6,7 @@ ghost use Rattle.dstm_model.specs.Objects.{objects_of, list_begin, node_object};
 ghost use Rattle.dstm_mem.specs.Memory.{with_set, SetsOnly};
 ghost use Rattle.dstm_mem.specs.Operations.{Leads, OnlyReads, OpensToSet};
 ghost use Rattle.dstm_list.specs.List.{IsOfList, SameOutside, key_of, next_of};
+ghost use Rattle.dstm_list.specs.Reads.{AddsNoRead, AddsReadOf, OpensAlso};
 
 use crate::node::Node;
 use dstm_mem::Mem;
@@ -32,6 +33,7 @@ pub fn look<M: Mem>(mem: &mut M, layout: &Layout, object: u32) -> Result<Node, M
     ensures next { IfOk result (λ node. (map : List Val) → M.Admits mem.new map →
         node.next ≡ next_of (value_at (with_set map (M.written mem.old)) object)) }
     ensures looks { OnOk result (OnlyReads M.Mem mem.old mem.new) }
+    ensures reads { OnOk result (AddsReadOf M.Mem object mem.old mem.new) }
     ensures holds { OnOk result (SameOutside layout.now (M.held mem.old) (M.held mem.new)) }
     ensures opens { OnOk result (SameOutside layout.now (M.is_opened mem.old) (M.is_opened mem.new)) }
 
@@ -51,6 +53,8 @@ pub fn replace<M: Mem>(mem: &mut M, layout: &Layout, object: u32, value: Val) ->
         value_at (with_set map (M.written mem.old)) object ≡ had) }
     ensures written { OnOk result (SetsOnly object value (M.written mem.old) (M.written mem.new)) }
     ensures marks { OnOk result (OpensToSet M.Mem mem.old mem.new) }
+    ensures reads { OnOk result (AddsNoRead M.Mem mem.old mem.new) }
+    ensures opened { OnOk result (OpensAlso object (M.is_opened mem.old) (M.is_opened mem.new)) }
     ensures sets { OnOk result (SameOutside layout.now (M.written mem.old) (M.written mem.new)) }
     ensures holds { OnOk result (SameOutside layout.now (M.held mem.old) (M.held mem.new)) }
     ensures opens { OnOk result (SameOutside layout.now (M.is_opened mem.old) (M.is_opened mem.new)) }

@@ -5,6 +5,7 @@ use Rattle.dstm_model.specs.declared.reply.Reply.TheVariants.{Yes}
 use Rattle.dstm_model.specs.Map.{value_at}
 use Rattle.dstm_model.specs.Objects.{Does, list_begin, tree_begin, free_object, node_object}
 use Rattle.dstm_mem.specs.Memory.{with_set}
+use Rattle.dstm_mem.proofs.Operations.{leads-then, opens_to_set-then}
 use Rattle.dstm_mem.proofs.WithSet.{length-with_set, with_set-again}
 use Rattle.dstm_list.specs.List.{IsList, IsOfList, node}
 use Rattle.dstm_list.proofs.Operations.{does-no_remove, does-remove}
@@ -79,3 +80,21 @@ returns-clause-few g c =
             ∙ c.in_ok-rest.ensures.written.others p (λ e. not_free (e ∙ free_is)),
       ),
     )
+
+pub returns-clause-marks : goal.returns-clause-marks
+returns-clause-marks g c =
+    let M = g.M.Mem in
+    let one = c.in_ok-rest.ensures in
+    let two = c.in_ok-replace.ensures in
+    opens_to_set-then M (leads-then M one.leads two.leads) (opens_to_set-then M one.leads one.marks two.marks)
+    c.in_ok-replace-2.ensures.marks
+
+pub returns-clause-sets : goal.returns-clause-sets
+returns-clause-sets g c p outside =
+    c.in_ok-replace-2.ensures.sets p outside ∙ c.in_ok-replace.ensures.sets p outside
+    ∙ c.in_ok-rest.ensures.sets p outside
+
+pub returns-clause-holds : goal.returns-clause-holds
+returns-clause-holds g c p outside =
+    c.in_ok-replace-2.ensures.holds p outside ∙ c.in_ok-replace.ensures.holds p outside
+    ∙ c.in_ok-rest.ensures.holds p outside
