@@ -16,13 +16,12 @@ mod node;
 mod object;
 mod walk;
 
-use crate::walk::find;
 use dstm_mem::Mem;
 use dstm_model::{Layout, Op, Reply};
 pub use edit::{insert_at, member_at, remove_at};
 pub use node::Node;
 pub use object::node_object;
-pub use walk::Place;
+pub use walk::{Place, find};
 
 /// Adds a key. Where the reply is Yes it sets the node that was the first free one, the head of the free
 /// chain, and the head or the node that now links to the new node; else it sets nothing.

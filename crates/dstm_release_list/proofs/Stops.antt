@@ -1,6 +1,6 @@
 -- What stays of a walk's stops where objects are opened and reads are let go.
-use Rattle.std.proofs.Common.{◌≡◌, ◌≢◌, ℕ, ◌<◌, List, length, IsTrue, true, false, refl, sym, ◌∙◌, ap, subst, inl, inr}
-use Rattle.std.specs.Prelude.{Option, Some, None, IsSome, IfSome, Bool, is_some, ◌&&◌, not}
+use Rattle.std.proofs.Common.{◌≡◌, ◌≢◌, ℕ, ◌<◌, List, length, refl, sym, ◌∙◌, ap, subst, inl, inr}
+use Rattle.std.specs.Prelude.{Option, Some, None, IsSome, IfSome}
 use Rattle.std.specs.Option.{option_or}
 use Rattle.std.proofs.lemmas.Option.{same_Some}
 use Rattle.dstm_model.specs.declared.value.Val.{Val}
@@ -10,7 +10,7 @@ use Rattle.dstm_mem.specs.Memory.{with_set, AgreesWith, HoldsAlso}
 use Rattle.dstm_mem.proofs.WithSet.{value_at-opened}
 use Rattle.dstm_list.specs.List.{key_of}
 use Rattle.dstm_release_list.specs.declared.stop.Stop.{Stop}
-use Rattle.dstm_release_list.specs.Walk.{IsRead, Sees, LetsGo}
+use Rattle.dstm_release_list.specs.Walk.{Sees, LetsGo}
 
 -- what was read or set of an object stays where another read is added
 answer_stays : (written old new : Option Val) (v : Val) → Some v ≡ option_or written old →
@@ -71,22 +71,6 @@ module _ {S E : Type 0} (M : Ghosts S E) where
       same_Some one.value two.value (one.found
       ∙ ap (λ (o : ℕ). option_or (M.written memory o) (M.held memory o)) same ∙ sym two.found) in
       other (one.key ∙ ap key_of value ∙ sym two.key)
-
-  -- ---- reads
-
-  pub read-same : {old new : S} (p : ℕ) → M.held new p ≡ M.held old p → M.is_opened new p ≡ M.is_opened old p →
-      IsRead M new p → IsRead M old p
-  read-same {old} {new} p held opened read =
-      subst (λ (b : Bool). IsTrue (is_some (M.held old p) && not b)) opened
-      (subst (λ (h : Option Val). IsTrue (is_some h && not (M.is_opened new p))) held read)
-
-  opened_is : (held : Option Val) (opened : Bool) → IsTrue opened → ¬ IsTrue (is_some held && not opened)
-  opened_is None true is read = absurd (cc read)
-  opened_is (Some v) true is read = absurd (cc read)
-  opened_is held false is read = absurd (cc is)
-
-  pub unread-opened : {memory : S} (p : ℕ) → IsTrue (M.is_opened memory p) → ¬ IsRead M memory p
-  unread-opened {memory} p opened = opened_is (M.held memory p) (M.is_opened memory p) opened
 
   -- ---- what is let go
 

@@ -21,10 +21,12 @@ use Rattle.dstm_list.proofs.Numbers.{IsNumber, each-left}
 use Rattle.dstm_list.proofs.Steps.{IsNext, head-of_list, node-of_list, next_within, next_greater, stands-start}
 use Rattle.dstm_list.proofs.Steps.{stands-next, used_within, first_within, place-found, place-passed}
 use Rattle.dstm_release_list.specs.declared.stop.Stop.{Stop}
-use Rattle.dstm_release_list.specs.Walk.{IsRead, Sees, Visits, IsOwnOfTwo, LetsGo, AddsThreeReads}
+use Rattle.dstm_list.specs.Reads.{IsRead}
+use Rattle.dstm_list.proofs.Reading.{read-same, unread-opened}
+use Rattle.dstm_release_list.specs.Walk.{Sees, Visits, IsOwnOfTwo, LetsGo, AddsToPlace}
 use Rattle.dstm_release_list.proofs.Shown.{stands-kept}
 use Rattle.dstm_release_list.proofs.Stops.{AgreesWith-before, sees-opened, sees-same, sees-value, sees-apart}
-use Rattle.dstm_release_list.proofs.Stops.{read-same, unread-opened, kept-other}
+use Rattle.dstm_release_list.proofs.Stops.{kept-other}
 
 -- what the memory's laws say of the maps that it admits
 pub record Laws {S E : Type 0} (M : Ghosts S E) (Began : S → List Val → Type 0) : Type 0 where
@@ -636,42 +638,30 @@ module _ {S E : Type 0} (M : Ghosts S E) (start : S) where
         (subst (λ (b : Node). IsPlace begin key (record { link = last.object; before = b; node = place.node })
         at.list.cells) (sym before) (place_of key last next place.node at.list stands ahead node))
 
-    -- at most three reads are added
-    pub few-next : {new : S} (key : ℕ) (head : Stop) (behind : Option Stop) (last next : Stop) →
-        Advanced M layout key start new head behind last next → AddsThreeReads M start new
-    few-next key head behind last next at = (
-      next.object,
-      (
-        last.object,
-        (
-          list_begin layout,
-          λ p not_next not_l not_begin read.
-              at.few p not_next not_l not_begin read,
-        ),
-      ),
-    )
+    -- the reads that are added, where the walk ends before a node
+    pub adds-next : {new : S} (key : ℕ) (head : Stop) (behind : Option Stop) (last next : Stop) (place : Place) →
+        Advanced M layout key start new head behind last next → place.link ≡ last.object →
+        place.before ≡ last.node → AddsToPlace M layout start new place
+    adds-next key head behind last next place at link before = record {
+      other = next.object;
+      node = λ some. at.next_at ∙ ap (λ (n : Node). node_object (list_begin layout) n.next) (sym before);
+      each = λ p not_link not_begin not_next read.
+          at.few p not_next (λ e. not_link (e ∙ sym link)) not_begin read;
+    }
 
-    pub few-end : {new : S} (key : ℕ) (head : Stop) (behind : Option Stop) (last : Stop) →
-        Walking M layout key start new head behind last → AddsThreeReads M start new
-    few-end key head None last at = (
-      last.object,
-      (
-        list_begin layout,
-        (
-          list_begin layout,
-          λ p not_l not_begin _ read.
-              at.few p not_l not_begin tt read,
-        ),
-      ),
-    )
-    few-end key head (Some o) last at = (
-      last.object,
-      (
-        o.object,
-        (
-          list_begin layout,
-          λ p not_l not_o not_begin read.
-              at.few p not_l not_begin not_o read,
-        ),
-      ),
-    )
+    -- and at the end of the list
+    pub adds-end : {new : S} (key : ℕ) (head : Stop) (behind : Option Stop) (last : Stop) →
+        Walking M layout key start new head behind last →
+        AddsToPlace M layout start new (record { link = last.object; before = last.node; node = None })
+    adds-end key head None last at = record {
+      other = list_begin layout;
+      node = λ some. absurd (let no : ⊥ = cc in no);
+      each = λ p not_l not_begin _ read.
+          at.few p not_l not_begin tt read;
+    }
+    adds-end key head (Some o) last at = record {
+      other = o.object;
+      node = λ some. absurd (let no : ⊥ = cc in no);
+      each = λ p not_l not_begin not_o read.
+          at.few p not_l not_begin not_o read;
+    }

@@ -1,15 +1,17 @@
 -- What a walk that lets reads go has seen, may let go, and keeps.
-use Rattle.std.specs.Prelude.{◌≡◌, ◌≢◌, ℕ, List, IsTrue, false, ◌&&◌, not, is_some, None, Some, Option, IsSome, ◌⊎◌}
+use Rattle.std.specs.Prelude.{◌≡◌, ◌≢◌, ℕ, ◌≤◌, List, length, Contains, IsTrue, false, None, Some, Option, IsSome, ◌⊎◌}
 use Rattle.std.specs.Option.{option_or}
 use Rattle.dstm_model.specs.declared.value.Val.{Val}
+use Rattle.dstm_model.specs.declared.layout.Layout.{Layout}
+use Rattle.dstm_model.specs.declared.reply.Reply.{Reply}
+use Rattle.dstm_model.specs.declared.reply.Reply.TheVariants as reply
+use Rattle.dstm_model.specs.Objects.{list_begin, node_object}
 use Rattle.dstm_mem.specs.declared.memory.Mem.{Ghosts}
 use Rattle.dstm_mem.specs.Memory.{HoldsAlso, MarksAtMost}
 use Rattle.dstm_list.specs.List.{key_of, next_of}
+use Rattle.dstm_list.specs.Reads.{IsRead}
+use Rattle.dstm_list.specs.declared.walk.Place.{Place}
 use Rattle.dstm_release_list.specs.declared.stop.Stop.{Stop}
-
--- the object is among the reads, and was not opened for writing
-abbrev pub IsRead : {S E : Type 0} → Ghosts S E → S → ℕ → Type 0
-IsRead M memory o = IsTrue (is_some (M.held memory o) && not (M.is_opened memory o))
 
 -- the value that the memory holds or has set for the stop's object is the one that the stop has
 pub record Sees {S E : Type 0} (M : Ghosts S E) (memory : S) (stop : Stop) : Type 0 where
@@ -46,8 +48,28 @@ pub record LetsGo {S E : Type 0} (M : Ghosts S E) (Own : ℕ → Type 0) (old ne
   pub widens : (map : List Val) → M.Admits old map → M.Admits new map
   pub live : IsTrue (M.is_live new)
 
--- at most three objects are reads now that were not held before
-abbrev pub AddsThreeReads : {S E : Type 0} → Ghosts S E → S → S → Type 0
-AddsThreeReads M old new =
-    (a : ℕ) × ((b : ℕ) × ((c : ℕ) ×
-    ((p : ℕ) → p ≢ a → p ≢ b → p ≢ c → IsRead M new p → IsSome (M.held old p))))
+-- The reads that a walk to a place adds are at most those of the object that links to the place, of the head, and of
+-- one object more, which is the node that holds the key where there is one.
+pub record AddsToPlace {S E : Type 0} (M : Ghosts S E) (layout : Layout) (old new : S) (place : Place) : Type 0 where
+  pub other : ℕ
+  pub node : IsSome place.node → other ≡ node_object (list_begin layout) place.before.next
+  pub each : (p : ℕ) → p ≢ place.link → p ≢ list_begin layout → p ≢ other → IsRead M new p → IsSome (M.held old p)
+
+-- at most so many objects are reads now that were not held before
+pub record AddsAtMost {S E : Type 0} (most : ℕ) (M : Ghosts S E) (old new : S) : Type 0 where
+  pub objects : List ℕ
+  pub few : length objects ≤ most
+  pub each : (p : ℕ) → IsRead M new p → IsSome (M.held old p) ⊎ Contains objects p
+
+-- How many reads an insertion with this reply adds at most: the three of its walk. Where it answers Full it adds that
+-- of the head of the free chain, too. Where it answers Yes, the object that links to the new node is opened for
+-- writing, and is no read.
+abbrev pub most_of_insert : Reply → ℕ
+most_of_insert reply.Full = 4
+most_of_insert reply.Yes = 2
+most_of_insert r = 3
+
+-- The same of a removal: where it answers Yes, the key's node is opened for writing, too, and the head alone is left.
+abbrev pub most_of_remove : Reply → ℕ
+most_of_remove reply.Yes = 1
+most_of_remove r = 3

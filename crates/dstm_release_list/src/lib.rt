@@ -12,7 +12,7 @@ ghost use Rattle.dstm_model.specs.Objects.{objects_of, Does};
 ghost use Rattle.dstm_mem.specs.Memory.{with_set};
 ghost use Rattle.dstm_mem.specs.Operations.{IsReady, Leads, OnlyReads, OpensToSet};
 ghost use Rattle.dstm_list.specs.List.{IsList, SameOutside, SameButThree};
-ghost use Rattle.dstm_release_list.specs.Walk.{AddsThreeReads};
+ghost use Rattle.dstm_release_list.specs.Walk.{AddsAtMost, most_of_insert, most_of_remove};
 
 mod stop;
 mod walk;
@@ -23,7 +23,8 @@ use dstm_mem::Release;
 use dstm_model::{Layout, Op, Reply};
 
 /// Adds a key. Where the reply is Yes it sets the node that was the first free one, the head of the free
-/// chain, and the head or the node that now links to the new node; else it sets nothing.
+/// chain, and the head or the node that now links to the new node; else it sets nothing. At most two objects more than
+/// before are reads where the reply is Yes, three where it is No, and four where it is Full.
 pub fn insert<M: Release>(mem: &mut M, layout: &Layout, key: u32) -> Result<Reply, M::Err>
     requires valid { IsValid layout.now }
     requires fits { FitsLayout layout.now (Op.Insert which.List key) }
@@ -36,6 +37,7 @@ pub fn insert<M: Release>(mem: &mut M, layout: &Layout, key: u32) -> Result<Repl
     ensures marks { OnOk result (OpensToSet M.Mem mem.old mem.new) }
     ensures sets { OnOk result (SameOutside layout.now (M.Mem.written mem.old) (M.Mem.written mem.new)) }
     ensures few { OnOk result (SameButThree layout.now (M.Mem.written mem.old) (M.Mem.written mem.new)) }
+    ensures adds { IfOk result (λ reply. AddsAtMost (most_of_insert reply) M.Mem mem.old mem.new) }
     ensures holds { OnOk result (SameOutside layout.now (M.Mem.held mem.old) (M.Mem.held mem.new)) }
     ensures opens { OnOk result (SameOutside layout.now (M.Mem.is_opened mem.old) (M.Mem.is_opened mem.new)) }
 
@@ -47,7 +49,8 @@ pub fn insert<M: Release>(mem: &mut M, layout: &Layout, key: u32) -> Result<Repl
 }
 
 /// Takes a key out. Where the reply is Yes it sets the key's node, the head of the free chain, and the head
-/// or the node that linked to the key's node; else it sets nothing.
+/// or the node that linked to the key's node; else it sets nothing. At most one object more than before is a read
+/// where the reply is Yes, and three are where it is No.
 pub fn remove<M: Release>(mem: &mut M, layout: &Layout, key: u32) -> Result<Reply, M::Err>
     requires valid { IsValid layout.now }
     requires fits { FitsLayout layout.now (Op.Remove which.List key) }
@@ -60,13 +63,14 @@ pub fn remove<M: Release>(mem: &mut M, layout: &Layout, key: u32) -> Result<Repl
     ensures marks { OnOk result (OpensToSet M.Mem mem.old mem.new) }
     ensures sets { OnOk result (SameOutside layout.now (M.Mem.written mem.old) (M.Mem.written mem.new)) }
     ensures few { OnOk result (SameButThree layout.now (M.Mem.written mem.old) (M.Mem.written mem.new)) }
+    ensures adds { IfOk result (λ reply. AddsAtMost (most_of_remove reply) M.Mem mem.old mem.new) }
     ensures holds { OnOk result (SameOutside layout.now (M.Mem.held mem.old) (M.Mem.held mem.new)) }
     ensures opens { OnOk result (SameOutside layout.now (M.Mem.is_opened mem.old) (M.Mem.is_opened mem.new)) }
 
     ensures leads { Leads M.Mem mem.old mem.new result }
 {
-    let place = walk(mem, layout, key)?;
-    let reply = remove_at(mem, layout, key, place)?;
+    let found = walk(mem, layout, key)?;
+    let reply = remove_at(mem, layout, key, found)?;
     Ok(reply)
 }
 
@@ -80,12 +84,11 @@ pub fn member<M: Release>(mem: &mut M, layout: &Layout, key: u32) -> Result<Repl
         Does (IsList layout.now) (Op.Member which.List key)
         (with_set map (M.Mem.written mem.old)) (with_set map (M.Mem.written mem.new)) reply) }
     ensures looks { OnOk result (OnlyReads M.Mem mem.old mem.new) }
-    ensures adds { OnOk result (AddsThreeReads M.Mem mem.old mem.new) }
+    ensures adds { OnOk result (AddsAtMost 3 M.Mem mem.old mem.new) }
     ensures holds { OnOk result (SameOutside layout.now (M.Mem.held mem.old) (M.Mem.held mem.new)) }
     ensures opens { OnOk result (SameOutside layout.now (M.Mem.is_opened mem.old) (M.Mem.is_opened mem.new)) }
 
     ensures leads { Leads M.Mem mem.old mem.new result }
 {
-    let place = walk(mem, layout, key)?;
-    Ok(member_at(place))
+    Ok(member_at(walk(mem, layout, key)?))
 }

@@ -1,7 +1,8 @@
 ghost use Rattle.std.specs.Prelude.{◌≡◌, ◌≢◌, ℕ, ◌<◌, ◌⊎◌, IsTrue, false, None, IfOk, OnOk, IfSome};
 ghost use Rattle.dstm_model.specs.Layout.{IsValid};
 ghost use Rattle.dstm_mem.specs.Operations.{Leads, OnlyReads};
-ghost use Rattle.dstm_release_list.specs.Walk.{IsRead, Visits, IsOwn, IsOwnOfTwo, LetsGo};
+ghost use Rattle.dstm_list.specs.Reads.{IsRead};
+ghost use Rattle.dstm_release_list.specs.Walk.{Visits, IsOwn, IsOwnOfTwo, LetsGo};
 
 use dstm_list::{Node, node_object};
 use dstm_mem::Release;

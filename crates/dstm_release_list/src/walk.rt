@@ -6,7 +6,7 @@ ghost use Rattle.dstm_mem.specs.Memory.{with_set};
 ghost use Rattle.dstm_mem.specs.Operations.{IsReady, Leads, OnlyReads};
 ghost use Rattle.dstm_list.specs.List.{IsList, IsOfList, SameOutside};
 ghost use Rattle.dstm_list.specs.Place.{Finds};
-ghost use Rattle.dstm_release_list.specs.Walk.{AddsThreeReads};
+ghost use Rattle.dstm_release_list.specs.Walk.{AddsToPlace};
 
 use crate::stop::{Stop, let_go, visit};
 use dstm_list::{Node, Place, node_object};
@@ -23,7 +23,7 @@ pub fn walk<M: Release>(mem: &mut M, layout: &Layout, key: u32) -> Result<Place,
     ensures finds { IfOk result (λ found. (map : List Val) → M.Mem.Admits mem.new map →
         Finds layout.now (with_set map (M.Mem.written mem.old)) key found) }
     ensures link { IfOk result (λ found. IsOfList layout.now found.link) }
-    ensures adds { OnOk result (AddsThreeReads M.Mem mem.old mem.new) }
+    ensures adds { IfOk result (AddsToPlace M.Mem layout.now mem.old mem.new) }
     ensures looks { OnOk result (OnlyReads M.Mem mem.old mem.new) }
     ensures holds { OnOk result (SameOutside layout.now (M.Mem.held mem.old) (M.Mem.held mem.new)) }
     ensures opens { OnOk result (SameOutside layout.now (M.Mem.is_opened mem.old) (M.Mem.is_opened mem.new)) }

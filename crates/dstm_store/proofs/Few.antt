@@ -1,81 +1,164 @@
--- The reads that lookups in the list keep, where reads are let go.
-use Rattle.std.proofs.Common.{◌≡◌, ◌⊎◌, ◌∙◌, ℕ, ◌+◌, List, [], ◌∷◌, true, false, refl, sym, inl, inr, arith}
-use Rattle.std.specs.Prelude.{IsSome, Contains}
-use Rattle.std.proofs.lemmas.Bool.{cases_eq}
-use Rattle.std.proofs.lemmas.List.Elements.{Contains-append_right}
-use Rattle.dstm_model.specs.declared.op.Op.{Op}
-use Rattle.dstm_model.specs.declared.op.Op.TheVariants.{Transfer, Balance, Total, Insert, Remove, Member}
-use Rattle.dstm_model.specs.declared.op.Op.TheVariants.{Put, Get, Await, OrElse}
+-- What the list's operations touch, where reads are let go.
+use Rattle.std.proofs.Common.{◌≡◌, ◌≢◌, ◌⊎◌, ◌∙◌, ℕ, ◌+◌, ◌≤◌, List, [], ◌∷◌, ◌++◌, false, refl, sym, subst, inl, inr}
+use Rattle.std.proofs.Common.{arith, length-append}
+use Rattle.std.specs.Prelude.{IsTrue, Result, Ok, Err, IfOk, OnOk, IsSome, Contains}
+use Rattle.std.proofs.lemmas.Bool.{cases_eq, cases_Bool}
+use Rattle.std.proofs.lemmas.List.Elements.{Contains-append_left, Contains-append_right}
+use Rattle.dstm_model.specs.declared.layout.Layout.{Layout}
 use Rattle.dstm_model.specs.declared.reply.Reply.{Reply}
+use Rattle.dstm_model.specs.declared.reply.Reply.TheVariants.{Yes}
+use Rattle.dstm_model.specs.Objects.{list_begin, free_object, node_object}
 use Rattle.dstm_mem.specs.declared.memory.Mem.{Ghosts}
 use Rattle.dstm_mem.specs.Memory.{HoldsAtMost}
-use Rattle.dstm_mem.specs.Operations.{OnlyReads}
-use Rattle.dstm_release_list.specs.Walk.{AddsThreeReads, IsRead}
-use Rattle.dstm_store.specs.Looks.{IsLook, is_list_member}
+use Rattle.dstm_mem.specs.Operations.{IsFresh, OnlyReads, OpensToSet}
+use Rattle.dstm_list.specs.List.{SameButThree}
+use Rattle.dstm_list.specs.Reads.{IsRead}
+use Rattle.dstm_release_list.specs.Walk.{AddsAtMost, most_of_insert, most_of_remove}
+use Rattle.dstm_release_list.proofs.Adding.{then_first, then_other}
+use Rattle.dstm_store.specs.Keeps.{IsTouched, TouchesAtMost}
 
--- looking a key up in the list only looks
-pub member_looks : (op : Op) (reply : Reply) → is_list_member op ≡ true → IsLook op reply
-member_looks (Transfer a b x) reply is = absurd (cc)
-member_looks (Balance a) reply is = tt
-member_looks Total reply is = tt
-member_looks (Insert w k) reply is = absurd (cc)
-member_looks (Remove w k) reply is = absurd (cc)
-member_looks (Member w k) reply is = tt
-member_looks (Put k v) reply is = absurd (cc)
-member_looks (Get k) reply is = tt
-member_looks (Await c) reply is = absurd (cc)
-member_looks OrElse reply is = absurd (cc)
-
-then_first : (x : ℕ) (xs : List ℕ) (y : ℕ) → x ≡ y → Contains (x ∷ xs) y
-then_first x xs y same = (0, omega arith, same)
-
-then_other : (x : ℕ) (xs : List ℕ) (y : ℕ) → Contains xs y → Contains (x ∷ xs) y
-then_other x xs y has = Contains-append_right (x ∷ []) xs y has
+-- how many reads a reply adds at most that is not Yes
+few_unless_yes : (reply : Reply) →
+    (reply ≡ Yes) ⊎ ((reply ≢ Yes) × (most_of_insert reply ≤ 5) × (most_of_remove reply ≤ 4))
+few_unless_yes Yes = inl refl
+few_unless_yes reply = inr ((λ e. cc), omega arith, omega arith)
 
 module _ {S E : Type 0} (M : Ghosts S E) where
-  -- at most so many objects are held, and none is opened for writing
-  pub record ReadsAtMost (most : ℕ) (memory : S) : Type 0 where
-    pub few : HoldsAtMost most (M.held memory)
-    pub unopened : (o : ℕ) → M.is_opened memory o ≡ false
+  -- ---- of one operation
 
-  -- one lookup more
-  pub three_more : (most : ℕ) (old new : S) → M.all_write (M.place old) ≡ false → ReadsAtMost most old →
-      OnlyReads M old new → AddsThreeReads M old new → ReadsAtMost (most + 3) new
-  three_more most old new reads before only adds = record {
-    few = record {
-      objects = a ∷ (b ∷ (c ∷ before.few.objects));
-      few = let f = before.few.few in omega arith;
-      each = λ o held. by o held (cases_eq a o) (cases_eq b o) (cases_eq c o);
-    };
-    unopened = unopened;
+  is_read : (memory : S) (o : ℕ) → IsSome (M.held memory o) → M.is_opened memory o ≡ false → IsRead M memory o
+  is_read memory o held unopened = rw (held, unopened) refl
+
+  -- one that only reads touches what it reads
+  pub touches-reads : {old new : S} (most k : ℕ) → k ≤ most → M.all_write (M.place old) ≡ false → OnlyReads M old new →
+      AddsAtMost k M old new → TouchesAtMost most M old new
+  touches-reads {old} {new} most k fits off only adds = record {
+    objects = adds.objects;
+    few = omega (arith, adds.few, fits);
+    each = λ o touched. elim touched [
+      | inl held ↦ elim (cases_Bool (M.is_opened new o)) [
+        | inl opened ↦ inl (inr (inr (sym (only.opens off o) ∙ opened)))
+        | inr unopened ↦ elim (adds.each o (is_read new o held unopened)) [
+          | inl before ↦ inl (inl before)
+          | inr has ↦ inr has
+        ]
+      ]
+      | inr (inl set) ↦ inl (inr (inl (subst IsSome (only.sets o) set)))
+      | inr (inr opened) ↦ inl (inr (inr (sym (only.opens off o) ∙ opened)))
+    ];
   }
-    where
-      a : ℕ
-      a = adds.0
 
-      b : ℕ
-      b = adds.1.0
+  -- one that sets three objects touches these, too
+  pub touches-sets : {old new : S} (layout : Layout) (most k : ℕ) → k + 3 ≤ most → M.all_write (M.place old) ≡ false →
+      OpensToSet M old new → SameButThree layout (M.written old) (M.written new) → AddsAtMost k M old new →
+      TouchesAtMost most M old new
+  touches-sets {old} {new} layout most k fits off marks same adds =
+      let link = same.0 in
+      let node = node_object (list_begin layout) same.1.0 in
+      let free = free_object (list_begin layout) in
+      let all : List ℕ = link ∷ (node ∷ (free ∷ adds.objects)) in
+      let set : (o : ℕ) → IsSome (M.written new o) → IsTouched M old o ⊎ Contains all o =
+      λ o is. elim (cases_eq o link) [
+        | inl one ↦ inr (then_first link (node ∷ (free ∷ adds.objects)) o one)
+        | inr not_link ↦ elim (cases_eq o node) [
+          | inl two ↦
+              inr (then_other link (node ∷ (free ∷ adds.objects)) o (then_first node (free ∷ adds.objects) o two))
+          | inr not_node ↦ elim (cases_eq o free) [
+            | inl three ↦
+                inr (then_other link (node ∷ (free ∷ adds.objects)) o
+                (then_other node (free ∷ adds.objects) o (then_first free adds.objects o three)))
+            | inr not_free ↦ inl (inr (inl (subst IsSome (same.1.1 o not_link not_node not_free) is)))
+          ]
+        ]
+      ] in
+      let marked : (o : ℕ) → IsTrue (M.is_opened new o) → IsTouched M old o ⊎ Contains all o =
+      λ o is. elim (marks.opens off o) [
+        | inl before ↦ inl (inr (inr (sym before ∙ is)))
+        | inr is_set ↦ set o is_set
+      ] in
+      record {
+        objects = all;
+        few = omega (arith, adds.few, fits);
+        each = λ o touched. elim touched [
+          | inl held ↦ elim (cases_Bool (M.is_opened new o)) [
+            | inl opened ↦ marked o opened
+            | inr unopened ↦ elim (adds.each o (is_read new o held unopened)) [
+              | inl before ↦ inl (inl before)
+              | inr has ↦
+                  inr (then_other link (node ∷ (free ∷ adds.objects)) o
+                  (then_other node (free ∷ adds.objects) o (then_other free adds.objects o has)))
+            ]
+          ]
+          | inr (inl is) ↦ set o is
+          | inr (inr opened) ↦ marked o opened
+        ];
+      }
 
-      c : ℕ
-      c = adds.1.1.0
+  pub touches-insert : (old new : S) (layout : Layout) (r : Result Reply E) →
+      IfOk r (λ reply. AddsAtMost (most_of_insert reply) M old new) →
+      IfOk r (λ reply. reply ≢ Yes → OnlyReads M old new) → OnOk r (OpensToSet M old new) →
+      OnOk r (SameButThree layout (M.written old) (M.written new)) → M.all_write (M.place old) ≡ false →
+      OnOk r (TouchesAtMost 5 M old new)
+  touches-insert old new layout (Ok reply) adds unchanged marks same off =
+      elim (few_unless_yes reply) [
+        | inl is_yes ↦
+            touches-sets layout 5 2 (omega arith) off marks same
+            (subst (λ (r : Reply). AddsAtMost (most_of_insert r) M old new) is_yes adds)
+        | inr other ↦ touches-reads 5 (most_of_insert reply) other.1 off (unchanged other.0) adds
+      ]
+  touches-insert old new layout (Err e) adds unchanged marks same off = tt
 
-      unopened : (o : ℕ) → M.is_opened new o ≡ false
-      unopened o = only.opens reads o ∙ before.unopened o
+  pub touches-remove : (old new : S) (layout : Layout) (r : Result Reply E) →
+      IfOk r (λ reply. AddsAtMost (most_of_remove reply) M old new) →
+      IfOk r (λ reply. reply ≢ Yes → OnlyReads M old new) → OnOk r (OpensToSet M old new) →
+      OnOk r (SameButThree layout (M.written old) (M.written new)) → M.all_write (M.place old) ≡ false →
+      OnOk r (TouchesAtMost 4 M old new)
+  touches-remove old new layout (Ok reply) adds unchanged marks same off =
+      elim (few_unless_yes reply) [
+        | inl is_yes ↦
+            touches-sets layout 4 1 (omega arith) off marks same
+            (subst (λ (r : Reply). AddsAtMost (most_of_remove r) M old new) is_yes adds)
+        | inr other ↦ touches-reads 4 (most_of_remove reply) other.2 off (unchanged other.0) adds
+      ]
+  touches-remove old new layout (Err e) adds unchanged marks same off = tt
 
-      is_read : (o : ℕ) → IsSome (M.held new o) → IsRead M new o
-      is_read o held = rw (held, unopened o) refl
+  pub touches-member : (old new : S) (r : Result Reply E) → OnOk r (AddsAtMost 3 M old new) →
+      OnOk r (OnlyReads M old new) → M.all_write (M.place old) ≡ false → OnOk r (TouchesAtMost 3 M old new)
+  touches-member old new (Ok reply) adds only off = touches-reads 3 3 (omega arith) off only adds
+  touches-member old new (Err e) adds only off = tt
 
-      by : (o : ℕ) → IsSome (M.held new o) → (a ≡ o) ⊎ (a ≡ o → ⊥) → (b ≡ o) ⊎ (b ≡ o → ⊥) → (c ≡ o) ⊎ (c ≡ o → ⊥) →
-          Contains (a ∷ (b ∷ (c ∷ before.few.objects))) o
-      by o held (inl one) second third = then_first a (b ∷ (c ∷ before.few.objects)) o one
-      by o held (inr not_one) (inl two) third =
-          then_other a (b ∷ (c ∷ before.few.objects)) o (then_first b (c ∷ before.few.objects) o two)
-      by o held (inr not_one) (inr not_two) (inl three) =
-          then_other a (b ∷ (c ∷ before.few.objects)) o
-          (then_other b (c ∷ before.few.objects) o (then_first c before.few.objects o three))
-      by o held (inr not_one) (inr not_two) (inr not_three) =
-          then_other a (b ∷ (c ∷ before.few.objects)) o
-          (then_other b (c ∷ before.few.objects) o
-          (then_other c before.few.objects o
-          (before.few.each o
-          (adds.1.1.1 o (λ e. not_one (sym e)) (λ e. not_two (sym e)) (λ e. not_three (sym e)) (is_read o held)))))
+  -- ---- of operations one after the other
+
+  pub touches-none : (old : S) → TouchesAtMost 0 M old old
+  touches-none old = record { objects = []; few = omega arith; each = λ o touched. inl touched }
+
+  pub touches-then : {old mid new : S} (a b : ℕ) → TouchesAtMost a M old mid → TouchesAtMost b M mid new →
+      TouchesAtMost (a + b) M old new
+  touches-then a b first second = record {
+    objects = first.objects ++ second.objects;
+    few = omega (arith, length-append first.objects second.objects, first.few, second.few);
+    each = λ o touched. elim (second.each o touched) [
+      | inr has ↦ inr (Contains-append_right first.objects second.objects o has)
+      | inl before ↦ elim (first.each o before) [
+        | inl in_old ↦ inl in_old
+        | inr has ↦ inr (Contains-append_left first.objects second.objects o has)
+      ]
+    ];
+  }
+
+  untouched : (old : S) (o : ℕ) → IsFresh M old → ¬ IsTouched M old o
+  untouched old o fresh (inl held) = absurd (let none = fresh.unread o in let no : ⊥ = cc in no)
+  untouched old o fresh (inr (inl set)) = absurd (let none = fresh.unwritten o in let no : ⊥ = cc in no)
+  untouched old o fresh (inr (inr opened)) = absurd (let none = fresh.unopened o in let no : ⊥ = cc in no)
+
+  -- where nothing was touched before, what is held is among what is touched
+  pub holds-touched : {old new : S} (n most : ℕ) → IsFresh M old → n ≤ most → TouchesAtMost n M old new →
+      HoldsAtMost most (M.held new)
+  holds-touched {old} n most fresh fits touches = record {
+    objects = touches.objects;
+    few = omega (arith, touches.few, fits);
+    each = λ o held. elim (touches.each o (inl held)) [
+      | inl before ↦ absurd (untouched old o fresh before)
+      | inr has ↦ has
+    ];
+  }

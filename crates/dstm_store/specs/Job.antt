@@ -1,5 +1,5 @@
 -- What a job does on a map: all its operations in order.
-use Rattle.std.specs.Prelude.{◌≡◌, ◌<◌, ◌≤◌, ◌*◌, ℕ, true, List, length, All, Contains}
+use Rattle.std.specs.Prelude.{◌≡◌, ◌<◌, ◌≤◌, ℕ, true, List, All, Contains, sum_by}
 use Rattle.dstm_model.specs.declared.value.Val.{Val}
 use Rattle.dstm_model.specs.declared.op.Op.TheVariants.{Total}
 use Rattle.dstm_model.specs.declared.reply.Reply.{Reply}
@@ -7,7 +7,7 @@ use Rattle.dstm_model.specs.Layout.{IsValid, FitsLayout}
 use Rattle.dstm_model.specs.Store.{Store, IsPlain}
 use Rattle.dstm_model.specs.Job.{apply_all}
 use Rattle.dstm_store.specs.declared.job.JobTask.{JobTask}
-use Rattle.dstm_store.specs.Looks.{is_list_member}
+use Rattle.dstm_store.specs.Keeps.{is_of_list, most_kept}
 use Rattle.dstm_store.specs.Whole.{StandsFor}
 
 -- a job: what it was made to do, and the replies that it keeps
@@ -32,6 +32,6 @@ DoesAll task before after replies =
 abbrev pub Audits : JobTask → ℕ → Type 0
 Audits task account = Contains task.ops Total × (account < task.layout.accounts)
 
--- where reads are let go, a job that only looks keys up in the list keeps at most three for each
+-- where reads are let go, a job of operations on the list keeps at most what they keep, one by one
 abbrev pub KeepsAtMost : JobTask → ℕ → Type 0
-KeepsAtMost task most = All (λ op. is_list_member op ≡ true) task.ops × (3 * length task.ops ≤ most)
+KeepsAtMost task most = All (λ op. is_of_list op ≡ true) task.ops × (sum_by most_kept task.ops ≤ most)

@@ -2,3 +2,4 @@ pub mod Whole
 pub mod Opening
 pub mod Job
 pub mod Looks
+pub mod Keeps

@@ -5,10 +5,10 @@ ghost use Rattle.dstm_model.specs.Store.{IsPlain};
 ghost use Rattle.dstm_model.specs.Objects.{objects_of, Does};
 ghost use Rattle.dstm_mem.specs.Memory.{with_set, HoldsAtMost};
 ghost use Rattle.dstm_mem.specs.Operations.{IsFresh, IsReady, Leads, OnlyReads};
-ghost use Rattle.dstm_release_list.specs.Walk.{AddsThreeReads};
 ghost use Rattle.dstm_store.specs.Whole.{StandsFor, IsLawful};
 ghost use Rattle.dstm_store.specs.Job.{DoesAll, Audits, KeepsAtMost};
-ghost use Rattle.dstm_store.specs.Looks.{IsLook, is_list_member};
+ghost use Rattle.dstm_store.specs.Looks.{IsLook};
+ghost use Rattle.dstm_store.specs.Keeps.{is_of_list, most_kept, TouchesAtMost};
 
 use crate::law::StoreLaw;
 use crate::lists::{KeepsReads, ListWalk};
@@ -152,8 +152,8 @@ fn run_in_branch<M: Mem, L: ListWalk<M>>(
     ensures audits { op.now ≡ Op.Total → OnOk result ((a : ℕ) → a < layout.now.accounts →
         IsSome (M.held mem.new a)) }
     ensures looks { IfOk result (λ reply. IsLook op.now reply → OnlyReads M.Mem mem.old mem.new) }
-    ensures adds { L.lets_go ≡ true → is_list_member op.now ≡ true →
-        OnOk result (AddsThreeReads M.Mem mem.old mem.new) }
+    ensures touches { L.lets_go ≡ true → M.all_write (M.place mem.old) ≡ false → is_of_list op.now ≡ true →
+        OnOk result (TouchesAtMost (most_kept op.now) M.Mem mem.old mem.new) }
 
     ensures leads { Leads M.Mem mem.old mem.new result }
 {

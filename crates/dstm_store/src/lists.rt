@@ -6,7 +6,7 @@ ghost use Rattle.dstm_model.specs.Objects.{objects_of, Does};
 ghost use Rattle.dstm_mem.specs.Memory.{with_set};
 ghost use Rattle.dstm_mem.specs.Operations.{IsReady, Leads, OnlyReads, OpensToSet};
 ghost use Rattle.dstm_list.specs.List.{IsList, SameOutside};
-ghost use Rattle.dstm_release_list.specs.Walk.{AddsThreeReads};
+ghost use Rattle.dstm_store.specs.Keeps.{TouchesAtMost};
 
 use dstm_mem::{Mem, Release};
 use dstm_model::{Layout, Op, Reply};
@@ -16,7 +16,7 @@ pub trait ListWalk<M: Mem> {
     /// Reads on the way are let go.
     ghost lets_go: { Bool };
 
-    /// Adds a key.
+    /// Adds a key. Where reads are let go, at most five objects more than before are held.
     fn insert(mem: &mut M, layout: &Layout, key: u32) -> Result<Reply, M::Err>
         requires valid { IsValid layout.now }
         requires fits { FitsLayout layout.now (Op.Insert which.List key) }
@@ -28,10 +28,12 @@ pub trait ListWalk<M: Mem> {
         ensures unchanged { IfOk result (λ reply. reply ≢ Reply.Yes → OnlyReads M.Mem mem.old mem.new) }
         ensures marks { OnOk result (OpensToSet M.Mem mem.old mem.new) }
         ensures sets { OnOk result (SameOutside layout.now (M.written mem.old) (M.written mem.new)) }
+        ensures touches { lets_go ≡ true → M.all_write (M.place mem.old) ≡ false →
+            OnOk result (TouchesAtMost 5 M.Mem mem.old mem.new) }
 
         ensures leads { Leads M.Mem mem.old mem.new result };
 
-    /// Takes a key out.
+    /// Takes a key out. Where reads are let go, at most four objects more than before are held.
     fn remove(mem: &mut M, layout: &Layout, key: u32) -> Result<Reply, M::Err>
         requires valid { IsValid layout.now }
         requires fits { FitsLayout layout.now (Op.Remove which.List key) }
@@ -43,10 +45,12 @@ pub trait ListWalk<M: Mem> {
         ensures unchanged { IfOk result (λ reply. reply ≢ Reply.Yes → OnlyReads M.Mem mem.old mem.new) }
         ensures marks { OnOk result (OpensToSet M.Mem mem.old mem.new) }
         ensures sets { OnOk result (SameOutside layout.now (M.written mem.old) (M.written mem.new)) }
+        ensures touches { lets_go ≡ true → M.all_write (M.place mem.old) ≡ false →
+            OnOk result (TouchesAtMost 4 M.Mem mem.old mem.new) }
 
         ensures leads { Leads M.Mem mem.old mem.new result };
 
-    /// Tells whether a key is there. Where reads are let go, at most three objects more than before are reads.
+    /// Tells whether a key is there. Where reads are let go, at most three objects more than before are held.
     fn member(mem: &mut M, layout: &Layout, key: u32) -> Result<Reply, M::Err>
         requires valid { IsValid layout.now }
         requires fits { FitsLayout layout.now (Op.Member which.List key) }
@@ -56,7 +60,8 @@ pub trait ListWalk<M: Mem> {
             Does (IsList layout.now) (Op.Member which.List key)
             (with_set map (M.written mem.old)) (with_set map (M.written mem.new)) reply) }
         ensures looks { OnOk result (OnlyReads M.Mem mem.old mem.new) }
-        ensures adds { lets_go ≡ true → OnOk result (AddsThreeReads M.Mem mem.old mem.new) }
+        ensures touches { lets_go ≡ true → M.all_write (M.place mem.old) ≡ false →
+            OnOk result (TouchesAtMost 3 M.Mem mem.old mem.new) }
 
         ensures leads { Leads M.Mem mem.old mem.new result };
 }

@@ -10,7 +10,8 @@ use dstm_model::{Layout, Ops, Replies};
 use std::marker::Model;
 
 /// The body of one job that lets reads go: a [`JobBody`](crate::JobBody) whose operations on the list walk hand over
-/// hand. It keeps the replies of the last run that ended without an error.
+/// hand. A job of such operations alone keeps few reads, however long the list is: at most five for an insertion, four
+/// for a removal and three for a lookup. It keeps the replies of the last run that ended without an error.
 #[derive(Debug, Drop)]
 pub struct LooseJobBody {
     task: JobTask,

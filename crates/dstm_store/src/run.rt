@@ -1,4 +1,4 @@
-ghost use Rattle.std.specs.Prelude.{◌≡◌, ◌≢◌, ℕ, ◌<◌, List, true, IsSome, IfOk, OnOk};
+ghost use Rattle.std.specs.Prelude.{◌≡◌, ◌≢◌, ℕ, ◌<◌, List, true, false, IsSome, IfOk, OnOk};
 ghost use Rattle.dstm_model.specs.declared.value.Val.{Val};
 ghost use Rattle.dstm_model.specs.Layout.{IsValid, FitsLayout};
 ghost use Rattle.dstm_model.specs.Store.{IsPlain};
@@ -6,8 +6,8 @@ ghost use Rattle.dstm_model.specs.Objects.{objects_of, Does};
 ghost use Rattle.dstm_mem.specs.Memory.{with_set};
 ghost use Rattle.dstm_mem.specs.Operations.{IsReady, Leads, OnlyReads, OpensToSet};
 ghost use Rattle.dstm_store.specs.Whole.{StandsFor, IsLawful};
-ghost use Rattle.dstm_store.specs.Looks.{IsLook, is_list_member};
-ghost use Rattle.dstm_release_list.specs.Walk.{AddsThreeReads};
+ghost use Rattle.dstm_store.specs.Looks.{IsLook};
+ghost use Rattle.dstm_store.specs.Keeps.{is_of_list, most_kept, TouchesAtMost};
 
 use crate::lists::{KeepsReads, ListWalk};
 use dstm_mem::Mem;
@@ -55,8 +55,8 @@ pub fn run_with<M: Mem, L: ListWalk<M>>(
         IsSome (M.held mem.new a)) }
     ensures looks { IfOk result (λ reply. IsLook op.now reply → OnlyReads M.Mem mem.old mem.new) }
     ensures marks { IfOk result (λ reply. reply ≢ Reply.Poor → OpensToSet M.Mem mem.old mem.new) }
-    ensures adds { L.lets_go ≡ true → is_list_member op.now ≡ true →
-        OnOk result (AddsThreeReads M.Mem mem.old mem.new) }
+    ensures touches { L.lets_go ≡ true → M.all_write (M.place mem.old) ≡ false → is_of_list op.now ≡ true →
+        OnOk result (TouchesAtMost (most_kept op.now) M.Mem mem.old mem.new) }
 
     ensures leads { Leads M.Mem mem.old mem.new result }
 {

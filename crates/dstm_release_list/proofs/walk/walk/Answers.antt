@@ -4,7 +4,7 @@ use Rattle.dstm_mem.proofs.Operations.{leads-answers}
 use Rattle.dstm_list.specs.List.{IsOfList}
 use Rattle.dstm_list.proofs.Steps.{left, node-of_list, next_within, left-less, place-end}
 use Rattle.dstm_release_list.proofs.Walking.{Laws, walking-start, walking-on, stepped, stands-held, next-held, at-map}
-use Rattle.dstm_release_list.proofs.Walking.{place-next, few-next, few-end}
+use Rattle.dstm_release_list.proofs.Walking.{place-next, adds-next, adds-end}
 use Rattle.dstm_release_list.proofs.walk.walk.Given as given
 use Rattle.dstm_release_list.proofs.walk.walk.Goals as goal
 
@@ -53,7 +53,8 @@ returns-then-next-from g c =
           place-next g.M.Mem c.args.mem.now layout c.args.key head c.loop-last.behind last c.in_ok-next.next
           c.place_at.result at so_far.head_at c.loop-last-test.true step place.link place.before place.node;
       link = subst (IsOfList layout) (sym place.link) so_far.last_in;
-      adds = few-next g.M.Mem c.args.mem.now layout c.args.key head c.loop-last.behind last c.in_ok-next.next step;
+      adds = adds-next g.M.Mem c.args.mem.now layout c.args.key head c.loop-last.behind last c.in_ok-next.next
+          c.place_at.result step place.link place.before;
       looks = step.looks;
       holds = step.holds;
       opens = step.opens;
@@ -109,5 +110,5 @@ returns-clause-finds g c map admitted store list =
 
 pub returns-clause-adds : goal.returns-clause-adds
 returns-clause-adds g c =
-    few-end g.M.Mem c.args.mem.now c.args.layout.now c.args.key c.in_ok-head.head c.loop-last.behind
+    adds-end g.M.Mem c.args.mem.now c.args.layout.now c.args.key c.in_ok-head.head c.loop-last.behind
     c.loop-last.last c.loop-last.invariant

@@ -1,7 +1,8 @@
-use Rattle.std.proofs.Common.{◌≡◌, ℕ, ◌+◌, ◌*◌, ◌<◌, true, List, length, take, get_or, arith, sym, ◌∙◌, ap, subst, inl, inr}
-use Rattle.std.specs.Prelude.{IsSome, Contains}
+use Rattle.std.proofs.Common.{◌≡◌, ◌+◌, ◌<◌, true, List, length, take, get_or, arith, sym, ◌∙◌, ap, subst, inl, inr}
+use Rattle.std.specs.Prelude.{IsSome, Contains, sum_by}
 use Rattle.std.proofs.lemmas.List.{length_push, take_all}
 use Rattle.std.proofs.lemmas.List.{take_more}
+use Rattle.std.proofs.lemmas.List.Sums.{sum_by_more}
 use Rattle.std.proofs.lemmas.List.Elements.{All-get_or, Contains-push_cases}
 use Rattle.dstm_model.specs.declared.op.Op.TheVariants.{Transfer, Total}
 use Rattle.dstm_model.specs.declared.reply.Reply.{Reply}
@@ -9,13 +10,10 @@ use Rattle.dstm_mem.specs.Memory.{with_set}
 use Rattle.dstm_mem.proofs.Operations.{leads-answers, leads-then}
 use Rattle.dstm_store.specs.declared.job.JobTask.{JobTask}
 use Rattle.dstm_store.specs.Job.{DoesAll}
-use Rattle.dstm_store.specs.Looks.{is_list_member}
-use Rattle.dstm_store.proofs.Few.{ReadsAtMost, member_looks, three_more}
+use Rattle.dstm_store.specs.Keeps.{is_of_list, most_kept, TouchesAtMost}
+use Rattle.dstm_store.proofs.Few.{touches-then, holds-touched}
 use Rattle.dstm_store.proofs.Jobs.{up_to, does-more, does-all}
 use Rattle.dstm_store.proofs.job.run_all.Goals as goal
-
-three_more_is : (i : ℕ) → 3 * i + 3 ≡ 3 * (i + 1)
-three_more_is i = omega arith
 
 pub loop-op-preserved : goal.loop-op-preserved
 loop-op-preserved g c =
@@ -47,19 +45,24 @@ loop-op-preserved g c =
                 subst IsSome (sym (ran.leads.holds a held)) held
             | inr is ↦ ran.audits is a within
           ];
-      few = λ lets fresh reads all.
-          let member = All-get_or (λ op. is_list_member op ≡ true) task.ops i some_op below all in
-          subst (λ n. ReadsAtMost M n c.run_in_branch.new.mem) (three_more_is i)
-          (three_more M (3 * i) c.loop-op.mem c.run_in_branch.new.mem (ap M.all_write so_far.leads.place ∙ reads)
-          (so_far.few lets fresh reads all) (ran.looks (member_looks _ c.in_ok-reply.reply member))
-          (ran.adds lets member));
+      few = λ lets reads all.
+          let is = All-get_or (λ op. is_of_list op ≡ true) task.ops i some_op below all in
+          let old = c.args.mem.now in
+          let new = c.run_in_branch.new.mem in
+          let so_many = sum_by most_kept (take i task.ops) in
+          subst (λ n. TouchesAtMost n M old new) (sym (sum_by_more most_kept task.ops i some_op below))
+          (touches-then M so_many (most_kept (get_or task.ops i some_op)) (so_far.few lets reads all)
+          (ran.touches lets (ap M.all_write so_far.leads.place ∙ reads) is));
     }
 
 pub returns-clause-few : goal.returns-clause-few
 returns-clause-few g c lets fresh reads most keeps =
-    let all : length c.args.ops.now ≡ c.loop-op.op-index = omega arith in
-    let held = (c.loop-op.invariant.few lets fresh reads keeps.0).few in
-    record { objects = held.objects; few = omega (arith, all, held.few, keeps.1); each = held.each }
+    let ops = c.args.ops.now in
+    let all : length ops ≡ c.loop-op.op-index = omega arith in
+    let whole = take_all c.loop-op.op-index ops (omega (arith, all)) in
+    let so_many = sum_by most_kept (take c.loop-op.op-index ops) in
+    holds-touched g.M.Mem so_many most fresh (omega (arith, ap (sum_by most_kept) whole, keeps.1))
+    (c.loop-op.invariant.few lets reads keeps.0)
 
 pub returns-clause-does : goal.returns-clause-does
 returns-clause-does g c map admitted =

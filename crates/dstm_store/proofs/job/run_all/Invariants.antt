@@ -1,13 +1,12 @@
-use Rattle.std.proofs.Common.{◌≡◌, ℕ, ◌<◌, ◌*◌, List, length, take, true, false}
-use Rattle.std.specs.Prelude.{Ok, IsSome, Contains, All}
+use Rattle.std.proofs.Common.{◌≡◌, ℕ, ◌<◌, List, length, take, true, false}
+use Rattle.std.specs.Prelude.{Ok, IsSome, Contains, All, sum_by}
 use Rattle.dstm_model.specs.declared.op.Op.TheVariants.{Total}
 use Rattle.dstm_model.specs.declared.value.Val.{Val}
 use Rattle.dstm_mem.specs.Memory.{with_set}
-use Rattle.dstm_mem.specs.Operations.{IsFresh, Leads}
+use Rattle.dstm_mem.specs.Operations.{Leads}
 use Rattle.dstm_store.specs.Whole.{IsLawful}
 use Rattle.dstm_store.specs.Job.{DoesAll}
-use Rattle.dstm_store.specs.Looks.{is_list_member}
-use Rattle.dstm_store.proofs.Few.{ReadsAtMost}
+use Rattle.dstm_store.specs.Keeps.{is_of_list, most_kept, TouchesAtMost}
 use Rattle.dstm_store.proofs.Jobs.{up_to}
 use Rattle.dstm_store.proofs.job.run_all.Given as goal
 
@@ -23,6 +22,7 @@ invariant-loop-op g l = record {
       (with_set map (g.M.Mem.written l.mem)) l.replies;
   audits : Contains (take l.op-index l.ops) Total → (a : ℕ) → a < l.layout.accounts →
       IsSome (g.M.Mem.held l.mem a);
-  few : g.L.ListWalk.lets_go ≡ true → IsFresh g.M.Mem l.fn.mem → g.M.Mem.all_write (g.M.Mem.place l.fn.mem) ≡ false →
-      All (λ op. is_list_member op ≡ true) l.ops → ReadsAtMost g.M.Mem (3 * l.op-index) l.mem;
+  few : g.L.ListWalk.lets_go ≡ true → g.M.Mem.all_write (g.M.Mem.place l.fn.mem) ≡ false →
+      All (λ op. is_of_list op ≡ true) l.ops →
+      TouchesAtMost (sum_by most_kept (take l.op-index l.ops)) g.M.Mem l.fn.mem l.mem;
 }
