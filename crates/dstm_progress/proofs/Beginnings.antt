@@ -23,7 +23,7 @@ use Rattle.dstm_progress.specs.Calls.{EveryBeginning, EveryLeaving}
 use Rattle.dstm_progress.proofs.Ends.{no_begin}
 use Rattle.dstm_progress.proofs.OwnEvents.{after_own}
 
-begin_kind : (k : Kind) → is_begin k ≡ true → k ≡ Begin
+pub begin_kind : (k : Kind) → is_begin k ≡ true → k ≡ Begin
 begin_kind Begin h = refl
 begin_kind k h = absurd (cc)
 
@@ -34,7 +34,7 @@ begin_is k h = absurd (cc)
 -- ---- to begin
 
 -- a Begin is the last event of its call
-begins_last : (fresh : Bool) (s : Shape) (n : Option Event) (l : LocalState) (e : Event) →
+pub begins_last : (fresh : Bool) (s : Shape) (n : Option Event) (l : LocalState) (e : Event) →
     IsDue (in_beginning s fresh n l) e → has_begun n ≡ false
 begins_last fresh s n l e d = go (cases_Bool (has_begun n))
   where
@@ -64,7 +64,7 @@ begins_one fresh s l g (e ∷ es) o h =
     }
 
 -- where no more is due and no attempt was begun, the caller is spent
-spent_at : (fresh : Bool) (s : Shape) (n : Option Event) (l : LocalState) → has_begun n ≡ false →
+pub spent_at : (fresh : Bool) (s : Shape) (n : Option Event) (l : LocalState) → has_begun n ≡ false →
     in_beginning s fresh n l ≡ Done → (l.phase ≡ Outside) × (is_spent s l ≡ true)
 spent_at fresh s n l h q = go (is_outside_now l.phase) (cases_Bool (is_spent s l))
   where

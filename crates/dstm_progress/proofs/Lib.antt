@@ -33,3 +33,4 @@ pub mod Keeping
 pub mod Releases
 pub mod Kills
 pub mod Disturbers
+pub mod Clearing

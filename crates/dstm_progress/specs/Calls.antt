@@ -10,17 +10,18 @@ use Rattle.dstm_core.specs.declared.shape.Shape.{Shape}
 use Rattle.dstm_core.specs.declared.state.Phase.TheVariants.{Outside}
 use Rattle.dstm_core.specs.declared.status.Status.TheVariants as status
 use Rattle.dstm_core.specs.Runs.{Core, local}
-use Rattle.dstm_core.specs.State.{LocalState}
+use Rattle.dstm_core.specs.State.{LocalState, first}
 use Rattle.dstm_core.specs.Traces.{events_of}
 use Rattle.dstm_core.specs.Words.{code_of}
 use Rattle.dstm_model.specs.declared.value.Val.{Val}
+use Rattle.dstm_order.specs.Beginnings.{IsClear}
 use Rattle.dstm_order.specs.Calls.{IsCall, answer_of, newest_of, state_after}
 use Rattle.dstm_order.specs.declared.again.Again.{Again}
 use Rattle.dstm_order.specs.declared.again.Again.TheVariants.{Waited}
 use Rattle.dstm_order.specs.Efforts.{most_missed, most_patience}
 use Rattle.dstm_order.specs.Order.{has_begun, is_spent}
 use Rattle.dstm_order.specs.Passes.{misses}
-use Rattle.dstm_order.specs.Tasks.{Work}
+use Rattle.dstm_order.specs.Tasks.{Task, Work}
 use Rattle.dstm_order.specs.Tasks.Task.{Beginning, Doing, Leaving}
 use Rattle.dstm_order.specs.Tasks.Work.{Committing}
 use Rattle.dstm_progress.specs.Alone.{AreCalls, Made, all_events, last_answer}
@@ -193,6 +194,16 @@ EveryBeginning =
     IsCallIn (Beginning fresh) shape c generator events before run →
     (has_begun (newest_of events) ≡ true → Begins (local shape before c) (local shape run c))
     × (has_begun (newest_of events) ≡ false → BeginsNone shape (local shape before c) (local shape run c))
+
+-- BETWEEN CALLS no stamp that was drawn, and no rank that was stored, is left for an attempt that is still to begin: so
+-- it is before the first call, and so each call leaves it.
+abbrev pub NothingAtFirst : Type 0
+NothingAtFirst = IsClear first
+
+abbrev pub EveryCallLeavesNothing : Type 0
+EveryCallLeavesNothing =
+    (task : Task) (shape : Shape) (c : ℕ) (generator : Lcg) (events before run : List Event) →
+    IsCallIn task shape c generator events before run → IsClear (local shape before c) → IsClear (local shape run c)
 
 -- A call that is to end an attempt has left it, and begins none. Where none is under way it does nothing.
 abbrev pub EveryLeaving : Type 0
