@@ -14,9 +14,9 @@ use Rattle.dstm_io.specs.Sink.{AppendsPart}
 use Rattle.dstm_command.specs.declared.command.Command.{Command}
 use Rattle.dstm_command.specs.declared.command.Command.TheVariants.{Run, Check, Gen, Demo}
 use Rattle.dstm_model.specs.declared.layout.Layout.{Layout}
-use Rattle.dstm_records.specs.declared.round.Round.{Round}
+use Rattle.dstm_tables.specs.declared.tables.Round.{Round}
 use Rattle.dstm_records.specs.Running.{IsClosed}
-use Rattle.dstm_records.specs.Sights.{SightsAgree}
+use Rattle.dstm_tables.specs.Tells.{SightsAgree}
 use Rattle.dstm_report.specs.declared.verdict.Verdict.{Verdict}
 use Rattle.dstm_report.specs.declared.verdict.Verdict.TheVariants.{Lawful, NotLawful}
 use Rattle.dstm_cli.specs.declared.failure.Failure.{Failure}

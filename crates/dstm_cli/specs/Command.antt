@@ -22,8 +22,9 @@ use Rattle.dstm_report.specs.declared.verdict.Verdict.TheVariants.{Lawful, NotLa
 use Rattle.dstm_report.specs.Reading.{report_of, IsHeld}
 use Rattle.dstm_report.specs.Text.{report_text}
 use Rattle.dstm_report.specs.Lawful.{IsLawful, Tells}
-use Rattle.dstm_records.specs.declared.options.Options.{Options}
-use Rattle.dstm_records.specs.declared.round.Round.{Round}
+use Rattle.dstm_options.specs.declared.options.Engine.TheVariants.{Dstm}
+use Rattle.dstm_options.specs.declared.options.Options.{Options}
+use Rattle.dstm_tables.specs.declared.tables.Round.{Round}
 use Rattle.dstm_records.specs.Records.{StandFor}
 use Rattle.dstm_records.specs.Running.{IsClosed}
 use Rattle.dstm_cli.specs.declared.failure.Failure.{Failure}
@@ -95,11 +96,12 @@ options_of options = record {
   seed = options.seed;
   all_write = options.all_write;
   release = options.release;
+  engine = Dstm;
 }
 
 -- as `run` does where its words say nothing
 abbrev pub default_options : Options
-default_options = record { manager = Polka; seed = 0; all_write = false; release = false }
+default_options = record { manager = Polka; seed = 0; all_write = false; release = false; engine = Dstm }
 
 -- ---- what a command writes
 

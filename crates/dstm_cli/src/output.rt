@@ -31,7 +31,7 @@ use crate::failure::Failure;
 use crate::input::{CHECK_LIMIT, RUN_LIMIT, read_case, read_input};
 use dstm_command::{Command, GenSpec, RunOptions};
 use dstm_core::Manager;
-use dstm_crew::{Gate, Options, Rounds, run_crew};
+use dstm_crew::{Engine, Gate, Options, Rounds, run_crew};
 use dstm_gen::generate;
 use dstm_io::Source;
 use dstm_report::{Report, Verdict, balances_stay, check, lawful_is_held, render};
@@ -118,6 +118,7 @@ fn options_from(options: &RunOptions) -> Options
         seed: options.seed,
         all_write: options.all_write,
         release: options.release,
+        engine: Engine::Dstm,
     }
 }
 
@@ -222,6 +223,7 @@ fn demo_text<R: Threads + Sync, G: Gate + Sync>(
         seed: 0,
         all_write: false,
         release: false,
+        engine: Engine::Dstm,
     };
     let workload = generate(alloc, spec.seed, spec.count, spec.workers)?;
     let report = run_crew(rt, alloc, &workload, &options, gate, rounds)?;

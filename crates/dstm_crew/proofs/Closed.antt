@@ -4,22 +4,21 @@ use Rattle.std.proofs.lemmas.Grind.{common_steps}
 use Rattle.std.specs.Prelude.{All}
 use Rattle.std.proofs.lemmas.List.{length-map}
 use Rattle.dstm_core.specs.declared.shape.Shape.{Shape}
-use Rattle.dstm_core.specs.Histories.{CoreRun, history_of}
-use Rattle.dstm_model.specs.declared.layout.Layout.{Layout}
 use Rattle.dstm_model.specs.declared.value.Val.{Val}
-use Rattle.dstm_model.specs.Map.{state_after}
 use Rattle.dstm_model.specs.Objects.{objects_of}
-use Rattle.dstm_words.specs.Seats.{Home, IsRunOf}
-use Rattle.dstm_engine.specs.Tables.{Founding}
-use Rattle.dstm_store.specs.declared.law.StoreLaw.{StoreLaw}
-use Rattle.dstm_store.specs.Whole.{IsLawful}
 use Rattle.dstm_workload.specs.declared.workload.Workload.{Workload}
-use Rattle.dstm_records.specs.declared.options.Options.{Options}
-use Rattle.dstm_records.specs.Records.{IsDstmMade}
+use Rattle.dstm_options.specs.declared.options.Options.{Options}
+use Rattle.dstm_tables.specs.declared.founding.Founder.{Founder}
+use Rattle.dstm_tables.specs.declared.tables.Table.{Table}
+use Rattle.dstm_tables.specs.Founders.{first_of, numbers_of, seen_by}
+use Rattle.dstm_tables.specs.Tells as known
+use Rattle.dstm_tables.specs.Tells.{IsOf, IsPast, callers_of, layout_of, start_of, values_of}
+use Rattle.dstm_tables.proofs.Same.{callers_past, first_seen, layout_past, of_past, start_past}
+use Rattle.dstm_records.specs.Records.{IsDstmMade, IsMade}
 use Rattle.dstm_records.specs.Rounds.{attempts_for, is_parallel, locators_for}
-use Rattle.dstm_crew.specs.declared.worker.Worker.{Worker}
-use Rattle.dstm_crew.specs.Tries.{keeps}
+use Rattle.dstm_records.proofs.Making.{made_past}
 use Rattle.dstm_crew.specs.declared.share.Share.{Share}
+use Rattle.dstm_crew.specs.declared.worker.Worker.{Worker}
 use Rattle.dstm_crew.specs.Seats.{HasBack, HasEnded, caller_number, share_of}
 use Rattle.dstm_crew.specs.Shares.{AreShared, WereRun, asked_of, most_places}
 use Rattle.dstm_crew.proofs.Ended.{all_shared}
@@ -43,51 +42,55 @@ module _ (workload : Workload) (options : Options) (number : ℕ) where
     reads = λ alone. absurd (let no_way : true ≡ false = sym parallel ∙ alone in cc);
   }
 
-  module _ (home : Home StoreLaw) (f : Founding StoreLaw) (values left : List Val) (shares shares_then : List Share)
+  module _ (table : Table) (f : Founder) (values left : List Val) (shares shares_then : List Share)
       (before workers : List Worker) where
     -- what there is when all callers were taken back and the table is closed
     pub record Closes : Type 0 where
-      pub law : home.terms.law.value.layout ≡ workload.layout
-      pub start : home.terms.start.value.items ≡ values
-      pub objects : home.terms.shape.objects ≡ objects_of workload.layout
-      pub callers : home.terms.shape.callers ≡ length shares
-      pub made : IsDstmMade options workload.version number (most_places shares) home.terms.shape
+      pub engine : IsOf options.engine (first_of table)
+      pub layout : layout_of (first_of table) ≡ workload.layout
+      pub start : start_of (first_of table) ≡ values
+      pub objects : length values ≡ objects_of workload.layout
+      pub callers : callers_of (first_of table) ≡ length shares
+      pub made : IsMade options workload.version number (most_places shares) (first_of table)
       pub were : map share_of before ≡ shares
       pub same : map (λ (worker : Worker). asked_of (share_of worker)) workers
           ≡ map (λ (worker : Worker). asked_of (share_of worker)) before
-      pub ended : All (HasEnded workload options home) workers
-      pub back : HasBack home 0 workers f
+      pub ended : All (HasEnded workload options table) workers
+      pub back : HasBack table 0 workers f
       pub are : shares_then ≡ map share_of workers
-      pub run : IsRunOf keeps home.terms f.view.log
-      pub left_is : left ≡ state_after home.terms.start.value.items
-          (history_of home.terms.shape home.terms.start.value.items f.view.log)
+      pub run : known.IsRun (seen_by f)
+      pub left_is : left ≡ values_of (seen_by f)
 
-    pub were_run : Closes →
-        WereRun workload options number values left shares shares_then (record { terms = home.terms; log = f.view.log })
+    pub were_run : Closes → WereRun workload options number values left shares shares_then (seen_by f)
     were_run closes = record {
+      engine = of_past options.engine (first_of table) (seen_by f) past closes.engine;
       run = record {
-        law = closes.law;
-        valid = closes.run.valid;
-        objects = closes.objects;
-        run =
-            subst (λ (l : Layout). CoreRun home.terms.shape home.terms.start.value.items (IsLawful l) f.view.log) closes.law
-            closes.run.run;
+        law = layout_past (first_of table) (seen_by f) past ∙ closes.layout;
+        objects = ap length start ∙ closes.objects;
+        run = closes.run;
       };
-      made = closes.made;
-      start = closes.start;
-      left_is = closes.left_is
-          ∙ ap (λ (vs : List Val). state_after vs (history_of home.terms.shape vs f.view.log)) closes.start;
+      made =
+          made_past options workload.version number (most_places shares) (first_of table) (seen_by f) past closes.made;
+      start = start;
+      left_is = closes.left_is;
       same = ap (map asked_of) closes.are ∙ asked_each workers ∙ closes.same ∙ sym (asked_each before)
           ∙ ap (map asked_of) closes.were;
-      callers = f.view.numbers;
-      count = ap length closes.back.numbers ∙ length-map workers caller_number ∙ count ∙ sym closes.callers;
+      callers = numbers_of f;
+      count = ap length closes.back.numbers ∙ length-map workers caller_number ∙ count ∙ sym closes.callers
+          ∙ sym (callers_past (first_of table) (seen_by f) past);
       apart = closes.back.apart;
       shared =
-          subst (λ (ss : List Share). AreShared workload options home.terms f.view.log ss f.view.numbers) (sym closes.are)
-          (subst (AreShared workload options home.terms f.view.log (map share_of workers)) (sym closes.back.numbers)
-          (all_shared workload options home f.view.log workers closes.run closes.ended closes.back.known));
+          subst (λ (ss : List Share). AreShared workload options (seen_by f) ss (numbers_of f)) (sym closes.are)
+          (subst (AreShared workload options (seen_by f) (map share_of workers)) (sym closes.back.numbers)
+          (all_shared workload options table (seen_by f) workers closes.run closes.ended closes.back.known));
     }
       where
+        past : IsPast (first_of table) (seen_by f)
+        past = first_seen f table closes.back.home
+
+        start : start_of (seen_by f) ≡ values
+        start = start_past (first_of table) (seen_by f) past ∙ closes.start
+
         count : length workers ≡ length shares
         count =
             sym (length-map workers (λ (worker : Worker). asked_of (share_of worker))) ∙ ap length closes.same

@@ -1,37 +1,32 @@
 -- What an alone round adds, by what its caller has done.
-use Rattle.std.proofs.Common.{◌≡◌, ℕ, ◌+◌, ◌<◌, false, List, [], ◌++◌, length, reverse, refl, ap, sym, subst, ◌∙◌, inl, inr, arith, true≢false}
+use Rattle.std.proofs.Common.{◌≡◌, ℕ, ◌<◌, false, List, [], ◌++◌, length, reverse, refl, ap, sym, subst, ◌∙◌, inl, inr, arith, true≢false}
 use Rattle.std.proofs.lemmas.List.Elements.{recursion_from_All}
 use Rattle.dstm_model.specs.declared.value.Val.{Val}
-use Rattle.dstm_model.specs.declared.layout.Layout.{Layout}
-use Rattle.dstm_model.specs.Map.{state_after}
-use Rattle.dstm_core.specs.declared.shape.Shape.{Shape}
-use Rattle.dstm_core.specs.Events.{Event}
-use Rattle.dstm_core.specs.Histories.{CoreRun, history_of}
-use Rattle.dstm_words.specs.Seats.{Home, IsRunOf}
-use Rattle.dstm_opacity.specs.Committed.{Committed, committed_in, done_by}
-use Rattle.dstm_opacity.proofs.Stays.{entries_are_history}
-use Rattle.dstm_engine.specs.Attempts.{done}
-use Rattle.dstm_engine.specs.Callers.{Called, shape_of, start_of}
-use Rattle.dstm_engine.specs.Tables.{Founding}
-use Rattle.dstm_store.specs.declared.law.StoreLaw.{StoreLaw}
-use Rattle.dstm_store.specs.Whole.{IsLawful, StandsFor}
+use Rattle.dstm_model.specs.Answers.{Committed}
+use Rattle.dstm_store.specs.Whole.{StandsFor}
 use Rattle.dstm_workload.specs.declared.workload.Workload.{Workload}
 use Rattle.dstm_report.specs.declared.report.Row.{Row}
 use Rattle.dstm_report.specs.Lawful.{store_after}
 use Rattle.dstm_report.specs.Turns.{Turning}
-use Rattle.dstm_records.specs.declared.options.Options.{Options}
-use Rattle.dstm_records.specs.declared.round.Round.{Round}
-use Rattle.dstm_records.specs.declared.round.Round.TheVariants.{Dstm}
-use Rattle.dstm_records.specs.Records.{IsDstmMade, IsRoundOf, IsRun, TellOf, values_of}
-use Rattle.dstm_records.specs.Rounds.{attempts_for, is_parallel, most_jobs, workers_left}
+use Rattle.dstm_options.specs.declared.options.Options.{Options}
+use Rattle.dstm_tables.specs.declared.founding.Founder.{Founder}
+use Rattle.dstm_tables.specs.declared.tables.Caller.{Caller}
+use Rattle.dstm_tables.specs.declared.tables.Table.{Table}
+use Rattle.dstm_tables.specs.Callers.{done, number_of, round_of}
+use Rattle.dstm_tables.specs.Founders.{TakesBack, first_of, seen_by}
+use Rattle.dstm_tables.specs.Tells as known
+use Rattle.dstm_tables.specs.Tells.{IsPast, all_done, callers_of, committed_of, done_of, start_of, values_of}
+use Rattle.dstm_tables.proofs.Closing.{done_at_close}
+use Rattle.dstm_tables.proofs.History.{sights_agree}
+use Rattle.dstm_tables.proofs.Staying.{attempts_past}
+use Rattle.dstm_tables.proofs.Same.{callers_past, first_past, first_seen, layout_is, layout_past, locators_past, number_below, of_past, only_tells_all, start_past, writes_past}
+use Rattle.dstm_records.specs.Records.{IsMade, IsRoundOf, IsRun, TellOf}
+use Rattle.dstm_records.specs.Rounds.{is_parallel, most_jobs, workers_left}
 use Rattle.dstm_records.specs.Running.{AddsRound, Begins, count_left, turns_behind}
 use Rattle.dstm_records.specs.Told.{AreTold}
 use Rattle.dstm_records.proofs.Collecting.{Collected}
-use Rattle.dstm_records.proofs.Only.{entries_reverse, only_done}
-use Rattle.dstm_records.proofs.Sights.{sights_agree}
+use Rattle.dstm_records.proofs.Making.{made_past}
 use Rattle.dstm_records.proofs.Told.{fewer_left, rows_told}
-use Rattle.dstm_crew.specs.Tries.{keeps}
-use Rattle.dstm_crew.proofs.Staying.{in_range}
 use Rattle.dstm_crew.specs.Alone.{CanRunAlone, HasRunAlone}
 use Rattle.dstm_crew.specs.Opened.{IsOpened, with_jobs}
 
@@ -51,7 +46,7 @@ some_left workload number before values alone begins =
 
 -- the table is as large as the workers that have jobs left behind these rows want it
 pub opened_for : (workload : Workload) (options : Options) (waiting : ℕ) (before : List Row) (values : List Val)
-    (turns : Turning) (table : Home StoreLaw) (f : Founding StoreLaw) (k : Called StoreLaw) →
+    (turns : Turning) (table : Table) (f : Founder) (k : Caller) →
     waiting ≡ length (with_jobs workload.workers turns.left) → turns ≡ turns_behind workload before →
     IsOpened workload options waiting values table f k →
     IsOpened workload options (length (workers_left workload before)) values table f k
@@ -61,128 +56,107 @@ opened_for workload options waiting before values turns table f k count turned o
 
 -- the caller of the table can run alone
 pub can_run : (workload : Workload) (options : Options) (number : ℕ) (before : List Row) (values : List Val) (turns : Turning)
-    (table : Home StoreLaw) (f : Founding StoreLaw) (k : Called StoreLaw) → is_parallel number ≡ false →
-    Begins workload number before values → turns ≡ turns_behind workload before →
+    (table : Table) (f : Founder) (k : Caller) → is_parallel number ≡ false → Begins workload number before values →
+    turns ≡ turns_behind workload before →
     IsOpened workload options (length (workers_left workload before)) values table f k →
     CanRunAlone workload number table k before turns
 can_run workload options number before values turns table f k alone begins turned opened =
+    let a = first_of table in
+    let b = round_of k in
+    let past : IsPast a b = first_past k table opened.home in
     record {
       valid = begins.valid;
       earlier = begins.earlier;
       home = opened.home;
-      only = ap (λ (h : Home StoreLaw). h.terms.shape.callers) opened.home ∙ opened.only;
-      law = ap (λ (h : Home StoreLaw). h.terms.law.value.layout) opened.home ∙ opened.law;
-      reads = λ third. ap (λ (h : Home StoreLaw). h.terms.shape.all_write) opened.home ∙ opened.reads third;
-      attempts = ap (λ (h : Home StoreLaw). h.terms.shape.attempts) opened.home ∙ opened.attempts;
-      locators = subst (λ (h : Home StoreLaw). h.terms.shape.locators ≡ h.terms.shape.objects + 16384) (sym opened.home)
-          opened.locators;
+      only = callers_past a b past ∙ opened.only;
+      law = sym (layout_is k) ∙ layout_past a b past ∙ opened.layout;
+      reads = λ third. writes_past a b past ∙ opened.reads third;
+      attempts = attempts_past a b past ∙ opened.attempts;
+      locators = locators_past a b past opened.locators;
       rest = opened.rest;
       none_begun = opened.none_begun;
-      none_installed = opened.none_installed;
+      none_installed = opened.none_used;
       none_done = opened.none_done;
       stands = subst (λ (vs : List Val). StandsFor workload.layout vs (store_after workload before))
-          (sym (ap (λ (h : Home StoreLaw). h.terms.start.value.items) opened.home ∙ opened.start)) begins.stands;
+          (sym (start_past a b past ∙ opened.start)) begins.stands;
       turns_are = turned;
       some_left = some_left workload number before values alone begins;
     }
 
 module _ (workload : Workload) (options : Options) (number : ℕ) (before : List Row) (values : List Val)
-    (table : Home StoreLaw) (f : Founding StoreLaw) (first n : Called StoreLaw) (rows : List Row) (turns : Turning)
-    (log : List Event) (alone : is_parallel number ≡ false) (begins : Begins workload number before values)
+    (table : Table) (f g : Founder) (first n : Caller) (rows : List Row) (turns : Turning)
+    (alone : is_parallel number ≡ false) (begins : Begins workload number before values)
     (opened : IsOpened workload options (length (workers_left workload before)) values table f first)
-    (ran : HasRunAlone workload number first n before rows turns)
-    (told : done_by (shape_of n) (start_of n) log log n.number ≡ done n)
-    (run : IsRunOf keeps table.terms log) where
-  shape : Shape
-  shape = table.terms.shape
+    (ran : HasRunAlone workload number first n before rows turns) (takes : TakesBack f g n)
+    (run : known.IsRun (seen_by g)) where
+  past : IsPast (first_of table) (seen_by g)
+  past = first_seen g table (takes.home ∙ opened.founded)
 
-  start : List Val
-  start = table.terms.start.value.items
+  only : callers_of (seen_by g) ≡ 1
+  only = callers_past (first_of table) (seen_by g) past ∙ opened.only
 
-  closed : Round
-  closed = Dstm (record { terms = table.terms; log = log })
+  start : start_of (seen_by g) ≡ values
+  start = start_past (first_of table) (seen_by g) past ∙ opened.start
 
-  home : n.home ≡ table
-  home = ran.goes.on.home ∙ opened.home
-
-  zeroth : n.number ≡ 0
+  zeroth : number_of n ≡ 0
   zeroth =
-      let below = (in_range n ran.goes.on.rest).0 in
-      let one : (shape_of n).callers ≡ 1 = ap (λ (h : Home StoreLaw). h.terms.shape.callers) home ∙ opened.only in
+      let below = number_below n ran.goes.on.rest in
+      let one : callers_of (round_of n) ≡ 1 = sym (callers_past (round_of n) (seen_by g) takes.other_past) ∙ only in
       omega (arith, below, one)
 
   -- what was committed on the table is what its caller has committed
-  committed : committed_in table.terms.shape table.terms.start.value.items log ≡ done n
+  committed : all_done (seen_by g) ≡ done n
   committed =
-      only_done table.terms.shape table.terms.start.value.items log run.run.core opened.only
-      ∙ ap (done_by table.terms.shape table.terms.start.value.items log log) (sym zeroth)
-      ∙ subst (λ (h : Home StoreLaw). done_by h.terms.shape h.terms.start.value.items log log n.number ≡ done n) home told
+      only_tells_all (seen_by g) run only
+      ∙ ap (done_of (seen_by g)) (sym zeroth)
+      ∙ done_at_close (round_of n) (seen_by g) (number_of n) run takes.other_past takes.other_kept
 
-  core : CoreRun table.terms.shape table.terms.start.value.items (IsLawful workload.layout) log
-  core =
-      subst (λ (l : Layout). CoreRun table.terms.shape table.terms.start.value.items (IsLawful l) log) opened.law run.run
-
-  are_told : AreTold workload before ran.now (reverse (committed_in table.terms.shape table.terms.start.value.items log))
+  are_told : AreTold workload before ran.now (committed_of (seen_by g))
   are_told = subst (λ (ds : List Committed). AreTold workload before ran.now (reverse ds)) (sym committed) ran.goes.told
 
-  stands : StandsFor workload.layout table.terms.start.value.items (store_after workload before)
-  stands = subst (λ (vs : List Val). StandsFor workload.layout vs (store_after workload before)) (sym opened.start)
-      begins.stands
+  stands : StandsFor workload.layout (start_of (seen_by g)) (store_after workload before)
+  stands = subst (λ (vs : List Val). StandsFor workload.layout vs (store_after workload before)) (sym start) begins.stands
 
-  collected : Collected workload before ran.now table.terms.start.value.items
-      (reverse (committed_in table.terms.shape table.terms.start.value.items log)) []
-  collected = rows_told workload before ran.now table.terms.shape table.terms.start.value.items log number begins.valid core
+  collected : Collected workload before ran.now (start_of (seen_by g)) (committed_of (seen_by g)) []
+  collected = rows_told workload before ran.now (seen_by g) number begins.valid run
       (recursion_from_All (λ row. row.round < number) before begins.earlier) stands are_told
       (recursion_from_All (λ row. row.round ≡ number) ran.now ran.goes.in_round)
 
-  is_run : IsRun workload.layout closed
-  unfolding closed
-  is_run = record { law = opened.law; valid = run.valid; objects = opened.objects; run = core }
-
-  made : IsDstmMade options workload.version number (most_jobs workload number before) table.terms.shape
-  made = record {
-    attempts = opened.attempts ∙ ap attempts_for (sym (most_alone workload number before alone));
-    locators = opened.locators;
-    manager = opened.manager;
-    all_write = λ parallel. absurd (true≢false (sym parallel ∙ alone));
-    reads = λ _ third. opened.reads third;
+  is_run : IsRun workload.layout (seen_by g)
+  is_run = record {
+    law = layout_past (first_of table) (seen_by g) past ∙ opened.layout;
+    objects = ap length start ∙ begins.stands.objects;
+    run = run;
   }
 
-  round : IsRoundOf workload options number before ran.now values closed
-  unfolding closed
+  made : IsMade options workload.version number (most_jobs workload number before) (seen_by g)
+  made =
+      made_past options workload.version number (most_jobs workload number before) (first_of table) (seen_by g) past
+      (subst (λ (jobs : ℕ). IsMade options workload.version number jobs (first_of table))
+      (sym (most_alone workload number before alone)) (opened.made number alone))
+
+  round : IsRoundOf workload options number before ran.now values (seen_by g)
   round = record {
+    engine = of_past options.engine (first_of table) (seen_by g) past opened.engine;
     run = is_run;
     made = made;
-    begins = opened.start;
-    rows_tell = subst (λ (vs : List Val). TellOf workload before ran.now vs
-        (reverse (committed_in table.terms.shape table.terms.start.value.items log))) opened.start collected.tell;
+    begins = start;
+    rows_tell = subst (λ (vs : List Val). TellOf workload before ran.now vs (committed_of (seen_by g))) start collected.tell;
     parallel = λ parallel. absurd (true≢false (sym parallel ∙ alone));
-    alone = λ _. record { one_caller = opened.only; some_row = ran.some; few = ran.few };
+    alone = λ _. record { one_caller = only; some_row = ran.some; few = ran.few };
     released = λ _ parallel. absurd (true≢false (sym parallel ∙ alone));
   }
 
-  -- the values that the round has left
-  left_is : state_after table.terms.start.value.items
-      (history_of table.terms.shape table.terms.start.value.items log) ≡ values_of closed
-  unfolding closed
-  left_is = ap (state_after table.terms.start.value.items)
-      (entries_are_history table.terms.shape table.terms.start.value.items log
-      ∙ sym (entries_reverse (committed_in table.terms.shape table.terms.start.value.items log)))
-
-  pub adds_alone : (left : List Val) →
-      left ≡ state_after table.terms.start.value.items
-      (history_of table.terms.shape table.terms.start.value.items log) →
-      AddsRound workload options number before values (Dstm (record { terms = table.terms; log = log })) ran.now left
-  unfolding closed
+  pub adds_alone : (left : List Val) → left ≡ values_of (seen_by g) →
+      AddsRound workload options number before values (seen_by g) ran.now left
   adds_alone left is = record {
     good = collected.good;
     all_in = ran.goes.in_round;
     round = round;
-    sights = sights_agree workload.layout closed is_run;
-    values_are = is ∙ left_is;
+    sights = sights_agree (seen_by g) run;
+    values_are = is;
     stands = subst (λ (vs : List Val). StandsFor workload.layout vs (store_after workload (before ++ ran.now)))
-        (sym (is ∙ left_is)) collected.stands;
-    fewer = fewer_left workload before ran.now
-        (reverse (committed_in table.terms.shape table.terms.start.value.items log)) begins.valid are_told;
+        (sym is) collected.stands;
+    fewer = fewer_left workload before ran.now (committed_of (seen_by g)) begins.valid are_told;
     some = λ _. ran.some;
   }

@@ -2,36 +2,33 @@
 use Rattle.std.proofs.Common.{◌≡◌, ◌∙◌, ◌∷◌, ◌<◌, ℕ, suc, List, [], length, map, slice_index_or, refl, sym, ap, subst, arith, reverse}
 use Rattle.std.specs.Prelude.{All, zip}
 use Rattle.std.proofs.lemmas.List.Elements.{All-head, All-tail}
-use Rattle.dstm_opacity.specs.Committed.{Committed, done_by}
-use Rattle.dstm_opacity.proofs.Stays.{told_stays}
-use Rattle.dstm_core.specs.Events.{Event}
-use Rattle.dstm_core.specs.Runs.{Core}
-use Rattle.dstm_core.specs.Traces.{IsPastOf, events_of}
-use Rattle.dstm_words.specs.Seats.{Home, IsRunOf}
-use Rattle.dstm_words.specs.declared.terms.Terms.{Terms}
-use Rattle.dstm_store.specs.declared.law.StoreLaw.{StoreLaw}
+use Rattle.dstm_model.specs.Answers.{Committed}
 use Rattle.dstm_workload.specs.declared.workload.Workload.{Workload}
 use Rattle.dstm_report.specs.Turns.{job_at}
-use Rattle.dstm_records.specs.declared.options.Options.{Options}
-use Rattle.dstm_records.specs.Records.{KeepsFew}
-use Rattle.dstm_crew.specs.declared.worker.Worker.{Worker}
-use Rattle.dstm_crew.specs.Tries.{keeps}
-use Rattle.dstm_crew.specs.Workers.{AreDone, HasRun, IsReady, next_job}
-use Rattle.dstm_crew.proofs.Closing.{had_to_stop_at_close, none_wasted_at_close}
-use Rattle.dstm_crew.proofs.Staying.{in_range}
+use Rattle.dstm_options.specs.declared.options.Options.{Options}
+use Rattle.dstm_tables.specs.declared.tables.Round.{Round}
+use Rattle.dstm_tables.specs.declared.tables.Table.{Table}
+use Rattle.dstm_tables.specs.Answers.{KeepsFew}
+use Rattle.dstm_tables.specs.Callers.{number_of, round_of}
+use Rattle.dstm_tables.specs.Tells.{IsPast, IsRun, SameOwn, done_of}
+use Rattle.dstm_tables.proofs.Closing.{done_at_close, none_at_close, stop_at_close}
+use Rattle.dstm_tables.proofs.Same.{callers_past, number_below}
+use Rattle.dstm_tables.proofs.Staying.{lets_go_past}
 use Rattle.dstm_crew.specs.declared.share.Share.{Share}
+use Rattle.dstm_crew.specs.declared.worker.Worker.{Worker}
 use Rattle.dstm_crew.specs.Seats.{HasEnded, IsKnownBy, caller_number, share_of}
 use Rattle.dstm_crew.specs.Shares.{AreShared, IsShared, asked_of}
+use Rattle.dstm_crew.specs.Workers.{AreDone, HasRun, IsReady, next_job}
 
 module _ (workload : Workload) (options : Options) where
   -- ---- as its own caller's log tells
 
-  pub has_ended : (table : Home StoreLaw) (old new : Worker) → IsReady workload table old → HasRun workload options old new →
+  pub has_ended : (table : Table) (old new : Worker) → IsReady workload table old → HasRun workload options old new →
       HasEnded workload options table new
   has_ended table old new ready ran = record {
     rests = record { home = ran.on.home ∙ ready.home; rest = ran.on.rest };
     shared = record {
-      within = (in_range new.caller ran.on.rest).0;
+      within = number_below new.caller ran.on.rest;
       done = ran.done;
       none_wasted = ran.none_wasted;
       left = ran.left;
@@ -46,51 +43,42 @@ module _ (workload : Workload) (options : Options) where
 
   -- ---- as a longer log tells
 
-  share_stays : (terms : Terms StoreLaw) (old new : List Event) (share : Share) (c : ℕ) → IsRunOf keeps terms new →
-      IsPastOf old new → events_of c new ≡ events_of c old → IsShared workload options terms old share c →
-      IsShared workload options terms new share c
-  share_stays terms old new share c run past own was = record {
-    within = was.within;
+  share_stays : (old new : Round) (share : Share) (c : ℕ) → IsRun new → IsPast old new → SameOwn c old new →
+      IsShared workload options old share c → IsShared workload options new share c
+  share_stays old new share c run past own was = record {
+    within = subst (λ (n : ℕ). c < n) (sym (callers_past old new past)) was.within;
     done =
         subst (λ (ds : List Committed). AreDone workload.layout workload.jobs share.places.items share.done.items (reverse ds))
         (sym same) was.done;
     none_wasted =
-        none_wasted_at_close terms c old new run.run.core was.within past own workload
-        (next_job workload.jobs share.places.items share.done.items) was.none_wasted;
+        none_at_close workload (next_job workload.jobs share.places.items share.done.items) old new c run was.within past own
+        was.none_wasted;
     left = λ few.
-        had_to_stop_at_close terms c old new run.run.core was.within past own workload
-        (next_job workload.jobs share.places.items share.done.items) (was.left few);
-    few_reads = λ releasing reads.
+        stop_at_close workload (next_job workload.jobs share.places.items share.done.items) old new c run was.within past own
+        (was.left few);
+    few_reads = λ releasing lets.
         subst (λ (ds : List Committed). All (λ told. KeepsFew (job_at workload.jobs told.0) told.1) (zip share.places.items (reverse ds)))
-        (sym same) (was.few_reads releasing reads);
+        (sym same) (was.few_reads releasing (sym (lets_go_past old new past) ∙ lets));
   }
     where
-      same : done_by terms.shape terms.start.value.items new new c ≡ done_by terms.shape terms.start.value.items old old c
-      same =
-          subst (λ (log : List Event). done_by terms.shape terms.start.value.items log log c
-          ≡ done_by terms.shape terms.start.value.items old old c) past.whole
-          (told_stays terms.shape terms.start.value.items past.later old c
-          (subst (Core terms.shape) (sym past.whole) run.run.core)
-          (ap (events_of c) past.whole ∙ own))
+      same : done_of new c ≡ done_of old c
+      same = done_at_close old new c run past own
 
-  is_shared : (table : Home StoreLaw) (log : List Event) (worker : Worker) → IsRunOf keeps table.terms log →
-      HasEnded workload options table worker → IsKnownBy log worker.caller →
-      IsShared workload options table.terms log (share_of worker) (caller_number worker)
-  is_shared table log worker run ended known =
-      share_stays table.terms worker.caller.log log (share_of worker) worker.caller.number run known.past known.own
-      (subst (λ (h : Home StoreLaw). IsShared workload options h.terms worker.caller.log (share_of worker) worker.caller.number)
-      ended.rests.home ended.shared)
+  is_shared : (table : Table) (r : Round) (worker : Worker) → IsRun r → HasEnded workload options table worker →
+      IsKnownBy r worker.caller → IsShared workload options r (share_of worker) (caller_number worker)
+  is_shared table r worker run ended known =
+      share_stays (round_of worker.caller) r (share_of worker) (number_of worker.caller) run known.past known.own ended.shared
 
   -- what was done of all shares, by the callers of these workers
-  pub all_shared : (table : Home StoreLaw) (log : List Event) (workers : List Worker) → IsRunOf keeps table.terms log →
-      All (HasEnded workload options table) workers → All (λ (worker : Worker). IsKnownBy log worker.caller) workers →
-      AreShared workload options table.terms log (map share_of workers) (map caller_number workers)
-  all_shared table log [] run ended known = tt
-  all_shared table log (worker ∷ workers) run ended known =
-      let P : Worker → Type 0 = λ w. IsKnownBy log w.caller in (
-        is_shared table log worker run (All-head (HasEnded workload options table) worker workers ended)
+  pub all_shared : (table : Table) (r : Round) (workers : List Worker) → IsRun r → All (HasEnded workload options table) workers →
+      All (λ (worker : Worker). IsKnownBy r worker.caller) workers →
+      AreShared workload options r (map share_of workers) (map caller_number workers)
+  all_shared table r [] run ended known = tt
+  all_shared table r (worker ∷ workers) run ended known =
+      let P : Worker → Type 0 = λ w. IsKnownBy r w.caller in (
+        is_shared table r worker run (All-head (HasEnded workload options table) worker workers ended)
             (All-head P worker workers known),
-        all_shared table log workers run (All-tail (HasEnded workload options table) worker workers ended)
+        all_shared table r workers run (All-tail (HasEnded workload options table) worker workers ended)
             (All-tail P worker workers known),
       )
 

@@ -1,17 +1,5 @@
-pub mod Plain
-pub mod Answered
-pub mod Made
-pub mod Staying
-pub mod SeenLast
-pub mod Rechecking
-pub mod Begun
-pub mod Branched
-pub mod Unused
-pub mod Sole
 pub mod Retrying
 pub mod Worked
-pub mod Closing
-pub mod Fresh
 pub mod Sweeps
 pub mod Jobs
 pub mod Numbers

@@ -2,7 +2,7 @@
 -- transaction.
 use Rattle.std.proofs.Common.{◌≡◌, ◌≢◌, ℕ, ◌+◌, ◌<◌, ◌≤◌, List, [], ◌∷◌, refl, sym, subst, ◌∙◌, inl, inr, arith}
 use Rattle.std.proofs.lemmas.Bool.{eq-eqb, ne_eqb, cases_eq}
-use Rattle.dstm_opacity.specs.Committed.{Committed, by_caller}
+use Rattle.dstm_model.specs.Answers.{Committed, by_caller}
 use Rattle.dstm_records.proofs.Told.{Rise}
 
 pub by_same : (c : ℕ) (x : Committed) (xs : List Committed) → x.caller ≡ c → by_caller c (x ∷ xs) ≡ x ∷ by_caller c xs

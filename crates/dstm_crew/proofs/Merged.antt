@@ -1,6 +1,6 @@
 -- Step by step, the rows tell of what was committed: where a worker's next number is the least, its next job is that of the
 -- next transaction.
-use Rattle.std.proofs.Common.{◌≡◌, ℕ, suc, zero, ◌+◌, ◌<◌, ◌≤◌, Bool, true, false, cond, eqb, ◌&&◌, List, [], ◌∷◌, ◌++◌, length, map, reverse, get_or, set, drop, replicate, Option, Some, refl, ap, sym, subst, ◌∙◌, inl, arith, append_assoc}
+use Rattle.std.proofs.Common.{◌≡◌, ℕ, suc, zero, ◌+◌, ◌<◌, ◌≤◌, Bool, true, false, cond, eqb, List, [], ◌∷◌, ◌++◌, length, map, reverse, get_or, set, drop, replicate, Option, Some, refl, ap, sym, subst, ◌∙◌, inl, arith, append_assoc}
 use Rattle.std.specs.Prelude.{IfSome}
 use Rattle.std.specs.List.{AllByRecursion, slice_get, zip}
 use Rattle.std.specs.Option.{option_map}
@@ -9,34 +9,27 @@ use Rattle.std.proofs.lemmas.List.{append-nil, drop_all, get_or-set_same, get_or
 use Rattle.std.proofs.lemmas.List.Elements.{recursion_from_All, All-from_recursion, filter-append}
 use Rattle.std.proofs.lemmas.Option.{get_or_from_slice_get, slice_get_within, slice_get-map, slice_get_read, none-some, same_Some}
 use mathlib.Core.List.{reverse-cons}
-use Rattle.dstm_model.specs.declared.value.Val.{Val}
 use Rattle.dstm_model.specs.declared.reply.Reply.{Reply}
-use Rattle.dstm_core.specs.declared.shape.Shape.{Shape}
-use Rattle.dstm_core.specs.Events.{Event}
-use Rattle.dstm_core.specs.Histories.{entry_of, is_draw, will_of}
-use Rattle.dstm_core.specs.Runs.{Core, local}
-use Rattle.dstm_core.specs.State.{own_attempt}
-use Rattle.dstm_opacity.specs.Committed.{Committed, by_caller, committed, committed_in, done_by}
-use Rattle.dstm_opacity.proofs.Merging.{in_order}
-use Rattle.dstm_opacity.proofs.Told.{each_is_told}
-use Rattle.dstm_words.specs.declared.terms.Terms.{Terms}
-use Rattle.dstm_store.specs.declared.law.StoreLaw.{StoreLaw}
+use Rattle.dstm_model.specs.Answers.{Committed, by_caller}
+use Rattle.dstm_tables.specs.declared.tables.Round.{Round}
 use Rattle.dstm_workload.specs.declared.workload.Job.{Job}
 use Rattle.dstm_workload.specs.declared.workload.Workload.{Workload}
 use Rattle.dstm_report.specs.declared.report.Row.{Row}
 use Rattle.dstm_report.specs.Lawful.{first_job, jobs_left}
 use Rattle.dstm_report.specs.Turns.{Turning, job_at, jobs_of, without_first}
-use Rattle.dstm_records.specs.declared.options.Options.{Options}
-use Rattle.dstm_records.specs.Answers.{IsAnsweredBy}
-use Rattle.dstm_records.specs.Records.{IsReleasing, KeepsFew, KeepsFewReads}
+use Rattle.dstm_options.specs.declared.options.Options.{Options}
+use Rattle.dstm_tables.specs.Answers.{IsAnsweredBy}
+use Rattle.dstm_records.specs.Records.{IsReleasing, KeepsFewReads}
+use Rattle.dstm_tables.specs.Answers.{KeepsFew, IsDone}
 use Rattle.dstm_records.specs.Rounds.{has_job, left_by}
 use Rattle.dstm_records.specs.Told.{AreTold, IsTold}
 use Rattle.dstm_records.proofs.Told.{AreTold-push, Rise, rise_of, turn_names}
-use Rattle.dstm_crew.specs.declared.trying.Finished.{Finished}
-use Rattle.dstm_crew.specs.Tries.{IsDone}
+use Rattle.dstm_tables.specs.declared.trying.Finished.{Finished}
 use Rattle.dstm_crew.specs.Workers.{AreDone, next_job}
 use Rattle.dstm_crew.specs.declared.share.Share.{Share}
-use Rattle.dstm_crew.specs.Collecting.{AreRunBy, AreTaken, CanCollect, HasCollected, IsFit, IsNext, IsRowOf, all_committed, caller_of, head, number_at}
+use Rattle.dstm_tables.specs.Tells.{lets_go, all_done, callers_of, committed_of, done_of}
+use Rattle.dstm_tables.proofs.History.{is_history}
+use Rattle.dstm_crew.specs.Collecting.{AreRunBy, AreTaken, CanCollect, HasCollected, IsFit, IsNext, IsRowOf, caller_of, head, number_at}
 use Rattle.dstm_crew.specs.Shares.{AreShared, IsShared}
 use Rattle.dstm_crew.proofs.Going.{Comes, Going, at_end, at_place, comes, drop_at, each_place, finished_at, found, get_drop, going_first, going_more, heads_at, same_line, same_turn, workers_apart}
 use Rattle.dstm_crew.proofs.Jobs.{first_of_jobs, has_some}
@@ -44,20 +37,6 @@ use Rattle.dstm_crew.proofs.Merge.{AllMatch, Match, merge_ends, merge_step}
 use Rattle.dstm_crew.proofs.Numbers.{all_there, apart_places}
 
 -- ---- the transactions of a table are its callers'
-
--- each was committed by a caller of the table
-committed_within : (s : Shape) (start : List Val) (will : ℕ → Bool) (run es : List Event) → Core s es →
-    AllByRecursion (λ done. done.caller < s.callers) (committed s start will run es)
-committed_within s start will run [] core = tt
-committed_within s start will run (e ∷ es) core =
-    one (is_draw e.kind && will (own_attempt s (local s es e.caller))) (committed_within s start will run es core.0)
-  where
-    one : (b : Bool) → AllByRecursion (λ (done : Committed). done.caller < s.callers) (committed s start will run es) →
-        AllByRecursion (λ (done : Committed). done.caller < s.callers)
-        (cond b (record { caller = e.caller; number = e.found; entry = entry_of s start run (local s es e.caller) }
-        ∷ committed s start will run es) (committed s start will run es))
-    one true rest = (core.1.caller, rest)
-    one false rest = rest
 
 all-push : {X : Type 0} (P : X → Type 0) (xs : List X) (x : X) → AllByRecursion P xs → P x → AllByRecursion P (xs ++ x ∷ [])
 all-push P [] x all is = (is, tt)
@@ -88,32 +67,32 @@ by_caller-reverse c (x ∷ xs) =
 
 -- ---- shares and callers by place
 
-pub shared_at : (workload : Workload) (options : Options) (terms : Terms StoreLaw) (log : List Event) (shares : List Share)
-    (callers : List ℕ) (k : ℕ) (share : Share) → AreShared workload options terms log shares callers →
-    slice_get shares k ≡ Some share → IsShared workload options terms log share (get_or callers k 0)
-shared_at workload options terms log [] callers k share shared there = absurd (none-some share there)
-shared_at workload options terms log (s ∷ shares) [] k share shared there = absurd shared
-shared_at workload options terms log (s ∷ shares) (c ∷ callers) zero share shared there =
-    subst (λ (x : Share). IsShared workload options terms log x c) (same_Some s share there) shared.0
-shared_at workload options terms log (s ∷ shares) (c ∷ callers) (suc k) share shared there =
-    shared_at workload options terms log shares callers k share shared.1 there
+pub shared_at : (workload : Workload) (options : Options) (r : Round) (shares : List Share)
+    (callers : List ℕ) (k : ℕ) (share : Share) → AreShared workload options r shares callers →
+    slice_get shares k ≡ Some share → IsShared workload options r share (get_or callers k 0)
+shared_at workload options r [] callers k share shared there = absurd (none-some share there)
+shared_at workload options r (s ∷ shares) [] k share shared there = absurd shared
+shared_at workload options r (s ∷ shares) (c ∷ callers) zero share shared there =
+    subst (λ (x : Share). IsShared workload options r x c) (same_Some s share there) shared.0
+shared_at workload options r (s ∷ shares) (c ∷ callers) (suc k) share shared there =
+    shared_at workload options r shares callers k share shared.1 there
 
-pub shared_size : (workload : Workload) (options : Options) (terms : Terms StoreLaw) (log : List Event) (shares : List Share)
-    (callers : List ℕ) → AreShared workload options terms log shares callers → length shares ≡ length callers
-shared_size workload options terms log [] [] shared = refl
-shared_size workload options terms log [] (c ∷ callers) shared = absurd shared
-shared_size workload options terms log (s ∷ shares) [] shared = absurd shared
-shared_size workload options terms log (s ∷ shares) (c ∷ callers) shared =
-    ap suc (shared_size workload options terms log shares callers shared.1)
+pub shared_size : (workload : Workload) (options : Options) (r : Round) (shares : List Share)
+    (callers : List ℕ) → AreShared workload options r shares callers → length shares ≡ length callers
+shared_size workload options r [] [] shared = refl
+shared_size workload options r [] (c ∷ callers) shared = absurd shared
+shared_size workload options r (s ∷ shares) [] shared = absurd shared
+shared_size workload options r (s ∷ shares) (c ∷ callers) shared =
+    ap suc (shared_size workload options r shares callers shared.1)
 
-shared_below : (workload : Workload) (options : Options) (terms : Terms StoreLaw) (log : List Event) (shares : List Share)
-    (callers : List ℕ) → AreShared workload options terms log shares callers →
-    AllByRecursion (λ c. c < terms.shape.callers) callers
-shared_below workload options terms log [] [] shared = tt
-shared_below workload options terms log [] (c ∷ callers) shared = absurd shared
-shared_below workload options terms log (s ∷ shares) [] shared = absurd shared
-shared_below workload options terms log (s ∷ shares) (c ∷ callers) shared =
-    (shared.0.within, shared_below workload options terms log shares callers shared.1)
+shared_below : (workload : Workload) (options : Options) (r : Round) (shares : List Share)
+    (callers : List ℕ) → AreShared workload options r shares callers →
+    AllByRecursion (λ c. c < callers_of r) callers
+shared_below workload options r [] [] shared = tt
+shared_below workload options r [] (c ∷ callers) shared = absurd shared
+shared_below workload options r (s ∷ shares) [] shared = absurd shared
+shared_below workload options r (s ∷ shares) (c ∷ callers) shared =
+    (shared.0.within, shared_below workload options r shares callers shared.1)
 
 -- the caller of a share's worker is the share's
 pub caller_at : (shares : List Share) (callers : List ℕ) (k : ℕ) (share : Share) →
@@ -189,16 +168,16 @@ other_head shares next v b more below size there = by (slice_get-some shares v b
 
 -- ---- the state of collecting
 
-module _ (workload : Workload) (options : Options) (terms : Terms StoreLaw) where
+module _ (workload : Workload) (options : Options) (r : Round) where
   -- a job was done by a transaction, which keeps few reads where reads are given up
   abbrev pub Does : ℕ × Finished → Committed → Type 0
   Does pair done =
       IsDone workload.layout (job_at workload.jobs pair.0) pair.1 done
-      × (IsReleasing options workload.version → terms.shape.all_write ≡ false → KeepsFew (job_at workload.jobs pair.0) done)
+      × (IsReleasing options workload.version → lets_go r ≡ true → KeepsFew (job_at workload.jobs pair.0) done)
 
   match_all : (places : List ℕ) (finished : List Finished) (done : List Committed) →
       AreDone workload.layout workload.jobs places finished done →
-      (IsReleasing options workload.version → terms.shape.all_write ≡ false →
+      (IsReleasing options workload.version → lets_go r ≡ true →
       AllByRecursion (λ told. KeepsFew (job_at workload.jobs told.0) told.1) (zip places done)) →
       Match Does (zip places finished) done
   match_all [] [] [] are few = tt
@@ -213,12 +192,12 @@ module _ (workload : Workload) (options : Options) (terms : Terms StoreLaw) wher
     match_all places finished done are.1 (λ releasing reads. (few releasing reads).1),
   )
 
-  module _ (log : List Event) (shares : List Share) (callers : List ℕ) where
+  module _ (shares : List Share) (callers : List ℕ) where
     -- a row is of the worker whose share the transaction's caller ran, and keeps few reads where reads are given up
     abbrev pub IsOurs : Row → Committed → Type 0
     IsOurs row done =
         (done.caller ≡ caller_of shares callers row.worker)
-        × (IsReleasing options workload.version → terms.shape.all_write ≡ false → KeepsFewReads workload (row, done))
+        × (IsReleasing options workload.version → lets_go r ≡ true → KeepsFewReads workload (row, done))
 
     abbrev pub AreOurs : List Row → List Committed → Type 0
     AreOurs [] [] = Unit {0}
@@ -250,7 +229,7 @@ module _ (workload : Workload) (options : Options) (terms : Terms StoreLaw) wher
       pub left : List Committed
       pub least : ℕ
       pub rows_are : rows ≡ before ++ now
-      pub all_are : all_committed terms log ≡ done ++ left
+      pub all_are : committed_of r ≡ done ++ left
       pub told : AreTold workload before now done
       pub ours : AreOurs now done
       pub in_round : AllByRecursion (λ row. row.round ≡ round) now
@@ -258,44 +237,44 @@ module _ (workload : Workload) (options : Options) (terms : Terms StoreLaw) wher
       pub matched : AllMatch Does (length shares) caller_there (pairs_left shares next) left
 
     -- at first there are no rows
-    pub merged_first : (round : ℕ) (rows : List Row) (next : List ℕ) → AreRunBy workload options terms log shares callers →
+    pub merged_first : (round : ℕ) (rows : List Row) (next : List ℕ) → AreRunBy workload options r shares callers →
         ((k : ℕ) → get_or next k 0 ≡ 0) → Merged round rows rows next
     merged_first round rows next run zeros = record {
       now = [];
       done = [];
-      left = all_committed terms log;
+      left = committed_of r;
       least = 0;
       rows_are = sym (append-nil rows);
       all_are = refl;
       told = tt;
       ours = tt;
       in_round = tt;
-      rise = rise_of (committed_in terms.shape terms.start.value.items log)
-          (in_order terms.shape terms.start.value.items log run.run.run.core);
+      rise = rise_of (all_done r)
+          ((is_history r run.run).falls);
       matched = λ k below. matches k (slice_get-some shares k below);
     }
       where
         matches : (k : ℕ) → (share : Share) × (slice_get shares k ≡ Some share) →
-            Match Does (pairs_left shares next k) (by_caller (caller_there k) (all_committed terms log))
+            Match Does (pairs_left shares next k) (by_caller (caller_there k) (committed_of r))
         matches k at =
             let share = at.0 in
-            let is = shared_at workload options terms log shares callers k share run.shared at.1 in
-            let mine : by_caller (caller_there k) (all_committed terms log)
-            ≡ reverse (done_by terms.shape terms.start.value.items log log (caller_there k)) =
-            by_caller-reverse (caller_there k) (committed_in terms.shape terms.start.value.items log)
-            ∙ ap reverse (each_is_told terms.shape terms.start.value.items log run.run.run.core (caller_there k)) in
-            subst (λ (n : ℕ). Match Does (drop n (pairs_at shares k)) (by_caller (caller_there k) (all_committed terms log)))
+            let is = shared_at workload options r shares callers k share run.shared at.1 in
+            let mine : by_caller (caller_there k) (committed_of r)
+            ≡ reverse (done_of r (caller_there k)) =
+            by_caller-reverse (caller_there k) (all_done r)
+            ∙ ap reverse ((is_history r run.run).parts (caller_there k)) in
+            subst (λ (n : ℕ). Match Does (drop n (pairs_at shares k)) (by_caller (caller_there k) (committed_of r)))
             (sym (zeros k))
-            (subst (λ (ps : List (ℕ × Finished)). Match Does ps (by_caller (caller_there k) (all_committed terms log)))
+            (subst (λ (ps : List (ℕ × Finished)). Match Does ps (by_caller (caller_there k) (committed_of r)))
             (sym (pairs_there shares k share at.1))
             (subst (Match Does (zip share.places.items share.done.items)) (sym mine)
             (match_all share.places.items share.done.items
-            (reverse (done_by terms.shape terms.start.value.items log log (caller_there k))) is.done
+            (reverse (done_of r (caller_there k))) is.done
             (λ releasing reads. recursion_from_All _ _ (is.few_reads releasing reads)))))
 
     -- the row of the share whose next number is the least tells of the next transaction
     pub merged_more : (round : ℕ) (before rows : List Row) (turns : Turning) (next : List ℕ) (at : ℕ) (share : Share)
-        (row : Row) → AreRunBy workload options terms log shares callers → Merged round before rows next →
+        (row : Row) → AreRunBy workload options r shares callers → Merged round before rows next →
         Going workload shares rows turns next → slice_get shares at ≡ Some share → IsNext shares next at →
         IsRowOf workload round share (get_or next at 0) row →
         Merged round before (rows ++ row ∷ []) (set next at (get_or next at 0 + 1))
@@ -332,7 +311,7 @@ module _ (workload : Workload) (options : Options) (terms : Terms StoreLaw) wher
             ∙ zip_at share.places.items share.done.items k c.place f c.there at_head.1)
 
         sizes : length shares ≡ length callers
-        sizes = shared_size workload options terms log shares callers run.shared
+        sizes = shared_size workload options r shares callers run.shared
 
         smallest : (v : ℕ) (b : ℕ × Finished) (more : List (ℕ × Finished)) → v < length shares → pairs_left shares next v ≡ b ∷ more →
             f.number ≤ number_of b
@@ -350,13 +329,13 @@ module _ (workload : Workload) (options : Options) (terms : Terms StoreLaw) wher
             (subst (λ (l : List Committed). Match Does (pairs_left shares next at) (by_caller (caller_there at) l)) none
             (m.matched at (slice_get_within shares at share here))))
         go (x ∷ xs) some =
-            let within : x.caller < terms.shape.callers =
-            all-middle (λ (d : Committed). d.caller < terms.shape.callers) m.done x xs
-            (subst (AllByRecursion (λ (d : Committed). d.caller < terms.shape.callers)) (m.all_are ∙ ap (λ (l : List Committed). m.done ++ l) some)
-            (all-reverse (λ (d : Committed). d.caller < terms.shape.callers) (committed_in terms.shape terms.start.value.items log)
-            (committed_within terms.shape terms.start.value.items (will_of terms.shape log) log log run.run.run.core))) in
-            let other = all_there callers terms.shape.callers x.caller run.apart
-            (shared_below workload options terms log shares callers run.shared) run.count within in
+            let within : x.caller < callers_of r =
+            all-middle (λ (d : Committed). d.caller < callers_of r) m.done x xs
+            (subst (AllByRecursion (λ (d : Committed). d.caller < callers_of r)) (m.all_are ∙ ap (λ (l : List Committed). m.done ++ l) some)
+            (all-reverse (λ (d : Committed). d.caller < callers_of r) (all_done r)
+            ((is_history r run.run).within))) in
+            let other = all_there callers (callers_of r) x.caller run.apart
+            (shared_below workload options r shares callers run.shared) run.count within in
             let rise : Rise m.least (x ∷ xs) = subst (Rise m.least) some m.rise in
             let step = merge_step Does number_of (λ a d does. does.0.number) (length shares) m.least caller_there
             (pairs_left shares next) (pairs_left shares (set next at (k + 1))) at (c.place, f) (drop (k + 1) (pairs_at shares at)) x xs
@@ -405,9 +384,9 @@ module _ (workload : Workload) (options : Options) (terms : Terms StoreLaw) wher
 
     -- where nothing is left, the rows tell of all
     pub merged_last : (round : ℕ) (before rows : List Row) (turns : Turning) (next : List ℕ) →
-        AreRunBy workload options terms log shares callers → Merged round before rows next →
+        AreRunBy workload options r shares callers → Merged round before rows next →
         Going workload shares rows turns next → AreTaken shares next →
-        HasCollected workload options round terms log shares callers before rows turns
+        HasCollected workload options round r shares callers before rows turns
     merged_last round before rows turns next run m going taken = record {
       now = m.now;
       rows_are = m.rows_are;
@@ -415,11 +394,11 @@ module _ (workload : Workload) (options : Options) (terms : Terms StoreLaw) wher
       in_round = All-from_recursion (λ (row : Row). row.round ≡ round) m.now m.in_round;
       told = subst (AreTold workload before m.now) whole m.told;
       own = All-from_recursion (λ (told : Row × Committed). told.1.caller ≡ caller_of shares callers told.0.worker)
-          (zip m.now (all_committed terms log))
+          (zip m.now (committed_of r))
           (ours_all (λ (told : Row × Committed). told.1.caller ≡ caller_of shares callers told.0.worker) (λ row d is. is.0)
-          m.now (all_committed terms log) ours);
-      few_reads = λ releasing same. All-from_recursion (KeepsFewReads workload) (zip m.now (all_committed terms log))
-          (ours_all (KeepsFewReads workload) (λ row d is. is.1 releasing (same ∙ releasing.reads)) m.now (all_committed terms log) ours);
+          m.now (committed_of r) ours);
+      few_reads = λ releasing same. All-from_recursion (KeepsFewReads workload) (zip m.now (committed_of r))
+          (ours_all (KeepsFewReads workload) (λ row d is. is.1 releasing same) m.now (committed_of r) ours);
       next = each_place (λ (share : Share). first_job share.worker (left_by workload rows)
           ≡ next_job workload.jobs share.places.items share.done.items) shares (λ k share here.
           first_of_jobs share.worker (left_by workload rows)
@@ -446,14 +425,14 @@ module _ (workload : Workload) (options : Options) (terms : Terms StoreLaw) wher
         none_left : (left : List Committed) → m.left ≡ left → left ≡ []
         none_left [] is = refl
         none_left (x ∷ xs) is =
-            let within : x.caller < terms.shape.callers =
-            all-middle (λ (d : Committed). d.caller < terms.shape.callers) m.done x xs
-            (subst (AllByRecursion (λ (d : Committed). d.caller < terms.shape.callers)) (m.all_are ∙ ap (λ (l : List Committed). m.done ++ l) is)
-            (all-reverse (λ (d : Committed). d.caller < terms.shape.callers) (committed_in terms.shape terms.start.value.items log)
-            (committed_within terms.shape terms.start.value.items (will_of terms.shape log) log log run.run.run.core))) in
-            let other = all_there callers terms.shape.callers x.caller run.apart
-            (shared_below workload options terms log shares callers run.shared) run.count within in
-            let sizes = shared_size workload options terms log shares callers run.shared in
+            let within : x.caller < callers_of r =
+            all-middle (λ (d : Committed). d.caller < callers_of r) m.done x xs
+            (subst (AllByRecursion (λ (d : Committed). d.caller < callers_of r)) (m.all_are ∙ ap (λ (l : List Committed). m.done ++ l) is)
+            (all-reverse (λ (d : Committed). d.caller < callers_of r) (all_done r)
+            ((is_history r run.run).within))) in
+            let other = all_there callers (callers_of r) x.caller run.apart
+            (shared_below workload options r shares callers run.shared) run.count within in
+            let sizes = shared_size workload options r shares callers run.shared in
             absurd (merge_ends Does number_of (λ a d does. does.0.number) (length shares) caller_there (pairs_left shares next) x xs other.0
             (subst (AllMatch Does (length shares) caller_there (pairs_left shares next)) is m.matched)
             (λ v below. nothing v (slice_get-some shares v below)) (let o = other.1 in omega (arith, sizes)) other.2)
@@ -469,10 +448,10 @@ module _ (workload : Workload) (options : Options) (terms : Terms StoreLaw) wher
         all_done : m.left ≡ []
         all_done = none_left m.left refl
 
-        whole : m.done ≡ all_committed terms log
+        whole : m.done ≡ committed_of r
         whole = sym (m.all_are ∙ ap (λ (l : List Committed). m.done ++ l) all_done ∙ append-nil m.done)
 
-        ours : AreOurs m.now (all_committed terms log)
+        ours : AreOurs m.now (committed_of r)
         ours = subst (AreOurs m.now) whole m.ours
 
 -- ---- the loop
@@ -481,9 +460,9 @@ module _ (workload : Workload) (options : Options) (terms : Terms StoreLaw) wher
 pub record Collects (workload : Workload) (round : ℕ) (before : List Row) (shares : List Share) (rows : List Row)
     (turns : Turning) (next : List ℕ) : Type 0 where
   pub going : Going workload shares rows turns next
-  pub merged : (options : Options) (terms : Terms StoreLaw) (log : List Event) (callers : List ℕ) →
-      AreRunBy workload options terms log shares callers →
-      Merged workload options terms log shares callers round before rows next
+  pub merged : (options : Options) (r : Round) (callers : List ℕ) →
+      AreRunBy workload options r shares callers →
+      Merged workload options r shares callers round before rows next
 
 abbrev pub zeros : ℕ → List ℕ
 zeros n = replicate n 0
@@ -494,8 +473,8 @@ pub collects_first : (workload : Workload) (round : ℕ) (shares : List Share) (
 collects_first workload round shares rows turns next can is = record {
   going = going_first workload shares rows turns next can
       (ap length is ∙ length-replicate (length shares) 0) zero_at;
-  merged = λ options terms log callers run.
-      merged_first workload options terms log shares callers round rows next run zero_at;
+  merged = λ options r callers run.
+      merged_first workload options r shares callers round rows next run zero_at;
 }
   where
     zero_at : (k : ℕ) → get_or next k 0 ≡ 0
@@ -559,9 +538,9 @@ collects_more workload round before shares rows rows_then turns turns_then next 
     (subst (λ (ts : Turning). Collects workload round before shares (rows ++ row ∷ []) ts (set next at (get_or next at 0 + 1))) (sym turns_are)
     (record {
       going = going_more workload shares rows turns next at round share row c.going t.there some row_is;
-      merged = λ options terms log callers run.
-          merged_more workload options terms log shares callers round before rows turns next at share row run
-          (c.merged options terms log callers run) c.going t.there (subst (λ (ns : List ℕ). IsNext shares ns at) same is_next) row_is;
+      merged = λ options r callers run.
+          merged_more workload options r shares callers round before rows turns next at share row run
+          (c.merged options r callers run) c.going t.there (subst (λ (ns : List ℕ). IsNext shares ns at) same is_next) row_is;
     })))
   where
     row_is : IsRowOf workload round share (get_or next at 0) row
@@ -570,11 +549,11 @@ collects_more workload round before shares rows rows_then turns turns_then next 
     some : get_or next at 0 < length share.done.items
     some = subst (λ (p : ℕ). p < length share.done.items) t.place_is t.some
 
-pub collects_last : (workload : Workload) (options : Options) (round : ℕ) (terms : Terms StoreLaw) (log : List Event)
+pub collects_last : (workload : Workload) (options : Options) (round : ℕ) (r : Round)
     (shares : List Share) (callers : List ℕ) (before rows : List Row) (turns : Turning) (next seen : List ℕ) →
     Collects workload round before shares rows turns next → seen ≡ next → AreTaken shares seen →
-    AreRunBy workload options terms log shares callers →
-    HasCollected workload options round terms log shares callers before rows turns
-collects_last workload options round terms log shares callers before rows turns next seen c same taken run =
-    merged_last workload options terms log shares callers round before rows turns next run
-    (c.merged options terms log callers run) c.going (subst (AreTaken shares) same taken)
+    AreRunBy workload options r shares callers →
+    HasCollected workload options round r shares callers before rows turns
+collects_last workload options round r shares callers before rows turns next seen c same taken run =
+    merged_last workload options r shares callers round before rows turns next run
+    (c.merged options r callers run) c.going (subst (AreTaken shares) same taken)

@@ -11,8 +11,8 @@ use Rattle.dstm_workload.specs.declared.workload.Workload.{Workload}
 use Rattle.dstm_report.specs.declared.report.Row.{Row}
 use Rattle.dstm_report.specs.Turns.{Turning}
 use Rattle.dstm_report.proofs.Rising.{jobs_left-none}
-use Rattle.dstm_records.specs.declared.options.Options.{Options}
-use Rattle.dstm_records.specs.declared.round.Round.{Round}
+use Rattle.dstm_options.specs.declared.options.Options.{Options}
+use Rattle.dstm_tables.specs.declared.tables.Round.{Round}
 use Rattle.dstm_records.specs.Running.{AddsClosed, HasEnded, HasPlayed, IsClosed, added, turns_behind}
 use Rattle.dstm_records.proofs.Running.{Reached, each_closed, has_ended, rounds_fall, rounds_left, round_more}
 

@@ -3,85 +3,81 @@ use Rattle.std.proofs.Common.{◌≡◌, ◌∙◌, ◌+◌, ℕ, List, [], ◌�
 use Rattle.std.specs.Prelude.{All}
 use Rattle.std.proofs.lemmas.List.{append-nil, length-map, map_push}
 use Rattle.std.proofs.lemmas.List.Elements.{All-cons, All-head, All-nil, All-push, All-tail}
-use Rattle.dstm_words.specs.Seats.{Home, AreApart}
-use Rattle.dstm_engine.specs.Callers.{Called}
-use Rattle.dstm_engine.specs.Tables.{Enrols, Founding, founded}
-use Rattle.dstm_store.specs.declared.law.StoreLaw.{StoreLaw}
+use Rattle.dstm_words.specs.Seats.{AreApart}
 use Rattle.dstm_workload.specs.declared.workload.Workload.{Workload}
-use Rattle.dstm_crew.specs.declared.worker.Worker.{Worker}
-use Rattle.dstm_crew.specs.Tries.{keeps}
-use Rattle.dstm_crew.specs.Workers.{IsReady}
-use Rattle.dstm_crew.proofs.Fresh.{fresh_begun, fresh_done, fresh_home, fresh_rest}
+use Rattle.dstm_tables.specs.declared.founding.Founder.{Founder}
+use Rattle.dstm_tables.specs.declared.tables.Caller.{Caller}
+use Rattle.dstm_tables.specs.declared.tables.Table.{Table}
+use Rattle.dstm_tables.specs.Callers.{round_of}
+use Rattle.dstm_tables.specs.Founders.{GivesOut, HasGivenNone, first_of, made_of, seen_by}
+use Rattle.dstm_tables.specs.Tells.{layout_of}
+use Rattle.dstm_tables.proofs.Same.{first_past, layout_is, layout_past}
 use Rattle.dstm_crew.specs.declared.share.Share.{Share}
+use Rattle.dstm_crew.specs.declared.worker.Worker.{Worker}
 use Rattle.dstm_crew.specs.Seats.{HasBack, IsKnownBy, IsNew, share_of}
 use Rattle.dstm_crew.specs.Shares.{IsOpen}
+use Rattle.dstm_crew.specs.Workers.{IsReady}
 
-module _ (table : Home StoreLaw) where
-  is_new : (f g : Founding StoreLaw) (seed : ℕ) (k : Called StoreLaw) → f.home ≡ table → Enrols keeps f g seed k → IsNew table k
-  is_new f g seed k home enrols = record {
-    rests = record { home = fresh_home f g seed k enrols ∙ home; rest = fresh_rest f g seed k enrols };
-    none_begun = fresh_begun f g seed k enrols;
-    none_done = fresh_done f g seed k enrols;
+module _ (table : Table) where
+  is_new : (f g : Founder) (k : Caller) → GivesOut table f g k → IsNew table k
+  is_new f g k gives = record {
+    rests = record { home = gives.home; rest = gives.rest };
+    none_begun = gives.none_begun;
+    none_done = gives.none_done;
   }
 
-  one_out : (f g : Founding StoreLaw) (seed out : ℕ) (k : Called StoreLaw) → HasBack table out [] f → Enrols keeps f g seed k →
-      HasBack table (out + 1) [] g
-  one_out f g seed out k back enrols = record {
-    home = ap (λ (x : Founding StoreLaw). x.home) enrols.founder ∙ back.home;
-    guests = ap (λ (x : Founding StoreLaw). x.guests) enrols.founder ∙ back.guests;
-    out = ap (λ (x : Founding StoreLaw). x.view.out) enrols.founder ∙ ap (λ (n : ℕ). n + 1) back.out;
-    knows = ap (λ (x : Founding StoreLaw). x.view.terms) enrols.founder ∙ back.knows;
-    numbers = ap (λ (x : Founding StoreLaw). x.view.numbers) enrols.founder ∙ back.numbers;
-    apart = subst AreApart (sym (ap (λ (x : Founding StoreLaw). x.view.numbers) enrols.founder)) back.apart;
-    known = All-nil (λ (worker : Worker). IsKnownBy g.view.log worker.caller);
+  one_out : (f g : Founder) (out : ℕ) (k : Caller) → HasBack table out [] f → GivesOut table f g k → HasBack table (out + 1) [] g
+  one_out f g out k back gives = record {
+    home = gives.home_then ∙ back.home;
+    guests = gives.guests ∙ back.guests;
+    out = gives.out ∙ ap (λ (n : ℕ). n + 1) back.out;
+    numbers = gives.back ∙ back.numbers;
+    apart = subst AreApart (sym gives.back) back.apart;
+    known = All-nil (λ (worker : Worker). IsKnownBy (seen_by g) worker.caller);
   }
 
   -- these workers have their callers, and these shares are left
-  pub record Seats (shares : List Share) (workers : List Worker) (left : List Share) (f : Founding StoreLaw) : Type 0 where
+  pub record Seats (shares : List Share) (workers : List Worker) (left : List Share) (f : Founder) : Type 0 where
     pub are : map share_of workers ++ left ≡ shares
     pub new : All (λ (worker : Worker). IsNew table worker.caller) workers
-    pub made : f.made ≡ length workers
+    pub made : made_of f ≡ length workers
     pub back : HasBack table (length workers) [] f
 
-  pub seats_at_first : (shares : List Share) → Seats shares [] shares (founded table)
-  seats_at_first shares = record {
+  pub seats_at_first : (shares : List Share) (f : Founder) → HasGivenNone table f → Seats shares [] shares f
+  seats_at_first shares f none = record {
     are = refl;
     new = All-nil (λ (worker : Worker). IsNew table worker.caller);
-    made = refl;
+    made = none.none_made;
     back = record {
-      home = refl;
-      guests = refl;
-      out = refl;
-      knows = refl;
-      numbers = refl;
-      apart = tt;
-      known = All-nil (λ (worker : Worker). IsKnownBy [] worker.caller);
+      home = none.home;
+      guests = none.none_guests;
+      out = none.none_out;
+      numbers = none.none_back;
+      apart = subst AreApart (sym none.none_back) tt;
+      known = All-nil (λ (worker : Worker). IsKnownBy (seen_by f) worker.caller);
     };
   }
 
   count_push : (workers : List Worker) (worker : Worker) → length workers + 1 ≡ length (workers ++ worker ∷ [])
   count_push workers worker = sym (length-append workers (worker ∷ []))
 
-  pub seats_one : (shares : List Share) (workers : List Worker) (left : List Share) (f g : Founding StoreLaw) (share : Share)
-      (worker : Worker) (seed : ℕ) → Seats shares workers (share ∷ left) f → share_of worker ≡ share →
-      Enrols keeps f g seed worker.caller → Seats shares (workers ++ worker ∷ []) left g
-  seats_one shares workers left f g share worker seed seats is enrols = record {
+  pub seats_one : (shares : List Share) (workers : List Worker) (left : List Share) (f g : Founder) (share : Share)
+      (worker : Worker) → Seats shares workers (share ∷ left) f → share_of worker ≡ share → GivesOut table f g worker.caller →
+      Seats shares (workers ++ worker ∷ []) left g
+  seats_one shares workers left f g share worker seats is gives = record {
     are = ap (λ (ss : List Share). ss ++ left) (map_push share_of workers worker)
         ∙ append_assoc (map share_of workers) (share_of worker ∷ []) left
         ∙ ap (λ (s : Share). map share_of workers ++ s ∷ left) is
         ∙ seats.are;
-    new =
-        All-push (λ (w : Worker). IsNew table w.caller) workers worker seats.new
-        (is_new f g seed worker.caller seats.back.home enrols);
-    made = ap (λ (x : Founding StoreLaw). x.made) enrols.founder ∙ ap (λ (n : ℕ). n + 1) seats.made
-        ∙ count_push workers worker;
+    new = All-push (λ (w : Worker). IsNew table w.caller) workers worker seats.new (is_new f g worker.caller gives);
+    made = gives.made ∙ ap (λ (n : ℕ). n + 1) seats.made ∙ count_push workers worker;
     back =
         subst (λ (n : ℕ). HasBack table n [] g) (count_push workers worker)
-        (one_out f g seed (length workers) worker.caller seats.back enrols);
+        (one_out f g (length workers) worker.caller seats.back gives);
   }
 
   -- all have theirs
-  pub seats_all : (shares : List Share) (workers : List Worker) (f : Founding StoreLaw) → Seats shares workers [] f →
+  pub seats_all : (shares : List Share) (workers : List Worker) (f : Founder) → Seats shares workers [] f →
       map share_of workers ≡ shares
   seats_all shares workers f seats = sym (append-nil (map share_of workers)) ∙ seats.are
 
@@ -90,11 +86,12 @@ module _ (table : Home StoreLaw) where
 
   -- ---- workers with callers that have done nothing are ready
 
-  is_ready : (workload : Workload) → table.terms.law.value.layout ≡ workload.layout → (worker : Worker) →
+  is_ready : (workload : Workload) → layout_of (first_of table) ≡ workload.layout → (worker : Worker) →
       IsNew table worker.caller → IsOpen workload (share_of worker) → IsReady workload table worker
   is_ready workload law worker new still = record {
     home = new.rests.home;
-    law = ap (λ (h : Home StoreLaw). h.terms.law.value.layout) new.rests.home ∙ law;
+    law = sym (layout_is worker.caller)
+        ∙ layout_past (first_of table) (round_of worker.caller) (first_past worker.caller table new.rests.home) ∙ law;
     rest = new.rests.rest;
     none_begun = new.none_begun;
     none_done = new.none_done;
@@ -103,7 +100,7 @@ module _ (table : Home StoreLaw) where
     room = still.room;
   }
 
-  ready_by : (workload : Workload) → table.terms.law.value.layout ≡ workload.layout → (workers : List Worker) →
+  ready_by : (workload : Workload) → layout_of (first_of table) ≡ workload.layout → (workers : List Worker) →
       All (λ (worker : Worker). IsNew table worker.caller) workers → All (IsOpen workload) (map share_of workers) →
       All (IsReady workload table) workers
   ready_by workload law [] new still = All-nil (IsReady workload table)
@@ -115,7 +112,7 @@ module _ (table : Home StoreLaw) where
       (All-tail (IsOpen workload) (share_of worker) (map share_of workers) still))
 
   pub all_ready : (workload : Workload) (shares : List Share) (workers : List Worker) →
-      table.terms.law.value.layout ≡ workload.layout → map share_of workers ≡ shares →
+      layout_of (first_of table) ≡ workload.layout → map share_of workers ≡ shares →
       All (λ (worker : Worker). IsNew table worker.caller) workers → All (IsOpen workload) shares →
       All (IsReady workload table) workers
   all_ready workload shares workers law are new still =

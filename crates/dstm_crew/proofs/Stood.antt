@@ -7,36 +7,32 @@ use Rattle.std.proofs.lemmas.List.Elements.{recursion_from_All, All-from_recursi
 use Rattle.std.proofs.lemmas.Option.{slice_get-get_or, slice_get-map, slice_get_within, none-some, same_Some}
 use Rattle.dstm_model.specs.declared.layout.Layout.{Layout}
 use Rattle.dstm_model.specs.declared.value.Val.{Val}
-use Rattle.dstm_model.specs.Map.{state_after}
-use Rattle.dstm_core.specs.Histories.{history_of}
-use Rattle.dstm_opacity.specs.Committed.{Committed, committed_in}
-use Rattle.dstm_opacity.proofs.Stays.{entries_are_history}
+use Rattle.dstm_model.specs.Answers.{Committed}
 use Rattle.dstm_words.specs.Seats.{AreApart}
-use Rattle.dstm_engine.specs.Tables.{Recorded}
-use Rattle.dstm_store.specs.declared.law.StoreLaw.{StoreLaw}
 use Rattle.dstm_store.specs.Whole.{StandsFor}
 use Rattle.dstm_workload.specs.declared.workload.Job.{Job}
 use Rattle.dstm_workload.specs.declared.workload.Workload.{Workload}
 use Rattle.dstm_report.specs.declared.report.Row.{Row}
 use Rattle.dstm_report.specs.Lawful.{first_job, store_after}
 use Rattle.dstm_report.specs.Turns.{Turning, job_at, jobs_of}
-use Rattle.dstm_records.specs.declared.options.Options.{Options}
-use Rattle.dstm_records.specs.declared.round.Round.{Round}
-use Rattle.dstm_records.specs.declared.round.Round.TheVariants.{Dstm}
-use Rattle.dstm_records.specs.Records.{ArePaired, IsDstmMade, IsDstmRun, IsParallel, IsRoundOf, TellOf, committed_of, next_of, values_of}
+use Rattle.dstm_options.specs.declared.options.Options.{Options}
+use Rattle.dstm_tables.specs.declared.tables.Round.{Round}
+use Rattle.dstm_tables.specs.declared.trying.Finished.{Finished}
+use Rattle.dstm_tables.specs.Jobs.{HadToStop, NoneWasted}
+use Rattle.dstm_tables.specs.Tells.{callers_of, committed_of, start_of}
+use Rattle.dstm_tables.proofs.History.{sights_agree}
+use Rattle.dstm_records.specs.Records.{ArePaired, IsMade, IsParallel, IsRoundOf, IsRun, TellOf, next_of}
 use Rattle.dstm_records.specs.Rounds.{all_workers, greatest, has_job, is_parallel, left_by, most_jobs, workers_in, workers_left}
 use Rattle.dstm_records.specs.Running.{AddsClosed, AddsRound, Begins, HasPlayed, IsClosed, turns_behind}
 use Rattle.dstm_records.proofs.Collecting.{Collected}
-use Rattle.dstm_records.proofs.Only.{entries_reverse}
-use Rattle.dstm_records.proofs.Sights.{sights_agree}
+use Rattle.dstm_records.proofs.Making.{reads_let_go}
 use Rattle.dstm_records.proofs.Told.{fewer_left, rows_told}
-use Rattle.dstm_crew.specs.declared.trying.Finished.{Finished}
-use Rattle.dstm_crew.specs.Workers.{AreDone, HadToStop, NoneWasted, next_job}
 use Rattle.dstm_crew.specs.declared.share.Share.{Share}
-use Rattle.dstm_crew.specs.Collecting.{AreRunBy, CanCollect, HasCollected, IsFit, all_committed, caller_of}
+use Rattle.dstm_crew.specs.Collecting.{AreRunBy, CanCollect, HasCollected, IsFit, caller_of}
 use Rattle.dstm_crew.specs.Shares.{AreShares, IsOpen, IsShared, WereRun, asked_of, most_places, workers_of}
-use Rattle.dstm_crew.proofs.Merged.{caller_at, shared_at, shared_size}
+use Rattle.dstm_crew.specs.Workers.{AreDone, next_job}
 use Rattle.dstm_crew.proofs.Going.{at_place, each_place, workers_apart}
+use Rattle.dstm_crew.proofs.Merged.{caller_at, shared_at, shared_size}
 use Rattle.dstm_crew.proofs.Numbers.{apart_places}
 use Rattle.dstm_crew.proofs.Workers.{are_workers, most_of_all, workers_apart_all}
 
@@ -84,11 +80,11 @@ done_enough workload (p ∷ places) (f ∷ finished) (d ∷ done) are =
     let rest = done_enough workload places finished done are.1 in omega (arith, rest)
 
 module _ (workload : Workload) (options : Options) (number : ℕ) (rows : List Row) (values left : List Val) (turns : Turning)
-    (shares shares_then : List Share) (table : Recorded StoreLaw) where
+    (shares shares_then : List Share) (closed : Round) where
   -- what is needed to collect
   pub can_collect : Begins workload number rows values → turns ≡ turns_behind workload rows →
       AreShares workload turns.left (workers_of workload number turns.left) shares →
-      WereRun workload options number values left shares shares_then table → CanCollect workload shares_then rows turns
+      WereRun workload options number values left shares shares_then closed → CanCollect workload shares_then rows turns
   can_collect begins turns_are are run = record {
     valid = begins.valid;
     turns_are = turns_are;
@@ -98,27 +94,24 @@ module _ (workload : Workload) (options : Options) (number : ℕ) (rows : List R
           (each_place (λ (s : Share). All (λ place. place < length workload.jobs) s.places.items) shares
           (λ i s there. (at_place (IsOpen workload) shares i s are.open_yet there).within))) here;
       enough = done_enough workload share.places.items share.done.items _
-          (shared_at workload options table.terms table.log shares_then run.callers k share run.shared here).done;
+          (shared_at workload options closed shares_then run.callers k share run.shared here).done;
     });
     apart = subst AreApart (sym (workers_kept shares shares_then run.same ∙ are.one_each))
         (workers_apart_all workload number turns.left);
     jobs = all_asked (λ asked. map (job_at workload.jobs) asked.1 ≡ jobs_of asked.0 turns.left) shares shares_then run.same are.jobs;
   }
 
-  pub run_by : (run : WereRun workload options number values left shares shares_then table) →
-      AreRunBy workload options table.terms table.log shares_then run.callers
-  run_by run = record { run = run.run; count = run.count; apart = run.apart; shared = run.shared }
+  pub run_by : (run : WereRun workload options number values left shares shares_then closed) →
+      AreRunBy workload options closed shares_then run.callers
+  run_by run = record { run = run.run.run; count = run.count; apart = run.apart; shared = run.shared }
 
   -- ---- the round stands for its rows
 
   module _ (parallel : is_parallel number ≡ true) (begins : Begins workload number rows values)
       (turns_are : turns ≡ turns_behind workload rows)
       (are : AreShares workload turns.left (workers_of workload number turns.left) shares)
-      (run : WereRun workload options number values left shares shares_then table) (rows_then : List Row) (turns_then : Turning)
-      (collected : HasCollected workload options number table.terms table.log shares_then run.callers rows rows_then turns_then) where
-    abbrev start : List Val
-    start = table.terms.start.value.items
-
+      (run : WereRun workload options number values left shares shares_then closed) (rows_then : List Row) (turns_then : Turning)
+      (collected : HasCollected workload options number closed shares_then run.callers rows rows_then turns_then) where
     left_is : turns.left ≡ left_by workload rows
     left_is = ap (λ (t : Turning). t.left) turns_are
 
@@ -131,7 +124,7 @@ module _ (workload : Workload) (options : Options) (number : ℕ) (rows : List R
         (workers_apart_all workload number turns.left)
 
     sizes : length shares_then ≡ length run.callers
-    sizes = shared_size workload options table.terms table.log shares_then run.callers run.shared
+    sizes = shared_size workload options closed shares_then run.callers run.shared
 
     abbrev caller : ℕ → ℕ
     caller = caller_of shares_then run.callers
@@ -170,10 +163,10 @@ module _ (workload : Workload) (options : Options) (number : ℕ) (rows : List R
         (λ i other there same. workers_apart shares_then apart i h.place other h.share there h.there same) h.there
         (let w = slice_get_within shares_then h.place h.share h.there in omega (arith, sizes))
 
-    shared_of : (worker : ℕ) (h : Has worker) → IsShared workload options table.terms table.log h.share (caller worker)
+    shared_of : (worker : ℕ) (h : Has worker) → IsShared workload options closed h.share (caller worker)
     shared_of worker h =
-        subst (IsShared workload options table.terms table.log h.share) (sym (caller_is worker h))
-        (shared_at workload options table.terms table.log shares_then run.callers h.place h.share run.shared h.there)
+        subst (IsShared workload options closed h.share) (sym (caller_is worker h))
+        (shared_at workload options closed shares_then run.callers h.place h.share run.shared h.there)
 
     next_is : (worker : ℕ) (h : Has worker) →
         next_of workload (rows ++ collected.now) worker ≡ next_job workload.jobs h.share.places.items h.share.done.items
@@ -183,7 +176,7 @@ module _ (workload : Workload) (options : Options) (number : ℕ) (rows : List R
         ∙ at_place (λ (s : Share). first_job s.worker (left_by workload rows_then) ≡ next_job workload.jobs s.places.items s.done.items)
         shares_then h.place h.share collected.next h.there
 
-    paired : ArePaired (workers_in workload number rows) table.terms.shape.callers caller
+    paired : ArePaired (workers_in workload number rows) (callers_of closed) caller
     paired = record {
       count = sym (ap length workers_are) ∙ length-map shares_then (λ (share : Share). share.worker) ∙ sizes ∙ run.count;
       within = λ worker has. (shared_of worker (share_of worker has)).within;
@@ -198,7 +191,7 @@ module _ (workload : Workload) (options : Options) (number : ℕ) (rows : List R
           (same_Some a.share b.share (sym a.there ∙ ap (slice_get shares_then) place ∙ b.there)) ∙ b.is;
     }
 
-    is_round : IsParallel workload number rows collected.now (Dstm table)
+    is_round : IsParallel workload number rows collected.now closed
     is_round = record {
       caller = caller;
       paired = paired;
@@ -207,12 +200,12 @@ module _ (workload : Workload) (options : Options) (number : ℕ) (rows : List R
           let h = share_of worker has in
           let fewer = at_place (λ (s : Share). has_job (left_by workload rows_then) s.worker ≡ true
           → length s.done.items < length s.places.items) shares_then h.place h.share collected.fewer h.there in
-          subst (λ (next : Option Job). HadToStop workload next table.terms table.log (caller worker)) (sym (next_is worker h))
+          subst (λ (next : Option Job). HadToStop workload next closed (caller worker)) (sym (next_is worker h))
           ((shared_of worker h).left (fewer (ap (has_job (left_by workload rows_then)) h.is
           ∙ ap (λ (rs : List Row). has_job (left_by workload rs) worker) collected.rows_are ∙ more)));
       attempts = λ worker has.
           let h = share_of worker has in
-          subst (λ (next : Option Job). NoneWasted workload next table.terms table.log (caller worker)) (sym (next_is worker h))
+          subst (λ (next : Option Job). NoneWasted workload next closed (caller worker)) (sym (next_is worker h))
           (shared_of worker h).none_wasted;
     }
 
@@ -239,48 +232,47 @@ module _ (workload : Workload) (options : Options) (number : ℕ) (rows : List R
                 (sym (length-map x.places.items (job_at workload.jobs)) ∙ ap length all.0)
                 ∙ ap (λ (ns : List ℕ). length (jobs_of x.worker turns.left) ∷ ns) (each xs all.1)
 
-    told : Collected workload rows collected.now start (all_committed table.terms table.log) []
-    told = rows_told workload rows collected.now table.terms.shape start table.log number begins.valid run.run.run
+    told : Collected workload rows collected.now (start_of closed) (committed_of closed) []
+    told = rows_told workload rows collected.now closed number begins.valid run.run.run
         (recursion_from_All (λ (row : Row). row.round < number) rows begins.earlier)
         (subst (λ (vs : List Val). StandsFor workload.layout vs (store_after workload rows)) (sym run.start) begins.stands)
         collected.told (recursion_from_All (λ (row : Row). row.round ≡ number) collected.now collected.in_round)
 
-    left_values : left ≡ values_of (Dstm table)
-    left_values =
-        run.left_is
-        ∙ ap (λ (vs : List Val). state_after vs (history_of table.terms.shape vs table.log)) (sym run.start)
-        ∙ ap (state_after start) (entries_are_history table.terms.shape start table.log
-        ∙ sym (entries_reverse (committed_in table.terms.shape start table.log)))
+    made : IsMade options workload.version number (most_jobs workload number rows) closed
+    made = subst (λ (jobs : ℕ). IsMade options workload.version number jobs closed) most run.made
 
-    stands_for : IsRoundOf workload options number rows collected.now values (Dstm table)
+    stands_for : IsRoundOf workload options number rows collected.now values closed
     stands_for = record {
+      engine = run.engine;
       run = run.run;
-      made = subst (λ (jobs : ℕ). IsDstmMade options workload.version number jobs table.terms.shape) most run.made;
+      made = made;
       begins = run.start;
-      rows_tell = subst (λ (vs : List Val). TellOf workload rows collected.now vs (committed_of (Dstm table))) run.start told.tell;
+      rows_tell = subst (λ (vs : List Val). TellOf workload rows collected.now vs (committed_of closed)) run.start told.tell;
       parallel = λ _. is_round;
       alone = λ odd. absurd (true≢false (sym parallel ∙ odd));
-      released = λ releasing _. collected.few_reads releasing (run.made.all_write parallel);
+      released = λ releasing _.
+          collected.few_reads releasing
+          (reads_let_go options workload.version number (most_jobs workload number rows) closed releasing parallel run.engine made);
     }
 
-    pub adds_round : AddsRound workload options number rows values (Dstm table) collected.now left
+    pub adds_round : AddsRound workload options number rows values closed collected.now left
     adds_round = record {
       good = told.good;
       all_in = collected.in_round;
       round = stands_for;
-      sights = sights_agree workload.layout (Dstm table) run.run;
-      values_are = left_values;
-      stands = subst (λ (vs : List Val). StandsFor workload.layout vs (store_after workload (rows ++ collected.now))) (sym left_values)
+      sights = sights_agree closed run.run.run;
+      values_are = run.left_is;
+      stands = subst (λ (vs : List Val). StandsFor workload.layout vs (store_after workload (rows ++ collected.now))) (sym run.left_is)
           told.stands;
-      fewer = fewer_left workload rows collected.now (all_committed table.terms table.log) begins.valid collected.told;
+      fewer = fewer_left workload rows collected.now (committed_of closed) begins.valid collected.told;
       some = λ odd. absurd (true≢false (sym parallel ∙ odd));
     }
 
-    pub has_played : (rounds rounds_then : List Round) → rounds_then ≡ rounds ++ Dstm table ∷ [] →
+    pub has_played : (rounds rounds_then : List Round) → rounds_then ≡ rounds ++ closed ∷ [] →
         HasPlayed workload options number rows rows_then values left rounds rounds_then turns_then
     has_played rounds rounds_then rounds_are = record {
       now = collected.now;
-      closed = Dstm table;
+      closed = closed;
       rows_are = collected.rows_are;
       rounds_are = rounds_are;
       adds = adds_round;
@@ -288,9 +280,8 @@ module _ (workload : Workload) (options : Options) (number : ℕ) (rows : List R
     }
 
 -- a table whose log is a run was closed
-pub closed_round : (workload : Workload) (table : Recorded StoreLaw) → IsDstmRun workload.layout table.terms table.log →
-    IsClosed workload.layout (Dstm table)
-closed_round workload table run = record { run = run; sights = sights_agree workload.layout (Dstm table) run }
+pub closed_round : (workload : Workload) (closed : Round) → IsRun workload.layout closed → IsClosed workload.layout closed
+closed_round workload closed run = record { run = run; sights = sights_agree closed run.run }
 
 -- nothing was added
 pub adds_none : (layout : Layout) (rounds rounds_then : List Round) → rounds_then ≡ rounds → AddsClosed layout rounds rounds_then

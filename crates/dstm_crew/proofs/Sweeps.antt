@@ -2,7 +2,7 @@
 use Rattle.std.proofs.Common.{◌≡◌, ◌≢◌, ◌⊎◌, ℕ, suc, ◌+◌, ◌-◌, ◌<◌, ◌≤◌, Bool, true, false, cond, eqb, List, [], ◌∷◌, ◌++◌, length, reverse, Option, None, Some, refl, ap, sym, subst, ◌∙◌, inl, inr, arith, append_assoc, true≢false}
 use Rattle.std.specs.Prelude.{IfSome, All, ◌==◌, ◌&&◌, not, filter, if◌then◌else◌}
 use Rattle.std.specs.List.{range_with_len}
-use Rattle.std.proofs.lemmas.Bool.{cases_eq, ne_eqb, cases_lt, le-ltb, lt-ltb}
+use Rattle.std.proofs.lemmas.Bool.{cases_eq, ne_eqb, cases_lt}
 use Rattle.std.proofs.lemmas.List.Filters.{length-filter_both}
 use Rattle.std.proofs.lemmas.List.FromFn.{length-range_with_len}
 use Rattle.std.proofs.lemmas.List.{append-nil, length-append}
@@ -12,16 +12,9 @@ use Rattle.dstm_model.specs.Job.{apply_job}
 use Rattle.dstm_model.specs.declared.reply.Reply.{Reply}
 use Rattle.dstm_model.specs.declared.reply.Reply.TheVariants.{Never}
 use Rattle.dstm_model.specs.declared.value.Val.{Val}
-use Rattle.dstm_model.specs.declared.layout.Layout.{Layout}
-use Rattle.dstm_core.specs.declared.shape.Shape.{Shape}
-use Rattle.dstm_core.specs.Histories.{CoreRun}
-use Rattle.dstm_core.specs.State.{LocalState}
-use Rattle.dstm_opacity.specs.Committed.{Committed, committed_in, done_by}
-use Rattle.dstm_engine.specs.Attempts.{done}
-use Rattle.dstm_engine.specs.Callers.{Called, shape_of, start_of, state, law_of}
-use Rattle.dstm_words.specs.Seats.{Home}
+use Rattle.dstm_model.specs.Answers.{Committed}
 use Rattle.dstm_store.specs.declared.law.StoreLaw.{StoreLaw}
-use Rattle.dstm_store.specs.Whole.{IsLawful, StandsFor}
+use Rattle.dstm_store.specs.Whole.{StandsFor}
 use Rattle.dstm_workload.specs.declared.workload.Job.{Job}
 use Rattle.dstm_workload.specs.declared.workload.Workload.{Workload}
 use Rattle.dstm_report.specs.declared.report.Row.{Row}
@@ -30,21 +23,26 @@ use Rattle.dstm_report.specs.Turns.{Turning, without_first}
 use Rattle.dstm_workload.specs.Workload.{IsJob, IsValidWorkload}
 use Rattle.dstm_report.proofs.Rising.{all_blocked, each-filter, first_holds, rise_all, someone, turn_ends}
 use Rattle.dstm_records.specs.Records.{count_done, is_given_up}
-use Rattle.dstm_records.specs.Rounds.{attempts_for, has_job, left_by, locators_for, workers_left}
+use Rattle.dstm_records.specs.Rounds.{attempts_for, has_job, left_by, workers_left}
 use Rattle.std.proofs.lemmas.Option.{none-some}
-use Rattle.dstm_records.specs.Answers.{IsAnsweredBy}
+use Rattle.dstm_tables.specs.Answers.{IsAnsweredBy}
 use Rattle.dstm_records.specs.Told.{AreTold, IsGivenUp, IsTold}
 use Rattle.dstm_records.proofs.Collecting.{Collected}
-use Rattle.dstm_records.proofs.Only.{only_done}
 use Rattle.dstm_records.proofs.Told.{AreTold-push, rows_told}
-use Rattle.dstm_crew.specs.Only.{HasGivenUp, StoodAlone, WasSpent, left_by as values_left}
-use Rattle.dstm_crew.specs.declared.style.Style.{Style}
-use Rattle.dstm_crew.specs.declared.style.Style.TheVariants.{Branches, Loose, Plain}
-use Rattle.dstm_crew.specs.Styles.{style_of}
-use Rattle.dstm_crew.specs.declared.trying.Finished.{Finished}
-use Rattle.dstm_crew.specs.Tries.{AtRest, DidJob, GoesOn}
-use Rattle.dstm_order.specs.Order.{is_spent}
-use Rattle.dstm_crew.proofs.Staying.{goes_on, goes_nowhere, in_range}
+use Rattle.dstm_tables.specs.declared.tables.Caller.{Caller}
+use Rattle.dstm_tables.specs.declared.tables.Table.{Table}
+use Rattle.dstm_tables.specs.Callers.{AtRest, done, law_of, number_of, round_of}
+use Rattle.dstm_tables.specs.Callers as callers
+use Rattle.dstm_tables.specs.Jobs.{DidJob}
+use Rattle.dstm_tables.specs.OnlyCallers.{HasGivenUp, StoodAlone, WasSpent, left_by as values_left}
+use Rattle.dstm_tables.specs.Tells.{used_by, CannotBegin, all_done, attempts_of, callers_of, done_of, start_of}
+use Rattle.dstm_tables.specs.Tries.{GoesOn}
+use Rattle.dstm_tables.proofs.Staying.{goes_nowhere, goes_on, same_attempts}
+use Rattle.dstm_tables.proofs.Same.{callers_same, can_begin, law_same, locators_same, number_below, only_tells_all, start_same, writes_same}
+use Rattle.dstm_tables.specs.declared.style.Style.{Style}
+use Rattle.dstm_tables.specs.declared.style.Style.TheVariants.{Branches, Loose, Plain}
+use Rattle.dstm_tables.specs.Styles.{style_of}
+use Rattle.dstm_tables.specs.declared.trying.Finished.{Finished}
 use Rattle.dstm_crew.specs.Alone.{CanRunAlone, Goes, HasRunAlone, Leads, MayStep, Sweeps, is_done, still_waiting}
 use Rattle.dstm_crew.specs.declared.sweeping.Swept.{Swept}
 use Rattle.dstm_crew.specs.declared.sweeping.Swept.TheVariants as swept
@@ -84,55 +82,34 @@ count_one worker row = by ((row.worker == worker) && not (is_given_up row.replie
 -- ---- the store that the caller's transactions have left
 
 -- the only caller has the number 0
-number_zero : (k : Called StoreLaw) → AtRest k → (shape_of k).callers ≡ 1 → k.number ≡ 0
-number_zero k rest only = let below = (in_range k rest).0 in omega (arith, only, below)
+number_zero : (k : Caller) → AtRest k → callers_of (round_of k) ≡ 1 → number_of k ≡ 0
+number_zero k rest only = let below = number_below k rest in omega (arith, only, below)
 
--- a caller that goes on has the same table
-shape_same : (k n : Called StoreLaw) → GoesOn k n → shape_of n ≡ shape_of k
-shape_same k n on = ap (λ (h : Home StoreLaw). h.terms.shape) on.home
-
-core_of : (layout : Layout) (k : Called StoreLaw) → AtRest k → (law_of k).layout ≡ layout →
-    CoreRun (shape_of k) (start_of k) (IsLawful layout) k.log
-core_of layout k rest law =
-    subst (λ (l : Layout). CoreRun (shape_of k) (start_of k) (IsLawful l) k.log) law rest.run.run
-
-pub told_committed : (k : Called StoreLaw) → AtRest k → (shape_of k).callers ≡ 1 →
-    committed_in (shape_of k) (start_of k) k.log ≡ done k
+pub told_committed : (k : Caller) → AtRest k → callers_of (round_of k) ≡ 1 → all_done (round_of k) ≡ done k
 told_committed k rest only =
-    only_done (shape_of k) (start_of k) k.log rest.run.run.core only
-    ∙ ap (done_by (shape_of k) (start_of k) k.log k.log) (sym (number_zero k rest only))
+    only_tells_all (round_of k) rest.run only ∙ ap (done_of (round_of k)) (sym (number_zero k rest only))
 
--- a caller with an attempt and enough locators is not spent
-spent_not : (s : Shape) (l : LocalState) → l.begun < s.attempts → l.installed + s.objects ≤ s.locators →
-    is_spent s l ≡ true → ⊥
-spent_not s l less enough spent =
-    true≢false (sym spent ∙ rw (lt-ltb l.begun s.attempts less, le-ltb s.locators (l.installed + s.objects) enough) refl)
-
-module _ (workload : Workload) (number : ℕ) (table : Home StoreLaw) (first : Called StoreLaw) (before : List Row)
+module _ (workload : Workload) (number : ℕ) (table : Table) (first : Caller) (before : List Row)
     (begun : Turning) (can : CanRunAlone workload number table first before begun) where
-  only_of : (k : Called StoreLaw) → GoesOn first k → (shape_of k).callers ≡ 1
-  only_of k on = ap (λ (s : Shape). s.callers) (shape_same first k on) ∙ can.only
-
-  law_is : (k : Called StoreLaw) → GoesOn first k → (law_of k).layout ≡ workload.layout
-  law_is k on = ap (λ (h : Home StoreLaw). h.terms.law.value.layout) on.home ∙ can.law
+  only_of : (k : Caller) → GoesOn first k → callers_of (round_of k) ≡ 1
+  only_of k on = callers_same first k on ∙ can.only
 
   -- the rows are good, and the store after them is what the caller's transactions have left
-  pub collected : (k : Called StoreLaw) (rows now : List Row) (turns : Turning) →
+  pub collected : (k : Caller) (rows now : List Row) (turns : Turning) →
       Goes workload number first k before rows now turns →
-      Collected workload before now (start_of k) (reverse (done k)) []
+      Collected workload before now (start_of (round_of k)) (reverse (done k)) []
   collected k rows now turns goes =
       let only = only_of k goes.on in
       let same = told_committed k goes.on.rest only in
-      subst (λ (ds : List Committed). Collected workload before now (start_of k) (reverse ds) []) same
-      (rows_told workload before now (shape_of k) (start_of k) k.log number can.valid
-      (core_of workload.layout k goes.on.rest (law_is k goes.on))
+      subst (λ (ds : List Committed). Collected workload before now (start_of (round_of k)) (reverse ds) []) same
+      (rows_told workload before now (round_of k) number can.valid goes.on.rest.run
       (recursion_from_All (λ row. row.round < number) before can.earlier)
       (subst (λ (vs : List Val). StandsFor workload.layout vs (store_after workload before))
-      (sym (ap (λ (h : Home StoreLaw). h.terms.start.value.items) goes.on.home)) can.stands)
+      (sym (start_same first k goes.on)) can.stands)
       (subst (λ (ds : List Committed). AreTold workload before now (reverse ds)) (sym same) goes.told)
       (recursion_from_All (λ row. row.round ≡ number) now goes.in_round))
 
-  stands_now : (k : Called StoreLaw) (rows now : List Row) (turns : Turning) →
+  stands_now : (k : Caller) (rows now : List Row) (turns : Turning) →
       Goes workload number first k before rows now turns →
       StandsFor workload.layout (values_left k) (store_after workload rows)
   stands_now k rows now turns goes =
@@ -142,7 +119,7 @@ module _ (workload : Workload) (number : ℕ) (table : Home StoreLaw) (first : C
   -- ---- one row more
 
   -- the caller went on and committed nothing
-  still : (k n : Called StoreLaw) (rows now : List Row) (turns : Turning) →
+  still : (k n : Caller) (rows now : List Row) (turns : Turning) →
       Goes workload number first k before rows now turns → GoesOn k n → done n ≡ done k →
       Goes workload number first n before rows now turns
   still k n rows now turns goes on same = record {
@@ -154,7 +131,7 @@ module _ (workload : Workload) (number : ℕ) (table : Home StoreLaw) (first : C
   }
 
   -- a transaction has committed, and its row was made
-  row_goes : (k n : Called StoreLaw) (rows now : List Row) (turns behind : Turning) (by : Committed) (row : Row) (job : Job) →
+  row_goes : (k n : Caller) (rows now : List Row) (turns behind : Turning) (by : Committed) (row : Row) (job : Job) →
       Goes workload number first k before rows now turns → GoesOn k n → done n ≡ by ∷ done k →
       first_job row.worker turns.left ≡ Some job → row.line ≡ job.line → row.round ≡ number → row.number ≡ by.number →
       (IsAnsweredBy workload.layout job.ops row.replies by.entry ⊎ IsGivenUp workload rows row by) →
@@ -239,7 +216,7 @@ module _ (workload : Workload) (number : ℕ) (table : Home StoreLaw) (first : C
       (rw has (omega arith))
 
   -- the worker has no job left
-  pub step_none : (k : Called StoreLaw) (rows : List Row) (turns : Turning) (w : ℕ) (some : Bool) → w < workload.workers →
+  pub step_none : (k : Caller) (rows : List Row) (turns : Turning) (w : ℕ) (some : Bool) → w < workload.workers →
       first_job w turns.left ≡ None → Sweeps workload number first k before rows turns w some →
       Sweeps workload number first k before rows turns (w + 1) some
   step_none k rows turns w some inside none s =
@@ -279,7 +256,7 @@ module _ (workload : Workload) (number : ℕ) (table : Home StoreLaw) (first : C
       by false here is further = rw (sym here) (further is)
 
   -- the job of the worker is blocked
-  pub step_blocked : (style : Style) (k n : Called StoreLaw) (rows : List Row) (turns : Turning) (w : ℕ) (some : Bool)
+  pub step_blocked : (style : Style) (k n : Caller) (rows : List Row) (turns : Turning) (w : ℕ) (some : Bool)
       (job : Job) → w < workload.workers → (style ≡ Branches → workload.version ≡ 3) →
       first_job w turns.left ≡ Some job → StoodAlone style workload.layout job k n →
       Sweeps workload number first k before rows turns w some →
@@ -309,7 +286,7 @@ module _ (workload : Workload) (number : ℕ) (table : Home StoreLaw) (first : C
                   (stood.blocked (store_after workload rows) (stands_now n rows s.now turns goes))
             ];
         unused = λ empty.
-            stood.unused (ap (λ (sh : Shape). sh.all_write) (shape_same first k s.goes.on) ∙ can.reads (third stood.branches))
+            stood.unused (writes_same first k s.goes.on ∙ can.reads (third stood.branches))
             ∙ s.unused empty;
         few_tries = λ empty.
             let t = s.few_tries empty in
@@ -323,7 +300,7 @@ module _ (workload : Workload) (number : ℕ) (table : Home StoreLaw) (first : C
       }
 
   -- the job of the worker was done
-  pub step_done : (style : Style) (k n : Called StoreLaw) (rows : List Row) (turns behind : Turning) (w : ℕ)
+  pub step_done : (style : Style) (k n : Caller) (rows : List Row) (turns behind : Turning) (w : ℕ)
       (some : Bool) (job : Job) (finished : Finished) (row : Row) → first_job w turns.left ≡ Some job →
       DidJob style workload.layout job k n finished → row.worker ≡ w → row.line ≡ job.line → row.round ≡ number →
       row.number ≡ finished.number → row.replies ≡ finished.replies →
@@ -365,7 +342,7 @@ module _ (workload : Workload) (number : ℕ) (table : Home StoreLaw) (first : C
 
   -- ---- where a round ends
 
-  end_by : (k : Called StoreLaw) (rows now : List Row) (turns : Turning) (w : ℕ) →
+  end_by : (k : Caller) (rows now : List Row) (turns : Turning) (w : ℕ) →
       Goes workload number first k before rows now turns → ((v : ℕ) → v < w → count_done v now ≤ 1) →
       ((v : ℕ) → w ≤ v → count_done v now ≡ 0) → 0 < length now → HasRunAlone workload number first k before rows turns
   end_by k rows now turns w goes few others has = record {
@@ -379,32 +356,27 @@ module _ (workload : Workload) (number : ℕ) (table : Home StoreLaw) (first : C
         ];
   }
 
-  pub end_done : (k : Called StoreLaw) (rows : List Row) (turns : Turning) (w : ℕ) →
+  pub end_done : (k : Caller) (rows : List Row) (turns : Turning) (w : ℕ) →
       Sweeps workload number first k before rows turns w true → HasRunAlone workload number first k before rows turns
   end_done k rows turns w s = end_by k rows s.now turns w s.goes s.few s.others (s.has_row refl)
 
   -- a caller that has used nothing and has tried few jobs is not spent
-  not_spent : (k : Called StoreLaw) → GoesOn first k → (state k).installed ≡ 0 →
-      (state k).begun ≤ length (workers_left workload before) → is_spent (shape_of k) (state k) ≡ true → ⊥
+  not_spent : (k : Caller) → GoesOn first k → used_by (round_of k) (number_of k) ≡ 0 →
+      callers.begun k ≤ length (workers_left workload before) → CannotBegin (round_of k) (number_of k) → ⊥
   not_spent k on none few spent =
-      let same = shape_same first k on in
-      let attempts : (shape_of k).attempts ≡ attempts_for (length (workers_left workload before)) =
-      ap (λ (s : Shape). s.attempts) same ∙ can.attempts in
-      let locators : (shape_of k).locators ≡ locators_for (shape_of k).objects =
-      ap (λ (s : Shape). s.locators) same ∙ can.locators
-      ∙ ap (λ (s : Shape). locators_for s.objects) (sym same) in
+      let attempts : attempts_of (round_of k) ≡ attempts_for (length (workers_left workload before)) =
+      same_attempts first k on ∙ can.attempts in
       let has = has_job (left_by workload before) in
       let workers = length-filter_both has (λ w. not (has w)) (λ w. refl) (range_with_len 0 workload.workers) in
       let all = length-range_with_len 0 workload.workers in
       let most = can.valid.workers in
-      let begun_less : (state k).begun < (shape_of k).attempts = omega (arith, attempts, few, workers, all, most) in
-      let enough : (state k).installed + (shape_of k).objects ≤ (shape_of k).locators = omega (arith, none, locators) in
-      spent_not (shape_of k) (state k) begun_less enough spent
+      can_begin (round_of k) (number_of k) (locators_same first k on can.locators) none
+      (omega (arith, attempts, few, workers, all, most)) spent
 
   -- the caller is spent, which has a row behind
-  pub spent_after : (k n : Called StoreLaw) (rows : List Row) (turns : Turning) (w : ℕ) (some : Bool) → WasSpent k n →
+  pub spent_after : (k n : Caller) (rows : List Row) (turns : Turning) (w : ℕ) (some : Bool) → WasSpent k n →
       (s : Sweeps workload number first k before rows turns w some) →
-      (s.now ≡ [] → (state k).begun ≤ length (workers_left workload before)) →
+      (s.now ≡ [] → callers.begun k ≤ length (workers_left workload before)) →
       HasRunAlone workload number first n before rows turns
   spent_after k n rows turns w some was s few = by s.now refl
     where
@@ -415,7 +387,7 @@ module _ (workload : Workload) (number : ℕ) (table : Home StoreLaw) (first : C
       by [] is = absurd (not_spent k s.goes.on (s.unused is) (few is) was.spent)
 
   -- the caller is spent, after a try of a worker that has a job left
-  pub step_spent : (k n : Called StoreLaw) (rows : List Row) (turns : Turning) (w : ℕ) (some : Bool) (job : Job) →
+  pub step_spent : (k n : Caller) (rows : List Row) (turns : Turning) (w : ℕ) (some : Bool) (job : Job) →
       w < workload.workers → first_job w turns.left ≡ Some job → WasSpent k n →
       Sweeps workload number first k before rows turns w some →
       HasRunAlone workload number first n before rows turns
@@ -425,7 +397,7 @@ module _ (workload : Workload) (number : ℕ) (table : Home StoreLaw) (first : C
   -- ---- giving up
 
   -- where all are blocked, that of a worker was given up
-  pub step_given_up : (k n : Called StoreLaw) (rows : List Row) (turns behind : Turning) (job : Job) (drawn : ℕ) (row : Row) →
+  pub step_given_up : (k n : Caller) (rows : List Row) (turns behind : Turning) (job : Job) (drawn : ℕ) (row : Row) →
       first_job job.worker turns.left ≡ Some job → HasGivenUp k n drawn → row.worker ≡ job.worker → row.line ≡ job.line →
       row.round ≡ number → row.number ≡ drawn → row.replies ≡ Never ∷ [] →
       behind ≡ record turns { left = without_first row.worker turns.left } →
@@ -459,14 +431,14 @@ module _ (workload : Workload) (number : ℕ) (table : Home StoreLaw) (first : C
       }
 
   -- the caller is spent
-  pub given_up_spent : (k n : Called StoreLaw) (rows : List Row) (turns : Turning) → WasSpent k n →
+  pub given_up_spent : (k n : Caller) (rows : List Row) (turns : Turning) → WasSpent k n →
       Sweeps workload number first k before rows turns workload.workers false →
       HasRunAlone workload number first n before rows turns
   given_up_spent k n rows turns was s =
       spent_after k n rows turns workload.workers false was s (λ empty. let t = s.few_tries empty in omega (arith, t))
 
   -- no job is left
-  pub end_empty : (k : Called StoreLaw) (rows : List Row) (turns : Turning) →
+  pub end_empty : (k : Caller) (rows : List Row) (turns : Turning) →
       ((v : ℕ) → v < workload.workers → first_job v turns.left ≡ None) →
       Sweeps workload number first k before rows turns workload.workers false →
       HasRunAlone workload number first k before rows turns
@@ -495,14 +467,14 @@ job_is workload rows turns w job valid are turn =
     (each-filter (IsJob workload) _ workload.jobs (recursion_from_All (IsJob workload) workload.jobs valid.each))))
     turn
 
-pub may_on : (workload : Workload) (table : Home StoreLaw) (k n : Called StoreLaw) (rows behind : List Row)
+pub may_on : (workload : Workload) (table : Table) (k n : Caller) (rows behind : List Row)
     (turns turned : Turning) → MayStep workload table k rows turns → GoesOn k n → turned ≡ turns_behind workload behind →
     MayStep workload table n behind turned
 may_on workload table k n rows behind turns turned may on are = record {
   valid = may.valid;
   home = on.home ∙ may.home;
-  only = ap (λ (s : Shape). s.callers) (shape_same k n on) ∙ may.only;
-  law = ap (λ (h : Home StoreLaw). h.terms.law.value.layout) on.home ∙ may.law;
+  only = callers_same k n on ∙ may.only;
+  law = ap (λ (l : StoreLaw). l.layout) (law_same k n on) ∙ may.law;
   rest = on.rest;
   turns_are = are;
 }
@@ -531,7 +503,7 @@ third_of version release is = by (cases_eq version 3)
         others false e = cc
 
 -- a pass that has ended, but not for want of attempts
-pub swept_leads : (workload : Workload) (number : ℕ) (first n : Called StoreLaw) (before rows : List Row) (turns : Turning)
+pub swept_leads : (workload : Workload) (number : ℕ) (first n : Caller) (before rows : List Row) (turns : Turning)
     (next : ℕ) (ended : Swept) → (ended ≡ swept.Spent → ⊥) →
     Sweeps workload number first n before rows turns next (is_done ended) →
     Leads workload number first n before rows turns next false ended
@@ -540,7 +512,7 @@ swept_leads workload number first n before rows turns next swept.Blocked other s
 swept_leads workload number first n before rows turns next swept.Spent other sweeps = absurd (other refl)
 
 -- the caller of an alone round that begins may step
-pub may_begin : (workload : Workload) (number : ℕ) (table : Home StoreLaw) (first : Called StoreLaw) (before : List Row)
+pub may_begin : (workload : Workload) (number : ℕ) (table : Table) (first : Caller) (before : List Row)
     (begun : Turning) → CanRunAlone workload number table first before begun → MayStep workload table first before begun
 may_begin workload number table first before begun can = record {
   valid = can.valid;

@@ -6,34 +6,34 @@ use Rattle.std.proofs.lemmas.Bool.{cases_eq, cases_lt, eq-eqb, eqb-true, ne_eqb}
 use Rattle.std.proofs.lemmas.List.Elements.{All-cons, All-head, All-nil, All-tail, All-weaker}
 use Rattle.std.proofs.lemmas.Option.{slice_get-get_or}
 use mathlib.Core.List.{reverse-cons}
+use Rattle.dstm_model.specs.Answers.{Committed}
 use Rattle.dstm_model.specs.declared.layout.Layout.{Layout}
 use Rattle.dstm_model.specs.declared.op.Op.{Op}
 use Rattle.dstm_model.specs.declared.op.Op.TheVariants.{Transfer, Balance, Total, Insert, Remove, Member, Put, Get, Await, OrElse}
 use Rattle.dstm_model.specs.Store.{IsPlain}
-use Rattle.dstm_opacity.specs.Committed.{Committed}
-use Rattle.dstm_progress.specs.Disturbed.{Disturbed}
-use Rattle.dstm_words.specs.Seats.{Home}
-use Rattle.dstm_engine.specs.Attempts as attempts
-use Rattle.dstm_engine.specs.Attempts.{done}
-use Rattle.dstm_engine.specs.Callers.{Called, shape_of, state}
-use Rattle.dstm_store.specs.declared.law.StoreLaw.{StoreLaw}
 use Rattle.dstm_workload.specs.declared.workload.Job.{Job}
 use Rattle.dstm_workload.specs.declared.workload.Workload.{Workload}
 use Rattle.dstm_workload.specs.Workload.{HasOp, IsJob, IsValidWorkload}
 use Rattle.dstm_report.specs.Turns.{job_at}
-use Rattle.dstm_records.specs.declared.options.Options.{Options}
-use Rattle.dstm_records.specs.Attempts.{HasCommitted}
-use Rattle.dstm_records.specs.Records.{IsReleasing, KeepsFew, StoodBlocked, Waited}
-use Rattle.dstm_crew.specs.declared.style.Style.{Style}
-use Rattle.dstm_crew.specs.declared.style.Style.TheVariants.{Plain, Loose, Branches}
-use Rattle.dstm_crew.specs.declared.trying.Finished.{Finished}
-use Rattle.dstm_crew.specs.declared.trying.Left.{Left}
-use Rattle.dstm_crew.specs.declared.trying.Left.TheVariants as left
+use Rattle.dstm_options.specs.declared.options.Options.{Options}
+use Rattle.dstm_tables.specs.declared.style.Style.{Style}
+use Rattle.dstm_tables.specs.declared.style.Style.TheVariants.{Plain, Loose, Branches}
+use Rattle.dstm_tables.specs.declared.tables.Caller.{Caller}
+use Rattle.dstm_tables.specs.declared.trying.Finished.{Finished}
+use Rattle.dstm_tables.specs.declared.trying.Left.{Left}
+use Rattle.dstm_tables.specs.declared.trying.Left.TheVariants as left
+use Rattle.dstm_tables.specs.Answers.{IsDone, KeepsFew}
+use Rattle.dstm_tables.specs.Callers as attempts
+use Rattle.dstm_tables.specs.Callers.{AtRest, begun, done, number_of, round_of}
+use Rattle.dstm_tables.specs.Jobs.{StoodBlocked, Waited, WasNotWasted}
+use Rattle.dstm_tables.specs.Styles.{CanTry, style_of}
+use Rattle.dstm_tables.specs.Tells.{HasCommitted, WasDisturbed, lets_go}
+use Rattle.dstm_tables.specs.Tries.{GoesOn}
+use Rattle.dstm_tables.proofs.Staying.{goes_nowhere, goes_on, same_lets_go}
+use Rattle.dstm_records.specs.Records.{IsReleasing}
 use Rattle.dstm_crew.specs.declared.worker.Worker.{Worker}
-use Rattle.dstm_crew.specs.Styles.{style_of, CanTry}
-use Rattle.dstm_crew.specs.Tries.{AtRest, GoesOn, WasNotWasted, IsDone, NoneWastedSince, HasDone, HasLeft, HasNoneLeft, StaysBlocked}
-use Rattle.dstm_crew.specs.Workers.{AreDone, next_job, HasRun}
-use Rattle.dstm_crew.proofs.Staying.{goes_nowhere, goes_on}
+use Rattle.dstm_crew.specs.Tries.{HasDone, HasLeft, HasNoneLeft, NoneWastedSince, StaysBlocked}
+use Rattle.dstm_crew.specs.Workers.{AreDone, HasRun, next_job}
 use Rattle.dstm_crew.proofs.Retrying.{earlier}
 
 -- ---- styles
@@ -124,15 +124,15 @@ few-push layout jobs (p ∷ places) (f ∷ finished) (d ∷ by) last place more 
 
 -- ---- where a worker stands after some jobs
 
-pub record Stands (workload : Workload) (style : Style) (k n : Called StoreLaw) (places : List ℕ)
+pub record Stands (workload : Workload) (style : Style) (k n : Caller) (places : List ℕ)
     (finished : List Finished) : Type 0 where
   pub on : GoesOn k n
-  pub none_wasted : NoneWastedSince k n (state n).begun
+  pub none_wasted : NoneWastedSince k n (begun n)
   pub done : AreDone workload.layout workload.jobs places finished (reverse (done n))
-  pub few_reads : style ≡ Loose → (shape_of n).all_write ≡ false →
+  pub few_reads : style ≡ Loose → lets_go (round_of n) ≡ true →
       All (FewAt workload.jobs) (zip places (reverse (attempts.done n)))
 
-pub at_start : (workload : Workload) (style : Style) (k : Called StoreLaw) (places : List ℕ) → AtRest k →
+pub at_start : (workload : Workload) (style : Style) (k : Caller) (places : List ℕ) → AtRest k →
     done k ≡ [] → Stands workload style k k places []
 at_start workload style k places rest none = record {
   on = goes_nowhere k rest;
@@ -144,27 +144,27 @@ at_start workload style k places rest none = record {
 }
 
 -- no attempt was wasted up to some number
-then_none : (k n m : Called StoreLaw) (most : ℕ) → GoesOn k n → GoesOn n m → NoneWastedSince k n (state n).begun →
+then_none : (k n m : Caller) (most : ℕ) → GoesOn k n → GoesOn n m → NoneWastedSince k n (begun n) →
     NoneWastedSince n m most → NoneWastedSince k m most
-then_none k n m most on more first second i after before = by (cases_lt (state n).begun i)
+then_none k n m most on more first second i after before = by (cases_lt (begun n) i)
   where
-    by : ((state n).begun < i) ⊎ (i ≤ (state n).begun) → WasNotWasted m i
+    by : (begun n < i) ⊎ (i ≤ begun n) → WasNotWasted m i
     by (inl late) = second i late before
-    by (inr early) = earlier k n m (state n).begun on.rest more (omega arith) first i after early
+    by (inr early) = earlier k n m (begun n) on.rest more (omega arith) first i after early
 
--- reads stay reads on the whole table
-same_reads : (n m : Called StoreLaw) → GoesOn n m → (shape_of m).all_write ≡ false → (shape_of n).all_write ≡ false
-same_reads n m on reads = ap (λ (h : Home StoreLaw). h.terms.shape.all_write) (sym on.home) ∙ reads
+-- reads are let go on the whole table
+same_reads : (n m : Caller) → GoesOn n m → lets_go (round_of m) ≡ true → lets_go (round_of n) ≡ true
+same_reads n m on reads = sym (same_lets_go n m on) ∙ reads
 
 -- one job more was done
-pub one_done : (workload : Workload) (style : Style) (k n m : Called StoreLaw) (places : List ℕ)
+pub one_done : (workload : Workload) (style : Style) (k n m : Caller) (places : List ℕ)
     (finished : List Finished) (next : Finished) (job : Job) (place : ℕ) → Stands workload style k n places finished →
     HasDone style workload.layout job n m next → length finished < length places →
     place ≡ get_or places (length finished) place → job ≡ job_at workload.jobs place →
     Stands workload style k m places (finished ++ next ∷ [])
 one_done workload style k n m places finished next job place stands was more at is = record {
   on = goes_on k n m stands.on was.on;
-  none_wasted = then_none k n m (state m).begun stands.on was.on stands.none_wasted was.none_wasted;
+  none_wasted = then_none k n m (begun m) stands.on was.on stands.none_wasted was.none_wasted;
   done =
       subst (AreDone workload.layout workload.jobs places (finished ++ next ∷ []))
       (sym (ap reverse was.newest ∙ reverse-cons was.by (done n)))
@@ -189,7 +189,7 @@ next_is jobs places finished job place more at is =
     ∙ ap (option_map (job_at jobs))
     (sym (slice_get-get_or places (length finished) place more ∙ ap Some (sym at)))
 
-module _ (workload : Workload) (options : Options) (old new : Worker) (unbegun : (state old.caller).begun ≡ 0)
+module _ (workload : Workload) (options : Options) (old new : Worker) (unbegun : begun old.caller ≡ 0)
     (style : Style) (is_style : style ≡ style_of workload.version options.release)
     (number : new.number ≡ old.number) (places : new.places.items ≡ old.places.items) where
   abbrev next : Option Job
@@ -197,9 +197,9 @@ module _ (workload : Workload) (options : Options) (old new : Worker) (unbegun :
 
   -- an attempt that was not wasted, nor stood at the job that is next
   not_wasted : (i : ℕ) → WasNotWasted new.caller i →
-      HasCommitted (shape_of new.caller) new.caller.log new.caller.number i
-      ⊎ (Disturbed (shape_of new.caller) new.caller.log new.caller.number i
-      ⊎ Waited workload next new.caller.home.terms new.caller.log new.caller.number i)
+      HasCommitted (round_of new.caller) (number_of new.caller) i
+      ⊎ (WasDisturbed (round_of new.caller) (number_of new.caller) i
+      ⊎ Waited workload next (round_of new.caller) (number_of new.caller) i)
   not_wasted i (inl committed) = inl committed
   not_wasted i (inr disturbed) = inr (inl disturbed)
 
@@ -208,9 +208,9 @@ module _ (workload : Workload) (options : Options) (old new : Worker) (unbegun :
   was_loose releasing = is_style ∙ loose_style options workload.version releasing
 
   -- what it kept before its last attempts, which committed nothing
-  same_few : (n : Called StoreLaw) → Stands workload style old.caller n new.places.items new.done.items →
+  same_few : (n : Caller) → Stands workload style old.caller n new.places.items new.done.items →
       GoesOn n new.caller → done new.caller ≡ done n → IsReleasing options workload.version →
-      (shape_of new.caller).all_write ≡ false →
+      lets_go (round_of new.caller) ≡ true →
       All (FewAt workload.jobs) (zip new.places.items (reverse (done new.caller)))
   same_few n stands on same releasing reads =
       subst (λ (ds : List Committed). All (FewAt workload.jobs) (zip new.places.items (reverse ds))) (sym same)
@@ -230,7 +230,7 @@ module _ (workload : Workload) (options : Options) (old new : Worker) (unbegun :
   }
 
   -- no attempt is left
-  pub stopped_spent : (n : Called StoreLaw) → Stands workload style old.caller n new.places.items new.done.items →
+  pub stopped_spent : (n : Caller) → Stands workload style old.caller n new.places.items new.done.items →
       HasNoneLeft n new.caller → HasRun workload options old new
   stopped_spent n stands was = record {
     number = number;
@@ -240,14 +240,14 @@ module _ (workload : Workload) (options : Options) (old new : Worker) (unbegun :
         subst (λ (ds : List Committed). AreDone workload.layout workload.jobs new.places.items new.done.items (reverse ds))
         (sym was.same_done) stands.done;
     none_wasted = λ i some few.
-        not_wasted i (then_none old.caller n new.caller (state new.caller).begun stands.on was.on stands.none_wasted
+        not_wasted i (then_none old.caller n new.caller (begun new.caller) stands.on was.on stands.none_wasted
         was.none_wasted i (omega arith) few);
     left = λ few. inl was.spent;
     few_reads = same_few n stands was.on was.same_done;
   }
 
   -- its last attempt stood at the job that is next
-  pub stopped_blocked : (n : Called StoreLaw) (release : Bool) (job : Job) →
+  pub stopped_blocked : (n : Caller) (release : Bool) (job : Job) →
       Stands workload style old.caller n new.places.items new.done.items →
       StaysBlocked (style_of workload.version release) workload.layout job n new.caller →
       Some job ≡ next_job workload.jobs new.places.items new.done.items → HasRun workload options old new
@@ -258,32 +258,32 @@ module _ (workload : Workload) (options : Options) (old new : Worker) (unbegun :
     done =
         subst (λ (ds : List Committed). AreDone workload.layout workload.jobs new.places.items new.done.items (reverse ds))
         (sym was.same_done) stands.done;
-    none_wasted = λ i some few. by i some few (cases_eq i (state new.caller).begun);
+    none_wasted = λ i some few. by i some few (cases_eq i (begun new.caller));
     left = λ few. inr (let b = was.is_last in omega arith, waited);
     few_reads = same_few n stands was.on was.same_done;
   }
     where
-      waited : Waited workload next new.caller.home.terms new.caller.log new.caller.number (state new.caller).begun
+      waited : Waited workload next (round_of new.caller) (number_of new.caller) (begun new.caller)
       waited = record {
         version = third_version workload.version release was.branches;
         stood =
-            subst (StoodBlocked workload.layout new.caller.home.terms new.caller.log new.caller.number
-            (state new.caller).begun) is was.stood;
+            subst (StoodBlocked workload.layout (round_of new.caller) (number_of new.caller)
+            (begun new.caller)) is was.stood;
       }
 
-      by : (i : ℕ) → 0 < i → i ≤ (state new.caller).begun →
-          (i ≡ (state new.caller).begun) ⊎ (i ≡ (state new.caller).begun → ⊥) →
-          HasCommitted (shape_of new.caller) new.caller.log new.caller.number i
-          ⊎ (Disturbed (shape_of new.caller) new.caller.log new.caller.number i
-          ⊎ Waited workload next new.caller.home.terms new.caller.log new.caller.number i)
+      by : (i : ℕ) → 0 < i → i ≤ (begun new.caller) →
+          (i ≡ (begun new.caller)) ⊎ (i ≡ (begun new.caller) → ⊥) →
+          HasCommitted (round_of new.caller) (number_of new.caller) i
+          ⊎ (WasDisturbed (round_of new.caller) (number_of new.caller) i
+          ⊎ Waited workload next (round_of new.caller) (number_of new.caller) i)
       by i some few (inl last) =
-          inr (inr (subst (Waited workload next new.caller.home.terms new.caller.log new.caller.number) (sym last) waited))
+          inr (inr (subst (Waited workload next (round_of new.caller) (number_of new.caller)) (sym last) waited))
       by i some few (inr other) =
           not_wasted i (then_none old.caller n new.caller was.last stands.on was.on stands.none_wasted was.none_wasted i
           (omega arith) (let b = was.is_last in omega arith))
 
   -- why ever it left the job that is next
-  pub stopped : (n : Called StoreLaw) (release : Bool) (job : Job) (why : Left) →
+  pub stopped : (n : Caller) (release : Bool) (job : Job) (why : Left) →
       Stands workload style old.caller n new.places.items new.done.items →
       HasLeft (style_of workload.version release) workload.layout job n new.caller why →
       Some job ≡ next_job workload.jobs new.places.items new.done.items → HasRun workload options old new

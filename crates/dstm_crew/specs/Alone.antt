@@ -2,10 +2,10 @@
 use Rattle.std.specs.Prelude.{◌≡◌, ℕ, ◌+◌, ◌-◌, ◌<◌, ◌≤◌, Bool, true, false, List, [], ◌++◌, length, filter, reverse, None, IfSome, All}
 use Rattle.std.specs.List.{range_with_len}
 use Rattle.dstm_model.specs.Job.{apply_job}
-use Rattle.dstm_engine.specs.Attempts.{done}
-use Rattle.dstm_engine.specs.Callers.{Called, shape_of, start_of, state, law_of}
-use Rattle.dstm_words.specs.Seats.{Home}
-use Rattle.dstm_store.specs.declared.law.StoreLaw.{StoreLaw}
+use Rattle.dstm_tables.specs.declared.tables.Caller.{Caller}
+use Rattle.dstm_tables.specs.declared.tables.Table.{Table}
+use Rattle.dstm_tables.specs.Callers.{AtRest, begun, done, home_of, law_of, number_of, round_of}
+use Rattle.dstm_tables.specs.Tells.{HasLocators, attempts_of, callers_of, start_of, used_by, writes_all}
 use Rattle.dstm_store.specs.Whole.{StandsFor}
 use Rattle.dstm_workload.specs.declared.workload.Job.{Job}
 use Rattle.dstm_workload.specs.declared.workload.Workload.{Workload}
@@ -14,35 +14,35 @@ use Rattle.dstm_report.specs.declared.report.Row.{Row}
 use Rattle.dstm_report.specs.Lawful.{first_job, store_after}
 use Rattle.dstm_report.specs.Turns.{Turning}
 use Rattle.dstm_records.specs.Records.{count_done}
-use Rattle.dstm_records.specs.Rounds.{attempts_for, has_job, left_by, locators_for, workers_left}
+use Rattle.dstm_records.specs.Rounds.{attempts_for, has_job, left_by, workers_left}
 use Rattle.dstm_records.specs.Running.{turns_behind}
 use Rattle.dstm_records.specs.Told.{AreTold}
-use Rattle.dstm_crew.specs.Tries.{AtRest, GoesOn}
+use Rattle.dstm_tables.specs.Tries.{GoesOn}
 use Rattle.dstm_crew.specs.declared.sweeping.Swept.{Swept}
 use Rattle.dstm_crew.specs.declared.sweeping.Swept.TheVariants as swept
 
 -- a caller that can run alone behind these rows: it is the only one of its table and has done nothing yet, and its table
 -- is as large as the workers that have jobs left want it
-pub record CanRunAlone (workload : Workload) (number : ℕ) (table : Home StoreLaw) (k : Called StoreLaw) (before : List Row)
+pub record CanRunAlone (workload : Workload) (number : ℕ) (table : Table) (k : Caller) (before : List Row)
     (turns : Turning) : Type 0 where
   pub valid : IsValidWorkload workload
   pub earlier : All (λ row. row.round < number) before
-  pub home : k.home ≡ table
-  pub only : (shape_of k).callers ≡ 1
+  pub home : home_of k ≡ table
+  pub only : callers_of (round_of k) ≡ 1
   pub law : (law_of k).layout ≡ workload.layout
-  pub reads : workload.version ≡ 3 → (shape_of k).all_write ≡ false
-  pub attempts : (shape_of k).attempts ≡ attempts_for (length (workers_left workload before))
-  pub locators : (shape_of k).locators ≡ locators_for (shape_of k).objects
+  pub reads : workload.version ≡ 3 → writes_all (round_of k) ≡ false
+  pub attempts : attempts_of (round_of k) ≡ attempts_for (length (workers_left workload before))
+  pub locators : HasLocators (round_of k)
   pub rest : AtRest k
-  pub none_begun : (state k).begun ≡ 0
-  pub none_installed : (state k).installed ≡ 0
+  pub none_begun : begun k ≡ 0
+  pub none_installed : used_by (round_of k) (number_of k) ≡ 0
   pub none_done : done k ≡ []
-  pub stands : StandsFor workload.layout (start_of k) (store_after workload before)
+  pub stands : StandsFor workload.layout (start_of (round_of k)) (store_after workload before)
   pub turns_are : turns ≡ turns_behind workload before
   pub some_left : 0 < length (left_by workload before)
 
 -- What there is of an alone round: its rows so far tell of what the caller has committed, one for one.
-pub record Goes (workload : Workload) (number : ℕ) (first k : Called StoreLaw) (before rows now : List Row)
+pub record Goes (workload : Workload) (number : ℕ) (first k : Caller) (before rows now : List Row)
     (turns : Turning) : Type 0 where
   pub rows_are : rows ≡ before ++ now
   pub turns_are : turns ≡ turns_behind workload rows
@@ -51,7 +51,7 @@ pub record Goes (workload : Workload) (number : ℕ) (first k : Called StoreLaw)
   pub in_round : All (λ row. row.round ≡ number) now
 
 -- an alone round has ended: it has a row, and at most one of each worker whose job was not given up
-pub record HasRunAlone (workload : Workload) (number : ℕ) (first k : Called StoreLaw) (before rows : List Row)
+pub record HasRunAlone (workload : Workload) (number : ℕ) (first k : Caller) (before rows : List Row)
     (turns : Turning) : Type 0 where
   pub now : List Row
   pub goes : Goes workload number first k before rows now turns
@@ -63,7 +63,7 @@ abbrev pub still_waiting : Workload → (worker : ℕ) → List Job → List ℕ
 still_waiting workload worker left = filter (has_job left) (range_with_len worker (workload.workers - worker))
 
 -- Where a pass over the workers stands before a worker. `some` tells whether it has done a job.
-pub record Sweeps (workload : Workload) (number : ℕ) (first k : Called StoreLaw) (before rows : List Row)
+pub record Sweeps (workload : Workload) (number : ℕ) (first k : Caller) (before rows : List Row)
     (turns : Turning) (worker : ℕ) (some : Bool) : Type 0 where
   pub now : List Row
   pub goes : Goes workload number first k before rows now turns
@@ -76,17 +76,17 @@ pub record Sweeps (workload : Workload) (number : ℕ) (first k : Called StoreLa
   pub blocked : some ≡ false → (w : ℕ) → w < worker →
       IfSome (first_job w (left_by workload rows)) (λ job. apply_job job.ops (store_after workload rows) ≡ None)
   -- while there is no row, nothing is used up
-  pub unused : now ≡ [] → (state k).installed ≡ 0
+  pub unused : now ≡ [] → used_by (round_of k) (number_of k) ≡ 0
   pub few_tries : now ≡ [] →
-      (state k).begun + length (still_waiting workload worker (left_by workload before))
+      begun k + length (still_waiting workload worker (left_by workload before))
       ≤ length (workers_left workload before)
 
 -- what a step of an alone round may count on
-pub record MayStep (workload : Workload) (table : Home StoreLaw) (k : Called StoreLaw) (rows : List Row) (turns : Turning) :
+pub record MayStep (workload : Workload) (table : Table) (k : Caller) (rows : List Row) (turns : Turning) :
     Type 0 where
   pub valid : IsValidWorkload workload
-  pub home : k.home ≡ table
-  pub only : (shape_of k).callers ≡ 1
+  pub home : home_of k ≡ table
+  pub only : callers_of (round_of k) ≡ 1
   pub law : (law_of k).layout ≡ workload.layout
   pub rest : AtRest k
   pub turns_are : turns ≡ turns_behind workload rows
@@ -97,7 +97,7 @@ is_done swept.Done = true
 is_done ended = false
 
 -- where a pass stands after a step, by how this ended
-abbrev pub Leads : Workload → ℕ → (first n : Called StoreLaw) → (before rows : List Row) → Turning → (next : ℕ) → Bool →
+abbrev pub Leads : Workload → ℕ → (first n : Caller) → (before rows : List Row) → Turning → (next : ℕ) → Bool →
     Swept → Type 0
 Leads workload number first n before rows turns next some swept.Done =
     Sweeps workload number first n before rows turns next true
@@ -107,9 +107,9 @@ Leads workload number first n before rows turns next some swept.Spent =
     HasRunAlone workload number first n before rows turns
 
 -- a step of a pass, which was before a worker and is before another one then
-abbrev pub HasStepped : Workload → ℕ → Home StoreLaw → (k n : Called StoreLaw) → (rows rows_then : List Row) →
+abbrev pub HasStepped : Workload → ℕ → Table → (k n : Caller) → (rows rows_then : List Row) →
     (turns turns_then : Turning) → (worker next : ℕ) → Swept → Type 0
 HasStepped workload number table k n rows rows_then turns turns_then worker next ended =
-    (first : Called StoreLaw) (before : List Row) (begun : Turning) (some : Bool) →
+    (first : Caller) (before : List Row) (begun : Turning) (some : Bool) →
     CanRunAlone workload number table first before begun → Sweeps workload number first k before rows turns worker some →
     Leads workload number first n before rows_then turns_then next some ended

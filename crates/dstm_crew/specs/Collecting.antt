@@ -1,19 +1,17 @@
 -- Collecting: what the workers of a parallel round have done, in the order of the numbers that the transactions drew.
-use Rattle.std.specs.Prelude.{◌≡◌, ℕ, ◌<◌, ◌≤◌, ◌==◌, nat_le, if◌then◌else◌, List, [], ◌∷◌, ◌++◌, length, map, reverse, zip, true, All, Option, Some, None, IfSome, slice_index, slice_index_or}
+use Rattle.std.specs.Prelude.{◌≡◌, ℕ, ◌<◌, ◌≤◌, ◌==◌, nat_le, if◌then◌else◌, List, [], ◌∷◌, ◌++◌, length, map, zip, true, All, Option, Some, None, IfSome, slice_index, slice_index_or}
 use Rattle.std.specs.List.{slice_get}
 use Rattle.std.specs.Option.{option_map}
-use Rattle.dstm_core.specs.Events.{Event}
-use Rattle.dstm_opacity.specs.Committed.{Committed, committed_in}
-use Rattle.dstm_words.specs.declared.terms.Terms.{Terms}
+use Rattle.dstm_tables.specs.declared.tables.Round.{Round}
 use Rattle.dstm_words.specs.Seats.{AreApart}
-use Rattle.dstm_store.specs.declared.law.StoreLaw.{StoreLaw}
 use Rattle.dstm_workload.specs.declared.workload.Workload.{Workload}
 use Rattle.dstm_workload.specs.Workload.{IsValidWorkload}
 use Rattle.dstm_report.specs.declared.report.Row.{Row}
 use Rattle.dstm_report.specs.Lawful.{first_job}
 use Rattle.dstm_report.specs.Turns.{Turning, job_at, jobs_of}
-use Rattle.dstm_records.specs.declared.options.Options.{Options}
-use Rattle.dstm_records.specs.Records.{IsDstmRun, IsReleasing, KeepsFewReads}
+use Rattle.dstm_options.specs.declared.options.Options.{Options}
+use Rattle.dstm_records.specs.Records.{IsReleasing, KeepsFewReads}
+use Rattle.dstm_tables.specs.Tells.{IsRun, callers_of, committed_of, lets_go}
 use Rattle.dstm_records.specs.Rounds.{has_job, left_by}
 use Rattle.dstm_records.specs.Running.{turns_behind}
 use Rattle.dstm_records.specs.Told.{AreTold}
@@ -73,12 +71,11 @@ pub record IsRowOf (workload : Workload) (round : ℕ) (share : Share) (place : 
 -- ---- what is collected
 
 -- they were run on a closed table, by all its callers
-pub record AreRunBy (workload : Workload) (options : Options) (terms : Terms StoreLaw) (log : List Event)
-    (shares : List Share) (callers : List ℕ) : Type 0 where
-  pub run : IsDstmRun workload.layout terms log
-  pub count : length callers ≡ terms.shape.callers
+pub record AreRunBy (workload : Workload) (options : Options) (r : Round) (shares : List Share) (callers : List ℕ) : Type 0 where
+  pub run : IsRun r
+  pub count : length callers ≡ callers_of r
   pub apart : AreApart callers
-  pub shared : AreShared workload options terms log shares callers
+  pub shared : AreShared workload options r shares callers
 
 -- the caller by which a worker's share was run
 abbrev pub caller_of : List Share → (callers : List ℕ) → (worker : ℕ) → ℕ
@@ -87,22 +84,17 @@ caller_of (share ∷ shares) [] worker = 0
 caller_of (share ∷ shares) (c ∷ callers) worker =
     if share.worker == worker then c else caller_of shares callers worker
 
--- what was committed on a table, the oldest first
-abbrev pub all_committed : Terms StoreLaw → List Event → List Committed
-all_committed terms log = reverse (committed_in terms.shape terms.start.value.items log)
-
 -- The rows behind those before tell of all that was committed on the table, one for one and in order: a worker's rows of
 -- what its caller committed. What is left of a worker's jobs is what was not done of its share.
-pub record HasCollected (workload : Workload) (options : Options) (number : ℕ) (terms : Terms StoreLaw) (log : List Event)
-    (shares : List Share) (callers : List ℕ) (before rows : List Row) (turns : Turning) : Type 0 where
+pub record HasCollected (workload : Workload) (options : Options) (number : ℕ) (r : Round) (shares : List Share) (callers : List ℕ) (before rows : List Row) (turns : Turning) : Type 0 where
   pub now : List Row
   pub rows_are : rows ≡ before ++ now
   pub turns_are : turns ≡ turns_behind workload rows
   pub in_round : All (λ row. row.round ≡ number) now
-  pub told : AreTold workload before now (all_committed terms log)
-  pub own : All (λ told. told.1.caller ≡ caller_of shares callers told.0.worker) (zip now (all_committed terms log))
-  pub few_reads : IsReleasing options workload.version → terms.shape.all_write ≡ options.all_write →
-      All (KeepsFewReads workload) (zip now (all_committed terms log))
+  pub told : AreTold workload before now (committed_of r)
+  pub own : All (λ told. told.1.caller ≡ caller_of shares callers told.0.worker) (zip now (committed_of r))
+  pub few_reads : IsReleasing options workload.version → lets_go r ≡ true →
+      All (KeepsFewReads workload) (zip now (committed_of r))
   pub next : All (λ share. first_job share.worker (left_by workload rows)
       ≡ next_job workload.jobs share.places.items share.done.items) shares
   pub fewer : All (λ share. has_job (left_by workload rows) share.worker ≡ true

@@ -1,10 +1,7 @@
-pub mod Styles
 pub mod Tries
-pub mod Rechecks
 pub mod Workers
-pub mod Only
 pub mod Alone
+pub mod Opened
 pub mod Shares
 pub mod Collecting
 pub mod Seats
-pub mod Opened

@@ -1,21 +1,18 @@
 -- The shares of a parallel round: what its workers have to do, and what they have done on its table.
-use Rattle.std.specs.Prelude.{◌≡◌, ℕ, ◌<◌, ◌≤◌, ◌==◌, ◌||◌, Bool, false, filter, List, [], ◌∷◌, length, map, reverse, zip, vec_capacity, All}
+use Rattle.std.specs.Prelude.{◌≡◌, ℕ, ◌<◌, ◌≤◌, ◌==◌, ◌||◌, Bool, true, filter, List, [], ◌∷◌, length, map, reverse, zip, vec_capacity, All}
 use Rattle.dstm_model.specs.declared.value.Val.{Val}
-use Rattle.dstm_model.specs.Map.{state_after}
-use Rattle.dstm_core.specs.Events.{Event}
-use Rattle.dstm_core.specs.Histories.{history_of}
-use Rattle.dstm_opacity.specs.Committed.{done_by}
-use Rattle.dstm_words.specs.declared.terms.Terms.{Terms}
+use Rattle.dstm_tables.specs.declared.tables.Round.{Round}
 use Rattle.dstm_words.specs.Seats.{AreApart}
-use Rattle.dstm_engine.specs.Tables.{Recorded}
-use Rattle.dstm_store.specs.declared.law.StoreLaw.{StoreLaw}
 use Rattle.dstm_workload.specs.declared.workload.Job.{Job}
 use Rattle.dstm_workload.specs.declared.workload.Workload.{Workload}
 use Rattle.dstm_report.specs.Turns.{job_at, jobs_of}
-use Rattle.dstm_records.specs.declared.options.Options.{Options}
-use Rattle.dstm_records.specs.Records.{IsDstmMade, IsDstmRun, IsReleasing, KeepsFew}
+use Rattle.dstm_options.specs.declared.options.Options.{Options}
+use Rattle.dstm_records.specs.Records.{IsMade, IsReleasing, IsRun}
+use Rattle.dstm_tables.specs.Answers.{KeepsFew}
 use Rattle.dstm_records.specs.Rounds.{all_workers, greatest, has_job}
-use Rattle.dstm_crew.specs.Workers.{AreDone, HadToStop, NoneWasted, next_job}
+use Rattle.dstm_crew.specs.Workers.{AreDone, next_job}
+use Rattle.dstm_tables.specs.Tells.{IsOf, callers_of, done_of, lets_go, start_of, values_of}
+use Rattle.dstm_tables.specs.Jobs.{HadToStop, NoneWasted}
 use Rattle.dstm_crew.specs.declared.share.Share.{Share}
 
 -- ---- before the round
@@ -46,43 +43,42 @@ most_places shares = greatest (map (λ share. length share.places.items) shares)
 -- ---- after the round
 
 -- what was done of a share on a closed table, by the caller of this number
-pub record IsShared (workload : Workload) (options : Options) (terms : Terms StoreLaw) (log : List Event) (share : Share)
-    (c : ℕ) : Type 0 where
-  pub within : c < terms.shape.callers
+pub record IsShared (workload : Workload) (options : Options) (r : Round) (share : Share) (c : ℕ) : Type 0 where
+  pub within : c < callers_of r
   -- what the worker has done, one for one, by the transactions that its caller has committed, in order
-  pub done : AreDone workload.layout workload.jobs share.places.items share.done.items
-      (reverse (done_by terms.shape terms.start.value.items log log c))
+  pub done : AreDone workload.layout workload.jobs share.places.items share.done.items (reverse (done_of r c))
   -- no attempt of its caller was wasted
-  pub none_wasted : NoneWasted workload (next_job workload.jobs share.places.items share.done.items) terms log c
+  pub none_wasted : NoneWasted workload (next_job workload.jobs share.places.items share.done.items) r c
   -- it left jobs behind only where it had to
   pub left : length share.done.items < length share.places.items
-      → HadToStop workload (next_job workload.jobs share.places.items share.done.items) terms log c
+      → HadToStop workload (next_job workload.jobs share.places.items share.done.items) r c
   -- with early release, walks along the list keep few reads
-  pub few_reads : IsReleasing options workload.version → terms.shape.all_write ≡ false →
+  pub few_reads : IsReleasing options workload.version → lets_go r ≡ true →
       All (λ told. KeepsFew (job_at workload.jobs told.0) told.1)
-      (zip share.places.items (reverse (done_by terms.shape terms.start.value.items log log c)))
+      (zip share.places.items (reverse (done_of r c)))
 
 -- the shares of a closed table, one for one, by callers of these numbers
-abbrev pub AreShared : Workload → Options → Terms StoreLaw → List Event → List Share → (callers : List ℕ) → Type 0
-AreShared workload options terms log [] [] = Unit {0}
-AreShared workload options terms log (share ∷ shares) (c ∷ callers) =
-    IsShared workload options terms log share c × AreShared workload options terms log shares callers
-AreShared workload options terms log shares callers = ⊥
+abbrev pub AreShared : Workload → Options → Round → List Share → (callers : List ℕ) → Type 0
+AreShared workload options r [] [] = Unit {0}
+AreShared workload options r (share ∷ shares) (c ∷ callers) =
+    IsShared workload options r share c × AreShared workload options r shares callers
+AreShared workload options r shares callers = ⊥
 
 -- the worker of a share, and where its jobs stand
 abbrev pub asked_of : Share → ℕ × List ℕ
 asked_of share = (share.worker, share.places.items)
 
--- The shares were run on a table of their own, which was closed: it is as the options and the jobs want it, began with
--- some values and left others, and each share was run by a caller of its own.
+-- The shares were run on a table of their own, which was closed: it is one of the engine of the options, as these and the jobs
+-- want it, began with some values and left others, and each share was run by a caller of its own.
 pub record WereRun (workload : Workload) (options : Options) (number : ℕ) (values left : List Val)
-    (shares shares_then : List Share) (table : Recorded StoreLaw) : Type 0 where
-  pub run : IsDstmRun workload.layout table.terms table.log
-  pub made : IsDstmMade options workload.version number (most_places shares) table.terms.shape
-  pub start : table.terms.start.value.items ≡ values
-  pub left_is : left ≡ state_after values (history_of table.terms.shape values table.log)
+    (shares shares_then : List Share) (closed : Round) : Type 0 where
+  pub engine : IsOf options.engine closed
+  pub run : IsRun workload.layout closed
+  pub made : IsMade options workload.version number (most_places shares) closed
+  pub start : start_of closed ≡ values
+  pub left_is : left ≡ values_of closed
   pub same : map asked_of shares_then ≡ map asked_of shares
   pub callers : List ℕ
-  pub count : length callers ≡ table.terms.shape.callers
+  pub count : length callers ≡ callers_of closed
   pub apart : AreApart callers
-  pub shared : AreShared workload options table.terms table.log shares_then callers
+  pub shared : AreShared workload options closed shares_then callers

@@ -7,11 +7,12 @@ ghost use Rattle.dstm_records.specs.Running.{turns_behind, AddsClosed, Begins, H
 ghost use Rattle.dstm_crew.specs.Opened.{IsOpened, with_jobs};
 
 use crate::sweeping::run_alone;
-use dstm_engine::{Caller, EnrolError, Founder, Stm};
 use dstm_model::Val;
-use dstm_records::{Options, Round, shape_for};
+use dstm_options::Options;
+use dstm_records::shape_for;
 use dstm_report::{Row, Turns};
 use dstm_store::StoreLaw;
+use dstm_tables::{Caller, Founder, Round, Table, make};
 use dstm_workload::Workload;
 use std::alloc::{AllocError, Global};
 
@@ -43,13 +44,13 @@ pub(crate) fn play_alone(
     ensures closed { IfErr result (λ _. AddsClosed workload.now.layout rounds.old.items rounds.new.items) }
 {
     let waiting = count_waiting(turns, workload.workers);
-    let (stm, founder, caller) = open_table(alloc, workload, options, waiting, values)?;
+    let (table, founder, caller) = open_table(alloc, workload, options, waiting, values)?;
     let mut founder = founder;
     let mut caller = caller;
-    run_alone(&stm, &mut caller, workload, options, number, turns, rows);
-    founder.retire(&stm, caller);
-    let (left, closed) = stm.close(alloc, founder)?;
-    rounds.push_reserved(Round::Dstm(closed));
+    run_alone(&table, &mut caller, workload, options, number, turns, rows);
+    founder.retire(&table, caller);
+    let (left, closed) = table.close(alloc, founder)?;
+    rounds.push_reserved(closed);
     Ok(left)
 }
 
@@ -77,7 +78,7 @@ fn open_table(
     options: &Options,
     waiting: Waiting,
     values: Vec<Val>,
-) -> Result<(Stm<StoreLaw>, Founder<StoreLaw>, Caller<StoreLaw>), AllocError>
+) -> Result<(Table, Founder, Caller), AllocError>
     requires valid { IsValidWorkload workload.now }
     requires lawful { IsLawful workload.now.layout values.items }
     requires few { waiting.count ≤ 32 }
@@ -94,13 +95,10 @@ fn open_table(
     let law = StoreLaw {
         layout: workload.layout,
     };
-    let (stm, mut founder) = Stm::make(alloc, values, shape, law)?;
+    let (table, mut founder) = make(alloc, options.engine, values, shape, law)?;
     let seed = options.seed.wrapping_add(u64::from(waiting.first));
-    match founder.caller(alloc, &stm, seed) {
-        Ok(caller) => Ok((stm, founder, caller)),
-        Err(EnrolError::Memory(error)) => Err(error),
-        Err(EnrolError::Full) => unreachable!(),
-    }
+    let caller = founder.caller(alloc, &table, seed)?;
+    Ok((table, founder, caller))
 }
 
 // Whether objects that are only read are opened for writing too: in version 3 reads stay reads.

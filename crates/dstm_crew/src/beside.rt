@@ -6,9 +6,8 @@ ghost use Rattle.dstm_workload.specs.Workload.{IsValidWorkload};
 
 use crate::gate::Gate;
 use crate::worker::Worker;
-use dstm_engine::Stm;
-use dstm_records::Options;
-use dstm_store::StoreLaw;
+use dstm_options::Options;
+use dstm_tables::Table;
 use dstm_workload::Workload;
 use std::thread::{Threads, for_each_mut};
 
@@ -16,7 +15,7 @@ use std::thread::{Threads, for_each_mut};
 /// are told to.
 pub(crate) fn run_all<R: Threads + Sync, G: Gate + Sync>(
     rt: &R,
-    stm: &Stm<StoreLaw>,
+    table: &Table,
     workload: &Workload,
     options: &Options,
     gate: &G,
@@ -25,10 +24,10 @@ pub(crate) fn run_all<R: Threads + Sync, G: Gate + Sync>(
 )
     requires valid { IsValidWorkload workload.now }
     requires some { 0 < length workers.old }
-    requires ready { All (IsReady workload.now stm.now) workers.old }
+    requires ready { All (IsReady workload.now table.now) workers.old }
     ensures same { map (λ worker. asked_of (share_of worker)) workers.new
         ≡ map (λ worker. asked_of (share_of worker)) workers.old }
-    ensures ended { All (HasEnded workload.now options.now stm.now) workers.new }
+    ensures ended { All (HasEnded workload.now options.now table.now) workers.new }
 {
     let threads = workers.len();
     for_each_mut(
@@ -36,16 +35,16 @@ pub(crate) fn run_all<R: Threads + Sync, G: Gate + Sync>(
         workers,
         threads,
         &|_, worker: &mut Worker|
-            requires { IsValidWorkload workload.now × IsReady workload.now stm.now worker.now }
+            requires { IsValidWorkload workload.now × IsReady workload.now table.now worker.now }
             ensures { (asked_of (share_of worker.exit.now) ≡ asked_of (share_of worker.entry.now))
-                × HasEnded workload.entry.now options.entry.now stm.entry.now worker.exit.now }
-        { run_one(stm, workload, options, gate, passes, worker) },
+                × HasEnded workload.entry.now options.entry.now table.entry.now worker.exit.now }
+        { run_one(table, workload, options, gate, passes, worker) },
     );
 }
 
 // Runs one worker.
 fn run_one<G: Gate>(
-    stm: &Stm<StoreLaw>,
+    table: &Table,
     workload: &Workload,
     options: &Options,
     gate: &G,
@@ -53,10 +52,10 @@ fn run_one<G: Gate>(
     worker: &mut Worker,
 )
     requires valid { IsValidWorkload workload.now }
-    requires ready { IsReady workload.now stm.now worker.old }
+    requires ready { IsReady workload.now table.now worker.old }
     ensures same { asked_of (share_of worker.new) ≡ asked_of (share_of worker.old) }
-    ensures ended { HasEnded workload.now options.now stm.now worker.new }
+    ensures ended { HasEnded workload.now options.now table.now worker.new }
 {
     let gate = if passes { Some(gate) } else { None };
-    worker.run(stm, workload, options, gate);
+    worker.run(table, workload, options, gate);
 }

@@ -1,12 +1,10 @@
 ghost use Rattle.std.specs.Prelude.{◌≡◌, ◌<◌, ◌≤◌, ◌+◌, ◌++◌, ◌∷◌, [], List, length, vec_len, vec_capacity, IfNone, IfSome, OnOk, ℕ};
-ghost use Rattle.dstm_core.specs.Events.{Event};
-ghost use Rattle.dstm_words.specs.declared.terms.Terms.{Terms};
-ghost use Rattle.dstm_records.specs.declared.options.Options.{Options as Choices};
+ghost use Rattle.dstm_tables.specs.declared.tables.Round.{Round};
+ghost use Rattle.dstm_options.specs.declared.options.Options.{Options as Choices};
 ghost use Rattle.dstm_crew.specs.Collecting.{AreRunBy, AreTaken, CanCollect, HasCollected, IsFit, IsNext, IsRowOf, lesser_of, number_at};
 
 use crate::share::Share;
 use dstm_report::{Row, Turns};
-use dstm_store::StoreLaw;
 use dstm_workload::Workload;
 use std::alloc::{AllocError, Global};
 
@@ -23,9 +21,9 @@ pub(crate) fn collect(
     requires can { CanCollect workload.now shares.now rows.old.items turns.old }
     requires room { vec_len rows.old + length turns.old.left ≤ vec_capacity rows.old }
     ensures room { OnOk result (vec_len rows.new + length turns.new.left ≤ vec_capacity rows.new) }
-    ensures collected { OnOk result ((options : Choices) (terms : Terms StoreLaw) (log : List Event) (callers : List ℕ) →
-        AreRunBy workload.now options terms log shares.now callers →
-        HasCollected workload.now options round terms log shares.now callers rows.old.items rows.new.items turns.new) }
+    ensures collected { OnOk result ((options : Choices) (r : Round) (callers : List ℕ) →
+        AreRunBy workload.now options r shares.now callers →
+        HasCollected workload.now options round r shares.now callers rows.old.items rows.new.items turns.new) }
 {
     let mut next = vec![in alloc; 0; shares.len()]?;
     while let Some(least) = next_share(shares, &next) {

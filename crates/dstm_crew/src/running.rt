@@ -1,5 +1,5 @@
 ghost use Rattle.std.specs.Prelude.{◌≡◌, ◌<◌, ◌≤◌, ◌++◌, ◌∷◌, [], true, length, vec_len, vec_capacity, All, IfOk, IfErr};
-ghost use Rattle.dstm_engine.specs.Tables.{Recorded};
+ghost use Rattle.dstm_tables.specs.declared.tables.Round.{Round as Record};
 ghost use Rattle.dstm_store.specs.Whole.{IsLawful};
 ghost use Rattle.dstm_workload.specs.Workload.{IsValidWorkload};
 ghost use Rattle.dstm_records.specs.Rounds.{is_parallel};
@@ -11,10 +11,10 @@ use crate::retiring::retire_all;
 use crate::seats::seat_all;
 use crate::share::Share;
 use crate::sizing::shape_for;
-use dstm_engine::Stm;
 use dstm_model::Val;
-use dstm_records::{Options, Round};
+use dstm_options::Options;
 use dstm_store::StoreLaw;
+use dstm_tables::{Round, make};
 use dstm_workload::Workload;
 use std::alloc::{AllocError, Global};
 use std::thread::Threads;
@@ -39,20 +39,28 @@ pub(crate) fn run_shares<R: Threads + Sync, G: Gate + Sync>(
     requires few { length shares.items ≤ 32 }
     requires shares { All (IsOpen workload.now) shares.items }
     requires room { vec_len rounds.old < vec_capacity rounds.old }
-    ensures run { IfOk result (λ r. (table : Recorded StoreLaw) ×
-        ((rounds.new.items ≡ rounds.old.items ++ Round.Dstm table ∷ [])
-        × WereRun workload.now options.now number values.items r.1.items shares.items r.0.items table)) }
+    ensures run { IfOk result (λ r. (closed : Record) ×
+        ((rounds.new.items ≡ rounds.old.items ++ closed ∷ [])
+        × WereRun workload.now options.now number values.items r.1.items shares.items r.0.items closed)) }
     ensures none { IfErr result (λ _. rounds.new.items ≡ rounds.old.items) }
 {
     let shape = shape_for(workload, options, values.len(), &shares);
     let law = StoreLaw {
         layout: workload.layout,
     };
-    let (stm, mut founder) = Stm::make(alloc, values, shape, law)?;
-    let mut workers = seat_all(alloc, options, &stm, &mut founder, shares)?;
-    run_all(rt, &stm, workload, options, gate, number == 0, &mut workers);
-    let shares = retire_all(alloc, &stm, &mut founder, workers)?;
-    let (left, record) = stm.close(alloc, founder)?;
-    rounds.push_reserved(Round::Dstm(record));
+    let (table, mut founder) = make(alloc, options.engine, values, shape, law)?;
+    let mut workers = seat_all(alloc, options, &table, &mut founder, shares)?;
+    run_all(
+        rt,
+        &table,
+        workload,
+        options,
+        gate,
+        number == 0,
+        &mut workers,
+    );
+    let shares = retire_all(alloc, &table, &mut founder, workers)?;
+    let (left, closed) = table.close(alloc, founder)?;
+    rounds.push_reserved(closed);
     Ok((shares, left))
 }

@@ -1,4 +1,4 @@
-use crate::trying::Finished;
+use dstm_tables::Finished;
 
 /// What one worker has to do in a round, and what it has done of it.
 #[derive(Drop)]

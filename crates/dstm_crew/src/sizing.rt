@@ -7,7 +7,7 @@ ghost use Rattle.dstm_workload.specs.Workload.{IsValidWorkload};
 
 use crate::share::Share;
 use dstm_core::Shape;
-use dstm_records::Options;
+use dstm_options::Options;
 use dstm_workload::Workload;
 use std::cmp::max;
 

@@ -1,17 +1,13 @@
 ghost use Rattle.std.specs.Prelude.{◌≡◌, ◌<◌, ◌≤◌, ◌+◌, ◌++◌, ◌∷◌, [], true, false, length, ℕ, List, vec_len, vec_capacity, Some, None, IfSome, IfNone};
 ghost use Rattle.dstm_report.specs.Lawful.{first_job};
-ghost use Rattle.dstm_report.specs.Turns.{without_first};
-ghost use Rattle.dstm_engine.specs.Callers.{Called};
-ghost use Rattle.dstm_report.specs.Turns.{Turning};
+ghost use Rattle.dstm_report.specs.Turns.{without_first, Turning};
+ghost use Rattle.dstm_tables.specs.declared.tables.Caller.{Caller as Called};
 ghost use Rattle.dstm_crew.specs.Alone.{CanRunAlone, HasRunAlone, HasStepped, Leads, MayStep, Sweeps};
 
-use crate::only::{OnlyTried, give_up, try_alone};
-use crate::style::Style;
-use dstm_engine::{Caller, Stm};
 use dstm_model::{Replies, Reply};
-use dstm_records::Options;
+use dstm_options::Options;
 use dstm_report::{Row, Turns};
-use dstm_store::StoreLaw;
+use dstm_tables::{Caller, OnlyTried, Style, Table, give_up, try_alone};
 use dstm_workload::{Job, Workload};
 
 // How a pass over the workers ended.
@@ -28,20 +24,20 @@ enum Swept {
 /// Runs the first job left of each worker, the workers in rising order, and adds the rows of what was done. In version 3,
 /// where all of them are blocked, it gives up that of the least worker, and begins anew.
 pub fn run_alone(
-    stm: &Stm<StoreLaw>,
-    caller: &mut Caller<StoreLaw>,
+    table: &Table,
+    caller: &mut Caller,
     workload: &Workload,
     options: &Options,
     number: u64,
     turns: &mut Turns<'_>,
     rows: &mut Vec<Row>,
 )
-    requires can { CanRunAlone workload.now number stm.now caller.old rows.old.items turns.old }
+    requires can { CanRunAlone workload.now number table.now caller.old rows.old.items turns.old }
     requires room { vec_len rows.old + length turns.old.left ≤ vec_capacity rows.old }
     ensures { HasRunAlone workload.now number caller.old caller.new rows.old.items rows.new.items turns.new }
 {
     loop {
-        match sweep(stm, caller, workload, options, number, turns, rows) {
+        match sweep(table, caller, workload, options, number, turns, rows) {
             Swept::Done => return,
             Swept::Spent => return,
             Swept::Blocked => (),
@@ -49,7 +45,7 @@ pub fn run_alone(
         let Some(job) = least_left(turns, workload.workers) else {
             return;
         };
-        let Some(drawn) = give_up(caller, stm) else {
+        let Some(drawn) = give_up(caller, table) else {
             return;
         };
         let mut replies = Replies::new();
@@ -73,27 +69,29 @@ fn least_left<'a>(turns: &Turns<'a>, workers: u32) -> Option<&'a Job>
 
 // Tries the first job left of each worker, the workers in rising order.
 fn sweep(
-    stm: &Stm<StoreLaw>,
-    caller: &mut Caller<StoreLaw>,
+    table: &Table,
+    caller: &mut Caller,
     workload: &Workload,
     options: &Options,
     number: u64,
     turns: &mut Turns<'_>,
     rows: &mut Vec<Row>,
 ) -> Swept
-    requires may { MayStep workload.now stm.now caller.old rows.old.items turns.old }
+    requires may { MayStep workload.now table.now caller.old rows.old.items turns.old }
     requires room { vec_len rows.old + length turns.old.left ≤ vec_capacity rows.old }
-    ensures may { MayStep workload.now stm.now caller.new rows.new.items turns.new }
+    ensures may { MayStep workload.now table.now caller.new rows.new.items turns.new }
     ensures room { vec_len rows.new + length turns.new.left ≤ vec_capacity rows.new }
     ensures fewer { length turns.new.left ≤ length turns.old.left }
-    ensures swept { (first : Called StoreLaw) (before : List Row) (begun : Turning) →
-        CanRunAlone workload.now number stm.now first before begun →
+    ensures swept { (first : Called) (before : List Row) (begun : Turning) →
+        CanRunAlone workload.now number table.now first before begun →
         Sweeps workload.now number first caller.old before rows.old.items turns.old 0 false →
         Leads workload.now number first caller.new before rows.new.items turns.new workload.now.workers false result }
 {
     let mut swept = Swept::Blocked;
     for worker in 0..workload.workers {
-        match try_first(stm, caller, workload, options, number, worker, turns, rows) {
+        match try_first(
+            table, caller, workload, options, number, worker, turns, rows,
+        ) {
             Swept::Done => swept = Swept::Done,
             Swept::Blocked => (),
             Swept::Spent => return Swept::Spent,
@@ -104,8 +102,8 @@ fn sweep(
 
 // Tries the first job left of a worker, if it has one.
 fn try_first(
-    stm: &Stm<StoreLaw>,
-    caller: &mut Caller<StoreLaw>,
+    table: &Table,
+    caller: &mut Caller,
     workload: &Workload,
     options: &Options,
     number: u64,
@@ -114,19 +112,19 @@ fn try_first(
     rows: &mut Vec<Row>,
 ) -> Swept
     requires worker { worker < workload.now.workers }
-    requires may { MayStep workload.now stm.now caller.old rows.old.items turns.old }
+    requires may { MayStep workload.now table.now caller.old rows.old.items turns.old }
     requires room { vec_len rows.old + length turns.old.left ≤ vec_capacity rows.old }
-    ensures may { MayStep workload.now stm.now caller.new rows.new.items turns.new }
+    ensures may { MayStep workload.now table.now caller.new rows.new.items turns.new }
     ensures room { vec_len rows.new + length turns.new.left ≤ vec_capacity rows.new }
     ensures fewer { length turns.new.left ≤ length turns.old.left }
-    ensures stepped { HasStepped workload.now number stm.now caller.old caller.new rows.old.items rows.new.items
+    ensures stepped { HasStepped workload.now number table.now caller.old caller.new rows.old.items rows.new.items
         turns.old turns.new worker (worker + 1) result }
 {
     let Some(job) = turns.first(worker) else {
         return Swept::Blocked;
     };
     let style = Style::of(workload.version, options.release);
-    match try_alone(style, caller, stm, &workload.layout, job) {
+    match try_alone(style, caller, table, &workload.layout, job) {
         OnlyTried::Done(finished) => {
             push_row(turns, rows, number, job, finished.number, finished.replies);
             Swept::Done

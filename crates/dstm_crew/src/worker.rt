@@ -3,18 +3,16 @@ ghost use Rattle.dstm_workload.specs.Workload.{IsValidWorkload};
 ghost use Rattle.dstm_crew.specs.Workers.{IsReady, HasRun};
 
 use crate::gate::Gate;
-use crate::style::Style;
-use crate::trying::{Finished, try_job};
-use dstm_engine::{Caller, Stm};
-use dstm_records::Options;
-use dstm_store::StoreLaw;
+use crate::trying::try_job;
+use dstm_options::Options;
+use dstm_tables::{Caller, Finished, Style, Table};
 use dstm_workload::Workload;
 
 /// A worker in a parallel round.
 #[derive(Drop)]
 pub struct Worker {
     pub number: u32,
-    pub caller: Caller<StoreLaw>,
+    pub caller: Caller,
     /// Where its jobs stand that are left, in file order.
     pub places: Vec<usize>,
     /// What was done of them, from the first on. There is room for all.
@@ -26,13 +24,13 @@ impl Worker {
     /// blocked. If there is a gate, it passes it once before the first attempt at each job.
     pub fn run<G: Gate>(
         &mut self,
-        stm: &Stm<StoreLaw>,
+        table: &Table,
         workload: &Workload,
         options: &Options,
         gate: Option<&G>,
     )
         requires valid { IsValidWorkload workload.now }
-        requires ready { IsReady workload.now stm.now self.old }
+        requires ready { IsReady workload.now table.now self.old }
         ensures { HasRun workload.now options.now self.old self.new }
     {
         let style = Style::of(workload.version, options.release);
@@ -42,7 +40,7 @@ impl Worker {
             if let Some(gate) = gate {
                 gate.pass(self.number, job.line);
             }
-            match try_job(style, &mut self.caller, stm, &workload.layout, job) {
+            match try_job(style, &mut self.caller, table, &workload.layout, job) {
                 Ok(finished) => self.done.push_reserved(finished),
                 Err(_) => return,
             }

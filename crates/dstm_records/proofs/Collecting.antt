@@ -5,7 +5,7 @@ use Rattle.std.specs.Prelude.{IfSome}
 use Rattle.std.proofs.lemmas.List.{append-nil}
 use Rattle.dstm_model.specs.declared.value.Val.{Val}
 use Rattle.dstm_model.specs.Map.{Entry, Agrees, IsLegal, with_writes, state_after}
-use Rattle.dstm_opacity.specs.Committed.{Committed}
+use Rattle.dstm_model.specs.Answers.{Committed}
 use Rattle.dstm_store.specs.Whole.{StandsFor}
 use Rattle.dstm_workload.specs.declared.workload.Job.{Job}
 use Rattle.dstm_workload.specs.declared.workload.Workload.{Workload}
@@ -13,8 +13,9 @@ use Rattle.dstm_report.specs.declared.report.Row.{Row}
 use Rattle.dstm_report.specs.Lawful.{store_after, store_left, first_job, jobs_left, last_row, AllBlocked, AnswersWhere, IsBefore, IsGoodRow, RowsAreGood}
 use Rattle.dstm_model.specs.Job.{JobOutcome, apply_job}
 use Rattle.dstm_records.specs.Told.{IsGivenUp}
-use Rattle.dstm_records.specs.Answers.{IsAnsweredBy}
-use Rattle.dstm_records.specs.Records.{is_given_up, job_of, TellOf, TellsOf, entries_of}
+use Rattle.dstm_tables.specs.Answers.{IsAnsweredBy, entries_of}
+use Rattle.dstm_tables.proofs.Entries.{entries_push}
+use Rattle.dstm_records.specs.Records.{is_given_up, job_of, TellOf, TellsOf}
 use Rattle.dstm_records.proofs.Follows.{tells, good_row, store_push, TellOf-push, agrees_next}
 
 -- where the rows of a round stand; `left` are the transactions that no row tells of yet
@@ -43,10 +44,6 @@ good_push workload before (first ∷ rows) row good next = (
   good_push workload (before ++ first ∷ []) rows row good.1
       (subst (λ (b : List Row). IsGoodRow workload b row) (sym (append_assoc before (first ∷ []) rows)) next),
 )
-
-pub entries_push : (done : List Committed) (next : Committed) → entries_of (done ++ next ∷ []) ≡ entries_of done ++ next.entry ∷ []
-entries_push [] next = refl
-entries_push (first ∷ done) next = ap (λ (rest : List Entry). first.entry ∷ rest) (entries_push done next)
 
 state_push : (start : List Val) (done : List Entry) (next : Entry) →
     state_after start (done ++ next ∷ []) ≡ with_writes (state_after start done) next.writes

@@ -8,15 +8,14 @@ use Rattle.dstm_model.specs.declared.reply.Reply.{Reply}
 use Rattle.dstm_model.specs.Job.{JobOutcome, apply_job}
 use Rattle.dstm_model.specs.Map.{Entry, Agrees, IsLegal, with_writes, state_after}
 use Rattle.dstm_model.specs.Store.{Store, opening_store}
-use Rattle.dstm_opacity.specs.Committed.{Committed}
+use Rattle.dstm_model.specs.Answers.{Committed}
 use Rattle.dstm_store.specs.Whole.{StandsFor}
 use Rattle.dstm_workload.specs.declared.workload.Job.{Job}
 use Rattle.dstm_workload.specs.declared.workload.Workload.{Workload}
 use Rattle.dstm_report.specs.declared.report.Row.{Row}
-use Rattle.dstm_report.specs.Lawful.{after_rows, after_job, store_left, store_after, first_job, jobs_left, last_row}
-use Rattle.dstm_report.specs.Lawful.{IsBefore, AllBlocked, AnswersWhere, IsGoodRow}
-use Rattle.dstm_records.specs.Answers.{IsAnsweredBy}
-use Rattle.dstm_records.specs.Records.{is_given_up, job_of, GivesReplies, TellsOf, TellOf, entries_of}
+use Rattle.dstm_report.specs.Lawful.{after_rows, after_job, store_left, store_after, first_job, jobs_left, last_row, IsBefore, AllBlocked, AnswersWhere, IsGoodRow}
+use Rattle.dstm_tables.specs.Answers.{IsAnsweredBy, entries_of}
+use Rattle.dstm_records.specs.Records.{is_given_up, job_of, GivesReplies, TellsOf, TellOf}
 
 -- ---- the store after one row more
 

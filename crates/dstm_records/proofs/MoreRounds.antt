@@ -7,9 +7,10 @@ use Rattle.std.proofs.lemmas.List.Elements.{filter-append}
 use Rattle.dstm_model.specs.declared.value.Val.{Val}
 use Rattle.dstm_workload.specs.declared.workload.Workload.{Workload}
 use Rattle.dstm_report.specs.declared.report.Row.{Row}
-use Rattle.dstm_records.specs.declared.options.Options.{Options}
-use Rattle.dstm_records.specs.declared.round.Round.{Round}
-use Rattle.dstm_records.specs.Records.{IsRoundOf, AreRoundsOf, values_of}
+use Rattle.dstm_options.specs.declared.options.Options.{Options}
+use Rattle.dstm_tables.specs.declared.tables.Round.{Round}
+use Rattle.dstm_records.specs.Records.{IsRoundOf, AreRoundsOf}
+use Rattle.dstm_tables.specs.Tells.{values_of}
 use Rattle.dstm_records.specs.Rounds.{rows_in}
 
 -- all rows of a round are in it

@@ -12,12 +12,13 @@ use Rattle.dstm_report.specs.declared.report.Row.{Row}
 use Rattle.dstm_report.specs.Lawful.{RowsAreGood, store_after}
 use Rattle.dstm_report.proofs.Rising.{jobs_left-none}
 use Rattle.dstm_store.specs.Whole.{StandsFor}
-use Rattle.dstm_records.specs.declared.options.Options.{Options}
-use Rattle.dstm_records.specs.declared.round.Round.{Round}
-use Rattle.dstm_records.specs.Records.{IsRoundOf, AreRoundsOf, values_of}
+use Rattle.dstm_options.specs.declared.options.Options.{Options}
+use Rattle.dstm_tables.specs.declared.tables.Round.{Round}
+use Rattle.dstm_records.specs.Records.{IsRoundOf, AreRoundsOf}
+use Rattle.dstm_tables.specs.Tells.{values_of}
 use Rattle.dstm_records.specs.Rounds.{is_parallel, rows_in}
 use Rattle.dstm_records.specs.Running.{count_left, Begins, AddsRound, HasEnded, IsClosed}
-use Rattle.dstm_records.proofs.Sights.{sights_agree}
+use Rattle.dstm_tables.proofs.History.{sights_agree}
 use Rattle.dstm_records.proofs.MoreRounds.{rows_of, rows_of-push, left_after, left_after-push, AreRoundsOf-push}
 
 -- where a run stands before the round of this number; `more` tells whether there is one
@@ -192,6 +193,6 @@ pub each_closed : (workload : Workload) (options : Options) (rows : List Row) (n
     AllByRecursion (IsClosed workload.layout) rounds
 each_closed workload options rows number before values [] are = tt
 each_closed workload options rows number before values (round ∷ rounds) are = (
-  record { run = are.0.run; sights = sights_agree workload.layout round are.0.run },
+  record { run = are.0.run; sights = sights_agree round are.0.run.run },
   each_closed workload options rows (number + 1) (before ++ rows_in number rows) (values_of round) rounds are.1,
 )

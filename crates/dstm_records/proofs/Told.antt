@@ -5,29 +5,25 @@ use Rattle.std.specs.Prelude.{IfSome}
 use Rattle.std.specs.List.{AllByRecursion, find}
 use Rattle.std.proofs.lemmas.List.{append-nil}
 use Rattle.dstm_model.specs.declared.value.Val.{Val}
-use Rattle.dstm_model.specs.Map.{Agrees, IsLegal, state_after}
-use Rattle.dstm_core.specs.declared.shape.Shape.{Shape}
-use Rattle.dstm_core.specs.Events.{Event}
-use Rattle.dstm_core.specs.Histories.{CoreRun}
-use Rattle.dstm_opacity.specs.Committed.{Committed, committed_in}
-use Rattle.dstm_opacity.specs.Telling.{AreBelow, NumbersFall}
-use Rattle.dstm_opacity.proofs.Merging.{in_order}
-use Rattle.dstm_opacity.proofs.Stays.{entries_are_history}
-use Rattle.dstm_opacity.proofs.Opacity.{history_is_serial}
+use Rattle.dstm_model.specs.Map.{Agrees, state_after}
+use Rattle.dstm_model.specs.Answers.{AreBelow, Committed, NumbersFall}
 use mathlib.Core.List.{reverse-cons}
-use Rattle.dstm_store.specs.Whole.{IsLawful, StandsFor}
+use Rattle.dstm_store.specs.Whole.{StandsFor}
 use Rattle.dstm_workload.specs.declared.workload.Job.{Job}
 use Rattle.dstm_workload.specs.declared.workload.Workload.{Workload}
 use Rattle.dstm_workload.specs.Workload.{IsValidWorkload}
 use Rattle.dstm_report.specs.declared.report.Row.{Row}
 use Rattle.dstm_report.specs.Lawful.{IsBefore, first_job, jobs_left, last_row, store_after}
 use Rattle.dstm_report.proofs.Rising.{find_line, length-without_first, rise_all, turn_ends}
-use Rattle.dstm_records.specs.Records.{entries_of, job_of}
+use Rattle.dstm_tables.specs.declared.tables.Round.{Round}
+use Rattle.dstm_tables.specs.Tells.{IsRun, all_done, committed_of, start_of}
+use Rattle.dstm_tables.proofs.History.{is_history}
+use Rattle.dstm_records.specs.Records.{job_of}
+use Rattle.dstm_tables.specs.Answers.{entries_of}
 use Rattle.dstm_records.specs.Running.{count_left}
 use Rattle.dstm_records.specs.Told.{AreTold, IsTold}
 use Rattle.dstm_records.proofs.Collecting.{Collected, at_start, row_more, row_given_up}
 use Rattle.dstm_records.proofs.Follows.{agrees_next, answers_there}
-use Rattle.dstm_records.proofs.Only.{entries_reverse}
 use Rattle.dstm_records.proofs.Replies.{not_given_up}
 
 -- the numbers rise, from this one on
@@ -167,20 +163,17 @@ may_begin round [] earlier = tt
 may_begin round (row ∷ []) earlier = inl earlier.0
 may_begin round (row ∷ next ∷ rows) earlier = may_begin round (next ∷ rows) earlier.1
 
--- The rows tell, one for one, of all that was committed in a run; so they are good, and what the run leaves stands for the
--- store after them.
-pub rows_told : (workload : Workload) (before rows : List Row) (shape : Shape) (start : List Val) (run : List Event)
-    (round : ℕ) → IsValidWorkload workload → CoreRun shape start (IsLawful workload.layout) run →
-    AllByRecursion (λ row. row.round < round) before → StandsFor workload.layout start (store_after workload before) →
-    AreTold workload before rows (reverse (committed_in shape start run)) → AllByRecursion (λ row. row.round ≡ round) rows →
-    Collected workload before rows start (reverse (committed_in shape start run)) []
-rows_told workload before rows shape start run round valid core earlier stands told in_round =
-    let all = reverse (committed_in shape start run) in
-    let legal : IsLegal start (entries_of all) =
-    subst (IsLegal start) (entries_are_history shape start run ∙ sym (entries_reverse (committed_in shape start run)))
-    (history_is_serial shape start (IsLawful workload.layout) run core).legal in
+-- The rows tell, one for one, of all that was committed on a table; so they are good, and what it has in its objects stands
+-- for the store after them.
+pub rows_told : (workload : Workload) (before rows : List Row) (r : Round) (number : ℕ) → IsValidWorkload workload → IsRun r →
+    AllByRecursion (λ row. row.round < number) before → StandsFor workload.layout (start_of r) (store_after workload before) →
+    AreTold workload before rows (committed_of r) → AllByRecursion (λ row. row.round ≡ number) rows →
+    Collected workload before rows (start_of r) (committed_of r) []
+rows_told workload before rows r number valid run earlier stands told in_round =
+    let history = is_history r run in
     let none : before ++ [] ≡ before = append-nil before in
-    all_told workload before [] rows start [] all round 0 valid (at_start workload before start all stands legal)
-    (subst (λ (b : List Row). AreTold workload b rows all) (sym none) told) in_round
-    (rise_of (committed_in shape start run) (in_order shape start run core.core))
-    (subst (MayFollow round 0) (sym none) (may_begin round before earlier))
+    all_told workload before [] rows (start_of r) [] (committed_of r) number 0 valid
+    (at_start workload before (start_of r) (committed_of r) stands history.legal)
+    (subst (λ (b : List Row). AreTold workload b rows (committed_of r)) (sym none) told) in_round
+    (rise_of (all_done r) history.falls)
+    (subst (MayFollow number 0) (sym none) (may_begin number before earlier))

@@ -1,67 +1,38 @@
 -- What it says that the records of rounds stand for a report: its rows are the transactions that committed on those
--- tables, one for one, and no round was passed over without need.
-use Rattle.std.specs.Prelude.{◌≡◌, ◌⊎◌, ℕ, ◌+◌, ◌*◌, ◌<◌, ◌≤◌, ◌==◌, ◌&&◌, Bool, true, false, not, List, [], ◌∷◌, ◌++◌, length, map, reverse, filter, find, zip, Option, Some, None, IsSomeAnd, All, Contains}
+-- tables, one for one, and no round was passed over without need. What a record tells stands in the words on tables.
+use Rattle.std.specs.Prelude.{◌≡◌, ℕ, ◌+◌, ◌<◌, ◌≤◌, ◌==◌, ◌&&◌, Bool, true, false, not, List, [], ◌∷◌, ◌++◌, length, filter, find, zip, Option, Some, IsSomeAnd, All, Contains}
 use Rattle.dstm_model.specs.declared.value.Val.{Val}
 use Rattle.dstm_model.specs.declared.layout.Layout.{Layout}
 use Rattle.dstm_model.specs.declared.reply.Reply.{Reply}
 use Rattle.dstm_model.specs.declared.reply.Reply.TheVariants.{Never}
+use Rattle.dstm_model.specs.Answers.{Committed}
 use Rattle.dstm_model.specs.Job.{apply_job}
-use Rattle.dstm_model.specs.Map.{Entry, Agrees, with_writes, state_after}
+use Rattle.dstm_model.specs.Map.{Agrees, with_writes}
 use Rattle.dstm_model.specs.Objects.{objects_of}
 use Rattle.dstm_model.specs.Store.{Store}
 use Rattle.dstm_core.specs.declared.shape.Shape.{Shape}
-use Rattle.dstm_core.specs.Events.{Event}
-use Rattle.dstm_core.specs.Histories.{CoreRun}
-use Rattle.dstm_core.specs.Runs.{local}
-use Rattle.dstm_core.specs.State.{LocalState}
-use Rattle.dstm_core.specs.Words.{IsValid}
-use Rattle.dstm_opacity.specs.Committed.{Committed, committed_in}
-use Rattle.dstm_store.specs.declared.law.StoreLaw.{StoreLaw}
-use Rattle.dstm_store.specs.Looks.{is_list_member}
 use Rattle.dstm_store.specs.Opening.{opening_values}
-use Rattle.dstm_store.specs.Whole.{StandsFor, IsLawful}
+use Rattle.dstm_store.specs.Whole.{StandsFor}
 use Rattle.dstm_workload.specs.declared.workload.Job.{Job}
 use Rattle.dstm_workload.specs.declared.workload.Workload.{Workload}
 use Rattle.dstm_report.specs.declared.report.Row.{Row}
 use Rattle.dstm_report.specs.declared.report.Report.{Report}
 use Rattle.dstm_report.specs.Lawful.{first_job, store_after}
-use Rattle.dstm_records.specs.declared.options.Options.{Options}
-use Rattle.dstm_records.specs.declared.round.Round.{Round}
-use Rattle.dstm_records.specs.declared.round.Round.TheVariants.{Dstm}
-use Rattle.dstm_records.specs.Attempts.{HasCommitted, WasGivenUp, seen_last}
-use Rattle.dstm_progress.specs.Disturbed.{Disturbed}
-use Rattle.dstm_words.specs.declared.terms.Terms.{Terms}
+use Rattle.dstm_options.specs.declared.options.Engine.TheVariants as engine
+use Rattle.dstm_options.specs.declared.options.Options.{Options}
+use Rattle.dstm_tables.specs.declared.tables.Round.{Round}
+use Rattle.dstm_tables.specs.declared.tables.Round.TheVariants.{Dstm, Tl2}
+use Rattle.dstm_tables.specs.Answers.{KeepsFew}
+use Rattle.dstm_tables.specs.Jobs.{HadToStop, NoneWasted}
+use Rattle.dstm_tables.specs.Tells as known
+use Rattle.dstm_tables.specs.Tells.{IsOf, callers_of, committed_of, layout_of, start_of, values_of}
 use Rattle.dstm_records.specs.Rounds.{is_parallel, rows_in, left_by, has_job, workers_in, most_jobs, attempts_for, locators_for}
 
--- ---- what a record tells, by its engine
-
--- what was in the objects when the round began
-abbrev pub start_of : Round → List Val
-start_of (Dstm table) = table.terms.start.value.items
-
-abbrev pub callers_of : Round → ℕ
-callers_of (Dstm table) = table.terms.shape.callers
-
--- the transactions that committed, in the order of the numbers that they drew
-abbrev pub committed_of : Round → List Committed
-committed_of (Dstm table) = reverse (committed_in table.terms.shape table.terms.start.value.items table.log)
-
-abbrev pub entries_of : List Committed → List Entry
-entries_of committed = map (λ done. done.entry) committed
-
--- what the round left in the objects
-abbrev pub values_of : Round → List Val
-values_of round = state_after (start_of round) (entries_of (committed_of round))
-
--- the table has the store's law and objects, and its log is a run of the engine
-pub record IsDstmRun (layout : Layout) (terms : Terms StoreLaw) (log : List Event) : Type 0 where
-  pub law : terms.law.value.layout ≡ layout
-  pub valid : IsValid terms.shape
-  pub objects : terms.shape.objects ≡ objects_of layout
-  pub run : CoreRun terms.shape terms.start.value.items (IsLawful layout) log
-
-abbrev pub IsRun : Layout → Round → Type 0
-IsRun layout (Dstm table) = IsDstmRun layout table.terms table.log
+-- its table has the store's law and objects, and what happened on it is a run of its engine
+pub record IsRun (layout : Layout) (round : Round) : Type 0 where
+  pub law : layout_of round ≡ layout
+  pub objects : length (start_of round) ≡ objects_of layout
+  pub run : known.IsRun round
 
 -- ---- how a table was made
 
@@ -73,8 +44,10 @@ pub record IsDstmMade (options : Options) (version number jobs : ℕ) (shape : S
   pub all_write : is_parallel number ≡ true → shape.all_write ≡ options.all_write
   pub reads : is_parallel number ≡ false → version ≡ 3 → shape.all_write ≡ false
 
+-- a table of TL2 has attempts alone
 abbrev pub IsMade : Options → (version number jobs : ℕ) → Round → Type 0
-IsMade options version number jobs (Dstm table) = IsDstmMade options version number jobs table.terms.shape
+IsMade options version number jobs (Dstm r) = IsDstmMade options version number jobs r.terms.shape
+IsMade options version number jobs (Tl2 r) = r.terms.attempts ≡ attempts_for jobs
 
 -- ---- rows and transactions
 
@@ -126,44 +99,17 @@ pub record ArePaired (workers : List ℕ) (callers : ℕ) (caller : ℕ → ℕ)
       (one other : ℕ) → Contains workers one → Contains workers other
       → caller one ≡ caller other → one ≡ other
 
--- the job is blocked on every lawful map that has these values
-abbrev pub IsBlockedWith : Layout → List (ℕ × Val) → Option Job → Type 0
-IsBlockedWith layout values job =
-    IsSomeAnd job (λ j. (map : List Val) (held : Store) → StandsFor layout map held → Agrees map values →
-    apply_job j.ops held ≡ None)
-
--- the attempt stood at a blocked job: it was given up, and the job is blocked on every lawful map with the values that
--- its newest sight covers
-pub record StoodBlocked (layout : Layout) (terms : Terms StoreLaw) (log : List Event) (c i : ℕ) (job : Option Job) : Type 0 where
-  pub given_up : WasGivenUp terms.shape log c i
-  pub blocked : IsBlockedWith layout (seen_last terms.shape terms.start.value.items log log c i) job
-
--- in version 3 an attempt may have stood at this job
-pub record Waited (workload : Workload) (job : Option Job) (terms : Terms StoreLaw) (log : List Event) (c i : ℕ) : Type 0 where
-  pub version : workload.version ≡ 3
-  pub stood : StoodBlocked workload.layout terms log c i job
-
 -- the first job of a worker that these rows leave
 abbrev pub next_of : Workload → List Row → ℕ → Option Job
 next_of workload rows worker = first_job worker (left_by workload rows)
 
--- the caller has no attempt left, or too few locators for another one
-abbrev pub IsSpent : Shape → LocalState → Type 0
-IsSpent shape state = (state.begun ≡ shape.attempts) ⊎ (shape.locators < state.installed + shape.objects)
-
 -- why a worker left a round with jobs left: its caller was spent, or its last attempt stood at a blocked job
 abbrev pub HadToLeave : Workload → List Row → Round → ℕ → ℕ → Type 0
-HadToLeave workload rows (Dstm table) worker c =
-    let state = local table.terms.shape table.log c in
-    IsSpent table.terms.shape state
-    ⊎ ((0 < state.begun) × Waited workload (next_of workload rows worker) table.terms table.log c state.begun)
+HadToLeave workload rows round worker c = HadToStop workload (next_of workload rows worker) round c
 
 -- each attempt of a worker's caller committed, or was disturbed, or stood at a blocked job
 abbrev pub HadCause : Workload → List Row → Round → ℕ → ℕ → Type 0
-HadCause workload rows (Dstm table) worker c =
-    (i : ℕ) → 0 < i → i ≤ (local table.terms.shape table.log c).begun →
-    HasCommitted table.terms.shape table.log c i
-    ⊎ (Disturbed table.terms.shape table.log c i ⊎ Waited workload (next_of workload rows worker) table.terms table.log c i)
+HadCause workload rows round worker c = NoneWasted workload (next_of workload rows worker) round c
 
 -- a parallel round: each of its workers has a caller of its own
 pub record IsParallel (workload : Workload) (number : ℕ) (before rows : List Row) (round : Round) : Type 0 where
@@ -195,16 +141,13 @@ pub record IsAlone (rows : List Row) (round : Round) : Type 0 where
 
 -- ---- early release
 
--- a transaction of a job that only looks keys up in the list keeps at most three reads for each
-abbrev pub KeepsFew : Job → Committed → Type 0
-KeepsFew job by = All (λ op. is_list_member op ≡ true) job.ops → length by.entry.reads ≤ 3 * length job.ops
-
--- the same of the job of a row
+-- the transaction of a row whose job only looks keys up in the list keeps at most three reads for each
 abbrev pub KeepsFewReads : Workload → Row × Committed → Type 0
 KeepsFewReads workload told = (job : Job) → job_of workload told.0 ≡ Some job → KeepsFew job told.1
 
--- reads are given up early: of a workload that has no conditions, with reads that stay reads
+-- reads are given up early: under DSTM, of a workload that has no conditions, with reads that stay reads
 pub record IsReleasing (options : Options) (version : ℕ) : Type 0 where
+  pub engine : options.engine ≡ engine.Dstm
   pub release : options.release ≡ true
   pub reads : options.all_write ≡ false
   pub no_conditions : version ≤ 2
@@ -214,6 +157,8 @@ pub record IsReleasing (options : Options) (version : ℕ) : Type 0 where
 -- The record of a round stands for its rows. Some rows of earlier rounds stand before them, and left these values.
 pub record IsRoundOf (workload : Workload) (options : Options) (number : ℕ) (before rows : List Row)
     (values : List Val) (round : Round) : Type 0 where
+  -- it is one of the engine of the options
+  pub engine : IsOf options.engine round
   -- its table has the store's law and objects, and what happened on it is a run
   pub run : IsRun workload.layout round
   -- it has attempts and locators for the jobs that are left, and is as the options say

@@ -8,10 +8,10 @@ use Rattle.dstm_report.specs.declared.report.Row.{Row}
 use Rattle.dstm_report.specs.Lawful.{RowsAreGood, jobs_left, store_after}
 use Rattle.dstm_report.specs.Turns.{Turning}
 use Rattle.dstm_store.specs.Whole.{StandsFor}
-use Rattle.dstm_records.specs.declared.options.Options.{Options}
-use Rattle.dstm_records.specs.declared.round.Round.{Round}
-use Rattle.dstm_records.specs.Records.{IsRoundOf, IsRun, AreRoundsOf, values_of}
-use Rattle.dstm_records.specs.Sights.{SightsAgree}
+use Rattle.dstm_options.specs.declared.options.Options.{Options}
+use Rattle.dstm_tables.specs.declared.tables.Round.{Round}
+use Rattle.dstm_records.specs.Records.{IsRoundOf, IsRun, AreRoundsOf}
+use Rattle.dstm_tables.specs.Tells.{values_of, SightsAgree}
 use Rattle.dstm_records.specs.Rounds.{is_parallel}
 
 -- whose turn it is behind these rows

@@ -1,12 +1,12 @@
 -- Rows and the transactions that they tell of, as they come: whose turn it is when a row is made.
 use Rattle.std.specs.Prelude.{◌≡◌, ◌⊎◌, List, [], ◌∷◌, ◌++◌, Some}
 use Rattle.dstm_model.specs.declared.reply.Reply.TheVariants.{Never}
-use Rattle.dstm_opacity.specs.Committed.{Committed}
+use Rattle.dstm_model.specs.Answers.{Committed}
 use Rattle.dstm_workload.specs.declared.workload.Job.{Job}
 use Rattle.dstm_workload.specs.declared.workload.Workload.{Workload}
 use Rattle.dstm_report.specs.declared.report.Row.{Row}
 use Rattle.dstm_report.specs.Lawful.{AllBlocked, first_job}
-use Rattle.dstm_records.specs.Answers.{IsAnsweredBy}
+use Rattle.dstm_tables.specs.Answers.{IsAnsweredBy}
 use Rattle.dstm_records.specs.Rounds.{left_by}
 
 -- a job is given up by a transaction that reads and writes nothing, where the first job left of each worker is blocked

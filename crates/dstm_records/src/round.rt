@@ -1,15 +1,8 @@
 ghost use Rattle.std.specs.Prelude.{◌≡◌, []};
 
-use dstm_engine::Record;
-use dstm_store::StoreLaw;
+use dstm_tables::Round;
 use std::alloc::Global;
 use std::marker::Model;
-
-/// What is known of a round: the record of its table.
-#[derive(Drop)]
-pub enum Round {
-    Dstm(Record<StoreLaw>),
-}
 
 /// The rounds of runs, in order.
 #[derive(Drop)]
@@ -19,7 +12,7 @@ pub struct Rounds {
 
 impl Model for Rounds {
     ghost use Rattle.std.specs.Prelude.{List};
-    ghost use Rattle.dstm_records.specs.declared.round.Round.{Round};
+    ghost use Rattle.dstm_tables.specs.declared.tables.Round.{Round};
 
     ghost Value = { List Round };
 

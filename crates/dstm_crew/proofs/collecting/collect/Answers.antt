@@ -77,7 +77,7 @@ loop-least-smaller c =
     omega (arith, one, fewer)
 
 pub returns-clause-collected : goal.returns-clause-collected
-returns-clause-collected c = λ options terms log callers run.
-    collects_last c.args.workload.now options c.args.round terms log c.args.shares.now callers c.args.rows.now.items
+returns-clause-collected c = λ options r callers run.
+    collects_last c.args.workload.now options c.args.round r c.args.shares.now callers c.args.rows.now.items
     c.loop-least.rows.items c.loop-least.turns c.loop-least.next.items c.deref.result.now c.loop-least.invariant.0
     c.deref.ensures.value c.in_default.ensures.none run

@@ -4,9 +4,17 @@ use Rattle.dstm_report.specs.Turns.{Turning}
 use Rattle.dstm_crew.specs.declared.share.Share.{Share}
 use Rattle.dstm_crew.specs.Collecting.{AreRunBy, CanCollect, HasCollected}
 use Rattle.dstm_crew.specs.Shares.{workers_of}
+use Rattle.dstm_records.specs.Running.{AddsClosed}
+use Rattle.dstm_crew.proofs.Played.{if_err, nothing_added}
 use Rattle.dstm_crew.proofs.Stood.{adds_none, adds_one, can_collect, closed_round, has_played, run_by}
 use Rattle.dstm_crew.proofs.Workers.{workers_few, workers_some}
 use Rattle.dstm_crew.proofs.playing.play_parallel.Goals as goal
+
+pub returns-in_err-shares-clause-closed : goal.returns-in_err-shares-clause-closed
+returns-in_err-shares-clause-closed g c =
+    let layout = c.args.workload.now.layout in
+    let rounds = c.args.rounds.now.items in
+    if_err c.from_residual.result (AddsClosed layout rounds rounds) (nothing_added layout rounds)
 
 pub run_shares-requires-clause-some : goal.run_shares-requires-clause-some
 run_shares-requires-clause-some g c = λ _ _.
@@ -43,17 +51,17 @@ returns-in_err-collect-clause-closed g c =
 
 pub returns-clause-played : goal.returns-clause-played
 returns-clause-played g c =
-    let table = c.in_ok-shares-2.ensures.run.0 in
+    let closed = c.in_ok-shares-2.ensures.run.0 in
     let run = c.in_ok-shares-2.ensures.run.1.1 in
     let shares = c.in_ok-shares-2.shares.items in
     has_played c.args.workload.now c.args.options.now c.args.number c.args.rows.now.items c.args.values.items c.in_ok-shares-2.left.items
-    c.args.turns.now c.in_ok-shares.shares.items shares table c.requires.parallel c.requires.begins
+    c.args.turns.now c.in_ok-shares.shares.items shares closed c.requires.parallel c.requires.begins
     c.requires.turns c.in_ok-shares.ensures run c.collect.new.rows.items c.collect.new.turns
-    (subst (λ (ss : List Share). HasCollected c.args.workload.now c.args.options.now c.args.number table.terms table.log ss run.callers
+    (subst (λ (ss : List Share). HasCollected c.args.workload.now c.args.options.now c.args.number closed ss run.callers
     c.args.rows.now.items c.collect.new.rows.items c.collect.new.turns) c.deref.ensures.value
-    (c.in_ok-collect.ensures.collected c.args.options.now table.terms table.log run.callers
-    (subst (λ (ss : List Share). AreRunBy c.args.workload.now c.args.options.now table.terms table.log ss run.callers)
+    (c.in_ok-collect.ensures.collected c.args.options.now closed run.callers
+    (subst (λ (ss : List Share). AreRunBy c.args.workload.now c.args.options.now closed ss run.callers)
     (sym c.deref.ensures.value)
     (run_by c.args.workload.now c.args.options.now c.args.number c.args.rows.now.items c.args.values.items c.in_ok-shares-2.left.items
-    c.args.turns.now c.in_ok-shares.shares.items shares table run))))
+    c.args.turns.now c.in_ok-shares.shares.items shares closed run))))
     c.args.rounds.now.items c.run_shares.new.rounds.items c.in_ok-shares-2.ensures.run.1.0

@@ -11,8 +11,8 @@ pub loop-worker-init : goal.loop-worker-init
 loop-worker-init c =
     let workers = c.args.workers.items in
     let all : into_iter_items c.into_iter-worker-iterator.result ≡ workers = search rules in (
-      subst (λ (ws : List Worker). Takes c.args.stm.now workers [] ws c.args.founder.now) (sym all)
-          (takes_at_first c.args.stm.now workers c.args.founder.now c.requires.founder c.requires.rest),
+      subst (λ (ws : List Worker). Takes c.args.table.now workers [] ws c.args.founder.now) (sym all)
+          (takes_at_first c.args.table.now workers c.args.founder.now c.requires.founder c.requires.rest),
       search rules,
       search rules,
     )
@@ -23,10 +23,10 @@ loop-worker-preserved c =
     let yielded = c.loop-worker.yielded in
     let worker : Worker = c.in-Some.worker in
     let takes =
-    subst (λ (ws : List Worker). Takes c.args.stm.now workers yielded ws c.loop-worker.founder) c.in-Some.ensures.steps.0
+    subst (λ (ws : List Worker). Takes c.args.table.now workers yielded ws c.loop-worker.founder) c.in-Some.ensures.steps.0
     c.loop-worker.invariant.0 in (
-      takes_one c.args.stm.now workers yielded (into_iter_items c.next.new.self) c.loop-worker.founder c.retire.new.founder worker
-          takes c.retire.ensures.retired,
+      takes_one c.args.table.now workers yielded (into_iter_items c.next.new.self) c.loop-worker.founder c.retire.new.founder worker
+          takes c.retire.ensures.taken,
       c.push_reserved.ensures.items
           ∙ ap (λ (ss : List Share). ss ++ c.retire.result ∷ []) c.loop-worker.invariant.1
           ∙ ap (λ (s : Share). map share_of yielded ++ s ∷ []) c.retire.ensures.share

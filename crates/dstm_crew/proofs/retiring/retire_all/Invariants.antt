@@ -7,6 +7,6 @@ use Rattle.dstm_crew.proofs.retiring.retire_all.Given as goal
 
 abbrev pub invariant-loop-worker : goal.invariant-loop-worker
 invariant-loop-worker l =
-    Takes l.stm l.fn.workers.items l.yielded (into_iter_items l.worker-iterator) l.founder
+    Takes l.table l.fn.workers.items l.yielded (into_iter_items l.worker-iterator) l.founder
     × (l.shares.items ≡ map share_of l.yielded)
     × (length l.fn.workers.items ≤ vec_capacity l.shares)

@@ -1,6 +1,6 @@
 use Rattle.std.proofs.Common.{◌≡◌, ◌+◌, ◌<◌, true, List, nat_lt, length, rules, sym, subst}
 use Rattle.dstm_report.specs.declared.report.Row.{Row}
-use Rattle.dstm_records.specs.declared.round.Round.{Round}
+use Rattle.dstm_tables.specs.declared.tables.Round.{Round}
 use Rattle.dstm_records.specs.Running.{AddsClosed}
 use Rattle.dstm_records.proofs.Running.{Reached, at_first, rounds_left}
 use Rattle.dstm_crew.proofs.Played.{all_ended, all_left, closed_more, closed_so_far, one_round_more, round_falls}

@@ -7,7 +7,7 @@ use Rattle.dstm_crew.proofs.seats.seat_all.Goals as goal
 
 pub loop-share-preserved : goal.loop-share-preserved
 loop-share-preserved c =
-    let table = c.args.stm.now in
+    let table = c.args.table.now in
     let shares = c.args.shares.items in
     let workers = c.loop-share.workers.items in
     let left = into_iter_items c.next.new.self in
@@ -16,7 +16,7 @@ loop-share-preserved c =
     c.loop-share.invariant.0 in
     let now : c.push_reserved.new.self.items ≡ workers ++ c.in_ok-seat.field-0 ∷ [] = c.push_reserved.ensures.items in (
       subst (λ (ws : List Worker). Seats table shares ws left c.seat.new.founder) (sym now)
-          (seats_one table shares workers left c.loop-share.founder c.seat.new.founder c.in-Some.share c.in_ok-seat.field-0 _ seats
-          c.in_ok-seat.ensures.share c.in_ok-seat.ensures.enrols),
+          (seats_one table shares workers left c.loop-share.founder c.seat.new.founder c.in-Some.share c.in_ok-seat.field-0 seats
+          c.in_ok-seat.ensures.share c.in_ok-seat.ensures.given),
       search rules,
     )

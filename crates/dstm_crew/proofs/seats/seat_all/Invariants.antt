@@ -6,5 +6,5 @@ use Rattle.dstm_crew.proofs.seats.seat_all.Given as goal
 
 abbrev pub invariant-loop-share : goal.invariant-loop-share
 invariant-loop-share l =
-    Seats l.stm l.fn.shares.items l.workers.items (into_iter_items l.share-iterator) l.founder
+    Seats l.table l.fn.shares.items l.workers.items (into_iter_items l.share-iterator) l.founder
     × (length l.fn.shares.items ≤ vec_capacity l.workers)

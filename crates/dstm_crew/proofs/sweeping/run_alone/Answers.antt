@@ -9,10 +9,10 @@ use Rattle.dstm_crew.proofs.sweeping.run_alone.Goals as goal
 
 pub loop-turns-init : goal.loop-turns-init
 loop-turns-init c = (
-  may_begin c.args.workload.now c.args.number c.args.stm.now c.args.caller.now c.args.rows.now.items c.args.turns.now
+  may_begin c.args.workload.now c.args.number c.args.table.now c.args.caller.now c.args.rows.now.items c.args.turns.now
       c.requires.can,
   c.requires.room,
-  sweep_begins c.args.workload.now c.args.number c.args.stm.now c.args.caller.now c.args.rows.now.items c.args.turns.now
+  sweep_begins c.args.workload.now c.args.number c.args.table.now c.args.caller.now c.args.rows.now.items c.args.turns.now
       c.requires.can,
 )
 
@@ -20,7 +20,7 @@ pub returns-in-Done : goal.returns-in-Done
 returns-in-Done c =
     let swept = c.in-Done.ensures.swept c.args.caller.now c.args.rows.now.items c.args.turns.now c.requires.can
     c.loop-turns.invariant.2 in
-    end_done c.args.workload.now c.args.number c.args.stm.now c.args.caller.now c.args.rows.now.items c.args.turns.now
+    end_done c.args.workload.now c.args.number c.args.table.now c.args.caller.now c.args.rows.now.items c.args.turns.now
     c.requires.can c.sweep.new.caller c.sweep.new.rows.items c.sweep.new.turns c.args.workload.now.workers swept
 
 pub returns-in-Spent : goal.returns-in-Spent
@@ -31,14 +31,14 @@ pub returns-in_default : goal.returns-in_default
 returns-in_default c =
     let swept = c.in-Blocked.ensures.swept c.args.caller.now c.args.rows.now.items c.args.turns.now c.requires.can
     c.loop-turns.invariant.2 in
-    end_empty c.args.workload.now c.args.number c.args.stm.now c.args.caller.now c.args.rows.now.items c.args.turns.now
+    end_empty c.args.workload.now c.args.number c.args.table.now c.args.caller.now c.args.rows.now.items c.args.turns.now
     c.requires.can c.sweep.new.caller c.sweep.new.rows.items c.sweep.new.turns c.in_default.ensures.none swept
 
 pub returns-in_default-give_up : goal.returns-in_default-give_up
 returns-in_default-give_up c =
     let swept = c.in-Blocked.ensures.swept c.args.caller.now c.args.rows.now.items c.args.turns.now c.requires.can
     c.loop-turns.invariant.2 in
-    given_up_spent c.args.workload.now c.args.number c.args.stm.now c.args.caller.now c.args.rows.now.items c.args.turns.now
+    given_up_spent c.args.workload.now c.args.number c.args.table.now c.args.caller.now c.args.rows.now.items c.args.turns.now
     c.requires.can c.sweep.new.caller c.give_up.new.caller c.sweep.new.rows.items c.sweep.new.turns
     c.in_default-give_up.ensures.spent swept
 
@@ -71,8 +71,8 @@ loop-turns-preserved c =
     } in
     let fewer : length c.push_row.new.turns.left + 1 ≡ length turns.left =
     ap (λ (t : Turning). length t.left + 1) c.push_row.ensures.turns ∙ length-without_first job.worker turns.left job turn in
-    let may : MayStep workload c.args.stm.now c.give_up.new.caller (rows ++ row ∷ []) c.push_row.new.turns =
-    may_on workload c.args.stm.now c.sweep.new.caller c.give_up.new.caller rows (rows ++ row ∷ []) turns c.push_row.new.turns
+    let may : MayStep workload c.args.table.now c.give_up.new.caller (rows ++ row ∷ []) c.push_row.new.turns =
+    may_on workload c.args.table.now c.sweep.new.caller c.give_up.new.caller rows (rows ++ row ∷ []) turns c.push_row.new.turns
     c.in-Blocked.ensures.may gave.made.on
     (turns_after workload rows turns c.push_row.new.turns row job c.in-Blocked.ensures.may.valid
     c.in-Blocked.ensures.may.turns_are turn refl c.push_row.ensures.turns) in
@@ -80,10 +80,10 @@ loop-turns-preserved c =
     c.loop-turns.invariant.2 in
     let goes : Sweeps workload c.args.number c.args.caller.now c.give_up.new.caller c.args.rows.now.items (rows ++ row ∷ [])
     c.push_row.new.turns 0 false =
-    step_given_up workload c.args.number c.args.stm.now c.args.caller.now c.args.rows.now.items c.args.turns.now
+    step_given_up workload c.args.number c.args.table.now c.args.caller.now c.args.rows.now.items c.args.turns.now
     c.requires.can c.sweep.new.caller c.give_up.new.caller rows turns c.push_row.new.turns job drawn row turn gave refl refl
     refl refl never c.push_row.ensures.turns swept in (
-      subst (λ (rs : List Row). MayStep workload c.args.stm.now c.give_up.new.caller rs c.push_row.new.turns)
+      subst (λ (rs : List Row). MayStep workload c.args.table.now c.give_up.new.caller rs c.push_row.new.turns)
           (sym c.push_row.ensures.rows) may,
       omega (arith, fewer, c.push_row.ensures.len, c.in-Blocked.ensures.room, c.push_row.ensures.capacity),
       subst (λ (rs : List Row). Sweeps workload c.args.number c.args.caller.now c.give_up.new.caller c.args.rows.now.items rs

@@ -4,7 +4,7 @@ use Rattle.dstm_crew.proofs.sweeping.run_alone.Given as goal
 
 abbrev pub invariant-loop-turns : goal.invariant-loop-turns
 invariant-loop-turns l =
-    MayStep l.workload l.stm l.caller l.rows.items l.turns
+    MayStep l.workload l.table l.caller l.rows.items l.turns
     × (vec_len l.rows + length l.turns.left ≤ vec_capacity l.rows)
     × Sweeps l.workload l.number l.fn.caller l.caller l.fn.rows.items l.rows.items l.turns 0 Bool.false
 

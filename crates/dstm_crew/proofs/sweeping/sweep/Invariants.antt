@@ -1,19 +1,18 @@
 use Rattle.std.specs.Prelude.{◌≡◌, ◌≤◌, ◌+◌, List, length, vec_len, vec_capacity, Bool}
-use Rattle.dstm_engine.specs.Callers.{Called}
+use Rattle.dstm_tables.specs.declared.tables.Caller.{Caller}
 use Rattle.dstm_report.specs.declared.report.Row.{Row}
 use Rattle.dstm_report.specs.Turns.{Turning}
-use Rattle.dstm_store.specs.declared.law.StoreLaw.{StoreLaw}
 use Rattle.dstm_crew.specs.Alone.{CanRunAlone, MayStep, Sweeps, is_done}
 use Rattle.dstm_crew.specs.declared.sweeping.Swept.TheVariants as swept
 use Rattle.dstm_crew.proofs.sweeping.sweep.Given as goal
 
 abbrev pub invariant-loop-worker : goal.invariant-loop-worker
 invariant-loop-worker l =
-    MayStep l.workload l.stm l.caller l.rows.items l.turns
+    MayStep l.workload l.table l.caller l.rows.items l.turns
     × (vec_len l.rows + length l.turns.left ≤ vec_capacity l.rows)
     × (length l.turns.left ≤ length l.fn.turns.left)
-    × ((first : Called StoreLaw) (before : List Row) (begun : Turning) →
-    CanRunAlone l.workload l.number l.stm first before begun →
+    × ((first : Caller) (before : List Row) (begun : Turning) →
+    CanRunAlone l.workload l.number l.table first before begun →
     Sweeps l.workload l.number first l.fn.caller before l.fn.rows.items l.fn.turns 0 Bool.false →
     Sweeps l.workload l.number first l.caller before l.rows.items l.turns l.worker (is_done l.swept))
     × (l.swept ≡ swept.Spent → ⊥)

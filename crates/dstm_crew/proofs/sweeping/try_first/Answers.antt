@@ -3,7 +3,7 @@ use Rattle.dstm_report.specs.declared.report.Row.{Row}
 use Rattle.dstm_report.specs.Lawful.{first_job}
 use Rattle.dstm_report.specs.Turns.{Turning}
 use Rattle.dstm_report.proofs.Rising.{first_own, length-without_first}
-use Rattle.dstm_crew.specs.Styles.{CanTry}
+use Rattle.dstm_tables.specs.Styles.{CanTry}
 use Rattle.dstm_crew.proofs.Worked.{can_try}
 use Rattle.dstm_crew.specs.Alone.{MayStep, Sweeps}
 use Rattle.dstm_crew.proofs.Sweeps.{job_is, may_on, step_blocked, step_done, step_none, step_spent, third_of, turns_after}
@@ -11,7 +11,7 @@ use Rattle.dstm_crew.proofs.sweeping.try_first.Goals as goal
 
 pub returns-in_default-clause-stepped : goal.returns-in_default-clause-stepped
 returns-in_default-clause-stepped c first before begun some can sweeps =
-    step_none c.args.workload.now c.args.number c.args.stm.now first before begun can c.args.caller.now c.args.rows.now.items
+    step_none c.args.workload.now c.args.number c.args.table.now first before begun can c.args.caller.now c.args.rows.now.items
     c.args.turns.now c.args.worker some c.requires.worker (search rules) sweeps
 
 pub try_alone-requires-clause-can : goal.try_alone-requires-clause-can
@@ -46,9 +46,9 @@ returns-in-Done-clause-may c =
       number = c.in-Done.finished.number;
       replies = c.in-Done.finished.replies;
     } in
-    subst (λ (rs : List Row). MayStep workload c.args.stm.now c.try_alone.new.caller rs c.push_row.new.turns)
+    subst (λ (rs : List Row). MayStep workload c.args.table.now c.try_alone.new.caller rs c.push_row.new.turns)
     (sym c.push_row.ensures.rows)
-    (may_on workload c.args.stm.now c.args.caller.now c.try_alone.new.caller rows (rows ++ row ∷ []) c.args.turns.now
+    (may_on workload c.args.table.now c.args.caller.now c.try_alone.new.caller rows (rows ++ row ∷ []) c.args.turns.now
     c.push_row.new.turns c.requires.may c.in-Done.ensures.made.on
     (turns_after workload rows c.args.turns.now c.push_row.new.turns row job c.requires.may.valid c.requires.may.turns_are turn
     refl c.push_row.ensures.turns))
@@ -90,7 +90,7 @@ returns-in-Done-clause-stepped c first before begun some can sweeps =
     subst (λ (rs : List Row). Sweeps workload c.args.number first c.try_alone.new.caller before rs c.push_row.new.turns
     (c.args.worker + 1) true)
     (sym c.push_row.ensures.rows)
-    (step_done workload c.args.number c.args.stm.now first before begun can c.of-style.result c.args.caller.now
+    (step_done workload c.args.number c.args.table.now first before begun can c.of-style.result c.args.caller.now
     c.try_alone.new.caller rows c.args.turns.now c.push_row.new.turns c.args.worker some job c.in-Done.finished row own c.in-Done.ensures
     (first_own c.args.worker left job own) refl refl refl refl c.push_row.ensures.turns sweeps)
 
@@ -99,7 +99,7 @@ returns-in-Blocked-clause-stepped c first before begun some can sweeps =
     let workload = c.args.workload.now in
     let job = c.in-Some.job.now in
     let turn : first_job c.args.worker c.args.turns.now.left ≡ Some job = search rules in
-    step_blocked workload c.args.number c.args.stm.now first before begun can c.of-style.result c.args.caller.now
+    step_blocked workload c.args.number c.args.table.now first before begun can c.of-style.result c.args.caller.now
     c.try_alone.new.caller c.args.rows.now.items c.args.turns.now c.args.worker some job c.requires.worker
     (λ is. third_of workload.version c.args.options.now.release (sym c.of-style.ensures ∙ is)) turn c.in-Blocked.ensures sweeps
 
@@ -107,5 +107,5 @@ pub returns-in-Spent-clause-stepped : goal.returns-in-Spent-clause-stepped
 returns-in-Spent-clause-stepped c first before begun some can sweeps =
     let job = c.in-Some.job.now in
     let turn : first_job c.args.worker c.args.turns.now.left ≡ Some job = search rules in
-    step_spent c.args.workload.now c.args.number c.args.stm.now first before begun can c.args.caller.now c.try_alone.new.caller
+    step_spent c.args.workload.now c.args.number c.args.table.now first before begun can c.args.caller.now c.try_alone.new.caller
     c.args.rows.now.items c.args.turns.now c.args.worker some job c.requires.worker turn c.in-Spent.ensures sweeps

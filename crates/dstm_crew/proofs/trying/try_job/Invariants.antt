@@ -1,5 +1,6 @@
 use Rattle.std.proofs.Common.{◌-◌, ◌≤◌}
-use Rattle.dstm_engine.specs.Callers.{shape_of, state}
+use Rattle.dstm_tables.specs.Callers.{begun, round_of}
+use Rattle.dstm_tables.specs.Tells.{attempts_of}
 use Rattle.dstm_crew.proofs.Retrying.{Waited}
 use Rattle.dstm_crew.proofs.trying.try_job.Given as goal
 
@@ -7,4 +8,4 @@ abbrev pub invariant-loop-finished : goal.invariant-loop-finished
 invariant-loop-finished l = (l.turns ≤ 64) × Waited l.initial.caller l.caller
 
 abbrev pub decreases-loop-finished : goal.decreases-loop-finished
-decreases-loop-finished l = (shape_of l.caller).attempts - (state l.caller).begun
+decreases-loop-finished l = attempts_of (round_of l.caller) - begun l.caller

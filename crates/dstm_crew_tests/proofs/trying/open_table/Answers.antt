@@ -1,4 +1,4 @@
-use Rattle.dstm_crew.proofs.Fresh.{fresh_begun, fresh_done, fresh_rest}
+use Rattle.dstm_tables.proofs.Fresh.{fresh_begun, fresh_done, fresh_rest}
 use Rattle.dstm_crew_tests.proofs.trying.open_table.Goals as goal
 
 pub returns-in-Ok-clause-rest : goal.returns-in-Ok-clause-rest

@@ -2,10 +2,10 @@ use Rattle.std.proofs.Common.{◌≡◌, ◌<◌, ℕ, List, [], ◌∷◌, ◌+
 use Rattle.std.proofs.lemmas.List.{get_or_default}
 use Rattle.dstm_workload.specs.declared.workload.Job.{Job}
 use Rattle.dstm_report.specs.Turns.{job_at, no_job}
-use Rattle.dstm_crew.specs.declared.style.Style.{Style}
-use Rattle.dstm_crew.specs.declared.trying.Finished.{Finished}
+use Rattle.dstm_tables.specs.declared.style.Style.{Style}
+use Rattle.dstm_tables.specs.declared.trying.Finished.{Finished}
 use Rattle.dstm_crew.specs.Tries.{HasLeft}
-use Rattle.dstm_crew.proofs.Worked.{Stands, at_start, one_done, next_is, stopped}
+use Rattle.dstm_crew.proofs.Worked.{Stands, at_start, one_done, stopped, next_is}
 use Rattle.dstm_crew.proofs.worker.Worker.run.Goals as goal
 
 pub loop-at-init : goal.loop-at-init

@@ -1,0 +1,37 @@
+-- Tables that are as the options and the jobs want them.
+use Rattle.std.proofs.Common.{◌≡◌, ◌∙◌, ℕ, true, sym, ap, subst}
+use Rattle.std.specs.Prelude.{not}
+use Rattle.dstm_core.specs.declared.shape.Shape.{Shape}
+use Rattle.dstm_words.specs.declared.terms.Terms as core_terms
+use Rattle.dstm_tl2.specs.declared.terms.Terms as tl2_terms
+use Rattle.dstm_store.specs.declared.law.StoreLaw.{StoreLaw}
+use Rattle.dstm_options.specs.declared.options.Engine.{Engine}
+use Rattle.dstm_options.specs.declared.options.Options.{Options}
+use Rattle.dstm_tables.specs.declared.tables.Round.{Round}
+use Rattle.dstm_tables.specs.declared.tables.Round.TheVariants.{Dstm, Tl2}
+use Rattle.dstm_tables.specs.Founders.{HasShape}
+use Rattle.dstm_tables.specs.Tells.{IsOf, IsPast, attempts_of, lets_go}
+use Rattle.dstm_records.specs.Records.{IsDstmMade, IsMade, IsReleasing}
+use Rattle.dstm_records.specs.Rounds.{is_parallel}
+
+module _ (options : Options) (version number jobs : ℕ) where
+  -- a table of such a shape
+  pub is_made : (shape : Shape) (r : Round) → IsDstmMade options version number jobs shape → HasShape shape r →
+      attempts_of r ≡ shape.attempts → IsMade options version number jobs r
+  is_made shape (Dstm r) made is same = subst (IsDstmMade options version number jobs) (sym is) made
+  is_made shape (Tl2 r) made is same = same ∙ made.attempts
+
+  -- it stays as it was made
+  pub made_past : (a b : Round) → IsPast a b → IsMade options version number jobs a → IsMade options version number jobs b
+  made_past (Dstm a) (Dstm b) past made =
+      subst (λ (t : core_terms.Terms StoreLaw). IsDstmMade options version number jobs t.shape) (sym past.0) made
+  made_past (Tl2 a) (Tl2 b) past made = ap (λ (t : tl2_terms.Terms StoreLaw). t.attempts) past.0 ∙ made
+  made_past (Dstm a) (Tl2 b) past made = absurd past
+  made_past (Tl2 a) (Dstm b) past made = absurd past
+
+  -- where reads are given up early they are let go
+  pub reads_let_go : (r : Round) → IsReleasing options version → is_parallel number ≡ true → IsOf options.engine r →
+      IsMade options version number jobs r → lets_go r ≡ true
+  reads_let_go (Dstm r) releasing parallel is made = ap not (made.all_write parallel ∙ releasing.reads)
+  reads_let_go (Tl2 r) releasing parallel is made =
+      absurd (subst (λ (e : Engine). IsOf e (Tl2 r)) releasing.engine is)

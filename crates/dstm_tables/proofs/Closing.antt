@@ -1,0 +1,125 @@
+-- What is known of a caller as it was taken back is so in the record of its table, where it makes no more events.
+use Rattle.std.proofs.Common.{◌≡◌, ◌∙◌, ◌⊎◌, ◌<◌, ◌≤◌, ℕ, List, sym, ap, subst, inl, inr, arith}
+use Rattle.std.specs.Prelude.{Option}
+use Rattle.dstm_model.specs.declared.value.Val.{Val}
+use Rattle.dstm_machines.specs.Traces.{IsPastOf, events_of}
+use Rattle.dstm_machines.proofs.Own.{same_local}
+use Rattle.dstm_core.specs.Events as core_events
+use Rattle.dstm_core.specs.Runs as core
+use Rattle.dstm_opacity.specs.Committed as core_answers
+use Rattle.dstm_opacity.proofs.Stays.{told_stays}
+use Rattle.dstm_words.specs.declared.terms.Terms as core_terms
+use Rattle.dstm_tl2.specs.Rules.{Event}
+use Rattle.dstm_tl2.specs.Runs.{local, tl2}
+use Rattle.dstm_tl2.specs.Sharing.{table_of}
+use Rattle.dstm_tl2.specs.State.{LocalState}
+use Rattle.dstm_tl2.specs.declared.terms.Terms as tl2_terms
+use Rattle.dstm_tl2.proofs.Done.{same_done_by}
+use Rattle.dstm_tl2_order.specs.Ended as ended
+use Rattle.dstm_tl2_order.proofs.Ones.{committed_stays, disturbed_stays, one_same}
+use Rattle.dstm_tl2_order.proofs.WasRead.{same_reads}
+use Rattle.dstm_store.specs.declared.law.StoreLaw.{StoreLaw}
+use Rattle.dstm_workload.specs.declared.workload.Job.{Job}
+use Rattle.dstm_workload.specs.declared.workload.Workload.{Workload}
+use Rattle.dstm_tables.specs.Answers.{IsBlockedWith}
+use Rattle.dstm_tables.specs.Jobs.{HadToStop, NoneWasted, Waited}
+use Rattle.dstm_tables.specs.Tells.{IsPast, IsRun, SameOwn, callers_of, done_of}
+use Rattle.dstm_tables.specs.declared.tables.Round.{Round}
+use Rattle.dstm_tables.specs.declared.tables.Round.TheVariants.{Dstm, Tl2}
+use Rattle.dstm_tables.proofs.ClosingByDstm.{had_to_stop_at_close, none_wasted_at_close}
+
+module _ (workload : Workload) (job : Option Job) where
+  -- ---- TL2
+
+  module _ (t : tl2_terms.Terms StoreLaw) (old new : List Event) (c : ℕ) (past : IsPastOf old new)
+      (own : events_of c new ≡ events_of c old) where
+    same : local (table_of t) new c ≡ local (table_of t) old c
+    same = same_local tl2 (table_of t) new old c own
+
+    tl2_waited : (i : ℕ) → Waited workload job (Tl2 (record { terms = t; log = old })) c i →
+        Waited workload job (Tl2 (record { terms = t; log = new })) c i
+    tl2_waited i was = record {
+      version = was.version;
+      stood = record {
+        given_up = one_same ended.draws (table_of t) new old c i own ∙ was.stood.given_up;
+        blocked =
+            subst (λ (values : List (ℕ × Val)). IsBlockedWith workload.layout values job)
+            (sym (same_reads (table_of t) new old c i own)) was.stood.blocked;
+      };
+    }
+
+    tl2_none : NoneWasted workload job (Tl2 (record { terms = t; log = old })) c →
+        NoneWasted workload job (Tl2 (record { terms = t; log = new })) c
+    tl2_none none i some few =
+        let before : i ≤ (local (table_of t) old c).begun = omega (arith, few, ap (λ (l : LocalState). l.begun) same) in
+        by (none i some before)
+      where
+        by : ended.HasCommitted (table_of t) old c i
+            ⊎ (ended.Disturbed (table_of t) old c i ⊎ Waited workload job (Tl2 (record { terms = t; log = old })) c i) →
+            ended.HasCommitted (table_of t) new c i
+            ⊎ (ended.Disturbed (table_of t) new c i ⊎ Waited workload job (Tl2 (record { terms = t; log = new })) c i)
+        by (inl was) =
+            inl (subst (λ (log : List Event). ended.HasCommitted (table_of t) log c i) past.whole
+            (committed_stays (table_of t) past.later old c i was))
+        by (inr (inl was)) =
+            inr (inl (subst (λ (log : List Event). ended.Disturbed (table_of t) log c i) past.whole
+            (disturbed_stays (table_of t) past.later old c i was)))
+        by (inr (inr was)) = inr (inr (tl2_waited i was))
+
+    tl2_stop : HadToStop workload job (Tl2 (record { terms = t; log = old })) c →
+        HadToStop workload job (Tl2 (record { terms = t; log = new })) c
+    tl2_stop (inl spent) = inl (ap (λ (l : LocalState). l.begun) same ∙ spent)
+    tl2_stop (inr was) =
+        inr (subst (λ (l : LocalState). (0 < l.begun) × Waited workload job (Tl2 (record { terms = t; log = new })) c l.begun) (sym same)
+        (was.0, tl2_waited (local (table_of t) old c).begun was.1))
+
+  -- ---- under each engine
+
+  pub none_at_close : (a b : Round) (c : ℕ) → IsRun b → c < callers_of a → IsPast a b → SameOwn c a b →
+      NoneWasted workload job a c → NoneWasted workload job b c
+  none_at_close (Dstm a) (Dstm b) c run inside past own none =
+      subst (λ (t : core_terms.Terms StoreLaw). core.Core t.shape b.log → c < t.shape.callers →
+      NoneWasted workload job (Dstm (record { terms = t; log = b.log })) c) (sym past.0)
+      (λ ran within. none_wasted_at_close a.terms c a.log b.log ran within past.1 own workload job none)
+      run.run.core (subst (λ (t : core_terms.Terms StoreLaw). c < t.shape.callers) (sym past.0) inside)
+  none_at_close (Tl2 a) (Tl2 b) c run inside past own none =
+      subst (λ (t : tl2_terms.Terms StoreLaw). NoneWasted workload job (Tl2 (record { terms = t; log = b.log })) c) (sym past.0)
+      (tl2_none a.terms a.log b.log c past.1 own none)
+  none_at_close (Dstm a) (Tl2 b) c run inside past own none = absurd past
+  none_at_close (Tl2 a) (Dstm b) c run inside past own none = absurd past
+
+  pub stop_at_close : (a b : Round) (c : ℕ) → IsRun b → c < callers_of a → IsPast a b → SameOwn c a b →
+      HadToStop workload job a c → HadToStop workload job b c
+  stop_at_close (Dstm a) (Dstm b) c run inside past own had =
+      subst (λ (t : core_terms.Terms StoreLaw). core.Core t.shape b.log → c < t.shape.callers →
+      HadToStop workload job (Dstm (record { terms = t; log = b.log })) c) (sym past.0)
+      (λ ran within. had_to_stop_at_close a.terms c a.log b.log ran within past.1 own workload job had)
+      run.run.core (subst (λ (t : core_terms.Terms StoreLaw). c < t.shape.callers) (sym past.0) inside)
+  stop_at_close (Tl2 a) (Tl2 b) c run inside past own had =
+      subst (λ (t : tl2_terms.Terms StoreLaw). HadToStop workload job (Tl2 (record { terms = t; log = b.log })) c) (sym past.0)
+      (tl2_stop a.terms a.log b.log c past.1 own had)
+  stop_at_close (Dstm a) (Tl2 b) c run inside past own had = absurd past
+  stop_at_close (Tl2 a) (Dstm b) c run inside past own had = absurd past
+
+-- ---- what a caller has committed
+
+dstm_done : (terms : core_terms.Terms StoreLaw) (old new : List core_events.Event) (c : ℕ) → core.Core terms.shape new →
+    IsPastOf old new → events_of c new ≡ events_of c old →
+    done_of (Dstm (record { terms = terms; log = new })) c ≡ done_of (Dstm (record { terms = terms; log = old })) c
+dstm_done terms old new c run past own =
+    let shape = terms.shape in
+    let start = terms.start.value.items in
+    subst (λ (log : List core_events.Event). core_answers.done_by shape start log log c ≡ core_answers.done_by shape start old old c)
+    past.whole
+    (told_stays shape start past.later old c (subst (core.Core shape) (sym past.whole) run) (ap (events_of c) past.whole ∙ own))
+
+pub done_at_close : (a b : Round) (c : ℕ) → IsRun b → IsPast a b → SameOwn c a b → done_of b c ≡ done_of a c
+done_at_close (Dstm a) (Dstm b) c run past own =
+    subst (λ (t : core_terms.Terms StoreLaw). core.Core t.shape b.log →
+    done_of (Dstm (record { terms = t; log = b.log })) c ≡ done_of (Dstm a) c) (sym past.0)
+    (λ ran. dstm_done a.terms a.log b.log c ran past.1 own) run.run.core
+done_at_close (Tl2 a) (Tl2 b) c run past own =
+    subst (λ (t : tl2_terms.Terms StoreLaw). done_of (Tl2 (record { terms = t; log = b.log })) c ≡ done_of (Tl2 a) c) (sym past.0)
+    (same_done_by (table_of a.terms) b.log a.log c own)
+done_at_close (Dstm a) (Tl2 b) c run past own = absurd past
+done_at_close (Tl2 a) (Dstm b) c run past own = absurd past

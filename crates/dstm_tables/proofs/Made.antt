@@ -1,0 +1,233 @@
+-- What an attempt leaves, from the clauses of the engine's calls.
+use Rattle.std.proofs.Common.{◌≡◌, ◌∙◌, ◌+◌, ◌-◌, ◌*◌, ◌<◌, ◌≤◌, ◌++◌, ◌∷◌, ℕ, List, [], Some, None, true, false, length, refl, sym, ap, subst, arith, is_some}
+use Rattle.std.specs.Prelude.{IfSome, Option, All}
+use Rattle.std.specs.List.{AllByRecursion, sum_by}
+use Rattle.std.proofs.lemmas.Bool.{eq-eqb}
+use Rattle.std.proofs.lemmas.List.Elements.{All-from_recursion, recursion_from_All}
+use Rattle.std.proofs.lemmas.List.Sums.{sum_by-append}
+use Rattle.dstm_model.specs.declared.value.Val.{Val}
+use Rattle.dstm_model.specs.declared.layout.Layout.{Layout}
+use Rattle.dstm_model.specs.declared.op.Op.{Op}
+use Rattle.dstm_model.specs.declared.op.Op.TheVariants.{Member}
+use Rattle.dstm_model.specs.declared.op.Which.TheVariants as which
+use Rattle.dstm_model.specs.declared.reply.Reply.{Reply}
+use Rattle.dstm_model.specs.Map.{with_writes}
+use Rattle.dstm_model.specs.Objects.{objects_of}
+use Rattle.dstm_model.specs.Store.{IsPlain}
+use Rattle.dstm_core.specs.Events.{Event}
+use Rattle.dstm_core.specs.Runs.{Core, local}
+use Rattle.dstm_core.specs.State.{LocalState, or_zero}
+use Rattle.dstm_core.specs.Traces.{events_of, word}
+use Rattle.dstm_core.specs.Words.{code_of}
+use Rattle.dstm_core.specs.Words.Word.{StatusWord}
+use Rattle.dstm_core.specs.declared.status.Status.TheVariants as status
+use Rattle.dstm_progress.specs.Ends.{StaysAt}
+use Rattle.dstm_progress.proofs.Ends.{named, spent_used_up}
+use Rattle.dstm_progress.proofs.OwnEvents.{after_own, allowed_own}
+use Rattle.dstm_progress.proofs.Sound.{number_stays, sound}
+use Rattle.dstm_order.specs.declared.again.Again.{Again}
+use Rattle.dstm_words.specs.Seats.{Home, IsRunOf}
+use Rattle.dstm_opacity.specs.Committed.{Committed}
+use Rattle.dstm_engine.specs.Attempts.{ReadsAtMost, Settles, done}
+use Rattle.dstm_engine.specs.Callers.{Called, law_of, shape_of, state}
+use Rattle.dstm_engine.specs.Endings.{Attempts}
+use Rattle.dstm_engine.specs.Outcomes.{IsLeft, Promises}
+use Rattle.dstm_engine.specs.Transactions.{SpentFrom}
+use Rattle.dstm_store.specs.declared.law.StoreLaw.{StoreLaw}
+use Rattle.dstm_store.specs.declared.job.JobTask.{JobTask}
+use Rattle.dstm_store.specs.Job.{Job as Body, DoesAll, KeepsAtMost}
+use Rattle.dstm_store.specs.Keeps.{is_of_list, most_kept}
+use Rattle.dstm_store.specs.Looks.{is_list_member}
+use Rattle.dstm_store.specs.Whole.{IsLawful}
+use Rattle.dstm_workload.specs.declared.workload.Job.{Job}
+use Rattle.dstm_tables.specs.Answers.{IsAnsweredBy, KeepsFew}
+use Rattle.dstm_tables.specs.Attempts.{HasCommitted}
+use Rattle.dstm_tables.specs.declared.style.Style.{Style}
+use Rattle.dstm_tables.specs.declared.style.Style.TheVariants.{Loose}
+use Rattle.dstm_tables.specs.declared.trying.Finished.{Finished}
+use Rattle.dstm_tables.proofs.Answered.{answered_plain}
+use Rattle.dstm_engine.proofs.Attempting.{attempt_makes}
+use Rattle.dstm_engine.proofs.Anew.{new_after}
+use Rattle.dstm_engine.proofs.Spending.{spent_fresh, spent_makes}
+use Rattle.dstm_tables.specs.ByDstm.{AtRest, OneMore, DidJob, WasKept, IsSpentFrom}
+use Rattle.dstm_tables.specs.Law.{keeps}
+
+-- a table of the store's law has the objects of its layout
+pub objects_are : (k : Called StoreLaw) → AtRest k → (shape_of k).objects ≡ objects_of (law_of k).layout
+objects_are k rest = sym rest.run.run.values ∙ rest.run.lawful.1.objects
+
+-- ---- the caller's number
+
+core_of : (k : Called StoreLaw) → IsRunOf keeps k.home.terms k.log → Core (shape_of k) k.log
+core_of k run = run.run.core
+
+-- a caller that has begun an attempt has its number
+pub numbered : (n : Called StoreLaw) → IsRunOf keeps n.home.terms n.log → 0 < (state n).begun →
+    (state n).number ≡ Some n.number
+numbered n run begun =
+    named (shape_of n) n.log run.run.core n.number ((sound (shape_of n) n.log run.run.core n.number).number begun)
+
+-- and keeps it
+pub number_kept : (k n : Called StoreLaw) (events : List Event) → n.home ≡ k.home → n.number ≡ k.number →
+    IsRunOf keeps n.home.terms n.log → events_of n.number n.log ≡ events ++ events_of n.number k.log →
+    (state k).number ≡ Some k.number → (state n).number ≡ Some n.number
+number_kept k n events home number run own was =
+    let s = shape_of n in
+    let before : local s k.log n.number ≡ state k =
+    ap (λ (h : Home StoreLaw). local h.terms.shape k.log n.number) home ∙ ap (local (shape_of k) k.log) number in
+    let some : is_some (local s k.log n.number).number ≡ true =
+    ap (λ (l : LocalState). is_some l.number) before ∙ ap is_some was in
+    let stays = number_stays s (local s k.log n.number) events (allowed_own s n.number n.log k.log events run.run.core own) some in
+    ap (λ (l : LocalState). l.number) (after_own s n.number n.log k.log events own) ∙ stays
+    ∙ ap (λ (l : LocalState). l.number) before ∙ was ∙ ap Some (sym number)
+
+-- ---- statuses
+
+-- an attempt whose status is committed and stays so has committed
+pub has_committed : (n : Called StoreLaw) → IsRunOf keeps n.home.terms n.log → (state n).number ≡ Some n.number →
+    StaysAt (shape_of n) n.log n.number (code_of status.Committed) →
+    HasCommitted (shape_of n) n.log n.number (state n).begun
+has_committed n run number stays =
+    let s = shape_of n in
+    let now : word s n.log (StatusWord (or_zero (state n).number * s.attempts + ((state n).begun - 1))) ≡ 4 =
+    stays [] run.run.core in
+    eq-eqb (word s n.log (StatusWord (n.number * s.attempts + ((state n).begun - 1)))) 4
+    (ap (λ (o : Option ℕ). word s n.log (StatusWord (or_zero o * s.attempts + ((state n).begun - 1)))) (sym number) ∙ now)
+
+-- ---- what the engine's attempts leave
+
+pub run_there : (k n : Called StoreLaw) → n.home ≡ k.home → IsRunOf keeps k.home.terms n.log → IsRunOf keeps n.home.terms n.log
+run_there k n home run = subst (λ (h : Home StoreLaw). IsRunOf keeps h.terms n.log) (sym home) run
+
+pub one_more : (k n : Called StoreLaw) (again : Option Again) → AtRest k → Attempts keeps k n again → OneMore k n
+one_more k n again rest a =
+    let run = run_there k n a.same.0 a.run in record {
+      on = record {
+        home = a.same.0;
+        number = a.same.1;
+        seen = a.seen;
+        made = attempt_makes keeps k n again rest.fresh a;
+        rest = record {
+          run = run;
+          enrolled = numbered n run (let b = a.begun in omega arith);
+          over = a.over;
+          fresh = a.fresh ∙ sym (new_after keeps k n again a);
+        };
+      };
+      begun = a.begun;
+    }
+
+-- where the attempts of a style let reads go, the newest transaction keeps few
+abbrev pub FewReads : Style → Job → (k n : Called StoreLaw) → Type 0
+FewReads style job k n =
+    style ≡ Loose → (shape_of n).all_write ≡ false → (by : Committed) → done n ≡ by ∷ done k → KeepsFew job by
+
+pub did_job : (style : Style) (layout : Layout) (job : Job) (k n : Called StoreLaw) (finished : Finished)
+    (is_right : List Val → List Val → Type 0) → AtRest k → Attempts keeps k n None → Settles keeps is_right k n finished.number →
+    ((s : Settles keeps is_right k n finished.number) → IsAnsweredBy layout job.ops finished.replies s.entry) →
+    FewReads style job k n → DidJob style layout job k n finished
+did_job style layout job k n finished is_right rest a s answered few =
+    let made = one_more k n None rest a in record {
+      made = made;
+      committed = has_committed n made.on.rest.run made.on.rest.enrolled (a.status refl);
+      by = record { caller = k.number; number = finished.number; entry = s.entry };
+      newest = s.done;
+      is = record { number = refl; answered = answered s };
+      few_reads = λ loose reads.
+          few loose reads (record { caller = k.number; number = finished.number; entry = s.entry }) s.done;
+    }
+
+pub was_kept : (k n : Called StoreLaw) (again : Again) → AtRest k → Attempts keeps k n (Some again) → done n ≡ done k → WasKept k n
+was_kept k n again rest a same =
+    let left : IsLeft n again × Promises n again =
+    subst (λ o. IfSome o (λ (x : Again). IsLeft n x × Promises n x)) (sym a.answers) a.ended.left in
+    record {
+      made = one_more k n (Some again) rest a;
+      disturbed = left.0.disturbed;
+      others = left.0.callers;
+      same_done = same;
+    }
+
+pub is_spent_from : (k n : Called StoreLaw) → AtRest k → SpentFrom keeps k n → IsSpentFrom k n
+is_spent_from k n rest s =
+    let home : n.home ≡ k.home = ap (λ (c : Called StoreLaw). c.home) s.caller in
+    let number : n.number ≡ k.number = ap (λ (c : Called StoreLaw). c.number) s.caller in
+    let run = run_there k n home s.steps.run in
+    let own : events_of n.number n.log ≡ s.steps.events ++ events_of n.number k.log =
+    subst (λ (c : ℕ). events_of c n.log ≡ s.steps.events ++ events_of c k.log) (sym number) s.steps.own in
+    record {
+      on = record {
+        home = home;
+        number = number;
+        seen = s.steps.seen;
+        made = spent_makes keeps k n rest.fresh s;
+        rest = record {
+          fresh = spent_fresh keeps k n rest.fresh s;
+          run = run;
+          enrolled = number_kept k n s.steps.events home number run own rest.enrolled;
+          over = s.live;
+        };
+      };
+      begun = s.begun;
+      was = s.spent;
+      spent = spent_used_up (shape_of n) n.log n.number run.run.core s.used_up;
+      same_done = s.same_done;
+    }
+
+-- ---- by the body of a job
+
+module _ (style : Style) (layout : Layout) (job : Job) (k n : Called StoreLaw) (finished : Finished) (rest : AtRest k)
+    (law : (law_of k).layout ≡ layout) (a : Attempts keeps k n None) where
+  size : (shape_of k).objects ≡ objects_of layout
+  size = objects_are k rest ∙ ap objects_of law
+
+  lawful : (map : List Val) → IsLawful layout map → keeps (law_of k) map
+  lawful map is = subst (λ (l : Layout). IsLawful l map) (sym law) is
+
+  -- a body that runs the operations in order
+  pub did_plain : (body : Body) → body.task.layout ≡ layout → body.task.ops ≡ job.ops → finished.replies ≡ body.replies →
+      All IsPlain job.ops →
+      Settles keeps (λ before after. DoesAll body.task before after body.replies) k n finished.number →
+      FewReads style job k n → DidJob style layout job k n finished
+  did_plain body same ops replies plain settles few =
+      did_job style layout job k n finished _ rest a settles (λ s.
+      subst (λ (rs : List Reply). IsAnsweredBy layout job.ops rs s.entry) (sym replies)
+      (answered_plain layout job.ops body.replies (shape_of k).objects size s.entry plain (λ map length is agrees.
+      let right = s.right map length (lawful map is) agrees in
+      subst (λ (l : Layout). DoesAll (record { layout = l; ops = job.ops }) map (with_writes map s.entry.writes) body.replies) same
+      (subst (λ (os : List Op). DoesAll (record { layout = body.task.layout; ops = os }) map (with_writes map s.entry.writes) body.replies) ops right))))
+      few
+
+-- ---- by a body that lets reads go
+
+-- what the newest transaction reads at most
+newest_reads : (most : ℕ) (n : Called StoreLaw) (by : Committed) (before : List Committed) → ReadsAtMost most n →
+    done n ≡ by ∷ before → length by.entry.reads ≤ most
+newest_reads most n by before reads is =
+    let same : by ≡ reads.last = let newest = reads.done in cc in
+    subst (λ (c : Committed). length c.entry.reads ≤ most) (sym same) reads.few
+
+-- a lookup in the list keeps three
+looked_up : (op : Op) → is_list_member op ≡ true → (is_of_list op ≡ true) × (sum_by most_kept (op ∷ []) ≡ 3)
+looked_up (Member which.List key) is = (refl, refl)
+looked_up op is = absurd (cc)
+
+kept_by : (ops : List Op) → AllByRecursion (λ op. is_list_member op ≡ true) ops →
+    AllByRecursion (λ op. is_of_list op ≡ true) ops × (sum_by most_kept ops ≤ 3 * length ops)
+kept_by [] all = (tt, omega arith)
+kept_by (op ∷ ops) all =
+    let one = looked_up op all.0 in
+    let more = kept_by ops all.1 in
+    let sum = sum_by-append most_kept (op ∷ []) ops in
+    ((one.0, more.0), (let three = one.1 in let rest = more.1 in omega (arith, sum, three, rest)))
+
+pub few_loose : (style : Style) (job : Job) (k n : Called StoreLaw) (task : JobTask) → n.home ≡ k.home →
+    task.ops ≡ job.ops →
+    ((shape_of k).all_write ≡ false → (most : ℕ) → KeepsAtMost task most → ReadsAtMost most n) → FewReads style job k n
+few_loose style job k n task home ops reads loose stay by newest all =
+    let stays = ap (λ (h : Home StoreLaw). h.terms.shape.all_write) (sym home) ∙ stay in
+    let kept = kept_by job.ops (recursion_from_All (λ (op : Op). is_list_member op ≡ true) job.ops all) in
+    let few : KeepsAtMost task (3 * length job.ops) =
+    subst (λ (os : List Op). All (λ op. is_of_list op ≡ true) os × (sum_by most_kept os ≤ 3 * length job.ops)) (sym ops)
+    (All-from_recursion (λ (op : Op). is_of_list op ≡ true) job.ops kept.0, kept.1) in
+    newest_reads (3 * length job.ops) n by (done k) (reads stays (3 * length job.ops) few) newest

@@ -1,0 +1,169 @@
+use Rattle.std.proofs.Common.{◌∙◌, ◌||◌, refl, ap, subst, sym, ℕ, false}
+use Rattle.std.specs.Prelude.{◌≡◌, ◌≢◌, is_some, None, Some, Option, IfSome}
+use Rattle.dstm_model.specs.declared.layout.Layout.{Layout}
+use Rattle.dstm_model.specs.Objects.{objects_of}
+use Rattle.dstm_mem.specs.Memory.{with_set}
+use Rattle.dstm_order.specs.declared.again.Again.{Again}
+use Rattle.dstm_words.specs.Seats.{Home}
+use Rattle.dstm_mem.proofs.InTheEnd.{in_the_end}
+use Rattle.dstm_engine.proofs.Made.{same_name, home, same_done}
+use Rattle.dstm_engine.proofs.Abandoning.{under_way}
+use Rattle.dstm_engine.specs.Callers.{Called, is_opened, shape_of, written}
+use Rattle.dstm_engine.specs.Outcomes.{IsLeft, Promises}
+use Rattle.dstm_engine.specs.Transactions.{TxPlace}
+use Rattle.dstm_compose.specs.declared.body.Outcome.TheVariants.{Blocked}
+use Rattle.dstm_store.specs.declared.job.JobTask.{JobTask}
+use Rattle.dstm_store.specs.Whole.{IsLawful}
+use Rattle.dstm_tables.specs.declared.style.Style.TheVariants.{Branches}
+use Rattle.dstm_tables.specs.ByDstm.{DidJob, WasKept, StoodAt}
+use Rattle.dstm_tables.specs.Law.{keeps}
+use Rattle.dstm_order.specs.Tasks.Task.{Leaving}
+use Rattle.dstm_order.specs.Retries.{TriesAgain}
+use Rattle.dstm_engine.proofs.AddingUp.{makes_both, makes_one}
+use Rattle.dstm_engine.proofs.Anew.{new_committed}
+use Rattle.dstm_tables.proofs.Made.{is_spent_from, objects_are, run_there}
+use Rattle.dstm_tables.proofs.Branched.{aborted_fresh, aborts, calls_by, right_for, one_more_by, was_kept_by, was_kept_dead, did_branch, rests, stood_at, unopened_by}
+use Rattle.dstm_tables.proofs.dstm.attempt_branches.Goals as goal
+
+-- The caller ends as the attempt left it, since this has the reference that it was begun with.
+
+pub returns-in-Err : goal.returns-in-Err
+returns-in-Err c =
+    is_spent_from c.args.caller.now c.begin.follows.lender-at-none c.requires.rest
+    (rw c.in-Err.is at c.begin.follows.holds-at-none)
+
+pub commit-requires-clause-lawful : goal.commit-requires-clause-lawful
+commit-requires-clause-lawful c map admits =
+    let begins = c.in-Ok.ensures.begins in
+    let place = c.in-Ok-run.ensures.leads.place in
+    let there = home keeps c.args.caller.now c.in-Ok.tx.caller.now c.run.new.mem.caller.now _ _ _ _ begins place in
+    subst (λ (l : Layout). IsLawful l (with_set map (written c.run.new.mem.caller.now)))
+    (ap (λ (t : JobTask). t.layout) c.in-Ok-run.ensures.task ∙ c.make-body.ensures.layout ∙ sym c.requires.law
+    ∙ ap (λ (h : Home _). h.terms.law.value.layout) (sym there))
+    (c.in-Ok-run.ensures.lawful map admits)
+
+pub returns-in-Ok-commit : goal.returns-in-Ok-commit
+returns-in-Ok-commit c =
+    let k = c.args.caller.now in
+    let b = c.in-Ok.tx.caller.now in
+    let t = c.run.new.mem.caller.now in
+    let n = c.commit.new.self.0 in
+    let ran = c.in-Ok-run.ensures in
+    let kept = c.in-Ok-commit.ensures.kept in
+    let begins = c.in-Ok.ensures.begins in
+    let place = ran.leads.place in
+    let name = same_name keeps k b t _ _ _ _ begins place _ c.in-Ok.ensures.same in
+    let nh : n.home ≡ t.home = ap (λ (x : Called _). x.home) kept in
+    let one = one_more_by k b t _ _ _ _ begins place n nh (ap (λ (x : Called _). x.number) kept)
+    c.in-Ok-commit.ensures.attempt (run_there t n nh c.in-Ok-commit.ensures.stays.steps.run) c.in-Ok-commit.ensures.number.over
+    (calls_by k b t _ _ _ _ begins place c.requires.rest n nh (ap (λ (x : Called _). x.number) kept)
+    (ap (λ (x : Called _). x.began) kept) c.in-Ok-commit.ensures.attempt c.in-Ok-commit.ensures.ended.told)
+    (λ some. ap (λ (x : Called _). x.fresh) kept ∙ sym (new_committed n
+    (run_there t n nh c.in-Ok-commit.ensures.stays.steps.run).run.core c.in-Ok-commit.ensures.number.status some)) in
+    in_the_end (λ (x : Called _). DidJob Branches c.args.layout.now c.args.job.now k x
+    (record { number = c.in-Ok-commit.number; replies = c.in-Ran.replies })) _ _ _ _ (assumption c) name
+    (did_branch k b t _ _ _ _ begins place c.args.layout.now c.args.job.now
+    (record { number = c.in-Ok-commit.number; replies = c.in-Ran.replies }) n c.requires.rest c.requires.law nh one
+    c.in-Ok-commit.ensures.number
+    (λ map admits.
+    right_for c.args.layout.now c.args.job.now.ops c.run.new.self.task c.run.new.self.outcome _ map _
+    (ap (λ (j : JobTask). j.layout) ran.task ∙ c.make-body.ensures.layout)
+    (ap (λ (j : JobTask). j.ops) ran.task ∙ c.make-body.ensures.ops) (sym c.outcome.ensures ∙ c.in-Ran.is)
+    (ran.right map admits)))
+
+pub returns-in-Err-commit : goal.returns-in-Err-commit
+returns-in-Err-commit c =
+    let k = c.args.caller.now in
+    let b = c.in-Ok.tx.caller.now in
+    let t = c.run.new.mem.caller.now in
+    let n = c.commit.new.self.0 in
+    let kept = c.in-Err-commit.ensures.kept in
+    let begins = c.in-Ok.ensures.begins in
+    let place = c.in-Ok-run.ensures.leads.place in
+    let name = same_name keeps k b t _ _ _ _ begins place _ c.in-Ok.ensures.same in
+    let nh : n.home ≡ t.home = ap (λ (x : Called _). x.home) kept in
+    let left = c.in-Err-commit.ensures.leaves.left in
+    let one = one_more_by k b t _ _ _ _ begins place n nh (ap (λ (x : Called _). x.number) kept)
+    c.in-Err-commit.ensures.attempt (run_there t n nh c.in-Err-commit.ensures.leaves.steps.run) left.over
+    (calls_by k b t _ _ _ _ begins place c.requires.rest n nh (ap (λ (x : Called _). x.number) kept)
+    (ap (λ (x : Called _). x.began) kept) c.in-Err-commit.ensures.attempt c.in-Err-commit.ensures.ended.told)
+    (aborted_fresh k b t _ _ _ _ begins place n (ap (λ (x : Called _). x.fresh) kept)
+    (run_there t n nh c.in-Err-commit.ensures.leaves.steps.run) left.aborted) in
+    in_the_end (λ (x : Called _). WasKept k x) _ _ _ _ (assumption c) name
+    (was_kept_by k b t _ _ _ _ begins place n _ one left c.in-Err-commit.ensures.done)
+
+pub returns-in-Ok-rechecked : goal.returns-in-Ok-rechecked
+returns-in-Ok-rechecked c =
+    let k = c.args.caller.now in
+    let b = c.in-Ok.tx.caller.now in
+    let t = c.run.new.mem.caller.now in
+    let u = c.recheck_often-rechecked.new.tx.caller.now in
+    let n = c.abandon.new.self.0 in
+    let ran = c.in-Ok-run.ensures in
+    let rechecked = c.in-Ok-rechecked.ensures in
+    let left = c.abandon.ensures in
+    let begins = c.in-Ok.ensures.begins in
+    let place = rechecked.place ∙ ran.leads.place in
+    let name = same_name keeps k b u _ _ _ _ begins place _ c.in-Ok.ensures.same in
+    let nh : n.home ≡ u.home = left.steps.same.0 in
+    let one = one_more_by k b u _ _ _ _ begins place n nh left.steps.same.1 left.attempt
+    (run_there u n nh left.steps.run) (rests u n left.steps)
+    (makes_both TriesAgain k u n (calls_by k b u _ _ _ _ begins place c.requires.rest u refl refl refl refl
+    (left.ended (ap (λ x. x || is_some u.left) rechecked.stands.live)).told)
+    (makes_one TriesAgain keeps Leaving u n None tt left.steps))
+    (λ some. aborted_fresh k b u _ _ _ _ begins place n (ap (λ (x : Called _). x.fresh) left.kept)
+    (run_there u n nh left.steps.run)
+    (aborts u n left.steps (rechecked.stands.newest c.requires.some).run rechecked.stands.live some) some) in
+    let there : t.home ≡ k.home = home keeps k b t _ _ _ _ begins ran.leads.place in
+    let law = ap (λ (h : Home _). h.terms.law.value.layout) there ∙ c.requires.law in
+    let size = ap (λ (h : Home _). h.terms.shape.objects) there ∙ objects_are k c.requires.rest
+    ∙ ap objects_of c.requires.law in
+    let blocked : c.run.new.self.outcome ≡ Blocked = sym c.outcome.ensures ∙ c.in-Blocked.is in
+    let began : b.home ≡ k.home = begins.steps.same.0 in
+    let unopened : (shape_of k).all_write ≡ false → (o : ℕ) → is_opened u o ≡ false = λ reads o.
+    rechecked.opened o
+    ∙ unopened_by b t o ran.leads.live
+    ((ran.looks blocked).opens (ap (λ (h : Home _). h.terms.shape.all_write) began ∙ reads) o) (begins.unopened o) in
+    in_the_end (λ (x : Called _). StoodAt Branches c.args.rechecks c.args.layout.now c.args.job.now k x) _ _ _ _
+    (assumption c) name
+    (stood_at c.args.rechecks c.args.layout.now c.args.job.now k b t u n c.requires.some one
+    (left.done ∙ same_done keeps k b u _ _ _ _ begins place) law size rechecked.stands left.steps begins
+    (ap (λ (p : TxPlace _). p.home) place) (ap (λ (p : TxPlace _). p.number) place) (ap (λ (p : TxPlace _). p.began) place)
+    unopened
+    (λ map admits.
+    right_for c.args.layout.now c.args.job.now.ops c.run.new.self.task c.run.new.self.outcome _ map _
+    (ap (λ (j : JobTask). j.layout) ran.task ∙ c.make-body.ensures.layout)
+    (ap (λ (j : JobTask). j.ops) ran.task ∙ c.make-body.ensures.ops) (sym c.outcome.ensures ∙ c.in-Blocked.is)
+    (ran.right map admits)))
+
+pub returns-in-Err-rechecked : goal.returns-in-Err-rechecked
+returns-in-Err-rechecked c =
+    let k = c.args.caller.now in
+    let b = c.in-Ok.tx.caller.now in
+    let u = c.recheck_often-rechecked.new.tx.caller.now in
+    let begins = c.in-Ok.ensures.begins in
+    let rechecked = c.in-Err-rechecked.ensures in
+    let place = rechecked.place ∙ c.in-Ok-run.ensures.leads.place in
+    let name = same_name keeps k b u _ _ _ _ begins place _ c.in-Ok.ensures.same in
+    let left : u.left ≢ None = λ none. let some = rechecked.dead in cc in
+    in_the_end (λ (x : Called _). WasKept k x) _ _ _ _ (assumption c) name
+    (was_kept_dead k b u _ _ _ _ begins place c.abandon.new.self.0 _ c.requires.rest
+    (c.abandon.ensures.ended (under_way u _ rechecked.dead)).told (c.abandon.ensures.dead left) rechecked.left
+    c.abandon.ensures.steps.run)
+
+pub returns-in-Err-run : goal.returns-in-Err-run
+returns-in-Err-run c =
+    let k = c.args.caller.now in
+    let b = c.in-Ok.tx.caller.now in
+    let t = c.run.new.mem.caller.now in
+    let begins = c.in-Ok.ensures.begins in
+    let leads = c.in-Err-run.ensures.leads in
+    let place = leads.place in
+    let name = same_name keeps k b t _ _ _ _ begins place _ c.in-Ok.ensures.same in
+    let again : t.left ≡ Some c.in-Err-run.field-0 = leads.ended.1 in
+    let left : t.left ≢ None = λ none. let some = again in cc in
+    let ended = c.abandon-in-Err-run.ensures.ended (under_way t _ again) in
+    in_the_end (λ (x : Called _). WasKept k x) _ _ _ _ (assumption c) name
+    (was_kept_dead k b t _ _ _ _ begins place c.abandon-in-Err-run.new.self.0 _ c.requires.rest ended.told (c.abandon-in-Err-run.ensures.dead left)
+    (subst (λ (o : Option Again). IfSome o (λ (x : Again). IsLeft t x × Promises t x)) again ended.left).0
+    c.abandon-in-Err-run.ensures.steps.run)

@@ -1,0 +1,21 @@
+use Rattle.std.proofs.Common.{◌∙◌, arith, ap}
+use Rattle.std.specs.Prelude.{◌+◌}
+use Rattle.dstm_tables.proofs.Rechecking.{recheck_sees}
+use Rattle.dstm_tables.proofs.dstm.recheck_often.Goals as goal
+
+pub loop-pass-preserved : goal.loop-pass-preserved
+loop-pass-preserved c =
+    let was = c.loop-pass.invariant.1 in
+    let more = c.in_ok-recheck.ensures in
+    let n = c.recheck.new.self.caller.now in (
+      λ o. more.opened o ∙ c.loop-pass.invariant.0 o,
+      record {
+        live = more.live;
+        held = λ o. more.held o ∙ was.held o;
+        sights = more.sights ∙ ap (λ count. count + 1) was.sights ∙ omega arith;
+        newest = λ some. recheck_sees c.loop-pass.tx.caller.now n was.live more.stays.steps more.live;
+      },
+      more.reference ∙ c.loop-pass.invariant.2,
+      more.table ∙ c.loop-pass.invariant.3,
+      more.place ∙ c.loop-pass.invariant.4,
+    )

@@ -1,0 +1,53 @@
+-- What a try of a table's only caller leaves: nobody keeps it from its commit.
+use Rattle.std.specs.Prelude.{◌≡◌, ℕ, true, false, List, [], ◌∷◌, None, reverse}
+use Rattle.dstm_model.specs.declared.value.Val.{Val}
+use Rattle.dstm_model.specs.declared.layout.Layout.{Layout}
+use Rattle.dstm_model.specs.Job.{apply_job}
+use Rattle.dstm_model.specs.Map.{state_after}
+use Rattle.dstm_model.specs.Store.{Store}
+use Rattle.dstm_opacity.specs.Committed.{Committed}
+use Rattle.dstm_engine.specs.Attempts.{done}
+use Rattle.dstm_engine.specs.Callers.{Called, shape_of, start_of, state}
+use Rattle.dstm_order.specs.Order.{is_spent}
+use Rattle.dstm_store.specs.declared.law.StoreLaw.{StoreLaw}
+use Rattle.dstm_store.specs.Whole.{StandsFor}
+use Rattle.dstm_workload.specs.declared.workload.Job.{Job}
+use Rattle.dstm_tables.specs.Answers.{entries_of}
+use Rattle.dstm_tables.specs.declared.only.OnlyTried.{OnlyTried}
+use Rattle.dstm_tables.specs.declared.only.OnlyTried.TheVariants as tried
+use Rattle.dstm_tables.specs.declared.style.Style.{Style}
+use Rattle.dstm_tables.specs.declared.style.Style.TheVariants.{Branches}
+use Rattle.dstm_tables.specs.ByDstm.{DidJob, GoesOn, OneMore}
+
+-- what the caller's transactions have left in the objects
+abbrev pub left_by : Called StoreLaw → List Val
+left_by k = state_after (start_of k) (entries_of (reverse (done k)))
+
+-- The attempt was given up: the job is blocked in the store that the caller's transactions have left. Where reads stay
+-- reads it has used no locator.
+pub record StoodAlone (style : Style) (layout : Layout) (job : Job) (k n : Called StoreLaw) : Type 0 where
+  pub branches : style ≡ Branches
+  pub made : OneMore k n
+  pub same_done : done n ≡ done k
+  pub blocked : (store : Store) → StandsFor layout (left_by n) store → apply_job job.ops store ≡ None
+  pub unused : (shape_of k).all_write ≡ false → (state n).installed ≡ (state k).installed
+
+-- no attempt was made, since the caller was spent
+pub record WasSpent (k n : Called StoreLaw) : Type 0 where
+  pub on : GoesOn k n
+  pub same_done : done n ≡ done k
+  pub spent : is_spent (shape_of k) (state k) ≡ true
+
+abbrev pub HasTriedAlone : Style → Layout → Job → (k n : Called StoreLaw) → OnlyTried → Type 0
+HasTriedAlone style layout job k n (tried.Done finished) = DidJob style layout job k n finished
+HasTriedAlone style layout job k n tried.Blocked = StoodAlone style layout job k n
+HasTriedAlone style layout job k n tried.Spent = WasSpent k n
+
+-- a transaction has committed that read and wrote nothing
+pub record HasGivenUp (k n : Called StoreLaw) (number : ℕ) : Type 0 where
+  pub made : OneMore k n
+  pub by : Committed
+  pub newest : done n ≡ by ∷ done k
+  pub drew : number ≡ by.number
+  pub nothing_read : by.entry.reads ≡ []
+  pub nothing_written : by.entry.writes ≡ []

@@ -1,0 +1,71 @@
+ghost use Rattle.std.specs.Prelude.{◌≡◌, IfNone, IfSome};
+ghost use Rattle.dstm_tables.specs.Callers.{AtRest, home_of, law_of, round_of};
+ghost use Rattle.dstm_tables.specs.OnlyCallers.{HasGivenUp, HasTriedAlone, WasSpent};
+ghost use Rattle.dstm_tables.specs.Styles.{CanTry};
+ghost use Rattle.dstm_tables.specs.Tells.{callers_of};
+
+use crate::style::Style;
+use crate::tables::{Caller, Table};
+use crate::trying::Finished;
+use crate::{dstm, tl2};
+use dstm_model::Layout;
+use dstm_workload::Job;
+
+/// How a try of a table's only caller ended.
+#[derive(Debug, Drop)]
+pub enum OnlyTried {
+    /// It did the job.
+    Done(Finished),
+    /// The job is blocked.
+    Blocked,
+    /// None was made: the caller has no attempt left, or too few locators.
+    Spent,
+}
+
+/// Tries a job once, by a table's only caller.
+pub fn try_alone(
+    style: Style,
+    caller: &mut Caller,
+    table: &Table,
+    layout: &Layout,
+    job: &Job,
+) -> OnlyTried
+    requires table { home_of caller.old ≡ table.now }
+    requires only { callers_of (round_of caller.old) ≡ 1 }
+    requires law { (law_of caller.old).layout ≡ layout.now }
+    requires rest { AtRest caller.old }
+    requires can { CanTry style layout.now job.now }
+    ensures { HasTriedAlone style layout.now job.now caller.old caller.new result }
+{
+    match caller {
+        Caller::Dstm(caller) => match table {
+            Table::Dstm(stm) => dstm::try_alone(style, caller, stm, layout, job),
+            Table::Tl2(_) => unreachable!(),
+        },
+        Caller::Tl2(caller) => match table {
+            Table::Tl2(stm) => tl2::try_alone(style, caller, stm, layout, job),
+            Table::Dstm(_) => unreachable!(),
+        },
+    }
+}
+
+/// Commits an attempt of a table's only caller that opens nothing, and answers the number that it drew; or the caller is
+/// spent.
+pub fn give_up(caller: &mut Caller, table: &Table) -> Option<u64>
+    requires table { home_of caller.old ≡ table.now }
+    requires only { callers_of (round_of caller.old) ≡ 1 }
+    requires rest { AtRest caller.old }
+    ensures given_up { IfSome result (HasGivenUp caller.old caller.new) }
+    ensures spent { IfNone result (WasSpent caller.old caller.new) }
+{
+    match caller {
+        Caller::Dstm(caller) => match table {
+            Table::Dstm(stm) => dstm::give_up(caller, stm),
+            Table::Tl2(_) => unreachable!(),
+        },
+        Caller::Tl2(caller) => match table {
+            Table::Tl2(stm) => tl2::give_up(caller, stm),
+            Table::Dstm(_) => unreachable!(),
+        },
+    }
+}

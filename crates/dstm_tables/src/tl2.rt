@@ -1,0 +1,148 @@
+//! Trying jobs by TL2.
+
+ghost use Rattle.std.specs.Prelude.{◌≡◌, All, IfNone, IfSome};
+ghost use Rattle.dstm_model.specs.Store.{IsPlain};
+ghost use Rattle.dstm_tables.specs.Callers.{AtRest, law_of};
+ghost use Rattle.dstm_tables.specs.Jobs.{HasTried};
+ghost use Rattle.dstm_tables.specs.OnlyCallers.{HasGivenUp, HasTriedAlone, WasSpent};
+ghost use Rattle.dstm_tables.specs.declared.tables.Caller.TheVariants.{Tl2};
+ghost use Rattle.dstm_tables.specs.Styles.{CanTry};
+
+use crate::only::OnlyTried;
+use crate::style::Style;
+use crate::trying::{Finished, RECHECKS, Tried};
+use dstm_compose::{CompBody, Outcome};
+use dstm_mem::Body;
+use dstm_model::Layout;
+use dstm_store::{JobBody, StoreLaw};
+use dstm_tl2_engine::{TlCaller, TlEnded, TlSpent, TlStm, tl_attempt};
+use dstm_workload::Job;
+
+/// Makes one attempt at a job by TL2, its operations in order. No read is let go, whatever the style.
+pub(crate) fn attempt_plain(
+    style: Style,
+    rechecks: u32,
+    caller: &mut TlCaller<StoreLaw>,
+    stm: &TlStm<StoreLaw>,
+    layout: &Layout,
+    job: &Job,
+) -> Tried
+    requires table { caller.old.home ≡ stm.now }
+    requires law { (law_of (Tl2 caller.old)).layout ≡ layout.now }
+    requires rest { AtRest (Tl2 caller.old) }
+    requires can { CanTry style layout.now job.now }
+    requires plain { All IsPlain job.now.ops }
+    ensures { HasTried style rechecks layout.now job.now (Tl2 caller.old) (Tl2 caller.new) result }
+{
+    let _ = (style, rechecks);
+    let mut body = JobBody::make(layout, &job.ops);
+    match tl_attempt(caller, stm, &mut body) {
+        Ok(done) => Tried::Done(Finished {
+            number: done.number,
+            replies: body.into_replies(),
+        }),
+        Err(TlEnded::Again(_)) => Tried::Again,
+        Err(TlEnded::Spent) => Tried::Spent,
+    }
+}
+
+/// The same by the first open branch. One that stands at a blocked job is given up at once.
+pub(crate) fn attempt_branches(
+    rechecks: u32,
+    caller: &mut TlCaller<StoreLaw>,
+    stm: &TlStm<StoreLaw>,
+    layout: &Layout,
+    job: &Job,
+) -> Tried
+    requires table { caller.old.home ≡ stm.now }
+    requires law { (law_of (Tl2 caller.old)).layout ≡ layout.now }
+    requires rest { AtRest (Tl2 caller.old) }
+    requires can { CanTry Style.Branches layout.now job.now }
+    ensures { HasTried Style.Branches rechecks layout.now job.now (Tl2 caller.old) (Tl2 caller.new) result }
+{
+    let _ = rechecks;
+    let mut tx = match caller.begin(stm) {
+        Ok(tx) => tx,
+        Err(TlSpent) => return Tried::Spent,
+    };
+    let mut body = CompBody::make(layout, &job.ops);
+    match body.run(&mut tx) {
+        Ok(()) => match body.outcome() {
+            Outcome::Ran(replies) => match tx.commit() {
+                Ok(number) => Tried::Done(Finished { number, replies }),
+                Err(_) => Tried::Again,
+            },
+            Outcome::Blocked => {
+                tx.abandon();
+                Tried::Blocked
+            }
+        },
+        Err(_) => {
+            tx.abandon();
+            Tried::Again
+        }
+    }
+}
+
+/// Tries a job once, by a table's only caller.
+pub(crate) fn try_alone(
+    style: Style,
+    caller: &mut TlCaller<StoreLaw>,
+    stm: &TlStm<StoreLaw>,
+    layout: &Layout,
+    job: &Job,
+) -> OnlyTried
+    requires table { caller.old.home ≡ stm.now }
+    requires only { caller.old.home.terms.callers ≡ 1 }
+    requires law { (law_of (Tl2 caller.old)).layout ≡ layout.now }
+    requires rest { AtRest (Tl2 caller.old) }
+    requires can { CanTry style layout.now job.now }
+    ensures { HasTriedAlone style layout.now job.now (Tl2 caller.old) (Tl2 caller.new) result }
+{
+    match attempt_job(style, RECHECKS, caller, stm, layout, job) {
+        Tried::Done(finished) => OnlyTried::Done(finished),
+        Tried::Blocked => OnlyTried::Blocked,
+        Tried::Spent => OnlyTried::Spent,
+        Tried::Again => unreachable!(),
+    }
+}
+
+/// Makes one attempt at a job by TL2.
+pub(crate) fn attempt_job(
+    style: Style,
+    rechecks: u32,
+    caller: &mut TlCaller<StoreLaw>,
+    stm: &TlStm<StoreLaw>,
+    layout: &Layout,
+    job: &Job,
+) -> Tried
+    requires table { caller.old.home ≡ stm.now }
+    requires law { (law_of (Tl2 caller.old)).layout ≡ layout.now }
+    requires rest { AtRest (Tl2 caller.old) }
+    requires can { CanTry style layout.now job.now }
+    ensures { HasTried style rechecks layout.now job.now (Tl2 caller.old) (Tl2 caller.new) result }
+{
+    match style {
+        Style::Branches => attempt_branches(rechecks, caller, stm, layout, job),
+        _ => attempt_plain(style, rechecks, caller, stm, layout, job),
+    }
+}
+
+/// Commits an attempt of a table's only caller that opens nothing, and answers the number that it drew; or the caller is
+/// spent.
+pub(crate) fn give_up(caller: &mut TlCaller<StoreLaw>, stm: &TlStm<StoreLaw>) -> Option<u64>
+    requires table { caller.old.home ≡ stm.now }
+    requires only { caller.old.home.terms.callers ≡ 1 }
+    requires rest { AtRest (Tl2 caller.old) }
+    ensures given_up { IfSome result (HasGivenUp (Tl2 caller.old) (Tl2 caller.new)) }
+    ensures spent { IfNone result (WasSpent (Tl2 caller.old) (Tl2 caller.new)) }
+{
+    let tx = match caller.begin(stm) {
+        Ok(tx) => tx,
+        Err(TlSpent) => return None,
+    };
+    match tx.commit() {
+        Ok(number) => Some(number),
+        Err(_) => unreachable!(),
+    }
+}

@@ -1,0 +1,71 @@
+ghost use Rattle.std.specs.Prelude.{◌≡◌, ◌<◌};
+ghost use Rattle.dstm_tables.specs.Callers.{AtRest, home_of, law_of};
+ghost use Rattle.dstm_tables.specs.Jobs.{HasTried};
+ghost use Rattle.dstm_tables.specs.Styles.{CanTry};
+
+use crate::style::Style;
+use crate::tables::{Caller, Table};
+use crate::{dstm, tl2};
+use dstm_model::{Layout, Replies};
+use dstm_workload::Job;
+
+/// How often a blocked attempt makes sure that what it has read stands, before it is given up.
+pub const RECHECKS: u32 = 1_024;
+
+/// A job that was done: the number that its transaction drew, and its replies.
+#[derive(Debug, Drop)]
+pub struct Finished {
+    pub number: u64,
+    pub replies: Replies,
+}
+
+/// How an attempt at a job ended.
+#[derive(Debug, Drop)]
+pub enum Tried {
+    /// It did the job.
+    Done(Finished),
+    /// It was left, and must be made again.
+    Again,
+    /// None was made: the caller has no attempt left, or too few locators.
+    Spent,
+    /// It was given up at the job, which stayed blocked.
+    Blocked,
+}
+
+/// Why a job was not done.
+#[derive(Clone, Copy, Debug, PartialEq, Eq)]
+pub enum Left {
+    /// The caller has no attempt left, or too few locators.
+    Spent,
+    /// The job stayed blocked.
+    Blocked,
+}
+
+/// Makes one attempt at a job. One that stands at a blocked job is given up: under DSTM after it has made sure so many times
+/// that what it has read stands.
+pub fn attempt_job(
+    style: Style,
+    rechecks: u32,
+    caller: &mut Caller,
+    table: &Table,
+    layout: &Layout,
+    job: &Job,
+) -> Tried
+    requires table { home_of caller.old ≡ table.now }
+    requires law { (law_of caller.old).layout ≡ layout.now }
+    requires rest { AtRest caller.old }
+    requires can { CanTry style layout.now job.now }
+    requires some { 0 < rechecks }
+    ensures { HasTried style rechecks layout.now job.now caller.old caller.new result }
+{
+    match caller {
+        Caller::Dstm(caller) => match table {
+            Table::Dstm(stm) => dstm::attempt_job(style, rechecks, caller, stm, layout, job),
+            Table::Tl2(_) => unreachable!(),
+        },
+        Caller::Tl2(caller) => match table {
+            Table::Tl2(stm) => tl2::attempt_job(style, rechecks, caller, stm, layout, job),
+            Table::Dstm(_) => unreachable!(),
+        },
+    }
+}
