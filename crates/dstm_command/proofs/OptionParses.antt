@@ -4,25 +4,23 @@ use Rattle.std.specs.List.{list_any}
 use Rattle.std.specs.Option.{option_or}
 use Rattle.std.proofs.lemmas.Slice.Eq.{bytes_eq-Decides}
 use Rattle.std.proofs.lemmas.Str.{IsUtf8-string_bytes}
-use Rattle.clap.specs.Matches.{first_value, one_text}
 use Rattle.clap.specs.Values.{bool_text}
-use Rattle.clap.specs.Walk.{Row, Text, first_of, idle, nothing_held, one_of, Walk, has_row, row_text, rows_of, with_default}
+use Rattle.clap.specs.Walk.{Row, Text, idle, nothing_held, Walk, has_row, row_text, rows_of, with_default}
 use Rattle.clap.specs.Kinds.{Kinds, check_kinds, or_else}
 use Rattle.clap.specs.Takes.{is_given as is_used}
-use Rattle.clap.specs.Faults.{check_fault, defaults_fault, fault_of, given_default_fault, settle_fault, walk_fault}
+use Rattle.clap.specs.Faults.{defaults_fault, fault_of, given_default_fault, settle_fault, walk_fault}
 use Rattle.clap.specs.Simple.{built, matches_of}
 use Rattle.clap.specs.declared.parser.matches.Found.{Found}
 use Rattle.clap.specs.declared.parser.matches.ValueSource.TheVariants.{CommandLine}
 use Rattle.clap.proofs.FaultLemmas.{leaf_fault}
 use Rattle.clap.proofs.WalkLemmas.{find-map, first_value-rows, one_text-rows}
-use Rattle.dstm_command.specs.CommandLine.{is_two_hyphens, run_of, run_options}
-use Rattle.dstm_command.specs.Options.{Choice, Given, Table, flag, is_given, name_of, option_named, options_in, valued, value_of}
+use Rattle.dstm_command.specs.CommandLine.{is_two_hyphens}
+use Rattle.dstm_command.specs.Options.{Choice, Given, Table, flag, name_of, option_named, options_in, valued}
 use Rattle.dstm_command.specs.Parsers.{Holds, is_flag, options_app}
-use Rattle.dstm_command.specs.declared.command.RunOptions.{RunOptions}
 use Rattle.dstm_command.specs.declared.command.WordsError.{WordsError}
 use Rattle.dstm_command.specs.declared.command.WordsError.TheVariants.{Usage}
-use Rattle.dstm_command.proofs.OptionRows.{any_found, arg, args, default_in, default_of, default_row, found, found_finished, or_false, row_from, rows, same_if}
-use Rattle.dstm_command.proofs.OptionTurns.{fails, held_at, shape, stands}
+use Rattle.dstm_command.proofs.OptionRows.{any_found, arg, args, default_in, default_of, default_row, found, found_finished, or_false, row_from, rows}
+use Rattle.dstm_command.proofs.OptionTurns.{fails, shape, stands}
 use Rattle.dstm_command.proofs.OptionWords.{Agrees, AreWords, Proper, agrees, between, ends, refused, rows_at, inside, some_none, taken, total}
 
 pub or_nothing : (a : Kinds) → or_else a [] ≡ a

@@ -1,16 +1,14 @@
 -- One turn of the parser of a table's options, by what its word is.
-use Rattle.std.proofs.Common.{◌≡◌, ◌∙◌, ◌&&◌, ◌||◌, ◌==◌, ◌⊎◌, ℕ, Bool, true, false, not, cond, if◌then◌else◌, nat_lt, List, [], ◌∷◌, ◌++◌, length, Option, Some, None, is_some, option_map, slice_get, codes, chars, drop, encode_utf8, bytes_eq, refl, sym, ap, subst, true≢false, inl, inr, eqb-true}
+use Rattle.std.proofs.Common.{◌≡◌, ◌∙◌, ◌&&◌, ◌⊎◌, ℕ, Bool, true, false, not, if◌then◌else◌, nat_lt, List, [], ◌∷◌, length, Option, Some, None, option_map, slice_get, chars, drop, encode_utf8, bytes_eq, refl, sym, ap, true≢false, inl, inr}
 use Rattle.std.specs.Option.{option_map_or}
-use Rattle.std.specs.Str.{IsUtf8}
 use Rattle.std.proofs.lemmas.Slice.Eq.{bytes_eq-Decides}
-use Rattle.std.proofs.lemmas.Str.{encodes-chars}
-use Rattle.clap.specs.Lexer.{long_of, short_of, short_of_rest, strip_byte}
-use Rattle.clap.specs.Walk.{Held, Row, Rule, Step, Text, Waiting, Walk, after_flag, after_step, arg_by_id, arg_by_index, arg_by_long, arg_by_short, bundle_met, bundle_step, has_row, idle, long_met, long_or_other, next, option, option_word, plain, positional, pushed, settled_rows, short_or_plain, trailing, used, used_by_id, value, walked}
+use Rattle.clap.specs.Lexer.{long_of, short_of}
+use Rattle.clap.specs.Walk.{Held, Row, Rule, Step, Text, Waiting, Walk, after_flag, after_step, arg_by_short, bundle_met, bundle_step, idle, long_met, long_or_other, next, option, option_word, plain, positional, settled_rows, short_or_plain, trailing, used, used_by_id, value, walked}
 use Rattle.clap.specs.Kinds.{Kinds, or_else}
 use Rattle.clap.specs.Faults.{bundle_fault, bundle_step_fault, flag_word_fault, flags_fault, long_fault, positional_fault, settle_fault, short_fault, step_fault, stray_fault, turn_fault, use_fault}
 use Rattle.clap.specs.Simple.{Shape, built}
 use Rattle.clap.specs.declared.error.kind.ErrorKind.TheVariants.{ArgumentConflict}
-use Rattle.dstm_command.specs.Options.{Choice, Table, flag, name_of, option_named, valued}
+use Rattle.dstm_command.specs.Options.{Choice, Table, flag, option_named, valued}
 use Rattle.dstm_command.specs.Parsers.{options_app}
 use Rattle.dstm_command.proofs.OptionRows.{arg, args, by_id, by_index, by_long, by_short}
 

@@ -12,9 +12,9 @@ use Rattle.clap.specs.Kinds.{Kinds, or_else}
 use Rattle.clap.specs.Faults.{settle_fault, use_fault, walk_fault}
 use Rattle.clap.specs.declared.parser.matches.ValueSource.TheVariants.{CommandLine}
 use Rattle.clap.specs.declared.builder.value_parser.Reading.TheVariants.{AsWritten}
-use Rattle.dstm_command.specs.Options.{Choice, Given, Meaning, Table, asks, flag, gives, gone_on, is_given, is_hyphened, meaning_as, meaning_of, name_of, option_named, options_from, valued, value_of, with_one, wrong}
+use Rattle.dstm_command.specs.Options.{Choice, Given, Meaning, Table, flag, gives, gone_on, is_given, meaning_as, meaning_of, name_of, option_named, options_from, valued, value_of, wrong}
 use Rattle.dstm_command.proofs.OptionRows.{arg, args, has_given, rows, used_once}
-use Rattle.dstm_command.proofs.OptionTurns.{Turn, asking_turn, asks_turn, bundle_fails, doomed_option, fails, first_fails, flag_turn, held_at, long_is, option_turn, other_fails, other_is, other_turn, repeats, settled_value, settling_value, shape, stands, turn, use_turn, value_turn, valued_turn, wants_value}
+use Rattle.dstm_command.proofs.OptionTurns.{Turn, asking_turn, asks_turn, bundle_fails, doomed_option, fails, first_fails, flag_turn, held_at, long_is, option_turn, other_fails, other_is, repeats, settled_value, settling_value, shape, stands, turn, use_turn, value_turn, valued_turn, wants_value}
 
 pub some_none : {X : Type 0} {x : X} → Some x ≡ None → ⊥
 some_none e = true≢false (ap is_some e)

@@ -1,14 +1,16 @@
 -- What the words of a command line ask for.
-use Rattle.std.specs.Prelude.{ℕ, ◌≤◌, ◌&&◌, ◌||◌, ◌==◌, Bool, true, false, not, List, [], ◌∷◌, Option, None, Some, is_some, option_map, option_and_then, codes, nat_le, if◌then◌else◌}
+use Rattle.std.specs.Prelude.{ℕ, ◌≤◌, ◌&&◌, ◌||◌, Bool, true, not, List, [], ◌∷◌, Option, None, Some, is_some, option_map, option_and_then, codes, nat_le, if◌then◌else◌}
 use Rattle.std.specs.List.{list_any}
 use Rattle.std.specs.Str.{bytes_eq}
 use Rattle.dstm_core.specs.declared.shape.Manager.{Manager}
 use Rattle.dstm_core.specs.declared.shape.Manager.TheVariants.{Polite, Karma, Polka, Greedy}
+use Rattle.dstm_options.specs.declared.options.Engine.{Engine}
+use Rattle.dstm_options.specs.declared.options.Engine.TheVariants.{Dstm, Tl2}
+use Rattle.dstm_options.specs.declared.options.Options.{Options as Chosen}
 use Rattle.dstm_text.specs.Number.{number_of}
 use Rattle.dstm_command.specs.declared.command.Command.{Command}
 use Rattle.dstm_command.specs.declared.command.Command.TheVariants.{Run, Check, Gen, Demo}
 use Rattle.dstm_command.specs.declared.command.GenSpec.{GenSpec}
-use Rattle.dstm_command.specs.declared.command.RunOptions.{RunOptions}
 use Rattle.dstm_command.specs.Options.{Given, Table, Text, flag, is_given, options_in, valued, value_of}
 
 -- ---- values
@@ -29,11 +31,16 @@ manager_of text =
     else (if bytes_eq (codes "polka") text then Some Polka
     else (if bytes_eq (codes "greedy") text then Some Greedy else None)))
 
+abbrev pub engine_of : Text → Option Engine
+engine_of text =
+    if bytes_eq (codes "dstm") text then Some Dstm
+    else (if bytes_eq (codes "tl2") text then Some Tl2 else None)
+
 -- ---- the options of `run`
 
--- `--manager M`, `--seed S`, `--all-write` and `--release`
+-- `--engine E`, `--manager M`, `--seed S`, `--all-write` and `--release`
 abbrev pub run_options : Table
-run_options = valued (codes "manager") ∷ valued (codes "seed") ∷ flag (codes "all-write")
+run_options = valued (codes "engine") ∷ valued (codes "manager") ∷ valued (codes "seed") ∷ flag (codes "all-write")
     ∷ flag (codes "release") ∷ []
 
 -- what a value says, or the default where there is none
@@ -41,19 +48,32 @@ abbrev pub value_or : {X : Type 0} → X → (Text → Option X) → Option Text
 value_or default read None = Some default
 value_or default read (Some text) = read text
 
-abbrev pub run_with : Manager → ℕ → Given → RunOptions
-run_with manager seed given = record {
+-- there is a word that means something under DSTM alone: a manager, `--all-write` or `--release`
+abbrev pub is_for_dstm : Given → Bool
+is_for_dstm given =
+    is_some (value_of (codes "manager") given) || is_given (codes "all-write") given || is_given (codes "release") given
+
+-- TL2 takes no such word
+abbrev pub suits : Engine → (for_dstm : Bool) → Bool
+suits Dstm for_dstm = true
+suits Tl2 for_dstm = not for_dstm
+
+abbrev pub run_with : Engine → Manager → ℕ → Given → Chosen
+run_with engine manager seed given = record {
   manager = manager;
   seed = seed;
   all_write = is_given (codes "all-write") given;
   release = is_given (codes "release") given;
+  engine = engine;
 }
 
--- the options with their values read: without one polka, the seed 0, and the flags off
-abbrev pub run_of : Given → Option RunOptions
-run_of given = option_and_then (λ manager. option_map (λ seed. run_with manager seed given)
+-- the options with their values read: without one the engine dstm, polka, the seed 0, and the flags off
+abbrev pub run_of : Given → Option Chosen
+run_of given = option_and_then (λ engine. option_and_then (λ manager. option_and_then (λ seed.
+    if suits engine (is_for_dstm given) then Some (run_with engine manager seed given) else None)
     (value_or 0 seed_of (value_of (codes "seed") given)))
-    (value_or Polka manager_of (value_of (codes "manager") given))
+    (value_or Polka manager_of (value_of (codes "manager") given)))
+    (value_or Dstm engine_of (value_of (codes "engine") given))
 
 -- ---- commands
 

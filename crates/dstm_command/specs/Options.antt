@@ -1,9 +1,9 @@
 -- The options that words give, for any table of options.
-use Rattle.std.specs.Prelude.{◌≡◌, ℕ, ◌||◌, Bool, true, false, List, [], ◌∷◌, ◌++◌, find, Option, None, Some, option_map, option_and_then, codes, if◌then◌else◌}
+use Rattle.std.specs.Prelude.{ℕ, ◌||◌, Bool, List, [], ◌∷◌, ◌++◌, find, Option, None, Some, option_map, option_and_then, codes, if◌then◌else◌}
 use Rattle.std.specs.List.{list_any}
 use Rattle.std.specs.Option.{option_map_or}
 use Rattle.std.specs.Str.{bytes_eq}
-use Rattle.clap.specs.Lexer.{has_byte, is_long_word, is_short_word, long_of}
+use Rattle.clap.specs.Lexer.{is_long_word, is_short_word, long_of}
 
 abbrev pub Text : Type 0
 Text = List ℕ

@@ -1,28 +1,17 @@
-use dstm_core::Manager;
+use dstm_options::Options;
 use std::alloc::AllocError;
 
 /// What a command line asks for.
 #[derive(Clone, Copy, Debug, PartialEq, Eq)]
 pub enum Command {
     /// `run`: runs the workload that comes in.
-    Run(RunOptions),
+    Run(Options),
     /// `check`: judges a report on a workload.
     Check,
     /// `gen`: writes a generated workload.
     Gen(GenSpec),
     /// `demo`: generates a workload, runs it and judges the report.
     Demo(GenSpec),
-}
-
-/// How a workload is run.
-#[derive(Clone, Copy, Debug, PartialEq, Eq)]
-pub struct RunOptions {
-    pub manager: Manager,
-    pub seed: u64,
-    /// Objects that are only read are opened for writing too.
-    pub all_write: bool,
-    /// Walks along the list give up what they have passed.
-    pub release: bool,
 }
 
 /// Which workload is generated.

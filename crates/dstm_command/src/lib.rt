@@ -8,5 +8,5 @@ mod parser;
 mod values;
 mod words;
 
-pub use command::{Command, GenSpec, RunOptions, WordsError};
+pub use command::{Command, GenSpec, WordsError};
 pub use words::read_words;

@@ -1,19 +1,20 @@
 ghost use Rattle.std.specs.Prelude.{◌≡◌, false, map, Some, None, IfOk, IsErrOf, string_bytes, option_and_then};
 ghost use Rattle.std.specs.List.{list_any};
 ghost use Rattle.clap.specs.Words.{app_of, found_of, with_rule};
-ghost use Rattle.dstm_command.specs.CommandLine.{is_two_hyphens, run_of, run_options};
+ghost use Rattle.dstm_command.specs.CommandLine.{is_two_hyphens, run_of, run_options, suits};
 ghost use Rattle.dstm_command.specs.Options.{Given, flag, options_in, valued};
 ghost use Rattle.dstm_command.specs.Parsers.{option_rule, options_app, Holds};
 
+use crate::WordsError;
 use crate::parser::matches;
-use crate::values::{read_manager, read_seed};
-use crate::{RunOptions, WordsError};
+use crate::values::{read_engine, read_manager, read_seed};
 use clap::{Arg, ArgAction, ArgMatches, Command};
 use dstm_core::Manager;
+use dstm_options::{Engine, Options};
 use std::alloc::{AllocError, Global};
 
 // The options of `run`.
-pub(crate) fn read_options(alloc: Global, words: &[String]) -> Result<RunOptions, WordsError>
+pub(crate) fn read_options(alloc: Global, words: &[String]) -> Result<Options, WordsError>
     requires { list_any is_two_hyphens (map string_bytes words.now) ≡ false }
     ensures ok { IfOk result (λ options.
         option_and_then run_of (options_in run_options (map string_bytes words.now)) ≡ Some options) }
@@ -30,6 +31,7 @@ fn options_command<'a>(alloc: Global) -> Result<Command<'a>, AllocError>
     let command = Command::new(alloc, "run")
         .no_binary_name(true)
         .disable_help_flag(true);
+    let command = with_value(alloc, command, "engine")?;
     let command = with_value(alloc, command, "manager")?;
     let command = with_value(alloc, command, "seed")?;
     let command = with_flag(alloc, command, "all-write")?;
@@ -62,10 +64,15 @@ fn with_flag<'a>(
     command.arg(option)
 }
 
-fn options_matched(matches: &ArgMatches) -> Option<RunOptions>
+fn options_matched(matches: &ArgMatches) -> Option<Options>
     ensures { (given : Given) → Holds run_options (found_of matches.now) given → result ≡ run_of given }
 {
-    let manager = match matches.get_str("manager") {
+    let engine = match matches.get_str("engine") {
+        Some(text) => read_engine(text)?,
+        None => Engine::Dstm,
+    };
+    let named = matches.get_str("manager");
+    let manager = match named {
         Some(text) => read_manager(text)?,
         None => Manager::Polka,
     };
@@ -73,10 +80,24 @@ fn options_matched(matches: &ArgMatches) -> Option<RunOptions>
         Some(text) => read_seed(text)?,
         None => 0,
     };
-    Some(RunOptions {
+    let all_write = matches.get_flag("all-write");
+    let release = matches.get_flag("release");
+    let for_dstm = named.is_some() || all_write || release;
+    takes(engine, for_dstm).then_some(Options {
         manager,
         seed,
-        all_write: matches.get_flag("all-write"),
-        release: matches.get_flag("release"),
+        all_write,
+        release,
+        engine,
     })
+}
+
+// Whether an engine takes words that mean something under DSTM alone, if there are any.
+fn takes(engine: Engine, for_dstm: bool) -> bool
+    ensures { result ≡ suits engine for_dstm }
+{
+    match engine {
+        Engine::Dstm => true,
+        Engine::Tl2 => !for_dstm,
+    }
 }

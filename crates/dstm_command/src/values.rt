@@ -1,7 +1,8 @@
 ghost use Rattle.std.specs.Prelude.{◌≡◌, ◌≤◌, IfSome};
-ghost use Rattle.dstm_command.specs.CommandLine.{manager_of, number_in, seed_of};
+ghost use Rattle.dstm_command.specs.CommandLine.{engine_of, manager_of, number_in, seed_of};
 
 use dstm_core::Manager;
+use dstm_options::Engine;
 use dstm_text::decimal;
 
 pub(crate) fn read_manager(text: &str) -> Option<Manager>
@@ -12,6 +13,16 @@ pub(crate) fn read_manager(text: &str) -> Option<Manager>
         "karma" => Some(Manager::Karma),
         "polka" => Some(Manager::Polka),
         "greedy" => Some(Manager::Greedy),
+        _ => None,
+    }
+}
+
+pub(crate) fn read_engine(text: &str) -> Option<Engine>
+    ensures { result ≡ engine_of text.now }
+{
+    match text {
+        "dstm" => Some(Engine::Dstm),
+        "tl2" => Some(Engine::Tl2),
         _ => None,
     }
 }

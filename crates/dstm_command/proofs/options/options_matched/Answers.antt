@@ -10,8 +10,9 @@ flag_is false r one is set unset = unset is
 
 pub returns : goal.returns
 returns c = λ given holds.
+    let engine = holds.value (codes "engine") refl in
     let manager = holds.value (codes "manager") refl in
     let seed = holds.value (codes "seed") refl in
-    let all_write = flag_is _ _ _ (holds.flags (codes "all-write") refl) c.get_flag.ensures.value c.get_flag.ensures.other in
-    let release = flag_is _ _ _ (holds.flags (codes "release") refl) c.get_flag-2.ensures.value c.get_flag-2.ensures.other in
+    let all_write = flag_is _ _ _ (holds.flags (codes "all-write") refl) c.get_flag-all_write.ensures.value c.get_flag-all_write.ensures.other in
+    let release = flag_is _ _ _ (holds.flags (codes "release") refl) c.get_flag-release.ensures.value c.get_flag-release.ensures.other in
     search rules

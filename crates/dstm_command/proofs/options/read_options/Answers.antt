@@ -1,8 +1,8 @@
-use Rattle.std.proofs.Common.{◌≡◌, ◌≢◌, ◌∙◌, ap, List, [], map, string_bytes, sym, subst, Option, Some, option_and_then, rules}
+use Rattle.std.proofs.Common.{◌≡◌, ◌≢◌, ◌∙◌, ap, List, [], map, string_bytes, sym, subst, Option, option_and_then, rules}
 use Rattle.clap.specs.Words.{App, fault_of, found_of, matches_of}
 use Rattle.dstm_command.specs.CommandLine.{run_of, run_options}
 use Rattle.dstm_command.specs.Options.{Text, options_in}
-use Rattle.dstm_command.specs.declared.command.RunOptions.{RunOptions}
+use Rattle.dstm_options.specs.declared.options.Options.{Options as Chosen}
 use Rattle.dstm_command.proofs.OptionParses.{answer_ok, answer_usage, are_words, none_read, result_is}
 use Rattle.dstm_command.proofs.options.read_options.Goals as goal
 
@@ -13,7 +13,7 @@ returns c =
     let read = result_is run_options words (found_of c.in_ok-matches.matches) (are_words c.args.words.now c.requires)
     (subst (λ (a : App). fault_of a words ≡ []) app_is c.in_ok-matches.ensures.taken)
     (c.in_ok-matches.ensures.ok ∙ ap (λ (a : App). matches_of a words) app_is) in
-    let given : Option RunOptions = option_and_then run_of (options_in run_options words) in
+    let given : Option Chosen = option_and_then run_of (options_in run_options words) in
     let same : c.options_matched.result ≡ given = c.options_matched.ensures read.0 read.2
     ∙ ap (option_and_then run_of) (sym read.1) in
     record {
