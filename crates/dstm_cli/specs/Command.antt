@@ -7,7 +7,6 @@ use Rattle.dstm_text.specs.Lines.{lines_of, split_lines}
 use Rattle.dstm_command.specs.declared.command.Command.{Command}
 use Rattle.dstm_command.specs.declared.command.Command.TheVariants.{Run, Check, Gen, Demo}
 use Rattle.dstm_command.specs.declared.command.GenSpec.{GenSpec}
-use Rattle.dstm_command.specs.declared.command.RunOptions.{RunOptions}
 use Rattle.dstm_command.specs.CommandLine.{command_of}
 use Rattle.dstm_core.specs.declared.shape.Manager.TheVariants.{Polka}
 use Rattle.dstm_gen.specs.Words.{words_of_seed}
@@ -89,16 +88,6 @@ Refuses command input failure = ⊥
 
 -- ---- how a command runs a workload
 
--- as the words of `run` say
-abbrev pub options_of : RunOptions → Options
-options_of options = record {
-  manager = options.manager;
-  seed = options.seed;
-  all_write = options.all_write;
-  release = options.release;
-  engine = Dstm;
-}
-
 -- as `run` does where its words say nothing
 abbrev pub default_options : Options
 default_options = record { manager = Polka; seed = 0; all_write = false; release = false; engine = Dstm }
@@ -154,7 +143,7 @@ HasJudged left text status =
 -- `records` are those of the rounds that it has added.
 abbrev pub Answers : Option Command → Option (List ℕ) × Option (List ℕ) → List Round → List ℕ → ℕ → Type 0
 Answers None left records text status = ⊥
-Answers (Some (Run options)) left records text status = (status ≡ 0) × HasRun (options_of options) left records text
+Answers (Some (Run options)) left records text status = (status ≡ 0) × HasRun options left records text
 Answers (Some Check) left records text status = (records ≡ []) × HasJudged left text status
 Answers (Some (Gen spec)) left records text status =
     (records ≡ []) × (status ≡ 0) × (text ≡ text_of_workload (workload_for spec))

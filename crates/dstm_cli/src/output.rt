@@ -11,7 +11,6 @@ ghost use Rattle.dstm_records.specs.Running.{added, IsClosed};
 ghost use Rattle.dstm_cli.specs.Command.{
   run_input,
   check_input,
-  options_of,
   reads_input,
   Refuses,
   workload_for,
@@ -29,7 +28,7 @@ ghost use Rattle.dstm_cli.specs.Ending.{Fails};
 
 use crate::failure::Failure;
 use crate::input::{CHECK_LIMIT, RUN_LIMIT, read_case, read_input};
-use dstm_command::{Command, GenSpec, RunOptions};
+use dstm_command::{Command, GenSpec};
 use dstm_core::Manager;
 use dstm_crew::{Engine, Gate, Options, Rounds, run_crew};
 use dstm_gen::generate;
@@ -90,12 +89,12 @@ pub(crate) fn output_of<R: Threads + Sync, S: Source, G: Gate + Sync>(
 fn run<R: Threads + Sync, S: Source, G: Gate + Sync>(
     rt: &R,
     alloc: Global,
-    options: &RunOptions,
+    options: &Options,
     source: &mut S,
     gate: &G,
     rounds: &mut Rounds,
 ) -> Result<Vec<u8>, Failure>
-    ensures text { IfOk result (λ text. HasRun (options_of options.now) (S.left source.old, S.left source.new)
+    ensures text { IfOk result (λ text. HasRun options.now (S.left source.old, S.left source.new)
         (added rounds.old rounds.new) text.items) }
     ensures failed { IfErr result (Fails (λ input failure. run_input input ≡ Err failure)
         (S.left source.old) (S.faults source.old) (S.faults source.new)) }
@@ -106,20 +105,7 @@ fn run<R: Threads + Sync, S: Source, G: Gate + Sync>(
     ensures unplayed { IfErr result (λ failure. failure ≢ Failure.Memory → added rounds.old rounds.new ≡ []) }
 {
     let input = read_input(alloc, source, RUN_LIMIT)?;
-    run_text(rt, alloc, &input, &options_from(options), gate, rounds)
-}
-
-// The options as the crew takes them.
-fn options_from(options: &RunOptions) -> Options
-    ensures { result ≡ options_of options.now }
-{
-    Options {
-        manager: options.manager,
-        seed: options.seed,
-        all_write: options.all_write,
-        release: options.release,
-        engine: Engine::Dstm,
-    }
+    run_text(rt, alloc, &input, options, gate, rounds)
 }
 
 fn run_text<R: Threads + Sync, G: Gate + Sync>(

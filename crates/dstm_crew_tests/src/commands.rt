@@ -127,7 +127,12 @@ fn workloads_are_run(rt: HostRuntime) -> Result<(), Fail> {
 // The rows of several workers come in any order that is lawful; what they leave is the same here.
 #[test]
 fn workers_run_beside_one_another(rt: HostRuntime) -> Result<(), Fail> {
-    for option in ["", " --manager greedy", " --all-write --seed 9"] {
+    for option in [
+        "",
+        " --manager greedy",
+        " --all-write --seed 9",
+        " --engine tl2",
+    ] {
         let line = format!(in rt.alloc(); "dstm run{option}")?;
         let ran = run_on(&rt, rt.alloc(), &line, AWAITS.as_bytes(), SOUND)?;
         assert_eq!(rt; ran.status, 0);
@@ -284,6 +289,10 @@ fn words_of_the_line(rt: HostRuntime) -> Result<(), Fail> {
         "dstm run --manager tabu",
         "dstm run --seed 07",
         "dstm run --seed 1 --seed 1",
+        "dstm run --engine tl3",
+        "dstm run --engine tl2 --manager karma",
+        "dstm run --engine tl2 --engine tl2",
+        "dstm run --engine tl2 --release",
         "dstm gen 7 20001 1",
         "dstm demo 7 1 0",
     ];

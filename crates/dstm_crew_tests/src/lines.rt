@@ -1,5 +1,6 @@
-use dstm_command::{Command, GenSpec, RunOptions, WordsError, read_words};
+use dstm_command::{Command, GenSpec, WordsError, read_words};
 use dstm_core::Manager;
+use dstm_options::{Engine, Options};
 use std::alloc::Global;
 use std::test::Fail;
 
@@ -36,6 +37,12 @@ fn command_lines(rt: HostRuntime) -> Result<(), Fail> {
             "dstm run --seed 7 --all-write --release --manager=karma",
             run(Manager::Karma, 7, true, true),
         ),
+        (
+            "dstm run --engine dstm --manager=karma",
+            run(Manager::Karma, 0, false, false),
+        ),
+        ("dstm run --engine=tl2", run_by_tl2(0)),
+        ("dstm run --seed 7 --engine tl2", run_by_tl2(7)),
         ("dstm check", Command::Check),
         ("dstm gen 7 0 1", Command::Gen(spec(7, 0, 1))),
         ("dstm demo 7 20000 8", Command::Demo(spec(7, 20_000, 8))),
@@ -75,6 +82,17 @@ fn other_lines(rt: HostRuntime) -> Result<(), Fail> {
         "dstm run --release --all-write --release",
         "dstm run --release=false",
         "dstm run --seed --release",
+        "dstm run --engine",
+        "dstm run --engine tl3",
+        "dstm run --engine Tl2",
+        "dstm run --engine tl2 --engine tl2",
+        "dstm run --engine tl2 --engine dstm",
+        "dstm run --engine tl2 --manager karma",
+        "dstm run --manager polka --engine tl2",
+        "dstm run --engine tl2 --release",
+        "dstm run --all-write --engine tl2",
+        "dstm check --engine tl2",
+        "dstm demo 7 0 1 --engine tl2",
         "dstm check --release",
         "dstm demo 7 0 1 --release",
         "dstm check extra",
@@ -94,11 +112,22 @@ fn other_lines(rt: HostRuntime) -> Result<(), Fail> {
 }
 
 fn run(manager: Manager, seed: u64, all_write: bool, release: bool) -> Command {
-    Command::Run(RunOptions {
+    Command::Run(Options {
         manager,
         seed,
         all_write,
         release,
+        engine: Engine::Dstm,
+    })
+}
+
+fn run_by_tl2(seed: u64) -> Command {
+    Command::Run(Options {
+        manager: Manager::Polka,
+        seed,
+        all_write: false,
+        release: false,
+        engine: Engine::Tl2,
     })
 }
 

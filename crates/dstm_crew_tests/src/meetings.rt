@@ -84,18 +84,21 @@ fn sum_of_balances(report: &[u8]) -> Option<u64> {
 fn two_workers_meet(rt: HostRuntime) -> Result<(), Fail> {
     let alloc = rt.alloc();
     let workload = transfers(alloc)?;
+    let mut lines = vec![in alloc; String::from_str(alloc, "dstm run --engine tl2")?]?;
     for manager in ["polite", "karma", "polka", "greedy"] {
         for option in ["", " --all-write", " --release"] {
-            let line = format!(in alloc; "dstm run --manager {manager}{option}")?;
-            let gate = Meeting::make();
-            let ran = call(&rt, alloc, &line, &workload, &gate)?;
-            assert_eq!(rt; ran.status, 0, "{line}");
-            assert_eq!(rt; gate.met.load(Ordering::SeqCst), 200, "{line}");
-            assert_eq!(rt; sum_of_balances(&ran.out), Some(8000), "{line}");
-            let case = case_of(alloc, &workload, &ran.out)?;
-            let checked = call(&rt, alloc, "dstm check", &case, &OpenGate)?;
-            assert_eq!(rt; checked.out.as_slice(), b"lawful\n".as_slice(), "{line}");
+            lines.push(format!(in alloc; "dstm run --manager {manager}{option}")?)?;
         }
+    }
+    for line in &lines {
+        let gate = Meeting::make();
+        let ran = call(&rt, alloc, line, &workload, &gate)?;
+        assert_eq!(rt; ran.status, 0, "{line}");
+        assert_eq!(rt; gate.met.load(Ordering::SeqCst), 200, "{line}");
+        assert_eq!(rt; sum_of_balances(&ran.out), Some(8000), "{line}");
+        let case = case_of(alloc, &workload, &ran.out)?;
+        let checked = call(&rt, alloc, "dstm check", &case, &OpenGate)?;
+        assert_eq!(rt; checked.out.as_slice(), b"lawful\n".as_slice(), "{line}");
     }
     Ok(())
 }

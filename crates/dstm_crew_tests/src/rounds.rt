@@ -2,7 +2,8 @@ use crate::calls::{call, case_of};
 use dstm_crew::OpenGate;
 use std::test::Fail;
 
-// A caller has 16,384 attempts. The worker's last 3,615 jobs go on in round 2, behind the one of the alone round.
+// A caller has 16,384 attempts. The worker's last 3,615 jobs go on in round 2, behind the one of the alone round. Both
+// engines give the same report.
 #[test]
 fn one_worker_takes_three_rounds(rt: HostRuntime) -> Result<(), Fail> {
     let alloc = rt.alloc();
@@ -11,7 +12,9 @@ fn one_worker_takes_three_rounds(rt: HostRuntime) -> Result<(), Fail> {
         workload.extend_from_slice(b"tx 0 balance 0\n")?;
     }
     let ran = call(&rt, alloc, "dstm run", &workload, &OpenGate)?;
+    let by_tl2 = call(&rt, alloc, "dstm run --engine tl2", &workload, &OpenGate)?;
     assert_eq!(rt; ran.status, 0);
+    assert!(rt; by_tl2.out == ran.out);
     let report = str::from_utf8(&ran.out)?;
     let rows = [
         "\n16386 0 0.16383 0\n",
@@ -24,24 +27,27 @@ fn one_worker_takes_three_rounds(rt: HostRuntime) -> Result<(), Fail> {
     Ok(())
 }
 
-// Whatever the manager, the seed and the other options, the report is lawful.
+// Whatever the engine, the manager, the seed and the other options, the report is lawful.
 #[test]
 fn reports_are_lawful(rt: HostRuntime) -> Result<(), Fail> {
     let alloc = rt.alloc();
     let workload = call(&rt, alloc, "dstm gen 7 400 4", b"", &OpenGate)?;
+    let mut lines = vec![in alloc; String::from_str(alloc, "dstm run --engine tl2 --seed 9")?]?;
     for manager in ["polite", "karma", "polka", "greedy"] {
         for option in [
             "",
             " --seed 9 --all-write",
             " --release --seed 18446744073709551615",
         ] {
-            let line = format!(in alloc; "dstm run --manager {manager}{option}")?;
-            let ran = call(&rt, alloc, &line, &workload.out, &OpenGate)?;
-            assert_eq!(rt; ran.status, 0, "{line}");
-            let case = case_of(alloc, &workload.out, &ran.out)?;
-            let checked = call(&rt, alloc, "dstm check", &case, &OpenGate)?;
-            assert_eq!(rt; checked.out.as_slice(), b"lawful\n".as_slice(), "{line}");
+            lines.push(format!(in alloc; "dstm run --manager {manager}{option}")?)?;
         }
+    }
+    for line in &lines {
+        let ran = call(&rt, alloc, line, &workload.out, &OpenGate)?;
+        assert_eq!(rt; ran.status, 0, "{line}");
+        let case = case_of(alloc, &workload.out, &ran.out)?;
+        let checked = call(&rt, alloc, "dstm check", &case, &OpenGate)?;
+        assert_eq!(rt; checked.out.as_slice(), b"lawful\n".as_slice(), "{line}");
     }
     Ok(())
 }
@@ -62,8 +68,14 @@ fn blocked_jobs(rt: HostRuntime) -> Result<(), Fail> {
         ),
     ];
     for (workload, end) in ends {
-        for manager in ["polite", "karma", "polka", "greedy"] {
-            let line = format!(in alloc; "dstm run --manager {manager}")?;
+        for way in [
+            "--manager polite",
+            "--manager karma",
+            "--manager polka",
+            "--manager greedy",
+            "--engine tl2",
+        ] {
+            let line = format!(in alloc; "dstm run {way}")?;
             let ran = call(&rt, alloc, &line, workload, &OpenGate)?;
             assert_eq!(rt; ran.status, 0, "{line}");
             assert!(rt; ran.out.ends_with(end.as_bytes()), "{line}: {end}");
