@@ -1,5 +1,5 @@
 -- Calls add up.
-use Rattle.std.proofs.Common.{Bool, true, ◌≡◌, ◌∙◌, ◌++◌, ◌∷◌, List, [], ap, append_assoc, append-nil, refl, subst, sym, ℕ}
+use Rattle.std.proofs.Common.{Bool, true, ◌≡◌, ◌∙◌, ◌++◌, ◌∷◌, List, [], ap, append_assoc, append-nil, refl, subst, sym}
 use Rattle.std.specs.Prelude.{Option}
 use Rattle.rand_pcg.specs.Lcg.{Lcg}
 use Rattle.dstm_core.specs.Events.{Event}

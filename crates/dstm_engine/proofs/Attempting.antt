@@ -1,22 +1,18 @@
 -- The calls of an attempt.
-use Rattle.std.proofs.Common.{◌≡◌, ◌∙◌, ◌⊎◌, ◌++◌, ◌∷◌, ◌&&◌, ◌==◌, ◌||◌, ◌+◌, Bool, true, false, not, List, [], None, Some, ap, append_assoc, arith, inl, inr, refl, subst, sym, ℕ}
-use Rattle.std.specs.Prelude.{Option, is_none, is_some, if◌then◌else◌}
-use Rattle.std.proofs.lemmas.Bool.{and_parts, cases_Bool, cond_both, eqb-true}
+use Rattle.std.proofs.Common.{◌≡◌, ◌∙◌, ◌++◌, ◌∷◌, List, [], None, ap, refl, subst, sym}
+use Rattle.std.specs.Prelude.{Option}
 use Rattle.rand_pcg.specs.Lcg.{Lcg}
-use Rattle.dstm_core.specs.Events.{Event}
-use Rattle.dstm_core.specs.Rules.{is_outside}
 use Rattle.dstm_core.specs.Runs.{local}
 use Rattle.dstm_core.specs.State.{LocalState}
 use Rattle.dstm_core.specs.Traces.{events_of}
 use Rattle.dstm_core.specs.declared.shape.Shape.{Shape}
 use Rattle.dstm_model.specs.declared.value.Val.{Val}
 use Rattle.dstm_order.specs.Calls.{IsCall, effort_of, state_after}
-use Rattle.dstm_order.specs.Tasks.{Task, Work}
 use Rattle.dstm_order.specs.Tasks.Task.{Beginning, Doing}
 use Rattle.dstm_order.specs.declared.again.Again.{Again}
 use Rattle.dstm_progress.specs.Alone.{AreCalls, Made, all_events, generator_after}
 use Rattle.dstm_engine.specs.Callers.{Called, begun_log, shape_of, state}
-use Rattle.dstm_engine.specs.Calls.{IsTold, Performs, begun_state}
+use Rattle.dstm_engine.specs.Calls.{IsTold, begun_state}
 use Rattle.dstm_engine.specs.Endings.{Attempts}
 use Rattle.dstm_order.specs.Made.{AreMade, Call, events_in, generator_by, state_by}
 use Rattle.dstm_engine.specs.Makes.{Makes}

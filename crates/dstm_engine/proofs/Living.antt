@@ -2,7 +2,6 @@
 use Rattle.std.proofs.Common.{◌≡◌, ◌∙◌, ◌⊎◌, ◌++◌, ◌∷◌, ◌==◌, true, false, List, [], None, ap, arith, inl, inr, refl, subst, sym, ℕ}
 use Rattle.std.specs.Prelude.{Contains}
 use Rattle.std.proofs.lemmas.Bool.{cases_Bool}
-use Rattle.rand_pcg.specs.Lcg.{Lcg}
 use Rattle.dstm_core.specs.Events.{Event}
 use Rattle.dstm_core.specs.Traces.{events_of}
 use Rattle.dstm_core.specs.declared.shape.Shape.{Shape}
@@ -10,8 +9,8 @@ use Rattle.dstm_model.specs.declared.value.Val.{Val}
 use Rattle.dstm_machines.proofs.Own.{own_append, own_first, own_other}
 use Rattle.dstm_managers.specs.Choices.{started}
 use Rattle.dstm_order.specs.Tasks.Task.{Enrolling, Leaving}
-use Rattle.dstm_engine.specs.Callers.{Called, seat_view, shape_of, state}
-use Rattle.dstm_engine.specs.Tables.{Enrols, Founding, Retires, unnumbered}
+use Rattle.dstm_engine.specs.Callers.{Called, shape_of}
+use Rattle.dstm_engine.specs.Tables.{unnumbered}
 use Rattle.dstm_order.specs.Made.{ByCalls}
 use Rattle.dstm_engine.specs.Makes.{Makes}
 use Rattle.dstm_order.specs.Retries.{TriesAgain}

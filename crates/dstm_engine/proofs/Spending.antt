@@ -1,5 +1,5 @@
 -- A caller that is spent and begins no attempt.
-use Rattle.std.proofs.Common.{◌≡◌, ◌∙◌, ◌⊎◌, ◌∷◌, ◌&&◌, ◌+◌, ◌==◌, ◌||◌, Bool, true, false, not, List, [], None, ap, arith, inl, inr, refl, subst, sym, ℕ}
+use Rattle.std.proofs.Common.{◌≡◌, ◌∙◌, ◌⊎◌, ◌∷◌, ◌&&◌, ◌+◌, Bool, true, false, not, List, [], None, ap, arith, inl, inr, refl, subst, sym}
 use Rattle.std.specs.Prelude.{Option, if◌then◌else◌}
 use Rattle.std.proofs.lemmas.Bool.{cases_Bool, cond_both}
 use Rattle.rand_pcg.specs.Lcg.{Lcg}
@@ -14,7 +14,7 @@ use Rattle.dstm_model.specs.declared.value.Val.{Val}
 use Rattle.dstm_progress.proofs.OwnEvents.{after_own}
 use Rattle.dstm_order.specs.Calls.{Obeys, newest_of, state_after}
 use Rattle.dstm_order.specs.Order.{Due, IsDue, has_begun, has_ranks, has_stamps, in_beginning, is_begin, is_spent, just, rises}
-use Rattle.dstm_order.specs.Order.Due.{Done, Step}
+use Rattle.dstm_order.specs.Order.Due.{Step}
 use Rattle.dstm_order.specs.Tasks.Task.{Beginning}
 use Rattle.dstm_engine.specs.Callers.{Called, shape_of, state}
 use Rattle.dstm_engine.specs.Transactions.{SpentFrom}
