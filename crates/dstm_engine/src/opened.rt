@@ -166,11 +166,13 @@ impl Opened {
     }
 }
 
-// Where more than half of the reads were let go the others move together.
+// Where more than half of the reads were let go the others move together, and else nothing changes.
 fn make_room(reads: &mut Vec<ReadSlot>, places: &mut Vec<Place>, gone: &mut usize)
     requires placed { (writes : List WriteSlot) × ArePlaced reads.old.items writes places.old.items }
     requires counted { gone.old + length (filter is_kept reads.old.items) ≡ length reads.old.items }
     requires few { length reads.old.items < 2 ^ 32 }
+    ensures same { 2 * gone.old ≤ length reads.old.items →
+        (reads.new ≡ reads.old) × (places.new ≡ places.old) × (gone.new ≡ gone.old) }
     ensures placed { (writes : List WriteSlot) → ArePlaced reads.old.items writes places.old.items →
         ArePlaced reads.new.items writes places.new.items }
     ensures kept { filter is_kept reads.new.items ≡ filter is_kept reads.old.items }
