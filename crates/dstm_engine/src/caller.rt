@@ -347,13 +347,12 @@ impl<L: Law> Caller<L> {
         ensures stops { IfErr result (Stops L.holds (Reading o) self.old self.new) }
     {
         renew(&mut self.steps);
-        let first = stm.first(o);
         match read_object::<L, Brand>(
             &mut self.steps,
             stm.words(),
             &mut self.last_number,
             &mut self.opened,
-            first,
+            stm,
             o,
         ) {
             Ok(value) => Ok(value),
@@ -378,13 +377,12 @@ impl<L: Law> Caller<L> {
     {
         renew(&mut self.steps);
         let next = self.number * self.terms.shape.locators + self.steps.installed;
-        let first = stm.first(o);
         match write_object::<L, Brand>(
             &mut self.steps,
             stm.words(),
             &mut self.last_number,
             &mut self.opened,
-            first,
+            stm,
             o,
             next,
         ) {

@@ -15,18 +15,19 @@ ghost use Rattle.dstm_core.specs.declared.event.Kind.TheVariants.{LookObj};
 ghost use Rattle.dstm_order.specs.Tasks.Work.{Reading, Writing};
 
 use crate::opened::Opened;
+use crate::stm::Stm;
 use dstm_model::{Law, Val};
 use dstm_order::Again;
 use dstm_steps::{Found, InCall, ReadSlot, Steps, WriteSlot};
 use dstm_words::Words;
 
-// Opens an object for reading that is not held, and had this value first.
+// Opens an object for reading that is not held.
 pub fn read_object<L: Law, B: InCall>(
     steps: &mut Steps<L>,
     words: &Words<L>,
     last: &mut Option<u64>,
     opened: &mut Opened,
-    first: Val,
+    stm: &Stm<L>,
     object: u32,
 ) -> Result<Val, Again>
     requires under { Under L.holds words.now B.began steps.old (Step LookObj object) None }
@@ -39,7 +40,8 @@ pub fn read_object<L: Law, B: InCall>(
     requires tries { steps.old.missed < MAX_MISSED }
     requires last { last.old ≡ (now words.now steps.old).last_pass }
     requires slots { map slot_word opened.old.reads ≡ words_of (now words.now steps.old).reads }
-    requires first { first ≡ value_at words.now.terms.start.value.items object }
+    requires table { stm.now ≡ words.now }
+    requires values { length stm.now.terms.start.value.items ≡ stm.now.terms.shape.objects }
     requires exists { object < opened.old.objects }
     requires fresh { read_slot opened.old.reads object ≡ None }
     requires room { length opened.old.reads < opened.old.objects }
@@ -50,7 +52,7 @@ pub fn read_object<L: Law, B: InCall>(
     ensures rest { (opened.new.objects ≡ opened.old.objects) × (opened.new.writes ≡ opened.old.writes) }
 {
     let found = steps.resolve::<B>(words, object, None)?;
-    let value = value_found(found, first);
+    let value = value_found(found, stm, object);
     opened.push_read(ReadSlot {
         object,
         word: found.word,
@@ -61,13 +63,13 @@ pub fn read_object<L: Law, B: InCall>(
     Ok(value)
 }
 
-// Opens an object for writing that is not open for it, and had this value first. `next` is the first unused locator.
+// Opens an object for writing that is not open for it. `next` is the first unused locator.
 pub fn write_object<L: Law, B: InCall>(
     steps: &mut Steps<L>,
     words: &Words<L>,
     last: &mut Option<u64>,
     opened: &mut Opened,
-    first: Val,
+    stm: &Stm<L>,
     object: u32,
     next: u32,
 ) -> Result<Val, Again>
@@ -82,7 +84,8 @@ pub fn write_object<L: Law, B: InCall>(
     requires tries { steps.old.missed < MAX_MISSED }
     requires last { last.old ≡ (now words.now steps.old).last_pass }
     requires slots { map slot_word opened.old.reads ≡ words_of (now words.now steps.old).reads }
-    requires first { first ≡ value_at words.now.terms.start.value.items object }
+    requires table { stm.now ≡ words.now }
+    requires values { length stm.now.terms.start.value.items ≡ stm.now.terms.shape.objects }
     requires exists { object < opened.old.objects }
     requires fresh { write_slot opened.old.writes object ≡ None }
     requires room { length opened.old.writes < opened.old.objects }
@@ -95,7 +98,7 @@ pub fn write_object<L: Law, B: InCall>(
 {
     let read = recorded_word(opened.read(object));
     let found = steps.acquire::<B>(words, object, read, next)?;
-    let old = value_found(found, first);
+    let old = value_found(found, stm, object);
     opened.drop_read(object);
     opened.push_write(WriteSlot {
         object,
@@ -116,12 +119,14 @@ fn recorded_word(read: Option<ReadSlot>) -> Option<u64>
     }
 }
 
-// The value that was found of an object, which had this one first.
-fn value_found(found: Found, first: Val) -> Val
-    ensures { result ≡ found_value found first }
+// The value that was found of an object. The one that it had first is looked up only where that was found.
+fn value_found<L: Law>(found: Found, stm: &Stm<L>, object: u32) -> Val
+    requires values { length stm.now.terms.start.value.items ≡ stm.now.terms.shape.objects }
+    requires exists { object < stm.now.terms.shape.objects }
+    ensures { result ≡ found_value found (value_at stm.now.terms.start.value.items object) }
 {
     if found.version == 0 {
-        return first;
+        return stm.first(object);
     }
     Val {
         low: found.low,

@@ -8,6 +8,8 @@ use Rattle.dstm_engine.proofs.OpenStates.{adds_read, found_still, last_read, obj
 use Rattle.dstm_engine.proofs.Slots.{words_push}
 use Rattle.dstm_engine.specs.Mirror.{slot_word}
 use Rattle.dstm_engine.specs.Opened.{OpenedAs}
+use Rattle.dstm_model.specs.Map.{value_at}
+use Rattle.dstm_words.specs.Seats.{Home}
 use Rattle.dstm_engine.proofs.opening.read_object.Goals as goal
 
 pub conclude-requires-clause-slots : goal.conclude-requires-clause-slots
@@ -53,7 +55,8 @@ returns-clause-opens g c =
           c.requires.running c.requires.put s.1)
           (object_still old before c.args.object found e.attempt e.object e.found c.requires.unread m s.0 new
           c.requires.running c.requires.put s.1)
-          ∙ ap (found_value found) (sym c.requires.first) ∙ sym c.value_found-value.ensures;
+          ∙ ap (λ (h : Home _). found_value found (value_at h.terms.start.value.items c.args.object)) (sym c.requires.table)
+          ∙ sym c.value_found-value.ensures;
     }
 
 pub returns-clause-last : goal.returns-clause-last

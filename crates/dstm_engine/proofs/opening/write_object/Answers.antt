@@ -10,6 +10,8 @@ use Rattle.dstm_engine.proofs.Setting.{set_pairs_push}
 use Rattle.dstm_engine.proofs.Slots.{slot_read, words_without}
 use Rattle.dstm_engine.specs.Mirror.{set_pairs, slot_word}
 use Rattle.dstm_engine.specs.Opened.{OpenedAs}
+use Rattle.dstm_model.specs.Map.{value_at}
+use Rattle.dstm_words.specs.Seats.{Home}
 use Rattle.dstm_engine.proofs.opening.write_object.Goals as goal
 
 pub acquire-requires-clause-read : goal.acquire-requires-clause-read
@@ -59,7 +61,8 @@ returns-clause-opens g c =
           (now home c.acquire.new.self) found c.in_ok-found.ensures.got c.requires.running in cc)
           (acquired_held home.terms.shape c.args.object (now home c.args.steps.now) (now home c.acquire.new.self) found
           c.in_ok-found.ensures.got c.requires.unopened)
-          ∙ c.in_ok-found.ensures.value ∙ ap (found_value found) (sym c.requires.first)
+          ∙ c.in_ok-found.ensures.value
+          ∙ ap (λ (h : Home _). found_value found (value_at h.terms.start.value.items c.args.object)) (sym c.requires.table)
           ∙ sym c.value_found-old.ensures;
     }
 
