@@ -38,7 +38,7 @@ use Rattle.dstm_order.specs.Efforts.{Effort}
 use Rattle.dstm_order.specs.Order.{IsDue, due, next}
 use Rattle.dstm_progress.proofs.Calls.{nothing_due}
 use Rattle.dstm_engine.specs.Attempts.{Sighted, completes_pass, is_look_self}
-use Rattle.dstm_engine.specs.Callers.{Called, shape_of, start_of}
+use Rattle.dstm_engine.specs.Callers.{Called, shape_of, start_of, state}
 use Rattle.dstm_engine.proofs.Plain.{are_plain, is_plain}
 
 -- ---- values that are held stay
@@ -182,12 +182,13 @@ sighted_of k x = record {
   is_one = x.is_one;
   caller = x.caller;
   attempt = x.attempt;
+  newest = ap (λ xs. count_of completes_pass (shape_of k) xs k.number (state k).begun) x.is;
   covers = λ o v is. ap (λ ps. value_in ps o) (sym x.covers) ∙ is;
 }
 
 -- ---- which is one sight more
 
-abbrev NoSelf : List Event → Type 0
+abbrev pub NoSelf : List Event → Type 0
 NoSelf [] = Unit {0}
 NoSelf (e ∷ es) = (is_look_self e.kind ≡ false) × NoSelf es
 
@@ -223,7 +224,7 @@ one_self s l g e (x ∷ xs) h live =
     other (inr q) = q
 
 -- events without a LookSelf count nothing
-none_counted : (s : Shape) (c i : ℕ) (later before : List Event) → NoSelf (events_of c later) →
+pub none_counted : (s : Shape) (c i : ℕ) (later before : List Event) → NoSelf (events_of c later) →
     count_of completes_pass s (later ++ before) c i ≡ count_of completes_pass s before c i
 none_counted s c i [] before h = refl
 none_counted s c i (e ∷ later) before h = go (cases_Bool (e.caller == c)) (none_counted s c i later before)

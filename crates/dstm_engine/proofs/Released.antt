@@ -1,8 +1,8 @@
 -- A caller after it has let a read go.
-use Rattle.std.proofs.Common.{◌&&◌, ◌++◌, ◌==◌, ◌∙◌, ◌∷◌, ◌≡◌, ◌≢◌, ◌⊎◌, ◌<◌, Bool, List, None, Option, Some, [], ap, append_assoc, false, inl, inr, map, ne_eqb, not, refl, subst, sym, true, ℕ}
+use Rattle.std.proofs.Common.{◌&&◌, ◌||◌, ◌++◌, ◌==◌, ◌∙◌, ◌∷◌, ◌≡◌, ◌≢◌, ◌⊎◌, ◌<◌, Bool, List, None, Option, Some, [], ap, append_assoc, false, inl, inr, map, ne_eqb, not, refl, subst, sym, true, ℕ}
 use Rattle.std.specs.Prelude.{IfSome, is_some, if◌then◌else◌, option_map}
 use base.Fml.{GName}
-use Rattle.std.proofs.lemmas.Bool.{and_parts, cases_Bool, cases_eq, eqb-true}
+use Rattle.std.proofs.lemmas.Bool.{and_parts, cases_Bool, cases_eq, cond_both, eqb-true}
 use Rattle.dstm_steps.specs.Reads.{words_of}
 use Rattle.dstm_steps.specs.Under.{InTask, now}
 use Rattle.dstm_steps.specs.Writes.{AreWrites}
@@ -11,11 +11,12 @@ use Rattle.dstm_steps.specs.declared.steps.Steps.{Steps}
 use Rattle.dstm_core.proofs.Pasts.{core_past}
 use Rattle.dstm_core.specs.Events.{Event}
 use Rattle.dstm_core.specs.Histories.{IsSight, old_values, read_values, seen, version_value}
-use Rattle.dstm_core.specs.Rules.{AllowedAs}
+use Rattle.dstm_core.specs.Rules.{AllowedAs, is_outside}
 use Rattle.dstm_core.specs.Runs.{Core, local}
 use Rattle.dstm_core.specs.State.{LocalState, drop_read, read_of, write_of}
 use Rattle.dstm_core.specs.declared.event.Kind.{Kind}
-use Rattle.dstm_core.specs.declared.event.Kind.TheVariants.{LookSelf}
+use Rattle.dstm_core.specs.declared.event.Kind.TheVariants.{LookSelf, Quit, Release}
+use Rattle.dstm_core.specs.declared.shape.Manager.{Manager}
 use Rattle.dstm_core.specs.declared.shape.Shape.{Shape}
 use Rattle.dstm_core.specs.declared.state.Phase.TheVariants.{Outside, Running}
 use Rattle.dstm_core.specs.declared.state.Read.{Read}
@@ -26,7 +27,14 @@ use Rattle.dstm_model.specs.declared.value.Val.{Val}
 use Rattle.dstm_opacity.proofs.Held.{held_is_seen, version_by_open}
 use Rattle.dstm_opacity.proofs.Kept.{seen_stays}
 use Rattle.dstm_opacity.proofs.Tidy.{ReadsOnce, read_apart, tidy}
-use Rattle.dstm_order.specs.Order.Due.{Done}
+use Rattle.dstm_machines.proofs.Own.{own_later}
+use Rattle.dstm_order.specs.Calls.{Obeys, due_after, effort_of, newest_of, state_after}
+use Rattle.dstm_order.specs.Efforts.{Effort}
+use Rattle.dstm_order.specs.Order.{Due, IsDue, due, next, next_or_first}
+use Rattle.dstm_order.specs.Order.Due.{Done, Step}
+use Rattle.dstm_order.specs.declared.TheConstants.{MAX_MISSED}
+use Rattle.dstm_progress.specs.Disturbed.{count_of}
+use Rattle.rand_pcg.specs.Lcg.{Lcg}
 use Rattle.dstm_order.specs.Tasks.Task.{Doing}
 use Rattle.dstm_order.specs.Tasks.Work.{Releasing}
 use Rattle.dstm_words.specs.Seats.{Home, view_of}
@@ -37,7 +45,8 @@ use Rattle.dstm_engine.proofs.Opens.{none_of}
 use Rattle.dstm_engine.proofs.Setting.{opened_slot}
 use Rattle.dstm_engine.proofs.Steady.{stay}
 use Rattle.dstm_engine.proofs.Tying.{state_then}
-use Rattle.dstm_engine.specs.Attempts.{Admits, Sighted}
+use Rattle.dstm_engine.proofs.Rechecking.{NoSelf, none_counted}
+use Rattle.dstm_engine.specs.Attempts.{Admits, Sighted, completes_pass, is_look_self, sights}
 use Rattle.dstm_engine.specs.Began.{began_of}
 use Rattle.dstm_engine.specs.Callers.{held, is_opened, state}
 use Rattle.dstm_engine.specs.Calls.{IsTold, Performs}
@@ -141,6 +150,56 @@ sight_stays s start later before more sight core few is =
     ∙ sym (subst (λ xs. seen s start xs before sight.caller ≡ seen s start before before sight.caller) one
     (seen_stays s start (later ++ sight ∷ []) before sight.caller (subst (Core s) (sym one) there) few live))
 
+-- ---- a release makes no pass
+
+-- the kinds of its events
+abbrev is_parting : Kind → Bool
+is_parting Release = true
+is_parting Quit = true
+is_parting kind = false
+
+abbrev IsPartingDue : Due → Type 0
+IsPartingDue (Step kind operand) = is_parting kind ≡ true
+IsPartingDue Done = Unit {0}
+
+abbrev IsPartingNewest : Option Event → Type 0
+IsPartingNewest None = Unit {0}
+IsPartingNewest (Some e) = is_parting e.kind ≡ true
+
+next_parting : (k : Kind) (e : Event) (o : ℕ) (m : Manager) (l : LocalState) (f : Effort) → is_parting k ≡ true →
+    IsPartingDue (next k e (Releasing o) m l f)
+next_parting Release e o m l f p = tt
+next_parting Quit e o m l f p = tt
+next_parting k e o m l f p = absurd (cc)
+
+parting_due : (o : ℕ) (s : Shape) (x : Option Event) (l : LocalState) (f : Effort) → IsPartingNewest x →
+    IsPartingDue (due (Doing (Releasing o)) s x l f)
+parting_due o s x l f p =
+    cond_both (is_outside l.phase) _ _ IsPartingDue (λ _. tt) (λ _.
+    cond_both (l.stale || (f.missed == MAX_MISSED)) _ _ IsPartingDue (λ _. refl) (λ _. goes x p))
+  where
+    goes : (x : Option Event) → IsPartingNewest x → IsPartingDue (next_or_first x (Releasing o) s.manager l f)
+    goes None p = refl
+    goes (Some e) p = next_parting e.kind e o s.manager l f p
+
+parting_kind : (d : Due) (e : Event) → IsPartingDue d → IsDue d e → is_parting e.kind ≡ true
+parting_kind (Step k n) e p h = ap is_parting h.0 ∙ p
+parting_kind Done e p h = absurd h
+
+not_self : (k : Kind) → is_parting k ≡ true → is_look_self k ≡ false
+not_self Release p = refl
+not_self Quit p = refl
+not_self k p = absurd (cc)
+
+no_self : (o : ℕ) (s : Shape) (l : LocalState) (g : Lcg) (es : List Event) → Obeys (Doing (Releasing o)) s l g es →
+    NoSelf es × IsPartingNewest (newest_of es)
+no_self o s l g [] h = (tt, tt)
+no_self o s l g (e ∷ es) h =
+    let ih = no_self o s l g es h.0 in
+    let kind = parting_kind (due_after (Doing (Releasing o)) s l g es) e
+    (parting_due o s (newest_of es) (state_after s l es) (effort_of s l g es) ih.1) h.1 in
+    ((not_self e.kind kind, ih.0), kind)
+
 -- ---- a read is there
 
 module _ {L : Type 0} (holds : L → List Val → Type 0) (c : Inside L) (v : Tied holds c) (o : ℕ)
@@ -237,6 +296,15 @@ module _ {L : Type 0} (holds : L → List Val → Type 0) (c : Inside L) (v : Ti
       steps (current_there holds c v live (Releasing o) new None u).live
       (doing_keeps holds (Releasing o) (called c) (called released) None steps) refl (v.left live) (λ _. tt)
 
+  -- the call makes no pass
+  no_sight : (i : ℕ) → count_of completes_pass c.terms.shape (view_of new.seat).log c.number i
+      ≡ count_of completes_pass c.terms.shape (called c).log c.number i
+  no_sight i =
+      ap (λ xs. count_of completes_pass c.terms.shape xs c.number i) (sym u.seen.whole)
+      ∙ none_counted c.terms.shape c.number i u.seen.later (called c).log
+      (subst NoSelf (sym (own_later c.number (called c).log (view_of new.seat).log u.events u.seen u.own))
+      (no_self o c.terms.shape (state (called c)) c.steps.decider.generator u.events u.obeys).0)
+
   -- the newest sight covers what is still held
   sighted : Sighted (called released)
   sighted =
@@ -261,9 +329,17 @@ module _ {L : Type 0} (holds : L → List Val → Type 0) (c : Inside L) (v : Ti
         is_one = x.is_one;
         caller = x.caller;
         attempt = x.attempt ∙ sym (ap (λ (l : LocalState). l.begun) then_is);
+        newest = newest x;
         covers = λ p w held. ap (λ ps. value_in ps p) same ∙ covered x p w held (cases_eq p o);
       }
     where
+      newest : (x : Sighted (called c)) → sights (called released)
+          ≡ count_of completes_pass c.terms.shape (x.sight ∷ x.before) c.number (state (called released)).begun
+      newest x =
+          subst (λ i. count_of completes_pass c.terms.shape (view_of new.seat).log c.number i
+          ≡ count_of completes_pass c.terms.shape (x.sight ∷ x.before) c.number i)
+          (sym (ap (λ (l : LocalState). l.begun) then_is)) (no_sight (state (called c)).begun ∙ x.newest)
+
       covered : (x : Sighted (called c)) (p : ℕ) (w : Val) → held (called released) p ≡ Some w →
           (p ≡ o) ⊎ (p ≡ o → ⊥) →
           value_in (seen c.terms.shape c.terms.start.value.items (called c).log x.before c.number) p ≡ Some w

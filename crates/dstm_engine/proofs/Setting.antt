@@ -133,6 +133,7 @@ set_tied holds c o v t live = record {
     is_one = x.is_one;
     caller = x.caller;
     attempt = x.attempt;
+    newest = x.newest;
     covers = x.covers;
   };
   reads = t.reads;

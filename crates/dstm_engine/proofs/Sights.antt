@@ -2,7 +2,7 @@
 use Rattle.std.proofs.Common.{◌++◌, ◌==◌, ◌∙◌, ◌∷◌, ◌≡◌, ◌≢◌, ◌⊎◌, List, [], ap, append_assoc, false, inl, inr, refl, subst, sym, true, ℕ}
 use Rattle.std.proofs.lemmas.List.{append_cancel_right}
 use Rattle.std.specs.Prelude.{Option, None, Some, IfSome}
-use Rattle.std.proofs.lemmas.Bool.{cases_Bool, eq-eqb, eqb-true}
+use Rattle.std.proofs.lemmas.Bool.{cases_Bool, cond_both, eq-eqb, eqb-true}
 use Rattle.std.proofs.lemmas.List.Elements.{filter-append}
 use Rattle.dstm_progress.proofs.OwnEvents.{after_own}
 use Rattle.dstm_core.proofs.Static.{local_own}
@@ -30,8 +30,9 @@ use Rattle.dstm_order.specs.Tasks.Task.{Doing}
 use Rattle.dstm_progress.proofs.Own.{IsNewest, newest_own, own_state}
 use Rattle.dstm_words.specs.Seats.{IsRunOf}
 use Rattle.rand_pcg.specs.Lcg.{Lcg}
-use Rattle.dstm_engine.proofs.Rechecking.{sight_keeps}
-use Rattle.dstm_engine.specs.Attempts.{Admits, Sighted}
+use Rattle.dstm_progress.specs.Disturbed.{count_of}
+use Rattle.dstm_engine.proofs.Rechecking.{NoSelf, none_counted, sight_keeps}
+use Rattle.dstm_engine.specs.Attempts.{Admits, Sighted, completes_pass, is_look_self}
 use Rattle.dstm_engine.specs.Callers.{Called, held, law_of, shape_of, start_of, state}
 
 -- a sight of a caller's attempt stands in a log, and what is read and written is what was at the sight
@@ -43,22 +44,27 @@ pub record Sees (s : Shape) (log : List Event) (c : ℕ) : Type 0 where
   pub is_one : IsSight s before sight
   pub caller : sight.caller ≡ c
   pub attempt : (local s before c).begun ≡ (local s log c).begun
+  pub newest : (i : ℕ) → count_of completes_pass s log c i ≡ count_of completes_pass s (sight ∷ before) c i
   pub reads : (local s log c).reads ≡ (local s before c).reads
   pub writes : (local s log c).writes ≡ (local s before c).writes
+
+-- after a caller's newest event it has none
+none_later : (c : ℕ) (log rest : List Event) (e : Event) → events_of c log ≡ e ∷ rest →
+    (n : IsNewest c log e rest) → events_of c n.later ≡ []
+none_later c log rest e own n =
+    let mine : e.caller == c ≡ true = eq-eqb e.caller c n.own in
+    let here : events_of c (e ∷ n.before) ≡ e ∷ rest = rw mine (ap (λ xs. e ∷ xs) n.rest) in
+    append_cancel_right (events_of c n.later) [] (e ∷ rest)
+    (ap (λ xs. events_of c n.later ++ xs) (sym here)
+    ∙ sym (filter-append (λ (x : Event). x.caller == c) n.later (e ∷ n.before))
+    ∙ ap (events_of c) (sym n.run) ∙ own)
 
 -- the state of a caller is that after its newest event
 newest_state : (s : Shape) (c : ℕ) (log rest : List Event) (e : Event) (own : events_of c log ≡ e ∷ rest) →
     (n : IsNewest c log e rest) → local s log c ≡ after e.kind s (local s n.before c) e
 newest_state s c log rest e own n =
-    let mine : e.caller == c ≡ true = eq-eqb e.caller c n.own in
-    let here : events_of c (e ∷ n.before) ≡ e ∷ rest = rw mine (ap (λ xs. e ∷ xs) n.rest) in
-    let none : events_of c n.later ≡ [] =
-    append_cancel_right (events_of c n.later) [] (e ∷ rest)
-    (ap (λ xs. events_of c n.later ++ xs) (sym here)
-    ∙ sym (filter-append (λ (x : Event). x.caller == c) n.later (e ∷ n.before))
-    ∙ ap (events_of c) (sym n.run) ∙ own) in
     ap (λ xs. local s xs c) n.run ∙ own_state s c n.later (e ∷ n.before)
-    ∙ ap (state_after s (local s (e ∷ n.before) c)) none
+    ∙ ap (state_after s (local s (e ∷ n.before) c)) (none_later c log rest e own n)
     ∙ ap (local s (e ∷ n.before)) (sym n.own) ∙ local_own s n.before e
     ∙ ap (λ a. after e.kind s (local s n.before a) e) n.own
 
@@ -93,6 +99,8 @@ look_sees s c log rest e own kind live =
       };
       caller = n.own;
       attempt = sym (ap (λ (l : LocalState). l.begun) now ∙ keeps.2);
+      newest = λ i. ap (λ xs. count_of completes_pass s xs c i) n.run
+          ∙ none_counted s c i n.later (e ∷ n.before) (subst NoSelf (sym (none_later c log rest e own n)) tt);
       reads = ap (λ (l : LocalState). l.reads) now ∙ keeps.0;
       writes = ap (λ (l : LocalState). l.writes) now ∙ keeps.1;
     }
@@ -102,6 +110,9 @@ rank_keeps : (s : Shape) (l : LocalState) (e : Event) (k : Kind) → k ≡ Rank 
     × ((after k s l e).phase ≡ l.phase)
 rank_keeps s l e Rank q = (refl, refl, refl, refl)
 rank_keeps s l e k q = absurd (cc)
+
+rank_only : (c : ℕ) (e : Event) → is_look_self e.kind ≡ false → NoSelf (events_of c (e ∷ []))
+rank_only c e h = cond_both (e.caller == c) (e ∷ []) [] NoSelf (λ _. (h, tt)) (λ _. tt)
 
 -- and one in which its rank was raised then
 rank_sees : (s : Shape) (c : ℕ) (log rest : List Event) (rank e : Event) → events_of c log ≡ rank ∷ e ∷ rest →
@@ -122,6 +133,10 @@ rank_sees s c log rest rank e own raised kind live =
       is_one = x.is_one;
       caller = x.caller;
       attempt = x.attempt ∙ sym (ap (λ (l : LocalState). l.begun) now ∙ keeps.2);
+      newest = λ i. ap (λ xs. count_of completes_pass s xs c i) n.run
+          ∙ none_counted s c i n.later (rank ∷ n.before)
+          (subst NoSelf (sym (none_later c log (e ∷ rest) rank own n)) tt)
+          ∙ none_counted s c i (rank ∷ []) n.before (rank_only c rank (ap is_look_self raised)) ∙ x.newest i;
       reads = ap (λ (l : LocalState). l.reads) now ∙ keeps.0 ∙ x.reads;
       writes = ap (λ (l : LocalState). l.writes) now ∙ keeps.1 ∙ x.writes;
     }
@@ -166,6 +181,7 @@ sees_all k x = record {
   is_one = x.is_one;
   caller = x.caller;
   attempt = x.attempt;
+  newest = x.newest (state k).begun;
   covers = λ o v is.
       ap (λ rs. value_in (read_values (shape_of k) (start_of k) k.log rs
       ++ old_values (shape_of k) (start_of k) k.log (local (shape_of k) x.before k.number).writes) o) (sym x.reads)

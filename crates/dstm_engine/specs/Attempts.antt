@@ -32,7 +32,7 @@ module _ {L : Type 0} where
   abbrev pub sights : Called L → ℕ
   sights k = count_of completes_pass (shape_of k) k.log k.number (state k).begun
 
-  -- The newest sight of this attempt covers all reads together.
+  -- The newest sight of this attempt covers all reads together: it has had no other since.
   pub record Sighted (k : Called L) : Type 0 where
     pub later : List Event
     pub sight : Event
@@ -41,6 +41,7 @@ module _ {L : Type 0} where
     pub is_one : IsSight (shape_of k) before sight
     pub caller : sight.caller ≡ k.number
     pub attempt : (local (shape_of k) before k.number).begun ≡ (state k).begun
+    pub newest : sights k ≡ count_of completes_pass (shape_of k) (sight ∷ before) k.number (state k).begun
     pub covers : (o : ℕ) (v : Val) → held k o ≡ Some v →
         value_in (seen (shape_of k) (start_of k) k.log before k.number) o ≡ Some v
 

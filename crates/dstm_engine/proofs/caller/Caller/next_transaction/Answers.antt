@@ -36,6 +36,7 @@ invariant_of-self g c = let v = c.self.invariant in record {
     is_one = t.is_one;
     caller = t.caller;
     attempt = t.attempt;
+    newest = t.newest;
     covers = t.covers;
   };
   reads = v.reads;
