@@ -5,7 +5,7 @@ use Rattle.dstm_core.specs.declared.state.Phase.TheVariants.{Running}
 use Rattle.dstm_core.specs.State.{LocalState, is_live, res}
 use Rattle.dstm_model.specs.declared.value.Val.{Val}
 use Rattle.dstm_words.specs.Seats.{Home}
-use Rattle.dstm_order.specs.declared.TheConstants.{MAX_MISSED}
+use Rattle.dstm_order.specs.Efforts.{most_missed}
 use Rattle.dstm_order.specs.Order.{has_ranks}
 use Rattle.dstm_steps.specs.declared.steps.Steps.{Steps}
 use Rattle.dstm_steps.specs.Under.{Began, IsRunning, Resolving, now}
@@ -51,7 +51,7 @@ module _ {L : Type 0} where
     pub named : (0 < code) × (code ≤ 5)
     pub rounds : steps.round ≤ 1024
     pub waiting : phase ≡ Running → 0 < steps.left → steps.round < 1024
-    pub tries : steps.missed < MAX_MISSED
+    pub tries : steps.missed < most_missed
 
   -- The attempt has begun to resolve an object, whose word is not 0; nothing more was found.
   pub record Starts (holds : L → List Val → Type 0) (home : Home L) (began : Began) (steps : Steps L) (word : ℕ) :
@@ -68,7 +68,7 @@ module _ {L : Type 0} where
     pub value : (res (now home steps)).value ≡ None
     pub left : steps.left ≡ 0
     pub round : steps.round ≡ 0
-    pub tries : steps.missed < MAX_MISSED
+    pub tries : steps.missed < most_missed
 
   -- It has found the owner of the locator that the word names, and that owner's status.
   pub record Encounters (holds : L → List Val → Type 0) (home : Home L) (began : Began) (steps : Steps L)
@@ -86,4 +86,4 @@ module _ {L : Type 0} where
     pub named : (0 < code) × (code ≤ 5)
     pub left : steps.left ≡ 0
     pub round : steps.round ≡ 0
-    pub tries : steps.missed < MAX_MISSED
+    pub tries : steps.missed < most_missed
