@@ -14,7 +14,8 @@ use std::test::Fail;
 
 // ---- a memory that counts
 
-// How many calls open an object, and how many reads are kept that were opened so.
+// How many calls open an object, and how many objects are reads that were opened so: they were not let go, and not
+// opened for writing.
 #[derive(Clone, Copy, Debug, PartialEq, Eq)]
 struct Counts {
     opens: u32,
@@ -68,6 +69,9 @@ impl Mem for Counting {
 
     fn open_write(&mut self, o: u32) -> Result<Val, Never> {
         self.counts.opens = self.counts.opens.saturating_add(1);
+        if self.mem.is_read(o) {
+            self.counts.kept = self.counts.kept.saturating_sub(1);
+        }
         self.mem.open_write(o)
     }
 
@@ -466,6 +470,13 @@ fn insert(key: u32) -> Op {
     }
 }
 
+fn remove(key: u32) -> Op {
+    Op::Remove {
+        which: Which::List,
+        key,
+    }
+}
+
 fn member(key: u32) -> Op {
     Op::Member {
         which: Which::List,
@@ -503,5 +514,73 @@ fn a_walk_hand_over_hand_keeps_few_reads(rt: HostRuntime) -> Result<(), Fail> {
     assert_eq!(rt; replies.as_slice(), [Reply::Yes].as_slice());
     let state = read_state(alloc, &layout, &values)?;
     assert_eq!(rt; state.list.as_slice(), [5, 10, 20, 30, 40, 50].as_slice());
+    Ok(())
+}
+
+// What one operation on the list answers and counts, and the values that it leaves.
+fn run_one(
+    alloc: Global,
+    layout: &Layout,
+    values: Vec<Val>,
+    op: Op,
+) -> Result<(Option<Reply>, Counts, Vec<Val>), AllocError>
+    requires valid { IsValid layout.now }
+    requires lawful { IsLawful layout.now values.items }
+    ensures { IfOk result (λ done. IsLawful layout.now done.2.items) }
+{
+    let (replies, counts, after) = run_releasing(alloc, layout, values, &[op])?;
+    Ok((replies.as_slice().first().copied(), counts, after))
+}
+
+#[test]
+fn an_edit_hand_over_hand_keeps_few_reads(rt: HostRuntime) -> Result<(), Fail> {
+    let layout = Layout {
+        accounts: 0,
+        opening: 0,
+        list: 6,
+        tree: 0,
+    };
+    let alloc = rt.alloc();
+    let values = opening(alloc, &layout)?;
+    let keys = [insert(10), insert(20), insert(30), insert(40), insert(50)];
+    let (_replies, _counts, values) = run_releasing(alloc, &layout, values, &keys)?;
+
+    // The head, the five nodes and the head of the free chain are read; three objects are opened for writing, and the
+    // node of 50 is the one read that stays.
+    let (reply, counts, values) = run_one(alloc, &layout, values, insert(45))?;
+    assert_eq!(rt; reply, Some(Reply::Yes));
+    assert_eq!(rt; counts, Counts { opens: 10, kept: 1 });
+
+    // No node is free. The head, the nodes of 10 and 20, and the head of the free chain stay.
+    let (reply, counts, values) = run_one(alloc, &layout, values, insert(15))?;
+    assert_eq!(rt; reply, Some(Reply::Full));
+    assert_eq!(rt; counts, Counts { opens: 4, kept: 4 });
+
+    // The key is there: the nodes of 45 and 50 stay.
+    let (reply, counts, values) = run_one(alloc, &layout, values, insert(50))?;
+    assert_eq!(rt; reply, Some(Reply::No));
+    assert_eq!(rt; counts, Counts { opens: 7, kept: 2 });
+
+    // The head and the six nodes are read; the last two are opened for writing, and no read stays.
+    let (reply, counts, values) = run_one(alloc, &layout, values, remove(50))?;
+    assert_eq!(rt; reply, Some(Reply::Yes));
+    assert_eq!(rt; counts, Counts { opens: 10, kept: 0 });
+
+    // At the second node the head is a read still.
+    let (reply, counts, values) = run_one(alloc, &layout, values, remove(20))?;
+    assert_eq!(rt; reply, Some(Reply::Yes));
+    assert_eq!(rt; counts, Counts { opens: 6, kept: 1 });
+
+    // Before the second node that is left the head and that node are.
+    let (reply, counts, values) = run_one(alloc, &layout, values, insert(15))?;
+    assert_eq!(rt; reply, Some(Reply::Yes));
+    assert_eq!(rt; counts, Counts { opens: 7, kept: 2 });
+
+    // The head and the nodes of 10 and 15 are.
+    let (reply, counts, values) = run_one(alloc, &layout, values, remove(12))?;
+    assert_eq!(rt; reply, Some(Reply::No));
+    assert_eq!(rt; counts, Counts { opens: 3, kept: 3 });
+    let state = read_state(alloc, &layout, &values)?;
+    assert_eq!(rt; state.list.as_slice(), [10, 15, 30, 40, 45].as_slice());
     Ok(())
 }
