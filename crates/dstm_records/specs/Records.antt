@@ -141,7 +141,7 @@ pub record IsAlone (rows : List Row) (round : Round) : Type 0 where
 
 -- ---- early release
 
--- the transaction of a row whose job only looks keys up in the list keeps at most three reads for each
+-- the transaction of a row whose job has operations on the list alone has few reads
 abbrev pub KeepsFewReads : Workload → Row × Committed → Type 0
 KeepsFewReads workload told = (job : Job) → job_of workload told.0 ≡ Some job → KeepsFew job told.1
 

@@ -1,9 +1,8 @@
 -- Which operations only look.
-use Rattle.std.specs.Prelude.{◌≡◌, ◌≢◌, Bool, true, false}
+use Rattle.std.specs.Prelude.{◌≡◌, ◌≢◌}
 use Rattle.dstm_model.specs.declared.op.Op.{Op}
 use Rattle.dstm_model.specs.declared.op.Op.TheVariants.{Transfer, Balance, Total, Insert, Remove, Member}
 use Rattle.dstm_model.specs.declared.op.Op.TheVariants.{Put, Get, Await, OrElse}
-use Rattle.dstm_model.specs.declared.op.Which.TheVariants as which
 use Rattle.dstm_model.specs.declared.reply.Reply.{Reply}
 use Rattle.dstm_model.specs.declared.reply.Reply.TheVariants as reply
 
@@ -19,8 +18,3 @@ IsLook (Put key value) r = r ≡ reply.Full
 IsLook (Get key) r = Unit {0}
 IsLook (Await condition) r = ⊥
 IsLook OrElse r = ⊥
-
--- it looks a key up in the list
-abbrev pub is_list_member : Op → Bool
-is_list_member (Member which.List key) = true
-is_list_member op = false

@@ -1,15 +1,10 @@
 -- What an attempt leaves, from the clauses of the engine's calls.
 use Rattle.std.proofs.Common.{◌≡◌, ◌∙◌, ◌+◌, ◌-◌, ◌*◌, ◌<◌, ◌≤◌, ◌++◌, ◌∷◌, ℕ, List, [], Some, None, true, false, length, refl, sym, ap, subst, arith, is_some}
-use Rattle.std.specs.Prelude.{IfSome, Option, All}
-use Rattle.std.specs.List.{AllByRecursion, sum_by}
+use Rattle.std.specs.Prelude.{IfSome, Option, All, sum_by}
 use Rattle.std.proofs.lemmas.Bool.{eq-eqb}
-use Rattle.std.proofs.lemmas.List.Elements.{All-from_recursion, recursion_from_All}
-use Rattle.std.proofs.lemmas.List.Sums.{sum_by-append}
 use Rattle.dstm_model.specs.declared.value.Val.{Val}
 use Rattle.dstm_model.specs.declared.layout.Layout.{Layout}
 use Rattle.dstm_model.specs.declared.op.Op.{Op}
-use Rattle.dstm_model.specs.declared.op.Op.TheVariants.{Member}
-use Rattle.dstm_model.specs.declared.op.Which.TheVariants as which
 use Rattle.dstm_model.specs.declared.reply.Reply.{Reply}
 use Rattle.dstm_model.specs.Map.{with_writes}
 use Rattle.dstm_model.specs.Objects.{objects_of}
@@ -37,7 +32,6 @@ use Rattle.dstm_store.specs.declared.law.StoreLaw.{StoreLaw}
 use Rattle.dstm_store.specs.declared.job.JobTask.{JobTask}
 use Rattle.dstm_store.specs.Job.{Job as Body, DoesAll, KeepsAtMost}
 use Rattle.dstm_store.specs.Keeps.{is_of_list, most_kept}
-use Rattle.dstm_store.specs.Looks.{is_list_member}
 use Rattle.dstm_store.specs.Whole.{IsLawful}
 use Rattle.dstm_workload.specs.declared.workload.Job.{Job}
 use Rattle.dstm_tables.specs.Answers.{IsAnsweredBy, KeepsFew}
@@ -207,27 +201,12 @@ newest_reads most n by before reads is =
     let same : by ≡ reads.last = let newest = reads.done in cc in
     subst (λ (c : Committed). length c.entry.reads ≤ most) (sym same) reads.few
 
--- a lookup in the list keeps three
-looked_up : (op : Op) → is_list_member op ≡ true → (is_of_list op ≡ true) × (sum_by most_kept (op ∷ []) ≡ 3)
-looked_up (Member which.List key) is = (refl, refl)
-looked_up op is = absurd (cc)
-
-kept_by : (ops : List Op) → AllByRecursion (λ op. is_list_member op ≡ true) ops →
-    AllByRecursion (λ op. is_of_list op ≡ true) ops × (sum_by most_kept ops ≤ 3 * length ops)
-kept_by [] all = (tt, omega arith)
-kept_by (op ∷ ops) all =
-    let one = looked_up op all.0 in
-    let more = kept_by ops all.1 in
-    let sum = sum_by-append most_kept (op ∷ []) ops in
-    ((one.0, more.0), (let three = one.1 in let rest = more.1 in omega (arith, sum, three, rest)))
-
 pub few_loose : (style : Style) (job : Job) (k n : Called StoreLaw) (task : JobTask) → n.home ≡ k.home →
     task.ops ≡ job.ops →
     ((shape_of k).all_write ≡ false → (most : ℕ) → KeepsAtMost task most → ReadsAtMost most n) → FewReads style job k n
 few_loose style job k n task home ops reads loose stay by newest all =
     let stays = ap (λ (h : Home StoreLaw). h.terms.shape.all_write) (sym home) ∙ stay in
-    let kept = kept_by job.ops (recursion_from_All (λ (op : Op). is_list_member op ≡ true) job.ops all) in
-    let few : KeepsAtMost task (3 * length job.ops) =
-    subst (λ (os : List Op). All (λ op. is_of_list op ≡ true) os × (sum_by most_kept os ≤ 3 * length job.ops)) (sym ops)
-    (All-from_recursion (λ (op : Op). is_of_list op ≡ true) job.ops kept.0, kept.1) in
-    newest_reads (3 * length job.ops) n by (done k) (reads stays (3 * length job.ops) few) newest
+    let most = sum_by most_kept job.ops in
+    let fits : sum_by most_kept task.ops ≤ most = let kept = ap (sum_by most_kept) ops in omega arith in
+    let ours = subst (λ (os : List Op). All (λ op. is_of_list op ≡ true) os) (sym ops) all in
+    newest_reads most n by (done k) (reads stays most (ours, fits)) newest

@@ -1,5 +1,5 @@
 -- What an attempt has made of a job, as its own transaction tells.
-use Rattle.std.specs.Prelude.{◌≡◌, ℕ, ◌*◌, ◌≤◌, true, List, length, map, Option, None, All, IsSomeAnd}
+use Rattle.std.specs.Prelude.{◌≡◌, ℕ, ◌≤◌, true, List, length, map, Option, None, All, IsSomeAnd, sum_by}
 use Rattle.dstm_model.specs.declared.value.Val.{Val}
 use Rattle.dstm_model.specs.declared.layout.Layout.{Layout}
 use Rattle.dstm_model.specs.declared.op.Op.{Op}
@@ -8,7 +8,7 @@ use Rattle.dstm_model.specs.Answers.{Committed}
 use Rattle.dstm_model.specs.Job.{apply_job}
 use Rattle.dstm_model.specs.Map.{Entry, Agrees, with_writes}
 use Rattle.dstm_model.specs.Store.{Store}
-use Rattle.dstm_store.specs.Looks.{is_list_member}
+use Rattle.dstm_store.specs.Keeps.{is_of_list, most_kept}
 use Rattle.dstm_store.specs.Whole.{StandsFor}
 use Rattle.dstm_workload.specs.declared.workload.Job.{Job}
 use Rattle.dstm_tables.specs.declared.trying.Finished.{Finished}
@@ -29,9 +29,9 @@ pub record IsDone (layout : Layout) (job : Job) (finished : Finished) (by : Comm
   pub number : finished.number ≡ by.number
   pub answered : IsAnsweredBy layout job.ops finished.replies by.entry
 
--- a transaction of a job that only looks keys up in the list keeps at most three reads for each
+-- a transaction of a job of operations on the list has at most the reads that these keep, one by one
 abbrev pub KeepsFew : Job → Committed → Type 0
-KeepsFew job by = All (λ op. is_list_member op ≡ true) job.ops → length by.entry.reads ≤ 3 * length job.ops
+KeepsFew job by = All (λ op. is_of_list op ≡ true) job.ops → length by.entry.reads ≤ sum_by most_kept job.ops
 
 -- the job is blocked on every lawful map that has these values
 abbrev pub IsBlockedWith : Layout → List (ℕ × Val) → Option Job → Type 0
