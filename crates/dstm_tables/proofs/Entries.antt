@@ -1,7 +1,8 @@
--- The entries of transactions that committed.
-use Rattle.std.proofs.Common.{◌≡◌, ◌∙◌, List, [], ◌∷◌, ◌++◌, refl, sym, ap, reverse}
+-- Transactions that committed: their entries, and those of one caller.
+use Rattle.std.proofs.Common.{◌≡◌, ◌∙◌, Bool, true, false, cond, List, [], ◌∷◌, ◌++◌, refl, sym, ap, reverse}
+use Rattle.std.proofs.lemmas.Bool.{eq-eqb}
 use mathlib.Core.List.{reverse-cons}
-use Rattle.dstm_model.specs.Answers.{Committed}
+use Rattle.dstm_model.specs.Answers.{Committed, by_caller}
 use Rattle.dstm_model.specs.Map.{Entry}
 use Rattle.dstm_tables.specs.Answers.{entries_of}
 
@@ -15,3 +16,11 @@ entries_reverse (first ∷ done) =
     ap entries_of (reverse-cons first done) ∙ entries_push (reverse done) first
     ∙ ap (λ (es : List Entry). es ++ first.entry ∷ []) (entries_reverse done)
     ∙ sym (reverse-cons first.entry (entries_of done))
+
+-- ---- those of an only caller
+
+pub one_more : (b : Bool) (attempt : Committed) (rest : List Committed) → attempt.caller ≡ 0 → by_caller 0 rest ≡ rest →
+    by_caller 0 (cond b (attempt ∷ rest) rest) ≡ cond b (attempt ∷ rest) rest
+one_more false attempt rest own same = same
+one_more true attempt rest own same =
+    rw (eq-eqb attempt.caller 0 own) (ap (λ (cs : List Committed). attempt ∷ cs) same)

@@ -1,8 +1,8 @@
 -- A table with one caller: what a pass of it has seen, since which none of its attempts has committed, are the values that
 -- its transactions have left.
-use Rattle.std.proofs.Common.{◌≡◌, ◌≢◌, ◌⊎◌, inl, inr, ℕ, ◌+◌, ◌-◌, ◌*◌, ◌≤◌, Bool, true, false, List, [], ◌∷◌, ◌++◌, Option, Some, None, ap, sym, subst, refl, ◌∙◌, arith, append_assoc, reverse, map, cond, true≢false}
+use Rattle.std.proofs.Common.{◌≡◌, ◌≢◌, ◌⊎◌, inl, inr, ℕ, ◌+◌, ◌-◌, ◌*◌, ◌≤◌, Bool, true, false, List, [], ◌∷◌, ◌++◌, Option, Some, None, ap, sym, subst, refl, ◌∙◌, arith, append_assoc, reverse, map, true≢false}
 use Rattle.std.specs.Prelude.{◌&&◌, ◌==◌, is_some}
-use Rattle.std.proofs.lemmas.Bool.{cases_Bool, eq-eqb, eqb-true}
+use Rattle.std.proofs.lemmas.Bool.{cases_Bool, eqb-true}
 use Rattle.dstm_opacity.specs.Committed.{Committed, by_caller, committed, committed_in, done_by}
 use Rattle.dstm_opacity.proofs.Stays.{entries_are_history}
 use Rattle.dstm_opacity.proofs.Told.{each_is_told}
@@ -33,7 +33,7 @@ use Rattle.dstm_store.specs.Whole.{IsLawful, StandsFor}
 use Rattle.dstm_workload.specs.declared.workload.Job.{Job}
 use Rattle.dstm_tables.specs.Attempts.{HasCommitted, seen_last}
 use Rattle.dstm_tables.specs.Answers.{IsBlockedWith, entries_of}
-use Rattle.dstm_tables.proofs.Entries.{entries_reverse}
+use Rattle.dstm_tables.proofs.Entries.{entries_reverse, one_more}
 
 -- from the attempt of this number on none of a caller has committed
 abbrev pub NoneCommitted : Shape → List Event → (c i : ℕ) → Type 0
@@ -124,12 +124,6 @@ only_agrees s start holds run later before sight i core whole one is at none =
         (subst (λ (n : ℕ). i ≤ n) (sym begun) at) none
 
 -- ---- what an only caller has committed is the history
-
-one_more : (b : Bool) (attempt : Committed) (rest : List Committed) → attempt.caller ≡ 0 → by_caller 0 rest ≡ rest →
-    by_caller 0 (cond b (attempt ∷ rest) rest) ≡ cond b (attempt ∷ rest) rest
-one_more false attempt rest own same = same
-one_more true attempt rest own same =
-    rw (eq-eqb attempt.caller 0 own) (ap (λ (cs : List Committed). attempt ∷ cs) same)
 
 only_committed : (s : Shape) (start : List Val) (will : ℕ → Bool) (run es : List Event) → Core s es → s.callers ≡ 1 →
     by_caller 0 (committed s start will run es) ≡ committed s start will run es

@@ -1,6 +1,6 @@
 -- A TL2 table with one caller: what an attempt of it has read that has drawn nothing are the values that its transactions
 -- have left.
-use Rattle.std.proofs.Common.{◌≡◌, ◌∙◌, ◌==◌, ◌⊎◌, ◌∷◌, ℕ, List, [], Bool, true, false, None, refl, sym, ap, subst, arith, inl, inr, map, cond, reverse}
+use Rattle.std.proofs.Common.{◌≡◌, ◌∙◌, ◌==◌, ◌⊎◌, ◌∷◌, ℕ, List, [], Bool, true, false, None, refl, sym, ap, subst, arith, inl, inr, map, reverse}
 use Rattle.std.specs.Prelude.{◌&&◌}
 use Rattle.std.proofs.lemmas.Bool.{and_from, and_left, and_right, cases_Bool, cond-false, cond-true, eq-eqb}
 use Rattle.dstm_model.specs.declared.value.Val.{Val}
@@ -8,7 +8,7 @@ use Rattle.dstm_model.specs.Answers.{Committed, by_caller}
 use Rattle.dstm_model.specs.Map.{Agrees, state_after}
 use Rattle.dstm_machines.specs.Histories as histories
 use Rattle.dstm_tables.specs.Answers.{entries_of}
-use Rattle.dstm_tables.proofs.Entries.{entries_reverse}
+use Rattle.dstm_tables.proofs.Entries.{entries_reverse, one_more}
 use Rattle.dstm_machines.proofs.Own.{local_mine}
 use Rattle.dstm_tl2.specs.declared.kind.Kind.{Kind}
 use Rattle.dstm_tl2.specs.declared.kind.Kind.TheVariants.{Sample, Draw}
@@ -69,12 +69,6 @@ since_sample_none t will (e ∷ es) run one none =
         (and_right (e.caller == 0) (is_sample e.kind) q)))
 
 -- ---- what an only caller has committed is the history
-
-one_more : (b : Bool) (attempt : Committed) (rest : List Committed) → attempt.caller ≡ 0 → by_caller 0 rest ≡ rest →
-    by_caller 0 (cond b (attempt ∷ rest) rest) ≡ cond b (attempt ∷ rest) rest
-one_more false attempt rest own same = same
-one_more true attempt rest own same =
-    rw (eq-eqb attempt.caller 0 own) (ap (λ (cs : List Committed). attempt ∷ cs) same)
 
 only_committed : (t : Table) (will : ℕ → Bool) (es : List Event) → Run t es → t.callers ≡ 1 →
     by_caller 0 (committed t will es) ≡ committed t will es

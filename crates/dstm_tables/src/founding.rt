@@ -3,7 +3,7 @@ ghost use Rattle.dstm_core.specs.Words.{IsValid};
 ghost use Rattle.dstm_store.specs.Whole.{IsLawful};
 ghost use Rattle.dstm_tables.specs.Callers.{IsOver, home_of};
 ghost use Rattle.dstm_tables.specs.Founders.{GivesOut, IsFounded, TakesBack, first_of, guests_of, home_there, made_of, out_of, seen_by};
-ghost use Rattle.dstm_tables.specs.Tells.{IsRun, callers_of, values_of};
+ghost use Rattle.dstm_tables.specs.Tells.{IsRun, callers_of, layout_of, values_of};
 
 use crate::tables::{Caller, Round, Table};
 use dstm_core::Shape;
@@ -109,6 +109,7 @@ impl Table {
         ensures round { IfOk result (λ t. t.1 ≡ seen_by founder) }
         ensures run { IfOk result (λ t. IsRun t.1) }
         ensures values { IfOk result (λ t. t.0.items ≡ values_of t.1) }
+        ensures lawful { IfOk result (λ t. IsLawful (layout_of t.1) t.0.items) }
     {
         match self {
             Table::Dstm(stm) => match founder {

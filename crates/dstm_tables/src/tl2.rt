@@ -1,16 +1,16 @@
 //! Trying jobs by TL2.
 
-ghost use Rattle.std.specs.Prelude.{◌≡◌, All, IfNone, IfSome};
-ghost use Rattle.dstm_model.specs.Store.{IsPlain};
+ghost use Rattle.std.specs.Prelude.{◌≡◌, ℕ, IfNone, IfSome};
 ghost use Rattle.dstm_tables.specs.Callers.{AtRest, law_of};
 ghost use Rattle.dstm_tables.specs.Jobs.{HasTried};
 ghost use Rattle.dstm_tables.specs.OnlyCallers.{HasGivenUp, HasTriedAlone, WasSpent};
-ghost use Rattle.dstm_tables.specs.declared.tables.Caller.TheVariants.{Tl2};
 ghost use Rattle.dstm_tables.specs.Styles.{CanTry};
+ghost use Rattle.dstm_tables.specs.declared.style.Style.{Style as Way};
+ghost use Rattle.dstm_tables.specs.declared.tables.Caller.TheVariants.{Tl2};
 
 use crate::only::OnlyTried;
 use crate::style::Style;
-use crate::trying::{Finished, RECHECKS, Tried};
+use crate::trying::{Finished, Tried};
 use dstm_compose::{CompBody, Outcome};
 use dstm_mem::Body;
 use dstm_model::Layout;
@@ -18,10 +18,9 @@ use dstm_store::{JobBody, StoreLaw};
 use dstm_tl2_engine::{TlCaller, TlEnded, TlSpent, TlStm, tl_attempt};
 use dstm_workload::Job;
 
-/// Makes one attempt at a job by TL2, its operations in order. No read is let go, whatever the style.
-pub(crate) fn attempt_plain(
+/// Makes one attempt at a job. No read is let go, whatever the style; one that stands at a blocked job is given up at once.
+pub(crate) fn attempt_job(
     style: Style,
-    rechecks: u32,
     caller: &mut TlCaller<StoreLaw>,
     stm: &TlStm<StoreLaw>,
     layout: &Layout,
@@ -31,10 +30,29 @@ pub(crate) fn attempt_plain(
     requires law { (law_of (Tl2 caller.old)).layout ≡ layout.now }
     requires rest { AtRest (Tl2 caller.old) }
     requires can { CanTry style layout.now job.now }
-    requires plain { All IsPlain job.now.ops }
-    ensures { HasTried style rechecks layout.now job.now (Tl2 caller.old) (Tl2 caller.new) result }
+    ensures { (rechecks : ℕ) → HasTried style rechecks layout.now job.now (Tl2 caller.old) (Tl2 caller.new) result }
 {
-    let _ = (style, rechecks);
+    match style {
+        Style::Plain => attempt_plain(caller, stm, layout, job),
+        Style::Loose => attempt_plain(caller, stm, layout, job),
+        Style::Branches => attempt_branches(caller, stm, layout, job),
+    }
+}
+
+// The same, by its operations in order.
+fn attempt_plain(
+    caller: &mut TlCaller<StoreLaw>,
+    stm: &TlStm<StoreLaw>,
+    layout: &Layout,
+    job: &Job,
+) -> Tried
+    requires table { caller.old.home ≡ stm.now }
+    requires law { (law_of (Tl2 caller.old)).layout ≡ layout.now }
+    requires rest { AtRest (Tl2 caller.old) }
+    requires can { CanTry Style.Plain layout.now job.now }
+    ensures { (style : Way) (rechecks : ℕ) →
+        HasTried style rechecks layout.now job.now (Tl2 caller.old) (Tl2 caller.new) result }
+{
     let mut body = JobBody::make(layout, &job.ops);
     match tl_attempt(caller, stm, &mut body) {
         Ok(done) => Tried::Done(Finished {
@@ -46,9 +64,8 @@ pub(crate) fn attempt_plain(
     }
 }
 
-/// The same by the first open branch. One that stands at a blocked job is given up at once.
-pub(crate) fn attempt_branches(
-    rechecks: u32,
+// The same, by the first open branch.
+fn attempt_branches(
     caller: &mut TlCaller<StoreLaw>,
     stm: &TlStm<StoreLaw>,
     layout: &Layout,
@@ -58,9 +75,9 @@ pub(crate) fn attempt_branches(
     requires law { (law_of (Tl2 caller.old)).layout ≡ layout.now }
     requires rest { AtRest (Tl2 caller.old) }
     requires can { CanTry Style.Branches layout.now job.now }
-    ensures { HasTried Style.Branches rechecks layout.now job.now (Tl2 caller.old) (Tl2 caller.new) result }
+    ensures { (rechecks : ℕ) →
+        HasTried Style.Branches rechecks layout.now job.now (Tl2 caller.old) (Tl2 caller.new) result }
 {
-    let _ = rechecks;
     let mut tx = match caller.begin(stm) {
         Ok(tx) => tx,
         Err(TlSpent) => return Tried::Spent,
@@ -99,32 +116,11 @@ pub(crate) fn try_alone(
     requires can { CanTry style layout.now job.now }
     ensures { HasTriedAlone style layout.now job.now (Tl2 caller.old) (Tl2 caller.new) result }
 {
-    match attempt_job(style, RECHECKS, caller, stm, layout, job) {
+    match attempt_job(style, caller, stm, layout, job) {
         Tried::Done(finished) => OnlyTried::Done(finished),
         Tried::Blocked => OnlyTried::Blocked,
         Tried::Spent => OnlyTried::Spent,
         Tried::Again => unreachable!(),
-    }
-}
-
-/// Makes one attempt at a job by TL2.
-pub(crate) fn attempt_job(
-    style: Style,
-    rechecks: u32,
-    caller: &mut TlCaller<StoreLaw>,
-    stm: &TlStm<StoreLaw>,
-    layout: &Layout,
-    job: &Job,
-) -> Tried
-    requires table { caller.old.home ≡ stm.now }
-    requires law { (law_of (Tl2 caller.old)).layout ≡ layout.now }
-    requires rest { AtRest (Tl2 caller.old) }
-    requires can { CanTry style layout.now job.now }
-    ensures { HasTried style rechecks layout.now job.now (Tl2 caller.old) (Tl2 caller.new) result }
-{
-    match style {
-        Style::Branches => attempt_branches(rechecks, caller, stm, layout, job),
-        _ => attempt_plain(style, rechecks, caller, stm, layout, job),
     }
 }
 

@@ -64,7 +64,7 @@ pub fn attempt_job(
             Table::Tl2(_) => unreachable!(),
         },
         Caller::Tl2(caller) => match table {
-            Table::Tl2(stm) => tl2::attempt_job(style, rechecks, caller, stm, layout, job),
+            Table::Tl2(stm) => tl2::attempt_job(style, caller, stm, layout, job),
             Table::Dstm(_) => unreachable!(),
         },
     }

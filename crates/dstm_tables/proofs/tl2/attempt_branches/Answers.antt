@@ -18,7 +18,7 @@ use Rattle.dstm_tables.proofs.JobsByTl2.{did_branch, stood_at}
 use Rattle.dstm_tables.proofs.tl2.attempt_branches.Goals as goal
 
 pub returns-in-Err : goal.returns-in-Err
-returns-in-Err c =
+returns-in-Err c = λ rechecks.
     tl2_spent c.args.caller.now c.begin.follows.lender-at-none c.requires.rest
     (rw c.in-Err.is at c.begin.follows.holds-at-none)
 
@@ -28,7 +28,7 @@ commit-requires-clause-rest c = rests _ (and_parts _ _ c.in-Ok-run.ensures.leads
 -- The caller ends as the attempt left it, since this has the reference that it was begun with.
 
 pub returns-in-Ok-commit : goal.returns-in-Ok-commit
-returns-in-Ok-commit c =
+returns-in-Ok-commit c = λ rechecks.
     let k = c.args.caller.now in
     let b = c.in-Ok.tx.caller.now in
     let t = c.run.new.mem.caller.now in
@@ -52,7 +52,7 @@ returns-in-Ok-commit c =
     (ran.right map admits))))
 
 pub returns-in-Err-commit : goal.returns-in-Err-commit
-returns-in-Err-commit c =
+returns-in-Err-commit c = λ rechecks.
     let k = c.args.caller.now in
     let b = c.in-Ok.tx.caller.now in
     let t = c.run.new.mem.caller.now in
@@ -68,7 +68,7 @@ returns-in-Err-commit c =
     commit.leaves.left (commit.leaves.done ∙ same_done keeps k b t _ _ _ _ begins place))
 
 pub returns-in-Blocked : goal.returns-in-Blocked
-returns-in-Blocked c =
+returns-in-Blocked c = λ rechecks.
     let k = c.args.caller.now in
     let b = c.in-Ok.tx.caller.now in
     let t = c.run.new.mem.caller.now in
@@ -76,10 +76,10 @@ returns-in-Blocked c =
     let begins = c.in-Ok.ensures.begins in
     let place = ran.leads.place in
     let name = same_name keeps k b t _ _ _ _ begins place _ c.in-Ok.ensures.same in
-    let P = λ (x : TlCalled _). StoodAt Branches c.args.rechecks c.args.layout.now c.args.job.now (Tl2 k) (Tl2 x) in
+    let P = λ (x : TlCalled _). StoodAt Branches rechecks c.args.layout.now c.args.job.now (Tl2 k) (Tl2 x) in
     in_the_end P _ _ _ _ (assumption c) name (subst P (sym c.abandon.ensures.same)
     (stood_at k b t _ _ _ _ begins place c.requires.rest (rests _ (and_parts _ _ ran.leads.live).1) c.abandon.ensures.run
-    c.args.rechecks c.args.layout.now c.args.job.now c.requires.law
+    rechecks c.args.layout.now c.args.job.now c.requires.law
     (λ map admits.
     right_for c.args.layout.now c.args.job.now.ops c.run.new.self.task c.run.new.self.outcome _ map _
     (ap (λ (j : JobTask). j.layout) ran.task ∙ c.make-body.ensures.layout)
@@ -87,7 +87,7 @@ returns-in-Blocked c =
     (ran.right map admits))))
 
 pub returns-in-Err-run : goal.returns-in-Err-run
-returns-in-Err-run c =
+returns-in-Err-run c = λ rechecks.
     let k = c.args.caller.now in
     let b = c.in-Ok.tx.caller.now in
     let t = c.run.new.mem.caller.now in
