@@ -150,6 +150,8 @@ module _ {L : Type 0} (holds : L → List Val → Type 0) (c : Inside L) (v : Ti
   pub commits : (number : ℕ) → (now (called c).home new).drawn ≡ Some number →
       Commits (called c) (called committed_as) number
   commits number drawn = record {
+    seen = u.seen;
+    attempt = committed_attempt;
     over = ap is_running ends.0;
     status = ends.2;
     entry = entry_of c.terms.shape c.terms.start.value.items (view_of new.seat).log (state (called committed_as));

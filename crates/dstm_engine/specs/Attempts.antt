@@ -14,10 +14,11 @@ use Rattle.dstm_core.specs.declared.shape.Shape.{Shape}
 use Rattle.dstm_core.specs.Events.{Event}
 use Rattle.dstm_core.specs.Histories.{CoreRun, IsSight, history_of, seen}
 use Rattle.dstm_core.specs.Runs.{local}
+use Rattle.dstm_core.specs.Traces.{IsPastOf}
 use Rattle.dstm_core.specs.Words.{code_of}
 use Rattle.dstm_core.specs.declared.status.Status.TheVariants as status
-use Rattle.dstm_mem.specs.Memory.{AgreesWith, value_in}
-use Rattle.dstm_engine.specs.Callers.{Called, shape_of, start_of, law_of, state, held, written, handed, is_live, is_opened}
+use Rattle.dstm_mem.specs.Memory.{AgreesWith, value_in, with_set}
+use Rattle.dstm_engine.specs.Callers.{Called, begun_log, shape_of, start_of, law_of, state, held, written, handed, is_live, is_opened}
 
 abbrev pub is_look_self : Kind → Bool
 is_look_self LookSelf = true
@@ -62,10 +63,12 @@ module _ {L : Type 0} where
     pub done : done k ≡ last ∷ before
     pub few : length last.entry.reads ≤ most
 
-  -- The attempt has committed under this number: it is over, and its status is committed and stays so. Its entry has
-  -- the reads of the memory, and writes the value last set for each object that was opened for writing, or else the old
-  -- one.
+  -- The attempt has committed under this number, and the log has gone on: it is over, and its status is committed and
+  -- stays so. Its entry has the reads of the memory, and writes the value last set for each object that was opened for
+  -- writing, or else the old one.
   pub record Commits (k n : Called L) (number : ℕ) : Type 0 where
+    pub seen : IsPastOf k.log n.log
+    pub attempt : begun_log n.number n.log ≡ begun_log k.number k.log
     pub over : is_live n ≡ false
     pub status : StaysAt (shape_of n) n.log n.number (code_of status.Committed)
     pub entry : Entry
@@ -84,7 +87,8 @@ module _ {L : Type 0} where
         (with_writes (state_after (start_of n) stands.before) entry.writes)
 
   -- The attempt has committed an entry, and this is right for every lawful map that agrees with its reads as
-  -- the map that it starts at, and that map with its writes as the one that it leaves. So it is in every history.
+  -- the map that it starts at, and that map with its writes as the one that it leaves. So it is in every history. It is
+  -- what was read and set, in this attempt, where the body's run ended: what the run promises of its memory holds there.
   pub record Settles (holds : L → List Val → Type 0) (is_right : List Val → List Val → Type 0) (k n : Called L)
       (number : ℕ) : Type 0 where
     pub entry : Entry
@@ -93,3 +97,8 @@ module _ {L : Type 0} where
         Agrees map entry.reads → is_right map (with_writes map entry.writes)
     pub in_runs : (later : List Event) → CoreRun (shape_of n) (start_of n) (holds (law_of n)) (later ++ n.log) →
         StandsRight holds is_right n later entry
+    pub ran : Called L
+    pub same : (ran.home ≡ k.home) × (ran.number ≡ k.number)
+    pub ran_right : (map : List Val) → Admits holds ran map → is_right map (with_set map (written ran))
+    pub commits : Commits ran n number
+    pub is_entry : entry ≡ commits.entry
