@@ -137,5 +137,6 @@ bounded k t core b law sum alone =
     ∙ ap (λ c. counts_of (shape_of k) (all_events t.calls ++ b.begin ∷ b.before) c) (sym b.own) in
     let same = ap (λ (x : Counts). x.steps) here in
     let more : count is_open t.calls * (most_turns (shape_of k).manager + 16)
-    ≤ count is_open t.calls * (most_turns (shape_of k).manager + 17) = omega arith in
+    + count is_open t.calls ≡ count is_open t.calls * (most_turns (shape_of k).manager + 17) = omega arith in
+    let let_go = t.releases in
     omega arith

@@ -31,6 +31,7 @@ use Rattle.dstm_progress.proofs.Own.{newest_own}
 use Rattle.dstm_progress.specs.Alone.{Made}
 use Rattle.dstm_words.specs.Seats.{view_of}
 use Rattle.dstm_engine.proofs.Calling.{performs}
+use Rattle.dstm_engine.proofs.Continuing.{kept_most}
 use Rattle.dstm_engine.proofs.Leaving.{not_made}
 use Rattle.dstm_engine.proofs.Locators.{unspent_enough}
 use Rattle.dstm_engine.proofs.Starting.{Ended, beginning_none, beginning_still, ended_is, ends_with_begin}
@@ -224,6 +225,9 @@ module _ {L : Type 0} (holds : L → List Val → Type 0) (c : Inside L) (v : Ti
         generator = same_decider ∙ sym (ap (λ (d : DeciderState). d.generator) took);
         left = refl;
         writes = λ w. tt;
+        releases =
+            let kept = kept_most (called anew) in
+            let none = ap (λ (l : LocalState). length l.reads) is_begun in omega arith;
       };
       sighted = λ h some. absurd (some
           (ap (λ (l : LocalState). (entry_of c.terms.shape c.terms.start.value.items (view_of new.seat).log l).reads)

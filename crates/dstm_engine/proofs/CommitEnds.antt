@@ -28,7 +28,7 @@ use Rattle.dstm_words.specs.Seats.{view_of}
 use Rattle.dstm_engine.proofs.Abandoning.{begun_of, has_begin}
 use Rattle.dstm_engine.proofs.Alone.{bounded}
 use Rattle.dstm_engine.proofs.Committing.{handed_value, unwritten}
-use Rattle.dstm_engine.proofs.Continuing.{doing_keeps, told_more}
+use Rattle.dstm_engine.proofs.Continuing.{doing_keeps, kept_over, told_more}
 use Rattle.dstm_engine.proofs.Left.{begun_there, call_there, current_there, over_tied, performed, told_there}
 use Rattle.dstm_engine.proofs.Plain.{are_plain, is_closed}
 use Rattle.dstm_engine.proofs.PutValues.{commit_puts, given_in, given_values}
@@ -101,6 +101,7 @@ module _ {L : Type 0} (holds : L → List Val → Type 0) (c : Inside L) (v : Ti
       (record (called committed_as) { left = left }) refl refl refl refl)
       (current_there holds c v live (Committing (new_value (called c))) new None u).live
       committed_attempt refl none (λ _. tt)
+      (let over = kept_over (record (called committed_as) { left = left }) (ap is_running ends.0) in omega arith)
 
   pub committed_tied : Tied holds committed_as
   committed_tied =

@@ -5,13 +5,15 @@ use Rattle.std.specs.Prelude.{All, is_some, slice_index_or, unwrap_or}
 use Rattle.std.proofs.lemmas.Bool.{cases_Bool, eq-eqb, eqb-true}
 use Rattle.std.proofs.lemmas.Nat.{mul-le}
 use Rattle.dstm_steps.proofs.Ranged.{few_locators}
-use Rattle.dstm_steps.specs.Under.{now}
+use Rattle.dstm_steps.proofs.Stepping.{began_as}
+use Rattle.dstm_steps.specs.Under.{InTask, effort_by, now}
 use Rattle.dstm_steps.specs.Writes.{AreWrites, IsLawful, or_old, puts_of, to_put}
 use Rattle.dstm_steps.specs.declared.slots.WriteSlot.{WriteSlot}
 use Rattle.dstm_steps.specs.declared.steps.Steps.{Steps}
 use Rattle.dstm_core.proofs.Static.{static}
 use Rattle.dstm_core.specs.Events.{Event}
 use Rattle.dstm_core.specs.Histories.{entry_of, old_values, read_values, seen}
+use Rattle.dstm_core.specs.Rules.{is_outside}
 use Rattle.dstm_core.specs.State.{LocalState, write_of}
 use Rattle.dstm_core.specs.declared.shape.Shape.{Shape}
 use Rattle.dstm_core.specs.declared.state.Read.{Read}
@@ -20,15 +22,19 @@ use Rattle.dstm_mem.specs.Memory.{AgreesWith, value_in, with_set}
 use Rattle.dstm_model.specs.Map.{Agrees, no_value, with_writes}
 use Rattle.dstm_model.specs.declared.value.Val.{Val}
 use Rattle.dstm_opacity.proofs.Tidy.{Apart, WritesOnce, tidy}
+use Rattle.dstm_order.specs.Calls.{answer}
+use Rattle.dstm_order.specs.Order.{due, in_putting}
+use Rattle.dstm_order.specs.Tasks.Task.{Doing}
+use Rattle.dstm_order.specs.Tasks.Work.{Committing}
 use Rattle.dstm_words.specs.Seats.{Home, caller_state, view_of, number_or, View}
 use Rattle.dstm_engine.proofs.Holding.{old_there}
 use Rattle.dstm_engine.proofs.Opens.{none_of, unset, writes_length}
 use Rattle.dstm_engine.proofs.Setting.{opened_slot, with_new_apart}
 use Rattle.dstm_mem.proofs.Settling.{agrees_held, writes_same}
-use Rattle.dstm_engine.proofs.Tying.{now_there, renewed}
+use Rattle.dstm_engine.proofs.Tying.{now_there, renewed, starts_there}
 use Rattle.dstm_engine.specs.Attempts.{Admits}
 use Rattle.dstm_engine.specs.Callers.{handed, held, is_opened, law_of, state, written}
-use Rattle.dstm_engine.specs.Mirror.{Tied, called, set_pairs, slot_old, with_new}
+use Rattle.dstm_engine.specs.Mirror.{Tied, called, phase_by, set_pairs, slot_old, with_new}
 use Rattle.dstm_engine.specs.Opened.{write_slot}
 use Rattle.dstm_engine.specs.Transactions.{new_value}
 use Rattle.dstm_engine.specs.declared.caller.Caller.TheInside.{Inside}
@@ -210,6 +216,26 @@ module _ {L : Type 0} (holds : L → List Val → Type 0) (c : Inside L) (v : Ti
         ∙ ap (λ (l : LocalState). λ o. unwrap_or (option_or (value_in (set_pairs c.opened.writes) o)
         (value_in (entry_of c.terms.shape c.terms.start.value.items (called c).log l).reads o)) no_value)
         (ap (caller_state c.terms) v.seat.0)
+
+    -- the call begins with the first event of a commit
+    pub putting_there :
+        InTask holds home (Doing (Committing (value_there home steps slots)))
+        (began_as home (Doing (Committing (value_there home steps slots))) (number_or (view_of steps.seat).number 0) steps)
+        steps (in_putting (value_there home steps slots) (now home steps)) None
+    putting_there =
+        let task = Doing (Committing (value_there home steps slots)) in
+        let was = now_there holds c v home same steps is in
+        let inside : is_outside (now home steps).phase ≡ false =
+        ap (λ (l : LocalState). is_outside l.phase) was ∙ ap is_outside (v.phase ∙ ap phase_by live) in
+        let agreed : (now home steps).stale ≡ false = ap (λ (l : LocalState). l.stale) was ∙ (v.rest live).agreed in
+        let none : steps.missed ≡ 0 = ap (λ (s : Steps L). s.missed) is in
+        let first : due task home.terms.shape None (now home steps) (effort_by steps)
+        ≡ in_putting (value_there home steps slots) (now home steps) = rw (inside, agreed, none) refl in
+        let gives : answer task None (now home steps) (effort_by steps) ≡ None = rw inside refl in
+        subst (λ again. InTask holds home task (began_as home task (number_or (view_of steps.seat).number 0) steps) steps
+        (in_putting (value_there home steps slots) (now home steps)) again) gives
+        (subst (λ next. InTask holds home task (began_as home task (number_or (view_of steps.seat).number 0) steps) steps
+        next (answer task None (now home steps) (effort_by steps))) first (starts_there holds c v home same steps is task))
 
     pub values_there : All (λ slot. value_there home steps slots slot.object ≡ to_put slot) slots
     values_there =

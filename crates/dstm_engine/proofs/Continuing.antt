@@ -1,5 +1,5 @@
 -- One call more on an attempt.
-use Rattle.std.proofs.Common.{◌++◌, ◌<◌, ◌==◌, ◌||◌, ◌∙◌, ◌∷◌, ◌≡◌, ◌≢◌, ◌⊎◌, List, Option, [], ap, append_assoc, arith, false, inl, inr, length, refl, subst, sym, true, ℕ}
+use Rattle.std.proofs.Common.{◌++◌, ◌+◌, ◌<◌, ◌≤◌, ◌==◌, ◌||◌, ◌∙◌, ◌∷◌, ◌≡◌, ◌≢◌, ◌⊎◌, List, None, Option, Some, [], ap, append_assoc, arith, false, inl, inr, length, refl, subst, sym, true, ℕ}
 use Rattle.std.specs.Prelude.{if◌then◌else◌}
 use Rattle.std.proofs.lemmas.Bool.{cases_Bool, cond_both, eqb-true}
 use Rattle.std.proofs.lemmas.List.Elements.{All-cons}
@@ -7,28 +7,28 @@ use Rattle.dstm_machines.proofs.Own.{own_later}
 use Rattle.dstm_core.proofs.Underway.{not_begin}
 use Rattle.dstm_core.specs.Counts.{is_begin}
 use Rattle.dstm_core.specs.declared.event.Kind.{Kind}
-use Rattle.dstm_core.specs.declared.event.Kind.TheVariants.{Begin, Quit}
+use Rattle.dstm_core.specs.declared.event.Kind.TheVariants.{Begin, Quit, Release}
 use Rattle.dstm_core.specs.declared.state.Phase.{Phase}
 use Rattle.dstm_core.specs.declared.state.Phase.TheVariants.{Outside}
-use Rattle.dstm_core.specs.Rules.{is_outside}
+use Rattle.dstm_core.specs.Rules.{after, is_outside}
 use Rattle.dstm_order.specs.declared.TheConstants.{MAX_MISSED}
-use Rattle.dstm_order.specs.Order.{Due, IsDue, at_first, due, just}
-use Rattle.dstm_order.specs.Order.Due.{Done}
+use Rattle.dstm_order.specs.Order.{Due, IsDue, at_first, due, just, next}
+use Rattle.dstm_order.specs.Order.Due.{Done, Step}
 use Rattle.dstm_core.specs.Events.{Event}
 use Rattle.dstm_core.specs.Runs.{Core, local}
 use Rattle.dstm_core.specs.State.{LocalState}
 use Rattle.dstm_core.specs.Traces.{events_of}
 use Rattle.dstm_core.specs.declared.shape.Shape.{Shape}
 use Rattle.dstm_model.specs.declared.value.Val.{Val}
-use Rattle.dstm_order.specs.Calls.{IsCall, Obeys, answer_of, effort_of, newest_of, state_after}
-use Rattle.dstm_order.specs.Efforts.{Effort}
+use Rattle.dstm_order.specs.Calls.{IsCall, Obeys, answer, answer_of, due_after, effort_of, newest_of, state_after}
+use Rattle.dstm_order.specs.Efforts.{Effort, effort_after, no_effort}
 use Rattle.dstm_order.specs.Tasks.{Task, Work}
 use Rattle.dstm_order.specs.Tasks.Task.{Doing}
 use Rattle.dstm_order.specs.Tasks.Work.{Committing, Reading, Rechecking, Releasing, Writing}
 use Rattle.dstm_order.specs.declared.again.Again.{Again}
 use Rattle.dstm_progress.proofs.OwnEvents.{after_own}
 use Rattle.dstm_progress.proofs.Own.{own_state}
-use Rattle.dstm_progress.specs.Alone.{AreCalls, Made, all_events, generator_after, last_answer}
+use Rattle.dstm_progress.specs.Alone.{AreCalls, Made, all_events, generator_after, is_open, is_release, last_answer}
 use Rattle.dstm_progress.specs.Oldest.{IsNoReading}
 use Rattle.rand_pcg.specs.Lcg.{Lcg}
 use Rattle.dstm_order.proofs.Misses.{missed_is}
@@ -36,8 +36,8 @@ use Rattle.dstm_order.specs.Passes.{misses}
 use Rattle.dstm_steps.specs.Under.{Began, InTask}
 use Rattle.dstm_steps.specs.declared.steps.Steps.{Steps}
 use Rattle.dstm_words.specs.Seats.{Home}
-use Rattle.dstm_engine.specs.Callers.{Called, begun_log, shape_of, state}
-use Rattle.dstm_engine.specs.Calls.{IsTold, Performs, begun_state, newest_answer}
+use Rattle.dstm_engine.specs.Callers.{Called, begun_log, is_live, shape_of, state}
+use Rattle.dstm_engine.specs.Calls.{IsTold, Performs, begun_state, kept_reads, newest_answer}
 
 -- ---- a call on a live attempt makes a step
 
@@ -61,6 +61,57 @@ makes_step work s l g [] live call =
     (λ _. cond_both (l.stale || (0 == MAX_MISSED)) (just Quit) (at_first work l) (λ (d : Due). d ≢ Done) (λ _ q. cc)
     (λ _. first_due work l)) call.done)
 makes_step work s l g (e ∷ es) live call = omega arith
+
+-- ---- a release of an attempt that is current is one event, and answers nothing
+
+module _ (o : ℕ) (s : Shape) (l : LocalState) (g : Lcg) (live : l.phase ≢ Outside) (agreed : l.stale ≡ false) where
+  inside : is_outside l.phase ≡ false
+  inside = by (cases_Bool (is_outside l.phase))
+    where
+      by : (is_outside l.phase ≡ true) ⊎ (is_outside l.phase ≡ false) → is_outside l.phase ≡ false
+      by (inl q) = absurd (live (outside_is l.phase q))
+      by (inr q) = q
+
+  release_due : due_after (Doing (Releasing o)) s l g [] ≡ Step Release o
+  release_due = rw (inside, agreed) refl
+
+  nothing_then : (e : Event) → e.kind ≡ Release → due_after (Doing (Releasing o)) s l g (e ∷ []) ≡ Done
+  nothing_then e is =
+      subst (λ (k : Kind). (if is_outside (after k s l e).phase then Done
+      else if (after k s l e).stale || ((effort_after k s.manager l (no_effort g) e).missed == MAX_MISSED) then just Quit
+      else next k e (Releasing o) s.manager (after k s l e) (effort_after k s.manager l (no_effort g) e)) ≡ Done) (sym is)
+      (rw (inside, agreed) refl)
+
+  one_release : (e : Event) (es : List Event) → Obeys (Doing (Releasing o)) s l g (e ∷ es) →
+      (es ≡ []) × (e.kind ≡ Release)
+  one_release e [] h = (refl, (subst (λ (d : Due). IsDue d e) release_due h.1).0)
+  one_release e (x ∷ xs) h =
+      let first = one_release x xs h.0 in
+      let due : IsDue (due_after (Doing (Releasing o)) s l g (x ∷ [])) e =
+      subst (λ ys. IsDue (due_after (Doing (Releasing o)) s l g (x ∷ ys)) e) first.0 h.1 in
+      absurd (subst (λ (d : Due). IsDue d e) (nothing_then x first.1) due)
+
+  pub release_answers : (es : List Event) → Obeys (Doing (Releasing o)) s l g es →
+      answer_of (Doing (Releasing o)) s l g es ≡ None
+  release_answers [] h = rw inside refl
+  release_answers (e ∷ es) h =
+      let first = one_release e es h in
+      ap (λ ys. answer_of (Doing (Releasing o)) s l g (e ∷ ys)) first.0
+      ∙ subst (λ (k : Kind). answer (Doing (Releasing o)) (Some e) (after k s l e)
+      (effort_after k s.manager l (no_effort g) e) ≡ None) (sym first.1) (rw inside refl)
+
+-- ---- the reads that a live attempt keeps
+
+pub kept_most : {L : Type 0} (k : Called L) → kept_reads k ≤ length (state k).reads
+kept_most k =
+    cond_both (is_live k) (length (state k).reads) 0 (λ n. n ≤ length (state k).reads) (λ _. omega arith)
+    (λ _. omega arith)
+
+pub kept_live : {L : Type 0} (k : Called L) → is_live k ≡ true → kept_reads k ≡ length (state k).reads
+kept_live k live = ap (λ b. if b then length (state k).reads else 0) live
+
+pub kept_over : {L : Type 0} (k : Called L) → is_live k ≡ false → kept_reads k ≡ 0
+kept_over k over = ap (λ b. if b then length (state k).reads else 0) over
 
 -- ---- the calls on an attempt
 
@@ -91,8 +142,9 @@ module _ {L : Type 0} (k : Called L) (t : IsTold k) where
         (state_after (shape_of k) (begun_state k) (all_events t.calls)) g p.events) t.generator
 
     pub told_more : (state k).phase ≢ Outside → begun_log n.number n.log ≡ begun_log k.number k.log →
-        n.began ≡ k.began → n.left ≡ again → ((shape_of k).all_write ≡ true → IsNoReading work) → IsTold n
-    told_more live same_begin same_generator left writes =
+        n.began ≡ k.began → n.left ≡ again → ((shape_of k).all_write ≡ true → IsNoReading work) →
+        is_release work + kept_reads n ≤ is_open work + kept_reads k → IsTold n
+    told_more live same_begin same_generator left writes few =
         let s = shape_of k in
         let call = one_more in
         let shape : shape_of n ≡ s = ap (λ h. h.terms.shape) p.same.0 in
@@ -128,6 +180,7 @@ module _ {L : Type 0} (k : Called L) (t : IsTold k) where
               ∙ ap (λ (g : Lcg). newest_answer s (begun_state k) g (call ∷ t.calls)) same_generator);
           writes = λ w. let every : s.all_write ≡ true = ap (λ (x : Shape). x.all_write) (sym shape) ∙ w in
               (writes every, t.writes every);
+          releases = let all = t.releases in omega arith;
         }
 
 -- ---- a call on an attempt begins none

@@ -1,5 +1,5 @@
 -- A call that has left its attempt, and one that has not.
-use Rattle.std.proofs.Common.{◌++◌, ◌<◌, ◌∙◌, ◌∷◌, ◌≡◌, ◌≢◌, List, None, Option, Some, [], ap, append_assoc, false, inl, inr, refl, subst, sym, true, ℕ, ◌==◌, map}
+use Rattle.std.proofs.Common.{◌++◌, ◌<◌, arith, ◌∙◌, ◌∷◌, ◌≡◌, ◌≢◌, List, None, Option, Some, [], ap, append_assoc, false, inl, inr, refl, subst, sym, true, ℕ, ◌==◌, map}
 use Rattle.std.proofs.lemmas.List.{append_cancel_right}
 use Rattle.std.specs.Prelude.{Bool, IfSome, is_some}
 use base.Fml.{GName}
@@ -31,14 +31,15 @@ use Rattle.dstm_core.specs.declared.shape.Shape.{Shape}
 use Rattle.dstm_core.specs.declared.state.Phase.TheVariants.{Outside, Running}
 use Rattle.dstm_core.specs.declared.status.Status.TheVariants as status
 use Rattle.dstm_model.specs.declared.value.Val.{Val}
-use Rattle.dstm_order.specs.Calls.{effort_of, newest_of, state_after}
+use Rattle.dstm_order.specs.Calls.{Obeys, answer_of, effort_of, newest_of, state_after}
 use Rattle.dstm_order.specs.Tasks.{Work}
 use Rattle.dstm_order.specs.Tasks.Task.{Doing}
+use Rattle.dstm_order.specs.Tasks.Work.{Committing, Reading, Rechecking, Releasing, Writing}
 use Rattle.dstm_order.specs.declared.again.Again.{Again}
 use Rattle.dstm_order.specs.declared.again.Again.TheVariants.{Killed, Lost, Stale, Waited}
 use Rattle.dstm_progress.proofs.Answers.{oldest_answers}
 use Rattle.dstm_progress.proofs.Calls.{alone_is_committed}
-use Rattle.dstm_progress.specs.Alone.{AreCalls, Made, all_events, last_answer}
+use Rattle.dstm_progress.specs.Alone.{AreCalls, Made, all_events, is_release, last_answer}
 use Rattle.dstm_progress.specs.Oldest.{AreMade, IsNoReading, IsOfOldest, IsOldest}
 use Rattle.dstm_order.specs.Order.Due.{Done}
 use Rattle.dstm_words.specs.Seats.{Home, view_of}
@@ -55,7 +56,7 @@ use Rattle.dstm_engine.specs.Mirror.{AtRest, Tied, called, phase_by, slot_old, s
 use Rattle.dstm_engine.specs.declared.caller.Caller.TheInside.{Inside}
 use Rattle.dstm_engine.proofs.Abandoning.{has_begin}
 use Rattle.dstm_engine.proofs.Alone.{Begun, commits}
-use Rattle.dstm_engine.proofs.Continuing.{doing_keeps, more_answer, more_calls, told_more, told_state}
+use Rattle.dstm_engine.proofs.Continuing.{doing_keeps, kept_over, more_answer, more_calls, release_answers, told_more, told_state}
 use Rattle.dstm_engine.proofs.Locators.{enough_still}
 use Rattle.dstm_engine.specs.Callers.{Called, begun_log, entry, is_running, shape_of, since_begin, state}
 use Rattle.dstm_engine.specs.Calls.{IsTold, Performs, begun_state, reading}
@@ -189,7 +190,22 @@ module _ {L : Type 0} (holds : L → List Val → Type 0) (k n : Called L) (work
   }
 
   pub told_then : IsTold n
-  told_then = told_more k told holds work n (Some again) p current.live same_begin same_generator left writes
+  told_then =
+      told_more k told holds work n (Some again) p current.live same_begin same_generator left writes
+      (let over = kept_over n (ap is_running uncommitted.0) in let none = no_release work p.answers p.call.obeys in
+      omega arith)
+    where
+      -- a release answers nothing
+      no_release : (w : Work) → Some again ≡ answer_of (Doing w) (shape_of k) (state k) k.generator p.events →
+          Obeys (Doing w) (shape_of k) (state k) k.generator p.events → is_release w ≡ 0
+      no_release (Reading o) answers obeys = refl
+      no_release (Writing o) answers obeys = refl
+      no_release (Releasing o) answers obeys =
+          absurd (let none = release_answers o (shape_of k) (state k) k.generator current.live current.agreed p.events
+          obeys in
+          let no_way : Some again ≡ None = answers ∙ none in cc)
+      no_release Rechecking answers obeys = refl
+      no_release (Committing value) answers obeys = refl
 
   shape : shape_of k ≡ shape_of n
   shape = sym (ap (λ (h : Home L). h.terms.shape) p.same.0)

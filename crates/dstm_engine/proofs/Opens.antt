@@ -1,8 +1,8 @@
 -- A caller after an open.
-use Rattle.std.proofs.Common.{◌++◌, ◌<◌, ◌==◌, ◌∙◌, ◌∷◌, ◌≡◌, ◌≢◌, ◌⊎◌, List, None, Option, Some, [], ap, arith, false, inl, inr, length, length-append, map, refl, subst, sym, true, ℕ}
+use Rattle.std.proofs.Common.{◌++◌, ◌+◌, ◌<◌, ◌≤◌, ◌==◌, ◌∙◌, ◌∷◌, ◌≡◌, ◌≢◌, ◌⊎◌, List, None, Option, Some, [], ap, arith, false, inl, inr, length, length-append, map, refl, subst, sym, true, ℕ}
 use Rattle.std.specs.Prelude.{IsSome, IsTrue, if◌then◌else◌, is_some, option_map}
 use Rattle.std.specs.Option.{option_or}
-use Rattle.std.proofs.lemmas.Bool.{cases_Bool, cases_eq, eq-eqb, ne_eqb}
+use Rattle.std.proofs.lemmas.Bool.{cases_Bool, cases_eq, cond_both, eq-eqb, ne_eqb}
 use Rattle.std.proofs.lemmas.List.{length-map, map-append}
 use Rattle.dstm_steps.proofs.Stepping.{call_of}
 use Rattle.dstm_steps.specs.Reads.{words_of}
@@ -35,11 +35,13 @@ use Rattle.dstm_order.specs.Order.Due.{Done}
 use Rattle.dstm_order.specs.Passes.{is_open}
 use Rattle.dstm_order.specs.Tasks.{Work}
 use Rattle.dstm_order.specs.Tasks.Task.{Doing}
-use Rattle.dstm_order.specs.Tasks.Work.{Reading, Writing}
+use Rattle.dstm_order.specs.Tasks.Work.{Committing, Reading, Rechecking, Releasing, Writing}
 use Rattle.dstm_order.specs.declared.again.Again.{Again}
+use Rattle.dstm_progress.specs.Alone as alone
+use Rattle.dstm_progress.specs.Alone.{is_release}
 use Rattle.dstm_progress.specs.Oldest.{IsNoReading}
 use Rattle.dstm_words.specs.Seats.{view_of}
-use Rattle.dstm_engine.proofs.Continuing.{doing_keeps, told_more}
+use Rattle.dstm_engine.proofs.Continuing.{doing_keeps, kept_live, kept_most, told_more}
 use Rattle.dstm_engine.proofs.HeldStill.{by_version, narrows_by, same_held, still_held}
 use Rattle.dstm_engine.proofs.Keeping.{DropsNone, opens_keep, read_apart, write_apart, write_last, write_more}
 use Rattle.dstm_engine.proofs.Left.{call_there, current_there, left_as, left_done, left_leaves, left_tied, on_tied, performed, stays, told_there}
@@ -47,7 +49,7 @@ use Rattle.dstm_engine.proofs.Rechecking.{held_stay}
 use Rattle.dstm_engine.proofs.Setting.{opened_slot, set_pairs_push}
 use Rattle.dstm_engine.proofs.Sights.{open_sees, sees_all, sighted_admits}
 use Rattle.dstm_engine.proofs.Slots.{slot_read, words_push, words_without}
-use Rattle.dstm_engine.proofs.Tying.{state_then}
+use Rattle.dstm_engine.proofs.Tying.{live_there, state_then}
 use Rattle.dstm_engine.specs.Attempts.{Sighted, done}
 use Rattle.dstm_engine.specs.Began.{began_of}
 use Rattle.dstm_engine.specs.Callers.{Called, begun_log, entry, held, is_opened, is_running, state}
@@ -99,6 +101,14 @@ module _ {L : Type 0} (holds : L → List Val → Type 0) (c : Inside L) (v : Ti
   pub same_home : (called (record c { steps = new })).home ≡ (called c).home
   same_home = ap (λ t. record (called c).home { table = t }) u.seat.0
 
+-- an open counts one, and is no release
+open_is : (work : Work) → is_open work ≡ true → (is_release work ≡ 0) × (alone.is_open work ≡ 1)
+open_is (Reading o) h = (refl, refl)
+open_is (Writing o) h = (refl, refl)
+open_is (Releasing o) h = absurd (cc)
+open_is Rechecking h = absurd (cc)
+open_is (Committing value) h = absurd (cc)
+
 -- ---- an open that ends well
 
 module _ {L : Type 0} (holds : L → List Val → Type 0) (c : Inside L) (v : Tied holds c) (live : c.live ≡ true)
@@ -113,7 +123,8 @@ module _ {L : Type 0} (holds : L → List Val → Type 0) (c : Inside L) (v : Ti
     (writes : AreWrites opened.writes (now (called c).home new).writes)
     (olds : old_values c.terms.shape c.terms.start.value.items (view_of new.seat).log (now (called c).home new).writes
     ≡ map slot_old opened.writes)
-    (no_reading : c.terms.shape.all_write ≡ true → IsNoReading work) where
+    (no_reading : c.terms.shape.all_write ≡ true → IsNoReading work)
+    (few : length (now (called c).home new).reads ≤ length (state (called c)).reads + 1) where
   abbrev pub opened_as : Inside L
   opened_as = record c { steps = new; last_number = last; opened = opened }
 
@@ -147,6 +158,10 @@ module _ {L : Type 0} (holds : L → List Val → Type 0) (c : Inside L) (v : Ti
       told_more (called c) (told_there holds c v live work new None u) holds work (called opened_as) None steps
       (current_there holds c v live work new None u).live
       opened_attempt refl (v.left live) no_reading
+      (let most = kept_most (called opened_as) in
+      let same = ap (λ (l : LocalState). length l.reads) opened_state in
+      let was = kept_live (called c) (sym (live_there holds c v) ∙ live) in
+      let one = open_is work is_one in omega arith)
 
   pub opened_tied : Tied holds opened_as
   opened_tied =
@@ -477,13 +492,18 @@ module _ {L : Type 0} (holds : L → List Val → Type 0) (c : Inside L) (v : Ti
   no_reading : c.terms.shape.all_write ≡ true → IsNoReading (Reading o)
   no_reading all = absurd (cc)
 
+  one_more : length (now (called c).home new).reads ≤ length (state (called c)).reads + 1
+  one_more =
+      let more = length-append (state (called c)).reads (record { object = o; word = word; version = version } ∷ []) in
+      let same = ap (λ (rs : List Read). length rs) adds.reads in omega arith
+
   abbrev pub read_as : Inside L
   read_as = record c { steps = new; last_number = last; opened = read_opened }
 
   pub read_tied : Tied holds read_as
   read_tied =
       opened_tied holds c v live (Reading o) refl new u adds.goes_on last last_is read_opened refl refl words values writes
-      olds no_reading
+      olds no_reading one_more
 
   st : state (called read_as) ≡ now (called c).home new
   st = state_then holds c (Doing (Reading o)) new None u
@@ -518,11 +538,11 @@ module _ {L : Type 0} (holds : L → List Val → Type 0) (c : Inside L) (v : Ti
   pub read_opens : Opens holds (Reading o) o (called c) (called read_as) value
   read_opens = record {
     stays = opened_stays holds c v live (Reading o) refl new u adds.goes_on last last_is read_opened refl refl words values
-        writes olds no_reading;
+        writes olds no_reading one_more;
     kept = opened_kept holds c v live (Reading o) refl new u adds.goes_on last last_is read_opened refl refl words values
-        writes olds no_reading;
+        writes olds no_reading one_more;
     continues = opened_continues holds c v live (Reading o) refl new u adds.goes_on last last_is read_opened refl refl
-        words values writes olds no_reading o
+        words values writes olds no_reading one_more o
         (also_held (called c) (called read_as) o value holds_it (holds_still holds c v live (Reading o) refl new None u)
         others)
         (record {
@@ -535,6 +555,13 @@ module _ {L : Type 0} (holds : L → List Val → Type 0) (c : Inside L) (v : Ti
   }
 
 -- ---- an open for writing
+
+drop_most : (o : ℕ) (rs : List Read) → length (drop_read o rs) ≤ length rs
+drop_most o [] = omega arith
+drop_most o (r ∷ rs) =
+    let ih = drop_most o rs in
+    cond_both (r.object == o) rs (r ∷ drop_read o rs) (λ (xs : List Read). length xs ≤ length (r ∷ rs))
+    (λ _. omega arith) (λ _. omega arith)
 
 -- the values of the reads without that of an object
 values_without : (s : Shape) (start : List Val) (run : List Event) (rs : List Read) (slots : List ReadSlot) (o : ℕ) →
@@ -621,6 +648,11 @@ module _ {L : Type 0} (holds : L → List Val → Type 0) (c : Inside L) (v : Ti
       ((values_stay holds c v live (Writing o) refl new None u).1 ∙ v.olds live)
       ∙ ap (λ x. map slot_old c.opened.writes ++ (o, x) ∷ []) valued ∙ sym (slot_olds-push c.opened.writes _)
 
+  no_more : length (now (called c).home new).reads ≤ length (state (called c)).reads + 1
+  no_more =
+      let fewer = drop_most o (state (called c)).reads in
+      let same = ap (λ (rs : List Read). length rs) adds.reads in omega arith
+
   set_w : set_pairs write_opened.writes ≡ set_pairs c.opened.writes
   set_w = set_pairs_push c.opened.writes _ refl
 
@@ -630,7 +662,7 @@ module _ {L : Type 0} (holds : L → List Val → Type 0) (c : Inside L) (v : Ti
   pub write_tied : Tied holds write_as
   write_tied =
       opened_tied holds c v live (Writing o) refl new u adds.goes_on last last_is write_opened refl set_w words_w values_w
-      writes_w olds_w (λ all. tt)
+      writes_w olds_w (λ all. tt) no_more
 
   st_w : state (called write_as) ≡ now (called c).home new
   st_w = state_then holds c (Doing (Writing o)) new None u
@@ -668,11 +700,11 @@ module _ {L : Type 0} (holds : L → List Val → Type 0) (c : Inside L) (v : Ti
   pub write_opens : Opens holds (Writing o) o (called c) (called write_as) value
   write_opens = record {
     stays = opened_stays holds c v live (Writing o) refl new u adds.goes_on last last_is write_opened refl set_w words_w
-        values_w writes_w olds_w (λ all. tt);
+        values_w writes_w olds_w (λ all. tt) no_more;
     kept = opened_kept holds c v live (Writing o) refl new u adds.goes_on last last_is write_opened refl set_w words_w
-        values_w writes_w olds_w (λ all. tt);
+        values_w writes_w olds_w (λ all. tt) no_more;
     continues = opened_continues holds c v live (Writing o) refl new u adds.goes_on last last_is write_opened refl set_w
-        words_w values_w writes_w olds_w (λ all. tt) o
+        words_w values_w writes_w olds_w (λ all. tt) no_more o
         (also_held (called c) (called write_as) o value holds_w
         (holds_still holds c v live (Writing o) refl new None u) others_w)
         (record {

@@ -1,5 +1,5 @@
 -- A caller after a recheck.
-use Rattle.std.proofs.Common.{◌++◌, ◌+◌, ◌∙◌, ◌∷◌, ◌≡◌, ◌≢◌, List, None, Option, Some, [], ap, cond, refl, subst, sym, true, ℕ}
+use Rattle.std.proofs.Common.{◌++◌, ◌+◌, ◌∙◌, ◌∷◌, ◌≡◌, ◌≢◌, List, None, Option, Some, [], ap, arith, cond, length, refl, subst, sym, true, ℕ}
 use Rattle.dstm_steps.proofs.Stepping.{call_of}
 use Rattle.dstm_steps.specs.Reads.{words_of}
 use Rattle.dstm_steps.specs.Under.{InTask, now, passed}
@@ -14,6 +14,7 @@ use Rattle.dstm_core.specs.declared.event.Kind.{Kind}
 use Rattle.dstm_core.specs.declared.event.Kind.TheVariants.{Install, Kill, Pause}
 use Rattle.dstm_core.specs.declared.shape.Shape.{Shape}
 use Rattle.dstm_core.specs.declared.state.Phase.TheVariants.{Outside, Running}
+use Rattle.dstm_core.specs.declared.state.Read.{Read}
 use Rattle.dstm_model.specs.declared.value.Val.{Val}
 use Rattle.dstm_order.specs.Calls.{Obeys, due_after, state_after}
 use Rattle.dstm_order.specs.Order.Due.{Done}
@@ -25,12 +26,12 @@ use Rattle.dstm_order.specs.declared.again.Again.{Again}
 use Rattle.dstm_order.specs.declared.again.Again.TheVariants.{Killed, Lost, Stale, Waited}
 use base.Fml.{GName}
 use Rattle.dstm_words.specs.Seats.{Home, view_of}
-use Rattle.dstm_engine.proofs.Continuing.{doing_keeps, told_more}
+use Rattle.dstm_engine.proofs.Continuing.{doing_keeps, kept_live, kept_most, told_more}
 use Rattle.dstm_engine.proofs.Left.{call_there, current_there, on_tied, performed, same_place, stays, told_there}
 use Rattle.dstm_engine.proofs.Plain.{ArePlain, are_plain, is_plain}
 use Rattle.dstm_engine.proofs.Rechecking.{EndsInSight, begins_pass, one_more_sight, one_self, recheck_sights, sighted_of}
 use Rattle.dstm_engine.proofs.Steady.{olds_then, same_generator, same_there, values_then}
-use Rattle.dstm_engine.proofs.Tying.{state_then}
+use Rattle.dstm_engine.proofs.Tying.{live_there, state_then}
 use Rattle.dstm_progress.specs.Disturbed.{count_of}
 use Rattle.dstm_core.specs.Traces.{events_of}
 use Rattle.dstm_engine.specs.Attempts.{Sighted, completes_pass, sights}
@@ -152,6 +153,9 @@ module _ {L : Type 0} (holds : L → List Val → Type 0) (c : Inside L) (v : Ti
       told_more (called c) (told_there holds c v live Rechecking new None u) holds Rechecking (called then) None steps
       (current_there holds c v live Rechecking new None u).live
       (doing_keeps holds Rechecking (called c) (called then) None steps) refl (v.left live) (λ _. tt)
+      (let most = kept_most (called then) in
+      let same = ap (λ (rs : List Read). length rs) (same_there holds c v live Rechecking refl new None u).reads in
+      let was = kept_live (called c) (sym (live_there holds c v) ∙ live) in omega arith)
 
   pub rechecked_tied : Tied holds then
   rechecked_tied =

@@ -1,5 +1,5 @@
 -- A caller after it has let a read go.
-use Rattle.std.proofs.Common.{◌&&◌, ◌||◌, ◌++◌, ◌==◌, ◌∙◌, ◌∷◌, ◌≡◌, ◌≢◌, ◌⊎◌, ◌<◌, Bool, List, None, Option, Some, [], ap, append_assoc, false, inl, inr, map, ne_eqb, not, refl, subst, sym, true, ℕ}
+use Rattle.std.proofs.Common.{◌&&◌, ◌||◌, ◌++◌, ◌==◌, ◌∙◌, ◌∷◌, ◌≡◌, ◌≢◌, ◌⊎◌, ◌+◌, ◌<◌, Bool, List, None, Option, Some, [], ap, append_assoc, arith, false, inl, inr, length, map, ne_eqb, not, refl, subst, sym, true, ℕ}
 use Rattle.std.specs.Prelude.{IfSome, is_some, if◌then◌else◌, option_map}
 use base.Fml.{GName}
 use Rattle.std.proofs.lemmas.Bool.{and_parts, cases_Bool, cases_eq, cond_both, eqb-true}
@@ -38,13 +38,13 @@ use Rattle.rand_pcg.specs.Lcg.{Lcg}
 use Rattle.dstm_order.specs.Tasks.Task.{Doing}
 use Rattle.dstm_order.specs.Tasks.Work.{Releasing}
 use Rattle.dstm_words.specs.Seats.{Home, view_of}
-use Rattle.dstm_engine.proofs.Continuing.{doing_keeps, told_more}
+use Rattle.dstm_engine.proofs.Continuing.{doing_keeps, kept_live, kept_most, told_more}
 use Rattle.dstm_engine.proofs.Holding.{old_there}
 use Rattle.dstm_engine.proofs.Left.{current_there, on_tied, same_place, performed, told_there}
 use Rattle.dstm_engine.proofs.Opens.{none_of}
 use Rattle.dstm_engine.proofs.Setting.{opened_slot}
 use Rattle.dstm_engine.proofs.Steady.{stay}
-use Rattle.dstm_engine.proofs.Tying.{state_then}
+use Rattle.dstm_engine.proofs.Tying.{live_there, state_then}
 use Rattle.dstm_engine.proofs.Rechecking.{NoSelf, none_counted}
 use Rattle.dstm_engine.specs.Attempts.{Admits, Sighted, completes_pass, is_look_self, sights}
 use Rattle.dstm_engine.specs.Began.{began_of}
@@ -224,6 +224,16 @@ module _ {L : Type 0} (holds : L → List Val → Type 0) (c : Inside L) (v : Ti
       by None (Some r) h is = refl
       by None None h is = absurd (cc)
 
+-- there is one read less then
+one_fewer : (o : ℕ) (rs : List Read) → is_some (read_of o rs) ≡ true → length (drop_read o rs) + 1 ≡ length rs
+one_fewer o [] some = absurd (cc)
+one_fewer o (r ∷ rs) some = by (one_fewer o rs) (cases_Bool (r.object == o))
+  where
+    by : (is_some (read_of o rs) ≡ true → length (drop_read o rs) + 1 ≡ length rs) →
+        (r.object == o ≡ true) ⊎ (r.object == o ≡ false) → length (drop_read o (r ∷ rs)) + 1 ≡ length (r ∷ rs)
+    by ih (inl q) = rw q (omega arith)
+    by ih (inr q) = rw q (let rest = ih (rw q at some) in omega arith)
+
 -- ---- the caller then
 
 module _ {L : Type 0} (holds : L → List Val → Type 0) (c : Inside L) (v : Tied holds c) (live : c.live ≡ true) (o : ℕ)
@@ -295,6 +305,10 @@ module _ {L : Type 0} (holds : L → List Val → Type 0) (c : Inside L) (v : Ti
       told_more (called c) (told_there holds c v live (Releasing o) new None u) holds (Releasing o) (called released) None
       steps (current_there holds c v live (Releasing o) new None u).live
       (doing_keeps holds (Releasing o) (called c) (called released) None steps) refl (v.left live) (λ _. tt)
+      (let most = kept_most (called released) in
+      let now = ap (λ (l : LocalState). length l.reads) then_is in
+      let fewer = one_fewer o (state (called c)).reads (read_there holds c v o read) in
+      let was = kept_live (called c) (sym (live_there holds c v) ∙ live) in omega arith)
 
   -- the call makes no pass
   no_sight : (i : ℕ) → count_of completes_pass c.terms.shape (view_of new.seat).log c.number i

@@ -124,6 +124,7 @@ set_tied holds c o v t live = record {
     generator = x.generator;
     left = x.left;
     writes = x.writes;
+    releases = x.releases;
   };
   sighted = λ live some. let x = t.sighted live some in record {
     later = x.later;

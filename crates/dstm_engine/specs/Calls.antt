@@ -1,5 +1,5 @@
 -- What a call of the engine does.
-use Rattle.std.specs.Prelude.{◌≡◌, ◌⊎◌, ℕ, ◌<◌, true, List, [], ◌∷◌, ◌++◌, length, All, Option, None, IsSome, is_some, ◌||◌, if◌then◌else◌}
+use Rattle.std.specs.Prelude.{◌≡◌, ◌⊎◌, ℕ, ◌+◌, ◌<◌, ◌≤◌, true, List, [], ◌∷◌, ◌++◌, length, All, Option, None, IsSome, is_some, ◌||◌, if◌then◌else◌}
 use Rattle.rand_pcg.specs.Lcg.{Lcg}
 use Rattle.dstm_model.specs.declared.value.Val.{Val}
 use Rattle.dstm_core.specs.Events.{Event}
@@ -11,7 +11,7 @@ use Rattle.dstm_order.specs.declared.again.Again.{Again}
 use Rattle.dstm_order.specs.Calls.{IsCall, answer_of, effort_of}
 use Rattle.dstm_order.specs.Tasks.{Task, Work}
 use Rattle.dstm_order.specs.Tasks.Work.{Reading, Writing}
-use Rattle.dstm_progress.specs.Alone.{AreCalls, Made, all_events, generator_after, last_answer}
+use Rattle.dstm_progress.specs.Alone.{AreCalls, Made, all_events, count, generator_after, is_open, is_release, last_answer}
 use Rattle.dstm_progress.specs.Oldest.{OpensToWrite}
 use Rattle.dstm_words.specs.Seats.{IsRunOf}
 use Rattle.dstm_engine.specs.Callers.{Called, shape_of, state, is_live, begun_log}
@@ -38,9 +38,14 @@ module _ {L : Type 0} where
   abbrev pub IsUnderWay : Called L → Type 0
   IsUnderWay k = is_live k || is_some k.left ≡ true
 
+  -- how many reads a live attempt keeps
+  abbrev pub kept_reads : Called L → ℕ
+  kept_reads k = if is_live k then length (state k).reads else 0
+
   -- The caller's own events since its last Begin are those of calls made one after the other, the newest of which
   -- answered what the caller was given last. Each has made a step: none was made on an attempt that is over. Where all
-  -- opens are for writing none of them opened for reading.
+  -- opens are for writing none of them opened for reading. A first open records one read at most, and a release lets one
+  -- go: so with the reads that are kept the releases are no more than the first opens.
   pub record IsTold (k : Called L) : Type 0 where
     pub calls : List Made
     pub own : events_of k.number k.log ≡ all_events calls ++ events_of k.number (begun_log k.number k.log)
@@ -49,6 +54,7 @@ module _ {L : Type 0} where
     pub generator : k.generator ≡ generator_after (shape_of k) (begun_state k) k.began calls
     pub left : k.left ≡ newest_answer (shape_of k) (begun_state k) k.began calls
     pub writes : (shape_of k).all_write ≡ true → OpensToWrite calls
+    pub releases : count is_release calls + kept_reads k ≤ count is_open calls
 
   module _ (holds : L → List Val → Type 0) where
     -- A CALL: the caller's own events since are those of the order of steps, and it answers as this says. What the

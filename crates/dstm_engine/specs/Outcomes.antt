@@ -11,7 +11,7 @@ use Rattle.dstm_order.specs.declared.again.Again.{Again}
 use Rattle.dstm_order.specs.declared.again.Again.TheVariants.{Stale, Killed, Lost, Waited}
 use Rattle.dstm_order.specs.Counts.{counts_of}
 use Rattle.dstm_engine.specs.Callers.{Called, shape_of, begun_log, is_live, since_begin, state}
-use Rattle.dstm_progress.specs.Alone.{AreOf, IsUnmet, Made, count, is_open, is_release, is_recheck}
+use Rattle.dstm_progress.specs.Alone.{AreOf, IsUnmet, Made, count, is_open, is_recheck}
 use Rattle.dstm_progress.specs.Oldest.{IsOldest}
 use Rattle.dstm_engine.specs.Calls.{IsTold}
 
@@ -55,12 +55,12 @@ module _ {L : Type 0} where
     pub oldest : BeganOldest n → IsStaleOrLost again
     pub all_write : BeganOldest n → (shape_of n).all_write ≡ true → IsLost again
 
-  -- the steps of an attempt that was alone and has committed by these calls
+  -- the steps of an attempt that was alone and has committed by these calls, those of its releases too
   abbrev pub IsBounded : Called L → List Made → Type 0
   IsBounded n calls =
       IsAlone n →
       (counts_of (shape_of n) n.log n.number).steps
-      ≤ bound (shape_of n).manager (count is_open calls) + count is_release calls + 2 * count is_recheck calls
+      ≤ bound (shape_of n).manager (count is_open calls) + 2 * count is_recheck calls
 
   -- What is known of a caller whose last attempt has ended, or was dropped: the calls that were made on it; what is
   -- known of its end where it was left; and its steps where it was alone and has committed.

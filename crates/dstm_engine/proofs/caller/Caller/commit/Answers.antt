@@ -1,5 +1,5 @@
 use Rattle.std.proofs.Common.{rules, ◌∙◌, ◌≡◌, None, Some, ap, arith, refl, subst, sym, true}
-use Rattle.dstm_engine.proofs.Committing.{few_slots, few_there, first_fits, first_there, lawful_there, value_is, value_there, values_there}
+use Rattle.dstm_engine.proofs.Committing.{few_slots, few_there, first_fits, first_there, lawful_there, putting_there, value_is, value_there, values_there}
 use Rattle.dstm_engine.proofs.CommitEnds.{commits, committed_as, committed_attempt, committed_ended, committed_kept, committed_stays, committed_tied}
 use Rattle.dstm_engine.proofs.Left.{left_as, left_attempt, left_done, left_ended, left_kept, left_leaves, left_tied}
 use Rattle.dstm_engine.proofs.Steady.{same_generator}
@@ -39,6 +39,16 @@ overflow_add-first g c =
     let live : x.live ≡ true =
     live_there g.L.Law.holds x c.self.invariant ∙ ap is_live c.self.view_is ∙ c.requires.live in
     let fits = first_fits g.L.Law.holds x c.self.invariant live (called x).home refl c.renew.new.steps c.renew.ensures c.writes-writes.result.now c.writes-writes.ensures in omega arith
+
+pub commit-committed-requires-clause-under : goal.commit-committed-requires-clause-under
+commit-committed-requires-clause-under g c =
+    let x = c.self.inside in
+    let live : x.live ≡ true =
+    live_there g.L.Law.holds x c.self.invariant ∙ ap is_live c.self.view_is ∙ c.requires.live in
+    let home : (called x).home ≡ c.words.result.now =
+    ap (λ (k : Called _). k.home) c.self.view_is ∙ c.requires.table ∙ sym c.words.ensures in
+    putting_there g.L.Law.holds x c.self.invariant live c.words.result.now home c.renew.new.steps c.renew.ensures
+    c.writes-writes.result.now c.writes-writes.ensures
 
 pub commit-committed-requires-clause-first : goal.commit-committed-requires-clause-first
 commit-committed-requires-clause-first g c =

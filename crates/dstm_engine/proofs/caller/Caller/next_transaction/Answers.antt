@@ -27,6 +27,7 @@ invariant_of-self g c = let v = c.self.invariant in record {
     generator = t.generator;
     left = t.left;
     writes = t.writes;
+    releases = t.releases;
   };
   sighted = λ live some. let t = v.sighted live some in record {
     later = t.later;
