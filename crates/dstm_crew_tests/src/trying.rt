@@ -1,16 +1,16 @@
 ghost use Rattle.std.specs.Prelude.{◌≡◌, ◌<◌, [], All, IfOk};
-ghost use Rattle.dstm_engine.specs.Attempts.{done};
-ghost use Rattle.dstm_engine.specs.Callers.{law_of, shape_of, state};
 ghost use Rattle.dstm_model.specs.Layout.{IsValid};
+ghost use Rattle.dstm_tables.specs.Callers.{AtRest, begun, done, home_of, law_of, round_of};
+ghost use Rattle.dstm_tables.specs.Founders.{guests_of, home_there, out_of};
+ghost use Rattle.dstm_tables.specs.Tells.{callers_of};
 ghost use Rattle.dstm_workload.specs.Workload.{IsValidWorkload};
-ghost use Rattle.dstm_crew.specs.Tries.{AtRest};
 
 use dstm_core::{Manager, Shape};
-use dstm_crew::{Finished, OnlyTried, OpenGate, Style, Worker, give_up, try_alone};
-use dstm_engine::{Caller, Founder, Stm};
+use dstm_crew::{OpenGate, Worker};
 use dstm_model::{Layout, Reply};
-use dstm_records::Options;
+use dstm_options::{Engine, Options};
 use dstm_store::{StoreLaw, opening, read_state};
+use dstm_tables::{Caller, Finished, Founder, OnlyTried, Style, Table, give_up, make, try_alone};
 use dstm_workload::{Workload, read_workload};
 use std::alloc::{AllocError, Global};
 use std::test::Fail;
@@ -18,17 +18,18 @@ use std::test::Fail;
 // A table on the opening values, and its only caller.
 fn open_table(
     alloc: Global,
+    engine: Engine,
     layout: &Layout,
-) -> Result<(Stm<StoreLaw>, Founder<StoreLaw>, Caller<StoreLaw>), Fail>
+) -> Result<(Table, Founder, Caller), Fail>
     requires { IsValid layout.now }
-    ensures founder { IfOk result (λ t. t.1.home ≡ t.0) }
-    ensures out { IfOk result (λ t. t.1.view.out ≡ 1) }
-    ensures guests { IfOk result (λ t. t.1.guests ≡ 0) }
-    ensures home { IfOk result (λ t. t.2.home ≡ t.0) }
+    ensures founder { IfOk result (λ t. home_there t.1 ≡ t.0) }
+    ensures out { IfOk result (λ t. out_of t.1 ≡ 1) }
+    ensures guests { IfOk result (λ t. guests_of t.1 ≡ 0) }
+    ensures home { IfOk result (λ t. home_of t.2 ≡ t.0) }
     ensures law { IfOk result (λ t. (law_of t.2).layout ≡ layout.now) }
-    ensures only { IfOk result (λ t. (shape_of t.2).callers ≡ 1) }
+    ensures only { IfOk result (λ t. callers_of (round_of t.2) ≡ 1) }
     ensures rest { IfOk result (λ t. AtRest t.2) }
-    ensures begun { IfOk result (λ t. (state t.2).begun ≡ 0) }
+    ensures begun { IfOk result (λ t. begun t.2 ≡ 0) }
     ensures done { IfOk result (λ t. done t.2 ≡ []) }
 {
     let start = opening(alloc, layout)?;
@@ -43,11 +44,10 @@ fn open_table(
         manager: Manager::Polka,
         all_write: false,
     };
-    let (stm, mut founder) = Stm::make(alloc, start, shape, StoreLaw { layout: *layout })?;
-    match founder.caller(alloc, &stm, 7) {
-        Ok(caller) => Ok((stm, founder, caller)),
-        Err(_) => Err(Fail::new("no caller")),
-    }
+    let law = StoreLaw { layout: *layout };
+    let (table, mut founder) = make(alloc, engine, start, shape, law)?;
+    let caller = founder.caller(alloc, &table, 7)?;
+    Ok((table, founder, caller))
 }
 
 // All places of so many jobs.
@@ -64,6 +64,7 @@ fn places_of(alloc: Global, count: usize) -> Result<Vec<usize>, AllocError>
 // Runs the jobs of a workload by one worker, on a table of its own: what was done, and the balances that this left.
 fn run_worker(
     alloc: Global,
+    engine: Engine,
     workload: &Workload,
     release: bool,
 ) -> Result<(Vec<Finished>, Vec<u64>), Fail>
@@ -74,8 +75,9 @@ fn run_worker(
         seed: 7,
         all_write: false,
         release,
+        engine,
     };
-    let (stm, mut founder, caller) = open_table(alloc, &workload.layout)?;
+    let (table, mut founder, caller) = open_table(alloc, engine, &workload.layout)?;
     let places = places_of(alloc, workload.jobs.as_slice().len())?;
     let done = Vec::with_capacity(alloc, places.len())?;
     let mut worker = Worker {
@@ -84,10 +86,10 @@ fn run_worker(
         places,
         done,
     };
-    worker.run(&stm, workload, &options, Some(&OpenGate));
+    worker.run(&table, workload, &options, Some(&OpenGate));
     let Worker { caller, done, .. } = worker;
-    founder.retire(&stm, caller);
-    let (values, _record) = stm.close(alloc, founder)?;
+    founder.retire(&table, caller);
+    let (values, _record) = table.close(alloc, founder)?;
     let state = read_state(alloc, &workload.layout, &values)?;
     let mut bank = Vec::new(alloc);
     bank.extend_from_slice(state.bank.as_slice())?;
@@ -100,8 +102,13 @@ fn a_worker_runs_its_jobs(rt: HostRuntime) -> Result<(), Fail> {
     let text =
         b"dstm 1\nbank 2 100\nlist 4\ntx 0 transfer 0 1 30 ; total\ntx 0 insert list 7 ; member list 7\n";
     let workload = read_workload(rt.alloc(), text)?;
-    for release in [false, true] {
-        let (done, bank) = run_worker(rt.alloc(), &workload, release)?;
+    for (engine, release) in [
+        (Engine::Dstm, false),
+        (Engine::Dstm, true),
+        (Engine::Tl2, false),
+        (Engine::Tl2, true),
+    ] {
+        let (done, bank) = run_worker(rt.alloc(), engine, &workload, release)?;
         assert_eq!(rt; done.len(), 2);
         assert_eq!(rt; done[0].number, 0);
         assert_eq!(rt;
@@ -125,10 +132,12 @@ fn a_worker_runs_branches(rt: HostRuntime) -> Result<(), Fail> {
         b"dstm 3\nbank 2 100\ntx 0 await balance 0 150 ; total orelse transfer 1 0 60\ntx 0 await balance 1 50\n\
         tx 0 total\n";
     let workload = read_workload(rt.alloc(), text)?;
-    let (done, bank) = run_worker(rt.alloc(), &workload, false)?;
-    assert_eq!(rt; done.len(), 1);
-    assert_eq!(rt; done[0].replies.as_slice(), [Reply::Moved].as_slice());
-    assert_eq!(rt; bank.as_slice(), [160, 40].as_slice());
+    for engine in [Engine::Dstm, Engine::Tl2] {
+        let (done, bank) = run_worker(rt.alloc(), engine, &workload, false)?;
+        assert_eq!(rt; done.len(), 1);
+        assert_eq!(rt; done[0].replies.as_slice(), [Reply::Moved].as_slice());
+        assert_eq!(rt; bank.as_slice(), [160, 40].as_slice());
+    }
     Ok(())
 }
 
@@ -138,23 +147,37 @@ fn an_only_caller_gives_up_a_blocked_job(rt: HostRuntime) -> Result<(), Fail> {
     let alloc = rt.alloc();
     let text = b"dstm 3\nbank 1 5\ntx 0 await balance 0 6\ntx 0 balance 0\n";
     let workload = read_workload(alloc, text)?;
+    for engine in [Engine::Dstm, Engine::Tl2] {
+        let (number, finished) = give_up_first(alloc, engine, &workload)?;
+        assert_eq!(rt; number, 0);
+        assert_eq!(rt; finished.number, 1);
+        assert_eq!(rt; finished.replies.as_slice(), [Reply::Number(5)].as_slice());
+    }
+    Ok(())
+}
+
+// Stands at the first job of two, gives it up and does the second: the number that the first one took, and what was done.
+fn give_up_first(
+    alloc: Global,
+    engine: Engine,
+    workload: &Workload,
+) -> Result<(u64, Finished), Fail>
+    requires { IsValidWorkload workload.now }
+{
     let layout = &workload.layout;
     let style = Style::of(workload.version, false);
-    let (stm, _founder, mut caller) = open_table(alloc, layout)?;
+    let (table, _founder, mut caller) = open_table(alloc, engine, layout)?;
     let [first, second] = workload.jobs.as_slice() else {
         return Err(Fail::new("two jobs"));
     };
-    let OnlyTried::Blocked = try_alone(style, &mut caller, &stm, layout, first) else {
+    let OnlyTried::Blocked = try_alone(style, &mut caller, &table, layout, first) else {
         return Err(Fail::new("not blocked"));
     };
-    let Some(number) = give_up(&mut caller, &stm) else {
+    let Some(number) = give_up(&mut caller, &table) else {
         return Err(Fail::new("spent"));
     };
-    assert_eq!(rt; number, 0);
-    let OnlyTried::Done(finished) = try_alone(style, &mut caller, &stm, layout, second) else {
-        return Err(Fail::new("not done"));
-    };
-    assert_eq!(rt; finished.number, 1);
-    assert_eq!(rt; finished.replies.as_slice(), [Reply::Number(5)].as_slice());
-    Ok(())
+    match try_alone(style, &mut caller, &table, layout, second) {
+        OnlyTried::Done(finished) => Ok((number, finished)),
+        _ => Err(Fail::new("not done")),
+    }
 }

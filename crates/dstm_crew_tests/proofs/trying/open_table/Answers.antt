@@ -1,14 +1,18 @@
-use Rattle.dstm_tables.proofs.Fresh.{fresh_begun, fresh_done, fresh_rest}
+use Rattle.std.proofs.Common.{◌∙◌, sym}
+use Rattle.dstm_tables.specs.Callers.{round_of}
+use Rattle.dstm_tables.specs.Founders.{first_of}
+use Rattle.dstm_tables.proofs.Same.{callers_past, first_past, layout_is, layout_past}
 use Rattle.dstm_crew_tests.proofs.trying.open_table.Goals as goal
 
-pub returns-in-Ok-clause-rest : goal.returns-in-Ok-clause-rest
-returns-in-Ok-clause-rest c =
-    fresh_rest c.in_ok-stm.founder c.caller.new.self 7 c.in-Ok.caller c.in-Ok.ensures.caller
+pub returns-clause-law : goal.returns-clause-law
+returns-clause-law c =
+    let table = c.in_ok-table.table in
+    let k = c.in_ok-caller.caller in
+    sym (layout_is k)
+    ∙ layout_past (first_of table) (round_of k) (first_past k table c.in_ok-caller.ensures.home) ∙ c.in_ok-table.ensures.told.layout
 
-pub returns-in-Ok-clause-begun : goal.returns-in-Ok-clause-begun
-returns-in-Ok-clause-begun c =
-    fresh_begun c.in_ok-stm.founder c.caller.new.self 7 c.in-Ok.caller c.in-Ok.ensures.caller
-
-pub returns-in-Ok-clause-done : goal.returns-in-Ok-clause-done
-returns-in-Ok-clause-done c =
-    fresh_done c.in_ok-stm.founder c.caller.new.self 7 c.in-Ok.caller c.in-Ok.ensures.caller
+pub returns-clause-only : goal.returns-clause-only
+returns-clause-only c =
+    let table = c.in_ok-table.table in
+    let k = c.in_ok-caller.caller in
+    callers_past (first_of table) (round_of k) (first_past k table c.in_ok-caller.ensures.home) ∙ c.in_ok-table.ensures.told.callers

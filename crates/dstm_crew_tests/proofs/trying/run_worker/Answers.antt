@@ -1,10 +1,17 @@
-use Rattle.std.proofs.Common.{◌<◌, All, List, length, rules, subst}
+use Rattle.std.proofs.Common.{◌≡◌, ◌∙◌, ◌<◌, All, List, ap, length, rules, subst, sym}
+use Rattle.dstm_model.specs.declared.layout.Layout.{Layout}
+use Rattle.dstm_model.specs.declared.value.Val.{Val}
+use Rattle.dstm_store.specs.Whole.{IsLawful}
+use Rattle.dstm_tables.specs.Callers.{round_of}
+use Rattle.dstm_tables.specs.Founders.{first_of, seen_by}
+use Rattle.dstm_tables.specs.Tells.{layout_of}
+use Rattle.dstm_tables.proofs.Same.{first_past, first_seen, layout_is, layout_past}
 use Rattle.dstm_workload.specs.declared.workload.Job.{Job}
 use Rattle.dstm_crew_tests.proofs.trying.run_worker.Goals as goal
 
 pub run-requires-clause-ready : goal.run-requires-clause-ready
 run-requires-clause-ready c =
-    let opened = c.in_ok-stm.ensures in
+    let opened = c.in_ok-table.ensures in
     record {
       home = opened.home;
       law = opened.law;
@@ -16,3 +23,17 @@ run-requires-clause-ready c =
       empty = c.in_ok-done.ensures.items;
       room = search rules;
     }
+
+pub read_state-requires-clause-lawful : goal.read_state-requires-clause-lawful
+read_state-requires-clause-lawful c =
+    let layout = c.args.workload.now.layout in
+    let opened = c.in_ok-table.ensures in
+    let table = c.in_ok-table.table in
+    let k = c.in_ok-table.caller in
+    let g = c.retire.new.self in
+    let closed = c.in_ok-values.ensures in
+    let same : layout_of (seen_by g) ≡ layout =
+    layout_past (first_of table) (seen_by g) (first_seen g table (c.retire.ensures.home ∙ opened.founder))
+    ∙ sym (layout_past (first_of table) (round_of k) (first_past k table opened.home)) ∙ layout_is k ∙ opened.law in
+    subst (λ (vs : List Val). IsLawful layout vs) (sym c.deref.ensures.value)
+    (subst (λ (l : Layout). IsLawful l c.in_ok-values.values.items) (ap layout_of closed.round ∙ same) closed.lawful)
