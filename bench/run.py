@@ -1,5 +1,5 @@
 #!/usr/bin/env python3
-"""Measures `dstm run` beside a serial program and beside transactions of the compiler; see README.md."""
+"""Measures `dstm run` by both engines beside a serial program and beside transactions of the compiler; see README.md."""
 import argparse
 import os
 import random
@@ -27,6 +27,7 @@ def build(folder):
 
 
 MEASURES = ("process", "process, cpu", "run", "run, cpu")
+ENGINES = ("dstm", "tl2")
 
 
 class Program:
@@ -81,10 +82,11 @@ def told_by_phases(program, load):
     """What phases.so tells of dstm: it runs jobs in the time in which a table is there."""
     told = load.folder / "phases"
     program.start(program.words, {"LD_PRELOAD": str(load.folder / "phases.so"), "PHASES": str(told)}, load.path)
-    return phases_of(load, told.read_text().splitlines())
+    engine = program.words[-1] if program.words[-1] in ENGINES else "dstm"
+    return phases_of(load, told.read_text().splitlines(), engine)
 
 
-def phases_of(load, lines):
+def phases_of(load, lines, engine="dstm"):
     """How long tables were there, on the clock and on all processors, and of the latter how long it took to make, to use
     and to close them. A block of a table's size that is there once is something else, since zeros are made first."""
     blocks, rounds = {}, []
@@ -92,7 +94,7 @@ def phases_of(load, lines):
     for line in lines:
         name, *numbers = line.split()
         wall, cpu, size = map(int, numbers)
-        if name == "malloc" and asked[numbers[2]] > 1 and load.is_table(size, not rounds):
+        if name == "malloc" and asked[numbers[2]] > 1 and load.is_table(size, not rounds, engine):
             if not any(blocks.values()):
                 rounds.append([])
             blocks[size] = blocks.get(size, 0) + 1
@@ -136,10 +138,13 @@ class Load:
                 self.objects += int(fields[1]) + 2
         self.jobs = max(jobs)
 
-    def is_table(self, size, is_first):
-        """Whether a block has the size of a table: a word for each object, and for each of the callers 2 words for
-        each attempt and 4 for each locator, of which there is one for each object and 16,384 more; and 3 words. The
-        first table has all workers as callers, and 4 attempts for each job of one of them, and 16 more."""
+    def is_table(self, size, is_first, engine):
+        """Whether a block has the size of a table. Under TL2: 3 words for each object, and 2 words. Under DSTM: a word for
+        each object, and for each of the callers 2 words for each attempt and 4 for each locator, of which there is one
+        for each object and 16,384 more; and 3 words. The first table has all workers as callers, and 4 attempts for each
+        job of one of them, and 16 more."""
+        if engine == "tl2":
+            return size == 8 * (3 * self.objects + 2)
         words = size // 8 - 3 - self.objects
         for callers in range(self.workers if is_first else 1, self.workers + 1):
             rest, none = divmod(words - callers * 4 * (self.objects + 16384), 2 * callers)
@@ -155,13 +160,13 @@ def report_of(words, load):
 
 
 def check(dstm, load):
-    """Lets dstm check its own report, and the serial one, which has to be lawful too. Of transactions of the compiler it
+    """Lets dstm check its own reports, and the serial one, which has to be lawful too. Of transactions of the compiler it
     looks at the final state alone."""
-    for words in ([dstm, "run"], [load.folder / "serial"]):
+    for words in (*([dstm, "run", "--engine", engine] for engine in ENGINES), [load.folder / "serial"]):
         both = load.path.read_bytes() + b"---\n" + report_of(words, load)
         verdict = subprocess.run([dstm, "check"], input=both, capture_output=True).stdout
         if verdict != b"lawful\n":
-            sys.exit(f"the report of {words[0]} on {load.path} is not lawful")
+            sys.exit(f"the report of {' '.join(map(str, words))} on {load.path} is not lawful")
     for line in report_of([load.folder / "transactions"], load).decode().splitlines():
         word, *values = line.split()
         numbers = [int(value.split(":")[0]) for value in values] if word in ("bank", "list", "tree") else []
@@ -197,7 +202,7 @@ def tell(programs, load):
 
 
 def programs_of(given, folder):
-    programs = [Program("dstm", [given.dstm, "run"], told_by_phases)]
+    programs = [Program(engine, [given.dstm, "run", "--engine", engine], told_by_phases) for engine in ENGINES]
     for other in given.also:
         name, path = other.split("=", 1)
         programs.append(Program(name, [path, "run"], told_by_phases))
