@@ -39,7 +39,7 @@ module _ (workload : Workload) (options : Options) (number : ℕ) where
     locators = locators;
     manager = manager;
     all_write = λ _. all_write;
-    reads = λ alone. absurd (let no_way : true ≡ false = sym parallel ∙ alone in cc);
+    alone_writes = λ alone. absurd (let no_way : true ≡ false = sym parallel ∙ alone in cc);
   }
 
   module _ (table : Table) (f : Founder) (values left : List Val) (shares shares_then : List Share)

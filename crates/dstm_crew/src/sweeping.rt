@@ -57,6 +57,7 @@ pub fn run_alone(
 // The first job left of the least worker that has one.
 fn least_left<'a>(turns: &Turns<'a>, workers: u32) -> Option<&'a Job>
     ensures some { IfSome result (λ job. first_job job.now.worker turns.now.left ≡ Some job.now) }
+    ensures least { IfSome result (λ job. (w : ℕ) → w < job.now.worker → first_job w turns.now.left ≡ None) }
     ensures none { IfNone result ((w : ℕ) → w < workers → first_job w turns.now.left ≡ None) }
 {
     for worker in 0..workers {

@@ -42,7 +42,8 @@ pub record IsDstmMade (options : Options) (version number jobs : ℕ) (shape : S
   pub locators : shape.locators ≡ locators_for shape.objects
   pub manager : shape.manager ≡ options.manager
   pub all_write : is_parallel number ≡ true → shape.all_write ≡ options.all_write
-  pub reads : is_parallel number ≡ false → version ≡ 3 → shape.all_write ≡ false
+  -- so in alone rounds, but that in version 3 reads stay reads
+  pub alone_writes : is_parallel number ≡ false → shape.all_write ≡ (options.all_write && not (version == 3))
 
 -- a table of TL2 has attempts alone
 abbrev pub IsMade : Options → (version number jobs : ℕ) → Round → Type 0

@@ -35,7 +35,7 @@ returns c =
             locators = sized.locators ∙ ap locators_for (sym sized.objects);
             manager = sized.manager;
             all_write = λ parallel. absurd (true≢false (sym parallel ∙ alone));
-            reads = λ _ third. reads third;
+            alone_writes = λ _. sized.all_write ∙ c.writes_all.ensures;
           }) told.of_shape told.attempts;
       founded = gives.home_then ∙ founder.home;
       out = gives.out ∙ ap (λ n. n + 1) founder.none_out;
