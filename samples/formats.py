@@ -287,10 +287,13 @@ def commands(t):
                  "demo 1 1", "demo 1 20001 1", "demo 1 1 33", "demo 1 1 1 --seed 1", "run --manager", "run --manager foo", "run --manager Polka",
                  "run --manager=polka --manager=polka", "run --seed", "run --seed x", "run --seed 01", "run --seed 18446744073709551616",
                  "run --seed 1 --seed 1", "run --all-write --all-write", "run --release --release", "run --all-write=1", "run --release x",
+                 "run --engine", "run --engine tl3", "run --engine TL2", "run --engine tl2 --engine tl2", "run --engine=tl2 --manager=polka",
+                 "run --engine tl2 --all-write", "run --release --engine tl2", "demo 1 1 1 --engine tl2", "check --engine dstm",
                  "run -m polka", "run --man polka"]:
         t.expect("no command", line.split(), "dstm 1\n", 1, USAGE, "")
     for line in ["run", "run --manager polite", "run --manager=karma", "run --manager greedy --seed 18446744073709551615",
-                 "run --release --all-write --seed=0 --manager polka", "gen 0 0 1", "gen 18446744073709551615 20000 32"]:
+                 "run --release --all-write --seed=0 --manager polka", "run --engine dstm --manager karma", "run --engine=tl2",
+                 "run --seed 7 --engine tl2", "gen 0 0 1", "gen 18446744073709551615 20000 32"]:
         t.expect("a command", line.split(), "dstm 1\n", 0)
     t.expect("demo", ["demo", "7", "100", "3"], "", 0, "", "transactions 100\ntotal 8000\nlawful\n")
 
