@@ -1,8 +1,22 @@
 use crate::calls::{call, case_of};
-use dstm_crew::OpenGate;
+use dstm_crew::{Gate, OpenGate};
+use std::sync::atomic::{AtomicU64, Ordering};
 use std::test::Fail;
 
-// A caller has 16,384 attempts. The worker's last 3,615 jobs go on in round 2, behind the one of the alone round. Both
+// A gate that counts its passes.
+#[derive(Drop)]
+struct Count {
+    passes: AtomicU64,
+}
+
+impl Gate for Count {
+    fn pass(&self, _worker: u32, _line: u64) {
+        self.passes.fetch_add(1, Ordering::SeqCst);
+    }
+}
+
+// A caller has 16,384 attempts. The worker's last 3,615 jobs go on in round 2, behind the one of the alone round. The gate is
+// passed in round 0 alone: once for each job that was done there, and once for the one that found no attempt left. Both
 // engines give the same report.
 #[test]
 fn one_worker_takes_three_rounds(rt: HostRuntime) -> Result<(), Fail> {
@@ -11,7 +25,11 @@ fn one_worker_takes_three_rounds(rt: HostRuntime) -> Result<(), Fail> {
     for _job in 0..20_000_u32 {
         workload.extend_from_slice(b"tx 0 balance 0\n")?;
     }
-    let ran = call(&rt, alloc, "dstm run", &workload, &OpenGate)?;
+    let gate = Count {
+        passes: AtomicU64::new(0),
+    };
+    let ran = call(&rt, alloc, "dstm run", &workload, &gate)?;
+    assert_eq!(rt; gate.passes.load(Ordering::SeqCst), 16_385);
     let by_tl2 = call(&rt, alloc, "dstm run --engine tl2", &workload, &OpenGate)?;
     assert_eq!(rt; ran.status, 0);
     assert!(rt; by_tl2.out == ran.out);
