@@ -19,15 +19,16 @@ use Rattle.dstm_crew.specs.Shares.{IsOpen}
 use Rattle.dstm_crew.specs.Workers.{IsReady}
 
 module _ (table : Table) where
-  is_new : (f g : Founder) (k : Caller) → GivesOut table f g k → IsNew table k
-  is_new f g k gives = record {
+  is_new : (f g : Founder) (seed : ℕ) (k : Caller) → GivesOut table f g seed k → IsNew table k
+  is_new f g seed k gives = record {
     rests = record { home = gives.home; rest = gives.rest };
     none_begun = gives.none_begun;
     none_done = gives.none_done;
   }
 
-  one_out : (f g : Founder) (out : ℕ) (k : Caller) → HasBack table out [] f → GivesOut table f g k → HasBack table (out + 1) [] g
-  one_out f g out k back gives = record {
+  one_out : (f g : Founder) (seed out : ℕ) (k : Caller) → HasBack table out [] f → GivesOut table f g seed k →
+      HasBack table (out + 1) [] g
+  one_out f g seed out k back gives = record {
     home = gives.home_then ∙ back.home;
     guests = gives.guests ∙ back.guests;
     out = gives.out ∙ ap (λ (n : ℕ). n + 1) back.out;
@@ -62,18 +63,18 @@ module _ (table : Table) where
   count_push workers worker = sym (length-append workers (worker ∷ []))
 
   pub seats_one : (shares : List Share) (workers : List Worker) (left : List Share) (f g : Founder) (share : Share)
-      (worker : Worker) → Seats shares workers (share ∷ left) f → share_of worker ≡ share → GivesOut table f g worker.caller →
-      Seats shares (workers ++ worker ∷ []) left g
-  seats_one shares workers left f g share worker seats is gives = record {
+      (worker : Worker) (seed : ℕ) → Seats shares workers (share ∷ left) f → share_of worker ≡ share →
+      GivesOut table f g seed worker.caller → Seats shares (workers ++ worker ∷ []) left g
+  seats_one shares workers left f g share worker seed seats is gives = record {
     are = ap (λ (ss : List Share). ss ++ left) (map_push share_of workers worker)
         ∙ append_assoc (map share_of workers) (share_of worker ∷ []) left
         ∙ ap (λ (s : Share). map share_of workers ++ s ∷ left) is
         ∙ seats.are;
-    new = All-push (λ (w : Worker). IsNew table w.caller) workers worker seats.new (is_new f g worker.caller gives);
+    new = All-push (λ (w : Worker). IsNew table w.caller) workers worker seats.new (is_new f g seed worker.caller gives);
     made = gives.made ∙ ap (λ (n : ℕ). n + 1) seats.made ∙ count_push workers worker;
     back =
         subst (λ (n : ℕ). HasBack table n [] g) (count_push workers worker)
-        (one_out f g (length workers) worker.caller seats.back gives);
+        (one_out f g seed (length workers) worker.caller seats.back gives);
   }
 
   -- all have theirs

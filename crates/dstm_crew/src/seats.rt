@@ -1,4 +1,4 @@
-ghost use Rattle.std.specs.Prelude.{◌≡◌, ◌<◌, [], length, map, All, IfOk};
+ghost use Rattle.std.specs.Prelude.{◌≡◌, ◌+◌, ◌%◌, ◌^◌, ◌<◌, [], length, map, All, IfOk};
 ghost use Rattle.dstm_tables.specs.Founders.{GivesOut, HasGivenNone, first_of, home_there, made_of};
 ghost use Rattle.dstm_tables.specs.Tells.{callers_of};
 ghost use Rattle.dstm_crew.specs.Seats.{HasBack, IsNew, share_of};
@@ -42,7 +42,8 @@ fn seat(
     requires table { home_there founder.old ≡ table.now }
     requires room { made_of founder.old < callers_of (first_of table.now) }
     ensures share { IfOk result (λ worker. share_of worker ≡ share) }
-    ensures given { IfOk result (λ worker. GivesOut table.now founder.old founder.new worker.caller) }
+    ensures given { IfOk result (λ worker.
+        GivesOut table.now founder.old founder.new ((options.now.seed + share.worker) % 2 ^ 64) worker.caller) }
 {
     let seed = options.seed.wrapping_add(u64::from(share.worker));
     let caller = founder.caller(alloc, table, seed)?;

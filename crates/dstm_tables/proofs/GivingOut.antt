@@ -10,6 +10,7 @@ use Rattle.dstm_opacity.proofs.Stays as dstm_stays
 use Rattle.dstm_opacity.specs.Committed as dstm_committed
 use Rattle.dstm_tables.proofs.Entries.{entries_reverse}
 use Rattle.dstm_words.specs.Seats as words
+use Rattle.dstm_managers.specs.Choices.{started}
 use Rattle.dstm_engine.specs.Callers as dstm
 use Rattle.dstm_engine.specs.Tables as dstm_tables
 use Rattle.dstm_tables.proofs.Fresh as fresh
@@ -40,9 +41,12 @@ use Rattle.dstm_tables.proofs.ByDstm.{rest_dstm}
 -- ---- a new caller
 
 pub dstm_new : (t : Table) (f g : dstm_tables.Founding StoreLaw) (seed : ℕ) (k : dstm.Called StoreLaw) → home_there (Dstm f) ≡ t →
-    dstm_tables.Enrols keeps f g seed k → GivesOut t (Dstm f) (Dstm g) (caller.Dstm k)
+    dstm_tables.Enrols keeps f g seed k → GivesOut t (Dstm f) (Dstm g) seed (caller.Dstm k)
 dstm_new t f g seed k home e = record {
   home = ap table.Dstm (fresh.fresh_home f g seed k e) ∙ home;
+  seeded =
+      subst (λ (h : words.Home StoreLaw). k.generator ≡ (started h.terms.shape.manager seed).generator)
+      (sym (fresh.fresh_home f g seed k e)) (fresh.fresh_generator f g seed k e);
   rest = rest_dstm k (fresh.fresh_rest f g seed k e);
   none_begun = fresh.fresh_begun f g seed k e;
   none_used = fresh.fresh_installed f g seed k e;
@@ -85,9 +89,10 @@ module _ (f g : tl2_tables.TlFounding StoreLaw) (k : called.TlCalled StoreLaw) (
   at_home : k.home ≡ f.home
   at_home = ap (λ (x : called.TlCalled StoreLaw). x.home) e.caller
 
-  pub tl2_new : (t : Table) → home_there (Tl2 f) ≡ t → GivesOut t (Tl2 f) (Tl2 g) (caller.Tl2 k)
-  tl2_new t home = record {
+  pub tl2_new : (t : Table) (seed : ℕ) → home_there (Tl2 f) ≡ t → GivesOut t (Tl2 f) (Tl2 g) seed (caller.Tl2 k)
+  tl2_new t seed home = record {
     home = ap table.Tl2 at_home ∙ home;
+    seeded = tt;
     rest = record {
       run = subst (λ (h : tl2_words.Home StoreLaw). IsRunOf keeps h.terms k.log) (sym at_home) e.steps.run;
       enrolled = ap (λ (l : LocalState). l.number) e.state;

@@ -3,6 +3,7 @@ use Rattle.std.specs.Prelude.{◌≡◌, ℕ, false, List, []}
 use Rattle.dstm_model.specs.Answers.{Committed}
 use Rattle.dstm_store.specs.declared.law.StoreLaw.{StoreLaw}
 use Rattle.dstm_engine.specs.Callers as dstm
+use Rattle.dstm_managers.specs.Choices.{started}
 use Rattle.dstm_order.specs.Retries.{is_new}
 use Rattle.dstm_tl2_engine.specs.Callers as tl2
 use Rattle.dstm_tables.specs.declared.tables.Caller.{Caller}
@@ -40,6 +41,11 @@ IsOver (Tl2 k) = (tl2.state k).holds ≡ []
 abbrev pub BeginsRight : Caller → Type 0
 BeginsRight (Dstm k) = k.fresh ≡ is_new (dstm.state k)
 BeginsRight (Tl2 k) = Unit {0}
+
+-- under DSTM its waits take the random words of this seed
+abbrev pub HasSeed : ℕ → Caller → Type 0
+HasSeed seed (Dstm k) = k.generator ≡ (started k.home.terms.shape.manager seed).generator
+HasSeed seed (Tl2 k) = Unit {0}
 
 abbrev pub done : Caller → List Committed
 done k = done_of (round_of k) (number_of k)

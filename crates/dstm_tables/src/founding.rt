@@ -52,7 +52,7 @@ impl Founder {
     pub fn caller(&mut self, alloc: Global, table: &Table, seed: u64) -> Result<Caller, AllocError>
         requires table { home_there self.old ≡ table.now }
         requires room { made_of self.old < callers_of (first_of table.now) }
-        ensures { IfOk result (GivesOut table.now self.old self.new) }
+        ensures { IfOk result (GivesOut table.now self.old self.new seed) }
     {
         match self {
             Founder::Dstm(founder) => match table {

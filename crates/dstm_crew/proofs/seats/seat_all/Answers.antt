@@ -16,7 +16,7 @@ loop-share-preserved c =
     c.loop-share.invariant.0 in
     let now : c.push_reserved.new.self.items ≡ workers ++ c.in_ok-seat.field-0 ∷ [] = c.push_reserved.ensures.items in (
       subst (λ (ws : List Worker). Seats table shares ws left c.seat.new.founder) (sym now)
-          (seats_one table shares workers left c.loop-share.founder c.seat.new.founder c.in-Some.share c.in_ok-seat.field-0 seats
+          (seats_one table shares workers left c.loop-share.founder c.seat.new.founder c.in-Some.share c.in_ok-seat.field-0 _ seats
           c.in_ok-seat.ensures.share c.in_ok-seat.ensures.given),
       search rules,
     )
