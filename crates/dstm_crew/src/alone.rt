@@ -1,9 +1,10 @@
-ghost use Rattle.std.specs.Prelude.{◌≡◌, ◌<◌, ◌≤◌, ◌+◌, ◌==◌, ◌&&◌, not, false, length, vec_len, vec_capacity, IfOk, IfErr, IfSome};
+ghost use Rattle.std.specs.Prelude.{◌≡◌, ◌<◌, ◌≤◌, ◌+◌, ◌%◌, ◌^◌, ◌==◌, ◌&&◌, not, false, length, vec_len, vec_capacity, IfOk, IfErr, IfSome};
 ghost use Rattle.std.specs.List.{slice_get};
 ghost use Rattle.dstm_workload.specs.Workload.{IsValidWorkload};
 ghost use Rattle.dstm_store.specs.Whole.{IsLawful};
 ghost use Rattle.dstm_records.specs.Rounds.{is_parallel};
 ghost use Rattle.dstm_records.specs.Running.{turns_behind, AddsClosed, Begins, HasPlayed};
+ghost use Rattle.dstm_tables.specs.Callers.{HasSeed};
 ghost use Rattle.dstm_crew.specs.Opened.{IsOpened, with_jobs};
 
 use crate::sweeping::run_alone;
@@ -82,7 +83,8 @@ fn open_table(
     requires valid { IsValidWorkload workload.now }
     requires lawful { IsLawful workload.now.layout values.items }
     requires few { waiting.count ≤ 32 }
-    ensures { IfOk result (λ t. IsOpened workload.now options.now waiting.count values.items t.0 t.1 t.2) }
+    ensures opened { IfOk result (λ t. IsOpened workload.now options.now waiting.count values.items t.0 t.1 t.2) }
+    ensures seed { IfOk result (λ t. HasSeed ((options.now.seed + waiting.first) % 2 ^ 64) t.2) }
 {
     let shape = shape_for(
         &workload.layout,

@@ -6,8 +6,8 @@ use Rattle.dstm_records.specs.Rounds.{locators_for}
 use Rattle.dstm_records.proofs.Making.{is_made}
 use Rattle.dstm_crew.proofs.alone.open_table.Goals as goal
 
-pub returns : goal.returns
-returns c =
+pub returns-clause-opened : goal.returns-clause-opened
+returns-clause-opened c =
     let workload = c.args.workload.now in
     let options = c.args.options.now in
     let table = c.in_ok-table.table in

@@ -18,7 +18,7 @@ run_alone-requires-clause-can c =
     c.in_ok-table.table c.in_ok-table.founder c.in_ok-table.caller c.requires.alone c.requires.begins c.requires.turns
     (opened_for c.args.workload.now c.args.options.now c.count_waiting-waiting.result.count c.args.rows.now.items
     c.args.values.items c.args.turns.now c.in_ok-table.table c.in_ok-table.founder c.in_ok-table.caller
-    c.count_waiting-waiting.ensures.count c.requires.turns c.in_ok-table.ensures)
+    c.count_waiting-waiting.ensures.count c.requires.turns c.in_ok-table.ensures.opened)
 
 pub returns-in_err-table-clause-closed : goal.returns-in_err-table-clause-closed
 returns-in_err-table-clause-closed c =
@@ -39,7 +39,7 @@ returns-clause-played c =
     let before = c.args.rows.now.items in
     let table = c.in_ok-table.table in
     let opened = opened_for workload options c.count_waiting-waiting.result.count before c.args.values.items c.args.turns.now
-    table c.in_ok-table.founder c.in_ok-table.caller c.count_waiting-waiting.ensures.count c.requires.turns c.in_ok-table.ensures in
+    table c.in_ok-table.founder c.in_ok-table.caller c.count_waiting-waiting.ensures.count c.requires.turns c.in_ok-table.ensures.opened in
     let ran = c.run_alone.ensures in
     let taken = c.retire.new.self in
     let is = c.in_ok-left.ensures.round in
