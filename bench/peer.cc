@@ -1,13 +1,20 @@
 // What `dstm run` is measured against, over one plain store.
 //   g++ -std=c++17 -O2 peer.cc                            one thread, the jobs in file order
 //   g++ -std=c++17 -O2 -DTRANSACTIONS -fgnu-tm -pthread   a thread for each worker, each job in a transaction of the compiler
+//   g++ -std=c++17 -O2 -DMUTEX -pthread                   a thread for each worker, each job under one lock of the system
 // It reads a workload on standard input and writes the report to standard output, the rows in file order. With several
 // threads that is not the order in which the jobs took effect. With the word --times it writes to standard error how many
 // microseconds the jobs took, on the clock and on all processors.
 #include "texts.h"
 #include <ctime>
-#ifdef TRANSACTIONS
+#if defined(TRANSACTIONS) || defined(MUTEX)
+#define THREADS
 #include <thread>
+#endif
+#ifdef MUTEX
+#include <mutex>
+
+static std::mutex lock;
 #endif
 
 static Workload load;
@@ -23,13 +30,16 @@ static void run_job(const Job &job) {
     for (uint32_t i = 0; i < count; i++) answers[i] = run_operation(operations[i], accounts);
   }
 #else
+#ifdef MUTEX
+  std::lock_guard<std::mutex> held(lock);
+#endif
   for (uint32_t i = 0; i < count; i++) answers[i] = run_operation(operations[i], accounts);
 #endif
   memcpy(&replies[job.begin], answers, count * sizeof(uint64_t));
 }
 
 static void run_all() {
-#ifdef TRANSACTIONS
+#ifdef THREADS
   std::vector<std::vector<Job>> shares(load.workers);
   for (const Job &job : load.jobs) shares[job.worker].push_back(job);
   std::vector<std::thread> workers;

@@ -21,6 +21,7 @@ def build(folder):
     """Compiles the programs, and answers the words that start each of them."""
     cpp = ["g++", "-std=c++17", *FLAGS, str(HERE / "peer.cc")]
     subprocess.run([*cpp, "-o", folder / "serial"], check=True)
+    subprocess.run([*cpp, "-DMUTEX", "-pthread", "-o", folder / "mutex"], check=True)
     subprocess.run([*cpp, "-DTRANSACTIONS", "-fgnu-tm", "-pthread", "-o", folder / "transactions"], check=True)
     shared = ["gcc", "-O2", "-shared", "-fPIC", str(HERE / "phases.c"), "-o", folder / "phases.so", "-ldl"]
     subprocess.run(shared, check=True)
@@ -61,6 +62,8 @@ class Program:
         wall, cpu = self.start(self.words, {}, load.path)
         self.note("process", wall)
         self.note("process, cpu", cpu)
+        if self.tells is None:
+            return
         wall, cpu, parts = self.tells(self, load)
         self.note("run", wall)
         if cpu < self.least["run, cpu"]:
@@ -82,11 +85,10 @@ def told_by_phases(program, load):
     """What phases.so tells of dstm: it runs jobs in the time in which a table is there."""
     told = load.folder / "phases"
     program.start(program.words, {"LD_PRELOAD": str(load.folder / "phases.so"), "PHASES": str(told)}, load.path)
-    engine = program.words[-1] if program.words[-1] in ENGINES else "dstm"
-    return phases_of(load, told.read_text().splitlines(), engine)
+    return phases_of(load, told.read_text().splitlines())
 
 
-def phases_of(load, lines, engine="dstm"):
+def phases_of(load, lines):
     """How long tables were there, on the clock and on all processors, and of the latter how long it took to make, to use
     and to close them. A block of a table's size that is there once is something else, since zeros are made first."""
     blocks, rounds = {}, []
@@ -94,7 +96,7 @@ def phases_of(load, lines, engine="dstm"):
     for line in lines:
         name, *numbers = line.split()
         wall, cpu, size = map(int, numbers)
-        if name == "malloc" and asked[numbers[2]] > 1 and load.is_table(size, not rounds, engine):
+        if name == "malloc" and asked[numbers[2]] > 1 and load.is_table(size, not rounds):
             if not any(blocks.values()):
                 rounds.append([])
             blocks[size] = blocks.get(size, 0) + 1
@@ -138,13 +140,10 @@ class Load:
                 self.objects += int(fields[1]) + 2
         self.jobs = max(jobs)
 
-    def is_table(self, size, is_first, engine):
-        """Whether a block has the size of a table. Under TL2: 3 words for each object, and 2 words. Under DSTM: a word for
-        each object, and for each of the callers 2 words for each attempt and 4 for each locator, of which there is one
-        for each object and 16,384 more; and 3 words. The first table has all workers as callers, and 4 attempts for each
-        job of one of them, and 16 more."""
-        if engine == "tl2":
-            return size == 8 * (3 * self.objects + 2)
+    def is_table(self, size, is_first):
+        """Whether a block has the size of a table: a word for each object, and for each of the callers 2 words for
+        each attempt and 4 for each locator, of which there is one for each object and 16,384 more; and 3 words. The
+        first table has all workers as callers, and 4 attempts for each job of one of them, and 16 more."""
         words = size // 8 - 3 - self.objects
         for callers in range(self.workers if is_first else 1, self.workers + 1):
             rest, none = divmod(words - callers * 4 * (self.objects + 16384), 2 * callers)
@@ -187,13 +186,20 @@ def measure(programs, load, rounds):
             program.measure(load)
 
 
+def value_beside(first, program, measure):
+    """A measure of a run by TL2, whose tables are too small to be seen by their size. What the process does beside its run
+    phase is the same under both engines."""
+    whole = measure.replace("run", "process")
+    return program.least[measure] if measure == whole else program.least[whole] - (first.least[whole] - first.least[measure])
+
+
 def tell(programs, load):
     """Of each measure the milliseconds of each program, and how many times those of the others the first one took."""
     own = programs[0].least
     for measure in MEASURES:
         cells = [f"{own[measure]:.1f}"]
         for program in programs[1:]:
-            value = program.least[measure]
+            value = program.least[measure] if program.tells else value_beside(programs[0], program, measure)
             cells.append(f"{value:.1f} ({own[measure] / max(value, 0.1):.2f})")
         print(f"| {load.kind} | {load.workers} | {measure} | " + " | ".join(cells) + " |", flush=True)
     for program in programs:
@@ -202,7 +208,7 @@ def tell(programs, load):
 
 
 def programs_of(given, folder):
-    programs = [Program(engine, [given.dstm, "run", "--engine", engine], told_by_phases) for engine in ENGINES]
+    programs = [Program("dstm", [given.dstm, "run"], told_by_phases), Program("tl2", [given.dstm, "run", "--engine", "tl2"], None)]
     for other in given.also:
         name, path = other.split("=", 1)
         programs.append(Program(name, [path, "run"], told_by_phases))
@@ -210,6 +216,7 @@ def programs_of(given, folder):
         name, words = other.split("=", 1)
         programs.append(Program(name, words.split(), told_by_itself))
     programs.append(Program("serial", [folder / "serial"], told_by_itself))
+    programs.append(Program("mutex", [folder / "mutex"], told_by_itself))
     for method in ("ml_wt", "gl_wt"):
         programs.append(Program(method, [folder / "transactions"], told_by_itself, {"ITM_DEFAULT_METHOD": method}))
     return programs
