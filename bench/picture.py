@@ -1,0 +1,77 @@
+#!/usr/bin/env python3
+"""Draws what run.py has printed as an SVG: how many times the run phase of each program took that of ml_wt, on the clock.
+
+    python3 bench/run.py > FILE; python3 bench/picture.py FILE > bench/run.svg
+"""
+import sys
+
+COLORS = {"dstm": "#1b6ca8", "tl2": "#e07b39", "mutex": "#9aa5b1", "gl_wt": "#c9ced6"}
+BAR, GAP, HEIGHT, MOST, LEFT, TOP = 7, 14, 220, 6.0, 44, 40
+MEASURE = "run"
+
+
+def read(path):
+    """Of each load and count of workers the milliseconds of each program."""
+    names, figures = [], {}
+    with open(path) as lines:
+        for line in lines:
+            cells = [cell.strip() for cell in line.strip().strip("|").split("|")]
+            if cells[:3] == ["load", "workers", "measure"]:
+                names = cells[3:]
+            elif len(cells) == 3 + len(names) and cells[2] == MEASURE:
+                figures[cells[0], cells[1]] = dict(zip(names, (float(cell.split()[0]) for cell in cells[3:])))
+    return figures
+
+
+def height_of(ratio):
+    return min(ratio, MOST) / MOST * HEIGHT
+
+
+def bars(at, figure):
+    """The bars of one load and count of workers, from this place on."""
+    for place, (name, color) in enumerate(COLORS.items()):
+        ratio = figure[name] / figure["ml_wt"]
+        high = height_of(ratio)
+        yield (f'<rect x="{at + place * BAR}" y="{TOP + HEIGHT - high:.1f}" width="{BAR - 1}" height="{high:.1f}" fill="{color}">'
+               f"<title>{name}: {ratio:.2f}</title></rect>")
+
+
+def text(x, y, words, anchor="middle"):
+    return f'<text x="{x}" y="{y}" text-anchor="{anchor}" font-size="11" font-family="sans-serif">{words}</text>'
+
+
+def picture(figures):
+    loads = list(dict.fromkeys(load for load, _ in figures))
+    group = len(COLORS) * BAR + GAP
+    width = LEFT + len(figures) * group + len(loads) * GAP + 10
+    out = [f'<svg xmlns="http://www.w3.org/2000/svg" width="{width}" height="{TOP + HEIGHT + 44}">',
+           '<rect width="100%" height="100%" fill="white"/>']
+    for ratio in range(int(MOST) + 1):
+        y = TOP + HEIGHT - height_of(ratio)
+        out.append(f'<line x1="{LEFT}" x2="{width - 10}" y1="{y:.1f}" y2="{y:.1f}" stroke="{"#444" if ratio == 1 else "#ddd"}"/>')
+        out.append(text(LEFT - 6, f"{y + 4:.1f}", ratio, "end"))
+    at = LEFT + GAP
+    for load in loads:
+        begin = at
+        for (other, workers), figure in figures.items():
+            if other == load:
+                out.extend(bars(at, figure))
+                out.append(text(at + len(COLORS) * BAR / 2, TOP + HEIGHT + 14, workers))
+                at += group
+        out.append(text((begin + at - GAP) / 2, TOP + HEIGHT + 32, load))
+        at += GAP
+    for place, (name, color) in enumerate(COLORS.items()):
+        out.append(f'<rect x="{LEFT + place * 70}" y="12" width="10" height="10" fill="{color}"/>')
+        out.append(text(LEFT + place * 70 + 14, 21, name, "start"))
+    out.append(text(LEFT + len(COLORS) * 70 + 10, 21, "run phase on the clock, ml_wt = 1; below: workers", "start"))
+    return "\n".join([*out, "</svg>"])
+
+
+def main():
+    if len(sys.argv) != 2:
+        sys.exit(__doc__.strip())
+    print(picture(read(sys.argv[1])))
+
+
+if __name__ == "__main__":
+    main()
