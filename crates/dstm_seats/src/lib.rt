@@ -6,4 +6,4 @@ mod view;
 mod words;
 
 pub use view::{MachineSeat, Old, View};
-pub use words::Words;
+pub use words::{Left, Words};

@@ -1,6 +1,8 @@
 // The words, and the steps on them.
 ghost use Rattle.std.specs.Prelude.{◌≡◌, ◌≢◌, ℕ, ◌<◌, ◌≤◌, List, [], length, slice_index_or, true, Some, None, IfOk, MatchResult, vec_capacity};
 ghost use Rattle.std.specs.Mem.Slots.{slots_items, slots_len, IsFull};
+ghost use mathlib.Core.Option.{some};
+ghost use lib.ListN.{get_elem?};
 ghost use Rattle.dstm_machines.specs.Traces.Access.{Load, Store, Exchange, Add};
 ghost use Rattle.dstm_seats.specs.Seats.{view_of, founder, found_in, kept_part, given_part, IsOf, IsOut, Joined, MakesKept, LeftBy, Makes, MayMake};
 
@@ -149,6 +151,16 @@ impl<M: Machine> Words<M> {
         Ok(words)
     }
 
+    /// The words as they stand, where they are: nothing is copied.
+    pub fn close_in_place(self, seat: MachineSeat<M>) -> Left
+        requires { IsOf self seat }
+        ensures { LeftBy M.shared self.terms (view_of seat) result }
+    {
+        let Words { table } = self;
+        let closed = table.close_with(seat);
+        Left { closed }
+    }
+
     // The four steps. The kind of event that a step tells is a ghost parameter of its play, so each public call
     // picks it for one of these.
     fn load_as<J: Told<M::Kind>>(&self, seat: &mut MachineSeat<M>, kind: M::Kind, place: u64) -> u64
@@ -220,6 +232,38 @@ impl<M: Machine> Words<M> {
         self.table
             .shared
             .fetch_add::<Adders<M, J>>(seat, place as usize, 1)
+    }
+}
+
+/// The words that a table had when it was closed.
+pub struct Left {
+    closed: Closed<u8, Global>,
+}
+
+impl Model for Left {
+    ghost use Rattle.std.specs.Prelude.{List, ℕ, ◌≡◌};
+    ghost use Rattle.std.specs.Mem.Slots.{slots_items, slots_len, IsFull};
+
+    ghost Value = { List ℕ };
+
+    ghost view = { λ l. slots_items l.closed.words };
+
+    ghost invariant = { λ l. IsFull l.closed.words × (slots_len l.closed.slots ≡ 0) };
+}
+
+impl Left {
+    /// A word.
+    pub fn word(&self, place: u64) -> u64
+        requires { place < length self.now }
+        ensures { get_elem? self.now place ≡ some result }
+    {
+        self.closed.word(place as usize)
+    }
+
+    /// Gives the memory back.
+    pub fn free(self) {
+        let Left { closed } = self;
+        closed.free();
     }
 }
 

@@ -6,6 +6,7 @@ mod machine;
 mod terms;
 mod words;
 
+pub use dstm_seats::Left;
 pub use machine::{Core, CoreSeat};
 pub use terms::Terms;
 pub use words::Words;

@@ -8,6 +8,7 @@ use crate::machine::{Core, CoreSeat};
 use crate::terms::Terms;
 use dstm_core::{Kind, Shape};
 use dstm_model::{Law, Val};
+use dstm_seats::Left;
 use std::alloc::{AllocError, Global};
 use std::marker::Model;
 use std::snapshot::Snapshot;
@@ -151,5 +152,14 @@ impl<L: Law> Words<L> {
     {
         let Words { words } = self;
         words.close(alloc, seat)
+    }
+
+    /// The words as they stand, where they are: nothing is copied.
+    pub fn close_in_place(self, seat: CoreSeat<L>) -> Left
+        requires { IsOf self seat }
+        ensures { LeftBy L.holds self.terms (view_of seat) result }
+    {
+        let Words { words } = self;
+        words.close_in_place(seat)
     }
 }
