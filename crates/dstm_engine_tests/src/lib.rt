@@ -1,5 +1,5 @@
-//! Rows of the engine that were worked out by hand, as tests. They stand apart from the crate that they try, since a crate
-//! with tests is proved twice.
+//! Rows of the engine that were worked out by hand, and worked traces of its abstract machine, which its rules take or refuse,
+//! as tests. They stand apart from the crates that they try, since a crate with tests is proved twice.
 #![tactic(auto)]
 
 #[cfg(test)]
@@ -9,7 +9,13 @@ mod contention;
 #[cfg(test)]
 mod guests;
 #[cfg(test)]
+mod machine;
+#[cfg(test)]
 mod managers;
+#[cfg(test)]
+mod opacity;
+#[cfg(test)]
+mod rows;
 #[cfg(test)]
 mod single;
 #[cfg(test)]

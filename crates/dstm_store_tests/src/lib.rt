@@ -1,4 +1,4 @@
-//! Bodies on a memory of one thread, and the plain store, as tests. They stand apart from the crates that they try, since a
+//! Bodies on a memory of one thread, the plain store and the tree, as tests. They stand apart from the crates that they try, since a
 //! crate with tests is proved twice.
 #![tactic(auto)]
 
@@ -14,3 +14,5 @@ mod mem;
 mod model;
 #[cfg(test)]
 mod store;
+#[cfg(test)]
+mod tree;

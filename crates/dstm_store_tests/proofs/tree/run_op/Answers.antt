@@ -1,7 +1,7 @@
 use Rattle.dstm_model.specs.declared.op.Which.TheVariants as which
 use Rattle.dstm_model.specs.declared.op.Op.TheVariants.{Insert, Remove, Member, Put, Get}
 use Rattle.dstm_mem.proofs.Operations.{ready-does}
-use Rattle.dstm_tree_tests.proofs.tree.run_op.Goals as goal
+use Rattle.dstm_store_tests.proofs.tree.run_op.Goals as goal
 
 pub returns-in-Insert-Tree-default : goal.returns-in-Insert-Tree-default
 returns-in-Insert-Tree-default g c =

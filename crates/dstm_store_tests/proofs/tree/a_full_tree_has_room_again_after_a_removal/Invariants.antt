@@ -4,12 +4,12 @@ use Rattle.dstm_model.specs.Objects.{objects_of}
 use Rattle.dstm_model.specs.Store.{Store}
 use Rattle.dstm_mem.specs.Flat.{written_in}
 use Rattle.dstm_mem.specs.Memory.{with_set}
-use Rattle.dstm_tree_tests.specs.declared.tree.TheConstants.{LAYOUT}
+use Rattle.dstm_store_tests.specs.declared.tree.TheConstants.{LAYOUT}
 use Rattle.dstm_tree.specs.Objects.{IsTree}
-use Rattle.dstm_tree_tests.proofs.tree.operations_answer_as_a_map_does.Given as goal
+use Rattle.dstm_store_tests.proofs.tree.a_full_tree_has_room_again_after_a_removal.Given as goal
 
-abbrev pub invariant-loop-step : goal.invariant-loop-step
-invariant-loop-step g l = record {
+abbrev pub invariant-loop-key : goal.invariant-loop-key
+invariant-loop-key g l = record {
   objects : length l.mem.values.items ≡ objects_of LAYOUT;
   lawful : (map : List Val) → map ≡ l.mem.values.items → (store : Store) ×
       IsTree LAYOUT (with_set map (written_in l.mem.notes.items)) store;

@@ -7,7 +7,7 @@ use Rattle.dstm_model.specs.Objects.{plain}
 use Rattle.dstm_mem.proofs.WithSet.{with_set-nothing}
 use Rattle.dstm_tree.specs.Objects.{IsTree}
 use Rattle.dstm_tree.proofs.Opening.{next_of, IsTree-opening}
-use Rattle.dstm_tree_tests.proofs.tree.opened.Goals as goal
+use Rattle.dstm_store_tests.proofs.tree.opened.Goals as goal
 
 abbrev eight : Layout
 eight = record { accounts = 0; opening = 0; list = 0; tree = 8 }
