@@ -18,6 +18,7 @@ pub record IsFresh {S E : Type 0} (M : Ghosts S E) (memory : S) : Type 0 where
   pub unread : (o : ℕ) → M.held memory o ≡ None
   pub unwritten : (o : ℕ) → M.written memory o ≡ None
   pub unopened : (o : ℕ) → M.is_opened memory o ≡ false
+  pub untouched : (map : List Val) → with_set map (M.written memory) ≡ map
 
 -- The operation leads from the old state of a memory to the new one: it is the same memory, and admits no map
 -- that it did not admit. Without an error it is live, admits a map, and holds what it held; else its end is

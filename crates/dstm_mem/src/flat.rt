@@ -113,6 +113,8 @@ impl FlatMem {
         ensures unread { IfOk result (λ mem. (p : ℕ) → ⟦<FlatMem as Mem>⟧.held mem p ≡ None) }
         ensures unwritten { IfOk result (λ mem. (p : ℕ) → ⟦<FlatMem as Mem>⟧.written mem p ≡ None) }
         ensures unopened { IfOk result (λ mem. (p : ℕ) → ⟦<FlatMem as Mem>⟧.is_opened mem p ≡ false) }
+        ensures untouched { IfOk result (λ mem. (map : List Val) →
+            with_set map (⟦<FlatMem as Mem>⟧.written mem) ≡ map) }
     {
         let notes = vec![in alloc; UNTOUCHED; values.len()]?;
         Ok(FlatMem { values, notes })

@@ -6,8 +6,10 @@ mod body;
 mod flat;
 mod memory;
 mod release;
+mod size;
 
 pub use body::Body;
 pub use flat::{FlatMem, Never};
 pub use memory::Mem;
 pub use release::{LooseBody, Release, admits_what_it_holds};
+pub use size::OfSize;

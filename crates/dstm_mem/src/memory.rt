@@ -1,8 +1,9 @@
 ghost use Rattle.std.specs.Prelude.{◌≡◌, ℕ, ◌<◌, ◌↔◌, List, length, Bool, IsTrue, false, Option, Some};
-ghost use Rattle.std.specs.Prelude.{IfOk, OnOk, IfErr};
+ghost use Rattle.std.specs.Prelude.{IfOk, OnOk, IfErr, slice_set};
 ghost use Rattle.std.specs.Option.{option_or};
 ghost use Rattle.dstm_model.specs.declared.value.Val.{Val};
-ghost use Rattle.dstm_mem.specs.Memory.{AgreesWith, HoldsAlso, SetsOnly, MarksAtMost};
+ghost use Rattle.dstm_model.specs.Map.{value_at};
+ghost use Rattle.dstm_mem.specs.Memory.{AgreesWith, HoldsAlso, SetsOnly, MarksAtMost, with_set};
 
 use dstm_model::Val;
 
@@ -42,11 +43,16 @@ pub trait Mem {
     /// The memory may stand for this map, the value of object `o` at place `o`.
     ghost Admits: { Self → List Val → Type 0 };
 
-    /// Opens an object for reading: answers the value last set, or else the one that is held.
+    /// Opens an object for reading: answers the value last set, or else the one that is held. In each admitted map
+    /// with what is set this is the object's value.
     fn open_read(&mut self, o: u32) -> Result<Val, Self::Err>
         requires exists { o < objects self.old }
         requires live { IsTrue (is_live self.old) }
 
+        ensures found { IfOk result (λ v. (map : List Val) → Admits self.new map →
+            value_at (with_set map (written self.new)) o ≡ v) }
+        ensures unchanged { OnOk result ((map : List Val) →
+            with_set map (written self.new) ≡ with_set map (written self.old)) }
         ensures value { IfOk result (λ v. Some v ≡ option_or (written self.new o) (held self.new o)) }
         ensures held { OnOk result (HoldsAlso o (held self.old) (held self.new)) }
         ensures written { OnOk result ((p : ℕ) → written self.new p ≡ written self.old p) }
@@ -66,6 +72,10 @@ pub trait Mem {
         requires exists { o < objects self.old }
         requires live { IsTrue (is_live self.old) }
 
+        ensures found { IfOk result (λ v. (map : List Val) → Admits self.new map →
+            value_at (with_set map (written self.new)) o ≡ v) }
+        ensures unchanged { OnOk result ((map : List Val) →
+            with_set map (written self.new) ≡ with_set map (written self.old)) }
         ensures value { IfOk result (λ v. Some v ≡ option_or (written self.new o) (held self.new o)) }
         ensures held { OnOk result (HoldsAlso o (held self.old) (held self.new)) }
         ensures written { OnOk result ((p : ℕ) → written self.new p ≡ written self.old p) }
@@ -79,12 +89,14 @@ pub trait Mem {
         ensures live { OnOk result (IsTrue (is_live self.new)) }
         ensures ended { IfErr result (λ e. (is_live self.new ≡ false) × (error self.new ≡ Some e)) };
 
-    /// Sets the value of an object that is opened for writing.
+    /// Sets the value of an object that is opened for writing: it replaces the one in each map with what is set.
     fn set(&mut self, o: u32, v: Val)
         requires exists { o < objects self.old }
         requires live { IsTrue (is_live self.old) }
         requires opened { IsTrue (is_opened self.old o) }
 
+        ensures puts { (map : List Val) →
+            with_set map (written self.new) ≡ slice_set (with_set map (written self.old)) o v }
         ensures written { SetsOnly o v (written self.old) (written self.new) }
         ensures held { (p : ℕ) → held self.new p ≡ held self.old p }
         ensures opened { (p : ℕ) → is_opened self.new p ≡ is_opened self.old p }
