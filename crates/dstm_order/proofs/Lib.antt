@@ -5,3 +5,4 @@ pub mod Validations
 pub mod Commits
 pub mod Opens
 pub mod Beginnings
+pub mod Weaker

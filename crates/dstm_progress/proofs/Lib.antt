@@ -34,3 +34,4 @@ pub mod Releases
 pub mod Kills
 pub mod Disturbers
 pub mod Clearing
+pub mod Validated

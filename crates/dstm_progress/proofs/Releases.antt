@@ -23,14 +23,10 @@ use Rattle.dstm_order.specs.Tasks.Work.{Reading, Writing, Releasing, Rechecking,
 use Rattle.dstm_order.proofs.Rows.{checking_by, checks_by, giving_way_by, pass_by, passed_by, put_by, putting_by, resolving_by}
 use Rattle.dstm_order.specs.Made.{AreMade, Call, events_in, generator_by, state_by}
 use Rattle.dstm_order.specs.Retries.{KeepsReads}
-use Rattle.dstm_progress.specs.Lives.{NoReleases}
-
-abbrev is_release : Kind → Bool
-is_release Release = true
-is_release k = false
+use Rattle.dstm_progress.specs.Lives.{NoReleases, lets_go}
 
 abbrev NoRelease : Due → Type 0
-NoRelease (Step k n) = is_release k ≡ false
+NoRelease (Step k n) = lets_go k ≡ false
 NoRelease Done = Unit {0}
 
 abbrev Holds : Work → Type 0
@@ -114,10 +110,10 @@ due_no (Doing w) s o l m f h =
     held (Committing v) h = tt
 
 not_release : (d : Due) (e : Event) → NoRelease d → IsDue d e → e.kind ≢ Release
-not_release (Step k n) e other is q = absurd (let x : true ≡ false = ap is_release (sym q ∙ is.0) ∙ other in cc)
+not_release (Step k n) e other is q = absurd (let x : true ≡ false = ap lets_go (sym q ∙ is.0) ∙ other in cc)
 not_release Done e other is q = is
 
-abbrev NoneIn : List Event → Type 0
+abbrev pub NoneIn : List Event → Type 0
 NoneIn [] = Unit {0}
 NoneIn (e ∷ es) = NoneIn es × (e.kind ≢ Release)
 
@@ -125,7 +121,7 @@ none_both : (xs ys : List Event) → NoneIn xs → NoneIn ys → NoneIn (xs ++ y
 none_both [] ys a b = b
 none_both (x ∷ xs) ys a b = (none_both xs ys a.0 b, a.1)
 
-call_none : (t : Task) (s : Shape) (l : LocalState) (g : Lcg) (es : List Event) → KeepsReads l t → Obeys t s l g es → NoneIn es
+pub call_none : (t : Task) (s : Shape) (l : LocalState) (g : Lcg) (es : List Event) → KeepsReads l t → Obeys t s l g es → NoneIn es
 call_none t s l g [] may h = tt
 call_none t s l g (e ∷ es) may h = (
   call_none t s l g es may h.0,
