@@ -18,6 +18,7 @@ use Rattle.dstm_core.specs.Histories.{entry_of, old_values, read_values}
 use Rattle.dstm_core.specs.State.{LocalState, write_of}
 use Rattle.dstm_core.specs.Traces.{events_of}
 use Rattle.dstm_core.specs.declared.state.Phase.TheVariants.{Running}
+use Rattle.dstm_mem.proofs.WithSet.{with_set-nothing}
 use Rattle.dstm_managers.specs.Choices.{DeciderState}
 use Rattle.dstm_mem.specs.Memory.{value_in}
 use Rattle.dstm_model.specs.Map.{value_at}
@@ -267,6 +268,7 @@ module _ {L : Type 0} (holds : L → List Val → Type 0) (c : Inside L) (v : Ti
       at_begin = at_begin;
       unread = unread;
       unwritten = λ o. refl;
+      untouched = λ map. with_set-nothing map (λ o. None) (λ o. refl);
       unopened = λ o. ap (λ (l : LocalState). is_some (write_of o l.writes)) is_begun;
       same_done = same_done;
       enough = enough;

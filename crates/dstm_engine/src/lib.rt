@@ -9,12 +9,15 @@ pub mod laws;
 mod making;
 mod opened;
 mod opening;
+mod shape;
 mod stm;
 mod tx;
 
 pub use caller::Caller;
+pub use dstm_order::Again;
 pub use dstm_steps::Tally;
 pub use error::{Done, Ended, EnrolError, Spent};
 pub use making::{attempt, attempt_loose};
+pub use shape::{MOST_OBJECTS, shape_for};
 pub use stm::{Founder, Record, Stm};
 pub use tx::Tx;

@@ -140,6 +140,13 @@ impl<L: Law> Stm<L> {
         Ok((stm, founder))
     }
 
+    /// How large the table is, and how its callers behave.
+    pub fn shape(&self) -> Shape
+        ensures { result ≡ self.now.terms.shape }
+    {
+        self.shape
+    }
+
     /// The words of the table, for guests.
     pub fn words(&self) -> &Words<L>
         ensures { result.now ≡ self.now }

@@ -50,9 +50,26 @@ impl<L: Law> Caller<L> {
         self.begin_one(stm)?;
         Ok(Tx { caller: self, stm })
     }
+
+    /// Goes on with the last attempt, as it was left: its `Tx` was dropped before its end.
+    pub fn resume<'a>(&'a mut self, stm: &'a Stm<L>) -> Tx<'a, L>
+        requires table { self.old.home ≡ stm.now }
+        ensures same { result.caller.ghost_name ≡ self.entry.ghost_name }
+        ensures table { result.stm.now ≡ stm.now }
+        ensures attempt { result.caller.now ≡ self.old }
+    {
+        Tx { caller: self, stm }
+    }
 }
 
 impl<'a, L: Law> Tx<'a, L> {
+    /// How many objects there are.
+    pub fn objects(&self) -> u32
+        ensures { result ≡ (shape_of self.now.caller.now).objects }
+    {
+        self.stm.shape().objects
+    }
+
     /// No call on it answered an error.
     pub fn is_live(&self) -> bool
         ensures { result ≡ is_live self.now.caller.now }

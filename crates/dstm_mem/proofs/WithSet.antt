@@ -1,6 +1,6 @@
 -- Maps with the values that are set: their length, their values, and what an open, a set and a put do to them.
 use Rattle.std.proofs.Common.{◌≡◌, ℕ, zero, suc, ◌<◌, List, [], ◌∷◌, length, slice_set, arith, refl, sym, ◌∙◌, ap}
-use Rattle.std.specs.Prelude.{Option, Some, None, unwrap_or, IfSome, IsSome}
+use Rattle.std.specs.Prelude.{Option, Some, None, unwrap_or, IfSome, IsSome, Result, Ok, Err, IfOk, OnOk}
 use Rattle.std.specs.Option.{option_or}
 use Rattle.std.proofs.lemmas.List.{ext_get_or}
 use Rattle.dstm_model.specs.declared.value.Val.{Val}
@@ -99,6 +99,23 @@ value_at-opened map old new held o v within agrees same answer =
     value_at-with_set map old o within
     ∙ ap (λ w. unwrap_or w (value_at map o)) (sym (same o))
     ∙ answered (new o) (held o) (value_at map o) v (agrees o) answer
+
+-- what an open finds, whatever it answers
+pub found_by : {E : Type 0} (answer : Result Val E) (Admits : List Val → Type 0) (held written : ℕ → Option Val)
+    (o : ℕ) → ((map : List Val) → Admits map → (o < length map) × AgreesWith map held) →
+    IfOk answer (λ v. Some v ≡ option_or (written o) (held o)) →
+    IfOk answer (λ v. (map : List Val) → Admits map → value_at (with_set map written) o ≡ v)
+found_by (Ok v) Admits held written o admitted value =
+    λ map a.
+    let (within, agrees) = admitted map a in
+    value_at-opened map written written held o v within agrees (λ p. refl) value
+found_by (Err e) Admits held written o admitted value = tt
+
+-- what an open leaves, whatever it answers
+pub unchanged_by : {E : Type 0} (answer : Result Val E) (old new : ℕ → Option Val) → ((p : ℕ) → new p ≡ old p) →
+    OnOk answer ((map : List Val) → with_set map new ≡ with_set map old)
+unchanged_by (Ok v) old new same = λ map. with_set-same map old new same
+unchanged_by (Err e) old new same = tt
 
 -- one object: what is put is the value set, or else the map's
 put_value : (held written put : Option Val) (v : Val) → IfSome held (λ x. v ≡ x) →
