@@ -1,5 +1,6 @@
 #!/usr/bin/env python3
-"""Tries on the program what docs/FORMATS.md says of the texts: which are taken, which are refused, and how.
+"""Tries on the program what docs/FORMATS.md says of the texts: which are taken, which are refused, and how; and that its
+reports on the samples are lawful.
 
     python3 samples/formats.py PROGRAM
 
@@ -8,6 +9,7 @@ where PROGRAM is `dstm`, as `rt run` builds it at crates/dstm/out/dstm. It write
 
 import subprocess
 import sys
+from pathlib import Path
 
 USAGE = "usage: dstm run, check, gen or demo\n"
 RUN_LIMIT = 4_194_304
@@ -272,6 +274,16 @@ def lines_of_a_report(t):
     t.unlawful("never although another can begin", waits, "dstm report 3\n4 0 0.0 never\n5 1 0.1 1\nbank 1\nend 2\n", 2)
 
 
+def samples(t):
+    """The reports of both engines on the samples, and on generated workloads of several workers."""
+    texts = {path.name: path.read_text() for path in sorted(Path(__file__).parent.glob("*.txt"))}
+    for words in ["gen 7 2000 8", "gen 7 2000 32"]:
+        texts[words] = t.call(words.split(), "")[1]
+    for name, text in texts.items():
+        for words in ["run", "run --engine tl2"]:
+            t.lawful(f"{name}, {words}", text, t.call(words.split(), text)[1])
+
+
 def lengths(t):
     t.taken("as long as run reads", "dstm 1\n" + "#" * (RUN_LIMIT - 8) + "\n")
     t.expect("too long for run", ["run"], "dstm 1\n" + "#" * (RUN_LIMIT - 7) + "\n", 2, "dstm: input too long\n", "")
@@ -302,7 +314,7 @@ def main():
     if len(sys.argv) != 2:
         sys.exit(__doc__.strip())
     trial = Trial(sys.argv[1])
-    for part in [lines_of_a_workload, declarations, transactions, operations, lines_of_a_report, lengths, commands]:
+    for part in [lines_of_a_workload, declarations, transactions, operations, lines_of_a_report, samples, lengths, commands]:
         part(trial)
     print(f"{trial.tried} tried, {trial.differ} differ")
     sys.exit(1 if trial.differ else 0)
