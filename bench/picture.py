@@ -5,7 +5,8 @@
 """
 import sys
 
-COLORS = {"dstm": "#1b6ca8", "tl2": "#e07b39", "mutex": "#9aa5b1", "gl_wt": "#c9ced6"}
+COLORS = {"dstm": "#1b6ca8", "proto": "#9cc3e0", "tl2": "#e07b39", "proto_tl2": "#f2c4a0", "mutex": "#9aa5b1",
+          "gl_wt": "#c9ced6"}
 BAR, GAP, HEIGHT, MOST, LEFT, TOP = 7, 14, 220, 6.0, 44, 40
 MEASURE = "run"
 
@@ -27,13 +28,13 @@ def height_of(ratio):
     return min(ratio, MOST) / MOST * HEIGHT
 
 
-def bars(at, figure):
+def bars(at, figure, shown):
     """The bars of one load and count of workers, from this place on."""
-    for place, (name, color) in enumerate(COLORS.items()):
+    for place, name in enumerate(shown):
         ratio = figure[name] / figure["ml_wt"]
         high = height_of(ratio)
-        yield (f'<rect x="{at + place * BAR}" y="{TOP + HEIGHT - high:.1f}" width="{BAR - 1}" height="{high:.1f}" fill="{color}">'
-               f"<title>{name}: {ratio:.2f}</title></rect>")
+        box = f'x="{at + place * BAR}" y="{TOP + HEIGHT - high:.1f}" width="{BAR - 1}" height="{high:.1f}"'
+        yield f'<rect {box} fill="{COLORS[name]}"><title>{name}: {ratio:.2f}</title></rect>'
 
 
 def text(x, y, words, anchor="middle"):
@@ -42,7 +43,8 @@ def text(x, y, words, anchor="middle"):
 
 def picture(figures):
     loads = list(dict.fromkeys(load for load, _ in figures))
-    group = len(COLORS) * BAR + GAP
+    shown = [name for name in COLORS if all(name in figure for figure in figures.values())]
+    group = len(shown) * BAR + GAP
     width = LEFT + len(figures) * group + len(loads) * GAP + 10
     out = [f'<svg xmlns="http://www.w3.org/2000/svg" width="{width}" height="{TOP + HEIGHT + 44}">',
            '<rect width="100%" height="100%" fill="white"/>']
@@ -55,15 +57,15 @@ def picture(figures):
         begin = at
         for (other, workers), figure in figures.items():
             if other == load:
-                out.extend(bars(at, figure))
-                out.append(text(at + len(COLORS) * BAR / 2, TOP + HEIGHT + 14, workers))
+                out.extend(bars(at, figure, shown))
+                out.append(text(at + len(shown) * BAR / 2, TOP + HEIGHT + 14, workers))
                 at += group
         out.append(text((begin + at - GAP) / 2, TOP + HEIGHT + 32, load))
         at += GAP
-    for place, (name, color) in enumerate(COLORS.items()):
-        out.append(f'<rect x="{LEFT + place * 70}" y="12" width="10" height="10" fill="{color}"/>')
+    for place, name in enumerate(shown):
+        out.append(f'<rect x="{LEFT + place * 70}" y="12" width="10" height="10" fill="{COLORS[name]}"/>')
         out.append(text(LEFT + place * 70 + 14, 21, name, "start"))
-    out.append(text(LEFT + len(COLORS) * 70 + 10, 21, "run phase on the clock, ml_wt = 1; below: workers", "start"))
+    out.append(text(LEFT + len(shown) * 70 + 10, 21, "run phase on the clock, ml_wt = 1; below: workers", "start"))
     return "\n".join([*out, "</svg>"])
 
 

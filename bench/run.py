@@ -16,15 +16,27 @@ HERE = Path(__file__).resolve().parent
 FLAGS = ["-O2", "-march=x86-64-v2"]  # dstm is compiled for x86-64-v2
 SLACK = 4096  # how much more than was asked for a block may have
 
+# Of each prototype how it is compiled, and how it is started: it makes tables as its engine does.
+PROTOTYPES = {"proto": (["-DPAUSE", "-DRYE=64", "-DEPOCH"], ["--zero", "copy"]), "proto_tl2": ([], [])}
 
-def build(folder):
-    """Compiles the programs, and answers the words that start each of them."""
+
+def build(folder, prototypes):
+    """Compiles the programs, those of the folder of prototypes too."""
     cpp = ["g++", "-std=c++17", *FLAGS, str(HERE / "peer.cc")]
     subprocess.run([*cpp, "-o", folder / "serial"], check=True)
     subprocess.run([*cpp, "-DMUTEX", "-pthread", "-o", folder / "mutex"], check=True)
     subprocess.run([*cpp, "-DTRANSACTIONS", "-fgnu-tm", "-pthread", "-o", folder / "transactions"], check=True)
     shared = ["gcc", "-O2", "-shared", "-fPIC", str(HERE / "phases.c"), "-o", folder / "phases.so", "-ldl"]
     subprocess.run(shared, check=True)
+    for name in prototypes_in(prototypes):
+        source = ["-I", prototypes, Path(prototypes) / f"{name}.cc"]
+        flags = PROTOTYPES[name][0]
+        subprocess.run(["g++", "-std=c++17", *FLAGS, *flags, "-pthread", *source, "-o", folder / name], check=True)
+
+
+def prototypes_in(folder):
+    """The prototypes whose sources stand in a folder, if there is one."""
+    return [name for name in PROTOTYPES if folder and (Path(folder) / f"{name}.cc").is_file()]
 
 
 MEASURES = ("process", "process, cpu", "run", "run, cpu")
@@ -79,6 +91,17 @@ def told_by_itself(program, load):
         fields = told.read().split()
     at = fields.index("run") + 1
     return int(fields[at]) / 1000, int(fields[at + 1]) / 1000, ""
+
+
+def told_by_prototype(program, load):
+    """A prototype tells names and numbers, among them how long its jobs took with their tables. Where it does not tell
+    what that took of the processors, it is the process less reading and printing."""
+    with tempfile.TemporaryFile("w+") as told:
+        _, cpu = program.start(program.words, {}, load.path, told)
+        told.seek(0)
+        fields = told.read().split()
+    times = {name: int(value) / 1000 for name, value in zip(fields[::2], fields[1::2])}
+    return times["run"], times.get("runcpu", cpu - times["parse"] - times["print"]), ""
 
 
 def told_by_phases(program, load):
@@ -208,7 +231,10 @@ def tell(programs, load):
 
 
 def programs_of(given, folder):
-    programs = [Program("dstm", [given.dstm, "run"], told_by_phases), Program("tl2", [given.dstm, "run", "--engine", "tl2"], None)]
+    tl2 = [given.dstm, "run", "--engine", "tl2"]
+    programs = [Program("dstm", [given.dstm, "run"], told_by_phases), Program("tl2", tl2, None)]
+    for name in prototypes_in(given.prototypes):
+        programs.append(Program(name, [folder / name, *PROTOTYPES[name][1]], told_by_prototype))
     for other in given.also:
         name, path = other.split("=", 1)
         programs.append(Program(name, [path, "run"], told_by_phases))
@@ -223,7 +249,7 @@ def programs_of(given, folder):
 
 
 def run(given, folder):
-    build(folder)
+    build(folder, given.prototypes)
     programs = programs_of(given, folder)
     print(f"load average {os.getloadavg()[0]:.1f}, {os.cpu_count()} processors, least of {given.rounds} runs, in ms")
     print("| load | workers | measure | " + " | ".join(program.name for program in programs) + " |")
@@ -245,6 +271,8 @@ def main():
     reader.add_argument("--rounds", type=int, default=9)
     reader.add_argument("--also", action="append", default=[], metavar="NAME=PATH", help="another build of dstm")
     reader.add_argument("--peer", action="append", default=[], metavar="NAME=COMMAND", help="another program")
+    reader.add_argument("--prototypes", default=os.environ.get("DSTM_PROTOTYPES"), metavar="FOLDER",
+                        help="where sources of prototypes stand; else there are no columns for them")
     given = reader.parse_args()
     with tempfile.TemporaryDirectory(prefix="dstm-bench-") as folder:
         run(given, Path(folder))
