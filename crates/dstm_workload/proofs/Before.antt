@@ -6,7 +6,8 @@ use Rattle.std.proofs.lemmas.List.Elements.{All-from_recursion}
 use Rattle.dstm_text.specs.Lines.{line_feed, lines_of, split_lines}
 use Rattle.dstm_text.proofs.LineLaws.{IsFreeOf, lines_of-append}
 use Rattle.dstm_text.proofs.LineSearch.{Lacks, onto, split-append, split-at}
-use Rattle.dstm_workload.specs.declared.{known.Entry.Entry, workload.Workload.Workload}
+use Rattle.dstm_workload.specs.declared.workload.Workload.{Workload}
+use Rattle.dstm_workload.specs.Entry.{Entry}
 use Rattle.dstm_workload.specs.Workload.{IsValidWorkload}
 use Rattle.dstm_workload.specs.Writing.{joined, text_of_workload}
 use Rattle.dstm_workload.proofs.EntryLaws.{fields_of_entry}

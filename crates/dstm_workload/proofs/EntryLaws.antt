@@ -5,13 +5,14 @@ use Rattle.std.specs.List.{list_all, AllByRecursion}
 use Rattle.std.proofs.lemmas.{Bool.lt-ltb, Bool.le-leb, Bool.Decides.nat_tests, Slice.Eq.bytes_eq-Decides}
 use Rattle.dstm_text.specs.Lines.{fields_of}
 use Rattle.dstm_text.proofs.NumberLaws.{number_of-decimal, decimal-number_of}
-use Rattle.dstm_workload.specs.declared.{word.Word.Word, known.Known.Known, known.Entry.Entry, workload.Job.Job}
+use Rattle.dstm_workload.specs.declared.{word.Word.Word, known.Known.Known, workload.Job.Job}
+use Rattle.dstm_workload.specs.Entry.{Entry}
 use Rattle.dstm_workload.specs.declared.word.Word.TheVariants as word
-use Rattle.dstm_workload.specs.declared.known.Entry.TheVariants as entry
+use Rattle.dstm_workload.specs.Entry as entry
 use Rattle.dstm_workload.specs.Workload.{AreOperations}
 use Rattle.dstm_workload.specs.Words.{spelling, word_of}
 use Rattle.dstm_workload.specs.Fields.{number_at, end_at}
-use Rattle.dstm_workload.specs.Known.{IsKnown, HasRoomFor, layout_of}
+use Rattle.dstm_workload.specs.Known.{IsKnown, layout_of}
 use Rattle.dstm_workload.specs.Table.{Operands}
 use Rattle.dstm_workload.specs.Operations.{operands_at, ops_at}
 use Rattle.dstm_workload.specs.Writing.{joined, fields_of_operands, fields_of_ops, fields_of_job}
@@ -241,13 +242,3 @@ module _ (known : Known) (valid : IsKnown known) (line : ℕ) where
       let solid = comes_fields known.version e valid.version comes in
       rw (no_comment e, fields_of-joined fields solid) (tells (joined fields) fields e (joined_printable fields solid)
       (told_again known.version e valid.version comes))
-
-  pub room_for : (o : Option ℕ) (e : Entry) → Comes o known line e → HasRoomFor known e
-  room_for None (entry.Transaction job) comes = absurd comes
-  room_for (Some version) (entry.Transaction job) comes = comes.room
-  room_for o other comes = tt
-
-  pub has_room : (text : List ℕ) (told : Option Entry) → entry_of known line text ≡ Ok told →
-      IfSome told (HasRoomFor known)
-  has_room text None is = tt
-  has_room text (Some e) is = room_for known.version e (line_ok text (Some e) is).1.0

@@ -4,8 +4,9 @@ use Rattle.std.proofs.Common.{decimal, codes, refl, ap, ◌∙◌, arith, add-ze
 use Rattle.std.specs.{List.filter_map, Option.option_map}
 use Rattle.std.proofs.lemmas.{List.Elements.filter-append, List.Elements.filter_map-append, List.map-append}
 use Rattle.dstm_text.proofs.NumberLaws.{number_of-decimal}
-use Rattle.dstm_workload.specs.declared.{known.Known.Known, known.Entry.Entry}
-use Rattle.dstm_workload.specs.declared.known.Entry.TheVariants as entry
+use Rattle.dstm_workload.specs.declared.known.Known.{Known}
+use Rattle.dstm_workload.specs.Entry.{Entry}
+use Rattle.dstm_workload.specs.Entry as entry
 use Rattle.dstm_workload.specs.Entries.{header_of}
 use Rattle.dstm_workload.specs.Known.{IsKnown, nothing_known, with_entry, known_with}
 use Rattle.dstm_workload.specs.Reading.{begins_with, first_of, number_in, bank_in, known_of}

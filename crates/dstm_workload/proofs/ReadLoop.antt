@@ -1,14 +1,18 @@
 -- The lines read so far, and those that are left.
 use Rattle.std.proofs.Common.{◌≡◌, ℕ, ◌+◌, List, [], ◌∷◌, ◌++◌, length, Option, Some, None, Result, Ok, Err, refl, sym}
-use Rattle.std.proofs.Common.{ap, ◌∙◌, arith, append_assoc, length-append}
+use Rattle.std.proofs.Common.{ap, ◌∙◌, arith, append_assoc, append-nil, length-append}
 use Rattle.std.specs.Option.{ok_or}
 use Rattle.dstm_workload.specs.declared.{refused.Refused.Refused, refused.Why.TheVariants.Header, known.Known.Known}
-use Rattle.dstm_workload.specs.declared.{known.Entry.Entry, workload.Job.Job, refused.WorkloadError.WorkloadError}
+use Rattle.dstm_workload.specs.declared.refused.Why.{Why}
+use Rattle.dstm_workload.specs.declared.{workload.Job.Job, refused.WorkloadError.WorkloadError}
+use Rattle.dstm_workload.specs.Entry.{Entry}
+use Rattle.dstm_workload.specs.Entry as entry
 use Rattle.dstm_workload.specs.declared.refused.WorkloadError.TheVariants as errors
 use Rattle.dstm_workload.specs.Answers.{refused, Fails}
 use Rattle.dstm_workload.specs.Entries.{entry_of, worker_count}
-use Rattle.dstm_workload.specs.Known.{nothing_known, known_with, jobs_in, layout_of}
+use Rattle.dstm_workload.specs.Known.{nothing_known, known_with, jobs_in, layout_of, kept, kept_if_told}
 use Rattle.dstm_workload.specs.Reading.{known_of, line_tells, onto, jobs_after, workload_with, made_of, workload_of}
+use Rattle.dstm_workload.proofs.ReadLaws.{same_Ok}
 use Rattle.dstm_workload.proofs.EntryLaws.{line_ok}
 use Rattle.dstm_workload.proofs.KnownLaws.{known_told}
 use Rattle.dstm_workload.proofs.ValidLaws.{SoFar, none_so_far, line_on}
@@ -54,6 +58,39 @@ goes_on {all} {left} {text} {known} {line} {jobs} read {told} is =
       line_is = omega (arith, read.line_is, length-append read.before (text ∷ []));
       jobs_are = sym (onto_both jobs (jobs_in told) (jobs_after next left)) ∙ (rw here at read.jobs_are);
     }
+
+-- what is kept when a line has told this
+kept_is : (known : Known) (jobs : List Job) (e : Entry) →
+    kept known jobs e ≡ (known_with known (Some e), jobs ++ jobs_in (Some e))
+kept_is known jobs (entry.Transaction job) = refl
+kept_is known jobs other = ap (λ (js : List Job). (known_with known (Some other), js)) (sym (append-nil jobs))
+
+kept_as : (known : Known) (jobs : List Job) (told : Result (Option Entry) Why) (next : Known) (more : List Job) →
+    kept_if_told known jobs told ≡ Ok (next, more) →
+    (t : Option Entry) × (told ≡ Ok t) × (next ≡ known_with known t) × (more ≡ jobs ++ jobs_in t)
+kept_as known jobs (Ok None) next more is =
+    let same = sym (same_Ok (known, jobs) (next, more) is) in (
+      None,
+      refl,
+      ap (λ (k : Known × List Job). k.0) same,
+      ap (λ (k : Known × List Job). k.1) same ∙ sym (append-nil jobs),
+    )
+kept_as known jobs (Ok (Some e)) next more is =
+    let same = sym (same_Ok (kept known jobs e) (next, more) is) ∙ kept_is known jobs e in
+    (Some e, refl, ap (λ (k : Known × List Job). k.0) same, ap (λ (k : Known × List Job). k.1) same)
+kept_as known jobs (Err why) next more is = cc
+
+told_on : {all left : List (List ℕ)} {text : List ℕ} {known next : Known} {line : ℕ} {jobs more : List Job} →
+    {told : Option Entry} → ReadTo all (text ∷ left) known line jobs → entry_of known line text ≡ Ok told →
+    next ≡ known_with known told → more ≡ jobs ++ jobs_in told → ReadTo all left next (line + 1) more
+told_on read is known_is jobs_are = rw (known_is, jobs_are) (goes_on read is)
+
+pub kept_on : {all left : List (List ℕ)} {text : List ℕ} {known next : Known} {line : ℕ} {jobs more : List Job} →
+    ReadTo all (text ∷ left) known line jobs → kept_if_told known jobs (entry_of known line text) ≡ Ok (next, more) →
+    ReadTo all left next (line + 1) more
+kept_on {text = text} {known = known} {next = next} {line = line} {jobs = jobs} {more = more} read is =
+    let told = kept_as known jobs (entry_of known line text) next more is in
+    told_on read told.1 told.2 told.3
 
 -- ---- the whole text
 

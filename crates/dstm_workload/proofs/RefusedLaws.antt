@@ -3,7 +3,8 @@ use Rattle.std.proofs.Common.{◌≡◌, ℕ, ◌+◌, List, [], ◌∷◌, ◌+
 use Rattle.std.proofs.Common.{inl, inr, ◌⊎◌, ◌↔◌, arith}
 use Rattle.std.proofs.lemmas.List.{append_assoc, append-nil}
 use Rattle.dstm_workload.specs.{declared.refused.Why.Why, declared.refused.Why.TheVariants.Header}
-use Rattle.dstm_workload.specs.declared.{refused.Refused.Refused, known.Entry.Entry, workload.Job.Job}
+use Rattle.dstm_workload.specs.declared.{refused.Refused.Refused, workload.Job.Job}
+use Rattle.dstm_workload.specs.Entry.{Entry}
 use Rattle.dstm_workload.specs.Answers.{refused}
 use Rattle.dstm_workload.specs.Reading.{known_of, line_tells, followed_by, jobs_after, made_of, workload_of, AreRead}
 use Rattle.dstm_workload.specs.Reading.{IsFirstRefused, HasNoHeader}

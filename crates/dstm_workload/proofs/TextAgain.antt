@@ -5,9 +5,10 @@ use Rattle.std.specs.List.{AllByRecursion}
 use Rattle.std.proofs.lemmas.{Bool.Decides.nat_tests, List.map-append, List.length-map, List.Concat.flat_map-append}
 use Rattle.std.proofs.lemmas.List.Elements.{recursion_from_All}
 use Rattle.dstm_text.specs.Lines.{lines_of}
-use Rattle.dstm_workload.specs.declared.known.{Known.Known, Entry.Entry}
+use Rattle.dstm_workload.specs.declared.known.Known.{Known}
+use Rattle.dstm_workload.specs.Entry.{Entry}
 use Rattle.dstm_workload.specs.declared.workload.{Job.Job, Workload.Workload}
-use Rattle.dstm_workload.specs.declared.known.Entry.TheVariants as entry
+use Rattle.dstm_workload.specs.Entry as entry
 use Rattle.dstm_workload.specs.Workload.{IsValidWorkload}
 use Rattle.dstm_workload.specs.Entries.{entry_of, worker_count}
 use Rattle.dstm_workload.specs.Known.{IsKnown, nothing_known, with_entry, layout_of, jobs_in}

@@ -5,8 +5,9 @@ use Rattle.std.specs.List.Sorted.{IsStrictlyIncreasing}
 use Rattle.std.proofs.lemmas.{Grind.common_steps, List.map-append, List.Elements.All-nil, List.Elements.All-push}
 use Rattle.std.proofs.lemmas.List.Elements.{All-weaker}
 use Rattle.dstm_model.specs.declared.layout.Layout.{Layout}
-use Rattle.dstm_workload.specs.declared.{known.Known.Known, known.Entry.Entry, workload.Job.Job}
-use Rattle.dstm_workload.specs.declared.known.Entry.TheVariants as entry
+use Rattle.dstm_workload.specs.declared.{known.Known.Known, workload.Job.Job}
+use Rattle.dstm_workload.specs.Entry.{Entry}
+use Rattle.dstm_workload.specs.Entry as entry
 use Rattle.dstm_workload.specs.Workload.{AreOperations, IsValidWorkload, lines_of_jobs}
 use Rattle.dstm_workload.specs.Entries.{worker_count}
 use Rattle.dstm_workload.specs.Known.{IsKnown, with_entry, known_with, layout_of, jobs_in}

@@ -10,8 +10,8 @@ use Rattle.dstm_workload.specs.declared.refused.Why.TheVariants.{Header, Bytes, 
 use Rattle.dstm_workload.specs.declared.word.Word.{Word}
 use Rattle.dstm_workload.specs.declared.word.Word.TheVariants as word
 use Rattle.dstm_workload.specs.declared.known.Known.{Known}
-use Rattle.dstm_workload.specs.declared.known.Entry.{Entry}
-use Rattle.dstm_workload.specs.declared.known.Entry.TheVariants as entry
+use Rattle.dstm_workload.specs.Entry.{Entry}
+use Rattle.dstm_workload.specs.Entry as entry
 use Rattle.dstm_workload.specs.Words.{word_of}
 use Rattle.dstm_text.specs.Results.{◌>>=◌}
 use Rattle.dstm_workload.specs.Fields.{number_at, end_at}

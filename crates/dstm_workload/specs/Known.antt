@@ -1,10 +1,11 @@
 -- What is known line by line: the reader's running state.
-use Rattle.std.specs.Prelude.{◌+◌, ◌<◌, ◌≤◌, List, [], ◌∷◌, Option, Some, None, IfSome, unwrap_or}
+use Rattle.std.specs.Prelude.{◌+◌, ◌≤◌, List, [], ◌∷◌, ◌++◌, Option, Some, None, Result, Ok, Err, IfSome, unwrap_or}
 use Rattle.dstm_model.specs.declared.layout.Layout.{Layout}
 use Rattle.dstm_workload.specs.declared.workload.Job.{Job}
 use Rattle.dstm_workload.specs.declared.known.Known.{Known}
-use Rattle.dstm_workload.specs.declared.known.Entry.{Entry}
-use Rattle.dstm_workload.specs.declared.known.Entry.TheVariants as entry
+use Rattle.dstm_workload.specs.declared.refused.Why.{Why}
+use Rattle.dstm_workload.specs.Entry.{Entry}
+use Rattle.dstm_workload.specs.Entry as entry
 
 abbrev pub nothing_known : Known
 nothing_known =
@@ -17,11 +18,6 @@ with_entry known (entry.Bank bank) = record known { bank = Some bank }
 with_entry known (entry.List n) = record known { list = Some n }
 with_entry known (entry.Tree n) = record known { tree = Some n }
 with_entry known (entry.Transaction job) = record known { transactions = known.transactions + 1 }
-
--- a transaction comes only where there is room for it
-abbrev pub HasRoomFor : Known → Entry → Type 0
-HasRoomFor known (entry.Transaction job) = known.transactions < 20000
-HasRoomFor known other = Unit {0}
 
 -- what is declared is in its range
 pub record IsKnown (known : Known) : Type 0 where
@@ -52,3 +48,19 @@ jobs_in other = []
 abbrev pub known_with : Known → Option Entry → Known
 known_with known None = known
 known_with known (Some e) = with_entry known e
+
+-- what is known with the jobs, when a line has told this
+abbrev pub kept : Known → List Job → Entry → Known × List Job
+kept known jobs (entry.Transaction job) = (with_entry known (entry.Transaction job), jobs ++ job ∷ [])
+kept known jobs other = (with_entry known other, jobs)
+
+-- what is known with the jobs, where a line tells this or is refused
+abbrev pub kept_where : Known → List Job → Result Entry Why → Result (Known × List Job) Why
+kept_where known jobs (Ok e) = Ok (kept known jobs e)
+kept_where known jobs (Err why) = Err why
+
+-- the same, where it may tell nothing
+abbrev pub kept_if_told : Known → List Job → Result (Option Entry) Why → Result (Known × List Job) Why
+kept_if_told known jobs (Ok None) = Ok (known, jobs)
+kept_if_told known jobs (Ok (Some e)) = Ok (kept known jobs e)
+kept_if_told known jobs (Err why) = Err why

@@ -2,6 +2,7 @@ pub mod Workload
 pub mod Answers
 pub mod Words
 pub mod Fields
+pub mod Entry
 pub mod Known
 pub mod Table
 pub mod Operations

@@ -11,7 +11,7 @@ use Rattle.dstm_workload.specs.declared.refused.Why.TheVariants.{Header}
 use Rattle.dstm_workload.specs.declared.refused.Refused.{Refused}
 use Rattle.dstm_workload.specs.declared.known.Bank.{Bank}
 use Rattle.dstm_workload.specs.declared.known.Known.{Known}
-use Rattle.dstm_workload.specs.declared.known.Entry.{Entry}
+use Rattle.dstm_workload.specs.Entry.{Entry}
 use Rattle.dstm_workload.specs.declared.workload.Job.{Job}
 use Rattle.dstm_workload.specs.declared.workload.Workload.{Workload}
 use Rattle.dstm_workload.specs.Answers.{refused}

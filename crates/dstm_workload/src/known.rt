@@ -1,7 +1,6 @@
 ghost use Rattle.std.specs.Prelude.{◌≡◌};
-ghost use Rattle.dstm_workload.specs.Known.{nothing_known, with_entry, layout_of, HasRoomFor};
+ghost use Rattle.dstm_workload.specs.Known.{nothing_known, layout_of};
 
-use crate::workload::{Job, MAX_JOBS};
 use dstm_model::Layout;
 
 /// The bank that a workload declares.
@@ -22,17 +21,6 @@ pub struct Known {
     pub tree: Option<u32>,
     /// How many transactions have come.
     pub transactions: usize,
-}
-
-/// What one line tells.
-#[derive(Debug, Drop)]
-pub enum Entry {
-    Version(u32),
-    Workers(u32),
-    Bank(Bank),
-    List(u32),
-    Tree(u32),
-    Transaction(Job),
 }
 
 impl Known {
@@ -63,21 +51,6 @@ impl Known {
             opening: bank.opening,
             list: self.list.unwrap_or(0),
             tree: self.tree.unwrap_or(0),
-        }
-    }
-
-    /// Adds what one line tells.
-    pub fn add(&mut self, entry: &Entry)
-        requires { HasRoomFor self.old entry.now }
-        ensures { self.new ≡ with_entry self.old entry.now }
-    {
-        match entry {
-            Entry::Version(version) => self.version = Some(*version),
-            Entry::Workers(workers) => self.workers = Some(*workers),
-            Entry::Bank(bank) => self.bank = Some(*bank),
-            Entry::List(nodes) => self.list = Some(*nodes),
-            Entry::Tree(nodes) => self.tree = Some(*nodes),
-            Entry::Transaction(_) => self.transactions += 1,
         }
     }
 }

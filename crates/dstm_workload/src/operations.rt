@@ -43,15 +43,20 @@ pub fn operations_by_fields()
 
 /// Takes the operations of a transaction, all that is left of its line.
 #[tactic(auto, unfolding(crate::specs::Operations::ops_from))]
-pub fn operations(fields: &mut Fields<'_>, known: &Known, version: u32) -> Result<Ops, Why>
-    ensures { IsRead result (λ ops. ops) (ops_at version known.now fields.old) }
+pub fn operations(
+    ops: &mut Ops,
+    fields: &mut Fields<'_>,
+    known: &Known,
+    version: u32,
+) -> Result<(), Why>
+    requires { ops.old ≡ [] }
+    ensures { IsRead result (λ _. ops.new) (ops_at version known.now fields.old) }
 {
-    let mut ops = Ops::new();
     let mut first = true;
     for _ in 0..MAX_OPS {
         ops.push(operation(fields, known, version, first)?);
         match next_separator(fields, version, ops.as_slice().len())? {
-            Separator::End => return Ok(ops),
+            Separator::End => return Ok(()),
             Separator::Then => first = false,
             Separator::OrElse => {
                 ops.push(Op::OrElse);

@@ -1,18 +1,18 @@
-ghost use Rattle.std.specs.Prelude.{◌≡◌, ◌<◌, ◌+◌, ◌^◌, ◌++◌, Some, length, List, [], ℕ, Err, ◌⊎◌, IfOk, IfSome, OnOk};
+ghost use Rattle.std.specs.Prelude.{◌≡◌, ◌<◌, ◌+◌, ◌^◌, Some, length, List, [], ℕ, Err, ◌⊎◌, IfOk};
 ghost use Rattle.dstm_text.specs.Lines.{lines_of};
 ghost use Rattle.dstm_workload.specs.Answers.{Gives, GivesBy};
-ghost use Rattle.dstm_workload.specs.Known.{HasRoomFor, known_with, layout_of, jobs_in};
+ghost use Rattle.dstm_workload.specs.Known.{layout_of};
 ghost use Rattle.dstm_workload.specs.Entries.{worker_count};
 ghost use Rattle.dstm_workload.specs.Workload.{IsValidWorkload};
 ghost use Rattle.dstm_workload.specs.Reading.{known_of, jobs_after, workload_of, IsFirstRefused, HasNoHeader};
 ghost use Rattle.dstm_workload.specs.declared.refused.Refused.{Refused};
 
 use crate::entry::entry;
-use crate::known::{Entry, Known};
+use crate::known::Known;
 use crate::refused::{Refused, Why, WorkloadError};
 use crate::workload::{Job, Jobs, Workload};
 use dstm_text::Lines;
-use std::alloc::{AllocError, Global};
+use std::alloc::Global;
 
 /// Reads the text of a workload.
 pub fn read_workload(alloc: Global, bytes: &[u8]) -> Result<Workload, WorkloadError>
@@ -45,31 +45,13 @@ fn entries(alloc: Global, mut lines: Lines<'_>) -> Result<(Known, Vec<Job>, u64)
     let mut jobs = Vec::new(alloc);
     let mut line = 1;
     while let Some(text) = lines.next() {
-        let told = match entry(&known, line, text) {
-            Ok(told) => told,
+        jobs.reserve(1)?;
+        match entry(&mut known, &mut jobs, line, text) {
+            Ok(()) => line += 1,
             Err(why) => return Err(WorkloadError::Refused(Refused { line, why })),
-        };
-        keep(&mut known, &mut jobs, told)?;
-        line += 1;
+        }
     }
     Ok((known, jobs, line))
-}
-
-// Keeps what a line tells.
-fn keep(known: &mut Known, jobs: &mut Vec<Job>, told: Option<Entry>) -> Result<(), AllocError>
-    requires { IfSome told (HasRoomFor known.old) }
-    ensures known { known.new ≡ known_with known.old told }
-    ensures jobs { OnOk result (jobs.new.items ≡ jobs.old.items ++ jobs_in told) }
-{
-    let Some(entry) = told else {
-        return Ok(());
-    };
-    known.add(&entry);
-    if let Entry::Transaction(job) = entry {
-        jobs.reserve(1)?;
-        jobs.push_reserved(job);
-    }
-    Ok(())
 }
 
 /// The law of refusals: a text is refused at its first line that has a reason, and behind its last

@@ -6,7 +6,7 @@ use Rattle.dstm_workload.proofs.operations.operations.Goals as goal
 use Rattle.dstm_workload.proofs.operations.operations.Goals.{in-Then, in-OrElse}
 
 pub loop-init : goal.loop-init
-loop-init c = rw c.new-ops.ensures (record { read = refl; room = omega arith })
+loop-init c = rw c.requires (record { read = refl; room = omega arith })
 
 pub returns-in_err-operation : goal.returns-in_err-operation
 returns-in_err-operation c =
