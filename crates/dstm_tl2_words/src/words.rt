@@ -168,6 +168,7 @@ fn first_words(alloc: Global, start: &[Val]) -> Result<Vec<u64>, AllocError>
     ensures { IfOk result (λ words. words.items ≡ words_of start.now) }
 {
     let mut words = vec![in alloc; 0u64; start.len()]?;
+    words.reserve_exact(start.len().saturating_mul(2).saturating_add(2))?;
     for value in start {
         words.push(value.low)?;
     }

@@ -7,7 +7,7 @@ use Rattle.dstm_tl2_words.proofs.words.first_words.Goals as goal
 pub loop-value-init : goal.loop-value-init
 loop-value-init c =
     let zeros : c.in_ok-words.words.items ≡ replicate (length c.args.start.now) 0 = search rules in
-    zeros ∙ sym (append-nil (replicate (length c.args.start.now) 0))
+    c.reserve_exact.ensures.items ∙ zeros ∙ sym (append-nil (replicate (length c.args.start.now) 0))
 
 pub loop-value-preserved : goal.loop-value-preserved
 loop-value-preserved c =
