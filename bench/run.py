@@ -112,8 +112,8 @@ def told_by_phases(program, load):
 
 
 def phases_of(load, lines):
-    """How long tables were there, on the clock and on all processors, and of the latter how long it took to make, to use
-    and to close them. A block of a table's size that is there once is something else, since zeros are made first."""
+    """How long tables were there, on the clock and on all processors, and of the latter how long it took to make them. A
+    block of a table's size that is there once is something else, since zeros are made first."""
     blocks, rounds = {}, []
     asked = Counter(line.split()[3] for line in lines if line.startswith("malloc"))
     for line in lines:
@@ -132,10 +132,9 @@ def phases_of(load, lines):
     wall = sum(times[-1][0] - times[0][0] for times in rounds)
     cpu = sum(times[-1][1] - times[0][1] for times in rounds)
     parts = f"{len(rounds)} rounds"
-    if all(len(times) == 6 for times in rounds):  # zeros and a table are made, and in the end a copy
+    if all(len(times) >= 4 for times in rounds):  # zeros and a table are made, and the zeros are given back
         made = sum(times[2][1] - times[0][1] for times in rounds)
-        closed = sum(times[5][1] - times[3][1] for times in rounds)
-        parts += f", make {made:.1f}, use {cpu - made - closed:.1f}, close {closed:.1f}"
+        parts += f", make {made:.1f}, use and close {cpu - made:.1f}"
     return wall, cpu, parts
 
 
