@@ -82,7 +82,7 @@ waited_blocked style layout job k n m w was = record {
   last = (begun n);
   is_last = was.made.begun;
   none_wasted = earlier k n m (begun n) w.on.rest was.made.on (omega arith) w.none_wasted;
-  stood = record { given_up = was.given_up (omega arith); blocked = was.blocked };
+  stood = record { given_up = was.given_up; blocked = was.blocked };
   same_done = was.same_done ∙ w.same_done;
 }
 

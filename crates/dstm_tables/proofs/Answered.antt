@@ -1,5 +1,5 @@
 -- What a body did on every lawful map is what its job does there.
-use Rattle.std.proofs.Common.{◌≡◌, ◌∙◌, ℕ, List, Option, Some, None, length, sym, subst}
+use Rattle.std.proofs.Common.{◌≡◌, List, Option, Some, None, sym, subst}
 use Rattle.std.specs.Prelude.{All, IsSomeAnd}
 use Rattle.dstm_model.specs.declared.value.Val.{Val}
 use Rattle.dstm_model.specs.declared.layout.Layout.{Layout}
@@ -7,7 +7,6 @@ use Rattle.dstm_model.specs.declared.op.Op.{Op}
 use Rattle.dstm_model.specs.declared.reply.Reply.{Reply}
 use Rattle.dstm_model.specs.Job.{JobOutcome, apply_job}
 use Rattle.dstm_model.specs.Map.{Agrees, Entry, with_writes}
-use Rattle.dstm_model.specs.Objects.{objects_of}
 use Rattle.dstm_model.specs.Store.{IsPlain}
 use Rattle.dstm_store.specs.Job.{DoesAll}
 use Rattle.dstm_store.specs.Whole.{IsLawful, StandsFor}
@@ -16,31 +15,28 @@ use Rattle.dstm_compose.specs.Compose.{IsRight, outcome_of, store_left}
 use Rattle.dstm_tables.specs.Answers.{IsAnsweredBy}
 use Rattle.dstm_tables.proofs.Plain.{plain_job}
 
--- what is right on every lawful map of the objects that agrees with the reads of an entry
-abbrev pub IsRightFor : (is_right : List Val → List Val → Type 0) → Layout → (objects : ℕ) → Entry → Type 0
-IsRightFor is_right layout objects entry =
-    (map : List Val) → length map ≡ objects → IsLawful layout map → Agrees map entry.reads →
-    is_right map (with_writes map entry.writes)
+-- what is right on every lawful map that agrees with the reads of an entry
+abbrev pub IsRightFor : (is_right : List Val → List Val → Type 0) → Layout → Entry → Type 0
+IsRightFor is_right layout entry =
+    (map : List Val) → IsLawful layout map → Agrees map entry.reads → is_right map (with_writes map entry.writes)
 
-module _ (layout : Layout) (ops : List Op) (replies : List Reply) (objects : ℕ) (size : objects ≡ objects_of layout)
-    (entry : Entry) where
+module _ (layout : Layout) (ops : List Op) (replies : List Reply) (entry : Entry) where
   -- a body that ran the operations in order
   pub answered_plain : All IsPlain ops →
-      IsRightFor (λ before after. DoesAll (record { layout = layout; ops = ops }) before after replies) layout objects entry →
+      IsRightFor (λ before after. DoesAll (record { layout = layout; ops = ops }) before after replies) layout entry →
       IsAnsweredBy layout ops replies entry
   answered_plain plain right map held stands agrees =
       subst (λ (o : Option JobOutcome). IsSomeAnd o (λ outcome. (replies ≡ outcome.replies)
       × StandsFor layout (with_writes map entry.writes) outcome.store))
       (sym (plain_job ops held plain))
-      (right map (stands.objects ∙ sym size) (held, stands) agrees held stands)
+      (right map (held, stands) agrees held stands)
 
   -- a body that ran the first open branch
   pub answered_branch :
-      IsRightFor (λ before after. IsRight (record { layout = layout; ops = ops }) before after (Ran replies)) layout objects entry →
+      IsRightFor (λ before after. IsRight (record { layout = layout; ops = ops }) before after (Ran replies)) layout entry →
       IsAnsweredBy layout ops replies entry
   answered_branch right map held stands agrees =
-      let does = (right map (stands.objects ∙ sym size) (held, stands) agrees).does held stands in
-      by (apply_job ops held) does.0 does.1
+      let does = (right map (held, stands) agrees).does held stands in by (apply_job ops held) does.0 does.1
     where
       by : (o : Option JobOutcome) → Ran replies ≡ outcome_of o →
           StandsFor layout (with_writes map entry.writes) (store_left held o) →

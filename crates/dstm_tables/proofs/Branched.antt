@@ -42,7 +42,7 @@ use Rattle.dstm_machines.proofs.Pasts.{past_past}
 use Rattle.dstm_words.specs.Seats.{Home, IsRunOf}
 use Rattle.rand_pcg.specs.Lcg.{Lcg}
 use Rattle.dstm_engine.proofs.Made as made
-use Rattle.dstm_engine.specs.Attempts.{Admits, Commits, Settles, completes_pass, done, is_look_self}
+use Rattle.dstm_engine.specs.Attempts.{Admits, Commits, completes_pass, done, is_look_self}
 use Rattle.dstm_engine.specs.Callers.{Called, begun_log, entry, is_live, is_opened, is_running, live_opened, law_of, shape_of, since_begin, start_of, state, written}
 use Rattle.dstm_engine.specs.Calls.{Performs, IsTold}
 use Rattle.dstm_engine.specs.Outcomes.{IsLeft}
@@ -63,11 +63,15 @@ use Rattle.dstm_order.specs.Retries.{TriesAgain, is_new}
 use Rattle.dstm_engine.proofs.AddingUp.{makes_both, makes_one}
 use Rattle.dstm_engine.proofs.Attempting.{told_makes}
 use Rattle.dstm_engine.proofs.Anew.{same_aborted}
-use Rattle.dstm_tables.specs.ByDstm.{AtRest, DidJob, OneMore, StoodAt, WasKept}
+use Rattle.dstm_tables.specs.declared.tables.Caller.TheVariants.{Dstm}
+use Rattle.dstm_tables.specs.declared.tables.Table.TheVariants as table
+use Rattle.dstm_tables.specs.Callers.{AtRest}
+use Rattle.dstm_tables.specs.Jobs.{DidJob, StoodAt}
+use Rattle.dstm_tables.specs.Tries.{OneMore, WasKept}
 use Rattle.dstm_tables.specs.Law.{keeps}
-use Rattle.dstm_tables.proofs.Answered.{answered_branch}
+use Rattle.dstm_tables.proofs.Doing as doing
 use Rattle.dstm_tables.proofs.Begun.{begun_there, count_later}
-use Rattle.dstm_tables.proofs.Made.{has_committed, numbered, objects_are}
+use Rattle.dstm_tables.proofs.Made.{did, not_committed, numbered}
 use Rattle.dstm_tables.proofs.SeenLast.{NoLooks, seen_last-agrees, seen_last-skips}
 use Rattle.dstm_tables.proofs.Rechecking.{runs}
 use Rattle.dstm_tables.proofs.StayingByDstm.{in_range}
@@ -93,10 +97,10 @@ module _ (k b t : Called StoreLaw) (r q : GName) (h j : Home StoreLaw) (begins :
   number = made.number keeps k b t r q h j begins place
 
   -- the calls on it, where the caller is told by them
-  pub calls_by : AtRest k → (n : Called StoreLaw) → n.home ≡ t.home → n.number ≡ t.number → n.began ≡ t.began →
+  pub calls_by : AtRest (Dstm k) → (n : Called StoreLaw) → n.home ≡ t.home → n.number ≡ t.number → n.began ≡ t.began →
       begun_log n.number n.log ≡ begun_log t.number t.log → IsTold n → Makes TriesAgain k n
   calls_by rest n nh nn nb log told =
-      makes_both TriesAgain k b n (makes_one TriesAgain keeps (Beginning k.fresh) k b None rest.fresh begins.steps)
+      makes_both TriesAgain k b n (makes_one TriesAgain keeps (Beginning k.fresh) k b None rest.right begins.steps)
       (told_makes b n (nh ∙ ap (λ (p : TxPlace StoreLaw). p.home) place) (nn ∙ ap (λ (p : TxPlace StoreLaw). p.number) place)
       (begins.at_begin ∙ sym (ap (λ (p : TxPlace StoreLaw). p.began) place) ∙ sym log)
       (ap (λ (x : Called StoreLaw). x.generator) begins.caller
@@ -113,28 +117,33 @@ module _ (k b t : Called StoreLaw) (r q : GName) (h j : Home StoreLaw) (begins :
   -- the caller as the attempt left it
   pub one_more_by : (n : Called StoreLaw) → n.home ≡ t.home → n.number ≡ t.number →
       begun_log n.number n.log ≡ begun_log t.number t.log → IsRunOf keeps n.home.terms n.log → is_live n ≡ false →
-      Makes TriesAgain k n → (1 ≤ (state n).begun → n.fresh ≡ is_new (state n)) → OneMore k n
+      Makes TriesAgain k n → (1 ≤ (state n).begun → n.fresh ≡ is_new (state n)) → OneMore (Dstm k) (Dstm n)
   one_more_by n nh nn log run over calls fresh = record {
     on = record {
-      home = nh ∙ home;
+      home = ap table.Dstm at_home;
       number = nn ∙ number;
-      seen =
-          past_past k.log b.log n.log begins.steps.seen
-          (record {
-            later = since_begin n.number n.log;
-            whole = ap (λ (xs : List Event). since_begin n.number n.log ++ xs) there ∙ sym (log_parts is_begin n.number n.log);
-          });
-      made = calls;
+      seen = (
+        ap (λ (h : Home StoreLaw). h.terms) at_home,
+        past_past k.log b.log n.log begins.steps.seen
+            (record {
+              later = since_begin n.number n.log;
+              whole = ap (λ (xs : List Event). since_begin n.number n.log ++ xs) there ∙ sym (log_parts is_begin n.number n.log);
+            }),
+      );
+      calls = calls;
       rest = record {
         run = run;
         enrolled = numbered n run (omega (arith, begun));
         over = over;
-        fresh = fresh (omega (arith, begun));
+        right = fresh (omega (arith, begun));
       };
     };
     begun = begun;
   }
     where
+      at_home : n.home ≡ k.home
+      at_home = nh ∙ home
+
       there : b.log ≡ begun_log n.number n.log
       there = begins.at_begin ∙ sym (ap (λ (p : TxPlace StoreLaw). p.began) place) ∙ sym log
 
@@ -153,7 +162,8 @@ module _ (k b t : Called StoreLaw) (r q : GName) (h j : Home StoreLaw) (begins :
           ∙ begins.begun
 
   -- others kept it from its commit
-  pub was_kept_by : (n : Called StoreLaw) (again : Again) → OneMore k n → IsLeft n again → done n ≡ done t → WasKept k n
+  pub was_kept_by : (n : Called StoreLaw) (again : Again) → OneMore (Dstm k) (Dstm n) → IsLeft n again → done n ≡ done t →
+      WasKept (Dstm k) (Dstm n)
   was_kept_by n again one left same = record {
     made = one;
     disturbed = left.disturbed;
@@ -162,43 +172,26 @@ module _ (k b t : Called StoreLaw) (r q : GName) (h j : Home StoreLaw) (begins :
   }
 
   -- the same of an attempt that had been left as it was given up
-  pub was_kept_dead : (n : Called StoreLaw) (again : Again) → AtRest k → IsTold t → n ≡ t → IsLeft t again →
-      IsRunOf keeps t.home.terms n.log → WasKept k n
+  pub was_kept_dead : (n : Called StoreLaw) (again : Again) → AtRest (Dstm k) → IsTold t → n ≡ t → IsLeft t again →
+      IsRunOf keeps t.home.terms n.log → WasKept (Dstm k) (Dstm n)
   was_kept_dead n again rest told same left run =
       let there = ap (λ (x : Called StoreLaw). x.log) same in
       let run_t = subst (IsRunOf keeps t.home.terms) there run in
       let one = one_more_by t refl refl refl run_t left.over (calls_by rest t refl refl refl refl told)
       (aborted_fresh t refl run_t left.aborted) in
-      subst (WasKept k) (sym same) (was_kept_by t again one left refl)
+      subst (λ (x : Called StoreLaw). WasKept (Dstm k) (Dstm x)) (sym same) (was_kept_by t again one left refl)
 
   -- it ran the first open branch of the job, and committed
-  pub did_branch : (layout : Layout) (job : Job) (finished : Finished) (n : Called StoreLaw) → AtRest k →
-      (law_of k).layout ≡ layout → n.home ≡ t.home → OneMore k n → Commits t n finished.number →
+  pub did_branch : (layout : Layout) (job : Job) (finished : Finished) (n : Called StoreLaw) → AtRest (Dstm k) →
+      (law_of k).layout ≡ layout → n.home ≡ t.home → OneMore (Dstm k) (Dstm n) → Commits t n finished.number →
       ((map : List Val) → Admits keeps t map →
       IsRight (record { layout = layout; ops = job.ops }) map (with_set map (written t)) (Ran finished.replies)) →
-      DidJob Branches layout job k n finished
-  did_branch layout job finished n rest law nh one commits right = record {
-    made = one;
-    committed = has_committed n one.on.rest.run one.on.rest.enrolled commits.status;
-    by = record { caller = k.number; number = finished.number; entry = settles.entry };
-    newest = settles.done;
-    is = record {
-      number = refl;
-      answered =
-          answered_branch layout job.ops finished.replies (shape_of k).objects
-          (objects_are k rest ∙ ap objects_of law) settles.entry
-          (λ map length lawful agrees.
-          settles.right map length (subst (λ (l : Layout). IsLawful l map) (sym law) lawful) agrees);
-    };
-    few_reads = λ loose. absurd (cc);
-  }
-    where
-      settles : Settles keeps
-          (λ before after. IsRight (record { layout = layout; ops = job.ops }) before after (Ran finished.replies)) k n
-          finished.number
-      settles =
-          made.settled keeps k b t r q h j begins place _ n finished.number nh
-          (subst (λ (x : Home StoreLaw). IsRunOf keeps x.terms n.log) nh one.on.rest.run) commits right
+      DidJob Branches layout job (Dstm k) (Dstm n) finished
+  did_branch layout job finished n rest law nh one commits right =
+      doing.did_branch layout job (Dstm k) (Dstm n) finished law
+      (did _ k n finished.number rest one commits.status
+      (made.settled keeps k b t r q h j begins place _ n finished.number nh
+      (subst (λ (x : Home StoreLaw). IsRunOf keeps x.terms n.log) nh one.on.rest.run) commits right))
 
 -- ---- an attempt that was given up at its job
 
@@ -344,21 +337,26 @@ unused_by k b u n begins home number log unopened left = last ∙ none ∙ first
         ∙ leaving_installs (shape_of u) (state u) u.generator left.events left.call.obeys
 
 -- an attempt that was rechecked so often, and then given up, in which no branch of the job was open
-pub stood_at : (rechecks : ℕ) (layout : Layout) (job : Job) (k b t u n : Called StoreLaw) → 0 < rechecks → OneMore k n →
+pub stood_at : (rechecks : ℕ) (layout : Layout) (job : Job) (k b t u n : Called StoreLaw) → 0 < rechecks →
+    OneMore (Dstm k) (Dstm n) →
     done n ≡ done k → (law_of t).layout ≡ layout → (shape_of t).objects ≡ objects_of layout → HasRechecked rechecks t u →
     Performs keeps Leaving u n None → BeginsAnew keeps k b → u.home ≡ b.home → u.number ≡ b.number →
     begun_log u.number u.log ≡ begun_log b.number b.log → ((shape_of k).all_write ≡ false → (o : ℕ) → is_opened u o ≡ false) →
     ((map : List Val) → Admits keeps t map →
     IsRight (record { layout = layout; ops = job.ops }) map (with_set map (written t)) Blocked) →
-    StoodAt Branches rechecks layout job k n
+    StoodAt Branches rechecks layout job (Dstm k) (Dstm n)
 stood_at rechecks layout job k b t u n some one same law size rechecked left begins home number log unopened right = record {
   branches = refl;
   made = one;
-  aborted = aborts u n left (rechecked.newest some).run rechecked.live (let b = one.begun in omega arith);
-  sights =
-      sights_count (shape_of n) (start_of n) n.number u.log n.log u.generator left.events core caller left.seen own call run
-      rechecks many;
-  quit = quit_counts (shape_of n) (start_of n) n.number u.log n.log u.generator left.events core caller left.seen own call run;
+  given_up = record {
+    sights =
+        sights_count (shape_of n) (start_of n) n.number u.log n.log u.generator left.events core caller left.seen own call run
+        rechecks many;
+    quit = quit_counts (shape_of n) (start_of n) n.number u.log n.log u.generator left.events core caller left.seen own call run;
+  };
+  uncommitted =
+      not_committed n one.on.rest
+      (aborts u n left (rechecked.newest some).run rechecked.live (let b = one.begun in omega arith));
   blocked = λ map held stands agrees. (right map (admitted map held stands agrees)).blocked refl held stands;
   unused = λ reads. unused_by k b u n begins home number log (unopened reads) left;
   same_done = same;

@@ -2,6 +2,7 @@
 use Rattle.std.proofs.Common.{◌≡◌, ◌∙◌, ◌≤◌, ◌==◌, ◌⊎◌, ◌∷◌, ◌++◌, ℕ, List, [], Bool, None, Some, true, false, inl, inr, refl, sym, ap, subst, arith}
 use Rattle.std.specs.Prelude.{Option, nat_lt, not}
 use Rattle.std.proofs.lemmas.Bool.{cases_eq, cond_both, ltb-false}
+use Rattle.dstm_model.specs.declared.value.Val.{Val}
 use Rattle.dstm_machines.proofs.Runs as runs
 use Rattle.dstm_machines.specs.Traces.{IsPastOf}
 use Rattle.dstm_tl2.specs.declared.kind.Kind.{Kind}
@@ -14,7 +15,8 @@ use Rattle.dstm_tl2.specs.Words.{Table}
 use Rattle.dstm_tl2.proofs.Enrolment.{named}
 use Rattle.dstm_tl2_words.specs.Seats.{Home}
 use Rattle.dstm_tl2_order.specs.declared.again.TlAgain.{TlAgain}
-use Rattle.dstm_tl2_engine.specs.Attempts.{done}
+use Rattle.dstm_tl2_order.proofs.Draws.{valid_commits}
+use Rattle.dstm_tl2_engine.specs.Attempts.{Settles, done}
 use Rattle.dstm_tl2_engine.specs.Callers.{TlCalled, state, table_of_caller}
 use Rattle.dstm_tl2_engine.specs.Endings.{Attempts}
 use Rattle.dstm_tl2_engine.specs.Outcomes.{IsLeft}
@@ -24,7 +26,7 @@ use Rattle.dstm_tables.specs.declared.tables.Caller.TheVariants.{Tl2}
 use Rattle.dstm_tables.specs.declared.tables.Table.TheVariants as table
 use Rattle.dstm_tables.specs.Callers.{AtRest}
 use Rattle.dstm_tables.specs.Law.{keeps}
-use Rattle.dstm_tables.specs.Tries.{GoesOn, IsSpentFrom, OneMore, WasKept}
+use Rattle.dstm_tables.specs.Tries.{Did, GoesOn, IsSpentFrom, OneMore, WasKept}
 
 -- ---- of every run
 
@@ -95,6 +97,18 @@ tl2_on k n rest home number past run free =
 pub tl2_more : (k n : TlCalled StoreLaw) (again : Option TlAgain) → AtRest (Tl2 k) → Attempts keeps k n again → OneMore (Tl2 k) (Tl2 n)
 tl2_more k n again rest a =
     record { on = tl2_on k n rest a.same.0 a.same.1 a.past a.run a.free; begun = a.begun }
+
+-- it has committed
+pub tl2_did : (is_right : List Val → List Val → Type 0) (k n : TlCalled StoreLaw) (number : ℕ) → AtRest (Tl2 k) →
+    Attempts keeps k n None → Settles keeps is_right k n number → Did is_right (Tl2 k) (Tl2 n) number
+tl2_did is_right k n number rest a s =
+    let made = tl2_more k n None rest a in record {
+      made = made;
+      committed = valid_commits (table_of_caller n) n.log n.number made.on.rest.run.run.run (a.valid refl);
+      entry = s.entry;
+      newest = s.done;
+      right = λ map lawful agrees. s.right map (lawful.1.objects ∙ sym rest.run.lawful.1.objects) lawful agrees;
+    }
 
 pub tl2_kept : (k n : TlCalled StoreLaw) (again : TlAgain) → AtRest (Tl2 k) → Attempts keeps k n (Some again) → IsLeft n →
     done n ≡ done k → WasKept (Tl2 k) (Tl2 n)

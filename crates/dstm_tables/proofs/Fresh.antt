@@ -26,7 +26,8 @@ use Rattle.dstm_engine.specs.Callers.{Called, is_running, shape_of, start_of, st
 use Rattle.dstm_engine.specs.Tables.{Enrols, Founding}
 use Rattle.dstm_store.specs.declared.law.StoreLaw.{StoreLaw}
 use Rattle.dstm_order.specs.Retries.{is_new}
-use Rattle.dstm_tables.specs.ByDstm.{AtRest}
+use Rattle.dstm_tables.specs.declared.tables.Caller.TheVariants.{Dstm}
+use Rattle.dstm_tables.specs.Callers.{AtRest}
 use Rattle.dstm_tables.specs.Law.{keeps}
 
 -- an event that stands first among a caller's is that caller's
@@ -96,12 +97,12 @@ module _ (f g : Founding StoreLaw) (seed : ℕ) (k : Called StoreLaw) (enrols : 
   run : IsRunOf keeps k.home.terms k.log
   run = subst (λ (h : Home StoreLaw). IsRunOf keeps h.terms k.log) (sym at_home) enrols.steps.run
 
-  pub fresh_rest : AtRest k
+  pub fresh_rest : AtRest (Dstm k)
   fresh_rest = record {
     run = run;
     enrolled = ((callers_in_range (shape_of k) k.log k.number run.run.core).1 (ap (λ (l : LocalState). is_some l.number) now)).1;
     over = ap (λ (l : LocalState). is_running l.phase) now;
-    fresh = ap (λ (x : Called StoreLaw). x.fresh) enrols.caller ∙ sym (ap is_new now);
+    right = ap (λ (x : Called StoreLaw). x.fresh) enrols.caller ∙ sym (ap is_new now);
   }
 
   pub fresh_begun : (state k).begun ≡ 0

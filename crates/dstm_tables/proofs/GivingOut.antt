@@ -36,7 +36,6 @@ use Rattle.dstm_tables.specs.Callers.{IsOver, home_of}
 use Rattle.dstm_tables.specs.Founders.{GivesOut, TakesBack, home_there}
 use Rattle.dstm_tables.specs.Tells.{values_of}
 use Rattle.dstm_tables.specs.Law.{keeps}
-use Rattle.dstm_tables.proofs.ByDstm.{rest_dstm}
 
 -- ---- a new caller
 
@@ -47,7 +46,7 @@ dstm_new t f g seed k home e = record {
   seeded =
       subst (λ (h : words.Home StoreLaw). k.generator ≡ (started h.terms.shape.manager seed).generator)
       (sym (fresh.fresh_home f g seed k e)) (fresh.fresh_generator f g seed k e);
-  rest = rest_dstm k (fresh.fresh_rest f g seed k e);
+  rest = fresh.fresh_rest f g seed k e;
   none_begun = fresh.fresh_begun f g seed k e;
   none_used = fresh.fresh_installed f g seed k e;
   none_done = fresh.fresh_done f g seed k e;

@@ -1,97 +1,44 @@
--- What an attempt at a job leaves by TL2.
-use Rattle.std.proofs.Common.{◌≡◌, ◌∙◌, ◌+◌, ◌<◌, ◌++◌, ℕ, List, None, refl, sym, ap, subst, arith}
+-- What an attempt at a job leaves by TL2 that was given up.
+use Rattle.std.proofs.Common.{◌≡◌, ◌∙◌, ◌+◌, ◌<◌, ◌++◌, ℕ, List, refl, sym, ap, subst, arith}
 use base.Fml.{GName}
-use Rattle.std.specs.Prelude.{All}
+use Rattle.std.proofs.lemmas.Bool.{and_parts}
 use Rattle.dstm_model.specs.declared.value.Val.{Val}
 use Rattle.dstm_model.specs.declared.layout.Layout.{Layout}
-use Rattle.dstm_model.specs.declared.op.Op.{Op}
-use Rattle.dstm_model.specs.declared.reply.Reply.{Reply}
-use Rattle.dstm_model.specs.Map.{with_writes, Agrees}
+use Rattle.dstm_model.specs.Map.{Agrees}
 use Rattle.dstm_model.specs.Objects.{objects_of}
-use Rattle.dstm_model.specs.Store.{IsPlain, Store}
+use Rattle.dstm_model.specs.Store.{Store}
 use Rattle.dstm_store.specs.declared.law.StoreLaw.{StoreLaw}
-use Rattle.dstm_store.specs.Job.{Job as Body, DoesAll}
 use Rattle.dstm_store.specs.Whole.{IsLawful, StandsFor}
 use Rattle.dstm_workload.specs.declared.workload.Job.{Job}
-use Rattle.dstm_tables.specs.Answers.{IsAnsweredBy}
-use Rattle.dstm_compose.specs.declared.body.Outcome.TheVariants.{Ran, Blocked}
+use Rattle.dstm_compose.specs.declared.body.Outcome.TheVariants.{Blocked}
 use Rattle.dstm_compose.specs.Compose.{IsRight}
-use Rattle.dstm_tables.specs.declared.style.Style.{Style}
 use Rattle.dstm_tables.specs.declared.style.Style.TheVariants.{Branches}
-use Rattle.dstm_tables.specs.declared.trying.Finished.{Finished}
-use Rattle.dstm_tables.proofs.Answered.{answered_branch, answered_plain}
 use Rattle.dstm_mem.specs.Memory.{with_set}
 use Rattle.dstm_mem.proofs.Pairs.{AgreesWith-of_agrees}
 use Rattle.dstm_machines.specs.Traces.{IsPastOf}
 use Rattle.dstm_machines.proofs.Attempts.{log_parts}
 use Rattle.dstm_machines.proofs.Pasts.{past_past}
-use Rattle.dstm_tl2.specs.Histories.{is_sample, read_values}
+use Rattle.dstm_tl2.specs.Histories.{is_draw, is_sample, read_values, will_of}
 use Rattle.dstm_tl2.specs.Runs.{local}
 use Rattle.dstm_tl2.specs.Sharing.{IsRunOf}
 use Rattle.dstm_tl2.specs.State.{LocalState}
 use Rattle.dstm_tl2_words.specs.Seats.{Home}
 use Rattle.dstm_tl2_steps.specs.Reads as reads
-use Rattle.dstm_tl2_order.specs.Ended.{reads_of}
-use Rattle.dstm_tl2_order.proofs.Draws.{undrawn_none, valid_commits}
+use Rattle.dstm_tl2_order.specs.Ended.{HasNoDraw, draws, draws_for, reads_of}
+use Rattle.dstm_tl2_order.proofs.Draws.{undrawn_none}
+use Rattle.dstm_tl2_order.proofs.Ones.{one_weaker}
 use Rattle.dstm_tl2_order.proofs.WasRead.{reads_so_far}
-use Rattle.dstm_tl2_engine.specs.Attempts.{Admits, Settles}
-use Rattle.dstm_tl2_engine.specs.Callers.{TlCalled, begun_log, law_of, objects_of as objects_there, since_sample, state, table_of_caller, written}
+use Rattle.dstm_tl2_engine.specs.Attempts.{Admits}
+use Rattle.dstm_tl2_engine.specs.Callers.{TlCalled, begun_log, law_of, since_sample, state, table_of_caller, written}
 use Rattle.dstm_tl2_engine.specs.Transactions.{BeginsAnew, TxPlace, tx_place}
 use Rattle.dstm_tl2_engine.proofs.Begun.{begun_count}
 use Rattle.dstm_tl2_engine.proofs.Made as made
-use Rattle.dstm_tl2_engine.specs.Endings.{Attempts}
 use Rattle.dstm_tables.specs.declared.tables.Caller.TheVariants.{Tl2}
 use Rattle.dstm_tables.specs.Callers.{AtRest}
-use Rattle.dstm_tables.specs.Jobs.{DidJob, StoodAt}
+use Rattle.dstm_tables.specs.Jobs.{StoodAt}
 use Rattle.dstm_tables.specs.Tries.{OneMore}
 use Rattle.dstm_tables.specs.Law.{keeps}
-use Rattle.dstm_tables.proofs.ByTl2.{tl2_more, tl2_on}
-
--- the table has the objects of its layout
-pub size_of : (k : TlCalled StoreLaw) (layout : Layout) → AtRest (Tl2 k) → (law_of k).layout ≡ layout →
-    objects_there k ≡ objects_of layout
-size_of k layout rest law = rest.run.lawful.1.objects ∙ ap objects_of law
-
-pub did_job : (style : Style) (layout : Layout) (job : Job) (k n : TlCalled StoreLaw) (finished : Finished)
-    (is_right : List Val → List Val → Type 0) → AtRest (Tl2 k) → Attempts keeps k n None →
-    (s : Settles keeps is_right k n finished.number) → IsAnsweredBy layout job.ops finished.replies s.entry →
-    DidJob style layout job (Tl2 k) (Tl2 n) finished
-did_job style layout job k n finished is_right rest a s answered =
-    let made = tl2_more k n None rest a in record {
-      made = made;
-      committed = valid_commits (table_of_caller n) n.log n.number made.on.rest.run.run.run (a.valid refl);
-      by = record { caller = k.number; number = finished.number; entry = s.entry };
-      newest = s.done;
-      is = record { number = refl; answered = answered };
-      few_reads = λ loose lets. absurd (cc);
-    }
-
-module _ (layout : Layout) (job : Job) (k n : TlCalled StoreLaw) (finished : Finished) (rest : AtRest (Tl2 k))
-    (law : (law_of k).layout ≡ layout) (a : Attempts keeps k n None) where
-  lawful : (map : List Val) → IsLawful layout map → keeps (law_of k) map
-  lawful map is = subst (λ (l : Layout). IsLawful l map) (sym law) is
-
-  -- by the first open branch
-  pub did_branch : Settles keeps (λ before after. IsRight (record { layout = layout; ops = job.ops }) before after (Ran finished.replies)) k n finished.number →
-      DidJob Branches layout job (Tl2 k) (Tl2 n) finished
-  did_branch s =
-      did_job Branches layout job k n finished _ rest a s
-      (answered_branch layout job.ops finished.replies (objects_there k) (size_of k layout rest law) s.entry
-      (λ map long is agrees. s.right map long (lawful map is) agrees))
-
--- by its operations in order
-pub did_plain : (style : Style) (layout : Layout) (job : Job) (k n : TlCalled StoreLaw) (finished : Finished) →
-    AtRest (Tl2 k) → (law_of k).layout ≡ layout → Attempts keeps k n None → (body : Body) → body.task.layout ≡ layout →
-    body.task.ops ≡ job.ops → finished.replies ≡ body.replies → All IsPlain job.ops →
-    Settles keeps (λ before after. DoesAll body.task before after body.replies) k n finished.number →
-    DidJob style layout job (Tl2 k) (Tl2 n) finished
-did_plain style layout job k n finished rest law a body same ops replies plain s =
-    did_job style layout job k n finished _ rest a s
-    (subst (λ (rs : List Reply). IsAnsweredBy layout job.ops rs s.entry) (sym replies)
-    (answered_plain layout job.ops body.replies (objects_there k) (size_of k layout rest law) s.entry plain (λ map long is agrees.
-    let right = s.right map long (subst (λ (l : Layout). IsLawful l map) (sym law) is) agrees in
-    subst (λ (l : Layout). DoesAll (record { layout = l; ops = job.ops }) map (with_writes map s.entry.writes) body.replies) same
-    (subst (λ (os : List Op). DoesAll (record { layout = body.task.layout; ops = os }) map (with_writes map s.entry.writes) body.replies) ops right))))
+use Rattle.dstm_tables.proofs.ByTl2.{tl2_on}
 
 -- ---- an attempt that is given up
 
@@ -138,11 +85,19 @@ module _ (k b t : TlCalled StoreLaw) (r q : GName) (h j : Home StoreLaw) (begins
   stood_at rechecks layout job law right = record {
     branches = refl;
     made = one_more;
-    given_up = λ _. undrawn_none (table_of_caller t) t.log t.number still.undrawn;
+    given_up = undrawn;
+    uncommitted = λ committed.
+        absurd (let drew = one_weaker (draws_for (table_of_caller t) t.log) draws (table_of_caller t) t.log t.number (state t).begun
+        (λ l e h. (and_parts (is_draw e.kind) (will_of (table_of_caller t) t.log e.found) h).0) committed in
+        let none = undrawn in cc);
     blocked = λ map held stands agrees. (right map (admitted map held stands agrees)).blocked refl held stands;
+    unused = λ reads. refl;
     same_done = made.same_done keeps k b t r q h j begins place;
   }
     where
+      undrawn : HasNoDraw (table_of_caller t) t.log t.number (state t).begun
+      undrawn = undrawn_none (table_of_caller t) t.log t.number still.undrawn
+
       law_there : (law_of t).layout ≡ layout
       law_there = ap (λ (x : Home StoreLaw). x.terms.law.value.layout) home ∙ law
 

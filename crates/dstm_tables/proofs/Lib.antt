@@ -1,6 +1,7 @@
 pub mod Entries
 pub mod Plain
 pub mod Answered
+pub mod Doing
 pub mod Made
 pub mod StayingByDstm
 pub mod SeenLast
@@ -13,7 +14,6 @@ pub mod Sole
 pub mod Fresh
 pub mod SightsByDstm
 pub mod ClosingByDstm
-pub mod ByDstm
 pub mod ByTl2
 pub mod JobsByTl2
 pub mod OnlyByTl2

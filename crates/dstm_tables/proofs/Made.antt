@@ -1,14 +1,10 @@
--- What an attempt leaves, from the clauses of the engine's calls.
-use Rattle.std.proofs.Common.{◌≡◌, ◌∙◌, ◌+◌, ◌-◌, ◌*◌, ◌<◌, ◌≤◌, ◌++◌, ◌∷◌, ℕ, List, [], Some, None, true, false, length, refl, sym, ap, subst, arith, is_some}
-use Rattle.std.specs.Prelude.{IfSome, Option, All, sum_by}
-use Rattle.std.proofs.lemmas.Bool.{eq-eqb}
+-- What an attempt leaves by DSTM, from the clauses of the engine's calls.
+use Rattle.std.proofs.Common.{◌≡◌, ◌∙◌, ◌+◌, ◌-◌, ◌*◌, ◌<◌, ◌≤◌, ◌++◌, ◌∷◌, ℕ, Bool, List, [], Some, true, false, length, refl, sym, ap, subst, arith, is_some}
+use Rattle.std.specs.Prelude.{IfSome, Option, All, not, sum_by}
+use Rattle.std.proofs.lemmas.Bool.{eq-eqb, eqb-true}
 use Rattle.dstm_model.specs.declared.value.Val.{Val}
-use Rattle.dstm_model.specs.declared.layout.Layout.{Layout}
 use Rattle.dstm_model.specs.declared.op.Op.{Op}
-use Rattle.dstm_model.specs.declared.reply.Reply.{Reply}
-use Rattle.dstm_model.specs.Map.{with_writes}
 use Rattle.dstm_model.specs.Objects.{objects_of}
-use Rattle.dstm_model.specs.Store.{IsPlain}
 use Rattle.dstm_core.specs.Events.{Event}
 use Rattle.dstm_core.specs.Runs.{Core, local}
 use Rattle.dstm_core.specs.State.{LocalState, or_zero}
@@ -30,24 +26,23 @@ use Rattle.dstm_engine.specs.Outcomes.{IsLeft, Promises}
 use Rattle.dstm_engine.specs.Transactions.{SpentFrom}
 use Rattle.dstm_store.specs.declared.law.StoreLaw.{StoreLaw}
 use Rattle.dstm_store.specs.declared.job.JobTask.{JobTask}
-use Rattle.dstm_store.specs.Job.{Job as Body, DoesAll, KeepsAtMost}
+use Rattle.dstm_store.specs.Job.{KeepsAtMost}
 use Rattle.dstm_store.specs.Keeps.{is_of_list, most_kept}
-use Rattle.dstm_store.specs.Whole.{IsLawful}
 use Rattle.dstm_workload.specs.declared.workload.Job.{Job}
-use Rattle.dstm_tables.specs.Answers.{IsAnsweredBy, KeepsFew}
 use Rattle.dstm_tables.specs.Attempts.{HasCommitted}
-use Rattle.dstm_tables.specs.declared.style.Style.{Style}
 use Rattle.dstm_tables.specs.declared.style.Style.TheVariants.{Loose}
-use Rattle.dstm_tables.specs.declared.trying.Finished.{Finished}
-use Rattle.dstm_tables.proofs.Answered.{answered_plain}
+use Rattle.dstm_tables.specs.declared.tables.Caller.TheVariants.{Dstm}
+use Rattle.dstm_tables.specs.declared.tables.Table.TheVariants as table
+use Rattle.dstm_tables.specs.Callers.{AtRest}
+use Rattle.dstm_tables.specs.Tries.{Did, IsSpentFrom, OneMore, WasKept}
+use Rattle.dstm_tables.proofs.Doing.{FewReads}
 use Rattle.dstm_engine.proofs.Attempting.{attempt_makes}
 use Rattle.dstm_engine.proofs.Anew.{new_after}
 use Rattle.dstm_engine.proofs.Spending.{spent_fresh, spent_makes}
-use Rattle.dstm_tables.specs.ByDstm.{AtRest, OneMore, DidJob, WasKept, IsSpentFrom}
 use Rattle.dstm_tables.specs.Law.{keeps}
 
 -- a table of the store's law has the objects of its layout
-pub objects_are : (k : Called StoreLaw) → AtRest k → (shape_of k).objects ≡ objects_of (law_of k).layout
+pub objects_are : (k : Called StoreLaw) → AtRest (Dstm k) → (shape_of k).objects ≡ objects_of (law_of k).layout
 objects_are k rest = sym rest.run.run.values ∙ rest.run.lawful.1.objects
 
 -- ---- the caller's number
@@ -88,50 +83,57 @@ has_committed n run number stays =
     eq-eqb (word s n.log (StatusWord (n.number * s.attempts + ((state n).begun - 1)))) 4
     (ap (λ (o : Option ℕ). word s n.log (StatusWord (or_zero o * s.attempts + ((state n).begun - 1)))) (sym number) ∙ now)
 
+-- one whose status is aborted and stays so has not
+pub not_committed : (n : Called StoreLaw) → AtRest (Dstm n) → StaysAt (shape_of n) n.log n.number (code_of status.Aborted) →
+    HasCommitted (shape_of n) n.log n.number (state n).begun → ⊥
+not_committed n rest stays committed =
+    let s = shape_of n in
+    let now : word s n.log (StatusWord (or_zero (state n).number * s.attempts + ((state n).begun - 1))) ≡ 5 =
+    stays [] rest.run.run.core in
+    let here : word s n.log (StatusWord (n.number * s.attempts + ((state n).begun - 1))) ≡ 5 =
+    ap (λ (o : Option ℕ). word s n.log (StatusWord (or_zero o * s.attempts + ((state n).begun - 1)))) (sym rest.enrolled)
+    ∙ now in
+    let four = eqb-true (word s n.log (StatusWord (n.number * s.attempts + ((state n).begun - 1)))) 4 committed in
+    omega arith
+
 -- ---- what the engine's attempts leave
 
 pub run_there : (k n : Called StoreLaw) → n.home ≡ k.home → IsRunOf keeps k.home.terms n.log → IsRunOf keeps n.home.terms n.log
 run_there k n home run = subst (λ (h : Home StoreLaw). IsRunOf keeps h.terms n.log) (sym home) run
 
-pub one_more : (k n : Called StoreLaw) (again : Option Again) → AtRest k → Attempts keeps k n again → OneMore k n
+pub one_more : (k n : Called StoreLaw) (again : Option Again) → AtRest (Dstm k) → Attempts keeps k n again →
+    OneMore (Dstm k) (Dstm n)
 one_more k n again rest a =
     let run = run_there k n a.same.0 a.run in record {
       on = record {
-        home = a.same.0;
+        home = ap table.Dstm a.same.0;
         number = a.same.1;
-        seen = a.seen;
-        made = attempt_makes keeps k n again rest.fresh a;
+        seen = (ap (λ (h : Home StoreLaw). h.terms) a.same.0, a.seen);
+        calls = attempt_makes keeps k n again rest.right a;
         rest = record {
           run = run;
           enrolled = numbered n run (let b = a.begun in omega arith);
           over = a.over;
-          fresh = a.fresh ∙ sym (new_after keeps k n again a);
+          right = a.fresh ∙ sym (new_after keeps k n again a);
         };
       };
       begun = a.begun;
     }
 
--- where the attempts of a style let reads go, the newest transaction keeps few
-abbrev pub FewReads : Style → Job → (k n : Called StoreLaw) → Type 0
-FewReads style job k n =
-    style ≡ Loose → (shape_of n).all_write ≡ false → (by : Committed) → done n ≡ by ∷ done k → KeepsFew job by
+-- an attempt whose status is committed and stays so
+pub did : (is_right : List Val → List Val → Type 0) (k n : Called StoreLaw) (number : ℕ) → AtRest (Dstm k) →
+    OneMore (Dstm k) (Dstm n) → StaysAt (shape_of n) n.log n.number (code_of status.Committed) →
+    Settles keeps is_right k n number → Did is_right (Dstm k) (Dstm n) number
+did is_right k n number rest made stays s = record {
+  made = made;
+  committed = has_committed n made.on.rest.run made.on.rest.enrolled stays;
+  entry = s.entry;
+  newest = s.done;
+  right = λ map lawful agrees. s.right map (lawful.1.objects ∙ sym (objects_are k rest)) lawful agrees;
+}
 
-pub did_job : (style : Style) (layout : Layout) (job : Job) (k n : Called StoreLaw) (finished : Finished)
-    (is_right : List Val → List Val → Type 0) → AtRest k → Attempts keeps k n None → Settles keeps is_right k n finished.number →
-    ((s : Settles keeps is_right k n finished.number) → IsAnsweredBy layout job.ops finished.replies s.entry) →
-    FewReads style job k n → DidJob style layout job k n finished
-did_job style layout job k n finished is_right rest a s answered few =
-    let made = one_more k n None rest a in record {
-      made = made;
-      committed = has_committed n made.on.rest.run made.on.rest.enrolled (a.status refl);
-      by = record { caller = k.number; number = finished.number; entry = s.entry };
-      newest = s.done;
-      is = record { number = refl; answered = answered s };
-      few_reads = λ loose reads.
-          few loose reads (record { caller = k.number; number = finished.number; entry = s.entry }) s.done;
-    }
-
-pub was_kept : (k n : Called StoreLaw) (again : Again) → AtRest k → Attempts keeps k n (Some again) → done n ≡ done k → WasKept k n
+pub was_kept : (k n : Called StoreLaw) (again : Again) → AtRest (Dstm k) → Attempts keeps k n (Some again) → done n ≡ done k →
+    WasKept (Dstm k) (Dstm n)
 was_kept k n again rest a same =
     let left : IsLeft n again × Promises n again =
     subst (λ o. IfSome o (λ (x : Again). IsLeft n x × Promises n x)) (sym a.answers) a.ended.left in
@@ -142,7 +144,7 @@ was_kept k n again rest a same =
       same_done = same;
     }
 
-pub is_spent_from : (k n : Called StoreLaw) → AtRest k → SpentFrom keeps k n → IsSpentFrom k n
+pub is_spent_from : (k n : Called StoreLaw) → AtRest (Dstm k) → SpentFrom keeps k n → IsSpentFrom (Dstm k) (Dstm n)
 is_spent_from k n rest s =
     let home : n.home ≡ k.home = ap (λ (c : Called StoreLaw). c.home) s.caller in
     let number : n.number ≡ k.number = ap (λ (c : Called StoreLaw). c.number) s.caller in
@@ -151,15 +153,15 @@ is_spent_from k n rest s =
     subst (λ (c : ℕ). events_of c n.log ≡ s.steps.events ++ events_of c k.log) (sym number) s.steps.own in
     record {
       on = record {
-        home = home;
+        home = ap table.Dstm home;
         number = number;
-        seen = s.steps.seen;
-        made = spent_makes keeps k n rest.fresh s;
+        seen = (ap (λ (h : Home StoreLaw). h.terms) home, s.steps.seen);
+        calls = spent_makes keeps k n rest.right s;
         rest = record {
-          fresh = spent_fresh keeps k n rest.fresh s;
           run = run;
           enrolled = number_kept k n s.steps.events home number run own rest.enrolled;
           over = s.live;
+          right = spent_fresh keeps k n rest.right s;
         };
       };
       begun = s.begun;
@@ -167,30 +169,6 @@ is_spent_from k n rest s =
       spent = spent_used_up (shape_of n) n.log n.number run.run.core s.used_up;
       same_done = s.same_done;
     }
-
--- ---- by the body of a job
-
-module _ (style : Style) (layout : Layout) (job : Job) (k n : Called StoreLaw) (finished : Finished) (rest : AtRest k)
-    (law : (law_of k).layout ≡ layout) (a : Attempts keeps k n None) where
-  size : (shape_of k).objects ≡ objects_of layout
-  size = objects_are k rest ∙ ap objects_of law
-
-  lawful : (map : List Val) → IsLawful layout map → keeps (law_of k) map
-  lawful map is = subst (λ (l : Layout). IsLawful l map) (sym law) is
-
-  -- a body that runs the operations in order
-  pub did_plain : (body : Body) → body.task.layout ≡ layout → body.task.ops ≡ job.ops → finished.replies ≡ body.replies →
-      All IsPlain job.ops →
-      Settles keeps (λ before after. DoesAll body.task before after body.replies) k n finished.number →
-      FewReads style job k n → DidJob style layout job k n finished
-  did_plain body same ops replies plain settles few =
-      did_job style layout job k n finished _ rest a settles (λ s.
-      subst (λ (rs : List Reply). IsAnsweredBy layout job.ops rs s.entry) (sym replies)
-      (answered_plain layout job.ops body.replies (shape_of k).objects size s.entry plain (λ map length is agrees.
-      let right = s.right map length (lawful map is) agrees in
-      subst (λ (l : Layout). DoesAll (record { layout = l; ops = job.ops }) map (with_writes map s.entry.writes) body.replies) same
-      (subst (λ (os : List Op). DoesAll (record { layout = body.task.layout; ops = os }) map (with_writes map s.entry.writes) body.replies) ops right))))
-      few
 
 -- ---- by a body that lets reads go
 
@@ -201,11 +179,15 @@ newest_reads most n by before reads is =
     let same : by ≡ reads.last = let newest = reads.done in cc in
     subst (λ (c : Committed). length c.entry.reads ≤ most) (sym same) reads.few
 
-pub few_loose : (style : Style) (job : Job) (k n : Called StoreLaw) (task : JobTask) → n.home ≡ k.home →
-    task.ops ≡ job.ops →
-    ((shape_of k).all_write ≡ false → (most : ℕ) → KeepsAtMost task most → ReadsAtMost most n) → FewReads style job k n
-few_loose style job k n task home ops reads loose stay by newest all =
-    let stays = ap (λ (h : Home StoreLaw). h.terms.shape.all_write) (sym home) ∙ stay in
+not_true : (b : Bool) → not b ≡ true → b ≡ false
+not_true true q = absurd (cc)
+not_true false q = refl
+
+pub few_loose : (job : Job) (k n : Called StoreLaw) (task : JobTask) → n.home ≡ k.home → task.ops ≡ job.ops →
+    ((shape_of k).all_write ≡ false → (most : ℕ) → KeepsAtMost task most → ReadsAtMost most n) →
+    FewReads Loose job (Dstm k) (Dstm n)
+few_loose job k n task home ops reads loose lets by newest all =
+    let stays = ap (λ (h : Home StoreLaw). h.terms.shape.all_write) (sym home) ∙ not_true (shape_of n).all_write lets in
     let most = sum_by most_kept job.ops in
     let fits : sum_by most_kept task.ops ≤ most = let kept = ap (sum_by most_kept) ops in omega arith in
     let ours = subst (λ (os : List Op). All (λ op. is_of_list op ≡ true) os) (sym ops) all in

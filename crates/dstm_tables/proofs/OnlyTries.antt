@@ -1,4 +1,4 @@
--- A try of a table's only caller, by TL2.
+-- A try of a table's only caller, under either engine, and by TL2.
 use Rattle.std.proofs.Common.{◌≡◌, ◌∙◌, ◌<◌, ◌⊎◌, ◌∷◌, ℕ, List, [], Bool, false, Option, None, Some, is_some, refl, sym, ap, subst, arith, inl, inr, reverse}
 use Rattle.std.specs.Prelude.{◌&&◌, ◌==◌, if◌then◌else◌}
 use Rattle.std.proofs.lemmas.Bool.{and_parts, cases_eq}
@@ -34,7 +34,7 @@ use Rattle.dstm_tables.specs.Callers.{AtRest}
 use Rattle.dstm_tables.specs.Jobs.{StoodAt}
 use Rattle.dstm_tables.specs.OnlyCallers.{HasGivenUp, StoodAlone, WasSpent}
 use Rattle.dstm_tables.specs.Law.{keeps}
-use Rattle.dstm_tables.specs.Tries.{IsSpentFrom, OneMore, WasKept}
+use Rattle.dstm_tables.specs.Tries.{IsSpentFrom, OneMore}
 use Rattle.dstm_tables.proofs.OnlyByTl2.{only_agrees}
 
 -- a caller that has its number is one of the table's
@@ -60,7 +60,7 @@ undrawn_of t es c none = go (local t es c).drawn refl
         (λ l e h. (and_parts (is_draw e.kind) (e.found == n) h).0) (drawn_stands t es c n is) in cc)
 
 pub stood_alone : (style : Style) (layout : Layout) (job : Job) (k n : TlCalled StoreLaw) → k.home.terms.callers ≡ 1 →
-    StoodAt style 1024 layout job (Tl2 k) (Tl2 n) → StoodAlone style layout job (Tl2 k) (Tl2 n)
+    StoodAt style 1 layout job (Tl2 k) (Tl2 n) → StoodAlone style layout job (Tl2 k) (Tl2 n)
 stood_alone style layout job k n one was = record {
   branches = was.branches;
   made = was.made;
@@ -84,7 +84,7 @@ stood_alone style layout job k n one was = record {
     undrawn : (local (table_of_caller n) n.log 0).drawn ≡ None
     undrawn =
         subst (λ c. (local (table_of_caller n) n.log c).drawn ≡ None) zeroth
-        (undrawn_of (table_of_caller n) n.log n.number (was.given_up (omega arith)))
+        (undrawn_of (table_of_caller n) n.log n.number was.given_up)
 
     lawful : LawfulRun (table_of_caller n) (keeps n.home.terms.law.value) n.log
     lawful = was.made.on.rest.run.run
@@ -100,12 +100,6 @@ stood_alone style layout job k n one was = record {
 
 pub was_spent : (k n : Caller) → IsSpentFrom k n → WasSpent k n
 was_spent k n was = record { on = was.on; same_done = was.same_done; spent = was.was }
-
--- none kept it: there is no other
-pub none_kept : (k n : TlCalled StoreLaw) → k.home.terms.callers ≡ 1 → WasKept (Tl2 k) (Tl2 n) → ⊥
-none_kept k n one was =
-    let same : n.home.terms.callers ≡ k.home.terms.callers = ap (λ (terms : Terms StoreLaw). terms.callers) was.made.on.seen.0 in
-    let others = was.others in omega (arith, same, one, others)
 
 -- nothing is set, so a lawful map stays so
 pub stays_lawful : (k b : TlCalled StoreLaw) (map : List Val) → BeginsAnew keeps k b → keeps (law_of b) map →

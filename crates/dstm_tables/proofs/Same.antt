@@ -30,7 +30,6 @@ use Rattle.dstm_tables.specs.Callers.{AtRest, home_of, law_of, number_of, round_
 use Rattle.dstm_tables.specs.Founders.{HasShape, IsTold, first_of, home_there, seen_by}
 use Rattle.dstm_tables.specs.Tells.{CannotBegin, HasLocators, IsOf, IsPast, IsRun, all_done, attempts_of, begun_of, callers_of, done_of, layout_of, start_of, used_by, writes_all}
 use Rattle.dstm_tables.specs.Tries.{GoesOn}
-use Rattle.dstm_tables.proofs.ByDstm.{dstm_rest}
 use Rattle.dstm_tables.proofs.History.{is_history}
 use Rattle.dstm_tables.proofs.OnlyTries.{tl2_number_below}
 use Rattle.dstm_tables.proofs.Staying.{attempts_past}
@@ -147,7 +146,7 @@ law_same (caller.Tl2 k) (caller.Dstm n) on = absurd on.seen
 -- ---- an only caller
 
 pub number_below : (k : Caller) → AtRest k → number_of k < callers_of (round_of k)
-number_below (caller.Dstm k) rest = (staying.in_range k (dstm_rest k rest)).0
+number_below (caller.Dstm k) rest = (staying.in_range k rest).0
 number_below (caller.Tl2 k) rest = tl2_number_below k rest
 
 all_of_one : (n : ℕ) (ds : List Committed) → n ≡ 1 → AllByRecursion (λ done. done.caller < n) ds → by_caller 0 ds ≡ ds

@@ -1,7 +1,6 @@
--- A try of a table's only caller.
-use Rattle.std.proofs.Common.{◌≡◌, ◌∙◌, ◌+◌, ◌-◌, ◌*◌, ◌≤◌, ◌∷◌, ℕ, List, [], Some, None, refl, sym, ap, subst, arith, reverse}
-use Rattle.std.specs.Prelude.{Bool, Option, if◌then◌else◌}
-use Rattle.std.proofs.lemmas.Bool.{eqb-true}
+-- A try of a table's only caller, by DSTM.
+use Rattle.std.proofs.Common.{◌≡◌, ◌∙◌, ◌≤◌, ◌∷◌, ℕ, List, [], Some, None, refl, sym, ap, subst, arith, reverse}
+use Rattle.std.specs.Prelude.{Bool, if◌then◌else◌}
 use Rattle.dstm_model.specs.declared.value.Val.{Val}
 use Rattle.dstm_model.specs.declared.layout.Layout.{Layout}
 use Rattle.dstm_model.specs.Map.{state_after}
@@ -9,14 +8,11 @@ use Rattle.dstm_opacity.specs.Committed.{Committed, done_by}
 use Rattle.dstm_progress.specs.Disturbed.{count_of}
 use Rattle.dstm_core.specs.Histories.{CoreRun}
 use Rattle.dstm_core.specs.Runs.{local}
-use Rattle.dstm_core.specs.State.{or_zero}
-use Rattle.dstm_core.specs.Traces.{word}
-use Rattle.dstm_core.specs.Words.Word.{StatusWord}
 use Rattle.dstm_core.specs.declared.shape.Shape.{Shape}
 use Rattle.dstm_mem.specs.Memory.{value_in, with_set}
 use Rattle.dstm_mem.proofs.WithSet.{with_set-nothing}
 use Rattle.dstm_mem.proofs.Pairs.{value_in-same}
-use Rattle.dstm_words.specs.Seats.{Home}
+use Rattle.dstm_words.specs.declared.terms.Terms.{Terms}
 use Rattle.dstm_engine.specs.Attempts.{Commits, completes_pass}
 use Rattle.dstm_engine.specs.Callers.{Called, handed, law_of, shape_of, start_of, state, written}
 use Rattle.dstm_engine.specs.Transactions.{BeginsAnew}
@@ -27,38 +23,28 @@ use Rattle.dstm_tables.specs.Attempts.{HasCommitted, seen_last}
 use Rattle.dstm_tables.specs.Answers.{IsBlockedWith, entries_of}
 use Rattle.dstm_tables.proofs.OnlyByDstm.{NoneCommitted, only_blocked}
 use Rattle.dstm_tables.specs.declared.style.Style.{Style}
-use Rattle.dstm_tables.specs.OnlyByDstm.{HasGivenUp, StoodAlone, WasSpent}
-use Rattle.dstm_tables.specs.ByDstm.{AtRest, IsSpentFrom, OneMore, StoodAt}
+use Rattle.dstm_tables.specs.declared.tables.Caller.TheVariants.{Dstm}
+use Rattle.dstm_tables.specs.Callers.{AtRest}
+use Rattle.dstm_tables.specs.Jobs.{StoodAt}
+use Rattle.dstm_tables.specs.OnlyCallers.{HasGivenUp, StoodAlone}
+use Rattle.dstm_tables.specs.Tries.{OneMore}
 use Rattle.dstm_tables.specs.Law.{keeps}
 use Rattle.dstm_tables.proofs.StayingByDstm.{in_range}
 
 -- its number is 0
-pub zeroth : (n : Called StoreLaw) → AtRest n → (shape_of n).callers ≡ 1 → n.number ≡ 0
+pub zeroth : (n : Called StoreLaw) → AtRest (Dstm n) → (shape_of n).callers ≡ 1 → n.number ≡ 0
 zeroth n rest one = let range = (in_range n rest).0 in omega (arith, one, range)
-
--- an attempt that was given up at a blocked job has not committed
-not_committed : (style : Style) (layout : Layout) (job : Job) (k n : Called StoreLaw) → StoodAt style 1 layout job k n →
-    HasCommitted (shape_of n) n.log n.number (state n).begun → ⊥
-not_committed style layout job k n was committed =
-    let s = shape_of n in
-    let now : word s n.log (StatusWord (or_zero (state n).number * s.attempts + ((state n).begun - 1))) ≡ 5 =
-    was.aborted [] was.made.on.rest.run.run.core in
-    let here : word s n.log (StatusWord (n.number * s.attempts + ((state n).begun - 1))) ≡ 5 =
-    ap (λ (o : Option ℕ). word s n.log (StatusWord (or_zero o * s.attempts + ((state n).begun - 1))))
-    (sym was.made.on.rest.enrolled) ∙ now in
-    let four = eqb-true (word s n.log (StatusWord (n.number * s.attempts + ((state n).begun - 1)))) 4 committed in
-    omega arith
 
 -- the job is blocked in the store that the caller's transactions have left
 pub stood_alone : (style : Style) (layout : Layout) (job : Job) (k n : Called StoreLaw) → (shape_of k).callers ≡ 1 →
-    (law_of k).layout ≡ layout → StoodAt style 1 layout job k n → StoodAlone style layout job k n
+    (law_of k).layout ≡ layout → StoodAt style 1 layout job (Dstm k) (Dstm n) → StoodAlone style layout job (Dstm k) (Dstm n)
 stood_alone style layout job k n one law was = record {
   branches = was.branches;
   made = was.made;
   same_done = was.same_done;
   blocked = λ store stands.
       only_blocked layout s (start_of n) n.log (state n).begun job store core only
-      (at_zero (λ c. 1 ≤ count_of completes_pass s n.log c (state n).begun) was.sights)
+      (at_zero (λ c. 1 ≤ count_of completes_pass s n.log c (state n).begun) was.given_up.sights)
       none
       (at_zero (λ c. IsBlockedWith layout (seen_last s (start_of n) n.log n.log c (state n).begun) (Some job)) was.blocked)
       (at_zero (λ c. StandsFor layout (state_after (start_of n) (entries_of (reverse (done_by s (start_of n) n.log n.log c)))) store)
@@ -70,7 +56,7 @@ stood_alone style layout job k n one law was = record {
     s = shape_of n
 
     only : (shape_of n).callers ≡ 1
-    only = ap (λ (h : Home StoreLaw). h.terms.shape.callers) was.made.on.home ∙ one
+    only = ap (λ (t : Terms StoreLaw). t.shape.callers) was.made.on.seen.0 ∙ one
 
     number : n.number ≡ 0
     number = zeroth n was.made.on.rest only
@@ -81,12 +67,12 @@ stood_alone style layout job k n one law was = record {
     core : CoreRun (shape_of n) (start_of n) (IsLawful layout) n.log
     core =
         subst (λ (l : Layout). CoreRun (shape_of n) (start_of n) (IsLawful l) n.log)
-        (ap (λ (h : Home StoreLaw). h.terms.law.value.layout) was.made.on.home ∙ law) was.made.on.rest.run.run
+        (ap (λ (t : Terms StoreLaw). t.law.value.layout) was.made.on.seen.0 ∙ law) was.made.on.rest.run.run
 
     none : NoneCommitted (shape_of n) n.log 0 (state n).begun
     none j from to committed =
         let last : j ≡ (state n).begun = omega (arith, from, ap (λ (c : ℕ). (local (shape_of n) n.log c).begun) number) in
-        not_committed style layout job k n was
+        was.uncommitted
         (subst (HasCommitted (shape_of n) n.log n.number) last
         (subst (λ (c : ℕ). HasCommitted (shape_of n) n.log c j) (sym number) committed))
 
@@ -99,17 +85,14 @@ nothing_named (p ∷ ps) none =
 
 -- ---- a transaction that opens nothing
 
-pub was_spent : (k n : Called StoreLaw) → IsSpentFrom k n → WasSpent k n
-was_spent k n was = record { on = was.on; same_done = was.same_done; spent = was.was }
-
 -- nothing is set, so a lawful map stays so
 pub stays_lawful : (b : Called StoreLaw) (map : List Val) → ((o : ℕ) → written b o ≡ None) → keeps (law_of b) map →
     keeps (law_of b) (with_set map (written b))
 stays_lawful b map none lawful =
     subst (keeps (law_of b)) (sym (with_set-nothing map (written b) none)) lawful
 
-pub gave_up : (k b n : Called StoreLaw) (number : ℕ) → BeginsAnew keeps k b → OneMore k n → Commits b n number →
-    HasGivenUp k n number
+pub gave_up : (k b n : Called StoreLaw) (number : ℕ) → BeginsAnew keeps k b → OneMore (Dstm k) (Dstm n) →
+    Commits b n number → HasGivenUp (Dstm k) (Dstm n) number
 gave_up k b n number begins made commits = record {
   made = made;
   by = record { caller = b.number; number = number; entry = commits.entry };

@@ -2,9 +2,7 @@
 use Rattle.std.proofs.Common.{◌≡◌, ◌∙◌, ◌⊎◌, ◌<◌, ◌≤◌, ℕ, List, refl, sym, ap, subst, inl, inr}
 use Rattle.std.specs.Prelude.{not}
 use Rattle.dstm_machines.proofs.Pasts.{past_past, past_self}
-use Rattle.dstm_words.specs.Seats as dstm_words
 use Rattle.dstm_engine.proofs.AddingUp.{makes_both, makes_none}
-use Rattle.dstm_engine.specs.Callers.{Called}
 use Rattle.dstm_order.specs.Retries.{TriesAgain}
 use Rattle.dstm_tables.proofs.StayingByDstm as staying
 use Rattle.dstm_words.specs.declared.terms.Terms as core_terms
@@ -20,12 +18,10 @@ use Rattle.dstm_tables.specs.declared.tables.Caller.{Caller}
 use Rattle.dstm_tables.specs.declared.tables.Caller.TheVariants.{Dstm, Tl2}
 use Rattle.dstm_tables.specs.declared.tables.Round.{Round}
 use Rattle.dstm_tables.specs.declared.tables.Round.TheVariants as round
-use Rattle.dstm_tables.specs.declared.tables.Table.TheVariants as table
 use Rattle.dstm_tables.specs.Callers.{AtRest, begun, round_of}
 use Rattle.dstm_tables.specs.Jobs.{WasNotWasted}
 use Rattle.dstm_tables.specs.Tells.{IsPast, SameOwn, attempts_of, lets_go}
 use Rattle.dstm_tables.specs.Tries.{GoesOn, WentByCalls}
-use Rattle.dstm_tables.proofs.ByDstm.{dstm_rest}
 use Rattle.dstm_tables.proofs.ByTl2.{begun_le}
 
 -- ---- logs that go on
@@ -100,25 +96,10 @@ same_lets_go k n on = lets_go_past (round_of k) (round_of n) on.seen
 -- ---- a caller between two attempts has begun no more than there are
 
 pub few_begun : (k : Caller) → AtRest k → begun k ≤ attempts_of (round_of k)
-few_begun (Dstm k) rest = (staying.in_range k (dstm_rest k rest)).1
+few_begun (Dstm k) rest = (staying.in_range k rest).1
 few_begun (Tl2 k) rest = begun_le (table_of k.home.terms) k.log rest.run.run.run k.number
 
 -- ---- what became of its attempts stays so
-
-home_dstm : (a b : dstm_words.Home StoreLaw) → table.Dstm a ≡ table.Dstm b → a ≡ b
-home_dstm a b same = cc
-
-dstm_later : (k n : Called StoreLaw) (i : ℕ) → GoesOn (Dstm k) (Dstm n) → 0 < i → i ≤ attempts_of (round_of (Dstm k)) →
-    WasNotWasted (Dstm k) i → WasNotWasted (Dstm n) i
-dstm_later k n i on some few was =
-    staying.was_later k n i
-    (record {
-      home = home_dstm n.home k.home on.home;
-      number = on.number;
-      seen = on.seen.1;
-      made = on.calls;
-      rest = dstm_rest n on.rest;
-    }) some few was
 
 tl2_later : (k n : TlCalled StoreLaw) (i : ℕ) → GoesOn (Tl2 k) (Tl2 n) → WasNotWasted (Tl2 k) i → WasNotWasted (Tl2 n) i
 tl2_later k n i on was =
@@ -141,7 +122,7 @@ tl2_later k n i on was =
 
 pub was_later : (k n : Caller) (i : ℕ) → GoesOn k n → 0 < i → i ≤ attempts_of (round_of k) → WasNotWasted k i →
     WasNotWasted n i
-was_later (Dstm k) (Dstm n) i on some few was = dstm_later k n i on some few was
+was_later (Dstm k) (Dstm n) i on some few was = staying.was_later k n i on some few was
 was_later (Tl2 k) (Tl2 n) i on some few was = tl2_later k n i on was
 was_later (Dstm k) (Tl2 n) i on some few was = absurd on.seen
 was_later (Tl2 k) (Dstm n) i on some few was = absurd on.seen

@@ -1,5 +1,5 @@
 -- What became of an attempt stays so in a longer log, under DSTM.
-use Rattle.std.proofs.Common.{◌≡◌, ◌∙◌, ◌+◌, ◌-◌, ◌*◌, ◌<◌, ◌≤◌, ◌++◌, ℕ, List, [], refl, sym, ap, subst, inl, inr, arith}
+use Rattle.std.proofs.Common.{◌≡◌, ◌∙◌, ◌+◌, ◌-◌, ◌*◌, ◌<◌, ◌≤◌, ◌++◌, ℕ, List, sym, ap, subst, inl, inr, arith}
 use Rattle.std.specs.Prelude.{is_some}
 use Rattle.std.proofs.lemmas.Bool.{eq-eqb, eqb-true}
 use Rattle.dstm_core.specs.Events.{Event}
@@ -12,14 +12,14 @@ use Rattle.dstm_core.proofs.Statuses.{finished_stays}
 use Rattle.dstm_progress.specs.Disturbed.{Disturbed}
 use Rattle.dstm_progress.proofs.Disturbing.{disturbed_stays}
 use Rattle.dstm_progress.proofs.Ends.{callers_in_range}
-use Rattle.dstm_machines.proofs.Pasts.{past_past}
-use Rattle.dstm_words.specs.Seats.{Home}
+use Rattle.dstm_words.specs.declared.terms.Terms.{Terms}
 use Rattle.dstm_engine.specs.Callers.{Called, shape_of, state}
 use Rattle.dstm_store.specs.declared.law.StoreLaw.{StoreLaw}
 use Rattle.dstm_tables.specs.Attempts.{HasCommitted}
-use Rattle.dstm_order.specs.Retries.{TriesAgain}
-use Rattle.dstm_engine.proofs.AddingUp.{makes_both, makes_none}
-use Rattle.dstm_tables.specs.ByDstm.{AtRest, GoesOn, WasNotWasted}
+use Rattle.dstm_tables.specs.declared.tables.Caller.TheVariants.{Dstm}
+use Rattle.dstm_tables.specs.Callers.{AtRest}
+use Rattle.dstm_tables.specs.Jobs.{WasNotWasted}
+use Rattle.dstm_tables.specs.Tries.{GoesOn}
 
 -- an attempt that has committed stays committed
 pub committed_stays : (shape : Shape) (later before : List Event) (c i : ℕ) → Core shape (later ++ before) →
@@ -36,7 +36,7 @@ committed_stays shape later before c i core caller some few committed =
 -- ---- a caller at rest
 
 -- it is one of its table's callers, and has begun no more attempts than there are
-pub in_range : (k : Called StoreLaw) → AtRest k →
+pub in_range : (k : Called StoreLaw) → AtRest (Dstm k) →
     (k.number < (shape_of k).callers) × ((state k).begun ≤ (shape_of k).attempts)
 in_range k rest =
     let range = callers_in_range (shape_of k) k.log k.number rest.run.run.core in
@@ -44,39 +44,27 @@ in_range k rest =
 
 -- ---- a caller that goes on
 
-pub goes_nowhere : (k : Called StoreLaw) → AtRest k → GoesOn k k
-goes_nowhere k rest = record { home = refl; number = refl; seen = record { later = []; whole = refl }; made = makes_none TriesAgain k; rest = rest }
-
-pub goes_on : (k n m : Called StoreLaw) → GoesOn k n → GoesOn n m → GoesOn k m
-goes_on k n m first second = record {
-  home = second.home ∙ first.home;
-  number = second.number ∙ first.number;
-  seen = past_past k.log n.log m.log first.seen second.seen;
-  made = makes_both TriesAgain k n m first.made second.made;
-  rest = second.rest;
-}
-
 -- what became of its attempts stays so
-pub was_later : (k n : Called StoreLaw) (i : ℕ) → GoesOn k n → 0 < i → i ≤ (shape_of k).attempts →
-    WasNotWasted k i → WasNotWasted n i
+pub was_later : (k n : Called StoreLaw) (i : ℕ) → GoesOn (Dstm k) (Dstm n) → 0 < i → i ≤ (shape_of k).attempts →
+    WasNotWasted (Dstm k) i → WasNotWasted (Dstm n) i
 was_later k n i on some few was = go was
   where
     shape_is : shape_of n ≡ shape_of k
-    shape_is = ap (λ (h : Home StoreLaw). h.terms.shape) on.home
+    shape_is = ap (λ (t : Terms StoreLaw). t.shape) on.seen.0
 
     -- as this log tells, on the table as n has it
     there : (P : Shape → ℕ → Type 0) → P (shape_of k) k.number → P (shape_of n) n.number
     there P is = subst (λ (s : Shape). P s n.number) (sym shape_is) (subst (P (shape_of k)) (sym on.number) is)
 
-    core : Core (shape_of n) (on.seen.later ++ k.log)
-    core = subst (Core (shape_of n)) (sym on.seen.whole) on.rest.run.run.core
+    core : Core (shape_of n) (on.seen.1.later ++ k.log)
+    core = subst (Core (shape_of n)) (sym on.seen.1.whole) on.rest.run.run.core
 
-    go : WasNotWasted k i → WasNotWasted n i
+    go : WasNotWasted (Dstm k) i → WasNotWasted (Dstm n) i
     go (inl committed) =
         let same : (shape_of n).attempts ≡ (shape_of k).attempts = ap (λ (s : Shape). s.attempts) shape_is in
-        inl (subst (λ (log : List Event). HasCommitted (shape_of n) log n.number i) on.seen.whole
-        (committed_stays (shape_of n) on.seen.later k.log n.number i core (in_range n on.rest).0 some (omega arith)
+        inl (subst (λ (log : List Event). HasCommitted (shape_of n) log n.number i) on.seen.1.whole
+        (committed_stays (shape_of n) on.seen.1.later k.log n.number i core (in_range n on.rest).0 some (omega arith)
         (there (λ s c. HasCommitted s k.log c i) committed)))
     go (inr disturbed) =
-        inr (subst (λ (log : List Event). Disturbed (shape_of n) log n.number i) on.seen.whole
-        (disturbed_stays (shape_of n) on.seen.later k.log n.number i (there (λ s c. Disturbed s k.log c i) disturbed)))
+        inr (subst (λ (log : List Event). Disturbed (shape_of n) log n.number i) on.seen.1.whole
+        (disturbed_stays (shape_of n) on.seen.1.later k.log n.number i (there (λ s c. Disturbed s k.log c i) disturbed)))

@@ -31,9 +31,9 @@ seen_last shape start log (event ∷ before) c i =
     then seen shape start log before c
     else seen_last shape start log before c i
 
--- the attempt was given up after it had made sure 1,024 times that what it had read stands
-pub record WasGivenUp (shape : Shape) (log : List Event) (c i : ℕ) : Type 0 where
-  pub sights : 1024 ≤ count_of completes_pass shape log c i
+-- the attempt was given up after it had made sure so many times that what it had read stands
+pub record WasGivenUpAfter (rechecks : ℕ) (shape : Shape) (log : List Event) (c i : ℕ) : Type 0 where
+  pub sights : rechecks ≤ count_of completes_pass shape log c i
   pub quit : 1 ≤ count_of quits shape log c i
 
 -- the caller has no attempt left, or too few locators for another one

@@ -1,5 +1,5 @@
 -- What attempts at a job leave.
-use Rattle.std.specs.Prelude.{◌≡◌, ◌⊎◌, ℕ, ◌<◌, ◌≤◌, true, ◌∷◌, Option, Some}
+use Rattle.std.specs.Prelude.{◌≡◌, ◌⊎◌, ℕ, ◌<◌, ◌≤◌, true, false, ◌∷◌, Option, Some}
 use Rattle.dstm_model.specs.Answers.{Committed}
 use Rattle.dstm_model.specs.declared.layout.Layout.{Layout}
 use Rattle.dstm_workload.specs.declared.workload.Job.{Job}
@@ -13,14 +13,14 @@ use Rattle.dstm_tables.specs.declared.trying.Tried.TheVariants as tried
 use Rattle.dstm_tables.specs.declared.tables.Caller.{Caller}
 use Rattle.dstm_tables.specs.declared.tables.Round.{Round}
 use Rattle.dstm_tables.specs.Callers.{begun, done, number_of, round_of}
-use Rattle.dstm_tables.specs.Tells.{HasCommitted, IsSpent, WasDisturbed, WasGivenUp, begun_of, lets_go, seen_of}
+use Rattle.dstm_tables.specs.Tells.{HasCommitted, IsSpent, WasDisturbed, WasGivenUpAfter, begun_of, lets_go, seen_of, used_by, writes_all}
 use Rattle.dstm_tables.specs.Tries.{IsSpentFrom, OneMore, WasKept}
 
 -- ---- attempts at the job that is next
 
 -- it stood at a blocked job: it was given up, and the job is blocked on every lawful map that agrees with what it has read
 pub record StoodBlocked (layout : Layout) (round : Round) (c i : ℕ) (job : Option Job) : Type 0 where
-  pub given_up : WasGivenUp round c i
+  pub given_up : WasGivenUpAfter 1024 round c i
   pub blocked : IsBlockedWith layout (seen_of round c i) job
 
 -- in version 3 an attempt may have stood at this job
@@ -56,12 +56,14 @@ pub record DidJob (style : Style) (layout : Layout) (job : Job) (k n : Caller) (
   pub few_reads : style ≡ Loose → lets_go (round_of n) ≡ true → KeepsFew job by
 
 -- It was given up at the job, which has branches: the job is blocked on every lawful map that agrees with what it has read.
--- Under DSTM it had made sure so many times that this stands.
+-- Under DSTM it had made sure so many times that this stands, and has used no locator where reads stay reads.
 pub record StoodAt (style : Style) (rechecks : ℕ) (layout : Layout) (job : Job) (k n : Caller) : Type 0 where
   pub branches : style ≡ Branches
   pub made : OneMore k n
-  pub given_up : 1024 ≤ rechecks → WasGivenUp (round_of n) (number_of n) (begun n)
+  pub given_up : WasGivenUpAfter rechecks (round_of n) (number_of n) (begun n)
+  pub uncommitted : HasCommitted (round_of n) (number_of n) (begun n) → ⊥
   pub blocked : IsBlockedWith layout (seen_of (round_of n) (number_of n) (begun n)) (Some job)
+  pub unused : writes_all (round_of k) ≡ false → used_by (round_of n) (number_of n) ≡ used_by (round_of k) (number_of k)
   pub same_done : done n ≡ done k
 
 -- how an attempt at a job ended

@@ -2,9 +2,7 @@ pub mod Styles
 pub mod Law
 pub mod Answers
 pub mod Attempts
-pub mod ByDstm
 pub mod Rechecks
-pub mod OnlyByDstm
 pub mod Tells
 pub mod Callers
 pub mod Founders

@@ -152,10 +152,10 @@ abbrev pub WasDisturbed : Round → (c i : ℕ) → Type 0
 WasDisturbed (Dstm r) c i = causes.Disturbed r.terms.shape r.log c i
 WasDisturbed (Tl2 r) c i = tl2_causes.Disturbed (tl2_sharing.table_of r.terms) r.log c i
 
--- it was given up: under DSTM after it had made sure 1,024 times that what it had read stands, under TL2 before it drew
-abbrev pub WasGivenUp : Round → (c i : ℕ) → Type 0
-WasGivenUp (Dstm r) c i = attempts.WasGivenUp r.terms.shape r.log c i
-WasGivenUp (Tl2 r) c i = tl2_causes.HasNoDraw (tl2_sharing.table_of r.terms) r.log c i
+-- it was given up: under DSTM after it had made sure so many times that what it had read stands, under TL2 before it drew
+abbrev pub WasGivenUpAfter : (rechecks : ℕ) → Round → (c i : ℕ) → Type 0
+WasGivenUpAfter rechecks (Dstm r) c i = attempts.WasGivenUpAfter rechecks r.terms.shape r.log c i
+WasGivenUpAfter rechecks (Tl2 r) c i = tl2_causes.HasNoDraw (tl2_sharing.table_of r.terms) r.log c i
 
 -- what it has read: under DSTM what its newest sight covers
 abbrev pub seen_of : Round → (c i : ℕ) → List (ℕ × Val)

@@ -1,11 +1,16 @@
 -- What attempts leave, as their caller's log tells.
-use Rattle.std.specs.Prelude.{◌≡◌, ◌+◌, ◌<◌}
+use Rattle.std.specs.Prelude.{◌≡◌, ℕ, ◌+◌, ◌<◌, List, ◌∷◌}
+use Rattle.dstm_model.specs.declared.value.Val.{Val}
+use Rattle.dstm_model.specs.Map.{Agrees, Entry, with_writes}
 use Rattle.dstm_engine.specs.Makes.{Makes}
 use Rattle.dstm_order.specs.Retries.{TriesAgain}
+use Rattle.dstm_store.specs.Whole.{IsLawful}
+use Rattle.dstm_tables.specs.declared.attempting.Ended.{Ended}
+use Rattle.dstm_tables.specs.declared.attempting.Ended.TheVariants as ended
 use Rattle.dstm_tables.specs.declared.tables.Caller.{Caller}
 use Rattle.dstm_tables.specs.declared.tables.Caller.TheVariants.{Dstm, Tl2}
-use Rattle.dstm_tables.specs.Callers.{AtRest, begun, done, home_of, number_of, round_of}
-use Rattle.dstm_tables.specs.Tells.{CannotBegin, IsPast, IsSpent, WasDisturbed, callers_of}
+use Rattle.dstm_tables.specs.Callers.{AtRest, begun, done, home_of, law_of, number_of, round_of}
+use Rattle.dstm_tables.specs.Tells.{CannotBegin, HasCommitted, IsPast, IsSpent, WasDisturbed, callers_of}
 
 -- Under DSTM it went on by calls, each transaction again until it committed.
 abbrev pub WentByCalls : (k n : Caller) → Type 0
@@ -25,6 +30,16 @@ pub record OneMore (k n : Caller) : Type 0 where
   pub on : GoesOn k n
   pub begun : begun n ≡ begun k + 1
 
+-- It has committed: its transaction is the newest one of its caller, and the body was right on every lawful map that agrees
+-- with its reads.
+pub record Did (is_right : List Val → List Val → Type 0) (k n : Caller) (number : ℕ) : Type 0 where
+  pub made : OneMore k n
+  pub committed : HasCommitted (round_of n) (number_of n) (begun n)
+  pub entry : Entry
+  pub newest : done n ≡ record { caller = number_of k; number = number; entry = entry } ∷ done k
+  pub right : (map : List Val) → IsLawful (law_of k).layout map → Agrees map entry.reads →
+      is_right map (with_writes map entry.writes)
+
 -- others kept it from that, which are there
 pub record WasKept (k n : Caller) : Type 0 where
   pub made : OneMore k n
@@ -39,3 +54,8 @@ pub record IsSpentFrom (k n : Caller) : Type 0 where
   pub was : CannotBegin (round_of k) (number_of k)
   pub spent : IsSpent (round_of n) (number_of n)
   pub same_done : done n ≡ done k
+
+-- how an attempt ended that did not commit
+abbrev pub EndsBy : (k n : Caller) → Ended → Type 0
+EndsBy k n ended.Again = WasKept k n
+EndsBy k n ended.Spent = IsSpentFrom k n

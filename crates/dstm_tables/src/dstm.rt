@@ -1,85 +1,38 @@
 //! Trying jobs by DSTM.
 
 ghost use Rattle.std.specs.Prelude.{◌≡◌, ◌<◌, ℕ, IfErr, IfNone, IfSome, IsTrue, OnOk, Some};
-ghost use Rattle.dstm_engine.specs.Callers.{law_of, is_live, is_opened, shape_of};
+ghost use Rattle.dstm_engine.specs.Callers.{is_live, is_opened, shape_of};
 ghost use Rattle.dstm_engine.specs.Outcomes.{IsLeft};
 ghost use Rattle.dstm_engine.specs.Transactions.{tx_place};
-ghost use Rattle.dstm_tables.specs.ByDstm.{AtRest, HasTried};
-ghost use Rattle.dstm_tables.specs.OnlyByDstm.{HasGivenUp, HasTriedAlone, WasSpent};
+ghost use Rattle.dstm_tables.specs.Callers.{AtRest, law_of};
+ghost use Rattle.dstm_tables.specs.Jobs.{HasTried};
+ghost use Rattle.dstm_tables.specs.OnlyCallers.{HasGivenUp, WasSpent};
 ghost use Rattle.dstm_tables.specs.Rechecks.{HasRechecked};
 ghost use Rattle.dstm_tables.specs.Styles.{CanTry};
+ghost use Rattle.dstm_tables.specs.declared.style.Style.TheVariants.{Branches, Loose};
+ghost use Rattle.dstm_tables.specs.declared.tables.Caller.TheVariants.{Dstm};
 
-use crate::only::OnlyTried;
-use crate::style::Style;
 use crate::trying::{Finished, Tried};
 use dstm_compose::{CompBody, Outcome};
-use dstm_engine::{Caller, Ended, Spent, Stm, Tx, attempt, attempt_loose};
+use dstm_engine::{Caller, Ended, Spent, Stm, Tx, attempt_loose};
 use dstm_mem::Body;
 use dstm_model::Layout;
 use dstm_order::Again;
-use dstm_store::{JobBody, LooseJobBody, StoreLaw};
+use dstm_store::{LooseJobBody, StoreLaw};
 use dstm_workload::Job;
 
-/// Makes one attempt at a job. One that stands at a blocked job makes sure so many times that what it has read stands, and
-/// is given up.
-pub(crate) fn attempt_job(
-    style: Style,
-    rechecks: u32,
+/// Makes one attempt at a job, by its operations in order, and lets reads go.
+pub(crate) fn attempt_releasing(
     caller: &mut Caller<StoreLaw>,
     stm: &Stm<StoreLaw>,
     layout: &Layout,
     job: &Job,
 ) -> Tried
     requires table { caller.old.home ≡ stm.now }
-    requires law { (law_of caller.old).layout ≡ layout.now }
-    requires rest { AtRest caller.old }
-    requires can { CanTry style layout.now job.now }
-    requires some { 0 < rechecks }
-    ensures { HasTried style rechecks layout.now job.now caller.old caller.new result }
-{
-    match style {
-        Style::Plain => attempt_plain(caller, stm, layout, job),
-        Style::Loose => attempt_releasing(caller, stm, layout, job),
-        Style::Branches => attempt_branches(rechecks, caller, stm, layout, job),
-    }
-}
-
-// The same, by its operations in order.
-fn attempt_plain(
-    caller: &mut Caller<StoreLaw>,
-    stm: &Stm<StoreLaw>,
-    layout: &Layout,
-    job: &Job,
-) -> Tried
-    requires table { caller.old.home ≡ stm.now }
-    requires law { (law_of caller.old).layout ≡ layout.now }
-    requires rest { AtRest caller.old }
-    requires can { CanTry Style.Plain layout.now job.now }
-    ensures { HasTried Style.Plain 0 layout.now job.now caller.old caller.new result }
-{
-    let mut body = JobBody::make(layout, &job.ops);
-    match attempt(caller, stm, &mut body) {
-        Ok(done) => Tried::Done(Finished {
-            number: done.number,
-            replies: body.into_replies(),
-        }),
-        Err(Ended::Again(_)) => Tried::Again,
-        Err(Ended::Spent) => Tried::Spent,
-    }
-}
-
-// The same, and it lets reads go.
-fn attempt_releasing(
-    caller: &mut Caller<StoreLaw>,
-    stm: &Stm<StoreLaw>,
-    layout: &Layout,
-    job: &Job,
-) -> Tried
-    requires table { caller.old.home ≡ stm.now }
-    requires law { (law_of caller.old).layout ≡ layout.now }
-    requires rest { AtRest caller.old }
-    requires can { CanTry Style.Loose layout.now job.now }
-    ensures { HasTried Style.Loose 0 layout.now job.now caller.old caller.new result }
+    requires law { (law_of (Dstm caller.old)).layout ≡ layout.now }
+    requires rest { AtRest (Dstm caller.old) }
+    requires can { CanTry Loose layout.now job.now }
+    ensures { HasTried Loose 0 layout.now job.now (Dstm caller.old) (Dstm caller.new) result }
 {
     let mut body = LooseJobBody::make(layout, &job.ops);
     match attempt_loose(caller, stm, &mut body) {
@@ -92,8 +45,9 @@ fn attempt_releasing(
     }
 }
 
-// The same, by the first open branch.
-fn attempt_branches(
+/// Makes one attempt at a job, by its first open branch. One that stands at a blocked job makes sure so many times that what
+/// it has read stands, and is given up.
+pub(crate) fn attempt_branches(
     rechecks: u32,
     caller: &mut Caller<StoreLaw>,
     stm: &Stm<StoreLaw>,
@@ -101,11 +55,11 @@ fn attempt_branches(
     job: &Job,
 ) -> Tried
     requires table { caller.old.home ≡ stm.now }
-    requires law { (law_of caller.old).layout ≡ layout.now }
-    requires rest { AtRest caller.old }
-    requires can { CanTry Style.Branches layout.now job.now }
+    requires law { (law_of (Dstm caller.old)).layout ≡ layout.now }
+    requires rest { AtRest (Dstm caller.old) }
+    requires can { CanTry Branches layout.now job.now }
     requires some { 0 < rechecks }
-    ensures { HasTried Style.Branches rechecks layout.now job.now caller.old caller.new result }
+    ensures { HasTried Branches rechecks layout.now job.now (Dstm caller.old) (Dstm caller.new) result }
 {
     let mut tx = match caller.begin(stm) {
         Ok(tx) => tx,
@@ -152,37 +106,14 @@ fn recheck_often(tx: &mut Tx<StoreLaw>, times: u32) -> Result<(), Again>
     Ok(())
 }
 
-/// Tries a job once, by a table's only caller.
-pub(crate) fn try_alone(
-    style: Style,
-    caller: &mut Caller<StoreLaw>,
-    stm: &Stm<StoreLaw>,
-    layout: &Layout,
-    job: &Job,
-) -> OnlyTried
-    requires table { caller.old.home ≡ stm.now }
-    requires only { (shape_of caller.old).callers ≡ 1 }
-    requires law { (law_of caller.old).layout ≡ layout.now }
-    requires rest { AtRest caller.old }
-    requires can { CanTry style layout.now job.now }
-    ensures { HasTriedAlone style layout.now job.now caller.old caller.new result }
-{
-    match attempt_job(style, 1, caller, stm, layout, job) {
-        Tried::Done(finished) => OnlyTried::Done(finished),
-        Tried::Blocked => OnlyTried::Blocked,
-        Tried::Spent => OnlyTried::Spent,
-        Tried::Again => unreachable!(),
-    }
-}
-
 /// Commits an attempt of a table's only caller that opens nothing, and answers the number that it drew; or the caller is
 /// spent.
 pub(crate) fn give_up(caller: &mut Caller<StoreLaw>, stm: &Stm<StoreLaw>) -> Option<u64>
     requires table { caller.old.home ≡ stm.now }
     requires only { (shape_of caller.old).callers ≡ 1 }
-    requires rest { AtRest caller.old }
-    ensures given_up { IfSome result (HasGivenUp caller.old caller.new) }
-    ensures spent { IfNone result (WasSpent caller.old caller.new) }
+    requires rest { AtRest (Dstm caller.old) }
+    ensures given_up { IfSome result (HasGivenUp (Dstm caller.old) (Dstm caller.new)) }
+    ensures spent { IfNone result (WasSpent (Dstm caller.old) (Dstm caller.new)) }
 {
     let tx = match caller.begin(stm) {
         Ok(tx) => tx,

@@ -3,6 +3,7 @@
 //! look at which engine it is.
 #![tactic(auto)]
 
+mod attempting;
 mod dstm;
 mod founding;
 pub mod laws;

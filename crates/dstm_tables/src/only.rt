@@ -6,7 +6,7 @@ ghost use Rattle.dstm_tables.specs.Tells.{callers_of};
 
 use crate::style::Style;
 use crate::tables::{Caller, Table};
-use crate::trying::Finished;
+use crate::trying::{Finished, Tried, attempt_job};
 use crate::{dstm, tl2};
 use dstm_model::Layout;
 use dstm_workload::Job;
@@ -37,15 +37,11 @@ pub fn try_alone(
     requires can { CanTry style layout.now job.now }
     ensures { HasTriedAlone style layout.now job.now caller.old caller.new result }
 {
-    match caller {
-        Caller::Dstm(caller) => match table {
-            Table::Dstm(stm) => dstm::try_alone(style, caller, stm, layout, job),
-            Table::Tl2(_) => unreachable!(),
-        },
-        Caller::Tl2(caller) => match table {
-            Table::Tl2(stm) => tl2::try_alone(style, caller, stm, layout, job),
-            Table::Dstm(_) => unreachable!(),
-        },
+    match attempt_job(style, 1, caller, table, layout, job) {
+        Tried::Done(finished) => OnlyTried::Done(finished),
+        Tried::Blocked => OnlyTried::Blocked,
+        Tried::Spent => OnlyTried::Spent,
+        Tried::Again => unreachable!(),
     }
 }
 

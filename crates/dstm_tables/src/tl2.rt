@@ -3,24 +3,21 @@
 ghost use Rattle.std.specs.Prelude.{◌≡◌, ℕ, IfNone, IfSome};
 ghost use Rattle.dstm_tables.specs.Callers.{AtRest, law_of};
 ghost use Rattle.dstm_tables.specs.Jobs.{HasTried};
-ghost use Rattle.dstm_tables.specs.OnlyCallers.{HasGivenUp, HasTriedAlone, WasSpent};
+ghost use Rattle.dstm_tables.specs.OnlyCallers.{HasGivenUp, WasSpent};
 ghost use Rattle.dstm_tables.specs.Styles.{CanTry};
-ghost use Rattle.dstm_tables.specs.declared.style.Style.{Style as Way};
+ghost use Rattle.dstm_tables.specs.declared.style.Style.TheVariants.{Branches};
 ghost use Rattle.dstm_tables.specs.declared.tables.Caller.TheVariants.{Tl2};
 
-use crate::only::OnlyTried;
-use crate::style::Style;
 use crate::trying::{Finished, Tried};
 use dstm_compose::{CompBody, Outcome};
 use dstm_mem::Body;
 use dstm_model::Layout;
-use dstm_store::{JobBody, StoreLaw};
-use dstm_tl2_engine::{TlCaller, TlEnded, TlSpent, TlStm, tl_attempt};
+use dstm_store::StoreLaw;
+use dstm_tl2_engine::{TlCaller, TlSpent, TlStm};
 use dstm_workload::Job;
 
-/// Makes one attempt at a job. No read is let go, whatever the style; one that stands at a blocked job is given up at once.
-pub(crate) fn attempt_job(
-    style: Style,
+/// Makes one attempt at a job, by its first open branch. One that stands at a blocked job is given up at once.
+pub(crate) fn attempt_branches(
     caller: &mut TlCaller<StoreLaw>,
     stm: &TlStm<StoreLaw>,
     layout: &Layout,
@@ -29,54 +26,9 @@ pub(crate) fn attempt_job(
     requires table { caller.old.home ≡ stm.now }
     requires law { (law_of (Tl2 caller.old)).layout ≡ layout.now }
     requires rest { AtRest (Tl2 caller.old) }
-    requires can { CanTry style layout.now job.now }
-    ensures { (rechecks : ℕ) → HasTried style rechecks layout.now job.now (Tl2 caller.old) (Tl2 caller.new) result }
-{
-    match style {
-        Style::Plain => attempt_plain(caller, stm, layout, job),
-        Style::Loose => attempt_plain(caller, stm, layout, job),
-        Style::Branches => attempt_branches(caller, stm, layout, job),
-    }
-}
-
-// The same, by its operations in order.
-fn attempt_plain(
-    caller: &mut TlCaller<StoreLaw>,
-    stm: &TlStm<StoreLaw>,
-    layout: &Layout,
-    job: &Job,
-) -> Tried
-    requires table { caller.old.home ≡ stm.now }
-    requires law { (law_of (Tl2 caller.old)).layout ≡ layout.now }
-    requires rest { AtRest (Tl2 caller.old) }
-    requires can { CanTry Style.Plain layout.now job.now }
-    ensures { (style : Way) (rechecks : ℕ) →
-        HasTried style rechecks layout.now job.now (Tl2 caller.old) (Tl2 caller.new) result }
-{
-    let mut body = JobBody::make(layout, &job.ops);
-    match tl_attempt(caller, stm, &mut body) {
-        Ok(done) => Tried::Done(Finished {
-            number: done.number,
-            replies: body.into_replies(),
-        }),
-        Err(TlEnded::Again(_)) => Tried::Again,
-        Err(TlEnded::Spent) => Tried::Spent,
-    }
-}
-
-// The same, by the first open branch.
-fn attempt_branches(
-    caller: &mut TlCaller<StoreLaw>,
-    stm: &TlStm<StoreLaw>,
-    layout: &Layout,
-    job: &Job,
-) -> Tried
-    requires table { caller.old.home ≡ stm.now }
-    requires law { (law_of (Tl2 caller.old)).layout ≡ layout.now }
-    requires rest { AtRest (Tl2 caller.old) }
-    requires can { CanTry Style.Branches layout.now job.now }
+    requires can { CanTry Branches layout.now job.now }
     ensures { (rechecks : ℕ) →
-        HasTried Style.Branches rechecks layout.now job.now (Tl2 caller.old) (Tl2 caller.new) result }
+        HasTried Branches rechecks layout.now job.now (Tl2 caller.old) (Tl2 caller.new) result }
 {
     let mut tx = match caller.begin(stm) {
         Ok(tx) => tx,
@@ -98,29 +50,6 @@ fn attempt_branches(
             tx.abandon();
             Tried::Again
         }
-    }
-}
-
-/// Tries a job once, by a table's only caller.
-pub(crate) fn try_alone(
-    style: Style,
-    caller: &mut TlCaller<StoreLaw>,
-    stm: &TlStm<StoreLaw>,
-    layout: &Layout,
-    job: &Job,
-) -> OnlyTried
-    requires table { caller.old.home ≡ stm.now }
-    requires only { caller.old.home.terms.callers ≡ 1 }
-    requires law { (law_of (Tl2 caller.old)).layout ≡ layout.now }
-    requires rest { AtRest (Tl2 caller.old) }
-    requires can { CanTry style layout.now job.now }
-    ensures { HasTriedAlone style layout.now job.now (Tl2 caller.old) (Tl2 caller.new) result }
-{
-    match attempt_job(style, caller, stm, layout, job) {
-        Tried::Done(finished) => OnlyTried::Done(finished),
-        Tried::Blocked => OnlyTried::Blocked,
-        Tried::Spent => OnlyTried::Spent,
-        Tried::Again => unreachable!(),
     }
 }
 

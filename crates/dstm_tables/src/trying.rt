@@ -2,11 +2,14 @@ ghost use Rattle.std.specs.Prelude.{◌≡◌, ◌<◌};
 ghost use Rattle.dstm_tables.specs.Callers.{AtRest, home_of, law_of};
 ghost use Rattle.dstm_tables.specs.Jobs.{HasTried};
 ghost use Rattle.dstm_tables.specs.Styles.{CanTry};
+ghost use Rattle.dstm_tables.specs.declared.style.Style.TheVariants.{Branches, Loose, Plain};
 
+use crate::attempting::{Ended, attempt};
 use crate::style::Style;
 use crate::tables::{Caller, Table};
 use crate::{dstm, tl2};
 use dstm_model::{Layout, Replies};
+use dstm_store::JobBody;
 use dstm_workload::Job;
 
 /// How often a blocked attempt makes sure that what it has read stands, before it is given up.
@@ -58,13 +61,71 @@ pub fn attempt_job(
     requires some { 0 < rechecks }
     ensures { HasTried style rechecks layout.now job.now caller.old caller.new result }
 {
+    match style {
+        Style::Plain => attempt_plain(caller, table, layout, job),
+        Style::Loose => attempt_releasing(caller, table, layout, job),
+        Style::Branches => attempt_branches(rechecks, caller, table, layout, job),
+    }
+}
+
+// The same, by its operations in order.
+fn attempt_plain(caller: &mut Caller, table: &Table, layout: &Layout, job: &Job) -> Tried
+    requires table { home_of caller.old ≡ table.now }
+    requires law { (law_of caller.old).layout ≡ layout.now }
+    requires rest { AtRest caller.old }
+    requires can { CanTry Plain layout.now job.now }
+    ensures { HasTried Plain 0 layout.now job.now caller.old caller.new result }
+{
+    let mut body = JobBody::make(layout, &job.ops);
+    match attempt(caller, table, &mut body) {
+        Ok(number) => Tried::Done(Finished {
+            number,
+            replies: body.into_replies(),
+        }),
+        Err(Ended::Again) => Tried::Again,
+        Err(Ended::Spent) => Tried::Spent,
+    }
+}
+
+// The same, and under DSTM it lets reads go.
+fn attempt_releasing(caller: &mut Caller, table: &Table, layout: &Layout, job: &Job) -> Tried
+    requires table { home_of caller.old ≡ table.now }
+    requires law { (law_of caller.old).layout ≡ layout.now }
+    requires rest { AtRest caller.old }
+    requires can { CanTry Loose layout.now job.now }
+    ensures { HasTried Loose 0 layout.now job.now caller.old caller.new result }
+{
     match caller {
         Caller::Dstm(caller) => match table {
-            Table::Dstm(stm) => dstm::attempt_job(style, rechecks, caller, stm, layout, job),
+            Table::Dstm(stm) => dstm::attempt_releasing(caller, stm, layout, job),
+            Table::Tl2(_) => unreachable!(),
+        },
+        Caller::Tl2(_) => attempt_plain(caller, table, layout, job),
+    }
+}
+
+// The same, by the first open branch.
+fn attempt_branches(
+    rechecks: u32,
+    caller: &mut Caller,
+    table: &Table,
+    layout: &Layout,
+    job: &Job,
+) -> Tried
+    requires table { home_of caller.old ≡ table.now }
+    requires law { (law_of caller.old).layout ≡ layout.now }
+    requires rest { AtRest caller.old }
+    requires can { CanTry Branches layout.now job.now }
+    requires some { 0 < rechecks }
+    ensures { HasTried Branches rechecks layout.now job.now caller.old caller.new result }
+{
+    match caller {
+        Caller::Dstm(caller) => match table {
+            Table::Dstm(stm) => dstm::attempt_branches(rechecks, caller, stm, layout, job),
             Table::Tl2(_) => unreachable!(),
         },
         Caller::Tl2(caller) => match table {
-            Table::Tl2(stm) => tl2::attempt_job(style, caller, stm, layout, job),
+            Table::Tl2(stm) => tl2::attempt_branches(caller, stm, layout, job),
             Table::Dstm(_) => unreachable!(),
         },
     }

@@ -15,7 +15,9 @@ use Rattle.dstm_compose.specs.declared.body.Outcome.TheVariants.{Blocked}
 use Rattle.dstm_store.specs.declared.job.JobTask.{JobTask}
 use Rattle.dstm_store.specs.Whole.{IsLawful}
 use Rattle.dstm_tables.specs.declared.style.Style.TheVariants.{Branches}
-use Rattle.dstm_tables.specs.ByDstm.{DidJob, WasKept, StoodAt}
+use Rattle.dstm_tables.specs.declared.tables.Caller.TheVariants.{Dstm}
+use Rattle.dstm_tables.specs.Jobs.{DidJob, StoodAt}
+use Rattle.dstm_tables.specs.Tries.{WasKept}
 use Rattle.dstm_tables.specs.Law.{keeps}
 use Rattle.dstm_order.specs.Tasks.Task.{Leaving}
 use Rattle.dstm_order.specs.Retries.{TriesAgain}
@@ -60,7 +62,7 @@ returns-in-Ok-commit c =
     (ap (λ (x : Called _). x.began) kept) c.in-Ok-commit.ensures.attempt c.in-Ok-commit.ensures.ended.told)
     (λ some. ap (λ (x : Called _). x.fresh) kept ∙ sym (new_committed n
     (run_there t n nh c.in-Ok-commit.ensures.stays.steps.run).run.core c.in-Ok-commit.ensures.number.status some)) in
-    in_the_end (λ (x : Called _). DidJob Branches c.args.layout.now c.args.job.now k x
+    in_the_end (λ (x : Called _). DidJob Branches c.args.layout.now c.args.job.now (Dstm k) (Dstm x)
     (record { number = c.in-Ok-commit.number; replies = c.in-Ran.replies })) _ _ _ _ (assumption c) name
     (did_branch k b t _ _ _ _ begins place c.args.layout.now c.args.job.now
     (record { number = c.in-Ok-commit.number; replies = c.in-Ran.replies }) n c.requires.rest c.requires.law nh one
@@ -89,7 +91,7 @@ returns-in-Err-commit c =
     (ap (λ (x : Called _). x.began) kept) c.in-Err-commit.ensures.attempt c.in-Err-commit.ensures.ended.told)
     (aborted_fresh k b t _ _ _ _ begins place n (ap (λ (x : Called _). x.fresh) kept)
     (run_there t n nh c.in-Err-commit.ensures.leaves.steps.run) left.aborted) in
-    in_the_end (λ (x : Called _). WasKept k x) _ _ _ _ (assumption c) name
+    in_the_end (λ (x : Called _). WasKept (Dstm k) (Dstm x)) _ _ _ _ (assumption c) name
     (was_kept_by k b t _ _ _ _ begins place n _ one left c.in-Err-commit.ensures.done)
 
 pub returns-in-Ok-rechecked : goal.returns-in-Ok-rechecked
@@ -124,7 +126,7 @@ returns-in-Ok-rechecked c =
     rechecked.opened o
     ∙ unopened_by b t o ran.leads.live
     ((ran.looks blocked).opens (ap (λ (h : Home _). h.terms.shape.all_write) began ∙ reads) o) (begins.unopened o) in
-    in_the_end (λ (x : Called _). StoodAt Branches c.args.rechecks c.args.layout.now c.args.job.now k x) _ _ _ _
+    in_the_end (λ (x : Called _). StoodAt Branches c.args.rechecks c.args.layout.now c.args.job.now (Dstm k) (Dstm x)) _ _ _ _
     (assumption c) name
     (stood_at c.args.rechecks c.args.layout.now c.args.job.now k b t u n c.requires.some one
     (left.done ∙ same_done keeps k b u _ _ _ _ begins place) law size rechecked.stands left.steps begins
@@ -146,7 +148,7 @@ returns-in-Err-rechecked c =
     let place = rechecked.place ∙ c.in-Ok-run.ensures.leads.place in
     let name = same_name keeps k b u _ _ _ _ begins place _ c.in-Ok.ensures.same in
     let left : u.left ≢ None = λ none. let some = rechecked.dead in cc in
-    in_the_end (λ (x : Called _). WasKept k x) _ _ _ _ (assumption c) name
+    in_the_end (λ (x : Called _). WasKept (Dstm k) (Dstm x)) _ _ _ _ (assumption c) name
     (was_kept_dead k b u _ _ _ _ begins place c.abandon.new.self.0 _ c.requires.rest
     (c.abandon.ensures.ended (under_way u _ rechecked.dead)).told (c.abandon.ensures.dead left) rechecked.left
     c.abandon.ensures.steps.run)
@@ -163,7 +165,7 @@ returns-in-Err-run c =
     let again : t.left ≡ Some c.in-Err-run.field-0 = leads.ended.1 in
     let left : t.left ≢ None = λ none. let some = again in cc in
     let ended = c.abandon-in-Err-run.ensures.ended (under_way t _ again) in
-    in_the_end (λ (x : Called _). WasKept k x) _ _ _ _ (assumption c) name
+    in_the_end (λ (x : Called _). WasKept (Dstm k) (Dstm x)) _ _ _ _ (assumption c) name
     (was_kept_dead k b t _ _ _ _ begins place c.abandon-in-Err-run.new.self.0 _ c.requires.rest ended.told (c.abandon-in-Err-run.ensures.dead left)
     (subst (λ (o : Option Again). IfSome o (λ (x : Again). IsLeft t x × Promises t x)) again ended.left).0
     c.abandon-in-Err-run.ensures.steps.run)

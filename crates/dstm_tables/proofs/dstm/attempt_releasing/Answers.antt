@@ -1,23 +1,28 @@
-use Rattle.std.proofs.Common.{◌∙◌, ap, subst}
+use Rattle.std.proofs.Common.{◌∙◌, None, ap, refl, subst}
 use Rattle.dstm_store.specs.declared.job.JobTask.{JobTask}
 use Rattle.dstm_engine.specs.Endings.{EndsBy}
 use Rattle.dstm_engine.specs.declared.error.Ended.{Ended}
 use Rattle.dstm_tables.specs.declared.style.Style.TheVariants.{Loose}
 use Rattle.dstm_tables.specs.Law.{keeps}
-use Rattle.dstm_tables.proofs.Made.{did_plain, few_loose, was_kept, is_spent_from}
+use Rattle.dstm_tables.specs.declared.tables.Caller.TheVariants.{Dstm}
+use Rattle.dstm_tables.proofs.Doing.{did_plain}
+use Rattle.dstm_tables.proofs.Made.{did, few_loose, is_spent_from, one_more, was_kept}
 use Rattle.dstm_tables.proofs.dstm.attempt_releasing.Goals as goal
 
 pub returns-in-Ok : goal.returns-in-Ok
 returns-in-Ok c =
+    let k = c.args.caller.now in
+    let n = c.attempt_loose.new.caller in
     let body = c.attempt_loose.new.body in
     let task = c.attempt_loose.ensures.task in
-    did_plain Loose c.args.layout.now c.args.job.now c.args.caller.now c.attempt_loose.new.caller
-    (record { number = c.in-Ok.done.number; replies = c.replies.result }) c.requires.rest c.requires.law
-    c.in-Ok.ensures.attempts body (ap (λ (t : JobTask). t.layout) task ∙ c.make-body.ensures.layout)
-    (ap (λ (t : JobTask). t.ops) task ∙ c.make-body.ensures.ops) c.replies.ensures
-    (c.requires.can.plain (λ is. cc)) c.in-Ok.ensures.settles
-    (few_loose Loose c.args.job.now c.args.caller.now c.attempt_loose.new.caller body.task c.attempt_loose.ensures.table
-    (ap (λ (t : JobTask). t.ops) task ∙ c.make-body.ensures.ops) c.in-Ok.ensures.few)
+    let ops = ap (λ (t : JobTask). t.ops) task ∙ c.make-body.ensures.ops in
+    let attempts = c.in-Ok.ensures.attempts in
+    did_plain c.args.layout.now c.args.job.now (Dstm k) (Dstm n)
+    (record { number = c.in-Ok.done.number; replies = c.replies.result }) c.requires.law Loose body
+    (ap (λ (t : JobTask). t.layout) task ∙ c.make-body.ensures.layout) ops c.replies.ensures (c.requires.can.plain (λ is. cc))
+    (did _ k n c.in-Ok.done.number c.requires.rest (one_more k n None c.requires.rest attempts) (attempts.status refl)
+    c.in-Ok.ensures.settles)
+    (few_loose c.args.job.now k n body.task c.attempt_loose.ensures.table ops c.in-Ok.ensures.few)
 
 pub returns-in-Err-Again : goal.returns-in-Err-Again
 returns-in-Err-Again c =

@@ -3,9 +3,11 @@ use Rattle.std.specs.Prelude.{◌≡◌}
 use Rattle.dstm_mem.proofs.InTheEnd.{in_the_end}
 use Rattle.dstm_engine.proofs.Made.{same_name}
 use Rattle.dstm_engine.specs.Callers.{Called}
-use Rattle.dstm_tables.specs.OnlyByDstm.{HasGivenUp}
+use Rattle.dstm_tables.specs.declared.tables.Caller.TheVariants.{Dstm}
+use Rattle.dstm_tables.specs.OnlyCallers.{HasGivenUp}
 use Rattle.dstm_tables.specs.Law.{keeps}
-use Rattle.dstm_tables.proofs.Sole.{gave_up, stays_lawful, was_spent}
+use Rattle.dstm_tables.proofs.OnlyTries.{was_spent}
+use Rattle.dstm_tables.proofs.Sole.{gave_up, stays_lawful}
 use Rattle.dstm_tables.proofs.Branched.{calls_by, one_more_by}
 use Rattle.dstm_engine.proofs.Anew.{new_committed}
 use Rattle.dstm_tables.proofs.Made.{is_spent_from, run_there}
@@ -13,7 +15,7 @@ use Rattle.dstm_tables.proofs.dstm.give_up.Goals as goal
 
 pub returns-in-Err-clause-spent : goal.returns-in-Err-clause-spent
 returns-in-Err-clause-spent c =
-    was_spent c.args.caller.now c.begin.follows.lender-at-none
+    was_spent (Dstm c.args.caller.now) (Dstm c.begin.follows.lender-at-none)
     (is_spent_from c.args.caller.now c.begin.follows.lender-at-none c.requires.rest
     (rw c.in-Err.is at c.begin.follows.holds-at-none))
 
@@ -39,5 +41,5 @@ returns-clause-given_up c =
     (ap (λ (x : Called _). x.began) kept) c.in-Ok-commit.ensures.attempt c.in-Ok-commit.ensures.ended.told)
     (λ some. ap (λ (x : Called _). x.fresh) kept ∙ sym (new_committed n
     (run_there b n nh c.in-Ok-commit.ensures.stays.steps.run).run.core c.in-Ok-commit.ensures.number.status some)) in
-    in_the_end (λ (x : Called _). HasGivenUp k x c.in-Ok-commit.number) _ _ _ _ (assumption c) name
+    in_the_end (λ (x : Called _). HasGivenUp (Dstm k) (Dstm x) c.in-Ok-commit.number) _ _ _ _ (assumption c) name
     (gave_up k b n c.in-Ok-commit.number begins one c.in-Ok-commit.ensures.number)

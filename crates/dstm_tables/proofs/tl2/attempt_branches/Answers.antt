@@ -13,8 +13,9 @@ use Rattle.dstm_tables.specs.declared.tables.Caller.TheVariants.{Tl2}
 use Rattle.dstm_tables.specs.Jobs.{DidJob, StoodAt}
 use Rattle.dstm_tables.specs.Law.{keeps}
 use Rattle.dstm_tables.specs.Tries.{WasKept}
-use Rattle.dstm_tables.proofs.ByTl2.{tl2_kept, tl2_spent}
-use Rattle.dstm_tables.proofs.JobsByTl2.{did_branch, stood_at}
+use Rattle.dstm_tables.proofs.ByTl2.{tl2_did, tl2_kept, tl2_spent}
+use Rattle.dstm_tables.proofs.Doing.{did_branch}
+use Rattle.dstm_tables.proofs.JobsByTl2.{stood_at}
 use Rattle.dstm_tables.proofs.tl2.attempt_branches.Goals as goal
 
 pub returns-in-Err : goal.returns-in-Err
@@ -40,8 +41,9 @@ returns-in-Ok-commit c = λ rechecks.
     let name = same_name keeps k b t _ _ _ _ begins place _ c.in-Ok.ensures.same in
     in_the_end (λ (x : TlCalled _). DidJob Branches c.args.layout.now c.args.job.now (Tl2 k) (Tl2 x)
     (record { number = c.in-Ok-commit.number; replies = c.in-Ran.replies })) _ _ _ _ (assumption c) name
-    (did_branch c.args.layout.now c.args.job.now k n (record { number = c.in-Ok-commit.number; replies = c.in-Ran.replies })
-    c.requires.rest c.requires.law
+    (did_branch c.args.layout.now c.args.job.now (Tl2 k) (Tl2 n)
+    (record { number = c.in-Ok-commit.number; replies = c.in-Ran.replies }) c.requires.law
+    (tl2_did _ k n c.in-Ok-commit.number c.requires.rest
     (made keeps k b t _ _ _ _ begins place n _ commit.kept commit.stays.attempt commit.number.free
     (λ _. commit.number.valid) commit.seen commit.stays.steps.run)
     (settled keeps k b t _ _ _ _ begins place _ n c.in-Ok-commit.number _ commit.kept commit.stays.steps.run commit.number
@@ -49,7 +51,7 @@ returns-in-Ok-commit c = λ rechecks.
     right_for c.args.layout.now c.args.job.now.ops c.run.new.self.task c.run.new.self.outcome _ map _
     (ap (λ (j : JobTask). j.layout) ran.task ∙ c.make-body.ensures.layout)
     (ap (λ (j : JobTask). j.ops) ran.task ∙ c.make-body.ensures.ops) (sym c.outcome.ensures ∙ c.in-Ran.is)
-    (ran.right map admits))))
+    (ran.right map admits)))))
 
 pub returns-in-Err-commit : goal.returns-in-Err-commit
 returns-in-Err-commit c = λ rechecks.
