@@ -1,5 +1,5 @@
 -- A caller that was just made has begun no attempt, and has committed none.
-use Rattle.std.proofs.Common.{◌≡◌, ◌⊎◌, ◌==◌, ◌&&◌, ℕ, true, false, List, [], ◌∷◌, ◌++◌, Some, is_some, refl, ap, sym, subst, ◌∙◌, inl, inr}
+use Rattle.std.proofs.Common.{◌≡◌, ◌⊎◌, ◌==◌, ◌&&◌, ℕ, true, false, List, [], ◌∷◌, ◌++◌, None, Some, is_some, refl, ap, sym, subst, ◌∙◌, inl, inr}
 use Rattle.std.proofs.lemmas.Bool.{cases_Bool, cond_both, eqb-true, eq-eqb}
 use Rattle.std.proofs.lemmas.List.{append-nil}
 use Rattle.std.proofs.lemmas.List.Elements.{All-cons, All-nil, filter-append}
@@ -23,12 +23,14 @@ use Rattle.dstm_managers.specs.Choices.{started}
 use Rattle.dstm_words.specs.Seats.{Home, IsRunOf}
 use Rattle.dstm_engine.specs.Attempts.{done}
 use Rattle.dstm_engine.specs.Callers.{Called, is_running, shape_of, start_of, state}
-use Rattle.dstm_engine.specs.Tables.{Enrols, Founding}
+use Rattle.dstm_engine.specs.Tables.{Enrols, Founding, unnumbered}
+use Rattle.dstm_engine.proofs.AddingUp.{makes_one}
 use Rattle.dstm_store.specs.declared.law.StoreLaw.{StoreLaw}
-use Rattle.dstm_order.specs.Retries.{is_new}
+use Rattle.dstm_order.specs.Retries.{TriesAgain, is_new}
 use Rattle.dstm_tables.specs.declared.tables.Caller.TheVariants.{Dstm}
-use Rattle.dstm_tables.specs.Callers.{AtRest}
+use Rattle.dstm_tables.specs.Callers.{AtRest, CameByCalls}
 use Rattle.dstm_tables.specs.Law.{keeps}
+use Rattle.dstm_tables.proofs.Calls.{from_first}
 
 -- an event that stands first among a caller's is that caller's
 head_own : (c : ℕ) (log : List Event) (event : Event) (more : List Event) → events_of c log ≡ event ∷ more → event.caller ≡ c
@@ -125,6 +127,11 @@ module _ (f g : Founding StoreLaw) (seed : ℕ) (k : Called StoreLaw) (enrols : 
 
   pub fresh_generator : k.generator ≡ (started f.home.terms.shape.manager seed).generator
   fresh_generator = ap (λ (x : Called StoreLaw). x.generator) enrols.caller
+
+  pub fresh_came : CameByCalls seed (Dstm k)
+  fresh_came =
+      let u : Called StoreLaw = record (unnumbered f seed) { number = k.number } in
+      from_first seed u k none_there refl (makes_one TriesAgain keeps Enrolling u k None tt enrols.steps)
 
 -- an event that gives a number to a caller that has none has installed nothing
 abbrev NoneInstalled : ℕ → LocalState → Type 0

@@ -46,6 +46,7 @@ dstm_new t f g seed k home e = record {
   seeded =
       subst (λ (h : words.Home StoreLaw). k.generator ≡ (started h.terms.shape.manager seed).generator)
       (sym (fresh.fresh_home f g seed k e)) (fresh.fresh_generator f g seed k e);
+  came = fresh.fresh_came f g seed k e;
   rest = fresh.fresh_rest f g seed k e;
   none_begun = fresh.fresh_begun f g seed k e;
   none_used = fresh.fresh_installed f g seed k e;
@@ -92,6 +93,7 @@ module _ (f g : tl2_tables.TlFounding StoreLaw) (k : called.TlCalled StoreLaw) (
   tl2_new t seed home = record {
     home = ap table.Tl2 at_home ∙ home;
     seeded = tt;
+    came = tt;
     rest = record {
       run = subst (λ (h : tl2_words.Home StoreLaw). IsRunOf keeps h.terms k.log) (sym at_home) e.steps.run;
       enrolled = ap (λ (l : LocalState). l.number) e.state;

@@ -11,6 +11,7 @@ pub mod Branched
 pub mod Unused
 pub mod OnlyByDstm
 pub mod Sole
+pub mod Calls
 pub mod Fresh
 pub mod SightsByDstm
 pub mod ClosingByDstm

@@ -4,7 +4,8 @@ use Rattle.dstm_model.specs.Answers.{Committed}
 use Rattle.dstm_store.specs.declared.law.StoreLaw.{StoreLaw}
 use Rattle.dstm_engine.specs.Callers as dstm
 use Rattle.dstm_managers.specs.Choices.{started}
-use Rattle.dstm_order.specs.Retries.{is_new}
+use Rattle.dstm_engine.specs.Makes.{Makes}
+use Rattle.dstm_order.specs.Retries.{TriesAgain, is_new}
 use Rattle.dstm_tl2_engine.specs.Callers as tl2
 use Rattle.dstm_tables.specs.declared.tables.Caller.{Caller}
 use Rattle.dstm_tables.specs.declared.tables.Caller.TheVariants.{Dstm, Tl2}
@@ -46,6 +47,15 @@ BeginsRight (Tl2 k) = Unit {0}
 abbrev pub HasSeed : ℕ → Caller → Type 0
 HasSeed seed (Dstm k) = k.generator ≡ (started k.home.terms.shape.manager seed).generator
 HasSeed seed (Tl2 k) = Unit {0}
+
+-- under DSTM as it was before its first event, with the generator of this seed
+abbrev pub at_first : ℕ → dstm.Called StoreLaw → dstm.Called StoreLaw
+at_first seed k = record k { log = []; generator = (started k.home.terms.shape.manager seed).generator }
+
+-- Under DSTM it has come by calls, each transaction again until it committed, from the generator of this seed on.
+abbrev pub CameByCalls : ℕ → Caller → Type 0
+CameByCalls seed (Dstm k) = Makes TriesAgain (at_first seed k) k
+CameByCalls seed (Tl2 k) = Unit {0}
 
 abbrev pub done : Caller → List Committed
 done k = done_of (round_of k) (number_of k)

@@ -12,7 +12,7 @@ use Rattle.dstm_tables.specs.declared.tables.Round.{Round}
 use Rattle.dstm_tables.specs.declared.tables.Round.TheVariants as round
 use Rattle.dstm_tables.specs.declared.tables.Table.{Table}
 use Rattle.dstm_tables.specs.declared.tables.Table.TheVariants as table
-use Rattle.dstm_tables.specs.Callers.{AtRest, HasSeed, begun, done, home_of, number_of, round_of}
+use Rattle.dstm_tables.specs.Callers.{AtRest, CameByCalls, HasSeed, begun, done, home_of, number_of, round_of}
 use Rattle.dstm_tables.specs.Tells.{IsOf, IsPast, SameOwn, attempts_of, callers_of, layout_of, start_of, used_by}
 
 -- its table
@@ -77,10 +77,11 @@ pub record IsFounded (engine : Engine) (values : List Val) (shape : Shape) (law 
   pub told : IsTold engine values shape law (first_of t)
   pub founder : HasGivenNone t f
 
--- the founder of the table has given out a new caller, of this seed
+-- the founder of the table has given out a new caller, which has come by calls from the generator of this seed on
 pub record GivesOut (t : Table) (f g : Founder) (seed : ℕ) (k : Caller) : Type 0 where
   pub home : home_of k ≡ t
   pub seeded : HasSeed seed k
+  pub came : CameByCalls seed k
   pub rest : AtRest k
   pub none_begun : begun k ≡ 0
   pub none_used : used_by (round_of k) (number_of k) ≡ 0

@@ -14,7 +14,10 @@ use Rattle.dstm_core.specs.Events as core_events
 use Rattle.dstm_core.specs.Histories as core_histories
 use Rattle.dstm_core.specs.Runs as core
 use Rattle.dstm_opacity.specs.Committed as core_answers
+use Rattle.dstm_managers.specs.Choices.{started}
+use Rattle.dstm_order.specs.Made as made
 use Rattle.dstm_order.specs.Order as order
+use Rattle.dstm_order.specs.Retries.{TriesAgain}
 use Rattle.dstm_progress.specs.Disturbed as causes
 use Rattle.dstm_words.specs.Seats as words
 use Rattle.dstm_words.specs.declared.terms.Terms as core_terms
@@ -161,6 +164,14 @@ WasGivenUpAfter rechecks (Tl2 r) c i = tl2_causes.HasNoDraw (tl2_sharing.table_o
 abbrev pub seen_of : Round → (c i : ℕ) → List (ℕ × Val)
 seen_of (Dstm r) c i = attempts.seen_last r.terms.shape r.terms.start.value.items r.log r.log c i
 seen_of (Tl2 r) c i = tl2_causes.reads_of (tl2_sharing.table_of r.terms) r.log c i
+
+-- ---- the calls of a caller
+
+-- Under DSTM caller c's own events are those of calls that obey the order of steps, one after the other from nothing and with
+-- the generator of this seed, each transaction again until it committed.
+abbrev pub ByCalls : (seed : ℕ) → Round → ℕ → Type 0
+ByCalls seed (Dstm r) c = made.ByCalls TriesAgain r.terms.shape (started r.terms.shape.manager seed).generator r.log c
+ByCalls seed (Tl2 r) c = Unit {0}
 
 -- ---- what attempts saw
 
