@@ -2,7 +2,7 @@
 use Rattle.std.proofs.Common.{◌≡◌, ℕ, ◌<◌, ◌≤◌, Bool, true, cond, List, [], ◌∷◌, ◌++◌, length, map, get_or, Option, Some, None, refl, ap, sym, subst, ◌∙◌, arith, true≢false}
 use Rattle.std.specs.List.{All, AllByRecursion, Contains, slice_get}
 use Rattle.std.specs.Option.{option_map}
-use Rattle.std.proofs.lemmas.List.{append-nil, length-map}
+use Rattle.std.proofs.lemmas.List.{length-map}
 use Rattle.std.proofs.lemmas.List.Elements.{recursion_from_All, All-from_recursion}
 use Rattle.std.proofs.lemmas.Option.{slice_get-get_or, slice_get-map, slice_get_within, none-some, same_Some}
 use Rattle.dstm_model.specs.declared.layout.Layout.{Layout}
@@ -23,14 +23,16 @@ use Rattle.dstm_tables.specs.Tells.{callers_of, committed_of, start_of}
 use Rattle.dstm_tables.proofs.History.{sights_agree}
 use Rattle.dstm_records.specs.Records.{ArePaired, IsMade, IsParallel, IsRoundOf, IsRun, TellOf, next_of}
 use Rattle.dstm_records.specs.Rounds.{all_workers, greatest, has_job, is_parallel, left_by, most_jobs, workers_in, workers_left}
-use Rattle.dstm_records.specs.Running.{AddsClosed, AddsRound, Begins, HasPlayed, IsClosed, turns_behind}
+use Rattle.dstm_records.specs.Running.{AddsRound, Begins, turns_behind}
 use Rattle.dstm_records.proofs.Collecting.{Collected}
 use Rattle.dstm_records.proofs.Making.{reads_let_go}
 use Rattle.dstm_records.proofs.Told.{fewer_left, rows_told}
+use Rattle.dstm_crew.specs.declared.progress.Progress.{Progress}
 use Rattle.dstm_crew.specs.declared.share.Share.{Share}
 use Rattle.dstm_crew.specs.Collecting.{AreRunBy, CanCollect, HasCollected, IsFit, caller_of}
 use Rattle.dstm_crew.specs.Shares.{AreShares, IsOpen, IsShared, WereRun, asked_of, most_places, workers_of}
 use Rattle.dstm_crew.specs.Workers.{AreDone, next_job}
+use Rattle.dstm_crew.specs.Playing.{HasPlayed}
 use Rattle.dstm_crew.proofs.Going.{at_place, each_place, workers_apart}
 use Rattle.dstm_crew.proofs.Merged.{caller_at, shared_at, shared_size}
 use Rattle.dstm_crew.proofs.Numbers.{apart_places}
@@ -268,27 +270,21 @@ module _ (workload : Workload) (options : Options) (number : ℕ) (rows : List R
       some = λ odd. absurd (true≢false (sym parallel ∙ odd));
     }
 
-    pub has_played : (rounds rounds_then : List Round) → rounds_then ≡ rounds ++ closed ∷ [] →
-        HasPlayed workload options number rows rows_then values left rounds rounds_then turns_then
-    has_played rounds rounds_then rounds_are = record {
+-- a round was played
+pub has_played : (workload : Workload) (options : Options) (number : ℕ) (old new : Progress)
+    (shares shares_then : List Share) (closed : Round) → is_parallel number ≡ true →
+    Begins workload number old.rows.items old.values.items → old.turns ≡ turns_behind workload old.rows.items →
+    AreShares workload old.turns.left (workers_of workload number old.turns.left) shares →
+    (run : WereRun workload options number old.values.items new.values.items shares shares_then closed) →
+    HasCollected workload options number closed shares_then run.callers old.rows.items new.rows.items new.turns →
+    new.rounds.items ≡ old.rounds.items ++ closed ∷ [] → HasPlayed workload options number old new
+has_played workload options number old new shares shares_then closed parallel begins turned are run collected rounds_are =
+    record {
       now = collected.now;
       closed = closed;
       rows_are = collected.rows_are;
       rounds_are = rounds_are;
-      adds = adds_round;
+      adds = adds_round workload options number old.rows.items old.values.items new.values.items old.turns shares shares_then
+          closed parallel begins turned are run new.rows.items new.turns collected;
       turns_are = collected.turns_are;
     }
-
--- a table whose log is a run was closed
-pub closed_round : (workload : Workload) (closed : Round) → IsRun workload.layout closed → IsClosed workload.layout closed
-closed_round workload closed run = record { run = run; sights = sights_agree closed run.run }
-
--- nothing was added
-pub adds_none : (layout : Layout) (rounds rounds_then : List Round) → rounds_then ≡ rounds → AddsClosed layout rounds rounds_then
-adds_none layout rounds rounds_then same = ([], (same ∙ sym (append-nil rounds), λ k d within. absurd (omega (arith, within))))
-
--- a closed round was added
-pub adds_one : (layout : Layout) (rounds rounds_then : List Round) (closed : Round) → rounds_then ≡ rounds ++ closed ∷ [] →
-    IsClosed layout closed → AddsClosed layout rounds rounds_then
-adds_one layout rounds rounds_then closed is known =
-    (closed ∷ [], (is, All-from_recursion (IsClosed layout) (closed ∷ []) (known, tt)))

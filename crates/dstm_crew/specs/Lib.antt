@@ -5,3 +5,4 @@ pub mod Opened
 pub mod Shares
 pub mod Collecting
 pub mod Seats
+pub mod Playing

@@ -1,21 +1,24 @@
-ghost use Rattle.std.specs.Prelude.{◌≡◌, ◌<◌, ◌≤◌, ◌+◌, ◌%◌, ◌^◌, ◌==◌, ◌&&◌, not, false, length, vec_len, vec_capacity, IfOk, IfErr, IfSome};
+ghost use Rattle.std.specs.Prelude.{◌≡◌, ◌≤◌, ◌+◌, ◌%◌, ◌^◌, ◌==◌, ◌&&◌, not, false, length, IfOk, IfSome, OnOk, OnErr};
 ghost use Rattle.std.specs.List.{slice_get};
 ghost use Rattle.dstm_workload.specs.Workload.{IsValidWorkload};
 ghost use Rattle.dstm_store.specs.Whole.{IsLawful};
 ghost use Rattle.dstm_records.specs.Rounds.{is_parallel};
-ghost use Rattle.dstm_records.specs.Running.{turns_behind, AddsClosed, Begins, HasPlayed};
 ghost use Rattle.dstm_tables.specs.Callers.{HasSeed};
 ghost use Rattle.dstm_crew.specs.Opened.{IsOpened, with_jobs};
+ghost use Rattle.dstm_crew.specs.Playing.{CanPlay, HasPlayed};
 
+use crate::play::Play;
+use crate::progress::Progress;
 use crate::sweeping::run_alone;
 use dstm_model::Val;
 use dstm_options::Options;
 use dstm_records::shape_for;
-use dstm_report::{Row, Turns};
+use dstm_report::Turns;
 use dstm_store::StoreLaw;
-use dstm_tables::{Caller, Founder, Round, Table, make};
+use dstm_tables::{Caller, Founder, Table, make};
 use dstm_workload::Workload;
 use std::alloc::{AllocError, Global};
+use std::mem::replace;
 
 // The workers that have jobs left: how many they are, and the least of them.
 #[derive(Clone, Copy)]
@@ -24,35 +27,36 @@ struct Waiting {
     first: u32,
 }
 
-// Plays an alone round: one caller runs the first job left of each worker. The parameters are those of a parallel round.
-pub(crate) fn play_alone(
+// Plays an alone round: one caller runs the first job left of each worker. Where memory runs out no record was added.
+pub(crate) fn play_alone<G>(
     alloc: Global,
-    workload: &Workload,
-    options: &Options,
+    play: &Play<'_, G>,
     number: u64,
-    values: Vec<Val>,
-    turns: &mut Turns<'_>,
-    rows: &mut Vec<Row>,
-    rounds: &mut Vec<Round>,
-) -> Result<Vec<Val>, AllocError>
-    requires begins { Begins workload.now number rows.old.items values.items }
+    progress: &mut Progress<'_>,
+) -> Result<(), AllocError>
+    requires can { CanPlay play.now.workload.now number progress.old }
     requires alone { is_parallel number ≡ false }
-    requires turns { turns.old ≡ turns_behind workload.now rows.old.items }
-    requires rows { vec_len rows.old + length turns.old.left ≤ vec_capacity rows.old }
-    requires record { vec_len rounds.old < vec_capacity rounds.old }
-    ensures played { IfOk result (λ left. HasPlayed workload.now options.now number rows.old.items rows.new.items
-        values.items left.items rounds.old.items rounds.new.items turns.new) }
-    ensures closed { IfErr result (λ _. AddsClosed workload.now.layout rounds.old.items rounds.new.items) }
+    ensures played { OnOk result (HasPlayed play.now.workload.now play.now.options.now number progress.old progress.new) }
+    ensures none { OnErr result (progress.new.rounds.items ≡ progress.old.rounds.items) }
 {
-    let waiting = count_waiting(turns, workload.workers);
-    let (table, founder, caller) = open_table(alloc, workload, options, waiting, values)?;
+    let waiting = count_waiting(&progress.turns, play.workload.workers);
+    let values = replace(&mut progress.values, Vec::new(alloc));
+    let (table, founder, caller) = open_table(alloc, play.workload, play.options, waiting, values)?;
     let mut founder = founder;
     let mut caller = caller;
-    run_alone(&table, &mut caller, workload, options, number, turns, rows);
+    run_alone(
+        &table,
+        &mut caller,
+        play,
+        number,
+        &mut progress.turns,
+        &mut progress.rows,
+    );
     founder.retire(&table, caller);
     let (left, closed) = table.close(alloc, founder)?;
-    rounds.push_reserved(closed);
-    Ok(left)
+    progress.values = left;
+    progress.rounds.push_reserved(closed);
+    Ok(())
 }
 
 // The workers below this number that have jobs left.

@@ -1,4 +1,4 @@
-ghost use Rattle.std.specs.Prelude.{◌≡◌, ◌<◌, ◌≤◌, ◌+◌, ◌++◌, ◌∷◌, [], List, length, vec_len, vec_capacity, IfNone, IfSome, OnOk, ℕ};
+ghost use Rattle.std.specs.Prelude.{◌≡◌, ◌<◌, ◌≤◌, ◌+◌, ◌++◌, ◌∷◌, [], List, length, vec_len, vec_capacity, IfNone, IfSome, replicate, ℕ};
 ghost use Rattle.dstm_tables.specs.declared.tables.Round.{Round};
 ghost use Rattle.dstm_options.specs.declared.options.Options.{Options as Choices};
 ghost use Rattle.dstm_crew.specs.Collecting.{AreRunBy, AreTaken, CanCollect, HasCollected, IsFit, IsNext, IsRowOf, lesser_of, number_at};
@@ -6,26 +6,26 @@ ghost use Rattle.dstm_crew.specs.Collecting.{AreRunBy, AreTaken, CanCollect, Has
 use crate::share::Share;
 use dstm_report::{Row, Turns};
 use dstm_workload::Workload;
-use std::alloc::{AllocError, Global};
 
 /// Adds a row for all that was done of the shares, in the order of the numbers: the share with the least next number goes
-/// next. There are few shares, so each of them is looked at for each row.
+/// next. There are few shares, so each of them is looked at for each row. `next` has a 0 for each.
 pub(crate) fn collect(
-    alloc: Global,
     workload: &Workload,
     round: u64,
     shares: &[Share],
+    next: Vec<usize>,
     turns: &mut Turns<'_>,
     rows: &mut Vec<Row>,
-) -> Result<(), AllocError>
+)
     requires can { CanCollect workload.now shares.now rows.old.items turns.old }
     requires room { vec_len rows.old + length turns.old.left ≤ vec_capacity rows.old }
-    ensures room { OnOk result (vec_len rows.new + length turns.new.left ≤ vec_capacity rows.new) }
-    ensures collected { OnOk result ((options : Choices) (r : Round) (callers : List ℕ) →
+    requires next { next.items ≡ replicate (length shares.now) 0 }
+    ensures room { vec_len rows.new + length turns.new.left ≤ vec_capacity rows.new }
+    ensures collected { (options : Choices) (r : Round) (callers : List ℕ) →
         AreRunBy workload.now options r shares.now callers →
-        HasCollected workload.now options round r shares.now callers rows.old.items rows.new.items turns.new) }
+        HasCollected workload.now options round r shares.now callers rows.old.items rows.new.items turns.new }
 {
-    let mut next = vec![in alloc; 0; shares.len()]?;
+    let mut next = next;
     while let Some(least) = next_share(shares, &next) {
         let share = &shares[least];
         let place = next[least];
@@ -33,7 +33,6 @@ pub(crate) fn collect(
         turns.pass(share.worker);
         next[least] = place + 1;
     }
-    Ok(())
 }
 
 // The place of the share with the least next number.

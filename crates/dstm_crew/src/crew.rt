@@ -1,18 +1,20 @@
-ghost use Rattle.std.specs.Prelude.{◌≡◌, ◌++◌, [], length, All, IfOk};
+ghost use Rattle.std.specs.Prelude.{◌≡◌, ◌++◌, [], length, All, IfOk, IfErr};
 ghost use Rattle.dstm_workload.specs.Workload.{IsValidWorkload};
 ghost use Rattle.dstm_report.specs.Lawful.{IsLawful, RowsAreGood, declared_as, store_after};
+ghost use Rattle.dstm_store.specs.Opening.{opening_values};
 ghost use Rattle.dstm_store.specs.Whole.{StandsFor};
 ghost use Rattle.dstm_records.specs.Records.{StandFor};
-ghost use Rattle.dstm_records.specs.Running.{added, AddsClosed, IsClosed};
+ghost use Rattle.dstm_records.specs.Running.{added, turns_behind, Begins, IsClosed};
 
 use crate::gate::Gate;
+use crate::play::Play;
+use crate::progress::Progress;
 use crate::rounds::play_rounds;
 use dstm_model::Val;
 use dstm_options::Options;
 use dstm_records::Rounds;
-use dstm_report::{Report, Row, Rows};
+use dstm_report::{Report, Row, Rows, Turns};
 use dstm_store::{opening, read_state};
-use dstm_tables::Round;
 use dstm_workload::Workload;
 use std::alloc::{AllocError, Global};
 use std::mem::replace;
@@ -35,30 +37,50 @@ pub fn run_crew<R: Threads + Sync, G: Gate + Sync>(
     ensures stand { IfOk result (StandFor workload.now options.now (added rounds.old rounds.new)) }
     ensures closed { All (IsClosed workload.now.layout) (added rounds.old rounds.new) }
 {
-    let mut records = replace(rounds, Rounds::make(alloc)).into_vec();
-    let ran = run_all(rt, alloc, workload, options, gate, &mut records);
+    let play = Play {
+        workload,
+        options,
+        gate,
+    };
+    let mut progress = begin(alloc, workload, rounds)?;
+    let played = play_rounds(rt, alloc, &play, &mut progress);
+    let Progress {
+        values,
+        turns: _,
+        rows,
+        rounds: records,
+    } = progress;
     *rounds = Rounds::from_vec(records);
-    ran
+    played?;
+    report_of(alloc, workload, rows, &values)
 }
 
-// The same, with the rounds in a vector.
-fn run_all<R: Threads + Sync, G: Gate + Sync>(
-    rt: &R,
+// Before the first round: the opening values, and all jobs are left. The records that were there go along; where memory runs
+// out they stay.
+fn begin<'a>(
     alloc: Global,
-    workload: &Workload,
-    options: &Options,
-    gate: &G,
-    rounds: &mut Vec<Round>,
-) -> Result<Report, AllocError>
+    workload: &'a Workload,
+    rounds: &mut Rounds,
+) -> Result<Progress<'a>, AllocError>
     requires { IsValidWorkload workload.now }
-    ensures lawful { IfOk result (IsLawful workload.now) }
-    ensures stand { IfOk result (StandFor workload.now options.now (added rounds.old.items rounds.new.items)) }
-    ensures closed { AddsClosed workload.now.layout rounds.old.items rounds.new.items }
+    ensures begins { IfOk result (λ progress. Begins workload.now 0 [] progress.values.items) }
+    ensures rows { IfOk result (λ progress. progress.rows.items ≡ []) }
+    ensures turns { IfOk result (λ progress. progress.turns ≡ turns_behind workload.now []) }
+    ensures values { IfOk result (λ progress. progress.values.items ≡ opening_values workload.now.layout) }
+    ensures rounds { IfOk result (λ progress. progress.rounds.items ≡ rounds.old) }
+    ensures kept { IfErr result (λ _. rounds.new ≡ rounds.old) }
 {
     let layout = workload.layout;
     let values = opening(alloc, &layout)?;
-    let (rows, values) = play_rounds(rt, alloc, workload, options, gate, values, rounds)?;
-    report_of(alloc, workload, rows, &values)
+    let jobs = workload.jobs.as_slice();
+    let turns = Turns::new(alloc, jobs, workload.workers)?;
+    let rounds = replace(rounds, Rounds::make(alloc)).into_vec();
+    Ok(Progress {
+        values,
+        turns,
+        rows: Vec::new(alloc),
+        rounds,
+    })
 }
 
 // The report of these rows, which have left these values.

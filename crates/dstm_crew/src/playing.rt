@@ -1,47 +1,52 @@
-ghost use Rattle.std.specs.Prelude.{◌≡◌, ◌<◌, ◌≤◌, ◌+◌, true, length, vec_len, vec_capacity, IfOk, IfErr};
+ghost use Rattle.std.specs.Prelude.{◌≡◌, ◌≤◌, ◌+◌, true, length, vec_len, vec_capacity, OnOk, OnErr};
 ghost use Rattle.dstm_records.specs.Rounds.{is_parallel};
-ghost use Rattle.dstm_records.specs.Running.{AddsClosed, Begins, HasPlayed, turns_behind};
+ghost use Rattle.dstm_crew.specs.Playing.{CanPlay, HasPlayed};
 
 use crate::collecting::collect;
 use crate::gate::Gate;
+use crate::play::Play;
+use crate::progress::Progress;
 use crate::running::run_shares;
 use crate::sharing::shares_of;
-use dstm_model::Val;
-use dstm_options::Options;
-use dstm_report::{Row, Turns};
-use dstm_tables::Round;
-use dstm_workload::Workload;
 use std::alloc::{AllocError, Global};
+use std::mem::replace;
 use std::thread::Threads;
 
-/// Plays a parallel round: `rows` are those of the rounds before, which left these values, and there is room for the rows
-/// of all jobs left and for the round's record. In round 0 each worker passes the gate.
+/// Plays a parallel round. In round 0 each worker passes the gate. Nothing fails behind the table's close: where memory
+/// runs out no record was added.
 pub fn play_parallel<R: Threads + Sync, G: Gate + Sync>(
     rt: &R,
     alloc: Global,
-    workload: &Workload,
-    options: &Options,
-    gate: &G,
+    play: &Play<'_, G>,
     number: u64,
-    values: Vec<Val>,
-    turns: &mut Turns<'_>,
-    rows: &mut Vec<Row>,
-    rounds: &mut Vec<Round>,
-) -> Result<Vec<Val>, AllocError>
-    requires begins { Begins workload.now number rows.old.items values.items }
+    progress: &mut Progress<'_>,
+) -> Result<(), AllocError>
+    requires can { CanPlay play.now.workload.now number progress.old }
     requires parallel { is_parallel number ≡ true }
-    requires turns { turns.old ≡ turns_behind workload.now rows.old.items }
-    requires rows { vec_len rows.old + length turns.old.left ≤ vec_capacity rows.old }
-    requires record { vec_len rounds.old < vec_capacity rounds.old }
-    ensures played { IfOk result (λ left. HasPlayed workload.now options.now number rows.old.items rows.new.items
-        values.items left.items rounds.old.items rounds.new.items turns.new) }
-    ensures room { IfOk result (λ _. vec_len rows.new + length turns.new.left ≤ vec_capacity rows.new) }
-    ensures closed { IfErr result (λ _. AddsClosed workload.now.layout rounds.old.items rounds.new.items) }
+    ensures played { OnOk result (HasPlayed play.now.workload.now play.now.options.now number progress.old progress.new) }
+    ensures room { OnOk result (vec_len progress.new.rows + length progress.new.turns.left ≤ vec_capacity progress.new.rows) }
+    ensures none { OnErr result (progress.new.rounds.items ≡ progress.old.rounds.items) }
 {
-    let shares = shares_of(alloc, workload, number, turns)?;
+    let shares = shares_of(alloc, play.workload, number, &progress.turns)?;
+    let next = vec![in alloc; 0; shares.len()]?;
+    let values = replace(&mut progress.values, Vec::new(alloc));
     let (shares, left) = run_shares(
-        rt, alloc, workload, options, gate, number, values, shares, rounds,
+        rt,
+        alloc,
+        play,
+        number,
+        values,
+        shares,
+        &mut progress.rounds,
     )?;
-    collect(alloc, workload, number, &shares, turns, rows)?;
-    Ok(left)
+    progress.values = left;
+    collect(
+        play.workload,
+        number,
+        &shares,
+        next,
+        &mut progress.turns,
+        &mut progress.rows,
+    );
+    Ok(())
 }

@@ -1,14 +1,12 @@
-ghost use Rattle.std.specs.Prelude.{◌≡◌, ◌<◌, ◌≤◌, ◌+◌, [], length, vec_len, vec_capacity, IfOk, IfErr};
-ghost use Rattle.dstm_records.specs.Running.{added, turns_behind, AddsClosed, Begins, HasEnded, HasPlayed};
+ghost use Rattle.std.specs.Prelude.{◌≡◌, [], OnOk, OnErr};
+ghost use Rattle.dstm_records.specs.Running.{added, turns_behind, AddsClosed, Begins, HasEnded};
+ghost use Rattle.dstm_crew.specs.Playing.{CanPlay, HasPlayed};
 
 use crate::alone::play_alone;
 use crate::gate::Gate;
+use crate::play::Play;
 use crate::playing::play_parallel;
-use dstm_model::Val;
-use dstm_options::Options;
-use dstm_report::{Row, Turns};
-use dstm_tables::Round;
-use dstm_workload::Workload;
+use crate::progress::Progress;
 use std::alloc::{AllocError, Global};
 use std::thread::Threads;
 
@@ -17,63 +15,44 @@ use std::thread::Threads;
 pub(crate) fn play_rounds<R: Threads + Sync, G: Gate + Sync>(
     rt: &R,
     alloc: Global,
-    workload: &Workload,
-    options: &Options,
-    gate: &G,
-    values: Vec<Val>,
-    rounds: &mut Vec<Round>,
-) -> Result<(Vec<Row>, Vec<Val>), AllocError>
-    requires { Begins workload.now 0 [] values.items }
-    ensures ended { IfOk result (λ r. HasEnded workload.now options.now values.items
-        (added rounds.old.items rounds.new.items) r.0.items r.1.items) }
-    ensures closed { AddsClosed workload.now.layout rounds.old.items rounds.new.items }
+    play: &Play<'_, G>,
+    progress: &mut Progress<'_>,
+) -> Result<(), AllocError>
+    requires begins { Begins play.now.workload.now 0 [] progress.old.values.items }
+    requires rows { progress.old.rows.items ≡ [] }
+    requires turns { progress.old.turns ≡ turns_behind play.now.workload.now [] }
+    ensures ended { OnOk result (HasEnded play.now.workload.now play.now.options.now progress.old.values.items
+        (added progress.old.rounds.items progress.new.rounds.items) progress.new.rows.items progress.new.values.items) }
+    ensures closed { AddsClosed play.now.workload.now.layout progress.old.rounds.items progress.new.rounds.items }
 {
-    let jobs = workload.jobs.as_slice();
-    let mut turns = Turns::new(alloc, jobs, workload.workers)?;
-    let mut rows = Vec::new(alloc);
-    let mut values = values;
+    let jobs = play.workload.jobs.as_slice();
     let mut number = 0;
     let mut more = true;
     while more {
-        rows.reserve(jobs.len() - rows.len())?;
-        rounds.reserve(1)?;
-        values = play_round(
-            rt, alloc, workload, options, gate, number, values, &mut turns, &mut rows, rounds,
-        )?;
-        more = rows.len() < jobs.len();
+        progress.rows.reserve(jobs.len() - progress.rows.len())?;
+        progress.rounds.reserve(1)?;
+        play_round(rt, alloc, play, number, progress)?;
+        more = progress.rows.len() < jobs.len();
         number += 1;
     }
-    Ok((rows, values))
+    Ok(())
 }
 
-// Plays a round: every other one is parallel.
+// Plays a round: every other one is parallel. Where memory runs out no record was added.
 fn play_round<R: Threads + Sync, G: Gate + Sync>(
     rt: &R,
     alloc: Global,
-    workload: &Workload,
-    options: &Options,
-    gate: &G,
+    play: &Play<'_, G>,
     number: u64,
-    values: Vec<Val>,
-    turns: &mut Turns<'_>,
-    rows: &mut Vec<Row>,
-    rounds: &mut Vec<Round>,
-) -> Result<Vec<Val>, AllocError>
-    requires begins { Begins workload.now number rows.old.items values.items }
-    requires turns { turns.old ≡ turns_behind workload.now rows.old.items }
-    requires rows { vec_len rows.old + length turns.old.left ≤ vec_capacity rows.old }
-    requires record { vec_len rounds.old < vec_capacity rounds.old }
-    ensures played { IfOk result (λ left. HasPlayed workload.now options.now number rows.old.items rows.new.items
-        values.items left.items rounds.old.items rounds.new.items turns.new) }
-    ensures closed { IfErr result (λ _. AddsClosed workload.now.layout rounds.old.items rounds.new.items) }
+    progress: &mut Progress<'_>,
+) -> Result<(), AllocError>
+    requires { CanPlay play.now.workload.now number progress.old }
+    ensures played { OnOk result (HasPlayed play.now.workload.now play.now.options.now number progress.old progress.new) }
+    ensures none { OnErr result (progress.new.rounds.items ≡ progress.old.rounds.items) }
 {
     if number % 2 == 0 {
-        play_parallel(
-            rt, alloc, workload, options, gate, number, values, turns, rows, rounds,
-        )
+        play_parallel(rt, alloc, play, number, progress)
     } else {
-        play_alone(
-            alloc, workload, options, number, values, turns, rows, rounds,
-        )
+        play_alone(alloc, play, number, progress)
     }
 }

@@ -7,15 +7,14 @@ ghost use Rattle.dstm_crew.specs.Shares.{IsOpen, WereRun};
 
 use crate::beside::run_all;
 use crate::gate::Gate;
+use crate::play::Play;
 use crate::retiring::retire_all;
 use crate::seats::seat_all;
 use crate::share::Share;
 use crate::sizing::shape_for;
 use dstm_model::Val;
-use dstm_options::Options;
 use dstm_store::StoreLaw;
 use dstm_tables::{Round, make};
-use dstm_workload::Workload;
 use std::alloc::{AllocError, Global};
 use std::thread::Threads;
 
@@ -24,41 +23,31 @@ use std::thread::Threads;
 pub(crate) fn run_shares<R: Threads + Sync, G: Gate + Sync>(
     rt: &R,
     alloc: Global,
-    workload: &Workload,
-    options: &Options,
-    gate: &G,
+    play: &Play<'_, G>,
     number: u64,
     values: Vec<Val>,
     shares: Vec<Share>,
     rounds: &mut Vec<Round>,
 ) -> Result<(Vec<Share>, Vec<Val>), AllocError>
-    requires valid { IsValidWorkload workload.now }
+    requires valid { IsValidWorkload play.now.workload.now }
     requires parallel { is_parallel number ≡ true }
-    requires lawful { IsLawful workload.now.layout values.items }
+    requires lawful { IsLawful play.now.workload.now.layout values.items }
     requires some { 0 < length shares.items }
     requires few { length shares.items ≤ 32 }
-    requires shares { All (IsOpen workload.now) shares.items }
+    requires shares { All (IsOpen play.now.workload.now) shares.items }
     requires room { vec_len rounds.old < vec_capacity rounds.old }
     ensures run { IfOk result (λ r. (closed : Record) ×
         ((rounds.new.items ≡ rounds.old.items ++ closed ∷ [])
-        × WereRun workload.now options.now number values.items r.1.items shares.items r.0.items closed)) }
+        × WereRun play.now.workload.now play.now.options.now number values.items r.1.items shares.items r.0.items closed)) }
     ensures none { IfErr result (λ _. rounds.new.items ≡ rounds.old.items) }
 {
-    let shape = shape_for(workload, options, values.len(), &shares);
+    let shape = shape_for(play.workload, play.options, values.len(), &shares);
     let law = StoreLaw {
-        layout: workload.layout,
+        layout: play.workload.layout,
     };
-    let (table, mut founder) = make(alloc, options.engine, values, shape, law)?;
-    let mut workers = seat_all(alloc, options, &table, &mut founder, shares)?;
-    run_all(
-        rt,
-        &table,
-        workload,
-        options,
-        gate,
-        number == 0,
-        &mut workers,
-    );
+    let (table, mut founder) = make(alloc, play.options.engine, values, shape, law)?;
+    let mut workers = seat_all(alloc, play.options, &table, &mut founder, shares)?;
+    run_all(rt, &table, play, number == 0, &mut workers);
     let shares = retire_all(alloc, &table, &mut founder, workers)?;
     let (left, closed) = table.close(alloc, founder)?;
     rounds.push_reserved(closed);

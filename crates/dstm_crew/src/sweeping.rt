@@ -4,11 +4,11 @@ ghost use Rattle.dstm_report.specs.Turns.{without_first, Turning};
 ghost use Rattle.dstm_tables.specs.declared.tables.Caller.{Caller as Called};
 ghost use Rattle.dstm_crew.specs.Alone.{CanRunAlone, HasRunAlone, HasStepped, Leads, MayStep, Sweeps};
 
+use crate::play::Play;
 use dstm_model::{Replies, Reply};
-use dstm_options::Options;
 use dstm_report::{Row, Turns};
 use dstm_tables::{Caller, OnlyTried, Style, Table, give_up, try_alone};
-use dstm_workload::{Job, Workload};
+use dstm_workload::Job;
 
 // How a pass over the workers ended.
 #[derive(Clone, Copy, Debug, PartialEq, Eq)]
@@ -23,26 +23,25 @@ enum Swept {
 
 /// Runs the first job left of each worker, the workers in rising order, and adds the rows of what was done. In version 3,
 /// where all of them are blocked, it gives up that of the least worker, and begins anew.
-pub fn run_alone(
+pub fn run_alone<G>(
     table: &Table,
     caller: &mut Caller,
-    workload: &Workload,
-    options: &Options,
+    play: &Play<'_, G>,
     number: u64,
     turns: &mut Turns<'_>,
     rows: &mut Vec<Row>,
 )
-    requires can { CanRunAlone workload.now number table.now caller.old rows.old.items turns.old }
+    requires can { CanRunAlone play.now.workload.now number table.now caller.old rows.old.items turns.old }
     requires room { vec_len rows.old + length turns.old.left ≤ vec_capacity rows.old }
-    ensures { HasRunAlone workload.now number caller.old caller.new rows.old.items rows.new.items turns.new }
+    ensures { HasRunAlone play.now.workload.now number caller.old caller.new rows.old.items rows.new.items turns.new }
 {
     loop {
-        match sweep(table, caller, workload, options, number, turns, rows) {
+        match sweep(table, caller, play, number, turns, rows) {
             Swept::Done => return,
             Swept::Spent => return,
             Swept::Blocked => (),
         }
-        let Some(job) = least_left(turns, workload.workers) else {
+        let Some(job) = least_left(turns, play.workload.workers) else {
             return;
         };
         let Some(drawn) = give_up(caller, table) else {
@@ -69,30 +68,27 @@ fn least_left<'a>(turns: &Turns<'a>, workers: u32) -> Option<&'a Job>
 }
 
 // Tries the first job left of each worker, the workers in rising order.
-fn sweep(
+fn sweep<G>(
     table: &Table,
     caller: &mut Caller,
-    workload: &Workload,
-    options: &Options,
+    play: &Play<'_, G>,
     number: u64,
     turns: &mut Turns<'_>,
     rows: &mut Vec<Row>,
 ) -> Swept
-    requires may { MayStep workload.now table.now caller.old rows.old.items turns.old }
+    requires may { MayStep play.now.workload.now table.now caller.old rows.old.items turns.old }
     requires room { vec_len rows.old + length turns.old.left ≤ vec_capacity rows.old }
-    ensures may { MayStep workload.now table.now caller.new rows.new.items turns.new }
+    ensures may { MayStep play.now.workload.now table.now caller.new rows.new.items turns.new }
     ensures room { vec_len rows.new + length turns.new.left ≤ vec_capacity rows.new }
     ensures fewer { length turns.new.left ≤ length turns.old.left }
     ensures swept { (first : Called) (before : List Row) (begun : Turning) →
-        CanRunAlone workload.now number table.now first before begun →
-        Sweeps workload.now number first caller.old before rows.old.items turns.old 0 false →
-        Leads workload.now number first caller.new before rows.new.items turns.new workload.now.workers false result }
+        CanRunAlone play.now.workload.now number table.now first before begun →
+        Sweeps play.now.workload.now number first caller.old before rows.old.items turns.old 0 false →
+        Leads play.now.workload.now number first caller.new before rows.new.items turns.new play.now.workload.now.workers false result }
 {
     let mut swept = Swept::Blocked;
-    for worker in 0..workload.workers {
-        match try_first(
-            table, caller, workload, options, number, worker, turns, rows,
-        ) {
+    for worker in 0..play.workload.workers {
+        match try_first(table, caller, play, number, worker, turns, rows) {
             Swept::Done => swept = Swept::Done,
             Swept::Blocked => (),
             Swept::Spent => return Swept::Spent,
@@ -102,30 +98,29 @@ fn sweep(
 }
 
 // Tries the first job left of a worker, if it has one.
-fn try_first(
+fn try_first<G>(
     table: &Table,
     caller: &mut Caller,
-    workload: &Workload,
-    options: &Options,
+    play: &Play<'_, G>,
     number: u64,
     worker: u32,
     turns: &mut Turns<'_>,
     rows: &mut Vec<Row>,
 ) -> Swept
-    requires worker { worker < workload.now.workers }
-    requires may { MayStep workload.now table.now caller.old rows.old.items turns.old }
+    requires worker { worker < play.now.workload.now.workers }
+    requires may { MayStep play.now.workload.now table.now caller.old rows.old.items turns.old }
     requires room { vec_len rows.old + length turns.old.left ≤ vec_capacity rows.old }
-    ensures may { MayStep workload.now table.now caller.new rows.new.items turns.new }
+    ensures may { MayStep play.now.workload.now table.now caller.new rows.new.items turns.new }
     ensures room { vec_len rows.new + length turns.new.left ≤ vec_capacity rows.new }
     ensures fewer { length turns.new.left ≤ length turns.old.left }
-    ensures stepped { HasStepped workload.now number table.now caller.old caller.new rows.old.items rows.new.items
+    ensures stepped { HasStepped play.now.workload.now number table.now caller.old caller.new rows.old.items rows.new.items
         turns.old turns.new worker (worker + 1) result }
 {
     let Some(job) = turns.first(worker) else {
         return Swept::Blocked;
     };
-    let style = Style::of(workload.version, options.release);
-    match try_alone(style, caller, table, &workload.layout, job) {
+    let style = Style::of(play.workload.version, play.options.release);
+    match try_alone(style, caller, table, &play.workload.layout, job) {
         OnlyTried::Done(finished) => {
             push_row(turns, rows, number, job, finished.number, finished.replies);
             Swept::Done

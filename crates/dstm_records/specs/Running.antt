@@ -1,5 +1,5 @@
 -- A run, round by round.
-use Rattle.std.specs.Prelude.{◌≡◌, ◌⊎◌, ℕ, ◌+◌, ◌<◌, false, List, [], ◌∷◌, ◌++◌, length, drop, All}
+use Rattle.std.specs.Prelude.{◌≡◌, ◌⊎◌, ℕ, ◌+◌, ◌<◌, false, List, [], ◌++◌, length, drop, All}
 use Rattle.dstm_model.specs.declared.value.Val.{Val}
 use Rattle.dstm_model.specs.declared.layout.Layout.{Layout}
 use Rattle.dstm_workload.specs.declared.workload.Workload.{Workload}
@@ -47,17 +47,6 @@ pub record AddsRound (workload : Workload) (options : Options) (number : ℕ) (b
 pub record IsClosed (layout : Layout) (round : Round) : Type 0 where
   pub run : IsRun layout round
   pub sights : SightsAgree round
-
--- A round was played behind these rows, on these values: its rows and its record stand behind the others, and it has left
--- values.
-pub record HasPlayed (workload : Workload) (options : Options) (number : ℕ) (rows rows_then : List Row)
-    (values left : List Val) (rounds rounds_then : List Round) (turns : Turning) : Type 0 where
-  pub now : List Row
-  pub closed : Round
-  pub rows_are : rows_then ≡ rows ++ now
-  pub rounds_are : rounds_then ≡ rounds ++ closed ∷ []
-  pub adds : AddsRound workload options number rows values closed now left
-  pub turns_are : turns ≡ turns_behind workload rows_then
 
 -- some rounds stand behind the others, and each of them was closed
 abbrev pub AddsClosed : Layout → (rounds rounds_then : List Round) → Type 0

@@ -7,8 +7,8 @@ use Rattle.dstm_crew.proofs.collecting.collect.Goals as goal
 
 pub loop-least-init : goal.loop-least-init
 loop-least-init c = (
-  collects_first c.args.workload.now c.args.round c.args.shares.now c.args.rows.now.items c.args.turns.now c.in_ok-next.next.items
-      c.requires.can (c.in_ok-next.ensures.items_if_clones_equal (λ y h. h)),
+  collects_first c.args.workload.now c.args.round c.args.shares.now c.args.rows.now.items c.args.turns.now c.args.next.items
+      c.requires.can c.requires.next,
   c.requires.room,
 )
 

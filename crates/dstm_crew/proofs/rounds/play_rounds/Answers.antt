@@ -1,99 +1,119 @@
-use Rattle.std.proofs.Common.{◌≡◌, ◌+◌, ◌<◌, true, List, nat_lt, length, rules, sym, subst}
+use Rattle.std.proofs.Common.{◌≡◌, ◌+◌, ◌<◌, true, List, nat_lt, length, rules, ap, sym, subst, ◌∙◌}
 use Rattle.dstm_report.specs.declared.report.Row.{Row}
 use Rattle.dstm_tables.specs.declared.tables.Round.{Round}
-use Rattle.dstm_records.specs.Running.{AddsClosed}
+use Rattle.dstm_records.specs.Running.{AddsClosed, turns_behind}
 use Rattle.dstm_records.proofs.Running.{Reached, at_first, rounds_left}
-use Rattle.dstm_crew.proofs.Played.{all_ended, all_left, closed_more, closed_so_far, one_round_more, round_falls}
+use Rattle.dstm_crew.specs.declared.progress.Progress.{Progress}
+use Rattle.dstm_crew.specs.Playing.{CanPlay}
+use Rattle.dstm_crew.proofs.Played.{Stands, all_ended, can_play, closed_so_far, one_round_more, round_falls, with_room}
 use Rattle.dstm_crew.proofs.rounds.play_rounds.Goals as goal
 
 pub loop-more-init : goal.loop-more-init
 loop-more-init g c =
-    let workload = c.args.workload.now in
-    let start = c.args.values.items in
-    let old = c.args.rounds.now.items in
-    let none = sym c.new-rows.ensures.items in
+    let workload = c.args.play.now.workload.now in
+    let start = c.args.progress.now.values.items in
+    let old = c.args.progress.now.rounds.items in
     record {
-      reached = subst (λ (rows : List Row). Reached workload c.args.options.now start old old rows start 0 true) none
-          (at_first workload c.args.options.now start old c.requires);
-      turned = all_left workload c.as_slice-jobs.result.now c.new-rows.result.items c.in_ok-turns.turns
-          c.as_slice-jobs.ensures c.new-rows.ensures.items c.in_ok-turns.ensures;
+      reached = subst (λ (rows : List Row). Reached workload c.args.play.now.options.now start old old rows start 0 true)
+          (sym c.requires.rows) (at_first workload c.args.play.now.options.now start old c.requires.begins);
+      turned = subst (λ (rows : List Row). c.args.progress.now.turns ≡ turns_behind workload rows) (sym c.requires.rows)
+          c.requires.turns;
     }
 
 pub returns-in_err-reserve-clause-closed : goal.returns-in_err-reserve-clause-closed
 returns-in_err-reserve-clause-closed g c =
-    closed_so_far c.args.workload.now c.args.options.now c.args.values.items c.args.rounds.now.items c.loop-more.rounds.items
-    c.loop-more.rows.items c.loop-more.values.items c.loop-more.number c.loop-more.more c.loop-more.invariant.reached
+    closed_so_far c.args.play.now.workload.now c.args.play.now.options.now c.args.progress.now.values.items
+    c.args.progress.now.rounds.items c.loop-more.progress c.loop-more.number c.loop-more.more c.loop-more.invariant.reached
 
 pub returns-in_err-reserve-2-clause-closed : goal.returns-in_err-reserve-2-clause-closed
 returns-in_err-reserve-2-clause-closed g c =
-    let old = c.args.rounds.now.items in
-    subst (λ (rounds : List Round). AddsClosed c.args.workload.now.layout old rounds) (sym c.reserve-in-loop-more.ensures.items)
-    (closed_so_far c.args.workload.now c.args.options.now c.args.values.items old c.loop-more.rounds.items
-    c.loop-more.rows.items c.loop-more.values.items c.loop-more.number c.loop-more.more c.loop-more.invariant.reached)
+    let old = c.args.progress.now.rounds.items in
+    subst (λ (rounds : List Round). AddsClosed c.args.play.now.workload.now.layout old rounds)
+    (sym c.reserve-in-loop-more.ensures.items)
+    (closed_so_far c.args.play.now.workload.now c.args.play.now.options.now c.args.progress.now.values.items old
+    c.loop-more.progress c.loop-more.number c.loop-more.more c.loop-more.invariant.reached)
 
-pub returns-in_err-values-clause-closed : goal.returns-in_err-values-clause-closed
-returns-in_err-values-clause-closed g c =
-    let old = c.args.rounds.now.items in
-    let layout = c.args.workload.now.layout in
-    let reserved = c.reserve-in-loop-more.new.self.items in
-    closed_more layout old reserved c.play_round.new.rounds.items
-    (subst (λ (rounds : List Round). AddsClosed layout old rounds) (sym c.reserve-in-loop-more.ensures.items)
-    (closed_so_far c.args.workload.now c.args.options.now c.args.values.items old c.loop-more.rounds.items
-    c.loop-more.rows.items c.loop-more.values.items c.loop-more.number c.loop-more.more c.loop-more.invariant.reached))
-    c.in_err-values.ensures.closed
+pub play_round-requires : goal.play_round-requires
+play_round-requires g c =
+    let workload = c.args.play.now.workload.now in
+    let options = c.args.play.now.options.now in
+    let start = c.args.progress.now.values.items in
+    let old = c.args.progress.now.rounds.items in
+    let p : Progress = record c.loop-more.progress {
+      rows = c.reserve.new.self;
+      rounds = c.reserve-in-loop-more.new.self;
+    } in
+    let stands : Stands workload options start old p c.loop-more.number true =
+    with_room workload options start old c.loop-more.progress c.loop-more.number true c.reserve.new.self.items
+    c.reserve-in-loop-more.new.self.items c.reserve.ensures.items c.reserve-in-loop-more.ensures.items
+    (subst (Stands workload options start old c.loop-more.progress c.loop-more.number) c.loop-more-test.true
+    c.loop-more.invariant.reached) in
+    let can : CanPlay workload c.loop-more.number p =
+    can_play workload options start old p c.loop-more.number stands
+    (c.loop-more.invariant.turned ∙ ap (turns_behind workload) (sym c.reserve.ensures.items))
+    (search rules) (search rules) in
+    (c.type_bounds.sync-R, (c.type_bounds.sync-G, can))
+
+pub returns-in_err-play_round-clause-closed : goal.returns-in_err-play_round-clause-closed
+returns-in_err-play_round-clause-closed g c =
+    let old = c.args.progress.now.rounds.items in
+    subst (λ (rounds : List Round). AddsClosed c.args.play.now.workload.now.layout old rounds)
+    (sym (c.in_err-play_round.ensures.none ∙ c.reserve-in-loop-more.ensures.items))
+    (closed_so_far c.args.play.now.workload.now c.args.play.now.options.now c.args.progress.now.values.items old
+    c.loop-more.progress c.loop-more.number c.loop-more.more c.loop-more.invariant.reached)
 
 pub loop-more-preserved : goal.loop-more-preserved
 loop-more-preserved g c =
-    let workload = c.args.workload.now in
-    let options = c.args.options.now in
-    let start = c.args.values.items in
-    let old = c.args.rounds.now.items in
-    let rounds = c.reserve-in-loop-more.new.self.items in
-    let rows = c.reserve.new.self.items in
-    let played = c.in_ok-values.ensures.played in
+    let workload = c.args.play.now.workload.now in
+    let options = c.args.play.now.options.now in
+    let start = c.args.progress.now.values.items in
+    let old = c.args.progress.now.rounds.items in
+    let p : Progress = record c.loop-more.progress {
+      rows = c.reserve.new.self;
+      rounds = c.reserve-in-loop-more.new.self;
+    } in
+    let q = c.play_round.new.progress in
+    let played = c.in_ok-play_round.ensures.played in
     let more = nat_lt c.len-in-loop-more.result (length c.as_slice-jobs.result.now) in
-    let reached : Reached workload options start old rounds rows c.loop-more.values.items c.loop-more.number c.loop-more.more =
-    subst (λ (rs : List Round). Reached workload options start old rs rows c.loop-more.values.items c.loop-more.number
-    c.loop-more.more) (sym c.reserve-in-loop-more.ensures.items)
-    (subst (λ (rs : List Row). Reached workload options start old c.loop-more.rounds.items rs c.loop-more.values.items
-    c.loop-more.number c.loop-more.more) (sym c.reserve.ensures.items) c.loop-more.invariant.reached) in
-    let more_is : more ≡ nat_lt (length c.play_round.new.rows.items) (length workload.jobs) = search rules in
+    let stands : Stands workload options start old p c.loop-more.number c.loop-more.more =
+    with_room workload options start old c.loop-more.progress c.loop-more.number c.loop-more.more c.reserve.new.self.items
+    c.reserve-in-loop-more.new.self.items c.reserve.ensures.items c.reserve-in-loop-more.ensures.items
+    c.loop-more.invariant.reached in
+    let more_is : more ≡ nat_lt (length q.rows.items) (length workload.jobs) = search rules in
     record {
-      reached = one_round_more workload options start old rounds rows c.loop-more.values.items c.loop-more.number
-          c.play_round.new.rows.items c.in_ok-values.values.items c.play_round.new.rounds.items c.play_round.new.turns more
-          more_is played c.loop-more.more reached;
+      reached = one_round_more workload options start old p c.loop-more.number q more more_is played c.loop-more.more stands;
       turned = played.turns_are;
     }
 
 pub returns-clause-closed : goal.returns-clause-closed
 returns-clause-closed g c =
-    closed_so_far c.args.workload.now c.args.options.now c.args.values.items c.args.rounds.now.items c.loop-more.rounds.items
-    c.loop-more.rows.items c.loop-more.values.items c.loop-more.number c.loop-more.more c.loop-more.invariant.reached
+    closed_so_far c.args.play.now.workload.now c.args.play.now.options.now c.args.progress.now.values.items
+    c.args.progress.now.rounds.items c.loop-more.progress c.loop-more.number c.loop-more.more c.loop-more.invariant.reached
 
 pub returns-clause-ended : goal.returns-clause-ended
 returns-clause-ended g c =
-    let workload = c.args.workload.now in
-    let options = c.args.options.now in
-    let start = c.args.values.items in
-    let old = c.args.rounds.now.items in
-    let rounds = c.loop-more.rounds.items in
-    let rows = c.loop-more.rows.items in
-    let values = c.loop-more.values.items in
-    all_ended workload options start old rounds rows values c.loop-more.number
-    (subst (λ more. Reached workload options start old rounds rows values c.loop-more.number more) c.loop-more-test.false
+    let workload = c.args.play.now.workload.now in
+    let options = c.args.play.now.options.now in
+    let start = c.args.progress.now.values.items in
+    let old = c.args.progress.now.rounds.items in
+    all_ended workload options start old c.loop-more.progress c.loop-more.number
+    (subst (Stands workload options start old c.loop-more.progress c.loop-more.number) c.loop-more-test.false
     c.loop-more.invariant.reached)
 
 pub loop-more-smaller : goal.loop-more-smaller
 loop-more-smaller g c =
-    let workload = c.args.workload.now in
+    let workload = c.args.play.now.workload.now in
     let number = c.loop-more.number in
-    let then = c.play_round.new.rows.items in
+    let p : Progress = record c.loop-more.progress {
+      rows = c.reserve.new.self;
+      rounds = c.reserve-in-loop-more.new.self;
+    } in
+    let q = c.play_round.new.progress in
     let more = nat_lt c.len-in-loop-more.result (length c.as_slice-jobs.result.now) in
-    let more_is : more ≡ nat_lt (length then) (length workload.jobs) = search rules in
-    subst (λ b. rounds_left workload then (number + 1) more < rounds_left workload c.loop-more.rows.items number b)
+    let more_is : more ≡ nat_lt (length q.rows.items) (length workload.jobs) = search rules in
+    subst (λ b. rounds_left workload q.rows.items (number + 1) more < rounds_left workload c.loop-more.progress.rows.items number b)
     (sym c.loop-more-test.true)
-    (subst (λ (rows : List Row). rounds_left workload then (number + 1) more < rounds_left workload rows number true)
+    (subst (λ (rows : List Row). rounds_left workload q.rows.items (number + 1) more < rounds_left workload rows number true)
     c.reserve.ensures.items
-    (round_falls workload c.args.options.now c.args.values.items c.args.rounds.now.items c.reserve-in-loop-more.new.self.items
-    c.reserve.new.self.items c.loop-more.values.items number then c.in_ok-values.values.items c.play_round.new.rounds.items
-    c.play_round.new.turns more more_is c.in_ok-values.ensures.played))
+    (round_falls workload c.args.play.now.options.now c.args.progress.now.values.items c.args.progress.now.rounds.items p number q
+    more more_is c.in_ok-play_round.ensures.played))

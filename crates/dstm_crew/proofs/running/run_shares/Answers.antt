@@ -18,7 +18,7 @@ use Rattle.dstm_crew.proofs.running.run_shares.Goals as goal
 
 pub run_all-requires-clause-ready : goal.run_all-requires-clause-ready
 run_all-requires-clause-ready g c κs within =
-    let workload = c.args.workload.now in
+    let workload = c.args.play.now.workload.now in
     let table = c.in_ok-table.table in
     let workers = c.in_ok-workers.workers.items in
     subst (All (IsReady workload table)) (sym c.deref_mut.ensures.value)
@@ -34,13 +34,13 @@ retire_all-requires-clause-rest g c =
     let count : c.in_ok-workers.workers.len ≡ length workers = search rules in
     let long : length new ≡ length workers = search rules in
     subst (All P) (sym (written_back c.in_ok-workers.workers.len new workers count long))
-    (All-weaker (HasEnded c.args.workload.now c.args.options.now table) P (λ worker ended. ended.rests) new
+    (All-weaker (HasEnded c.args.play.now.workload.now c.args.play.now.options.now table) P (λ worker ended. ended.rests) new
     c.run_all.ensures.ended)
 
 pub returns-clause-run : goal.returns-clause-run
 returns-clause-run g c =
-    let workload = c.args.workload.now in
-    let options = c.args.options.now in
+    let workload = c.args.play.now.workload.now in
+    let options = c.args.play.now.options.now in
     let number = c.args.number in
     let values = c.args.values.items in
     let shares = c.args.shares.items in

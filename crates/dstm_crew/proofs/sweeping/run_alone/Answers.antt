@@ -8,42 +8,42 @@ use Rattle.dstm_crew.proofs.Sweeps.{end_done, end_empty, given_up_spent, may_beg
 use Rattle.dstm_crew.proofs.sweeping.run_alone.Goals as goal
 
 pub loop-turns-init : goal.loop-turns-init
-loop-turns-init c = (
-  may_begin c.args.workload.now c.args.number c.args.table.now c.args.caller.now c.args.rows.now.items c.args.turns.now
+loop-turns-init g c = (
+  may_begin c.args.play.now.workload.now c.args.number c.args.table.now c.args.caller.now c.args.rows.now.items c.args.turns.now
       c.requires.can,
   c.requires.room,
-  sweep_begins c.args.workload.now c.args.number c.args.table.now c.args.caller.now c.args.rows.now.items c.args.turns.now
+  sweep_begins c.args.play.now.workload.now c.args.number c.args.table.now c.args.caller.now c.args.rows.now.items c.args.turns.now
       c.requires.can,
 )
 
 pub returns-in-Done : goal.returns-in-Done
-returns-in-Done c =
+returns-in-Done g c =
     let swept = c.in-Done.ensures.swept c.args.caller.now c.args.rows.now.items c.args.turns.now c.requires.can
     c.loop-turns.invariant.2 in
-    end_done c.args.workload.now c.args.number c.args.table.now c.args.caller.now c.args.rows.now.items c.args.turns.now
-    c.requires.can c.sweep.new.caller c.sweep.new.rows.items c.sweep.new.turns c.args.workload.now.workers swept
+    end_done c.args.play.now.workload.now c.args.number c.args.table.now c.args.caller.now c.args.rows.now.items c.args.turns.now
+    c.requires.can c.sweep.new.caller c.sweep.new.rows.items c.sweep.new.turns c.args.play.now.workload.now.workers swept
 
 pub returns-in-Spent : goal.returns-in-Spent
-returns-in-Spent c =
+returns-in-Spent g c =
     c.in-Spent.ensures.swept c.args.caller.now c.args.rows.now.items c.args.turns.now c.requires.can c.loop-turns.invariant.2
 
 pub returns-in_default : goal.returns-in_default
-returns-in_default c =
+returns-in_default g c =
     let swept = c.in-Blocked.ensures.swept c.args.caller.now c.args.rows.now.items c.args.turns.now c.requires.can
     c.loop-turns.invariant.2 in
-    end_empty c.args.workload.now c.args.number c.args.table.now c.args.caller.now c.args.rows.now.items c.args.turns.now
+    end_empty c.args.play.now.workload.now c.args.number c.args.table.now c.args.caller.now c.args.rows.now.items c.args.turns.now
     c.requires.can c.sweep.new.caller c.sweep.new.rows.items c.sweep.new.turns c.in_default.ensures.none swept
 
 pub returns-in_default-give_up : goal.returns-in_default-give_up
-returns-in_default-give_up c =
+returns-in_default-give_up g c =
     let swept = c.in-Blocked.ensures.swept c.args.caller.now c.args.rows.now.items c.args.turns.now c.requires.can
     c.loop-turns.invariant.2 in
-    given_up_spent c.args.workload.now c.args.number c.args.table.now c.args.caller.now c.args.rows.now.items c.args.turns.now
+    given_up_spent c.args.play.now.workload.now c.args.number c.args.table.now c.args.caller.now c.args.rows.now.items c.args.turns.now
     c.requires.can c.sweep.new.caller c.give_up.new.caller c.sweep.new.rows.items c.sweep.new.turns
     c.in_default-give_up.ensures.spent swept
 
 pub loop-turns-smaller : goal.loop-turns-smaller
-loop-turns-smaller c =
+loop-turns-smaller g c =
     let job = c.in-Some.job.now in
     let turn = c.in-Some.ensures.some in
     let fewer : length c.push_row.new.turns.left + 1 ≡ length c.sweep.new.turns.left =
@@ -53,8 +53,8 @@ loop-turns-smaller c =
     omega (arith, fewer, less)
 
 pub loop-turns-preserved : goal.loop-turns-preserved
-loop-turns-preserved c =
-    let workload = c.args.workload.now in
+loop-turns-preserved g c =
+    let workload = c.args.play.now.workload.now in
     let job = c.in-Some.job.now in
     let rows = c.sweep.new.rows.items in
     let turns = c.sweep.new.turns in

@@ -3,10 +3,10 @@ use Rattle.dstm_crew.specs.Alone.{MayStep, Sweeps}
 use Rattle.dstm_crew.proofs.sweeping.run_alone.Given as goal
 
 abbrev pub invariant-loop-turns : goal.invariant-loop-turns
-invariant-loop-turns l =
-    MayStep l.workload l.table l.caller l.rows.items l.turns
+invariant-loop-turns g l =
+    MayStep l.play.workload.now l.table l.caller l.rows.items l.turns
     × (vec_len l.rows + length l.turns.left ≤ vec_capacity l.rows)
-    × Sweeps l.workload l.number l.fn.caller l.caller l.fn.rows.items l.rows.items l.turns 0 Bool.false
+    × Sweeps l.play.workload.now l.number l.fn.caller l.caller l.fn.rows.items l.rows.items l.turns 0 Bool.false
 
 abbrev pub decreases-loop-turns : goal.decreases-loop-turns
-decreases-loop-turns l = length l.turns.left
+decreases-loop-turns g l = length l.turns.left

@@ -7,17 +7,17 @@ use Rattle.dstm_crew.proofs.sweeping.sweep.Goals as goal
 use Rattle.dstm_crew.proofs.sweeping.sweep.Goals.{in-Done, in-Blocked}
 
 pub returns-in-Spent-clause-swept : goal.returns-in-Spent-clause-swept
-returns-in-Spent-clause-swept c first before begun can sweeps =
+returns-in-Spent-clause-swept g c first before begun can sweeps =
     c.in-Spent.ensures.stepped first before begun (is_done c.loop-worker.swept) can
     (c.loop-worker.invariant.3 first before begun can sweeps)
 
 pub loop-worker-preserved : goal.loop-worker-preserved
-loop-worker-preserved c = (
+loop-worker-preserved g c = (
   c.try_first.ensures.may,
   c.try_first.ensures.room,
   (let less = c.try_first.ensures.fewer in let before_ = c.loop-worker.invariant.2 in omega (arith, less, before_)),
   λ first before begun can sweeps.
-      let workload = c.args.workload.now in
+      let workload = c.args.play.now.workload.now in
       let was = c.loop-worker.invariant.3 first before begun can sweeps in
       elim c.match-try_first.branch [
         | in-Done w ↦
@@ -39,8 +39,8 @@ loop-worker-preserved c = (
     done_not is = cc
 
 pub returns-clause-swept : goal.returns-clause-swept
-returns-clause-swept c first before begun can sweeps =
-    let workload = c.args.workload.now in
+returns-clause-swept g c first before begun can sweeps =
+    let workload = c.args.play.now.workload.now in
     let all : c.loop-worker.worker ≡ workload.workers = search rules in
     swept_leads workload c.args.number first c.loop-worker.caller before c.loop-worker.rows.items c.loop-worker.turns
     workload.workers c.loop-worker.swept c.loop-worker.invariant.4

@@ -7,12 +7,12 @@ use Rattle.dstm_crew.specs.declared.sweeping.Swept.TheVariants as swept
 use Rattle.dstm_crew.proofs.sweeping.sweep.Given as goal
 
 abbrev pub invariant-loop-worker : goal.invariant-loop-worker
-invariant-loop-worker l =
-    MayStep l.workload l.table l.caller l.rows.items l.turns
+invariant-loop-worker g l =
+    MayStep l.play.workload.now l.table l.caller l.rows.items l.turns
     × (vec_len l.rows + length l.turns.left ≤ vec_capacity l.rows)
     × (length l.turns.left ≤ length l.fn.turns.left)
     × ((first : Caller) (before : List Row) (begun : Turning) →
-    CanRunAlone l.workload l.number l.table first before begun →
-    Sweeps l.workload l.number first l.fn.caller before l.fn.rows.items l.fn.turns 0 Bool.false →
-    Sweeps l.workload l.number first l.caller before l.rows.items l.turns l.worker (is_done l.swept))
+    CanRunAlone l.play.workload.now l.number l.table first before begun →
+    Sweeps l.play.workload.now l.number first l.fn.caller before l.fn.rows.items l.fn.turns 0 Bool.false →
+    Sweeps l.play.workload.now l.number first l.caller before l.rows.items l.turns l.worker (is_done l.swept))
     × (l.swept ≡ swept.Spent → ⊥)

@@ -10,30 +10,30 @@ use Rattle.dstm_crew.proofs.Sweeps.{job_is, may_on, step_blocked, step_done, ste
 use Rattle.dstm_crew.proofs.sweeping.try_first.Goals as goal
 
 pub returns-in_default-clause-stepped : goal.returns-in_default-clause-stepped
-returns-in_default-clause-stepped c first before begun some can sweeps =
-    step_none c.args.workload.now c.args.number c.args.table.now first before begun can c.args.caller.now c.args.rows.now.items
+returns-in_default-clause-stepped g c first before begun some can sweeps =
+    step_none c.args.play.now.workload.now c.args.number c.args.table.now first before begun can c.args.caller.now c.args.rows.now.items
     c.args.turns.now c.args.worker some c.requires.worker (search rules) sweeps
 
 pub try_alone-requires-clause-can : goal.try_alone-requires-clause-can
-try_alone-requires-clause-can c =
-    let workload = c.args.workload.now in
+try_alone-requires-clause-can g c =
+    let workload = c.args.play.now.workload.now in
     let job = c.in-Some.job.now in
     let turn : first_job c.args.worker c.args.turns.now.left ≡ Some job = search rules in
     subst (λ s. CanTry s workload.layout job) (sym c.of-style.ensures)
-    (can_try workload c.args.options.now.release job c.requires.may.valid
+    (can_try workload c.args.play.now.options.now.release job c.requires.may.valid
     (job_is workload c.args.rows.now.items c.args.turns.now c.args.worker job c.requires.may.valid
     c.requires.may.turns_are turn))
 
 pub push_row-requires-clause-turn : goal.push_row-requires-clause-turn
-push_row-requires-clause-turn c =
+push_row-requires-clause-turn g c =
     let job = c.in-Some.job.now in
     let left = c.args.turns.now.left in
     let turn : first_job c.args.worker left ≡ Some job = search rules in
     ap (λ w. first_job w left) (first_own c.args.worker left job turn) ∙ turn
 
 pub returns-in-Done-clause-may : goal.returns-in-Done-clause-may
-returns-in-Done-clause-may c =
-    let workload = c.args.workload.now in
+returns-in-Done-clause-may g c =
+    let workload = c.args.play.now.workload.now in
     let job = c.in-Some.job.now in
     let rows = c.args.rows.now.items in
     let left = c.args.turns.now.left in
@@ -54,7 +54,7 @@ returns-in-Done-clause-may c =
     refl c.push_row.ensures.turns))
 
 pub returns-in-Done-clause-room : goal.returns-in-Done-clause-room
-returns-in-Done-clause-room c =
+returns-in-Done-clause-room g c =
     let job = c.in-Some.job.now in
     let left = c.args.turns.now.left in
     let own : first_job c.args.worker left ≡ Some job = search rules in
@@ -64,7 +64,7 @@ returns-in-Done-clause-room c =
     omega (arith, fewer, c.push_row.ensures.len, c.requires.room, c.push_row.ensures.capacity)
 
 pub returns-in-Done-clause-fewer : goal.returns-in-Done-clause-fewer
-returns-in-Done-clause-fewer c =
+returns-in-Done-clause-fewer g c =
     let job = c.in-Some.job.now in
     let left = c.args.turns.now.left in
     let own : first_job c.args.worker left ≡ Some job = search rules in
@@ -74,8 +74,8 @@ returns-in-Done-clause-fewer c =
     omega (arith, fewer)
 
 pub returns-in-Done-clause-stepped : goal.returns-in-Done-clause-stepped
-returns-in-Done-clause-stepped c first before begun some can sweeps =
-    let workload = c.args.workload.now in
+returns-in-Done-clause-stepped g c first before begun some can sweeps =
+    let workload = c.args.play.now.workload.now in
     let job = c.in-Some.job.now in
     let rows = c.args.rows.now.items in
     let left = c.args.turns.now.left in
@@ -95,17 +95,17 @@ returns-in-Done-clause-stepped c first before begun some can sweeps =
     (first_own c.args.worker left job own) refl refl refl refl c.push_row.ensures.turns sweeps)
 
 pub returns-in-Blocked-clause-stepped : goal.returns-in-Blocked-clause-stepped
-returns-in-Blocked-clause-stepped c first before begun some can sweeps =
-    let workload = c.args.workload.now in
+returns-in-Blocked-clause-stepped g c first before begun some can sweeps =
+    let workload = c.args.play.now.workload.now in
     let job = c.in-Some.job.now in
     let turn : first_job c.args.worker c.args.turns.now.left ≡ Some job = search rules in
     step_blocked workload c.args.number c.args.table.now first before begun can c.of-style.result c.args.caller.now
     c.try_alone.new.caller c.args.rows.now.items c.args.turns.now c.args.worker some job c.requires.worker
-    (λ is. third_of workload.version c.args.options.now.release (sym c.of-style.ensures ∙ is)) turn c.in-Blocked.ensures sweeps
+    (λ is. third_of workload.version c.args.play.now.options.now.release (sym c.of-style.ensures ∙ is)) turn c.in-Blocked.ensures sweeps
 
 pub returns-in-Spent-clause-stepped : goal.returns-in-Spent-clause-stepped
-returns-in-Spent-clause-stepped c first before begun some can sweeps =
+returns-in-Spent-clause-stepped g c first before begun some can sweeps =
     let job = c.in-Some.job.now in
     let turn : first_job c.args.worker c.args.turns.now.left ≡ Some job = search rules in
-    step_spent c.args.workload.now c.args.number c.args.table.now first before begun can c.args.caller.now c.try_alone.new.caller
+    step_spent c.args.play.now.workload.now c.args.number c.args.table.now first before begun can c.args.caller.now c.try_alone.new.caller
     c.args.rows.now.items c.args.turns.now c.args.worker some job c.requires.worker turn c.in-Spent.ensures sweeps

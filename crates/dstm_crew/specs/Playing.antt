@@ -1,0 +1,25 @@
+-- A round of a run, from where the run stands before it to where it stands behind it.
+use Rattle.std.specs.Prelude.{◌≡◌, ℕ, ◌+◌, ◌<◌, ◌≤◌, List, [], ◌∷◌, ◌++◌, length, vec_len, vec_capacity}
+use Rattle.dstm_workload.specs.declared.workload.Workload.{Workload}
+use Rattle.dstm_report.specs.declared.report.Row.{Row}
+use Rattle.dstm_options.specs.declared.options.Options.{Options}
+use Rattle.dstm_tables.specs.declared.tables.Round.{Round}
+use Rattle.dstm_records.specs.Running.{AddsRound, Begins, turns_behind}
+use Rattle.dstm_crew.specs.declared.progress.Progress.{Progress}
+
+-- What there is when a round begins: good rows of the rounds before, which left these values, and whose turn it is. There is
+-- room for the rows of all jobs left, and for a record.
+pub record CanPlay (workload : Workload) (number : ℕ) (progress : Progress) : Type 0 where
+  pub begins : Begins workload number progress.rows.items progress.values.items
+  pub turns : progress.turns ≡ turns_behind workload progress.rows.items
+  pub room : vec_len progress.rows + length progress.turns.left ≤ vec_capacity progress.rows
+  pub room_for_record : vec_len progress.rounds < vec_capacity progress.rounds
+
+-- a round was played: its rows and its record stand behind the others, and it has left values
+pub record HasPlayed (workload : Workload) (options : Options) (number : ℕ) (old new : Progress) : Type 0 where
+  pub now : List Row
+  pub closed : Round
+  pub rows_are : new.rows.items ≡ old.rows.items ++ now
+  pub rounds_are : new.rounds.items ≡ old.rounds.items ++ closed ∷ []
+  pub adds : AddsRound workload options number old.rows.items old.values.items closed now new.values.items
+  pub turns_are : new.turns ≡ turns_behind workload new.rows.items

@@ -1,0 +1,16 @@
+use dstm_model::Val;
+use dstm_report::{Row, Turns};
+use dstm_tables::Round;
+
+/// How far a run has come between two rounds.
+#[derive(Drop)]
+pub struct Progress<'a> {
+    /// What the last round has left in the objects. While a round is played its table has them.
+    pub values: Vec<Val>,
+    /// Whose turn it is.
+    pub turns: Turns<'a>,
+    /// What was done, in order.
+    pub rows: Vec<Row>,
+    /// The records of the rounds, behind those that were there before.
+    pub rounds: Vec<Round>,
+}
