@@ -1,5 +1,7 @@
 -- What an alone round adds, by what its caller has done.
 use Rattle.std.proofs.Common.{◌≡◌, ℕ, ◌<◌, false, List, [], ◌++◌, length, reverse, refl, ap, sym, subst, ◌∙◌, inl, inr, arith, true≢false}
+use Rattle.std.specs.Prelude.{IfSome, None, Option, Some}
+use Rattle.std.specs.List.{slice_get}
 use Rattle.std.proofs.lemmas.List.Elements.{recursion_from_All}
 use Rattle.dstm_model.specs.declared.value.Val.{Val}
 use Rattle.dstm_model.specs.Answers.{Committed}
@@ -12,15 +14,16 @@ use Rattle.dstm_options.specs.declared.options.Options.{Options}
 use Rattle.dstm_tables.specs.declared.founding.Founder.{Founder}
 use Rattle.dstm_tables.specs.declared.tables.Caller.{Caller}
 use Rattle.dstm_tables.specs.declared.tables.Table.{Table}
-use Rattle.dstm_tables.specs.Callers.{done, number_of, round_of}
+use Rattle.dstm_tables.specs.Callers.{CameByCalls, done, number_of, round_of}
+use Rattle.dstm_tables.proofs.Calls.{by_calls, calls_at_close, came_on}
 use Rattle.dstm_tables.specs.Founders.{TakesBack, first_of, seen_by}
 use Rattle.dstm_tables.specs.Tells as known
-use Rattle.dstm_tables.specs.Tells.{IsPast, all_done, callers_of, committed_of, done_of, start_of, values_of}
+use Rattle.dstm_tables.specs.Tells.{ByCalls, IsPast, all_done, callers_of, committed_of, done_of, start_of, values_of}
 use Rattle.dstm_tables.proofs.Closing.{done_at_close}
 use Rattle.dstm_tables.proofs.History.{sights_agree}
 use Rattle.dstm_tables.proofs.Staying.{attempts_past}
 use Rattle.dstm_tables.proofs.Same.{callers_past, first_past, first_seen, layout_is, layout_past, locators_past, number_below, of_past, only_tells_all, start_past, writes_past}
-use Rattle.dstm_records.specs.Records.{IsMade, IsRoundOf, IsRun, TellOf}
+use Rattle.dstm_records.specs.Records.{IsMade, IsRoundOf, IsRun, TellOf, seed_for}
 use Rattle.dstm_records.specs.Rounds.{is_parallel, most_jobs, workers_left}
 use Rattle.dstm_records.specs.Running.{AddsRound, Begins, count_left, turns_behind}
 use Rattle.dstm_records.specs.Told.{AreTold}
@@ -53,6 +56,21 @@ pub opened_for : (workload : Workload) (options : Options) (waiting : ℕ) (befo
 opened_for workload options waiting before values turns table f k count turned opened =
     subst (λ n. IsOpened workload options n values table f k)
     (count ∙ ap (λ (t : Turning). length (with_jobs workload.workers t.left)) turned) opened
+
+-- the caller has the seed of the least worker that has jobs left behind these rows
+pub least_came : (workload : Workload) (options : Options) (before : List Row) (turns : Turning) (first : ℕ) (k : Caller) →
+    turns ≡ turns_behind workload before →
+    IfSome (slice_get (with_jobs workload.workers turns.left) 0) (λ worker. first ≡ worker) →
+    CameByCalls (seed_for options first) k →
+    IfSome (slice_get (workers_left workload before) 0) (λ worker. CameByCalls (seed_for options worker) k)
+least_came workload options before turns first k turned is came =
+    by (slice_get (workers_left workload before) 0)
+    (subst (λ (t : Turning). IfSome (slice_get (with_jobs workload.workers t.left) 0) (λ worker. first ≡ worker)) turned is)
+  where
+    by : (some : Option ℕ) → IfSome some (λ worker. first ≡ worker) →
+        IfSome some (λ worker. CameByCalls (seed_for options worker) k)
+    by None none = tt
+    by (Some worker) same = subst (λ (w : ℕ). CameByCalls (seed_for options w) k) same came
 
 -- the caller of the table can run alone
 pub can_run : (workload : Workload) (options : Options) (number : ℕ) (before : List Row) (values : List Val) (turns : Turning)
@@ -88,7 +106,8 @@ module _ (workload : Workload) (options : Options) (number : ℕ) (before : List
     (alone : is_parallel number ≡ false) (begins : Begins workload number before values)
     (opened : IsOpened workload options (length (workers_left workload before)) values table f first)
     (ran : HasRunAlone workload number first n before rows turns) (takes : TakesBack f g n)
-    (run : known.IsRun (seen_by g)) where
+    (run : known.IsRun (seen_by g))
+    (come : IfSome (slice_get (workers_left workload before) 0) (λ worker. CameByCalls (seed_for options worker) first)) where
   past : IsPast (first_of table) (seen_by g)
   past = first_seen g table (takes.home ∙ opened.founded)
 
@@ -135,6 +154,16 @@ module _ (workload : Workload) (options : Options) (number : ℕ) (before : List
       (subst (λ (jobs : ℕ). IsMade options workload.version number jobs (first_of table))
       (sym (most_alone workload number before alone)) (opened.made number alone))
 
+  -- its caller came by calls
+  calls : (some : Option ℕ) → IfSome some (λ worker. CameByCalls (seed_for options worker) first) →
+      IfSome some (λ worker. ByCalls (seed_for options worker) (seen_by g) 0)
+  calls None none = tt
+  calls (Some worker) came =
+      let seed = seed_for options worker in
+      subst (ByCalls seed (seen_by g)) zeroth
+      (calls_at_close seed (round_of n) (seen_by g) (number_of n) takes.other_past takes.other_kept
+      (by_calls seed n (came_on seed first n ran.goes.on came)))
+
   round : IsRoundOf workload options number before ran.now values (seen_by g)
   round = record {
     engine = of_past options.engine (first_of table) (seen_by g) past opened.engine;
@@ -143,7 +172,12 @@ module _ (workload : Workload) (options : Options) (number : ℕ) (before : List
     begins = start;
     rows_tell = subst (λ (vs : List Val). TellOf workload before ran.now vs (committed_of (seen_by g))) start collected.tell;
     parallel = λ parallel. absurd (true≢false (sym parallel ∙ alone));
-    alone = λ _. record { one_caller = only; some_row = ran.some; few = ran.few };
+    alone = λ _. record {
+      one_caller = only;
+      some_row = ran.some;
+      few = ran.few;
+      calls = calls (slice_get (workers_left workload before) 0) come;
+    };
     released = λ _ parallel. absurd (true≢false (sym parallel ∙ alone));
   }
 

@@ -10,22 +10,24 @@ use Rattle.dstm_tables.specs.declared.tables.Round.{Round}
 use Rattle.dstm_tables.specs.declared.tables.Table.{Table}
 use Rattle.dstm_tables.specs.Answers.{KeepsFew}
 use Rattle.dstm_tables.specs.Callers.{number_of, round_of}
-use Rattle.dstm_tables.specs.Tells.{IsPast, IsRun, SameOwn, done_of}
+use Rattle.dstm_tables.specs.Tells.{ByCalls, IsPast, IsRun, SameOwn, done_of}
+use Rattle.dstm_tables.proofs.Calls.{by_calls, calls_at_close, came_on}
 use Rattle.dstm_tables.proofs.Closing.{done_at_close, none_at_close, stop_at_close}
 use Rattle.dstm_tables.proofs.Same.{callers_past, number_below}
 use Rattle.dstm_tables.proofs.Staying.{lets_go_past}
+use Rattle.dstm_records.specs.Records.{seed_for}
 use Rattle.dstm_crew.specs.declared.share.Share.{Share}
 use Rattle.dstm_crew.specs.declared.worker.Worker.{Worker}
-use Rattle.dstm_crew.specs.Seats.{HasEnded, IsKnownBy, caller_number, share_of}
+use Rattle.dstm_crew.specs.Seats.{HasCome, HasEnded, IsKnownBy, caller_number, share_of}
 use Rattle.dstm_crew.specs.Shares.{AreShared, IsShared, asked_of}
 use Rattle.dstm_crew.specs.Workers.{AreDone, HasRun, IsReady, next_job}
 
 module _ (workload : Workload) (options : Options) where
   -- ---- as its own caller's log tells
 
-  pub has_ended : (table : Table) (old new : Worker) → IsReady workload table old → HasRun workload options old new →
-      HasEnded workload options table new
-  has_ended table old new ready ran = record {
+  pub has_ended : (table : Table) (old new : Worker) → IsReady workload table old → HasCome options old →
+      HasRun workload options old new → HasEnded workload options table new
+  has_ended table old new ready come ran = record {
     rests = record { home = ran.on.home ∙ ready.home; rest = ran.on.rest };
     shared = record {
       within = number_below new.caller ran.on.rest;
@@ -33,6 +35,10 @@ module _ (workload : Workload) (options : Options) where
       none_wasted = ran.none_wasted;
       left = ran.left;
       few_reads = ran.few_reads;
+      calls =
+          subst (λ (worker : ℕ). ByCalls (seed_for options worker) (round_of new.caller) (number_of new.caller)) (sym ran.number)
+          (by_calls (seed_for options old.number) new.caller
+          (came_on (seed_for options old.number) old.caller new.caller ran.on come));
     };
   }
 
@@ -59,6 +65,7 @@ module _ (workload : Workload) (options : Options) where
     few_reads = λ releasing lets.
         subst (λ (ds : List Committed). All (λ told. KeepsFew (job_at workload.jobs told.0) told.1) (zip share.places.items (reverse ds)))
         (sym same) (was.few_reads releasing (sym (lets_go_past old new past) ∙ lets));
+    calls = calls_at_close (seed_for options share.worker) old new c past own was.calls;
   }
     where
       same : done_of new c ≡ done_of old c

@@ -8,13 +8,15 @@ use Rattle.dstm_workload.specs.declared.workload.Workload.{Workload}
 use Rattle.dstm_tables.specs.declared.founding.Founder.{Founder}
 use Rattle.dstm_tables.specs.declared.tables.Caller.{Caller}
 use Rattle.dstm_tables.specs.declared.tables.Table.{Table}
-use Rattle.dstm_tables.specs.Callers.{round_of}
+use Rattle.dstm_tables.specs.Callers.{CameByCalls, round_of}
 use Rattle.dstm_tables.specs.Founders.{GivesOut, HasGivenNone, first_of, made_of, seen_by}
 use Rattle.dstm_tables.specs.Tells.{layout_of}
 use Rattle.dstm_tables.proofs.Same.{first_past, layout_is, layout_past}
+use Rattle.dstm_options.specs.declared.options.Options.{Options}
+use Rattle.dstm_records.specs.Records.{seed_for}
 use Rattle.dstm_crew.specs.declared.share.Share.{Share}
 use Rattle.dstm_crew.specs.declared.worker.Worker.{Worker}
-use Rattle.dstm_crew.specs.Seats.{HasBack, IsKnownBy, IsNew, share_of}
+use Rattle.dstm_crew.specs.Seats.{HasBack, HasCome, IsKnownBy, IsNew, share_of}
 use Rattle.dstm_crew.specs.Shares.{IsOpen}
 use Rattle.dstm_crew.specs.Workers.{IsReady}
 
@@ -76,6 +78,12 @@ module _ (table : Table) where
         subst (λ (n : ℕ). HasBack table n [] g) (count_push workers worker)
         (one_out f g seed (length workers) worker.caller seats.back gives);
   }
+
+  -- it has come by calls
+  pub has_come : (options : Options) (f g : Founder) (share : Share) (worker : Worker) → share_of worker ≡ share →
+      GivesOut table f g (seed_for options share.worker) worker.caller → HasCome options worker
+  has_come options f g share worker is gives =
+      subst (λ (s : Share). CameByCalls (seed_for options s.worker) worker.caller) (sym is) gives.came
 
   -- all have theirs
   pub seats_all : (shares : List Share) (workers : List Worker) (f : Founder) → Seats shares workers [] f →

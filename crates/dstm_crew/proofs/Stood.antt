@@ -19,9 +19,9 @@ use Rattle.dstm_options.specs.declared.options.Options.{Options}
 use Rattle.dstm_tables.specs.declared.tables.Round.{Round}
 use Rattle.dstm_tables.specs.declared.trying.Finished.{Finished}
 use Rattle.dstm_tables.specs.Jobs.{HadToStop, NoneWasted}
-use Rattle.dstm_tables.specs.Tells.{callers_of, committed_of, start_of}
+use Rattle.dstm_tables.specs.Tells.{ByCalls, callers_of, committed_of, start_of}
 use Rattle.dstm_tables.proofs.History.{sights_agree}
-use Rattle.dstm_records.specs.Records.{ArePaired, IsMade, IsParallel, IsRoundOf, IsRun, TellOf, next_of}
+use Rattle.dstm_records.specs.Records.{ArePaired, IsMade, IsParallel, IsRoundOf, IsRun, TellOf, next_of, seed_for}
 use Rattle.dstm_records.specs.Rounds.{all_workers, greatest, has_job, is_parallel, left_by, most_jobs, workers_in, workers_left}
 use Rattle.dstm_records.specs.Running.{AddsRound, Begins, turns_behind}
 use Rattle.dstm_records.proofs.Collecting.{Collected}
@@ -193,7 +193,7 @@ module _ (workload : Workload) (options : Options) (number : ℕ) (rows : List R
           (same_Some a.share b.share (sym a.there ∙ ap (slice_get shares_then) place ∙ b.there)) ∙ b.is;
     }
 
-    is_round : IsParallel workload number rows collected.now closed
+    is_round : IsParallel workload options number rows collected.now closed
     is_round = record {
       caller = caller;
       paired = paired;
@@ -209,6 +209,9 @@ module _ (workload : Workload) (options : Options) (number : ℕ) (rows : List R
           let h = share_of worker has in
           subst (λ (next : Option Job). NoneWasted workload next closed (caller worker)) (sym (next_is worker h))
           (shared_of worker h).none_wasted;
+      calls = λ worker has.
+          let h = share_of worker has in
+          subst (λ (w : ℕ). ByCalls (seed_for options w) closed (caller worker)) h.is (shared_of worker h).calls;
     }
 
     most : most_places shares ≡ most_jobs workload number rows

@@ -8,9 +8,10 @@ use Rattle.dstm_tables.specs.declared.founding.Founder.{Founder}
 use Rattle.dstm_tables.specs.declared.tables.Caller.{Caller}
 use Rattle.dstm_tables.specs.declared.tables.Round.{Round}
 use Rattle.dstm_tables.specs.declared.tables.Table.{Table}
-use Rattle.dstm_tables.specs.Callers.{AtRest, begun, done, home_of, number_of, round_of}
+use Rattle.dstm_tables.specs.Callers.{AtRest, CameByCalls, begun, done, home_of, number_of, round_of}
 use Rattle.dstm_tables.specs.Founders.{guests_of, home_there, numbers_of, out_of, seen_by}
 use Rattle.dstm_tables.specs.Tells.{IsPast, SameOwn}
+use Rattle.dstm_records.specs.Records.{seed_for}
 use Rattle.dstm_crew.specs.declared.share.Share.{Share}
 use Rattle.dstm_crew.specs.declared.worker.Worker.{Worker}
 use Rattle.dstm_crew.specs.Shares.{IsShared}
@@ -32,6 +33,10 @@ pub record IsNew (table : Table) (k : Caller) : Type 0 where
   pub rests : RestsAt table k
   pub none_begun : begun k ≡ 0
   pub none_done : done k ≡ []
+
+-- the worker's caller has come by calls, from the generator of its seed on
+abbrev pub HasCome : Options → Worker → Type 0
+HasCome options worker = CameByCalls (seed_for options worker.number) worker.caller
 
 -- a worker of the table that has run its share, as its caller's log tells
 pub record HasEnded (workload : Workload) (options : Options) (table : Table) (worker : Worker) : Type 0 where

@@ -7,11 +7,11 @@ use Rattle.dstm_workload.specs.declared.workload.Job.{Job}
 use Rattle.dstm_workload.specs.declared.workload.Workload.{Workload}
 use Rattle.dstm_report.specs.Turns.{job_at, jobs_of}
 use Rattle.dstm_options.specs.declared.options.Options.{Options}
-use Rattle.dstm_records.specs.Records.{IsMade, IsReleasing, IsRun}
+use Rattle.dstm_records.specs.Records.{IsMade, IsReleasing, IsRun, seed_for}
 use Rattle.dstm_tables.specs.Answers.{KeepsFew}
 use Rattle.dstm_records.specs.Rounds.{all_workers, greatest, has_job}
 use Rattle.dstm_crew.specs.Workers.{AreDone, next_job}
-use Rattle.dstm_tables.specs.Tells.{IsOf, callers_of, done_of, lets_go, start_of, values_of}
+use Rattle.dstm_tables.specs.Tells.{ByCalls, IsOf, callers_of, done_of, lets_go, start_of, values_of}
 use Rattle.dstm_tables.specs.Jobs.{HadToStop, NoneWasted}
 use Rattle.dstm_crew.specs.declared.share.Share.{Share}
 
@@ -56,6 +56,8 @@ pub record IsShared (workload : Workload) (options : Options) (r : Round) (share
   pub few_reads : IsReleasing options workload.version → lets_go r ≡ true →
       All (λ told. KeepsFew (job_at workload.jobs told.0) told.1)
       (zip share.places.items (reverse (done_of r c)))
+  -- its caller has made its events by calls, from the generator of its worker's seed on
+  pub calls : ByCalls (seed_for options share.worker) r c
 
 -- the shares of a closed table, one for one, by callers of these numbers
 abbrev pub AreShared : Workload → Options → Round → List Share → (callers : List ℕ) → Type 0

@@ -1,9 +1,10 @@
-ghost use Rattle.std.specs.Prelude.{◌≡◌, ◌≤◌, ◌+◌, ◌%◌, ◌^◌, ◌==◌, ◌&&◌, not, false, length, IfOk, IfSome, OnOk, OnErr};
+ghost use Rattle.std.specs.Prelude.{◌≡◌, ◌≤◌, ◌+◌, ◌==◌, ◌&&◌, not, false, length, IfOk, IfSome, OnOk, OnErr};
 ghost use Rattle.std.specs.List.{slice_get};
 ghost use Rattle.dstm_workload.specs.Workload.{IsValidWorkload};
 ghost use Rattle.dstm_store.specs.Whole.{IsLawful};
+ghost use Rattle.dstm_records.specs.Records.{seed_for};
 ghost use Rattle.dstm_records.specs.Rounds.{is_parallel};
-ghost use Rattle.dstm_tables.specs.Callers.{HasSeed};
+ghost use Rattle.dstm_tables.specs.Callers.{CameByCalls, HasSeed};
 ghost use Rattle.dstm_crew.specs.Opened.{IsOpened, with_jobs};
 ghost use Rattle.dstm_crew.specs.Playing.{CanPlay, HasPlayed};
 
@@ -88,7 +89,8 @@ fn open_table(
     requires lawful { IsLawful workload.now.layout values.items }
     requires few { waiting.count ≤ 32 }
     ensures opened { IfOk result (λ t. IsOpened workload.now options.now waiting.count values.items t.0 t.1 t.2) }
-    ensures seed { IfOk result (λ t. HasSeed ((options.now.seed + waiting.first) % 2 ^ 64) t.2) }
+    ensures seed { IfOk result (λ t. HasSeed (seed_for options.now waiting.first) t.2) }
+    ensures come { IfOk result (λ t. CameByCalls (seed_for options.now waiting.first) t.2) }
 {
     let shape = shape_for(
         &workload.layout,

@@ -1,7 +1,8 @@
-ghost use Rattle.std.specs.Prelude.{◌≡◌, ◌+◌, ◌%◌, ◌^◌, ◌<◌, [], length, map, All, IfOk};
+ghost use Rattle.std.specs.Prelude.{◌≡◌, ◌<◌, [], length, map, All, IfOk};
 ghost use Rattle.dstm_tables.specs.Founders.{GivesOut, HasGivenNone, first_of, home_there, made_of};
 ghost use Rattle.dstm_tables.specs.Tells.{callers_of};
-ghost use Rattle.dstm_crew.specs.Seats.{HasBack, IsNew, share_of};
+ghost use Rattle.dstm_records.specs.Records.{seed_for};
+ghost use Rattle.dstm_crew.specs.Seats.{HasBack, HasCome, IsNew, share_of};
 
 use crate::share::Share;
 use crate::worker::Worker;
@@ -22,6 +23,7 @@ pub(crate) fn seat_all(
     requires callers { callers_of (first_of table.now) ≡ length shares.items }
     ensures shares { IfOk result (λ workers. map share_of workers.items ≡ shares.items) }
     ensures new { IfOk result (λ workers. All (λ worker. IsNew table.now worker.caller) workers.items) }
+    ensures come { IfOk result (λ workers. All (HasCome options.now) workers.items) }
     ensures founder { IfOk result (λ _. HasBack table.now (length shares.items) [] founder.new) }
 {
     let mut workers = Vec::with_capacity(alloc, shares.len())?;
@@ -43,7 +45,7 @@ fn seat(
     requires room { made_of founder.old < callers_of (first_of table.now) }
     ensures share { IfOk result (λ worker. share_of worker ≡ share) }
     ensures given { IfOk result (λ worker.
-        GivesOut table.now founder.old founder.new ((options.now.seed + share.worker) % 2 ^ 64) worker.caller) }
+        GivesOut table.now founder.old founder.new (seed_for options.now share.worker) worker.caller) }
 {
     let seed = options.seed.wrapping_add(u64::from(share.worker));
     let caller = founder.caller(alloc, table, seed)?;

@@ -1,6 +1,7 @@
 -- What it says that the records of rounds stand for a report: its rows are the transactions that committed on those
 -- tables, one for one, and no round was passed over without need. What a record tells stands in the words on tables.
-use Rattle.std.specs.Prelude.{◌≡◌, ℕ, ◌+◌, ◌<◌, ◌≤◌, ◌==◌, ◌&&◌, Bool, true, false, not, List, [], ◌∷◌, ◌++◌, length, filter, find, zip, Option, Some, IsSomeAnd, All, Contains}
+use Rattle.std.specs.List.{slice_get}
+use Rattle.std.specs.Prelude.{◌≡◌, ℕ, ◌+◌, ◌%◌, ◌^◌, ◌<◌, ◌≤◌, ◌==◌, ◌&&◌, Bool, true, false, not, List, [], ◌∷◌, ◌++◌, length, filter, find, zip, Option, Some, IfSome, IsSomeAnd, All, Contains}
 use Rattle.dstm_model.specs.declared.value.Val.{Val}
 use Rattle.dstm_model.specs.declared.layout.Layout.{Layout}
 use Rattle.dstm_model.specs.declared.reply.Reply.{Reply}
@@ -25,8 +26,8 @@ use Rattle.dstm_tables.specs.declared.tables.Round.TheVariants.{Dstm, Tl2}
 use Rattle.dstm_tables.specs.Answers.{KeepsFew}
 use Rattle.dstm_tables.specs.Jobs.{HadToStop, NoneWasted}
 use Rattle.dstm_tables.specs.Tells as known
-use Rattle.dstm_tables.specs.Tells.{IsOf, callers_of, committed_of, layout_of, start_of, values_of}
-use Rattle.dstm_records.specs.Rounds.{is_parallel, rows_in, left_by, has_job, workers_in, most_jobs, attempts_for, locators_for}
+use Rattle.dstm_tables.specs.Tells.{ByCalls, IsOf, callers_of, committed_of, layout_of, start_of, values_of}
+use Rattle.dstm_records.specs.Rounds.{is_parallel, rows_in, left_by, has_job, workers_in, workers_left, most_jobs, attempts_for, locators_for}
 
 -- its table has the store's law and objects, and what happened on it is a run of its engine
 pub record IsRun (layout : Layout) (round : Round) : Type 0 where
@@ -49,6 +50,10 @@ pub record IsDstmMade (options : Options) (version number jobs : ℕ) (shape : S
 abbrev pub IsMade : Options → (version number jobs : ℕ) → Round → Type 0
 IsMade options version number jobs (Dstm r) = IsDstmMade options version number jobs r.terms.shape
 IsMade options version number jobs (Tl2 r) = r.terms.attempts ≡ attempts_for jobs
+
+-- the seed of a worker's caller
+abbrev pub seed_for : Options → (worker : ℕ) → ℕ
+seed_for options worker = (options.seed + worker) % 2 ^ 64
 
 -- ---- rows and transactions
 
@@ -113,7 +118,7 @@ abbrev pub HadCause : Workload → List Row → Round → ℕ → ℕ → Type 0
 HadCause workload rows round worker c = NoneWasted workload (next_of workload rows worker) round c
 
 -- a parallel round: each of its workers has a caller of its own
-pub record IsParallel (workload : Workload) (number : ℕ) (before rows : List Row) (round : Round) : Type 0 where
+pub record IsParallel (workload : Workload) (options : Options) (number : ℕ) (before rows : List Row) (round : Round) : Type 0 where
   pub caller : ℕ → ℕ
   pub paired : ArePaired (workers_in workload number before) (callers_of round) caller
   -- a worker's rows tell of what its caller committed
@@ -127,6 +132,10 @@ pub record IsParallel (workload : Workload) (number : ℕ) (before rows : List R
   pub attempts :
       (worker : ℕ) → Contains (workers_in workload number before) worker
       → HadCause workload (before ++ rows) round worker (caller worker)
+  -- a worker's caller has made its events by calls, from the generator of its seed on
+  pub calls :
+      (worker : ℕ) → Contains (workers_in workload number before) worker
+      → ByCalls (seed_for options worker) round (caller worker)
 
 -- ---- alone rounds
 
@@ -135,10 +144,12 @@ abbrev pub count_done : ℕ → List Row → ℕ
 count_done worker rows = length (filter (λ row. (row.worker == worker) && not (is_given_up row.replies)) rows)
 
 -- an alone round: its one caller runs at most one job of each worker, and some job
-pub record IsAlone (rows : List Row) (round : Round) : Type 0 where
+pub record IsAlone (workload : Workload) (options : Options) (before rows : List Row) (round : Round) : Type 0 where
   pub one_caller : callers_of round ≡ 1
   pub some_row : 0 < length rows
   pub few : (worker : ℕ) → count_done worker rows ≤ 1
+  -- the caller has made its events by calls, from the generator of the seed of the least worker that has jobs left on
+  pub calls : IfSome (slice_get (workers_left workload before) 0) (λ worker. ByCalls (seed_for options worker) round 0)
 
 -- ---- early release
 
@@ -169,8 +180,8 @@ pub record IsRoundOf (workload : Workload) (options : Options) (number : ℕ) (b
   -- the rows tell of the transactions that committed on it, one for one, in the order of their numbers
   pub rows_tell : TellOf workload before rows values (committed_of round)
   -- its workers ran beside one another, or one caller ran alone
-  pub parallel : is_parallel number ≡ true → IsParallel workload number before rows round
-  pub alone : is_parallel number ≡ false → IsAlone rows round
+  pub parallel : is_parallel number ≡ true → IsParallel workload options number before rows round
+  pub alone : is_parallel number ≡ false → IsAlone workload options before rows round
   -- with early release, walks along the list keep few reads
   pub released :
       IsReleasing options workload.version → is_parallel number ≡ true

@@ -4,7 +4,7 @@ use Rattle.dstm_tables.specs.declared.tables.Round.{Round}
 use Rattle.dstm_tables.specs.Founders.{seen_by}
 use Rattle.dstm_tables.specs.Tells.{IsRun, values_of}
 use Rattle.dstm_crew.specs.Opened.{IsOpened}
-use Rattle.dstm_crew.proofs.Closes.{adds_alone, can_run, opened_for}
+use Rattle.dstm_crew.proofs.Closes.{adds_alone, can_run, least_came, opened_for}
 use Rattle.dstm_crew.proofs.alone.play_alone.Goals as goal
 
 pub open_table-requires-clause-few : goal.open_table-requires-clause-few
@@ -47,6 +47,8 @@ returns-clause-played g c =
       adds = adds_alone workload options c.args.number p.rows.items p.values.items table c.in_ok-table.founder taken
           c.in_ok-table.caller c.run_alone.new.caller c.run_alone.new.rows.items c.run_alone.new.turns c.requires.alone
           c.requires.can.begins opened ran c.retire.ensures (subst IsRun is c.in_ok-left.ensures.run)
+          (least_came workload options p.rows.items c.args.progress.now.turns c.count_waiting-waiting.result.first
+          c.in_ok-table.caller c.requires.can.turns c.count_waiting-waiting.ensures.first c.in_ok-table.ensures.come)
           c.in_ok-left.left.items (c.in_ok-left.ensures.values ∙ ap values_of is);
       turns_are = ran.goes.turns_are;
     }
