@@ -31,12 +31,11 @@ use Rattle.dstm_tl2_engine.specs.Tables.{HasReturned}
 -- ---- the loop over the objects
 
 -- the values have those of a table, by what the table was told
-pub told_by : (values start first : List Val) (words found : List ℕ) → first ≡ start → found ≡ words →
-    ((o : ℕ) → o < length first → value_at values o ≡ value_left (length first) found o) →
+pub told_by : (values start first : List Val) (words : List ℕ) → first ≡ start →
+    ((o : ℕ) → o < length first → value_at values o ≡ value_left (length first) words o) →
     (o : ℕ) → o < length start → value_at values o ≡ value_left (length start) words o
-told_by values start first words found is_start is_words told =
-    subst (λ xs. (o : ℕ) → o < length xs → value_at values o ≡ value_left (length xs) words o) is_start
-    (subst (λ xs. (o : ℕ) → o < length first → value_at values o ≡ value_left (length first) xs o) is_words told)
+told_by values start first words is_start told =
+    subst (λ xs. (o : ℕ) → o < length xs → value_at values o ≡ value_left (length xs) words o) is_start told
 
 -- ---- numbers that stand once each
 
@@ -119,7 +118,8 @@ all_below most numbers apart below many n lt = by (has_number n numbers)
 
 -- ---- the words in the end
 
-value_is : (v : Val) (low high : ℕ) → low ≡ v.low → high ≡ v.high → record { low = low; high = high } ≡ v
+-- a value is its two parts
+pub value_is : (v : Val) (low high : ℕ) → low ≡ v.low → high ≡ v.high → record { low = low; high = high } ≡ v
 value_is v low high p q =
     ap (λ x. record { low = x; high = high }) p ∙ ap (λ x. record { low = v.low; high = x }) q
 

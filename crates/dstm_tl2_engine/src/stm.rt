@@ -181,8 +181,8 @@ impl<L: Law> TlStm<L> {
         self.words.add(seat, Kind::Enrol, callers) as u32
     }
 
-    /// The current value of each object, and what is kept of the table: the last event of each caller is in its log. On
-    /// want of memory the table is given up.
+    /// The current value of each object, and what is kept of the table: the last event of each caller is in its log. It
+    /// copies no word and takes no memory of `alloc`.
     pub fn close(
         self,
         alloc: Global,
@@ -205,8 +205,10 @@ impl<L: Law> TlStm<L> {
             ..
         } = self;
         drop(law);
-        let left = words.close(alloc, seat)?;
-        Ok((settle(&left, start), record))
+        let left = words.close_in_place(seat);
+        let values = settle(&left, start);
+        left.free();
+        Ok((values, record))
     }
 }
 

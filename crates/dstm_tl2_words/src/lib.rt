@@ -5,6 +5,7 @@
 mod machine;
 mod words;
 
+pub use dstm_seats::Left;
 pub use machine::{Tl2, Tl2Seat};
 pub use words::Words;
 

@@ -8,6 +8,7 @@ ghost use Rattle.dstm_tl2_words.specs.Seats.{view_of, founder, found_in, kept_pa
 
 use crate::machine::{Tl2, Tl2Seat};
 use dstm_model::{Law, Val};
+use dstm_seats::Left;
 use dstm_tl2::{Kind, Terms};
 use std::alloc::{AllocError, Global};
 use std::marker::Model;
@@ -161,6 +162,15 @@ impl<L: Law> Words<L> {
     {
         let Words { words } = self;
         words.close(alloc, seat)
+    }
+
+    /// The words as they stand, where they are: nothing is copied.
+    pub fn close_in_place(self, seat: Tl2Seat<L>) -> Left
+        requires { IsOf self seat }
+        ensures { LeftBy L.holds self.terms (view_of seat) result }
+    {
+        let Words { words } = self;
+        words.close_in_place(seat)
     }
 }
 

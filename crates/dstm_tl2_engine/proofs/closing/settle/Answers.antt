@@ -1,7 +1,8 @@
-use Rattle.std.proofs.Common.{◌<◌, ◌∙◌, ◌≡◌, ap, arith, refl, length}
+use Rattle.std.proofs.Common.{◌<◌, ◌∙◌, ◌≡◌, ap, arith, length}
 use Rattle.std.proofs.lemmas.List.{length-set}
 use Rattle.dstm_tl2_engine.specs.Closing.{value_left}
 use Rattle.dstm_mem.proofs.Settling.{settled_more}
+use Rattle.dstm_tl2_engine.proofs.LastValues.{value_is}
 use Rattle.dstm_tl2_engine.proofs.closing.settle.Goals as goal
 
 pub loop-o-preserved : goal.loop-o-preserved
@@ -11,9 +12,12 @@ loop-o-preserved c =
     let o = c.loop-o.o in
     let below : o < length values =
     let same = v.same in let count = c.len-objects.ensures in omega (arith, c.loop-o-test.true) in
+    let is =
+    value_is (value_left c.len-objects.result c.args.words.now o) c.word_at.result c.word_at-in-loop-o.result
+    c.word_at.ensures c.word_at-in-loop-o.ensures in
     record {
       same = length-set values o _ ∙ v.same;
-      settled = settled_more (value_left c.len-objects.result c.args.words.now) values o _ below refl v.settled;
+      settled = settled_more (value_left c.len-objects.result c.args.words.now) values o _ below is v.settled;
     }
 
 pub returns-clause-values : goal.returns-clause-values
