@@ -17,7 +17,7 @@ use Rattle.dstm_tl2_engine.specs.Calls.{Performs}
 use Rattle.dstm_tl2_engine.specs.Outcomes.{IsLeft, begun_state, own_since}
 use Rattle.dstm_tl2_engine.proofs.Begun.{begun_count}
 use Rattle.dstm_tl2_engine.proofs.CallKinds.{commits_in, samples_in, uncommitting, unsampled}
-use Rattle.dstm_tl2_engine.proofs.Causing.{answers_since}
+use Rattle.dstm_tl2_order.proofs.Causing.{answers_since}
 use Rattle.dstm_machines.proofs.Attempts.{begun_after, log_parts, since_after}
 use Rattle.dstm_machines.proofs.Own.{after_own, own_state}
 use Rattle.dstm_tl2.proofs.Done.{invalid_after, quiet_after, valid_after}

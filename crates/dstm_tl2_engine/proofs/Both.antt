@@ -29,7 +29,7 @@ use Rattle.dstm_tl2_engine.specs.Attempts.{Commits, done}
 use Rattle.dstm_tl2_engine.specs.Callers.{TlCalled, handed, held, is_opened, state, table_of_caller, written}
 use Rattle.dstm_tl2_engine.specs.Calls.{Performs}
 use Rattle.dstm_tl2_engine.specs.Transactions.{HasLocked, Leaves, Stays}
-use Rattle.dstm_tl2_engine.proofs.Causing.{causes_of}
+use Rattle.dstm_tl2_order.proofs.Causing.{causes_of}
 use Rattle.dstm_machines.proofs.Own.{after_own}
 use Rattle.dstm_tl2_engine.proofs.Working.{are_closing, are_finishing, closing_keeps, is_closing, is_finishing, step_keeps}
 

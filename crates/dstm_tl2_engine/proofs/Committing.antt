@@ -35,7 +35,7 @@ use Rattle.dstm_tl2_engine.specs.Outcomes.{IsLeft}
 use Rattle.dstm_tl2_engine.specs.Transactions.{HasLocked, IsLawful, Leaves, Stays}
 use Rattle.dstm_tl2_engine.specs.declared.caller.TlCaller.TheInside.{Inside}
 use Rattle.dstm_tl2_engine.proofs.AfterCall.{attempt_kept, done_invalid, done_valid, left_after}
-use Rattle.dstm_tl2_engine.proofs.Causing.{causes_of}
+use Rattle.dstm_tl2_order.proofs.Causing.{causes_of}
 use Rattle.dstm_tl2.proofs.Done.{failed_invalid, undrawn_invalid}
 use Rattle.dstm_tl2_engine.proofs.Others.{others_of}
 use Rattle.dstm_tl2_engine.proofs.Tying.{kept, now_there, performs_then, state_then}

@@ -4,7 +4,6 @@ pub mod Begins
 pub mod Both
 pub mod CallKinds
 pub mod Calling
-pub mod Causing
 pub mod Committing
 pub mod Begun
 pub mod Enrolling

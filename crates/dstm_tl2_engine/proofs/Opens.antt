@@ -31,7 +31,7 @@ use Rattle.dstm_tl2_engine.proofs.AfterCall.{attempt_kept, done_quiet, left_afte
 use Rattle.dstm_tl2_engine.proofs.Begins.{lawful_unlocked}
 use Rattle.dstm_tl2_engine.proofs.CallKinds.{is_look, opening_looks}
 use Rattle.dstm_tl2_engine.proofs.Calling.{begun_as}
-use Rattle.dstm_tl2_engine.proofs.Causing.{causes_of}
+use Rattle.dstm_tl2_order.proofs.Causing.{causes_of}
 use Rattle.dstm_tl2_engine.proofs.Others.{others_of}
 use Rattle.dstm_tl2_engine.proofs.Tying.{ends_here, kept, now_there, performs_then, starts_there, state_then}
 use Rattle.dstm_tl2_engine.specs.Attempts.{Admits, Seen}

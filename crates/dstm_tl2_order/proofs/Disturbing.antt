@@ -1,5 +1,5 @@
 -- A call that answers why its attempt was left has disturbed it.
-use Rattle.std.proofs.Common.{◌≡◌, ◌==◌, ◌+◌, ◌*◌, ◌%◌, ◌<◌, ◌≤◌, ◌⊎◌, ◌∷◌, ◌++◌, ◌∙◌, ℕ, inl, inr, List, [], refl, ap, append_assoc, arith, sym, subst, true, false, Bool, Some, lt-ltb}
+use Rattle.std.proofs.Common.{◌≡◌, ◌+◌, ◌*◌, ◌%◌, ◌<◌, ◌≤◌, ◌⊎◌, ◌∷◌, ◌++◌, ◌∙◌, ℕ, inl, inr, List, [], refl, ap, append_assoc, arith, sym, subst, true, false, Bool, Some, lt-ltb}
 use Rattle.std.specs.Prelude.{◌&&◌, not, nat_le, nat_lt}
 use Rattle.std.proofs.lemmas.Bool.{and_from, cases_Bool, cases_eq, eq-eqb, eqb-false, leb-false, ne_eqb}
 use Rattle.dstm_machines.specs.Traces.{events_of}
@@ -16,6 +16,7 @@ use Rattle.dstm_tl2_order.specs.declared.again.TlAgain.{TlAgain}
 use Rattle.dstm_tl2_order.specs.Ended.{Disturbed, finds_changed, finds_locked, finds_newer, is_first_or_lock, is_later_look, is_look_lock}
 use Rattle.dstm_tl2_order.specs.Ended.Disturbed.{found_locked, found_newer, found_changed}
 use Rattle.dstm_tl2_order.proofs.Steps.{begun_up, state_up}
+use Rattle.dstm_tl2_order.proofs.Causing.{ended_by}
 use Rattle.dstm_tl2_order.proofs.Ones.{one_there}
 
 -- ---- what an event that ends its attempt has found
@@ -53,32 +54,7 @@ ends_by l e Check is f =
     inr (inr (and_from (is_later_look e.kind) (fails e.kind l e) (ap is_later_look is) (ap (λ k. fails k l e) is ∙ f)))
 ends_by l e k is f = absurd (cc)
 
--- ---- the event that has ended the attempt, among the events of a call
-
-pub record Ended (t : Table) (l : LocalState) (es : List Event) : Type 0 where
-  pub event : Event
-  pub later : List Event
-  pub before : List Event
-  pub in_call : es ≡ later ++ event ∷ before
-  pub fails : fails event.kind (state_after t l before) event ≡ true
-
-pub ended_by : (t : Table) (l : LocalState) (es : List Event) (again : TlAgain) → answer_of t l es ≡ Some again →
-    Ended t l es
-ended_by t l [] again h = absurd (cc)
-ended_by t l (e ∷ es) again h =
-    go (cases_Bool (fails e.kind (state_after t l es) e)) (ended_by t l es again)
-  where
-    go : (fails e.kind (state_after t l es) e ≡ true) ⊎ (fails e.kind (state_after t l es) e ≡ false) →
-        (answer_of t l es ≡ Some again → Ended t l es) → Ended t l (e ∷ es)
-    go (inl q) ih = record { event = e; later = []; before = es; in_call = refl; fails = q }
-    go (inr q) ih =
-        let was = ih (rw q at h) in record {
-          event = was.event;
-          later = e ∷ was.later;
-          before = was.before;
-          in_call = ap (λ (xs : List Event). e ∷ xs) was.in_call;
-          fails = was.fails;
-        }
+-- ---- where it stands
 
 -- where one of a caller's events stands in the log
 pub record StandsAt (c : ℕ) (log : List Event) (event : Event) (older : List Event) : Type 0 where

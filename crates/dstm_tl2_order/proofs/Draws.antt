@@ -1,11 +1,11 @@
 -- Whether an attempt has drawn, as its caller's state tells.
 use Rattle.std.proofs.Common.{◌≡◌, ◌==◌, ◌<◌, ◌⊎◌, ◌∷◌, ◌+◌, ◌∙◌, ℕ, inl, inr, List, [], refl, ap, arith, sym, subst, true, false, Bool, Option, None, Some, is_some}
-use Rattle.std.specs.Prelude.{◌&&◌, ◌||◌}
+use Rattle.std.specs.Prelude.{◌&&◌}
 use Rattle.std.proofs.lemmas.Bool.{and_from, and_left, and_parts, and_right, cases_Bool, eq-eqb, eqb-true, ne_eqb}
 use Rattle.dstm_machines.proofs.Own.{local_mine, local_others}
 use Rattle.dstm_tl2.specs.declared.kind.Kind.{Kind}
 use Rattle.dstm_tl2.specs.declared.kind.Kind.TheVariants.{Sample, Draw}
-use Rattle.dstm_tl2.specs.Histories.{is_draw, is_sample, will_of}
+use Rattle.dstm_tl2.specs.Histories.{is_draw, will_of}
 use Rattle.dstm_tl2.specs.Rules.{Event, after}
 use Rattle.dstm_tl2.specs.Runs.{Run, local, tl2}
 use Rattle.dstm_tl2.specs.State.{LocalState, is_valid}

@@ -5,4 +5,5 @@ pub mod Steps
 pub mod Ones
 pub mod Draws
 pub mod WasRead
+pub mod Causing
 pub mod Disturbing

@@ -3,7 +3,7 @@ use Rattle.std.proofs.Common.{◌≡◌, ◌==◌, ◌<◌, ◌⊎◌, ◌∷◌
 use Rattle.std.specs.Prelude.{◌&&◌, ◌||◌}
 use Rattle.std.proofs.lemmas.Bool.{and_from, and_left, and_parts, and_right, cases_Bool, eq-eqb, eqb-true, ne_eqb, or_left, or_right}
 use Rattle.dstm_machines.specs.Traces.{events_of}
-use Rattle.dstm_machines.proofs.Own.{local_mine, local_others, own_first, own_other}
+use Rattle.dstm_machines.proofs.Own.{own_first, own_other}
 use Rattle.dstm_machines.proofs.Runs.{local-events_of}
 use Rattle.dstm_tl2.specs.Histories.{is_draw, will_of}
 use Rattle.dstm_tl2.specs.Rules.{Event}

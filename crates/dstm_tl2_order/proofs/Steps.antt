@@ -1,5 +1,5 @@
 -- What an event does to the number of attempts that its caller has begun, and to what it has drawn.
-use Rattle.std.proofs.Common.{◌≡◌, ◌==◌, ◌≤◌, ◌<◌, ◌⊎◌, ◌∷◌, ◌++◌, ◌∙◌, ℕ, inl, inr, List, [], refl, ap, arith, sym, true, false, Bool, None, Some}
+use Rattle.std.proofs.Common.{◌≡◌, ◌==◌, ◌≤◌, ◌⊎◌, ◌∷◌, ◌++◌, ℕ, inl, inr, List, [], refl, ap, arith, true, false, None, Some}
 use Rattle.std.proofs.lemmas.Bool.{cases_Bool, cond_both}
 use Rattle.dstm_machines.proofs.Own.{local_mine, local_others}
 use Rattle.dstm_tl2.specs.declared.kind.Kind.{Kind}

@@ -1,5 +1,5 @@
 -- Laws of how attempts of TL2 ended.
-use Rattle.std.specs.Prelude.{◌≡◌, ℕ, ◌<◌, true, false, None, Some, List, ◌++◌}
+use Rattle.std.specs.Prelude.{◌≡◌, ℕ, ◌<◌, true, None, Some, List, ◌++◌}
 use Rattle.dstm_machines.specs.Traces.{events_of}
 use Rattle.dstm_tl2.specs.Histories.{read_values}
 use Rattle.dstm_tl2.specs.Rules.{Event}

@@ -80,14 +80,27 @@ answers_since t l (e ∷ es) before again h =
     by ih (inr q) = rw (same ∙ q) (ih (rw q at h))
 
 -- the event that has ended an attempt, among the events of a call
-pub found_of : (t : Table) (l : LocalState) (es : List Event) (again : TlAgain) → answer_of t l es ≡ Some again →
-    (event : Event) × (later : List Event) × (before : List Event)
-    × (es ≡ later ++ event ∷ before) × (fails event.kind (state_after t l before) event ≡ true)
-found_of t l es again h = by again (causes_of t l es again h)
+pub record Ended (t : Table) (l : LocalState) (es : List Event) : Type 0 where
+  pub event : Event
+  pub later : List Event
+  pub before : List Event
+  pub in_call : es ≡ later ++ event ∷ before
+  pub fails : fails event.kind (state_after t l before) event ≡ true
+
+ended_here : (t : Table) (l : LocalState) (es : List Event) (o : _) → Found t l es o → Ended t l es
+ended_here t l es o f = record {
+  event = f.event;
+  later = f.later;
+  before = f.before;
+  in_call = f.in_call;
+  fails = f.fails;
+}
+
+pub ended_by : (t : Table) (l : LocalState) (es : List Event) (again : TlAgain) → answer_of t l es ≡ Some again →
+    Ended t l es
+ended_by t l es again h = by again (causes_of t l es again h)
   where
-    by : (again : TlAgain) → Causes again t l es →
-        (event : Event) × (later : List Event) × (before : List Event)
-        × (es ≡ later ++ event ∷ before) × (fails event.kind (state_after t l before) event ≡ true)
-    by (Locked o) c = (c.0.event, c.0.later, c.0.before, c.0.in_call, c.0.fails)
-    by (Newer o) c = (c.0.event, c.0.later, c.0.before, c.0.in_call, c.0.fails)
-    by (Changed o) c = (c.0.event, c.0.later, c.0.before, c.0.in_call, c.0.fails)
+    by : (again : TlAgain) → Causes again t l es → Ended t l es
+    by (Locked o) c = ended_here t l es o c.0
+    by (Newer o) c = ended_here t l es o c.0
+    by (Changed o) c = ended_here t l es o c.0
