@@ -57,6 +57,13 @@ module _ {L : Type 0} (holds : L → List Val → Type 0) (k n : TlCalled L) (ta
       ∙ since_after is_sample k.number k.log n.log p.events p.seen p.own
       (unsampled task (table_of_caller k) (state k) p.events none p.call.obeys)
 
+  -- and it began in the same state
+  pub began_then : samples_in task ≡ false → begun_state n ≡ begun_state k
+  began_then none =
+      ap (λ (x : Table). local x (begun_log n.number n.log) n.number) table_then
+      ∙ ap (λ xs. local (table_of_caller k) xs n.number) (attempt_kept none)
+      ∙ ap (local (table_of_caller k) (begun_log k.number k.log)) p.same.1
+
   -- a call that draws and checks nothing commits nothing
   pub done_quiet : commits_in task ≡ false → done n ≡ done k
   done_quiet none =
@@ -101,15 +108,11 @@ module _ {L : Type 0} (holds : L → List Val → Type 0) (k n : TlCalled L) (ta
       answer_of (table_of_caller n) (begun_state n) (own_since n) ≡ Some why
   caused why is none =
       let t = table_of_caller k in
-      let began : begun_state n ≡ begun_state k =
-      ap (λ (x : Table). local x (begun_log n.number n.log) n.number) table_then
-      ∙ ap (λ xs. local t xs n.number) (attempt_kept none)
-      ∙ ap (local t (begun_log k.number k.log)) p.same.1 in
       let since : state k ≡ state_after t (begun_state k) (own_since k) =
       ap (λ xs. local t xs k.number) (log_parts is_sample k.number k.log)
       ∙ own_state tl2 t k.number (since_sample k.number k.log) (begun_log k.number k.log) in
       ap (λ (x : Table). answer_of x (begun_state n) (own_since n)) table_then
-      ∙ ap (λ (l : LocalState). answer_of t l (own_since n)) began
+      ∙ ap (λ (l : LocalState). answer_of t l (own_since n)) (began_then none)
       ∙ ap (answer_of t (begun_state k)) (own_since_then none)
       ∙ answers_since t (begun_state k) p.events (own_since k) why
       (subst (λ (l : LocalState). answer_of t l p.events ≡ Some why) since (sym p.answers ∙ is))

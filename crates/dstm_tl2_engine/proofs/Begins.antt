@@ -1,26 +1,30 @@
 -- A caller after it was to give back what it had locked, or to begin an attempt.
-use Rattle.std.proofs.Common.{◌<◌, ◌≤◌, ◌+◌, ◌==◌, ◌∙◌, ◌∷◌, ◌≡◌, Bool, List, None, Option, Some, [], ap, arith, false, length, map, refl, subst, sym, take, true, ℕ}
+use Rattle.std.proofs.Common.{◌<◌, ◌≤◌, ◌+◌, ◌==◌, ◌∙◌, ◌∷◌, ◌≡◌, ◌⊎◌, ◌||◌, Bool, List, None, Option, Some, [], ap, arith, false, inl, inr, length, map, refl, subst, sym, take, true, ℕ}
 use Rattle.std.specs.Prelude.{IfSome, IsSome, nat_le, nat_lt, not, if◌then◌else◌}
 use Rattle.std.specs.Option.{option_or}
-use Rattle.std.proofs.lemmas.Bool.{eq-eqb}
+use Rattle.std.proofs.lemmas.Bool.{cases_eq, cond-true, eq-eqb, ne_eqb}
 use Rattle.std.proofs.lemmas.List.{length-map, length-take-le}
 use Rattle.std.proofs.lemmas.List.Elements.{All-cons, All-nil}
 use Rattle.dstm_mem.proofs.WithSet.{with_set-nothing}
 use Rattle.dstm_mem.specs.Memory.{value_in}
 use Rattle.dstm_model.specs.Map.{value_at}
 use Rattle.dstm_model.specs.declared.value.Val.{Val}
+use Rattle.dstm_machines.specs.Traces.{events_of}
 use Rattle.dstm_machines.specs.Traces.Access.{Load}
 use Rattle.dstm_tl2.specs.declared.kind.Kind.TheVariants.{Sample}
 use Rattle.dstm_tl2.specs.Histories.{read_values}
-use Rattle.dstm_tl2.specs.Rules.{Event, begin, new_hold}
+use Rattle.dstm_tl2.specs.Rules.{Event, after, begin, new_hold}
 use Rattle.dstm_tl2.specs.Runs.{local}
 use Rattle.dstm_tl2.specs.Sharing.{table_of}
-use Rattle.dstm_tl2.specs.State.{Hold, LocalState, Read, read_of}
+use Rattle.dstm_tl2.specs.State.{Hold, LocalState, Read, hold_of, is_valid, or_hold, read_of}
 use Rattle.dstm_tl2.specs.Words.{Table}
 use Rattle.dstm_tl2_words.specs.Seats.{Home, view_of}
-use Rattle.dstm_tl2_order.specs.Calls.{Obeys, newest_of, state_after}
+use Rattle.dstm_tl2_order.specs.Calls.{Obeys, due_after, newest_of, state_after}
+use Rattle.dstm_tl2_order.specs.Made.{Call}
 use Rattle.dstm_tl2_order.specs.Order.{IsDue, has_sampled, in_giving_back, is_spent}
-use Rattle.dstm_tl2_order.specs.Order.Due.{Done, Just}
+use Rattle.dstm_tl2_order.specs.Order.Due.{Done, FreeAs, Just}
+use Rattle.dstm_tl2_order.proofs.Steps.{state_up}
+use Rattle.dstm_tl2_steps.proofs.Stepping.{call_of}
 use Rattle.dstm_tl2_steps.specs.Reads.{AtRest}
 use Rattle.dstm_tl2_order.specs.Tasks.{Task}
 use Rattle.dstm_tl2_order.specs.Tasks.Task.{Beginning, Returning}
@@ -28,11 +32,12 @@ use Rattle.dstm_tl2_steps.specs.Under.{Began, Under, made_by, now}
 use Rattle.dstm_tl2_order.specs.declared.again.TlAgain.{TlAgain}
 use Rattle.dstm_tl2_steps.specs.declared.steps.Steps.{Steps}
 use Rattle.dstm_tl2_engine.proofs.Calling.{began_is, begun_as}
-use Rattle.dstm_tl2.proofs.Done.{NoCommits, may_commit, quiet_after}
+use Rattle.dstm_tl2.proofs.Done.{NoCommits, may_commit, quiet_after, undrawn_invalid}
 use Rattle.dstm_tl2_engine.proofs.Tying.{Kept, kept, now_there, performs_then, state_then, steps_of}
 use Rattle.dstm_tl2_engine.specs.Attempts.{Admits, done}
 use Rattle.dstm_tl2_engine.specs.Began.{began_of}
-use Rattle.dstm_tl2_engine.specs.Callers.{TlCalled, begun_log, held, state, written}
+use Rattle.dstm_tl2_engine.specs.Callers.{TlCalled, begun_log, held, since_sample, state, written}
+use Rattle.dstm_tl2_engine.specs.Calls.{IsMade, IsTold}
 use Rattle.dstm_tl2_engine.specs.Mirror.{Tied, called}
 use Rattle.dstm_tl2_engine.specs.Outcomes.{IsLeft}
 use Rattle.dstm_tl2_engine.specs.Transactions.{BeginsAnew, HasLocked, IsLawful, SpentFrom}
@@ -103,6 +108,64 @@ beginning_none t l (e ∷ es) o =
     (is_spent t (state_after t l es)) t (state_after t l es).holds e o.1)
     (beginning_none t l es o.0)
 
+-- ---- what they had to give back
+
+or_true : (b : Bool) → (b || true) ≡ true
+or_true true = refl
+or_true false = refl
+
+-- an event that gives back is known by the state after it
+gives_back : (t : Table) (l : LocalState) (holds : List Hold) → l.holds ≡ holds → (e : Event) →
+    IsDue t (in_giving_back holds) e → (after e.kind t l e).gave_back ≡ true
+gives_back t l [] is e d = absurd d
+gives_back t l (h ∷ hs) is e d =
+    let found : hold_of e.place l.holds ≡ Some h =
+    ap (hold_of e.place) is
+    ∙ cond-true (h.object == e.place) (Some h) (hold_of e.place hs) (eq-eqb h.object e.place (sym d.1)) in
+    let same : (e.put == (or_hold (hold_of e.place l.holds)).word) ≡ true =
+    eq-eqb e.put (or_hold (hold_of e.place l.holds)).word (d.2 ∙ ap (λ x. (or_hold x).word) (sym found)) in
+    ap (λ k. (after k t l e).gave_back) d.0 ∙ ap (λ b. l.gave_back || b) same ∙ or_true l.gave_back
+
+-- so where none came, nothing was locked
+returned_nothing : (t : Table) (l : LocalState) (es : List Event) → Obeys Returning t l es →
+    due_after Returning t l es ≡ Done → (state_after t l es).gave_back ≡ false → l.holds ≡ []
+returned_nothing t l [] o done kept = by l.holds done
+  where
+    by : (holds : List Hold) → in_giving_back holds ≡ Done → holds ≡ []
+    by [] q = refl
+    by (h ∷ hs) q = absurd (cc)
+returned_nothing t l (e ∷ es) o done kept =
+    absurd (let gave = gives_back t (state_after t l es) (state_after t l es).holds refl e o.1 in cc)
+
+due_gives : (a b c : Bool) (t : Table) (l : LocalState) (e : Event) →
+    IsDue t (if a then Done else if b then in_giving_back l.holds else if c then Done else Just Sample) e →
+    ((after e.kind t l e).gave_back ≡ true) ⊎ ((after e.kind t l e).begun ≡ l.begun + 1)
+due_gives true b c t l e d = absurd d
+due_gives false true c t l e d = inl (gives_back t l l.holds refl e d)
+due_gives false false true t l e d = absurd d
+due_gives false false false t l e d = inr (ap (λ k. (after k t l e).begun) d)
+
+begun_nothing : (t : Table) (l : LocalState) (es : List Event) → Obeys Beginning t l es →
+    due_after Beginning t l es ≡ Done → (state_after t l es).gave_back ≡ false →
+    (state_after t l es).begun ≡ l.begun → l.holds ≡ []
+begun_nothing t l [] o done kept same = by l.holds (is_spent t l) done
+  where
+    by : (holds : List Hold) (spent : Bool) →
+        (if not (length holds == 0) then in_giving_back holds else if spent then Done else Just Sample) ≡ Done →
+        holds ≡ []
+    by [] spent q = refl
+    by (h ∷ hs) spent q =
+        absurd (let some : (length (h ∷ hs) == 0) ≡ false = ne_eqb (length (h ∷ hs)) 0 (λ z. omega arith) in
+        let first : FreeAs h.object h.word ≡ Done = rw some at q in cc)
+begun_nothing t l (e ∷ es) o done kept same =
+    absurd (by (due_gives (has_sampled (newest_of es)) (not (length (state_after t l es).holds == 0))
+    (is_spent t (state_after t l es)) t (state_after t l es) e o.1))
+  where
+    by : ((state_after t l (e ∷ es)).gave_back ≡ true)
+        ⊎ ((state_after t l (e ∷ es)).begun ≡ (state_after t l es).begun + 1) → ⊥
+    by (inl gave) = cc
+    by (inr one) = let up = state_up t l es in omega (arith, up, one, same)
+
 -- ---- the caller then
 
 -- what it had locked was given back
@@ -162,8 +225,36 @@ module _ {L : Type 0} (holds : L → List Val → Type 0) (c : Inside L) (v : Ti
         by (Some again) h =
             subst (λ (x : Steps L). IsLeft (called (record c { steps = x }))) (sym (still h.given_back.free)) h
 
-    pub freed_tied : Tied holds (freed c new)
-    freed_tied = record {
+    -- a call that gives back leaves an attempt that was made as it is
+    module _ (back : gave ≡ false → (state (called c)).holds ≡ []) where
+      idle_made : IsMade (called (freed c new)) → new ≡ c.steps
+      idle_made made = by made.1
+        where
+          left_free : (left : Option TlAgain) → IsSome left → IfSome left (λ again. IsLeft (called c)) →
+              (state (called c)).holds ≡ []
+          left_free None some h = absurd (cc)
+          left_free (Some again) some h = h.given_back.free
+
+          unlocked : is_valid (state (called (freed c new))) ≡ true → (c.locked ≡ 0) ⊎ (c.locked ≡ 0 → ⊥) → c.locked ≡ 0
+          unlocked valid (inl none) = none
+          unlocked valid (inr some) =
+              absurd (let invalid = undrawn_invalid (state (called (freed c new)))
+              (ap (λ (l : LocalState). l.drawn) now_free ∙ v.may some) in cc)
+
+          by : IsSome c.left ⊎ ((is_valid (state (called (freed c new))) ≡ true)
+              ⊎ ((state (called (freed c new))).gave_back ≡ false)) → new ≡ c.steps
+          by (inl some) = still (left_free c.left some v.left)
+          by (inr (inl valid)) = idle (unlocked valid (cases_eq c.locked 0))
+          by (inr (inr kept)) = still (back (sym (ap (λ (l : LocalState). l.gave_back) now_free) ∙ kept))
+
+      freed_told : IsMade (called (freed c new)) → IsTold (called (freed c new))
+      freed_told made =
+          let same = idle_made made in
+          subst (λ (x : Steps L). IsTold (called (record c { steps = x }))) (sym same)
+          (v.told (subst (λ (x : Steps L). IsMade (called (record c { steps = x }))) same made))
+
+    pub freed_tied : (gave ≡ false → (state (called c)).holds ≡ []) → Tied holds (freed c new)
+    freed_tied back = record {
       seat = k.seat;
       run = k.run;
       number = k.number;
@@ -183,6 +274,7 @@ module _ {L : Type 0} (holds : L → List Val → Type 0) (c : Inside L) (v : Ti
       few = omega arith;
       lawful = lawful_unlocked holds (called (freed c new)) is_free v.sets;
       left = left_then;
+      told = freed_told back;
     }
 
     pub freed_kept : called (freed c new) ≡ record (called c) { log = (view_of new.seat).log }
@@ -203,8 +295,8 @@ module _ {L : Type 0} (holds : L → List Val → Type 0) (c : Inside L) (v : Ti
     unread : (o : ℕ) → held (called (anew c new)) o ≡ None
     unread o = ap (λ (l : LocalState). value_in (read_values l.reads) o) is_begun
 
-    pub anew_tied : Tied holds (anew c new)
-    anew_tied = record {
+    pub anew_tied : since_sample c.number (view_of new.seat).log ≡ [] → Tied holds (anew c new)
+    anew_tied none = record {
       seat = k.seat;
       run = k.run;
       number = k.number;
@@ -222,6 +314,13 @@ module _ {L : Type 0} (holds : L → List Val → Type 0) (c : Inside L) (v : Ti
       few = omega arith;
       lawful = lawful_unlocked holds (called (anew c new)) is_unlocked (λ o some. some);
       left = tt;
+      told = λ _. record {
+        calls = [];
+        own = ap (events_of c.number) none;
+        are_calls = tt;
+        each = All-nil (λ (call : Call). 0 < length call.events);
+        left = refl;
+      };
     }
 
     pub anew_rest : AtRest (state (called (anew c new)))
@@ -253,6 +352,12 @@ pub at_begin_of : (b : Began) (log : List Event) (p found : ℕ) →
 at_begin_of b log p found top =
     subst (λ log. log ≡ begun_log b.number log) (sym top.1) (rw (eq-eqb b.number b.number refl) refl)
 
+-- and nothing has come since
+pub since_begin_of : (b : Began) (log : List Event) (p found : ℕ) →
+    ((before : List Event) × (log ≡ made_by b Load Sample p found ∷ before)) → since_sample b.number log ≡ []
+since_begin_of b log p found top =
+    subst (λ log. since_sample b.number log ≡ []) (sym top.1) (rw (eq-eqb b.number b.number refl) refl)
+
 -- ---- a call that was to begin an attempt
 
 module _ {L : Type 0} (holds : L → List Val → Type 0) (c : Inside L) (v : Tied holds c) (new : Steps L)
@@ -260,6 +365,16 @@ module _ {L : Type 0} (holds : L → List Val → Type 0) (c : Inside L) (v : Ti
   done_then : done (called (record c { steps = new })) ≡ done (called c)
   done_then =
       same_done holds c v Beginning new u (beginning_none (table_of c.terms) (state (called c)) u.events u.obeys)
+
+  -- where it gave nothing back, nothing was locked
+  pub begun_back : (gave : Bool) →
+      now (called c).home new ≡ record (state (called c)) { holds = []; gave_back = gave } → gave ≡ false →
+      (state (called c)).holds ≡ []
+  begun_back gave is none =
+      let call = (call_of holds (called c).home (began_of Beginning (called c)) new None u).0 in
+      begun_nothing (table_of c.terms) (state (called c)) u.events call.obeys call.done
+      (ap (λ (l : LocalState). l.gave_back) (sym u.state ∙ is) ∙ none)
+      (ap (λ (l : LocalState). l.begun) (sym u.state ∙ is))
 
   pub spent_from : (gave : Bool) →
       now (called c).home new ≡ record (state (called c)) { holds = []; gave_back = gave } →
@@ -295,6 +410,15 @@ module _ {L : Type 0} (holds : L → List Val → Type 0) (c : Inside L) (v : Ti
   pub returns_done : done (called (freed c new)) ≡ done (called c)
   returns_done =
       same_done holds c v Returning new u (returning_none (table_of c.terms) (state (called c)) u.events u.obeys)
+
+  -- where it gave nothing back, nothing was locked
+  pub returned_back : (gave : Bool) →
+      now (called c).home new ≡ record (state (called c)) { holds = []; gave_back = gave } → gave ≡ false →
+      (state (called c)).holds ≡ []
+  returned_back gave is none =
+      let call = (call_of holds (called c).home (began_of Returning (called c)) new None u).0 in
+      returned_nothing (table_of c.terms) (state (called c)) u.events call.obeys call.done
+      (ap (λ (l : LocalState). l.gave_back) (sym u.state ∙ is) ∙ none)
 
 -- ---- the same from what the steps tell of their table
 

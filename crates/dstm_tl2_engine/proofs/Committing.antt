@@ -29,8 +29,11 @@ use Rattle.dstm_tl2_steps.specs.Under.{Lists, Under, now}
 use Rattle.dstm_tl2_engine.specs.Attempts.{Commits, done}
 use Rattle.dstm_tl2_engine.specs.Began.{began_of}
 use Rattle.dstm_tl2_engine.specs.Callers.{TlCalled, handed, held, is_live, state, table_of_caller, written}
-use Rattle.dstm_tl2_engine.specs.Calls.{Performs}
+use Rattle.dstm_tl2_engine.specs.Calls as calls
+use Rattle.dstm_tl2_engine.specs.Calls.{IsMade, Performs}
 use Rattle.dstm_tl2_engine.specs.Mirror.{Tied, called}
+use Rattle.dstm_tl2_engine.proofs.Told.{locked_made, rest_can, rest_made, told_more}
+use Rattle.dstm_tl2_order.specs.Laws.{CanLock}
 use Rattle.dstm_tl2_engine.specs.Outcomes.{IsLeft}
 use Rattle.dstm_tl2_engine.specs.Transactions.{HasLocked, IsLawful, Leaves, Stays}
 use Rattle.dstm_tl2_engine.specs.declared.caller.TlCaller.TheInside.{Inside}
@@ -163,8 +166,9 @@ module _ {L : Type 0} (holds : L → List Val → Type 0) (c : Inside L) (v : Ti
     pub closed_tied : locked ≤ length c.opened.writes →
         (now (called c).home new).holds ≡ map (new_hold (now (called c).home new)) (take locked c.opened.writes) →
         (locked ≢ 0 → (now (called c).home new).drawn ≡ None) →
-        (HasLocked next → IsLawful holds next) → IfSome left (λ again. IsLeft next) → Tied holds closed_as
-    closed_tied few locks may lawful is_left =
+        (HasLocked next → IsLawful holds next) → IfSome left (λ again. IsLeft next) → calls.IsTold next →
+        Tied holds closed_as
+    closed_tied few locks may lawful is_left told =
         let k = kept holds c v (Doing work) new Done answer u in record {
           seat = k.seat;
           run = k.run;
@@ -186,7 +190,14 @@ module _ {L : Type 0} (holds : L → List Val → Type 0) (c : Inside L) (v : Ti
           few = few;
           lawful = lawful;
           left = is_left;
+          told = λ _. told;
         }
+
+    -- it is one of the attempt's calls
+    pub closed_told : IsMade (called c) → CanLock (Doing work) (state (called c)) → (answer ≡ None → c.left ≡ None) →
+        left ≡ answer → calls.IsTold next
+    closed_told made can live is_answer =
+        told_more holds (called c) next work answer then_steps (v.told made) can live is_answer
 
     pub closed_stays : answer ≡ None → Stays holds work (called c) next
     closed_stays none = record {
@@ -233,10 +244,14 @@ module _ {L : Type 0} (holds : L → List Val → Type 0) (c : Inside L) (v : Ti
         left_after holds (called c) (called left_as) (Doing work) (Some again)
         (then_steps work is new (Some again) u 0 (Some again)) again refl refl refl left_free (inl left_failed) others
 
-    pub left_tied : Tied holds left_as
-    left_tied =
+    pub left_told : IsMade (called c) → CanLock (Doing work) (state (called c)) → calls.IsTold (called left_as)
+    left_told made can =
+        closed_told work is new (Some again) u 0 (Some again) made can (λ none. absurd (cc)) refl
+
+    pub left_tied : IsMade (called c) → CanLock (Doing work) (state (called c)) → Tied holds left_as
+    left_tied made can =
         closed_tied work is new (Some again) u 0 (Some again) (omega arith) free (λ some. absurd (some refl))
-        (λ locked. absurd (let sound = locked.sound.0 in let failed = left_failed in cc)) left_is
+        (λ locked. absurd (let sound = locked.sound.0 in let failed = left_failed in cc)) left_is (left_told made can)
 
     pub left_leaves : Leaves holds work (called c) (called left_as) again
     left_leaves = record {
@@ -289,12 +304,18 @@ module _ {L : Type 0} (holds : L → List Val → Type 0) (c : Inside L) (v : Ti
       live = live;
     }
 
+    pub locked_told : calls.IsTold (called locked_as)
+    locked_told =
+        closed_told (Locking c.opened.writes) refl new None u (length c.opened.writes) c.left
+        (rest_made (called c) rest) (rest_can (state (called c)) rest (length c.opened.writes))
+        (λ _. no_answer c.left live) (no_answer c.left live)
+
     pub locked_tied : IsLawful holds (called c) → Tied holds locked_as
     locked_tied lawful =
         closed_tied (Locking c.opened.writes) refl new None u (length c.opened.writes) c.left (omega arith) locks
         (λ some. locked_undrawn)
         (λ locked. then_lawful (Locking c.opened.writes) refl new None u (length c.opened.writes) c.left lawful)
-        (subst (λ x. IfSome x (λ again. IsLeft (called locked_as))) (sym (no_answer c.left live)) tt)
+        (subst (λ x. IfSome x (λ again. IsLeft (called locked_as))) (sym (no_answer c.left live)) tt) locked_told
 
     pub locked_stays : Stays holds (Locking c.opened.writes) (called c) (called locked_as)
     locked_stays = closed_stays (Locking c.opened.writes) refl new None u (length c.opened.writes) c.left refl
@@ -323,12 +344,18 @@ module _ {L : Type 0} (holds : L → List Val → Type 0) (c : Inside L) (v : Ti
     by_then : state (called finished_as) ≡ now (called c).home new
     by_then = then_is (Finishing c.opened.writes) refl new None u 0 c.left
 
+    pub finished_told : calls.IsTold (called finished_as)
+    finished_told =
+        closed_told (Finishing c.opened.writes) refl new None u 0 c.left (locked_made (called c) locked) tt
+        (λ _. no_answer c.left locked.live) (no_answer c.left locked.live)
+
     pub finished_tied : Tied holds finished_as
     finished_tied =
         closed_tied (Finishing c.opened.writes) refl new None u 0 c.left (omega arith) free (λ some. absurd (some refl))
         (λ more. absurd (let none : (now (called c).home new).drawn ≡ None =
         ap (λ (l : LocalState). l.drawn) (sym by_then) ∙ more.undrawn in cc))
         (subst (λ x. IfSome x (λ again. IsLeft (called finished_as))) (sym (no_answer c.left locked.live)) tt)
+        finished_told
 
     pub finished_stays : Stays holds (Finishing c.opened.writes) (called c) (called finished_as)
     finished_stays = closed_stays (Finishing c.opened.writes) refl new None u 0 c.left refl

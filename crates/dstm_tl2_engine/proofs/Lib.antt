@@ -10,12 +10,14 @@ pub mod Enrolling
 pub mod Handing
 pub mod LastValues
 pub mod Left
+pub mod Living
 pub mod Opens
 pub mod Others
 pub mod Retired
 pub mod Seeing
 pub mod Setting
 pub mod Telling
+pub mod Told
 pub mod Tying
 pub mod Resting
 pub mod Made

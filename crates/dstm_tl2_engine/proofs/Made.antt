@@ -1,6 +1,6 @@
 -- An attempt that was made, from the clauses of its calls.
-use Rattle.std.proofs.Common.{◌≡◌, ◌++◌, ◌∙◌, ◌∷◌, ℕ, List, [], sym, ap, subst, length}
-use Rattle.std.specs.Prelude.{Option, None, true, ◌+◌}
+use Rattle.std.proofs.Common.{◌≡◌, ◌⊎◌, ◌++◌, ◌∙◌, ◌∷◌, ℕ, List, [], arith, inl, inr, refl, sym, ap, subst, length}
+use Rattle.std.specs.Prelude.{IsSome, Option, None, Some, false, is_some, true, ◌+◌}
 use base.Fml.{GName}
 use Rattle.dstm_model.specs.declared.value.Val.{Val}
 use Rattle.dstm_model.specs.Map.{Agrees, state_after, with_writes}
@@ -16,8 +16,9 @@ use Rattle.dstm_tl2.specs.State.{LocalState, is_valid}
 use Rattle.dstm_tl2.proofs.Standing.{done_stands}
 use Rattle.dstm_tl2_words.specs.Seats.{Home}
 use Rattle.dstm_tl2_order.specs.declared.again.TlAgain.{TlAgain}
-use Rattle.dstm_tl2_engine.specs.Attempts.{Admits, Committed, Commits, Seen, Settles, StandsIn, done}
+use Rattle.dstm_tl2_engine.specs.Attempts.{Admits, Committed, Commits, CommitsRun, Seen, Settles, StandsIn, done}
 use Rattle.dstm_tl2_engine.specs.Callers.{TlCalled, begun_log, held, is_opened, law_of, objects_of, since_sample, start_of, state, table_of_caller, written}
+use Rattle.dstm_tl2_engine.specs.Calls.{IsMade, IsTold}
 use Rattle.dstm_tl2_engine.specs.Endings.{Attempts}
 use Rattle.dstm_tl2_engine.specs.Transactions.{BeginsAnew, TxPlace, tx_place}
 use Rattle.dstm_tl2_engine.proofs.Begun.{begun_count}
@@ -57,11 +58,12 @@ module _ {L : Type 0} (holds : L → List Val → Type 0) (k b t : TlCalled L) (
   pub made : (n : TlCalled L) (again : Option TlAgain) → n ≡ record t { log = n.log; left = again } →
       begun_log n.number n.log ≡ begun_log t.number t.log → (state n).holds ≡ [] →
       (again ≡ None → is_valid (state n) ≡ true) → Seen holds n → IsRunOf holds t.home.terms n.log →
-      Attempts holds k n again
-  made n again kept log free valid seen run = record {
+      (IsMade n → IsTold n) → Attempts holds k n again
+  made n again kept log free valid seen run told = record {
     began = b;
     begins = begins.steps;
     at_begin = there;
+    told = told (omega (arith, counted), ending again kept valid);
     answers = sym (ap (λ (c : TlCalled L). c.left) kept);
     free = free;
     valid = valid;
@@ -77,6 +79,12 @@ module _ {L : Type 0} (holds : L → List Val → Type 0) (k b t : TlCalled L) (
     same = (nh ∙ home, nn ∙ number);
   }
     where
+      ending : (again : Option TlAgain) → n ≡ record t { log = n.log; left = again } →
+          (again ≡ None → is_valid (state n) ≡ true) →
+          IsSome n.left ⊎ ((is_valid (state n) ≡ true) ⊎ ((state n).gave_back ≡ false))
+      ending None kept valid = inr (inl (valid refl))
+      ending (Some why) kept valid = inl (ap (λ (c : TlCalled L). is_some c.left) kept)
+
       nh : n.home ≡ t.home
       nh = ap (λ (c : TlCalled L). c.home) kept
 
@@ -155,6 +163,12 @@ module _ {L : Type 0} (holds : L → List Val → Type 0) (k b t : TlCalled L) (
           ∙ ap (λ (x : Home L). length x.terms.start.value.items) same)
           (subst (λ (x : Home L). holds x.terms.law.value (state_after (start_of n) st.before)) same (st.lawful ok))
           st.reads
+
+  -- and it is what the run of its body left
+  pub runs : (is_right : List Val → List Val → Type 0) (n : TlCalled L) (drawn : ℕ) → Commits t n drawn →
+      ((map : List Val) → Admits holds t map → is_right map (with_set map (written t))) →
+      CommitsRun holds is_right k n drawn
+  runs is_right n drawn commits right = record { ran = t; same = (home, number); right = right; commits = commits }
 
   -- the reference that the attempt has is the one that it was begun with
   pub same_name : (s : GName) → q ≡ s → s ≡ r

@@ -39,6 +39,7 @@ use Rattle.dstm_tl2_engine.specs.Began.{began_of}
 use Rattle.dstm_tl2_engine.specs.Callers.{TlCalled, handed, held, is_live, objects_of, start_of, state, table_of_caller, written}
 use Rattle.dstm_tl2_engine.specs.Calls.{Performs}
 use Rattle.dstm_tl2_engine.specs.Mirror.{Tied, called}
+use Rattle.dstm_tl2_engine.proofs.Told.{rest_made, told_more, told_opened}
 use Rattle.dstm_tl2_engine.specs.Opens.{Continues, HasOpened}
 use Rattle.dstm_tl2_engine.specs.Outcomes.{IsLeft}
 use Rattle.dstm_tl2_engine.specs.Transactions.{Leaves, Marks, Stays}
@@ -312,6 +313,9 @@ module _ {L : Type 0} (holds : L → List Val → Type 0) (c : Inside L) (v : Ti
           sound = rest.sound;
         })
 
+    steps : Performs holds (Doing (Opening o)) (called c) (called read_as) None
+    steps = performs_then holds c (Doing (Opening o)) new None u read_as.opened c.left
+
     pub read_tied : Tied holds read_as
     read_tied =
         let k = kept holds c v (Doing (Opening o)) new Done None u in record {
@@ -336,6 +340,8 @@ module _ {L : Type 0} (holds : L → List Val → Type 0) (c : Inside L) (v : Ti
           few = v.few;
           lawful = lawful_unlocked holds (called read_as) read_rest.untold.2 v.sets;
           left = subst (λ x. IfSome x (λ again. IsLeft (called read_as))) (sym (not_left c.left live)) tt;
+          told = λ _. told_more holds (called c) (called read_as) (Opening o) None steps
+              (v.told (rest_made (called c) rest)) tt (λ _. not_left c.left live) (not_left c.left live);
         }
       where
         puts_now : (p : ℕ) (x : Option Val) → value_in c.opened.writes p ≡ x →
@@ -344,9 +350,6 @@ module _ {L : Type 0} (holds : L → List Val → Type 0) (c : Inside L) (v : Ti
         puts_now p (Some x) q h =
             h ∙ ap (option_or (value_in c.opened.set p))
             (sym (read_held.kept p (opened_held holds c v p (ap is_some q))))
-
-    steps : Performs holds (Doing (Opening o)) (called c) (called read_as) None
-    steps = performs_then holds c (Doing (Opening o)) new None u read_as.opened c.left
 
     pub read_stays : Stays holds (Opening o) (called c) (called read_as)
     read_stays = record {
@@ -424,6 +427,8 @@ module _ {L : Type 0} (holds : L → List Val → Type 0) (c : Inside L) (v : Ti
           lawful = lawful_unlocked holds (called stopped_as)
               (ap (λ (l : LocalState). l.holds) stopped_state ∙ rest.untold.2) v.sets;
           left = stopped_left;
+          told = λ _. told_more holds (called c) (called stopped_as) (Opening o) (Some again) steps_stopped
+              (v.told (rest_made (called c) rest)) tt (λ none. absurd (cc)) refl;
         }
 
     pub stopped_leaves : Leaves holds (Opening o) (called c) (called stopped_as) again
@@ -480,6 +485,7 @@ module _ {L : Type 0} (holds : L → List Val → Type 0) (c : Inside L) (v : Ti
           let all = locked.locked in
           let long = length-append c.opened.writes ((o, value) ∷ []) in absurd (omega arith);
       left = subst (λ x. IfSome x (λ again. IsLeft (called marked_as))) (sym (not_left c.left live)) tt;
+      told = λ made. told_opened c marked_as.opened (v.told made);
     }
       where
         apart : (p : ℕ) → read_of p (state (called c)).reads ≡ None → p ≢ o
@@ -651,6 +657,12 @@ module _ {L : Type 0} (holds : L → List Val → Type 0) (c : Inside L) (v : Ti
     slots_held =
         ap is_some (slots_hand holds c v o) ∙ held_hands (held (called c) o) refl
         ∙ ap (λ (k : TlCalled L). is_some (held k o)) view
+
+    -- what is not read was not set
+    pub unset_unheld : held k o ≡ None → written k o ≡ None
+    unset_unheld none =
+        ap (λ (k : TlCalled L). written k o) (sym view)
+        ∙ unset holds c v o (unheld_unopened holds c v o (ap (λ (k : TlCalled L). held k o) view ∙ none))
 
     pub handed_held : (x : Val) → slots_value (value_in c.opened.writes o) (read_slot c.opened.reads o) ≡ Some x →
         IsSome (held k o)

@@ -19,6 +19,7 @@ use Rattle.dstm_tl2_engine.proofs.Begins.{lawful_unlocked, none_locked}
 use Rattle.dstm_tl2_engine.proofs.Seeing.{seen_now}
 use Rattle.dstm_tl2_engine.specs.Callers.{held, is_live, objects_of, seat_view, state}
 use Rattle.dstm_tl2_engine.specs.Mirror.{Tied, called}
+use Rattle.dstm_tl2_engine.proofs.Told.{told_opened}
 use Rattle.dstm_tl2_engine.specs.Outcomes.{IsLeft}
 use Rattle.dstm_tl2_engine.specs.Tables.{enrolled_as}
 use Rattle.dstm_tl2_engine.specs.declared.caller.TlCaller.TheInside.{Inside}
@@ -60,6 +61,8 @@ enrolled_tied holds terms seat objects number view slots run size few fresh = re
   lawful = lawful_unlocked holds (enrolled_as terms seat number) (ap (λ (l : LocalState). l.holds) fresh)
       (λ o some. some);
   left = tt;
+  told = λ made. absurd (let some = made.0 in let none = ap (λ (l : LocalState). l.begun) fresh in
+      omega (arith, some, none));
 }
 
 -- ---- a value is set
@@ -139,4 +142,5 @@ module _ {L : Type 0} (holds : L → List Val → Type 0) (c : Inside L) (v : Ti
     lawful = lawful_unlocked holds (called (record c { opened = new })) rest.untold.2 sets_then;
     left = subst (λ left. IfSome left (λ again. IsLeft (called (record c { opened = new }))))
         (sym (live_left c.left live)) tt;
+    told = λ made. told_opened c new (v.told made);
   }

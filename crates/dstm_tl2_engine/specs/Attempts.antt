@@ -1,6 +1,6 @@
 -- What an attempt has seen, which maps it admits, and what it committed.
 use Rattle.std.specs.Prelude.{◌≡◌, ℕ, true, false, List, [], ◌∷◌, ◌++◌, length, None, Some, if◌then◌else◌}
-use Rattle.dstm_mem.specs.Memory.{AgreesWith, value_in}
+use Rattle.dstm_mem.specs.Memory.{AgreesWith, value_in, with_set}
 use Rattle.dstm_model.specs.declared.value.Val.{Val}
 use Rattle.dstm_model.specs.Map.{Agrees, Entry, state_after, with_writes}
 use Rattle.dstm_tl2.specs.Histories.{LawfulRun, history_of, prefix_at, sample_place}
@@ -58,3 +58,12 @@ module _ {L : Type 0} where
         Agrees map entry.reads → is_right map (with_writes map entry.writes)
     pub in_runs : (later : List Event) → LawfulRun (table_of_caller n) (holds (law_of n)) (later ++ n.log) →
         StandsRight holds is_right n later entry
+
+  -- THE RUN IS COMMITTED: what was read, opened and set where the body's run ended is what the attempt has committed,
+  -- and what the run promises of its memory holds there.
+  pub record CommitsRun (holds : L → List Val → Type 0) (is_right : List Val → List Val → Type 0) (k n : TlCalled L)
+      (number : ℕ) : Type 0 where
+    pub ran : TlCalled L
+    pub same : (ran.home ≡ k.home) × (ran.number ≡ k.number)
+    pub right : (map : List Val) → Admits holds ran map → is_right map (with_set map (written ran))
+    pub commits : Commits ran n number

@@ -9,7 +9,7 @@ use Rattle.dstm_tl2_engine.specs.declared.error.TlEnded.{TlEnded}
 use Rattle.dstm_tl2_engine.specs.declared.error.TlEnded.TheVariants as ended
 use Rattle.dstm_tl2_engine.specs.Attempts.{Seen, done}
 use Rattle.dstm_tl2_engine.specs.Callers.{TlCalled, begun_log, state}
-use Rattle.dstm_tl2_engine.specs.Calls.{Performs}
+use Rattle.dstm_tl2_engine.specs.Calls.{IsTold, Performs}
 use Rattle.dstm_tl2_engine.specs.Outcomes.{IsLeft}
 use Rattle.dstm_tl2_order.specs.Tasks.Task.{Beginning}
 use Rattle.dstm_tl2_engine.specs.Transactions.{SpentFrom}
@@ -19,12 +19,13 @@ IsSpent ended.Spent = Unit {0}
 IsSpent (ended.Again again) = ⊥
 
 module _ {L : Type 0} (holds : L → List Val → Type 0) where
-  -- AN ATTEMPT WAS MADE: it began, calls were made on it, and the newest of these answered this. Nothing is locked any
-  -- more; where it answered nothing the attempt is valid. The log went on.
+  -- AN ATTEMPT WAS MADE: it began, calls were made on it one after the other, and the newest of these answered this.
+  -- Nothing is locked any more; where it answered nothing the attempt is valid. The log went on.
   pub record Attempts (k n : TlCalled L) (again : Option TlAgain) : Type 0 where
     pub began : TlCalled L
     pub begins : Performs holds Beginning k began None
     pub at_begin : began.log ≡ begun_log n.number n.log
+    pub told : IsTold n
     pub answers : again ≡ n.left
     pub free : (state n).holds ≡ []
     pub valid : again ≡ None → is_valid (state n) ≡ true

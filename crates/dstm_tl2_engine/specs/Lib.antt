@@ -9,3 +9,5 @@ pub mod Tables
 pub mod Mirror
 pub mod Closing
 pub mod Opens
+pub mod Makes
+pub mod Lives

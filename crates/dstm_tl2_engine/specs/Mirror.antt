@@ -8,6 +8,7 @@ use Rattle.dstm_tl2.specs.Sharing.{IsRunOf}
 use Rattle.dstm_tl2_engine.specs.declared.caller.TlCaller.TheInside.{Inside}
 use Rattle.dstm_tl2_steps.specs.Reads.{slot_read}
 use Rattle.dstm_tl2_engine.specs.Attempts.{Seen}
+use Rattle.dstm_tl2_engine.specs.Calls.{IsMade, IsTold}
 use Rattle.dstm_tl2_engine.specs.Callers.{TlCalled, handed, objects_of, seat_view, state}
 use Rattle.dstm_tl2_engine.specs.Outcomes.{IsLeft}
 use Rattle.dstm_tl2_engine.specs.Transactions.{HasLocked, IsLawful}
@@ -46,3 +47,4 @@ module _ {L : Type 0} where
     -- where all that it writes is locked, the condition of a commit is met
     pub lawful : HasLocked (called c) → IsLawful holds (called c)
     pub left : IfSome c.left (λ again. IsLeft (called c))
+    pub told : IsMade (called c) → IsTold (called c)

@@ -5,7 +5,7 @@ ghost use Rattle.dstm_tl2.specs.Sharing.{IsRunOf};
 ghost use Rattle.dstm_tl2.specs.State.{first};
 ghost use Rattle.dstm_tl2_engine.specs.Attempts.{Commits, Seen, done};
 ghost use Rattle.dstm_tl2_engine.specs.Callers.{handed, held, is_live, is_opened, objects_of, seat_view, state, written};
-ghost use Rattle.dstm_tl2_engine.specs.Calls.{Performs};
+ghost use Rattle.dstm_tl2_engine.specs.Calls.{IsMade, IsTold, Performs};
 ghost use Rattle.dstm_tl2_steps.specs.Reads.{AtRest};
 ghost use Rattle.dstm_tl2_engine.specs.Outcomes.{IsLeft};
 ghost use Rattle.dstm_tl2_steps.specs.Opened.{with_value};
@@ -93,6 +93,7 @@ impl<L: Law> TlCaller<L> {
     // What is known of its last attempt. It takes no step.
     pub(crate) fn abandon(&self)
         ensures left { IfSome self.now.left (λ _. IsLeft self.now) }
+        ensures told { IsMade self.now → IsTold self.now }
         ensures seen { Seen L.holds self.now }
         ensures run { IsRunOf L.holds self.now.home.terms self.now.log }
     {
@@ -244,6 +245,7 @@ impl<L: Law> TlCaller<L> {
         ensures kept { self.new ≡ record self.old { log = self.new.log; left = given_back result } }
         ensures locked { OnOk result (HasLocked self.new) }
         ensures done { OnOk result (done self.new ≡ done self.old) }
+        ensures told { IsMade self.new → IsTold self.new }
         ensures seen { Seen L.holds self.new }
     {
         // No two of its writes are of one object.
@@ -265,6 +267,7 @@ impl<L: Law> TlCaller<L> {
         ensures leaves { IfErr result (Leaves L.holds (Finishing self.old.writes) self.old self.new) }
         ensures number { IfOk result (Commits self.old self.new) }
         ensures kept { self.new ≡ record self.old { log = self.new.log; left = given_back result } }
+        ensures told { IsMade self.new → IsTold self.new }
         ensures seen { Seen L.holds self.new }
     {
         // No two of its writes are of one object.
@@ -288,6 +291,7 @@ impl<L: Law> TlCaller<L> {
         ensures leaves { IfErr result (Leaves L.holds (Committing self.old.writes) self.old self.new) }
         ensures number { IfOk result (Commits self.old self.new) }
         ensures kept { self.new ≡ record self.old { log = self.new.log; left = given_back result } }
+        ensures told { IsMade self.new → IsTold self.new }
         ensures seen { Seen L.holds self.new }
     {
         self.lock(stm)?;

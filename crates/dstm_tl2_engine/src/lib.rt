@@ -6,6 +6,7 @@ mod beginning;
 mod caller;
 mod closing;
 mod error;
+pub mod laws;
 mod locked;
 mod making;
 mod stm;

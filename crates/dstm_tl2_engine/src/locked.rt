@@ -1,5 +1,6 @@
 ghost use Rattle.std.specs.Prelude.{◌≡◌, IfOk, OnOk, IfErr};
 ghost use Rattle.dstm_tl2_engine.specs.Attempts.{Commits, Seen};
+ghost use Rattle.dstm_tl2_engine.specs.Calls.{IsMade, IsTold};
 ghost use Rattle.dstm_tl2_order.specs.Tasks.Work.{Finishing};
 ghost use Rattle.dstm_tl2_engine.specs.Transactions.{HasLocked, Leaves, Stays, given_back};
 
@@ -34,6 +35,7 @@ impl<'a, L: Law, S: TlTable<L>> TlHeld<'a, L, S> {
           log = self.exit.0.now.log;
           left = given_back result;
         } }
+        ensures told { IsMade self.exit.0.now → IsTold self.exit.0.now }
         ensures seen { Seen L.holds self.exit.0.now }
     {
         let TlHeld { caller, stm } = self;

@@ -1,5 +1,5 @@
 ghost use Rattle.std.specs.Prelude.{◌≡◌, ◌↔◌, None, IfOk, IfErr, true};
-ghost use Rattle.dstm_tl2_engine.specs.Attempts.{Settles};
+ghost use Rattle.dstm_tl2_engine.specs.Attempts.{CommitsRun, Settles};
 ghost use Rattle.dstm_tl2_engine.specs.Callers.{law_of, state, table_of_caller};
 ghost use Rattle.dstm_tl2_engine.specs.Endings.{Attempts, EndsBy, IsSpent};
 ghost use Rattle.dstm_tl2_order.specs.Order.{is_spent};
@@ -21,6 +21,8 @@ pub fn tl_attempt<L: Law, B: Body<L>>(
     ensures attempts { IfOk result (λ _. Attempts L.holds caller.old caller.new None) }
     ensures settles { IfOk result (λ done.
         Settles L.holds (B.right body.new) caller.old caller.new done.number) }
+    ensures runs { IfOk result (λ done.
+        CommitsRun L.holds (B.right body.new) caller.old caller.new done.number) }
     ensures ended { IfErr result (EndsBy L.holds caller.old caller.new) }
     ensures spent { IfErr result (λ e. IsSpent e ↔ (is_spent (table_of_caller caller.old) (state caller.old) ≡ true)) }
     ensures enough { IfOk result (λ _. is_spent (table_of_caller caller.old) (state caller.old) ≡ true → ⊥) }

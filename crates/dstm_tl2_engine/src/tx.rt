@@ -4,6 +4,7 @@ ghost use Rattle.dstm_mem.specs.Memory.{HoldsAlso, MarksAtMost, SetsOnly};
 ghost use Rattle.dstm_model.specs.declared.value.Val.{Val};
 ghost use Rattle.dstm_tl2_engine.specs.contracts.caller.TlCaller.{the_row};
 ghost use Rattle.dstm_tl2_engine.specs.Attempts.{Admits, Commits, Seen, done};
+ghost use Rattle.dstm_tl2_engine.specs.Calls.{IsMade, IsTold};
 ghost use Rattle.dstm_tl2_engine.specs.Callers.{handed, held, is_live, is_opened, objects_of, state, written};
 ghost use Rattle.dstm_tl2.specs.Sharing.{IsRunOf};
 ghost use Rattle.dstm_tl2_steps.specs.Reads.{AtRest};
@@ -149,6 +150,7 @@ impl<'a, L: Law, S: TlTable<L>> TlAttempt<'a, L, S> {
     pub fn abandon(self)
         ensures same { self.exit.0.now ≡ self.entry.caller.now }
         ensures left { IfSome self.entry.caller.now.left (λ _. IsLeft self.entry.caller.now) }
+        ensures told { IsMade self.entry.caller.now → IsTold self.entry.caller.now }
         ensures seen { Seen L.holds self.entry.caller.now }
         ensures run { IsRunOf L.holds self.entry.caller.now.home.terms self.entry.caller.now.log }
     {
@@ -191,6 +193,7 @@ impl<'a, L: Law, S: TlTable<L>> TlAttempt<'a, L, S> {
           log = self.exit.0.now.log;
           left = given_back result;
         } }
+        ensures told { IsMade self.exit.0.now → IsTold self.exit.0.now }
         ensures seen { Seen L.holds self.exit.0.now }
     {
         let TlAttempt { caller, stm } = self;

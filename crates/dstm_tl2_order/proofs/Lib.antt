@@ -7,3 +7,4 @@ pub mod Draws
 pub mod WasRead
 pub mod Causing
 pub mod Disturbing
+pub mod AddingUp

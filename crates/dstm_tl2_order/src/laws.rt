@@ -2,11 +2,17 @@
 //! what is checked before anything is written; and how attempts ended, as a log tells. The functions do nothing.
 
 ghost use Rattle.dstm_tl2_order.specs.Laws.{EveryCallIsBounded, EveryReadIsFourLooks, EveryWriteIsValidated};
+ghost use Rattle.dstm_tl2_order.specs.Lives.{LivesAreBounded};
 ghost use Rattle.dstm_tl2_order.specs.Ends.{AnswersDisturb, EndsStay, OwnEventsTell, ReadsSoFar, UndrawnHasNone, ValidCommits};
 
 /// A call takes at most the steps of its price, whatever they find.
 pub fn calls_are_bounded()
     ensures { EveryCallIsBounded }
+{}
+
+/// A caller whose own events are those of calls has made at most as many as the prices of these come to.
+pub fn lives_are_bounded()
+    ensures { LivesAreBounded }
 {}
 
 /// A call that opens an object, and goes on, has made four looks: the lock word, both parts of the value, and the lock

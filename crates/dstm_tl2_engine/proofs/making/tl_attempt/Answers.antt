@@ -1,13 +1,13 @@
 use Rattle.std.proofs.Common.{sym, subst, refl, ◌∙◌, ◌≡◌, None, Some}
 use Rattle.std.specs.Prelude.{IfSome}
-use Rattle.dstm_tl2_engine.specs.Attempts.{Settles, done}
+use Rattle.dstm_tl2_engine.specs.Attempts.{CommitsRun, Settles, done}
 use Rattle.dstm_tl2_engine.specs.Callers.{TlCalled}
 use Rattle.dstm_tl2_engine.specs.Endings.{Attempts}
 use Rattle.dstm_tl2_engine.specs.Outcomes.{IsLeft}
 use Rattle.std.proofs.lemmas.Bool.{and_parts}
 use Rattle.dstm_tl2_engine.proofs.Resting.{rests}
 use Rattle.dstm_mem.proofs.InTheEnd.{in_the_end}
-use Rattle.dstm_tl2_engine.proofs.Made.{made, same_done, same_name, settled, still}
+use Rattle.dstm_tl2_engine.proofs.Made.{made, runs, same_done, same_name, settled, still}
 use Rattle.dstm_tl2_engine.proofs.making.tl_attempt.Goals as goal
 
 pub commit-requires-clause-rest : goal.commit-requires-clause-rest
@@ -23,7 +23,8 @@ returns-in-Ok-commit-clause-attempts g c =
     in_the_end (λ n. Attempts g.L.Law.holds c.args.caller.now n None) _ _ _ _ (assumption c) name
     (made g.L.Law.holds c.args.caller.now c.in-Ok.tx.caller.now c.run.new.mem.caller.now _ _ _ _ begins place c.commit.new.self.0 None
     c.in-Ok-commit.ensures.kept c.in-Ok-commit.ensures.stays.attempt c.in-Ok-commit.ensures.number.free
-    (λ _. c.in-Ok-commit.ensures.number.valid) c.in-Ok-commit.ensures.seen c.in-Ok-commit.ensures.stays.steps.run)
+    (λ _. c.in-Ok-commit.ensures.number.valid) c.in-Ok-commit.ensures.seen c.in-Ok-commit.ensures.stays.steps.run
+    c.in-Ok-commit.ensures.told)
 
 pub returns-in-Ok-commit-clause-settles : goal.returns-in-Ok-commit-clause-settles
 returns-in-Ok-commit-clause-settles g c =
@@ -36,6 +37,19 @@ returns-in-Ok-commit-clause-settles g c =
     c.in-Ok-commit.number None c.in-Ok-commit.ensures.kept
     c.in-Ok-commit.ensures.stays.steps.run c.in-Ok-commit.ensures.number c.in-Ok-run.ensures.right)
 
+pub returns-in-Ok-commit-clause-runs : goal.returns-in-Ok-commit-clause-runs
+returns-in-Ok-commit-clause-runs g c =
+    let place = c.in-Ok-run.ensures.leads.place in
+    let begins = c.in-Ok.ensures.begins in
+    let k = c.args.caller.now in
+    let b = c.in-Ok.tx.caller.now in
+    let t = c.run.new.mem.caller.now in
+    let right = g.B.Body.right c.run.new.self in
+    let name = same_name g.L.Law.holds k b t _ _ _ _ begins place _ c.in-Ok.ensures.same in
+    in_the_end (λ n. CommitsRun g.L.Law.holds right k n c.in-Ok-commit.number) _ _ _ _ (assumption c) name
+    (runs g.L.Law.holds k b t _ _ _ _ begins place right c.commit.new.self.0 c.in-Ok-commit.number
+    c.in-Ok-commit.ensures.number c.in-Ok-run.ensures.right)
+
 pub returns-in-Err-commit-clause-ended : goal.returns-in-Err-commit-clause-ended
 returns-in-Err-commit-clause-ended g c =
     let place = c.in-Ok-run.ensures.leads.place in
@@ -46,7 +60,7 @@ returns-in-Err-commit-clause-ended g c =
     × (done n ≡ done c.args.caller.now)) _ _ _ _ (assumption c) name (
       (made g.L.Law.holds c.args.caller.now c.in-Ok.tx.caller.now c.run.new.mem.caller.now _ _ _ _ begins place c.commit.new.self.0 (Some c.in-Err-commit.again)
           c.in-Err-commit.ensures.kept leaves.attempt leaves.left.given_back.free
-          (λ none. absurd (cc)) c.in-Err-commit.ensures.seen leaves.steps.run),
+          (λ none. absurd (cc)) c.in-Err-commit.ensures.seen leaves.steps.run c.in-Err-commit.ensures.told),
       leaves.left,
       (leaves.done ∙ same_done g.L.Law.holds c.args.caller.now c.in-Ok.tx.caller.now c.run.new.mem.caller.now _ _ _ _ begins place),
     )
@@ -62,7 +76,7 @@ returns-in-Err-run-clause-ended g c =
     × (done n ≡ done c.args.caller.now) in
     in_the_end P _ _ _ _ (assumption c) name (subst P (sym c.abandon.ensures.same) (
       (made g.L.Law.holds c.args.caller.now c.in-Ok.tx.caller.now c.run.new.mem.caller.now _ _ _ _ begins place c.run.new.mem.caller.now (Some c.in-Err-run.again)
-          (still c.run.new.mem.caller.now _ over) refl left.given_back.free (λ none. absurd (cc)) c.abandon.ensures.seen c.abandon.ensures.run),
+          (still c.run.new.mem.caller.now _ over) refl left.given_back.free (λ none. absurd (cc)) c.abandon.ensures.seen c.abandon.ensures.run c.abandon.ensures.told),
       left,
       same_done g.L.Law.holds c.args.caller.now c.in-Ok.tx.caller.now c.run.new.mem.caller.now _ _ _ _ begins place,
     ))

@@ -6,8 +6,10 @@ use Rattle.dstm_tl2_steps.specs.Opened.{OpenedAs}
 use Rattle.dstm_tl2_order.specs.Order.Due.{Done}
 use Rattle.dstm_tl2_order.specs.Tasks.Task.{Beginning}
 use Rattle.dstm_tl2_steps.specs.Under.{now}
-use Rattle.dstm_tl2_engine.proofs.Begins.{anew, anew_tied, begins_anew, begun_here, freed_here, freed_tied, spent_by, spent_from, top_here, unspent_by}
+use Rattle.dstm_tl2_engine.proofs.Begins.{anew, anew_tied, begins_anew, begun_back, begun_here, freed_here, freed_tied, since_begin_of, spent_by, spent_from, top_here, unspent_by}
 use Rattle.dstm_tl2_engine.proofs.Tying.{ends_here}
+use Rattle.dstm_tl2_words.specs.Seats.{view_of}
+use Rattle.dstm_tl2_engine.specs.Began.{began_of}
 use Rattle.dstm_tl2_engine.specs.Callers.{TlCalled}
 use Rattle.dstm_tl2_engine.specs.Mirror.{Tied, called}
 use Rattle.dstm_tl2_engine.specs.Transactions.{BeginsAnew, SpentFrom}
@@ -23,10 +25,11 @@ invariant_of-self g c =
     ap (λ (k : TlCalled _). k.home) c.self.view_is ∙ c.requires.table ∙ sym c.words.ensures in
     let u = ends_here g.L.Law.holds x v words home Beginning new Done None c.begin_next.ensures.under in
     let spent = spent_by g.L.Law.holds x v c.if-spent.true in
+    let is =
+    freed_here g.L.Law.holds x v words home new (now words new).gave_back (c.begin_next.ensures.spent spent.0) in
     subst (λ n. Tied g.L.Law.holds (record x { steps = new; locked = n })) (sym c.begin_next.ensures.none)
-    (freed_tied g.L.Law.holds x v Beginning new u (now words new).gave_back
-    (freed_here g.L.Law.holds x v words home new (now words new).gave_back (c.begin_next.ensures.spent spent.0))
-    (c.begin_next.ensures.idle spent.0))
+    (freed_tied g.L.Law.holds x v Beginning new u (now words new).gave_back is (c.begin_next.ensures.idle spent.0)
+    (begun_back g.L.Law.holds x v new u (now words new).gave_back is))
 
 pub returns-then-spent-clause-spent : goal.returns-then-spent-clause-spent
 returns-then-spent-clause-spent g c =
@@ -57,7 +60,11 @@ invariant_of-self-2 g c =
     (sym c.begin_next.ensures.none)
     (subst (λ (o : OpenedAs). Tied g.L.Law.holds (record (anew x new) { opened = o })) (sym c.clear.ensures)
     (anew_tied g.L.Law.holds x v Beginning new u
-    (begun_here g.L.Law.holds x v words home new (c.begin_next.ensures.begun left.0))))
+    (begun_here g.L.Law.holds x v words home new (c.begin_next.ensures.begun left.0))
+    (since_begin_of (began_of Beginning (called x)) (view_of new.seat).log (place (table_of words.terms) ClockWord)
+    new.sample
+    (top_here g.L.Law.holds x v words home new (place (table_of words.terms) ClockWord)
+    (c.begin_next.ensures.top left.0)))))
 
 pub returns-clause-begins : goal.returns-clause-begins
 returns-clause-begins g c =

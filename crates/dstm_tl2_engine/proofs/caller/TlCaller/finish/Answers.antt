@@ -9,7 +9,8 @@ use Rattle.dstm_tl2_order.specs.Order.Due.{Done}
 use Rattle.dstm_tl2_order.specs.Tasks.Task.{Doing}
 use Rattle.dstm_tl2_order.specs.Tasks.Work.{Finishing}
 use Rattle.dstm_tl2_steps.specs.Under.{now}
-use Rattle.dstm_tl2_engine.proofs.Committing.{finished_commits, finished_stays, finished_tied, free_here, law_there, left_leaves, left_tied}
+use Rattle.dstm_tl2_engine.proofs.Committing.{finished_commits, finished_stays, finished_tied, finished_told, free_here, law_there, left_leaves, left_tied, left_told}
+use Rattle.dstm_tl2_engine.proofs.Told.{locked_made}
 use Rattle.dstm_tl2_engine.proofs.Tying.{ends_here, kept}
 use Rattle.dstm_tl2_engine.specs.Attempts.{Commits}
 use Rattle.dstm_tl2_engine.specs.Callers.{TlCalled}
@@ -38,13 +39,14 @@ invariant_of-self g c =
     let once : NamesOnce (objects (table_of x.terms)) x.opened.writes =
     subst (λ n. NamesOnce n x.opened.writes) v.objects
     (writes_once x.opened.objects x.opened.writes c.writes.ensures.below c.writes.ensures.apart) in
+    let locked : HasLocked (called x) = subst HasLocked (sym c.self.view_is) c.requires.locked in
     let u =
     ends_here g.L.Law.holds x v words home (Doing (Finishing x.opened.writes)) new Done (Some c.in-Err.again)
     c.in-Err.ensures.ends in
     subst (λ n. Tied g.L.Law.holds (record x { steps = new; locked = n; left = Some c.in-Err.again }))
     (sym c.in-Err.ensures.free.0)
     (left_tied g.L.Law.holds x v (Finishing x.opened.writes) refl new c.in-Err.again u once
-    (free_here g.L.Law.holds x v words home new c.in-Err.ensures.free.1))
+    (free_here g.L.Law.holds x v words home new c.in-Err.ensures.free.1) (locked_made (called x) locked) tt)
 
 pub returns-in-Err : goal.returns-in-Err
 returns-in-Err g c =
@@ -57,6 +59,7 @@ returns-in-Err g c =
     let once : NamesOnce (objects (table_of x.terms)) x.opened.writes =
     subst (λ n. NamesOnce n x.opened.writes) v.objects
     (writes_once x.opened.objects x.opened.writes c.writes.ensures.below c.writes.ensures.apart) in
+    let locked : HasLocked (called x) = subst HasLocked (sym c.self.view_is) c.requires.locked in
     let u =
     ends_here g.L.Law.holds x v words home (Doing (Finishing x.opened.writes)) new Done (Some c.in-Err.again)
     c.in-Err.ensures.ends in
@@ -69,6 +72,9 @@ returns-in-Err g c =
           (free_here g.L.Law.holds x v words home new c.in-Err.ensures.free.1));
       number = search rules;
       kept = search rules;
+      told = λ _.
+          left_told g.L.Law.holds x v (Finishing x.opened.writes) refl new c.in-Err.again u once
+          (free_here g.L.Law.holds x v words home new c.in-Err.ensures.free.1) (locked_made (called x) locked) tt;
       seen = (kept g.L.Law.holds x v (Doing (Finishing x.opened.writes)) new Done (Some c.in-Err.again) u).seen;
     }
 
@@ -125,5 +131,6 @@ returns-in_default g c =
           c.self.view_is
           (finished_commits g.L.Law.holds x v new u locked c.in_default.field-0 valid drawn told free);
       kept = search rules;
+      told = λ _. finished_told g.L.Law.holds x v new u locked c.in_default.field-0 valid drawn told free;
       seen = (kept g.L.Law.holds x v (Doing (Finishing x.opened.writes)) new Done None u).seen;
     })

@@ -1,4 +1,4 @@
-use Rattle.std.proofs.Common.{rules, ◌∙◌, ◌≡◌, None, Some, ap, refl, subst, sym, true}
+use Rattle.std.proofs.Common.{rules, ◌∙◌, ◌≡◌, None, Some, ap, length, refl, subst, sym, true}
 use Rattle.dstm_model.specs.Map.{NamesOnce}
 use Rattle.dstm_tl2.specs.Sharing.{table_of}
 use Rattle.dstm_tl2.specs.Words.{objects}
@@ -8,7 +8,8 @@ use Rattle.dstm_tl2_order.specs.Order.Due.{Done}
 use Rattle.dstm_tl2_steps.specs.Reads.{AtRest}
 use Rattle.dstm_tl2_order.specs.Tasks.Task.{Doing}
 use Rattle.dstm_tl2_order.specs.Tasks.Work.{Locking}
-use Rattle.dstm_tl2_engine.proofs.Committing.{free_here, has_locked, left_leaves, left_tied, locked_done, locked_here, locked_kept, locked_stays, locked_tied, locks_here}
+use Rattle.dstm_tl2_engine.proofs.Committing.{free_here, has_locked, left_leaves, left_tied, left_told, locked_done, locked_here, locked_kept, locked_stays, locked_tied, locked_told, locks_here}
+use Rattle.dstm_tl2_engine.proofs.Told.{rest_can, rest_made}
 use Rattle.dstm_tl2_engine.proofs.Tying.{ends_here, kept}
 use Rattle.dstm_tl2_engine.specs.Attempts.{done}
 use Rattle.dstm_tl2_engine.specs.Callers.{TlCalled, is_live, state}
@@ -27,13 +28,16 @@ invariant_of-self g c =
     let once : NamesOnce (objects (table_of x.terms)) x.opened.writes =
     subst (λ n. NamesOnce n x.opened.writes) v.objects
     (writes_once x.opened.objects x.opened.writes c.writes.ensures.below c.writes.ensures.apart) in
+    let rest : AtRest (state (called x)) =
+    subst (λ (k : TlCalled _). AtRest (state k)) (sym c.self.view_is) c.requires.rest in
     let u =
     ends_here g.L.Law.holds x v words home (Doing (Locking x.opened.writes)) new Done (Some c.in-Err.again)
     c.in-Err.ensures.ends in
     subst (λ n. Tied g.L.Law.holds (record x { steps = new; locked = n; left = Some c.in-Err.again }))
     (sym c.in-Err.ensures.free.0)
     (left_tied g.L.Law.holds x v (Locking x.opened.writes) refl new c.in-Err.again u once
-    (free_here g.L.Law.holds x v words home new c.in-Err.ensures.free.1))
+    (free_here g.L.Law.holds x v words home new c.in-Err.ensures.free.1) (rest_made (called x) rest)
+    (rest_can (state (called x)) rest (length x.opened.writes)))
 
 pub returns-in-Err : goal.returns-in-Err
 returns-in-Err g c =
@@ -46,6 +50,8 @@ returns-in-Err g c =
     let once : NamesOnce (objects (table_of x.terms)) x.opened.writes =
     subst (λ n. NamesOnce n x.opened.writes) v.objects
     (writes_once x.opened.objects x.opened.writes c.writes.ensures.below c.writes.ensures.apart) in
+    let rest : AtRest (state (called x)) =
+    subst (λ (k : TlCalled _). AtRest (state k)) (sym c.self.view_is) c.requires.rest in
     let u =
     ends_here g.L.Law.holds x v words home (Doing (Locking x.opened.writes)) new Done (Some c.in-Err.again)
     c.in-Err.ensures.ends in
@@ -59,6 +65,10 @@ returns-in-Err g c =
       kept = search rules;
       locked = search rules;
       done = search rules;
+      told = λ _.
+          left_told g.L.Law.holds x v (Locking x.opened.writes) refl new c.in-Err.again u once
+          (free_here g.L.Law.holds x v words home new c.in-Err.ensures.free.1) (rest_made (called x) rest)
+          (rest_can (state (called x)) rest (length x.opened.writes));
       seen = (kept g.L.Law.holds x v (Doing (Locking x.opened.writes)) new Done (Some c.in-Err.again) u).seen;
     }
 
@@ -116,5 +126,6 @@ returns-in_default g c =
           (locked_kept g.L.Law.holds x v new u rest live state_is locks);
       locked = has_locked g.L.Law.holds x v new u rest live state_is locks;
       done = locked_done g.L.Law.holds x v new u rest live state_is locks ∙ ap done c.self.view_is;
+      told = λ _. locked_told g.L.Law.holds x v new u rest live state_is locks;
       seen = (kept g.L.Law.holds x v (Doing (Locking x.opened.writes)) new Done None u).seen;
     })

@@ -1,6 +1,9 @@
-use Rattle.std.proofs.Common.{◌∙◌, sym}
-use Rattle.dstm_tl2_engine.proofs.Opens.{handed_held, hands, held_opened, none_some, unhanded_unheld}
-use Rattle.dstm_tl2_engine.specs.Callers.{held}
+use Rattle.std.proofs.Common.{◌∙◌, ◌≡◌, None, Some, ap, subst, sym}
+use Rattle.std.specs.Option.{option_or}
+use Rattle.std.proofs.lemmas.Result.{IfOk-weaker}
+use Rattle.dstm_tl2_engine.proofs.Opens.{handed_held, hands, held_opened, none_some, unhanded_unheld, unset_unheld}
+use Rattle.dstm_tl2_engine.specs.Attempts.{Seen}
+use Rattle.dstm_tl2_engine.specs.Callers.{TlCalled, handed, held, written}
 use Rattle.dstm_tl2_engine.proofs.caller.TlCaller.open_read.Goals as goal
 
 pub returns-in-Some-clause-stays : goal.returns-in-Some-clause-stays
@@ -39,3 +42,18 @@ returns-clause-answered g c =
     absurd (none_some (held c.args.self.now c.args.o)
     (unhanded_unheld g.L.Law.holds c.self.inside c.self.invariant c.args.self.now c.self.view_is c.args.o
     (sym c.value.ensures ∙ c.in_default.is)) some)
+
+pub returns-in-Some-clause-seen : goal.returns-in-Some-clause-seen
+returns-in-Some-clause-seen g c = subst (Seen g.L.Law.holds) c.self.view_is c.self.invariant.seen
+
+-- what was not read before was not set
+pub returns-clause-value : goal.returns-clause-value
+returns-clause-value g c =
+    let n = c.read_first.new.self in
+    let unset : written n c.args.o ≡ None =
+    ap (λ (k : TlCalled _). written k c.args.o) c.read_first.ensures.kept
+    ∙ unset_unheld g.L.Law.holds c.self.inside c.self.invariant c.args.self.now c.self.view_is c.args.o
+    (unhanded_unheld g.L.Law.holds c.self.inside c.self.invariant c.args.self.now c.self.view_is c.args.o
+    (sym c.value.ensures ∙ c.in_default.is)) in
+    IfOk-weaker c.read_first.result (λ v. Some v ≡ held n c.args.o) (λ v. Some v ≡ handed n c.args.o)
+    (λ v read. read ∙ ap (λ w. option_or w (held n c.args.o)) (sym unset)) c.read_first.ensures.value
