@@ -3,6 +3,7 @@
 
 mod command;
 mod failure;
+mod heap;
 mod input;
 mod laws;
 mod output;

@@ -27,6 +27,7 @@ ghost use Rattle.dstm_cli.specs.Command.{
 ghost use Rattle.dstm_cli.specs.Ending.{Fails};
 
 use crate::failure::Failure;
+use crate::heap::keep_freed_memory;
 use crate::input::{CHECK_LIMIT, RUN_LIMIT, read_case, read_input};
 use dstm_command::{Command, GenSpec};
 use dstm_core::Manager;
@@ -126,6 +127,7 @@ fn run_text<R: Threads + Sync, G: Gate + Sync>(
     ensures unplayed { IfErr result (λ failure. failure ≢ Failure.Memory → added rounds.old rounds.new ≡ []) }
 {
     let workload = read_workload(alloc, input)?;
+    keep_freed_memory(alloc);
     let report = run_crew(rt, alloc, &workload, options, gate, rounds)?;
     lawful_is_held();
     Ok(render(alloc, &report)?)
@@ -212,6 +214,7 @@ fn demo_text<R: Threads + Sync, G: Gate + Sync>(
         engine: Engine::Dstm,
     };
     let workload = generate(alloc, spec.seed, spec.count, spec.workers)?;
+    keep_freed_memory(alloc);
     let report = run_crew(rt, alloc, &workload, &options, gate, rounds)?;
     let verdict = check(alloc, &workload, &report)?;
     let total = total(&workload, &report);
