@@ -45,7 +45,7 @@ returns-in-Ok-commit c = λ rechecks.
     (record { number = c.in-Ok-commit.number; replies = c.in-Ran.replies }) c.requires.law
     (tl2_did _ k n c.in-Ok-commit.number c.requires.rest
     (made keeps k b t _ _ _ _ begins place n _ commit.kept commit.stays.attempt commit.number.free
-    (λ _. commit.number.valid) commit.seen commit.stays.steps.run)
+    (λ _. commit.number.valid) commit.seen commit.stays.steps.run commit.told)
     (settled keeps k b t _ _ _ _ begins place _ n c.in-Ok-commit.number _ commit.kept commit.stays.steps.run commit.number
     (λ map admits.
     right_for c.args.layout.now c.args.job.now.ops c.run.new.self.task c.run.new.self.outcome _ map _
@@ -66,7 +66,7 @@ returns-in-Err-commit c = λ rechecks.
     in_the_end (λ (x : TlCalled _). WasKept (Tl2 k) (Tl2 x)) _ _ _ _ (assumption c) name
     (tl2_kept k n c.in-Err-commit.field-0 c.requires.rest
     (made keeps k b t _ _ _ _ begins place n (Some c.in-Err-commit.field-0) commit.kept commit.leaves.attempt
-    commit.leaves.left.given_back.free (λ none. absurd (cc)) commit.seen commit.leaves.steps.run)
+    commit.leaves.left.given_back.free (λ none. absurd (cc)) commit.seen commit.leaves.steps.run commit.told)
     commit.leaves.left (commit.leaves.done ∙ same_done keeps k b t _ _ _ _ begins place))
 
 pub returns-in-Blocked : goal.returns-in-Blocked
@@ -104,5 +104,5 @@ returns-in-Err-run c = λ rechecks.
     in_the_end P _ _ _ _ (assumption c) name (subst P (sym was.same)
     (tl2_kept k t c.in-Err-run.field-0 c.requires.rest
     (made keeps k b t _ _ _ _ begins place t (Some c.in-Err-run.field-0) (still t _ over) refl left.given_back.free
-    (λ none. absurd (cc)) was.seen was.run)
+    (λ none. absurd (cc)) was.seen was.run was.told)
     left (same_done keeps k b t _ _ _ _ begins place)))

@@ -34,5 +34,5 @@ returns-clause-given_up c =
     (gave_up k b n c.in-Ok-commit.number begins
     (tl2_more k n _ c.requires.rest
     (made keeps k b b r r h h begins refl n _ commit.kept commit.stays.attempt commit.number.free
-    (λ _. commit.number.valid) commit.seen commit.stays.steps.run))
+    (λ _. commit.number.valid) commit.seen commit.stays.steps.run commit.told))
     commit.number)
