@@ -70,14 +70,13 @@ same_current s start log one other a b =
     let h : o < s.objects = let q = a.objects in omega (arith, within) in a.values o h ∙ sym (b.values o h))
 
 -- the values have those of a table, by what the table was told
-pub told_by : (values : List Val) (s shape : Shape) (start first : List Val) (words found : List ℕ) → s ≡ shape →
-    start ≡ first → found ≡ words →
-    ((o : ℕ) → o < shape.objects → value_at values o ≡ value_left shape first found o) →
+pub told_by : (values : List Val) (s shape : Shape) (start first : List Val) (words : List ℕ) → s ≡ shape →
+    start ≡ first →
+    ((o : ℕ) → o < shape.objects → value_at values o ≡ value_left shape first words o) →
     (o : ℕ) → o < s.objects → value_at values o ≡ value_left s start words o
-told_by values s shape start first words found is_shape is_start is_words told =
+told_by values s shape start first words is_shape is_start told =
     subst (λ (s : Shape). (o : ℕ) → o < s.objects → value_at values o ≡ value_left s start words o) (sym is_shape)
-    (subst (λ xs. (o : ℕ) → o < shape.objects → value_at values o ≡ value_left shape xs words o) (sym is_start)
-    (subst (λ xs. (o : ℕ) → o < shape.objects → value_at values o ≡ value_left shape first xs o) is_words told))
+    (subst (λ xs. (o : ℕ) → o < shape.objects → value_at values o ≡ value_left shape xs words o) (sym is_start) told)
 
 module _ {L : Type 0} (holds : L → List Val → Type 0) (terms : Terms L) (v : View L) (words : List ℕ)
     (l : LeftBy holds terms v words) (first : v.first ≡ true) (none_out : v.out ≡ 0) where

@@ -6,9 +6,10 @@ ghost use Rattle.dstm_model.specs.Map.{value_at};
 
 use dstm_core::{Shape, Status};
 use dstm_model::Val;
+use dstm_words::Left;
 
 // The current value of each object, in the place of its first value.
-pub fn settle(shape: &Shape, words: &[u64], start: Vec<Val>) -> Vec<Val>
+pub fn settle(shape: &Shape, words: &Left, start: Vec<Val>) -> Vec<Val>
     requires words { AreWords shape.now words.now }
     requires left { AreLeft shape.now words.now }
     requires objects { length start.items ≡ shape.now.objects }
@@ -26,19 +27,19 @@ pub fn settle(shape: &Shape, words: &[u64], start: Vec<Val>) -> Vec<Val>
 
 // The current value of an object that had this value first.
 #[tactic(auto, using(crate::proofs::LastValues::object_is, crate::proofs::LastValues::object_owned, crate::proofs::LastValues::current_is))]
-fn current(shape: &Shape, words: &[u64], first: Val, o: u32) -> Val
+fn current(shape: &Shape, words: &Left, first: Val, o: u32) -> Val
     requires words { AreWords shape.now words.now }
     requires left { AreLeft shape.now words.now }
     requires exists { o < shape.now.objects }
     ensures { (start : List Val) → value_at start o ≡ first → result ≡ value_left shape.now start words.now o }
 {
-    let word = words[shape.object(o) as usize];
+    let word = word_at(words, shape.object(o));
     let version = current_version(shape, words, word);
     value_of(shape, words, first, version)
 }
 
 // The version that an object's word stands for.
-fn current_version(shape: &Shape, words: &[u64], word: u64) -> u64
+fn current_version(shape: &Shape, words: &Left, word: u64) -> u64
     requires words { AreWords shape.now words.now }
     requires version { IsVersion shape.now word }
     requires owned { IsOwned shape.now words.now word }
@@ -48,16 +49,16 @@ fn current_version(shape: &Shape, words: &[u64], word: u64) -> u64
         return 0;
     }
     let locator = (word - 1) as u32;
-    let owner = words[shape.owner(locator) as usize] as u32;
-    if words[shape.status(owner) as usize] == Status::Committed.code() {
+    let owner = word_at(words, shape.owner(locator)) as u32;
+    if word_at(words, shape.status(owner)) == Status::Committed.code() {
         word
     } else {
-        words[shape.old_cell(locator) as usize]
+        word_at(words, shape.old_cell(locator))
     }
 }
 
 // The value of a version.
-fn value_of(shape: &Shape, words: &[u64], first: Val, version: u64) -> Val
+fn value_of(shape: &Shape, words: &Left, first: Val, version: u64) -> Val
     requires words { AreWords shape.now words.now }
     requires version { IsVersion shape.now version }
     ensures { (start : List Val) (o : ℕ) → value_at start o ≡ first →
@@ -68,7 +69,15 @@ fn value_of(shape: &Shape, words: &[u64], first: Val, version: u64) -> Val
     }
     let locator = (version - 1) as u32;
     Val {
-        low: words[shape.new_cell(locator) as usize],
-        high: words[shape.high_cell(locator) as usize],
+        low: word_at(words, shape.new_cell(locator)),
+        high: word_at(words, shape.high_cell(locator)),
     }
+}
+
+// The word at a place.
+fn word_at(words: &Left, place: u64) -> u64
+    requires { place < length words.now }
+    ensures { result ≡ slice_index words.now place }
+{
+    words.word(place)
 }

@@ -190,7 +190,7 @@ impl<L: Law> Stm<L> {
     }
 
     /// The current value of each object, and what is kept of the table: the last event of each caller is in its log.
-    /// A table that had guests keeps no record; see `close_plain`. On want of memory the table is given up.
+    /// A table that had guests keeps no record; see `close_plain`. It copies no word and takes no memory of `alloc`.
     pub fn close(
         self,
         alloc: Global,
@@ -210,8 +210,7 @@ impl<L: Law> Stm<L> {
     {
         let Founder { terms, seat, .. } = founder;
         let record = Record::of(terms, &seat);
-        let values = self.last_values(alloc, seat)?;
-        Ok((values, record))
+        Ok((self.last_values(seat), record))
     }
 
     /// The values of the objects as they stand, of a table that had guests.
@@ -226,20 +225,18 @@ impl<L: Law> Stm<L> {
         ensures lawful { IfOk result (λ values. L.holds self.terms.law.value values.items) }
     {
         let Founder { seat, .. } = founder;
-        self.last_values(alloc, seat)
+        Ok(self.last_values(seat))
     }
 
     // The current values, by the founder's seat.
-    fn last_values(self, alloc: Global, seat: CoreSeat<L>) -> Result<Vec<Val>, AllocError>
+    fn last_values(self, seat: CoreSeat<L>) -> Vec<Val>
         requires seat { IsOf self seat }
         requires whole { ((view_of seat).first ≡ true) × ((view_of seat).out ≡ 0) }
-        ensures values { IfOk result (λ values. values.items
-            ≡ state_after self.terms.start.value.items
-            (history_of self.terms.shape self.terms.start.value.items (view_of seat).log)) }
-        ensures current { IfOk result (λ values.
-            IsCurrent self.terms.shape self.terms.start.value.items (view_of seat).log values.items) }
-        ensures lawful { IfOk result (λ values. L.holds self.terms.law.value values.items) }
-        ensures run { IfOk result (λ _. IsRunOf L.holds self.terms (view_of seat).log) }
+        ensures values { result.items ≡ state_after self.terms.start.value.items
+            (history_of self.terms.shape self.terms.start.value.items (view_of seat).log) }
+        ensures current { IsCurrent self.terms.shape self.terms.start.value.items (view_of seat).log result.items }
+        ensures lawful { L.holds self.terms.law.value result.items }
+        ensures run { IsRunOf L.holds self.terms (view_of seat).log }
     {
         let Stm {
             words,
@@ -248,8 +245,10 @@ impl<L: Law> Stm<L> {
             law,
         } = self;
         drop(law);
-        let left = words.close(alloc, seat)?;
-        Ok(settle(&shape, &left, start))
+        let left = words.close_in_place(seat);
+        let values = settle(&shape, &left, start);
+        left.free();
+        values
     }
 }
 

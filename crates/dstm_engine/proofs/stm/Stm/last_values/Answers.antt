@@ -12,35 +12,33 @@ pub returns-clause-values : goal.returns-clause-values
 returns-clause-values g c =
     let v = c.self.invariant in
     let terms = c.self.inside.words.terms in
-    let left = c.in_ok-left.left.items in
-    let objects = c.settle.ensures.objects ∙ ap (λ (s : Shape). s.objects) (sym v.0) in
-    let told = told_by c.settle.result.items terms.shape c.self.inside.shape terms.start.value.items
-    c.self.inside.start.items left c.deref.result.now v.0 (ap (λ (x : Vec _ _). x.items) v.1) c.deref.ensures.value
-    c.settle.ensures.values in
-    subst (λ (h : Home _). c.settle.result.items ≡ state_after h.terms.start.value.items
+    let left = c.close_in_place-left.result in
+    let objects = c.settle-values.ensures.objects ∙ ap (λ (s : Shape). s.objects) (sym v.0) in
+    let told = told_by c.settle-values.result.items terms.shape c.self.inside.shape terms.start.value.items
+    c.self.inside.start.items left v.0 (ap (λ (x : Vec _ _). x.items) v.1) c.settle-values.ensures.values in
+    subst (λ (h : Home _). c.settle-values.result.items ≡ state_after h.terms.start.value.items
     (history_of h.terms.shape h.terms.start.value.items c.args.seat.me.0.log)) c.self.view_is
-    (last_state g.L.Law.holds terms c.args.seat.me.0 left c.in_ok-left.ensures c.requires.whole.0 c.requires.whole.1
-    c.settle.result.items objects told)
+    (last_state g.L.Law.holds terms c.args.seat.me.0 left c.close_in_place-left.ensures c.requires.whole.0
+    c.requires.whole.1 c.settle-values.result.items objects told)
 
 pub returns-clause-current : goal.returns-clause-current
 returns-clause-current g c =
     let v = c.self.invariant in
     let terms = c.self.inside.words.terms in
-    let left = c.in_ok-left.left.items in
-    let objects = c.settle.ensures.objects ∙ ap (λ (s : Shape). s.objects) (sym v.0) in
-    let told = told_by c.settle.result.items terms.shape c.self.inside.shape terms.start.value.items
-    c.self.inside.start.items left c.deref.result.now v.0 (ap (λ (x : Vec _ _). x.items) v.1) c.deref.ensures.value
-    c.settle.ensures.values in
+    let left = c.close_in_place-left.result in
+    let objects = c.settle-values.ensures.objects ∙ ap (λ (s : Shape). s.objects) (sym v.0) in
+    let told = told_by c.settle-values.result.items terms.shape c.self.inside.shape terms.start.value.items
+    c.self.inside.start.items left v.0 (ap (λ (x : Vec _ _). x.items) v.1) c.settle-values.ensures.values in
     subst (λ (h : Home _). IsCurrent h.terms.shape h.terms.start.value.items c.args.seat.me.0.log
-    c.settle.result.items) c.self.view_is
-    (last_current g.L.Law.holds terms c.args.seat.me.0 left c.in_ok-left.ensures c.requires.whole.0
-    c.requires.whole.1 c.settle.result.items objects told)
+    c.settle-values.result.items) c.self.view_is
+    (last_current g.L.Law.holds terms c.args.seat.me.0 left c.close_in_place-left.ensures c.requires.whole.0
+    c.requires.whole.1 c.settle-values.result.items objects told)
 
 pub returns-clause-run : goal.returns-clause-run
 returns-clause-run g c =
     subst (λ (h : Home _). IsRunOf g.L.Law.holds h.terms c.args.seat.me.0.log) c.self.view_is
-    (last_run g.L.Law.holds c.self.inside.words.terms c.args.seat.me.0 c.in_ok-left.left.items c.in_ok-left.ensures
-    c.requires.whole.0 c.requires.whole.1)
+    (last_run g.L.Law.holds c.self.inside.words.terms c.args.seat.me.0 c.close_in_place-left.result
+    c.close_in_place-left.ensures c.requires.whole.0 c.requires.whole.1)
 
 pub returns-clause-lawful : goal.returns-clause-lawful
 returns-clause-lawful g c =
