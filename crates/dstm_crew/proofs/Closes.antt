@@ -14,19 +14,20 @@ use Rattle.dstm_options.specs.declared.options.Options.{Options}
 use Rattle.dstm_tables.specs.declared.founding.Founder.{Founder}
 use Rattle.dstm_tables.specs.declared.tables.Caller.{Caller}
 use Rattle.dstm_tables.specs.declared.tables.Table.{Table}
-use Rattle.dstm_tables.specs.Callers.{CameByCalls, done, number_of, round_of}
+use Rattle.dstm_tables.specs.Callers.{CameByCalls, done, number_of, round_of, begun}
 use Rattle.dstm_tables.proofs.Calls.{by_calls, calls_at_close, came_on}
 use Rattle.dstm_tables.specs.Founders.{TakesBack, first_of, seen_by}
 use Rattle.dstm_tables.specs.Tells as known
-use Rattle.dstm_tables.specs.Tells.{ByCalls, IsPast, all_done, callers_of, committed_of, done_of, start_of, values_of}
+use Rattle.dstm_tables.specs.Tells.{ByCalls, IsPast, all_done, callers_of, committed_of, done_of, start_of, values_of, begun_of}
 use Rattle.dstm_tables.proofs.Closing.{done_at_close}
 use Rattle.dstm_tables.proofs.History.{sights_agree}
-use Rattle.dstm_tables.proofs.Staying.{attempts_past}
+use Rattle.dstm_tables.proofs.Staying.{attempts_past, past_trans}
 use Rattle.dstm_tables.proofs.Same.{callers_past, first_past, first_seen, layout_is, layout_past, locators_past, number_below, of_past, only_tells_all, start_past, writes_past}
-use Rattle.dstm_records.specs.Records.{IsMade, IsRoundOf, IsRun, TellOf, seed_for}
+use Rattle.dstm_records.specs.Records.{IsMade, IsRoundOf, IsRun, TellOf, seed_for, IsAlone, WasUsedUp, most_tries}
 use Rattle.dstm_records.specs.Rounds.{is_parallel, most_jobs, workers_left}
 use Rattle.dstm_records.specs.Running.{AddsRound, Begins, count_left, turns_behind}
 use Rattle.dstm_records.specs.Told.{AreTold}
+use Rattle.dstm_records.proofs.Closing.{begun_at_close}
 use Rattle.dstm_records.proofs.Collecting.{Collected}
 use Rattle.dstm_records.proofs.Making.{made_past}
 use Rattle.dstm_records.proofs.Told.{fewer_left, rows_told}
@@ -84,6 +85,7 @@ can_run workload options number before values turns table f k alone begins turne
     let past : IsPast a b = first_past k table opened.home in
     record {
       valid = begins.valid;
+      alone = alone;
       earlier = begins.earlier;
       home = opened.home;
       only = callers_past a b past ∙ opened.only;
@@ -164,6 +166,37 @@ module _ (workload : Workload) (options : Options) (number : ℕ) (before : List
       (calls_at_close seed (round_of n) (seen_by g) (number_of n) takes.other_past takes.other_kept
       (by_calls seed n (came_on seed first n ran.goes.on came)))
 
+  -- a caller that was used up is so in the record
+  used_later : (most : ℕ) → WasUsedUp most (round_of n) → WasUsedUp most (seen_by g)
+  used_later most used = record {
+    earlier = used.earlier;
+    past = past_trans used.earlier (round_of n) (seen_by g) used.past takes.other_past;
+    none_left = used.none_left;
+    few = used.few;
+  }
+
+  is_alone : IsAlone workload options before ran.now (seen_by g)
+  is_alone =
+      let begun_then : begun_of (seen_by g) 0 ≡ begun n =
+      ap (begun_of (seen_by g)) (sym zeroth)
+      ∙ begun_at_close (round_of n) (seen_by g) (number_of n) takes.other_past takes.other_kept in
+      record {
+        one_caller = only;
+        some_row = ran.some;
+        few = ran.few;
+        calls = calls (slice_get (workers_left workload before) 0) come;
+        asked = λ worker below has.
+            elim (ran.asked worker below has) [
+              | inl was ↦ inl was
+              | inr used ↦ inr (used_later (most_tries workload before ran.now) used)
+            ];
+        attempts =
+            elim ran.attempts [
+              | inl few ↦ inl (omega (arith, few, begun_then))
+              | inr used ↦ inr (used_later (most_tries workload before ran.now) used)
+            ];
+      }
+
   round : IsRoundOf workload options number before ran.now values (seen_by g)
   round = record {
     engine = of_past options.engine (first_of table) (seen_by g) past opened.engine;
@@ -172,12 +205,8 @@ module _ (workload : Workload) (options : Options) (number : ℕ) (before : List
     begins = start;
     rows_tell = subst (λ (vs : List Val). TellOf workload before ran.now vs (committed_of (seen_by g))) start collected.tell;
     parallel = λ parallel. absurd (true≢false (sym parallel ∙ alone));
-    alone = λ _. record {
-      one_caller = only;
-      some_row = ran.some;
-      few = ran.few;
-      calls = calls (slice_get (workers_left workload before) 0) come;
-    };
+    alone = λ _. is_alone;
+    given_up = collected.given_up;
     released = λ _ parallel. absurd (true≢false (sym parallel ∙ alone));
   }
 

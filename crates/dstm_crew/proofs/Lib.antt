@@ -1,5 +1,6 @@
 pub mod Retrying
 pub mod Worked
+pub mod Asking
 pub mod Sweeps
 pub mod Jobs
 pub mod Numbers

@@ -5,7 +5,6 @@ use Rattle.std.proofs.Math.Seq.{drop-append_seam}
 use Rattle.std.proofs.lemmas.List.{append-nil}
 use Rattle.std.proofs.lemmas.List.Elements.{All-from_recursion}
 use Rattle.dstm_model.specs.declared.value.Val.{Val}
-use Rattle.dstm_model.specs.declared.layout.Layout.{Layout}
 use Rattle.dstm_workload.specs.declared.workload.Job.{Job}
 use Rattle.dstm_workload.specs.declared.workload.Workload.{Workload}
 use Rattle.dstm_report.specs.declared.report.Row.{Row}
@@ -13,18 +12,45 @@ use Rattle.dstm_report.specs.Turns.{Turning}
 use Rattle.dstm_report.proofs.Rising.{jobs_left-none}
 use Rattle.dstm_options.specs.declared.options.Options.{Options}
 use Rattle.dstm_tables.specs.declared.tables.Round.{Round}
-use Rattle.dstm_records.specs.Running.{AddsClosed, HasEnded, IsClosed, added, turns_behind}
-use Rattle.dstm_records.proofs.Running.{Reached, begins_now, each_closed, has_ended, rounds_fall, rounds_left, round_more}
+use Rattle.dstm_records.specs.Running.{HasEnded, added, turns_behind}
+use Rattle.dstm_records.specs.Records.{AreFirstRounds, AreRoundsOf}
+use Rattle.dstm_store.specs.Opening.{opening_values}
+use Rattle.dstm_records.proofs.Running.{Reached, begins_now, has_ended, rounds_fall, rounds_left, round_more}
 use Rattle.dstm_crew.specs.declared.progress.Progress.{Progress}
-use Rattle.dstm_crew.specs.Playing.{CanPlay, HasPlayed}
+use Rattle.dstm_crew.specs.Playing.{CanPlay, HasCome, HasPlayed, WasBrokenOff}
 
 -- what stands behind the others was added
 pub added_is : (old new more : List Round) → new ≡ old ++ more → added old new ≡ more
 added_is old new more is = ap (drop (length old)) is ∙ drop-append_seam old more
 
--- no round was added
-pub nothing_added : (layout : Layout) (rounds : List Round) → AddsClosed layout rounds rounds
-nothing_added layout rounds = ([], (sym (append-nil rounds), All-from_recursion (IsClosed layout) [] tt))
+-- it stands behind them
+pub added_behind : (old new more : List Round) → new ≡ old ++ more → new ≡ old ++ added old new
+added_behind old new more is = is ∙ ap (λ (rs : List Round). old ++ rs) (sym (added_is old new more is))
+
+-- nothing was added in a round that was broken off
+pub nothing_played : (number : ℕ) (p q : Progress) → q.rounds.items ≡ p.rounds.items → q.rows.items ≡ p.rows.items →
+    WasBrokenOff number p q
+nothing_played number p q same_rounds same_rows = record {
+  none = same_rounds;
+  unfinished = [];
+  rows_are = same_rows ∙ sym (append-nil p.rows.items);
+  in_round = All-from_recursion (λ (row : Row). row.round ≡ number) [] tt;
+}
+
+-- a run that has come so far has added the records of its first rounds
+pub first_rounds : (workload : Workload) (options : Options) (p q : Progress) (records : List Round) →
+    p.rounds.items ≡ records → p.values.items ≡ opening_values workload.layout → HasCome workload options p q →
+    AreFirstRounds workload options (added records q.rounds.items)
+first_rounds workload options p q records same values come =
+    let is : added records q.rounds.items ≡ come.more =
+    added_is records q.rounds.items come.more (come.behind ∙ ap (λ (rs : List Round). rs ++ come.more) same) in
+    subst (AreFirstRounds workload options) (sym is)
+    (record {
+      rows = come.rows;
+      good = come.good;
+      each = subst (λ (vs : List Val). AreRoundsOf workload options come.rows 0 [] vs come.more) values come.each;
+      all_rows = come.all_rows;
+    })
 
 -- before the first round all jobs are left
 pub all_left : (workload : Workload) (jobs : List Job) (turns : Turning) → jobs ≡ workload.jobs →
@@ -32,15 +58,6 @@ pub all_left : (workload : Workload) (jobs : List Job) (turns : Turning) → job
 all_left workload jobs turns same turned =
     turned ∙ ap (λ (js : List Job). record { jobs = js; left = js }) same
     ∙ ap (λ (left : List Job). record { jobs = workload.jobs; left = left }) (sym (jobs_left-none workload.jobs))
-
--- what was added is closed, where something was
-pub added_closed : (layout : Layout) (old new : List Round) → AddsClosed layout old new →
-    (new ≡ old ++ added old new) × All (IsClosed layout) (added old new)
-added_closed layout old new adds =
-    let is = sym (added_is old new adds.0 adds.1.0) in (
-      adds.1.0 ∙ ap (λ (more : List Round). old ++ more) is,
-      subst (All (IsClosed layout)) is adds.1.1,
-    )
 
 module _ (workload : Workload) (options : Options) (start : List Val) (old : List Round) (p : Progress) (number : ℕ) where
   -- where the run stands
@@ -55,16 +72,21 @@ module _ (workload : Workload) (options : Options) (start : List Val) (old : Lis
       (subst (λ (rs : List Row). Reached workload options start old p.rounds.items rs p.values.items number more)
       (sym same_rows) r)
 
-  -- the rounds so far were closed
-  pub closed_so_far : (more : Bool) → Stands more → AddsClosed workload.layout old p.rounds.items
-  closed_so_far more r = (
-    r.added,
-    (
-      r.behind,
-      All-from_recursion (IsClosed workload.layout) r.added
-          (each_closed workload options p.rows.items 0 [] start r.added r.each),
-    ),
-  )
+  -- the records are those of the rounds so far, where one more was broken off
+  pub come_so_far : (more : Bool) → Stands more → (o : Progress) → o.values.items ≡ start → o.rounds.items ≡ old →
+      (q : Progress) → WasBrokenOff number p q → HasCome workload options o q
+  come_so_far more r o values rounds q broken = record {
+    more = r.added;
+    behind = broken.none ∙ r.behind ∙ ap (λ (rs : List Round). rs ++ r.added) (sym rounds);
+    rows = p.rows.items;
+    good = r.good;
+    each = subst (λ (vs : List Val). AreRoundsOf workload options p.rows.items 0 [] vs r.added) (sym values) r.each;
+    all_rows = subst (λ n. All (λ (row : Row). row.round < n) p.rows.items) (sym r.count)
+        (All-from_recursion (λ (row : Row). row.round < number) p.rows.items r.earlier);
+    unfinished = broken.unfinished;
+    rows_are = broken.rows_are;
+    in_round = subst (λ n. All (λ (row : Row). row.round ≡ n) broken.unfinished) (sym r.count) broken.in_round;
+  }
 
   -- no job is left
   pub all_ended : Stands false → HasEnded workload options start (added old p.rounds.items) p.rows.items p.values.items

@@ -3,9 +3,8 @@ use Rattle.std.proofs.Common.{◌≡◌, ℕ, ◌<◌, ◌≤◌, Bool, true, co
 use Rattle.std.specs.List.{All, AllByRecursion, Contains, slice_get}
 use Rattle.std.specs.Option.{option_map}
 use Rattle.std.proofs.lemmas.List.{length-map}
-use Rattle.std.proofs.lemmas.List.Elements.{recursion_from_All, All-from_recursion}
+use Rattle.std.proofs.lemmas.List.Elements.{recursion_from_All}
 use Rattle.std.proofs.lemmas.Option.{slice_get-get_or, slice_get-map, slice_get_within, none-some, same_Some}
-use Rattle.dstm_model.specs.declared.layout.Layout.{Layout}
 use Rattle.dstm_model.specs.declared.value.Val.{Val}
 use Rattle.dstm_model.specs.Answers.{Committed}
 use Rattle.dstm_words.specs.Seats.{AreApart}
@@ -255,6 +254,7 @@ module _ (workload : Workload) (options : Options) (number : ℕ) (rows : List R
       rows_tell = subst (λ (vs : List Val). TellOf workload rows collected.now vs (committed_of closed)) run.start told.tell;
       parallel = λ _. is_round;
       alone = λ odd. absurd (true≢false (sym parallel ∙ odd));
+      given_up = told.given_up;
       released = λ releasing _.
           collected.few_reads releasing
           (reads_let_go options workload.version number (most_jobs workload number rows) closed releasing parallel run.engine made);

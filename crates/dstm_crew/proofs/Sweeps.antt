@@ -22,12 +22,17 @@ use Rattle.dstm_report.specs.Lawful.{first_job, jobs_left, store_after}
 use Rattle.dstm_report.specs.Turns.{Turning, without_first}
 use Rattle.dstm_workload.specs.Workload.{IsJob, IsValidWorkload}
 use Rattle.dstm_report.proofs.Rising.{all_blocked, each-filter, first_holds, rise_all, someone, turn_ends}
-use Rattle.dstm_records.specs.Records.{count_done, is_given_up}
-use Rattle.dstm_records.specs.Rounds.{attempts_for, has_job, left_by, workers_left}
+use Rattle.dstm_records.specs.Records.{WasAsked, WasUsedUp, count_done, is_blocked, is_given_up, most_tries}
+use Rattle.dstm_records.specs.Rounds.{attempts_for, has_job, is_parallel, left_by, workers_left}
 use Rattle.std.proofs.lemmas.Option.{none-some}
-use Rattle.dstm_tables.specs.Answers.{IsAnsweredBy}
+use Rattle.dstm_tables.specs.Answers.{IsAnsweredBy, entries_of}
+use Rattle.dstm_tables.proofs.Entries.{entries_push}
+use Rattle.dstm_tables.proofs.History.{is_history}
+use Rattle.dstm_model.specs.Map.{Agrees, IsLegal}
 use Rattle.dstm_records.specs.Told.{AreTold, IsGivenUp, IsTold}
 use Rattle.dstm_records.proofs.Collecting.{Collected}
+use Rattle.dstm_records.proofs.Follows.{agrees_next, answers_there}
+use Rattle.dstm_records.proofs.Replies.{not_given_up}
 use Rattle.dstm_records.proofs.Told.{AreTold-push, rows_told}
 use Rattle.dstm_tables.specs.declared.tables.Caller.{Caller}
 use Rattle.dstm_tables.specs.declared.tables.Table.{Table}
@@ -35,7 +40,7 @@ use Rattle.dstm_tables.specs.Callers.{AtRest, done, law_of, number_of, round_of}
 use Rattle.dstm_tables.specs.Callers as callers
 use Rattle.dstm_tables.specs.Jobs.{DidJob}
 use Rattle.dstm_tables.specs.OnlyCallers.{HasGivenUp, StoodAlone, WasSpent, left_by as values_left}
-use Rattle.dstm_tables.specs.Tells.{used_by, CannotBegin, all_done, attempts_of, callers_of, done_of, start_of}
+use Rattle.dstm_tables.specs.Tells.{used_by, CannotBegin, all_done, attempts_of, begun_of, callers_of, committed_of, done_of, start_of}
 use Rattle.dstm_tables.specs.Tries.{GoesOn}
 use Rattle.dstm_tables.proofs.Staying.{goes_nowhere, goes_on, same_attempts}
 use Rattle.dstm_tables.proofs.Same.{callers_same, can_begin, law_same, locators_same, number_below, only_tells_all, start_same, writes_same}
@@ -47,6 +52,7 @@ use Rattle.dstm_crew.specs.Alone.{CanRunAlone, Goes, HasRunAlone, Leads, MayStep
 use Rattle.dstm_crew.specs.declared.sweeping.Swept.{Swept}
 use Rattle.dstm_crew.specs.declared.sweeping.Swept.TheVariants as swept
 use Rattle.dstm_records.specs.Running.{turns_behind}
+use Rattle.dstm_crew.proofs.Asking.{asked_blocked, asked_more, blocked_now, has_first, keeps_job, row_done, so_far_blocked, so_far_grows, so_far_row, tries_are_few}
 
 -- ---- how many jobs of a worker were done
 
@@ -193,6 +199,8 @@ module _ (workload : Workload) (number : ℕ) (table : Table) (first : Caller) (
         let all : workload.workers - 0 ≡ workload.workers = omega arith in
         let same = ap (λ n. length (filter (has_job (left_by workload before)) (range_with_len 0 n))) all in
         omega (arith, z, same);
+    asked = λ w below has. inr (omega arith, has);
+    attempts = let z = can.none_begun in omega (arith, z);
   }
 
   -- the workers that are still waiting behind a worker
@@ -243,6 +251,20 @@ module _ (workload : Workload) (number : ℕ) (table : Table) (first : Caller) (
             ];
         unused = s.unused;
         few_tries = λ empty. let t = s.few_tries empty in let l = waiting_less w (left_by workload before) inside in omega (arith, t, l);
+        asked = λ v below has.
+            elim (s.asked v below has) [
+              | inl was ↦ inl was
+              | inr later ↦
+                  elim (cases_eq v w) [
+                    | inl same ↦ absurd (has_first v (left_by workload rows) later.1
+                        (ap (λ (u : ℕ). first_job u (left_by workload rows)) same ∙ ap (first_job w) (sym left) ∙ none))
+                    | inr other ↦ inr (omega (arith, later.0, other), later.1)
+                  ]
+            ];
+        attempts =
+            let a = s.attempts in
+            let more = so_far_grows workload before s.now w (w + 1) (omega arith) in
+            omega (arith, a, more);
       }
 
   -- a worker whose turn it may be has a job left
@@ -265,6 +287,9 @@ module _ (workload : Workload) (number : ℕ) (table : Table) (first : Caller) (
       let goes = still k n rows s.now turns s.goes stood.made.on stood.same_done in
       let left : turns.left ≡ jobs_left workload.jobs rows = ap (λ (t : Turning). t.left) s.goes.turns_are in
       let there : first_job w (jobs_left workload.jobs rows) ≡ Some job = ap (first_job w) (sym left) ∙ turn in
+      let stuck = stood.blocked (store_after workload rows) (stands_now n rows s.now turns goes) in
+      let blocked : is_blocked workload rows w ≡ true =
+      blocked_now workload before rows s.now w job s.goes.rows_are there stuck in
       record {
         now = s.now;
         goes = goes;
@@ -283,7 +308,7 @@ module _ (workload : Workload) (number : ℕ) (table : Table) (first : Caller) (
                   let is : v ≡ w = omega (arith, below, from_it) in
                   subst (λ (o : Option Job). IfSome o (λ job. apply_job job.ops (store_after workload rows) ≡ None))
                   (sym (ap (λ (u : ℕ). first_job u (jobs_left workload.jobs rows)) is ∙ there))
-                  (stood.blocked (store_after workload rows) (stands_now n rows s.now turns goes))
+                  stuck
             ];
         unused = λ empty.
             stood.unused (writes_same first k s.goes.on ∙ can.reads (third stood.branches))
@@ -297,20 +322,55 @@ module _ (workload : Workload) (number : ℕ) (table : Table) (first : Caller) (
             let one = waiting_one w (left_by workload before) inside (has_turn w (left_by workload before) job turn_before) in
             let more = stood.made.begun in
             omega (arith, t, one, more);
+        asked = λ v below has.
+            elim (cases_eq v w) [
+              | inl same ↦
+                  inl (asked_blocked workload before rows s.now v s.goes.rows_are
+                  (ap (is_blocked workload rows) same ∙ blocked))
+              | inr other ↦
+                  elim (s.asked v below has) [
+                    | inl was ↦ inl was
+                    | inr later ↦ inr (omega (arith, later.0, other), later.1)
+                  ]
+            ];
+        attempts =
+            let a = s.attempts in
+            let more = stood.made.begun in
+            let one = so_far_blocked workload before s.now w
+            (subst (λ (rs : List Row). is_blocked workload rs w ≡ true) s.goes.rows_are blocked) in
+            omega (arith, a, more, one);
       }
+
+  -- what the newest transaction has read is what those before it have left
+  agrees_then : (k n : Caller) (by : Committed) → GoesOn first k → GoesOn k n → done n ≡ by ∷ done k →
+      Agrees (values_left k) by.entry.reads
+  agrees_then k n by so_far on newest =
+      let only = only_of n (goes_on first k n so_far on) in
+      let is : entries_of (committed_of (round_of n)) ≡ entries_of (reverse (done k)) ++ by.entry ∷ [] =
+      ap (λ (ds : List Committed). entries_of (reverse ds)) (told_committed n on.rest only ∙ newest)
+      ∙ ap entries_of (reverse-cons by (done k)) ∙ entries_push (reverse (done k)) by in
+      agrees_next (start_of (round_of k)) (entries_of (reverse (done k))) by.entry []
+      (subst (λ (vs : List Val). IsLegal vs (entries_of (reverse (done k)) ++ by.entry ∷ [])) (start_same k n on)
+      (subst (IsLegal (start_of (round_of n))) is (is_history (round_of n) on.rest.run).legal))
 
   -- the job of the worker was done
   pub step_done : (style : Style) (k n : Caller) (rows : List Row) (turns behind : Turning) (w : ℕ)
-      (some : Bool) (job : Job) (finished : Finished) (row : Row) → first_job w turns.left ≡ Some job →
+      (some : Bool) (job : Job) (finished : Finished) (row : Row) → w < workload.workers → first_job w turns.left ≡ Some job →
       DidJob style workload.layout job k n finished → row.worker ≡ w → row.line ≡ job.line → row.round ≡ number →
       row.number ≡ finished.number → row.replies ≡ finished.replies →
       behind ≡ record turns { left = without_first row.worker turns.left } →
       Sweeps workload number first k before rows turns w some →
       Sweeps workload number first n before (rows ++ row ∷ []) behind (w + 1) true
-  step_done style k n rows turns behind w some job finished row turn did worker line round drew replies turned s =
+  step_done style k n rows turns behind w some job finished row inside turn did worker line round drew replies turned s =
       let answered : IsAnsweredBy workload.layout job.ops row.replies did.by.entry =
       subst (λ (rs : List Reply). IsAnsweredBy workload.layout job.ops rs did.by.entry) (sym replies) did.is.answered in
       let here : first_job row.worker turns.left ≡ Some job = ap (λ v. first_job v turns.left) worker ∙ turn in
+      let left : turns.left ≡ jobs_left workload.jobs rows = ap (λ (t : Turning). t.left) s.goes.turns_are in
+      let there : first_job row.worker (jobs_left workload.jobs rows) ≡ Some job = ap (first_job row.worker) (sym left) ∙ here in
+      let kept : is_given_up row.replies ≡ false =
+      not_given_up job.ops (store_after workload rows) row.replies
+      (answers_there workload rows row.replies (values_left k) did.by.entry job (stands_now k rows s.now turns s.goes)
+      (agrees_then k n did.by s.goes.on did.made.on did.newest) answered) in
       record {
         now = s.now ++ row ∷ [];
         goes = row_goes k n rows s.now turns behind did.by row job s.goes did.made.on did.newest here line round
@@ -338,17 +398,46 @@ module _ (workload : Workload) (number : ℕ) (table : Table) (first : Caller) (
         blocked = λ none_. absurd (true≢false none_);
         unused = λ empty. absurd (none_in s.now row empty);
         few_tries = λ empty. absurd (none_in s.now row empty);
+        asked = λ v below has.
+            elim (cases_eq v w) [
+              | inl same ↦
+                  let one = row_done v row (worker ∙ sym same) kept in
+                  let p = count_push v s.now row in
+                  inl (inl (omega (arith, one, p)))
+              | inr other ↦
+                  elim (s.asked v below has) [
+                    | inl was ↦ inl (asked_more workload before s.now row v (count_push v s.now row) was)
+                    | inr later ↦ inr (
+                        omega (arith, later.0, other),
+                        subst (λ (l : List Job). has_job l v ≡ true)
+                            (turn_ends workload.jobs rows row job (rise_all workload.jobs can.valid.rising) there line)
+                            (keeps_job row.worker v (jobs_left workload.jobs rows) (λ e. other (sym e ∙ worker)) later.1),
+                      )
+                  ]
+            ];
+        attempts =
+            let a = s.attempts in
+            let more = did.made.begun in
+            let n_ = length-append s.now (row ∷ []) in
+            let rest = so_far_row workload before s.now row w (w + 1) (omega (arith, inside)) in
+            omega (arith, a, more, n_, rest);
       }
 
   -- ---- where a round ends
 
   end_by : (k : Caller) (rows now : List Row) (turns : Turning) (w : ℕ) →
       Goes workload number first k before rows now turns → ((v : ℕ) → v < w → count_done v now ≤ 1) →
-      ((v : ℕ) → w ≤ v → count_done v now ≡ 0) → 0 < length now → HasRunAlone workload number first k before rows turns
-  end_by k rows now turns w goes few others has = record {
+      ((v : ℕ) → w ≤ v → count_done v now ≡ 0) → 0 < length now →
+      ((v : ℕ) → v < workload.workers → has_job (left_by workload before) v ≡ true →
+      WasAsked workload before now v ⊎ WasUsedUp (most_tries workload before now) (round_of k)) →
+      ((callers.begun k ≤ most_tries workload before now) ⊎ WasUsedUp (most_tries workload before now) (round_of k)) →
+      HasRunAlone workload number first k before rows turns
+  end_by k rows now turns w goes few others has asked attempts = record {
     now = now;
     goes = goes;
     some = has;
+    asked = asked;
+    attempts = attempts;
     few = λ v.
         elim (cases_lt v w) [
           | inl before_it ↦ few v before_it
@@ -356,9 +445,20 @@ module _ (workload : Workload) (number : ℕ) (table : Table) (first : Caller) (
         ];
   }
 
-  pub end_done : (k : Caller) (rows : List Row) (turns : Turning) (w : ℕ) →
-      Sweeps workload number first k before rows turns w true → HasRunAlone workload number first k before rows turns
-  end_done k rows turns w s = end_by k rows s.now turns w s.goes s.few s.others (s.has_row refl)
+  -- a pass that has come to its end has asked all
+  end_whole : (k : Caller) (rows : List Row) (turns : Turning) (some : Bool) →
+      (s : Sweeps workload number first k before rows turns workload.workers some) → 0 < length s.now →
+      HasRunAlone workload number first k before rows turns
+  end_whole k rows turns some s has =
+      end_by k rows s.now turns workload.workers s.goes s.few s.others has
+      (λ v below had.
+      elim (s.asked v below had) [ inl was ↦ inl was | inr later ↦ absurd (omega (arith, below, later.0)) ])
+      (inl (tries_are_few workload before s.now workload.workers (callers.begun k) (omega arith) s.attempts))
+
+  pub end_done : (k : Caller) (rows : List Row) (turns : Turning) →
+      Sweeps workload number first k before rows turns workload.workers true →
+      HasRunAlone workload number first k before rows turns
+  end_done k rows turns s = end_whole k rows turns true s (s.has_row refl)
 
   -- a caller that has used nothing and has tried few jobs is not spent
   not_spent : (k : Caller) → GoesOn first k → used_by (round_of k) (number_of k) ≡ 0 →
@@ -374,16 +474,27 @@ module _ (workload : Workload) (number : ℕ) (table : Table) (first : Caller) (
       (omega (arith, attempts, few, workers, all, most)) spent
 
   -- the caller is spent, which has a row behind
-  pub spent_after : (k n : Caller) (rows : List Row) (turns : Turning) (w : ℕ) (some : Bool) → WasSpent k n →
-      (s : Sweeps workload number first k before rows turns w some) →
+  pub spent_after : (k n : Caller) (rows : List Row) (turns : Turning) (w : ℕ) (some : Bool) → w ≤ workload.workers →
+      WasSpent k n → (s : Sweeps workload number first k before rows turns w some) →
       (s.now ≡ [] → callers.begun k ≤ length (workers_left workload before)) →
       HasRunAlone workload number first n before rows turns
-  spent_after k n rows turns w some was s few = by s.now refl
+  spent_after k n rows turns w some small was s few = by s.now refl
     where
+      used : WasUsedUp (most_tries workload before s.now) (round_of n)
+      used =
+          let zeroth = number_zero k s.goes.on.rest (only_of k s.goes.on) in
+          record {
+            earlier = round_of k;
+            past = was.on.seen;
+            none_left = subst (CannotBegin (round_of k)) zeroth was.spent;
+            few = subst (λ c. begun_of (round_of k) c ≤ most_tries workload before s.now) zeroth
+                (tries_are_few workload before s.now w (callers.begun k) small s.attempts);
+          }
+
       by : (now : List Row) → s.now ≡ now → HasRunAlone workload number first n before rows turns
       by (row ∷ now) is =
           end_by n rows s.now turns w (still k n rows s.now turns s.goes was.on was.same_done) s.few s.others
-          (let some_ = ap length is in omega (arith, some_))
+          (let some_ = ap length is in omega (arith, some_)) (λ v below had. inr used) (inr used)
       by [] is = absurd (not_spent k s.goes.on (s.unused is) (few is) was.spent)
 
   -- the caller is spent, after a try of a worker that has a job left
@@ -392,18 +503,19 @@ module _ (workload : Workload) (number : ℕ) (table : Table) (first : Caller) (
       Sweeps workload number first k before rows turns w some →
       HasRunAlone workload number first n before rows turns
   step_spent k n rows turns w some job inside turn was s =
-      spent_after k n rows turns w some was s (λ empty. let t = s.few_tries empty in omega (arith, t))
+      spent_after k n rows turns w some (omega (arith, inside)) was s (λ empty. let t = s.few_tries empty in omega (arith, t))
 
   -- ---- giving up
 
-  -- where all are blocked, that of a worker was given up
+  -- where all are blocked, that of the least worker was given up
   pub step_given_up : (k n : Caller) (rows : List Row) (turns behind : Turning) (job : Job) (drawn : ℕ) (row : Row) →
-      first_job job.worker turns.left ≡ Some job → HasGivenUp k n drawn → row.worker ≡ job.worker → row.line ≡ job.line →
+      first_job job.worker turns.left ≡ Some job → ((v : ℕ) → v < job.worker → first_job v turns.left ≡ None) →
+      HasGivenUp k n drawn → row.worker ≡ job.worker → row.line ≡ job.line →
       row.round ≡ number → row.number ≡ drawn → row.replies ≡ Never ∷ [] →
       behind ≡ record turns { left = without_first row.worker turns.left } →
       Sweeps workload number first k before rows turns workload.workers false →
       Sweeps workload number first n before (rows ++ row ∷ []) behind 0 false
-  step_given_up k n rows turns behind job drawn row turn gave worker line round drew replies turned s =
+  step_given_up k n rows turns behind job drawn row turn least gave worker line round drew replies turned s =
       let left : turns.left ≡ jobs_left workload.jobs rows = ap (λ (t : Turning). t.left) s.goes.turns_are in
       let here : first_job row.worker turns.left ≡ Some job = ap (λ v. first_job v turns.left) worker ∙ turn in
       let small : All (λ job. job.worker < workload.workers) (jobs_left workload.jobs rows) = small_left rows in
@@ -412,6 +524,10 @@ module _ (workload : Workload) (number : ℕ) (table : Table) (first : Caller) (
         nothing_read = gave.nothing_read;
         nothing_written = gave.nothing_written;
         blocked = all_blocked workload.workers (jobs_left workload.jobs rows) (store_after workload rows) small (s.blocked refl);
+        rightly = record {
+          alone = ap is_parallel round ∙ can.alone;
+          least = λ v below. ap (first_job v) (sym left) ∙ least v (omega (arith, below, worker));
+        };
       } in
       record {
         now = s.now ++ row ∷ [];
@@ -428,6 +544,17 @@ module _ (workload : Workload) (number : ℕ) (table : Table) (first : Caller) (
         blocked = λ none_ v below. absurd (omega (arith, below));
         unused = λ empty. absurd (none_in s.now row empty);
         few_tries = λ empty. absurd (none_in s.now row empty);
+        asked = λ v below has.
+            elim (s.asked v below has) [
+              | inl was ↦ inl (asked_more workload before s.now row v (count_push v s.now row) was)
+              | inr later ↦ absurd (omega (arith, below, later.0))
+            ];
+        attempts =
+            let a = s.attempts in
+            let more = gave.made.begun in
+            let n_ = length-append s.now (row ∷ []) in
+            let rest = so_far_row workload before s.now row workload.workers 0 (omega arith) in
+            omega (arith, a, more, n_, rest);
       }
 
   -- the caller is spent
@@ -435,7 +562,7 @@ module _ (workload : Workload) (number : ℕ) (table : Table) (first : Caller) (
       Sweeps workload number first k before rows turns workload.workers false →
       HasRunAlone workload number first n before rows turns
   given_up_spent k n rows turns was s =
-      spent_after k n rows turns workload.workers false was s (λ empty. let t = s.few_tries empty in omega (arith, t))
+      spent_after k n rows turns workload.workers false (omega arith) was s (λ empty. let t = s.few_tries empty in omega (arith, t))
 
   -- no job is left
   pub end_empty : (k : Caller) (rows : List Row) (turns : Turning) →
@@ -445,8 +572,7 @@ module _ (workload : Workload) (number : ℕ) (table : Table) (first : Caller) (
   end_empty k rows turns none s = by s.now refl
     where
       by : (now : List Row) → s.now ≡ now → HasRunAlone workload number first k before rows turns
-      by (row ∷ now) is =
-          end_by k rows s.now turns workload.workers s.goes s.few s.others (let some_ = ap length is in omega (arith, some_))
+      by (row ∷ now) is = end_whole k rows turns false s (let some_ = ap length is in omega (arith, some_))
       by [] is =
           let rows_is : rows ≡ before =
           s.goes.rows_are ∙ ap (λ (rs : List Row). before ++ rs) is ∙ append-nil before in

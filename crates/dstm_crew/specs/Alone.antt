@@ -1,5 +1,5 @@
 -- An alone round, step by step: one caller runs the first job left of each worker, the workers in rising order.
-use Rattle.std.specs.Prelude.{◌≡◌, ℕ, ◌+◌, ◌-◌, ◌<◌, ◌≤◌, Bool, true, false, List, [], ◌++◌, length, filter, reverse, None, IfSome, All}
+use Rattle.std.specs.Prelude.{◌≡◌, ◌⊎◌, ℕ, ◌+◌, ◌-◌, ◌<◌, ◌≤◌, Bool, true, false, List, [], ◌∷◌, ◌++◌, length, filter, reverse, None, IfSome, All}
 use Rattle.std.specs.List.{range_with_len}
 use Rattle.dstm_model.specs.Job.{apply_job}
 use Rattle.dstm_tables.specs.declared.tables.Caller.{Caller}
@@ -13,19 +13,20 @@ use Rattle.dstm_workload.specs.Workload.{IsValidWorkload}
 use Rattle.dstm_report.specs.declared.report.Row.{Row}
 use Rattle.dstm_report.specs.Lawful.{first_job, store_after}
 use Rattle.dstm_report.specs.Turns.{Turning}
-use Rattle.dstm_records.specs.Records.{count_done}
-use Rattle.dstm_records.specs.Rounds.{attempts_for, has_job, left_by, workers_left}
+use Rattle.dstm_records.specs.Records.{WasAsked, WasUsedUp, count_done, is_blocked, most_tries}
+use Rattle.dstm_records.specs.Rounds.{attempts_for, has_job, is_parallel, left_by, workers_left}
 use Rattle.dstm_records.specs.Running.{turns_behind}
 use Rattle.dstm_records.specs.Told.{AreTold}
 use Rattle.dstm_tables.specs.Tries.{GoesOn}
 use Rattle.dstm_crew.specs.declared.sweeping.Swept.{Swept}
 use Rattle.dstm_crew.specs.declared.sweeping.Swept.TheVariants as swept
 
--- a caller that can run alone behind these rows: it is the only one of its table and has done nothing yet, and its table
+-- A caller that can run alone behind these rows: the round is an alone one, the caller is the only one of its table and has done nothing yet, and its table
 -- is as large as the workers that have jobs left want it
 pub record CanRunAlone (workload : Workload) (number : ℕ) (table : Table) (k : Caller) (before : List Row)
     (turns : Turning) : Type 0 where
   pub valid : IsValidWorkload workload
+  pub alone : is_parallel number ≡ false
   pub earlier : All (λ row. row.round < number) before
   pub home : home_of k ≡ table
   pub only : callers_of (round_of k) ≡ 1
@@ -50,17 +51,33 @@ pub record Goes (workload : Workload) (number : ℕ) (first k : Caller) (before 
   pub told : AreTold workload before now (reverse (done k))
   pub in_round : All (λ row. row.round ≡ number) now
 
--- an alone round has ended: it has a row, and at most one of each worker whose job was not given up
+-- An alone round has ended: it has a row, and at most one of each worker whose job was not given up. No worker was passed over,
+-- and no attempt was wasted, unless the caller is used up.
 pub record HasRunAlone (workload : Workload) (number : ℕ) (first k : Caller) (before rows : List Row)
     (turns : Turning) : Type 0 where
   pub now : List Row
   pub goes : Goes workload number first k before rows now turns
   pub some : 0 < length now
   pub few : (worker : ℕ) → count_done worker now ≤ 1
+  pub asked :
+      (worker : ℕ) → worker < workload.workers → has_job (left_by workload before) worker ≡ true
+      → WasAsked workload before now worker ⊎ WasUsedUp (most_tries workload before now) (round_of k)
+  pub attempts :
+      (begun k ≤ most_tries workload before now) ⊎ WasUsedUp (most_tries workload before now) (round_of k)
 
 -- the workers from this one on that have jobs left
 abbrev pub still_waiting : Workload → (worker : ℕ) → List Job → List ℕ
 still_waiting workload worker left = filter (has_job left) (range_with_len worker (workload.workers - worker))
+
+-- behind these rows so many workers below this one have a first job that is blocked
+abbrev pub blocked_below : Workload → List Row → (worker : ℕ) → ℕ
+blocked_below workload rows worker = length (filter (is_blocked workload rows) (range_with_len 0 worker))
+
+-- how often a worker's first job was blocked, up to this worker behind all of the rows
+abbrev pub blocked_so_far : Workload → (before rows : List Row) → (worker : ℕ) → ℕ
+blocked_so_far workload before [] worker = blocked_below workload before worker
+blocked_so_far workload before (row ∷ rows) worker =
+    blocked_below workload before workload.workers + blocked_so_far workload (before ++ row ∷ []) rows worker
 
 -- Where a pass over the workers stands before a worker. `some` tells whether it has done a job.
 pub record Sweeps (workload : Workload) (number : ℕ) (first k : Caller) (before rows : List Row)
@@ -75,6 +92,12 @@ pub record Sweeps (workload : Workload) (number : ℕ) (first k : Caller) (befor
   pub none_done : some ≡ false → (w : ℕ) → count_done w now ≡ 0
   pub blocked : some ≡ false → (w : ℕ) → w < worker →
       IfSome (first_job w (left_by workload rows)) (λ job. apply_job job.ops (store_after workload rows) ≡ None)
+  -- each worker that had jobs left was asked, or its turn in the pass is still to come
+  pub asked :
+      (w : ℕ) → w < workload.workers → has_job (left_by workload before) w ≡ true
+      → WasAsked workload before now w ⊎ ((worker ≤ w) × (has_job (left_by workload rows) w ≡ true))
+  -- beside an attempt for each row there was one for each blocked job
+  pub attempts : begun k ≤ length now + blocked_so_far workload before now worker
   -- while there is no row, nothing is used up
   pub unused : now ≡ [] → used_by (round_of k) (number_of k) ≡ 0
   pub few_tries : now ≡ [] →

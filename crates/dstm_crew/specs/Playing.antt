@@ -1,9 +1,11 @@
 -- A round of a run, from where the run stands before it to where it stands behind it.
-use Rattle.std.specs.Prelude.{◌≡◌, ℕ, ◌+◌, ◌<◌, ◌≤◌, List, [], ◌∷◌, ◌++◌, length, vec_len, vec_capacity}
+use Rattle.std.specs.Prelude.{◌≡◌, ℕ, ◌+◌, ◌<◌, ◌≤◌, List, [], ◌∷◌, ◌++◌, length, vec_len, vec_capacity, All}
 use Rattle.dstm_workload.specs.declared.workload.Workload.{Workload}
 use Rattle.dstm_report.specs.declared.report.Row.{Row}
+use Rattle.dstm_report.specs.Lawful.{RowsAreGood}
 use Rattle.dstm_options.specs.declared.options.Options.{Options}
 use Rattle.dstm_tables.specs.declared.tables.Round.{Round}
+use Rattle.dstm_records.specs.Records.{AreRoundsOf}
 use Rattle.dstm_records.specs.Running.{AddsRound, Begins, turns_behind}
 use Rattle.dstm_crew.specs.declared.progress.Progress.{Progress}
 
@@ -23,3 +25,23 @@ pub record HasPlayed (workload : Workload) (options : Options) (number : ℕ) (o
   pub rounds_are : new.rounds.items ≡ old.rounds.items ++ closed ∷ []
   pub adds : AddsRound workload options number old.rows.items old.values.items closed now new.values.items
   pub turns_are : new.turns ≡ turns_behind workload new.rows.items
+
+-- a round was broken off: no record was added, and all rows that were added are of it
+pub record WasBrokenOff (number : ℕ) (old new : Progress) : Type 0 where
+  pub none : new.rounds.items ≡ old.rounds.items
+  pub unfinished : List Row
+  pub rows_are : new.rows.items ≡ old.rows.items ++ unfinished
+  pub in_round : All (λ row. row.round ≡ number) unfinished
+
+-- A run has come so far: behind the records that were there stand those of its first rounds, from the values on with which it
+-- began. They stand for its rows, but for those of one more round that was broken off.
+pub record HasCome (workload : Workload) (options : Options) (old new : Progress) : Type 0 where
+  pub more : List Round
+  pub behind : new.rounds.items ≡ old.rounds.items ++ more
+  pub rows : List Row
+  pub good : RowsAreGood workload [] rows
+  pub each : AreRoundsOf workload options rows 0 [] old.values.items more
+  pub all_rows : All (λ row. row.round < length more) rows
+  pub unfinished : List Row
+  pub rows_are : new.rows.items ≡ rows ++ unfinished
+  pub in_round : All (λ row. row.round ≡ length more) unfinished

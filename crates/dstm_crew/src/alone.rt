@@ -6,7 +6,7 @@ ghost use Rattle.dstm_records.specs.Records.{seed_for};
 ghost use Rattle.dstm_records.specs.Rounds.{is_parallel};
 ghost use Rattle.dstm_tables.specs.Callers.{CameByCalls, HasSeed};
 ghost use Rattle.dstm_crew.specs.Opened.{IsOpened, with_jobs};
-ghost use Rattle.dstm_crew.specs.Playing.{CanPlay, HasPlayed};
+ghost use Rattle.dstm_crew.specs.Playing.{CanPlay, HasPlayed, WasBrokenOff};
 
 use crate::play::Play;
 use crate::progress::Progress;
@@ -28,7 +28,8 @@ struct Waiting {
     first: u32,
 }
 
-// Plays an alone round: one caller runs the first job left of each worker. Where memory runs out no record was added.
+// Plays an alone round: one caller runs the first job left of each worker. Nothing fails behind the
+// table's close.
 pub(crate) fn play_alone<G>(
     alloc: Global,
     play: &Play<'_, G>,
@@ -38,7 +39,7 @@ pub(crate) fn play_alone<G>(
     requires can { CanPlay play.now.workload.now number progress.old }
     requires alone { is_parallel number ≡ false }
     ensures played { OnOk result (HasPlayed play.now.workload.now play.now.options.now number progress.old progress.new) }
-    ensures none { OnErr result (progress.new.rounds.items ≡ progress.old.rounds.items) }
+    ensures broken_off { OnErr result (WasBrokenOff number progress.old progress.new) }
 {
     let waiting = count_waiting(&progress.turns, play.workload.workers);
     let values = replace(&mut progress.values, Vec::new(alloc));

@@ -3,7 +3,7 @@ ghost use Rattle.dstm_workload.specs.Workload.{IsValidWorkload};
 ghost use Rattle.dstm_report.specs.Lawful.{IsLawful, RowsAreGood, declared_as, store_after};
 ghost use Rattle.dstm_store.specs.Opening.{opening_values};
 ghost use Rattle.dstm_store.specs.Whole.{StandsFor};
-ghost use Rattle.dstm_records.specs.Records.{StandFor};
+ghost use Rattle.dstm_records.specs.Records.{AreFirstRounds, StandFor};
 ghost use Rattle.dstm_records.specs.Running.{added, turns_behind, Begins, IsClosed};
 
 use crate::gate::Gate;
@@ -22,7 +22,7 @@ use std::thread::Threads;
 
 /// Runs a workload round by round, and adds the record of each round that was closed, also where memory runs out behind it.
 /// The report is lawful, the records that were added stand for it, and in each of their logs whatever an attempt has seen
-/// are values of one moment.
+/// are values of one moment. Where memory runs out they are those of the first rounds, one behind the other.
 pub fn run_crew<R: Threads + Sync, G: Gate + Sync>(
     rt: &R,
     alloc: Global,
@@ -36,6 +36,7 @@ pub fn run_crew<R: Threads + Sync, G: Gate + Sync>(
     ensures behind { rounds.new ≡ rounds.old ++ added rounds.old rounds.new }
     ensures stand { IfOk result (StandFor workload.now options.now (added rounds.old rounds.new)) }
     ensures closed { All (IsClosed workload.now.layout) (added rounds.old rounds.new) }
+    ensures first { AreFirstRounds workload.now options.now (added rounds.old rounds.new) }
 {
     let play = Play {
         workload,

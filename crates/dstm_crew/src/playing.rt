@@ -1,6 +1,6 @@
 ghost use Rattle.std.specs.Prelude.{◌≡◌, ◌≤◌, ◌+◌, true, length, vec_len, vec_capacity, OnOk, OnErr};
 ghost use Rattle.dstm_records.specs.Rounds.{is_parallel};
-ghost use Rattle.dstm_crew.specs.Playing.{CanPlay, HasPlayed};
+ghost use Rattle.dstm_crew.specs.Playing.{CanPlay, HasPlayed, WasBrokenOff};
 
 use crate::collecting::collect;
 use crate::gate::Gate;
@@ -12,8 +12,8 @@ use std::alloc::{AllocError, Global};
 use std::mem::replace;
 use std::thread::Threads;
 
-/// Plays a parallel round. In round 0 each worker passes the gate. Nothing fails behind the table's close: where memory
-/// runs out no record was added.
+/// Plays a parallel round. In round 0 each worker passes the gate. Nothing fails behind the table's close: a table that was
+/// closed has its record.
 pub fn play_parallel<R: Threads + Sync, G: Gate + Sync>(
     rt: &R,
     alloc: Global,
@@ -25,7 +25,7 @@ pub fn play_parallel<R: Threads + Sync, G: Gate + Sync>(
     requires parallel { is_parallel number ≡ true }
     ensures played { OnOk result (HasPlayed play.now.workload.now play.now.options.now number progress.old progress.new) }
     ensures room { OnOk result (vec_len progress.new.rows + length progress.new.turns.left ≤ vec_capacity progress.new.rows) }
-    ensures none { OnErr result (progress.new.rounds.items ≡ progress.old.rounds.items) }
+    ensures broken_off { OnErr result (WasBrokenOff number progress.old progress.new) }
 {
     let shares = shares_of(alloc, play.workload, number, &progress.turns)?;
     let next = vec![in alloc; 0; shares.len()]?;

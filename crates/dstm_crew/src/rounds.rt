@@ -1,6 +1,6 @@
 ghost use Rattle.std.specs.Prelude.{◌≡◌, [], OnOk, OnErr};
-ghost use Rattle.dstm_records.specs.Running.{added, turns_behind, AddsClosed, Begins, HasEnded};
-ghost use Rattle.dstm_crew.specs.Playing.{CanPlay, HasPlayed};
+ghost use Rattle.dstm_records.specs.Running.{added, turns_behind, Begins, HasEnded};
+ghost use Rattle.dstm_crew.specs.Playing.{CanPlay, HasCome, HasPlayed, WasBrokenOff};
 
 use crate::alone::play_alone;
 use crate::gate::Gate;
@@ -11,7 +11,7 @@ use std::alloc::{AllocError, Global};
 use std::thread::Threads;
 
 // Plays rounds until no job is left, and at least one. There is room for the rows of all jobs left and for the record
-// before a round is played.
+// before a round is played. Wherever memory runs out, the records are those of the rounds so far.
 pub(crate) fn play_rounds<R: Threads + Sync, G: Gate + Sync>(
     rt: &R,
     alloc: Global,
@@ -23,7 +23,7 @@ pub(crate) fn play_rounds<R: Threads + Sync, G: Gate + Sync>(
     requires turns { progress.old.turns ≡ turns_behind play.now.workload.now [] }
     ensures ended { OnOk result (HasEnded play.now.workload.now play.now.options.now progress.old.values.items
         (added progress.old.rounds.items progress.new.rounds.items) progress.new.rows.items progress.new.values.items) }
-    ensures closed { AddsClosed play.now.workload.now.layout progress.old.rounds.items progress.new.rounds.items }
+    ensures come { HasCome play.now.workload.now play.now.options.now progress.old progress.new }
 {
     let jobs = play.workload.jobs.as_slice();
     let mut number = 0;
@@ -38,7 +38,7 @@ pub(crate) fn play_rounds<R: Threads + Sync, G: Gate + Sync>(
     Ok(())
 }
 
-// Plays a round: every other one is parallel. Where memory runs out no record was added.
+// Plays a round: every other one is parallel. Where memory runs out it is broken off.
 fn play_round<R: Threads + Sync, G: Gate + Sync>(
     rt: &R,
     alloc: Global,
@@ -48,7 +48,7 @@ fn play_round<R: Threads + Sync, G: Gate + Sync>(
 ) -> Result<(), AllocError>
     requires { CanPlay play.now.workload.now number progress.old }
     ensures played { OnOk result (HasPlayed play.now.workload.now play.now.options.now number progress.old progress.new) }
-    ensures none { OnErr result (progress.new.rounds.items ≡ progress.old.rounds.items) }
+    ensures broken_off { OnErr result (WasBrokenOff number progress.old progress.new) }
 {
     if number % 2 == 0 {
         play_parallel(rt, alloc, play, number, progress)

@@ -1,6 +1,6 @@
 -- One more row of a round: the rows so far are good, they tell of the transactions so far, and what these left stands for
 -- the store after them.
-use Rattle.std.proofs.Common.{◌≡◌, ℕ, false, List, [], ◌∷◌, ◌++◌, Option, None, Some, refl, ap, sym, subst, ◌∙◌, append_assoc, true≢false}
+use Rattle.std.proofs.Common.{◌≡◌, ℕ, true, false, List, [], ◌∷◌, ◌++◌, Option, None, Some, refl, ap, sym, subst, ◌∙◌, append_assoc, true≢false}
 use Rattle.std.specs.Prelude.{IfSome}
 use Rattle.std.proofs.lemmas.List.{append-nil}
 use Rattle.dstm_model.specs.declared.value.Val.{Val}
@@ -15,7 +15,7 @@ use Rattle.dstm_model.specs.Job.{JobOutcome, apply_job}
 use Rattle.dstm_records.specs.Told.{IsGivenUp}
 use Rattle.dstm_tables.specs.Answers.{IsAnsweredBy, entries_of}
 use Rattle.dstm_tables.proofs.Entries.{entries_push}
-use Rattle.dstm_records.specs.Records.{is_given_up, job_of, TellOf, TellsOf}
+use Rattle.dstm_records.specs.Records.{GiveUpRightly, IsGivenUpRightly, is_given_up, job_of, TellOf, TellsOf}
 use Rattle.dstm_records.proofs.Follows.{tells, good_row, store_push, TellOf-push, agrees_next}
 
 -- where the rows of a round stand; `left` are the transactions that no row tells of yet
@@ -24,6 +24,7 @@ pub record Collected (workload : Workload) (before rows : List Row) (start : Lis
   pub tell : TellOf workload before rows start done
   pub stands : StandsFor workload.layout (state_after start (entries_of done)) (store_after workload (before ++ rows))
   pub legal : IsLegal start (entries_of done ++ entries_of left)
+  pub given_up : GiveUpRightly workload before rows
 
 pub at_start : (workload : Workload) (before : List Row) (start : List Val) (all : List Committed) →
     StandsFor workload.layout start (store_after workload before) → IsLegal start (entries_of all) →
@@ -33,6 +34,7 @@ at_start workload before start all stands legal = record {
   tell = tt;
   stands = subst (λ (b : List Row). StandsFor workload.layout start (store_after workload b)) (sym (append-nil before)) stands;
   legal = legal;
+  given_up = tt;
 }
 
 good_push : (workload : Workload) (before rows : List Row) (row : Row) → RowsAreGood workload before rows →
@@ -45,6 +47,20 @@ good_push workload before (first ∷ rows) row good next = (
       (subst (λ (b : List Row). IsGoodRow workload b row) (sym (append_assoc before (first ∷ []) rows)) next),
 )
 
+rightly_push : (workload : Workload) (before rows : List Row) (row : Row) → GiveUpRightly workload before rows →
+    (is_given_up row.replies ≡ true → IsGivenUpRightly workload (before ++ rows) row) →
+    GiveUpRightly workload before (rows ++ row ∷ [])
+rightly_push workload before [] row given next = (
+  subst (λ (b : List Row). is_given_up row.replies ≡ true → IsGivenUpRightly workload b row) (append-nil before) next,
+  tt,
+)
+rightly_push workload before (first ∷ rows) row given next = (
+  given.0,
+  rightly_push workload (before ++ first ∷ []) rows row given.1
+      (subst (λ (b : List Row). is_given_up row.replies ≡ true → IsGivenUpRightly workload b row)
+      (sym (append_assoc before (first ∷ []) rows)) next),
+)
+
 state_push : (start : List Val) (done : List Entry) (next : Entry) →
     state_after start (done ++ next ∷ []) ≡ with_writes (state_after start done) next.writes
 state_push start [] next = refl
@@ -55,8 +71,9 @@ push_row : (workload : Workload) (before rows : List Row) (start : List Val) (do
     (row : Row) → Collected workload before rows start done (next ∷ left) →
     TellsOf workload (before ++ rows) row (state_after start (entries_of done)) next →
     IsGoodRow workload (before ++ rows) row →
+    (is_given_up row.replies ≡ true → IsGivenUpRightly workload (before ++ rows) row) →
     Collected workload before (rows ++ row ∷ []) start (done ++ next ∷ []) left
-push_row workload before rows start done left next row c told good =
+push_row workload before rows start done left next row c told good given =
     let map = state_after start (entries_of done) in
     let after : state_after start (entries_of (done ++ next ∷ [])) ≡ with_writes map next.entry.writes =
     ap (state_after start) (entries_push done next) ∙ state_push start (entries_of done) next.entry in
@@ -68,6 +85,7 @@ push_row workload before rows start done left next row c told good =
           (append_assoc before rows (row ∷ [])) told.store);
       legal = subst (IsLegal start) (sym (ap (λ (es : List Entry). es ++ entries_of left) (entries_push done next)
           ∙ append_assoc (entries_of done) (next.entry ∷ []) (entries_of left))) c.legal;
+      given_up = rightly_push workload before rows row c.given_up given;
     }
 
 -- one more row, of a transaction that has done its job
@@ -84,6 +102,7 @@ row_more workload before rows start done left next row job c turn line is number
     push_row workload before rows start done left next row c
     (tells workload (before ++ rows) row map next job c.stands agrees number is kept answered)
     (good_row workload (before ++ rows) row map next.entry job c.stands agrees turn line behind answered)
+    (λ given. absurd (true≢false (sym given ∙ kept)))
 
 -- one more row, of a transaction that gave its job up
 pub row_given_up : (workload : Workload) (before rows : List Row) (start : List Val) (done left : List Committed)
@@ -118,3 +137,4 @@ row_given_up workload before rows start done left next row job c turn line is nu
       replies = subst (λ (o : Option JobOutcome). AnswersWhere (AllBlocked workload (before ++ rows)) o row.replies)
           (sym blocked) (given.replies, given.blocked);
     })
+    (λ _. given.rightly)

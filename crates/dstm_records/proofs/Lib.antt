@@ -1,4 +1,6 @@
+pub mod First
 pub mod Follows
+pub mod Closing
 pub mod Collecting
 pub mod MoreRounds
 pub mod Running

@@ -1,7 +1,7 @@
 -- What it says that the records of rounds stand for a report: its rows are the transactions that committed on those
 -- tables, one for one, and no round was passed over without need. What a record tells stands in the words on tables.
 use Rattle.std.specs.List.{slice_get}
-use Rattle.std.specs.Prelude.{◌≡◌, ℕ, ◌+◌, ◌%◌, ◌^◌, ◌<◌, ◌≤◌, ◌==◌, ◌&&◌, Bool, true, false, not, List, [], ◌∷◌, ◌++◌, length, filter, find, zip, Option, Some, IfSome, IsSomeAnd, All, Contains}
+use Rattle.std.specs.Prelude.{◌≡◌, ℕ, ◌+◌, ◌%◌, ◌^◌, ◌<◌, ◌≤◌, ◌==◌, ◌&&◌, Bool, true, false, not, List, [], ◌∷◌, ◌++◌, length, filter, find, zip, Option, Some, IfSome, IsSomeAnd, All, Contains, ◌⊎◌, None, is_none}
 use Rattle.dstm_model.specs.declared.value.Val.{Val}
 use Rattle.dstm_model.specs.declared.layout.Layout.{Layout}
 use Rattle.dstm_model.specs.declared.reply.Reply.{Reply}
@@ -18,7 +18,7 @@ use Rattle.dstm_workload.specs.declared.workload.Job.{Job}
 use Rattle.dstm_workload.specs.declared.workload.Workload.{Workload}
 use Rattle.dstm_report.specs.declared.report.Row.{Row}
 use Rattle.dstm_report.specs.declared.report.Report.{Report}
-use Rattle.dstm_report.specs.Lawful.{first_job, store_after}
+use Rattle.dstm_report.specs.Lawful.{RowsAreGood, first_job, store_after}
 use Rattle.dstm_options.specs.declared.options.Engine.TheVariants as engine
 use Rattle.dstm_options.specs.declared.options.Options.{Options}
 use Rattle.dstm_tables.specs.declared.tables.Round.{Round}
@@ -26,8 +26,8 @@ use Rattle.dstm_tables.specs.declared.tables.Round.TheVariants.{Dstm, Tl2}
 use Rattle.dstm_tables.specs.Answers.{KeepsFew}
 use Rattle.dstm_tables.specs.Jobs.{HadToStop, NoneWasted}
 use Rattle.dstm_tables.specs.Tells as known
-use Rattle.dstm_tables.specs.Tells.{ByCalls, IsOf, callers_of, committed_of, layout_of, start_of, values_of}
-use Rattle.dstm_records.specs.Rounds.{is_parallel, rows_in, left_by, has_job, workers_in, workers_left, most_jobs, attempts_for, locators_for}
+use Rattle.dstm_tables.specs.Tells.{ByCalls, IsOf, callers_of, committed_of, layout_of, start_of, values_of, CannotBegin, IsPast, begun_of}
+use Rattle.dstm_records.specs.Rounds.{is_parallel, rows_in, left_by, has_job, workers_in, workers_left, most_jobs, attempts_for, locators_for, all_workers}
 
 -- its table has the store's law and objects, and what happened on it is a run of its engine
 pub record IsRun (layout : Layout) (round : Round) : Type 0 where
@@ -143,6 +143,44 @@ pub record IsParallel (workload : Workload) (options : Options) (number : ℕ) (
 abbrev pub count_done : ℕ → List Row → ℕ
 count_done worker rows = length (filter (λ row. (row.worker == worker) && not (is_given_up row.replies)) rows)
 
+-- there is a job, and it is blocked in the store
+abbrev pub is_blocked_in : Store → Option Job → Bool
+is_blocked_in store None = false
+is_blocked_in store (Some job) = is_none (apply_job job.ops store)
+
+-- behind these rows the first job left of a worker is blocked
+abbrev pub is_blocked : Workload → List Row → ℕ → Bool
+is_blocked workload rows worker = is_blocked_in (store_after workload rows) (next_of workload rows worker)
+
+-- at some time in a round the first job left of a worker was blocked: behind the first of its rows
+pub record WasBlocked (workload : Workload) (before rows : List Row) (worker : ℕ) : Type 0 where
+  pub first : List Row
+  pub rest : List Row
+  pub are : rows ≡ first ++ rest
+  pub blocked : is_blocked workload (before ++ first) worker ≡ true
+
+-- a worker was not passed over: a job of it was done, or its first job was blocked
+abbrev pub WasAsked : Workload → (before rows : List Row) → ℕ → Type 0
+WasAsked workload before rows worker = (0 < count_done worker rows) ⊎ WasBlocked workload before rows worker
+
+-- how often a worker's first job is blocked, where each is looked at before the rows and behind each of them
+abbrev pub count_blocked : Workload → (before rows : List Row) → ℕ
+count_blocked workload before [] = length (filter (is_blocked workload before) (all_workers workload))
+count_blocked workload before (row ∷ rows) =
+    length (filter (is_blocked workload before) (all_workers workload))
+    + count_blocked workload (before ++ row ∷ []) rows
+
+-- the attempts of an alone round that are of use: one for each row, and one for each time that a worker's first job is blocked
+abbrev pub most_tries : Workload → (before rows : List Row) → ℕ
+most_tries workload before rows = length rows + count_blocked workload before rows
+
+-- after no more attempts than these the only caller of a table could begin no other one
+pub record WasUsedUp (most : ℕ) (round : Round) : Type 0 where
+  pub earlier : Round
+  pub past : IsPast earlier round
+  pub none_left : CannotBegin earlier 0
+  pub few : begun_of earlier 0 ≤ most
+
 -- an alone round: its one caller runs at most one job of each worker, and some job
 pub record IsAlone (workload : Workload) (options : Options) (before rows : List Row) (round : Round) : Type 0 where
   pub one_caller : callers_of round ≡ 1
@@ -150,6 +188,27 @@ pub record IsAlone (workload : Workload) (options : Options) (before rows : List
   pub few : (worker : ℕ) → count_done worker rows ≤ 1
   -- the caller has made its events by calls, from the generator of the seed of the least worker that has jobs left on
   pub calls : IfSome (slice_get (workers_left workload before) 0) (λ worker. ByCalls (seed_for options worker) round 0)
+  -- no worker that had jobs left was passed over, unless the caller was used up
+  pub asked :
+      (worker : ℕ) → worker < workload.workers → has_job (left_by workload before) worker ≡ true
+      → WasAsked workload before rows worker ⊎ WasUsedUp (most_tries workload before rows) round
+  -- no attempt was wasted
+  pub attempts :
+      (begun_of round 0 ≤ most_tries workload before rows) ⊎ WasUsedUp (most_tries workload before rows) round
+
+-- ---- jobs that are given up
+
+-- a job is given up in an alone round only, and it is that of the least worker that has jobs left
+pub record IsGivenUpRightly (workload : Workload) (before : List Row) (row : Row) : Type 0 where
+  pub alone : is_parallel row.round ≡ false
+  pub least : (worker : ℕ) → worker < row.worker → next_of workload before worker ≡ None
+
+-- each of the rows whose job was given up
+abbrev pub GiveUpRightly : Workload → (before rows : List Row) → Type 0
+GiveUpRightly workload before [] = Unit {0}
+GiveUpRightly workload before (row ∷ rows) =
+    (is_given_up row.replies ≡ true → IsGivenUpRightly workload before row)
+    × GiveUpRightly workload (before ++ row ∷ []) rows
 
 -- ---- early release
 
@@ -182,6 +241,8 @@ pub record IsRoundOf (workload : Workload) (options : Options) (number : ℕ) (b
   -- its workers ran beside one another, or one caller ran alone
   pub parallel : is_parallel number ≡ true → IsParallel workload options number before rows round
   pub alone : is_parallel number ≡ false → IsAlone workload options before rows round
+  -- jobs were given up in alone rounds only, those of the least workers
+  pub given_up : GiveUpRightly workload before rows
   -- with early release, walks along the list keep few reads
   pub released :
       IsReleasing options workload.version → is_parallel number ≡ true
@@ -200,3 +261,11 @@ pub record StandFor (workload : Workload) (options : Options) (rounds : List Rou
   pub some : 0 < length rounds
   pub each : AreRoundsOf workload options report.rows 0 [] (opening_values workload.layout) rounds
   pub all_rows : All (λ row. row.round < length rounds) report.rows
+
+-- The records are those of the first rounds of a run, wherever it ended: they stand for good rows, one behind the other, from
+-- the opening values on, and each row is of a round that has a record.
+pub record AreFirstRounds (workload : Workload) (options : Options) (rounds : List Round) : Type 0 where
+  pub rows : List Row
+  pub good : RowsAreGood workload [] rows
+  pub each : AreRoundsOf workload options rows 0 [] (opening_values workload.layout) rounds
+  pub all_rows : All (λ row. row.round < length rounds) rows

@@ -7,14 +7,17 @@ use Rattle.dstm_workload.specs.declared.workload.Workload.{Workload}
 use Rattle.dstm_report.specs.declared.report.Row.{Row}
 use Rattle.dstm_report.specs.Lawful.{AllBlocked, first_job}
 use Rattle.dstm_tables.specs.Answers.{IsAnsweredBy}
+use Rattle.dstm_records.specs.Records.{IsGivenUpRightly}
 use Rattle.dstm_records.specs.Rounds.{left_by}
 
--- a job is given up by a transaction that reads and writes nothing, where the first job left of each worker is blocked
+-- a job is given up rightly, by a transaction that reads and writes nothing, where the first job left of each worker is
+-- blocked
 pub record IsGivenUp (workload : Workload) (before : List Row) (row : Row) (done : Committed) : Type 0 where
   pub replies : row.replies ≡ Never ∷ []
   pub nothing_read : done.entry.reads ≡ []
   pub nothing_written : done.entry.writes ≡ []
   pub blocked : AllBlocked workload before
+  pub rightly : IsGivenUpRightly workload before row
 
 -- the row is of the first job left of its worker, and the transaction has done it or gave it up
 pub record IsTold (workload : Workload) (before : List Row) (row : Row) (done : Committed) : Type 0 where

@@ -1,11 +1,10 @@
-use Rattle.std.proofs.Common.{◌≡◌, ◌+◌, ◌<◌, true, List, nat_lt, length, rules, ap, sym, subst, ◌∙◌}
+use Rattle.std.proofs.Common.{◌≡◌, ◌+◌, ◌++◌, ◌<◌, true, List, nat_lt, length, refl, rules, ap, sym, subst, ◌∙◌}
 use Rattle.dstm_report.specs.declared.report.Row.{Row}
-use Rattle.dstm_tables.specs.declared.tables.Round.{Round}
-use Rattle.dstm_records.specs.Running.{AddsClosed, turns_behind}
+use Rattle.dstm_records.specs.Running.{turns_behind}
 use Rattle.dstm_records.proofs.Running.{Reached, at_first, rounds_left}
 use Rattle.dstm_crew.specs.declared.progress.Progress.{Progress}
 use Rattle.dstm_crew.specs.Playing.{CanPlay}
-use Rattle.dstm_crew.proofs.Played.{Stands, all_ended, can_play, closed_so_far, one_round_more, round_falls, with_room}
+use Rattle.dstm_crew.proofs.Played.{Stands, all_ended, can_play, come_so_far, nothing_played, one_round_more, round_falls, with_room}
 use Rattle.dstm_crew.proofs.rounds.play_rounds.Goals as goal
 
 pub loop-more-init : goal.loop-more-init
@@ -20,18 +19,24 @@ loop-more-init g c =
           c.requires.turns;
     }
 
-pub returns-in_err-reserve-clause-closed : goal.returns-in_err-reserve-clause-closed
-returns-in_err-reserve-clause-closed g c =
-    closed_so_far c.args.play.now.workload.now c.args.play.now.options.now c.args.progress.now.values.items
+pub returns-in_err-reserve-clause-come : goal.returns-in_err-reserve-clause-come
+returns-in_err-reserve-clause-come g c =
+    let q : Progress = record c.loop-more.progress { rows = c.reserve.new.self } in
+    come_so_far c.args.play.now.workload.now c.args.play.now.options.now c.args.progress.now.values.items
     c.args.progress.now.rounds.items c.loop-more.progress c.loop-more.number c.loop-more.more c.loop-more.invariant.reached
+    c.args.progress.now refl refl q
+    (nothing_played c.loop-more.number c.loop-more.progress q refl c.reserve.ensures.items)
 
-pub returns-in_err-reserve-2-clause-closed : goal.returns-in_err-reserve-2-clause-closed
-returns-in_err-reserve-2-clause-closed g c =
-    let old = c.args.progress.now.rounds.items in
-    subst (λ (rounds : List Round). AddsClosed c.args.play.now.workload.now.layout old rounds)
-    (sym c.reserve-in-loop-more.ensures.items)
-    (closed_so_far c.args.play.now.workload.now c.args.play.now.options.now c.args.progress.now.values.items old
-    c.loop-more.progress c.loop-more.number c.loop-more.more c.loop-more.invariant.reached)
+pub returns-in_err-reserve-2-clause-come : goal.returns-in_err-reserve-2-clause-come
+returns-in_err-reserve-2-clause-come g c =
+    let q : Progress = record c.loop-more.progress {
+      rows = c.reserve.new.self;
+      rounds = c.reserve-in-loop-more.new.self;
+    } in
+    come_so_far c.args.play.now.workload.now c.args.play.now.options.now c.args.progress.now.values.items
+    c.args.progress.now.rounds.items c.loop-more.progress c.loop-more.number c.loop-more.more c.loop-more.invariant.reached
+    c.args.progress.now refl refl q
+    (nothing_played c.loop-more.number c.loop-more.progress q c.reserve-in-loop-more.ensures.items c.reserve.ensures.items)
 
 pub play_round-requires : goal.play_round-requires
 play_round-requires g c =
@@ -54,13 +59,18 @@ play_round-requires g c =
     (search rules) (search rules) in
     (c.type_bounds.sync-R, (c.type_bounds.sync-G, can))
 
-pub returns-in_err-play_round-clause-closed : goal.returns-in_err-play_round-clause-closed
-returns-in_err-play_round-clause-closed g c =
-    let old = c.args.progress.now.rounds.items in
-    subst (λ (rounds : List Round). AddsClosed c.args.play.now.workload.now.layout old rounds)
-    (sym (c.in_err-play_round.ensures.none ∙ c.reserve-in-loop-more.ensures.items))
-    (closed_so_far c.args.play.now.workload.now c.args.play.now.options.now c.args.progress.now.values.items old
-    c.loop-more.progress c.loop-more.number c.loop-more.more c.loop-more.invariant.reached)
+pub returns-in_err-play_round-clause-come : goal.returns-in_err-play_round-clause-come
+returns-in_err-play_round-clause-come g c =
+    let broken = c.in_err-play_round.ensures.broken_off in
+    come_so_far c.args.play.now.workload.now c.args.play.now.options.now c.args.progress.now.values.items
+    c.args.progress.now.rounds.items c.loop-more.progress c.loop-more.number c.loop-more.more c.loop-more.invariant.reached
+    c.args.progress.now refl refl c.play_round.new.progress
+    (record {
+      none = broken.none ∙ c.reserve-in-loop-more.ensures.items;
+      unfinished = broken.unfinished;
+      rows_are = broken.rows_are ∙ ap (λ (rows : List Row). rows ++ broken.unfinished) c.reserve.ensures.items;
+      in_round = broken.in_round;
+    })
 
 pub loop-more-preserved : goal.loop-more-preserved
 loop-more-preserved g c =
@@ -85,10 +95,12 @@ loop-more-preserved g c =
       turned = played.turns_are;
     }
 
-pub returns-clause-closed : goal.returns-clause-closed
-returns-clause-closed g c =
-    closed_so_far c.args.play.now.workload.now c.args.play.now.options.now c.args.progress.now.values.items
+pub returns-clause-come : goal.returns-clause-come
+returns-clause-come g c =
+    come_so_far c.args.play.now.workload.now c.args.play.now.options.now c.args.progress.now.values.items
     c.args.progress.now.rounds.items c.loop-more.progress c.loop-more.number c.loop-more.more c.loop-more.invariant.reached
+    c.args.progress.now refl refl c.loop-more.progress
+    (nothing_played c.loop-more.number c.loop-more.progress c.loop-more.progress refl refl)
 
 pub returns-clause-ended : goal.returns-clause-ended
 returns-clause-ended g c =

@@ -21,7 +21,7 @@ returns-in-Done g c =
     let swept = c.in-Done.ensures.swept c.args.caller.now c.args.rows.now.items c.args.turns.now c.requires.can
     c.loop-turns.invariant.2 in
     end_done c.args.play.now.workload.now c.args.number c.args.table.now c.args.caller.now c.args.rows.now.items c.args.turns.now
-    c.requires.can c.sweep.new.caller c.sweep.new.rows.items c.sweep.new.turns c.args.play.now.workload.now.workers swept
+    c.requires.can c.sweep.new.caller c.sweep.new.rows.items c.sweep.new.turns swept
 
 pub returns-in-Spent : goal.returns-in-Spent
 returns-in-Spent g c =
@@ -81,7 +81,7 @@ loop-turns-preserved g c =
     let goes : Sweeps workload c.args.number c.args.caller.now c.give_up.new.caller c.args.rows.now.items (rows ++ row ∷ [])
     c.push_row.new.turns 0 false =
     step_given_up workload c.args.number c.args.table.now c.args.caller.now c.args.rows.now.items c.args.turns.now
-    c.requires.can c.sweep.new.caller c.give_up.new.caller rows turns c.push_row.new.turns job drawn row turn gave refl refl
+    c.requires.can c.sweep.new.caller c.give_up.new.caller rows turns c.push_row.new.turns job drawn row turn c.in-Some.ensures.least gave refl refl
     refl refl never c.push_row.ensures.turns swept in (
       subst (λ (rs : List Row). MayStep workload c.args.table.now c.give_up.new.caller rs c.push_row.new.turns)
           (sym c.push_row.ensures.rows) may,

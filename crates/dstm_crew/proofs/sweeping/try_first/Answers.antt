@@ -91,7 +91,7 @@ returns-in-Done-clause-stepped g c first before begun some can sweeps =
     (c.args.worker + 1) true)
     (sym c.push_row.ensures.rows)
     (step_done workload c.args.number c.args.table.now first before begun can c.of-style.result c.args.caller.now
-    c.try_alone.new.caller rows c.args.turns.now c.push_row.new.turns c.args.worker some job c.in-Done.finished row own c.in-Done.ensures
+    c.try_alone.new.caller rows c.args.turns.now c.push_row.new.turns c.args.worker some job c.in-Done.finished row c.requires.worker own c.in-Done.ensures
     (first_own c.args.worker left job own) refl refl refl refl c.push_row.ensures.turns sweeps)
 
 pub returns-in-Blocked-clause-stepped : goal.returns-in-Blocked-clause-stepped
