@@ -15,7 +15,11 @@ use Rattle.dstm_command.specs.declared.command.Command.{Command}
 use Rattle.dstm_command.specs.declared.command.Command.TheVariants.{Run, Check, Gen, Demo}
 use Rattle.dstm_model.specs.declared.layout.Layout.{Layout}
 use Rattle.dstm_tables.specs.declared.tables.Round.{Round}
+use Rattle.dstm_records.specs.Records.{AreFirstRounds}
 use Rattle.dstm_records.specs.Running.{IsClosed}
+use Rattle.dstm_records.proofs.First.{first_closed, no_first_rounds}
+use Rattle.dstm_workload.specs.declared.workload.Workload.{Workload}
+use Rattle.dstm_options.specs.declared.options.Options.{Options}
 use Rattle.dstm_tables.specs.Tells.{SightsAgree}
 use Rattle.dstm_report.specs.declared.verdict.Verdict.{Verdict}
 use Rattle.dstm_report.specs.declared.verdict.Verdict.TheVariants.{Lawful, NotLawful}
@@ -23,7 +27,7 @@ use Rattle.dstm_cli.specs.declared.failure.Failure.{Failure}
 use Rattle.dstm_cli.specs.declared.failure.Failure.TheVariants.{Usage, ReadFault, TooLong, Refused, NoReport}
 use Rattle.dstm_cli.specs.declared.failure.Failure.TheVariants.{ReportForm, WriteFault, Memory}
 use Rattle.dstm_cli.specs.Failure.{status_of, TakesOrFaults}
-use Rattle.dstm_cli.specs.Command.{run_input, check_input, reads_input, Refuses, verdict_status, workload_for, Answers, CanAnswer, WereClosed}
+use Rattle.dstm_cli.specs.Command.{run_input, check_input, reads_input, Refuses, verdict_status, workload_for, default_options, Answers, CanAnswer, WereClosed}
 use Rattle.dstm_cli.specs.Ending.{Happened, EndsAs}
 
 -- a sink took a text, or met a fault
@@ -99,7 +103,7 @@ answered-refuses command (Some input) after records text status R answers =
 
 -- ---- the records that a command adds
 
--- where there are none, they are those of closed rounds
+-- where there are none, they are those of the first rounds of a run
 pub none_closed : (command : Option Command) (left : Option (List ℕ) × Option (List ℕ)) (records : List Round) →
     records ≡ [] → WereClosed command left records
 none_closed None left records none = none
@@ -107,31 +111,33 @@ none_closed (Some (Run options)) left records none = inl none
 none_closed (Some Check) left records none = none
 none_closed (Some (Gen spec)) left records none = none
 none_closed (Some (Demo spec)) left records none =
-    let layout = (workload_for spec).layout in
-    subst (All (IsClosed layout)) (sym none) (All-from_recursion (IsClosed layout) [] tt)
+    subst (AreFirstRounds (workload_for spec) default_options) (sym none) (no_first_rounds (workload_for spec) default_options)
 
 each_sight : (layout : Layout) (records : List Round) → AllByRecursion (IsClosed layout) records →
     AllByRecursion SightsAgree records
 each_sight layout [] closed = tt
 each_sight layout (round ∷ records) closed = (closed.0.sights, each_sight layout records closed.1)
 
-all_sights : (layout : Layout) (records : List Round) → All (IsClosed layout) records → All SightsAgree records
-all_sights layout records closed =
+all_sights : (workload : Workload) (options : Options) (records : List Round) → AreFirstRounds workload options records →
+    All SightsAgree records
+all_sights workload options records first =
+    let layout = workload.layout in
     All-from_recursion SightsAgree records
-    (each_sight layout records (recursion_from_All (IsClosed layout) records closed))
+    (each_sight layout records
+    (recursion_from_All (IsClosed layout) records (first_closed workload options records first)))
 
 no_sights : (records : List Round) → records ≡ [] → All SightsAgree records
 no_sights records none = subst (All SightsAgree) (sym none) (All-from_recursion SightsAgree [] tt)
 
--- what attempts saw in closed rounds
+-- what attempts saw in the first rounds of a run
 pub closed_sights : (command : Option Command) (left : Option (List ℕ) × Option (List ℕ)) (records : List Round) →
     WereClosed command left records → All SightsAgree records
 closed_sights None left records closed = no_sights records closed
 closed_sights (Some (Run options)) left records (inl none) = no_sights records none
-closed_sights (Some (Run options)) left records (inr closed) = all_sights closed.0.layout records closed.1.0
+closed_sights (Some (Run options)) left records (inr closed) = all_sights closed.0 options records closed.1.0
 closed_sights (Some Check) left records closed = no_sights records closed
 closed_sights (Some (Gen spec)) left records closed = no_sights records closed
-closed_sights (Some (Demo spec)) left records closed = all_sights (workload_for spec).layout records closed
+closed_sights (Some (Demo spec)) left records closed = all_sights (workload_for spec) default_options records closed
 
 -- a failure that is told with 1, 2 or 3 has left no records
 pub failed-unplayed : (command : Option Command) (what : Happened) (failure : Failure) →

@@ -24,8 +24,7 @@ use Rattle.dstm_report.specs.Lawful.{IsLawful, Tells}
 use Rattle.dstm_options.specs.declared.options.Engine.TheVariants.{Dstm}
 use Rattle.dstm_options.specs.declared.options.Options.{Options}
 use Rattle.dstm_tables.specs.declared.tables.Round.{Round}
-use Rattle.dstm_records.specs.Records.{StandFor}
-use Rattle.dstm_records.specs.Running.{IsClosed}
+use Rattle.dstm_records.specs.Records.{AreFirstRounds, StandFor}
 use Rattle.dstm_cli.specs.declared.failure.Failure.{Failure}
 use Rattle.dstm_cli.specs.declared.failure.Failure.TheVariants.{TooLong, Refused, NoReport, ReportForm}
 
@@ -149,13 +148,13 @@ Answers (Some (Gen spec)) left records text status =
     (records ≡ []) × (status ≡ 0) × (text ≡ text_of_workload (workload_for spec))
 Answers (Some (Demo spec)) left records text status = (status ≡ 0) × IsDemo spec records text
 
--- The records are those of rounds that were closed, on tables for the workload that the command runs. Where it runs none,
--- or its input was not read, there are none.
+-- The records are those of the first rounds of a run of the workload that the command runs, one behind the other. Where it
+-- runs none, or its input was not read, there are none.
 abbrev pub WereClosed : Option Command → Option (List ℕ) × Option (List ℕ) → List Round → Type 0
 WereClosed (Some (Run options)) left records =
-    (records ≡ []) ⊎ ((workload : Workload) × (All (IsClosed workload.layout) records
+    (records ≡ []) ⊎ ((workload : Workload) × (AreFirstRounds workload options records
     × OfAll left (λ input. run_input input ≡ Ok workload)))
-WereClosed (Some (Demo spec)) left records = All (IsClosed (workload_for spec).layout) records
+WereClosed (Some (Demo spec)) left records = AreFirstRounds (workload_for spec) default_options records
 WereClosed command left records = records ≡ []
 
 -- ---- when a command answers

@@ -50,8 +50,8 @@ pub fn dstm<R: Threads + Sync, S: Source, K: Sink, E: Sink, G: Gate + Sync>(
         Answers (asked words.now) (S.left source.old, S.left source.new) (added rounds.old rounds.new) text result
         × Appends (K.taken out.old) (K.taken out.new) text) }
 
-    // Whatever happens, the records that were there stay. Those that were added are of closed rounds of this command, and
-    // in each of their logs whatever an attempt has seen are values of one moment.
+    // Whatever happens, the records that were there stay. Those that were added are of the first rounds of this command, one
+    // behind the other, and in each of their logs whatever an attempt has seen are values of one moment.
     ensures behind { rounds.new ≡ rounds.old ++ added rounds.old rounds.new }
     ensures closed { WereClosed (asked words.now) (S.left source.old, S.left source.new) (added rounds.old rounds.new) }
     ensures sights { All SightsAgree (added rounds.old rounds.new) }

@@ -7,13 +7,15 @@ ghost use Rattle.dstm_workload.specs.Workload.{IsValidWorkload};
 ghost use Rattle.dstm_workload.specs.Writing.{text_of_workload};
 ghost use Rattle.dstm_report.specs.declared.report.Report.{Report as TheReport};
 ghost use Rattle.dstm_report.specs.Lawful.{IsLawful, Tells};
-ghost use Rattle.dstm_records.specs.Running.{added, IsClosed};
+ghost use Rattle.dstm_records.specs.Records.{AreFirstRounds};
+ghost use Rattle.dstm_records.specs.Running.{added};
 ghost use Rattle.dstm_cli.specs.Command.{
   run_input,
   check_input,
   reads_input,
   Refuses,
   workload_for,
+  default_options,
   verdict_text,
   verdict_status,
   demo_text,
@@ -123,7 +125,7 @@ fn run_text<R: Threads + Sync, G: Gate + Sync>(
     ensures failed { IfErr result (Fails (λ text failure. run_input text ≡ Err failure) (Some input.now) 0 0) }
     ensures behind { rounds.new ≡ rounds.old ++ added rounds.old rounds.new }
     ensures closed { (added rounds.old rounds.new ≡ []) ⊎ ((workload : TheWorkload)
-        × (All (IsClosed workload.layout) (added rounds.old rounds.new) × (run_input input.now ≡ Ok workload))) }
+        × (AreFirstRounds workload options.now (added rounds.old rounds.new) × (run_input input.now ≡ Ok workload))) }
     ensures unplayed { IfErr result (λ failure. failure ≢ Failure.Memory → added rounds.old rounds.new ≡ []) }
 {
     let workload = read_workload(alloc, input)?;
@@ -204,7 +206,7 @@ fn demo_text<R: Threads + Sync, G: Gate + Sync>(
     requires { IsSmall spec.now }
     ensures text { IfOk result (λ text. IsDemo spec.now (added rounds.old rounds.new) text.items) }
     ensures behind { rounds.new ≡ rounds.old ++ added rounds.old rounds.new }
-    ensures closed { All (IsClosed (workload_for spec.now).layout) (added rounds.old rounds.new) }
+    ensures closed { AreFirstRounds (workload_for spec.now) default_options (added rounds.old rounds.new) }
 {
     let options = Options {
         manager: Manager::Polka,
