@@ -146,7 +146,7 @@ module _ (workload : Workload) where
       (subst (λ (rs : List Row). is_blocked workload rs w ≡ true) (sym (append_assoc before (row ∷ []) now)) blocked) in
       let all = blocked_below workload before workload.workers in
       let more : all + blocked_so_far workload (before ++ row ∷ []) now (w + 1)
-          ≡ all + blocked_so_far workload (before ++ row ∷ []) now w + 1 =
+      ≡ all + blocked_so_far workload (before ++ row ∷ []) now w + 1 =
       omega (arith, rest) in
       more
 
@@ -157,14 +157,14 @@ module _ (workload : Workload) where
       let less : blocked_below workload before w ≤ blocked_below workload before workload.workers =
       filter_grows (is_blocked workload before) w workload.workers few in
       let grows : blocked_below workload before w
-          ≤ blocked_below workload before workload.workers + blocked_so_far workload (before ++ row ∷ []) [] v =
+      ≤ blocked_below workload before workload.workers + blocked_so_far workload (before ++ row ∷ []) [] v =
       omega (arith, less) in
       grows
   so_far_row before (first ∷ now) row w v few =
       let rest = so_far_row (before ++ first ∷ []) now row w v few in
       let all = blocked_below workload before workload.workers in
       let grows : all + blocked_so_far workload (before ++ first ∷ []) now w
-          ≤ all + blocked_so_far workload (before ++ first ∷ []) (now ++ row ∷ []) v =
+      ≤ all + blocked_so_far workload (before ++ first ∷ []) (now ++ row ∷ []) v =
       omega (arith, rest) in
       grows
 

@@ -408,11 +408,11 @@ module _ (workload : Workload) (number : ℕ) (table : Table) (first : Caller) (
                   elim (s.asked v below has) [
                     | inl was ↦ inl (asked_more workload before s.now row v (count_push v s.now row) was)
                     | inr later ↦ inr (
-                        omega (arith, later.0, other),
-                        subst (λ (l : List Job). has_job l v ≡ true)
-                            (turn_ends workload.jobs rows row job (rise_all workload.jobs can.valid.rising) there line)
-                            (keeps_job row.worker v (jobs_left workload.jobs rows) (λ e. other (sym e ∙ worker)) later.1),
-                      )
+                      omega (arith, later.0, other),
+                      subst (λ (l : List Job). has_job l v ≡ true)
+                          (turn_ends workload.jobs rows row job (rise_all workload.jobs can.valid.rising) there line)
+                          (keeps_job row.worker v (jobs_left workload.jobs rows) (λ e. other (sym e ∙ worker)) later.1),
+                    )
                   ]
             ];
         attempts =
