@@ -1,1 +1,2 @@
 pub mod GuestSteps
+pub mod Jobs

@@ -210,6 +210,9 @@ fn after_guest(alloc: Global, manager: Manager, last: usize) -> Result<Outcome, 
     let Ok(caller) = founder.caller(alloc, &stm, 0) else {
         return Err(Fail::new("no caller"));
     };
+    if founder.guest(&stm).is_some() {
+        return Err(Fail::new("a second guest"));
+    }
     let mut one = caller;
     let Some((value, number, counts)) = come(&mut one, &stm) else {
         return Err(Fail::new("over"));

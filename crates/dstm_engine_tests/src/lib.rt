@@ -9,6 +9,8 @@ mod contention;
 #[cfg(test)]
 mod guests;
 #[cfg(test)]
+mod lists;
+#[cfg(test)]
 mod machine;
 #[cfg(test)]
 mod managers;

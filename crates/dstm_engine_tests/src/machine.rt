@@ -90,11 +90,12 @@ const ALONE: [Row; 24] = [
 ];
 
 // After so many of these events another one is refused: ..
-const ALONE_BROKEN: [(usize, Row); 20] = [
+const ALONE_BROKEN: [(usize, Row); 21] = [
     // it does not add
     (0, (0, Kind::Enrol, 16, 0, 0, 2)),
     // there is no attempt
     (1, (0, Kind::LookNumber, 17, 0, 0, 0)),
+    (1, (0, Kind::LookObj, 0, 0, 0, 0)),
     // the attempt has begun
     (2, (0, Kind::Begin, 3, 0, 0, 1)),
     // no read is recorded
@@ -312,6 +313,7 @@ fn a_caller_out_of_the_shape_begins_nothing(rt: HostRuntime) -> Result<(), Fail>
             true,
         ),
         ((0, Kind::Enrol, 32, 0, 0, 1), false),
+        ((0, Kind::LookObj, 0, 0, 0, 0), false),
         ((0, Kind::Stamp, 34, 0, 0, 1), true),
         ((0, Kind::Rank, 5, 0, 0, 0), false),
     ];

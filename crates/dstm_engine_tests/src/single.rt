@@ -1,5 +1,5 @@
 // One caller alone, under Polite.
-ghost use Rattle.std.specs.Prelude.{◌≡◌, IfOk};
+ghost use Rattle.std.specs.Prelude.{◌≡◌, IfOk, IfSome};
 
 use crate::calls::{
     Answer, Pair, begin, commit, drop_early, low, read, read_value, set, shape, tally, two_callers,
@@ -47,6 +47,37 @@ fn dropped(
     Some((unset, old, number, read_value(&mut tx, 0)))
 }
 
+// Reads an object, sets it and commits: what it was.
+fn change(
+    stm: &Stm<AnyLaw>,
+    one: &mut Caller<AnyLaw>,
+    value: Val,
+) -> Option<Option<Result<Val, Again>>>
+    requires home { one.old.home ≡ stm.now }
+    requires objects { stm.now.terms.shape.objects ≡ 3 }
+    ensures home { IfSome result (λ _. one.new.home ≡ stm.now) }
+{
+    let mut tx = begin(one, stm)?;
+    let before = read_value(&mut tx, 0);
+    let _old = set(&mut tx, 0, value);
+    if !tx.is_live() {
+        return None;
+    }
+    let _number = commit(tx);
+    Some(before)
+}
+
+// What an object was before each of three changes of both of its parts.
+fn changed(stm: &Stm<AnyLaw>, one: &mut Caller<AnyLaw>) -> Option<[Option<Result<Val, Again>>; 3]>
+    requires home { one.old.home ≡ stm.now }
+    requires objects { stm.now.terms.shape.objects ≡ 3 }
+{
+    let first = change(stm, one, Val { low: 1, high: 2 })?;
+    let second = change(stm, one, Val { low: 3, high: 4 })?;
+    let third = change(stm, one, low(0))?;
+    Some([first, second, third])
+}
+
 // Reads an object and commits.
 fn one_read(stm: &Stm<AnyLaw>, one: &mut Caller<AnyLaw>) -> Option<(Answer, Answer, Tally)>
     requires home { one.old.home ≡ stm.now }
@@ -81,6 +112,11 @@ fn drop_one(
     Ok(dropped(&pair.stm, &mut pair.one))
 }
 
+fn change_one(alloc: Global) -> Result<Option<[Option<Result<Val, Again>>; 3]>, Fail> {
+    let mut pair = three_objects(alloc, false)?;
+    Ok(changed(&pair.stm, &mut pair.one))
+}
+
 fn read_one(alloc: Global) -> Result<Option<(Answer, Answer, Tally)>, Fail> {
     let mut pair = three_objects(alloc, true)?;
     Ok(one_read(&pair.stm, &mut pair.one))
@@ -93,6 +129,8 @@ fn one_caller_reads_and_sets(rt: HostRuntime) -> Result<(), Fail> {
     let seven = Some(Ok(Val { low: 7, high: 8 }));
     assert!(rt; read_three(alloc)? == Some(([zero, zero, zero], zero, tally(14, 0, 0))));
     assert!(rt; drop_one(alloc)? == Some((Some(Ok(9)), zero, zero, seven)));
+    let was = [low(0), Val { low: 1, high: 2 }, Val { low: 3, high: 4 }];
+    assert!(rt; change_one(alloc)? == Some(was.map(|value| Some(Ok(value)))));
     assert!(rt; read_one(alloc)? == Some((zero, zero, tally(12, 0, 0))));
     Ok(())
 }

@@ -1,0 +1,202 @@
+// A key is looked up on a list, and another caller inserts a lesser one before the look-up commits.
+ghost use Rattle.std.specs.Prelude.{◌≡◌, ◌<◌, All, IfOk};
+ghost use Rattle.dstm_model.specs.Layout.{IsValid, FitsLayout, FitsKey};
+ghost use Rattle.dstm_model.specs.Store.{IsPlain};
+ghost use Rattle.dstm_model.specs.declared.op.Which.TheVariants as which;
+ghost use Rattle.dstm_engine.specs.Callers.{law_of};
+
+use crate::calls::Answer;
+use dstm_core::{Manager, Shape};
+use dstm_engine::{Caller, Ended, Founder, Spent, Stm, attempt};
+use dstm_mem::{Body, LooseBody};
+use dstm_model::{Layout, Op, Ops, Replies, Reply, Which};
+use dstm_order::Again;
+use dstm_store::{JobBody, LooseJobBody, StoreLaw, opening};
+use std::alloc::Global;
+use std::test::Fail;
+
+// A table with a list of five keys, and two callers.
+#[derive(Drop)]
+struct FiveKeys {
+    stm: Stm<StoreLaw>,
+    one: Caller<StoreLaw>,
+    two: Caller<StoreLaw>,
+}
+
+fn job_of(layout: &Layout, op: Op) -> Ops
+    requires fits { FitsLayout layout.now op }
+    requires plain { IsPlain op }
+    ensures fits { All (FitsLayout layout.now) result }
+    ensures plain { All IsPlain result }
+{
+    let mut ops = Ops::new();
+    ops.push(op);
+    ops
+}
+
+fn member_of_list(layout: &Layout, key: u32) -> Ops
+    requires fits { FitsKey layout.now which.List key }
+    ensures fits { All (FitsLayout layout.now) result }
+    ensures plain { All IsPlain result }
+{
+    let which = Which::List;
+    job_of(layout, Op::Member { which, key })
+}
+
+// Inserts a key, and answers the number that was drawn.
+fn insert(caller: &mut Caller<StoreLaw>, stm: &Stm<StoreLaw>, layout: &Layout, key: u32) -> Answer
+    requires table { caller.old.home ≡ stm.now }
+    requires law { (law_of caller.old).layout ≡ layout.now }
+    requires valid { IsValid layout.now }
+    requires fits { FitsKey layout.now which.List key }
+    ensures table { caller.new.home ≡ stm.now }
+{
+    let which = Which::List;
+    let ops = job_of(layout, Op::Insert { which, key });
+    match attempt(caller, stm, &mut JobBody::make(layout, &ops)) {
+        Ok(done) => Some(Ok(done.number)),
+        Err(Ended::Again(again)) => Some(Err(again)),
+        Err(Ended::Spent) => None,
+    }
+}
+
+// What the first caller finds and is told that looks 50 up, and commits once the other one has inserted 5.
+fn look_up(
+    one: &mut Caller<StoreLaw>,
+    two: &mut Caller<StoreLaw>,
+    stm: &Stm<StoreLaw>,
+    layout: &Layout,
+) -> Option<(Replies, Answer, Answer)>
+    requires tables { (one.old.home ≡ stm.now) × (two.old.home ≡ stm.now) }
+    requires law { stm.now.terms.law.value.layout ≡ layout.now }
+    requires valid { IsValid layout.now }
+    requires list { 0 < layout.now.list }
+{
+    let ops = member_of_list(layout, 50);
+    let mut body = JobBody::make(layout, &ops);
+    let mut tx = match one.begin(stm) {
+        Ok(tx) => tx,
+        Err(Spent) => return None,
+    };
+    match body.run(&mut tx) {
+        Ok(()) => {
+            let inserted = insert(two, stm, layout, 5);
+            let committed = Some(tx.commit());
+            Some((body.replies(), inserted, committed))
+        }
+        Err(_) => None,
+    }
+}
+
+// The same, hand over hand.
+fn look_up_hand_over_hand(
+    one: &mut Caller<StoreLaw>,
+    two: &mut Caller<StoreLaw>,
+    stm: &Stm<StoreLaw>,
+    layout: &Layout,
+) -> Option<(Replies, Answer, Answer)>
+    requires tables { (one.old.home ≡ stm.now) × (two.old.home ≡ stm.now) }
+    requires law { stm.now.terms.law.value.layout ≡ layout.now }
+    requires valid { IsValid layout.now }
+    requires list { 0 < layout.now.list }
+{
+    let ops = member_of_list(layout, 50);
+    let mut body = LooseJobBody::make(layout, &ops);
+    let mut tx = match one.begin(stm) {
+        Ok(tx) => tx,
+        Err(Spent) => return None,
+    };
+    match body.run(&mut tx) {
+        Ok(()) => {
+            let inserted = insert(two, stm, layout, 5);
+            let committed = Some(tx.commit());
+            Some((body.replies(), inserted, committed))
+        }
+        Err(_) => None,
+    }
+}
+
+// Makes the table; the keys are inserted one after the other, under the numbers 0 to 4.
+fn five_keys(alloc: Global, layout: &Layout) -> Result<FiveKeys, Fail>
+    requires valid { IsValid layout.now }
+    requires list { 0 < layout.now.list }
+    ensures tables { IfOk result (λ t. (t.one.home ≡ t.stm) × (t.two.home ≡ t.stm)) }
+    ensures law { IfOk result (λ t. t.stm.terms.law.value.layout ≡ layout.now) }
+{
+    let start = opening(alloc, layout)?;
+    if start.len() > 32 {
+        return Err(Fail::new("too large"));
+    }
+    let shape = Shape {
+        objects: start.len() as u32,
+        callers: 2,
+        attempts: 8,
+        locators: 32,
+        manager: Manager::Polite,
+        all_write: false,
+    };
+    let law = StoreLaw { layout: *layout };
+    let (stm, mut founder) = Stm::make(alloc, start, shape, law)?;
+    let one = caller(alloc, &stm, &mut founder)?;
+    let mut two = caller(alloc, &stm, &mut founder)?;
+    let inserted = [
+        insert(&mut two, &stm, layout, 10),
+        insert(&mut two, &stm, layout, 20),
+        insert(&mut two, &stm, layout, 30),
+        insert(&mut two, &stm, layout, 40),
+        insert(&mut two, &stm, layout, 50),
+    ];
+    if inserted != [0, 1, 2, 3, 4].map(|number| Some(Ok(number))) {
+        return Err(Fail::new("not inserted"));
+    }
+    Ok(FiveKeys { stm, one, two })
+}
+
+fn caller(
+    alloc: Global,
+    stm: &Stm<StoreLaw>,
+    founder: &mut Founder<StoreLaw>,
+) -> Result<Caller<StoreLaw>, Fail>
+    requires table { founder.old.home ≡ stm.now }
+    ensures table { founder.new.home ≡ founder.old.home }
+    ensures caller { IfOk result (λ k. k.home ≡ stm.now) }
+{
+    match founder.caller(alloc, stm, 0) {
+        Ok(caller) => Ok(caller),
+        Err(_) => Err(Fail::new("no caller")),
+    }
+}
+
+// The plain walk has read the head of the list, and is overtaken there; hand over hand the head was let go.
+#[test]
+fn a_look_up_hand_over_hand_is_not_overtaken(rt: HostRuntime) -> Result<(), Fail> {
+    let layout = Layout {
+        accounts: 0,
+        opening: 0,
+        list: 8,
+        tree: 0,
+    };
+    let mut table = five_keys(rt.alloc(), &layout)?;
+    let Some((found, inserted, committed)) = look_up(
+        &mut table.one,
+        &mut table.two,
+        &table.stm,
+        &layout,
+    ) else {
+        return Err(Fail::new("left"));
+    };
+    assert_eq!(rt; found.as_slice(), [Reply::Yes].as_slice());
+    assert!(rt; (inserted, committed) == (Some(Ok(5)), Some(Err(Again::Stale(0)))));
+    let mut table = five_keys(rt.alloc(), &layout)?;
+    let Some((found, inserted, committed)) = look_up_hand_over_hand(
+        &mut table.one,
+        &mut table.two,
+        &table.stm,
+        &layout,
+    ) else {
+        return Err(Fail::new("left"));
+    };
+    assert_eq!(rt; found.as_slice(), [Reply::Yes].as_slice());
+    assert!(rt; (inserted, committed) == (Some(Ok(5)), Some(Ok(6))));
+    Ok(())
+}
