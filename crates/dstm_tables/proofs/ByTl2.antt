@@ -19,6 +19,10 @@ use Rattle.dstm_tl2_order.proofs.Draws.{valid_commits}
 use Rattle.dstm_tl2_engine.specs.Attempts.{Settles, done}
 use Rattle.dstm_tl2_engine.specs.Callers.{TlCalled, state, table_of_caller}
 use Rattle.dstm_tl2_engine.specs.Endings.{Attempts}
+use Rattle.dstm_tl2_engine.specs.Makes.{Makes}
+use Rattle.dstm_tl2_engine.proofs.Living.{attempts_are_calls, makes_one}
+use Rattle.dstm_tl2_order.specs.Made.{LocksItsWrites}
+use Rattle.dstm_tl2_order.specs.Tasks.Task.{Beginning}
 use Rattle.dstm_tl2_engine.specs.Outcomes.{IsLeft}
 use Rattle.dstm_tl2_engine.specs.Transactions.{SpentFrom}
 use Rattle.dstm_store.specs.declared.law.StoreLaw.{StoreLaw}
@@ -72,8 +76,8 @@ not_less a b h = ltb-false a b (denied (nat_lt a b) h)
 
 -- a caller that goes on, and has nothing locked then
 pub tl2_on : (k n : TlCalled StoreLaw) → AtRest (Tl2 k) → n.home ≡ k.home → n.number ≡ k.number → IsPastOf k.log n.log →
-    IsRunOf keeps k.home.terms n.log → (state n).holds ≡ [] → GoesOn (Tl2 k) (Tl2 n)
-tl2_on k n rest home number past run free =
+    IsRunOf keeps k.home.terms n.log → (state n).holds ≡ [] → Makes LocksItsWrites k n → GoesOn (Tl2 k) (Tl2 n)
+tl2_on k n rest home number past run free calls =
     let run_there : IsRunOf keeps n.home.terms n.log = subst (λ (h : Home StoreLaw). IsRunOf keeps h.terms n.log) (sym home) run in
     let before : (local (table_of_caller n) k.log n.number).number ≡ Some n.number =
     subst (λ (h : Home StoreLaw). (local (table_of h.terms) k.log n.number).number ≡ Some n.number) (sym home)
@@ -83,7 +87,7 @@ tl2_on k n rest home number past run free =
       home = ap table.Tl2 home;
       number = number;
       seen = (ap (λ (h : Home StoreLaw). h.terms) home, past);
-      calls = tt;
+      calls = calls;
       rest = record {
         run = run_there;
         enrolled =
@@ -96,7 +100,7 @@ tl2_on k n rest home number past run free =
 
 pub tl2_more : (k n : TlCalled StoreLaw) (again : Option TlAgain) → AtRest (Tl2 k) → Attempts keeps k n again → OneMore (Tl2 k) (Tl2 n)
 tl2_more k n again rest a =
-    record { on = tl2_on k n rest a.same.0 a.same.1 a.past a.run a.free; begun = a.begun }
+    record { on = tl2_on k n rest a.same.0 a.same.1 a.past a.run a.free (attempts_are_calls keeps k n again a); begun = a.begun }
 
 -- it has committed
 pub tl2_did : (is_right : List Val → List Val → Type 0) (k n : TlCalled StoreLaw) (number : ℕ) → AtRest (Tl2 k) →
@@ -121,7 +125,8 @@ tl2_kept k n again rest a left same = record {
 
 pub tl2_spent : (k n : TlCalled StoreLaw) → AtRest (Tl2 k) → SpentFrom keeps k n → IsSpentFrom (Tl2 k) (Tl2 n)
 tl2_spent k n rest s =
-    let on = tl2_on k n rest s.steps.same.0 s.steps.same.1 s.steps.seen s.steps.run s.free in record {
+    let on = tl2_on k n rest s.steps.same.0 s.steps.same.1 s.steps.seen s.steps.run s.free
+    (makes_one LocksItsWrites keeps Beginning k n None tt s.steps) in record {
       on = on;
       begun = s.begun;
       was = s.spent;

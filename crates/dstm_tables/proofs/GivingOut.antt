@@ -1,11 +1,11 @@
 -- What gives out the callers of a table, by each engine.
-use Rattle.std.proofs.Common.{◌≡◌, ◌∙◌, ◌∷◌, ◌++◌, ◌==◌, ◌&&◌, ℕ, List, [], false, refl, sym, ap, subst, inl, inr}
+use Rattle.std.proofs.Common.{◌≡◌, ◌∙◌, ◌∷◌, ◌++◌, ◌==◌, ◌&&◌, ℕ, List, [], None, false, refl, sym, ap, subst, inl, inr}
 use Rattle.std.specs.Prelude.{not}
 use Rattle.std.proofs.lemmas.Bool.{and_left, and_right, cases_Bool, eqb-true}
 use Rattle.std.proofs.lemmas.List.Elements.{Contains-push}
 use Rattle.dstm_model.specs.Map.{state_after}
 use Rattle.dstm_machines.specs.Traces.{events_of}
-use Rattle.dstm_machines.proofs.Own.{own_event, same_local}
+use Rattle.dstm_machines.proofs.Own.{none_before_only, own_event, same_local}
 use Rattle.dstm_opacity.proofs.Stays as dstm_stays
 use Rattle.dstm_opacity.specs.Committed as dstm_committed
 use Rattle.dstm_tables.proofs.Entries.{entries_reverse}
@@ -26,13 +26,17 @@ use Rattle.dstm_tl2.proofs.Done.{done_still, same_done_by}
 use Rattle.dstm_tl2.proofs.Standing.{entries_are_history}
 use Rattle.dstm_tl2_engine.specs.Callers as called
 use Rattle.dstm_tl2_engine.specs.Tables as tl2_tables
+use Rattle.dstm_tl2_engine.proofs.Living.{makes_one}
+use Rattle.dstm_tl2_order.specs.Made.{LocksItsWrites}
+use Rattle.dstm_tl2_order.specs.Tasks.Task.{Enrolling}
 use Rattle.dstm_store.specs.declared.law.StoreLaw.{StoreLaw}
 use Rattle.dstm_tables.specs.declared.founding.Founder.TheVariants.{Dstm, Tl2}
 use Rattle.dstm_tables.specs.declared.tables.Caller.TheVariants as caller
 use Rattle.dstm_tables.specs.declared.tables.Round.TheVariants as round
 use Rattle.dstm_tables.specs.declared.tables.Table.{Table}
 use Rattle.dstm_tables.specs.declared.tables.Table.TheVariants as table
-use Rattle.dstm_tables.specs.Callers.{IsOver, home_of}
+use Rattle.dstm_tables.specs.Callers.{CameByCalls, IsOver, home_of}
+use Rattle.dstm_tables.proofs.Calls.{tl2_from_first}
 use Rattle.dstm_tables.specs.Founders.{GivesOut, TakesBack, home_there}
 use Rattle.dstm_tables.specs.Tells.{values_of}
 use Rattle.dstm_tables.specs.Law.{keeps}
@@ -89,11 +93,19 @@ module _ (f g : tl2_tables.TlFounding StoreLaw) (k : called.TlCalled StoreLaw) (
   at_home : k.home ≡ f.home
   at_home = ap (λ (x : called.TlCalled StoreLaw). x.home) e.caller
 
+  came : CameByCalls 0 (caller.Tl2 k)
+  came =
+      let u : called.TlCalled StoreLaw = record (tl2_tables.unnumbered f) { number = k.number } in
+      tl2_from_first u k
+      (none_before_only k.number e.log.0 f.view.log e.enrol (head_own k.number k.log e.enrol [] e.own)
+      (ap (events_of k.number) (sym e.log.1) ∙ e.own))
+      (makes_one LocksItsWrites keeps Enrolling u k None tt e.steps)
+
   pub tl2_new : (t : Table) (seed : ℕ) → home_there (Tl2 f) ≡ t → GivesOut t (Tl2 f) (Tl2 g) seed (caller.Tl2 k)
   tl2_new t seed home = record {
     home = ap table.Tl2 at_home ∙ home;
     seeded = tt;
-    came = tt;
+    came = came;
     rest = record {
       run = subst (λ (h : tl2_words.Home StoreLaw). IsRunOf keeps h.terms k.log) (sym at_home) e.steps.run;
       enrolled = ap (λ (l : LocalState). l.number) e.state;

@@ -1,5 +1,5 @@
 -- What an attempt at a job leaves by TL2 that was given up.
-use Rattle.std.proofs.Common.{◌≡◌, ◌∙◌, ◌+◌, ◌<◌, ◌++◌, ℕ, List, refl, sym, ap, subst, arith}
+use Rattle.std.proofs.Common.{◌≡◌, ◌∙◌, ◌+◌, ◌<◌, ◌++◌, ℕ, List, None, refl, sym, ap, subst, arith}
 use base.Fml.{GName}
 use Rattle.std.proofs.lemmas.Bool.{and_parts}
 use Rattle.dstm_model.specs.declared.value.Val.{Val}
@@ -31,7 +31,11 @@ use Rattle.dstm_tl2_order.proofs.WasRead.{reads_so_far}
 use Rattle.dstm_tl2_engine.specs.Attempts.{Admits}
 use Rattle.dstm_tl2_engine.specs.Callers.{TlCalled, begun_log, law_of, since_sample, state, table_of_caller, written}
 use Rattle.dstm_tl2_engine.specs.Transactions.{BeginsAnew, TxPlace, tx_place}
+use Rattle.dstm_tl2_engine.specs.Calls.{IsTold}
 use Rattle.dstm_tl2_engine.proofs.Begun.{begun_count}
+use Rattle.dstm_tl2_engine.proofs.Living.{makes_both, makes_one, told_makes}
+use Rattle.dstm_tl2_order.specs.Made.{LocksItsWrites}
+use Rattle.dstm_tl2_order.specs.Tasks.Task.{Beginning}
 use Rattle.dstm_tl2_engine.proofs.Made as made
 use Rattle.dstm_tables.specs.declared.tables.Caller.TheVariants.{Tl2}
 use Rattle.dstm_tables.specs.Callers.{AtRest}
@@ -44,7 +48,7 @@ use Rattle.dstm_tables.proofs.ByTl2.{tl2_on}
 
 module _ (k b t : TlCalled StoreLaw) (r q : GName) (h j : Home StoreLaw) (begins : BeginsAnew keeps k b)
     (place : tx_place r h t ≡ tx_place q j b) (rest : AtRest (Tl2 k)) (still : reads.AtRest (state t))
-    (run : IsRunOf keeps t.home.terms t.log) where
+    (run : IsRunOf keeps t.home.terms t.log) (told : IsTold t) where
   home : t.home ≡ k.home
   home = made.home keeps k b t r q h j begins place
 
@@ -73,7 +77,9 @@ module _ (k b t : TlCalled StoreLaw) (r q : GName) (h j : Home StoreLaw) (begins
 
   pub one_more : OneMore (Tl2 k) (Tl2 t)
   one_more = record {
-    on = tl2_on k t rest home number past (subst (λ (x : Home StoreLaw). IsRunOf keeps x.terms t.log) home run) still.untold.2;
+    on = tl2_on k t rest home number past (subst (λ (x : Home StoreLaw). IsRunOf keeps x.terms t.log) home run) still.untold.2
+        (makes_both LocksItsWrites k b t (makes_one LocksItsWrites keeps Beginning k b None tt begins.steps)
+        (told_makes b t (ap (λ (p : TxPlace StoreLaw). p.home) place) (ap (λ (p : TxPlace StoreLaw). p.number) place) there told));
     begun = counted;
   }
 

@@ -12,6 +12,8 @@ use Rattle.dstm_tl2.specs.Words.{Table as Tl2Table}
 use Rattle.dstm_tl2.specs.declared.terms.Terms as tl2_terms
 use Rattle.dstm_tl2_order.specs.Ended as ended
 use Rattle.dstm_tl2_order.proofs.Ones.{committed_stays, disturbed_stays}
+use Rattle.dstm_tl2_order.specs.Made.{LocksItsWrites}
+use Rattle.dstm_tl2_engine.proofs.Living as living
 use Rattle.dstm_tl2_engine.specs.Callers.{TlCalled}
 use Rattle.dstm_store.specs.declared.law.StoreLaw.{StoreLaw}
 use Rattle.dstm_tables.specs.declared.tables.Caller.{Caller}
@@ -50,11 +52,11 @@ own_trans c (round.Tl2 a) (round.Tl2 b) (round.Dstm d) one two = absurd two
 
 calls_none : (k : Caller) → WentByCalls k k
 calls_none (Dstm k) = makes_none TriesAgain k
-calls_none (Tl2 k) = tt
+calls_none (Tl2 k) = living.makes_none LocksItsWrites k
 
 calls_both : (k n m : Caller) → WentByCalls k n → WentByCalls n m → WentByCalls k m
 calls_both (Dstm k) (Dstm n) (Dstm m) one two = makes_both TriesAgain k n m one two
-calls_both (Tl2 k) (Tl2 n) (Tl2 m) one two = tt
+calls_both (Tl2 k) (Tl2 n) (Tl2 m) one two = living.makes_both LocksItsWrites k n m one two
 calls_both (Dstm k) (Tl2 n) m one two = absurd one
 calls_both (Tl2 k) (Dstm n) m one two = absurd one
 calls_both (Dstm k) (Dstm n) (Tl2 m) one two = absurd two

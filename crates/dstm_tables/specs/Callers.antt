@@ -7,6 +7,8 @@ use Rattle.dstm_managers.specs.Choices.{started}
 use Rattle.dstm_engine.specs.Makes.{Makes}
 use Rattle.dstm_order.specs.Retries.{TriesAgain, is_new}
 use Rattle.dstm_tl2_engine.specs.Callers as tl2
+use Rattle.dstm_tl2_engine.specs.Makes as tl2_makes
+use Rattle.dstm_tl2_order.specs.Made.{LocksItsWrites}
 use Rattle.dstm_tables.specs.declared.tables.Caller.{Caller}
 use Rattle.dstm_tables.specs.declared.tables.Caller.TheVariants.{Dstm, Tl2}
 use Rattle.dstm_tables.specs.declared.tables.Round.{Round}
@@ -52,10 +54,15 @@ HasSeed seed (Tl2 k) = Unit {0}
 abbrev pub at_first : ℕ → dstm.Called StoreLaw → dstm.Called StoreLaw
 at_first seed k = record k { log = []; generator = (started k.home.terms.shape.manager seed).generator }
 
--- Under DSTM it has come by calls, each transaction again until it committed, from the generator of this seed on.
+-- and under TL2
+abbrev pub tl2_first : tl2.TlCalled StoreLaw → tl2.TlCalled StoreLaw
+tl2_first k = record k { log = [] }
+
+-- It has come by calls: under DSTM each transaction again until it committed, from the generator of this seed on, under TL2
+-- each locks no more than is written.
 abbrev pub CameByCalls : ℕ → Caller → Type 0
 CameByCalls seed (Dstm k) = Makes TriesAgain (at_first seed k) k
-CameByCalls seed (Tl2 k) = Unit {0}
+CameByCalls seed (Tl2 k) = tl2_makes.Makes LocksItsWrites (tl2_first k) k
 
 abbrev pub done : Caller → List Committed
 done k = done_of (round_of k) (number_of k)

@@ -33,6 +33,8 @@ use Rattle.dstm_tl2.specs.Sharing as tl2_sharing
 use Rattle.dstm_tl2.specs.State as tl2_state
 use Rattle.dstm_tl2.specs.declared.terms.Terms as tl2_terms
 use Rattle.dstm_tl2_order.specs.Ended as tl2_causes
+use Rattle.dstm_tl2_order.specs.Made as tl2_made
+use Rattle.dstm_tl2_order.specs.Made.{LocksItsWrites}
 use Rattle.dstm_tl2_order.specs.Order as tl2_order
 -- both
 use Rattle.dstm_tables.specs.Answers.{entries_of}
@@ -167,11 +169,11 @@ seen_of (Tl2 r) c i = tl2_causes.reads_of (tl2_sharing.table_of r.terms) r.log c
 
 -- ---- the calls of a caller
 
--- Under DSTM caller c's own events are those of calls that obey the order of steps, one after the other from nothing and with
--- the generator of this seed, each transaction again until it committed.
+-- Caller c's own events are those of calls that obey the order of steps, one after the other from nothing: under DSTM with the
+-- generator of this seed, each transaction again until it committed, under TL2 each locks no more than is written.
 abbrev pub ByCalls : (seed : ℕ) → Round → ℕ → Type 0
 ByCalls seed (Dstm r) c = made.ByCalls TriesAgain r.terms.shape (started r.terms.shape.manager seed).generator r.log c
-ByCalls seed (Tl2 r) c = Unit {0}
+ByCalls seed (Tl2 r) c = tl2_made.ByCalls LocksItsWrites (tl2_sharing.table_of r.terms) r.log c
 
 -- ---- what attempts saw
 

@@ -4,6 +4,8 @@ use Rattle.dstm_model.specs.declared.value.Val.{Val}
 use Rattle.dstm_model.specs.Map.{Agrees, Entry, with_writes}
 use Rattle.dstm_engine.specs.Makes.{Makes}
 use Rattle.dstm_order.specs.Retries.{TriesAgain}
+use Rattle.dstm_tl2_engine.specs.Makes as tl2
+use Rattle.dstm_tl2_order.specs.Made.{LocksItsWrites}
 use Rattle.dstm_store.specs.Whole.{IsLawful}
 use Rattle.dstm_tables.specs.declared.attempting.Ended.{Ended}
 use Rattle.dstm_tables.specs.declared.attempting.Ended.TheVariants as ended
@@ -12,10 +14,10 @@ use Rattle.dstm_tables.specs.declared.tables.Caller.TheVariants.{Dstm, Tl2}
 use Rattle.dstm_tables.specs.Callers.{AtRest, begun, done, home_of, law_of, number_of, round_of}
 use Rattle.dstm_tables.specs.Tells.{CannotBegin, HasCommitted, IsPast, IsSpent, WasDisturbed, callers_of}
 
--- Under DSTM it went on by calls, each transaction again until it committed.
+-- It went on by calls: under DSTM each transaction again until it committed, under TL2 each locks no more than is written.
 abbrev pub WentByCalls : (k n : Caller) → Type 0
 WentByCalls (Dstm k) (Dstm n) = Makes TriesAgain k n
-WentByCalls (Tl2 k) (Tl2 n) = Unit {0}
+WentByCalls (Tl2 k) (Tl2 n) = tl2.Makes LocksItsWrites k n
 WentByCalls k n = ⊥
 
 -- it is the same caller of the same table, and its log went on

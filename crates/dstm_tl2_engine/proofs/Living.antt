@@ -25,7 +25,7 @@ use Rattle.dstm_tl2_engine.specs.Tables.{unnumbered}
 use Rattle.dstm_tl2_engine.proofs.Told.{own_parts}
 
 module _ {L : Type 0} (May : LocalState → Task → Type 0) where
-  makes_none : (k : TlCalled L) → Makes May k k
+  pub makes_none : (k : TlCalled L) → Makes May k k
   makes_none k = record { calls = []; own = refl; made = tt; same = (refl, refl) }
 
   pub makes_one : (holds : L → List Val → Type 0) (task : Task) (k n : TlCalled L) (again : Option TlAgain) →
@@ -93,7 +93,7 @@ on_attempt l Beginning can = absurd can
 on_attempt l Returning can = absurd can
 
 -- from its begin on
-told_makes : {L : Type 0} (began n : TlCalled L) → n.home ≡ began.home → n.number ≡ began.number →
+pub told_makes : {L : Type 0} (began n : TlCalled L) → n.home ≡ began.home → n.number ≡ began.number →
     began.log ≡ begun_log n.number n.log → IsTold n → Makes LocksItsWrites began n
 told_makes began n home number there told =
     let table : table_of_caller n ≡ table_of_caller began =

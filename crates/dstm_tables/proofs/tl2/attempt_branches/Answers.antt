@@ -5,6 +5,7 @@ use Rattle.dstm_mem.proofs.InTheEnd.{in_the_end}
 use Rattle.dstm_store.specs.declared.job.JobTask.{JobTask}
 use Rattle.dstm_tl2_engine.proofs.Made.{made, same_done, same_name, settled, still}
 use Rattle.dstm_tl2_engine.proofs.Resting.{rests}
+use Rattle.dstm_tl2_engine.proofs.Told.{rest_made}
 use Rattle.dstm_tl2_engine.specs.Callers.{TlCalled}
 use Rattle.dstm_tl2_engine.specs.Outcomes.{IsLeft}
 use Rattle.dstm_tables.specs.declared.style.Style.TheVariants.{Branches}
@@ -81,6 +82,7 @@ returns-in-Blocked c = λ rechecks.
     let P = λ (x : TlCalled _). StoodAt Branches rechecks c.args.layout.now c.args.job.now (Tl2 k) (Tl2 x) in
     in_the_end P _ _ _ _ (assumption c) name (subst P (sym c.abandon.ensures.same)
     (stood_at k b t _ _ _ _ begins place c.requires.rest (rests _ (and_parts _ _ ran.leads.live).1) c.abandon.ensures.run
+    (c.abandon.ensures.told (rest_made t (rests _ (and_parts _ _ ran.leads.live).1)))
     rechecks c.args.layout.now c.args.job.now c.requires.law
     (λ map admits.
     right_for c.args.layout.now c.args.job.now.ops c.run.new.self.task c.run.new.self.outcome _ map _
