@@ -84,7 +84,7 @@ impl Body<StoreLaw> for CompBody {
 
     ghost right = { λ body before after. IsRight body.task before after body.outcome };
 
-    ghost audits = { λ body. Audits body.task body.outcome };
+    ghost leaves = { λ body held opened. (o : ℕ) → Audits body.task body.outcome o → IsSome (held o) };
 
     // The clauses of the trait, and that a run which ends blocked has only read.
     fn run<M: Mem>(&mut self, mem: &mut M) -> Result<(), M::Err>
@@ -95,7 +95,7 @@ impl Body<StoreLaw> for CompBody {
             IsLawful self.new.task.layout (with_set map (M.written mem.new))) }
         ensures right { OnOk result ((map : List Val) → M.Admits mem.new map →
             IsRight self.new.task map (with_set map (M.written mem.new)) self.new.outcome) }
-        ensures audits { OnOk result ((o : ℕ) → Audits self.new.task self.new.outcome o → IsSome (M.held mem.new o)) }
+        ensures leaves { OnOk result ((o : ℕ) → Audits self.new.task self.new.outcome o → IsSome (M.held mem.new o)) }
         ensures law { self.new.task.layout ≡ self.old.task.layout }
         ensures task { self.new.task ≡ self.old.task }
         ensures outcome { IfErr result (λ _. self.new.outcome ≡ self.old.outcome) }

@@ -39,3 +39,4 @@ pub mod Anew
 pub mod Attempting
 pub mod Living
 pub mod Spending
+pub mod LettingGo

@@ -1,5 +1,5 @@
 -- What an attempt has seen, which maps it admits, and what it committed.
-use Rattle.std.specs.Prelude.{◌≡◌, ℕ, ◌≤◌, ◌==◌, Bool, false, List, ◌∷◌, ◌++◌, length, None, Some, if◌then◌else◌}
+use Rattle.std.specs.Prelude.{◌≡◌, ℕ, ◌≤◌, ◌==◌, Bool, Option, false, List, ◌∷◌, ◌++◌, length, None, Some, if◌then◌else◌}
 use Rattle.dstm_model.specs.declared.value.Val.{Val}
 use Rattle.dstm_model.specs.Map.{Agrees, Entry, state_after, with_writes}
 use Rattle.dstm_opacity.specs.Committed.{Committed, done_by}
@@ -87,8 +87,7 @@ module _ {L : Type 0} where
         (with_writes (state_after (start_of n) stands.before) entry.writes)
 
   -- The attempt has committed an entry, and this is right for every lawful map that agrees with its reads as
-  -- the map that it starts at, and that map with its writes as the one that it leaves. So it is in every history. It is
-  -- what was read and set, in this attempt, where the body's run ended: what the run promises of its memory holds there.
+  -- the map that it starts at, and that map with its writes as the one that it leaves. So it is in every history.
   pub record Settles (holds : L → List Val → Type 0) (is_right : List Val → List Val → Type 0) (k n : Called L)
       (number : ℕ) : Type 0 where
     pub entry : Entry
@@ -97,8 +96,13 @@ module _ {L : Type 0} where
         Agrees map entry.reads → is_right map (with_writes map entry.writes)
     pub in_runs : (later : List Event) → CoreRun (shape_of n) (start_of n) (holds (law_of n)) (later ++ n.log) →
         StandsRight holds is_right n later entry
+
+  -- THE RUN IS COMMITTED: what was read, opened and set where the body's run ended is what the attempt has committed, and
+  -- what the run promises of its memory holds there.
+  pub record CommitsRun (holds : L → List Val → Type 0) (is_right : List Val → List Val → Type 0)
+      (leaves : (ℕ → Option Val) → (ℕ → Bool) → Type 0) (k n : Called L) (number : ℕ) : Type 0 where
     pub ran : Called L
     pub same : (ran.home ≡ k.home) × (ran.number ≡ k.number)
-    pub ran_right : (map : List Val) → Admits holds ran map → is_right map (with_set map (written ran))
+    pub right : (map : List Val) → Admits holds ran map → is_right map (with_set map (written ran))
+    pub left : leaves (held ran) (is_opened ran)
     pub commits : Commits ran n number
-    pub is_entry : entry ≡ commits.entry

@@ -8,6 +8,7 @@ mod error;
 pub mod laws;
 mod making;
 mod opened;
+mod opener;
 mod opening;
 mod shape;
 mod stm;

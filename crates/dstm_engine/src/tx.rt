@@ -32,8 +32,8 @@ use dstm_order::Again;
 /// An attempt under way.
 #[derive(Drop)]
 pub struct Tx<'a, L: Law> {
-    caller: &'a mut Caller<L>,
-    stm: &'a Stm<L>,
+    pub(crate) caller: &'a mut Caller<L>,
+    pub(crate) stm: &'a Stm<L>,
     ghost table: { caller.now.home ≡ stm.now },
 }
 

@@ -1,4 +1,4 @@
-ghost use Rattle.std.specs.Prelude.{◌≡◌, ℕ, List, IsSome, OnOk, IfErr};
+ghost use Rattle.std.specs.Prelude.{◌≡◌, ℕ, Bool, List, Option, OnOk, IfErr};
 ghost use Rattle.dstm_model.specs.declared.value.Val.{Val};
 ghost use Rattle.dstm_mem.specs.Memory.{with_set};
 ghost use Rattle.dstm_mem.specs.Operations.{IsFresh, Leads};
@@ -25,8 +25,9 @@ pub trait Body<L: Law> {
     /// second.
     ghost right: { Self → List Val → List Val → Type 0 };
 
-    /// A run that ends without an error has read this object.
-    ghost audits: { Self → ℕ → Type 0 };
+    /// What a run that ends without an error leaves of its memory: of the reads that this holds, and of the objects that
+    /// are opened for writing.
+    ghost leaves: { Self → (ℕ → Option Val) → (ℕ → Bool) → Type 0 };
 
     /// Runs the body once, on a memory in which nothing was read, set or opened for writing. A run that
     /// ends in an error keeps the outcome of the run before.
@@ -38,7 +39,7 @@ pub trait Body<L: Law> {
             L.holds (law self.new) (with_set map (M.written mem.new))) }
         ensures right { OnOk result ((map : List Val) → M.Admits mem.new map →
             right self.new map (with_set map (M.written mem.new))) }
-        ensures audits { OnOk result ((o : ℕ) → audits self.new o → IsSome (M.held mem.new o)) }
+        ensures leaves { OnOk result (leaves self.new (M.held mem.new) (M.is_opened mem.new)) }
         ensures law { law self.new ≡ law self.old }
         ensures task { task self.new ≡ task self.old }
         ensures outcome { IfErr result (λ _. outcome self.new ≡ outcome self.old) }

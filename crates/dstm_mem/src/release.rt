@@ -1,4 +1,4 @@
-ghost use Rattle.std.specs.Prelude.{◌≡◌, ℕ, ◌<◌, ◌&&◌, ◌↔◌, List, is_some, not, IsSome, IsTrue, false, OnOk, IfErr};
+ghost use Rattle.std.specs.Prelude.{◌≡◌, ℕ, ◌<◌, ◌&&◌, ◌↔◌, Bool, List, Option, is_some, not, IsTrue, false, OnOk, IfErr};
 ghost use Rattle.dstm_model.specs.declared.value.Val.{Val};
 ghost use Rattle.dstm_mem.specs.Memory.{with_set, AgreesWith, HoldsAtMost, HoldsWithout};
 ghost use Rattle.dstm_mem.specs.Operations.{IsFresh, Leads};
@@ -68,8 +68,9 @@ pub trait LooseBody<L: Law> {
     /// second.
     ghost right: { Self → List Val → List Val → Type 0 };
 
-    /// A run that ends without an error has read this object, and keeps the read.
-    ghost audits: { Self → ℕ → Type 0 };
+    /// What a run that ends without an error leaves of its memory: of the reads that are kept, and of the objects that are
+    /// opened for writing.
+    ghost leaves: { Self → (ℕ → Option Val) → (ℕ → Bool) → Type 0 };
 
     /// A run that ends without an error, on a memory whose reads stay reads, keeps at most so many.
     ghost keeps_at_most: { Self → ℕ → Type 0 };
@@ -84,7 +85,7 @@ pub trait LooseBody<L: Law> {
             L.holds (law self.new) (with_set map (M.Mem.written mem.new))) }
         ensures right { OnOk result ((map : List Val) → M.Mem.Admits mem.new map →
             right self.new map (with_set map (M.Mem.written mem.new))) }
-        ensures audits { OnOk result ((o : ℕ) → audits self.new o → IsSome (M.Mem.held mem.new o)) }
+        ensures leaves { OnOk result (leaves self.new (M.Mem.held mem.new) (M.Mem.is_opened mem.new)) }
         ensures few { OnOk result (M.Mem.all_write (M.Mem.place mem.old) ≡ false →
             (most : ℕ) → keeps_at_most self.new most → HoldsAtMost most (M.Mem.held mem.new)) }
         ensures law { law self.new ≡ law self.old }

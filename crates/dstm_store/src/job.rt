@@ -91,7 +91,7 @@ impl<'a> Body<StoreLaw> for JobBody<'a> {
 
     ghost right = { λ job before after. DoesAll job.task before after job.replies };
 
-    ghost audits = { λ job. Audits job.task };
+    ghost leaves = { λ job held opened. (o : ℕ) → Audits job.task o → IsSome (held o) };
 
     fn run<M: Mem>(&mut self, mem: &mut M) -> Result<(), M::Err> {
         self.replies = run_all::<M, KeepsReads>(mem, self.layout, self.ops.as_slice())?;

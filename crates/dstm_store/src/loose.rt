@@ -72,7 +72,7 @@ impl LooseBody<StoreLaw> for LooseJobBody {
 
     ghost right = { λ job before after. DoesAll job.task before after job.replies };
 
-    ghost audits = { λ job. Audits job.task };
+    ghost leaves = { λ job held opened. (o : ℕ) → Audits job.task o → IsSome (held o) };
 
     ghost keeps_at_most = { λ job. KeepsAtMost job.task };
 

@@ -1,4 +1,4 @@
-ghost use Rattle.std.specs.Prelude.{◌≡◌, ℕ, ◌<◌, List, length, slice_set, IsTrue, true, false, IfOk};
+ghost use Rattle.std.specs.Prelude.{◌≡◌, ℕ, ◌<◌, List, length, slice_set, IsSome, IsTrue, true, false, IfOk};
 ghost use Rattle.dstm_model.specs.declared.value.Val.{Val};
 ghost use Rattle.dstm_model.specs.Map.{value_at};
 
@@ -36,7 +36,7 @@ impl Body<NotEmpty> for Replace {
 
     ghost right = { λ s map after. (s.found ≡ value_at map 0) × (after ≡ slice_set map 0 s.value) };
 
-    ghost audits = { λ s o. o ≡ 0 };
+    ghost leaves = { λ s held opened. IsSome (held 0) × IsTrue (opened 0) };
 
     fn run<M: Mem>(&mut self, mem: &mut M) -> Result<(), M::Err> {
         self.found = mem.open_write(0)?;

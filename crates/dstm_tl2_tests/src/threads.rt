@@ -43,7 +43,7 @@ impl Body<TwoObjects> for Move {
 
     ghost right = { λ _ _ _. Unit {0} };
 
-    ghost audits = { λ _ _. ⊥ };
+    ghost leaves = { λ _ _ _. Unit {0} };
 
     fn run<M: Mem>(&mut self, mem: &mut M) -> Result<(), M::Err> {
         let source = mem.open_write(0)?;

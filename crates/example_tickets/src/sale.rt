@@ -63,7 +63,7 @@ impl Body<NoneLost> for Sell {
 
     ghost right = { λ sale before after. Sells sale.desk sale.sold before after };
 
-    ghost audits = { λ sale o. o ≡ 0 };
+    ghost leaves = { λ sale held opened. IsSome (held 0) };
 
     fn run<M: Mem>(&mut self, mem: &mut M) -> Result<(), M::Err> {
         let left = mem.open_write(LEFT)?;
