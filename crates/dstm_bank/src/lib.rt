@@ -2,12 +2,11 @@
 //! the low part of its value.
 #![tactic(auto)]
 
-ghost use Rattle.std.specs.Prelude.{◌≡◌, ◌≢◌, ℕ, ◌<◌, ◌≤◌, List, IsSome, IfOk, OnOk};
-ghost use Rattle.dstm_model.specs.declared.value.Val.{Val};
+ghost use Rattle.std.specs.Prelude.{◌≡◌, ◌≢◌, ◌⊎◌, ℕ, ◌<◌, IsSome, IfOk, OnOk};
 ghost use Rattle.dstm_model.specs.Layout.{IsValid, FitsLayout};
-ghost use Rattle.dstm_model.specs.Objects.{objects_of, IsBank, Does};
-ghost use Rattle.dstm_mem.specs.Memory.{with_set};
-ghost use Rattle.dstm_mem.specs.Operations.{IsReady, Leads, OnlyReads, OpensToSet};
+ghost use Rattle.dstm_model.specs.Objects.{objects_of, IsBank};
+ghost use Rattle.dstm_mem.specs.Operations.{IsReady};
+ghost use Rattle.dstm_mem.specs.Operates.{Applies};
 
 use dstm_mem::Mem;
 use dstm_model::{Layout, Op, Reply, Val};
@@ -25,19 +24,12 @@ pub fn transfer<M: Mem>(
     requires fits { FitsLayout layout.now (Op.Transfer source target amount) }
     requires ready { IsReady M.Mem (objects_of layout.now) (IsBank layout.now) mem.old }
 
-    ensures does { IfOk result (λ reply. (map : List Val) → M.Admits mem.new map →
-        Does (IsBank layout.now) (Op.Transfer source target amount)
-        (with_set map (M.written mem.old)) (with_set map (M.written mem.new)) reply) }
-    ensures sets { OnOk result ((p : ℕ) → p ≢ source → p ≢ target → M.written mem.new p ≡ M.written mem.old p) }
-    ensures opens { OnOk result ((p : ℕ) → p ≢ source → p ≢ target →
-        (M.held mem.new p ≡ M.held mem.old p) × (M.is_opened mem.new p ≡ M.is_opened mem.old p)) }
+    ensures applies { Applies M.Mem (λ p. (p ≡ source) ⊎ (p ≡ target)) (IsBank layout.now)
+        (Op.Transfer source target amount) mem.old mem.new result }
     ensures poor { IfOk result (λ reply. reply ≡ Reply.Poor → (p : ℕ) → p ≢ source →
         (M.held mem.new p ≡ M.held mem.old p) × (M.is_opened mem.new p ≡ M.is_opened mem.old p)) }
     ensures unchanged { IfOk result (λ reply. reply ≡ Reply.Poor →
         (p : ℕ) → M.written mem.new p ≡ M.written mem.old p) }
-    ensures moved { IfOk result (λ reply. reply ≢ Reply.Poor → OpensToSet M.Mem mem.old mem.new) }
-    ensures itself { source ≡ target → OnOk result (OnlyReads M.Mem mem.old mem.new) }
-    ensures leads { Leads M.Mem mem.old mem.new result }
 {
     if source == target {
         let balance = mem.open_read(source)?.low;
@@ -71,13 +63,7 @@ pub fn balance<M: Mem>(mem: &mut M, layout: &Layout, account: u32) -> Result<Rep
     requires fits { FitsLayout layout.now (Op.Balance account) }
     requires ready { IsReady M.Mem (objects_of layout.now) (IsBank layout.now) mem.old }
 
-    ensures does { IfOk result (λ reply. (map : List Val) → M.Admits mem.new map →
-        Does (IsBank layout.now) (Op.Balance account)
-        (with_set map (M.written mem.old)) (with_set map (M.written mem.new)) reply) }
-    ensures looks { OnOk result (OnlyReads M.Mem mem.old mem.new) }
-    ensures opens { OnOk result ((p : ℕ) → p ≢ account →
-        (M.held mem.new p ≡ M.held mem.old p) × (M.is_opened mem.new p ≡ M.is_opened mem.old p)) }
-    ensures leads { Leads M.Mem mem.old mem.new result }
+    ensures { Applies M.Mem (λ p. p ≡ account) (IsBank layout.now) (Op.Balance account) mem.old mem.new result }
 {
     let value = mem.open_read(account)?;
     Ok(Reply::Number(value.low))
@@ -90,14 +76,9 @@ pub fn total<M: Mem>(mem: &mut M, layout: &Layout) -> Result<Reply, M::Err>
     requires fits { FitsLayout layout.now Op.Total }
     requires ready { IsReady M.Mem (objects_of layout.now) (IsBank layout.now) mem.old }
 
-    ensures does { IfOk result (λ reply. (map : List Val) → M.Admits mem.new map →
-        Does (IsBank layout.now) Op.Total
-        (with_set map (M.written mem.old)) (with_set map (M.written mem.new)) reply) }
+    ensures applies { Applies M.Mem (λ p. p < layout.now.accounts) (IsBank layout.now) Op.Total
+        mem.old mem.new result }
     ensures audits { OnOk result ((a : ℕ) → a < layout.now.accounts → IsSome (M.held mem.new a)) }
-    ensures looks { OnOk result (OnlyReads M.Mem mem.old mem.new) }
-    ensures opens { OnOk result ((p : ℕ) → layout.now.accounts ≤ p →
-        (M.held mem.new p ≡ M.held mem.old p) × (M.is_opened mem.new p ≡ M.is_opened mem.old p)) }
-    ensures leads { Leads M.Mem mem.old mem.new result }
 {
     let mut sum: u64 = 0;
     for account in 0..layout.accounts {

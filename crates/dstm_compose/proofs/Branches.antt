@@ -16,7 +16,7 @@ use Rattle.dstm_model.specs.declared.reply.Reply.{Reply}
 use Rattle.dstm_model.specs.Layout.{FitsLayout, FitsCond}
 use Rattle.dstm_model.specs.Store.{Store, IsPlain, apply, yes_or_no, is_member}
 use Rattle.dstm_model.specs.Job.{is_open, holds_in}
-use Rattle.dstm_store.specs.Looks.{IsLook}
+use Rattle.dstm_mem.specs.Operates.{IsLook}
 use Rattle.dstm_compose.specs.Compose.{condition_of, look_of, shows}
 
 shows-yes : (which : Which) (key : ℕ) (b : Bool) → shows (cond.Key which key) (yes_or_no b) ≡ b

@@ -1,55 +1,109 @@
--- An operation whose first part only read: what the second part does, it does as a whole.
-use Rattle.std.proofs.Common.{◌≡◌, ℕ, List, refl, sym, ◌∙◌, subst}
-use Rattle.std.specs.Prelude.{is_some}
+-- A walk along the list, and an operation whose first part is one.
+use Rattle.std.proofs.Common.{◌≡◌, ◌≢◌, ℕ, List, refl, sym, ◌∙◌, ap, subst, slice_set}
+use Rattle.std.specs.Prelude.{Ok, is_some}
 use Rattle.dstm_model.specs.declared.value.Val.{Val}
 use Rattle.dstm_model.specs.declared.layout.Layout.{Layout}
 use Rattle.dstm_model.specs.declared.op.Which.TheVariants as which
 use Rattle.dstm_model.specs.declared.op.Op.{Op}
 use Rattle.dstm_model.specs.declared.op.Op.TheVariants.{Member}
 use Rattle.dstm_model.specs.declared.reply.Reply.{Reply}
-use Rattle.dstm_model.specs.Store.{yes_or_no}
-use Rattle.dstm_model.specs.Objects.{Does}
+use Rattle.dstm_model.specs.Layout.{IsValid}
+use Rattle.dstm_model.specs.Store.{Store, yes_or_no}
+use Rattle.dstm_model.specs.Objects.{Does, list_begin, node_object}
 use Rattle.dstm_mem.specs.declared.memory.Mem.{Ghosts}
 use Rattle.dstm_mem.specs.Memory.{with_set}
-use Rattle.dstm_mem.specs.Operations.{OnlyReads}
+use Rattle.dstm_mem.specs.Operations.{Leads, OnlyReads}
+use Rattle.dstm_mem.specs.Operates.{Operates, Applies}
+use Rattle.dstm_mem.proofs.Operations.{leads-answers, opens_to_set-of_reads}
+use Rattle.dstm_mem.proofs.Operating.{Through, operates-as, operates-then}
 use Rattle.dstm_mem.proofs.WithSet.{with_set-same}
+use Rattle.dstm_list.specs.declared.node.Node.{Node}
 use Rattle.dstm_list.specs.declared.walk.Place.{Place}
-use Rattle.dstm_list.specs.List.{IsList, SameButThree}
-use Rattle.dstm_list.specs.Place.{Finds}
+use Rattle.dstm_list.specs.List.{IsList, IsOfList, SameOutside, SameButThree}
+use Rattle.dstm_list.specs.Place.{Finds, Walks, Sees, Stands}
+use Rattle.dstm_list.proofs.Steps.{IsNext, stands-seen}
 use Rattle.dstm_list.proofs.Operations.{does-member}
 
-module _ {S E : Type 0} (M : Ghosts S E) where
-  -- a place that was found is found
-  pub found-walked : {old mid : S} (layout : Layout) (key : ℕ) (place : Place) → OnlyReads M old mid →
-      ((map : List Val) → M.Admits mid map → Finds layout (with_set map (M.written old)) key place) →
-      (map : List Val) → M.Admits mid map → Finds layout (with_set map (M.written mid)) key place
-  found-walked {old} {mid} layout key place reads found map admitted =
-      subst (λ (values : List Val). Finds layout values key place)
-      (sym (with_set-same map (M.written old) (M.written mid) reads.sets)) (found map admitted)
+-- ---- on the way
 
-  pub does-walked : {old mid new : S} (layout : Layout) (op : Op) (reply : Reply) → OnlyReads M old mid →
-      ((map : List Val) → M.Admits new map →
-      Does (IsList layout) op (with_set map (M.written mid)) (with_set map (M.written new)) reply) →
-      (map : List Val) → M.Admits new map →
-      Does (IsList layout) op (with_set map (M.written old)) (with_set map (M.written new)) reply
-  does-walked {old} {mid} {new} layout op reply reads does map admitted =
-      subst (λ (values : List Val). Does (IsList layout) op values (with_set map (M.written new)) reply)
-      (with_set-same map (M.written old) (M.written mid) reads.sets) (does map admitted)
+-- a walk for a key has come to the object that links on, and nothing was changed
+pub record Reaches (layout : Layout) (key link : ℕ) (before : Node) (start now : List Val) : Type 0 where
+  pub same : now ≡ start
+  pub stands : (store : Store) (list : IsList layout start store) →
+      Stands (list_begin layout) key link before list.cells
 
-  pub few-walked : {old mid new : S} (layout : Layout) → OnlyReads M old mid →
-      SameButThree layout (M.written mid) (M.written new) → SameButThree layout (M.written old) (M.written new)
-  few-walked layout reads few =
+-- the node that is seen next is that of the next cell
+pub next-seen : {layout : Layout} {key link object : ℕ} {before next : Node} {start now : List Val} →
+    IsValid layout → before.next ≢ 0 → object ≡ node_object (list_begin layout) before.next →
+    (h : Through (Reaches layout key link before) (Sees object next) start now) → (store : Store) →
+    (list : IsList layout start store) → IsNext (h.first.stands store list).ahead before.next next
+next-seen {object = object} {next = next} valid some at h store list =
+    stands-seen h.mid object next valid list (h.first.stands store list) some h.first.same at h.second.key
+    h.second.next
+
+-- an object that is known otherwise was set to a value that is known otherwise
+pub set-known : {before now after : List Val} {o p : ℕ} {v u : Val} → after ≡ slice_set now o v → now ≡ before →
+    o ≡ p → v ≡ u → after ≡ slice_set before p u
+set-known {before} {now} {after} {o} {p} {v} {u} set same object value =
+    set ∙ ap (λ x. slice_set x o v) same ∙ ap (λ q. slice_set before q v) object ∙ ap (slice_set before p) value
+
+-- an operation that does something on each map that was admitted before it
+pub operates-at : {S E : Type 0} {M : Ghosts S E} {In : ℕ → Type 0} {A B : Type 0} {Q T : A → Type 0}
+    {Q' T' : B → Type 0} {R : A → List Val → List Val → Type 0} {R' : B → List Val → List Val → Type 0} {old new : S}
+    {x : A} {y : B} → Operates M In Q T R old new (Ok x) → (Q' y → Q x) → (T' y → T x) →
+    ((map : List Val) → M.Admits old map → R x (with_set map (M.written old)) (with_set map (M.written new)) →
+    R' y (with_set map (M.written old)) (with_set map (M.written new))) → Operates M In Q' T' R' old new (Ok y)
+operates-at {M = M} done quiet marks does = record {
+  leads = leads-answers M done.leads;
+  outside = done.outside;
+  marks = λ all. done.marks (marks all);
+  quiet = λ look. done.quiet (quiet look);
+  does = λ map admitted. does map (done.leads.narrows map admitted) (done.does map admitted);
+}
+
+-- ---- after it
+
+module _ {S E : Type 0} (M : Ghosts S E) (layout : Layout) where
+  -- a walk, of what is known of it one by one
+  pub walks-by : {old new : S} {A : Type 0} {x : A} (key : ℕ) (place : Place) → Leads M old new (Ok x) →
+      OnlyReads M old new → SameOutside layout (M.held old) (M.held new) →
+      SameOutside layout (M.is_opened old) (M.is_opened new) →
+      ((map : List Val) → M.Admits new map → Finds layout (with_set map (M.written old)) key place) →
+      Operates M (IsOfList layout) (λ found. Unit {0}) (λ found. Unit {0}) (Walks layout key) old new (Ok place)
+  walks-by {old} {new} key place leads reads holds opens finds = record {
+    leads = leads-answers M leads;
+    outside = λ o out. record { written = reads.sets o; held = holds o out; opened = opens o out };
+    marks = λ all. opens_to_set-of_reads M reads;
+    quiet = λ q. reads;
+    does = λ map admitted. record {
+      same = with_set-same map (M.written old) (M.written new) reads.sets;
+      finds = finds map admitted;
+    };
+  }
+
+  -- what is applied after a walk is applied by both
+  pub applies-walked : {old mid new : S} {place : Place} {key : ℕ} (op : Op) (reply : Reply) →
+      Operates M (IsOfList layout) (λ found. Unit {0}) (λ found. Unit {0}) (Walks layout key) old mid (Ok place) →
+      Applies M (IsOfList layout) (IsList layout) op mid new (Ok reply) →
+      Applies M (IsOfList layout) (IsList layout) op old new (Ok reply)
+  applies-walked op reply walks done =
+      operates-as (operates-then walks done) (λ look. (tt, look)) (λ all. (tt, all))
+      (λ before after h.
+      subst (λ (values : List Val). Does (IsList layout) op values after reply) h.first.same h.second)
+
+  pub few-walked : {old mid new : S} → OnlyReads M old mid → SameButThree layout (M.written mid) (M.written new) →
+      SameButThree layout (M.written old) (M.written new)
+  few-walked reads few =
       (few.0, (few.1.0, λ p not_link not_node not_free. few.1.1 p not_link not_node not_free ∙ reads.sets p))
 
   -- a walk alone tells whether the key is there
-  pub member-walked : {old new : S} (layout : Layout) (key : ℕ) (place : Place) (reply : Reply) → OnlyReads M old new →
-      ((map : List Val) → M.Admits new map → Finds layout (with_set map (M.written old)) key place) →
-      reply ≡ yes_or_no (is_some place.node) → (map : List Val) → M.Admits new map →
-      Does (IsList layout) (Member which.List key) (with_set map (M.written old)) (with_set map (M.written new)) reply
-  member-walked {old} {new} layout key place reply reads found is map admitted =
-      let before = with_set map (M.written old) in
+  pub member-walked : {old new : S} {place : Place} {key : ℕ} (reply : Reply) →
+      Operates M (IsOfList layout) (λ found. Unit {0}) (λ found. Unit {0}) (Walks layout key) old new (Ok place) →
+      reply ≡ yes_or_no (is_some place.node) →
+      Applies M (IsOfList layout) (IsList layout) (Member which.List key) old new (Ok reply)
+  member-walked {place = place} {key = key} reply walks is =
+      operates-as walks (λ look. tt) (λ all. tt) (λ before after h.
       let op = Member which.List key in
-      subst (λ (r : Reply). Does (IsList layout) op before (with_set map (M.written new)) r) (sym is)
-      (subst (λ (after : List Val). Does (IsList layout) op before after (yes_or_no (is_some place.node)))
-      (sym (with_set-same map (M.written old) (M.written new) reads.sets))
-      (does-member key place (is_some place.node) (found map admitted) refl))
+      subst (λ (r : Reply). Does (IsList layout) op before after r) (sym is)
+      (subst (λ (now : List Val). Does (IsList layout) op before now (yes_or_no (is_some place.node))) (sym h.same)
+      (does-member key place (is_some place.node) h.finds refl)))

@@ -1,12 +1,13 @@
--- Where a walk along the list stands, and the place of a key.
-use Rattle.std.specs.Prelude.{◌≡◌, ℕ, ◌<◌, List, [], ◌∷◌, ◌++◌, Option, Some, None}
+-- Where a walk along the list stands, the place of a key, and what is seen and changed there.
+use Rattle.std.specs.Prelude.{◌≡◌, ℕ, ◌<◌, List, [], ◌∷◌, ◌++◌, Option, Some, None, slice_set}
 use Rattle.dstm_model.specs.declared.value.Val.{Val}
 use Rattle.dstm_model.specs.declared.layout.Layout.{Layout}
+use Rattle.dstm_model.specs.Map.{value_at}
 use Rattle.dstm_model.specs.Store.{Store}
 use Rattle.dstm_model.specs.Objects.{list_begin, node_object}
 use Rattle.dstm_list.specs.declared.node.Node.{Node}
 use Rattle.dstm_list.specs.declared.walk.Place.{Place}
-use Rattle.dstm_list.specs.List.{Cell, IsList, numbers_of, first_of}
+use Rattle.dstm_list.specs.List.{Cell, IsList, numbers_of, first_of, key_of, next_of}
 
 -- the object that links to what comes after these cells: that of the last one, or the given one where
 -- there is none
@@ -53,3 +54,19 @@ pub record IsPlace (begin key : ℕ) (place : Place) (cells : List Cell) : Type 
 abbrev pub Finds : Layout → List Val → ℕ → Place → Type 0
 Finds layout values key place =
     (store : Store) (list : IsList layout values store) → IsPlace (list_begin layout) key place list.cells
+
+-- the place of a key was found, and nothing was changed
+pub record Walks (layout : Layout) (key : ℕ) (place : Place) (before after : List Val) : Type 0 where
+  pub same : after ≡ before
+  pub finds : Finds layout before key place
+
+-- an object was seen to hold this node, and nothing was changed
+pub record Sees (object : ℕ) (node : Node) (before after : List Val) : Type 0 where
+  pub key : node.key ≡ key_of (value_at before object)
+  pub next : node.next ≡ next_of (value_at before object)
+  pub same : after ≡ before
+
+-- an object was given a value, and had this one
+pub record Replaces (object : ℕ) (value found : Val) (before after : List Val) : Type 0 where
+  pub had : value_at before object ≡ found
+  pub set : after ≡ slice_set before object value

@@ -3,10 +3,11 @@ ghost use Rattle.dstm_model.specs.declared.value.Val.{Val};
 ghost use Rattle.dstm_model.specs.declared.op.Which.TheVariants as which;
 ghost use Rattle.dstm_model.specs.Layout.{IsValid, FitsLayout};
 ghost use Rattle.dstm_model.specs.Store.{yes_or_no};
-ghost use Rattle.dstm_model.specs.Objects.{objects_of, list_begin, free_object, node_object, Does};
+ghost use Rattle.dstm_model.specs.Objects.{objects_of, list_begin, free_object, node_object};
 ghost use Rattle.dstm_mem.specs.Memory.{with_set};
-ghost use Rattle.dstm_mem.specs.Operations.{IsReady, Leads, OnlyReads, OpensToSet};
-ghost use Rattle.dstm_list.specs.List.{IsList, IsOfList, SameOutside, SameButThree};
+ghost use Rattle.dstm_mem.specs.Operations.{IsReady};
+ghost use Rattle.dstm_mem.specs.Operates.{Applies};
+ghost use Rattle.dstm_list.specs.List.{IsList, IsOfList, SameButThree};
 ghost use Rattle.dstm_list.specs.Place.{Finds};
 ghost use Rattle.dstm_list.specs.Reads.{AddsNoRead, AddsReadOf};
 
@@ -33,20 +34,12 @@ pub fn insert_at<M: Mem>(
         Finds layout.now (with_set map (M.written mem.old)) key place }
     requires link { IsOfList layout.now place.link }
 
-    ensures does { IfOk result (λ reply. (map : List Val) → M.Admits mem.new map →
-        Does (IsList layout.now) (Op.Insert which.List key)
-        (with_set map (M.written mem.old)) (with_set map (M.written mem.new)) reply) }
-    ensures unchanged { IfOk result (λ reply. reply ≢ Reply.Yes → OnlyReads M.Mem mem.old mem.new) }
-    ensures marks { OnOk result (OpensToSet M.Mem mem.old mem.new) }
-    ensures sets { OnOk result (SameOutside layout.now (M.written mem.old) (M.written mem.new)) }
+    ensures applies { Applies M.Mem (IsOfList layout.now) (IsList layout.now) (Op.Insert which.List key)
+        mem.old mem.new result }
     ensures few { OnOk result (SameButThree layout.now (M.written mem.old) (M.written mem.new)) }
     ensures looked { OnOk result (AddsReadOf M.Mem (free_object (list_begin layout.now)) mem.old mem.new) }
     ensures reads { IfOk result (λ reply. reply ≢ Reply.Full → AddsNoRead M.Mem mem.old mem.new) }
     ensures link_opened { IfOk result (λ reply. reply ≡ Reply.Yes → IsTrue (M.is_opened mem.new place.link)) }
-    ensures holds { OnOk result (SameOutside layout.now (M.held mem.old) (M.held mem.new)) }
-    ensures opens { OnOk result (SameOutside layout.now (M.is_opened mem.old) (M.is_opened mem.new)) }
-
-    ensures leads { Leads M.Mem mem.old mem.new result }
 {
     if place.node.is_some() {
         return Ok(Reply::No);
@@ -87,22 +80,14 @@ pub fn remove_at<M: Mem>(
         Finds layout.now (with_set map (M.written mem.old)) key place }
     requires link { IsOfList layout.now place.link }
 
-    ensures does { IfOk result (λ reply. (map : List Val) → M.Admits mem.new map →
-        Does (IsList layout.now) (Op.Remove which.List key)
-        (with_set map (M.written mem.old)) (with_set map (M.written mem.new)) reply) }
-    ensures unchanged { IfOk result (λ reply. reply ≢ Reply.Yes → OnlyReads M.Mem mem.old mem.new) }
-    ensures marks { OnOk result (OpensToSet M.Mem mem.old mem.new) }
-    ensures sets { OnOk result (SameOutside layout.now (M.written mem.old) (M.written mem.new)) }
+    ensures applies { Applies M.Mem (IsOfList layout.now) (IsList layout.now) (Op.Remove which.List key)
+        mem.old mem.new result }
     ensures few { OnOk result (SameButThree layout.now (M.written mem.old) (M.written mem.new)) }
     ensures reads { OnOk result (AddsNoRead M.Mem mem.old mem.new) }
     ensures there { IfOk result (λ reply. reply ≡ yes_or_no (is_some place.node)) }
     ensures link_opened { IfOk result (λ reply. reply ≡ Reply.Yes → IsTrue (M.is_opened mem.new place.link)) }
     ensures node_opened { IfOk result (λ reply. reply ≡ Reply.Yes →
         IsTrue (M.is_opened mem.new (node_object (list_begin layout.now) place.before.next))) }
-    ensures holds { OnOk result (SameOutside layout.now (M.held mem.old) (M.held mem.new)) }
-    ensures opens { OnOk result (SameOutside layout.now (M.is_opened mem.old) (M.is_opened mem.new)) }
-
-    ensures leads { Leads M.Mem mem.old mem.new result }
 {
     let Some(node) = place.node else {
         return Ok(Reply::No);

@@ -2,14 +2,13 @@
 //! and the number of the next, in rising order of the keys, and a chain of the nodes that are free.
 #![tactic(auto)]
 
-ghost use Rattle.std.specs.Prelude.{◌≡◌, ◌≢◌, List, IfOk, OnOk};
-ghost use Rattle.dstm_model.specs.declared.value.Val.{Val};
+ghost use Rattle.std.specs.Prelude.{OnOk};
 ghost use Rattle.dstm_model.specs.declared.op.Which.TheVariants as which;
 ghost use Rattle.dstm_model.specs.Layout.{IsValid, FitsLayout};
-ghost use Rattle.dstm_model.specs.Objects.{objects_of, Does};
-ghost use Rattle.dstm_mem.specs.Memory.{with_set};
-ghost use Rattle.dstm_mem.specs.Operations.{IsReady, Leads, OnlyReads, OpensToSet};
-ghost use Rattle.dstm_list.specs.List.{IsList, SameOutside, SameButThree};
+ghost use Rattle.dstm_model.specs.Objects.{objects_of};
+ghost use Rattle.dstm_mem.specs.Operations.{IsReady};
+ghost use Rattle.dstm_mem.specs.Operates.{Applies};
+ghost use Rattle.dstm_list.specs.List.{IsList, IsOfList, SameButThree};
 
 mod edit;
 mod node;
@@ -30,17 +29,9 @@ pub fn insert<M: Mem>(mem: &mut M, layout: &Layout, key: u32) -> Result<Reply, M
     requires fits { FitsLayout layout.now (Op.Insert which.List key) }
     requires ready { IsReady M.Mem (objects_of layout.now) (IsList layout.now) mem.old }
 
-    ensures does { IfOk result (λ reply. (map : List Val) → M.Admits mem.new map →
-        Does (IsList layout.now) (Op.Insert which.List key)
-        (with_set map (M.written mem.old)) (with_set map (M.written mem.new)) reply) }
-    ensures unchanged { IfOk result (λ reply. reply ≢ Reply.Yes → OnlyReads M.Mem mem.old mem.new) }
-    ensures marks { OnOk result (OpensToSet M.Mem mem.old mem.new) }
-    ensures sets { OnOk result (SameOutside layout.now (M.written mem.old) (M.written mem.new)) }
+    ensures applies { Applies M.Mem (IsOfList layout.now) (IsList layout.now) (Op.Insert which.List key)
+        mem.old mem.new result }
     ensures few { OnOk result (SameButThree layout.now (M.written mem.old) (M.written mem.new)) }
-    ensures holds { OnOk result (SameOutside layout.now (M.held mem.old) (M.held mem.new)) }
-    ensures opens { OnOk result (SameOutside layout.now (M.is_opened mem.old) (M.is_opened mem.new)) }
-
-    ensures leads { Leads M.Mem mem.old mem.new result }
 {
     let place = find(mem, layout, key)?;
     let reply = insert_at(mem, layout, key, place)?;
@@ -54,17 +45,9 @@ pub fn remove<M: Mem>(mem: &mut M, layout: &Layout, key: u32) -> Result<Reply, M
     requires fits { FitsLayout layout.now (Op.Remove which.List key) }
     requires ready { IsReady M.Mem (objects_of layout.now) (IsList layout.now) mem.old }
 
-    ensures does { IfOk result (λ reply. (map : List Val) → M.Admits mem.new map →
-        Does (IsList layout.now) (Op.Remove which.List key)
-        (with_set map (M.written mem.old)) (with_set map (M.written mem.new)) reply) }
-    ensures unchanged { IfOk result (λ reply. reply ≢ Reply.Yes → OnlyReads M.Mem mem.old mem.new) }
-    ensures marks { OnOk result (OpensToSet M.Mem mem.old mem.new) }
-    ensures sets { OnOk result (SameOutside layout.now (M.written mem.old) (M.written mem.new)) }
+    ensures applies { Applies M.Mem (IsOfList layout.now) (IsList layout.now) (Op.Remove which.List key)
+        mem.old mem.new result }
     ensures few { OnOk result (SameButThree layout.now (M.written mem.old) (M.written mem.new)) }
-    ensures holds { OnOk result (SameOutside layout.now (M.held mem.old) (M.held mem.new)) }
-    ensures opens { OnOk result (SameOutside layout.now (M.is_opened mem.old) (M.is_opened mem.new)) }
-
-    ensures leads { Leads M.Mem mem.old mem.new result }
 {
     let place = find(mem, layout, key)?;
     let reply = remove_at(mem, layout, key, place)?;
@@ -77,14 +60,8 @@ pub fn member<M: Mem>(mem: &mut M, layout: &Layout, key: u32) -> Result<Reply, M
     requires fits { FitsLayout layout.now (Op.Member which.List key) }
     requires ready { IsReady M.Mem (objects_of layout.now) (IsList layout.now) mem.old }
 
-    ensures does { IfOk result (λ reply. (map : List Val) → M.Admits mem.new map →
-        Does (IsList layout.now) (Op.Member which.List key)
-        (with_set map (M.written mem.old)) (with_set map (M.written mem.new)) reply) }
-    ensures looks { OnOk result (OnlyReads M.Mem mem.old mem.new) }
-    ensures holds { OnOk result (SameOutside layout.now (M.held mem.old) (M.held mem.new)) }
-    ensures opens { OnOk result (SameOutside layout.now (M.is_opened mem.old) (M.is_opened mem.new)) }
-
-    ensures leads { Leads M.Mem mem.old mem.new result }
+    ensures { Applies M.Mem (IsOfList layout.now) (IsList layout.now) (Op.Member which.List key)
+        mem.old mem.new result }
 {
     let place = find(mem, layout, key)?;
     Ok(member_at(place))

@@ -1,11 +1,10 @@
-ghost use Rattle.std.specs.Prelude.{◌≡◌, ◌+◌, ◌<◌, List, IsTrue, IfOk, OnOk};
-ghost use Rattle.dstm_model.specs.declared.value.Val.{Val};
+ghost use Rattle.std.specs.Prelude.{◌≡◌, ◌<◌, IsTrue, OnOk};
 ghost use Rattle.dstm_model.specs.Layout.{IsValid};
-ghost use Rattle.dstm_model.specs.Map.{value_at};
 ghost use Rattle.dstm_model.specs.Objects.{objects_of, list_begin, node_object};
-ghost use Rattle.dstm_mem.specs.Memory.{with_set, SetsOnly};
-ghost use Rattle.dstm_mem.specs.Operations.{Leads, OnlyReads, OpensToSet};
-ghost use Rattle.dstm_list.specs.List.{IsOfList, SameOutside, key_of, next_of};
+ghost use Rattle.dstm_mem.specs.Memory.{SetsOnly};
+ghost use Rattle.dstm_mem.specs.Operates.{Operates};
+ghost use Rattle.dstm_list.specs.List.{IsOfList};
+ghost use Rattle.dstm_list.specs.Place.{Sees, Replaces};
 ghost use Rattle.dstm_list.specs.Reads.{AddsNoRead, AddsReadOf, OpensAlso};
 
 use crate::node::Node;
@@ -28,16 +27,9 @@ pub fn look<M: Mem>(mem: &mut M, layout: &Layout, object: u32) -> Result<Node, M
     requires objects { M.objects mem.old ≡ objects_of layout.now }
     requires live { IsTrue (M.is_live mem.old) }
 
-    ensures key { IfOk result (λ node. (map : List Val) → M.Admits mem.new map →
-        node.key ≡ key_of (value_at (with_set map (M.written mem.old)) object)) }
-    ensures next { IfOk result (λ node. (map : List Val) → M.Admits mem.new map →
-        node.next ≡ next_of (value_at (with_set map (M.written mem.old)) object)) }
-    ensures looks { OnOk result (OnlyReads M.Mem mem.old mem.new) }
+    ensures looks { Operates M.Mem (IsOfList layout.now) (λ node. Unit {0}) (λ node. Unit {0}) (Sees object)
+        mem.old mem.new result }
     ensures reads { OnOk result (AddsReadOf M.Mem object mem.old mem.new) }
-    ensures holds { OnOk result (SameOutside layout.now (M.held mem.old) (M.held mem.new)) }
-    ensures opens { OnOk result (SameOutside layout.now (M.is_opened mem.old) (M.is_opened mem.new)) }
-
-    ensures leads { Leads M.Mem mem.old mem.new result }
 {
     let value = mem.open_read(object)?;
     Ok(Node::of(value))
@@ -49,17 +41,11 @@ pub fn replace<M: Mem>(mem: &mut M, layout: &Layout, object: u32, value: Val) ->
     requires objects { M.objects mem.old ≡ objects_of layout.now }
     requires live { IsTrue (M.is_live mem.old) }
 
-    ensures had { IfOk result (λ had. (map : List Val) → M.Admits mem.new map →
-        value_at (with_set map (M.written mem.old)) object ≡ had) }
+    ensures sets { Operates M.Mem (IsOfList layout.now) (λ had. ⊥) (λ had. Unit {0}) (Replaces object value)
+        mem.old mem.new result }
     ensures written { OnOk result (SetsOnly object value (M.written mem.old) (M.written mem.new)) }
-    ensures marks { OnOk result (OpensToSet M.Mem mem.old mem.new) }
     ensures reads { OnOk result (AddsNoRead M.Mem mem.old mem.new) }
     ensures opened { OnOk result (OpensAlso object (M.is_opened mem.old) (M.is_opened mem.new)) }
-    ensures sets { OnOk result (SameOutside layout.now (M.written mem.old) (M.written mem.new)) }
-    ensures holds { OnOk result (SameOutside layout.now (M.held mem.old) (M.held mem.new)) }
-    ensures opens { OnOk result (SameOutside layout.now (M.is_opened mem.old) (M.is_opened mem.new)) }
-
-    ensures leads { Leads M.Mem mem.old mem.new result }
 {
     let had = mem.open_write(object)?;
     mem.set(object, value);

@@ -1,11 +1,10 @@
-ghost use Rattle.std.specs.Prelude.{◌<◌, List, IfOk, OnOk};
-ghost use Rattle.dstm_model.specs.declared.value.Val.{Val};
+ghost use Rattle.std.specs.Prelude.{◌<◌, IfOk};
 ghost use Rattle.dstm_model.specs.Layout.{IsValid};
 ghost use Rattle.dstm_model.specs.Objects.{objects_of};
-ghost use Rattle.dstm_mem.specs.Memory.{with_set};
-ghost use Rattle.dstm_mem.specs.Operations.{IsReady, Leads, OnlyReads};
-ghost use Rattle.dstm_list.specs.List.{IsList, IsOfList, SameOutside};
-ghost use Rattle.dstm_list.specs.Place.{Finds};
+ghost use Rattle.dstm_mem.specs.Operations.{IsReady};
+ghost use Rattle.dstm_mem.specs.Operates.{Operates};
+ghost use Rattle.dstm_list.specs.List.{IsList, IsOfList};
+ghost use Rattle.dstm_list.specs.Place.{Walks};
 
 use crate::node::Node;
 use crate::object::{look, node_object};
@@ -29,14 +28,9 @@ pub fn find<M: Mem>(mem: &mut M, layout: &Layout, key: u32) -> Result<Place, M::
     requires declared { 0 < layout.now.list }
     requires ready { IsReady M.Mem (objects_of layout.now) (IsList layout.now) mem.old }
 
-    ensures finds { IfOk result (λ found. (map : List Val) → M.Admits mem.new map →
-        Finds layout.now (with_set map (M.written mem.old)) key found) }
+    ensures walks { Operates M.Mem (IsOfList layout.now) (λ found. Unit {0}) (λ found. Unit {0}) (Walks layout.now key)
+        mem.old mem.new result }
     ensures link { IfOk result (λ found. IsOfList layout.now found.link) }
-    ensures looks { OnOk result (OnlyReads M.Mem mem.old mem.new) }
-    ensures holds { OnOk result (SameOutside layout.now (M.held mem.old) (M.held mem.new)) }
-    ensures opens { OnOk result (SameOutside layout.now (M.is_opened mem.old) (M.is_opened mem.new)) }
-
-    ensures leads { Leads M.Mem mem.old mem.new result }
 {
     let mut link = layout.accounts;
     let mut before = look(mem, layout, link)?;

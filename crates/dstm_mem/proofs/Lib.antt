@@ -1,5 +1,6 @@
 pub mod WithSet
 pub mod Operations
+pub mod Operating
 pub mod Pairs
 pub mod Few
 pub mod Settling

@@ -4,14 +4,13 @@
 //! the reads that are kept.
 #![tactic(auto)]
 
-ghost use Rattle.std.specs.Prelude.{◌≡◌, ◌≢◌, List, IfOk, OnOk};
-ghost use Rattle.dstm_model.specs.declared.value.Val.{Val};
+ghost use Rattle.std.specs.Prelude.{IfOk, OnOk};
 ghost use Rattle.dstm_model.specs.declared.op.Which.TheVariants as which;
 ghost use Rattle.dstm_model.specs.Layout.{IsValid, FitsLayout};
-ghost use Rattle.dstm_model.specs.Objects.{objects_of, Does};
-ghost use Rattle.dstm_mem.specs.Memory.{with_set};
-ghost use Rattle.dstm_mem.specs.Operations.{IsReady, Leads, OnlyReads, OpensToSet};
-ghost use Rattle.dstm_list.specs.List.{IsList, SameOutside, SameButThree};
+ghost use Rattle.dstm_model.specs.Objects.{objects_of};
+ghost use Rattle.dstm_mem.specs.Operations.{IsReady};
+ghost use Rattle.dstm_mem.specs.Operates.{Applies};
+ghost use Rattle.dstm_list.specs.List.{IsList, IsOfList, SameButThree};
 ghost use Rattle.dstm_release_list.specs.Walk.{AddsAtMost, most_of_insert, most_of_remove};
 
 mod stop;
@@ -30,18 +29,10 @@ pub fn insert<M: Release>(mem: &mut M, layout: &Layout, key: u32) -> Result<Repl
     requires fits { FitsLayout layout.now (Op.Insert which.List key) }
     requires ready { IsReady M.Mem (objects_of layout.now) (IsList layout.now) mem.old }
 
-    ensures does { IfOk result (λ reply. (map : List Val) → M.Mem.Admits mem.new map →
-        Does (IsList layout.now) (Op.Insert which.List key)
-        (with_set map (M.Mem.written mem.old)) (with_set map (M.Mem.written mem.new)) reply) }
-    ensures unchanged { IfOk result (λ reply. reply ≢ Reply.Yes → OnlyReads M.Mem mem.old mem.new) }
-    ensures marks { OnOk result (OpensToSet M.Mem mem.old mem.new) }
-    ensures sets { OnOk result (SameOutside layout.now (M.Mem.written mem.old) (M.Mem.written mem.new)) }
+    ensures applies { Applies M.Mem (IsOfList layout.now) (IsList layout.now) (Op.Insert which.List key)
+        mem.old mem.new result }
     ensures few { OnOk result (SameButThree layout.now (M.Mem.written mem.old) (M.Mem.written mem.new)) }
     ensures adds { IfOk result (λ reply. AddsAtMost (most_of_insert reply) M.Mem mem.old mem.new) }
-    ensures holds { OnOk result (SameOutside layout.now (M.Mem.held mem.old) (M.Mem.held mem.new)) }
-    ensures opens { OnOk result (SameOutside layout.now (M.Mem.is_opened mem.old) (M.Mem.is_opened mem.new)) }
-
-    ensures leads { Leads M.Mem mem.old mem.new result }
 {
     let place = walk(mem, layout, key)?;
     let reply = insert_at(mem, layout, key, place)?;
@@ -56,18 +47,10 @@ pub fn remove<M: Release>(mem: &mut M, layout: &Layout, key: u32) -> Result<Repl
     requires fits { FitsLayout layout.now (Op.Remove which.List key) }
     requires ready { IsReady M.Mem (objects_of layout.now) (IsList layout.now) mem.old }
 
-    ensures does { IfOk result (λ reply. (map : List Val) → M.Mem.Admits mem.new map →
-        Does (IsList layout.now) (Op.Remove which.List key)
-        (with_set map (M.Mem.written mem.old)) (with_set map (M.Mem.written mem.new)) reply) }
-    ensures unchanged { IfOk result (λ reply. reply ≢ Reply.Yes → OnlyReads M.Mem mem.old mem.new) }
-    ensures marks { OnOk result (OpensToSet M.Mem mem.old mem.new) }
-    ensures sets { OnOk result (SameOutside layout.now (M.Mem.written mem.old) (M.Mem.written mem.new)) }
+    ensures applies { Applies M.Mem (IsOfList layout.now) (IsList layout.now) (Op.Remove which.List key)
+        mem.old mem.new result }
     ensures few { OnOk result (SameButThree layout.now (M.Mem.written mem.old) (M.Mem.written mem.new)) }
     ensures adds { IfOk result (λ reply. AddsAtMost (most_of_remove reply) M.Mem mem.old mem.new) }
-    ensures holds { OnOk result (SameOutside layout.now (M.Mem.held mem.old) (M.Mem.held mem.new)) }
-    ensures opens { OnOk result (SameOutside layout.now (M.Mem.is_opened mem.old) (M.Mem.is_opened mem.new)) }
-
-    ensures leads { Leads M.Mem mem.old mem.new result }
 {
     let found = walk(mem, layout, key)?;
     let reply = remove_at(mem, layout, key, found)?;
@@ -80,15 +63,9 @@ pub fn member<M: Release>(mem: &mut M, layout: &Layout, key: u32) -> Result<Repl
     requires fits { FitsLayout layout.now (Op.Member which.List key) }
     requires ready { IsReady M.Mem (objects_of layout.now) (IsList layout.now) mem.old }
 
-    ensures does { IfOk result (λ reply. (map : List Val) → M.Mem.Admits mem.new map →
-        Does (IsList layout.now) (Op.Member which.List key)
-        (with_set map (M.Mem.written mem.old)) (with_set map (M.Mem.written mem.new)) reply) }
-    ensures looks { OnOk result (OnlyReads M.Mem mem.old mem.new) }
+    ensures applies { Applies M.Mem (IsOfList layout.now) (IsList layout.now) (Op.Member which.List key)
+        mem.old mem.new result }
     ensures adds { OnOk result (AddsAtMost 3 M.Mem mem.old mem.new) }
-    ensures holds { OnOk result (SameOutside layout.now (M.Mem.held mem.old) (M.Mem.held mem.new)) }
-    ensures opens { OnOk result (SameOutside layout.now (M.Mem.is_opened mem.old) (M.Mem.is_opened mem.new)) }
-
-    ensures leads { Leads M.Mem mem.old mem.new result }
 {
     Ok(member_at(walk(mem, layout, key)?))
 }

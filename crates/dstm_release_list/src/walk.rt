@@ -1,11 +1,10 @@
-ghost use Rattle.std.specs.Prelude.{◌≡◌, ◌<◌, ◌≤◌, List, IfOk, OnOk, MatchOption};
-ghost use Rattle.dstm_model.specs.declared.value.Val.{Val};
+ghost use Rattle.std.specs.Prelude.{◌≡◌, ◌<◌, ◌≤◌, IfOk, MatchOption};
 ghost use Rattle.dstm_model.specs.Layout.{IsValid};
 ghost use Rattle.dstm_model.specs.Objects.{objects_of};
-ghost use Rattle.dstm_mem.specs.Memory.{with_set};
-ghost use Rattle.dstm_mem.specs.Operations.{IsReady, Leads, OnlyReads};
-ghost use Rattle.dstm_list.specs.List.{IsList, IsOfList, SameOutside};
-ghost use Rattle.dstm_list.specs.Place.{Finds};
+ghost use Rattle.dstm_mem.specs.Operations.{IsReady};
+ghost use Rattle.dstm_mem.specs.Operates.{Operates};
+ghost use Rattle.dstm_list.specs.List.{IsList, IsOfList};
+ghost use Rattle.dstm_list.specs.Place.{Walks};
 ghost use Rattle.dstm_release_list.specs.Walk.{AddsToPlace};
 
 use crate::stop::{Stop, let_go, visit};
@@ -20,15 +19,10 @@ pub fn walk<M: Release>(mem: &mut M, layout: &Layout, key: u32) -> Result<Place,
     requires declared { 0 < layout.now.list }
     requires ready { IsReady M.Mem (objects_of layout.now) (IsList layout.now) mem.old }
 
-    ensures finds { IfOk result (λ found. (map : List Val) → M.Mem.Admits mem.new map →
-        Finds layout.now (with_set map (M.Mem.written mem.old)) key found) }
+    ensures walks { Operates M.Mem (IsOfList layout.now) (λ found. Unit {0}) (λ found. Unit {0}) (Walks layout.now key)
+        mem.old mem.new result }
     ensures link { IfOk result (λ found. IsOfList layout.now found.link) }
     ensures adds { IfOk result (AddsToPlace M.Mem layout.now mem.old mem.new) }
-    ensures looks { OnOk result (OnlyReads M.Mem mem.old mem.new) }
-    ensures holds { OnOk result (SameOutside layout.now (M.Mem.held mem.old) (M.Mem.held mem.new)) }
-    ensures opens { OnOk result (SameOutside layout.now (M.Mem.is_opened mem.old) (M.Mem.is_opened mem.new)) }
-
-    ensures leads { Leads M.Mem mem.old mem.new result }
 {
     let head = visit(mem, layout.accounts)?;
     let mut behind = None;

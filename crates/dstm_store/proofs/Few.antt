@@ -5,13 +5,16 @@ use Rattle.std.specs.Prelude.{IsTrue, Result, Ok, Err, IfOk, OnOk, IsSome, Conta
 use Rattle.std.proofs.lemmas.Bool.{cases_eq, cases_Bool}
 use Rattle.std.proofs.lemmas.List.Elements.{Contains-append_left, Contains-append_right}
 use Rattle.dstm_model.specs.declared.layout.Layout.{Layout}
+use Rattle.dstm_model.specs.declared.op.Op.TheVariants.{Insert, Remove, Member}
+use Rattle.dstm_model.specs.declared.op.Which.TheVariants as which
 use Rattle.dstm_model.specs.declared.reply.Reply.{Reply}
 use Rattle.dstm_model.specs.declared.reply.Reply.TheVariants.{Yes}
 use Rattle.dstm_model.specs.Objects.{list_begin, free_object, node_object}
 use Rattle.dstm_mem.specs.declared.memory.Mem.{Ghosts}
 use Rattle.dstm_mem.specs.Memory.{HoldsAtMost}
 use Rattle.dstm_mem.specs.Operations.{IsFresh, OnlyReads, OpensToSet}
-use Rattle.dstm_list.specs.List.{SameButThree}
+use Rattle.dstm_mem.specs.Operates.{Applies}
+use Rattle.dstm_list.specs.List.{IsList, IsOfList, SameButThree}
 use Rattle.dstm_list.specs.Reads.{IsRead}
 use Rattle.dstm_release_list.specs.Walk.{AddsAtMost, most_of_insert, most_of_remove}
 use Rattle.dstm_release_list.proofs.Adding.{then_first, then_other}
@@ -94,38 +97,41 @@ module _ {S E : Type 0} (M : Ghosts S E) where
         ];
       }
 
-  pub touches-insert : (old new : S) (layout : Layout) (r : Result Reply E) →
+  pub touches-insert : (old new : S) (layout : Layout) (key : ℕ) (r : Result Reply E) →
       IfOk r (λ reply. AddsAtMost (most_of_insert reply) M old new) →
-      IfOk r (λ reply. reply ≢ Yes → OnlyReads M old new) → OnOk r (OpensToSet M old new) →
+      Applies M (IsOfList layout) (IsList layout) (Insert which.List key) old new r →
       OnOk r (SameButThree layout (M.written old) (M.written new)) → M.all_write (M.place old) ≡ false →
       OnOk r (TouchesAtMost 5 M old new)
-  touches-insert old new layout (Ok reply) adds unchanged marks same off =
+  touches-insert old new layout key (Ok reply) adds done same off =
       elim (few_unless_yes reply) [
         | inl is_yes ↦
-            touches-sets layout 5 2 (omega arith) off marks same
+            touches-sets layout 5 2 (omega arith) off (done.marks tt) same
             (subst (λ (r : Reply). AddsAtMost (most_of_insert r) M old new) is_yes adds)
-        | inr other ↦ touches-reads 5 (most_of_insert reply) other.1 off (unchanged other.0) adds
+        | inr other ↦ touches-reads 5 (most_of_insert reply) other.1 off (done.quiet other.0) adds
       ]
-  touches-insert old new layout (Err e) adds unchanged marks same off = tt
+  touches-insert old new layout key (Err e) adds done same off = tt
 
-  pub touches-remove : (old new : S) (layout : Layout) (r : Result Reply E) →
+  pub touches-remove : (old new : S) (layout : Layout) (key : ℕ) (r : Result Reply E) →
       IfOk r (λ reply. AddsAtMost (most_of_remove reply) M old new) →
-      IfOk r (λ reply. reply ≢ Yes → OnlyReads M old new) → OnOk r (OpensToSet M old new) →
+      Applies M (IsOfList layout) (IsList layout) (Remove which.List key) old new r →
       OnOk r (SameButThree layout (M.written old) (M.written new)) → M.all_write (M.place old) ≡ false →
       OnOk r (TouchesAtMost 4 M old new)
-  touches-remove old new layout (Ok reply) adds unchanged marks same off =
+  touches-remove old new layout key (Ok reply) adds done same off =
       elim (few_unless_yes reply) [
         | inl is_yes ↦
-            touches-sets layout 4 1 (omega arith) off marks same
+            touches-sets layout 4 1 (omega arith) off (done.marks tt) same
             (subst (λ (r : Reply). AddsAtMost (most_of_remove r) M old new) is_yes adds)
-        | inr other ↦ touches-reads 4 (most_of_remove reply) other.2 off (unchanged other.0) adds
+        | inr other ↦ touches-reads 4 (most_of_remove reply) other.2 off (done.quiet other.0) adds
       ]
-  touches-remove old new layout (Err e) adds unchanged marks same off = tt
+  touches-remove old new layout key (Err e) adds done same off = tt
 
-  pub touches-member : (old new : S) (r : Result Reply E) → OnOk r (AddsAtMost 3 M old new) →
-      OnOk r (OnlyReads M old new) → M.all_write (M.place old) ≡ false → OnOk r (TouchesAtMost 3 M old new)
-  touches-member old new (Ok reply) adds only off = touches-reads 3 3 (omega arith) off only adds
-  touches-member old new (Err e) adds only off = tt
+  pub touches-member : (old new : S) (layout : Layout) (key : ℕ) (r : Result Reply E) →
+      OnOk r (AddsAtMost 3 M old new) →
+      Applies M (IsOfList layout) (IsList layout) (Member which.List key) old new r →
+      M.all_write (M.place old) ≡ false → OnOk r (TouchesAtMost 3 M old new)
+  touches-member old new layout key (Ok reply) adds done off =
+      touches-reads 3 3 (omega arith) off (done.quiet tt) adds
+  touches-member old new layout key (Err e) adds done off = tt
 
   -- ---- of operations one after the other
 

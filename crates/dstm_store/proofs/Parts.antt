@@ -1,6 +1,6 @@
 -- What is done to one structure is done to the whole store: the objects of the others are unchanged, and so
 -- is what they stand for.
-use Rattle.std.proofs.Common.{◌≡◌, ℕ, ◌<◌, ◌≤◌, Bool, true, false, List, length, arith, refl, sym, ◌∙◌, ap}
+use Rattle.std.proofs.Common.{◌≡◌, ℕ, ◌<◌, ◌≤◌, Bool, true, false, List, length, arith, refl, sym, ◌∙◌, ap, subst}
 use Rattle.std.specs.Prelude.{cond, ◌==◌, nat_lt, is_some, Option, Result, Ok, Err, IfOk, OnOk, slice_index, sum}
 use Rattle.dstm_model.specs.declared.value.Val.{Val}
 use Rattle.dstm_model.specs.declared.layout.Layout.{Layout}
@@ -10,14 +10,19 @@ use Rattle.dstm_model.specs.declared.op.Which.TheVariants as which
 use Rattle.dstm_model.specs.declared.reply.Reply.{Reply}
 use Rattle.dstm_model.specs.Map.{value_at}
 use Rattle.dstm_model.specs.Store.{Store, Outcome, apply, balance_of, has_key, value_of}
-use Rattle.dstm_model.specs.Objects.{tree_begin, IsBank, Does, plain}
+use Rattle.dstm_model.specs.Objects.{objects_of, tree_begin, IsBank, Does, plain}
+use Rattle.dstm_mem.specs.declared.memory.Mem.{Ghosts}
 use Rattle.dstm_mem.specs.Memory.{with_set}
+use Rattle.dstm_mem.specs.Operations.{IsReady}
+use Rattle.dstm_mem.specs.Operates.{Applies}
 use Rattle.dstm_mem.proofs.WithSet.{length-with_set, value_at-same_set}
-use Rattle.dstm_list.specs.List.{IsList, SameOutside}
+use Rattle.dstm_list.specs.List.{IsList, IsOfList, SameOutside}
 use Rattle.dstm_list.proofs.Lists.{list-kept}
 use Rattle.dstm_tree.specs.Objects.{root_of, free_of, object_of, IsTree}
 use Rattle.dstm_tree.proofs.Kept.{Holds-kept, IsFreeChain-kept}
+use Rattle.dstm_tree.specs.Steps.{IsOfTree}
 use Rattle.dstm_store.specs.Whole.{StandsFor, IsLawful}
+use Rattle.dstm_store.specs.Concerns.{Concerns}
 
 -- ---- what an operation on one structure leaves of the store
 
@@ -205,27 +210,75 @@ does-tree layout op map old new reply kept declared same does store whole =
       },
     )
 
--- ---- results
-
+-- the store after an operation is one that the map after stands for
 pub lawful-after : (layout : Layout) (op : Op) (before after : List Val) (reply : Reply) → IsLawful layout before →
     Does (StandsFor layout) op before after reply → IsLawful layout after
 lawful-after layout op before after reply lawful does = ((apply op lawful.0).store, (does lawful.0 lawful.1).1)
 
-pub with_both : {X Y : Type 0} (r : Result X Y) (P R : X → Type 0) (Q : Type 0) → ((x : X) → P x → Q → R x) →
-    IfOk r P → OnOk r Q → IfOk r R
-with_both (Ok x) P R Q f p q = f x p q
-with_both (Err e) P R Q f p q = tt
+-- ---- what is applied to one structure is applied to the whole store
 
-pub on_ok : {X Y : Type 0} (r : Result X Y) (P : X → Type 0) (Q : Type 0) → ((x : X) → P x → Q) → IfOk r P → OnOk r Q
-on_ok (Ok x) P Q f p = f x p
-on_ok (Err e) P Q f p = tt
+both : {X Y : Type 0} (r : Result X Y) (P R : X → Type 0) (Q : Type 0) → ((x : X) → P x → Q → R x) → IfOk r P →
+    OnOk r Q → IfOk r R
+both (Ok x) P R Q f p q = f x p q
+both (Err e) P R Q f p q = tt
 
-pub whenever : {X Y : Type 0} (r : Result X Y) (P : X → Type 0) (Q R : Type 0) → (Q → R) → OnOk r Q →
-    IfOk r (λ x. P x → R)
-whenever (Ok x) P Q R f q = λ _. f q
-whenever (Err e) P Q R f q = tt
+module _ {S E : Type 0} (M : Ghosts S E) (layout : Layout) {op : Op} {In : ℕ → Type 0} {old new : S}
+    {r : Result Reply E} where
+  pub of-bank : OfBank op → ((o : ℕ) → In o → o < layout.accounts) → Applies M In (IsBank layout) op old new r →
+      Applies M In (StandsFor layout) op old new r
+  of-bank kept within done = record {
+    leads = done.leads;
+    outside = done.outside;
+    marks = done.marks;
+    quiet = done.quiet;
+    does = both r _ _ _
+        (λ reply does same map admitted.
+        does-bank layout op map (M.written old) (M.written new) reply kept
+        (λ p at. (same p (λ inside. omega (arith, at, within p inside))).written) (does map admitted))
+        done.does done.outside;
+  }
 
-pub only_if : {X Y : Type 0} (r : Result X Y) (P : X → Type 0) (Q R : Type 0) → ((x : X) → P x → Q) →
-    (Q → OnOk r R) → IfOk r (λ x. P x → R)
-only_if (Ok x) P Q R f q = λ p. q (f x p)
-only_if (Err e) P Q R f q = tt
+  pub of-list : OfList op → ((o : ℕ) → In o → IsOfList layout o) → Applies M In (IsList layout) op old new r →
+      Applies M In (StandsFor layout) op old new r
+  of-list kept within done = record {
+    leads = done.leads;
+    outside = done.outside;
+    marks = done.marks;
+    quiet = done.quiet;
+    does = both r _ _ _
+        (λ reply does same map admitted.
+        does-list layout op map (M.written old) (M.written new) reply kept
+        (λ p out. (same p (λ inside. out (within p inside))).written) (does map admitted))
+        done.does done.outside;
+  }
+
+  pub of-tree : OfTree op → 0 < layout.tree → ((o : ℕ) → In o → IsOfTree layout o) →
+      Applies M In (IsTree layout) op old new r → Applies M In (StandsFor layout) op old new r
+  of-tree kept declared within done = record {
+    leads = done.leads;
+    outside = done.outside;
+    marks = done.marks;
+    quiet = done.quiet;
+    does = both r _ _ _
+        (λ reply does same map admitted.
+        does-tree layout op map (M.written old) (M.written new) reply kept declared
+        (λ p at. (same p (λ inside. omega (arith, at, within p inside))).written) (does map admitted))
+        done.does done.outside;
+  }
+
+-- and leaves a lawful map
+pub leaves-lawful : {S E : Type 0} (M : Ghosts S E) (layout : Layout) {op : Op} {In : ℕ → Type 0} {old new : S}
+    (r : Result Reply E) → IsReady M (objects_of layout) (StandsFor layout) old →
+    Applies M In (StandsFor layout) op old new r →
+    OnOk r ((map : List Val) → M.Admits new map → IsLawful layout (with_set map (M.written new)))
+leaves-lawful M layout {op = op} (Ok reply) ready done =
+    λ map admitted.
+    lawful-after layout op _ _ reply (ready.lawful map (done.leads.narrows map admitted)) (done.does map admitted)
+leaves-lawful M layout (Err e) ready done = tt
+
+-- an operation that is known by another name
+pub known-as : {S E : Type 0} (M : Ghosts S E) (layout : Layout) {op other : Op} {old new : S} {r : Result Reply E} →
+    op ≡ other → Applies M (Concerns layout other) (StandsFor layout) other old new r →
+    Applies M (Concerns layout op) (StandsFor layout) op old new r
+known-as M layout {old = old} {new = new} {r = r} is done =
+    subst (λ (o : Op). Applies M (Concerns layout o) (StandsFor layout) o old new r) (sym is) done

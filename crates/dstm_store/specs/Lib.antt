@@ -1,5 +1,5 @@
 pub mod Whole
 pub mod Opening
 pub mod Job
-pub mod Looks
+pub mod Concerns
 pub mod Keeps

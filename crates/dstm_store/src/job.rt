@@ -2,12 +2,13 @@ ghost use Rattle.std.specs.Prelude.{◌≡◌, ℕ, ◌<◌, ◌≤◌, List, []
 ghost use Rattle.dstm_model.specs.declared.value.Val.{Val};
 ghost use Rattle.dstm_model.specs.Layout.{IsValid, FitsLayout};
 ghost use Rattle.dstm_model.specs.Store.{IsPlain};
-ghost use Rattle.dstm_model.specs.Objects.{objects_of, Does};
+ghost use Rattle.dstm_model.specs.Objects.{objects_of};
 ghost use Rattle.dstm_mem.specs.Memory.{with_set, HoldsAtMost};
-ghost use Rattle.dstm_mem.specs.Operations.{IsFresh, IsReady, Leads, OnlyReads};
+ghost use Rattle.dstm_mem.specs.Operations.{IsFresh, IsReady, Leads};
+ghost use Rattle.dstm_mem.specs.Operates.{Applies};
 ghost use Rattle.dstm_store.specs.Whole.{StandsFor, IsLawful};
 ghost use Rattle.dstm_store.specs.Job.{DoesAll, Audits, KeepsAtMost};
-ghost use Rattle.dstm_store.specs.Looks.{IsLook};
+ghost use Rattle.dstm_store.specs.Concerns.{Concerns};
 ghost use Rattle.dstm_store.specs.Keeps.{is_of_list, most_kept, TouchesAtMost};
 
 use crate::law::StoreLaw;
@@ -144,18 +145,11 @@ fn run_in_branch<M: Mem, L: ListWalk<M>>(
     requires ready { IsReady M.Mem (objects_of layout.now) (StandsFor layout.now) mem.old }
     requires admits { (map : List Val) × M.Admits mem.old map }
 
-    ensures does { IfOk result (λ reply. (map : List Val) → M.Admits mem.new map →
-        Does (StandsFor layout.now) op.now
-        (with_set map (M.written mem.old)) (with_set map (M.written mem.new)) reply) }
-    ensures lawful { OnOk result ((map : List Val) → M.Admits mem.new map →
-        IsLawful layout.now (with_set map (M.written mem.new))) }
+    ensures applies { Applies M.Mem (Concerns layout.now op.now) (StandsFor layout.now) op.now mem.old mem.new result }
     ensures audits { op.now ≡ Op.Total → OnOk result ((a : ℕ) → a < layout.now.accounts →
         IsSome (M.held mem.new a)) }
-    ensures looks { IfOk result (λ reply. IsLook op.now reply → OnlyReads M.Mem mem.old mem.new) }
     ensures touches { L.lets_go ≡ true → M.all_write (M.place mem.old) ≡ false → is_of_list op.now ≡ true →
         OnOk result (TouchesAtMost (most_kept op.now) M.Mem mem.old mem.new) }
-
-    ensures leads { Leads M.Mem mem.old mem.new result }
 {
     match op {
         Op::Await(_) | Op::OrElse => Ok(Reply::Yes),

@@ -1,11 +1,10 @@
-ghost use Rattle.std.specs.Prelude.{◌≡◌, ◌≢◌, List, Bool, true, false, IfOk, OnOk};
-ghost use Rattle.dstm_model.specs.declared.value.Val.{Val};
+ghost use Rattle.std.specs.Prelude.{◌≡◌, Bool, true, false, OnOk};
 ghost use Rattle.dstm_model.specs.declared.op.Which.TheVariants as which;
 ghost use Rattle.dstm_model.specs.Layout.{IsValid, FitsLayout};
-ghost use Rattle.dstm_model.specs.Objects.{objects_of, Does};
-ghost use Rattle.dstm_mem.specs.Memory.{with_set};
-ghost use Rattle.dstm_mem.specs.Operations.{IsReady, Leads, OnlyReads, OpensToSet};
-ghost use Rattle.dstm_list.specs.List.{IsList, SameOutside};
+ghost use Rattle.dstm_model.specs.Objects.{objects_of};
+ghost use Rattle.dstm_mem.specs.Operations.{IsReady};
+ghost use Rattle.dstm_mem.specs.Operates.{Applies};
+ghost use Rattle.dstm_list.specs.List.{IsList, IsOfList};
 ghost use Rattle.dstm_store.specs.Keeps.{TouchesAtMost};
 
 use dstm_mem::{Mem, Release};
@@ -22,16 +21,10 @@ pub trait ListWalk<M: Mem> {
         requires fits { FitsLayout layout.now (Op.Insert which.List key) }
         requires ready { IsReady M.Mem (objects_of layout.now) (IsList layout.now) mem.old }
 
-        ensures does { IfOk result (λ reply. (map : List Val) → M.Admits mem.new map →
-            Does (IsList layout.now) (Op.Insert which.List key)
-            (with_set map (M.written mem.old)) (with_set map (M.written mem.new)) reply) }
-        ensures unchanged { IfOk result (λ reply. reply ≢ Reply.Yes → OnlyReads M.Mem mem.old mem.new) }
-        ensures marks { OnOk result (OpensToSet M.Mem mem.old mem.new) }
-        ensures sets { OnOk result (SameOutside layout.now (M.written mem.old) (M.written mem.new)) }
+        ensures applies { Applies M.Mem (IsOfList layout.now) (IsList layout.now) (Op.Insert which.List key)
+            mem.old mem.new result }
         ensures touches { lets_go ≡ true → M.all_write (M.place mem.old) ≡ false →
-            OnOk result (TouchesAtMost 5 M.Mem mem.old mem.new) }
-
-        ensures leads { Leads M.Mem mem.old mem.new result };
+            OnOk result (TouchesAtMost 5 M.Mem mem.old mem.new) };
 
     /// Takes a key out. Where reads are let go, at most four objects more than before are held.
     fn remove(mem: &mut M, layout: &Layout, key: u32) -> Result<Reply, M::Err>
@@ -39,16 +32,10 @@ pub trait ListWalk<M: Mem> {
         requires fits { FitsLayout layout.now (Op.Remove which.List key) }
         requires ready { IsReady M.Mem (objects_of layout.now) (IsList layout.now) mem.old }
 
-        ensures does { IfOk result (λ reply. (map : List Val) → M.Admits mem.new map →
-            Does (IsList layout.now) (Op.Remove which.List key)
-            (with_set map (M.written mem.old)) (with_set map (M.written mem.new)) reply) }
-        ensures unchanged { IfOk result (λ reply. reply ≢ Reply.Yes → OnlyReads M.Mem mem.old mem.new) }
-        ensures marks { OnOk result (OpensToSet M.Mem mem.old mem.new) }
-        ensures sets { OnOk result (SameOutside layout.now (M.written mem.old) (M.written mem.new)) }
+        ensures applies { Applies M.Mem (IsOfList layout.now) (IsList layout.now) (Op.Remove which.List key)
+            mem.old mem.new result }
         ensures touches { lets_go ≡ true → M.all_write (M.place mem.old) ≡ false →
-            OnOk result (TouchesAtMost 4 M.Mem mem.old mem.new) }
-
-        ensures leads { Leads M.Mem mem.old mem.new result };
+            OnOk result (TouchesAtMost 4 M.Mem mem.old mem.new) };
 
     /// Tells whether a key is there. Where reads are let go, at most three objects more than before are held.
     fn member(mem: &mut M, layout: &Layout, key: u32) -> Result<Reply, M::Err>
@@ -56,14 +43,10 @@ pub trait ListWalk<M: Mem> {
         requires fits { FitsLayout layout.now (Op.Member which.List key) }
         requires ready { IsReady M.Mem (objects_of layout.now) (IsList layout.now) mem.old }
 
-        ensures does { IfOk result (λ reply. (map : List Val) → M.Admits mem.new map →
-            Does (IsList layout.now) (Op.Member which.List key)
-            (with_set map (M.written mem.old)) (with_set map (M.written mem.new)) reply) }
-        ensures looks { OnOk result (OnlyReads M.Mem mem.old mem.new) }
+        ensures applies { Applies M.Mem (IsOfList layout.now) (IsList layout.now) (Op.Member which.List key)
+            mem.old mem.new result }
         ensures touches { lets_go ≡ true → M.all_write (M.place mem.old) ≡ false →
-            OnOk result (TouchesAtMost 3 M.Mem mem.old mem.new) }
-
-        ensures leads { Leads M.Mem mem.old mem.new result };
+            OnOk result (TouchesAtMost 3 M.Mem mem.old mem.new) };
 }
 
 /// They keep every read.

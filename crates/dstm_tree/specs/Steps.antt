@@ -1,13 +1,12 @@
 -- What each step of the tree's own functions needs of a memory, and what it does.
-use Rattle.std.specs.Prelude.{◌≡◌, ◌≢◌, ℕ, ◌<◌, List, IsTrue, Option, Result, OnOk, IfOk}
+use Rattle.std.specs.Prelude.{◌≡◌, ◌≢◌, ◌≤◌, ℕ, List, IsTrue, Option, Result}
 use Rattle.dstm_model.specs.declared.value.Val.{Val}
 use Rattle.dstm_model.specs.declared.layout.Layout.{Layout}
 use Rattle.dstm_model.specs.Map.{value_at}
 use Rattle.dstm_model.specs.Store.{Store, value_of}
 use Rattle.dstm_model.specs.Objects.{objects_of, tree_begin}
 use Rattle.dstm_mem.specs.declared.memory.Mem.{Ghosts}
-use Rattle.dstm_mem.specs.Memory.{with_set}
-use Rattle.dstm_mem.specs.Operations.{Leads, OnlyReads, OpensToSet}
+use Rattle.dstm_mem.specs.Operates.{Operates}
 use Rattle.dstm_tree.specs.declared.node.Node.{Node}
 use Rattle.dstm_tree.specs.Tree.{number_of}
 use Rattle.dstm_tree.specs.Objects.{object_of, IsTree}
@@ -20,17 +19,15 @@ pub record IsOpen {S E : Type 0} (M : Ghosts S E) (layout : Layout) (memory : S)
   pub live : IsTrue (M.is_live memory)
   pub admits : (map : List Val) × M.Admits memory map
 
--- A step leads from the old state of a memory to the new one, sets nothing in front of the tree's objects, and
--- does the same in every map that is admitted then. With a quiet answer it only read.
-pub record Steps {S E A : Type 0} (M : Ghosts S E) (layout : Layout) (IsQuiet : A → Type 0)
-    (Does : A → List Val → List Val → Type 0) (old new : S) (result : Result A E) : Type 0 where
-  pub leads : Leads M old new result
-  pub outside : OnOk result ((p : ℕ) → p < tree_begin layout →
-      (M.written new p ≡ M.written old p) × (M.held new p ≡ M.held old p) × (M.is_opened new p ≡ M.is_opened old p))
-  pub marks : OnOk result (OpensToSet M old new)
-  pub quiet : IfOk result (λ a. IsQuiet a → OnlyReads M old new)
-  pub does : IfOk result (λ a. (map : List Val) → M.Admits new map →
-      Does a (with_set map (M.written old)) (with_set map (M.written new)))
+-- the objects from the tree's first on
+abbrev pub IsOfTree : Layout → ℕ → Type 0
+IsOfTree layout o = tree_begin layout ≤ o
+
+-- a step of an operation on the tree, which sets whatever it newly opens for writing
+abbrev pub Steps : {S E A : Type 0} → Ghosts S E → Layout → (A → Type 0) → (A → List Val → List Val → Type 0) →
+    S → S → Result A E → Type 0
+Steps M layout IsQuiet Does old new result =
+    Operates M (IsOfTree layout) IsQuiet (λ a. Unit {0}) Does old new result
 
 -- an object was read
 pub record Reads (object : ℕ) (value : Val) (before after : List Val) : Type 0 where

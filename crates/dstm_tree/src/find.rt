@@ -1,11 +1,10 @@
-ghost use Rattle.std.specs.Prelude.{◌≡◌, ℕ, ◌<◌, ◌≤◌, List, IfOk, OnOk};
-ghost use Rattle.dstm_model.specs.declared.value.Val.{Val};
+ghost use Rattle.std.specs.Prelude.{◌<◌};
 ghost use Rattle.dstm_model.specs.Layout.{IsValid, FitsLayout};
-ghost use Rattle.dstm_model.specs.Objects.{objects_of, tree_begin, Does};
-ghost use Rattle.dstm_mem.specs.Memory.{with_set};
-ghost use Rattle.dstm_mem.specs.Operations.{IsReady, Leads, OnlyReads};
+ghost use Rattle.dstm_model.specs.Objects.{objects_of};
+ghost use Rattle.dstm_mem.specs.Operations.{IsReady};
+ghost use Rattle.dstm_mem.specs.Operates.{Applies};
 ghost use Rattle.dstm_tree.specs.Objects.{IsTree};
-ghost use Rattle.dstm_tree.specs.Steps.{Steps, Finds};
+ghost use Rattle.dstm_tree.specs.Steps.{IsOfTree, Steps, Finds};
 
 use crate::cells::{read_node, read_root};
 use crate::side::Side;
@@ -18,14 +17,7 @@ pub fn member<M: Mem>(mem: &mut M, layout: &Layout, key: u32) -> Result<Reply, M
     requires fits { FitsLayout layout.now (Op.Member Which.Tree key) }
     requires ready { IsReady M.Mem (objects_of layout.now) (IsTree layout.now) mem.old }
 
-    ensures does { IfOk result (λ reply. (map : List Val) → M.Admits mem.new map →
-        Does (IsTree layout.now) (Op.Member Which.Tree key)
-        (with_set map (M.written mem.old)) (with_set map (M.written mem.new)) reply) }
-    ensures looks { OnOk result (OnlyReads M.Mem mem.old mem.new) }
-    ensures opens { OnOk result ((p : ℕ) → p < tree_begin layout.now →
-        (M.held mem.new p ≡ M.held mem.old p) × (M.is_opened mem.new p ≡ M.is_opened mem.old p)) }
-
-    ensures leads { Leads M.Mem mem.old mem.new result }
+    ensures { Applies M.Mem (IsOfTree layout.now) (IsTree layout.now) (Op.Member Which.Tree key) mem.old mem.new result }
 {
     let found = find(mem, layout, key)?;
     Ok(if found.is_some() {
@@ -41,14 +33,7 @@ pub fn get<M: Mem>(mem: &mut M, layout: &Layout, key: u32) -> Result<Reply, M::E
     requires fits { FitsLayout layout.now (Op.Get key) }
     requires ready { IsReady M.Mem (objects_of layout.now) (IsTree layout.now) mem.old }
 
-    ensures does { IfOk result (λ reply. (map : List Val) → M.Admits mem.new map →
-        Does (IsTree layout.now) (Op.Get key)
-        (with_set map (M.written mem.old)) (with_set map (M.written mem.new)) reply) }
-    ensures looks { OnOk result (OnlyReads M.Mem mem.old mem.new) }
-    ensures opens { OnOk result ((p : ℕ) → p < tree_begin layout.now →
-        (M.held mem.new p ≡ M.held mem.old p) × (M.is_opened mem.new p ≡ M.is_opened mem.old p)) }
-
-    ensures leads { Leads M.Mem mem.old mem.new result }
+    ensures { Applies M.Mem (IsOfTree layout.now) (IsTree layout.now) (Op.Get key) mem.old mem.new result }
 {
     let found = find(mem, layout, key)?;
     match found {

@@ -1,11 +1,12 @@
-ghost use Rattle.std.specs.Prelude.{◌≡◌, ◌≢◌, ℕ, ◌<◌, ◌≤◌, List, None, IfOk, OnOk};
+ghost use Rattle.std.specs.Prelude.{◌≡◌, ◌<◌, ◌≤◌, List, None, IfOk};
 ghost use Rattle.dstm_model.specs.declared.value.Val.{Val};
 ghost use Rattle.dstm_model.specs.Layout.{IsValid, FitsLayout};
-ghost use Rattle.dstm_model.specs.Objects.{objects_of, tree_begin, Does};
+ghost use Rattle.dstm_model.specs.Objects.{objects_of};
 ghost use Rattle.dstm_mem.specs.Memory.{with_set};
-ghost use Rattle.dstm_mem.specs.Operations.{IsReady, Leads, OnlyReads, OpensToSet};
+ghost use Rattle.dstm_mem.specs.Operations.{IsReady};
+ghost use Rattle.dstm_mem.specs.Operates.{Applies};
 ghost use Rattle.dstm_tree.specs.Objects.{IsTree};
-ghost use Rattle.dstm_tree.specs.Steps.{IsOpen, Steps};
+ghost use Rattle.dstm_tree.specs.Steps.{IsOfTree, IsOpen, Steps};
 ghost use Rattle.dstm_tree.specs.Node.{FitsNode, Subtree, IsRead};
 ghost use Rattle.dstm_tree.specs.Remove.{GivesBack, Hoists, NamesRoot, RemovesRoot, RemovesIf, TakesLeast};
 
@@ -24,16 +25,7 @@ pub fn remove<M: Mem>(mem: &mut M, layout: &Layout, key: u32) -> Result<Reply, M
     requires fits { FitsLayout layout.now (Op.Remove Which.Tree key) }
     requires ready { IsReady M.Mem (objects_of layout.now) (IsTree layout.now) mem.old }
 
-    ensures does { IfOk result (λ reply. (map : List Val) → M.Admits mem.new map →
-        Does (IsTree layout.now) (Op.Remove Which.Tree key)
-        (with_set map (M.written mem.old)) (with_set map (M.written mem.new)) reply) }
-    ensures outside { OnOk result ((p : ℕ) → p < tree_begin layout.now →
-        (M.written mem.new p ≡ M.written mem.old p) × (M.held mem.new p ≡ M.held mem.old p)
-        × (M.is_opened mem.new p ≡ M.is_opened mem.old p)) }
-    ensures unchanged { IfOk result (λ reply. reply ≢ Reply.Yes → OnlyReads M.Mem mem.old mem.new) }
-    ensures marks { OnOk result (OpensToSet M.Mem mem.old mem.new) }
-
-    ensures leads { Leads M.Mem mem.old mem.new result }
+    ensures { Applies M.Mem (IsOfTree layout.now) (IsTree layout.now) (Op.Remove Which.Tree key) mem.old mem.new result }
 {
     let root = read_root(mem, layout)?;
     let found = remove_below(mem, layout, root, key, layout.tree)?;

@@ -1,4 +1,4 @@
-use Rattle.std.proofs.Common.{◌≢◌, ℕ, ◌+◌, ◌≤◌, w64, arith, sym, ◌∙◌, ap, subst, inl, inr}
+use Rattle.std.proofs.Common.{◌≢◌, ℕ, ◌+◌, ◌<◌, w64, rules, arith, sym, ◌∙◌, ap, subst, inl, inr}
 use Rattle.std.specs.Prelude.{IsSome}
 use Rattle.std.proofs.Math.Facts.{Fits-of_lt}
 use Rattle.std.proofs.lemmas.Bool.{cases_eq}
@@ -6,31 +6,22 @@ use Rattle.dstm_model.specs.declared.op.Op.TheVariants.{Total}
 use Rattle.dstm_model.specs.declared.reply.Reply.TheVariants.{Number}
 use Rattle.dstm_model.specs.Objects.{IsBank, Does}
 use Rattle.dstm_mem.specs.Memory.{with_set}
-use Rattle.dstm_mem.proofs.WithSet.{value_at-opened, with_set-same}
-use Rattle.dstm_bank.proofs.Accounts.{HasAccount, sum_first-more, sum_first-fits, does-total}
+use Rattle.dstm_mem.proofs.Operations.{opens_to_set-of_reads}
+use Rattle.dstm_mem.proofs.WithSet.{with_set-same}
+use Rattle.dstm_bank.proofs.Accounts.{has-opened, sum_first-more, sum_first-fits, does-total}
 use Rattle.dstm_bank.proofs.total.Goals as goal
 
 pub overflow_add-sum : goal.overflow_add-sum
 overflow_add-sum g c =
     let M = g.M.Mem in
     let laws = g.met.M.Mem in
-    let layout = c.args.layout.now in
-    let start = c.args.mem.now in
-    let mem = c.open_read.new.self in
     let so_far = c.loop-account.invariant in
     let opened = c.in_ok-sum.ensures in
     let (map, admitted) = opened.admits in
     let in_loop = opened.narrows map admitted in
     let in_start = so_far.narrows map in_loop in
-    let before = with_set map (M.written start) in
-    let size = laws.admitted_length start map in_start in
-    let has : HasAccount layout before c.loop-account.account c.in_ok-sum.field-0 = record {
-      within = c.loop-account-test.true;
-      value = value_at-opened map (M.written start) (M.written mem) (M.held mem) c.loop-account.account
-          c.in_ok-sum.field-0
-          (omega (arith, size, c.requires.ready.objects)) (laws.admitted_agrees mem map admitted)
-          (λ p. opened.written p ∙ so_far.looks.sets p) opened.value;
-    } in
+    let has = has-opened M laws.admitted_length laws.admitted_agrees c.requires.ready.objects c.loop-account-test.true
+    in_start admitted (λ p. opened.written p ∙ so_far.looks.sets p) opened.value in
     let (store, bank) = c.requires.ready.lawful map in_start in
     let fits = sum_first-fits c.requires.valid bank has in
     Fits-of_lt {w = w64} (omega (arith, fits, so_far.sums map in_loop store bank))
@@ -46,7 +37,8 @@ loop-account-preserved g c =
     let opened = c.in_ok-sum.ensures in
     let account = c.loop-account.account in
     let below = c.loop-account-test.true in
-    let other_than : (p : ℕ) → layout.accounts ≤ p → p ≢ account = λ p h e. omega (arith, e, h, below) in
+    let other_than : (p : ℕ) → ¬ (p < layout.accounts) → p ≢ account =
+    λ p out e. out (subst (λ n. n < layout.accounts) (sym e) below) in
     record {
       live = opened.live;
       place = opened.place ∙ so_far.place;
@@ -64,30 +56,35 @@ loop-account-preserved g c =
         sets = λ p. opened.written p ∙ so_far.looks.sets p;
         opens = λ off p. opened.unmarked (ap M.all_write so_far.place ∙ off) p ∙ so_far.looks.opens off p;
       };
-      opens = λ p h. (
-        opened.held.others p (other_than p h) ∙ (so_far.opens p h).0,
-        opened.opened.others p (other_than p h) ∙ (so_far.opens p h).1,
-      );
+      outside = λ p out.
+          let before = so_far.outside p out in
+          record {
+            written = opened.written p ∙ before.written;
+            held = opened.held.others p (other_than p out) ∙ before.held;
+            opened = opened.opened.others p (other_than p out) ∙ before.opened;
+          };
       sums = λ map admitted store bank.
           let in_loop = opened.narrows map admitted in
-          let size = laws.admitted_length start map (so_far.narrows map in_loop) in
-          let has : HasAccount layout (with_set map (M.written start)) account c.in_ok-sum.field-0 = record {
-            within = below;
-            value = value_at-opened map (M.written start) (M.written mem) (M.held mem) account c.in_ok-sum.field-0
-                (omega (arith, size, c.requires.ready.objects)) (laws.admitted_agrees mem map admitted)
-                (λ p. opened.written p ∙ so_far.looks.sets p) opened.value;
-          } in
+          let has = has-opened M laws.admitted_length laws.admitted_agrees c.requires.ready.objects below
+          (so_far.narrows map in_loop) admitted (λ p. opened.written p ∙ so_far.looks.sets p) opened.value in
           ap (λ n. n + c.in_ok-sum.field-0.low) (so_far.sums map in_loop store bank) ∙ sym (sum_first-more bank has);
     }
 
-pub returns-clause-does : goal.returns-clause-does
-returns-clause-does g c map admitted =
+pub returns-clause-applies : goal.returns-clause-applies
+returns-clause-applies g c =
     let M = g.M.Mem in
     let layout = c.args.layout.now in
     let so_far = c.loop-account.invariant in
     let old = M.written c.args.mem.now in
-    let before = with_set map old in
-    subst (λ after. Does (IsBank layout) Total before after (Number c.loop-account.sum))
-    (sym (with_set-same map old (M.written c.loop-account.mem) so_far.looks.sets))
-    (does-total layout before c.loop-account.account c.loop-account.sum c.loop-account-test.false
-    (so_far.sums map admitted))
+    record {
+      leads = search rules;
+      outside = so_far.outside;
+      marks = λ _. opens_to_set-of_reads M so_far.looks;
+      quiet = λ _. so_far.looks;
+      does = λ map admitted.
+          let before = with_set map old in
+          subst (λ after. Does (IsBank layout) Total before after (Number c.loop-account.sum))
+          (sym (with_set-same map old (M.written c.loop-account.mem) so_far.looks.sets))
+          (does-total layout before c.loop-account.account c.loop-account.sum c.loop-account-test.false
+          (so_far.sums map admitted));
+    }

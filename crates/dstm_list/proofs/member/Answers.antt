@@ -1,8 +1,6 @@
 use Rattle.dstm_list.proofs.Walked.{member-walked}
 use Rattle.dstm_list.proofs.member.Goals as goal
 
-pub returns-clause-does : goal.returns-clause-does
-returns-clause-does g c =
-    let walked = c.in_ok-place.ensures in
-    member-walked g.M.Mem c.args.layout.now c.args.key c.in_ok-place.place c.member_at.result walked.looks walked.finds
-    c.member_at.ensures
+pub returns : goal.returns
+returns g c =
+    member-walked g.M.Mem c.args.layout.now c.member_at.result c.in_ok-place.ensures.walks c.member_at.ensures

@@ -1,21 +1,29 @@
+use Rattle.std.proofs.Common.{List, sym, subst}
 use Rattle.std.specs.Prelude.{Ok}
+use Rattle.dstm_model.specs.declared.value.Val.{Val}
 use Rattle.dstm_model.specs.declared.op.Which.TheVariants as which
 use Rattle.dstm_model.specs.declared.op.Op.TheVariants.{Remove}
 use Rattle.dstm_mem.proofs.Operations.{ready-reads}
-use Rattle.dstm_list.proofs.Walked.{found-walked, does-walked}
+use Rattle.dstm_list.specs.Place.{Finds}
+use Rattle.dstm_list.proofs.Walked.{applies-walked, few-walked}
 use Rattle.dstm_list.proofs.remove.Goals as goal
 
 pub remove_at-requires-clause-ready : goal.remove_at-requires-clause-ready
 remove_at-requires-clause-ready g c =
-    let walked = c.in_ok-place.ensures in
-    ready-reads g.M.Mem (Ok c.in_ok-place.place) c.requires.ready walked.leads walked.looks
+    let walks = c.in_ok-place.ensures.walks in
+    ready-reads g.M.Mem (Ok c.in_ok-place.place) c.requires.ready walks.leads (walks.quiet tt)
 
 pub remove_at-requires-clause-found : goal.remove_at-requires-clause-found
-remove_at-requires-clause-found g c =
-    let walked = c.in_ok-place.ensures in
-    found-walked g.M.Mem c.args.layout.now c.args.key c.in_ok-place.place walked.looks walked.finds
+remove_at-requires-clause-found g c map admitted =
+    let walked = c.in_ok-place.ensures.walks.does map admitted in
+    subst (λ (values : List Val). Finds c.args.layout.now values c.args.key c.in_ok-place.place) (sym walked.same)
+    walked.finds
 
-pub returns-clause-does : goal.returns-clause-does
-returns-clause-does g c =
-    does-walked g.M.Mem c.args.layout.now (Remove which.List c.args.key) c.in_ok-reply.reply
-    c.in_ok-place.ensures.looks c.in_ok-reply.ensures.does
+pub returns-clause-applies : goal.returns-clause-applies
+returns-clause-applies g c =
+    applies-walked g.M.Mem c.args.layout.now (Remove which.List c.args.key) c.in_ok-reply.reply
+    c.in_ok-place.ensures.walks c.in_ok-reply.ensures.applies
+
+pub returns-clause-few : goal.returns-clause-few
+returns-clause-few g c =
+    few-walked g.M.Mem c.args.layout.now (c.in_ok-place.ensures.walks.quiet tt) c.in_ok-reply.ensures.few

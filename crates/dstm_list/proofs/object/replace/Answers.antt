@@ -1,20 +1,40 @@
-use Rattle.std.proofs.Common.{◌≡◌, arith, sym, ◌∙◌, subst}
-use Rattle.dstm_mem.proofs.WithSet.{value_at-opened}
+use Rattle.std.proofs.Common.{◌≢◌, rules, arith, sym, ◌∙◌, ap, subst, slice_set}
+use Rattle.dstm_mem.proofs.WithSet.{value_at-opened, with_set-same, with_set-set}
 use Rattle.dstm_list.specs.List.{IsOfList}
 use Rattle.dstm_list.proofs.object.replace.Goals as goal
 
-pub returns-clause-had : goal.returns-clause-had
-returns-clause-had g c map admitted =
+pub returns-clause-sets : goal.returns-clause-sets
+returns-clause-sets g c =
     let M = g.M.Mem in
     let laws = g.met.M.Mem in
+    let start = c.args.mem.now in
     let mem = c.open_write.new.self in
     let opened = c.in_ok-had.ensures in
-    let in_opened = (c.set.ensures.admits map).0 admitted in
-    let size = laws.admitted_length c.args.mem.now map (opened.narrows map in_opened) in
-    value_at-opened map (M.written c.args.mem.now) (M.written mem) (M.held mem) c.args.object
-    c.in_ok-had.had (omega (arith, size, c.requires.objects, c.requires.list))
-    (laws.admitted_agrees mem map in_opened)
-    opened.written opened.value
+    let set = c.set.ensures in
+    record {
+      leads = search rules;
+      outside = λ o out.
+          let other : o ≢ c.args.object =
+          λ same. out (subst (IsOfList c.args.layout.now) (sym same) c.requires.list) in
+          record {
+            written = set.written.others o other ∙ opened.written o;
+            held = set.held o ∙ opened.held.others o other;
+            opened = set.opened o ∙ opened.opened.others o other;
+          };
+      marks = λ all. search rules;
+      quiet = λ never. absurd never;
+      does = λ map admitted.
+          let in_opened = (set.admits map).0 admitted in
+          let size = laws.admitted_length start map (opened.narrows map in_opened) in
+          record {
+            had = value_at-opened map (M.written start) (M.written mem) (M.held mem) c.args.object c.in_ok-had.had
+                (omega (arith, size, c.requires.objects, c.requires.list)) (laws.admitted_agrees mem map in_opened)
+                opened.written opened.value;
+            set = with_set-set map (M.written mem) (M.written c.set.new.self) c.args.object c.args.value set.written
+                ∙ ap (λ x. slice_set x c.args.object c.args.value)
+                (with_set-same map (M.written start) (M.written mem) opened.written);
+          };
+    }
 
 pub returns-clause-written : goal.returns-clause-written
 returns-clause-written g c =
@@ -23,21 +43,3 @@ returns-clause-written g c =
       value = sets.value;
       others = λ p other. sets.others p other ∙ c.in_ok-had.ensures.written p;
     }
-
-pub returns-clause-sets : goal.returns-clause-sets
-returns-clause-sets g c p outside =
-    let other =
-    λ (e : p ≡ c.args.object). outside (subst (IsOfList c.args.layout.now) (sym e) c.requires.list) in
-    c.set.ensures.written.others p other ∙ c.in_ok-had.ensures.written p
-
-pub returns-clause-holds : goal.returns-clause-holds
-returns-clause-holds g c p outside =
-    let other =
-    λ (e : p ≡ c.args.object). outside (subst (IsOfList c.args.layout.now) (sym e) c.requires.list) in
-    c.set.ensures.held p ∙ c.in_ok-had.ensures.held.others p other
-
-pub returns-clause-opens : goal.returns-clause-opens
-returns-clause-opens g c p outside =
-    let other =
-    λ (e : p ≡ c.args.object). outside (subst (IsOfList c.args.layout.now) (sym e) c.requires.list) in
-    c.set.ensures.opened p ∙ c.in_ok-had.ensures.opened.others p other

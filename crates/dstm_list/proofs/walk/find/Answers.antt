@@ -1,85 +1,63 @@
 use Rattle.std.proofs.Common.{◌<◌, arith, sym, ◌∙◌, subst}
 use Rattle.dstm_model.specs.Objects.{list_begin}
-use Rattle.dstm_mem.specs.Memory.{with_set}
-use Rattle.dstm_mem.proofs.Operations.{leads-then, only_reads-then}
-use Rattle.dstm_mem.proofs.WithSet.{with_set-same}
+use Rattle.dstm_mem.proofs.Operating.{operates-as, operates-then}
 use Rattle.dstm_list.specs.List.{IsOfList}
 use Rattle.dstm_list.specs.Place.{Stands}
-use Rattle.dstm_list.proofs.Steps.{left, head-of_list, node-of_list, next_within, stands-start, stands-seen, stands-on}
+use Rattle.dstm_list.proofs.Steps.{left, head-of_list, node-of_list, next_within, stands-start, stands-on}
 use Rattle.dstm_list.proofs.Steps.{place-found, place-passed, place-end, left-less}
+use Rattle.dstm_list.proofs.Walked.{next-seen}
 use Rattle.dstm_list.proofs.walk.find.Goals as goal
 
 pub loop-before-init : goal.loop-before-init
-loop-before-init g c =
-    let opened = c.in_ok-before.ensures in
-    record {
-      leads = opened.leads;
-      link = head-of_list c.args.layout.now c.requires.declared;
-      looks = opened.looks;
-      holds = opened.holds;
-      opens = opened.opens;
-      stands = λ map admitted store list.
-          stands-start c.args.key c.in_ok-before.before c.requires.valid c.requires.declared list
-          (opened.key map admitted) (opened.next map admitted);
-    }
+loop-before-init g c = record {
+  walked = operates-as c.in_ok-before.ensures.looks (λ q. q) (λ q. q) (λ before after seen. record {
+    same = seen.same;
+    stands = λ store list.
+        stands-start c.args.key c.in_ok-before.before c.requires.valid c.requires.declared list seen.key seen.next;
+  });
+  link = head-of_list c.args.layout.now c.requires.declared;
+}
 
 pub look-requires-in-loop-before-clause-list : goal.look-requires-in-loop-before-clause-list
 look-requires-in-loop-before-clause-list g c =
-    let so_far = c.loop-before.invariant in
+    let walked = c.loop-before.invariant.walked in
     let layout = c.args.layout.now in
-    let (map, admitted) = so_far.leads.admits in
-    let (store, list) = c.requires.ready.lawful map (so_far.leads.narrows map admitted) in
-    let within = next_within list (so_far.stands map admitted store list) in
+    let (map, admitted) = walked.leads.admits in
+    let (store, list) = c.requires.ready.lawful map (walked.leads.narrows map admitted) in
+    let within = next_within list ((walked.does map admitted).stands store list) in
     subst (IsOfList layout) (sym c.node_object-object.ensures)
     (node-of_list layout c.loop-before.before.next c.requires.declared within)
 
-pub returns-then-node-from-clause-finds : goal.returns-then-node-from-clause-finds
-returns-then-node-from-clause-finds g c map admitted store list =
-    let M = g.M.Mem in
-    let so_far = c.loop-before.invariant in
-    let opened = c.in_ok-node.ensures in
-    let node = c.in_ok-node.node in
-    let stands = so_far.stands map (opened.leads.narrows map admitted) store list in
-    let same = with_set-same map (M.written c.args.mem.now) (M.written c.loop-before.mem) so_far.looks.sets in
-    let ahead =
-    stands-seen
-    (with_set map (M.written c.loop-before.mem)) c.node_object-object.result node c.requires.valid
-    list stands c.loop-before-test.true same c.node_object-object.ensures (opened.key map admitted)
-    (opened.next map admitted) in
-    place-found node stands ahead (c.if-node-from.true ∙ c.from.ensures)
+pub returns-then-node-from-clause-walks : goal.returns-then-node-from-clause-walks
+returns-then-node-from-clause-walks g c =
+    let walked = c.loop-before.invariant.walked in
+    operates-as (operates-then walked c.in_ok-node.ensures.looks) (λ q. (q, q)) (λ q. (q, q)) (λ before after h. record {
+      same = h.second.same ∙ h.first.same;
+      finds = λ store list.
+          place-found c.in_ok-node.node (h.first.stands store list)
+          (next-seen c.requires.valid c.loop-before-test.true c.node_object-object.ensures h store list)
+          (c.if-node-from.true ∙ c.from.ensures);
+    })
 
-pub returns-then-node-from-2-clause-finds : goal.returns-then-node-from-2-clause-finds
-returns-then-node-from-2-clause-finds g c map admitted store list =
-    let M = g.M.Mem in
-    let so_far = c.loop-before.invariant in
-    let opened = c.in_ok-node.ensures in
-    let node = c.in_ok-node.node in
-    let stands = so_far.stands map (opened.leads.narrows map admitted) store list in
-    let same = with_set-same map (M.written c.args.mem.now) (M.written c.loop-before.mem) so_far.looks.sets in
-    let ahead =
-    stands-seen
-    (with_set map (M.written c.loop-before.mem)) c.node_object-object.result node c.requires.valid
-    list stands c.loop-before-test.true same c.node_object-object.ensures (opened.key map admitted)
-    (opened.next map admitted) in
-    place-passed node list stands ahead (omega (arith, c.if-node-from-2.true, c.from-in-loop-before.ensures))
+pub returns-then-node-from-2-clause-walks : goal.returns-then-node-from-2-clause-walks
+returns-then-node-from-2-clause-walks g c =
+    let walked = c.loop-before.invariant.walked in
+    operates-as (operates-then walked c.in_ok-node.ensures.looks) (λ q. (q, q)) (λ q. (q, q)) (λ before after h. record {
+      same = h.second.same ∙ h.first.same;
+      finds = λ store list.
+          place-passed c.in_ok-node.node list (h.first.stands store list)
+          (next-seen c.requires.valid c.loop-before-test.true c.node_object-object.ensures h store list)
+          (omega (arith, c.if-node-from-2.true, c.from-in-loop-before.ensures));
+    })
 
 pub loop-before-smaller : goal.loop-before-smaller
 loop-before-smaller g c =
     let begin = list_begin c.args.layout.now in
-    let M = g.M.Mem in
-    let so_far = c.loop-before.invariant in
-    let opened = c.in_ok-node.ensures in
     let node = c.in_ok-node.node in
-    let (map, admitted) = opened.leads.admits in
-    let in_loop = opened.leads.narrows map admitted in
-    let (store, list) = c.requires.ready.lawful map (so_far.leads.narrows map in_loop) in
-    let stands = so_far.stands map in_loop store list in
-    let same = with_set-same map (M.written c.args.mem.now) (M.written c.loop-before.mem) so_far.looks.sets in
-    let ahead =
-    stands-seen
-    (with_set map (M.written c.loop-before.mem)) c.node_object-object.result node c.requires.valid
-    list stands c.loop-before-test.true same c.node_object-object.ensures (opened.key map admitted)
-    (opened.next map admitted) in
+    let both = operates-then c.loop-before.invariant.walked c.in_ok-node.ensures.looks in
+    let (map, admitted) = both.leads.admits in
+    let (store, list) = c.requires.ready.lawful map (both.leads.narrows map admitted) in
+    let h = both.does map admitted in
     let less : node.key < c.args.key =
     omega (
       arith,
@@ -89,18 +67,18 @@ loop-before-smaller g c =
       c.from-in-loop-before.ensures,
     ) in
     subst (λ o. left begin c.args.key o node.key < left begin c.args.key c.loop-before.link c.loop-before.before.key)
-    (sym c.node_object-object.ensures) (left-less node list stands ahead less)
+    (sym c.node_object-object.ensures)
+    (left-less node list (h.first.stands store list)
+    (next-seen c.requires.valid c.loop-before-test.true c.node_object-object.ensures h store list) less)
 
 pub loop-before-preserved : goal.loop-before-preserved
 loop-before-preserved g c =
-    let M = g.M.Mem in
     let layout = c.args.layout.now in
-    let so_far = c.loop-before.invariant in
-    let opened = c.in_ok-node.ensures in
+    let walked = c.loop-before.invariant.walked in
     let node = c.in_ok-node.node in
-    let (some, allowed) = so_far.leads.admits in
-    let (some_store, some_list) = c.requires.ready.lawful some (so_far.leads.narrows some allowed) in
-    let within = next_within some_list (so_far.stands some allowed some_store some_list) in
+    let (some, allowed) = walked.leads.admits in
+    let (some_store, some_list) = c.requires.ready.lawful some (walked.leads.narrows some allowed) in
+    let within = next_within some_list ((walked.does some allowed).stands some_store some_list) in
     let less : node.key < c.args.key =
     omega (
       arith,
@@ -110,24 +88,22 @@ loop-before-preserved g c =
       c.from-in-loop-before.ensures,
     ) in
     record {
-      leads = leads-then M so_far.leads opened.leads;
+      walked = operates-as (operates-then walked c.in_ok-node.ensures.looks) (λ q. (q, q)) (λ q. (q, q))
+          (λ before after h. record {
+            same = h.second.same ∙ h.first.same;
+            stands = λ store list.
+                subst (λ o. Stands (list_begin layout) c.args.key o node list.cells)
+                (sym c.node_object-object.ensures)
+                (stands-on node (h.first.stands store list)
+                (next-seen c.requires.valid c.loop-before-test.true c.node_object-object.ensures h store list) less);
+          });
       link = subst (IsOfList layout) (sym c.node_object-object.ensures)
           (node-of_list layout c.loop-before.before.next c.requires.declared within);
-      looks = only_reads-then M so_far.leads so_far.looks opened.looks;
-      holds = λ p outside. opened.holds p outside ∙ so_far.holds p outside;
-      opens = λ p outside. opened.opens p outside ∙ so_far.opens p outside;
-      stands = λ map admitted store list.
-          let stands = so_far.stands map (opened.leads.narrows map admitted) store list in
-          let same = with_set-same map (M.written c.args.mem.now) (M.written c.loop-before.mem) so_far.looks.sets in
-          let ahead =
-          stands-seen
-          (with_set map (M.written c.loop-before.mem)) c.node_object-object.result node c.requires.valid
-          list stands c.loop-before-test.true same c.node_object-object.ensures (opened.key map admitted)
-          (opened.next map admitted) in
-          subst (λ o. Stands (list_begin layout) c.args.key o node list.cells)
-          (sym c.node_object-object.ensures) (stands-on node stands ahead less);
     }
 
-pub returns-clause-finds : goal.returns-clause-finds
-returns-clause-finds g c map admitted store list =
-    place-end list (c.loop-before.invariant.stands map admitted store list) c.loop-before-test.false
+pub returns-clause-walks : goal.returns-clause-walks
+returns-clause-walks g c =
+    operates-as c.loop-before.invariant.walked (λ q. q) (λ q. q) (λ before after h. record {
+      same = h.same;
+      finds = λ store list. place-end list (h.stands store list) c.loop-before-test.false;
+    })

@@ -1,8 +1,8 @@
 use Rattle.std.proofs.Common.{◌<◌, arith, sym, subst}
 use Rattle.dstm_model.specs.Objects.{list_begin}
-use Rattle.dstm_mem.proofs.Operations.{leads-answers}
 use Rattle.dstm_list.specs.List.{IsOfList}
 use Rattle.dstm_list.proofs.Steps.{left, node-of_list, next_within, left-less, place-end}
+use Rattle.dstm_list.proofs.Walked.{walks-by}
 use Rattle.dstm_release_list.proofs.Walking.{Laws, walking-start, walking-on, stepped, stands-held, next-held, at-map}
 use Rattle.dstm_release_list.proofs.Walking.{place-next, adds-next, adds-end}
 use Rattle.dstm_release_list.proofs.walk.walk.Given as given
@@ -47,18 +47,15 @@ returns-then-next-from g c =
     c.node_object.ensures opened.visits opened.leads opened.looks c.let_go.ensures.lets c.let_go.ensures.gone in
     let place = c.place_at.ensures in
     record {
-      finds = λ map admitted store list.
+      walks = walks-by g.M.Mem layout c.args.key c.place_at.result step.leads step.looks step.holds step.opens
+          (λ map admitted store list.
           let at = at-map g.M.Mem c.args.mem.now layout map store (laws g) c.requires.ready c.requires.valid
           c.requires.declared step.leads step.looks admitted list in
           place-next g.M.Mem c.args.mem.now layout c.args.key head c.loop-last.behind last c.in_ok-next.next
-          c.place_at.result at so_far.head_at c.loop-last-test.true step place.link place.before place.node;
+          c.place_at.result at so_far.head_at c.loop-last-test.true step place.link place.before place.node);
       link = subst (IsOfList layout) (sym place.link) so_far.last_in;
       adds = adds-next g.M.Mem c.args.mem.now layout c.args.key head c.loop-last.behind last c.in_ok-next.next
           c.place_at.result step place.link place.before;
-      looks = step.looks;
-      holds = step.holds;
-      opens = step.opens;
-      leads = leads-answers g.M.Mem step.leads;
     }
 
 pub loop-last-smaller : goal.loop-last-smaller
@@ -99,14 +96,16 @@ loop-last-preserved g c =
     c.requires.declared so_far c.loop-last-test.true step less c.unless_at-behind.ensures.none
     c.unless_at-behind.ensures.some
 
-pub returns-clause-finds : goal.returns-clause-finds
-returns-clause-finds g c map admitted store list =
+pub returns-clause-walks : goal.returns-clause-walks
+returns-clause-walks g c =
     let so_far = c.loop-last.invariant in
+    walks-by g.M.Mem c.args.layout.now c.args.key _ so_far.leads so_far.looks so_far.holds so_far.opens
+    (λ map admitted store list.
     let at = at-map g.M.Mem c.args.mem.now c.args.layout.now map store (laws g) c.requires.ready c.requires.valid
     c.requires.declared so_far.leads so_far.looks admitted list in
     place-end list
     (stands-held c.args.key c.in_ok-head.head c.loop-last.last at so_far.head_at so_far.last_seen so_far.anchored)
-    c.loop-last-test.false
+    c.loop-last-test.false)
 
 pub returns-clause-adds : goal.returns-clause-adds
 returns-clause-adds g c =

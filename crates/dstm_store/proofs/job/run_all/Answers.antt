@@ -13,6 +13,7 @@ use Rattle.dstm_store.specs.Job.{DoesAll}
 use Rattle.dstm_store.specs.Keeps.{is_of_list, most_kept, TouchesAtMost}
 use Rattle.dstm_store.proofs.Few.{touches-then, holds-touched}
 use Rattle.dstm_store.proofs.Jobs.{up_to, does-more, does-all}
+use Rattle.dstm_store.proofs.Parts.{lawful-after}
 use Rattle.dstm_store.proofs.job.run_all.Goals as goal
 
 pub loop-op-preserved : goal.loop-op-preserved
@@ -27,8 +28,10 @@ loop-op-preserved g c =
     record {
       count = ap length c.push.ensures ∙ length_push c.loop-op.replies c.in_ok-reply.reply
           ∙ ap (λ n. n + 1) so_far.count;
-      leads = leads-answers M (leads-then M so_far.leads ran.leads);
-      lawful = ran.lawful;
+      leads = leads-answers M (leads-then M so_far.leads ran.applies.leads);
+      lawful = λ map admitted.
+          lawful-after c.args.layout.now (get_or task.ops i some_op) _ _ c.in_ok-reply.reply
+          (so_far.lawful map (ran.applies.leads.narrows map admitted)) (ran.applies.does map admitted);
       done = λ map admitted.
           let reply = c.in_ok-reply.reply in
           let start = with_set map (M.written c.args.mem.now) in
@@ -36,13 +39,13 @@ loop-op-preserved g c =
           let after = with_set map (M.written c.run_in_branch.new.mem) in
           subst (λ (rs : List Reply). DoesAll (up_to (i + 1) task) start after rs) (sym c.push.ensures)
           (does-more task i some_op start before after c.loop-op.replies reply below
-          (so_far.done map (ran.leads.narrows map admitted)) (ran.does map admitted));
+          (so_far.done map (ran.applies.leads.narrows map admitted)) (ran.applies.does map admitted));
       audits = λ has a within.
           elim (Contains-push_cases (take i task.ops) (get_or task.ops i some_op) Total
           (subst (λ ops. Contains ops Total) (take_more task.ops i some_op below) has)) [
             | inl before ↦
                 let held = so_far.audits before a within in
-                subst IsSome (sym (ran.leads.holds a held)) held
+                subst IsSome (sym (ran.applies.leads.holds a held)) held
             | inr is ↦ ran.audits is a within
           ];
       few = λ lets reads all.

@@ -1,4 +1,5 @@
 use Rattle.dstm_tree.proofs.Base.{rules, arith, value_at-opened, with_set-same, opens_to_set-of_reads, OnlyReads}
+use Rattle.dstm_tree.proofs.Stepping.{other-outside}
 use Rattle.dstm_tree.proofs.cells.read.Goals as goal
 
 pub returns : goal.returns
@@ -11,8 +12,14 @@ returns g c =
     let looks : OnlyReads M start mem = search rules in
     record {
       leads = search rules;
-      outside = search rules;
-      marks = opens_to_set-of_reads M looks;
+      outside = λ o out.
+          let other = other-outside c.requires.first out in
+          record {
+            written = opened.written o;
+            held = opened.held.others o other;
+            opened = opened.opened.others o other;
+          };
+      marks = λ all. opens_to_set-of_reads M looks;
       quiet = λ q. looks;
       does = λ map admitted. record {
         is =

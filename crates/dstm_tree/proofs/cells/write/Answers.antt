@@ -1,4 +1,5 @@
 use Rattle.dstm_tree.proofs.Base.{rules, arith, ap, ◌∙◌, unwrap_or, value_at, value_at-with_set, value_at-same_set}
+use Rattle.dstm_tree.proofs.Stepping.{other-outside}
 use Rattle.dstm_tree.proofs.cells.write.Goals as goal
 
 pub returns : goal.returns
@@ -9,8 +10,15 @@ returns g c =
     let object = c.args.object in
     record {
       leads = search rules;
-      outside = search rules;
-      marks = search rules;
+      outside = λ o out.
+          let other = other-outside c.requires.first out in
+          let opened = c.in_ok-open_write.ensures in
+          record {
+            written = c.set.ensures.written.others o other ∙ opened.written o;
+            held = c.set.ensures.held o ∙ opened.held.others o other;
+            opened = c.set.ensures.opened o ∙ opened.opened.others o other;
+          };
+      marks = λ all. search rules;
       quiet = λ never. absurd never;
       does = λ map admitted. record {
         is =

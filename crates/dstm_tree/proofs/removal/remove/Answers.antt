@@ -1,6 +1,6 @@
-use Rattle.dstm_tree.proofs.Base.{Some, None}
+use Rattle.dstm_tree.proofs.Base.{Some, None, refl}
 use Rattle.dstm_tree.proofs.Taking.{whole-none, whole-removed, part_at_root, removed_at_root}
-use Rattle.dstm_tree.proofs.Stepping.{steps-then}
+use Rattle.dstm_tree.proofs.Stepping.{steps-as, steps-then}
 use Rattle.dstm_tree.proofs.removal.remove.Goals as goal
 
 pub remove_below-requires-clause-lawful : goal.remove_below-requires-clause-lawful
@@ -9,10 +9,11 @@ remove_below-requires-clause-lawful g c map admitted =
     let (store, t) = c.requires.ready.lawful map (read.leads.narrows map admitted) in
     part_at_root store t (read.does map admitted)
 
-pub returns-in_default-clause-does : goal.returns-in_default-clause-does
-returns-in_default-clause-does g c map admitted store t =
-    let h = (steps-then c.in_ok-root.ensures.steps c.in_ok-found.ensures).does map admitted in
-    whole-none c.args.key store t (removed_at_root c.args.key None _ store t c.in_default.is h.first h.second)
+pub returns-in_default : goal.returns-in_default
+returns-in_default g c =
+    steps-as (steps-then c.in_ok-root.ensures.steps c.in_ok-found.ensures) (λ other. (tt, c.in_default.is))
+    (λ before after h store t.
+    whole-none c.args.key store t (removed_at_root c.args.key None _ store t c.in_default.is h.first h.second))
 
 pub give_back-requires-clause-number : goal.give_back-requires-clause-number
 give_back-requires-clause-number g c =
@@ -23,17 +24,11 @@ give_back-requires-clause-number g c =
     let lost = (removed_at_root c.args.key (Some c.in-Some.removed) _ store t c.in-Some.is h.first h.second).loses in
     (lost.some, lost.within)
 
-pub returns-clause-does : goal.returns-clause-does
-returns-clause-does g c map admitted store t =
+pub returns : goal.returns
+returns g c =
     let found = steps-then c.in_ok-root.ensures.steps c.in_ok-found.ensures in
     let given = steps-then found c.in_ok-give_back.ensures in
-    let h = (steps-then given c.in_ok-update_root.ensures).does map admitted in
+    steps-as (steps-then given c.in_ok-update_root.ensures) (λ other. absurd (other refl)) (λ before after h store t.
     let start = h.first.first in
     let taken = removed_at_root c.args.key (Some c.in-Some.removed) _ store t c.in-Some.is start.first start.second in
-    whole-removed _ store t (start.first.is store t) taken h.first.second h.second
-
-pub returns-clause-marks : goal.returns-clause-marks
-returns-clause-marks g c =
-    let found = steps-then c.in_ok-root.ensures.steps c.in_ok-found.ensures in
-    let given = steps-then found c.in_ok-give_back.ensures in
-    (steps-then given c.in_ok-update_root.ensures).marks
+    whole-removed _ store t (start.first.is store t) taken h.first.second h.second)
