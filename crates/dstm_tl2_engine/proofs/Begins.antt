@@ -396,6 +396,7 @@ module _ {L : Type 0} (holds : L → List Val → Type 0) (c : Inside L) (v : Ti
   begins_anew is p top enough = record {
     steps = performs_then holds c Beginning new None u (record c.opened { reads = []; writes = []; set = [] }) None;
     caller = anew_caller holds c v Beginning new u is;
+    untouched = λ map. with_set-nothing map (λ o. None) (λ o. refl);
     begun = anew_begun holds c v Beginning new u is;
     at_begin = at_begin_of (began_of Beginning (called c)) (view_of new.seat).log p new.sample top;
     same_done = done_then;

@@ -66,6 +66,7 @@ module _ {L : Type 0} where
     pub record BeginsAnew (k n : TlCalled L) : Type 0 where
       pub steps : Performs holds Beginning k n None
       pub caller : n ≡ record k { log = n.log; writes = []; set = []; left = None }
+      pub untouched : (map : List Val) → with_set map (written n) ≡ map
       pub begun : (sample : ℕ) × (state n ≡ begin (state k) sample)
       pub at_begin : n.log ≡ begun_log n.number n.log
       pub same_done : done n ≡ done k
