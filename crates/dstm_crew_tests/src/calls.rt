@@ -1,5 +1,5 @@
 use dstm_cli::dstm;
-use dstm_crew::{Gate, Rounds};
+use dstm_crew::{Gate, OpenGate, Rounds};
 use dstm_io::{MemorySink, MemorySource};
 use std::alloc::{AllocError, Global};
 use std::thread::Threads;
@@ -73,8 +73,31 @@ pub fn call_on<R: Threads + Sync, G: Gate + Sync>(
     })
 }
 
+// Lines that run a workload: by DSTM under each manager, with each of these options, and by TL2.
+pub fn run_lines(alloc: Global, options: &[&str]) -> Result<Vec<String>, AllocError> {
+    let mut lines = vec![in alloc; String::from_str(alloc, "dstm run --engine tl2")?]?;
+    for manager in ["polite", "karma", "polka", "greedy"] {
+        for option in options {
+            lines.push(format!(in alloc; "dstm run --manager {manager}{option}")?)?;
+        }
+    }
+    Ok(lines)
+}
+
+// Tells whether `check` finds the report on a workload lawful.
+pub fn is_lawful<R: Threads + Sync>(
+    rt: &R,
+    alloc: Global,
+    workload: &[u8],
+    report: &[u8],
+) -> Result<bool, AllocError> {
+    let case = case_of(alloc, workload, report)?;
+    let checked = call(rt, alloc, "dstm check", &case, &OpenGate)?;
+    Ok(checked.status == 0 && checked.out.as_slice() == b"lawful\n".as_slice())
+}
+
 // A workload, the line `---` and a report on it.
-pub fn case_of(alloc: Global, workload: &[u8], report: &[u8]) -> Result<Vec<u8>, AllocError> {
+fn case_of(alloc: Global, workload: &[u8], report: &[u8]) -> Result<Vec<u8>, AllocError> {
     let mut case = Vec::from_slice(alloc, workload)?;
     case.extend_from_slice(b"---\n")?;
     case.extend_from_slice(report)?;

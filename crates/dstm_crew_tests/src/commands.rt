@@ -1,4 +1,4 @@
-use crate::calls::{Devices, Ran, SOUND, call_on, case_of};
+use crate::calls::{Devices, Ran, SOUND, call_on, is_lawful};
 use dstm_cli::{check_takes_reports, run_takes_generated};
 use dstm_crew::OpenGate;
 use std::alloc::{AllocError, Global};
@@ -42,6 +42,9 @@ const FIRST: &str = "dstm 1\nbank 2 100\ntx 0 transfer 0 1 30\n";
 
 const FIRST_REPORT: &str = "dstm report 1\n3 0 0.0 ok\nbank 70 130\nend 1\n";
 
+const SAVINGS: &str = "dstm 1\nbank 4 1000\ntx 0 transfer 0 1 250\ntx 0 transfer 1 2 1250\n\
+    tx 0 transfer 1 3 1\ntx 0 transfer 3 3 1000\n";
+
 const TWO_TRANSFERS: &str = "dstm 1\nbank 2 100\ntx 0 transfer 0 1 80 ; transfer 0 1 80\n";
 
 const ONE_KEY: &str = "dstm 1\nlist 1\ntx 0 insert list 5\ntx 0 insert list 5\n\
@@ -79,6 +82,10 @@ fn workloads_are_run(rt: HostRuntime) -> Result<(), Fail> {
              8 0 0.5 true\n9 0 0.6 true\n10 0 0.7 true\ntree 1 2 3 5 6 7\nend 8\n",
         ),
         (
+            SAVINGS,
+            "dstm report 1\n3 0 0.0 ok\n4 0 0.1 ok\n5 0 0.2 poor\n6 0 0.3 ok\nbank 750 0 2250 1000\nend 4\n",
+        ),
+        (
             "dstm 1\ntree 1\ntx 0 insert tree 1048574\n",
             "dstm report 1\n3 0 0.0 true\ntree 1048574\nend 1\n",
         ),
@@ -99,14 +106,11 @@ fn workloads_are_run(rt: HostRuntime) -> Result<(), Fail> {
             "dstm report 3\n3 0 0.0 ok\n4 0 0.1 true ; 200\nbank 160 40\nend 2\n",
         ),
     ];
+    // With one worker the reports of both engines are the same.
     for (input, report) in rows {
-        expect(
-            &rt,
-            rt.alloc(),
-            "dstm run",
-            input.as_bytes(),
-            (0, report, ""),
-        )?;
+        for line in ["dstm run", "dstm run --engine tl2"] {
+            expect(&rt, rt.alloc(), line, input.as_bytes(), (0, report, ""))?;
+        }
     }
     let large = run_on(
         &rt,
@@ -121,25 +125,6 @@ fn workloads_are_run(rt: HostRuntime) -> Result<(), Fail> {
             .out
             .starts_with(b"dstm report 1\n3 0 0.0 4096000000000\nbank 1000000000 ")
     );
-    Ok(())
-}
-
-// The rows of several workers come in any order that is lawful; what they leave is the same here.
-#[test]
-fn workers_run_beside_one_another(rt: HostRuntime) -> Result<(), Fail> {
-    for option in [
-        "",
-        " --manager greedy",
-        " --all-write --seed 9",
-        " --engine tl2",
-    ] {
-        let line = format!(in rt.alloc(); "dstm run{option}")?;
-        let ran = run_on(&rt, rt.alloc(), &line, AWAITS.as_bytes(), SOUND)?;
-        assert_eq!(rt; ran.status, 0);
-        assert!(rt; ran.out.ends_with(b"\nbank 190 10\nend 2\n"));
-        let case = case_of(rt.alloc(), AWAITS.as_bytes(), &ran.out)?;
-        expect(&rt, rt.alloc(), "dstm check", &case, (0, "lawful\n", ""))?;
-    }
     Ok(())
 }
 
@@ -332,8 +317,8 @@ fn generated_workloads(rt: HostRuntime) -> Result<(), Fail> {
 
 #[test]
 fn failing_devices(rt: HostRuntime) -> Result<(), Fail> {
-    let input = TWO_TRANSFERS.as_bytes();
-    let report = b"dstm report 1\n3 0 0.0 ok ; poor\nbank 20 180\nend 1\n".as_slice();
+    let input = FIRST.as_bytes();
+    let report = FIRST_REPORT.as_bytes();
     // A run reads twice, the second time to see the end, and writes once.
     for at in 0..2 {
         let devices = Devices {
@@ -381,10 +366,9 @@ fn cut_inputs(rt: HostRuntime) -> Result<(), Fail> {
                 continue;
             }
             assert_eq!(rt; ran.status, 0);
-            let mut case = Vec::from_slice(rt.alloc(), cut)?;
-            case.extend_from_slice(b"\n---\n")?;
-            case.extend_from_slice(&ran.out)?;
-            expect(&rt, rt.alloc(), "dstm check", &case, (0, "lawful\n", ""))?;
+            let mut workload = Vec::from_slice(rt.alloc(), cut)?;
+            workload.push(b'\n')?;
+            assert!(rt; is_lawful(&rt, rt.alloc(), &workload, &ran.out)?);
         }
     }
     Ok(())

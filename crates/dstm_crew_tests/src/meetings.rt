@@ -1,5 +1,5 @@
-use crate::calls::{call, case_of};
-use dstm_crew::{Gate, OpenGate};
+use crate::calls::{call, is_lawful, run_lines};
+use dstm_crew::Gate;
 use std::alloc::{AllocError, Global};
 use std::sync::atomic::{AtomicU64, Ordering};
 use std::test::Fail;
@@ -58,9 +58,14 @@ impl Gate for Meeting {
     }
 }
 
-// Two workers with 200 transfers each between eight accounts. The jobs between two meetings share no account.
-fn transfers(alloc: Global) -> Result<Vec<u8>, AllocError> {
-    let mut text = Vec::from_slice(alloc, b"dstm 1\nworkers 2\nbank 8 1000\n")?;
+// Two workers that insert the same 50 keys each, and then make 200 transfers each between eight accounts. The transfers
+// between two meetings share no account.
+fn jobs_of_two(alloc: Global) -> Result<Vec<u8>, AllocError> {
+    let mut text = Vec::from_slice(alloc, b"dstm 1\nworkers 2\nbank 8 1000\nlist 64\n")?;
+    for i in 0..100_u32 {
+        let line = format!(in alloc; "tx {} insert list {}\n", i % 2, i / 2)?;
+        text.extend_from_slice(line.as_bytes())?;
+    }
     for i in 0..400_u32 {
         let line = format!(in alloc; "tx {} transfer {} {} 1\n", i % 2, i % 8, (i + 3) % 8)?;
         text.extend_from_slice(line.as_bytes())?;
@@ -79,26 +84,30 @@ fn sum_of_balances(report: &[u8]) -> Option<u64> {
     Some(sum)
 }
 
+// The line of a list that has all keys below this number.
+fn line_of_keys(alloc: Global, keys: u32) -> Result<String, AllocError> {
+    let mut line = String::from_str(alloc, "\nlist")?;
+    for key in 0..keys {
+        line.push_str(&format!(in alloc; " {key}")?)?;
+    }
+    line.push_str("\n")?;
+    Ok(line)
+}
+
 // Both workers are under way at once: each of the 200 waits at the gate ends since the other worker has come.
 #[test]
 fn two_workers_meet(rt: HostRuntime) -> Result<(), Fail> {
     let alloc = rt.alloc();
-    let workload = transfers(alloc)?;
-    let mut lines = vec![in alloc; String::from_str(alloc, "dstm run --engine tl2")?]?;
-    for manager in ["polite", "karma", "polka", "greedy"] {
-        for option in ["", " --all-write", " --release"] {
-            lines.push(format!(in alloc; "dstm run --manager {manager}{option}")?)?;
-        }
-    }
-    for line in &lines {
+    let workload = jobs_of_two(alloc)?;
+    let keys = line_of_keys(alloc, 50)?;
+    for line in &run_lines(alloc, &["", " --all-write", " --release"])? {
         let gate = Meeting::make();
         let ran = call(&rt, alloc, line, &workload, &gate)?;
         assert_eq!(rt; ran.status, 0, "{line}");
         assert_eq!(rt; gate.met.load(Ordering::SeqCst), 200, "{line}");
         assert_eq!(rt; sum_of_balances(&ran.out), Some(8000), "{line}");
-        let case = case_of(alloc, &workload, &ran.out)?;
-        let checked = call(&rt, alloc, "dstm check", &case, &OpenGate)?;
-        assert_eq!(rt; checked.out.as_slice(), b"lawful\n".as_slice(), "{line}");
+        assert!(rt; str::from_utf8(&ran.out)?.contains(&keys), "{line}");
+        assert!(rt; is_lawful(&rt, alloc, &workload, &ran.out)?, "{line}");
     }
     Ok(())
 }

@@ -1,4 +1,4 @@
-use crate::calls::{call, case_of};
+use crate::calls::{call, is_lawful, run_lines};
 use dstm_crew::{Gate, OpenGate};
 use std::sync::atomic::{AtomicU64, Ordering};
 use std::test::Fail;
@@ -49,23 +49,21 @@ fn one_worker_takes_three_rounds(rt: HostRuntime) -> Result<(), Fail> {
 #[test]
 fn reports_are_lawful(rt: HostRuntime) -> Result<(), Fail> {
     let alloc = rt.alloc();
-    let workload = call(&rt, alloc, "dstm gen 7 400 4", b"", &OpenGate)?;
-    let mut lines = vec![in alloc; String::from_str(alloc, "dstm run --engine tl2 --seed 9")?]?;
-    for manager in ["polite", "karma", "polka", "greedy"] {
-        for option in [
-            "",
-            " --seed 9 --all-write",
-            " --release --seed 18446744073709551615",
-        ] {
-            lines.push(format!(in alloc; "dstm run --manager {manager}{option}")?)?;
+    let all = [
+        "",
+        " --seed 9 --all-write",
+        " --release --seed 18446744073709551615",
+    ];
+    for (generated, options) in [
+        ("dstm gen 7 200 8", all.as_slice()),
+        ("dstm gen 7 128 32", &[""]),
+    ] {
+        let workload = call(&rt, alloc, generated, b"", &OpenGate)?;
+        for line in &run_lines(alloc, options)? {
+            let ran = call(&rt, alloc, line, &workload.out, &OpenGate)?;
+            assert_eq!(rt; ran.status, 0, "{line}");
+            assert!(rt; is_lawful(&rt, alloc, &workload.out, &ran.out)?, "{line}");
         }
-    }
-    for line in &lines {
-        let ran = call(&rt, alloc, line, &workload.out, &OpenGate)?;
-        assert_eq!(rt; ran.status, 0, "{line}");
-        let case = case_of(alloc, &workload.out, &ran.out)?;
-        let checked = call(&rt, alloc, "dstm check", &case, &OpenGate)?;
-        assert_eq!(rt; checked.out.as_slice(), b"lawful\n".as_slice(), "{line}");
     }
     Ok(())
 }
@@ -76,30 +74,24 @@ fn blocked_jobs(rt: HostRuntime) -> Result<(), Fail> {
     let alloc = rt.alloc();
     let woken = b"dstm 3\nworkers 2\nbank 2 100\n\
         tx 0 await balance 1 150 ; transfer 1 0 150\ntx 1 transfer 0 1 60\n";
+    let branches = b"dstm 3\nworkers 2\nbank 2 100\nlist 8\n\
+        tx 0 transfer 0 1 30 ; total\ntx 1 await list 7 ; remove list 7 orelse insert list 7\n";
     let never = b"dstm 3\nworkers 2\nbank 1 5\nlist 4\n\
         tx 0 await balance 0 6\ntx 1 await list 3\ntx 0 insert list 3\n";
     let ends = [
-        (woken.as_slice(), "bank 190 10\nend 2\n"),
+        (woken.as_slice(), "\nbank 190 10\nend 2\n"),
+        (branches.as_slice(), "\nbank 70 130\nlist 7\nend 2\n"),
         (
             never.as_slice(),
             "\n5 0 1.0 never\n7 0 1.1 true\n6 1 1.2 true\nbank 5\nlist 3\nend 3\n",
         ),
     ];
     for (workload, end) in ends {
-        for way in [
-            "--manager polite",
-            "--manager karma",
-            "--manager polka",
-            "--manager greedy",
-            "--engine tl2",
-        ] {
-            let line = format!(in alloc; "dstm run {way}")?;
-            let ran = call(&rt, alloc, &line, workload, &OpenGate)?;
+        for line in &run_lines(alloc, &["", " --all-write --seed 9"])? {
+            let ran = call(&rt, alloc, line, workload, &OpenGate)?;
             assert_eq!(rt; ran.status, 0, "{line}");
             assert!(rt; ran.out.ends_with(end.as_bytes()), "{line}: {end}");
-            let case = case_of(alloc, workload, &ran.out)?;
-            let checked = call(&rt, alloc, "dstm check", &case, &OpenGate)?;
-            assert_eq!(rt; checked.out.as_slice(), b"lawful\n".as_slice(), "{line}");
+            assert!(rt; is_lawful(&rt, alloc, workload, &ran.out)?, "{line}");
         }
     }
     Ok(())
