@@ -13,5 +13,6 @@ pub lawful_there : (layout : Layout) (home : Home StoreLaw) (k : Called StoreLaw
     (values : List Val) → IsLawful ran.layout values → IsLawful (law_of k).layout values
 lawful_there layout home k there law made ran fits same values lawful =
     subst (λ (l : Layout). IsLawful l values)
-    (ap (λ (t : JobTask). t.layout) same ∙ fits ∙ sym law ∙ sym (ap (λ (h : Home StoreLaw). h.terms.law.value.layout) there))
+    (ap (λ (t : JobTask). t.layout) same ∙ fits ∙ sym law
+    ∙ sym (ap (λ (h : Home StoreLaw). h.terms.law.value.layout) there))
     lawful
