@@ -267,14 +267,14 @@ module _ {S E : Type 0} (M : Ghosts S E) (layout : Layout) {op : Op} {In : ℕ �
   }
 
 -- and leaves a lawful map
-pub leaves-lawful : {S E : Type 0} (M : Ghosts S E) (layout : Layout) {op : Op} {In : ℕ → Type 0} {old new : S}
+pub leaves-lawful : {S E : Type 0} (M : Ghosts S E) (layout : Layout) (op : Op) {In : ℕ → Type 0} {old new : S}
     (r : Result Reply E) → IsReady M (objects_of layout) (StandsFor layout) old →
     Applies M In (StandsFor layout) op old new r →
     OnOk r ((map : List Val) → M.Admits new map → IsLawful layout (with_set map (M.written new)))
-leaves-lawful M layout {op = op} (Ok reply) ready done =
+leaves-lawful M layout op (Ok reply) ready done =
     λ map admitted.
     lawful-after layout op _ _ reply (ready.lawful map (done.leads.narrows map admitted)) (done.does map admitted)
-leaves-lawful M layout (Err e) ready done = tt
+leaves-lawful M layout op (Err e) ready done = tt
 
 -- an operation that is known by another name
 pub known-as : {S E : Type 0} (M : Ghosts S E) (layout : Layout) {op other : Op} {old new : S} {r : Result Reply E} →
