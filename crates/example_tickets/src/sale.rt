@@ -1,5 +1,5 @@
 // A ticket office: what is sold, and by which desk.
-ghost use Rattle.std.specs.Prelude.{◌≡◌, ◌≤◌, ℕ, ◌+◌, ◌-◌};
+ghost use Rattle.std.specs.Prelude.{◌≡◌, ◌≤◌, ℕ, ◌+◌, ◌-◌, IsSome};
 ghost use Rattle.example_tickets.specs.Tickets.{place_of};
 
 use dstm_mem::{Body, Mem};
