@@ -1,0 +1,6 @@
+use Rattle.std.proofs.Common.{◌≡◌, length}
+use Rattle.dstm_cells.proofs.tx.Tx.all.Given as goal
+
+-- a value for each object so far
+abbrev pub invariant-loop-object : goal.invariant-loop-object
+invariant-loop-object l = length l.values.items ≡ l.object

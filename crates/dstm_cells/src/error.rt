@@ -1,0 +1,116 @@
+// Why a closure, a transaction and a memory stop.
+use std::alloc::{AllocError, AllocFailed};
+use std::error::Error;
+use std::fmt;
+
+/// Why a closure cannot go on with its transaction. It hands it out, by `?`.
+#[derive(Clone, Copy, Debug, PartialEq, Eq)]
+pub enum Stop {
+    /// Another transaction came between. The closure is called again at once.
+    Again,
+    /// It cannot go on with what it has read. It is called again once some of this has changed.
+    Retry,
+    /// The memory has no such cell.
+    Foreign,
+    /// There was not enough memory to note what an alternative has set.
+    Memory,
+}
+
+/// Why a transaction did not take effect.
+#[derive(Clone, Copy, Debug, PartialEq, Eq)]
+pub enum GaveUp {
+    /// The thread's attempts, or its locators, are used up: this and every later transaction of the thread in this run.
+    Spent,
+    /// The closure answered `Retry`, and nothing that it has read has changed for long.
+    Idle,
+    /// The memory has no such cell.
+    Foreign,
+    /// There was not enough memory.
+    Memory,
+}
+
+/// Why a call on a memory failed.
+#[derive(Clone, Copy, Debug, PartialEq, Eq)]
+pub enum Failed {
+    /// The memory has as many cells as it can have.
+    Full,
+    /// There was not enough memory.
+    Memory,
+    /// There have to be from 1 to 63 threads.
+    Threads,
+    /// This is how the first thread ended that did not end well. The cells have what took effect until then.
+    GaveUp(GaveUp),
+    /// The cells could not be read in the end, and are as before the run.
+    Unread,
+}
+
+impl fmt::Display for GaveUp {
+    fn fmt<W: fmt::Write>(&self, f: &mut fmt::Formatter<W>) -> fmt::Result {
+        match self {
+            GaveUp::Spent => write!(f, "a thread's attempts are used up"),
+            GaveUp::Idle => write!(f, "a transaction waited in vain"),
+            GaveUp::Foreign => write!(f, "the memory has no such cell"),
+            GaveUp::Memory => write!(f, "out of memory"),
+        }
+    }
+}
+
+impl Error for GaveUp {}
+
+impl fmt::Display for Failed {
+    fn fmt<W: fmt::Write>(&self, f: &mut fmt::Formatter<W>) -> fmt::Result {
+        match self {
+            Failed::Full => write!(f, "the memory has no room for another cell"),
+            Failed::Memory => write!(f, "out of memory"),
+            Failed::Threads => write!(f, "a memory runs from 1 to 63 threads"),
+            Failed::GaveUp(why) => write!(f, "{why}"),
+            Failed::Unread => write!(f, "the cells could not be read"),
+        }
+    }
+}
+
+impl Error for Failed {}
+
+impl From<AllocError> for Failed {
+    ghost use Rattle.std.specs.Prelude.{◌≡◌};
+    ghost use Rattle.dstm_cells.specs.declared.error.Failed.TheVariants.{Memory};
+
+    ghost from_gives = { λ _ e. e ≡ Memory };
+
+    fn from(_e: AllocError) -> Failed {
+        Failed::Memory
+    }
+}
+
+impl<T: Drop> From<AllocFailed<T>> for Failed {
+    ghost use Rattle.std.specs.Prelude.{◌≡◌};
+    ghost use Rattle.dstm_cells.specs.declared.error.Failed.TheVariants.{Memory};
+
+    ghost from_gives = { λ _ e. e ≡ Memory };
+
+    fn from(_e: AllocFailed<T>) -> Failed {
+        Failed::Memory
+    }
+}
+
+impl From<AllocError> for Stop {
+    ghost use Rattle.std.specs.Prelude.{◌≡◌};
+    ghost use Rattle.dstm_cells.specs.declared.error.Stop.TheVariants.{Memory};
+
+    ghost from_gives = { λ _ e. e ≡ Memory };
+
+    fn from(_e: AllocError) -> Stop {
+        Stop::Memory
+    }
+}
+
+impl<T: Drop> From<AllocFailed<T>> for Stop {
+    ghost use Rattle.std.specs.Prelude.{◌≡◌};
+    ghost use Rattle.dstm_cells.specs.declared.error.Stop.TheVariants.{Memory};
+
+    ghost from_gives = { λ _ e. e ≡ Memory };
+
+    fn from(_e: AllocFailed<T>) -> Stop {
+        Stop::Memory
+    }
+}

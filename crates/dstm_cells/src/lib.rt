@@ -1,0 +1,18 @@
+//! Cells that threads read and change together in transactions: closures that are made again until they took effect.
+//! Whoever uses it states no law and proves nothing.
+#![tactic(auto)]
+
+mod cell;
+mod error;
+mod memory;
+#[cfg(test)]
+mod tests;
+mod thread;
+mod tx;
+
+pub use cell::{Cell, Word};
+pub use dstm_core::Manager;
+pub use error::{Failed, GaveUp, Stop};
+pub use memory::{MOST_CELLS, MOST_THREADS, Memory};
+pub use thread::Me;
+pub use tx::Tx;

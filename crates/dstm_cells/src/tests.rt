@@ -1,0 +1,124 @@
+// Each call once, and what no clause says.
+use crate::{Cell, Failed, GaveUp, Manager, Memory, Word};
+use std::test::Fail;
+
+fn comes_back<T: Word + PartialEq>(value: T) -> bool {
+    T::of_val(value.to_val()) == value
+}
+
+#[test]
+fn what_is_put_is_found(rt: HostRuntime) {
+    assert!(rt; comes_back(u64::MAX));
+    assert!(rt; comes_back((1u64, u64::MAX)));
+    assert!(rt; comes_back((7u32, u32::MAX)));
+    assert!(rt; comes_back(true));
+    assert!(rt; comes_back(false));
+    assert!(rt; comes_back(Some(0u64)));
+    assert!(rt; comes_back(None::<u64>));
+}
+
+#[test]
+fn a_transaction_reads_and_changes_cells(rt: HostRuntime) -> Result<(), Fail> {
+    let mut memory = Memory::with_manager(rt.alloc(), Manager::Karma);
+    let one = memory.cell(5u64)?;
+    let two = memory.cell((1u64, 2u64))?;
+    memory.run(&rt, 1, |me, _| {
+        let found = me.atomically(|tx| {
+            let had = tx.update(one, |n| n / 2)?;
+            let pair = tx.replace(two, (3, 4))?;
+            tx.set(one, had.wrapping_add(pair.1))?;
+            tx.get(one)
+        })?;
+        me.atomically(|tx| tx.set(two, (found, 0)))
+    })?;
+    assert_eq!(rt; memory.get(one), 7);
+    assert_eq!(rt; memory.get(two), (7, 0));
+    Ok(())
+}
+
+#[test]
+fn what_an_alternative_has_set_is_undone(rt: HostRuntime) -> Result<(), Fail> {
+    let mut memory = Memory::new(rt.alloc());
+    let one = memory.cell(1u64)?;
+    let two = memory.cell(2u64)?;
+    let seen = memory.cell((0u64, 0u64))?;
+    memory.run(&rt, 1, |me, _| {
+        me.atomically(|tx| {
+            tx.set(two, 20)?;
+            let found = tx.or_else(
+                |tx| {
+                    tx.set(one, 10)?;
+                    tx.set(two, 200)?;
+                    tx.set(one, 100)?;
+                    tx.retry()
+                },
+                |tx| {
+                    let one = tx.get(one)?;
+                    Ok((one, tx.get(two)?))
+                },
+            )?;
+            tx.set(seen, found)
+        })
+    })?;
+    assert_eq!(rt; memory.get(seen), (1, 20));
+    assert_eq!(rt; memory.get(one), 1);
+    assert_eq!(rt; memory.get(two), 20);
+    Ok(())
+}
+
+#[test]
+fn the_first_alternative_is_taken_where_it_does_not_retry(rt: HostRuntime) -> Result<(), Fail> {
+    let mut memory = Memory::new(rt.alloc());
+    let cell = memory.cell(1u64)?;
+    memory.run(&rt, 1, |me, _| {
+        me.atomically(|tx| tx.or_else(|tx| tx.set(cell, 2), |tx| tx.set(cell, 3)))
+    })?;
+    assert_eq!(rt; memory.get(cell), 2);
+    Ok(())
+}
+
+#[test]
+fn a_transaction_waits_for_what_it_has_read(rt: HostRuntime) -> Result<(), Fail> {
+    let mut memory = Memory::new(rt.alloc());
+    let open = memory.cell(false)?;
+    let passed = memory.cell(0u64)?;
+    memory.run(&rt, 2, |me, number| {
+        if number == 1 {
+            return me.atomically(|tx| tx.set(open, true));
+        }
+        me.atomically(|tx| {
+            let is_open = tx.get(open)?;
+            tx.ensure(is_open)?;
+            tx.set(passed, 1)
+        })
+    })?;
+    assert_eq!(rt; memory.get(passed), 1);
+    Ok(())
+}
+
+#[test]
+fn a_run_tells_why_it_failed(rt: HostRuntime) -> Result<(), Fail> {
+    let mut memory = Memory::new(rt.alloc());
+    let cell = memory.cell(0u64)?;
+    let mut larger = Memory::new(rt.alloc());
+    let _first = larger.cell(0u64)?;
+    let foreign: Cell<u64> = larger.cell(0u64)?;
+    let idle = memory.run(&rt, 1, |me, _| {
+        me.set_looks(8);
+        me.atomically(|tx| tx.ensure(false))
+    });
+    assert_eq!(rt; idle, Err(Failed::GaveUp(GaveUp::Idle)));
+    let strange = memory.run(&rt, 1, |me, _| me.atomically(|tx| tx.set(foreign, 1)));
+    assert_eq!(rt; strange, Err(Failed::GaveUp(GaveUp::Foreign)));
+    let spent = memory.run(&rt, 1, |me, _| {
+        for _ in 0..65_537 {
+            me.atomically(|tx| tx.update(cell, |n| n.wrapping_add(1)))?;
+        }
+        Ok(())
+    });
+    assert_eq!(rt; spent, Err(Failed::GaveUp(GaveUp::Spent)));
+    assert_eq!(rt; memory.get(cell), 65_536);
+    assert_eq!(rt; memory.run(&rt, 0, |_, _| Ok(())), Err(Failed::Threads));
+    assert_eq!(rt; memory.run(&rt, 64, |_, _| Ok(())), Err(Failed::Threads));
+    Ok(())
+}
