@@ -1,3 +1,4 @@
+use Rattle.std.specs.Prelude.{IsSome}
 use Rattle.std.proofs.Common.{◌≡◌, ℕ, ◌+◌, ◌<◌, ◌≤◌, ◌^◌, ◌∙◌, List, None, ap, arith, refl, subst, sym}
 use Rattle.dstm_model.specs.declared.value.Val.{Val}
 use Rattle.dstm_model.specs.Map.{value_at}
@@ -109,3 +110,22 @@ returns-clause-right g c map admitted =
     subst (SellsOne c.args.self.now.desk map) (sym is)
     (sells_one c.args.self.now.law.all c.args.self.now.desk map c.in_ok-left.left c.in_ok-sold.sold lawful left sold
     (omega (arith, c.if-left-eq0.false)))
+
+pub returns-clause-leads : goal.returns-clause-leads
+returns-clause-leads g c =
+    let one = c.in_ok-left.ensures in
+    let two = c.in_ok-sold.ensures in
+    let three = c.set.ensures in
+    let four = c.set-2.ensures in
+    let (map, admitted) = two.admits in
+    record {
+      place = four.place ∙ three.place ∙ two.place ∙ one.place;
+      objects = four.objects ∙ three.objects ∙ two.objects ∙ one.objects;
+      narrows = λ m at. one.narrows m (two.narrows m ((three.admits m).0 ((four.admits m).0 at)));
+      admits = (map, (four.admits map).1 ((three.admits map).1 admitted));
+      live = four.live;
+      holds = λ o some.
+          let kept = one.held.kept o some in
+          four.held o ∙ three.held o ∙ two.held.kept o (subst IsSome (sym kept) some) ∙ kept;
+      ended = tt;
+    }
