@@ -1,4 +1,4 @@
--- The parser of options, as clap sees it.
+-- Private: the parser of options, as clap sees it.
 use Rattle.std.specs.Prelude.{◌≡◌, Bool, true, false, Some, codes, map}
 use Rattle.std.specs.List.{list_any}
 use Rattle.std.specs.Str.{bytes_eq}

@@ -91,18 +91,6 @@ moved_code s l e a (moves m) = go m.how
     go (inr (inr (inr (inl x)))) = let p = x.1 in (omega arith, omega arith)
     go (inr (inr (inr (inr x)))) = let p = x.1 in (omega arith, omega arith)
 
--- a status word holds the code of a status
-pub status_named : (s : Shape) (es : List Event) (a : ℕ) → Core s es → a < s.callers * s.attempts →
-    word s es (StatusWord a) ≤ 5
-status_named s [] a core h = omega arith
-status_named s (e ∷ es) a core h =
-    go (status_named s es a core.0 h) (statuses s es e a (step s es e core) h)
-  where
-    go : word s es (StatusWord a) ≤ 5 → Same s es e (StatusWord a) ⊎ StatusMoved s es e a →
-        word s (e ∷ es) (StatusWord a) ≤ 5
-    go ih (inl x) = rw x ih
-    go ih (inr x) = rw x.now (moved_code s (local s es e.caller) e a x.how).1
-
 -- the status of an attempt that has begun is not idle
 pub status_code : (s : Shape) (es : List Event) → Core s es → (a : ℕ) → Begun s es a →
     IsCode (word s es (StatusWord a))
@@ -146,23 +134,3 @@ owner_begun s es core c a q = go known.0 (subst (OwnerIs s es (res (local s es c
         Begun s es a
     go (inl n) o = absurd (let z = o.0 in omega arith)
     go (inr n) o = subst (Begun s es) (sym o.1) ((basic s es core).owner ((res (local s es c)).word - 1) n.1).begun
-
--- the word x of an object names a locator whose owner has begun, and so has a status
-pub record NamesOwner (s : Shape) (es : List Event) (x : ℕ) : Type 0 where
-  pub locator : x ≤ s.callers * s.locators
-  pub owner : Begun s es (word s es (OwnerWord (x - 1)))
-  pub status : IsCode (word s es (StatusWord (word s es (OwnerWord (x - 1)))))
-
-pub owners_have_begun : (s : Shape) (es : List Event) (o : ℕ) → Core s es → o < s.objects → 0 < at es o →
-    NamesOwner s es (at es o)
-owners_have_begun s es o core h p = go ((basic s es core).object o h)
-  where
-    go : Names s es (at es o) → NamesOwner s es (at es o)
-    go (inl z) = absurd (omega arith)
-    go (inr n) =
-        let b = ((basic s es core).owner (at es o - 1) n.1).begun in
-        record {
-          locator = let x = n.1.below in omega arith;
-          owner = b;
-          status = status_code s es core (word s es (OwnerWord (at es o - 1))) b;
-        }

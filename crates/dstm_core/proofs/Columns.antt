@@ -109,6 +109,32 @@ change s es e w p h = go (cases_eq e.place (place s w)) (cases_eq e.put e.found)
       differs = d;
     })
 
+-- a word that the rules let change only with this fact changes with it
+pub change_by : (s : Shape) (es : List Event) (e : Event) (w : Word) {Fact : Type 0} → Step s es e → HasWord s w →
+    (AllowedAs e.kind s (local s es e.caller) e → target e.kind s (local s es e.caller) e ≡ w →
+    (e.put ≡ e.found) ⊎ Fact) → Same s es e w ⊎ (Changed s es e w × Fact)
+change_by s es e w {Fact} p h how = go (change s es e w p h)
+  where
+    hit : Changed s es e w → (e.put ≡ e.found) ⊎ Fact → Same s es e w ⊎ (Changed s es e w × Fact)
+    hit c (inl x) = absurd (c.differs x)
+    hit c (inr x) = inr (c, x)
+
+    go : Same s es e w ⊎ Changed s es e w → Same s es e w ⊎ (Changed s es e w × Fact)
+    go (inl x) = inl x
+    go (inr c) = hit c (how p.fits.allowed c.target)
+
+told : {A B C : Type 0} → (B → C) → A ⊎ B → A ⊎ C
+told f (inl x) = inl x
+told f (inr y) = inr (f y)
+
+-- a count that rises by 1 at the events of a kind, where it changes
+counted_by : (s : Shape) (es : List Event) (e : Event) (w : Word) (k : Kind) → Step s es e → HasWord s w →
+    (AllowedAs e.kind s (local s es e.caller) e → target e.kind s (local s es e.caller) e ≡ w →
+    (e.put ≡ e.found) ⊎ ((e.kind ≡ k) × (e.put ≡ e.found + 1))) →
+    Same s es e w ⊎ ((e.kind ≡ k) × (word s (e ∷ es) w ≡ word s es w + 1))
+counted_by s es e w k p h how =
+    told (λ x. (x.1.0, x.0.now ∙ x.1.1 ∙ ap (λ n. n + 1) (sym x.0.was))) (change_by s es e w p h how)
+
 -- the words of objects change at a successful Install alone
 pub record InstallsIn (s : Shape) (l : LocalState) (e : Event) (o : ℕ) : Type 0 where
   pub kind : e.kind ≡ Install
@@ -134,17 +160,9 @@ pub record Installed (s : Shape) (es : List Event) (e : Event) (o : ℕ) : Type 
 
 pub objects : (s : Shape) (es : List Event) (e : Event) (o : ℕ) → Step s es e → o < s.objects →
     (at (e ∷ es) o ≡ at es o) ⊎ Installed s es e o
-objects s es e o p h = go (change s es e (ObjectWord o) p h)
-  where
-    hit : Changed s es e (ObjectWord o) → (e.put ≡ e.found) ⊎ InstallsIn s (local s es e.caller) e o →
-        (at (e ∷ es) o ≡ at es o) ⊎ Installed s es e o
-    hit c (inl x) = absurd (c.differs x)
-    hit c (inr x) = inr (record { how = x; now = c.now ∙ x.put; was = c.was ∙ x.found })
-
-    go : (at (e ∷ es) o ≡ at es o) ⊎ Changed s es e (ObjectWord o) →
-        (at (e ∷ es) o ≡ at es o) ⊎ Installed s es e o
-    go (inl x) = inl x
-    go (inr c) = hit c (object_change s (local s es e.caller) e o e.kind refl p.fits.allowed c.target)
+objects s es e o p h =
+    told (λ x. record { how = x.1; now = x.0.now ∙ x.1.put; was = x.0.was ∙ x.1.found })
+    (change_by s es e (ObjectWord o) p h (object_change s (local s es e.caller) e o e.kind refl))
 
 -- the owner of a locator changes at PutOwner alone
 pub record OwnerPut (s : Shape) (es : List Event) (e : Event) (m : ℕ) : Type 0 where
@@ -158,18 +176,9 @@ owner_change s l e m k a h = grind arith
 
 pub owners : (s : Shape) (es : List Event) (e : Event) (m : ℕ) → Step s es e → m < s.callers * s.locators →
     Same s es e (OwnerWord m) ⊎ OwnerPut s es e m
-owners s es e m p h = go (change s es e (OwnerWord m) p h)
-  where
-    hit : Changed s es e (OwnerWord m) →
-        (e.put ≡ e.found) ⊎ ((e.kind ≡ PutOwner) × (m ≡ next_locator s (local s es e.caller))) →
-        Same s es e (OwnerWord m) ⊎ OwnerPut s es e m
-    hit c (inl x) = absurd (c.differs x)
-    hit c (inr x) = inr (record { kind = x.0; locator = x.1 })
-
-    go : Same s es e (OwnerWord m) ⊎ Changed s es e (OwnerWord m) →
-        Same s es e (OwnerWord m) ⊎ OwnerPut s es e m
-    go (inl x) = inl x
-    go (inr c) = hit c (owner_change s (local s es e.caller) e m e.kind p.fits.allowed c.target)
+owners s es e m p h =
+    told (λ x. record { kind = x.1.0; locator = x.1.1 })
+    (change_by s es e (OwnerWord m) p h (owner_change s (local s es e.caller) e m e.kind))
 
 -- the old word of a locator changes at PutOld alone
 pub record OldPut (s : Shape) (es : List Event) (e : Event) (m : ℕ) : Type 0 where
@@ -183,17 +192,9 @@ old_change s l e m k a h = grind arith
 
 pub olds : (s : Shape) (es : List Event) (e : Event) (m : ℕ) → Step s es e → m < s.callers * s.locators →
     Same s es e (OldWord m) ⊎ OldPut s es e m
-olds s es e m p h = go (change s es e (OldWord m) p h)
-  where
-    hit : Changed s es e (OldWord m) →
-        (e.put ≡ e.found) ⊎ ((e.kind ≡ PutOld) × (m ≡ next_locator s (local s es e.caller))) →
-        Same s es e (OldWord m) ⊎ OldPut s es e m
-    hit c (inl x) = absurd (c.differs x)
-    hit c (inr x) = inr (record { kind = x.0; locator = x.1 })
-
-    go : Same s es e (OldWord m) ⊎ Changed s es e (OldWord m) → Same s es e (OldWord m) ⊎ OldPut s es e m
-    go (inl x) = inl x
-    go (inr c) = hit c (old_change s (local s es e.caller) e m e.kind p.fits.allowed c.target)
+olds s es e m p h =
+    told (λ x. record { kind = x.1.0; locator = x.1.1 })
+    (change_by s es e (OldWord m) p h (old_change s (local s es e.caller) e m e.kind))
 
 -- the low new word of a locator changes at PutNew alone
 pub record NewPut (s : Shape) (es : List Event) (e : Event) (m : ℕ) : Type 0 where
@@ -207,17 +208,9 @@ new_change s l e m k a h = grind arith
 
 pub news : (s : Shape) (es : List Event) (e : Event) (m : ℕ) → Step s es e → m < s.callers * s.locators →
     Same s es e (LowWord m) ⊎ NewPut s es e m
-news s es e m p h = go (change s es e (LowWord m) p h)
-  where
-    hit : Changed s es e (LowWord m) →
-        (e.put ≡ e.found) ⊎ ((e.kind ≡ PutNew) × (m ≡ (next_write (local s es e.caller)).locator)) →
-        Same s es e (LowWord m) ⊎ NewPut s es e m
-    hit c (inl x) = absurd (c.differs x)
-    hit c (inr x) = inr (record { kind = x.0; locator = x.1 })
-
-    go : Same s es e (LowWord m) ⊎ Changed s es e (LowWord m) → Same s es e (LowWord m) ⊎ NewPut s es e m
-    go (inl x) = inl x
-    go (inr c) = hit c (new_change s (local s es e.caller) e m e.kind p.fits.allowed c.target)
+news s es e m p h =
+    told (λ x. record { kind = x.1.0; locator = x.1.1 })
+    (change_by s es e (LowWord m) p h (new_change s (local s es e.caller) e m e.kind))
 
 -- the high new word of a locator changes at PutHigh alone
 pub record HighPut (s : Shape) (es : List Event) (e : Event) (m : ℕ) : Type 0 where
@@ -231,17 +224,9 @@ high_change s l e m k a h = grind arith
 
 pub highs : (s : Shape) (es : List Event) (e : Event) (m : ℕ) → Step s es e → m < s.callers * s.locators →
     Same s es e (HighWord m) ⊎ HighPut s es e m
-highs s es e m p h = go (change s es e (HighWord m) p h)
-  where
-    hit : Changed s es e (HighWord m) →
-        (e.put ≡ e.found) ⊎ ((e.kind ≡ PutHigh) × (m ≡ (next_write (local s es e.caller)).locator)) →
-        Same s es e (HighWord m) ⊎ HighPut s es e m
-    hit c (inl x) = absurd (c.differs x)
-    hit c (inr x) = inr (record { kind = x.0; locator = x.1 })
-
-    go : Same s es e (HighWord m) ⊎ Changed s es e (HighWord m) → Same s es e (HighWord m) ⊎ HighPut s es e m
-    go (inl x) = inl x
-    go (inr c) = hit c (high_change s (local s es e.caller) e m e.kind p.fits.allowed c.target)
+highs s es e m p h =
+    told (λ x. record { kind = x.1.0; locator = x.1.1 })
+    (change_by s es e (HighWord m) p h (high_change s (local s es e.caller) e m e.kind))
 
 -- the count of numbers rises by 1 at a Draw, and stays at every other event
 number_change : (s : Shape) (l : LocalState) (e : Event) (k : Kind) → AllowedAs k s l e →
@@ -252,17 +237,7 @@ number_change s l e k a h = grind arith
 
 pub numbers : (s : Shape) (es : List Event) (e : Event) → Step s es e →
     Same s es e NumbersWord ⊎ ((e.kind ≡ Draw) × (word s (e ∷ es) NumbersWord ≡ word s es NumbersWord + 1))
-numbers s es e p = go (change s es e NumbersWord p tt)
-  where
-    hit : Changed s es e NumbersWord → (e.put ≡ e.found) ⊎ ((e.kind ≡ Draw) × (e.put ≡ e.found + 1)) →
-        Same s es e NumbersWord ⊎ ((e.kind ≡ Draw) × (word s (e ∷ es) NumbersWord ≡ word s es NumbersWord + 1))
-    hit c (inl x) = absurd (c.differs x)
-    hit c (inr x) = inr (x.0, c.now ∙ x.1 ∙ ap (λ n. n + 1) (sym c.was))
-
-    go : Same s es e NumbersWord ⊎ Changed s es e NumbersWord →
-        Same s es e NumbersWord ⊎ ((e.kind ≡ Draw) × (word s (e ∷ es) NumbersWord ≡ word s es NumbersWord + 1))
-    go (inl x) = inl x
-    go (inr c) = hit c (number_change s (local s es e.caller) e e.kind p.fits.allowed c.target)
+numbers s es e p = counted_by s es e NumbersWord Draw p tt (number_change s (local s es e.caller) e e.kind)
 
 -- the count of stamps rises by 1 at a Stamp, and stays at every other event
 stamp_change : (s : Shape) (l : LocalState) (e : Event) (k : Kind) → AllowedAs k s l e →
@@ -273,17 +248,7 @@ stamp_change s l e k a h = grind arith
 
 pub stamps : (s : Shape) (es : List Event) (e : Event) → Step s es e →
     Same s es e StampsWord ⊎ ((e.kind ≡ Stamp) × (word s (e ∷ es) StampsWord ≡ word s es StampsWord + 1))
-stamps s es e p = go (change s es e StampsWord p tt)
-  where
-    hit : Changed s es e StampsWord → (e.put ≡ e.found) ⊎ ((e.kind ≡ Stamp) × (e.put ≡ e.found + 1)) →
-        Same s es e StampsWord ⊎ ((e.kind ≡ Stamp) × (word s (e ∷ es) StampsWord ≡ word s es StampsWord + 1))
-    hit c (inl x) = absurd (c.differs x)
-    hit c (inr x) = inr (x.0, c.now ∙ x.1 ∙ ap (λ n. n + 1) (sym c.was))
-
-    go : Same s es e StampsWord ⊎ Changed s es e StampsWord →
-        Same s es e StampsWord ⊎ ((e.kind ≡ Stamp) × (word s (e ∷ es) StampsWord ≡ word s es StampsWord + 1))
-    go (inl x) = inl x
-    go (inr c) = hit c (stamp_change s (local s es e.caller) e e.kind p.fits.allowed c.target)
+stamps s es e p = counted_by s es e StampsWord Stamp p tt (stamp_change s (local s es e.caller) e e.kind)
 
 -- the count of callers rises by 1 at an Enrol, and stays at every other event
 caller_change : (s : Shape) (l : LocalState) (e : Event) (k : Kind) → AllowedAs k s l e →
@@ -294,17 +259,7 @@ caller_change s l e k a h = grind arith
 
 pub enrolled : (s : Shape) (es : List Event) (e : Event) → Step s es e →
     Same s es e CallersWord ⊎ ((e.kind ≡ Enrol) × (word s (e ∷ es) CallersWord ≡ word s es CallersWord + 1))
-enrolled s es e p = go (change s es e CallersWord p tt)
-  where
-    hit : Changed s es e CallersWord → (e.put ≡ e.found) ⊎ ((e.kind ≡ Enrol) × (e.put ≡ e.found + 1)) →
-        Same s es e CallersWord ⊎ ((e.kind ≡ Enrol) × (word s (e ∷ es) CallersWord ≡ word s es CallersWord + 1))
-    hit c (inl x) = absurd (c.differs x)
-    hit c (inr x) = inr (x.0, c.now ∙ x.1 ∙ ap (λ n. n + 1) (sym c.was))
-
-    go : Same s es e CallersWord ⊎ Changed s es e CallersWord →
-        Same s es e CallersWord ⊎ ((e.kind ≡ Enrol) × (word s (e ∷ es) CallersWord ≡ word s es CallersWord + 1))
-    go (inl x) = inl x
-    go (inr c) = hit c (caller_change s (local s es e.caller) e e.kind p.fits.allowed c.target)
+enrolled s es e p = counted_by s es e CallersWord Enrol p tt (caller_change s (local s es e.caller) e e.kind)
 
 -- the rank of an attempt changes at a Rank alone
 pub record RankPut (s : Shape) (es : List Event) (e : Event) (a : ℕ) : Type 0 where
@@ -319,18 +274,9 @@ rank_change s l e a k h t = grind arith
 
 pub ranks : (s : Shape) (es : List Event) (e : Event) (a : ℕ) → Step s es e → a < s.callers * s.attempts →
     Same s es e (RankWord a) ⊎ RankPut s es e a
-ranks s es e a p h = go (change s es e (RankWord a) p h)
-  where
-    hit : Changed s es e (RankWord a) →
-        (e.put ≡ e.found) ⊎ ((e.kind ≡ Rank) × (a ≡ rank_of (local s es e.caller).phase s
-        (local s es e.caller))) →
-        Same s es e (RankWord a) ⊎ RankPut s es e a
-    hit c (inl x) = absurd (c.differs x)
-    hit c (inr x) = inr (record { kind = x.0; attempt = x.1; now = c.now })
-
-    go : Same s es e (RankWord a) ⊎ Changed s es e (RankWord a) → Same s es e (RankWord a) ⊎ RankPut s es e a
-    go (inl x) = inl x
-    go (inr c) = hit c (rank_change s (local s es e.caller) e a e.kind p.fits.allowed c.target)
+ranks s es e a p h =
+    told (λ x. record { kind = x.1.0; attempt = x.1.1; now = x.0.now })
+    (change_by s es e (RankWord a) p h (rank_change s (local s es e.caller) e a e.kind))
 
 -- a status changes as its attempt begins, as the attempt moves it, and as another attempt aborts it
 pub record Begins (s : Shape) (l : LocalState) (e : Event) (a : ℕ) : Type 0 where
@@ -427,13 +373,10 @@ pub record StatusMoved (s : Shape) (es : List Event) (e : Event) (a : ℕ) : Typ
 
 pub statuses : (s : Shape) (es : List Event) (e : Event) (a : ℕ) → Step s es e → a < s.callers * s.attempts →
     Same s es e (StatusWord a) ⊎ StatusMoved s es e a
-statuses s es e a p h = go (change s es e (StatusWord a) p h)
-  where
-    go : Same s es e (StatusWord a) ⊎ Changed s es e (StatusWord a) →
-        Same s es e (StatusWord a) ⊎ StatusMoved s es e a
-    go (inl x) = inl x
-    go (inr c) = inr (record {
+statuses s es e a p h =
+    told (λ c. record {
       how = status_change s (local s es e.caller) e a e.kind refl p.fits.allowed c.target c.differs;
       now = c.now;
       was = c.was;
     })
+    (change s es e (StatusWord a) p h)

@@ -1,19 +1,18 @@
 -- A caller's own events count the attempts that it has begun and the locators that it has installed.
-use Rattle.std.proofs.Common.{Bool, ◌&&◌, ◌+◌, ◌==◌, ◌∙◌, ◌∷◌, ◌≡◌, ◌≢◌, ◌⊎◌, List, [], arith, cond, false, inl, inr, refl, true, ℕ}
+use Rattle.std.proofs.Common.{Bool, ◌+◌, ◌==◌, ◌∙◌, ◌∷◌, ◌≡◌, ◌≢◌, ◌⊎◌, List, [], arith, cond, false, inl, inr, refl, true, ℕ}
 use Rattle.std.specs.Prelude.{count_by}
 use Rattle.std.proofs.lemmas.Bool.{cases_Bool}
 use Rattle.std.proofs.lemmas.List.Sums.{sum_by-cons}
-use Rattle.dstm_core.specs.Counts.{begin_count, install_count, is_begin, is_install}
+use Rattle.dstm_core.specs.Counts.{begin_count, is_begin}
 use Rattle.dstm_core.specs.Events.{Event}
 use Rattle.dstm_core.specs.Rules.{after}
 use Rattle.dstm_core.specs.Runs.{local}
 use Rattle.dstm_core.specs.State.{LocalState}
 use Rattle.dstm_core.specs.Traces.{events_of}
 use Rattle.dstm_core.specs.declared.event.Kind.{Kind}
-use Rattle.dstm_core.specs.declared.event.Kind.TheVariants.{Begin, Install}
+use Rattle.dstm_core.specs.declared.event.Kind.TheVariants.{Begin}
 use Rattle.dstm_core.specs.declared.shape.Shape.{Shape}
 use Rattle.dstm_core.proofs.Begun.{begun_how}
-use Rattle.dstm_core.proofs.Static.{installed_how}
 
 one_more : (b : Bool) (m n k : ℕ) → m ≡ cond b (n + 1) n → k ≡ n → cond b 1 0 + k ≡ m
 one_more true m n k h q = omega arith
@@ -45,29 +44,7 @@ begun_counts s l e k = stays (begun_how s l e k)
     stays (inl x) = absurd (let q = x.0 in cc)
     stays (inr x) = x.1
 
-installed_counts : (s : Shape) (l : LocalState) (e : Event) (k : Kind) →
-    (after k s l e).installed ≡ cond (is_install k && (e.found == e.expected)) (l.installed + 1) l.installed
-installed_counts s l e Install = go (cases_Bool (e.found == e.expected))
-  where
-    go : (e.found == e.expected ≡ true) ⊎ (e.found == e.expected ≡ false) →
-        (after Install s l e).installed ≡ cond (e.found == e.expected) (l.installed + 1) l.installed
-    go (inl q) = rw q refl
-    go (inr q) = rw q refl
-installed_counts s l e k = stays (installed_how s l e k)
-  where
-    stays : ((after k s l e).installed ≡ l.installed)
-        ⊎ ((k ≡ Install) × (e.found ≡ e.expected) × ((after k s l e).installed ≡ l.installed + 1)) →
-        (after k s l e).installed ≡ l.installed
-    stays (inl x) = x
-    stays (inr x) = absurd (let q = x.0 in cc)
-
 pub begins_are_counted : (s : Shape) (es : List Event) (c : ℕ) → begin_count c es ≡ (local s es c).begun
 begins_are_counted s es c =
     counted s (λ (e : Event). is_begin e.kind) (λ (l : LocalState). l.begun) es c
     (λ l e. begun_counts s l e e.kind) refl
-
-pub installs_are_counted : (s : Shape) (es : List Event) (c : ℕ) →
-    install_count c es ≡ (local s es c).installed
-installs_are_counted s es c =
-    counted s (λ (e : Event). is_install e.kind && (e.found == e.expected)) (λ (l : LocalState). l.installed) es c
-    (λ l e. installed_counts s l e e.kind) refl

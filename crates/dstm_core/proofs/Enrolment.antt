@@ -1,5 +1,5 @@
 -- Who has a number: a caller enrols first, and makes no other event on the word that counts the callers.
-use Rattle.std.proofs.Common.{◌+◌, ◌∙◌, ◌≡◌, ◌≢◌, ◌==◌, ◌⊎◌, ℕ, inl, inr, refl, ap, arith, sym, true, false, is_some, None}
+use Rattle.std.proofs.Common.{◌+◌, ◌∙◌, ◌≡◌, ◌≢◌, ◌==◌, ◌⊎◌, ℕ, inl, inr, refl, ap, arith, sym, true, false, is_some}
 use Rattle.std.proofs.lemmas.Bool.{cond_both, cases_Bool}
 use Rattle.dstm_core.specs.Events.{Event}
 use Rattle.dstm_core.specs.declared.event.Kind.{Kind}
@@ -29,17 +29,6 @@ pub lies_elsewhere : (s : Shape) (l : LocalState) (e : Event) (k : Kind) → k �
     e.place ≢ place s CallersWord
 lies_elsewhere s l e k n a q =
     not_callers s l e k n (same_place s (target k s l e) CallersWord a.3 tt (sym a.0 ∙ q))
-
-enrol_first : (s : Shape) (l : LocalState) (e : Event) (k : Kind) → k ≡ Enrol → AllowedAs k s l e →
-    l.number ≡ None
-enrol_first s l e Enrol q a = a.2
-enrol_first s l e k q a = absurd (cc)
-
--- and so does each event of a caller that has a number
-pub elsewhere : (s : Shape) (l : LocalState) (e : Event) (k : Kind) → is_some l.number ≡ true →
-    AllowedAs k s l e →
-    e.place ≢ place s CallersWord
-elsewhere s l e k n a = lies_elsewhere s l e k (λ q. let none = enrol_first s l e k q a in cc) a
 
 -- a number once found is kept
 number_kept : (s : Shape) (l : LocalState) (e : Event) (k : Kind) → k ≢ Enrol →

@@ -25,5 +25,4 @@ pub mod Counted
 pub mod Spare
 pub mod LeftWords
 pub mod Sharing
-pub mod PutOnce
 pub mod Absent

@@ -6,7 +6,7 @@ use Rattle.dstm_core.specs.Events.{Event}
 use Rattle.dstm_core.specs.Rules.{AllowedAs, MayRank, after, is_outside, rank_of}
 use Rattle.dstm_core.specs.Runs.{Core, local}
 use Rattle.dstm_core.specs.State.{LocalState, given, own_attempt}
-use Rattle.dstm_core.specs.Traces.{at, word}
+use Rattle.dstm_core.specs.Traces.{word}
 use Rattle.dstm_core.specs.Words.{place}
 use Rattle.dstm_core.specs.Words.Word.{RankWord, StampsWord}
 use Rattle.dstm_core.specs.declared.event.Kind.{Kind}
@@ -246,74 +246,6 @@ standing s (e ∷ es) g core c = let p = step s es e core in
     (standing_own s es e g p (stamp_how s (local s es e.caller) e e.kind core.1.allowed)
     (standing s es g core.0 e.caller))
     (λ c _. standing_more s es e (local s es c) p (standing s es g core.0 c)) c
-
--- a stamp stands under Greedy alone
-pub stands_greedy : (s : Shape) (es : List Event) → Core s es → (c : ℕ) → (local s es c).stands ≡ true →
-    s.manager ≡ Greedy
-stands_greedy s [] core c q = absurd (cc)
-stands_greedy s (e ∷ es) core c q =
-    callers s es e (λ c l. l.stands ≡ true → s.manager ≡ Greedy)
-    (own (stamp_how s (local s es e.caller) e e.kind core.1.allowed) (stands_greedy s es core.0 e.caller))
-    (λ c _. stands_greedy s es core.0 c) c q
-  where
-    own : StampHow s (local s es e.caller) e e.kind →
-        ((local s es e.caller).stands ≡ true → s.manager ≡ Greedy) →
-        (after e.kind s (local s es e.caller) e).stands ≡ true → s.manager ≡ Greedy
-    own (at_enrol k n rd st rk ph) h q = h (sym st ∙ q)
-    own (at_stamp k rd st rk ph) h q = stamp_greedy s (local s es e.caller) e e.kind k core.1.allowed
-    own (at_rank k rd st rk ph n b) h q = h (sym st ∙ q)
-    own (at_begin k r rd st rk) h q = h (sym st ∙ q)
-    own (at_other b r t rd rk n be st inside out) h q = h (st q)
-
--- a stamp that stands was drawn
-pub stamp_drawn : (s : Shape) (es : List Event) → Core s es → (c : ℕ) → (local s es c).stands ≡ true →
-    (local s es c).rank < word s es StampsWord
-stamp_drawn s es core c q = (standing s es (stands_greedy s es core c q) core c).drawn q
-
--- a stamp that stands was drawn by this event, or stood before it
-abbrev Stands : Shape → List Event → Event → ℕ → LocalState → Type 0
-Stands s es e c l =
-    ((e.caller ≡ c) × (l.rank ≡ word s es StampsWord))
-    ⊎ (((local s es c).stands ≡ true) × (l.rank ≡ (local s es c).rank))
-
-stands_how : (s : Shape) (es : List Event) (e : Event) (c : ℕ) → Core s (e ∷ es) →
-    (local s (e ∷ es) c).stands ≡ true → Stands s es e c (local s (e ∷ es) c)
-stands_how s es e c core q =
-    callers s es e (λ c l. l.stands ≡ true → Stands s es e c l)
-    (own (stamp_how s (local s es e.caller) e e.kind core.1.allowed)) (λ c d q. inr (q, refl)) c q
-  where
-    own : StampHow s (local s es e.caller) e e.kind →
-        (after e.kind s (local s es e.caller) e).stands ≡ true →
-        Stands s es e e.caller (after e.kind s (local s es e.caller) e)
-    own (at_enrol k n rd st rk ph) q = inr (sym st ∙ q, rk)
-    own (at_stamp k rd st rk ph) q =
-        let may = stamp_may s (local s es e.caller) e e.kind k core.1.allowed in
-        inl (refl, rk ∙ core.1.linked ∙ ap (at es) may.1)
-    own (at_rank k rd st rk ph n b) q =
-        let stood : (local s es e.caller).stands ≡ true = sym st ∙ q in
-        let may = rank_may s (local s es e.caller) e e.kind k
-        (stands_greedy s es core.0 e.caller stood) core.1.allowed in
-        inr (stood, rk ∙ may.put)
-    own (at_begin k r rd st rk) q = inr (sym st ∙ q, rk)
-    own (at_other b r t rd rk n be st inside out) q = inr (st q, rk)
-
--- the stamps of two callers that stand differ
-pub stamps_differ : (s : Shape) (es : List Event) (c d : ℕ) → Core s es → c ≢ d →
-    (local s es c).stands ≡ true → (local s es d).stands ≡ true → (local s es c).rank ≢ (local s es d).rank
-stamps_differ s [] c d core n p q = absurd (cc)
-stamps_differ s (e ∷ es) c d core n p q =
-    go (stands_how s es e c core p) (stands_how s es e d core q) (stamps_differ s es c d core.0 n)
-  where
-    go : Stands s es e c (local s (e ∷ es) c) → Stands s es e d (local s (e ∷ es) d) →
-        ((local s es c).stands ≡ true → (local s es d).stands ≡ true →
-        (local s es c).rank ≢ (local s es d).rank) →
-        (local s (e ∷ es) c).rank ≢ (local s (e ∷ es) d).rank
-    go (inl x) (inl y) ih same = n (sym x.0 ∙ y.0)
-    go (inl x) (inr y) ih same =
-        let low = stamp_drawn s es core.0 d y.0 in let a = x.1 in let b = y.1 in omega arith
-    go (inr x) (inl y) ih same =
-        let low = stamp_drawn s es core.0 c x.0 in let a = x.1 in let b = y.1 in omega arith
-    go (inr x) (inr y) ih same = ih x.0 y.0 (sym x.1 ∙ same ∙ y.1)
 
 -- ---- what the rank words hold
 

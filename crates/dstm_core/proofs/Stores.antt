@@ -19,113 +19,178 @@ use Rattle.dstm_core.proofs.Static.{numbered-get, Static, static, local_own, cal
 use Rattle.dstm_core.proofs.Columns.{aimed, caller_of, index_of}
 use Rattle.dstm_core.proofs.Pasts.{core_past}
 
--- the number of a caller's locators whose low new word can be put no more
-abbrev pub settled_by : Phase → LocalState → ℕ
-settled_by Outside l = l.installed
-settled_by p l = l.installed - length l.writes + l.written
+-- ---- how many of a caller's locators can be put no more
 
+abbrev pub one_if : Bool → ℕ
+one_if true = 1
+one_if false = 0
+
+-- outside of attempts all that are installed; in one those before its writes, those put, and what a high part that was
+-- put counts for
+abbrev pub count_by : (Bool → ℕ) → Phase → LocalState → ℕ
+count_by extra Outside l = l.installed
+count_by extra p l = l.installed - length l.writes + l.written + extra l.high_put
+
+abbrev pub counted : (Bool → ℕ) → LocalState → ℕ
+counted extra l = count_by extra l.phase l
+
+-- where a count of each caller's locators rises with each put, from the locator put, no locator is put twice
+pub record Puts (s : Shape) (es : List Event) (e : Event) (f : LocalState → ℕ) (w : ℕ → Word) : Type 0 where
+  pub place : e.place ≡ place s (w (e.caller * s.locators + f (local s es e.caller)))
+  pub up : f (after e.kind s (local s es e.caller) e) ≡ f (local s es e.caller) + 1
+  pub below : f (local s es e.caller) < s.locators
+
+-- a high part that was put counts for one at most
+module _ (extra : Bool → ℕ) (small : (b : Bool) → extra b ≤ one_if b) where
+  in_attempt : (p : Phase) (l : LocalState) → p ≢ Outside →
+      count_by extra p l ≡ l.installed - length l.writes + l.written + extra l.high_put
+  in_attempt Outside l h = absurd (h refl)
+  in_attempt p l h = refl
+
+  count_le : (s : Shape) (c : ℕ) (p : Phase) (l : LocalState) → Static s c l → count_by extra p l ≤ l.installed
+  count_le s c p l t = go p (cases_Bool l.high_put)
+    where
+      go : (p : Phase) → (l.high_put ≡ true) ⊎ (l.high_put ≡ false) → count_by extra p l ≤ l.installed
+      go Outside h = omega arith
+      go p (inl h) = let a = t.count in let b = t.high h in let x = small l.high_put in
+          let o : one_if l.high_put ≡ 1 = ap one_if h in omega arith
+      go p (inr h) = let a = t.count in let b = t.written in let x = small l.high_put in
+          let o : one_if l.high_put ≡ 0 = ap one_if h in omega arith
+
+  -- the same state in another phase
+  count_out : (s : Shape) (c : ℕ) (l m : LocalState) → Static s c l → m.installed ≡ l.installed →
+      m.phase ≡ Outside → counted extra l ≤ counted extra m
+  count_out s c l m t i q = let a = count_le s c l.phase l t in
+      let b : counted extra m ≡ m.installed = ap (λ p. count_by extra p m) q in omega arith
+
+  count_on : (l m : LocalState) → l.phase ≢ Outside → m.phase ≢ Outside → m.installed ≡ l.installed →
+      m.writes ≡ l.writes → m.written ≡ l.written → m.high_put ≡ l.high_put → counted extra l ≤ counted extra m
+  count_on l m p q i w n h = let a = in_attempt l.phase l p in let b = in_attempt m.phase m q in
+      let x = ap length w in let y = ap extra h in omega arith
+
+  count_same : (l m : LocalState) → m.phase ≡ l.phase → m.installed ≡ l.installed → m.writes ≡ l.writes →
+      m.written ≡ l.written → m.high_put ≡ l.high_put → counted extra l ≤ counted extra m
+  count_same l m p i w n h = go l.phase refl
+    where
+      go : (x : Phase) → l.phase ≡ x → counted extra l ≤ counted extra m
+      go Outside q = let a : counted extra l ≡ l.installed = ap (λ y. count_by extra y l) q in
+          let b : counted extra m ≡ m.installed = ap (λ y. count_by extra y m) (p ∙ q) in omega arith
+      go x q = count_on l m (λ z. cc) (λ z. cc) i w n h
+
+  count_more : (l m : LocalState) (w : Write) → l.phase ≢ Outside → length l.writes ≤ l.installed →
+      m.phase ≡ l.phase → m.installed ≡ l.installed + 1 → m.writes ≡ l.writes ++ w ∷ [] → m.written ≡ l.written →
+      m.high_put ≡ l.high_put → counted extra l ≤ counted extra m
+  count_more l m w p c q i ws n h = let a = in_attempt l.phase l p in
+      let b = in_attempt m.phase m (λ z. p (sym q ∙ z)) in let x = ap length ws in let y = ap extra h in
+      omega (arith, length-append {A = Write} l.writes (w ∷ []))
+
+  count_step : (s : Shape) (c : ℕ) (l : LocalState) (e : Event) (k : Kind) → Static s c l → AllowedAs k s l e →
+      counted extra l ≤ counted extra (after k s l e)
+  count_step s c l e Begin t a = let x : counted extra l ≡ l.installed = ap (λ p. count_by extra p l) a.2.0 in
+      omega arith
+  count_step s c l e Install t a = go (cases_Bool (e.found == e.expected))
+    where
+      go : (e.found == e.expected ≡ true) ⊎ (e.found == e.expected ≡ false) →
+          counted extra l ≤ counted extra (after Install s l e)
+      go (inl q) =
+          count_more l (after Install s l e)
+          (record { object = (res l).object; locator = next_locator s l; old = or_zero (version (res l)) })
+          (λ z. let i = a.2.0 in cc) t.count (rw q refl) (rw q refl) (rw q refl) (rw q refl) (rw q refl)
+      go (inr q) =
+          count_on l (after Install s l e) (λ z. let i = a.2.0 in cc) (rw q (λ z. let i = a.2.0 in cc)) (rw q refl)
+          (rw q refl) (rw q refl) (rw q refl)
+  count_step s c l e LookSelf t a = go (cases_Bool (e.found == given l.phase))
+    where
+      go : (e.found == given l.phase ≡ true) ⊎ (e.found == given l.phase ≡ false) →
+          counted extra l ≤ counted extra (after LookSelf s l e)
+      go (inl q) =
+          count_on l (after LookSelf s l e) (λ z. let i = a.2.0 in cc) (rw q (λ z. let i = a.2.0 in cc))
+          (rw q refl) (rw q refl) (rw q refl) (rw q refl)
+      go (inr q) = count_out s c l (after LookSelf s l e) t (rw q refl) (rw q refl)
+  count_step s c l e ToValidating t a = go (cases_Bool (e.found == 1))
+    where
+      go : (e.found == 1 ≡ true) ⊎ (e.found == 1 ≡ false) →
+          counted extra l ≤ counted extra (after ToValidating s l e)
+      go (inl q) =
+          count_on l (after ToValidating s l e) (λ z. let i = a.2.0 in grind arith) (rw q (λ z. cc)) (rw q refl)
+          (rw q refl) (rw q refl) (rw q refl)
+      go (inr q) = count_out s c l (after ToValidating s l e) t (rw q refl) (rw q refl)
+  count_step s c l e Pause t a = go (cases_Bool (e.found == 1))
+    where
+      go : (e.found == 1 ≡ true) ⊎ (e.found == 1 ≡ false) → counted extra l ≤ counted extra (after Pause s l e)
+      go (inl q) =
+          count_on l (after Pause s l e) (λ z. let i = a.2.0 in cc) (rw q (λ z. cc)) (rw q refl) (rw q refl)
+          (rw q refl) (rw q refl)
+      go (inr q) = count_out s c l (after Pause s l e) t (rw q refl) (rw q refl)
+  count_step s c l e Resume t a = go (cases_Bool (e.found == 2))
+    where
+      go : (e.found == 2 ≡ true) ⊎ (e.found == 2 ≡ false) → counted extra l ≤ counted extra (after Resume s l e)
+      go (inl q) =
+          count_on l (after Resume s l e) (λ z. let i = a.2.0 in cc) (rw q (λ z. cc)) (rw q refl) (rw q refl)
+          (rw q refl) (rw q refl)
+      go (inr q) = count_out s c l (after Resume s l e) t (rw q refl) (rw q refl)
+  count_step s c l e PutNew t a = let x = in_attempt l.phase l (λ z. let i = a.2.0 in cc) in
+      let y = small l.high_put in let z : one_if l.high_put ≡ 1 = ap one_if a.2.3 in omega arith
+  count_step s c l e PutHigh t a = let x = in_attempt l.phase l (λ z. let i = a.2.0 in grind arith) in
+      let y = small l.high_put in let z : one_if l.high_put ≡ 0 = ap one_if a.2.3 in omega arith
+  count_step s c l e Draw t a =
+      count_on l (after Draw s l e) (λ z. let i = a.2.0 in cc) (λ z. cc) refl refl refl refl
+  count_step s c l e Commit t a = count_out s c l (after Commit s l e) t refl refl
+  count_step s c l e Quit t a = count_out s c l (after Quit s l e) t refl refl
+  count_step s c l e k t a = count_same l (after k s l e) refl refl refl refl refl
+
+  count_later : (s : Shape) (more es : List Event) (c : ℕ) → Core s (more ++ es) →
+      counted extra (local s es c) ≤ counted extra (local s (more ++ es) c)
+  count_later s [] es c core = omega arith
+  count_later s (e ∷ more) es c core = let a = count_later s more es c core.0 in
+      let b = callers s (more ++ es) e (λ c l. counted extra (local s (more ++ es) c) ≤ counted extra l)
+      (count_step s e.caller (local s (more ++ es) e.caller) e e.kind
+      (static s (more ++ es) core.0 e.caller) core.1.allowed) (λ c _. omega arith) c in omega arith
+
+  put_apart : (s : Shape) (more es : List Event) (e d : Event) (w : ℕ → Word) →
+      ((m n : ℕ) → place s (w m) ≡ place s (w n) → m ≡ n) → Core s (more ++ d ∷ es) →
+      Puts s (more ++ d ∷ es) e (counted extra) w → Puts s es d (counted extra) w → e.place ≢ d.place
+  put_apart s more es e d w same core y x q =
+      let m : e.caller * s.locators + counted extra (local s (more ++ d ∷ es) e.caller)
+      ≡ d.caller * s.locators + counted extra (local s es d.caller) =
+      same (e.caller * s.locators + counted extra (local s (more ++ d ∷ es) e.caller))
+      (d.caller * s.locators + counted extra (local s es d.caller)) (sym y.place ∙ q ∙ x.place) in
+      let c : e.caller ≡ d.caller = sym (caller_of e.caller s.locators _ y.below) ∙ ap (λ n. n / s.locators) m
+      ∙ caller_of d.caller s.locators _ x.below in
+      let i : counted extra (local s (more ++ d ∷ es) e.caller) ≡ counted extra (local s es d.caller) =
+      sym (index_of e.caller s.locators _ y.below) ∙ ap (λ n. n % s.locators) m
+      ∙ index_of d.caller s.locators _ x.below in
+      let up = count_later s more (d ∷ es) d.caller core in
+      let own : counted extra (local s (d ∷ es) d.caller) ≡ counted extra (after d.kind s (local s es d.caller) d) =
+      ap (counted extra) (local_own s es d) in
+      let at : counted extra (local s (more ++ d ∷ es) e.caller)
+      ≡ counted extra (local s (more ++ d ∷ es) d.caller) =
+      ap (λ n. counted extra (local s (more ++ d ∷ es) n)) c in
+      let one = x.up in omega arith
+
+-- ---- low new words
+
+abbrev pub no_more : Bool → ℕ
+no_more put = 0
+
+none_small : (b : Bool) → no_more b ≤ one_if b
+none_small b = omega arith
+
+-- the number of a caller's locators whose low new word can be put no more
 abbrev pub settled : LocalState → ℕ
-settled l = settled_by l.phase l
+settled l = counted no_more l
 
 pub settled_in : (p : Phase) (l : LocalState) → p ≢ Outside →
-    settled_by p l ≡ l.installed - length l.writes + l.written
+    count_by no_more p l ≡ l.installed - length l.writes + l.written
 settled_in Outside l h = absurd (h refl)
-settled_in p l h = refl
-
-settled_le : (p : Phase) (l : LocalState) → length l.writes ≤ l.installed → l.written ≤ length l.writes →
-    settled_by p l ≤ l.installed
-settled_le Outside l c w = omega arith
-settled_le p l c w = omega arith
-
--- the same state in another phase
-settled_out : (s : Shape) (c : ℕ) (l m : LocalState) → Static s c l → m.installed ≡ l.installed →
-    m.phase ≡ Outside → settled l ≤ settled m
-settled_out s c l m t i q = let a = settled_le l.phase l t.count t.written in
-    let b : settled m ≡ m.installed = ap (λ p. settled_by p m) q in omega arith
-
-settled_on : (l m : LocalState) → l.phase ≢ Outside → m.phase ≢ Outside → m.installed ≡ l.installed →
-    m.writes ≡ l.writes → m.written ≡ l.written → settled l ≤ settled m
-settled_on l m p q i w n = let a = settled_in l.phase l p in let b = settled_in m.phase m q in
-    let x = ap length w in omega arith
-
-settled_same : (l m : LocalState) → m.phase ≡ l.phase → m.installed ≡ l.installed → m.writes ≡ l.writes →
-    m.written ≡ l.written → settled l ≤ settled m
-settled_same l m p i w n = go l.phase refl
-  where
-    go : (x : Phase) → l.phase ≡ x → settled l ≤ settled m
-    go Outside q = let a : settled l ≡ l.installed = ap (λ y. settled_by y l) q in
-        let b : settled m ≡ m.installed = ap (λ y. settled_by y m) (p ∙ q) in omega arith
-    go x q = settled_on l m (λ z. cc) (λ z. cc) i w n
-
-settled_more : (l m : LocalState) (w : Write) → l.phase ≢ Outside → length l.writes ≤ l.installed →
-    m.phase ≡ l.phase → m.installed ≡ l.installed + 1 → m.writes ≡ l.writes ++ w ∷ [] → m.written ≡ l.written →
-    settled l ≤ settled m
-settled_more l m w p c q i ws n = let a = settled_in l.phase l p in
-    let b = settled_in m.phase m (λ z. p (sym q ∙ z)) in let x = ap length ws in
-    omega (arith, length-append {A = Write} l.writes (w ∷ []))
-
-settled_step : (s : Shape) (c : ℕ) (l : LocalState) (e : Event) (k : Kind) → Static s c l → AllowedAs k s l e →
-    settled l ≤ settled (after k s l e)
-settled_step s c l e Begin t a = let x : settled l ≡ l.installed = ap (λ p. settled_by p l) a.2.0 in omega arith
-settled_step s c l e Install t a = go (cases_Bool (e.found == e.expected))
-  where
-    go : (e.found == e.expected ≡ true) ⊎ (e.found == e.expected ≡ false) →
-        settled l ≤ settled (after Install s l e)
-    go (inl q) =
-        settled_more l (after Install s l e)
-        (record { object = (res l).object; locator = next_locator s l; old = or_zero (version (res l)) })
-        (λ z. let i = a.2.0 in cc) t.count (rw q refl) (rw q refl) (rw q refl) (rw q refl)
-    go (inr q) =
-        settled_on l (after Install s l e) (λ z. let i = a.2.0 in cc) (rw q (λ z. let i = a.2.0 in cc))
-        (rw q refl) (rw q refl) (rw q refl)
-settled_step s c l e LookSelf t a = go (cases_Bool (e.found == given l.phase))
-  where
-    go : (e.found == given l.phase ≡ true) ⊎ (e.found == given l.phase ≡ false) →
-        settled l ≤ settled (after LookSelf s l e)
-    go (inl q) =
-        settled_on l (after LookSelf s l e) (λ z. let i = a.2.0 in cc) (rw q (λ z. let i = a.2.0 in cc))
-        (rw q refl) (rw q refl) (rw q refl)
-    go (inr q) = settled_out s c l (after LookSelf s l e) t (rw q refl) (rw q refl)
-settled_step s c l e ToValidating t a = go (cases_Bool (e.found == 1))
-  where
-    go : (e.found == 1 ≡ true) ⊎ (e.found == 1 ≡ false) → settled l ≤ settled (after ToValidating s l e)
-    go (inl q) =
-        settled_on l (after ToValidating s l e) (λ z. let i = a.2.0 in grind arith) (rw q (λ z. cc)) (rw q refl)
-        (rw q refl) (rw q refl)
-    go (inr q) = settled_out s c l (after ToValidating s l e) t (rw q refl) (rw q refl)
-settled_step s c l e Pause t a = go (cases_Bool (e.found == 1))
-  where
-    go : (e.found == 1 ≡ true) ⊎ (e.found == 1 ≡ false) → settled l ≤ settled (after Pause s l e)
-    go (inl q) =
-        settled_on l (after Pause s l e) (λ z. let i = a.2.0 in cc) (rw q (λ z. cc)) (rw q refl) (rw q refl)
-        (rw q refl)
-    go (inr q) = settled_out s c l (after Pause s l e) t (rw q refl) (rw q refl)
-settled_step s c l e Resume t a = go (cases_Bool (e.found == 2))
-  where
-    go : (e.found == 2 ≡ true) ⊎ (e.found == 2 ≡ false) → settled l ≤ settled (after Resume s l e)
-    go (inl q) =
-        settled_on l (after Resume s l e) (λ z. let i = a.2.0 in cc) (rw q (λ z. cc)) (rw q refl) (rw q refl)
-        (rw q refl)
-    go (inr q) = settled_out s c l (after Resume s l e) t (rw q refl) (rw q refl)
-settled_step s c l e PutNew t a = let x = settled_in l.phase l (λ z. let i = a.2.0 in cc) in omega arith
-settled_step s c l e PutHigh t a =
-    settled_on l (after PutHigh s l e) (λ z. let i = a.2.0 in grind arith) (λ z. cc) refl refl refl
-settled_step s c l e Draw t a =
-    settled_on l (after Draw s l e) (λ z. let i = a.2.0 in cc) (λ z. cc) refl refl refl
-settled_step s c l e Commit t a = settled_out s c l (after Commit s l e) t refl refl
-settled_step s c l e Quit t a = settled_out s c l (after Quit s l e) t refl refl
-settled_step s c l e k t a = settled_same l (after k s l e) refl refl refl refl
+settled_in p l h = omega arith
 
 pub settled_later : (s : Shape) (more es : List Event) (c : ℕ) → Core s (more ++ es) →
     settled (local s es c) ≤ settled (local s (more ++ es) c)
-settled_later s [] es c core = omega arith
-settled_later s (e ∷ more) es c core = let a = settled_later s more es c core.0 in
-    let b = callers s (more ++ es) e (λ c l. settled (local s (more ++ es) c) ≤ settled l)
-    (settled_step s e.caller (local s (more ++ es) e.caller) e e.kind
-    (static s (more ++ es) core.0 e.caller) core.1.allowed) (λ c _. omega arith) c in omega arith
+settled_later s more es c core = count_later no_more none_small s more es c core
 
 -- a PutNew puts the first locator that can be put, which can be put no more after it
-pub put_new_settles : (s : Shape) (c : ℕ) (l : LocalState) (e : Event) (k : Kind) → k ≡ PutNew → Static s c l →
+put_new_settles : (s : Shape) (c : ℕ) (l : LocalState) (e : Event) (k : Kind) → k ≡ PutNew → Static s c l →
     AllowedAs k s l e →
     (e.place ≡ place s (LowWord (c * s.locators + settled l))) × (settled (after k s l e) ≡ settled l + 1)
     × (settled l < s.locators)
@@ -135,147 +200,38 @@ put_new_settles s c l e PutNew q t a = let lt = a.2.2 in
     (a.0 ∙ ap (λ m. place s (LowWord m)) (omega arith), omega arith, omega arith)
 put_new_settles s c l e k q t a = absurd (cc)
 
+pub new_puts : (s : Shape) (es : List Event) (e : Event) → Core s (e ∷ es) → e.kind ≡ PutNew →
+    Puts s es e settled LowWord
+new_puts s es e core k =
+    let x = put_new_settles s e.caller (local s es e.caller) e e.kind k (static s es core.0 e.caller)
+    core.1.allowed in
+    record { place = x.0; up = x.1; below = x.2 }
+
 -- a locator's low new word is stored at most once
 pub new_word_once : (s : Shape) (more es : List Event) (e d : Event) → Core s (e ∷ (more ++ d ∷ es)) →
     e.kind ≡ PutNew → d.kind ≡ PutNew → e.place ≢ d.place
-new_word_once s more es e d core k j q =
-    let core_d = core_past s more (d ∷ es) core.0 in
-    let x = put_new_settles s d.caller (local s es d.caller) d d.kind j
-    (static s es core_d.0 d.caller) core_d.1.allowed in
-    let y = put_new_settles s e.caller (local s (more ++ d ∷ es) e.caller) e e.kind k
-    (static s (more ++ d ∷ es) core.0 e.caller) core.1.allowed in
-    let m : e.caller * s.locators + settled
-    (local s (more ++ d ∷ es) e.caller) ≡ d.caller * s.locators + settled (local s es d.caller) =
-    let z = sym y.0 ∙ q ∙ x.0 in omega arith in
-    let c : e.caller ≡ d.caller = sym (caller_of e.caller s.locators _ y.2) ∙ ap (λ n. n / s.locators) m
-    ∙ caller_of d.caller s.locators _ x.2 in
-    let i : settled (local s (more ++ d ∷ es) e.caller) ≡ settled (local s es d.caller) =
-    sym (index_of e.caller s.locators _ y.2) ∙ ap (λ n. n % s.locators) m
-    ∙ index_of d.caller s.locators _ x.2 in
-    let up = settled_later s more (d ∷ es) d.caller core.0 in
-    let own : settled (local s (d ∷ es) d.caller) ≡ settled (after d.kind s (local s es d.caller) d) =
-    ap settled (local_own s es d) in
-    let same : settled (local s (more ++ d ∷ es) e.caller) ≡ settled (local s (more ++ d ∷ es) d.caller) =
-    ap (λ n. settled (local s (more ++ d ∷ es) n)) c in
-    let one = x.1 in omega arith
+new_word_once s more es e d core k j =
+    put_apart no_more none_small s more es e d LowWord (λ m n h. omega arith) core.0
+    (new_puts s (more ++ d ∷ es) e core k) (new_puts s es d (core_past s more (d ∷ es) core.0) j)
+
+-- ---- high new words
+
+one_small : (b : Bool) → one_if b ≤ one_if b
+one_small b = omega arith
 
 -- the number of a caller's locators whose high new word can be put no more
-abbrev pub one_if : Bool → ℕ
-one_if true = 1
-one_if false = 0
-
-abbrev pub high_settled_by : Phase → LocalState → ℕ
-high_settled_by Outside l = l.installed
-high_settled_by p l = l.installed - length l.writes + l.written + one_if l.high_put
-
 abbrev pub high_settled : LocalState → ℕ
-high_settled l = high_settled_by l.phase l
+high_settled l = counted one_if l
 
 pub high_in : (p : Phase) (l : LocalState) → p ≢ Outside →
-    high_settled_by p l ≡ l.installed - length l.writes + l.written + one_if l.high_put
-high_in Outside l h = absurd (h refl)
-high_in p l h = refl
-
-high_le : (s : Shape) (c : ℕ) (p : Phase) (l : LocalState) → Static s c l → high_settled_by p l ≤ l.installed
-high_le s c p l t = go p (cases_Bool l.high_put)
-  where
-    go : (p : Phase) → (l.high_put ≡ true) ⊎ (l.high_put ≡ false) → high_settled_by p l ≤ l.installed
-    go Outside h = omega arith
-    go p (inl h) = let a = t.count in let b = t.high h in let o : one_if l.high_put ≡ 1 = ap one_if h in
-        omega arith
-    go p (inr h) = let a = t.count in let b = t.written in let o : one_if l.high_put ≡ 0 = ap one_if h in
-        omega arith
-
-high_out : (s : Shape) (c : ℕ) (l m : LocalState) → Static s c l → m.installed ≡ l.installed →
-    m.phase ≡ Outside → high_settled l ≤ high_settled m
-high_out s c l m t i q = let a = high_le s c l.phase l t in
-    let b : high_settled m ≡ m.installed = ap (λ p. high_settled_by p m) q in omega arith
-
-high_on : (l m : LocalState) → l.phase ≢ Outside → m.phase ≢ Outside → m.installed ≡ l.installed →
-    m.writes ≡ l.writes → m.written ≡ l.written → m.high_put ≡ l.high_put → high_settled l ≤ high_settled m
-high_on l m p q i w n h = let a = high_in l.phase l p in let b = high_in m.phase m q in let x = ap length w in
-    let y = ap one_if h in omega arith
-
-high_same : (l m : LocalState) → m.phase ≡ l.phase → m.installed ≡ l.installed → m.writes ≡ l.writes →
-    m.written ≡ l.written → m.high_put ≡ l.high_put → high_settled l ≤ high_settled m
-high_same l m p i w n h = go l.phase refl
-  where
-    go : (x : Phase) → l.phase ≡ x → high_settled l ≤ high_settled m
-    go Outside q = let a : high_settled l ≡ l.installed = ap (λ y. high_settled_by y l) q in
-        let b : high_settled m ≡ m.installed = ap (λ y. high_settled_by y m) (p ∙ q) in omega arith
-    go x q = high_on l m (λ z. cc) (λ z. cc) i w n h
-
-high_more : (l m : LocalState) (w : Write) → l.phase ≢ Outside → length l.writes ≤ l.installed →
-    m.phase ≡ l.phase → m.installed ≡ l.installed + 1 → m.writes ≡ l.writes ++ w ∷ [] → m.written ≡ l.written →
-    m.high_put ≡ l.high_put → high_settled l ≤ high_settled m
-high_more l m w p c q i ws n h = let a = high_in l.phase l p in
-    let b = high_in m.phase m (λ z. p (sym q ∙ z)) in let x = ap length ws in let y = ap one_if h in
-    omega (arith, length-append {A = Write} l.writes (w ∷ []))
-
-high_step : (s : Shape) (c : ℕ) (l : LocalState) (e : Event) (k : Kind) → Static s c l → AllowedAs k s l e →
-    high_settled l ≤ high_settled (after k s l e)
-high_step s c l e Begin t a = let x : high_settled l ≡ l.installed = ap (λ p. high_settled_by p l) a.2.0 in
-    omega arith
-high_step s c l e Install t a = go (cases_Bool (e.found == e.expected))
-  where
-    go : (e.found == e.expected ≡ true) ⊎ (e.found == e.expected ≡ false) →
-        high_settled l ≤ high_settled (after Install s l e)
-    go (inl q) =
-        high_more l (after Install s l e)
-        (record { object = (res l).object; locator = next_locator s l; old = or_zero (version (res l)) })
-        (λ z. let i = a.2.0 in cc) t.count (rw q refl) (rw q refl) (rw q refl) (rw q refl) (rw q refl)
-    go (inr q) =
-        high_on l (after Install s l e) (λ z. let i = a.2.0 in cc) (rw q (λ z. let i = a.2.0 in cc)) (rw q refl)
-        (rw q refl) (rw q refl) (rw q refl)
-high_step s c l e LookSelf t a = go (cases_Bool (e.found == given l.phase))
-  where
-    go : (e.found == given l.phase ≡ true) ⊎ (e.found == given l.phase ≡ false) →
-        high_settled l ≤ high_settled (after LookSelf s l e)
-    go (inl q) =
-        high_on l (after LookSelf s l e) (λ z. let i = a.2.0 in cc) (rw q (λ z. let i = a.2.0 in cc))
-        (rw q refl) (rw q refl) (rw q refl) (rw q refl)
-    go (inr q) = high_out s c l (after LookSelf s l e) t (rw q refl) (rw q refl)
-high_step s c l e ToValidating t a = go (cases_Bool (e.found == 1))
-  where
-    go : (e.found == 1 ≡ true) ⊎ (e.found == 1 ≡ false) →
-        high_settled l ≤ high_settled (after ToValidating s l e)
-    go (inl q) =
-        high_on l (after ToValidating s l e) (λ z. let i = a.2.0 in grind arith) (rw q (λ z. cc)) (rw q refl)
-        (rw q refl) (rw q refl) (rw q refl)
-    go (inr q) = high_out s c l (after ToValidating s l e) t (rw q refl) (rw q refl)
-high_step s c l e Pause t a = go (cases_Bool (e.found == 1))
-  where
-    go : (e.found == 1 ≡ true) ⊎ (e.found == 1 ≡ false) → high_settled l ≤ high_settled (after Pause s l e)
-    go (inl q) =
-        high_on l (after Pause s l e) (λ z. let i = a.2.0 in cc) (rw q (λ z. cc)) (rw q refl) (rw q refl)
-        (rw q refl) (rw q refl)
-    go (inr q) = high_out s c l (after Pause s l e) t (rw q refl) (rw q refl)
-high_step s c l e Resume t a = go (cases_Bool (e.found == 2))
-  where
-    go : (e.found == 2 ≡ true) ⊎ (e.found == 2 ≡ false) → high_settled l ≤ high_settled (after Resume s l e)
-    go (inl q) =
-        high_on l (after Resume s l e) (λ z. let i = a.2.0 in cc) (rw q (λ z. cc)) (rw q refl) (rw q refl)
-        (rw q refl) (rw q refl)
-    go (inr q) = high_out s c l (after Resume s l e) t (rw q refl) (rw q refl)
-high_step s c l e PutNew t a = let x = high_in l.phase l (λ z. let i = a.2.0 in cc) in
-    let y : one_if l.high_put ≡ 1 = ap one_if a.2.3 in omega arith
-high_step s c l e PutHigh t a = let x = high_in l.phase l (λ z. let i = a.2.0 in grind arith) in
-    let y : one_if l.high_put ≡ 0 = ap one_if a.2.3 in omega arith
-high_step s c l e Draw t a =
-    high_on l (after Draw s l e) (λ z. let i = a.2.0 in cc) (λ z. cc) refl refl refl refl
-high_step s c l e Commit t a = high_out s c l (after Commit s l e) t refl refl
-high_step s c l e Quit t a = high_out s c l (after Quit s l e) t refl refl
-high_step s c l e k t a = high_same l (after k s l e) refl refl refl refl refl
+    count_by one_if p l ≡ l.installed - length l.writes + l.written + one_if l.high_put
+high_in p l h = in_attempt one_if one_small p l h
 
 pub high_later : (s : Shape) (more es : List Event) (c : ℕ) → Core s (more ++ es) →
     high_settled (local s es c) ≤ high_settled (local s (more ++ es) c)
-high_later s [] es c core = omega arith
-high_later s (e ∷ more) es c core = let a = high_later s more es c core.0 in
-    let b = callers s (more ++ es) e (λ c l. high_settled (local s (more ++ es) c) ≤ high_settled l)
-    (high_step s e.caller (local s (more ++ es) e.caller) e e.kind
-    (static s (more ++ es) core.0 e.caller) core.1.allowed) (λ c _. omega arith) c in omega arith
+high_later s more es c core = count_later one_if one_small s more es c core
 
-pub put_high_settles : (s : Shape) (c : ℕ) (l : LocalState) (e : Event) (k : Kind) → k ≡ PutHigh → Static s c l →
+put_high_settles : (s : Shape) (c : ℕ) (l : LocalState) (e : Event) (k : Kind) → k ≡ PutHigh → Static s c l →
     AllowedAs k s l e →
     (e.place ≡ place s (HighWord (c * s.locators + high_settled l)))
     × (high_settled (after k s l e) ≡ high_settled l + 1) × (high_settled l < s.locators)
@@ -286,37 +242,21 @@ put_high_settles s c l e PutHigh q t a = let lt = a.2.2 in
     (a.0 ∙ ap (λ m. place s (HighWord m)) (omega arith), omega arith, omega arith)
 put_high_settles s c l e k q t a = absurd (cc)
 
+pub high_puts : (s : Shape) (es : List Event) (e : Event) → Core s (e ∷ es) → e.kind ≡ PutHigh →
+    Puts s es e high_settled HighWord
+high_puts s es e core k =
+    let x = put_high_settles s e.caller (local s es e.caller) e e.kind k (static s es core.0 e.caller)
+    core.1.allowed in
+    record { place = x.0; up = x.1; below = x.2 }
+
 -- a locator's high new word is stored at most once
 pub high_word_once : (s : Shape) (more es : List Event) (e d : Event) → Core s (e ∷ (more ++ d ∷ es)) →
     e.kind ≡ PutHigh → d.kind ≡ PutHigh → e.place ≢ d.place
-high_word_once s more es e d core k j q =
-    let core_d = core_past s more (d ∷ es) core.0 in
-    let x = put_high_settles s d.caller (local s es d.caller) d d.kind j
-    (static s es core_d.0 d.caller) core_d.1.allowed in
-    let y = put_high_settles s e.caller (local s (more ++ d ∷ es) e.caller) e e.kind k
-    (static s (more ++ d ∷ es) core.0 e.caller) core.1.allowed in
-    let m : e.caller * s.locators + high_settled
-    (local s (more ++ d ∷ es) e.caller) ≡ d.caller * s.locators + high_settled (local s es d.caller) =
-    let z = sym y.0 ∙ q ∙ x.0 in omega arith in
-    let c : e.caller ≡ d.caller = sym (caller_of e.caller s.locators _ y.2) ∙ ap (λ n. n / s.locators) m
-    ∙ caller_of d.caller s.locators _ x.2 in
-    let i : high_settled (local s (more ++ d ∷ es) e.caller) ≡ high_settled (local s es d.caller) =
-    sym (index_of e.caller s.locators _ y.2) ∙ ap (λ n. n % s.locators) m
-    ∙ index_of d.caller s.locators _ x.2 in
-    let up = high_later s more (d ∷ es) d.caller core.0 in
-    let own : high_settled (local s (d ∷ es) d.caller) ≡ high_settled (after d.kind s (local s es d.caller) d) =
-    ap high_settled (local_own s es d) in
-    let same : high_settled (local s (more ++ d ∷ es) e.caller) ≡ high_settled
-    (local s (more ++ d ∷ es) d.caller) = ap (λ n. high_settled (local s (more ++ d ∷ es) n)) c in
-    let one = x.1 in omega arith
+high_word_once s more es e d core k j =
+    put_apart one_if one_small s more es e d HighWord (λ m n h. omega arith) core.0
+    (high_puts s (more ++ d ∷ es) e core k) (high_puts s es d (core_past s more (d ∷ es) core.0) j)
 
 -- ---- how often a new word is put
-
--- where a count of each caller's locators rises with each put, from the locator put, no locator is put twice
-pub record Puts (s : Shape) (es : List Event) (e : Event) (f : LocalState → ℕ) (w : ℕ → Word) : Type 0 where
-  pub place : e.place ≡ place s (w (e.caller * s.locators + f (local s es e.caller)))
-  pub up : f (after e.kind s (local s es e.caller) e) ≡ f (local s es e.caller) + 1
-  pub below : f (local s es e.caller) < s.locators
 
 abbrev pub is_put : Shape → List Event → Event → Word → Bool
 is_put s es e w = not (is_load (access e.kind s (local s es e.caller) e)) && (e.place == place s w)
@@ -388,9 +328,7 @@ low_once s (e ∷ es) m core b = once_step s es e settled LowWord m (λ m n h. o
         let at_word = aimed s (local s es e.caller) e (LowWord m) core.1.allowed b
         (put_parts s es e (LowWord m) q).1 in
         let kind = low_kind s (local s es e.caller) e m e.kind at_word (put_parts s es e (LowWord m) q).0 in
-        let x = put_new_settles s e.caller (local s es e.caller) e e.kind kind (static s es core.0 e.caller)
-        core.1.allowed in
-        record { place = x.0; up = x.1; below = x.2 }
+        new_puts s es e core kind
 
 pub high_once : (s : Shape) (es : List Event) (m : ℕ) → Core s es → m < s.callers * s.locators →
     Once s es high_settled HighWord m
@@ -403,6 +341,4 @@ high_once s (e ∷ es) m core b = once_step s es e high_settled HighWord m (λ m
         let at_word = aimed s (local s es e.caller) e (HighWord m) core.1.allowed b
         (put_parts s es e (HighWord m) q).1 in
         let kind = high_kind s (local s es e.caller) e m e.kind at_word (put_parts s es e (HighWord m) q).0 in
-        let x = put_high_settles s e.caller (local s es e.caller) e e.kind kind (static s es core.0 e.caller)
-        core.1.allowed in
-        record { place = x.0; up = x.1; below = x.2 }
+        high_puts s es e core kind

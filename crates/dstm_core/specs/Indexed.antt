@@ -1,4 +1,4 @@
--- How the reads of an attempt are kept: every read that was recorded stays at its place, and the places of those that
+-- Private: how the reads of an attempt are kept: every read that was recorded stays at its place, and the places of those that
 -- are not dropped are known, in order and by object.
 use Rattle.std.specs.Prelude.{◌≡◌, ℕ, ◌<◌, ◌≤◌, Bool, true, List, length, map, nat_lt, count_by, slice_index_or, Option, Some, None}
 use Rattle.std.specs.List.{list_any}

@@ -1,4 +1,4 @@
--- The values that the words of a table tell, as a list of its words.
+-- Private: the values that the words of a table tell, as a list of its words.
 use Rattle.std.specs.Prelude.{ℕ, ◌-◌, ◌==◌, List, slice_index, if◌then◌else◌}
 use Rattle.dstm_model.specs.declared.value.Val.{Val}
 use Rattle.dstm_model.specs.Map.{value_at}

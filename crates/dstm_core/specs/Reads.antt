@@ -1,4 +1,4 @@
--- The reads of an attempt, as the code keeps them.
+-- Private: the reads of an attempt, as the code keeps them.
 use Rattle.std.specs.Prelude.{ℕ, List}
 use Rattle.dstm_core.specs.declared.state.Read.{Read}
 

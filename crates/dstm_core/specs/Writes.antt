@@ -1,4 +1,4 @@
--- The writes of an attempt, as the code keeps them.
+-- Private: the writes of an attempt, as the code keeps them.
 use Rattle.std.specs.Prelude.{ℕ, List}
 use Rattle.dstm_core.specs.declared.state.Write.{Write}
 

@@ -1,5 +1,8 @@
 //! The core of the memory as an abstract machine: the words of a table, the events on them, and
 //! the rules by which a caller may make its next event.
+//!
+//! [`Local`] and [`replay`] are a checker of traces: they judge events that were made elsewhere, as tests do. The
+//! memory itself runs neither.
 #![tactic(auto)]
 
 mod event;

@@ -3,7 +3,7 @@ use Rattle.std.proofs.Common.{◌≡◌, ◌≢◌, ℕ, List, [], ◌∷◌, re
 use Rattle.std.specs.Prelude.{Option, Some, None, IfSome, cond}
 use Rattle.std.proofs.lemmas.Bool.{cases_eq, ne_eqb}
 use Rattle.dstm_model.specs.declared.value.Val.{Val}
-use Rattle.dstm_model.specs.Map.{value_at, with_writes, Agrees, IsUnnamed, NamesOnce}
+use Rattle.dstm_model.specs.Map.{value_at, with_writes, Agrees, IsUnnamed}
 use Rattle.dstm_mem.specs.Memory.{with_set, value_in, AgreesWith, SetsOnly}
 use Rattle.dstm_mem.proofs.WithSet.{with_set-nothing, with_set-set}
 
@@ -43,16 +43,3 @@ AgreesWith-of_agrees map (r ∷ rs) agrees o =
       | inr other ↦
           subst (HasIfSome map o) (sym (value_in-other r rs o other)) (AgreesWith-of_agrees map rs agrees.1 o)
     ]
-
--- and the other way round, where no two pairs name the same object
-pub Agrees-of_with : (map : List Val) (n : ℕ) (reads : List (ℕ × Val)) → NamesOnce n reads →
-    AgreesWith map (value_in reads) → Agrees map reads
-Agrees-of_with map n [] once held = tt
-Agrees-of_with map n (r ∷ rs) once held =
-    let rest : AgreesWith map (value_in rs) = λ o. elim (cases_eq r.0 o) [
-      | inl same ↦
-          let unheld = ap (value_in rs) (sym same) ∙ value_in-unnamed rs r.0 once.1 in
-          subst (HasIfSome map o) (sym unheld) tt
-      | inr other ↦ subst (HasIfSome map o) (value_in-other r rs o other) (held o)
-    ] in
-    (subst (HasIfSome map r.0) (value_in-same r rs r.0 refl) (held r.0), Agrees-of_with map n rs once.2 rest)

@@ -32,13 +32,6 @@ with_set-of_values after map written size values =
     let in_map : o < length map = omega (arith, within, size) in
     values o in_map ∙ sym (value_at-with_set map written o in_map))
 
--- an object that is not set has the map's value
-pub value_at-not_set : (map : List Val) (written : ℕ → Option Val) (o : ℕ) → written o ≡ None →
-    value_at (with_set map written) o ≡ value_at map o
-value_at-not_set [] written o none = refl
-value_at-not_set (v ∷ map) written zero none = ap (λ w. unwrap_or w v) none
-value_at-not_set (v ∷ map) written (suc o) none = value_at-not_set map (rest written) o none
-
 -- an object where the same is set has the same value
 pub value_at-same_set : (map : List Val) (old new : ℕ → Option Val) (o : ℕ) → new o ≡ old o →
     value_at (with_set map new) o ≡ value_at (with_set map old) o

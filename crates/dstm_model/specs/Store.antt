@@ -123,10 +123,6 @@ apply (Get key) store = answer (value_reply (value_of key store.items)) store
 apply (Await c) store = answer Yes store
 apply OrElse store = answer Yes store
 
-abbrev pub IsTransfer : Op → Type 0
-IsTransfer (Transfer source target amount) = Unit {0}
-IsTransfer op = ⊥
-
 -- an operation that is applied by itself, and not as a part of a job
 abbrev pub IsPlain : Op → Type 0
 IsPlain (Await c) = ⊥

@@ -196,6 +196,7 @@ impl PlainStore {
         if self.balances[source] < amount {
             return Reply::Poor;
         }
+        // The sum is a number of 64 bits, so what the target gets fits beside its balance.
         let _total = self.total;
         pay(&mut self.balances, source, target, amount);
         Reply::Moved

@@ -4,7 +4,7 @@ use Rattle.std.proofs.Common.{◌&&◌, ◌*◌, ◌+◌, ◌-◌, ◌<◌, ◌=
 use Rattle.std.proofs.lemmas.Bool.{and_parts, cases_Bool, cond_both, ne_eqb}
 use Rattle.dstm_core.specs.Histories.{drawn, is_draw}
 use Rattle.dstm_core.specs.Runs.{Core, local}
-use Rattle.dstm_core.specs.State.{LocalState, next_locator, own_attempt, res, write_of}
+use Rattle.dstm_core.specs.State.{next_locator, own_attempt, res, write_of}
 use Rattle.dstm_core.specs.Traces.{at, word}
 use Rattle.dstm_core.specs.Words.Word.{OldWord, OwnerWord, StatusWord}
 use Rattle.dstm_core.specs.Events.{Event}
@@ -124,12 +124,6 @@ current_step s will es e core f o lt past ih =
     go (objects s es e o (step s es e core) lt) (cases_Bool (is_draw e.kind))
     (cases_Bool (will (own_attempt s (local s es e.caller))))
   where
-    l : LocalState
-    l = local s es e.caller
-
-    known : Names s es (at es o)
-    known = (basic s es core.0).object o lt
-
     -- the word stays, and no attempt that commits draws
     still : (at (e ∷ es) o ≡ at es o) →
         (is_draw e.kind ≡ true → will (own_attempt s (local s es e.caller)) ≡ true → ⊥) →

@@ -1,6 +1,6 @@
 -- While the counter of numbers stays since the last complete pass of an attempt, all that it read is current.
 -- Beside it stands what a pass has shown, since one fact follows from the other along a run.
-use Rattle.std.proofs.Common.{◌&&◌, ◌++◌, ◌<◌, ◌==◌, ◌∙◌, ◌∷◌, ◌≡◌, ◌≢◌, ◌≤◌, ◌⊎◌, Bool, List, None, Option, Some, [], ap, arith, false, inl, inr, is_none, is_some, length, refl, slice_get, subst, sym, true, ℕ}
+use Rattle.std.proofs.Common.{◌&&◌, ◌++◌, ◌<◌, ◌==◌, ◌∙◌, ◌∷◌, ◌≡◌, ◌≤◌, ◌⊎◌, Bool, List, None, Option, Some, [], ap, arith, false, inl, inr, is_none, is_some, length, refl, slice_get, subst, sym, true, ℕ}
 use Rattle.std.proofs.lemmas.Bool.{and_parts, cases_Bool, cond_both, eq-eqb}
 use Rattle.dstm_core.specs.Histories.{drawn, is_draw, pass_place}
 use Rattle.dstm_core.specs.Rules.{AllowedAs, after}
@@ -22,7 +22,6 @@ use Rattle.dstm_core.proofs.Places.{put_at}
 use Rattle.dstm_core.proofs.Static.{has_high, has_owner, has_status, has_version, has_word}
 use Rattle.dstm_opacity.proofs.Current.{Foretells, current, meant_same, named_meant, version_quiet}
 use Rattle.dstm_opacity.proofs.Draws.{drawn_same}
-use Rattle.dstm_core.proofs.Pasts.{core_before}
 use Rattle.dstm_machines.proofs.Pasts.{past_more}
 use Rattle.dstm_opacity.proofs.Numbers.{agreed_same, no_draw, numbers_later, numbers_up, pass_past, version_past}
 use Rattle.dstm_opacity.proofs.Recorded.{ReadsNamed, resolved_version}
@@ -251,19 +250,6 @@ pass_agreed s will q l n p h st (inr c) = p.same (c ∙ h)
 abbrev pub PassOk : Shape → (ℕ → Bool) → List Event → ℕ → LocalState → Type 0
 PassOk s will es c l = (n : ℕ) → l.phase ≡ Running → l.pass ≡ Some n → PassHas s will (pass_place c es) l n
 
-is_begin : (k : Kind) → (k ≡ Begin) ⊎ (k ≢ Begin)
-is_begin Begin = inl refl
-is_begin k = inr (λ h. cc)
-
-begin_none : (s : Shape) (l : LocalState) (e : Event) (k : Kind) → k ≡ Begin →
-    ((after k s l e).last_pass ≡ None) × ((after k s l e).pass ≡ None)
-begin_none s l e Begin q = (refl, refl)
-begin_none s l e k q = absurd (cc)
-
-self_not_draw : (k : Kind) → k ≡ LookSelf → is_draw k ≡ true → ⊥
-self_not_draw LookSelf q d = cc
-self_not_draw k q d = cc
-
 self_same : (s : Shape) (l : LocalState) (e : Event) (k : Kind) → k ≡ LookSelf →
     ((after k s l e).reads ≡ l.reads) × ((after k s l e).resolution ≡ l.resolution)
 self_same s l e LookSelf q = (
@@ -289,9 +275,6 @@ last_own s will es e core f h p = record {
 
     q : List Event
     q = pass_place e.caller es
-
-    core_q : Core s (pass_place e.caller es)
-    core_q = core_before s (pass_place e.caller es) es (pass_past e.caller es) core.0
 
     past : IsPastOf (pass_place e.caller es) (e ∷ es)
     past = past_more (pass_place e.caller es) es e (pass_past e.caller es)

@@ -1,9 +1,9 @@
 -- The state after every prefix of a history is lawful.
-use Rattle.std.proofs.Common.{◌++◌, ◌∙◌, ◌∷◌, ◌≡◌, ◌≢◌, ◌⊎◌, List, [], ap, append_assoc, inl, inr, length, refl, subst, sym, true, ℕ}
+use Rattle.std.proofs.Common.{◌++◌, ◌∙◌, ◌∷◌, ◌≡◌, ◌≢◌, ◌⊎◌, List, [], inl, inr, length, subst, sym, true}
 use Rattle.std.proofs.lemmas.Bool.{and_parts}
 use Rattle.dstm_model.specs.Map.{with_writes, KeepsLaw}
 use Rattle.dstm_model.specs.declared.value.Val.{Val}
-use Rattle.dstm_core.specs.Histories.{Lawful, commits_at, entry_at, entry_of, history, is_draw, pass_place, will_of}
+use Rattle.dstm_core.specs.Histories.{Lawful, commits_at, entry_at, entry_of, history, is_draw, will_of}
 use Rattle.dstm_core.specs.Runs.{Core, local}
 use Rattle.dstm_core.specs.State.{own_attempt}
 use Rattle.dstm_core.specs.Events.{Event}
@@ -18,7 +18,6 @@ use Rattle.dstm_machines.proofs.Orders.{map_after, state_length}
 use Rattle.dstm_opacity.proofs.Draws.{draw_may, drawn_yes}
 use Rattle.dstm_opacity.proofs.KeptLaw.{law_ok}
 use Rattle.dstm_opacity.proofs.Legal.{legal_entry}
-use Rattle.dstm_opacity.proofs.Numbers.{pass_past}
 use Rattle.dstm_opacity.proofs.Recorded.{reads, reads_more}
 use Rattle.dstm_opacity.proofs.Values.{WritesKept, entry_later, entry_stays, kept_from, kept_more, puts_value}
 use Rattle.dstm_opacity.proofs.Written.{written}
@@ -97,18 +96,3 @@ lawful_from s start holds run long core law h es more q =
         holds (with_writes (map_after start (history s start (will_of s r) r es))
         (entry_of s start r (local s es d.caller)).writes)) q
         (law_entry s start holds es d more long (subst (Core s) (sym q) core) keeps) two.0 two.1
-
--- the state after every prefix of the history is lawful: a prefix has the draws of a part of the run
-pub law_at_every_prefix : (s : Shape) (start : List Val) (holds : List Val → Type 0) (more es : List Event) →
-    length start ≡ s.objects → Core s (more ++ es) → Lawful s start holds (more ++ es) → holds start →
-    holds (map_after start (history s start (will_of s (more ++ es)) (more ++ es) es))
-law_at_every_prefix s start holds more es long core law h =
-    lawful_from s start holds (more ++ es) long core law h es more refl
-
--- the state after the prefix at a sight's place is lawful
-pub pass_lawful : (s : Shape) (start : List Val) (holds : List Val → Type 0) (more es : List Event) (c : ℕ) →
-    length start ≡ s.objects → Core s (more ++ es) → Lawful s start holds (more ++ es) → holds start →
-    holds (map_after start (history s start (will_of s (more ++ es)) (more ++ es) (pass_place c es)))
-pass_lawful s start holds more es c long core law h = let p = pass_past c es in
-    lawful_from s start holds (more ++ es) long core law h (pass_place c es) (more ++ p.later)
-    (append_assoc more p.later (pass_place c es) ∙ ap (λ xs. more ++ xs) p.whole)

@@ -30,7 +30,6 @@ pub mod Example
 pub mod Contest
 pub mod Resolved
 pub mod KeptVersions
-pub mod OwnPuts
 pub mod Held
 pub mod Covered
 pub mod Maps

@@ -1,23 +1,13 @@
 -- Maps, entries and the sights of a live attempt.
-use Rattle.std.proofs.Common.{◌++◌, ◌+◌, ◌-◌, ◌==◌, ◌∙◌, ◌∷◌, ◌≡◌, ◌≤◌, List, [], arith, length, refl, subst, suc, zero, ℕ, if◌then◌else◌}
-use Rattle.std.proofs.lemmas.Bool.{cond_both, eqb-false, eqb-true, ne_eqb}
-use Rattle.dstm_model.specs.Map.{Agrees, Entry, IsLegal, IsUnnamed, NamesOnce, state_after, with_writes}
+use Rattle.std.proofs.Common.{◌++◌, ◌+◌, ◌-◌, ◌==◌, ◌∙◌, ◌∷◌, ◌≡◌, ◌≤◌, List, [], arith, length, subst, suc, zero, ℕ, if◌then◌else◌}
+use Rattle.std.proofs.lemmas.Bool.{cond_both, eqb-false, eqb-true}
+use Rattle.dstm_model.specs.Map.{Agrees, Entry, IsUnnamed, NamesOnce, state_after}
 use Rattle.dstm_model.specs.declared.value.Val.{Val}
-use Rattle.dstm_core.specs.Histories.{CoreRun, IsSight, current_version, pass_place, prefix_at, seen}
-use Rattle.dstm_core.specs.Traces.{word}
-use Rattle.dstm_core.specs.Words.Word.{OldWord, OwnerWord, StatusWord}
+use Rattle.dstm_core.specs.Histories.{CoreRun, IsSight, pass_place, prefix_at, seen}
 use Rattle.dstm_core.specs.Events.{Event}
 use Rattle.dstm_core.specs.declared.shape.Shape.{Shape}
 use Rattle.dstm_opacity.proofs.Opacity.{sight_is_seen}
 use Rattle.dstm_model.proofs.Entries.{states_keep_length}
-
--- an entry of a legal list agrees with the state before it, and the state after it has its writes
-pub legal_in_the_middle : (start : List Val) (prefix rest : List Entry) (x : Entry) →
-    IsLegal start (prefix ++ x ∷ rest) →
-    Agrees (state_after start prefix) x.reads
-    × (state_after start (prefix ++ x ∷ []) ≡ with_writes (state_after start prefix) x.writes)
-legal_in_the_middle m [] rest x h = (h.0, refl)
-legal_in_the_middle m (y ∷ ys) rest x h = legal_in_the_middle (with_writes m y.writes) ys rest x h.1
 
 -- a map that a live attempt has seen
 pub record SeenMap (s : Shape) (holds : List Val → Type 0) (pairs : List (ℕ × Val)) : Type 0 where
@@ -39,13 +29,6 @@ sights_have_maps s start holds later before sight run is lawful =
       lawful = seen.lawful lawful;
       values = seen.values;
     }
-
--- the version of an aborted attempt is current of no object: its locator stands for the old version
-pub no_write_of_the_aborted : (s : Shape) (run : List Event) (m : ℕ) →
-    word s run (StatusWord (word s run (OwnerWord m))) ≡ 5 →
-    current_version s run (m + 1) ≡ word s run (OldWord m)
-no_write_of_the_aborted s run m aborted =
-    let less : m + 1 - 1 ≡ m = omega arith in rw (ne_eqb (m + 1) 0 (λ z. omega arith), less, aborted) refl
 
 -- ---- few pairs name each of n objects once
 

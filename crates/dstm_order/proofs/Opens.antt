@@ -21,7 +21,7 @@ use Rattle.dstm_order.specs.Passes.{is_open, EndsInPass, EndsInRank, EveryOpenEn
 use Rattle.dstm_order.specs.Tasks.{Work}
 use Rattle.dstm_order.specs.Tasks.Task.{Doing}
 use Rattle.dstm_order.specs.Tasks.Work.{Reading, Writing}
-use Rattle.dstm_order.proofs.Rows.{resolving_by, giving_way_by, pass_by, checks_by, passed_by}
+use Rattle.dstm_order.proofs.Rows.{resolving_by, giving_way_by, pass_by, passed_by}
 use Rattle.dstm_order.proofs.Validations.{GoesOn, goes_on, due_kind, every_pass}
 
 -- ---- the events of an open
@@ -53,24 +53,38 @@ open_phase Running = true
 open_phase Paused = true
 open_phase p = false
 
-first_opens : (w : Work) (l : LocalState) → is_open w ≡ true → IsOpen (at_first w l)
-first_opens (Reading o) l h = refl
-first_opens (Writing o) l h = refl
-first_opens w l h = absurd (cc)
+-- a step that neither raises the rank nor ends the open
+abbrev is_early : Due → Bool
+is_early (Step Rank n) = false
+is_early (Step k n) = in_open k
+is_early Done = false
 
-resolved_opens : (w : Work) → is_open w ≡ true → IsOpen (when_resolved w)
-resolved_opens (Reading o) h = refl
-resolved_opens (Writing o) h = refl
-resolved_opens w h = absurd (cc)
+abbrev IsEarly : Due → Type 0
+IsEarly d = is_early d ≡ true
 
-checks_open : (p : Phase) (l : LocalState) → open_phase p ≡ true → IsOpen (in_checks p l)
-checks_open Drawn l h = absurd (cc)
-checks_open p l h = pass_by IsOpen l refl refl
+early_opens : (d : Due) → IsEarly d → IsOpen d
+early_opens (Step Rank n) h = refl
+early_opens (Step k n) h = h
+early_opens Done h = refl
 
-resolving_opens : (w : Work) (m : Manager) (l : LocalState) (c : Effort) → is_open w ≡ true →
-    IsOpen (in_resolving m l c (when_resolved w))
-resolving_opens w m l c h =
-    resolving_by IsOpen m l c (when_resolved w) (record {
+first_early : (w : Work) (l : LocalState) → is_open w ≡ true → IsEarly (at_first w l)
+first_early (Reading o) l h = refl
+first_early (Writing o) l h = refl
+first_early w l h = absurd (cc)
+
+resolved_early : (w : Work) → is_open w ≡ true → IsEarly (when_resolved w)
+resolved_early (Reading o) h = refl
+resolved_early (Writing o) h = refl
+resolved_early w h = absurd (cc)
+
+checks_early : (p : Phase) (l : LocalState) → open_phase p ≡ true → IsEarly (in_checks p l)
+checks_early Drawn l h = absurd (cc)
+checks_early p l h = pass_by IsEarly l refl refl
+
+resolving_early : (w : Work) (m : Manager) (l : LocalState) (c : Effort) → is_open w ≡ true →
+    IsEarly (in_resolving m l c (when_resolved w))
+resolving_early w m l c h =
+    resolving_by IsEarly m l c (when_resolved w) (record {
       owner = refl;
       status = refl;
       rank = refl;
@@ -79,29 +93,44 @@ resolving_opens w m l c h =
       new = refl;
       kill = refl;
       pause = refl;
-    }) (λ _. giving_way_by IsOpen l c refl refl refl) (resolved_opens w h)
+    }) (λ _. giving_way_by IsEarly l c refl refl refl) (resolved_early w h)
+
+-- in an open a step follows that is early, unless its newest event is a LookSelf, a Rank or a Quit
+next_early : (k : Kind) (e : Event) (w : Work) (m : Manager) (l : LocalState) (c : Effort) → is_open w ≡ true →
+    in_open k ≡ true → open_phase l.phase ≡ true →
+    (k ≡ LookSelf) ⊎ (k ≡ Rank) ⊎ (k ≡ Quit) ⊎ IsEarly (next k e w m l c)
+next_early LookSelf e w m l c h i p = inl refl
+next_early Rank e w m l c h i p = inr (inl refl)
+next_early Quit e w m l c h i p = inr (inr (inl refl))
+next_early LookNumber e w m l c h i p = inr (inr (inr (pass_by IsEarly l refl refl)))
+next_early Check e w m l c h i p = inr (inr (inr (checks_early l.phase l p)))
+next_early PutOwner e w m l c h i p = inr (inr (inr refl))
+next_early PutOld e w m l c h i p = inr (inr (inr refl))
+next_early Install e w m l c h i p =
+    inr (inr (inr (cond_both (e.found == e.expected) _ _ IsEarly (λ _. refl) (λ _. first_early w l h))))
+next_early Enrol e w m l c h i p = absurd (cc)
+next_early Stamp e w m l c h i p = absurd (cc)
+next_early Begin e w m l c h i p = absurd (cc)
+next_early Release e w m l c h i p = absurd (cc)
+next_early PutHigh e w m l c h i p = absurd (cc)
+next_early PutNew e w m l c h i p = absurd (cc)
+next_early ToValidating e w m l c h i p = absurd (cc)
+next_early Draw e w m l c h i p = absurd (cc)
+next_early Commit e w m l c h i p = absurd (cc)
+next_early k e w m l c h i p = inr (inr (inr (resolving_early w m l c h)))
 
 next_opens : (k : Kind) (e : Event) (w : Work) (m : Manager) (l : LocalState) (c : Effort) → is_open w ≡ true →
     in_open k ≡ true → open_phase l.phase ≡ true → IsOpen (next k e w m l c)
-next_opens LookNumber e w m l c h i p = pass_by IsOpen l refl refl
-next_opens Check e w m l c h i p = checks_open l.phase l p
-next_opens LookSelf e w m l c h i p = passed_by IsOpen w m l refl (λ n. refl)
-next_opens PutOwner e w m l c h i p = refl
-next_opens PutOld e w m l c h i p = refl
-next_opens Install e w m l c h i p =
-    cond_both (e.found == e.expected) _ _ IsOpen (λ _. refl) (λ _. first_opens w l h)
-next_opens Rank e w m l c h i p = refl
-next_opens Quit e w m l c h i p = refl
-next_opens Enrol e w m l c h i p = refl
-next_opens Stamp e w m l c h i p = refl
-next_opens Begin e w m l c h i p = refl
-next_opens Release e w m l c h i p = refl
-next_opens Commit e w m l c h i p = refl
-next_opens PutHigh e w m l c h i p = absurd (cc)
-next_opens PutNew e w m l c h i p = absurd (cc)
-next_opens ToValidating e w m l c h i p = absurd (cc)
-next_opens Draw e w m l c h i p = absurd (cc)
-next_opens k e w m l c h i p = resolving_opens w m l c h
+next_opens k e w m l c h i p = go (next_early k e w m l c h i p)
+  where
+    at_kind : (j : Kind) → k ≡ j → IsOpen (next j e w m l c) → IsOpen (next k e w m l c)
+    at_kind j q opens = subst (λ j. IsOpen (next j e w m l c)) (sym q) opens
+
+    go : (k ≡ LookSelf) ⊎ (k ≡ Rank) ⊎ (k ≡ Quit) ⊎ IsEarly (next k e w m l c) → IsOpen (next k e w m l c)
+    go (inl q) = at_kind LookSelf q (passed_by IsOpen w m l refl (λ n. refl))
+    go (inr (inl q)) = at_kind Rank q refl
+    go (inr (inr (inl q))) = at_kind Quit q refl
+    go (inr (inr (inr early))) = early_opens (next k e w m l c) early
 
 -- these events leave the attempt in those phases
 phase_opens : (k : Kind) (s : Shape) (l : LocalState) (e : Event) → in_open k ≡ true → open_phase l.phase ≡ true →
@@ -145,7 +174,7 @@ opened : (w : Work) (s : Shape) (l : LocalState) (g : Lcg) (es : List Event) →
     Obeys (Doing w) s l g es → Opened w s l g es
 opened w s l g [] h p obeys = record {
   phase = rw p refl;
-  due = due_opens w s None l (effort_of s l g []) (first_opens w l h);
+  due = due_opens w s None l (effort_of s l g []) (early_opens (at_first w l) (first_early w l h));
 }
 opened w s l g (e ∷ es) h p obeys =
     let before = opened w s l g es h p obeys.0 in
@@ -158,115 +187,6 @@ opened w s l g (e ∷ es) h p obeys =
     }
 
 -- ---- how it ends
-
--- something is due
-abbrev is_done : Due → Bool
-is_done Done = true
-is_done (Step k n) = false
-
-abbrev IsStep : Due → Type 0
-IsStep d = is_done d ≡ false
-
-first_step : (w : Work) (l : LocalState) → is_open w ≡ true → IsStep (at_first w l)
-first_step (Reading o) l h = refl
-first_step (Writing o) l h = refl
-first_step w l h = absurd (cc)
-
-resolved_step : (w : Work) → is_open w ≡ true → IsStep (when_resolved w)
-resolved_step (Reading o) h = refl
-resolved_step (Writing o) h = refl
-resolved_step w h = absurd (cc)
-
-resolving_step : (w : Work) (m : Manager) (l : LocalState) (c : Effort) → is_open w ≡ true →
-    IsStep (in_resolving m l c (when_resolved w))
-resolving_step w m l c h =
-    resolving_by IsStep m l c (when_resolved w) (record {
-      owner = refl;
-      status = refl;
-      rank = refl;
-      old = refl;
-      high = refl;
-      new = refl;
-      kill = refl;
-      pause = refl;
-    }) (λ _. giving_way_by IsStep l c refl refl refl) (resolved_step w h)
-
--- where nothing more is due in an open, its newest event is a LookSelf, a Rank or a Quit
-next_step : (k : Kind) (e : Event) (w : Work) (m : Manager) (l : LocalState) (c : Effort) → is_open w ≡ true →
-    in_open k ≡ true → (k ≡ LookSelf) ⊎ (k ≡ Rank) ⊎ (k ≡ Quit) ⊎ IsStep (next k e w m l c)
-next_step LookSelf e w m l c h i = inl refl
-next_step Rank e w m l c h i = inr (inl refl)
-next_step Quit e w m l c h i = inr (inr (inl refl))
-next_step LookNumber e w m l c h i = inr (inr (inr (pass_by IsStep l refl refl)))
-next_step Check e w m l c h i = inr (inr (inr (checks_by IsStep l.phase l refl refl refl)))
-next_step PutOwner e w m l c h i = inr (inr (inr refl))
-next_step PutOld e w m l c h i = inr (inr (inr refl))
-next_step Install e w m l c h i =
-    inr (inr (inr (cond_both (e.found == e.expected) _ _ IsStep (λ _. refl) (λ _. first_step w l h))))
-next_step Enrol e w m l c h i = absurd (cc)
-next_step Stamp e w m l c h i = absurd (cc)
-next_step Begin e w m l c h i = absurd (cc)
-next_step Release e w m l c h i = absurd (cc)
-next_step PutHigh e w m l c h i = absurd (cc)
-next_step PutNew e w m l c h i = absurd (cc)
-next_step ToValidating e w m l c h i = absurd (cc)
-next_step Draw e w m l c h i = absurd (cc)
-next_step Commit e w m l c h i = absurd (cc)
-next_step k e w m l c h i = inr (inr (inr (resolving_step w m l c h)))
-
--- a Rank is due after a LookSelf only, and where ranks rise
-abbrev is_rank : Due → Bool
-is_rank (Step Rank n) = true
-is_rank d = false
-
-abbrev NoRank : Due → Type 0
-NoRank d = is_rank d ≡ false
-
-first_no_rank : (w : Work) (l : LocalState) → is_open w ≡ true → NoRank (at_first w l)
-first_no_rank (Reading o) l h = refl
-first_no_rank (Writing o) l h = refl
-first_no_rank w l h = absurd (cc)
-
-resolved_no_rank : (w : Work) → is_open w ≡ true → NoRank (when_resolved w)
-resolved_no_rank (Reading o) h = refl
-resolved_no_rank (Writing o) h = refl
-resolved_no_rank w h = absurd (cc)
-
-resolving_no_rank : (w : Work) (m : Manager) (l : LocalState) (c : Effort) → is_open w ≡ true →
-    NoRank (in_resolving m l c (when_resolved w))
-resolving_no_rank w m l c h =
-    resolving_by NoRank m l c (when_resolved w) (record {
-      owner = refl;
-      status = refl;
-      rank = refl;
-      old = refl;
-      high = refl;
-      new = refl;
-      kill = refl;
-      pause = refl;
-    }) (λ _. giving_way_by NoRank l c refl refl refl) (resolved_no_rank w h)
-
-next_rank : (k : Kind) (e : Event) (w : Work) (m : Manager) (l : LocalState) (c : Effort) → is_open w ≡ true →
-    in_open k ≡ true → (k ≡ LookSelf) ⊎ NoRank (next k e w m l c)
-next_rank LookSelf e w m l c h i = inl refl
-next_rank Rank e w m l c h i = inr refl
-next_rank Quit e w m l c h i = inr refl
-next_rank LookNumber e w m l c h i = inr (pass_by NoRank l refl refl)
-next_rank Check e w m l c h i = inr (checks_by NoRank l.phase l refl refl refl)
-next_rank PutOwner e w m l c h i = inr refl
-next_rank PutOld e w m l c h i = inr refl
-next_rank Install e w m l c h i =
-    inr (cond_both (e.found == e.expected) _ _ NoRank (λ _. refl) (λ _. first_no_rank w l h))
-next_rank Enrol e w m l c h i = absurd (cc)
-next_rank Stamp e w m l c h i = absurd (cc)
-next_rank Begin e w m l c h i = absurd (cc)
-next_rank Release e w m l c h i = absurd (cc)
-next_rank PutHigh e w m l c h i = absurd (cc)
-next_rank PutNew e w m l c h i = absurd (cc)
-next_rank ToValidating e w m l c h i = absurd (cc)
-next_rank Draw e w m l c h i = absurd (cc)
-next_rank Commit e w m l c h i = absurd (cc)
-next_rank k e w m l c h i = inr (resolving_no_rank w m l c h)
 
 -- after its pass an open raises the rank where ranks rise
 passed_is : (w : Work) (m : Manager) (l : LocalState) → is_open w ≡ true →
@@ -323,10 +243,11 @@ unfolding Ends
 ends_by_rank w s l g e [] h p obeys q =
     let due_then = due_kind (due_after (Doing w) s l g []) e Rank obeys.1 q in
     let on = goes_on w s None l (effort_of s l g []) (Step Rank due_then.0) due_then.1 refl in
-    let none = first_no_rank w l h in let x = ap is_rank on.table in absurd (cc)
+    let early = first_early w l h in let x = ap is_early on.table in absurd (cc)
 ends_by_rank w s l g e (f ∷ fs) h p obeys q =
-    go (next_rank f.kind f w s.manager old (effort_of s l g (f ∷ fs)) h
-    (is_kind (due_after (Doing w) s l g fs) f obeys.0.1 (opened w s l g fs h p obeys.0.0).due))
+    go (next_early f.kind f w s.manager old (effort_of s l g (f ∷ fs)) h
+    (is_kind (due_after (Doing w) s l g fs) f obeys.0.1 (opened w s l g fs h p obeys.0.0).due)
+    (opened w s l g (f ∷ fs) h p obeys.0).phase)
   where
     old : LocalState
     old = state_after s l (f ∷ fs)
@@ -358,22 +279,31 @@ ends_by_rank w s l g e (f ∷ fs) h p obeys q =
     )
     ends false r look row = absurd (cc)
 
-    go : (f.kind ≡ LookSelf) ⊎ NoRank (next f.kind f w s.manager old (effort_of s l g (f ∷ fs))) →
-        Ends s l (e ∷ f ∷ fs)
+    -- nothing is due after a Rank or a Quit
+    over : (k : Kind) → f.kind ≡ k → next k f w s.manager old (effort_of s l g (f ∷ fs)) ≡ Done → ⊥
+    over k q done =
+        let x : Done ≡ Step Rank due_then.0 =
+        sym done ∙ sym (ap (λ k. next k f w s.manager old (effort_of s l g (f ∷ fs))) q) ∙ on.table in cc
+
+    go : (f.kind ≡ LookSelf) ⊎ (f.kind ≡ Rank) ⊎ (f.kind ≡ Quit)
+        ⊎ IsEarly (next f.kind f w s.manager old (effort_of s l g (f ∷ fs))) → Ends s l (e ∷ f ∷ fs)
     go (inl look) =
         ends (rises s.manager) refl look
         (sym (passed_is w s.manager old h)
         ∙ sym (ap (λ k. next k f w s.manager old (effort_of s l g (f ∷ fs))) look) ∙ on.table)
-    go (inr none) = let x = ap is_rank on.table in absurd (cc)
+    go (inr (inl q)) = absurd (over Rank q refl)
+    go (inr (inr (inl q))) = absurd (over Quit q refl)
+    go (inr (inr (inr early))) = let x = ap is_early on.table in absurd (cc)
 
 pub every_open : EveryOpenEndsInPass
 unfolding Ends
 every_open w s l g [] h p call live =
     let row = ends_table w s None l (effort_of s l g []) call.done live in
-    let none = first_step w l h in let x = ap is_done row in absurd (cc)
+    let early = first_early w l h in let x = ap is_early row in absurd (cc)
 every_open w s l g (e ∷ es) h p call live =
-    go (next_step e.kind e w s.manager new (effort_of s l g (e ∷ es)) h
-    (is_kind (due_after (Doing w) s l g es) e call.obeys.1 (opened w s l g es h p call.obeys.0).due))
+    go (next_early e.kind e w s.manager new (effort_of s l g (e ∷ es)) h
+    (is_kind (due_after (Doing w) s l g es) e call.obeys.1 (opened w s l g es h p call.obeys.0).due)
+    (opened w s l g (e ∷ es) h p call.obeys).phase)
   where
     new : LocalState
     new = state_after s l (e ∷ es)
@@ -382,11 +312,11 @@ every_open w s l g (e ∷ es) h p call live =
     row = ends_table w s (Some e) new (effort_of s l g (e ∷ es)) call.done live
 
     go : (e.kind ≡ LookSelf) ⊎ (e.kind ≡ Rank) ⊎ (e.kind ≡ Quit)
-        ⊎ IsStep (next e.kind e w s.manager new (effort_of s l g (e ∷ es))) →
+        ⊎ IsEarly (next e.kind e w s.manager new (effort_of s l g (e ∷ es))) →
         (rises s.manager ≡ true → EndsInRank s l (e ∷ es)) × (rises s.manager ≡ false → EndsInPass s l (e ∷ es))
     go (inl q) = ends_by_pass w s l g e es h call.obeys q row
     go (inr (inl q)) = ends_by_rank w s l g e es h p call.obeys q
     go (inr (inr (inl q))) =
         let left : is_outside new.phase ≡ true =
         ap (λ k. is_outside (after k s (state_after s l es) e).phase) q in absurd (cc)
-    go (inr (inr (inr none))) = let x = ap is_done row in absurd (cc)
+    go (inr (inr (inr early))) = let x = ap is_early row in absurd (cc)

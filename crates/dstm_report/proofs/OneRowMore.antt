@@ -1,15 +1,13 @@
 -- One row more.
-use Rattle.std.proofs.Common.{◌≡◌, ◌-◌, List, [], ◌∷◌, ◌++◌, length, Option, Some, suc, refl, ap, sym, subst, ◌∙◌}
+use Rattle.std.proofs.Common.{◌≡◌, ◌-◌, List, [], ◌∷◌, ◌++◌, length, suc, refl, ap, sym, subst, ◌∙◌}
 use Rattle.std.proofs.Common.{append_assoc, eqb, arith}
 use Rattle.std.specs.List.{find, slice_get}
 use Rattle.std.proofs.lemmas.List.{append-nil}
 use Rattle.dstm_model.specs.Store.{Store}
-use Rattle.dstm_model.specs.Job.{JobOutcome}
-use Rattle.dstm_model.specs.declared.reply.Reply.{Reply}
 use Rattle.dstm_workload.specs.declared.workload.Job.{Job}
 use Rattle.dstm_workload.specs.declared.workload.Workload.{Workload}
 use Rattle.dstm_report.specs.declared.report.Row.{Row}
-use Rattle.dstm_report.specs.Lawful.{after_rows, after_job, last_row, AnswersWhere, IsGoodRow, RowsAreGood}
+use Rattle.dstm_report.specs.Lawful.{after_rows, after_job, last_row, IsGoodRow, RowsAreGood}
 
 pub RowsAreGood-push : (workload : Workload) (before rows : List Row) (row : Row) → RowsAreGood workload before rows →
     IsGoodRow workload (before ++ rows) row → RowsAreGood workload before (rows ++ row ∷ [])
@@ -35,8 +33,3 @@ last_row-get (row ∷ next ∷ rows) =
     let shorter : length (next ∷ rows) - 1 ≡ length rows = omega arith in
     let longer : length (row ∷ next ∷ rows) - 1 ≡ suc (length rows) = omega arith in
     last_row-get (next ∷ rows) ∙ ap (slice_get (next ∷ rows)) shorter ∙ ap (slice_get (row ∷ next ∷ rows)) (sym longer)
-
-pub answers_more : (P Q : Type 0) → (P → Q) → (outcome : Option JobOutcome) (replies : List Reply) →
-    AnswersWhere P outcome replies → AnswersWhere Q outcome replies
-answers_more P Q more (Some outcome) replies h = h
-answers_more P Q more outcome replies h = (h.0, more h.1)

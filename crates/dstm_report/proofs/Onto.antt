@@ -11,10 +11,6 @@ abbrev pub onto : {X : Type 0} → List X → Option (List X) → Option (List X
 onto xs None = None
 onto xs (Some ys) = Some (xs ++ ys)
 
-pub onto_nil : {X : Type 0} (read : Option (List X)) → onto [] read ≡ read
-onto_nil None = refl
-onto_nil (Some xs) = refl
-
 pub onto_more : {X : Type 0} (xs : List X) (x : X) (read : Option (List X)) →
     onto (xs ++ x ∷ []) read ≡ onto xs (onto (x ∷ []) read)
 onto_more xs x None = refl

@@ -1,6 +1,6 @@
 -- The places of the first jobs left, from turn to turn.
 use Rattle.std.proofs.Common.{◌≡◌, ◌≢◌, ℕ, zero, suc, ◌+◌, ◌<◌, ◌≤◌, Bool, true, false, cond, leb, List, [], ◌∷◌}
-use Rattle.std.proofs.Common.{length, get_or, set, Option, None, is_some, refl, ap, ap₂, sym, subst, ◌∙◌, arith, ⊎_elim, inl, inr}
+use Rattle.std.proofs.Common.{length, get_or, set, Option, None, is_some, refl, ap, ap₂, sym, subst, ◌∙◌, arith, inl, inr}
 use Rattle.std.specs.Prelude.{IsSome}
 use Rattle.std.specs.Option.{option_and_then}
 use Rattle.std.specs.List.{slice_get, All, AllByRecursion}
@@ -201,72 +201,6 @@ places_passed jobs next followers worker places small inside =
                 ∙ places.own w (omega (arith, lt, count)) (omega (arith, there w other, below))
           ];
       following = places.following;
-    }
-
--- ---- the links
-
-pub no_links : (jobs : List Job) (workers : ℕ) (firsts followers : List ℕ) → length firsts ≡ workers →
-    length followers ≡ length jobs →
-    ((worker : ℕ) → worker < workers → get_or firsts worker 0 ≡ length jobs) →
-    AreLinked jobs workers (length jobs) firsts followers
-no_links jobs workers firsts followers each_worker each_job none = record {
-  each_worker = each_worker;
-  each_job = each_job;
-  first = λ worker lt. subst (IsFirstFrom jobs worker (length jobs)) (sym (none worker lt)) (record {
-    behind = omega arith;
-    within = omega arith;
-    own = λ inside. absurd (omega arith);
-    others = λ k from below. absurd (omega arith);
-  });
-  following = λ k from below. absurd (omega arith);
-}
-
-pub links_more : (jobs : List Job) (workers place worker : ℕ) (firsts followers : List ℕ) → place < length jobs →
-    (job_at jobs place).worker ≡ worker → worker < workers → AreLinked jobs workers (place + 1) firsts followers →
-    AreLinked jobs workers place (set firsts worker place) (set followers place (get_or firsts worker 0))
-links_more jobs workers place worker firsts followers inside own small links =
-    let new = set firsts worker place in
-    let behind = set followers place (get_or firsts worker 0) in
-    record {
-      each_worker = length-set firsts worker place ∙ links.each_worker;
-      each_job = length-set followers place (get_or firsts worker 0) ∙ links.each_job;
-      first = λ w lt.
-          ⊎_elim
-          (λ same.
-          let at : get_or new w 0 ≡ place =
-          ap (λ v. get_or new v 0) same ∙ get_or-set_same firsts worker place 0 (omega (arith, links.each_worker)) in
-          subst (IsFirstFrom jobs w place) (sym at) (record {
-            behind = omega arith;
-            within = omega arith;
-            own = λ below. own ∙ sym same;
-            others = λ k from below. absurd (omega arith);
-          }))
-          (λ other.
-          let was = links.first w lt in
-          subst (IsFirstFrom jobs w place) (sym (get_or-set_other firsts worker w place 0 other)) (record {
-            behind = omega (arith, was.behind);
-            within = was.within;
-            own = was.own;
-            others = λ k from below.
-                ⊎_elim (λ at e. other (sym e ∙ ap (λ p. (job_at jobs p).worker) at ∙ own))
-                (λ away. was.others k (omega (arith, away)) below) (cases_eq k place);
-          }))
-          (cases_eq w worker);
-      following = λ k from below.
-          ⊎_elim
-          (λ at.
-          let value : get_or behind k 0 ≡ get_or firsts worker 0 =
-          ap (λ v. get_or behind v 0) at
-          ∙ get_or-set_same followers place (get_or firsts worker 0) 0 (omega (arith, links.each_job)) in
-          let here : IsFirstFrom jobs (job_at jobs k).worker (k + 1) (get_or firsts worker 0) =
-          subst (λ v. IsFirstFrom jobs (job_at jobs v).worker (v + 1) (get_or firsts worker 0)) (sym at)
-          (subst (λ w. IsFirstFrom jobs w (place + 1) (get_or firsts worker 0)) (sym own) (links.first worker small)) in
-          subst (IsFirstFrom jobs (job_at jobs k).worker (k + 1)) (sym value) here)
-          (λ away.
-          subst (IsFirstFrom jobs (job_at jobs k).worker (k + 1))
-          (sym (get_or-set_other followers place k (get_or firsts worker 0) 0 away))
-          (links.following k (omega (arith, away)) below))
-          (cases_eq k place);
     }
 
 -- ---- before the first turn

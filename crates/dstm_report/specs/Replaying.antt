@@ -1,4 +1,4 @@
--- How the rows of a report are followed: the jobs that are left, and the store so far.
+-- Private: how the rows of a report are followed: the jobs that are left, and the store so far.
 use Rattle.std.specs.Prelude.{◌≡◌, List, []}
 use Rattle.dstm_workload.specs.declared.workload.Workload.{Workload}
 use Rattle.dstm_report.specs.declared.report.Row.{Row}

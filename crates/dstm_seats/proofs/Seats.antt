@@ -1,17 +1,16 @@
 -- What a seat knows after a step: its number, and the state of its caller.
-use Rattle.std.proofs.Common.{◌≡◌, ◌≢◌, ℕ, List, [], ◌∷◌, ◌++◌, Some, None, refl, sym, ap, ◌∙◌, subst}
+use Rattle.std.proofs.Common.{◌≡◌, ◌≢◌, ℕ, List, ◌∷◌, Some, None, refl, sym, ap, ◌∙◌, subst}
 use Rattle.std.proofs.lemmas.Bool.{eq-eqb}
 use Rattle.std.specs.Prelude.{Option, Contains}
 use Rattle.dstm_machines.specs.declared.event.Event.{Event}
 use Rattle.dstm_machines.specs.Machines.{Machine, local}
 use Rattle.dstm_machines.specs.Sharing.{Shared}
-use Rattle.dstm_machines.specs.Traces.{Access, IsPastOf, events_of}
+use Rattle.dstm_machines.specs.Traces.{Access, events_of}
 use Rattle.dstm_machines.proofs.Runs.{local_own, local-events_of}
 use Rattle.dstm_seats.specs.declared.view.View.{View}
-use Rattle.dstm_seats.specs.Seats.{caller_view, event_by, events_by, made, moved, number_or, numbers_by, own_events, state_by, Adds, Joined, Makes}
+use Rattle.dstm_seats.specs.Seats.{caller_view, event_by, events_by, made, moved, number_or, own_events, state_by, Adds, Joined, Makes}
 use Rattle.dstm_seats.proofs.Lists.{apart_of}
-use Rattle.dstm_seats.proofs.Logs.{none_since}
-use Rattle.dstm_machines.proofs.Own.{own_event, own_first, same_local}
+use Rattle.dstm_machines.proofs.Own.{own_first, same_local}
 
 -- a caller's state is that of its own events
 state_of_events : {K B S : Type 0} (machine : Machine K B S) (table : B) (o : Option ℕ) (log : List (Event K))
@@ -72,27 +71,6 @@ module _ {K T B S : Type 0} (shared : Shared K T B S) where
         ∙ local_own shared.machine table v.log e
         ∙ ap (λ c. shared.machine.after table (local shared.machine table v.log c) e) mine
         ∙ ap (λ o. shared.machine.after table (state_by shared.machine table o v.log) e) (sym n)
-
-  -- the numbers of the seat after it
-  pub numbers_after : (v w : View K T) (way : Access) (kind : K) (place found : ℕ) →
-      Makes shared v way kind place found w →
-      w.numbers ≡ numbers_by v.number (number_or v.number found) v.numbers
-  numbers_after v w way kind place found m = ap (λ x. x.numbers) m.view
-
-  -- the log before is a past of the log after
-  pub past_after : (v w : View K T) (e : Event K) → Adds shared v e w → IsPastOf v.log w.log
-  past_after v w e a = record { later = e ∷ a.log.0; whole = sym a.log.1 }
-
-  -- in between its caller made no event
-  pub quiet_since : (v w : View K T) (e : Event K) (a : Adds shared v e w) → v.number ≡ Some e.caller →
-      events_of e.caller a.log.0 ≡ []
-  quiet_since v w e a is =
-      let c : ℕ = e.caller in
-      let log : List (Event K) = a.log.0 ++ v.log in
-      let all : events_of c w.log ≡ e ∷ events_of c log = ap (events_of c) a.log.1 ∙ own_event e log in
-      let mine : events_of c w.log ≡ e ∷ events_of c v.log = a.mine ∙ ap (λ o. e ∷ events_by o v.log) is in
-      let same : events_of c log ≡ events_of c v.log = cc in
-      none_since c v.log a.log.0 log refl same
 
   -- a seat that is joined has other numbers than the first one
   pub numbers_differ : (v other w : View K T) (m n : ℕ) → Joined shared v other w → Contains v.numbers m →

@@ -134,6 +134,7 @@ impl<M: Machine> Words<M> {
         ensures joined { Joined M.shared (view_of seat.old) (view_of other) (view_of seat.new) }
     {
         self.table.shared.join_seat::<Parting>(seat, other);
+        // One load more, which is no event: by it the first seat learns which of the two logs goes on from the other.
         let _found = self.table.shared.load::<Meeting<M>>(seat, 0);
     }
 
@@ -171,6 +172,7 @@ impl<M: Machine> Words<M> {
         ensures seat { IsOf self.now seat.new }
         ensures event { Makes M.shared (view_of seat.old) Load kind place result (view_of seat.new) }
     {
+        // The contract alone speaks of it; the play has it as `J`.
         let _ = kind;
         self.table.shared.load::<Loads<M, J>>(seat, place as usize)
     }
@@ -190,6 +192,7 @@ impl<M: Machine> Words<M> {
         ensures event { (found : ℕ)
             × Makes M.shared (view_of seat.old) (Store put) kind place found (view_of seat.new) }
     {
+        // The contract alone speaks of it; the play has it as `J`.
         let _ = kind;
         self.table
             .shared
@@ -212,6 +215,7 @@ impl<M: Machine> Words<M> {
         ensures event { Makes M.shared (view_of seat.old) (Exchange expected put) kind place result
             (view_of seat.new) }
     {
+        // The contract alone speaks of it; the play has it as `J`.
         let _ = kind;
         self.table
             .shared
@@ -228,6 +232,7 @@ impl<M: Machine> Words<M> {
         ensures seat { IsOf self.now seat.new }
         ensures event { Makes M.shared (view_of seat.old) Add kind place result (view_of seat.new) }
     {
+        // The contract alone speaks of it; the play has it as `J`.
         let _ = kind;
         self.table
             .shared

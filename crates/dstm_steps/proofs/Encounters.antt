@@ -1,9 +1,9 @@
 -- What is due on the way to a conflict.
-use Rattle.std.proofs.Common.{◌≡◌, ◌≢◌, ◌⊎◌, ℕ, ◌<◌, ◌≤◌, ◌==◌, ◌&&◌, Bool, true, false, None, Some, refl, ap, sym, arith, ne_eqb, ◌∙◌, inl, inr, List}
+use Rattle.std.proofs.Common.{◌≡◌, ◌≢◌, ◌⊎◌, ℕ, ◌<◌, ◌≤◌, ◌&&◌, Bool, true, false, None, Some, refl, ap, sym, arith, ◌∙◌, inl, inr, List}
 use Rattle.std.specs.Prelude.{Option, Result, Ok, Err, OnOk}
 use Rattle.std.proofs.lemmas.Bool.{cases_eq}
 use Rattle.std.proofs.lemmas.Bool.Decides.{nat_tests}
-use Rattle.dstm_core.specs.declared.event.Kind.TheVariants.{LookObj, LookOwner, LookStatus, LookRank}
+use Rattle.dstm_core.specs.declared.event.Kind.TheVariants.{LookObj, LookOwner, LookRank}
 use Rattle.dstm_core.specs.declared.shape.Shape.{Shape}
 use Rattle.dstm_core.specs.declared.state.Phase.TheVariants.{Running}
 use Rattle.dstm_core.specs.declared.state.Read.{Read}
@@ -21,10 +21,9 @@ use Rattle.dstm_order.specs.Tasks.{Task}
 use Rattle.dstm_words.specs.Seats.{Home, view_of, state_by}
 use Rattle.dstm_steps.specs.Conflicts.{Encounters, Meets, Starts}
 use Rattle.dstm_steps.specs.declared.steps.Steps.{Steps}
-use Rattle.dstm_steps.specs.Finding.{StaysAt, word_of, is_changed}
+use Rattle.dstm_steps.specs.Finding.{word_of, is_changed}
 use Rattle.dstm_steps.specs.Under.{Began, InTask, Under, Resolving, made_by, now}
-use Rattle.dstm_steps.proofs.Finding.{stays_resolving, stays_then}
-use Rattle.dstm_steps.proofs.Meeting.{code_in, version_live}
+use Rattle.dstm_steps.proofs.Meeting.{version_live}
 use Rattle.dstm_steps.proofs.Stepping.{under_is}
 use Rattle.dstm_steps.proofs.Undrawn.{running_undrawn}
 
@@ -109,67 +108,7 @@ stays_object old new object word changed q agreed same =
       checked = 0;
     }) (same ∙ sym agreed))
 
--- a look at the owner's rank keeps the attempt
-pub stays_rank : (s : Shape) (b : Began) (old new : LocalState) (n : ℕ) →
-    new ≡ after LookRank s old (made_by b Load LookRank 0 n) → StaysAt old new
-stays_rank s b old new n q = stays_resolving old new (record (res old) { rank = Some n }) q refl refl
-
 module _ {L : Type 0} (holds : L → List Val → Type 0) (home : Home L) (b : Began) where
-  -- the owner is looked at first
-  pub owner_due : (steps : Steps L) (word : ℕ) → Starts holds home b steps word →
-      Under holds home b steps (just LookOwner) None
-  owner_due steps word st =
-      let other : ((res (now home steps)).word == 0) ≡ false =
-      ne_eqb (res (now home steps)).word 0 (λ q. let x = st.some in let y = st.word_is in omega arith) in
-      under_is holds home b steps _ _ _ _ st.under (rw (st.running.phase, other, st.status, st.owner) refl) refl
-
-  module _ (old new : Steps L) (word owner : ℕ) (st : Starts holds home b old word)
-      (state : now home new ≡ after LookOwner home.terms.shape (now home old) (made_by b Load LookOwner 0 owner))
-      (under : Resolving holds home b new) where
-    -- then its status
-    pub status_due : Under holds home b new (just LookStatus) None
-    status_due =
-        let other : ((res (now home old)).word == 0) ≡ false =
-        ne_eqb (res (now home old)).word 0 (λ q. let x = st.some in let y = st.word_is in omega arith) in
-        under_is holds home b new _ _ _ _ under (rw (state, st.running.phase, other, st.status) refl) refl
-
-    pub encounters : (last : Steps L) (code : ℕ) → now home last ≡ after LookStatus home.terms.shape (now home new)
-        (made_by b Load LookStatus 0 code) → Resolving holds home b last → new.left ≡ old.left → new.round ≡ old.round →
-        new.missed ≡ old.missed → last.left ≡ new.left → last.round ≡ new.round → last.missed ≡ new.missed →
-        Encounters holds home b last word owner code
-    encounters last code then goes l r m l2 r2 m2 =
-        let status : (res (now home last)).status ≡ Some code = ap (λ l. (res l).status) then in
-        record {
-          under = goes;
-          running = record {
-            phase = ap (λ (l : LocalState). l.phase) then ∙ ap (λ (l : LocalState). l.phase) state ∙ st.running.phase;
-            agreed = ap (λ (l : LocalState). l.stale) then ∙ ap (λ (l : LocalState). l.stale) state ∙ st.running.agreed;
-            uncommitted = ap (λ (l : LocalState). l.committed) then ∙ ap (λ (l : LocalState). l.committed) state
-                ∙ st.running.uncommitted;
-          };
-          word_is = ap (λ l. (res l).word) then ∙ ap (λ l. (res l).word) state ∙ st.word_is;
-          some = st.some;
-          owner_is = ap (λ l. (res l).owner) then ∙ ap (λ l. (res l).owner) state;
-          status = status;
-          rank = ap (λ l. (res l).rank) then ∙ ap (λ l. (res l).rank) state ∙ st.rank;
-          old = ap (λ l. (res l).old) then ∙ ap (λ l. (res l).old) state ∙ st.old;
-          high = ap (λ l. (res l).high) then ∙ ap (λ l. (res l).high) state ∙ st.high;
-          value = ap (λ l. (res l).value) then ∙ ap (λ l. (res l).value) state ∙ st.value;
-          named = code_in holds home b last _ _ goes code status;
-          left = l2 ∙ l ∙ st.left;
-          round = r2 ∙ r ∙ st.round;
-          tries = let t = st.tries in omega arith;
-        }
-
-    pub stays_encounter : (last : Steps L) (code : ℕ) → now home last ≡ after LookStatus home.terms.shape (now home new)
-        (made_by b Load LookStatus 0 code) → StaysAt (now home old) (now home last)
-    stays_encounter last code then =
-        stays_then (now home old) (now home new) (now home last)
-        (stays_resolving (now home old) (now home new) (record (res (now home old)) { owner = Some owner }) state
-        refl refl)
-        (stays_resolving (now home new) (now home last) (record (res (now home new)) { status = Some code }) then
-        refl refl)
-
   -- where there are ranks that of a live owner is looked at
   pub rank_due : (steps : Steps L) (word owner code : ℕ) → Encounters holds home b steps word owner code →
       is_live code ≡ true → has_ranks home.terms.shape.manager ≡ true → Under holds home b steps (just LookRank) None

@@ -7,7 +7,6 @@ use Rattle.dstm_core.specs.declared.state.Resolution.{Resolution}
 use Rattle.dstm_core.specs.Rules.{after, resolving}
 use Rattle.dstm_core.specs.State.{LocalState, or_zero, res, version, is_resolved}
 use Rattle.dstm_machines.specs.Traces.Access.{Load}
-use Rattle.dstm_steps.specs.Conflicts.{Keeps}
 use Rattle.dstm_steps.specs.Finding.{StaysAt, IsFound}
 use Rattle.dstm_steps.specs.Under.{Began, made_by}
 
@@ -21,9 +20,6 @@ stays_then a b c p q = record {
   object = q.object ∙ p.object;
   word = q.word ∙ p.word;
 }
-
-pub stays_keeps : (old new : LocalState) → Keeps old new → StaysAt old new
-stays_keeps old new k = record { attempt = k.attempt; object = k.object; word = k.word }
 
 -- something more was found out of the object
 pub stays_resolving : (old new : LocalState) (r : Resolution) → new ≡ resolving old r → r.object ≡ (res old).object →

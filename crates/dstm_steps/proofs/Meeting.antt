@@ -27,7 +27,7 @@ use Rattle.dstm_order.specs.declared.again.Again.{Again}
 use Rattle.dstm_order.specs.declared.again.Again.TheVariants.{Waited}
 use Rattle.dstm_order.specs.declared.TheConstants.{MAX_MISSED}
 use Rattle.dstm_order.specs.Efforts.{Effort, chosen, status_of}
-use Rattle.dstm_order.specs.Order.{Due, just, has_ranks, rises, in_resolving, in_conflict, on_choice, when_resolved}
+use Rattle.dstm_order.specs.Order.{Due, just, has_ranks, rises, in_resolving, in_conflict, when_resolved}
 use Rattle.dstm_order.specs.Tasks.{Task}
 use Rattle.dstm_order.proofs.EnemyRanks.{found_is_rank}
 use Rattle.dstm_words.specs.Seats.{Home, view_of, state_by}
@@ -126,13 +126,6 @@ module _ {L : Type 0} (holds : L → List Val → Type 0) (home : Home L) (b : B
         under_is holds home b steps _ _ _ _ met.under
         (conflict_due met live (when_resolved (work_of b.task)) ∙ rw (met.rank, lt-ltb 0 steps.left left) refl) refl
 
-    -- else the manager is asked
-    pub choice_due : Meets holds home b Running steps owner code → is_live code ≡ true → steps.left ≡ 0 →
-        Under holds home b steps (on_choice (chosen home.terms.shape.manager (now home steps) (effort_by steps))) None
-    choice_due met live left =
-        under_is holds home b steps _ _ _ _ met.under
-        (conflict_due met live (when_resolved (work_of b.task)) ∙ rw (met.rank, left) refl) refl
-
     aside_due : Meets holds home b Paused steps owner code → (d : Due) →
         in_resolving home.terms.shape.manager (now home steps) (effort_by steps) d
         ≡ (if lets_go code then just Resume else if steps.left == 0 then just Quit else just LookStatus)
@@ -145,20 +138,6 @@ module _ {L : Type 0} (holds : L → List Val → Type 0) (home : Home L) (b : B
         under_is holds home b steps _ _ _ _ met.under
         (aside_due met (when_resolved (work_of b.task))
         ∙ rw (waits, ne_eqb steps.left 0 (λ q. omega arith)) refl) refl
-
-    -- it goes on once the enemy has let go
-    pub resume_due : Meets holds home b Paused steps owner code → lets_go code ≡ true →
-        Under holds home b steps (just Resume) None
-    resume_due met gone =
-        under_is holds home b steps _ _ _ _ met.under (aside_due met (when_resolved (work_of b.task)) ∙ rw gone refl)
-        refl
-
-    -- and quits where no turn is left
-    pub give_up_due : Meets holds home b Paused steps owner code → lets_go code ≡ false → steps.left ≡ 0 →
-        Under holds home b steps (just Quit) None
-    give_up_due met waits left =
-        under_is holds home b steps _ _ _ _ met.under
-        (aside_due met (when_resolved (work_of b.task)) ∙ rw (waits, left) refl) refl
 
   -- after a look at the owner's status
   pub looked_again : (p : Phase) (old new : Steps L) (owner code n : ℕ) → Meets holds home b p old owner code →
@@ -446,15 +425,6 @@ last_part : (code : ℕ) → (1 ≤ (if code == 2 then 1 else 2)) × ((if code =
 last_part code =
     cond_both (code == 2) 1 2 (λ n. (1 ≤ n) × (n ≤ 2)) (λ _. (omega arith, omega arith))
     (λ _. (omega arith, omega arith))
-
-pub less_missed : (missed round code new : ℕ) → missed < 64 → is_live code ≡ true →
-    patience_left (missed + 1) round new < patience_left missed round code
-less_missed missed round code new h live =
-    let a = last_part code in
-    let b = last_part new in
-    rw live (cond_both (is_live new) _ 0
-    (λ n. n < 4 * (64 - missed) + 2 * (1024 - round) + (if code == 2 then 1 else 2))
-    (λ _. omega (arith, a.0, b.1, h)) (λ _. omega (arith, a.0)))
 
 pub less_over : (missed round code n r new : ℕ) → is_live code ≡ true → is_live new ≡ false →
     patience_left n r new < patience_left missed round code

@@ -70,15 +70,6 @@ may_any k s l (Store v) c p found m = may_store k s l v c p found m
 may_any k s l (Exchange x v) c p found m = may_exchange k s l x v c p found m
 may_any k s l Add c p found m = may_add k s l c p found m
 
--- an event has the operand of its place and of what it stores
-pub has_operand : (k : Kind) (e : Event) → HasOperand k (operand_of k e.place e.put) e
-has_operand LookObj e = refl
-has_operand Release e = refl
-has_operand PutHigh e = refl
-has_operand PutNew e = refl
-has_operand Rank e = refl
-has_operand k e = tt
-
 -- a load has the operand of its place
 pub load_operand : (k : Kind) (s : Shape) (l : LocalState) (e : Event) → ActsBy k Load →
     HasOperand k (operand_of k e.place 0) e

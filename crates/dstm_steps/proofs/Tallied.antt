@@ -8,7 +8,7 @@ use Rattle.dstm_core.specs.Events.{Event}
 use Rattle.dstm_core.specs.declared.event.Kind.{Kind}
 use Rattle.dstm_core.specs.declared.event.Kind.TheVariants.{Begin, Kill, LookStatus}
 use Rattle.dstm_core.specs.declared.shape.Shape.{Shape}
-use Rattle.dstm_core.specs.Rules.{access, after}
+use Rattle.dstm_core.specs.Rules.{after}
 use Rattle.dstm_core.specs.Runs.{core, local}
 use Rattle.dstm_core.specs.State.{LocalState}
 use Rattle.dstm_core.specs.Traces.{Access, events_of}
@@ -19,7 +19,7 @@ use Rattle.dstm_model.specs.declared.value.Val.{Val}
 use Rattle.dstm_order.specs.Counts.{Counts as Counted, counted, counts_after, counts_of, is_kill, no_counts, one_if}
 use Rattle.dstm_order.specs.Efforts.{is_turn}
 use Rattle.dstm_words.specs.Seats.{View, ActsBy, Home, caller_state, found_in, view_of, IsOf, made, Makes, events_by, number_or, state_by}
-use Rattle.dstm_machines.specs.Traces.Access.{Load, Store, Add}
+use Rattle.dstm_machines.specs.Traces.Access.{Load, Add}
 use Rattle.dstm_steps.specs.declared.counting.CallerSeat.TheInside.{Inside}
 use Rattle.dstm_steps.specs.Under.{is_exchange}
 use Rattle.dstm_steps.specs.Counting.{counts_by, counts_in, tally_of, Counts, IsUnbegun}
@@ -160,16 +160,6 @@ pub exchange_kills : (k : Kind) (a : Result ℕ ℕ) (e : Event) → e.found ≡
 exchange_kills Kill (Ok f) e same h = rw same (sym (eq-eqb f e.expected h))
 exchange_kills Kill (Err f) e same h = rw same (sym (ne_eqb f e.expected h))
 exchange_kills k a e same h = refl
-
-pub store_turns : (k : Kind) (s : Shape) (l : LocalState) (e : Event) (v : ℕ) → access k s l e ≡ Store v →
-    is_turn k l ≡ false
-store_turns LookStatus s l e v way = absurd (cc)
-store_turns k s l e v way = refl
-
-pub store_kills : (k : Kind) (s : Shape) (l : LocalState) (e : Event) (v : ℕ) → access k s l e ≡ Store v →
-    (event : Event) → is_kill k event ≡ false
-store_kills Kill s l e v way event = absurd (cc)
-store_kills k s l e v way event = refl
 
 -- the counts after an event, by the own events before it
 counts_next : (s : Shape) (log before : List Event) (c : ℕ) (e : Event) → e.caller ≡ c →

@@ -1,4 +1,4 @@
--- A conflict with the live owner of an object.
+-- Private: a conflict with the live owner of an object.
 use Rattle.std.specs.Prelude.{◌≡◌, ℕ, ◌+◌, ◌-◌, ◌*◌, ◌<◌, ◌≤◌, ◌==◌, ◌&&◌, ◌||◌, Bool, false, not, is_none, Some, None, List, if◌then◌else◌}
 use Rattle.dstm_core.specs.declared.state.Phase.{Phase}
 use Rattle.dstm_core.specs.declared.state.Phase.TheVariants.{Running}

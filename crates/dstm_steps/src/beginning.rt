@@ -61,6 +61,7 @@ impl<L: Law> Steps<L> {
         ensures under { InTask L.holds words.now (Beginning fresh) B.began self.new
             (in_beginning words.now.terms.shape fresh None (now words.now self.new)) None }
     {
+        // The contract alone speaks of it.
         let _ = fresh;
         let place = self.shape.stamps_place();
         self.rank = self.seat.add(words, Kind::Stamp, place);
@@ -79,6 +80,7 @@ impl<L: Law> Steps<L> {
         ensures under { InTask L.holds words.now (Beginning fresh) B.began self.new
             (in_beginning words.now.terms.shape fresh None (now words.now self.new)) None }
     {
+        // The contract alone speaks of it.
         let _ = fresh;
         let place = self.shape.rank(next);
         self.seat.store(words, Kind::Rank, place, rank);
@@ -97,6 +99,7 @@ impl<L: Law> Steps<L> {
         ensures under { InTask L.holds words.now (Beginning fresh) B.began self.new Done None }
         ensures own { self.new.own ≡ next }
     {
+        // The contract alone speaks of it.
         let _ = fresh;
         let place = self.shape.status(next);
         self.seat

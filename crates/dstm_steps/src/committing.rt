@@ -185,6 +185,8 @@ impl<L: Law> Steps<L> {
             return Err(Again::Killed);
         }
         let number = self.draw::<B>(words);
+        // Who drew between the last pass and this Draw comes before it in the history, so what it has read is checked
+        // once more; where nobody did, that pass has told it already.
         let skip = last == Some(number);
         if let Some(object) = self.check_rest::<B>(words, skip, reads) {
             self.quit::<B>(words, Status::Validating);

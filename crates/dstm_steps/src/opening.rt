@@ -172,6 +172,8 @@ impl<L: Law> Steps<L> {
         ensures tried { OnOk result (self.new.missed < MAX_MISSED) }
         ensures ends { IfErr result (λ again. Under L.holds words.now B.began self.new Done (Some again)) }
     {
+        // A word that has changed names another locator: its owner may be live, and the version another one. So the
+        // exchange is not tried again with what was found, and the object is resolved anew.
         'retries: loop {
             if let Some(found) = self.try_acquire::<B>(words, object, read, locator)? {
                 return Ok(found);

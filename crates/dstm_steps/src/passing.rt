@@ -172,6 +172,9 @@ impl<L: Law> Steps<L> {
         ensures ends { IfErr result (λ again. Under L.holds words.now B.began self.new Done (Some again)) }
         ensures past { OnOk result (IsPastOf (view_of self.old.seat).log (view_of self.new.seat).log) }
     {
+        // The number is looked at first: an object that has its word at a later check had it then, too, since no locator
+        // is put twice, so all reads stood together at this look. The own status is looked at last: who is live then
+        // has all that it opened for writing, since another one takes an object from it only once it is aborted.
         let number = self.look_number::<B>(words);
         let skip = *last == Some(number);
         if let Some(object) = self.check_all::<B>(words, skip, reads) {

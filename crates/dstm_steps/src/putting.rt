@@ -104,6 +104,7 @@ impl<L: Law> Steps<L> {
         for i in 0..writes.len() {
             let value = writes[i].to_put();
             let locator = first + i as u32;
+            // The high part first: with the low part the value counts as put, and at the last of them the law is asked.
             self.put_high::<B>(words, locator, value.high);
             self.put_low::<B>(words, locator, value.low);
         }

@@ -233,6 +233,7 @@ impl<L: Law> Steps<L> {
         ensures tried { OnOk result (self.old.missed ≤ self.new.missed) }
         ensures ends { IfErr result (λ again. Under L.holds words.now B.began self.new Done (Some again)) }
     {
+        // The contract alone speaks of it.
         let _ = word;
         if !has_ranks(self.shape.manager()) {
             return self.settle::<B>(words, owner, 0, code);

@@ -8,7 +8,7 @@ use Rattle.dstm_model.specs.declared.value.Val.{Val}
 use Rattle.dstm_machines.specs.Traces.{IsPastOf, events_of}
 use Rattle.dstm_machines.proofs.Gathered.{told_none, told_now, told_still}
 use Rattle.dstm_machines.proofs.Attempts.{NoneBegins}
-use Rattle.dstm_machines.proofs.Own.{local_mine, local_others, own_append, own_first, own_later, own_other}
+use Rattle.dstm_machines.proofs.Own.{local_mine, local_others, own_first, own_later, own_other}
 use Rattle.dstm_machines.proofs.Runs as runs
 use Rattle.dstm_tl2.specs.declared.kind.Kind.{Kind}
 use Rattle.dstm_tl2.specs.declared.kind.Kind.TheVariants.{Sample, LookAgain, Lock, Draw, Check}
@@ -83,12 +83,6 @@ done_own t (e ∷ es) c = go (cases_Bool (e.caller == c)) (done_own t es c)
 pub same_done_by : (t : Table) (es fs : List Event) (c : ℕ) → events_of c es ≡ events_of c fs →
     done_by t es c ≡ done_by t fs c
 same_done_by t es fs c q = sym (done_own t es c) ∙ ap (λ xs. done_by t xs c) q ∙ done_own t fs c
-
--- and a longer log with no more own events does
-pub later_done_by : (t : Table) (more es : List Event) (c : ℕ) → events_of c more ≡ [] →
-    done_by t (more ++ es) c ≡ done_by t es c
-later_done_by t more es c none =
-    same_done_by t (more ++ es) es c (own_append c more es ∙ ap (λ xs. xs ++ events_of c es) none)
 
 -- ---- which events commit
 

@@ -19,7 +19,7 @@ use Rattle.dstm_tl2_engine.proofs.Begun.{begun_count}
 use Rattle.dstm_tl2_engine.proofs.CallKinds.{commits_in, samples_in, uncommitting, unsampled}
 use Rattle.dstm_tl2_order.proofs.Causing.{answers_since}
 use Rattle.dstm_machines.proofs.Attempts.{begun_after, log_parts, since_after}
-use Rattle.dstm_machines.proofs.Own.{after_own, own_state}
+use Rattle.dstm_machines.proofs.Own.{own_state}
 use Rattle.dstm_tl2.proofs.Done.{invalid_after, quiet_after, valid_after}
 use Rattle.dstm_tl2_engine.proofs.Left.{is_left}
 
@@ -34,9 +34,6 @@ module _ {L : Type 0} (holds : L → List Val → Type 0) (k n : TlCalled L) (ta
   -- the caller's state after it, in the words of before
   pub state_of : state n ≡ local (table_of_caller k) n.log k.number
   state_of = ap (λ t. local t n.log n.number) table_then ∙ ap (local (table_of_caller k) n.log) p.same.1
-
-  pub state_by_events : state n ≡ state_after (table_of_caller k) (state k) p.events
-  state_by_events = state_of ∙ after_own tl2 (table_of_caller k) k.number n.log k.log p.events p.own
 
   done_of : done n ≡ done (record k { log = n.log })
   done_of =

@@ -25,7 +25,6 @@ use Rattle.dstm_tl2_order.specs.Order.{IsDue, has_sampled, in_giving_back, is_sp
 use Rattle.dstm_tl2_order.specs.Order.Due.{Done, FreeAs, Just}
 use Rattle.dstm_tl2_order.proofs.Steps.{state_up}
 use Rattle.dstm_tl2_steps.proofs.Stepping.{call_of}
-use Rattle.dstm_tl2_steps.specs.Reads.{AtRest}
 use Rattle.dstm_tl2_order.specs.Tasks.{Task}
 use Rattle.dstm_tl2_order.specs.Tasks.Task.{Beginning, Returning}
 use Rattle.dstm_tl2_steps.specs.Under.{Began, Under, made_by, now}
@@ -280,9 +279,6 @@ module _ {L : Type 0} (holds : L → List Val → Type 0) (c : Inside L) (v : Ti
     pub freed_kept : called (freed c new) ≡ record (called c) { log = (view_of new.seat).log }
     freed_kept = ap (λ home. record (called (freed c new)) { home = home }) k.home
 
-    pub freed_rest : (state (called c)).holds ≡ [] → called (freed c new) ≡ called c
-    freed_rest free = ap (λ (x : Steps L). called (record c { steps = x })) (still free)
-
   -- ---- an attempt was begun
 
   module _ (is : now (called c).home new ≡ begin (state (called c)) new.sample) where
@@ -322,15 +318,6 @@ module _ {L : Type 0} (holds : L → List Val → Type 0) (c : Inside L) (v : Ti
         left = refl;
       };
     }
-
-    pub anew_rest : AtRest (state (called (anew c new)))
-    anew_rest = subst AtRest (sym is_begun) (record {
-      begun = omega arith;
-      no_look = refl;
-      untold = (refl, refl, refl);
-      undrawn = refl;
-      sound = (refl, refl);
-    })
 
     pub anew_admits : Admits holds (called (anew c new)) c.terms.start.value.items
     anew_admits = record {

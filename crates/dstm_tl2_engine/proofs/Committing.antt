@@ -4,16 +4,15 @@ use Rattle.std.specs.List.{All}
 use Rattle.std.specs.Prelude.{◌⊎◌, ◌||◌, IfSome, IsSome, is_none, is_some, if◌then◌else◌}
 use Rattle.std.specs.Option.{option_or}
 use Rattle.std.proofs.Math.Seq.{take-length}
-use Rattle.std.proofs.lemmas.List.{length-map, length-take-le}
 use Rattle.dstm_mem.proofs.Pairs.{AgreesWith-of_agrees, with_writes-with_set}
 use Rattle.dstm_mem.proofs.WithSet.{unset_stays}
 use Rattle.dstm_mem.specs.Memory.{value_in, with_set}
 use Rattle.dstm_model.specs.declared.value.Val.{Val}
 use Rattle.dstm_model.specs.Map.{Agrees, KeepsLaw, NamesOnce, value_at, with_writes}
 use Rattle.dstm_tl2.specs.Histories.{entry_of, read_values}
-use Rattle.dstm_tl2.specs.Rules.{Event, IsTold, new_hold}
+use Rattle.dstm_tl2.specs.Rules.{Event, new_hold}
 use Rattle.dstm_tl2.specs.Sharing.{table_of}
-use Rattle.dstm_tl2.specs.State.{LocalState, is_valid, or_writes, or_zero, read_of, recorded}
+use Rattle.dstm_tl2.specs.State.{LocalState, is_valid, or_writes, or_zero, read_of}
 use Rattle.dstm_tl2.specs.Words.{objects}
 use Rattle.dstm_tl2_words.specs.Seats.{Home, view_of}
 use Rattle.dstm_tl2_order.specs.declared.again.TlAgain.{TlAgain}
@@ -68,31 +67,6 @@ no_answer : (x : Option TlAgain) → is_none x ≡ true → x ≡ None
 no_answer None live = refl
 no_answer (Some again) live = absurd (cc)
 
--- as many locks as writes
-all_locked : (l : LocalState) (writes : List (ℕ × Val)) (count : ℕ) → count ≤ length writes →
-    map (new_hold l) (take count writes) ≡ map (new_hold l) writes → count ≡ length writes
-all_locked l writes count few same =
-    sym (length-take-le count writes few) ∙ sym (length-map (take count writes) (new_hold l)) ∙ ap length same
-    ∙ length-map writes (new_hold l)
-
--- the locks depend on the reads alone
-same_locks : (l m : LocalState) (writes : List (ℕ × Val)) → l.reads ≡ m.reads →
-    map (new_hold l) writes ≡ map (new_hold m) writes
-same_locks l m writes same =
-    ap (λ reads. map (λ (w : ℕ × Val). record {
-      object = w.0;
-      word = recorded w.0 reads;
-      value = w.1;
-      low_put = false;
-      high_put = false;
-    }) writes) same
-
--- what was told, if anything was
-told_is : (told : Option (List (ℕ × Val))) (writes : List (ℕ × Val)) → (told ≢ None → told ≡ Some writes) →
-    (told ≡ None) ⊎ (told ≡ Some writes)
-told_is None writes is = inl refl
-told_is (Some ws) writes is = inr (is (λ q. cc))
-
 told_some : (told : Option (List (ℕ × Val))) (writes : List (ℕ × Val)) → (told ≡ None) ⊎ (told ≡ Some writes) →
     told ≢ None → told ≡ Some writes
 told_some told writes (inl none) some = absurd (some none)
@@ -113,13 +87,6 @@ module _ {L : Type 0} (holds : L → List Val → Type 0) (c : Inside L) (v : Ti
         lawful = was;
         agrees = AgreesWith-of_agrees values (read_values (state (called c)).reads) agrees;
       }))
-
-  -- where all that it writes is locked, it is all that it has open
-  pub all_counted : HasLocked (called c) → c.locked ≡ length c.opened.writes
-  all_counted locked = all_locked (state (called c)) c.opened.writes c.locked v.few (sym v.locks ∙ locked.all)
-
-  pub told_there : HasLocked (called c) → IsTold (state (called c)) c.opened.writes
-  told_there locked = told_is (state (called c)).writes c.opened.writes locked.told
 
   -- ---- after a call that locks or commits
 
@@ -359,11 +326,6 @@ module _ {L : Type 0} (holds : L → List Val → Type 0) (c : Inside L) (v : Ti
 
     pub finished_stays : Stays holds (Finishing c.opened.writes) (called c) (called finished_as)
     finished_stays = closed_stays (Finishing c.opened.writes) refl new None u 0 c.left refl
-
-    pub finished_kept : called finished_as ≡ record (called c) { log = (view_of new.seat).log; left = None }
-    finished_kept =
-        then_kept (Finishing c.opened.writes) refl new None u 0 c.left
-        ∙ ap (λ x. record (called c) { log = (view_of new.seat).log; left = x }) (no_answer c.left locked.live)
 
     pub finished_commits : Commits (called c) (called finished_as) number
     finished_commits = record {

@@ -318,9 +318,6 @@ module _ (t : Table) (l : LocalState) (s : Static t l) (events : List Event) (a 
     });
   }
     where
-      gives : Bool
-      gives = l.gave_back || (e.put == (or_hold (hold_of e.place l.holds)).word)
-
       parted : (o : ℕ) (k : Hold) → hold_of o (without e.place l.holds) ≡ Some k → k.low_put ≡ true →
           (e.place ≡ o) ⊎ (e.place ≡ o → ⊥) → is_valid l ≡ true
       parted o k q low (inl d) =
@@ -467,19 +464,9 @@ module _ (t : Table) (es : List Event) (run : Run t es) (c : ℕ) where
   abbrev since : List Event
   since = events_of c (since_sample c es)
 
-  -- while nothing is told, the attempt has made no event on a lock but its looks
-  pub untold_idle : l.writes ≡ None → All (λ (e : Event). is_late e.kind ≡ false) since
-  untold_idle = (attempt t es run c).idle
-
   -- while it is not valid, it has written nothing
   pub invalid_unwritten : is_valid l ≡ false → All (λ (e : Event). is_write e.kind ≡ false) since
   invalid_unwritten = (attempt t es run c).early
-
-  -- the word that a Lock expected is the recorded one
-  pub lock_recorded : (o : ℕ) (taking : Event) → Contains since taking → has_locked o taking ≡ true →
-      (taking.expected ≡ recorded o l.reads) × (o < objects t)
-  lock_recorded o taking x h =
-      let y = (attempt t es run c).locks o taking x h in (y.expected, y.below)
 
   -- an object that was locked is held, or the newest event on its lock has given it its recorded word back
   pub held_or_given : is_valid l ≡ false → (o : ℕ) (taking : Event) → Contains since taking →

@@ -507,9 +507,6 @@ module _ {L : Type 0} (holds : L → List Val → Type 0) (c : Inside L) (v : Ti
             subst (λ x. IfSome x (λ y. Some y ≡ handed (called c) p))
             (sym (value_in-more c.opened.writes o value p other)) (v.puts p)
 
-    pub marked_marks : Marks o (called c) (called marked_as) value
-    marked_marks = record { writes = refl; set = refl; read = read }
-
     -- an open hands out the value that was read
     pub marked_value : Some value ≡ handed (called marked_as) o
     marked_value = read ∙ ap (λ w. option_or w (held (called c) o)) (sym (unset holds c v o unopened))

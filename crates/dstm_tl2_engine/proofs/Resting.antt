@@ -1,5 +1,5 @@
 -- An attempt at rest, told by a test.
-use Rattle.std.proofs.Common.{◌≡◌, ◌<◌, ◌&&◌, ◌==◌, Bool, true, false, not, ℕ, List, [], ◌∷◌, length, Option, Some, None, is_none, nat_lt, arith, eqb-true, lt-ltb, ltb-true, refl}
+use Rattle.std.proofs.Common.{◌≡◌, ◌<◌, ◌&&◌, ◌==◌, Bool, true, false, not, ℕ, List, [], ◌∷◌, length, Option, Some, None, is_none, nat_lt, arith, eqb-true, ltb-true, refl}
 use Rattle.dstm_tl2.specs.State.{LocalState}
 use Rattle.dstm_tl2_steps.specs.Reads.{AtRest}
 use Rattle.dstm_tl2_engine.specs.Callers.{is_resting}
@@ -23,9 +23,6 @@ zero_of n same = eqb-true n 0 same
 above : (n : ℕ) → nat_lt 0 n ≡ true → 0 < n
 above n same = ltb-true 0 n same
 
-below : (n : ℕ) → 0 < n → nat_lt 0 n ≡ true
-below n lt = lt-ltb 0 n lt
-
 denied : (b : Bool) → not b ≡ true → b ≡ false
 denied false same = refl
 denied true same = absurd (cc)
@@ -43,8 +40,3 @@ rests l same =
       undrawn = none l.drawn drawn.0;
       sound = (denied l.failed sound.0, denied l.gave_back sound.1);
     }
-
--- and it does so where it is
-pub resting : (l : LocalState) → AtRest l → is_resting l ≡ true
-resting l rest =
-    rw (below l.begun rest.begun, rest.no_look, rest.untold.0, rest.untold.1, rest.untold.2, rest.undrawn, rest.sound.0, rest.sound.1) refl

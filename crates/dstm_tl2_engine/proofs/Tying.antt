@@ -11,7 +11,7 @@ use Rattle.dstm_tl2_steps.specs.Opened.{OpenedAs}
 use Rattle.dstm_tl2_order.specs.Order.{Due, due}
 use Rattle.dstm_tl2_order.specs.Order.Due.{Done}
 use Rattle.dstm_tl2_order.specs.Tasks.{Task}
-use Rattle.dstm_tl2_steps.specs.Under.{Lists, Under, now}
+use Rattle.dstm_tl2_steps.specs.Under.{Under, now}
 use Rattle.dstm_tl2_order.specs.declared.again.TlAgain.{TlAgain}
 use Rattle.dstm_tl2_steps.specs.declared.steps.Steps.{Steps}
 use Rattle.dstm_tl2_engine.proofs.Calling.{StepsOf, began_is, begun_as, now_is, performs, starts}
@@ -41,16 +41,6 @@ module _ {L : Type 0} (holds : L → List Val → Type 0) (c : Inside L) (v : Ti
     pub now_there : now home c.steps ≡ state (called c)
     now_there =
         subst (λ (h : Home L). now h c.steps ≡ state (called c)) same (now_is holds (called c) c.steps steps_of)
-
-    -- the lists are those of the machine
-    pub lists_there : Lists home c.steps c.opened c.locked
-    lists_there =
-        subst (λ (h : Home L). Lists h c.steps c.opened c.locked) same
-        (let is : now (called c).home c.steps ≡ state (called c) = now_is holds (called c) c.steps steps_of in record {
-          objects = v.objects;
-          reads = v.reads ∙ sym (ap (λ (l : LocalState). l.reads) is);
-          held = rw is v.locks;
-        })
 
     -- a call begins
     pub starts_there : (task : Task) →

@@ -1,4 +1,4 @@
--- How a call of a caller began.
+-- Private: how a call of a caller began.
 use Rattle.dstm_tl2_order.specs.Tasks.{Task}
 use Rattle.dstm_tl2_steps.specs.Under.{Began}
 use Rattle.dstm_tl2_engine.specs.Callers.{TlCalled, state}

@@ -1,4 +1,4 @@
--- The words of a closed table.
+-- Private: the words of a closed table.
 use Rattle.std.specs.Prelude.{ℕ, ◌+◌, ◌*◌, List, slice_index}
 use Rattle.dstm_model.specs.declared.value.Val.{Val}
 

@@ -1,4 +1,4 @@
--- What an open of an object leaves.
+-- Private: what an open of an object leaves.
 use Rattle.std.specs.Prelude.{◌≡◌, ℕ, List}
 use Rattle.dstm_mem.specs.Memory.{HoldsAlso}
 use Rattle.dstm_model.specs.declared.value.Val.{Val}

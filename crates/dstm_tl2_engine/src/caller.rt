@@ -97,6 +97,7 @@ impl<L: Law> TlCaller<L> {
         ensures seen { Seen L.holds self.now }
         ensures run { IsRunOf L.holds self.now.home.terms self.now.log }
     {
+        // A read of the caller, so that what its type keeps is known here.
         let _ = &self.left;
     }
 

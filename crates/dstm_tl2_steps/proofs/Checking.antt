@@ -19,7 +19,7 @@ use Rattle.dstm_tl2_order.specs.declared.again.TlAgain.{TlAgain}
 use Rattle.dstm_tl2_order.specs.declared.again.TlAgain.TheVariants.{Changed, Locked}
 use Rattle.dstm_tl2_steps.specs.declared.opened.ReadSlot.{ReadSlot}
 use Rattle.dstm_tl2_steps.specs.declared.steps.Steps.{Steps}
-use Rattle.dstm_tl2_steps.specs.Opened.{OpenedAs, no_slot, read_at}
+use Rattle.dstm_tl2_steps.specs.Opened.{no_slot, read_at}
 use Rattle.dstm_tl2_order.specs.Order.{Due, in_checking, in_giving_back, in_writing_back}
 use Rattle.dstm_tl2_order.specs.Order.Due.{Just}
 use Rattle.dstm_tl2_steps.specs.Reads.{slot_read}
@@ -195,16 +195,6 @@ module _ {L : Type 0} (holds : L → List Val → Type 0) (home : Home L) (b : B
     pub same : unwritten writes (map slot_read slots) ≡ drop (now home steps).checked (to_check (now home start))
     pub within : (now home steps).checked ≤ length (to_check (now home start))
 
-  pub none_checked : (opened : OpenedAs) → Under holds home b start (in_checking (now home start)) None →
-      (now home start).checked ≡ 0 → (now home start).writes ≡ Some writes →
-      map slot_read opened.reads ≡ (now home start).reads → Checking start opened.reads
-  none_checked opened u fresh told reads = record {
-    under = u;
-    state = refl;
-    same = rw (fresh, told, reads) refl;
-    within = let f = fresh in omega arith;
-  }
-
   -- the slot that is next is the read that is
   pub record NextCheck (steps : Steps L) (slot : ReadSlot) : Type 0 where
     pub due : Under holds home b steps (Just Check) None
@@ -271,7 +261,3 @@ module _ {L : Type 0} (holds : L → List Val → Type 0) (home : Home L) (b : B
       let done : ((now home steps).checked == length (to_check (now home start))) ≡ true =
       eq-eqb (now home steps).checked (length (to_check (now home start))) all in
       ap is_valid c.state ∙ rw (drawn, done, good) refl
-
-  pub good_still : (steps : Steps L) (slots : List ReadSlot) → Checking steps slots →
-      (now home start).failed ≡ false → (now home steps).failed ≡ false
-  good_still steps slots c good = ap (λ (l : LocalState). l.failed) c.state ∙ good

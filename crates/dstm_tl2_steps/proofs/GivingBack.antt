@@ -2,7 +2,7 @@
 use Rattle.std.proofs.Common.{◌≡◌, ◌≢◌, ◌⊎◌, ◌∙◌, ℕ, ◌+◌, ◌<◌, ◌≤◌, ◌==◌, List, [], ◌∷◌, true, Some, None, is_some, inl, inr, refl, sym, ap, subst, length, map, take, drop, arith}
 use Rattle.std.specs.Prelude.{Option, IfSome, IsSome, not, if◌then◌else◌}
 use Rattle.std.proofs.lemmas.Bool.{cases_eq, eq-eqb, ne_eqb}
-use Rattle.std.proofs.lemmas.List.{drop_all, get_or-take, length-take-le}
+use Rattle.std.proofs.lemmas.List.{get_or-take, length-take-le}
 use Rattle.dstm_model.specs.declared.value.Val.{Val}
 use Rattle.dstm_machines.specs.Traces.{Access}
 use Rattle.dstm_machines.specs.Traces.Access.{Store}
@@ -51,22 +51,6 @@ after_unlock Returning table way caller at found state other failed = freed_done
 after_unlock (Doing work) table way caller at found state other failed =
     rw (failed work refl) (freed_done state.holds)
 
--- a call that begins or that returns gives back first
-pub returning_frees : (table : Table) (state : LocalState) →
-    due Returning table None state ≡ in_freeing Returning table state
-returning_frees table state = freed_done state.holds
-
-pub beginning_frees : (table : Table) (state : LocalState) →
-    due Beginning table None state ≡ in_freeing Beginning table state
-beginning_frees table state = go state.holds
-  where
-    go : (holds : List Hold) →
-        (if not (length holds == 0) then in_giving_back holds
-        else if is_spent table state then Done else Just Sample)
-        ≡ freed_first (if is_spent table state then Done else Just Sample) holds
-    go [] = refl
-    go (hold ∷ holds) = rw (ne_eqb (length (hold ∷ holds)) 0 (λ q. omega arith)) refl
-
 -- ---- what is still locked
 
 -- it is locked no more, and stays so
@@ -109,12 +93,6 @@ module _ (start : LocalState) (writes : List (ℕ × Val)) (count i : ℕ) (few 
         subst (λ (w : ℕ × Val). hold_of w.0 (still_held start writes count (i + 1)) ≡ None) same
         (unheld start (drop (i + 1) (take count writes)) (write_at (take count writes) i).0
         (later_unnamed (take count writes) i (apart_take writes count apart few) within))
-
--- nothing is left
-pub none_left : (start : LocalState) (writes : List (ℕ × Val)) (count i : ℕ) → count ≤ length writes → count ≤ i →
-    still_held start writes count i ≡ []
-none_left start writes count i few all =
-    ap (map (new_hold start)) (drop_all i (take count writes) (rw (length-take-le count writes few) all))
 
 -- ---- a call that gives back
 
@@ -226,21 +204,3 @@ module _ {L : Type 0} (holds : L → List Val → Type 0) (home : Home L) (began
         -- one more is given back
         pub gives_one : GivesBack start opened.writes count (i + 1) new
         gives_one = record { left = freed; rest = kept; under = goes_on }
-
-  -- all are
-  module _ (start steps : Steps L) (writes : List (ℕ × Val)) (count i : ℕ) (few : count ≤ length writes)
-      (all : count ≤ i) (gives : GivesBack start writes count i steps) where
-    pub all_free : (now home steps).holds ≡ []
-    all_free = gives.left ∙ none_left (now home start) writes count i few all
-
-    pub gave_all : now home steps ≡ record (now home start) { holds = []; gave_back = (now home steps).gave_back }
-    gave_all =
-        gives.rest
-        ∙ ap (λ holds. record (now home start) { holds = holds; gave_back = (now home steps).gave_back }) all_free
-
-    pub gives_all : (again : Option TlAgain) →
-        Under holds home began start (in_freeing began.task (table_of home.terms) (now home start)) again →
-        Under holds home began steps (when_free began.task (table_of home.terms) (now home steps)) again
-    gives_all again under =
-        under_is holds home began steps _ _ _ _ (gives.under again under)
-        (ap (freed_first (when_free began.task (table_of home.terms) (now home steps))) all_free) refl

@@ -49,15 +49,6 @@ later_unnamed writes i apart lt =
     apart i (i + 1 + j) (omega arith) (omega arith)
     (sym r.object ∙ ap (λ (w : ℕ × Val). w.0) (get_or-drop (i + 1) writes j no_write)))
 
-pub earlier_unnamed : (writes : List (ℕ × Val)) (i : ℕ) → WritesApart writes → i < length writes →
-    value_in (take i writes) (write_at writes i).0 ≡ None
-earlier_unnamed writes i apart lt =
-    write_none (take i writes) (write_at writes i).0 (λ j r.
-    let long = length-take-le i writes (omega arith) in
-    let within = r.within in
-    apart j i (omega arith) lt
-    (ap (λ (w : ℕ × Val). w.0) (sym (get_or-take i writes j no_write (omega arith))) ∙ r.object))
-
 -- the locks of the writes from a place on
 pub holds_from : (state : LocalState) (writes : List (ℕ × Val)) (i : ℕ) → i < length writes →
     map (new_hold state) (drop i writes)

@@ -234,9 +234,6 @@ module _ (reads : List ReadSlot) (writes : List (ℕ × Val)) (places : List Pla
       let few = few_reads (reads ++ s ∷ []) writes noted placed_noted in let z = size_noted in let l = longer_reads in
       omega arith
 
-  pub set_noted : set_writes noted writes ≡ set_writes places writes
-  set_noted = set_same places noted writes noted_set
-
 -- ---- one object more is open for writing
 
 module _ (reads : List ReadSlot) (writes : List (ℕ × Val)) (places : List Place) (o : ℕ) (v : Val) (n : ℕ)

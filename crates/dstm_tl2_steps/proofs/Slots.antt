@@ -3,7 +3,7 @@ use Rattle.std.proofs.Common.{◌++◌, ◌<◌, ◌≤◌, ◌==◌, ◌∙◌,
 use Prim.Native.Nat.{zero, suc}
 use Rattle.std.specs.Prelude.{IsSome, is_some, option_map, slice_index_or, slice_set}
 use Rattle.std.specs.List.{list_any}
-use Rattle.std.proofs.lemmas.Bool.{cases_Bool, cases_order, cond_both, eqb-true, eq-eqb, ne_eqb, or_cases}
+use Rattle.std.proofs.lemmas.Bool.{cases_Bool, cond_both, eqb-true, eq-eqb, ne_eqb, or_cases}
 use Rattle.std.proofs.lemmas.List.{get_or-map, get_or_default, length-map}
 use Rattle.std.proofs.lemmas.Map.Entries.{lookup-filter-keys}
 use Rattle.std.proofs.lemmas.Map.Keys.{IsDistinct-from_apart}
@@ -160,30 +160,6 @@ ReadsApart slots = (i j : ℕ) → i < j → j < length slots → (read_at slots
 abbrev pub WritesApart : List (ℕ × Val) → Type 0
 WritesApart writes = (i j : ℕ) → i < j → j < length writes → (write_at writes i).0 ≢ (write_at writes j).0
 
--- the read at a place is the one of its object
-pub read_slot_at : (slots : List ReadSlot) (i : ℕ) → ReadsApart slots → i < length slots →
-    read_slot slots (read_at slots i).object ≡ Some (read_at slots i)
-read_slot_at slots i apart lt =
-    read_one slots (read_at slots i).object i (record { within = lt; object = refl })
-    (λ j r. by j r (cases_order j i))
-  where
-    by : (j : ℕ) → IsReadOf slots (read_at slots i).object j → (j ≡ i) ⊎ ((j < i) ⊎ (i < j)) → j ≡ i
-    by j r (inl same) = same
-    by j r (inr (inl lower)) = absurd (apart j i lower lt r.object)
-    by j r (inr (inr higher)) = absurd (apart i j higher r.within (sym r.object))
-
--- the write at a place is the one of its object
-pub value_in_at : (writes : List (ℕ × Val)) (i : ℕ) → WritesApart writes → i < length writes →
-    value_in writes (write_at writes i).0 ≡ Some (write_at writes i).1
-value_in_at writes i apart lt =
-    write_one writes (write_at writes i).0 i (record { within = lt; object = refl })
-    (λ j r. by j r (cases_order j i))
-  where
-    by : (j : ℕ) → IsWriteOf writes (write_at writes i).0 j → (j ≡ i) ⊎ ((j < i) ⊎ (i < j)) → j ≡ i
-    by j r (inl same) = same
-    by j r (inr (inl lower)) = absurd (apart j i lower lt r.object)
-    by j r (inr (inr higher)) = absurd (apart i j higher r.within (sym r.object))
-
 -- numbers below a limit that differ are no more than the limit
 few_numbers : (numbers : List ℕ) (n : ℕ) → ((i : ℕ) → i < length numbers → slice_index_or numbers i 0 < n) →
     ((i j : ℕ) → i < j → j < length numbers → slice_index_or numbers i 0 ≢ slice_index_or numbers j 0) →
@@ -258,21 +234,6 @@ writes_once objects (w ∷ writes) below apart = (
     unnamed [] others = tt
     unnamed (x ∷ ws) others = (others 0 (omega arith), unnamed ws (λ i lt. others (suc i) (omega arith)))
 
-pub reads_once : (objects : ℕ) (slots : List ReadSlot) → ReadsBelow objects slots → ReadsApart slots →
-    NamesOnce objects (read_values (map slot_read slots))
-reads_once objects [] below apart = tt
-reads_once objects (s ∷ slots) below apart = (
-  below 0 (omega arith),
-  unnamed slots (λ i lt same. apart 0 (suc i) (omega arith) (omega arith) (sym same)),
-  reads_once objects slots (λ i lt. below (suc i) (omega arith))
-      (λ i j lower lt. apart (suc i) (suc j) (omega arith) (omega arith)),
-)
-  where
-    unnamed : (rs : List ReadSlot) → ((i : ℕ) → i < length rs → (read_at rs i).object ≢ s.object) →
-        IsUnnamed s.object (read_values (map slot_read rs))
-    unnamed [] others = tt
-    unnamed (x ∷ rs) others = (others 0 (omega arith), unnamed rs (λ i lt. others (suc i) (omega arith)))
-
 -- ---- the reads as the machine has them
 
 -- the machine's read of an object is that of the list
@@ -286,14 +247,6 @@ read_of-slots (s ∷ slots) o = by (read_of-slots slots o) (cases_Bool (s.object
         read_of o (map slot_read (s ∷ slots)) ≡ option_map slot_read (read_slot (s ∷ slots) o)
     by ih (inl q) = rw q refl
     by ih (inr q) = rw q ih
-
--- an object that the machine has not read has no slot, and the other way round
-pub unread_slot : (slots : List ReadSlot) (o : ℕ) → read_of o (map slot_read slots) ≡ None → read_slot slots o ≡ None
-unread_slot slots o none = by (read_slot slots o) (sym (read_of-slots slots o) ∙ none)
-  where
-    by : (x : Option ReadSlot) → option_map slot_read x ≡ None → x ≡ None
-    by None q = refl
-    by (Some s) q = absurd (cc)
 
 pub unread_of : (slots : List ReadSlot) (o : ℕ) → read_slot slots o ≡ None → read_of o (map slot_read slots) ≡ None
 unread_of slots o none = read_of-slots slots o ∙ ap (option_map slot_read) none
@@ -313,41 +266,12 @@ pub recorded-slots : (slots : List ReadSlot) (o : ℕ) (slot : ReadSlot) → rea
 recorded-slots slots o slot is =
     ap (λ x. (or_read x).word) (read_of-slots slots o) ∙ ap (λ x. (or_read (option_map slot_read x)).word) is
 
--- as is that of the slot at a place
-pub recorded_at : (slots : List ReadSlot) (i : ℕ) → ReadsApart slots → i < length slots →
-    recorded (read_at slots i).object (map slot_read slots) ≡ (read_at slots i).word
-recorded_at slots i apart lt =
-    recorded-slots slots (read_at slots i).object (read_at slots i) (read_slot_at slots i apart lt)
-
 -- ---- the writes
 
 -- the machine's write of an object is what the list gives it
 pub write_of-value_in : (writes : List (ℕ × Val)) (o : ℕ) → write_of o writes ≡ value_in writes o
 write_of-value_in [] o = refl
 write_of-value_in (w ∷ writes) o = ap (λ x. cond (w.0 == o) (Some w.1) x) (write_of-value_in writes o)
-
--- an object that is written stands in the list, with its value
-pub record StandsAt (writes : List (ℕ × Val)) (o : ℕ) : Type 0 where
-  pub place : ℕ
-  pub within : place < length writes
-  pub object : (write_at writes place).0 ≡ o
-  pub value : value_in writes o ≡ Some (write_at writes place).1
-
-pub stands_at : (writes : List (ℕ × Val)) (o : ℕ) → IsSome (value_in writes o) → StandsAt writes o
-stands_at [] o some = absurd (let z : is_some {T = Val} None ≡ true = some in cc)
-stands_at (w ∷ writes) o some = by (stands_at writes o) (cases_Bool (w.0 == o)) some
-  where
-    by : (IsSome (value_in writes o) → StandsAt writes o) → (w.0 == o ≡ true) ⊎ (w.0 == o ≡ false) →
-        IsSome (value_in (w ∷ writes) o) → StandsAt (w ∷ writes) o
-    by ih (inl q) some =
-        record { place = 0; within = omega arith; object = eqb-true w.0 o q; value = rw q refl }
-    by ih (inr q) some =
-        let s = ih (rw q at some) in record {
-          place = suc s.place;
-          within = let w = s.within in omega arith;
-          object = s.object;
-          value = rw q s.value;
-        }
 
 -- what stands in the list is written
 pub is_written_at : (writes : List (ℕ × Val)) (i : ℕ) → i < length writes →

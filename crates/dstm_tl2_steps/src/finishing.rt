@@ -117,6 +117,8 @@ impl<L: Law> Steps<L> {
     }
 
     // Writes each new value and unlocks its object with the new version, in the order of locking.
+    // So what is held next is always the first of the holds, and others wait less than behind a commit that unlocks at
+    // its end.
     fn write_back<B: InCall>(&mut self, words: &Words<L>, opened: &Opened, number: u64)
         requires under { Under L.holds words.now B.began self.old
             (in_writing_back number (now words.now self.old).holds) None }

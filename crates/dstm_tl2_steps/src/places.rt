@@ -39,6 +39,7 @@ impl Places {
     pub fn lock(&self, o: u32) -> u64
         ensures { result ≡ o }
     {
+        // A lock word stands where its object does; the contract alone speaks of the places.
         let _ = &self.objects;
         o as u64
     }

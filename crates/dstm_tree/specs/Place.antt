@@ -1,4 +1,4 @@
--- What it means to place a key in a subtree: it is hung as a red leaf, and where two red nodes stand one over the
+-- Private: what it means to place a key in a subtree: it is hung as a red leaf, and where two red nodes stand one over the
 -- other a rotation below a black node makes them siblings.
 use Rattle.std.specs.Prelude.{◌≡◌, ◌≢◌, ℕ, ◌+◌, ◌<◌, ◌≤◌, ◌==◌, true, false, if◌then◌else◌, List, [], ◌∷◌, length}
 use Rattle.std.specs.Prelude.{None, is_some, IsSome, count_by}

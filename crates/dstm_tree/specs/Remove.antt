@@ -1,4 +1,4 @@
--- What it means to take a key out of a subtree: where a black node is taken out below a node, the black height on
+-- Private: what it means to take a key out of a subtree: where a black node is taken out below a node, the black height on
 -- that side falls by one, and a rotation or a new colour makes the sides as high again, or passes the fall up.
 use Rattle.std.specs.Prelude.{◌≡◌, ◌≢◌, ℕ, ◌+◌, ◌<◌, ◌≤◌, ◌==◌, Bool, true, false, if◌then◌else◌, List, ◌∷◌, Option}
 use Rattle.std.specs.Prelude.{None, Some, IsSome, not}

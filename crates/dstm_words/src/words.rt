@@ -44,6 +44,7 @@ impl<L: Law> Words<L> {
         ensures seat { IfOk result (λ t. IsOf t.0 t.1) }
         ensures new { IfOk result (λ t. view_of t.1 ≡ founder t.0.terms) }
     {
+        // A copy, so that what is said of the table can name the first values once the list of the caller is gone.
         let first = Vec::from_slice(alloc, start)?;
         let terms = Terms {
             shape,
