@@ -22,7 +22,7 @@ use Rattle.dstm_core.specs.declared.shape.Shape.{Shape}
 use Rattle.dstm_model.specs.declared.value.Val.{Val}
 use Rattle.dstm_order.specs.Calls.{IsCall, Obeys, answer, answer_of, due_after, effort_of, newest_of, state_after}
 use Rattle.dstm_order.specs.Efforts.{Effort, effort_after, no_effort}
-use Rattle.dstm_order.specs.Tasks.{Task, Work}
+use Rattle.dstm_order.specs.Tasks.{Work}
 use Rattle.dstm_order.specs.Tasks.Task.{Doing}
 use Rattle.dstm_order.specs.Tasks.Work.{Committing, Reading, Rechecking, Releasing, Writing}
 use Rattle.dstm_order.specs.declared.again.Again.{Again}
@@ -31,11 +31,6 @@ use Rattle.dstm_progress.proofs.Own.{own_state}
 use Rattle.dstm_progress.specs.Alone.{AreCalls, Made, all_events, generator_after, is_open, is_release, last_answer}
 use Rattle.dstm_progress.specs.Oldest.{IsNoReading}
 use Rattle.rand_pcg.specs.Lcg.{Lcg}
-use Rattle.dstm_order.proofs.Misses.{missed_is}
-use Rattle.dstm_order.specs.Passes.{misses}
-use Rattle.dstm_steps.specs.Under.{Began, InTask}
-use Rattle.dstm_steps.specs.declared.steps.Steps.{Steps}
-use Rattle.dstm_words.specs.Seats.{Home}
 use Rattle.dstm_engine.specs.Callers.{Called, begun_log, is_live, shape_of, state}
 use Rattle.dstm_engine.specs.Calls.{IsTold, Performs, begun_state, kept_reads, newest_answer}
 
@@ -231,12 +226,3 @@ doing_keeps holds work k n again p =
     (doing_more (shape_of k) work k.generator k.number p.seen.later k.log
     (subst (Core (shape_of k)) (sym p.seen.whole) p.run.run.core)
     (subst (Obeys (Doing work) (shape_of k) (state k) k.generator) (sym events) p.call.obeys))
-
--- ---- what a call has behind it
-
--- a call counts its exchanges that failed
-pub missed_there : {L : Type 0} (holds : L → List Val → Type 0) (home : Home L) (task : Task) (b : Began) (steps : Steps L)
-    (next : Due) (again : Option Again) (u : InTask holds home task b steps next again) →
-    misses u.events ≡ steps.missed
-missed_there holds home task b steps next again u =
-    sym (missed_is home.terms.shape b.state b.generator u.events) ∙ ap (λ (e : Effort). e.missed) u.effort

@@ -1,5 +1,5 @@
--- What an open of an object hands out that is open already.
-use Rattle.std.proofs.Common.{◌++◌, ◌==◌, ◌∙◌, ◌∷◌, ◌≡◌, ◌≢◌, ◌⊎◌, List, None, Option, Some, [], ap, false, inl, inr, map, refl, sym, true, ℕ}
+-- What an open of an object hands out that is open already, and what an open answers.
+use Rattle.std.proofs.Common.{◌++◌, ◌==◌, ◌∙◌, ◌∷◌, ◌≡◌, ◌≢◌, ◌⊎◌, List, None, Option, Some, [], ap, false, inl, inr, map, refl, subst, sym, true, ℕ}
 use Rattle.std.specs.Prelude.{Err, IfErr, IfOk, Ok, OnOk, Result, if◌then◌else◌, is_some, option_map}
 use Rattle.std.specs.Option.{option_or}
 use Rattle.std.proofs.lemmas.Bool.{cases_Bool, cond_both, eqb-true}
@@ -9,22 +9,26 @@ use Rattle.dstm_steps.specs.declared.slots.ReadSlot.{ReadSlot}
 use Rattle.dstm_steps.specs.declared.slots.WriteSlot.{WriteSlot}
 use Rattle.dstm_core.specs.Histories.{old_values}
 use Rattle.dstm_core.specs.State.{read_of, write_of}
+use Rattle.dstm_core.specs.declared.shape.Shape.{Shape}
 use Rattle.dstm_core.specs.declared.state.Read.{Read}
 use Rattle.dstm_core.specs.declared.state.Write.{Write}
 use Rattle.dstm_mem.specs.Memory.{value_in}
 use Rattle.dstm_model.specs.declared.value.Val.{Val}
 use Rattle.dstm_opacity.proofs.Tidy.{Apart, WritesOnce, tidy}
+use Rattle.dstm_order.specs.Tasks.{Work}
+use Rattle.dstm_order.specs.Tasks.Work.{Reading, Writing}
 use Rattle.dstm_order.specs.declared.again.Again.{Again}
-use Rattle.dstm_engine.proofs.Opens.{no_slot, no_word, unset}
+use Rattle.dstm_engine.proofs.Opens.{no_slot, no_word, none_of, unheld_both, unset}
 use Rattle.dstm_engine.proofs.Setting.{opened_slot, with_new_apart}
 use Rattle.dstm_engine.proofs.Sights.{sighted_admits}
 use Rattle.dstm_engine.proofs.Slots.{slot_read}
 use Rattle.dstm_engine.proofs.Tying.{live_there}
-use Rattle.dstm_engine.specs.Callers.{Called, entry, handed, held, state}
+use Rattle.dstm_engine.specs.Callers.{Called, entry, handed, held, is_live, is_opened, shape_of, state}
+use Rattle.dstm_engine.specs.Calls.{reading}
 use Rattle.dstm_engine.specs.Mirror.{Tied, called, set_pairs, slot_old, slot_value, with_new}
 use Rattle.dstm_engine.specs.Opened.{read_slot, slots_value, write_slot}
-use Rattle.dstm_engine.specs.Opens.{Continues}
-use Rattle.dstm_engine.specs.Transactions.{given_back}
+use Rattle.dstm_engine.specs.Opens.{Continues, Opens, Stops}
+use Rattle.dstm_engine.specs.Transactions.{Leaves, Stays}
 use Rattle.dstm_engine.specs.declared.caller.Caller.TheInside.{Inside}
 
 -- ---- the values of the slots
@@ -170,15 +174,65 @@ pub ok_then : {T E : Type 0} (r : Result T E) (P : T → Type 0) (Q : Type 0) �
 ok_then (Ok x) P Q f h = f x h
 ok_then (Err e) P Q f h = tt
 
-pub if_ok : {T E : Type 0} (r : Result T E) (P Q : T → Type 0) → ((x : T) → P x → Q x) → IfOk r P → IfOk r Q
-if_ok (Ok x) P Q f h = f x h
-if_ok (Err e) P Q f h = tt
-
 pub if_err : {T E : Type 0} (r : Result T E) (P Q : E → Type 0) → ((e : E) → P e → Q e) → IfErr r P → IfErr r Q
 if_err (Ok x) P Q f h = tt
 if_err (Err e) P Q f h = f e h
 
-pub left_by : {T : Type 0} (r : Result T Again) (P : Option Again → Type 0) → OnOk r (P None) →
-    IfErr r (λ again. P (Some again)) → P (given_back r)
-left_by (Ok x) P h g = h
-left_by (Err e) P h g = g
+-- ---- as the answers of an open see it
+
+-- what an open for reading is to do
+pub reading_all : (s : Shape) (o : ℕ) → s.all_write ≡ true → Writing o ≡ reading s o
+reading_all s o all = rw all refl
+
+pub reading_some : (s : Shape) (o : ℕ) → s.all_write ≡ false → Reading o ≡ reading s o
+reading_some s o some = rw some refl
+
+module _ {L : Type 0} (holds : L → List Val → Type 0) (c : Inside L) (v : Tied holds c) (k : Called L)
+    (view : called c ≡ k) (live : is_live k ≡ true) (o : ℕ) where
+  on : c.live ≡ true
+  on = live_there holds c v ∙ ap is_live view ∙ live
+
+  hands : Hands k o (slots_value (write_slot c.opened.writes o) (read_slot c.opened.reads o))
+  hands =
+      subst (λ (k : Called L). Hands k o (slots_value (write_slot c.opened.writes o) (read_slot c.opened.reads o))) view
+      (slots_hand holds c v on o)
+
+  -- its slots hand out its value
+  pub handed_there : slots_value (write_slot c.opened.writes o) (read_slot c.opened.reads o) ≡ handed k o
+  handed_there = hands.value
+
+  pub slot_held : (x : Val) → slots_value (write_slot c.opened.writes o) (read_slot c.opened.reads o) ≡ Some x →
+      is_some (held k o) ≡ true
+  slot_held x q = sym hands.held ∙ ap is_some q
+
+  pub slot_none : slots_value (write_slot c.opened.writes o) (read_slot c.opened.reads o) ≡ None → held k o ≡ None
+  slot_none q = none_of (held k o) (sym hands.held ∙ ap is_some q)
+
+  pub slot_unopened : slots_value (write_slot c.opened.writes o) (read_slot c.opened.reads o) ≡ None →
+      is_opened k o ≡ false
+  slot_unopened q =
+      ap (λ (k : Called L). is_opened k o) (sym view)
+      ∙ ap is_some (unheld_both holds c v on o (ap (λ (k : Called L). held k o) view ∙ slot_none q)).0
+
+  -- it has a slot to write where it is open for writing
+  pub write_there : is_opened k o ≡ is_some (write_slot c.opened.writes o)
+  write_there =
+      ap (λ (k : Called L). is_opened k o) (sym view)
+      ∙ opened_slot c.opened.writes (state (called c)).writes o (v.writes on)
+
+  -- what is held stays open as it is
+  pub held_continues : is_some (held k o) ≡ true → Continues holds o k k
+  held_continues some =
+      subst (λ (k : Called L). Continues holds o k k) view
+      (open_already holds c v on o (ap (λ (k : Called L). is_some (held k o)) view ∙ some))
+
+  -- an open for reading stays on its attempt, or leaves it
+  pub read_stays : (work : Work) → work ≡ reading (shape_of k) o → (r : Result Val Again) (n : Called L) →
+      IfOk r (Opens holds work o k n) → OnOk r (Stays holds (reading (shape_of k) o) k n)
+  read_stays work is r n opens =
+      subst (λ w. OnOk r (Stays holds w k n)) is (ok_then r _ _ (λ x o. o.stays) opens)
+
+  pub read_leaves : (work : Work) → work ≡ reading (shape_of k) o → (r : Result Val Again) (n : Called L) →
+      IfErr r (Stops holds work k n) → IfErr r (Leaves holds (reading (shape_of k) o) k n)
+  read_leaves work is r n stops =
+      subst (λ w. IfErr r (Leaves holds w k n)) is (if_err r _ _ (λ e s. s.leaves) stops)

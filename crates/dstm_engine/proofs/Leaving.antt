@@ -1,17 +1,17 @@
 -- An attempt that is quit.
-use Rattle.std.proofs.Common.{◌*◌, ◌+◌, ◌<◌, ◌∙◌, ◌∷◌, ◌≡◌, ◌^◌, List, [], ap, arith, inl, inr, refl, subst, sym, true, false, ℕ}
+use Rattle.std.proofs.Common.{◌*◌, ◌<◌, ◌∙◌, ◌∷◌, ◌≡◌, List, [], ap, inl, inr, refl, subst, sym, true, false, ℕ}
 use Rattle.std.specs.Prelude.{IfSome, None, Option, Some, is_some}
 use Rattle.dstm_model.specs.declared.value.Val.{Val}
 use Rattle.dstm_core.specs.Rules.{AllowedAs, leave}
 use Rattle.dstm_core.specs.State.{LocalState, given, own_attempt}
 use Rattle.dstm_machines.specs.Traces.Access.{Exchange}
-use Rattle.dstm_core.specs.Words.{IsValid, place}
+use Rattle.dstm_core.specs.Words.{place}
 use Rattle.dstm_core.specs.Words.Word.{StatusWord}
 use Rattle.dstm_core.specs.Events.{Event}
 use Rattle.dstm_core.specs.declared.event.Kind.TheVariants.{Quit}
 use Rattle.dstm_core.specs.declared.shape.Shape.{Shape}
 use Rattle.dstm_core.specs.declared.state.Phase.TheVariants.{Outside, Running}
-use Rattle.dstm_core.proofs.Columns.{in_table, own_in}
+use Rattle.dstm_core.proofs.Columns.{own_in}
 use Rattle.dstm_core.proofs.Static.{static}
 use Rattle.dstm_order.specs.Calls.{IsCall}
 use Rattle.dstm_order.specs.Tasks.Task.{Leaving}
@@ -27,13 +27,6 @@ pub own_below : {L : Type 0} (holds : L → List Val → Type 0) (k : Called L) 
     own_attempt (shape_of k) (state k) < (shape_of k).callers * (shape_of k).attempts
 own_below holds k run few ph =
     own_in (shape_of k) k.number (state k) (static (shape_of k) k.log run.run.core k.number) few (λ h. cc)
-
--- a caller's first attempt has a small number
-pub first_small : (s : Shape) (n : ℕ) → IsValid s → n < s.callers → n * s.attempts < 2 ^ 32
-first_small s n valid few =
-    let few_attempts = valid.some_attempt in let w = valid.words in
-    let x : n * s.attempts + 0 < s.callers * s.attempts = in_table n s.attempts 0 s.callers few (omega arith) in
-    omega arith
 
 pub quit_allowed : {L : Type 0} (k : Called L) (h : Home L) (v : View L) (p found : ℕ) → k.home ≡ h → v ≡ seat_view k →
     (state k).phase ≡ Running → own_attempt (shape_of k) (state k) < (shape_of k).callers * (shape_of k).attempts →

@@ -59,13 +59,9 @@ use Rattle.dstm_engine.proofs.Alone.{Begun, commits}
 use Rattle.dstm_engine.proofs.Continuing.{doing_keeps, kept_over, more_answer, more_calls, release_answers, told_more, told_state}
 use Rattle.dstm_engine.proofs.Locators.{enough_still}
 use Rattle.dstm_engine.specs.Callers.{Called, begun_log, entry, is_running, shape_of, since_begin, state}
-use Rattle.dstm_engine.specs.Calls.{IsTold, Performs, begun_state, reading}
+use Rattle.dstm_engine.specs.Calls.{IsTold, Performs, begun_state}
 use Rattle.dstm_engine.specs.Outcomes.{IsEnded, IsLeft, IsLost, IsStaleOrLost, Promises}
 use Rattle.dstm_engine.specs.Transactions.{Leaves, Stays, tx_place}
-
--- where all opens are for writing, none is for reading
-pub reading_writes : (s : Shape) (o : ℕ) → s.all_write ≡ true → IsNoReading (reading s o)
-reading_writes s o all = rw all tt
 
 stale_or_lost : (again : Again) → again ≢ Killed → again ≢ Waited → IsStaleOrLost again
 stale_or_lost (Stale o) k w = tt

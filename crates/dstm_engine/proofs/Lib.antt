@@ -27,12 +27,15 @@ pub mod Sights
 pub mod Few
 pub mod HeldStill
 pub mod Opens
+pub mod AtCall
+pub mod FirstOpens
 pub mod Locators
 pub mod Handing
 pub mod Released
 pub mod PutValues
 pub mod Committing
 pub mod CommitEnds
+pub mod ClosedCalls
 pub mod Sends
 pub mod AddingUp
 pub mod Anew

@@ -44,9 +44,6 @@ recorded_again : (o : Option Resolution) (rs : List Read) →
 recorded_again None rs = refl
 recorded_again (Some r) rs = by (cases_Bool (is_resolved r)) (cases_Bool (is_none (read_of r.object rs)))
   where
-    New : Read
-    New = record { object = r.object; word = r.word; version = or_zero (version r) }
-
     by : (is_resolved r ≡ true) ⊎ (is_resolved r ≡ false) →
         (is_none (read_of r.object rs) ≡ true) ⊎ (is_none (read_of r.object rs) ≡ false) →
         record_resolved (keep_resolved (Some r)) (record_resolved (Some r) rs) ≡ record_resolved (Some r) rs

@@ -3,7 +3,7 @@ use Rattle.std.proofs.Common.{◌&&◌, ◌+◌, ◌++◌, ◌-◌, ◌<◌, ◌
 use Prim.Native.Nat.{zero, suc}
 use Rattle.std.specs.Prelude.{IsSome, if◌then◌else◌, is_some, option_map, slice_index_or, slice_set}
 use Rattle.std.proofs.lemmas.List.{get_or_append_left, get_or_default, get_or-set_other, get_or-set_same, length-set}
-use Rattle.std.proofs.lemmas.Bool.{and_from, and_parts, cases_Bool, cases_eq, cond_both, eqb-true, eq-eqb}
+use Rattle.std.proofs.lemmas.Bool.{and_from, and_parts, cases_Bool, cases_eq, eqb-true, eq-eqb}
 use Rattle.std.proofs.Math.Seq.{get_or-append_seam}
 use Rattle.dstm_mem.proofs.Finding.{find_filter, find_none, find_one}
 use Rattle.dstm_steps.specs.Finding.{word_of}
@@ -96,47 +96,6 @@ set_slot_is (s ∷ slots) o (suc n) v r only = by (set_slot_is slots o n v later
     by ih (inl q) =
         let e = only 0 (record { within = omega arith; object = eqb-true s.object o q }) in absurd (omega arith)
     by ih (inr q) = rw q (ap (λ xs. s ∷ xs) ih)
-
-pub length-with_set_slot : (o : ℕ) (v : Val) (slots : List WriteSlot) → length (with_set_slot o v slots) ≡ length slots
-length-with_set_slot o v [] = refl
-length-with_set_slot o v (s ∷ slots) =
-    cond_both (s.object == o) (record s { new = Some v } ∷ slots) (s ∷ with_set_slot o v slots)
-    (λ xs. length xs ≡ length (s ∷ slots)) (λ _. refl) (λ _. let ih = length-with_set_slot o v slots in omega arith)
-
--- the objects stay where they are
-pub object-with_set_slot : (o : ℕ) (v : Val) (slots : List WriteSlot) (i : ℕ) →
-    (write_at (with_set_slot o v slots) i).object ≡ (write_at slots i).object
-object-with_set_slot o v [] i = refl
-object-with_set_slot o v (s ∷ slots) i =
-    by (object-with_set_slot o v slots) i (cases_Bool (s.object == o))
-  where
-    by : ((j : ℕ) → (write_at (with_set_slot o v slots) j).object ≡ (write_at slots j).object) → (i : ℕ) →
-        (s.object == o ≡ true) ⊎ (s.object == o ≡ false) →
-        (write_at (with_set_slot o v (s ∷ slots)) i).object ≡ (write_at (s ∷ slots) i).object
-    by ih zero (inl q) = rw q refl
-    by ih (suc i) (inl q) = rw q refl
-    by ih zero (inr q) = rw q refl
-    by ih (suc i) (inr q) = rw q (ih i)
-
--- so they are placed as before
-pub placed_set : (reads : List ReadSlot) (writes : List WriteSlot) (places : List Place) (o : ℕ) (v : Val) →
-    ArePlaced reads writes places → ArePlaced reads (with_set_slot o v writes) places
-placed_set reads writes places o v p = record {
-  reads_below = p.reads_below;
-  reads_placed = p.reads_placed;
-  read_places = p.read_places;
-  writes_below = λ i lt.
-      subst (λ x. x < length places) (sym (object-with_set_slot o v writes i))
-      (p.writes_below i (let q = length-with_set_slot o v writes in omega arith));
-  writes_placed = λ x i r. p.writes_placed x i (record {
-    within = let q = length-with_set_slot o v writes in let w = r.within in omega arith;
-    object = sym (object-with_set_slot o v writes i) ∙ r.object;
-  });
-  write_places = λ x lt some. let r = p.write_places x lt some in record {
-    within = let q = length-with_set_slot o v writes in let w = r.within in omega arith;
-    object = object-with_set_slot o v writes ((place_at places x).write - 1) ∙ r.object;
-  };
-}
 
 -- an object that is open for writing stands among the writes
 pub write_stands : (reads : List ReadSlot) (writes : List WriteSlot) (places : List Place) (o : ℕ) →

@@ -1,4 +1,4 @@
--- How a call of a caller began.
+-- Private: how a call of a caller began.
 use Rattle.dstm_steps.specs.Under.{Began}
 use Rattle.dstm_order.specs.Tasks.{Task}
 use Rattle.dstm_engine.specs.Callers.{Called, state}

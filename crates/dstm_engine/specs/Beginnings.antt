@@ -1,4 +1,4 @@
--- The last attempt before the next one begins.
+-- Private: the last attempt before the next one begins.
 use Rattle.std.specs.Prelude.{Bool, true, false}
 use Rattle.dstm_core.specs.Rules.{leave}
 use Rattle.dstm_core.specs.State.{LocalState}

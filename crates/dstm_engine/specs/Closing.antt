@@ -1,4 +1,4 @@
--- The words of a closed table.
+-- Private: the words of a closed table.
 use Rattle.std.specs.Prelude.{◌≡◌, ◌≢◌, ℕ, ◌-◌, ◌*◌, ◌<◌, List, length, slice_index}
 use Rattle.dstm_core.specs.Events.{Event}
 use Rattle.dstm_core.specs.Left.{word_left}

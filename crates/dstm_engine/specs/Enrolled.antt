@@ -1,4 +1,4 @@
--- What contracts see of a caller that has just drawn its number.
+-- Private: what contracts see of a caller that has just drawn its number.
 use Rattle.std.specs.Prelude.{ℕ, true, [], None}
 use Rattle.atomic_table.specs.declared.shared.Seat.{Seat}
 use Rattle.dstm_managers.specs.Choices.{DeciderState}

@@ -61,6 +61,7 @@ fn quit_live<L: Law, B: InCall>(steps: &mut Steps<L>, words: &Words<L>, fresh: b
         (in_beginning words.now.terms.shape fresh None (now words.now steps.new)) None }
     ensures idle { live ≡ false → steps.new ≡ steps.old }
 {
+    // The contract alone speaks of it.
     let _ = fresh;
     if live {
         steps.leave::<B>(words, Status::Active);

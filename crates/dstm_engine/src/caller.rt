@@ -159,6 +159,7 @@ impl<L: Law> Caller<L> {
         ensures done { done self.new ≡ done self.old }
         ensures ended { IsUnderWay self.old → IsEnded self.old }
     {
+        // A read of the caller, so that what its type keeps is known here.
         let _ = &self.live;
         self.leave(stm);
     }
@@ -264,7 +265,8 @@ impl<L: Law> Caller<L> {
         }
     }
 
-    // Opens an object for reading that is not held. Where that fails, the cause is kept.
+    // Opens an object for reading that is not held. Where that fails, the cause is kept with the caller: a way back that
+    // has one value or none costs less than one with a cause in it.
     #[inline(never)]
     fn read_kept(&mut self, stm: &Stm<L>, o: u32) -> Option<Val>
         requires table { self.old.home ≡ stm.now }

@@ -223,6 +223,7 @@ fn forget_reads(places: &mut [Place], reads: &[ReadSlot])
     ensures writes { (o : ℕ) → (place_at places.new o).write ≡ (place_at places.old o).write }
 {
     for (i, slot) in reads.iter().enumerate() {
+        // The proof counts by it.
         let _ = i;
         places[slot.object as usize].read = 0;
     }
@@ -238,6 +239,7 @@ fn forget_writes(places: &mut [Place], writes: &[WriteSlot])
     ensures reads { (o : ℕ) → (place_at places.new o).read ≡ (place_at places.old o).read }
 {
     for (i, slot) in writes.iter().enumerate() {
+        // The proof counts by it.
         let _ = i;
         places[slot.object as usize].write = 0;
     }

@@ -1,11 +1,11 @@
 use Rattle.std.proofs.Common.{rules, ◌∙◌, ◌≡◌, ap, subst, sym, true, None}
+use Rattle.std.specs.Prelude.{is_some, not, ◌&&◌}
 use Rattle.dstm_steps.specs.Under.{now}
 use Rattle.dstm_core.specs.State.{LocalState, drop_read, read_of}
-use Rattle.std.specs.Prelude.{is_some, not, ◌&&◌}
+use Rattle.dstm_engine.proofs.AtCall.{AtCall, at_call, ends_at, state_at}
 use Rattle.dstm_engine.proofs.Released.{holds_without, read_there, released_place, released_tied, released_widens}
-use Rattle.dstm_engine.proofs.Tying.{ends_here, live_there, now_there}
 use Rattle.dstm_engine.specs.Attempts.{Admits}
-use Rattle.dstm_engine.specs.Callers.{Called, held, is_live, is_opened, state}
+use Rattle.dstm_engine.specs.Callers.{Called, held, is_opened}
 use Rattle.dstm_engine.specs.Mirror.{Tied, called}
 use Rattle.dstm_engine.specs.Opened.{OpenedAs, without_read}
 use Rattle.dstm_engine.specs.Transactions.{tx_place}
@@ -13,69 +13,61 @@ use Rattle.dstm_mem.specs.Memory.{HoldsWithout}
 use Rattle.dstm_order.specs.Tasks.Task.{Doing}
 use Rattle.dstm_order.specs.Tasks.Work.{Releasing}
 use Rattle.dstm_words.specs.Seats.{Home}
+use Rattle.dstm_engine.proofs.caller.Caller.release.Given.{Over}
+use Rattle.dstm_engine.proofs.caller.Caller.release.Goals.{After-words}
 use Rattle.dstm_engine.proofs.caller.Caller.release.Goals as goal
+
+begun : (g : Over) (c : After-words g) →
+    AtCall g.L.Law.holds c.self.inside c.args.self.now c.words.result.now c.renew.new.steps
+begun g c =
+    at_call g.L.Law.holds c.self.inside c.self.invariant c.args.self.now c.self.view_is c.args.stm.now
+    c.words.result.now c.requires.table c.words.ensures c.renew.new.steps c.renew.ensures
+
+-- the object is read
+read : (g : Over) (c : After-words g) →
+    is_some (held (called c.self.inside) c.args.o) && not (is_opened (called c.self.inside) c.args.o) ≡ true
+read g c =
+    ap (λ (k : Called _). is_some (held k c.args.o) && not (is_opened k c.args.o)) c.self.view_is ∙ c.requires.read
 
 pub release-requires-clause-read : goal.release-requires-clause-read
 release-requires-clause-read g c =
-    let x = c.self.inside in
-    let home : (called x).home ≡ c.words.result.now =
-    ap (λ (k : Called _). k.home) c.self.view_is ∙ c.requires.table ∙ sym c.words.ensures in
-    let read : is_some (held (called x) c.args.o) && not (is_opened (called x) c.args.o) ≡ true =
-    ap (λ (k : Called _). is_some (held k c.args.o) && not (is_opened k c.args.o)) c.self.view_is ∙ c.requires.read in
-    let was = now_there g.L.Law.holds x c.self.invariant c.words.result.now home c.renew.new.steps c.renew.ensures in
-    ap (λ (l : LocalState). is_some (read_of c.args.o l.reads)) was ∙ read_there g.L.Law.holds x c.self.invariant c.args.o read
+    let before = (goal.at.release-requires-clause-read g c).After-words in
+    ap (λ (l : LocalState). is_some (read_of c.args.o l.reads)) (state_at (begun g before))
+    ∙ read_there g.L.Law.holds c.self.inside c.self.invariant c.args.o (read g before)
 
 pub invariant_of-self : goal.invariant_of-self
 invariant_of-self g c =
+    let before = (goal.at.invariant_of-self g c).After-words in
+    let at = begun g before in
     let x = c.self.inside in
-    let home : (called x).home ≡ c.words.result.now =
-    ap (λ (k : Called _). k.home) c.self.view_is ∙ c.requires.table ∙ sym c.words.ensures in
-    let read : is_some (held (called x) c.args.o) && not (is_opened (called x) c.args.o) ≡ true =
-    ap (λ (k : Called _). is_some (held k c.args.o) && not (is_opened k c.args.o)) c.self.view_is ∙ c.requires.read in
-    let was = now_there g.L.Law.holds x c.self.invariant c.words.result.now home c.renew.new.steps c.renew.ensures in
-    let live : x.live ≡ true =
-    live_there g.L.Law.holds x c.self.invariant ∙ ap is_live c.self.view_is ∙ c.requires.live in
-    let u = ends_here g.L.Law.holds x c.self.invariant c.words.result.now home c.renew.new.steps c.renew.ensures
-    (Doing (Releasing c.args.o)) c.release.new.self None c.release.ensures.under in
+    let live : x.live ≡ true = at.live ∙ c.requires.live in
+    let u = ends_at at (Doing (Releasing c.args.o)) c.release.new.self None c.release.ensures.under in
     let is =
-    subst (λ (h : Home _). now h c.release.new.self ≡ record (state (called x)) {
-      reads = drop_read c.args.o (state (called x)).reads;
-      resolution = None;
-      pass = None;
-      checked = 0;
-    }) (sym home) (c.release.ensures.state ∙ ap (λ (l : LocalState). record l {
+    ap (λ (h : Home _). now h c.release.new.self) at.home ∙ c.release.ensures.state
+    ∙ ap (λ (l : LocalState). record l {
       reads = drop_read c.args.o l.reads;
       resolution = None;
       pass = None;
       checked = 0;
-    }) was) in
+    }) (state_at at) in
     subst (λ (o : OpenedAs). Tied g.L.Law.holds (record x { steps = c.release.new.self; opened = o }))
-    (sym c.drop_read.ensures) (released_tied g.L.Law.holds x c.self.invariant live c.args.o c.release.new.self u is read)
+    (sym c.drop_read.ensures) (released_tied g.L.Law.holds x at.tied live c.args.o c.release.new.self u is (read g before))
 
 pub returns : goal.returns
 returns g c =
+    let before = (goal.at.returns g c).After-words in
+    let at = begun g before in
     let x = c.self.inside in
-    let home : (called x).home ≡ c.words.result.now =
-    ap (λ (k : Called _). k.home) c.self.view_is ∙ c.requires.table ∙ sym c.words.ensures in
-    let read : is_some (held (called x) c.args.o) && not (is_opened (called x) c.args.o) ≡ true =
-    ap (λ (k : Called _). is_some (held k c.args.o) && not (is_opened k c.args.o)) c.self.view_is ∙ c.requires.read in
-    let was = now_there g.L.Law.holds x c.self.invariant c.words.result.now home c.renew.new.steps c.renew.ensures in
-    let live : x.live ≡ true =
-    live_there g.L.Law.holds x c.self.invariant ∙ ap is_live c.self.view_is ∙ c.requires.live in
-    let u = ends_here g.L.Law.holds x c.self.invariant c.words.result.now home c.renew.new.steps c.renew.ensures
-    (Doing (Releasing c.args.o)) c.release.new.self None c.release.ensures.under in
+    let live : x.live ≡ true = at.live ∙ c.requires.live in
+    let u = ends_at at (Doing (Releasing c.args.o)) c.release.new.self None c.release.ensures.under in
     let is =
-    subst (λ (h : Home _). now h c.release.new.self ≡ record (state (called x)) {
-      reads = drop_read c.args.o (state (called x)).reads;
-      resolution = None;
-      pass = None;
-      checked = 0;
-    }) (sym home) (c.release.ensures.state ∙ ap (λ (l : LocalState). record l {
+    ap (λ (h : Home _). now h c.release.new.self) at.home ∙ c.release.ensures.state
+    ∙ ap (λ (l : LocalState). record l {
       reads = drop_read c.args.o l.reads;
       resolution = None;
       pass = None;
       checked = 0;
-    }) was) in
+    }) (state_at at) in
     record {
       steps = search rules;
       kept = search rules;
@@ -85,7 +77,7 @@ returns g c =
             steps = c.release.new.self;
             opened = record x.opened { reads = without_read c.args.o x.opened.reads };
           })))) c.self.view_is
-          (holds_without g.L.Law.holds x c.self.invariant live c.args.o c.release.new.self u is read));
+          (holds_without g.L.Law.holds x c.self.invariant live c.args.o c.release.new.self u is (read g before)));
       opened = search rules;
       live = search rules;
       place =
@@ -95,7 +87,7 @@ returns g c =
             steps = c.release.new.self;
             opened = record x.opened { reads = without_read c.args.o x.opened.reads };
           })) ≡ tx_place name table k) c.self.view_is
-          (released_place g.L.Law.holds x c.self.invariant live c.args.o c.release.new.self u is read name table));
+          (released_place g.L.Law.holds x c.self.invariant live c.args.o c.release.new.self u is (read g before) name table));
       widens =
           λ map.
           subst (λ (o : OpenedAs). Admits g.L.Law.holds c.args.self.now map → Admits g.L.Law.holds (called (record x { steps = c.release.new.self; opened = o })) map) (sym c.drop_read.ensures)
@@ -103,5 +95,5 @@ returns g c =
             steps = c.release.new.self;
             opened = record x.opened { reads = without_read c.args.o x.opened.reads };
           })) map) c.self.view_is
-          (released_widens g.L.Law.holds x c.self.invariant live c.args.o c.release.new.self u is read map));
+          (released_widens g.L.Law.holds x c.self.invariant live c.args.o c.release.new.self u is (read g before) map));
     }

@@ -1,0 +1,48 @@
+-- A call of a caller as its answers see it.
+use Rattle.std.proofs.Common.{◌∙◌, ◌≡◌, List, Option, ap, sym}
+use Rattle.dstm_steps.proofs.Stepping.{began_as}
+use Rattle.dstm_steps.specs.Under.{InTask, now}
+use Rattle.dstm_steps.specs.declared.steps.Steps.{Steps}
+use Rattle.dstm_model.specs.declared.value.Val.{Val}
+use Rattle.dstm_order.specs.Order.Due.{Done}
+use Rattle.dstm_order.specs.Tasks.{Task}
+use Rattle.dstm_order.specs.declared.again.Again.{Again}
+use Rattle.dstm_words.specs.Seats.{Home, number_or, view_of}
+use Rattle.dstm_engine.proofs.Tying.{ends_here, live_there, now_there, renewed}
+use Rattle.dstm_engine.specs.Began.{began_of}
+use Rattle.dstm_engine.specs.Callers.{Called, is_live, state}
+use Rattle.dstm_engine.specs.Mirror.{Tied, called}
+use Rattle.dstm_engine.specs.declared.caller.Caller.TheInside.{Inside}
+
+-- The caller that contracts see is the one that its fields stand for, the words are those of its table, and its steps
+-- have nothing behind them.
+pub record AtCall {L : Type 0} (holds : L → List Val → Type 0) (c : Inside L) (k : Called L) (words : Home L)
+    (steps : Steps L) : Type 0 where
+  pub tied : Tied holds c
+  pub view : called c ≡ k
+  pub home : (called c).home ≡ words
+  pub begun : steps ≡ renewed c.steps
+  pub live : c.live ≡ is_live k
+
+pub at_call : {L : Type 0} (holds : L → List Val → Type 0) (c : Inside L) → Tied holds c → (k : Called L) →
+    called c ≡ k → (stm words : Home L) → k.home ≡ stm → words ≡ stm → (steps : Steps L) → steps ≡ renewed c.steps →
+    AtCall holds c k words steps
+at_call holds c v k view stm words table same steps is = record {
+  tied = v;
+  view = view;
+  home = ap (λ (k : Called _). k.home) view ∙ table ∙ sym same;
+  begun = is;
+  live = live_there holds c v ∙ ap is_live view;
+}
+
+module _ {L : Type 0} {holds : L → List Val → Type 0} {c : Inside L} {k : Called L} {words : Home L} {steps : Steps L}
+    (at : AtCall holds c k words steps) where
+  -- the state that its steps know
+  pub state_at : now words steps ≡ state (called c)
+  state_at = now_there holds c at.tied words at.home steps at.begun
+
+  -- the end of the call
+  pub ends_at : (task : Task) (new : Steps L) (again : Option Again) →
+      InTask holds words task (began_as words task (number_or (view_of steps.seat).number 0) steps) new Done again →
+      InTask holds (called c).home task (began_of task (called c)) new Done again
+  ends_at task new again u = ends_here holds c at.tied words at.home steps at.begun task new again u
