@@ -54,7 +54,7 @@ use Rattle.dstm_compose.specs.Compose.{IsRight}
 use Rattle.dstm_compose.specs.declared.body.Outcome.{Outcome}
 use Rattle.dstm_compose.specs.declared.body.Outcome.TheVariants.{Ran, Blocked}
 use Rattle.dstm_workload.specs.declared.workload.Job.{Job}
-use Rattle.dstm_tables.specs.Attempts.{is_quit, quits, seen_last}
+use Rattle.dstm_tables.specs.Attempts.{is_quit, looks_at_object, quits, seen_last}
 use Rattle.dstm_tables.specs.declared.style.Style.TheVariants.{Branches}
 use Rattle.dstm_tables.specs.declared.trying.Finished.{Finished}
 use Rattle.dstm_tables.specs.Rechecks.{HasRechecked}
@@ -71,6 +71,8 @@ use Rattle.dstm_tables.specs.Tries.{OneMore, WasKept}
 use Rattle.dstm_tables.specs.Law.{keeps}
 use Rattle.dstm_tables.proofs.Doing as doing
 use Rattle.dstm_tables.proofs.Begun.{begun_there, count_later}
+use Rattle.dstm_tables.proofs.FewSights.{count_kinds, none_looks, sights_more}
+use Rattle.dstm_tables.proofs.Looked.{IsFew}
 use Rattle.dstm_tables.proofs.Made.{did, not_committed, numbered}
 use Rattle.dstm_tables.proofs.SeenLast.{NoLooks, seen_last-agrees, seen_last-skips}
 use Rattle.dstm_tables.proofs.Rechecking.{runs}
@@ -248,6 +250,21 @@ module _ (s : Shape) (start : List Val) (c : ℕ) (old new : List Event) (g : Lc
       (subst (λ (log : List Event). most ≤ count_of completes_pass s log c (local s old c).begun) past.whole
       (let more = count_later completes_pass s past.later old c (local s old c).begun in omega arith))
 
+  -- it had no sight more
+  pub no_sight_more : (most : ℕ) →
+      count_of completes_pass s old c (local s old c).begun ≤ count_of looks_at_object s old c (local s old c).begun + most →
+      count_of completes_pass s new c (local s new c).begun ≤ count_of looks_at_object s new c (local s new c).begun + most
+  no_sight_more most few =
+      subst (λ (i : ℕ). count_of completes_pass s new c i ≤ count_of looks_at_object s new c i + most) (sym same_attempt)
+      (subst (λ (log : List Event). count_of completes_pass s log c i ≤ count_of looks_at_object s log c i + most) past.whole
+      (let more = sights_more s c i past.later old in
+      let none = ap (count_kinds is_look_self) later_own ∙ none_looks events gave.no_looks in
+      let looks = count_later looks_at_object s past.later old c i in
+      omega arith))
+    where
+      i : ℕ
+      i = (local s old c).begun
+
   pub same_sight :
       seen_last s start new new c (local s new c).begun ≡ seen_last s start old old c (local s old c).begun
   same_sight =
@@ -337,7 +354,7 @@ unused_by k b u n begins home number log unopened left = last ∙ none ∙ first
         ∙ leaving_installs (shape_of u) (state u) u.generator left.events left.call.obeys
 
 -- an attempt that was rechecked so often, and then given up, in which no branch of the job was open
-pub stood_at : (rechecks : ℕ) (layout : Layout) (job : Job) (k b t u n : Called StoreLaw) → 0 < rechecks →
+pub stood_at : (rechecks : ℕ) (layout : Layout) (job : Job) (k b t u n : Called StoreLaw) → 0 < rechecks → IsFew t →
     OneMore (Dstm k) (Dstm n) →
     done n ≡ done k → (law_of t).layout ≡ layout → (shape_of t).objects ≡ objects_of layout → HasRechecked rechecks t u →
     Performs keeps Leaving u n None → BeginsAnew keeps k b → u.home ≡ b.home → u.number ≡ b.number →
@@ -345,13 +362,16 @@ pub stood_at : (rechecks : ℕ) (layout : Layout) (job : Job) (k b t u n : Calle
     ((map : List Val) → Admits keeps t map →
     IsRight (record { layout = layout; ops = job.ops }) map (with_set map (written t)) Blocked) →
     StoodAt Branches rechecks layout job (Dstm k) (Dstm n)
-stood_at rechecks layout job k b t u n some one same law size rechecked left begins home number log unopened right = record {
+stood_at rechecks layout job k b t u n some few one same law size rechecked left begins home number log unopened right = record {
   branches = refl;
   made = one;
   given_up = record {
     sights =
         sights_count (shape_of n) (start_of n) n.number u.log n.log u.generator left.events core caller left.seen own call run
         rechecks many;
+    no_more =
+        no_sight_more (shape_of n) (start_of n) n.number u.log n.log u.generator left.events core caller left.seen own call run
+        rechecks at_most;
     quit = quit_counts (shape_of n) (start_of n) n.number u.log n.log u.generator left.events core caller left.seen own call run;
   };
   uncommitted =
@@ -384,6 +404,12 @@ stood_at rechecks layout job k b t u n some one same law size rechecked left beg
     many : rechecks ≤ count_of completes_pass (shape_of n) u.log n.number (local (shape_of n) u.log n.number).begun
     many = there (λ x c. rechecks ≤ count_of completes_pass x.terms.shape u.log c (local x.terms.shape u.log c).begun)
         (let count = rechecked.sights in omega arith)
+
+    at_most : count_of completes_pass (shape_of n) u.log n.number (local (shape_of n) u.log n.number).begun
+        ≤ count_of looks_at_object (shape_of n) u.log n.number (local (shape_of n) u.log n.number).begun + rechecks
+    at_most = there (λ x c. count_of completes_pass x.terms.shape u.log c (local x.terms.shape u.log c).begun
+        ≤ count_of looks_at_object x.terms.shape u.log c (local x.terms.shape u.log c).begun + rechecks)
+        (let count = rechecked.sights in let looked = rechecked.looks in omega arith)
 
     covers : seen_last (shape_of n) (start_of n) n.log n.log n.number (state n).begun ≡ (entry u).reads
     covers =

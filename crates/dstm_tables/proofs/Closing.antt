@@ -1,5 +1,5 @@
 -- What is known of a caller as it was taken back is so in the record of its table, where it makes no more events.
-use Rattle.std.proofs.Common.{◌≡◌, ◌∙◌, ◌⊎◌, ◌<◌, ◌≤◌, ℕ, List, sym, ap, subst, inl, inr, arith}
+use Rattle.std.proofs.Common.{◌≡◌, ◌∙◌, ◌⊎◌, ◌<◌, ◌≤◌, ℕ, List, refl, sym, ap, subst, inl, inr, arith}
 use Rattle.std.specs.Prelude.{Option}
 use Rattle.dstm_model.specs.declared.value.Val.{Val}
 use Rattle.dstm_machines.specs.Traces.{IsPastOf, events_of}
@@ -8,6 +8,7 @@ use Rattle.dstm_core.specs.Events as core_events
 use Rattle.dstm_core.specs.Runs as core
 use Rattle.dstm_opacity.specs.Committed as core_answers
 use Rattle.dstm_opacity.proofs.Stays.{told_stays}
+use Rattle.dstm_engine.specs.Makes.{count_let_go}
 use Rattle.dstm_words.specs.declared.terms.Terms as core_terms
 use Rattle.dstm_tl2.specs.Rules.{Event}
 use Rattle.dstm_tl2.specs.Runs.{local, tl2}
@@ -21,12 +22,13 @@ use Rattle.dstm_tl2_order.proofs.WasRead.{same_reads}
 use Rattle.dstm_store.specs.declared.law.StoreLaw.{StoreLaw}
 use Rattle.dstm_workload.specs.declared.workload.Job.{Job}
 use Rattle.dstm_workload.specs.declared.workload.Workload.{Workload}
+use Rattle.dstm_tables.specs.Attempts as attempts
 use Rattle.dstm_tables.specs.Answers.{IsBlockedWith}
 use Rattle.dstm_tables.specs.Jobs.{HadToStop, NoneWasted, Waited}
-use Rattle.dstm_tables.specs.Tells.{IsPast, IsRun, SameOwn, callers_of, done_of}
+use Rattle.dstm_tables.specs.Tells.{IsPast, IsRun, IsSpent, SameOwn, callers_of, done_of, let_go_by}
 use Rattle.dstm_tables.specs.declared.tables.Round.{Round}
 use Rattle.dstm_tables.specs.declared.tables.Round.TheVariants.{Dstm, Tl2}
-use Rattle.dstm_tables.proofs.ClosingByDstm.{had_to_stop_at_close, none_wasted_at_close}
+use Rattle.dstm_tables.proofs.ClosingByDstm.{had_to_stop_at_close, none_wasted_at_close, state_at_close}
 
 module _ (workload : Workload) (job : Option Job) where
   -- ---- TL2
@@ -123,3 +125,23 @@ done_at_close (Tl2 a) (Tl2 b) c run past own =
     (same_done_by (table_of a.terms) b.log a.log c own)
 done_at_close (Dstm a) (Tl2 b) c run past own = absurd past
 done_at_close (Tl2 a) (Dstm b) c run past own = absurd past
+
+-- ---- a caller that is spent
+
+pub spent_at_close : (a b : Round) (c : ℕ) → IsPast a b → SameOwn c a b → IsSpent a c → IsSpent b c
+spent_at_close (Dstm a) (Dstm b) c past own spent =
+    subst (λ (t : core_terms.Terms StoreLaw). IsSpent (Dstm (record { terms = t; log = b.log })) c) (sym past.0)
+    (subst (attempts.IsSpent a.terms.shape) (sym (state_at_close a.terms.shape c a.log b.log own)) spent)
+spent_at_close (Tl2 a) (Tl2 b) c past own spent =
+    subst (λ (t : tl2_terms.Terms StoreLaw). IsSpent (Tl2 (record { terms = t; log = b.log })) c) (sym past.0)
+    (ap (λ (l : LocalState). l.begun) (same_local tl2 (table_of a.terms) b.log a.log c own) ∙ spent)
+spent_at_close (Dstm a) (Tl2 b) c past own spent = absurd past
+spent_at_close (Tl2 a) (Dstm b) c past own spent = absurd past
+
+-- ---- how many reads a caller has let go
+
+pub let_go_at_close : (a b : Round) (c : ℕ) → SameOwn c a b → let_go_by b c ≡ let_go_by a c
+let_go_at_close (Dstm a) (Dstm b) c own = ap count_let_go own
+let_go_at_close (Tl2 a) (Tl2 b) c own = refl
+let_go_at_close (Dstm a) (Tl2 b) c own = absurd own
+let_go_at_close (Tl2 a) (Dstm b) c own = absurd own

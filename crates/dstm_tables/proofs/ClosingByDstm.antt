@@ -1,6 +1,6 @@
 -- Under DSTM, what is known of a caller's attempts by its own log is known by every longer log in which it has made no more events: so
 -- by the record of its table.
-use Rattle.std.proofs.Common.{◌≡◌, ◌⊎◌, ◌∙◌, ◌<◌, ◌≤◌, ◌++◌, ℕ, List, [], sym, ap, subst, inl, inr, arith}
+use Rattle.std.proofs.Common.{◌≡◌, ◌⊎◌, ◌∙◌, ◌+◌, ◌<◌, ◌≤◌, ◌++◌, ℕ, List, [], sym, ap, subst, inl, inr, arith}
 use Rattle.std.specs.Prelude.{Option}
 use Rattle.dstm_machines.proofs.Own.{own_later}
 use Rattle.dstm_model.specs.declared.value.Val.{Val}
@@ -15,17 +15,18 @@ use Rattle.dstm_progress.proofs.Disturbing.{disturbed_stays}
 use Rattle.dstm_progress.proofs.Ends.{callers_in_range}
 use Rattle.dstm_progress.proofs.OwnEvents.{after_own}
 use Rattle.dstm_progress.specs.Disturbed.{Disturbed, count_of}
-use Rattle.dstm_engine.specs.Attempts.{completes_pass}
+use Rattle.dstm_engine.specs.Attempts.{completes_pass, is_look_self}
 use Rattle.dstm_store.specs.declared.law.StoreLaw.{StoreLaw}
 use Rattle.dstm_words.specs.declared.terms.Terms.{Terms}
 use Rattle.dstm_workload.specs.declared.workload.Job.{Job}
 use Rattle.dstm_workload.specs.declared.workload.Workload.{Workload}
-use Rattle.dstm_tables.specs.Attempts.{HasCommitted, IsSpent, quits, seen_last}
+use Rattle.dstm_tables.specs.Attempts.{HasCommitted, IsSpent, looks_at_object, quits, seen_last}
 use Rattle.dstm_tables.specs.Answers.{IsBlockedWith}
 use Rattle.dstm_tables.specs.Jobs.{HadToStop, NoneWasted, StoodBlocked, Waited}
 use Rattle.dstm_tables.specs.declared.tables.Round.{Round}
 use Rattle.dstm_tables.specs.declared.tables.Round.TheVariants.{Dstm}
 use Rattle.dstm_tables.proofs.Begun.{count_later}
+use Rattle.dstm_tables.proofs.FewSights.{count_kinds, sights_more}
 use Rattle.dstm_tables.proofs.SeenLast.{NoLooks, seen_last-agrees, seen_last-skips}
 use Rattle.dstm_tables.proofs.StayingByDstm.{committed_stays}
 
@@ -82,6 +83,13 @@ module _ (terms : Terms StoreLaw) (c : ℕ) (old new : List Event) (core : Core 
           subst (λ (log : List Event). 1024 ≤ count_of completes_pass terms.shape log c i) past.whole
           (let more = count_later completes_pass terms.shape past.later old c i in
           let many = was.given_up.sights in omega arith);
+      no_more =
+          subst (λ (log : List Event). count_of completes_pass terms.shape log c i
+          ≤ count_of looks_at_object terms.shape log c i + 1024) past.whole
+          (let more = sights_more terms.shape c i past.later old in
+          let none = ap (count_kinds is_look_self) quiet in
+          let looks = count_later looks_at_object terms.shape past.later old c i in
+          let few = was.given_up.no_more in omega arith);
       quit =
           subst (λ (log : List Event). 1 ≤ count_of quits terms.shape log c i) past.whole
           (let more = count_later quits terms.shape past.later old c i in

@@ -1,5 +1,6 @@
 -- A caller that was just made has begun no attempt, and has committed none.
 use Rattle.std.proofs.Common.{◌≡◌, ◌⊎◌, ◌==◌, ◌&&◌, ℕ, true, false, List, [], ◌∷◌, ◌++◌, None, Some, is_some, refl, ap, sym, subst, ◌∙◌, inl, inr}
+use Rattle.std.specs.Prelude.{if◌then◌else◌}
 use Rattle.std.proofs.lemmas.Bool.{cases_Bool, cond_both, eqb-true, eq-eqb}
 use Rattle.std.proofs.lemmas.List.{append-nil}
 use Rattle.std.proofs.lemmas.List.Elements.{All-cons, All-nil, filter-append}
@@ -16,6 +17,7 @@ use Rattle.dstm_machines.proofs.Runs.{local-events_of}
 use Rattle.dstm_opacity.specs.Committed.{done_by, has_committed, is_commit}
 use Rattle.dstm_opacity.proofs.Stays.{call_adds_none}
 use Rattle.dstm_progress.proofs.Ends.{callers_in_range}
+use Rattle.dstm_progress.specs.Lives.{lets_go}
 use Rattle.rand_pcg.specs.Lcg.{Lcg}
 use Rattle.dstm_order.specs.Calls.{IsCall}
 use Rattle.dstm_order.specs.Tasks.Task.{Enrolling}
@@ -23,6 +25,7 @@ use Rattle.dstm_managers.specs.Choices.{started}
 use Rattle.dstm_words.specs.Seats.{Home, IsRunOf}
 use Rattle.dstm_engine.specs.Attempts.{done}
 use Rattle.dstm_engine.specs.Callers.{Called, is_running, shape_of, start_of, state}
+use Rattle.dstm_engine.specs.Makes.{count_let_go, let_go}
 use Rattle.dstm_engine.specs.Tables.{Enrols, Founding, unnumbered}
 use Rattle.dstm_engine.proofs.AddingUp.{makes_one}
 use Rattle.dstm_store.specs.declared.law.StoreLaw.{StoreLaw}
@@ -121,6 +124,9 @@ module _ (f g : Founding StoreLaw) (seed : ℕ) (k : Called StoreLaw) (enrols : 
       (All-cons (λ (e : Event). has_committed e ≡ false) enrols.enrol []
       (ap (λ b. b && (enrols.enrol.found == 3)) (enrols_none enrols.enrol enrols.enrol.kind kind))
       (All-nil (λ (e : Event). has_committed e ≡ false))))
+
+  pub fresh_let_go : let_go k ≡ 0
+  fresh_let_go = ap count_let_go enrols.own ∙ ap (λ (x : Kind). if lets_go x then 1 else 0) kind
 
   pub fresh_home : k.home ≡ f.home
   fresh_home = at_home

@@ -54,6 +54,7 @@ dstm_new t f g seed k home e = record {
   rest = fresh.fresh_rest f g seed k e;
   none_begun = fresh.fresh_begun f g seed k e;
   none_used = fresh.fresh_installed f g seed k e;
+  none_let_go = fresh.fresh_let_go f g seed k e;
   none_done = fresh.fresh_done f g seed k e;
   home_then = ap (λ (x : dstm_tables.Founding StoreLaw). table.Dstm x.home) e.founder;
   seen_then = ap (λ (x : dstm_tables.Founding StoreLaw). round.Dstm (record { terms = x.home.terms; log = x.view.log })) e.founder;
@@ -114,6 +115,7 @@ module _ (f g : tl2_tables.TlFounding StoreLaw) (k : called.TlCalled StoreLaw) (
     };
     none_begun = ap (λ (l : LocalState). l.begun) e.state;
     none_used = refl;
+    none_let_go = refl;
     none_done = tl2_done;
     home_then = ap (λ (x : tl2_tables.TlFounding StoreLaw). table.Tl2 x.home) e.founder;
     seen_then = ap (λ (x : tl2_tables.TlFounding StoreLaw). round.Tl2 (record { terms = x.home.terms; log = x.view.log })) e.founder;

@@ -7,6 +7,8 @@ pub mod StayingByDstm
 pub mod SeenLast
 pub mod Rechecking
 pub mod Begun
+pub mod FewSights
+pub mod Looked
 pub mod Branched
 pub mod Unused
 pub mod OnlyByDstm

@@ -28,13 +28,12 @@ use Rattle.dstm_store.specs.declared.law.StoreLaw.{StoreLaw}
 use Rattle.dstm_workload.specs.declared.workload.Job.{Job}
 use Rattle.dstm_tables.specs.declared.style.Style.{Style}
 use Rattle.dstm_tables.proofs.Sole.{nothing_named}
-use Rattle.dstm_tables.specs.declared.tables.Caller.{Caller}
 use Rattle.dstm_tables.specs.declared.tables.Caller.TheVariants.{Tl2}
 use Rattle.dstm_tables.specs.Callers.{AtRest}
 use Rattle.dstm_tables.specs.Jobs.{StoodAt}
-use Rattle.dstm_tables.specs.OnlyCallers.{HasGivenUp, StoodAlone, WasSpent}
+use Rattle.dstm_tables.specs.OnlyCallers.{HasGivenUp, StoodAlone}
 use Rattle.dstm_tables.specs.Law.{keeps}
-use Rattle.dstm_tables.specs.Tries.{IsSpentFrom, OneMore}
+use Rattle.dstm_tables.specs.Tries.{OneMore}
 use Rattle.dstm_tables.proofs.OnlyByTl2.{only_agrees}
 
 -- a caller that has its number is one of the table's
@@ -97,9 +96,6 @@ stood_alone style layout job k n one was = record {
         (subst (λ c. Agrees (state_after (table_of_caller n).start (entries_of (reverse (done_by (table_of_caller n) n.log c))))
         (read_values (local (table_of_caller n) n.log c).reads)) (sym zeroth)
         (only_agrees (table_of_caller n) (keeps n.home.terms.law.value) n.log lawful only undrawn))
-
-pub was_spent : (k n : Caller) → IsSpentFrom k n → WasSpent k n
-was_spent k n was = record { on = was.on; same_done = was.same_done; spent = was.was }
 
 -- nothing is set, so a lawful map stays so
 pub stays_lawful : (k b : TlCalled StoreLaw) (map : List Val) → BeginsAnew keeps k b → keeps (law_of b) map →

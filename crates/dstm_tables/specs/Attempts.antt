@@ -5,7 +5,7 @@ use Rattle.dstm_model.specs.declared.value.Val.{Val}
 use Rattle.dstm_progress.specs.Disturbed.{count_of}
 use Rattle.dstm_core.specs.Events.{Event}
 use Rattle.dstm_core.specs.declared.event.Kind.{Kind}
-use Rattle.dstm_core.specs.declared.event.Kind.TheVariants.{Quit}
+use Rattle.dstm_core.specs.declared.event.Kind.TheVariants.{LookObj, Quit}
 use Rattle.dstm_core.specs.declared.shape.Shape.{Shape}
 use Rattle.dstm_core.specs.Histories.{seen, will_of}
 use Rattle.dstm_core.specs.Runs.{local}
@@ -31,9 +31,18 @@ seen_last shape start log (event ∷ before) c i =
     then seen shape start log before c
     else seen_last shape start log before c i
 
--- the attempt was given up after it had made sure so many times that what it had read stands
+abbrev pub is_look_object : Kind → Bool
+is_look_object LookObj = true
+is_look_object kind = false
+
+abbrev pub looks_at_object : Shape → LocalState → Event → Bool
+looks_at_object shape state event = is_look_object event.kind
+
+-- the attempt was given up after it had made sure so many times that what it had read stands, and not more often: it had so
+-- many sights at least, and at most so many beside one for each look at an object
 pub record WasGivenUpAfter (rechecks : ℕ) (shape : Shape) (log : List Event) (c i : ℕ) : Type 0 where
   pub sights : rechecks ≤ count_of completes_pass shape log c i
+  pub no_more : count_of completes_pass shape log c i ≤ count_of looks_at_object shape log c i + rechecks
   pub quit : 1 ≤ count_of quits shape log c i
 
 -- the caller has no attempt left, or too few locators for another one

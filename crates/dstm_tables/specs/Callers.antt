@@ -15,7 +15,7 @@ use Rattle.dstm_tables.specs.declared.tables.Round.{Round}
 use Rattle.dstm_tables.specs.declared.tables.Round.TheVariants as round
 use Rattle.dstm_tables.specs.declared.tables.Table.{Table}
 use Rattle.dstm_tables.specs.declared.tables.Table.TheVariants as table
-use Rattle.dstm_tables.specs.Tells.{IsEnrolled, IsRun, begun_of, done_of}
+use Rattle.dstm_tables.specs.Tells.{IsEnrolled, IsRun, begun_of, done_of, let_go_by}
 
 -- its table, and what this was told
 abbrev pub home_of : Caller → Table
@@ -69,6 +69,10 @@ done k = done_of (round_of k) (number_of k)
 
 abbrev pub begun : Caller → ℕ
 begun k = begun_of (round_of k) (number_of k)
+
+-- how many reads it has let go so far
+abbrev pub let_go : Caller → ℕ
+let_go k = let_go_by (round_of k) (number_of k)
 
 -- a caller between two attempts: its log is a run in which it has its number, and its attempts are over
 pub record AtRest (k : Caller) : Type 0 where

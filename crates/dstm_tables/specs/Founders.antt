@@ -12,7 +12,7 @@ use Rattle.dstm_tables.specs.declared.tables.Round.{Round}
 use Rattle.dstm_tables.specs.declared.tables.Round.TheVariants as round
 use Rattle.dstm_tables.specs.declared.tables.Table.{Table}
 use Rattle.dstm_tables.specs.declared.tables.Table.TheVariants as table
-use Rattle.dstm_tables.specs.Callers.{AtRest, CameByCalls, HasSeed, begun, done, home_of, number_of, round_of}
+use Rattle.dstm_tables.specs.Callers.{AtRest, CameByCalls, HasSeed, begun, done, home_of, let_go, number_of, round_of}
 use Rattle.dstm_tables.specs.Tells.{IsOf, IsPast, SameOwn, attempts_of, callers_of, layout_of, start_of, used_by}
 
 -- its table
@@ -85,6 +85,7 @@ pub record GivesOut (t : Table) (f g : Founder) (seed : ℕ) (k : Caller) : Type
   pub rest : AtRest k
   pub none_begun : begun k ≡ 0
   pub none_used : used_by (round_of k) (number_of k) ≡ 0
+  pub none_let_go : let_go k ≡ 0
   pub none_done : done k ≡ []
   pub home_then : home_there g ≡ home_there f
   pub seen_then : seen_by g ≡ seen_by f

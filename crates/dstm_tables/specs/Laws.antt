@@ -8,7 +8,7 @@ use Rattle.dstm_workload.specs.declared.workload.Workload.{Workload}
 use Rattle.dstm_tables.specs.declared.tables.Round.{Round}
 use Rattle.dstm_tables.specs.Answers.{entries_of}
 use Rattle.dstm_tables.specs.Jobs.{HadToStop, NoneWasted}
-use Rattle.dstm_tables.specs.Tells.{ByCalls, IsPast, IsRun, SameOwn, SightsAgree, all_done, callers_of, committed_of, done_of, start_of}
+use Rattle.dstm_tables.specs.Tells.{ByCalls, IsPast, IsRun, SameOwn, SightsAgree, all_done, callers_of, committed_of, done_of, let_go_by, start_of}
 
 -- what is known of a caller as it was taken back is so in the record of its table
 abbrev pub StaysAtClose : Type 0
@@ -16,6 +16,7 @@ StaysAtClose =
     (workload : Workload) (job : Option Job) (before after : Round) (c : ℕ) → IsRun after → c < callers_of before →
     IsPast before after → SameOwn c before after →
     (done_of after c ≡ done_of before c)
+    × (let_go_by after c ≡ let_go_by before c)
     × ((NoneWasted workload job before c → NoneWasted workload job after c)
     × ((HadToStop workload job before c → HadToStop workload job after c)
     × ((seed : ℕ) → ByCalls seed before c → ByCalls seed after c)))

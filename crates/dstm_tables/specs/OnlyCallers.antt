@@ -16,8 +16,8 @@ use Rattle.dstm_tables.specs.declared.style.Style.TheVariants.{Branches}
 use Rattle.dstm_tables.specs.declared.tables.Caller.{Caller}
 use Rattle.dstm_tables.specs.Callers.{done, number_of, round_of}
 use Rattle.dstm_tables.specs.Jobs.{DidJob}
-use Rattle.dstm_tables.specs.Tells.{CannotBegin, start_of, used_by, writes_all}
-use Rattle.dstm_tables.specs.Tries.{GoesOn, OneMore}
+use Rattle.dstm_tables.specs.Tells.{start_of, used_by, writes_all}
+use Rattle.dstm_tables.specs.Tries.{IsSpentFrom, OneMore}
 
 -- what the caller's transactions have left in the objects
 abbrev pub left_by : Caller → List Val
@@ -32,15 +32,10 @@ pub record StoodAlone (style : Style) (layout : Layout) (job : Job) (k n : Calle
   pub blocked : (store : Store) → StandsFor layout (left_by n) store → apply_job job.ops store ≡ None
   pub unused : writes_all (round_of k) ≡ false → used_by (round_of n) (number_of n) ≡ used_by (round_of k) (number_of k)
 
-pub record WasSpent (k n : Caller) : Type 0 where
-  pub on : GoesOn k n
-  pub same_done : done n ≡ done k
-  pub spent : CannotBegin (round_of k) (number_of k)
-
 abbrev pub HasTriedAlone : Style → Layout → Job → (k n : Caller) → OnlyTried → Type 0
 HasTriedAlone style layout job k n (tried.Done finished) = DidJob style layout job k n finished
 HasTriedAlone style layout job k n tried.Blocked = StoodAlone style layout job k n
-HasTriedAlone style layout job k n tried.Spent = WasSpent k n
+HasTriedAlone style layout job k n tried.Spent = IsSpentFrom k n
 
 -- a transaction has committed that read and wrote nothing
 pub record HasGivenUp (k n : Caller) (number : ℕ) : Type 0 where

@@ -14,6 +14,7 @@ use Rattle.dstm_core.specs.Events as core_events
 use Rattle.dstm_core.specs.Histories as core_histories
 use Rattle.dstm_core.specs.Runs as core
 use Rattle.dstm_opacity.specs.Committed as core_answers
+use Rattle.dstm_engine.specs.Makes.{count_let_go}
 use Rattle.dstm_managers.specs.Choices.{started}
 use Rattle.dstm_order.specs.Made as made
 use Rattle.dstm_order.specs.Order as order
@@ -136,6 +137,11 @@ IsEnrolled (Tl2 r) c = (tl2.local (tl2_sharing.table_of r.terms) r.log c).number
 abbrev pub used_by : Round → ℕ → ℕ
 used_by (Dstm r) c = (core.local r.terms.shape r.log c).installed
 used_by (Tl2 r) c = 0
+
+-- how many reads caller c has let go; under TL2 nobody lets one go
+abbrev pub let_go_by : Round → ℕ → ℕ
+let_go_by (Dstm r) c = count_let_go (events_of c r.log)
+let_go_by (Tl2 r) c = 0
 
 -- it has no attempt left, or too few locators for another one
 abbrev pub IsSpent : Round → ℕ → Type 0

@@ -1,5 +1,5 @@
 ghost use Rattle.std.specs.Prelude.{◌≡◌, IfErr, IfOk};
-ghost use Rattle.dstm_tables.specs.Callers.{AtRest, home_of, law_of};
+ghost use Rattle.dstm_tables.specs.Callers.{AtRest, home_of, law_of, let_go};
 ghost use Rattle.dstm_tables.specs.Tries.{Did, EndsBy};
 
 use crate::tables::{Caller, Table};
@@ -16,7 +16,7 @@ pub(crate) enum Ended {
     Spent,
 }
 
-/// Makes one attempt: begins it, runs the body once, and commits. It answers the number that it drew.
+/// Makes one attempt: begins it, runs the body once, and commits. It answers the number that it drew, and lets no read go.
 pub(crate) fn attempt<B: Body<StoreLaw>>(
     caller: &mut Caller,
     table: &Table,
@@ -27,6 +27,7 @@ pub(crate) fn attempt<B: Body<StoreLaw>>(
     requires rest { AtRest caller.old }
     ensures done { IfOk result (Did (B.right body.new) caller.old caller.new) }
     ensures ended { IfErr result (EndsBy caller.old caller.new) }
+    ensures keeps { let_go caller.new ≡ let_go caller.old }
     ensures task { B.task body.new ≡ B.task body.old }
 {
     match caller {

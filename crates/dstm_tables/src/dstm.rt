@@ -4,14 +4,16 @@ ghost use Rattle.std.specs.Prelude.{◌≡◌, ◌<◌, ℕ, IfErr, IfNone, IfSo
 ghost use Rattle.dstm_engine.specs.Callers.{is_live, is_opened, shape_of};
 ghost use Rattle.dstm_engine.specs.Outcomes.{IsLeft};
 ghost use Rattle.dstm_engine.specs.Transactions.{tx_place};
-ghost use Rattle.dstm_tables.specs.Callers.{AtRest, law_of};
+ghost use Rattle.dstm_tables.specs.Callers.{AtRest, law_of, let_go};
 ghost use Rattle.dstm_tables.specs.Jobs.{HasTried};
-ghost use Rattle.dstm_tables.specs.OnlyCallers.{HasGivenUp, WasSpent};
+ghost use Rattle.dstm_tables.specs.OnlyCallers.{HasGivenUp};
 ghost use Rattle.dstm_tables.specs.Rechecks.{HasRechecked};
 ghost use Rattle.dstm_tables.specs.Styles.{CanTry};
+ghost use Rattle.dstm_tables.specs.Tries.{IsSpentFrom};
 ghost use Rattle.dstm_tables.specs.declared.style.Style.TheVariants.{Branches, Loose};
 ghost use Rattle.dstm_tables.specs.declared.tables.Caller.TheVariants.{Dstm};
 
+use crate::opener::run;
 use crate::trying::{Finished, Tried};
 use dstm_compose::{CompBody, Outcome};
 use dstm_engine::{Caller, Ended, Spent, Stm, Tx, attempt_loose};
@@ -66,7 +68,7 @@ pub(crate) fn attempt_branches(
         Err(Spent) => return Tried::Spent,
     };
     let mut body = CompBody::make(layout, &job.ops);
-    match body.run(&mut tx) {
+    match run(&mut tx, &mut body) {
         Ok(()) => match body.outcome() {
             Outcome::Ran(replies) => match tx.commit() {
                 Ok(number) => Tried::Done(Finished { number, replies }),
@@ -113,7 +115,8 @@ pub(crate) fn give_up(caller: &mut Caller<StoreLaw>, stm: &Stm<StoreLaw>) -> Opt
     requires only { (shape_of caller.old).callers ≡ 1 }
     requires rest { AtRest (Dstm caller.old) }
     ensures given_up { IfSome result (HasGivenUp (Dstm caller.old) (Dstm caller.new)) }
-    ensures spent { IfNone result (WasSpent (Dstm caller.old) (Dstm caller.new)) }
+    ensures spent { IfNone result (IsSpentFrom (Dstm caller.old) (Dstm caller.new)) }
+    ensures keeps { let_go (Dstm caller.new) ≡ let_go (Dstm caller.old) }
 {
     let tx = match caller.begin(stm) {
         Ok(tx) => tx,

@@ -1,8 +1,10 @@
 ghost use Rattle.std.specs.Prelude.{◌≡◌, IfNone, IfSome};
-ghost use Rattle.dstm_tables.specs.Callers.{AtRest, home_of, law_of, round_of};
-ghost use Rattle.dstm_tables.specs.OnlyCallers.{HasGivenUp, HasTriedAlone, WasSpent};
+ghost use Rattle.dstm_tables.specs.Callers.{AtRest, home_of, law_of, let_go, round_of};
+ghost use Rattle.dstm_tables.specs.OnlyCallers.{HasGivenUp, HasTriedAlone};
 ghost use Rattle.dstm_tables.specs.Styles.{CanTry};
 ghost use Rattle.dstm_tables.specs.Tells.{callers_of};
+ghost use Rattle.dstm_tables.specs.Tries.{IsSpentFrom};
+ghost use Rattle.dstm_tables.specs.declared.style.Style.TheVariants.{Plain};
 
 use crate::style::Style;
 use crate::tables::{Caller, Table};
@@ -35,7 +37,8 @@ pub fn try_alone(
     requires law { (law_of caller.old).layout ≡ layout.now }
     requires rest { AtRest caller.old }
     requires can { CanTry style layout.now job.now }
-    ensures { HasTriedAlone style layout.now job.now caller.old caller.new result }
+    ensures tried { HasTriedAlone style layout.now job.now caller.old caller.new result }
+    ensures keeps { style ≡ Plain → let_go caller.new ≡ let_go caller.old }
 {
     match attempt_job(style, 1, caller, table, layout, job) {
         Tried::Done(finished) => OnlyTried::Done(finished),
@@ -52,7 +55,8 @@ pub fn give_up(caller: &mut Caller, table: &Table) -> Option<u64>
     requires only { callers_of (round_of caller.old) ≡ 1 }
     requires rest { AtRest caller.old }
     ensures given_up { IfSome result (HasGivenUp caller.old caller.new) }
-    ensures spent { IfNone result (WasSpent caller.old caller.new) }
+    ensures spent { IfNone result (IsSpentFrom caller.old caller.new) }
+    ensures keeps { let_go caller.new ≡ let_go caller.old }
 {
     match caller {
         Caller::Dstm(caller) => match table {

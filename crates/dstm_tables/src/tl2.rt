@@ -1,10 +1,11 @@
 //! Trying jobs by TL2.
 
 ghost use Rattle.std.specs.Prelude.{◌≡◌, ℕ, IfNone, IfSome};
-ghost use Rattle.dstm_tables.specs.Callers.{AtRest, law_of};
+ghost use Rattle.dstm_tables.specs.Callers.{AtRest, law_of, let_go};
 ghost use Rattle.dstm_tables.specs.Jobs.{HasTried};
-ghost use Rattle.dstm_tables.specs.OnlyCallers.{HasGivenUp, WasSpent};
+ghost use Rattle.dstm_tables.specs.OnlyCallers.{HasGivenUp};
 ghost use Rattle.dstm_tables.specs.Styles.{CanTry};
+ghost use Rattle.dstm_tables.specs.Tries.{IsSpentFrom};
 ghost use Rattle.dstm_tables.specs.declared.style.Style.TheVariants.{Branches};
 ghost use Rattle.dstm_tables.specs.declared.tables.Caller.TheVariants.{Tl2};
 
@@ -60,7 +61,8 @@ pub(crate) fn give_up(caller: &mut TlCaller<StoreLaw>, stm: &TlStm<StoreLaw>) ->
     requires only { caller.old.home.terms.callers ≡ 1 }
     requires rest { AtRest (Tl2 caller.old) }
     ensures given_up { IfSome result (HasGivenUp (Tl2 caller.old) (Tl2 caller.new)) }
-    ensures spent { IfNone result (WasSpent (Tl2 caller.old) (Tl2 caller.new)) }
+    ensures spent { IfNone result (IsSpentFrom (Tl2 caller.old) (Tl2 caller.new)) }
+    ensures keeps { let_go (Tl2 caller.new) ≡ let_go (Tl2 caller.old) }
 {
     let tx = match caller.begin(stm) {
         Ok(tx) => tx,

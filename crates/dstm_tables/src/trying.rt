@@ -1,5 +1,5 @@
 ghost use Rattle.std.specs.Prelude.{◌≡◌, ◌<◌};
-ghost use Rattle.dstm_tables.specs.Callers.{AtRest, home_of, law_of};
+ghost use Rattle.dstm_tables.specs.Callers.{AtRest, home_of, law_of, let_go};
 ghost use Rattle.dstm_tables.specs.Jobs.{HasTried};
 ghost use Rattle.dstm_tables.specs.Styles.{CanTry};
 ghost use Rattle.dstm_tables.specs.declared.style.Style.TheVariants.{Branches, Loose, Plain};
@@ -45,7 +45,7 @@ pub enum Left {
 }
 
 /// Makes one attempt at a job. One that stands at a blocked job is given up: under DSTM after it has made sure so many times
-/// that what it has read stands.
+/// that what it has read stands. By the plain style no read is let go.
 pub fn attempt_job(
     style: Style,
     rechecks: u32,
@@ -59,7 +59,8 @@ pub fn attempt_job(
     requires rest { AtRest caller.old }
     requires can { CanTry style layout.now job.now }
     requires some { 0 < rechecks }
-    ensures { HasTried style rechecks layout.now job.now caller.old caller.new result }
+    ensures tried { HasTried style rechecks layout.now job.now caller.old caller.new result }
+    ensures keeps { style ≡ Plain → let_go caller.new ≡ let_go caller.old }
 {
     match style {
         Style::Plain => attempt_plain(caller, table, layout, job),
@@ -74,7 +75,8 @@ fn attempt_plain(caller: &mut Caller, table: &Table, layout: &Layout, job: &Job)
     requires law { (law_of caller.old).layout ≡ layout.now }
     requires rest { AtRest caller.old }
     requires can { CanTry Plain layout.now job.now }
-    ensures { HasTried Plain 0 layout.now job.now caller.old caller.new result }
+    ensures tried { HasTried Plain 0 layout.now job.now caller.old caller.new result }
+    ensures keeps { let_go caller.new ≡ let_go caller.old }
 {
     let mut body = JobBody::make(layout, &job.ops);
     match attempt(caller, table, &mut body) {

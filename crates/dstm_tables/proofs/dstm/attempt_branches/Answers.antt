@@ -25,6 +25,7 @@ use Rattle.dstm_engine.proofs.AddingUp.{makes_both, makes_one}
 use Rattle.dstm_engine.proofs.Anew.{new_committed}
 use Rattle.dstm_tables.proofs.Made.{is_spent_from, objects_are, run_there}
 use Rattle.dstm_tables.proofs.Branched.{aborted_fresh, aborts, calls_by, right_for, one_more_by, was_kept_by, was_kept_dead, did_branch, rests, stood_at, unopened_by}
+use Rattle.dstm_tables.proofs.Looked.{begins_few}
 use Rattle.dstm_tables.proofs.dstm.attempt_branches.Goals as goal
 
 -- The caller ends as the attempt left it, since this has the reference that it was begun with.
@@ -34,12 +35,15 @@ returns-in-Err c =
     is_spent_from c.args.caller.now c.begin.follows.lender-at-none c.requires.rest
     (rw c.in-Err.is at c.begin.follows.holds-at-none)
 
+pub run-requires-clause-few : goal.run-requires-clause-few
+run-requires-clause-few c = begins_few c.args.caller.now c.in-Ok.tx.caller.now c.in-Ok.ensures.begins
+
 pub commit-requires-clause-lawful : goal.commit-requires-clause-lawful
 commit-requires-clause-lawful c map admits =
     let begins = c.in-Ok.ensures.begins in
     let place = c.in-Ok-run.ensures.leads.place in
-    let there = home keeps c.args.caller.now c.in-Ok.tx.caller.now c.run.new.mem.caller.now _ _ _ _ begins place in
-    subst (λ (l : Layout). IsLawful l (with_set map (written c.run.new.mem.caller.now)))
+    let there = home keeps c.args.caller.now c.in-Ok.tx.caller.now c.run.new.tx.caller.now _ _ _ _ begins place in
+    subst (λ (l : Layout). IsLawful l (with_set map (written c.run.new.tx.caller.now)))
     (ap (λ (t : JobTask). t.layout) c.in-Ok-run.ensures.task ∙ c.make-body.ensures.layout ∙ sym c.requires.law
     ∙ ap (λ (h : Home _). h.terms.law.value.layout) (sym there))
     (c.in-Ok-run.ensures.lawful map admits)
@@ -48,7 +52,7 @@ pub returns-in-Ok-commit : goal.returns-in-Ok-commit
 returns-in-Ok-commit c =
     let k = c.args.caller.now in
     let b = c.in-Ok.tx.caller.now in
-    let t = c.run.new.mem.caller.now in
+    let t = c.run.new.tx.caller.now in
     let n = c.commit.new.self.0 in
     let ran = c.in-Ok-run.ensures in
     let kept = c.in-Ok-commit.ensures.kept in
@@ -68,7 +72,7 @@ returns-in-Ok-commit c =
     (record { number = c.in-Ok-commit.number; replies = c.in-Ran.replies }) n c.requires.rest c.requires.law nh one
     c.in-Ok-commit.ensures.number
     (λ map admits.
-    right_for c.args.layout.now c.args.job.now.ops c.run.new.self.task c.run.new.self.outcome _ map _
+    right_for c.args.layout.now c.args.job.now.ops c.run.new.body.task c.run.new.body.outcome _ map _
     (ap (λ (j : JobTask). j.layout) ran.task ∙ c.make-body.ensures.layout)
     (ap (λ (j : JobTask). j.ops) ran.task ∙ c.make-body.ensures.ops) (sym c.outcome.ensures ∙ c.in-Ran.is)
     (ran.right map admits)))
@@ -77,7 +81,7 @@ pub returns-in-Err-commit : goal.returns-in-Err-commit
 returns-in-Err-commit c =
     let k = c.args.caller.now in
     let b = c.in-Ok.tx.caller.now in
-    let t = c.run.new.mem.caller.now in
+    let t = c.run.new.tx.caller.now in
     let n = c.commit.new.self.0 in
     let kept = c.in-Err-commit.ensures.kept in
     let begins = c.in-Ok.ensures.begins in
@@ -98,7 +102,7 @@ pub returns-in-Ok-rechecked : goal.returns-in-Ok-rechecked
 returns-in-Ok-rechecked c =
     let k = c.args.caller.now in
     let b = c.in-Ok.tx.caller.now in
-    let t = c.run.new.mem.caller.now in
+    let t = c.run.new.tx.caller.now in
     let u = c.recheck_often-rechecked.new.tx.caller.now in
     let n = c.abandon.new.self.0 in
     let ran = c.in-Ok-run.ensures in
@@ -120,7 +124,7 @@ returns-in-Ok-rechecked c =
     let law = ap (λ (h : Home _). h.terms.law.value.layout) there ∙ c.requires.law in
     let size = ap (λ (h : Home _). h.terms.shape.objects) there ∙ objects_are k c.requires.rest
     ∙ ap objects_of c.requires.law in
-    let blocked : c.run.new.self.outcome ≡ Blocked = sym c.outcome.ensures ∙ c.in-Blocked.is in
+    let blocked : c.run.new.body.outcome ≡ Blocked = sym c.outcome.ensures ∙ c.in-Blocked.is in
     let began : b.home ≡ k.home = begins.steps.same.0 in
     let unopened : (shape_of k).all_write ≡ false → (o : ℕ) → is_opened u o ≡ false = λ reads o.
     rechecked.opened o
@@ -128,12 +132,12 @@ returns-in-Ok-rechecked c =
     ((ran.looks blocked).opens (ap (λ (h : Home _). h.terms.shape.all_write) began ∙ reads) o) (begins.unopened o) in
     in_the_end (λ (x : Called _). StoodAt Branches c.args.rechecks c.args.layout.now c.args.job.now (Dstm k) (Dstm x)) _ _ _ _
     (assumption c) name
-    (stood_at c.args.rechecks c.args.layout.now c.args.job.now k b t u n c.requires.some one
+    (stood_at c.args.rechecks c.args.layout.now c.args.job.now k b t u n c.requires.some ran.few one
     (left.done ∙ same_done keeps k b u _ _ _ _ begins place) law size rechecked.stands left.steps begins
     (ap (λ (p : TxPlace _). p.home) place) (ap (λ (p : TxPlace _). p.number) place) (ap (λ (p : TxPlace _). p.began) place)
     unopened
     (λ map admits.
-    right_for c.args.layout.now c.args.job.now.ops c.run.new.self.task c.run.new.self.outcome _ map _
+    right_for c.args.layout.now c.args.job.now.ops c.run.new.body.task c.run.new.body.outcome _ map _
     (ap (λ (j : JobTask). j.layout) ran.task ∙ c.make-body.ensures.layout)
     (ap (λ (j : JobTask). j.ops) ran.task ∙ c.make-body.ensures.ops) (sym c.outcome.ensures ∙ c.in-Blocked.is)
     (ran.right map admits)))
@@ -157,7 +161,7 @@ pub returns-in-Err-run : goal.returns-in-Err-run
 returns-in-Err-run c =
     let k = c.args.caller.now in
     let b = c.in-Ok.tx.caller.now in
-    let t = c.run.new.mem.caller.now in
+    let t = c.run.new.tx.caller.now in
     let begins = c.in-Ok.ensures.begins in
     let leads = c.in-Err-run.ensures.leads in
     let place = leads.place in

@@ -1,5 +1,7 @@
 use Rattle.std.proofs.Common.{◌∙◌, arith, ap}
 use Rattle.std.specs.Prelude.{◌+◌}
+use Rattle.dstm_engine.specs.Transactions.{TxPlace}
+use Rattle.dstm_tables.proofs.Looked.{looks_stay}
 use Rattle.dstm_tables.proofs.Rechecking.{recheck_sees}
 use Rattle.dstm_tables.proofs.dstm.recheck_often.Goals as goal
 
@@ -12,6 +14,10 @@ loop-pass-preserved c =
       record {
         live = more.live;
         held = λ o. more.held o ∙ was.held o;
+        looks =
+            (let later = looks_stay c.loop-pass.tx.caller.now n more.stays.steps.same.0 more.stays.steps.same.1
+            more.stays.steps.seen (ap (λ (p : TxPlace _). p.began) more.place) in
+            let before = was.looks in omega arith);
         sights = more.sights ∙ ap (λ count. count + 1) was.sights ∙ omega arith;
         newest = λ some. recheck_sees c.loop-pass.tx.caller.now n was.live more.stays.steps more.live;
       },

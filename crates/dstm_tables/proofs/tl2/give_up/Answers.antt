@@ -6,14 +6,13 @@ use Rattle.dstm_tables.specs.declared.tables.Caller.TheVariants.{Tl2}
 use Rattle.dstm_tables.specs.OnlyCallers.{HasGivenUp}
 use Rattle.dstm_tables.specs.Law.{keeps}
 use Rattle.dstm_tables.proofs.ByTl2.{tl2_more, tl2_spent}
-use Rattle.dstm_tables.proofs.OnlyTries.{gave_up, stays_lawful, was_spent}
+use Rattle.dstm_tables.proofs.OnlyTries.{gave_up, stays_lawful}
 use Rattle.dstm_tables.proofs.tl2.give_up.Goals as goal
 
 pub returns-in-Err-clause-spent : goal.returns-in-Err-clause-spent
 returns-in-Err-clause-spent c =
-    was_spent (Tl2 c.args.caller.now) (Tl2 c.begin.follows.lender-at-none)
-    (tl2_spent c.args.caller.now c.begin.follows.lender-at-none c.requires.rest
-    (rw c.in-Err.is at c.begin.follows.holds-at-none))
+    tl2_spent c.args.caller.now c.begin.follows.lender-at-none c.requires.rest
+    (rw c.in-Err.is at c.begin.follows.holds-at-none)
 
 pub commit-requires-clause-lawful : goal.commit-requires-clause-lawful
 commit-requires-clause-lawful c map admits =

@@ -4,8 +4,8 @@ use Rattle.dstm_tables.specs.declared.style.Style.TheVariants.{Plain}
 use Rattle.dstm_tables.proofs.Doing.{did_plain}
 use Rattle.dstm_tables.proofs.trying.attempt_plain.Goals as goal
 
-pub returns-in-Ok : goal.returns-in-Ok
-returns-in-Ok c =
+pub returns-in-Ok-clause-tried : goal.returns-in-Ok-clause-tried
+returns-in-Ok-clause-tried c =
     let task = c.attempt.ensures.task in
     did_plain c.args.layout.now c.args.job.now c.args.caller.now c.attempt.new.caller
     (record { number = c.in-Ok.number; replies = c.into_replies.result }) c.requires.law Plain c.attempt.new.body

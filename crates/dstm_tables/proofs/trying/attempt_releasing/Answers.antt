@@ -29,4 +29,4 @@ loosely layout job k n tried.Blocked keeps was = absurd (let plain = was.branche
 pub returns-in-Tl2 : goal.returns-in-Tl2
 returns-in-Tl2 c =
     loosely c.args.layout.now c.args.job.now c.args.caller.now c.attempt_plain.new.caller c.attempt_plain.result
-    (ap (λ (k : Caller). lets_go (round_of k)) c.in-Tl2.is) c.attempt_plain.ensures
+    (ap (λ (k : Caller). lets_go (round_of k)) c.in-Tl2.is) c.attempt_plain.ensures.tried

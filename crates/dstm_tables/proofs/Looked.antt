@@ -1,0 +1,144 @@
+-- An attempt on which objects were opened, and that was not rechecked, has had at most one sight for each look at an object.
+use Rattle.std.proofs.Common.{◌≡◌, ◌∙◌, ◌+◌, ◌≤◌, ◌++◌, ℕ, List, None, Some, Ok, Err, true, false, refl, sym, ap, subst, arith}
+use Rattle.std.specs.Prelude.{Bool, IfErr, IsSome, IsTrue, OnOk, Option, Result}
+use Rattle.std.proofs.lemmas.Bool.{cond_both}
+use Rattle.dstm_model.specs.declared.value.Val.{Val}
+use Rattle.dstm_core.specs.Events.{Event}
+use Rattle.dstm_core.specs.Runs.{local}
+use Rattle.dstm_core.specs.State.{LocalState}
+use Rattle.dstm_core.specs.Traces.{events_of, IsPastOf}
+use Rattle.dstm_core.specs.declared.shape.Shape.{Shape}
+use Rattle.dstm_machines.proofs.Own.{own_later}
+use Rattle.dstm_order.specs.Passes.{is_open}
+use Rattle.dstm_order.specs.Tasks.{Work}
+use Rattle.dstm_order.specs.Tasks.Task.{Doing}
+use Rattle.dstm_order.specs.Tasks.Work.{Reading, Writing}
+use Rattle.dstm_order.specs.declared.again.Again.{Again}
+use Rattle.dstm_progress.specs.Disturbed.{count_of}
+use Rattle.dstm_words.specs.Seats.{Home}
+use Rattle.dstm_engine.specs.Attempts.{completes_pass, is_look_self, sights}
+use Rattle.dstm_engine.specs.Callers.{Called, begun_log, held, is_opened, shape_of, state}
+use Rattle.dstm_engine.specs.Calls.{Performs, reading}
+use Rattle.dstm_engine.specs.Transactions.{BeginsAnew, Leaves, Stays}
+use Rattle.dstm_store.specs.declared.law.StoreLaw.{StoreLaw}
+use Rattle.dstm_tables.specs.Attempts.{is_look_object, looks_at_object}
+use Rattle.dstm_tables.specs.Law.{keeps}
+use Rattle.dstm_tables.specs.Rechecks.{looks}
+use Rattle.dstm_tables.proofs.Begun.{begun_there, count_later}
+use Rattle.dstm_tables.proofs.FewSights.{beginning_looks, count_kinds, looks_more, none_looks, none_yet, open_looks, sights_more}
+
+-- no sight more than looks at an object
+abbrev pub IsFew : Called StoreLaw → Type 0
+IsFew k = sights k ≤ looks k
+
+-- ---- an attempt that goes on
+
+module _ (k n : Called StoreLaw) (home : n.home ≡ k.home) (number : n.number ≡ k.number) (past : IsPastOf k.log n.log) where
+  -- as n has the table and the number
+  there : (P : Home StoreLaw → ℕ → Type 0) → P k.home k.number → P n.home n.number
+  there P is = subst (λ (h : Home StoreLaw). P h n.number) (sym home) (subst (P k.home) (sym number) is)
+
+  module _ (attempt : begun_log n.number n.log ≡ begun_log k.number k.log) where
+    same_begun : (local (shape_of n) k.log n.number).begun ≡ (state n).begun
+    same_begun =
+        begun_there (shape_of n) n.number k.log
+        ∙ ap (λ (log : List Event). (local (shape_of n) log n.number).begun)
+        (ap (λ (c : ℕ). begun_log c k.log) number ∙ sym attempt)
+        ∙ sym (begun_there (shape_of n) n.number n.log)
+
+    -- what k counts of it, by its number
+    same_count : (test : Shape → LocalState → Event → Bool) →
+        count_of test (shape_of k) k.log k.number (state k).begun ≡ count_of test (shape_of n) k.log n.number (state n).begun
+    same_count test =
+        there (λ h c. count_of test (shape_of k) k.log k.number (state k).begun
+        ≡ count_of test h.terms.shape k.log c (local h.terms.shape k.log c).begun) refl
+        ∙ ap (count_of test (shape_of n) k.log n.number) same_begun
+
+    -- as n has seen it
+    in_log : (P : List Event → Type 0) → P (past.later ++ k.log) → P n.log
+    in_log P is = subst P past.whole is
+
+    -- the looks stay
+    pub looks_stay : looks k ≤ looks n
+    looks_stay =
+        subst (λ (i : ℕ). i ≤ looks n) (sym (same_count looks_at_object))
+        (in_log (λ (log : List Event). count_of looks_at_object (shape_of n) k.log n.number (state n).begun
+        ≤ count_of looks_at_object (shape_of n) log n.number (state n).begun)
+        (count_later looks_at_object (shape_of n) past.later k.log n.number (state n).begun))
+
+    -- events that look at the own status no more often than at an object
+    few_by : (events : List Event) → events_of k.number n.log ≡ events ++ events_of k.number k.log →
+        count_kinds is_look_self events ≤ count_kinds is_look_object events → IsFew k → IsFew n
+    few_by events own few was =
+        let s = shape_of n in
+        let c = n.number in
+        let i = (state n).begun in
+        let later : events_of c past.later ≡ events =
+        own_later c k.log n.log events past (subst (λ (x : ℕ). events_of x n.log ≡ events ++ events_of x k.log) (sym number) own) in
+        let new : (local s (past.later ++ k.log) c).begun ≡ i = ap (λ (log : List Event). (local s log c).begun) past.whole in
+        let sights_now : sights n ≤ count_of completes_pass s k.log c i + count_kinds is_look_self events =
+        in_log (λ (log : List Event). count_of completes_pass s log c i ≤ count_of completes_pass s k.log c i + count_kinds is_look_self events)
+        (subst (λ (es : List Event). count_of completes_pass s (past.later ++ k.log) c i
+        ≤ count_of completes_pass s k.log c i + count_kinds is_look_self es) later (sights_more s c i past.later k.log)) in
+        let looks_now : count_of looks_at_object s k.log c i + count_kinds is_look_object events ≤ looks n =
+        in_log (λ (log : List Event). count_of looks_at_object s k.log c i + count_kinds is_look_object events
+        ≤ count_of looks_at_object s log c i)
+        (subst (λ (es : List Event). count_of looks_at_object s k.log c i + count_kinds is_look_object es
+        ≤ count_of looks_at_object s (past.later ++ k.log) c i) later (looks_more s c i past.later k.log same_begun new)) in
+        let sights_then = same_count completes_pass in
+        let looks_then = same_count looks_at_object in
+        omega arith
+
+-- ---- opens
+
+module _ (k n : Called StoreLaw) (attempt : begun_log n.number n.log ≡ begun_log k.number k.log) (was : IsFew k) where
+  opens_few : (w : Work) (a : Option Again) → is_open w ≡ true → Performs keeps (Doing w) k n a → IsFew n
+  opens_few w a opens p =
+      few_by k n p.same.0 p.same.1 p.seen attempt p.events p.own
+      (open_looks w (shape_of k) (state k) k.generator p.events opens p.call.obeys) was
+
+  -- an open makes no event of an object that is open already
+  pub read_few : (o : ℕ) (r : Result Val Again) → (IsSome (held k o) → n ≡ k) →
+      (held k o ≡ None → OnOk r (Stays keeps (reading (shape_of k) o) k n)) →
+      IfErr r (Leaves keeps (reading (shape_of k) o) k n) → IsFew n
+  read_few o r again stays leaves = by r stays leaves (held k o) again refl
+    where
+      opens : is_open (reading (shape_of k) o) ≡ true
+      opens = cond_both (shape_of k).all_write (Writing o) (Reading o) (λ (w : Work). is_open w ≡ true) (λ _. refl) (λ _. refl)
+
+      by : (r : Result Val Again) → (held k o ≡ None → OnOk r (Stays keeps (reading (shape_of k) o) k n)) →
+          IfErr r (Leaves keeps (reading (shape_of k) o) k n) → (h : Option Val) → (IsSome h → n ≡ k) → held k o ≡ h → IsFew n
+      by (Err a) stays leaves h again is = opens_few (reading (shape_of k) o) (Some a) opens leaves.steps
+      by (Ok v) stays leaves None again is = opens_few (reading (shape_of k) o) None opens (stays is).steps
+      by (Ok v) stays leaves (Some w) again is = subst IsFew (sym (again refl)) was
+
+  pub write_few : (o : ℕ) (r : Result Val Again) → (IsTrue (is_opened k o) → n ≡ k) →
+      (is_opened k o ≡ false → OnOk r (Stays keeps (Writing o) k n)) → IfErr r (Leaves keeps (Writing o) k n) → IsFew n
+  write_few o r again stays leaves = by r stays leaves (is_opened k o) again refl
+    where
+      by : (r : Result Val Again) → (is_opened k o ≡ false → OnOk r (Stays keeps (Writing o) k n)) →
+          IfErr r (Leaves keeps (Writing o) k n) → (b : Bool) → (IsTrue b → n ≡ k) → is_opened k o ≡ b → IsFew n
+      by (Err a) stays leaves b again is = opens_few (Writing o) (Some a) refl leaves.steps
+      by (Ok v) stays leaves false again is = opens_few (Writing o) None refl (stays is).steps
+      by (Ok v) stays leaves true again is = subst IsFew (sym (again refl)) was
+
+-- ---- an attempt that begins
+
+pub begins_few : (k b : Called StoreLaw) → BeginsAnew keeps k b → IsFew b
+begins_few k b begins =
+    let p = begins.steps in
+    let s = shape_of b in
+    let c = b.number in
+    let i = (state b).begun in
+    let later : events_of k.number p.seen.later ≡ p.events = own_later k.number k.log b.log p.events p.seen p.own in
+    let none : count_kinds is_look_self (events_of c p.seen.later) ≡ 0 =
+    ap (λ (x : ℕ). count_kinds is_look_self (events_of x p.seen.later)) p.same.1 ∙ ap (count_kinds is_look_self) later
+    ∙ none_looks p.events (beginning_looks (shape_of k) k.fresh (state k) k.generator p.events p.call.obeys) in
+    let before : (local s k.log c).begun + 1 ≡ i =
+    there k b p.same.0 p.same.1 p.seen (λ h x. (local h.terms.shape k.log x).begun + 1 ≡ i) (sym begins.begun) in
+    let zero = none_yet completes_pass s k.log c i (omega (arith, before)) in
+    let most : sights b ≤ count_of completes_pass s k.log c i + count_kinds is_look_self (events_of c p.seen.later) =
+    subst (λ (log : List Event). count_of completes_pass s log c i
+    ≤ count_of completes_pass s k.log c i + count_kinds is_look_self (events_of c p.seen.later)) p.seen.whole
+    (sights_more s c i p.seen.later k.log) in
+    omega arith

@@ -1,0 +1,56 @@
+use Rattle.std.proofs.Common.{◌≡◌, ◌∙◌, ◌<◌, ◌&&◌, ℕ, Bool, Ok, Err, true, ap, arith, length, sym}
+use Rattle.std.specs.Prelude.{OnOk, Result}
+use Rattle.dstm_model.specs.declared.value.Val.{Val}
+use Rattle.dstm_order.specs.declared.again.Again.{Again}
+use Rattle.dstm_store.specs.declared.law.StoreLaw.{StoreLaw}
+use Rattle.dstm_mem.proofs.WithSet.{found_by, unchanged_by}
+use Rattle.dstm_engine.specs.Attempts.{Admits}
+use Rattle.dstm_engine.specs.Callers.{Called, held, is_live, is_opened, live_opened, shape_of, written}
+use Rattle.dstm_engine.specs.Transactions.{TxPlace, is_ok}
+use Rattle.dstm_engine.proofs.LettingGo.{read_keeps, same_both}
+use Rattle.dstm_tables.specs.Law.{keeps}
+use Rattle.dstm_tables.proofs.Looked.{read_few}
+use Rattle.dstm_tables.proofs.opener.OpenerMem.open_read.Goals as goal
+
+pub returns-clause-place : goal.returns-clause-place
+returns-clause-place c =
+    ap (λ (x : TxPlace _ × ℕ). (x, c.args.self.now.tx.ghost_name))
+    (same_both _ _ _ _ c.open_read.ensures.place
+    (read_keeps keeps c.args.self.now.tx.now.caller.now c.open_read.new.self.caller.now c.args.o c.open_read.result
+    c.open_read.ensures.again c.open_read.ensures.stays c.open_read.ensures.leaves))
+
+-- in an attempt that is live what is open for writing is told as it is
+unmarked_live : (A : Type 0) (k n : Called StoreLaw) (r : Result Val Again) → is_live k ≡ true → is_live n ≡ is_ok r →
+    OnOk r (A → (p : ℕ) → is_opened n p ≡ is_opened k p) → OnOk r (A → (p : ℕ) → live_opened n p ≡ live_opened k p)
+unmarked_live A k n (Ok v) was now same = λ a p.
+    ap (λ (b : Bool). b && is_opened n p) now ∙ same a p ∙ sym (ap (λ (b : Bool). b && is_opened k p) was)
+unmarked_live A k n (Err again) was now same = tt
+
+pub returns-clause-unmarked : goal.returns-clause-unmarked
+returns-clause-unmarked c =
+    unmarked_live _ c.args.self.now.tx.now.caller.now c.open_read.new.self.caller.now c.open_read.result c.requires.live
+    c.open_read.ensures.live c.open_read.ensures.unmarked
+
+pub returns-clause-found : goal.returns-clause-found
+returns-clause-found c =
+    let now = c.open_read.new.self.caller.now in
+    let same = ap (λ (k : Called _). (shape_of k).objects) c.open_read.ensures.kept in
+    found_by c.open_read.result (Admits keeps now) (held now) (written now) c.args.o
+    (λ map admitted.
+    let size = admitted.length in
+    let within : c.args.o < length map = omega (arith, size, same, c.requires.exists) in (within, admitted.agrees))
+    c.open_read.ensures.value
+
+pub returns-clause-unchanged : goal.returns-clause-unchanged
+returns-clause-unchanged c =
+    unchanged_by c.open_read.result (written c.args.self.now.tx.now.caller.now) (written c.open_read.new.self.caller.now)
+    (λ p. ap (λ (k : Called _). written k p) c.open_read.ensures.kept)
+
+pub invariant_of-self : goal.invariant_of-self
+invariant_of-self c =
+    record {
+      few =
+          read_few c.args.self.now.tx.now.caller.now c.open_read.new.self.caller.now
+          (ap (λ (p : TxPlace _). p.began) c.open_read.ensures.place) c.args.self.now.few c.args.o c.open_read.result
+          c.open_read.ensures.again c.open_read.ensures.stays c.open_read.ensures.leaves;
+    }

@@ -1,0 +1,40 @@
+use Rattle.std.proofs.Common.{ℕ, ◌<◌, ap, arith, length}
+use Rattle.dstm_mem.proofs.WithSet.{found_by, unchanged_by}
+use Rattle.dstm_engine.specs.Attempts.{Admits}
+use Rattle.dstm_engine.specs.Callers.{Called, held, shape_of, written}
+use Rattle.dstm_engine.specs.Transactions.{TxPlace}
+use Rattle.dstm_engine.proofs.LettingGo.{write_keeps, same_both}
+use Rattle.dstm_tables.specs.Law.{keeps}
+use Rattle.dstm_tables.proofs.Looked.{write_few}
+use Rattle.dstm_tables.proofs.opener.OpenerMem.open_write.Goals as goal
+
+pub returns-clause-place : goal.returns-clause-place
+returns-clause-place c =
+    ap (λ (x : TxPlace _ × ℕ). (x, c.args.self.now.tx.ghost_name))
+    (same_both _ _ _ _ c.open_write.ensures.place
+    (write_keeps keeps c.args.self.now.tx.now.caller.now c.open_write.new.self.caller.now c.args.o
+    c.open_write.result c.open_write.ensures.again c.open_write.ensures.stays c.open_write.ensures.leaves))
+
+pub returns-clause-found : goal.returns-clause-found
+returns-clause-found c =
+    let now = c.open_write.new.self.caller.now in
+    let same = ap (λ (k : Called _). (shape_of k).objects) c.open_write.ensures.kept in
+    found_by c.open_write.result (Admits keeps now) (held now) (written now) c.args.o
+    (λ map admitted.
+    let size = admitted.length in
+    let within : c.args.o < length map = omega (arith, size, same, c.requires.exists) in (within, admitted.agrees))
+    c.open_write.ensures.value
+
+pub returns-clause-unchanged : goal.returns-clause-unchanged
+returns-clause-unchanged c =
+    unchanged_by c.open_write.result (written c.args.self.now.tx.now.caller.now) (written c.open_write.new.self.caller.now)
+    (λ p. ap (λ (k : Called _). written k p) c.open_write.ensures.kept)
+
+pub invariant_of-self : goal.invariant_of-self
+invariant_of-self c =
+    record {
+      few =
+          write_few c.args.self.now.tx.now.caller.now c.open_write.new.self.caller.now
+          (ap (λ (p : TxPlace _). p.began) c.open_write.ensures.place) c.args.self.now.few c.args.o c.open_write.result
+          c.open_write.ensures.again c.open_write.ensures.stays c.open_write.ensures.leaves;
+    }
