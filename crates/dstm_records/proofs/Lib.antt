@@ -7,3 +7,11 @@ pub mod Running
 pub mod Replies
 pub mod Told
 pub mod Making
+pub mod Together
+pub mod HandedByDstm
+pub mod HandedByTl2
+pub mod Patience
+pub mod WorkersLeft
+pub mod Callers
+pub mod AloneAttempts
+pub mod ByLaws

@@ -36,7 +36,7 @@ abbrev pub MayFollow : (round least : ℕ) → List Row → Type 0
 MayFollow round least rows =
     IfSome (last_row rows) (λ previous. (previous.round < round) ⊎ ((previous.round ≡ round) × (previous.number < least)))
 
-last_push : (rows : List Row) (row : Row) → last_row (rows ++ row ∷ []) ≡ Some row
+pub last_push : (rows : List Row) (row : Row) → last_row (rows ++ row ∷ []) ≡ Some row
 last_push [] row = refl
 last_push (first ∷ []) row = refl
 last_push (first ∷ second ∷ rows) row = last_push (second ∷ rows) row

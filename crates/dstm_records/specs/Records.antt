@@ -26,7 +26,7 @@ use Rattle.dstm_tables.specs.declared.tables.Round.TheVariants.{Dstm, Tl2}
 use Rattle.dstm_tables.specs.Answers.{KeepsFew}
 use Rattle.dstm_tables.specs.Jobs.{HadToStop, NoneWasted}
 use Rattle.dstm_tables.specs.Tells as known
-use Rattle.dstm_tables.specs.Tells.{ByCalls, IsOf, callers_of, committed_of, layout_of, start_of, values_of, CannotBegin, IsPast, begun_of}
+use Rattle.dstm_tables.specs.Tells.{ByCalls, IsOf, IsSpent, begun_of, callers_of, committed_of, layout_of, let_go_by, start_of, values_of}
 use Rattle.dstm_records.specs.Rounds.{is_parallel, rows_in, left_by, has_job, workers_in, workers_left, most_jobs, attempts_for, locators_for, all_workers}
 
 -- its table has the store's law and objects, and what happened on it is a run of its engine
@@ -54,6 +54,20 @@ IsMade options version number jobs (Tl2 r) = r.terms.attempts ≡ attempts_for j
 -- the seed of a worker's caller
 abbrev pub seed_for : Options → (worker : ℕ) → ℕ
 seed_for options worker = (options.seed + worker) % 2 ^ 64
+
+-- ---- early release
+
+-- reads are given up early: under DSTM, of a workload that has no conditions, with reads that stay reads
+pub record IsReleasing (options : Options) (version : ℕ) : Type 0 where
+  pub engine : options.engine ≡ engine.Dstm
+  pub release : options.release ≡ true
+  pub reads : options.all_write ≡ false
+  pub no_conditions : version ≤ 2
+
+-- no read is given up: of a workload that has no conditions, where reads are not given up early
+pub record KeepsReads (options : Options) (version : ℕ) : Type 0 where
+  pub no_conditions : version ≤ 2
+  pub not_early : IsReleasing options version → ⊥
 
 -- ---- rows and transactions
 
@@ -136,6 +150,10 @@ pub record IsParallel (workload : Workload) (options : Options) (number : ℕ) (
   pub calls :
       (worker : ℕ) → Contains (workers_in workload number before) worker
       → ByCalls (seed_for options worker) round (caller worker)
+  -- where no read is given up, a worker's caller has let none go
+  pub keeps :
+      KeepsReads options workload.version → (worker : ℕ) → Contains (workers_in workload number before) worker
+      → let_go_by round (caller worker) ≡ 0
 
 -- ---- alone rounds
 
@@ -174,13 +192,6 @@ count_blocked workload before (row ∷ rows) =
 abbrev pub most_tries : Workload → (before rows : List Row) → ℕ
 most_tries workload before rows = length rows + count_blocked workload before rows
 
--- after no more attempts than these the only caller of a table could begin no other one
-pub record WasUsedUp (most : ℕ) (round : Round) : Type 0 where
-  pub earlier : Round
-  pub past : IsPast earlier round
-  pub none_left : CannotBegin earlier 0
-  pub few : begun_of earlier 0 ≤ most
-
 -- an alone round: its one caller runs at most one job of each worker, and some job
 pub record IsAlone (workload : Workload) (options : Options) (before rows : List Row) (round : Round) : Type 0 where
   pub one_caller : callers_of round ≡ 1
@@ -188,13 +199,14 @@ pub record IsAlone (workload : Workload) (options : Options) (before rows : List
   pub few : (worker : ℕ) → count_done worker rows ≤ 1
   -- the caller has made its events by calls, from the generator of the seed of the least worker that has jobs left on
   pub calls : IfSome (slice_get (workers_left workload before) 0) (λ worker. ByCalls (seed_for options worker) round 0)
-  -- no worker that had jobs left was passed over, unless the caller was used up
+  -- where no read is given up, the caller has let none go
+  pub keeps : KeepsReads options workload.version → let_go_by round 0 ≡ 0
+  -- no worker that had jobs left was passed over, unless the caller is spent
   pub asked :
       (worker : ℕ) → worker < workload.workers → has_job (left_by workload before) worker ≡ true
-      → WasAsked workload before rows worker ⊎ WasUsedUp (most_tries workload before rows) round
+      → WasAsked workload before rows worker ⊎ IsSpent round 0
   -- no attempt was wasted
-  pub attempts :
-      (begun_of round 0 ≤ most_tries workload before rows) ⊎ WasUsedUp (most_tries workload before rows) round
+  pub attempts : begun_of round 0 ≤ most_tries workload before rows
 
 -- ---- jobs that are given up
 
@@ -210,18 +222,11 @@ GiveUpRightly workload before (row ∷ rows) =
     (is_given_up row.replies ≡ true → IsGivenUpRightly workload before row)
     × GiveUpRightly workload (before ++ row ∷ []) rows
 
--- ---- early release
+-- ---- what rows keep of their reads
 
 -- the transaction of a row whose job has operations on the list alone has few reads
 abbrev pub KeepsFewReads : Workload → Row × Committed → Type 0
 KeepsFewReads workload told = (job : Job) → job_of workload told.0 ≡ Some job → KeepsFew job told.1
-
--- reads are given up early: under DSTM, of a workload that has no conditions, with reads that stay reads
-pub record IsReleasing (options : Options) (version : ℕ) : Type 0 where
-  pub engine : options.engine ≡ engine.Dstm
-  pub release : options.release ≡ true
-  pub reads : options.all_write ≡ false
-  pub no_conditions : version ≤ 2
 
 -- ---- a round, and all rounds
 

@@ -1,4 +1,4 @@
--- Rows and the transactions that they tell of, as they come: whose turn it is when a row is made.
+-- Private: rows and the transactions that they tell of, as they come: whose turn it is when a row is made.
 use Rattle.std.specs.Prelude.{◌≡◌, ◌⊎◌, List, [], ◌∷◌, ◌++◌, Some}
 use Rattle.dstm_model.specs.declared.reply.Reply.TheVariants.{Never}
 use Rattle.dstm_model.specs.Answers.{Committed}

@@ -2,6 +2,7 @@
 //! for a report.
 #![tactic(auto)]
 
+pub mod laws;
 mod round;
 mod shape;
 

@@ -1,0 +1,32 @@
+//! Laws of the records of a run, however it ended: what the calls of the callers come to. Each holds of every caller of every
+//! round that has a record. The functions do nothing.
+
+ghost use Rattle.dstm_records.specs.Laws.{EachIsBoundedWhenAlone, EachIsByCalls, EachKeepsItsRank, EachKillsAsChosen, EachWasHandedRightly};
+
+/// Each caller has made its events by calls that obey the order of steps, one after the other from nothing; under DSTM from
+/// the generator of a worker's seed on.
+pub fn callers_are_by_calls()
+    ensures { EachIsByCalls }
+{}
+
+/// Every value that an attempt was handed was validated before the attempt did anything else, and all that it was handed are
+/// values of one moment: those of the state after the first some of the transactions that committed in the round.
+pub fn handed_values_stood()
+    ensures { EachWasHandedRightly }
+{}
+
+/// An attempt aborts another one only where its manager chose that, asked about that enemy after the rounds that were waited.
+pub fn kills_were_chosen()
+    ensures { EachKillsAsChosen }
+{}
+
+/// An attempt in which no other caller made a step, under Polite, Karma or Polka, was left by its commit only, and took few
+/// steps.
+pub fn alone_attempts_were_bounded()
+    ensures { EachIsBoundedWhenAlone }
+{}
+
+/// A retry stayed the same transaction: it drew no stamp and kept its rank.
+pub fn retries_kept_their_rank()
+    ensures { EachKeepsItsRank }
+{}
