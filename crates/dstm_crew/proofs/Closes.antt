@@ -14,16 +14,16 @@ use Rattle.dstm_options.specs.declared.options.Options.{Options}
 use Rattle.dstm_tables.specs.declared.founding.Founder.{Founder}
 use Rattle.dstm_tables.specs.declared.tables.Caller.{Caller}
 use Rattle.dstm_tables.specs.declared.tables.Table.{Table}
-use Rattle.dstm_tables.specs.Callers.{CameByCalls, done, number_of, round_of, begun}
+use Rattle.dstm_tables.specs.Callers.{CameByCalls, begun, done, let_go, number_of, round_of}
 use Rattle.dstm_tables.proofs.Calls.{by_calls, calls_at_close, came_on}
 use Rattle.dstm_tables.specs.Founders.{TakesBack, first_of, seen_by}
 use Rattle.dstm_tables.specs.Tells as known
-use Rattle.dstm_tables.specs.Tells.{ByCalls, IsPast, all_done, callers_of, committed_of, done_of, start_of, values_of, begun_of}
-use Rattle.dstm_tables.proofs.Closing.{done_at_close}
+use Rattle.dstm_tables.specs.Tells.{ByCalls, IsPast, IsSpent, all_done, begun_of, callers_of, committed_of, done_of, let_go_by, start_of, values_of}
+use Rattle.dstm_tables.proofs.Closing.{done_at_close, let_go_at_close, spent_at_close}
 use Rattle.dstm_tables.proofs.History.{sights_agree}
-use Rattle.dstm_tables.proofs.Staying.{attempts_past, past_trans}
+use Rattle.dstm_tables.proofs.Staying.{attempts_past}
 use Rattle.dstm_tables.proofs.Same.{callers_past, first_past, first_seen, layout_is, layout_past, locators_past, number_below, of_past, only_tells_all, start_past, writes_past}
-use Rattle.dstm_records.specs.Records.{IsMade, IsRoundOf, IsRun, TellOf, seed_for, IsAlone, WasUsedUp, most_tries}
+use Rattle.dstm_records.specs.Records.{IsAlone, IsMade, IsRoundOf, IsRun, KeepsReads, TellOf, seed_for}
 use Rattle.dstm_records.specs.Rounds.{is_parallel, most_jobs, workers_left}
 use Rattle.dstm_records.specs.Running.{AddsRound, Begins, count_left, turns_behind}
 use Rattle.dstm_records.specs.Told.{AreTold}
@@ -107,7 +107,8 @@ module _ (workload : Workload) (options : Options) (number : ℕ) (before : List
     (table : Table) (f g : Founder) (first n : Caller) (rows : List Row) (turns : Turning)
     (alone : is_parallel number ≡ false) (begins : Begins workload number before values)
     (opened : IsOpened workload options (length (workers_left workload before)) values table f first)
-    (ran : HasRunAlone workload number first n before rows turns) (takes : TakesBack f g n)
+    (ran : HasRunAlone workload number first n before rows turns)
+    (kept : KeepsReads options workload.version → let_go n ≡ 0) (takes : TakesBack f g n)
     (run : known.IsRun (seen_by g))
     (come : IfSome (slice_get (workers_left workload before) 0) (λ worker. CameByCalls (seed_for options worker) first)) where
   past : IsPast (first_of table) (seen_by g)
@@ -166,15 +167,6 @@ module _ (workload : Workload) (options : Options) (number : ℕ) (before : List
       (calls_at_close seed (round_of n) (seen_by g) (number_of n) takes.other_past takes.other_kept
       (by_calls seed n (came_on seed first n ran.goes.on came)))
 
-  -- a caller that was used up is so in the record
-  used_later : (most : ℕ) → WasUsedUp most (round_of n) → WasUsedUp most (seen_by g)
-  used_later most used = record {
-    earlier = used.earlier;
-    past = past_trans used.earlier (round_of n) (seen_by g) used.past takes.other_past;
-    none_left = used.none_left;
-    few = used.few;
-  }
-
   is_alone : IsAlone workload options before ran.now (seen_by g)
   is_alone =
       let begun_then : begun_of (seen_by g) 0 ≡ begun n =
@@ -185,16 +177,16 @@ module _ (workload : Workload) (options : Options) (number : ℕ) (before : List
         some_row = ran.some;
         few = ran.few;
         calls = calls (slice_get (workers_left workload before) 0) come;
+        keeps = λ none.
+            ap (let_go_by (seen_by g)) (sym zeroth)
+            ∙ let_go_at_close (round_of n) (seen_by g) (number_of n) takes.other_kept ∙ kept none;
         asked = λ worker below has.
             elim (ran.asked worker below has) [
               | inl was ↦ inl was
-              | inr used ↦ inr (used_later (most_tries workload before ran.now) used)
+              | inr spent ↦ inr (subst (IsSpent (seen_by g)) zeroth
+                  (spent_at_close (round_of n) (seen_by g) (number_of n) takes.other_past takes.other_kept spent))
             ];
-        attempts =
-            elim ran.attempts [
-              | inl few ↦ inl (omega (arith, few, begun_then))
-              | inr used ↦ inr (used_later (most_tries workload before ran.now) used)
-            ];
+        attempts = let few = ran.attempts in omega (arith, few, begun_then);
       }
 
   round : IsRoundOf workload options number before ran.now values (seen_by g)

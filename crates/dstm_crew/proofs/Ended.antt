@@ -9,13 +9,13 @@ use Rattle.dstm_options.specs.declared.options.Options.{Options}
 use Rattle.dstm_tables.specs.declared.tables.Round.{Round}
 use Rattle.dstm_tables.specs.declared.tables.Table.{Table}
 use Rattle.dstm_tables.specs.Answers.{KeepsFew}
-use Rattle.dstm_tables.specs.Callers.{number_of, round_of}
+use Rattle.dstm_tables.specs.Callers.{let_go, number_of, round_of}
 use Rattle.dstm_tables.specs.Tells.{ByCalls, IsPast, IsRun, SameOwn, done_of}
 use Rattle.dstm_tables.proofs.Calls.{by_calls, calls_at_close, came_on}
-use Rattle.dstm_tables.proofs.Closing.{done_at_close, none_at_close, stop_at_close}
+use Rattle.dstm_tables.proofs.Closing.{done_at_close, let_go_at_close, none_at_close, stop_at_close}
 use Rattle.dstm_tables.proofs.Same.{callers_past, number_below}
 use Rattle.dstm_tables.proofs.Staying.{lets_go_past}
-use Rattle.dstm_records.specs.Records.{seed_for}
+use Rattle.dstm_records.specs.Records.{KeepsReads, seed_for}
 use Rattle.dstm_crew.specs.declared.share.Share.{Share}
 use Rattle.dstm_crew.specs.declared.worker.Worker.{Worker}
 use Rattle.dstm_crew.specs.Seats.{HasCome, HasEnded, IsKnownBy, caller_number, share_of}
@@ -26,8 +26,10 @@ module _ (workload : Workload) (options : Options) where
   -- ---- as its own caller's log tells
 
   pub has_ended : (table : Table) (old new : Worker) → IsReady workload table old → HasCome options old →
-      HasRun workload options old new → HasEnded workload options table new
-  has_ended table old new ready come ran = record {
+      HasRun workload options old new →
+      (KeepsReads options workload.version → let_go new.caller ≡ let_go old.caller) →
+      HasEnded workload options table new
+  has_ended table old new ready come ran kept = record {
     rests = record { home = ran.on.home ∙ ready.home; rest = ran.on.rest };
     shared = record {
       within = number_below new.caller ran.on.rest;
@@ -38,7 +40,8 @@ module _ (workload : Workload) (options : Options) where
       calls =
           subst (λ (worker : ℕ). ByCalls (seed_for options worker) (round_of new.caller) (number_of new.caller)) (sym ran.number)
           (by_calls (seed_for options old.number) new.caller
-          (came_on (seed_for options old.number) old.caller new.caller ran.on come));
+          (came_on (seed_for options old.number) old.caller new.caller ran.on come.by_calls));
+      keeps = λ none. kept none ∙ come.none_let_go;
     };
   }
 
@@ -66,6 +69,7 @@ module _ (workload : Workload) (options : Options) where
         subst (λ (ds : List Committed). All (λ told. KeepsFew (job_at workload.jobs told.0) told.1) (zip share.places.items (reverse ds)))
         (sym same) (was.few_reads releasing (sym (lets_go_past old new past) ∙ lets));
     calls = calls_at_close (seed_for options share.worker) old new c past own was.calls;
+    keeps = λ none. let_go_at_close old new c own ∙ was.keeps none;
   }
     where
       same : done_of new c ≡ done_of old c

@@ -79,11 +79,13 @@ module _ (table : Table) where
         (one_out f g seed (length workers) worker.caller seats.back gives);
   }
 
-  -- it has come by calls
+  -- it has come by calls, and has let no read go
   pub has_come : (options : Options) (f g : Founder) (share : Share) (worker : Worker) → share_of worker ≡ share →
       GivesOut table f g (seed_for options share.worker) worker.caller → HasCome options worker
-  has_come options f g share worker is gives =
-      subst (λ (s : Share). CameByCalls (seed_for options s.worker) worker.caller) (sym is) gives.came
+  has_come options f g share worker is gives = record {
+    by_calls = subst (λ (s : Share). CameByCalls (seed_for options s.worker) worker.caller) (sym is) gives.came;
+    none_let_go = gives.none_let_go;
+  }
 
   -- all have theirs
   pub seats_all : (shares : List Share) (workers : List Worker) (f : Founder) → Seats shares workers [] f →

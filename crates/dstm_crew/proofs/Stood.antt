@@ -211,6 +211,7 @@ module _ (workload : Workload) (options : Options) (number : ℕ) (rows : List R
       calls = λ worker has.
           let h = share_of worker has in
           subst (λ (w : ℕ). ByCalls (seed_for options w) closed (caller worker)) h.is (shared_of worker h).calls;
+      keeps = λ none worker has. (shared_of worker (share_of worker has)).keeps none;
     }
 
     most : most_places shares ≡ most_jobs workload number rows

@@ -22,7 +22,7 @@ use Rattle.dstm_report.specs.Lawful.{first_job, jobs_left, store_after}
 use Rattle.dstm_report.specs.Turns.{Turning, without_first}
 use Rattle.dstm_workload.specs.Workload.{IsJob, IsValidWorkload}
 use Rattle.dstm_report.proofs.Rising.{all_blocked, each-filter, first_holds, rise_all, someone, turn_ends}
-use Rattle.dstm_records.specs.Records.{WasAsked, WasUsedUp, count_done, is_blocked, is_given_up, most_tries}
+use Rattle.dstm_records.specs.Records.{WasAsked, count_done, is_blocked, is_given_up, most_tries}
 use Rattle.dstm_records.specs.Rounds.{attempts_for, has_job, is_parallel, left_by, workers_left}
 use Rattle.std.proofs.lemmas.Option.{none-some}
 use Rattle.dstm_tables.specs.Answers.{IsAnsweredBy, entries_of}
@@ -39,9 +39,9 @@ use Rattle.dstm_tables.specs.declared.tables.Table.{Table}
 use Rattle.dstm_tables.specs.Callers.{AtRest, done, law_of, number_of, round_of}
 use Rattle.dstm_tables.specs.Callers as callers
 use Rattle.dstm_tables.specs.Jobs.{DidJob}
-use Rattle.dstm_tables.specs.OnlyCallers.{HasGivenUp, StoodAlone, WasSpent, left_by as values_left}
-use Rattle.dstm_tables.specs.Tells.{used_by, CannotBegin, all_done, attempts_of, begun_of, callers_of, committed_of, done_of, start_of}
-use Rattle.dstm_tables.specs.Tries.{GoesOn}
+use Rattle.dstm_tables.specs.OnlyCallers.{HasGivenUp, StoodAlone, left_by as values_left}
+use Rattle.dstm_tables.specs.Tells.{CannotBegin, IsSpent, all_done, attempts_of, callers_of, committed_of, done_of, start_of, used_by}
+use Rattle.dstm_tables.specs.Tries.{GoesOn, IsSpentFrom}
 use Rattle.dstm_tables.proofs.Staying.{goes_nowhere, goes_on, same_attempts}
 use Rattle.dstm_tables.proofs.Same.{callers_same, can_begin, law_same, locators_same, number_below, only_tells_all, start_same, writes_same}
 use Rattle.dstm_tables.specs.declared.style.Style.{Style}
@@ -429,8 +429,8 @@ module _ (workload : Workload) (number : ℕ) (table : Table) (first : Caller) (
       Goes workload number first k before rows now turns → ((v : ℕ) → v < w → count_done v now ≤ 1) →
       ((v : ℕ) → w ≤ v → count_done v now ≡ 0) → 0 < length now →
       ((v : ℕ) → v < workload.workers → has_job (left_by workload before) v ≡ true →
-      WasAsked workload before now v ⊎ WasUsedUp (most_tries workload before now) (round_of k)) →
-      ((callers.begun k ≤ most_tries workload before now) ⊎ WasUsedUp (most_tries workload before now) (round_of k)) →
+      WasAsked workload before now v ⊎ IsSpent (round_of k) (number_of k)) →
+      callers.begun k ≤ most_tries workload before now →
       HasRunAlone workload number first k before rows turns
   end_by k rows now turns w goes few others has asked attempts = record {
     now = now;
@@ -453,7 +453,7 @@ module _ (workload : Workload) (number : ℕ) (table : Table) (first : Caller) (
       end_by k rows s.now turns workload.workers s.goes s.few s.others has
       (λ v below had.
       elim (s.asked v below had) [ inl was ↦ inl was | inr later ↦ absurd (omega (arith, below, later.0)) ])
-      (inl (tries_are_few workload before s.now workload.workers (callers.begun k) (omega arith) s.attempts))
+      (tries_are_few workload before s.now workload.workers (callers.begun k) (omega arith) s.attempts)
 
   pub end_done : (k : Caller) (rows : List Row) (turns : Turning) →
       Sweeps workload number first k before rows turns workload.workers true →
@@ -475,31 +475,25 @@ module _ (workload : Workload) (number : ℕ) (table : Table) (first : Caller) (
 
   -- the caller is spent, which has a row behind
   pub spent_after : (k n : Caller) (rows : List Row) (turns : Turning) (w : ℕ) (some : Bool) → w ≤ workload.workers →
-      WasSpent k n → (s : Sweeps workload number first k before rows turns w some) →
+      IsSpentFrom k n → (s : Sweeps workload number first k before rows turns w some) →
       (s.now ≡ [] → callers.begun k ≤ length (workers_left workload before)) →
       HasRunAlone workload number first n before rows turns
   spent_after k n rows turns w some small was s few = by s.now refl
     where
-      used : WasUsedUp (most_tries workload before s.now) (round_of n)
-      used =
-          let zeroth = number_zero k s.goes.on.rest (only_of k s.goes.on) in
-          record {
-            earlier = round_of k;
-            past = was.on.seen;
-            none_left = subst (CannotBegin (round_of k)) zeroth was.spent;
-            few = subst (λ c. begun_of (round_of k) c ≤ most_tries workload before s.now) zeroth
-                (tries_are_few workload before s.now w (callers.begun k) small s.attempts);
-          }
+      tries : callers.begun n ≤ most_tries workload before s.now
+      tries =
+          let few_ = tries_are_few workload before s.now w (callers.begun k) small s.attempts in
+          let same = was.begun in omega (arith, few_, same)
 
       by : (now : List Row) → s.now ≡ now → HasRunAlone workload number first n before rows turns
       by (row ∷ now) is =
           end_by n rows s.now turns w (still k n rows s.now turns s.goes was.on was.same_done) s.few s.others
-          (let some_ = ap length is in omega (arith, some_)) (λ v below had. inr used) (inr used)
-      by [] is = absurd (not_spent k s.goes.on (s.unused is) (few is) was.spent)
+          (let some_ = ap length is in omega (arith, some_)) (λ v below had. inr was.spent) tries
+      by [] is = absurd (not_spent k s.goes.on (s.unused is) (few is) was.was)
 
   -- the caller is spent, after a try of a worker that has a job left
   pub step_spent : (k n : Caller) (rows : List Row) (turns : Turning) (w : ℕ) (some : Bool) (job : Job) →
-      w < workload.workers → first_job w turns.left ≡ Some job → WasSpent k n →
+      w < workload.workers → first_job w turns.left ≡ Some job → IsSpentFrom k n →
       Sweeps workload number first k before rows turns w some →
       HasRunAlone workload number first n before rows turns
   step_spent k n rows turns w some job inside turn was s =
@@ -558,7 +552,7 @@ module _ (workload : Workload) (number : ℕ) (table : Table) (first : Caller) (
       }
 
   -- the caller is spent
-  pub given_up_spent : (k n : Caller) (rows : List Row) (turns : Turning) → WasSpent k n →
+  pub given_up_spent : (k n : Caller) (rows : List Row) (turns : Turning) → IsSpentFrom k n →
       Sweeps workload number first k before rows turns workload.workers false →
       HasRunAlone workload number first n before rows turns
   given_up_spent k n rows turns was s =

@@ -1,6 +1,6 @@
 -- A worker that has run some of its jobs.
-use Rattle.std.proofs.Common.{◌≡◌, ◌≢◌, ◌∙◌, ◌⊎◌, ◌<◌, ◌≤◌, ◌++◌, ◌∷◌, ◌==◌, ℕ, Bool, List, [], true, false, Some, refl, sym, ap, subst, inl, inr, arith, length, reverse, get_or}
-use Rattle.std.specs.Prelude.{All, Option, zip, if◌then◌else◌}
+use Rattle.std.proofs.Common.{◌≡◌, ◌≢◌, ◌∙◌, ◌⊎◌, ◌<◌, ◌≤◌, ◌++◌, ◌∷◌, ◌==◌, ℕ, Bool, List, [], true, false, Some, refl, sym, ap, subst, inl, inr, arith, length, reverse, get_or, true≢false}
+use Rattle.std.specs.Prelude.{◌&&◌, All, Option, not, zip, if◌then◌else◌}
 use Rattle.std.specs.Option.{option_map}
 use Rattle.std.proofs.lemmas.Bool.{cases_eq, cases_lt, eq-eqb, eqb-true, ne_eqb}
 use Rattle.std.proofs.lemmas.List.Elements.{All-cons, All-head, All-nil, All-tail, All-weaker}
@@ -15,6 +15,8 @@ use Rattle.dstm_workload.specs.declared.workload.Job.{Job}
 use Rattle.dstm_workload.specs.declared.workload.Workload.{Workload}
 use Rattle.dstm_workload.specs.Workload.{HasOp, IsJob, IsValidWorkload}
 use Rattle.dstm_report.specs.Turns.{job_at}
+use Rattle.dstm_options.specs.declared.options.Engine.{Engine}
+use Rattle.dstm_options.specs.declared.options.Engine.TheVariants as engines
 use Rattle.dstm_options.specs.declared.options.Options.{Options}
 use Rattle.dstm_tables.specs.declared.style.Style.{Style}
 use Rattle.dstm_tables.specs.declared.style.Style.TheVariants.{Plain, Loose, Branches}
@@ -30,8 +32,9 @@ use Rattle.dstm_tables.specs.Styles.{CanTry, style_of}
 use Rattle.dstm_tables.specs.Tells.{HasCommitted, WasDisturbed, lets_go}
 use Rattle.dstm_tables.specs.Tries.{GoesOn}
 use Rattle.dstm_tables.proofs.Staying.{goes_nowhere, goes_on, same_lets_go}
-use Rattle.dstm_records.specs.Records.{IsReleasing}
+use Rattle.dstm_records.specs.Records.{IsReleasing, KeepsReads}
 use Rattle.dstm_crew.specs.declared.worker.Worker.{Worker}
+use Rattle.dstm_crew.specs.Releases.{is_dstm, releases}
 use Rattle.dstm_crew.specs.Tries.{HasDone, HasLeft, HasNoneLeft, NoneWastedSince, StaysBlocked}
 use Rattle.dstm_crew.specs.Workers.{AreDone, HasRun, next_job}
 use Rattle.dstm_crew.proofs.Retrying.{earlier}
@@ -49,9 +52,39 @@ third_version version release is = eqb-true version 3 (branches_by (version == 3
 
 -- a workload whose reads are given up early is run loosely
 pub loose_style : (options : Options) (version : ℕ) → IsReleasing options version →
-    style_of version options.release ≡ Loose
+    style_of version (releases options) ≡ Loose
 loose_style options version is =
-    let low = is.no_conditions in rw (ne_eqb version 3 (λ e. omega arith), is.release) refl
+    let low = is.no_conditions in
+    rw (ne_eqb version 3 (λ e. omega arith), is.engine, is.release, is.reads) refl
+
+both_on : (b c d : Bool) → (b && (c && not d)) ≡ true → (b ≡ true) × (c ≡ true) × (d ≡ false)
+both_on true true false is = (refl, refl, refl)
+both_on true true true is = absurd (true≢false (sym is))
+both_on true false d is = absurd (true≢false (sym is))
+both_on false c d is = absurd (true≢false (sym is))
+
+by_dstm : (engine : Engine) → is_dstm engine ≡ true → engine ≡ engines.Dstm
+by_dstm engines.Dstm is = refl
+by_dstm engines.Tl2 is = absurd (true≢false (sym is))
+
+-- one of which no read is given up is run plainly
+pub plain_style : (options : Options) (version : ℕ) (style : Style) → style ≡ style_of version (releases options) →
+    KeepsReads options version → style ≡ Plain
+plain_style options version style is keeps = is ∙ by (releases options) refl
+  where
+    low : (version == 3) ≡ false
+    low = let few = keeps.no_conditions in ne_eqb version 3 (λ e. omega (arith, few, e))
+
+    by : (release : Bool) → releases options ≡ release → style_of version release ≡ Plain
+    by false off = rw low refl
+    by true on =
+        let all = both_on (is_dstm options.engine) options.release options.all_write on in
+        absurd (keeps.not_early (record {
+          engine = by_dstm options.engine all.0;
+          release = all.1;
+          reads = all.2;
+          no_conditions = keeps.no_conditions;
+        }))
 
 -- without conditions all operations are plain
 plain_op : (version : ℕ) (op : Op) → version ≤ 2 → HasOp version op → IsPlain op
@@ -190,7 +223,7 @@ next_is jobs places finished job place more at is =
     (sym (slice_get-get_or places (length finished) place more ∙ ap Some (sym at)))
 
 module _ (workload : Workload) (options : Options) (old new : Worker) (unbegun : begun old.caller ≡ 0)
-    (style : Style) (is_style : style ≡ style_of workload.version options.release)
+    (style : Style) (is_style : style ≡ style_of workload.version (releases options))
     (number : new.number ≡ old.number) (places : new.places.items ≡ old.places.items) where
   abbrev next : Option Job
   next = next_job workload.jobs new.places.items new.done.items

@@ -1,11 +1,11 @@
--- An alone round, step by step: one caller runs the first job left of each worker, the workers in rising order.
+-- Private: an alone round, step by step: one caller runs the first job left of each worker, the workers in rising order.
 use Rattle.std.specs.Prelude.{◌≡◌, ◌⊎◌, ℕ, ◌+◌, ◌-◌, ◌<◌, ◌≤◌, Bool, true, false, List, [], ◌∷◌, ◌++◌, length, filter, reverse, None, IfSome, All}
 use Rattle.std.specs.List.{range_with_len}
 use Rattle.dstm_model.specs.Job.{apply_job}
 use Rattle.dstm_tables.specs.declared.tables.Caller.{Caller}
 use Rattle.dstm_tables.specs.declared.tables.Table.{Table}
 use Rattle.dstm_tables.specs.Callers.{AtRest, begun, done, home_of, law_of, number_of, round_of}
-use Rattle.dstm_tables.specs.Tells.{HasLocators, attempts_of, callers_of, start_of, used_by, writes_all}
+use Rattle.dstm_tables.specs.Tells.{HasLocators, IsSpent, attempts_of, callers_of, start_of, used_by, writes_all}
 use Rattle.dstm_store.specs.Whole.{StandsFor}
 use Rattle.dstm_workload.specs.declared.workload.Job.{Job}
 use Rattle.dstm_workload.specs.declared.workload.Workload.{Workload}
@@ -13,7 +13,7 @@ use Rattle.dstm_workload.specs.Workload.{IsValidWorkload}
 use Rattle.dstm_report.specs.declared.report.Row.{Row}
 use Rattle.dstm_report.specs.Lawful.{first_job, store_after}
 use Rattle.dstm_report.specs.Turns.{Turning}
-use Rattle.dstm_records.specs.Records.{WasAsked, WasUsedUp, count_done, is_blocked, most_tries}
+use Rattle.dstm_records.specs.Records.{WasAsked, count_done, is_blocked, most_tries}
 use Rattle.dstm_records.specs.Rounds.{attempts_for, has_job, is_parallel, left_by, workers_left}
 use Rattle.dstm_records.specs.Running.{turns_behind}
 use Rattle.dstm_records.specs.Told.{AreTold}
@@ -52,7 +52,7 @@ pub record Goes (workload : Workload) (number : ℕ) (first k : Caller) (before 
   pub in_round : All (λ row. row.round ≡ number) now
 
 -- An alone round has ended: it has a row, and at most one of each worker whose job was not given up. No worker was passed over,
--- and no attempt was wasted, unless the caller is used up.
+-- unless the caller is spent, and no attempt was wasted.
 pub record HasRunAlone (workload : Workload) (number : ℕ) (first k : Caller) (before rows : List Row)
     (turns : Turning) : Type 0 where
   pub now : List Row
@@ -61,9 +61,8 @@ pub record HasRunAlone (workload : Workload) (number : ℕ) (first k : Caller) (
   pub few : (worker : ℕ) → count_done worker now ≤ 1
   pub asked :
       (worker : ℕ) → worker < workload.workers → has_job (left_by workload before) worker ≡ true
-      → WasAsked workload before now worker ⊎ WasUsedUp (most_tries workload before now) (round_of k)
-  pub attempts :
-      (begun k ≤ most_tries workload before now) ⊎ WasUsedUp (most_tries workload before now) (round_of k)
+      → WasAsked workload before now worker ⊎ IsSpent (round_of k) (number_of k)
+  pub attempts : begun k ≤ most_tries workload before now
 
 -- the workers from this one on that have jobs left
 abbrev pub still_waiting : Workload → (worker : ℕ) → List Job → List ℕ

@@ -1,4 +1,4 @@
--- Collecting: what the workers of a parallel round have done, in the order of the numbers that the transactions drew.
+-- Private: collecting: what the workers of a parallel round have done, in the order of the numbers that the transactions drew.
 use Rattle.std.specs.Prelude.{◌≡◌, ℕ, ◌<◌, ◌≤◌, ◌==◌, nat_le, if◌then◌else◌, List, [], ◌∷◌, ◌++◌, length, map, zip, true, All, Option, Some, None, IfSome, slice_index, slice_index_or}
 use Rattle.std.specs.List.{slice_get}
 use Rattle.std.specs.Option.{option_map}

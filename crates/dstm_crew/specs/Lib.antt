@@ -1,3 +1,4 @@
+pub mod Releases
 pub mod Tries
 pub mod Workers
 pub mod Alone

@@ -1,4 +1,4 @@
--- The table of an alone round, before its caller has run.
+-- Private: the table of an alone round, before its caller has run.
 use Rattle.std.specs.Prelude.{◌≡◌, ℕ, false, List, [], filter}
 use Rattle.std.specs.List.{range_with_len}
 use Rattle.dstm_model.specs.declared.value.Val.{Val}
@@ -8,7 +8,7 @@ use Rattle.dstm_options.specs.declared.options.Options.{Options}
 use Rattle.dstm_tables.specs.declared.founding.Founder.{Founder}
 use Rattle.dstm_tables.specs.declared.tables.Caller.{Caller}
 use Rattle.dstm_tables.specs.declared.tables.Table.{Table}
-use Rattle.dstm_tables.specs.Callers.{AtRest, begun, done, home_of, number_of, round_of}
+use Rattle.dstm_tables.specs.Callers.{AtRest, begun, done, home_of, let_go, number_of, round_of}
 use Rattle.dstm_tables.specs.Founders.{first_of, guests_of, home_there, out_of}
 use Rattle.dstm_tables.specs.Tells.{HasLocators, IsOf, attempts_of, callers_of, layout_of, start_of, used_by, writes_all}
 use Rattle.dstm_records.specs.Records.{IsMade}
@@ -38,4 +38,5 @@ pub record IsOpened (workload : Workload) (options : Options) (waiting : ℕ) (v
   pub rest : AtRest k
   pub none_begun : begun k ≡ 0
   pub none_used : used_by (round_of k) (number_of k) ≡ 0
+  pub none_let_go : let_go k ≡ 0
   pub none_done : done k ≡ []

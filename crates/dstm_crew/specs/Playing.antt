@@ -1,4 +1,4 @@
--- A round of a run, from where the run stands before it to where it stands behind it.
+-- Private: a round of a run, from where the run stands before it to where it stands behind it.
 use Rattle.std.specs.Prelude.{◌≡◌, ℕ, ◌+◌, ◌<◌, ◌≤◌, List, [], ◌∷◌, ◌++◌, length, vec_len, vec_capacity, All}
 use Rattle.dstm_workload.specs.declared.workload.Workload.{Workload}
 use Rattle.dstm_report.specs.declared.report.Row.{Row}

@@ -1,4 +1,4 @@
--- The workers of a parallel round and the founder of its table, from the first caller that it gives out to the last one
+-- Private: the workers of a parallel round and the founder of its table, from the first caller that it gives out to the last one
 -- that it takes back.
 use Rattle.std.specs.Prelude.{◌≡◌, ℕ, List, [], map, All}
 use Rattle.dstm_words.specs.Seats.{AreApart}
@@ -8,7 +8,7 @@ use Rattle.dstm_tables.specs.declared.founding.Founder.{Founder}
 use Rattle.dstm_tables.specs.declared.tables.Caller.{Caller}
 use Rattle.dstm_tables.specs.declared.tables.Round.{Round}
 use Rattle.dstm_tables.specs.declared.tables.Table.{Table}
-use Rattle.dstm_tables.specs.Callers.{AtRest, CameByCalls, begun, done, home_of, number_of, round_of}
+use Rattle.dstm_tables.specs.Callers.{AtRest, CameByCalls, begun, done, home_of, let_go, number_of, round_of}
 use Rattle.dstm_tables.specs.Founders.{guests_of, home_there, numbers_of, out_of, seen_by}
 use Rattle.dstm_tables.specs.Tells.{IsPast, SameOwn}
 use Rattle.dstm_records.specs.Records.{seed_for}
@@ -34,9 +34,10 @@ pub record IsNew (table : Table) (k : Caller) : Type 0 where
   pub none_begun : begun k ≡ 0
   pub none_done : done k ≡ []
 
--- the worker's caller has come by calls, from the generator of its seed on
-abbrev pub HasCome : Options → Worker → Type 0
-HasCome options worker = CameByCalls (seed_for options worker.number) worker.caller
+-- the worker's caller has come by calls, from the generator of its seed on, and has let no read go
+pub record HasCome (options : Options) (worker : Worker) : Type 0 where
+  pub by_calls : CameByCalls (seed_for options worker.number) worker.caller
+  pub none_let_go : let_go worker.caller ≡ 0
 
 -- a worker of the table that has run its share, as its caller's log tells
 pub record HasEnded (workload : Workload) (options : Options) (table : Table) (worker : Worker) : Type 0 where

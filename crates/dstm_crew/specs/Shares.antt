@@ -1,4 +1,4 @@
--- The shares of a parallel round: what its workers have to do, and what they have done on its table.
+-- Private: the shares of a parallel round: what its workers have to do, and what they have done on its table.
 use Rattle.std.specs.Prelude.{◌≡◌, ℕ, ◌<◌, ◌≤◌, ◌==◌, ◌||◌, Bool, true, filter, List, [], ◌∷◌, length, map, reverse, zip, vec_capacity, All}
 use Rattle.dstm_model.specs.declared.value.Val.{Val}
 use Rattle.dstm_tables.specs.declared.tables.Round.{Round}
@@ -7,11 +7,11 @@ use Rattle.dstm_workload.specs.declared.workload.Job.{Job}
 use Rattle.dstm_workload.specs.declared.workload.Workload.{Workload}
 use Rattle.dstm_report.specs.Turns.{job_at, jobs_of}
 use Rattle.dstm_options.specs.declared.options.Options.{Options}
-use Rattle.dstm_records.specs.Records.{IsMade, IsReleasing, IsRun, seed_for}
+use Rattle.dstm_records.specs.Records.{IsMade, IsReleasing, IsRun, KeepsReads, seed_for}
 use Rattle.dstm_tables.specs.Answers.{KeepsFew}
 use Rattle.dstm_records.specs.Rounds.{all_workers, greatest, has_job}
 use Rattle.dstm_crew.specs.Workers.{AreDone, next_job}
-use Rattle.dstm_tables.specs.Tells.{ByCalls, IsOf, callers_of, done_of, lets_go, start_of, values_of}
+use Rattle.dstm_tables.specs.Tells.{ByCalls, IsOf, callers_of, done_of, let_go_by, lets_go, start_of, values_of}
 use Rattle.dstm_tables.specs.Jobs.{HadToStop, NoneWasted}
 use Rattle.dstm_crew.specs.declared.share.Share.{Share}
 
@@ -58,6 +58,8 @@ pub record IsShared (workload : Workload) (options : Options) (r : Round) (share
       (zip share.places.items (reverse (done_of r c)))
   -- its caller has made its events by calls, from the generator of its worker's seed on
   pub calls : ByCalls (seed_for options share.worker) r c
+  -- where no read is given up, its caller has let none go
+  pub keeps : KeepsReads options workload.version → let_go_by r c ≡ 0
 
 -- the shares of a closed table, one for one, by callers of these numbers
 abbrev pub AreShared : Workload → Options → Round → List Share → (callers : List ℕ) → Type 0

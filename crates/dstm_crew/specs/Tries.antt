@@ -1,4 +1,4 @@
--- Attempts at a job until one is done, or none is left.
+-- Private: attempts at a job until one is done, or none is left.
 use Rattle.std.specs.Prelude.{◌≡◌, ℕ, ◌+◌, ◌<◌, ◌≤◌, true, ◌∷◌, Some}
 use Rattle.dstm_model.specs.Answers.{Committed}
 use Rattle.dstm_model.specs.declared.layout.Layout.{Layout}

@@ -20,6 +20,7 @@ mod seats;
 mod share;
 mod sharing;
 mod sizing;
+mod style;
 mod sweeping;
 mod trying;
 mod worker;

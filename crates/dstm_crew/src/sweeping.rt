@@ -1,13 +1,16 @@
 ghost use Rattle.std.specs.Prelude.{◌≡◌, ◌<◌, ◌≤◌, ◌+◌, ◌++◌, ◌∷◌, [], true, false, length, ℕ, List, vec_len, vec_capacity, Some, None, IfSome, IfNone};
 ghost use Rattle.dstm_report.specs.Lawful.{first_job};
 ghost use Rattle.dstm_report.specs.Turns.{without_first, Turning};
+ghost use Rattle.dstm_records.specs.Records.{KeepsReads};
+ghost use Rattle.dstm_tables.specs.Callers.{let_go};
 ghost use Rattle.dstm_tables.specs.declared.tables.Caller.{Caller as Called};
 ghost use Rattle.dstm_crew.specs.Alone.{CanRunAlone, HasRunAlone, HasStepped, Leads, MayStep, Sweeps};
 
 use crate::play::Play;
+use crate::style::style_for;
 use dstm_model::{Replies, Reply};
 use dstm_report::{Row, Turns};
-use dstm_tables::{Caller, OnlyTried, Style, Table, give_up, try_alone};
+use dstm_tables::{Caller, OnlyTried, Table, give_up, try_alone};
 use dstm_workload::Job;
 
 // How a pass over the workers ended.
@@ -33,7 +36,9 @@ pub fn run_alone<G>(
 )
     requires can { CanRunAlone play.now.workload.now number table.now caller.old rows.old.items turns.old }
     requires room { vec_len rows.old + length turns.old.left ≤ vec_capacity rows.old }
-    ensures { HasRunAlone play.now.workload.now number caller.old caller.new rows.old.items rows.new.items turns.new }
+    ensures ran { HasRunAlone play.now.workload.now number caller.old caller.new rows.old.items rows.new.items turns.new }
+    ensures keeps { KeepsReads play.now.options.now play.now.workload.now.version →
+        let_go caller.new ≡ let_go caller.old }
 {
     loop {
         match sweep(table, caller, play, number, turns, rows) {
@@ -85,6 +90,8 @@ fn sweep<G>(
         CanRunAlone play.now.workload.now number table.now first before begun →
         Sweeps play.now.workload.now number first caller.old before rows.old.items turns.old 0 false →
         Leads play.now.workload.now number first caller.new before rows.new.items turns.new play.now.workload.now.workers false result }
+    ensures keeps { KeepsReads play.now.options.now play.now.workload.now.version →
+        let_go caller.new ≡ let_go caller.old }
 {
     let mut swept = Swept::Blocked;
     for worker in 0..play.workload.workers {
@@ -115,11 +122,13 @@ fn try_first<G>(
     ensures fewer { length turns.new.left ≤ length turns.old.left }
     ensures stepped { HasStepped play.now.workload.now number table.now caller.old caller.new rows.old.items rows.new.items
         turns.old turns.new worker (worker + 1) result }
+    ensures keeps { KeepsReads play.now.options.now play.now.workload.now.version →
+        let_go caller.new ≡ let_go caller.old }
 {
     let Some(job) = turns.first(worker) else {
         return Swept::Blocked;
     };
-    let style = Style::of(play.workload.version, play.options.release);
+    let style = style_for(play.options, play.workload.version);
     match try_alone(style, caller, table, &play.workload.layout, job) {
         OnlyTried::Done(finished) => {
             push_row(turns, rows, number, job, finished.number, finished.replies);

@@ -1,6 +1,7 @@
 ghost use Rattle.std.specs.Prelude.{◌≡◌, IfErr, IfOk};
-ghost use Rattle.dstm_tables.specs.Callers.{AtRest, home_of, law_of};
+ghost use Rattle.dstm_tables.specs.Callers.{AtRest, home_of, law_of, let_go};
 ghost use Rattle.dstm_tables.specs.Styles.{CanTry};
+ghost use Rattle.dstm_tables.specs.declared.style.Style.TheVariants.{Plain};
 ghost use Rattle.dstm_crew.specs.Tries.{HasDone, HasLeft};
 
 use dstm_model::Layout;
@@ -22,6 +23,7 @@ pub fn try_job(
     requires can { CanTry style layout.now job.now }
     ensures done { IfOk result (HasDone style layout.now job.now caller.old caller.new) }
     ensures left { IfErr result (HasLeft style layout.now job.now caller.old caller.new) }
+    ensures keeps { style ≡ Plain → let_go caller.new ≡ let_go caller.old }
 {
     let mut turns: u32 = 1;
     loop {
@@ -30,6 +32,7 @@ pub fn try_job(
             Tried::Spent => return Err(Left::Spent),
             Tried::Blocked => return Err(Left::Blocked),
             Tried::Again => {
+                // This waits for nobody. Without it two attempts of equal rank can go on killing each other.
                 turns = (turns * 2).min(64);
                 back_off(turns);
             }

@@ -1,11 +1,14 @@
 ghost use Rattle.std.specs.Prelude.{◌≡◌};
 ghost use Rattle.dstm_workload.specs.Workload.{IsValidWorkload};
+ghost use Rattle.dstm_tables.specs.Callers.{let_go};
+ghost use Rattle.dstm_records.specs.Records.{KeepsReads};
 ghost use Rattle.dstm_crew.specs.Workers.{IsReady, HasRun};
 
 use crate::gate::Gate;
+use crate::style::style_for;
 use crate::trying::try_job;
 use dstm_options::Options;
-use dstm_tables::{Caller, Finished, Style, Table};
+use dstm_tables::{Caller, Finished, Table};
 use dstm_workload::Workload;
 
 /// A worker in a parallel round.
@@ -31,9 +34,11 @@ impl Worker {
     )
         requires valid { IsValidWorkload workload.now }
         requires ready { IsReady workload.now table.now self.old }
-        ensures { HasRun workload.now options.now self.old self.new }
+        ensures run { HasRun workload.now options.now self.old self.new }
+        ensures keeps { KeepsReads options.now workload.now.version →
+            let_go self.new.caller ≡ let_go self.old.caller }
     {
-        let style = Style::of(workload.version, options.release);
+        let style = style_for(options, workload.version);
         let jobs = workload.jobs.as_slice();
         for at in 0..self.places.len() {
             let job = &jobs[self.places[at]];

@@ -44,6 +44,7 @@ returns-clause-opened c =
       rest = gives.rest;
       none_begun = gives.none_begun;
       none_used = gives.none_used;
+      none_let_go = gives.none_let_go;
       none_done = gives.none_done;
     }
   where

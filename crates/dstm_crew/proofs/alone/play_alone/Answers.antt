@@ -35,7 +35,7 @@ returns-in_err-table-clause-broken_off g c =
 
 pub returns-in_err-left-clause-broken_off : goal.returns-in_err-left-clause-broken_off
 returns-in_err-left-clause-broken_off g c =
-    let ran = c.run_alone.ensures in
+    let ran = c.run_alone.ensures.ran in
     let left : Progress = record c.args.progress.now {
       values = c.replace-values.new.dest;
       turns = c.run_alone.new.turns;
@@ -60,7 +60,7 @@ returns-clause-played g c =
     (subst (λ (vs : List Val). IsOpened workload options c.count_waiting-waiting.result.count vs table
     c.in_ok-table.founder c.in_ok-table.caller) (ap (λ v. v.items) c.replace-values.ensures.value)
     c.in_ok-table.ensures.opened) in
-    let ran = c.run_alone.ensures in
+    let ran = c.run_alone.ensures.ran in
     let taken = c.retire.new.self in
     let is = c.in_ok-left.ensures.round in
     record {
@@ -70,7 +70,8 @@ returns-clause-played g c =
       rounds_are = c.push_reserved.ensures.items ∙ ap (λ (r : Round). p.rounds.items ++ r ∷ []) is;
       adds = adds_alone workload options c.args.number p.rows.items p.values.items table c.in_ok-table.founder taken
           c.in_ok-table.caller c.run_alone.new.caller c.run_alone.new.rows.items c.run_alone.new.turns c.requires.alone
-          c.requires.can.begins opened ran c.retire.ensures (subst IsRun is c.in_ok-left.ensures.run)
+          c.requires.can.begins opened ran (λ none. c.run_alone.ensures.keeps none ∙ opened.none_let_go) c.retire.ensures
+          (subst IsRun is c.in_ok-left.ensures.run)
           (least_came workload options p.rows.items c.args.progress.now.turns c.count_waiting-waiting.result.first
           c.in_ok-table.caller c.requires.can.turns c.count_waiting-waiting.ensures.first c.in_ok-table.ensures.come)
           c.in_ok-left.left.items (c.in_ok-left.ensures.values ∙ ap values_of is);

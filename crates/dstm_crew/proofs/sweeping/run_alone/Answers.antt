@@ -14,28 +14,29 @@ loop-turns-init g c = (
   c.requires.room,
   sweep_begins c.args.play.now.workload.now c.args.number c.args.table.now c.args.caller.now c.args.rows.now.items c.args.turns.now
       c.requires.can,
+  λ _. refl,
 )
 
-pub returns-in-Done : goal.returns-in-Done
-returns-in-Done g c =
+pub returns-in-Done-clause-ran : goal.returns-in-Done-clause-ran
+returns-in-Done-clause-ran g c =
     let swept = c.in-Done.ensures.swept c.args.caller.now c.args.rows.now.items c.args.turns.now c.requires.can
     c.loop-turns.invariant.2 in
     end_done c.args.play.now.workload.now c.args.number c.args.table.now c.args.caller.now c.args.rows.now.items c.args.turns.now
     c.requires.can c.sweep.new.caller c.sweep.new.rows.items c.sweep.new.turns swept
 
-pub returns-in-Spent : goal.returns-in-Spent
-returns-in-Spent g c =
+pub returns-in-Spent-clause-ran : goal.returns-in-Spent-clause-ran
+returns-in-Spent-clause-ran g c =
     c.in-Spent.ensures.swept c.args.caller.now c.args.rows.now.items c.args.turns.now c.requires.can c.loop-turns.invariant.2
 
-pub returns-in_default : goal.returns-in_default
-returns-in_default g c =
+pub returns-in_default-clause-ran : goal.returns-in_default-clause-ran
+returns-in_default-clause-ran g c =
     let swept = c.in-Blocked.ensures.swept c.args.caller.now c.args.rows.now.items c.args.turns.now c.requires.can
     c.loop-turns.invariant.2 in
     end_empty c.args.play.now.workload.now c.args.number c.args.table.now c.args.caller.now c.args.rows.now.items c.args.turns.now
     c.requires.can c.sweep.new.caller c.sweep.new.rows.items c.sweep.new.turns c.in_default.ensures.none swept
 
-pub returns-in_default-give_up : goal.returns-in_default-give_up
-returns-in_default-give_up g c =
+pub returns-in_default-give_up-clause-ran : goal.returns-in_default-give_up-clause-ran
+returns-in_default-give_up-clause-ran g c =
     let swept = c.in-Blocked.ensures.swept c.args.caller.now c.args.rows.now.items c.args.turns.now c.requires.can
     c.loop-turns.invariant.2 in
     given_up_spent c.args.play.now.workload.now c.args.number c.args.table.now c.args.caller.now c.args.rows.now.items c.args.turns.now
@@ -88,4 +89,18 @@ loop-turns-preserved g c =
       omega (arith, fewer, c.push_row.ensures.len, c.in-Blocked.ensures.room, c.push_row.ensures.capacity),
       subst (λ (rs : List Row). Sweeps workload c.args.number c.args.caller.now c.give_up.new.caller c.args.rows.now.items rs
           c.push_row.new.turns 0 false) (sym c.push_row.ensures.rows) goes,
+      λ none. c.give_up.ensures.keeps ∙ (c.sweep.ensures.keeps none ∙ c.loop-turns.invariant.3 none),
     )
+
+pub returns-in-Done-clause-keeps : goal.returns-in-Done-clause-keeps
+returns-in-Done-clause-keeps g c none = c.sweep.ensures.keeps none ∙ c.loop-turns.invariant.3 none
+
+pub returns-in-Spent-clause-keeps : goal.returns-in-Spent-clause-keeps
+returns-in-Spent-clause-keeps g c none = c.sweep.ensures.keeps none ∙ c.loop-turns.invariant.3 none
+
+pub returns-in_default-clause-keeps : goal.returns-in_default-clause-keeps
+returns-in_default-clause-keeps g c none = c.sweep.ensures.keeps none ∙ c.loop-turns.invariant.3 none
+
+pub returns-in_default-give_up-clause-keeps : goal.returns-in_default-give_up-clause-keeps
+returns-in_default-give_up-clause-keeps g c none =
+    c.give_up.ensures.keeps ∙ (c.sweep.ensures.keeps none ∙ c.loop-turns.invariant.3 none)

@@ -1,5 +1,7 @@
 use Rattle.std.specs.Prelude.{◌≡◌, ◌≤◌, ◌+◌, List, length, vec_len, vec_capacity, Bool}
 use Rattle.dstm_tables.specs.declared.tables.Caller.{Caller}
+use Rattle.dstm_tables.specs.Callers.{let_go}
+use Rattle.dstm_records.specs.Records.{KeepsReads}
 use Rattle.dstm_report.specs.declared.report.Row.{Row}
 use Rattle.dstm_report.specs.Turns.{Turning}
 use Rattle.dstm_crew.specs.Alone.{CanRunAlone, MayStep, Sweeps, is_done}
@@ -16,3 +18,4 @@ invariant-loop-worker g l =
     Sweeps l.play.workload.now l.number first l.fn.caller before l.fn.rows.items l.fn.turns 0 Bool.false →
     Sweeps l.play.workload.now l.number first l.caller before l.rows.items l.turns l.worker (is_done l.swept))
     × (l.swept ≡ swept.Spent → ⊥)
+    × (KeepsReads l.play.options.now l.play.workload.now.version → let_go l.caller ≡ let_go l.fn.caller)

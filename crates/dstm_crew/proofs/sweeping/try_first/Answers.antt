@@ -4,7 +4,8 @@ use Rattle.dstm_report.specs.Lawful.{first_job}
 use Rattle.dstm_report.specs.Turns.{Turning}
 use Rattle.dstm_report.proofs.Rising.{first_own, length-without_first}
 use Rattle.dstm_tables.specs.Styles.{CanTry}
-use Rattle.dstm_crew.proofs.Worked.{can_try}
+use Rattle.dstm_crew.specs.Releases.{releases}
+use Rattle.dstm_crew.proofs.Worked.{can_try, plain_style}
 use Rattle.dstm_crew.specs.Alone.{MayStep, Sweeps}
 use Rattle.dstm_crew.proofs.Sweeps.{job_is, may_on, step_blocked, step_done, step_none, step_spent, third_of, turns_after}
 use Rattle.dstm_crew.proofs.sweeping.try_first.Goals as goal
@@ -19,8 +20,8 @@ try_alone-requires-clause-can g c =
     let workload = c.args.play.now.workload.now in
     let job = c.in-Some.job.now in
     let turn : first_job c.args.worker c.args.turns.now.left ≡ Some job = search rules in
-    subst (λ s. CanTry s workload.layout job) (sym c.of-style.ensures)
-    (can_try workload c.args.play.now.options.now.release job c.requires.may.valid
+    subst (λ s. CanTry s workload.layout job) (sym c.style_for-style.ensures)
+    (can_try workload (releases c.args.play.now.options.now) job c.requires.may.valid
     (job_is workload c.args.rows.now.items c.args.turns.now c.args.worker job c.requires.may.valid
     c.requires.may.turns_are turn))
 
@@ -49,7 +50,7 @@ returns-in-Done-clause-may g c =
     subst (λ (rs : List Row). MayStep workload c.args.table.now c.try_alone.new.caller rs c.push_row.new.turns)
     (sym c.push_row.ensures.rows)
     (may_on workload c.args.table.now c.args.caller.now c.try_alone.new.caller rows (rows ++ row ∷ []) c.args.turns.now
-    c.push_row.new.turns c.requires.may c.in-Done.ensures.made.on
+    c.push_row.new.turns c.requires.may c.in-Done.ensures.tried.made.on
     (turns_after workload rows c.args.turns.now c.push_row.new.turns row job c.requires.may.valid c.requires.may.turns_are turn
     refl c.push_row.ensures.turns))
 
@@ -90,8 +91,8 @@ returns-in-Done-clause-stepped g c first before begun some can sweeps =
     subst (λ (rs : List Row). Sweeps workload c.args.number first c.try_alone.new.caller before rs c.push_row.new.turns
     (c.args.worker + 1) true)
     (sym c.push_row.ensures.rows)
-    (step_done workload c.args.number c.args.table.now first before begun can c.of-style.result c.args.caller.now
-    c.try_alone.new.caller rows c.args.turns.now c.push_row.new.turns c.args.worker some job c.in-Done.finished row c.requires.worker own c.in-Done.ensures
+    (step_done workload c.args.number c.args.table.now first before begun can c.style_for-style.result c.args.caller.now
+    c.try_alone.new.caller rows c.args.turns.now c.push_row.new.turns c.args.worker some job c.in-Done.finished row c.requires.worker own c.in-Done.ensures.tried
     (first_own c.args.worker left job own) refl refl refl refl c.push_row.ensures.turns sweeps)
 
 pub returns-in-Blocked-clause-stepped : goal.returns-in-Blocked-clause-stepped
@@ -99,13 +100,31 @@ returns-in-Blocked-clause-stepped g c first before begun some can sweeps =
     let workload = c.args.play.now.workload.now in
     let job = c.in-Some.job.now in
     let turn : first_job c.args.worker c.args.turns.now.left ≡ Some job = search rules in
-    step_blocked workload c.args.number c.args.table.now first before begun can c.of-style.result c.args.caller.now
+    step_blocked workload c.args.number c.args.table.now first before begun can c.style_for-style.result c.args.caller.now
     c.try_alone.new.caller c.args.rows.now.items c.args.turns.now c.args.worker some job c.requires.worker
-    (λ is. third_of workload.version c.args.play.now.options.now.release (sym c.of-style.ensures ∙ is)) turn c.in-Blocked.ensures sweeps
+    (λ is. third_of workload.version (releases c.args.play.now.options.now) (sym c.style_for-style.ensures ∙ is)) turn c.in-Blocked.ensures.tried sweeps
 
 pub returns-in-Spent-clause-stepped : goal.returns-in-Spent-clause-stepped
 returns-in-Spent-clause-stepped g c first before begun some can sweeps =
     let job = c.in-Some.job.now in
     let turn : first_job c.args.worker c.args.turns.now.left ≡ Some job = search rules in
     step_spent c.args.play.now.workload.now c.args.number c.args.table.now first before begun can c.args.caller.now c.try_alone.new.caller
-    c.args.rows.now.items c.args.turns.now c.args.worker some job c.requires.worker turn c.in-Spent.ensures sweeps
+    c.args.rows.now.items c.args.turns.now c.args.worker some job c.requires.worker turn c.in-Spent.ensures.tried sweeps
+
+pub returns-in-Done-clause-keeps : goal.returns-in-Done-clause-keeps
+returns-in-Done-clause-keeps g c none =
+    c.try_alone.ensures.keeps
+    (plain_style c.args.play.now.options.now c.args.play.now.workload.now.version c.style_for-style.result
+    c.style_for-style.ensures none)
+
+pub returns-in-Blocked-clause-keeps : goal.returns-in-Blocked-clause-keeps
+returns-in-Blocked-clause-keeps g c none =
+    c.try_alone.ensures.keeps
+    (plain_style c.args.play.now.options.now c.args.play.now.workload.now.version c.style_for-style.result
+    c.style_for-style.ensures none)
+
+pub returns-in-Spent-clause-keeps : goal.returns-in-Spent-clause-keeps
+returns-in-Spent-clause-keeps g c none =
+    c.try_alone.ensures.keeps
+    (plain_style c.args.play.now.options.now c.args.play.now.workload.now.version c.style_for-style.result
+    c.style_for-style.ensures none)

@@ -1,33 +1,43 @@
-use Rattle.std.proofs.Common.{arith, rules}
+use Rattle.std.proofs.Common.{◌∙◌, arith, refl, rules}
 use Rattle.dstm_crew.proofs.Retrying.{fewer_left, waited_first, waited_more, waited_done, waited_spent, waited_blocked}
 use Rattle.dstm_crew.proofs.trying.try_job.Goals as goal
 
 pub loop-finished-init : goal.loop-finished-init
-loop-finished-init c = (omega arith, waited_first c.args.caller.now c.requires.rest)
+loop-finished-init c = (omega arith, waited_first c.args.caller.now c.requires.rest, λ _. refl)
 
 pub returns-in-Done-clause-done : goal.returns-in-Done-clause-done
 returns-in-Done-clause-done c =
     waited_done c.args.style c.args.layout.now c.args.job.now c.args.caller.now c.loop-finished.caller c.attempt_job.new.caller
-    c.in-Done.finished c.loop-finished.invariant.1 c.in-Done.ensures
+    c.in-Done.finished c.loop-finished.invariant.1 c.in-Done.ensures.tried
 
 pub returns-in-Spent-clause-left : goal.returns-in-Spent-clause-left
 returns-in-Spent-clause-left c =
     waited_spent c.args.caller.now c.loop-finished.caller c.attempt_job.new.caller c.loop-finished.invariant.1
-    c.in-Spent.ensures
+    c.in-Spent.ensures.tried
 
 pub returns-in-Blocked-clause-left : goal.returns-in-Blocked-clause-left
 returns-in-Blocked-clause-left c =
     waited_blocked c.args.style c.args.layout.now c.args.job.now c.args.caller.now c.loop-finished.caller
-    c.attempt_job.new.caller c.loop-finished.invariant.1 c.in-Blocked.ensures
+    c.attempt_job.new.caller c.loop-finished.invariant.1 c.in-Blocked.ensures.tried
 
 pub loop-finished-smaller : goal.loop-finished-smaller
 loop-finished-smaller c =
     fewer_left c.args.caller.now c.loop-finished.caller c.attempt_job.new.caller c.loop-finished.invariant.1.on
-    c.in-Again.ensures.made
+    c.in-Again.ensures.tried.made
 
 pub loop-finished-preserved : goal.loop-finished-preserved
 loop-finished-preserved c = (
   search rules,
   waited_more c.args.caller.now c.loop-finished.caller c.attempt_job.new.caller c.loop-finished.invariant.1
-      c.in-Again.ensures,
+      c.in-Again.ensures.tried,
+  λ other. c.attempt_job.ensures.keeps other ∙ c.loop-finished.invariant.2 other,
 )
+
+pub returns-in-Done-clause-keeps : goal.returns-in-Done-clause-keeps
+returns-in-Done-clause-keeps c other = c.attempt_job.ensures.keeps other ∙ c.loop-finished.invariant.2 other
+
+pub returns-in-Spent-clause-keeps : goal.returns-in-Spent-clause-keeps
+returns-in-Spent-clause-keeps c other = c.attempt_job.ensures.keeps other ∙ c.loop-finished.invariant.2 other
+
+pub returns-in-Blocked-clause-keeps : goal.returns-in-Blocked-clause-keeps
+returns-in-Blocked-clause-keeps c other = c.attempt_job.ensures.keeps other ∙ c.loop-finished.invariant.2 other

@@ -4,8 +4,9 @@ use Rattle.dstm_workload.specs.declared.workload.Job.{Job}
 use Rattle.dstm_report.specs.Turns.{job_at, no_job}
 use Rattle.dstm_tables.specs.declared.style.Style.{Style}
 use Rattle.dstm_tables.specs.declared.trying.Finished.{Finished}
+use Rattle.dstm_crew.specs.Releases.{releases}
 use Rattle.dstm_crew.specs.Tries.{HasLeft}
-use Rattle.dstm_crew.proofs.Worked.{Stands, at_start, one_done, stopped, next_is}
+use Rattle.dstm_crew.proofs.Worked.{Stands, all_done, at_start, next_is, one_done, plain_style, stopped}
 use Rattle.dstm_crew.proofs.worker.Worker.run.Goals as goal
 
 pub loop-at-init : goal.loop-at-init
@@ -14,13 +15,14 @@ loop-at-init g c =
     let k = c.args.self.now.caller in
     let places = c.args.self.now.places.items in
     let ready = c.requires.ready in
-    let stands : Stands workload c.of-style.result k k places [] =
-    at_start workload c.of-style.result k places ready.rest ready.none_done in (
+    let stands : Stands workload c.style_for-style.result k k places [] =
+    at_start workload c.style_for-style.result k places ready.rest ready.none_done in (
       refl,
       refl,
       ap length ready.empty,
       ready.room,
-      subst (λ (fs : List Finished). Stands workload c.of-style.result k k places fs) (sym ready.empty) stands,
+      subst (λ (fs : List Finished). Stands workload c.style_for-style.result k k places fs) (sym ready.empty) stands,
+      λ _. refl,
     )
 
 pub loop-at-preserved : goal.loop-at-preserved
@@ -43,7 +45,7 @@ loop-at-preserved g c =
     let is : job ≡ job_at workload.jobs place =
     c.index-jobs-index.is ∙ get_or_default c.as_slice-jobs.result.now place job no_job inside
     ∙ ap (λ (js : List Job). job_at js place) jobs in
-    let style = c.of-style.result in
+    let style = c.style_for-style.result in
     let stands : Stands workload style k m places (finished ++ next ∷ []) =
     one_done workload style k n m places finished next job place c.loop-at.invariant.4 c.in-Ok.ensures.done more at is in
     let items : c.push_reserved.new.self.items ≡ finished ++ next ∷ [] = c.push_reserved.ensures.items in (
@@ -52,10 +54,13 @@ loop-at-preserved g c =
       search rules,
       search rules,
       subst (λ (fs : List Finished). Stands workload style k m places fs) (sym items) stands,
+      λ none.
+          c.try_job.ensures.keeps (plain_style c.args.options.now workload.version style c.style_for-style.ensures none)
+          ∙ c.loop-at.invariant.5 none,
     )
 
-pub returns-in-Err : goal.returns-in-Err
-returns-in-Err g c =
+pub returns-in-Err-clause-run : goal.returns-in-Err-clause-run
+returns-in-Err-clause-run g c =
     let workload = c.args.workload.now in
     let n = c.loop-at.self.caller in
     let m = c.try_job.new.caller in
@@ -72,8 +77,19 @@ returns-in-Err g c =
     let is : job ≡ job_at workload.jobs place =
     c.index-jobs-index.is ∙ get_or_default c.as_slice-jobs.result.now place job no_job inside
     ∙ ap (λ (js : List Job). job_at js place) jobs in
-    stopped workload c.args.options.now c.args.self.now _ c.requires.ready.none_begun c.of-style.result c.of-style.ensures
+    stopped workload c.args.options.now c.args.self.now _ c.requires.ready.none_begun c.style_for-style.result c.style_for-style.ensures
     c.loop-at.invariant.0 (ap (λ v. v.items) c.loop-at.invariant.1) n
-    c.args.options.now.release job c.in-Err.field-0 c.loop-at.invariant.4
-    (subst (λ (s : Style). HasLeft s workload.layout job n m c.in-Err.field-0) c.of-style.ensures c.in-Err.ensures.left)
+    (releases c.args.options.now) job c.in-Err.field-0 c.loop-at.invariant.4
+    (subst (λ (s : Style). HasLeft s workload.layout job n m c.in-Err.field-0) c.style_for-style.ensures c.in-Err.ensures.left)
     (next_is workload.jobs places finished job place more at is)
+
+pub returns-in-Err-clause-keeps : goal.returns-in-Err-clause-keeps
+returns-in-Err-clause-keeps g c none =
+    c.try_job.ensures.keeps
+    (plain_style c.args.options.now c.args.workload.now.version c.style_for-style.result c.style_for-style.ensures none)
+    ∙ c.loop-at.invariant.5 none
+
+pub returns-clause-run : goal.returns-clause-run
+returns-clause-run g c =
+    all_done c.args.workload.now c.args.options.now c.args.self.now _ c.requires.ready.none_begun c.style_for-style.result
+    c.style_for-style.ensures c.loop-at.invariant.0 (ap (λ v. v.items) c.loop-at.invariant.1) c.loop-at.invariant.4 (search rules)
