@@ -1,1 +1,4 @@
+mod Calling
+pub mod Closures
 mod Sends
+mod UnderWay

@@ -8,7 +8,7 @@ use Rattle.dstm_engine.proofs.stm.Stm.TheSendSync as Stm
 use Rattle.dstm_engine.proofs.Sends.{caller_send}
 use Rattle.dstm_cells.specs.contracts.memory.Seat as Seat
 use Rattle.dstm_cells.specs.contracts.thread.Me as Me
-use Rattle.dstm_cells.specs.contracts.tx.Tx as Tx
+use Rattle.dstm_cells.specs.contracts.under_way.Tx as Tx
 
 tx_send : (κ : NamedLft) → IsSend (Tx.the_row κ)
 tx_send κ =

@@ -1,4 +1,5 @@
 // Why a closure, a transaction and a memory stop.
+use dstm_engine::Again;
 use std::alloc::{AllocError, AllocFailed};
 use std::error::Error;
 use std::fmt;
@@ -70,6 +71,18 @@ impl fmt::Display for Failed {
 }
 
 impl Error for Failed {}
+
+// Whatever the cause, the attempt can be made again.
+impl From<Again> for Stop {
+    ghost use Rattle.std.specs.Prelude.{◌≡◌};
+    ghost use Rattle.dstm_cells.specs.declared.error.Stop.TheVariants as stop;
+
+    ghost from_gives = { λ _ e. e ≡ stop.Again };
+
+    fn from(_e: Again) -> Stop {
+        Stop::Again
+    }
+}
 
 impl From<AllocError> for Failed {
     ghost use Rattle.std.specs.Prelude.{◌≡◌};

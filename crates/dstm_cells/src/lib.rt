@@ -9,10 +9,11 @@ mod memory;
 mod tests;
 mod thread;
 mod tx;
+mod under_way;
 
 pub use cell::{Cell, Word};
 pub use dstm_core::Manager;
 pub use error::{Failed, GaveUp, Stop};
 pub use memory::{MOST_CELLS, MOST_THREADS, Memory};
 pub use thread::Me;
-pub use tx::Tx;
+pub use under_way::Tx;

@@ -5,7 +5,7 @@ ghost use Rattle.dstm_engine.specs.Tables.{founded};
 use crate::cell::{Cell, Word};
 use crate::error::{Failed, GaveUp};
 use crate::thread::Me;
-use crate::tx::Tx;
+use crate::under_way::Tx;
 use dstm_core::{Manager, Shape};
 use dstm_engine::{EnrolError, Founder, MOST_OBJECTS, Stm, shape_for};
 use dstm_model::{AnyLaw, Val};

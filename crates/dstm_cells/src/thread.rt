@@ -1,8 +1,10 @@
 // A thread's part in a run.
-ghost use Rattle.std.specs.Prelude.{◌≡◌, length, IfOk};
+ghost use Rattle.std.specs.Prelude.{◌≡◌, length, IfErr, IfOk};
+ghost use Rattle.dstm_cells.specs.Closures.{KeepsEach, TookEffect};
+ghost use Rattle.dstm_cells.specs.UnderWay.{AddsNothing, Keeps};
 
 use crate::error::{Failed, GaveUp, Stop};
-use crate::tx::Tx;
+use crate::under_way::Tx;
 use dstm_model::Val;
 use std::alloc::Global;
 use std::thread::yield_now;
@@ -26,6 +28,10 @@ impl<'a> Me<'a> {
     where
         F: FnMut(&mut Tx<'_>) -> Result<R, Stop>,
         requires callable { F.IsAlwaysCallable f }
+        ensures took { KeepsEach F.FnMut →
+            IfOk result (TookEffect F.FnMut self.old.tx.caller self.new.tx.caller) }
+        ensures nothing { KeepsEach F.FnMut →
+            IfErr result (λ _. AddsNothing self.old.tx.caller self.new.tx.caller) }
     {
         let mut f = f;
         self.tx.renew();
@@ -51,7 +57,9 @@ impl<'a> Me<'a> {
     }
 
     // Leaves the attempt that a closure has stopped, and tells whether there may be another one.
-    fn leave(&mut self, stop: Stop) -> Result<(), GaveUp> {
+    fn leave(&mut self, stop: Stop) -> Result<(), GaveUp>
+        ensures { Keeps self.old.tx self.new.tx }
+    {
         let waited = match stop {
             Stop::Again => Ok(()),
             Stop::Retry => self.tx.wait(),

@@ -1,35 +1,21 @@
-// A transaction under way: what its closure is given.
-ghost use Rattle.std.specs.Prelude.{◌≡◌, length, IfOk, Ok, Err, if◌then◌else◌};
+// What a closure may do in its transaction.
+ghost use Rattle.std.specs.Prelude.{◌≡◌, ◌<◌, length, true, false, IfOk, IsTrue, Ok, OnOk, Err, if◌then◌else◌};
+ghost use Rattle.dstm_engine.specs.Callers.{is_live, shape_of};
+ghost use Rattle.dstm_engine.specs.Transactions.{BeginsAnew};
+ghost use Rattle.dstm_cells.specs.Closures.{KeepsOnce};
+ghost use Rattle.dstm_cells.specs.UnderWay.{AddsNothing, Changes, Exchanges, Finds, Gets, Keeps, TakesEffect, holds};
 ghost use Rattle.dstm_cells.specs.declared.error.Stop.TheVariants.{Retry};
 
 use crate::cell::{Cell, Word};
 use crate::error::{GaveUp, Stop};
-use dstm_engine::{Caller, Stm};
+use crate::under_way::{Tx, Undo};
+use dstm_engine::{Caller, Stm, Tx as Attempt};
 use dstm_model::{AnyLaw, Val};
 use std::alloc::Global;
 use std::thread::yield_now;
 
 /// How often a transaction that retries looks whether something that it has read has changed, where it is not told.
 pub const LOOKS: u32 = 1_048_576;
-
-// What an object had before an alternative set it.
-#[derive(Clone, Copy, Debug)]
-struct Undo {
-    object: u32,
-    value: Val,
-}
-
-/// A transaction under way.
-#[derive(Drop)]
-pub struct Tx<'a> {
-    caller: Caller<AnyLaw>,
-    stm: &'a Stm<AnyLaw>,
-    undos: Vec<Undo>,
-    // How many alternatives it is in of which each may yet be undone.
-    alternatives: u32,
-    pub(crate) looks: u32,
-    ghost table: { caller.home ≡ stm.now },
-}
 
 impl<'a> Tx<'a> {
     // What makes the transactions of one caller of a table, one after the other.
@@ -46,31 +32,41 @@ impl<'a> Tx<'a> {
     }
 
     /// What a cell holds.
-    pub fn get<T: Word>(&mut self, cell: Cell<T>) -> Result<T, Stop> {
+    pub fn get<T: Word>(&mut self, cell: Cell<T>) -> Result<T, Stop>
+        ensures keeps { Keeps self.old self.new }
+        ensures gets { IfOk result (Gets T.found self.old.caller self.new.caller cell.object) }
+    {
         let val = self.read(cell.object)?;
         Ok(T::of_val(val))
     }
 
     /// Puts a value into a cell.
-    pub fn set<T: Word>(&mut self, cell: Cell<T>, value: T) -> Result<(), Stop> {
+    pub fn set<T: Word>(&mut self, cell: Cell<T>, value: T) -> Result<(), Stop>
+        ensures keeps { Keeps self.old self.new }
+        ensures puts { OnOk result ((had : T) × Changes T.found self.old.caller self.new.caller cell.object had value) }
+    {
         let _old = self.replace(cell, value)?;
         Ok(())
     }
 
     /// Puts a value into a cell, and answers what it held.
-    pub fn replace<T: Word>(&mut self, cell: Cell<T>, value: T) -> Result<T, Stop> {
-        let old = self.open(cell.object)?;
-        self.put(cell.object, value.to_val())?;
+    pub fn replace<T: Word>(&mut self, cell: Cell<T>, value: T) -> Result<T, Stop>
+        ensures keeps { Keeps self.old self.new }
+        ensures puts { IfOk result (λ had. Changes T.found self.old.caller self.new.caller cell.object had value) }
+    {
+        let old = self.change(cell.object, |_| value.to_val())?;
         Ok(T::of_val(old))
     }
 
     /// Changes what a cell holds, and answers what it held.
     pub fn update<T: Word, F: FnOnce(T) -> T>(&mut self, cell: Cell<T>, f: F) -> Result<T, Stop>
         requires callable { F.IsAlwaysCallable f }
+        ensures keeps { Keeps self.old self.new }
+        ensures puts { IfOk result (λ had.
+            (value : T) × F.post f had value × Changes T.found self.old.caller self.new.caller cell.object had value) }
     {
-        let old = T::of_val(self.open(cell.object)?);
-        self.put(cell.object, f(old).to_val())?;
-        Ok(old)
+        let old = self.change(cell.object, |val| f(T::of_val(val)).to_val())?;
+        Ok(T::of_val(old))
     }
 
     /// Retries where the condition does not hold: the closure is called again once something that it has read has
@@ -96,6 +92,7 @@ impl<'a> Tx<'a> {
         G: FnOnce(&mut Tx<'_>) -> Result<R, Stop>,
         requires first { F.IsAlwaysCallable first }
         requires second { G.IsAlwaysCallable second }
+        ensures { KeepsOnce F.FnOnce first → KeepsOnce G.FnOnce second → Keeps self.old self.new }
     {
         let kept = self.undos.len();
         self.alternatives = self.alternatives.saturating_add(1);
@@ -111,63 +108,48 @@ impl<'a> Tx<'a> {
     }
 
     // Opens an object for reading.
-    fn read(&mut self, object: u32) -> Result<Val, Stop> {
+    fn read(&mut self, object: u32) -> Result<Val, Stop>
+        ensures keeps { Keeps self.old self.new }
+        ensures finds { IfOk result (Finds self.old.caller self.new.caller object) }
+    {
         let mut tx = self.caller.resume(self.stm);
-        if !tx.is_live() {
-            return Err(Stop::Again);
-        }
-        if object >= tx.objects() {
-            return Err(Stop::Foreign);
-        }
-        match tx.open_read(object) {
-            Ok(value) => Ok(value),
-            Err(_) => Err(Stop::Again),
-        }
-    }
-
-    // Opens an object for writing. In an alternative what it had is noted.
-    fn open(&mut self, object: u32) -> Result<Val, Stop> {
-        let value = self.write(object)?;
-        if self.alternatives > 0 {
-            self.undos.push(Undo { object, value })?;
-        }
+        may_open(&tx, object)?;
+        let value = tx.open_read(object)?;
         Ok(value)
     }
 
-    fn write(&mut self, object: u32) -> Result<Val, Stop> {
+    // Sets an object to what this makes of its value, and answers what it had. In an alternative this is noted.
+    fn change<F: FnOnce(Val) -> Val>(&mut self, object: u32, f: F) -> Result<Val, Stop>
+        requires callable { F.IsAlwaysCallable f }
+        ensures keeps { Keeps self.old self.new }
+        ensures changes { IfOk result (λ had.
+            (value : Val) × F.post f had value × Exchanges self.old.caller self.new.caller object had value) }
+    {
         let mut tx = self.caller.resume(self.stm);
-        if !tx.is_live() {
-            return Err(Stop::Again);
+        may_open(&tx, object)?;
+        let value = tx.open_write(object)?;
+        if self.alternatives > 0 {
+            self.undos.push(Undo { object, value })?;
         }
-        if object >= tx.objects() {
-            return Err(Stop::Foreign);
-        }
-        match tx.open_write(object) {
-            Ok(value) => Ok(value),
-            Err(_) => Err(Stop::Again),
-        }
+        tx.set(object, f(value));
+        Ok(value)
     }
 
     // Sets an object, and opens it for writing where it is not open.
-    fn put(&mut self, object: u32, value: Val) -> Result<(), Stop> {
+    fn put(&mut self, object: u32, value: Val) -> Result<(), Stop>
+        ensures { Keeps self.old self.new }
+    {
         let mut tx = self.caller.resume(self.stm);
-        if !tx.is_live() {
-            return Err(Stop::Again);
-        }
-        if object >= tx.objects() {
-            return Err(Stop::Foreign);
-        }
-        match tx.open_write(object) {
-            Ok(_) => {
-                tx.set(object, value);
-                Ok(())
-            }
-            Err(_) => Err(Stop::Again),
-        }
+        may_open(&tx, object)?;
+        let _old = tx.open_write(object)?;
+        tx.set(object, value);
+        Ok(())
     }
 
     // Undoes what was set since so many objects were noted, the last one first.
-    fn undo_to(&mut self, kept: usize) -> Result<(), Stop> {
+    fn undo_to(&mut self, kept: usize) -> Result<(), Stop>
+        ensures { Keeps self.old self.new }
+    {
         for _ in kept..self.undos.len() {
             let Some(undo) = self.undos.pop() else {
                 break;
@@ -178,19 +160,27 @@ impl<'a> Tx<'a> {
     }
 
     // Makes the next attempt the first of a new transaction.
-    pub(crate) fn renew(&mut self) {
+    pub(crate) fn renew(&mut self)
+        ensures { AddsNothing self.old.caller self.new.caller }
+    {
         self.caller.next_transaction();
     }
 
     // Begins an attempt.
-    pub(crate) fn begin(&mut self) -> Result<(), GaveUp> {
+    pub(crate) fn begin(&mut self) -> Result<(), GaveUp>
+        ensures begins { OnOk result (BeginsAnew holds self.old.caller self.new.caller) }
+        ensures nothing { AddsNothing self.old.caller self.new.caller }
+    {
         self.undos.clear();
         self.alternatives = 0;
         begin(&mut self.caller, self.stm)
     }
 
     // Commits the attempt, and tells whether it has taken effect.
-    pub(crate) fn commit(&mut self) -> bool {
+    pub(crate) fn commit(&mut self) -> bool
+        ensures takes { result ≡ true → TakesEffect self.old.caller self.new.caller }
+        ensures keeps { result ≡ false → Keeps self.old self.new }
+    {
         let tx = self.caller.resume(self.stm);
         if !tx.is_live() {
             return false;
@@ -199,12 +189,16 @@ impl<'a> Tx<'a> {
     }
 
     // Leaves the attempt.
-    pub(crate) fn abandon(&mut self) {
+    pub(crate) fn abandon(&mut self)
+        ensures { Keeps self.old self.new }
+    {
         self.caller.resume(self.stm).abandon();
     }
 
     // Waits until something that the attempt has read has changed, or it was aborted. It gives way at each look.
-    pub(crate) fn wait(&mut self) -> Result<(), GaveUp> {
+    pub(crate) fn wait(&mut self) -> Result<(), GaveUp>
+        ensures { Keeps self.old self.new }
+    {
         for _ in 0..self.looks {
             yield_now();
             if !self.is_current() {
@@ -215,7 +209,9 @@ impl<'a> Tx<'a> {
     }
 
     // All that the attempt has read is still current.
-    fn is_current(&mut self) -> bool {
+    fn is_current(&mut self) -> bool
+        ensures { Keeps self.old self.new }
+    {
         let mut tx = self.caller.resume(self.stm);
         if !tx.is_live() {
             return false;
@@ -235,10 +231,26 @@ impl<'a> Tx<'a> {
     }
 }
 
+// Whether an attempt is live, and has such an object.
+#[inline]
+fn may_open(tx: &Attempt<'_, AnyLaw>, object: u32) -> Result<(), Stop>
+    ensures { OnOk result (IsTrue (is_live tx.now.caller.now) × (object < (shape_of tx.now.caller.now).objects)) }
+{
+    if !tx.is_live() {
+        return Err(Stop::Again);
+    }
+    if object >= tx.objects() {
+        return Err(Stop::Foreign);
+    }
+    Ok(())
+}
+
 // Begins an attempt of a caller, which stays one of the table.
 fn begin(caller: &mut Caller<AnyLaw>, stm: &Stm<AnyLaw>) -> Result<(), GaveUp>
     requires table { caller.old.home ≡ stm.now }
     ensures table { caller.new.home ≡ stm.now }
+    ensures begins { OnOk result (BeginsAnew holds caller.old caller.new) }
+    ensures nothing { AddsNothing caller.old caller.new }
 {
     let Ok(_tx) = caller.begin(stm) else {
         return Err(GaveUp::Spent);

@@ -1,5 +1,5 @@
 use Rattle.std.proofs.Common.{◌≡◌, length}
-use Rattle.dstm_cells.proofs.tx.Tx.all.Given as goal
+use Rattle.dstm_cells.proofs.under_way.Tx.all.Given as goal
 
 -- a value for each object so far
 abbrev pub invariant-loop-object : goal.invariant-loop-object

@@ -1,0 +1,6 @@
+use Rattle.dstm_cells.specs.UnderWay.{Keeps}
+use Rattle.dstm_cells.proofs.under_way.Tx.undo_to.Given as goal
+
+-- it stays the same attempt
+abbrev pub invariant-loop : goal.invariant-loop
+invariant-loop l = Keeps l.fn.self l.self

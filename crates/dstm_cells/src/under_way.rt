@@ -1,0 +1,24 @@
+// A transaction under way: what its closure is given.
+ghost use Rattle.std.specs.Prelude.{◌≡◌};
+
+use dstm_engine::{Caller, Stm};
+use dstm_model::{AnyLaw, Val};
+
+// What an object had before an alternative set it.
+#[derive(Clone, Copy, Debug)]
+pub struct Undo {
+    pub object: u32,
+    pub value: Val,
+}
+
+/// A transaction under way.
+#[derive(Drop)]
+pub struct Tx<'a> {
+    pub(crate) caller: Caller<AnyLaw>,
+    pub(crate) stm: &'a Stm<AnyLaw>,
+    pub(crate) undos: Vec<Undo>,
+    // How many alternatives it is in of which each may yet be undone.
+    pub(crate) alternatives: u32,
+    pub(crate) looks: u32,
+    ghost table: { caller.home ≡ stm.now },
+}
