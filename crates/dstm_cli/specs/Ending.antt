@@ -1,4 +1,4 @@
--- How a command ends, and how its parts fail.
+-- Private: how a command ends, and how its parts fail.
 use Rattle.std.specs.Prelude.{◌≡◌, ℕ, true, List, [], Option, None, IfSome, Result, Ok, Err}
 use Rattle.std.specs.Io.KnownBytes.{Appends, Keeps}
 use Rattle.dstm_io.specs.Count.{Rises}

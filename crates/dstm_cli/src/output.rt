@@ -107,29 +107,31 @@ fn run<R: Threads + Sync, S: Source, G: Gate + Sync>(
         (added rounds.old rounds.new) }
     ensures unplayed { IfErr result (λ failure. failure ≢ Failure.Memory → added rounds.old rounds.new ≡ []) }
 {
+    keep_freed_memory(alloc);
     let input = read_input(alloc, source, RUN_LIMIT)?;
-    run_text(rt, alloc, &input, options, gate, rounds)
+    run_text(rt, alloc, input, options, gate, rounds)
 }
 
+// The same of a text. Where its workload stands is given back before the crew runs, which takes its pages.
 fn run_text<R: Threads + Sync, G: Gate + Sync>(
     rt: &R,
     alloc: Global,
-    input: &[u8],
+    input: Vec<u8>,
     options: &Options,
     gate: &G,
     rounds: &mut Rounds,
 ) -> Result<Vec<u8>, Failure>
-    requires { length input.now ≤ RUN_LIMIT }
-    ensures text { IfOk result (λ text. (workload : TheWorkload) × ((run_input input.now ≡ Ok workload)
+    requires { length input.items ≤ RUN_LIMIT }
+    ensures text { IfOk result (λ text. (workload : TheWorkload) × ((run_input input.items ≡ Ok workload)
         × IsReportOf workload options.now (added rounds.old rounds.new) text.items)) }
-    ensures failed { IfErr result (Fails (λ text failure. run_input text ≡ Err failure) (Some input.now) 0 0) }
+    ensures failed { IfErr result (Fails (λ text failure. run_input text ≡ Err failure) (Some input.items) 0 0) }
     ensures behind { rounds.new ≡ rounds.old ++ added rounds.old rounds.new }
     ensures closed { (added rounds.old rounds.new ≡ []) ⊎ ((workload : TheWorkload)
-        × (AreFirstRounds workload options.now (added rounds.old rounds.new) × (run_input input.now ≡ Ok workload))) }
+        × (AreFirstRounds workload options.now (added rounds.old rounds.new) × (run_input input.items ≡ Ok workload))) }
     ensures unplayed { IfErr result (λ failure. failure ≢ Failure.Memory → added rounds.old rounds.new ≡ []) }
 {
-    let workload = read_workload(alloc, input)?;
-    keep_freed_memory(alloc);
+    let workload = read_workload(alloc, &input)?;
+    drop(input);
     let report = run_crew(rt, alloc, &workload, options, gate, rounds)?;
     lawful_is_held();
     Ok(render(alloc, &report)?)
