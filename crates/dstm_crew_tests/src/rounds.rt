@@ -3,21 +3,23 @@ use dstm_crew::{Gate, OpenGate};
 use std::sync::atomic::{AtomicU64, Ordering};
 use std::test::Fail;
 
-// A gate that counts its passes.
+// A gate that counts its passes, and adds up the lines that it is told.
 #[derive(Drop)]
 struct Count {
     passes: AtomicU64,
+    lines: AtomicU64,
 }
 
 impl Gate for Count {
-    fn pass(&self, _worker: u32, _line: u64) {
+    fn pass(&self, _worker: u32, line: u64) {
         self.passes.fetch_add(1, Ordering::SeqCst);
+        self.lines.fetch_add(line, Ordering::SeqCst);
     }
 }
 
 // A caller has 16,384 attempts. The worker's last 3,615 jobs go on in round 2, behind the one of the alone round. The gate is
-// passed in round 0 alone: once for each job that was done there, and once for the one that found no attempt left. Both
-// engines give the same report.
+// passed in round 0 alone: once for each job that was done there, and once for the one that found no attempt left. It is told
+// their lines, 3 to 16,387. Both engines give the same report.
 #[test]
 fn one_worker_takes_three_rounds(rt: HostRuntime) -> Result<(), Fail> {
     let alloc = rt.alloc();
@@ -27,9 +29,11 @@ fn one_worker_takes_three_rounds(rt: HostRuntime) -> Result<(), Fail> {
     }
     let gate = Count {
         passes: AtomicU64::new(0),
+        lines: AtomicU64::new(0),
     };
     let ran = call(&rt, alloc, "dstm run", &workload, &gate)?;
     assert_eq!(rt; gate.passes.load(Ordering::SeqCst), 16_385);
+    assert_eq!(rt; gate.lines.load(Ordering::SeqCst), 134_275_075);
     let by_tl2 = call(&rt, alloc, "dstm run --engine tl2", &workload, &OpenGate)?;
     assert_eq!(rt; ran.status, 0);
     assert!(rt; by_tl2.out == ran.out);
