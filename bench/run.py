@@ -7,7 +7,6 @@ import subprocess
 import sys
 import tempfile
 import time
-from collections import Counter
 from pathlib import Path
 
 import workloads
@@ -52,7 +51,6 @@ class Program:
 
     def forget(self):
         self.least = dict.fromkeys(MEASURES, float("inf"))
-        self.parts = ""
 
     def start(self, words, settings, text, err=subprocess.DEVNULL):
         """Runs it once, and answers how long that took on the clock, and on all processors."""
@@ -74,12 +72,8 @@ class Program:
         wall, cpu = self.start(self.words, {}, load.path)
         self.note("process", wall)
         self.note("process, cpu", cpu)
-        if self.tells is None:
-            return
-        wall, cpu, parts = self.tells(self, load)
+        wall, cpu = self.tells(self, load)
         self.note("run", wall)
-        if cpu < self.least["run, cpu"]:
-            self.parts = parts
         self.note("run, cpu", cpu)
 
 
@@ -90,7 +84,7 @@ def told_by_itself(program, load):
         told.seek(0)
         fields = told.read().split()
     at = fields.index("run") + 1
-    return int(fields[at]) / 1000, int(fields[at + 1]) / 1000, ""
+    return int(fields[at]) / 1000, int(fields[at + 1]) / 1000
 
 
 def told_by_prototype(program, load):
@@ -101,41 +95,27 @@ def told_by_prototype(program, load):
         told.seek(0)
         fields = told.read().split()
     times = {name: int(value) / 1000 for name, value in zip(fields[::2], fields[1::2])}
-    return times["run"], times.get("runcpu", cpu - times["parse"] - times["print"]), ""
+    return times["run"], times.get("runcpu", cpu - times["parse"] - times["print"])
 
 
 def told_by_phases(program, load):
-    """What phases.so tells of dstm: it runs jobs in the time in which a table is there."""
+    """What phases.so tells of dstm: its crew begins as the text that was read is given back, and ends as the first block is
+    that it has taken."""
     told = load.folder / "phases"
     program.start(program.words, {"LD_PRELOAD": str(load.folder / "phases.so"), "PHASES": str(told)}, load.path)
-    return phases_of(load, told.read_text().splitlines())
+    lines = [line.split() for line in told.read_text().splitlines()]
+    events = [(name, *map(int, numbers)) for name, *numbers in lines]
+    read = max(at for at, event in enumerate(events) if event[0] == "read")
+    begin = next(at for at in range(read, len(events)) if events[at][0] == "free")
+    crew = events[begin:]
+    first = next(size for name, _, _, size in crew if name == "malloc")
+    end = next(event for event in reversed(crew) if event[0] == "free" and is_block(event[3], first))
+    return tuple((end[at] - crew[0][at]) / 1000 for at in (1, 2))
 
 
-def phases_of(load, lines):
-    """How long tables were there, on the clock and on all processors, and of the latter how long it took to make them. A
-    block of a table's size that is there once is something else, since zeros are made first."""
-    blocks, rounds = {}, []
-    asked = Counter(line.split()[3] for line in lines if line.startswith("malloc"))
-    for line in lines:
-        name, *numbers = line.split()
-        wall, cpu, size = map(int, numbers)
-        if name == "malloc" and asked[numbers[2]] > 1 and load.is_table(size, not rounds):
-            if not any(blocks.values()):
-                rounds.append([])
-            blocks[size] = blocks.get(size, 0) + 1
-            rounds[-1].append((wall / 1000, cpu / 1000))
-        if name == "free":
-            table = next((other for other in blocks if blocks[other] and other <= size < other + SLACK), None)
-            if table:
-                blocks[table] -= 1
-                rounds[-1].append((wall / 1000, cpu / 1000))
-    wall = sum(times[-1][0] - times[0][0] for times in rounds)
-    cpu = sum(times[-1][1] - times[0][1] for times in rounds)
-    parts = f"{len(rounds)} rounds"
-    if all(len(times) >= 4 for times in rounds):  # zeros and a table are made, and the zeros are given back
-        made = sum(times[2][1] - times[0][1] for times in rounds)
-        parts += f", make {made:.1f}, use and close {cpu - made:.1f}"
-    return wall, cpu, parts
+def is_block(size, asked):
+    """Whether a block that is given back is one of a size that was asked for."""
+    return asked <= size < asked + SLACK
 
 
 class Load:
@@ -149,30 +129,8 @@ class Load:
             self.path.write_bytes(text)
         else:
             self.path.write_text(workloads.text_of(kind, count, workers))
-        self.objects = self.money = 0
-        jobs = [0] * workers
-        for line in self.path.read_text().splitlines():
-            fields = line.split()
-            if fields[0] == "tx":
-                jobs[int(fields[1])] += 1
-            if fields[0] == "bank":
-                self.objects += int(fields[1])
-                self.money = int(fields[1]) * int(fields[2])
-            if fields[0] in ("list", "tree"):
-                self.objects += int(fields[1]) + 2
-        self.jobs = max(jobs)
-
-    def is_table(self, size, is_first):
-        """Whether a block has the size of a table: a word for each object, and for each of the callers 2 words for
-        each attempt and 4 for each locator, of which there is one for each object and 16,384 more; and 3 words. The
-        first table has all workers as callers, and 4 attempts for each job of one of them, and 16 more."""
-        words = size // 8 - 3 - self.objects
-        for callers in range(self.workers if is_first else 1, self.workers + 1):
-            rest, none = divmod(words - callers * 4 * (self.objects + 16384), 2 * callers)
-            most = 4 * min(self.jobs, 4092) + 16
-            if size % 8 == 0 and none == 0 and rest % 4 == 0 and (rest == most if is_first else 20 <= rest <= most):
-                return True
-        return False
+        banks = (line.split()[1:3] for line in self.path.read_text().splitlines() if line.startswith("bank "))
+        self.money = sum(int(accounts) * int(balance) for accounts, balance in banks)
 
 
 def report_of(words, load):
@@ -208,30 +166,20 @@ def measure(programs, load, rounds):
             program.measure(load)
 
 
-def value_beside(first, program, measure):
-    """A measure of a run by TL2, whose tables are too small to be seen by their size. What the process does beside its run
-    phase is the same under both engines."""
-    whole = measure.replace("run", "process")
-    return program.least[measure] if measure == whole else program.least[whole] - (first.least[whole] - first.least[measure])
-
-
 def tell(programs, load):
     """Of each measure the milliseconds of each program, and how many times those of the others the first one took."""
     own = programs[0].least
     for measure in MEASURES:
         cells = [f"{own[measure]:.1f}"]
         for program in programs[1:]:
-            value = program.least[measure] if program.tells else value_beside(programs[0], program, measure)
+            value = program.least[measure]
             cells.append(f"{value:.1f} ({own[measure] / max(value, 0.1):.2f})")
         print(f"| {load.kind} | {load.workers} | {measure} | " + " | ".join(cells) + " |", flush=True)
-    for program in programs:
-        if program.parts:
-            print(f"| {load.kind} | {load.workers} | {program.name}: {program.parts} |", flush=True)
 
 
 def programs_of(given, folder):
     tl2 = [given.dstm, "run", "--engine", "tl2"]
-    programs = [Program("dstm", [given.dstm, "run"], told_by_phases), Program("tl2", tl2, None)]
+    programs = [Program("dstm", [given.dstm, "run"], told_by_phases), Program("tl2", tl2, told_by_phases)]
     for name in prototypes_in(given.prototypes):
         programs.append(Program(name, [folder / name, *PROTOTYPES[name][1]], told_by_prototype))
     for other in given.also:
@@ -265,7 +213,7 @@ def main():
     reader = argparse.ArgumentParser(description=__doc__)
     reader.add_argument("--dstm", default=str(HERE.parent / "crates/dstm/out/dstm"))
     reader.add_argument("--loads", default="gen,hot,cold,tree,full,long,audit,walk")
-    reader.add_argument("--workers", default="1,2,4,8")
+    reader.add_argument("--workers", default="1,2,4,8,32")
     reader.add_argument("--count", type=int, default=20000)
     reader.add_argument("--rounds", type=int, default=9)
     reader.add_argument("--also", action="append", default=[], metavar="NAME=PATH", help="another build of dstm")
