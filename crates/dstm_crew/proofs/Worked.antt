@@ -67,24 +67,28 @@ by_dstm : (engine : Engine) → is_dstm engine ≡ true → engine ≡ engines.D
 by_dstm engines.Dstm is = refl
 by_dstm engines.Tl2 is = absurd (true≢false (sym is))
 
--- one of which no read is given up is run plainly
-pub plain_style : (options : Options) (version : ℕ) (style : Style) → style ≡ style_of version (releases options) →
-    KeepsReads options version → style ≡ Plain
-plain_style options version style is keeps = is ∙ by (releases options) refl
-  where
-    low : (version == 3) ≡ false
-    low = let few = keeps.no_conditions in ne_eqb version 3 (λ e. omega (arith, few, e))
+loose_by : (third release : Bool) → (if third then Branches else if release then Loose else Plain) ≡ Loose →
+    (third ≡ false) × (release ≡ true)
+loose_by true release is = cc
+loose_by false true is = (refl, refl)
+loose_by false false is = cc
 
-    by : (release : Bool) → releases options ≡ release → style_of version release ≡ Plain
-    by false off = rw low refl
-    by true on =
-        let all = both_on (is_dstm options.engine) options.release options.all_write on in
-        absurd (keeps.not_early (record {
-          engine = by_dstm options.engine all.0;
-          release = all.1;
-          reads = all.2;
-          no_conditions = keeps.no_conditions;
-        }))
+-- one of which no read is given up is not run loosely
+pub not_loose : (options : Options) (version : ℕ) (style : Style) → version ≤ 3 →
+    style ≡ style_of version (releases options) → KeepsReads options version → style ≢ Loose
+not_loose options version style newest is keeps loose =
+    let by = loose_by (version == 3) (releases options) (sym is ∙ loose) in
+    let all = both_on (is_dstm options.engine) options.release options.all_write by.1 in
+    keeps (record {
+      engine = by_dstm options.engine all.0;
+      release = all.1;
+      reads = all.2;
+      no_conditions = low by.0 (cases_eq version 3);
+    })
+  where
+    low : (version == 3) ≡ false → (version ≡ 3) ⊎ (version ≡ 3 → ⊥) → version ≤ 2
+    low other (inl third) = absurd (true≢false (sym (eq-eqb version 3 third) ∙ other))
+    low other (inr lower) = omega arith
 
 -- without conditions all operations are plain
 plain_op : (version : ℕ) (op : Op) → version ≤ 2 → HasOp version op → IsPlain op

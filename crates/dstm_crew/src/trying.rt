@@ -1,7 +1,7 @@
-ghost use Rattle.std.specs.Prelude.{◌≡◌, IfErr, IfOk};
+ghost use Rattle.std.specs.Prelude.{◌≡◌, ◌≢◌, IfErr, IfOk};
 ghost use Rattle.dstm_tables.specs.Callers.{AtRest, home_of, law_of, let_go};
 ghost use Rattle.dstm_tables.specs.Styles.{CanTry};
-ghost use Rattle.dstm_tables.specs.declared.style.Style.TheVariants.{Plain};
+ghost use Rattle.dstm_tables.specs.declared.style.Style.TheVariants.{Loose};
 ghost use Rattle.dstm_crew.specs.Tries.{HasDone, HasLeft};
 
 use dstm_model::Layout;
@@ -9,7 +9,7 @@ use dstm_tables::{Caller, Finished, Left, RECHECKS, Style, Table, Tried, attempt
 use dstm_workload::Job;
 use std::thread::yield_now;
 
-/// Tries a job until it is done, its caller is spent, or it stays blocked.
+/// Tries a job until it is done, its caller is spent, or it stays blocked. Only by the loose style reads are let go.
 pub fn try_job(
     style: Style,
     caller: &mut Caller,
@@ -23,7 +23,7 @@ pub fn try_job(
     requires can { CanTry style layout.now job.now }
     ensures done { IfOk result (HasDone style layout.now job.now caller.old caller.new) }
     ensures left { IfErr result (HasLeft style layout.now job.now caller.old caller.new) }
-    ensures keeps { style ≡ Plain → let_go caller.new ≡ let_go caller.old }
+    ensures keeps { style ≢ Loose → let_go caller.new ≡ let_go caller.old }
 {
     let mut turns: u32 = 1;
     loop {

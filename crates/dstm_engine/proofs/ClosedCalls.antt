@@ -22,10 +22,10 @@ use Rattle.dstm_engine.proofs.Rechecked.{rechecked_counts, rechecked_kept, reche
 use Rattle.dstm_engine.proofs.Steady.{held_same, opened_same, same_generator}
 use Rattle.dstm_engine.specs.Attempts.{Commits, Sighted, done, sights}
 use Rattle.dstm_engine.specs.Began.{began_of}
-use Rattle.dstm_engine.specs.Callers.{Called, begun_log, held, is_live, is_opened, is_running, state}
+use Rattle.dstm_engine.specs.Callers.{Called, begun_log, held, is_live, is_opened, is_running, new_value, state}
 use Rattle.dstm_engine.specs.Mirror.{Tied, called}
 use Rattle.dstm_engine.specs.Outcomes.{IsEnded}
-use Rattle.dstm_engine.specs.Transactions.{IsStaleOrKilled, Leaves, Stays, new_value, tx_place}
+use Rattle.dstm_engine.specs.Transactions.{IsStaleOrKilled, Leaves, Stays, tx_place}
 use Rattle.dstm_engine.specs.declared.caller.Caller.TheInside.{Inside}
 
 -- the call has left its attempt, and holds what it held

@@ -37,11 +37,11 @@ use Rattle.dstm_engine.proofs.Steady.{held_same, same_generator, same_there}
 use Rattle.dstm_engine.proofs.Tying.{live_there, state_then}
 use Rattle.dstm_engine.specs.Attempts.{Commits, done}
 use Rattle.dstm_engine.specs.Began.{began_of}
-use Rattle.dstm_engine.specs.Callers.{Called, begun_log, handed, is_opened, is_running, shape_of, state}
+use Rattle.dstm_engine.specs.Callers.{Called, begun_log, handed, is_opened, is_running, new_value, shape_of, state}
 use Rattle.dstm_engine.specs.Calls.{IsTold, Performs}
 use Rattle.dstm_engine.specs.Mirror.{Tied, called, phase_by}
 use Rattle.dstm_engine.specs.Outcomes.{IsEnded, IsLeft, Promises}
-use Rattle.dstm_engine.specs.Transactions.{Stays, new_value}
+use Rattle.dstm_engine.specs.Transactions.{Stays}
 use Rattle.dstm_engine.specs.declared.caller.Caller.TheInside.{Inside}
 
 -- a recheck or a commit has no exchange but those on its own status

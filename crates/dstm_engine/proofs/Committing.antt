@@ -33,10 +33,9 @@ use Rattle.dstm_engine.proofs.Setting.{opened_slot, with_new_apart}
 use Rattle.dstm_mem.proofs.Settling.{agrees_held, writes_same}
 use Rattle.dstm_engine.proofs.Tying.{now_there, renewed, starts_there}
 use Rattle.dstm_engine.specs.Attempts.{Admits}
-use Rattle.dstm_engine.specs.Callers.{handed, held, is_opened, law_of, state, written}
+use Rattle.dstm_engine.specs.Callers.{handed, held, is_opened, law_of, new_value, state, written}
 use Rattle.dstm_engine.specs.Mirror.{Tied, called, phase_by, set_pairs, slot_old, with_new}
 use Rattle.dstm_engine.specs.Opened.{write_slot}
-use Rattle.dstm_engine.specs.Transactions.{new_value}
 use Rattle.dstm_engine.specs.declared.caller.Caller.TheInside.{Inside}
 
 -- the value that a commit by these steps puts into an object

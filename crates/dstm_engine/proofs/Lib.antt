@@ -43,3 +43,6 @@ pub mod Attempting
 pub mod Living
 pub mod Spending
 pub mod LettingGo
+pub mod BegunThere
+pub mod FewSights
+pub mod Looked

@@ -9,7 +9,7 @@ use Rattle.dstm_progress.specs.Disturbed.{count_of}
 use Rattle.dstm_progress.specs.Ends.{StaysAt}
 use Rattle.dstm_core.specs.State.{LocalState, given}
 use Rattle.dstm_core.specs.declared.event.Kind.{Kind}
-use Rattle.dstm_core.specs.declared.event.Kind.TheVariants.{LookSelf}
+use Rattle.dstm_core.specs.declared.event.Kind.TheVariants.{LookObj, LookSelf}
 use Rattle.dstm_core.specs.declared.shape.Shape.{Shape}
 use Rattle.dstm_core.specs.Events.{Event}
 use Rattle.dstm_core.specs.Histories.{CoreRun, IsSight, history_of, seen}
@@ -18,7 +18,10 @@ use Rattle.dstm_core.specs.Traces.{IsPastOf}
 use Rattle.dstm_core.specs.Words.{code_of}
 use Rattle.dstm_core.specs.declared.status.Status.TheVariants as status
 use Rattle.dstm_mem.specs.Memory.{AgreesWith, value_in, with_set}
-use Rattle.dstm_engine.specs.Callers.{Called, begun_log, shape_of, start_of, law_of, state, held, written, handed, is_live, is_opened}
+use Rattle.dstm_engine.specs.Callers.{Called, begun_log, shape_of, start_of, law_of, state, held, written, handed, new_value, is_live, is_opened}
+use Rattle.dstm_engine.specs.Calls.{Performs}
+use Rattle.dstm_order.specs.Tasks.Task.{Doing}
+use Rattle.dstm_order.specs.Tasks.Work.{Committing}
 
 abbrev pub is_look_self : Kind → Bool
 is_look_self LookSelf = true
@@ -28,10 +31,21 @@ is_look_self kind = false
 abbrev pub completes_pass : Shape → LocalState → Event → Bool
 completes_pass shape state event = is_look_self event.kind && (event.found == given state.phase)
 
+abbrev pub is_look_object : Kind → Bool
+is_look_object LookObj = true
+is_look_object kind = false
+
+abbrev pub looks_at_object : Shape → LocalState → Event → Bool
+looks_at_object shape state event = is_look_object event.kind
+
 module _ {L : Type 0} where
   -- how many sights the last attempt has had
   abbrev pub sights : Called L → ℕ
   sights k = count_of completes_pass (shape_of k) k.log k.number (state k).begun
+
+  -- how often it has looked at an object
+  abbrev pub looks : Called L → ℕ
+  looks k = count_of looks_at_object (shape_of k) k.log k.number (state k).begun
 
   -- The newest sight of this attempt covers all reads together: it has had no other since.
   pub record Sighted (k : Called L) : Type 0 where
@@ -98,7 +112,7 @@ module _ {L : Type 0} where
         StandsRight holds is_right n later entry
 
   -- THE RUN IS COMMITTED: what was read, opened and set where the body's run ended is what the attempt has committed, and
-  -- what the run promises of its memory holds there.
+  -- what the run promises of its memory holds there. All that the caller did from there on is to commit.
   pub record CommitsRun (holds : L → List Val → Type 0) (is_right : List Val → List Val → Type 0)
       (leaves : (ℕ → Option Val) → (ℕ → Bool) → Type 0) (k n : Called L) (number : ℕ) : Type 0 where
     pub ran : Called L
@@ -106,3 +120,11 @@ module _ {L : Type 0} where
     pub right : (map : List Val) → Admits holds ran map → is_right map (with_set map (written ran))
     pub left : leaves (held ran) (is_opened ran)
     pub commits : Commits ran n number
+    pub commit : Performs holds (Doing (Committing (new_value ran))) ran n None
+
+  -- Nothing was made sure of but by opens and by the commit: as this began, the attempt had at most one sight for each look
+  -- at an object.
+  pub record SightedByOpens (holds : L → List Val → Type 0) (n : Called L) : Type 0 where
+    pub ran : Called L
+    pub few : sights ran ≤ looks ran
+    pub commit : Performs holds (Doing (Committing (new_value ran))) ran n None

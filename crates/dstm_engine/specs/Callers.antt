@@ -1,9 +1,9 @@
 -- What contracts see of a caller, and of its last attempt.
-use Rattle.std.specs.Prelude.{ℕ, ◌&&◌, Bool, true, false, List, Option, is_some, if◌then◌else◌, None}
+use Rattle.std.specs.Prelude.{ℕ, ◌&&◌, Bool, true, false, List, Option, is_some, if◌then◌else◌, None, unwrap_or}
 use Rattle.std.specs.Option.{option_or}
 use Rattle.rand_pcg.specs.Lcg.{Lcg}
 use Rattle.dstm_model.specs.declared.value.Val.{Val}
-use Rattle.dstm_model.specs.Map.{Entry}
+use Rattle.dstm_model.specs.Map.{Entry, no_value}
 use Rattle.dstm_machines.specs.Attempts as attempts
 use Rattle.dstm_core.specs.Events.{Event}
 use Rattle.dstm_core.specs.Counts.{is_begin}
@@ -75,6 +75,10 @@ module _ {L : Type 0} where
   -- the value that an open hands out
   abbrev pub handed : Called L → ℕ → Option Val
   handed k o = option_or (written k o) (held k o)
+
+  -- the value that a commit puts into an object opened for writing
+  abbrev pub new_value : Called L → ℕ → Val
+  new_value k o = unwrap_or (handed k o) no_value
 
   -- what it holds and has opened while it is live; an attempt that was left holds nothing
   abbrev pub live_held : Called L → ℕ → Option Val

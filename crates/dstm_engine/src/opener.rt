@@ -1,5 +1,5 @@
-ghost use Rattle.std.specs.Prelude.{◌≡◌, ℕ, List, OnOk, IfErr};
-ghost use Rattle.dstm_engine.specs.Attempts.{Admits};
+ghost use Rattle.std.specs.Prelude.{◌≡◌, ◌+◌, ◌≤◌, ℕ, List, OnOk, IfErr};
+ghost use Rattle.dstm_engine.specs.Attempts.{Admits, looks, sights};
 ghost use Rattle.dstm_engine.specs.Callers.{live_held, live_opened, written};
 ghost use Rattle.dstm_engine.specs.Makes.{let_go};
 ghost use Rattle.dstm_mem.specs.Memory.{with_set};
@@ -10,65 +10,87 @@ use crate::tx::Tx;
 use dstm_mem::{Body, Mem};
 use dstm_model::{Law, Val};
 use dstm_order::Again;
+use std::marker::{Brand, PhantomData};
 
-// An attempt on which a body may open objects and set them, and let no read go: so how many its caller has let go tells
-// the memory too.
-#[derive(Drop)]
-struct Opener<'a, L: Law> {
-    tx: Tx<'a, L>,
+/// How many sights an attempt has had, and how often it has looked at an object, before a body runs on it.
+pub trait Counted {
+    ghost use Rattle.std.specs.Prelude.{ℕ};
+
+    ghost sights: { ℕ };
+
+    ghost looks: { ℕ };
 }
 
-impl<'a, L: Law> Mem for Opener<'a, L> {
+// What stands for it, before a call picks it.
+impl Counted for Brand {
+    ghost sights = { 0 };
+
+    ghost looks = { 0 };
+}
+
+/// An attempt on which a body may open objects and set them, and neither let a read go nor make sure again that what it
+/// has read stands. So how many reads its caller has let go tells the memory too, and since it was counted the attempt
+/// has had at most one sight for each look at an object.
+#[derive(Drop)]
+pub struct Opener<'b, 'a, L: Law, C: Counted> {
+    pub tx: &'b mut Tx<'a, L>,
+    pub counted: PhantomData<C>,
+    ghost few: { sights tx.now.caller.now + C.looks ≤ looks tx.now.caller.now + C.sights },
+}
+
+impl<'b, 'a, L: Law, C: Counted> Mem for Opener<'b, 'a, L, C> {
     ghost use Rattle.std.specs.Prelude.{ℕ};
+    ghost use Rattle.dstm_engine.specs.Attempts.{Admits};
+    ghost use Rattle.dstm_engine.specs.Callers.{is_live, live_held, live_opened, shape_of, written};
     ghost use Rattle.dstm_engine.specs.Makes.{let_go};
     ghost use Rattle.dstm_engine.specs.Places.{live_agrees};
     ghost use Rattle.dstm_engine.specs.Transactions.{TxPlace, tx_place};
-    ghost use Rattle.dstm_engine.specs.Attempts.{Admits};
-    ghost use Rattle.dstm_engine.specs.Callers.{shape_of, is_live, live_held, live_opened, written};
 
     type Err = Again;
 
-    ghost Place = { TxPlace L × ℕ };
+    ghost Place = { (TxPlace L × ℕ) × ℕ };
 
-    ghost place = { λ o. (tx_place o.tx.caller.ghost_name o.tx.stm.now o.tx.caller.now, let_go o.tx.caller.now) };
+    ghost place = { λ o.
+        ((tx_place o.tx.now.caller.ghost_name o.tx.now.stm.now o.tx.now.caller.now, let_go o.tx.now.caller.now), o.tx.ghost_name) };
 
-    ghost all_write = { λ p. p.0.home.terms.shape.all_write };
+    ghost all_write = { λ p. p.0.0.home.terms.shape.all_write };
 
-    ghost objects = { λ o. (shape_of o.tx.caller.now).objects };
+    ghost objects = { λ o. (shape_of o.tx.now.caller.now).objects };
 
-    ghost held = { λ o. live_held o.tx.caller.now };
+    ghost held = { λ o. live_held o.tx.now.caller.now };
 
-    ghost written = { λ o. written o.tx.caller.now };
+    ghost written = { λ o. written o.tx.now.caller.now };
 
-    ghost is_opened = { λ o. live_opened o.tx.caller.now };
+    ghost is_opened = { λ o. live_opened o.tx.now.caller.now };
 
-    ghost is_live = { λ o. is_live o.tx.caller.now };
+    ghost is_live = { λ o. is_live o.tx.now.caller.now };
 
-    ghost error = { λ o. o.tx.caller.now.left };
+    ghost error = { λ o. o.tx.now.caller.now.left };
 
-    ghost Admits = { λ o. Admits L.holds o.tx.caller.now };
+    ghost Admits = { λ o. Admits L.holds o.tx.now.caller.now };
 
     #[inline(always)]
     fn open_read(&mut self, o: u32) -> Result<Val, Again> {
-        Tx::open_read(&mut self.tx, o)
+        Tx::open_read(self.tx, o)
     }
 
     #[inline(always)]
     fn open_write(&mut self, o: u32) -> Result<Val, Again> {
-        Tx::open_write(&mut self.tx, o)
+        Tx::open_write(self.tx, o)
     }
 
     fn set(&mut self, o: u32, v: Val) {
-        Tx::set(&mut self.tx, o, v);
+        Tx::set(self.tx, o, v);
     }
 
     ghost admitted_length = { λ o map admits. admits.length };
 
-    ghost admitted_agrees = { λ o map admits. live_agrees o.tx.caller.now map admits.agrees };
+    ghost admitted_agrees = { λ o map admits. live_agrees o.tx.now.caller.now map admits.agrees };
 }
 
 impl<'a, L: Law> Tx<'a, L> {
-    /// Runs a body that keeps its reads once, on an attempt on which no call was made.
+    /// Runs a body that keeps its reads once, on an attempt on which nothing was read, set or opened. It makes sure that
+    /// its reads stand no more often than it looks at an object.
     pub fn run<B: Body<L>>(&mut self, body: &mut B) -> Result<(), Again>
         requires fresh { IsFresh ⟦<Tx<'a, L> as Mem>⟧ self.old }
         requires lawful { (map : List Val) → Admits L.holds self.old.caller.now map → L.holds (B.law body.old) map }
@@ -84,13 +106,38 @@ impl<'a, L: Law> Tx<'a, L> {
         ensures outcome { IfErr result (λ _. B.outcome body.new ≡ B.outcome body.old) }
         ensures leads { Leads ⟦<Tx<'a, L> as Mem>⟧ self.old self.new result }
         ensures kept { let_go self.new.caller.now ≡ let_go self.old.caller.now }
+        ensures few { sights self.new.caller.now + looks self.old.caller.now
+            ≤ looks self.new.caller.now + sights self.old.caller.now }
     {
-        let mut opener = Opener {
-            tx: Tx {
-                caller: &mut *self.caller,
-                stm: self.stm,
-            },
-        };
-        body.run(&mut opener)
+        run_counted::<L, B, Brand>(self, body)
     }
+}
+
+// The same, of an attempt that was counted.
+fn run_counted<'a, L: Law, B: Body<L>, C: Counted>(
+    tx: &mut Tx<'a, L>,
+    body: &mut B,
+) -> Result<(), Again>
+    requires fresh { IsFresh ⟦<Tx<'a, L> as Mem>⟧ tx.old }
+    requires lawful { (map : List Val) → Admits L.holds tx.old.caller.now map → L.holds (B.law body.old) map }
+    requires few { sights tx.old.caller.now + C.looks ≤ looks tx.old.caller.now + C.sights }
+
+    ensures lawful { OnOk result ((map : List Val) → Admits L.holds tx.new.caller.now map →
+        L.holds (B.law body.new) (with_set map (written tx.new.caller.now))) }
+    ensures right { OnOk result ((map : List Val) → Admits L.holds tx.new.caller.now map →
+        B.right body.new map (with_set map (written tx.new.caller.now))) }
+    ensures leaves { OnOk result
+        (B.leaves body.new (live_held tx.new.caller.now) (live_opened tx.new.caller.now)) }
+    ensures law { B.law body.new ≡ B.law body.old }
+    ensures task { B.task body.new ≡ B.task body.old }
+    ensures outcome { IfErr result (λ _. B.outcome body.new ≡ B.outcome body.old) }
+    ensures leads { Leads ⟦<Tx<'a, L> as Mem>⟧ tx.old tx.new result }
+    ensures kept { let_go tx.new.caller.now ≡ let_go tx.old.caller.now }
+    ensures few { sights tx.new.caller.now + C.looks ≤ looks tx.new.caller.now + C.sights }
+{
+    let mut opener = Opener {
+        tx: &mut *tx,
+        counted: PhantomData::<C>,
+    };
+    body.run(&mut opener)
 }

@@ -3,14 +3,13 @@ ghost use Rattle.std.specs.Borrow.{sem, RestsIfErr};
 ghost use Rattle.dstm_core.specs.State.{read_of};
 ghost use Rattle.dstm_engine.specs.contracts.caller.Caller.{the_row};
 ghost use Rattle.dstm_engine.specs.Attempts.{Sighted, Admits, Commits, done, sights};
-ghost use Rattle.dstm_engine.specs.Callers.{Called, shape_of, law_of, state, is_live, is_opened, live_held, live_opened, held, written, handed, begun_log};
+ghost use Rattle.dstm_engine.specs.Callers.{Called, shape_of, law_of, state, is_live, is_opened, live_held, live_opened, held, written, handed, new_value, begun_log};
 ghost use Rattle.dstm_engine.specs.Calls.{IsUnderWay, Performs, reading};
 ghost use Rattle.dstm_engine.specs.Outcomes.{IsEnded};
 ghost use Rattle.dstm_engine.specs.Transactions.{
   tx_place,
   given_back,
   is_ok,
-  new_value,
   IsStaleOrKilled,
   SpentFrom,
   BeginsAnew,

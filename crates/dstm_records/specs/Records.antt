@@ -64,10 +64,9 @@ pub record IsReleasing (options : Options) (version : ℕ) : Type 0 where
   pub reads : options.all_write ≡ false
   pub no_conditions : version ≤ 2
 
--- no read is given up: of a workload that has no conditions, where reads are not given up early
-pub record KeepsReads (options : Options) (version : ℕ) : Type 0 where
-  pub no_conditions : version ≤ 2
-  pub not_early : IsReleasing options version → ⊥
+-- no read is given up: reads are not given up early
+abbrev pub KeepsReads : Options → (version : ℕ) → Type 0
+KeepsReads options version = IsReleasing options version → ⊥
 
 -- ---- rows and transactions
 

@@ -42,7 +42,7 @@ use Rattle.dstm_machines.proofs.Pasts.{past_past}
 use Rattle.dstm_words.specs.Seats.{Home, IsRunOf}
 use Rattle.rand_pcg.specs.Lcg.{Lcg}
 use Rattle.dstm_engine.proofs.Made as made
-use Rattle.dstm_engine.specs.Attempts.{Admits, Commits, completes_pass, done, is_look_self}
+use Rattle.dstm_engine.specs.Attempts.{Admits, Commits, completes_pass, done, is_look_self, looks, looks_at_object, sights}
 use Rattle.dstm_engine.specs.Callers.{Called, begun_log, entry, is_live, is_opened, is_running, live_opened, law_of, shape_of, since_begin, start_of, state, written}
 use Rattle.dstm_engine.specs.Calls.{Performs, IsTold}
 use Rattle.dstm_engine.specs.Outcomes.{IsLeft}
@@ -54,7 +54,7 @@ use Rattle.dstm_compose.specs.Compose.{IsRight}
 use Rattle.dstm_compose.specs.declared.body.Outcome.{Outcome}
 use Rattle.dstm_compose.specs.declared.body.Outcome.TheVariants.{Ran, Blocked}
 use Rattle.dstm_workload.specs.declared.workload.Job.{Job}
-use Rattle.dstm_tables.specs.Attempts.{is_quit, looks_at_object, quits, seen_last}
+use Rattle.dstm_tables.specs.Attempts.{is_quit, quits, seen_last}
 use Rattle.dstm_tables.specs.declared.style.Style.TheVariants.{Branches}
 use Rattle.dstm_tables.specs.declared.trying.Finished.{Finished}
 use Rattle.dstm_tables.specs.Rechecks.{HasRechecked}
@@ -70,11 +70,11 @@ use Rattle.dstm_tables.specs.Jobs.{DidJob, StoodAt}
 use Rattle.dstm_tables.specs.Tries.{OneMore, WasKept}
 use Rattle.dstm_tables.specs.Law.{keeps}
 use Rattle.dstm_tables.proofs.Doing as doing
-use Rattle.dstm_tables.proofs.Begun.{begun_there, count_later}
-use Rattle.dstm_tables.proofs.FewSights.{count_kinds, none_looks, sights_more}
-use Rattle.dstm_tables.proofs.Looked.{IsFew}
+use Rattle.dstm_engine.proofs.BegunThere.{begun_there, count_later}
+use Rattle.dstm_engine.proofs.FewSights.{count_kinds, none_looks, sights_more}
+use Rattle.dstm_engine.proofs.Rechecking.{NoSelf}
 use Rattle.dstm_tables.proofs.Made.{did, not_committed, numbered}
-use Rattle.dstm_tables.proofs.SeenLast.{NoLooks, seen_last-agrees, seen_last-skips}
+use Rattle.dstm_tables.proofs.SeenLast.{seen_last-agrees, seen_last-skips}
 use Rattle.dstm_tables.proofs.Rechecking.{runs}
 use Rattle.dstm_tables.proofs.StayingByDstm.{in_range}
 use Rattle.dstm_tables.proofs.Unused.{beginning_installs, installed_there, leaving_commits, leaving_installs, no_writes}
@@ -203,10 +203,10 @@ quit_kind false e due = due.0
 
 -- it was quit, and completed no pass more
 pub record Quits (s : Shape) (l : LocalState) (events : List Event) : Type 0 where
-  pub no_looks : NoLooks events
+  pub no_looks : NoSelf events
   pub quit : 1 ≤ count_in quits s l events
 
-leaving_looks : (s : Shape) (l : LocalState) (g : Lcg) (events : List Event) → Obeys Leaving s l g events → NoLooks events
+leaving_looks : (s : Shape) (l : LocalState) (g : Lcg) (events : List Event) → Obeys Leaving s l g events → NoSelf events
 leaving_looks s l g [] obeys = tt
 leaving_looks s l g (e ∷ events) obeys = (
   ap is_look_self (quit_kind (is_outside (state_after s l events).phase) e obeys.1),
@@ -270,7 +270,7 @@ module _ (s : Shape) (start : List Val) (c : ℕ) (old new : List Event) (g : Lc
   same_sight =
       ap (seen_last s start new new c) same_attempt
       ∙ ap (λ (log : List Event). seen_last s start log log c i) (sym past.whole)
-      ∙ seen_last-skips s start (past.later ++ old) c i past.later old (subst NoLooks (sym later_own) gave.no_looks)
+      ∙ seen_last-skips s start (past.later ++ old) c i past.later old (subst NoSelf (sym later_own) gave.no_looks)
       ∙ seen_last-agrees s start c i past.later [] old (subst (Core s) (sym past.whole) core) old_core caller
     where
       i : ℕ
@@ -354,7 +354,8 @@ unused_by k b u n begins home number log unopened left = last ∙ none ∙ first
         ∙ leaving_installs (shape_of u) (state u) u.generator left.events left.call.obeys
 
 -- an attempt that was rechecked so often, and then given up, in which no branch of the job was open
-pub stood_at : (rechecks : ℕ) (layout : Layout) (job : Job) (k b t u n : Called StoreLaw) → 0 < rechecks → IsFew t →
+pub stood_at : (rechecks : ℕ) (layout : Layout) (job : Job) (k b t u n : Called StoreLaw) → 0 < rechecks →
+    sights t ≤ looks t →
     OneMore (Dstm k) (Dstm n) →
     done n ≡ done k → (law_of t).layout ≡ layout → (shape_of t).objects ≡ objects_of layout → HasRechecked rechecks t u →
     Performs keeps Leaving u n None → BeginsAnew keeps k b → u.home ≡ b.home → u.number ≡ b.number →

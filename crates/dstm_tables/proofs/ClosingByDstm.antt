@@ -15,19 +15,20 @@ use Rattle.dstm_progress.proofs.Disturbing.{disturbed_stays}
 use Rattle.dstm_progress.proofs.Ends.{callers_in_range}
 use Rattle.dstm_progress.proofs.OwnEvents.{after_own}
 use Rattle.dstm_progress.specs.Disturbed.{Disturbed, count_of}
-use Rattle.dstm_engine.specs.Attempts.{completes_pass, is_look_self}
+use Rattle.dstm_engine.specs.Attempts.{completes_pass, is_look_self, looks_at_object}
 use Rattle.dstm_store.specs.declared.law.StoreLaw.{StoreLaw}
 use Rattle.dstm_words.specs.declared.terms.Terms.{Terms}
 use Rattle.dstm_workload.specs.declared.workload.Job.{Job}
 use Rattle.dstm_workload.specs.declared.workload.Workload.{Workload}
-use Rattle.dstm_tables.specs.Attempts.{HasCommitted, IsSpent, looks_at_object, quits, seen_last}
+use Rattle.dstm_tables.specs.Attempts.{HasCommitted, IsSpent, quits, seen_last}
 use Rattle.dstm_tables.specs.Answers.{IsBlockedWith}
 use Rattle.dstm_tables.specs.Jobs.{HadToStop, NoneWasted, StoodBlocked, Waited}
 use Rattle.dstm_tables.specs.declared.tables.Round.{Round}
 use Rattle.dstm_tables.specs.declared.tables.Round.TheVariants.{Dstm}
-use Rattle.dstm_tables.proofs.Begun.{count_later}
-use Rattle.dstm_tables.proofs.FewSights.{count_kinds, sights_more}
-use Rattle.dstm_tables.proofs.SeenLast.{NoLooks, seen_last-agrees, seen_last-skips}
+use Rattle.dstm_engine.proofs.BegunThere.{count_later}
+use Rattle.dstm_engine.proofs.FewSights.{count_kinds, sights_more}
+use Rattle.dstm_engine.proofs.Rechecking.{NoSelf}
+use Rattle.dstm_tables.proofs.SeenLast.{seen_last-agrees, seen_last-skips}
 use Rattle.dstm_tables.proofs.StayingByDstm.{committed_stays}
 
 -- the caller's state is the one that it knows
@@ -72,7 +73,7 @@ module _ (terms : Terms StoreLaw) (c : ℕ) (old new : List Event) (core : Core 
       seen_last terms.shape terms.start.value.items new new c i ≡ seen_last terms.shape terms.start.value.items old old c i
   same_sight i =
       ap (λ (log : List Event). seen_last shape start log log c i) (sym past.whole)
-      ∙ seen_last-skips shape start (past.later ++ old) c i past.later old (subst NoLooks (sym quiet) tt)
+      ∙ seen_last-skips shape start (past.later ++ old) c i past.later old (subst NoSelf (sym quiet) tt)
       ∙ seen_last-agrees shape start c i past.later [] old whole (core_past shape past.later old whole) caller
 
   pub stood_at_close : (layout : Layout) (i : ℕ) (job : Option Job) → StoodBlocked layout (there old) c i job →

@@ -6,9 +6,6 @@ pub mod Made
 pub mod StayingByDstm
 pub mod SeenLast
 pub mod Rechecking
-pub mod Begun
-pub mod FewSights
-pub mod Looked
 pub mod Branched
 pub mod Unused
 pub mod OnlyByDstm

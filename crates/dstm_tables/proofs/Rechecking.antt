@@ -31,7 +31,7 @@ use Rattle.dstm_progress.proofs.Own.{IsNewest, newest_own}
 use Rattle.dstm_words.specs.Seats.{Home, IsRunOf}
 use Rattle.rand_pcg.specs.Lcg.{Lcg}
 use Rattle.dstm_engine.proofs.Plain.{are_plain, is_plain}
-use Rattle.dstm_engine.proofs.Rechecking.{begins_pass, sight_keeps}
+use Rattle.dstm_engine.proofs.Rechecking.{NoSelf, begins_pass, sight_keeps}
 use Rattle.dstm_engine.specs.Attempts.{completes_pass, is_look_self}
 use Rattle.dstm_engine.specs.Callers.{Called, is_live, is_running, shape_of, start_of, state}
 use Rattle.dstm_engine.specs.Calls.{Performs}
@@ -39,7 +39,7 @@ use Rattle.dstm_store.specs.declared.law.StoreLaw.{StoreLaw}
 use Rattle.dstm_tables.specs.Attempts.{seen_last}
 use Rattle.dstm_tables.specs.Rechecks.{SeesAll}
 use Rattle.dstm_tables.specs.Law.{keeps}
-use Rattle.dstm_tables.proofs.SeenLast.{NoLooks, seen_last-sight, seen_last-skips}
+use Rattle.dstm_tables.proofs.SeenLast.{seen_last-sight, seen_last-skips}
 
 runs_if_live : (p : Phase) → is_running p ≡ true → p ≡ Running
 runs_if_live Running live = refl
@@ -119,7 +119,7 @@ module _ (s : Shape) (start : List Val) (c : ℕ) (log old : List Event) (g : Lc
   covers_all [] obeys done own was live = absurd (begins_pass s (local s old c) g was done)
   covers_all (e ∷ es) obeys done own was live =
       ap (λ (l : List Event). seen_last s start log l c now.begun) n.run
-      ∙ seen_last-skips s start log c now.begun n.later (e ∷ n.before) (subst NoLooks (sym none) tt)
+      ∙ seen_last-skips s start log c now.begun n.later (e ∷ n.before) (subst NoSelf (sym none) tt)
       ∙ seen_last-sight s start log c now.begun e n.before n.own (sym begun) completes
       ∙ ap (λ (rs : List Read). read_values s start log rs ++ old_values s start log before.writes) (sym reads)
       ∙ ap (λ (ws : List Write). read_values s start log now.reads ++ old_values s start log ws) (sym writes)

@@ -15,17 +15,14 @@ use Rattle.dstm_core.specs.declared.state.Phase.TheVariants.{Outside}
 use Rattle.dstm_core.proofs.Pasts.{core_past}
 use Rattle.dstm_opacity.proofs.Kept.{seen_stays}
 use Rattle.dstm_engine.specs.Attempts.{completes_pass, is_look_self}
+use Rattle.dstm_engine.proofs.Rechecking.{NoSelf}
 use Rattle.dstm_tables.specs.Attempts.{seen_last}
 
 -- ---- events that complete no pass
 
-abbrev pub NoLooks : List Event → Type 0
-NoLooks [] = Unit {0}
-NoLooks (event ∷ events) = (is_look_self event.kind ≡ false) × NoLooks events
-
 -- where no later event of the caller completes a pass, the newest sight is an earlier one
 pub seen_last-skips : (shape : Shape) (start : List Val) (run : List Event) (c i : ℕ) (later before : List Event) →
-    NoLooks (events_of c later) → seen_last shape start run (later ++ before) c i ≡ seen_last shape start run before c i
+    NoSelf (events_of c later) → seen_last shape start run (later ++ before) c i ≡ seen_last shape start run before c i
 seen_last-skips shape start run c i [] before none = refl
 seen_last-skips shape start run c i (e ∷ later) before none =
     by (cases_Bool (e.caller == c)) (seen_last-skips shape start run c i later before)
@@ -40,11 +37,11 @@ seen_last-skips shape start run c i (e ∷ later) before none =
     here own quiet (inr other) ih = rw (own, other) ih
 
     by : (e.caller == c ≡ true) ⊎ (e.caller == c ≡ false) →
-        (NoLooks (events_of c later) →
+        (NoSelf (events_of c later) →
         seen_last shape start run (later ++ before) c i ≡ seen_last shape start run before c i) →
         seen_last shape start run (e ∷ (later ++ before)) c i ≡ seen_last shape start run before c i
     by (inl own) ih =
-        let all : NoLooks (e ∷ events_of c later) = rw own at none in
+        let all : NoSelf (e ∷ events_of c later) = rw own at none in
         here own all.0 (cases_Bool (l.begun == i)) (ih all.1)
     by (inr other) ih = rw other (ih (rw other at none))
 

@@ -5,12 +5,12 @@ use Rattle.dstm_model.specs.declared.value.Val.{Val}
 use Rattle.dstm_progress.specs.Disturbed.{count_of}
 use Rattle.dstm_core.specs.Events.{Event}
 use Rattle.dstm_core.specs.declared.event.Kind.{Kind}
-use Rattle.dstm_core.specs.declared.event.Kind.TheVariants.{LookObj, Quit}
+use Rattle.dstm_core.specs.declared.event.Kind.TheVariants.{Quit}
 use Rattle.dstm_core.specs.declared.shape.Shape.{Shape}
 use Rattle.dstm_core.specs.Histories.{seen, will_of}
 use Rattle.dstm_core.specs.Runs.{local}
 use Rattle.dstm_core.specs.State.{LocalState}
-use Rattle.dstm_engine.specs.Attempts.{completes_pass}
+use Rattle.dstm_engine.specs.Attempts.{completes_pass, looks_at_object}
 
 -- attempt i of caller c has committed: its status is committed in the end
 abbrev pub HasCommitted : Shape → List Event → (c i : ℕ) → Type 0
@@ -30,13 +30,6 @@ seen_last shape start log (event ∷ before) c i =
     if (event.caller == c) && (((local shape before c).begun == i) && completes_pass shape (local shape before c) event)
     then seen shape start log before c
     else seen_last shape start log before c i
-
-abbrev pub is_look_object : Kind → Bool
-is_look_object LookObj = true
-is_look_object kind = false
-
-abbrev pub looks_at_object : Shape → LocalState → Event → Bool
-looks_at_object shape state event = is_look_object event.kind
 
 -- the attempt was given up after it had made sure so many times that what it had read stands, and not more often: it had so
 -- many sights at least, and at most so many beside one for each look at an object

@@ -8,7 +8,6 @@ mod dstm;
 mod founding;
 pub mod laws;
 mod only;
-mod opener;
 mod style;
 mod tables;
 mod tl2;

@@ -1,10 +1,10 @@
-ghost use Rattle.std.specs.Prelude.{◌≡◌, IfNone, IfSome};
+ghost use Rattle.std.specs.Prelude.{◌≡◌, ◌≢◌, IfNone, IfSome};
 ghost use Rattle.dstm_tables.specs.Callers.{AtRest, home_of, law_of, let_go, round_of};
 ghost use Rattle.dstm_tables.specs.OnlyCallers.{HasGivenUp, HasTriedAlone};
 ghost use Rattle.dstm_tables.specs.Styles.{CanTry};
 ghost use Rattle.dstm_tables.specs.Tells.{callers_of};
 ghost use Rattle.dstm_tables.specs.Tries.{IsSpentFrom};
-ghost use Rattle.dstm_tables.specs.declared.style.Style.TheVariants.{Plain};
+ghost use Rattle.dstm_tables.specs.declared.style.Style.TheVariants.{Loose};
 
 use crate::style::Style;
 use crate::tables::{Caller, Table};
@@ -24,7 +24,7 @@ pub enum OnlyTried {
     Spent,
 }
 
-/// Tries a job once, by a table's only caller.
+/// Tries a job once, by a table's only caller. Only by the loose style reads are let go.
 pub fn try_alone(
     style: Style,
     caller: &mut Caller,
@@ -38,7 +38,7 @@ pub fn try_alone(
     requires rest { AtRest caller.old }
     requires can { CanTry style layout.now job.now }
     ensures tried { HasTriedAlone style layout.now job.now caller.old caller.new result }
-    ensures keeps { style ≡ Plain → let_go caller.new ≡ let_go caller.old }
+    ensures keeps { style ≢ Loose → let_go caller.new ≡ let_go caller.old }
 {
     match attempt_job(style, 1, caller, table, layout, job) {
         Tried::Done(finished) => OnlyTried::Done(finished),

@@ -1,4 +1,4 @@
-ghost use Rattle.std.specs.Prelude.{◌≡◌, ◌<◌};
+ghost use Rattle.std.specs.Prelude.{◌≡◌, ◌≢◌, ◌<◌};
 ghost use Rattle.dstm_tables.specs.Callers.{AtRest, home_of, law_of, let_go};
 ghost use Rattle.dstm_tables.specs.Jobs.{HasTried};
 ghost use Rattle.dstm_tables.specs.Styles.{CanTry};
@@ -45,7 +45,7 @@ pub enum Left {
 }
 
 /// Makes one attempt at a job. One that stands at a blocked job is given up: under DSTM after it has made sure so many times
-/// that what it has read stands. By the plain style no read is let go.
+/// that what it has read stands. Only by the loose style reads are let go.
 pub fn attempt_job(
     style: Style,
     rechecks: u32,
@@ -60,7 +60,7 @@ pub fn attempt_job(
     requires can { CanTry style layout.now job.now }
     requires some { 0 < rechecks }
     ensures tried { HasTried style rechecks layout.now job.now caller.old caller.new result }
-    ensures keeps { style ≡ Plain → let_go caller.new ≡ let_go caller.old }
+    ensures keeps { style ≢ Loose → let_go caller.new ≡ let_go caller.old }
 {
     match style {
         Style::Plain => attempt_plain(caller, table, layout, job),
@@ -119,7 +119,8 @@ fn attempt_branches(
     requires rest { AtRest caller.old }
     requires can { CanTry Branches layout.now job.now }
     requires some { 0 < rechecks }
-    ensures { HasTried Branches rechecks layout.now job.now caller.old caller.new result }
+    ensures tried { HasTried Branches rechecks layout.now job.now caller.old caller.new result }
+    ensures keeps { let_go caller.new ≡ let_go caller.old }
 {
     match caller {
         Caller::Dstm(caller) => match table {

@@ -6,9 +6,10 @@ use Rattle.dstm_mem.specs.Memory.{with_set}
 use Rattle.dstm_order.specs.declared.again.Again.{Again}
 use Rattle.dstm_words.specs.Seats.{Home}
 use Rattle.dstm_mem.proofs.InTheEnd.{in_the_end}
-use Rattle.dstm_engine.proofs.Made.{same_name, home, same_done}
+use Rattle.dstm_engine.proofs.Made.{ends_keeping, home, same_done, same_name}
 use Rattle.dstm_engine.proofs.Abandoning.{under_way}
-use Rattle.dstm_engine.specs.Callers.{Called, is_opened, shape_of, written}
+use Rattle.dstm_engine.specs.Callers.{Called, is_opened, new_value, shape_of, written}
+use Rattle.dstm_engine.specs.Makes.{let_go}
 use Rattle.dstm_engine.specs.Outcomes.{IsLeft, Promises}
 use Rattle.dstm_engine.specs.Transactions.{TxPlace}
 use Rattle.dstm_compose.specs.declared.body.Outcome.TheVariants.{Blocked}
@@ -19,24 +20,26 @@ use Rattle.dstm_tables.specs.declared.tables.Caller.TheVariants.{Dstm}
 use Rattle.dstm_tables.specs.Jobs.{DidJob, StoodAt}
 use Rattle.dstm_tables.specs.Tries.{WasKept}
 use Rattle.dstm_tables.specs.Law.{keeps}
-use Rattle.dstm_order.specs.Tasks.Task.{Leaving}
+use Rattle.dstm_order.specs.Tasks.Task.{Beginning, Doing, Leaving}
+use Rattle.dstm_order.specs.Tasks.Work.{Committing}
 use Rattle.dstm_order.specs.Retries.{TriesAgain}
 use Rattle.dstm_engine.proofs.AddingUp.{makes_both, makes_one}
 use Rattle.dstm_engine.proofs.Anew.{new_committed}
 use Rattle.dstm_tables.proofs.Made.{is_spent_from, objects_are, run_there}
 use Rattle.dstm_tables.proofs.Branched.{aborted_fresh, aborts, calls_by, right_for, one_more_by, was_kept_by, was_kept_dead, did_branch, rests, stood_at, unopened_by}
-use Rattle.dstm_tables.proofs.Looked.{begins_few}
+use Rattle.dstm_engine.proofs.LettingGo.{lets_none_go}
+use Rattle.dstm_engine.proofs.Looked.{begins_few}
 use Rattle.dstm_tables.proofs.dstm.attempt_branches.Goals as goal
 
 -- The caller ends as the attempt left it, since this has the reference that it was begun with.
 
-pub returns-in-Err : goal.returns-in-Err
-returns-in-Err c =
+pub returns-in-Err-clause-tried : goal.returns-in-Err-clause-tried
+returns-in-Err-clause-tried c =
     is_spent_from c.args.caller.now c.begin.follows.lender-at-none c.requires.rest
     (rw c.in-Err.is at c.begin.follows.holds-at-none)
 
 pub run-requires-clause-few : goal.run-requires-clause-few
-run-requires-clause-few c = begins_few c.args.caller.now c.in-Ok.tx.caller.now c.in-Ok.ensures.begins
+run-requires-clause-few c = begins_few keeps c.args.caller.now c.in-Ok.tx.caller.now c.in-Ok.ensures.begins
 
 pub commit-requires-clause-lawful : goal.commit-requires-clause-lawful
 commit-requires-clause-lawful c map admits =
@@ -48,8 +51,8 @@ commit-requires-clause-lawful c map admits =
     ∙ ap (λ (h : Home _). h.terms.law.value.layout) (sym there))
     (c.in-Ok-run.ensures.lawful map admits)
 
-pub returns-in-Ok-commit : goal.returns-in-Ok-commit
-returns-in-Ok-commit c =
+pub returns-in-Ok-commit-clause-tried : goal.returns-in-Ok-commit-clause-tried
+returns-in-Ok-commit-clause-tried c =
     let k = c.args.caller.now in
     let b = c.in-Ok.tx.caller.now in
     let t = c.run.new.tx.caller.now in
@@ -77,8 +80,8 @@ returns-in-Ok-commit c =
     (ap (λ (j : JobTask). j.ops) ran.task ∙ c.make-body.ensures.ops) (sym c.outcome.ensures ∙ c.in-Ran.is)
     (ran.right map admits)))
 
-pub returns-in-Err-commit : goal.returns-in-Err-commit
-returns-in-Err-commit c =
+pub returns-in-Err-commit-clause-tried : goal.returns-in-Err-commit-clause-tried
+returns-in-Err-commit-clause-tried c =
     let k = c.args.caller.now in
     let b = c.in-Ok.tx.caller.now in
     let t = c.run.new.tx.caller.now in
@@ -98,8 +101,8 @@ returns-in-Err-commit c =
     in_the_end (λ (x : Called _). WasKept (Dstm k) (Dstm x)) _ _ _ _ (assumption c) name
     (was_kept_by k b t _ _ _ _ begins place n _ one left c.in-Err-commit.ensures.done)
 
-pub returns-in-Ok-rechecked : goal.returns-in-Ok-rechecked
-returns-in-Ok-rechecked c =
+pub returns-in-Ok-rechecked-clause-tried : goal.returns-in-Ok-rechecked-clause-tried
+returns-in-Ok-rechecked-clause-tried c =
     let k = c.args.caller.now in
     let b = c.in-Ok.tx.caller.now in
     let t = c.run.new.tx.caller.now in
@@ -142,8 +145,8 @@ returns-in-Ok-rechecked c =
     (ap (λ (j : JobTask). j.ops) ran.task ∙ c.make-body.ensures.ops) (sym c.outcome.ensures ∙ c.in-Blocked.is)
     (ran.right map admits)))
 
-pub returns-in-Err-rechecked : goal.returns-in-Err-rechecked
-returns-in-Err-rechecked c =
+pub returns-in-Err-rechecked-clause-tried : goal.returns-in-Err-rechecked-clause-tried
+returns-in-Err-rechecked-clause-tried c =
     let k = c.args.caller.now in
     let b = c.in-Ok.tx.caller.now in
     let u = c.recheck_often-rechecked.new.tx.caller.now in
@@ -157,8 +160,8 @@ returns-in-Err-rechecked c =
     (c.abandon.ensures.ended (under_way u _ rechecked.dead)).told (c.abandon.ensures.dead left) rechecked.left
     c.abandon.ensures.steps.run)
 
-pub returns-in-Err-run : goal.returns-in-Err-run
-returns-in-Err-run c =
+pub returns-in-Err-run-clause-tried : goal.returns-in-Err-run-clause-tried
+returns-in-Err-run-clause-tried c =
     let k = c.args.caller.now in
     let b = c.in-Ok.tx.caller.now in
     let t = c.run.new.tx.caller.now in
@@ -173,3 +176,70 @@ returns-in-Err-run c =
     (was_kept_dead k b t _ _ _ _ begins place c.abandon-in-Err-run.new.self.0 _ c.requires.rest ended.told (c.abandon-in-Err-run.ensures.dead left)
     (subst (λ (o : Option Again). IfSome o (λ (x : Again). IsLeft t x × Promises t x)) again ended.left).0
     c.abandon-in-Err-run.ensures.steps.run)
+
+-- ---- no read is let go
+
+pub returns-in-Err-clause-keeps : goal.returns-in-Err-clause-keeps
+returns-in-Err-clause-keeps c =
+    let spent = rw c.in-Err.is at c.begin.follows.holds-at-none in
+    lets_none_go keeps c.args.caller.now c.begin.follows.lender-at-none (Beginning c.args.caller.now.fresh) None tt spent.steps
+
+pub returns-in-Ok-commit-clause-keeps : goal.returns-in-Ok-commit-clause-keeps
+returns-in-Ok-commit-clause-keeps c =
+    let k = c.args.caller.now in
+    let b = c.in-Ok.tx.caller.now in
+    let t = c.run.new.tx.caller.now in
+    let begins = c.in-Ok.ensures.begins in
+    let place = c.in-Ok-run.ensures.leads.place in
+    let name = same_name keeps k b t _ _ _ _ begins place _ c.in-Ok.ensures.same in
+    in_the_end (λ (x : Called _). let_go x ≡ let_go k) _ _ c.caller-in-Ran-1.given.0 c.commit.new.self.0 (assumption c) name
+    (ends_keeping keeps k b t _ _ _ _ begins place c.commit.new.self.0 (Doing (Committing (new_value t))) None
+    c.in-Ok-run.ensures.kept tt c.in-Ok-commit.ensures.stays.steps)
+
+pub returns-in-Err-commit-clause-keeps : goal.returns-in-Err-commit-clause-keeps
+returns-in-Err-commit-clause-keeps c =
+    let k = c.args.caller.now in
+    let b = c.in-Ok.tx.caller.now in
+    let t = c.run.new.tx.caller.now in
+    let begins = c.in-Ok.ensures.begins in
+    let place = c.in-Ok-run.ensures.leads.place in
+    let name = same_name keeps k b t _ _ _ _ begins place _ c.in-Ok.ensures.same in
+    in_the_end (λ (x : Called _). let_go x ≡ let_go k) _ _ c.caller-in-Ran-1.given.0 c.commit.new.self.0 (assumption c) name
+    (ends_keeping keeps k b t _ _ _ _ begins place c.commit.new.self.0 (Doing (Committing (new_value t))) (Some c.in-Err-commit.field-0)
+    c.in-Ok-run.ensures.kept tt c.in-Err-commit.ensures.leaves.steps)
+
+pub returns-in-Ok-rechecked-clause-keeps : goal.returns-in-Ok-rechecked-clause-keeps
+returns-in-Ok-rechecked-clause-keeps c =
+    let k = c.args.caller.now in
+    let b = c.in-Ok.tx.caller.now in
+    let t = c.recheck_often-rechecked.new.tx.caller.now in
+    let begins = c.in-Ok.ensures.begins in
+    let place = c.in-Ok-rechecked.ensures.place ∙ c.in-Ok-run.ensures.leads.place in
+    let name = same_name keeps k b t _ _ _ _ begins place _ c.in-Ok.ensures.same in
+    in_the_end (λ (x : Called _). let_go x ≡ let_go k) _ _ c.caller-in-Blocked-1.given.0 c.abandon.new.self.0 (assumption c) name
+    (ends_keeping keeps k b t _ _ _ _ begins place c.abandon.new.self.0 Leaving None
+    (c.in-Ok-rechecked.ensures.kept ∙ c.in-Ok-run.ensures.kept) tt c.abandon.ensures.steps)
+
+pub returns-in-Err-rechecked-clause-keeps : goal.returns-in-Err-rechecked-clause-keeps
+returns-in-Err-rechecked-clause-keeps c =
+    let k = c.args.caller.now in
+    let b = c.in-Ok.tx.caller.now in
+    let t = c.recheck_often-rechecked.new.tx.caller.now in
+    let begins = c.in-Ok.ensures.begins in
+    let place = c.in-Err-rechecked.ensures.place ∙ c.in-Ok-run.ensures.leads.place in
+    let name = same_name keeps k b t _ _ _ _ begins place _ c.in-Ok.ensures.same in
+    in_the_end (λ (x : Called _). let_go x ≡ let_go k) _ _ c.caller-in-Blocked-1.given.0 c.abandon.new.self.0 (assumption c) name
+    (ends_keeping keeps k b t _ _ _ _ begins place c.abandon.new.self.0 Leaving None
+    (c.in-Err-rechecked.ensures.kept ∙ c.in-Ok-run.ensures.kept) tt c.abandon.ensures.steps)
+
+pub returns-in-Err-run-clause-keeps : goal.returns-in-Err-run-clause-keeps
+returns-in-Err-run-clause-keeps c =
+    let k = c.args.caller.now in
+    let b = c.in-Ok.tx.caller.now in
+    let t = c.run.new.tx.caller.now in
+    let begins = c.in-Ok.ensures.begins in
+    let place = c.in-Err-run.ensures.leads.place in
+    let name = same_name keeps k b t _ _ _ _ begins place _ c.in-Ok.ensures.same in
+    in_the_end (λ (x : Called _). let_go x ≡ let_go k) _ _ c.caller-in-Err-run-1.given.0 c.abandon-in-Err-run.new.self.0 (assumption c) name
+    (ends_keeping keeps k b t _ _ _ _ begins place c.abandon-in-Err-run.new.self.0 Leaving None
+    c.in-Err-run.ensures.kept tt c.abandon-in-Err-run.ensures.steps)

@@ -1,7 +1,11 @@
-use Rattle.std.proofs.Common.{◌∙◌, arith, ap}
+use Rattle.std.proofs.Common.{◌∙◌, None, arith, ap}
 use Rattle.std.specs.Prelude.{◌+◌}
 use Rattle.dstm_engine.specs.Transactions.{TxPlace}
-use Rattle.dstm_tables.proofs.Looked.{looks_stay}
+use Rattle.dstm_order.specs.Tasks.Task.{Doing}
+use Rattle.dstm_order.specs.Tasks.Work.{Rechecking}
+use Rattle.dstm_engine.proofs.LettingGo.{lets_none_go}
+use Rattle.dstm_engine.proofs.Looked.{looks_stay}
+use Rattle.dstm_tables.specs.Law.{keeps}
 use Rattle.dstm_tables.proofs.Rechecking.{recheck_sees}
 use Rattle.dstm_tables.proofs.dstm.recheck_often.Goals as goal
 
@@ -24,4 +28,10 @@ loop-pass-preserved c =
       more.reference ∙ c.loop-pass.invariant.2,
       more.table ∙ c.loop-pass.invariant.3,
       more.place ∙ c.loop-pass.invariant.4,
+      lets_none_go keeps c.loop-pass.tx.caller.now n (Doing Rechecking) None tt more.stays.steps ∙ c.loop-pass.invariant.5,
     )
+
+pub returns-in_err-recheck-clause-kept : goal.returns-in_err-recheck-clause-kept
+returns-in_err-recheck-clause-kept c =
+    lets_none_go keeps c.loop-pass.tx.caller.now c.recheck.new.self.caller.now (Doing Rechecking) _ tt
+    c.in_err-recheck.ensures.leaves.steps ∙ c.loop-pass.invariant.5

@@ -1,5 +1,6 @@
 use Rattle.std.proofs.Common.{◌≡◌, ℕ}
 use Rattle.dstm_engine.specs.Callers.{is_opened}
+use Rattle.dstm_engine.specs.Makes.{let_go}
 use Rattle.dstm_engine.specs.Transactions.{tx_place}
 use Rattle.dstm_tables.specs.Rechecks.{HasRechecked}
 use Rattle.dstm_tables.proofs.dstm.recheck_often.Given as goal
@@ -11,3 +12,4 @@ invariant-loop-pass l =
     × (l.tx.caller.ghost_name ≡ l.initial.tx.caller.ghost_name) × (l.tx.stm.now ≡ l.initial.tx.stm.now)
     × (tx_place l.tx.caller.ghost_name l.tx.stm.now l.tx.caller.now
     ≡ tx_place l.initial.tx.caller.ghost_name l.initial.tx.stm.now l.initial.tx.caller.now)
+    × (let_go l.tx.caller.now ≡ let_go l.initial.tx.caller.now)

@@ -6,7 +6,7 @@ use Rattle.dstm_tables.specs.declared.style.Style.{Style}
 use Rattle.dstm_tables.specs.declared.trying.Finished.{Finished}
 use Rattle.dstm_crew.specs.Releases.{releases}
 use Rattle.dstm_crew.specs.Tries.{HasLeft}
-use Rattle.dstm_crew.proofs.Worked.{Stands, all_done, at_start, next_is, one_done, plain_style, stopped}
+use Rattle.dstm_crew.proofs.Worked.{Stands, all_done, at_start, next_is, not_loose, one_done, stopped}
 use Rattle.dstm_crew.proofs.worker.Worker.run.Goals as goal
 
 pub loop-at-init : goal.loop-at-init
@@ -55,7 +55,7 @@ loop-at-preserved g c =
       search rules,
       subst (λ (fs : List Finished). Stands workload style k m places fs) (sym items) stands,
       λ none.
-          c.try_job.ensures.keeps (plain_style c.args.options.now workload.version style c.style_for-style.ensures none)
+          c.try_job.ensures.keeps (not_loose c.args.options.now workload.version style c.requires.valid.newest c.style_for-style.ensures none)
           ∙ c.loop-at.invariant.5 none,
     )
 
@@ -86,7 +86,8 @@ returns-in-Err-clause-run g c =
 pub returns-in-Err-clause-keeps : goal.returns-in-Err-clause-keeps
 returns-in-Err-clause-keeps g c none =
     c.try_job.ensures.keeps
-    (plain_style c.args.options.now c.args.workload.now.version c.style_for-style.result c.style_for-style.ensures none)
+    (not_loose c.args.options.now c.args.workload.now.version c.style_for-style.result c.requires.valid.newest
+    c.style_for-style.ensures none)
     ∙ c.loop-at.invariant.5 none
 
 pub returns-clause-run : goal.returns-clause-run

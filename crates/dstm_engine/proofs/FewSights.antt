@@ -21,9 +21,8 @@ use Rattle.dstm_order.specs.Tasks.Task.{Beginning, Doing}
 use Rattle.dstm_order.specs.Tasks.Work.{Reading, Writing}
 use Rattle.rand_pcg.specs.Lcg.{Lcg}
 use Rattle.dstm_progress.specs.Disturbed.{count_of}
-use Rattle.dstm_engine.specs.Attempts.{completes_pass, is_look_self}
-use Rattle.dstm_tables.specs.Attempts.{is_look_object, looks_at_object}
-use Rattle.dstm_tables.proofs.SeenLast.{NoLooks}
+use Rattle.dstm_engine.specs.Attempts.{completes_pass, is_look_object, is_look_self, looks_at_object}
+use Rattle.dstm_engine.proofs.Rechecking.{NoSelf}
 
 -- ---- events of some kinds
 
@@ -45,7 +44,7 @@ one_more among e es =
     cond_both (among e.kind) (count_kinds among es + 1) (count_kinds among es) (λ (n : ℕ). count_kinds among es ≤ n)
     (λ _. omega arith) (λ _. omega arith)
 
-pub none_looks : (es : List Event) → NoLooks es → count_kinds is_look_self es ≡ 0
+pub none_looks : (es : List Event) → NoSelf es → count_kinds is_look_self es ≡ 0
 none_looks [] none = refl
 none_looks (e ∷ es) none = skips_it is_look_self e es none.0 ∙ none_looks es none.1
 
@@ -174,7 +173,7 @@ beginning_kind false false false false true rank e is = ap is_look_self is.0
 beginning_kind false false false false false rank e is = ap is_look_self is.0
 
 pub beginning_looks : (s : Shape) (fresh : Bool) (l : LocalState) (g : Lcg) (es : List Event) →
-    Obeys (Beginning fresh) s l g es → NoLooks es
+    Obeys (Beginning fresh) s l g es → NoSelf es
 beginning_looks s fresh l g [] obeys = tt
 beginning_looks s fresh l g (e ∷ es) obeys =
     let m = state_after s l es in (

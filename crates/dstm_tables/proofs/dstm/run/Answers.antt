@@ -11,7 +11,7 @@ use Rattle.dstm_engine.specs.declared.tx.Tx.{Tx}
 use Rattle.dstm_store.specs.declared.law.StoreLaw.{StoreLaw}
 use Rattle.dstm_store.specs.Whole.{IsLawful}
 use Rattle.dstm_tables.specs.Law.{keeps}
-use Rattle.dstm_tables.proofs.opener.run.Goals as goal
+use Rattle.dstm_tables.proofs.dstm.run.Goals as goal
 
 -- The attempt ends as the body left it, since the opener has the reference that it was made with.
 

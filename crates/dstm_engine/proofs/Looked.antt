@@ -1,4 +1,4 @@
--- An attempt on which objects were opened, and that was not rechecked, has had at most one sight for each look at an object.
+-- An open adds to an attempt at most one sight for each look at an object.
 use Rattle.std.proofs.Common.{◌≡◌, ◌∙◌, ◌+◌, ◌≤◌, ◌++◌, ℕ, List, None, Some, Ok, Err, true, false, refl, sym, ap, subst, arith}
 use Rattle.std.specs.Prelude.{Bool, IfErr, IsSome, IsTrue, OnOk, Option, Result}
 use Rattle.std.proofs.lemmas.Bool.{cond_both}
@@ -16,27 +16,34 @@ use Rattle.dstm_order.specs.Tasks.Work.{Reading, Writing}
 use Rattle.dstm_order.specs.declared.again.Again.{Again}
 use Rattle.dstm_progress.specs.Disturbed.{count_of}
 use Rattle.dstm_words.specs.Seats.{Home}
-use Rattle.dstm_engine.specs.Attempts.{completes_pass, is_look_self, sights}
+use Rattle.dstm_engine.specs.Attempts.{completes_pass, is_look_object, is_look_self, looks, looks_at_object, sights}
 use Rattle.dstm_engine.specs.Callers.{Called, begun_log, held, is_opened, shape_of, state}
 use Rattle.dstm_engine.specs.Calls.{Performs, reading}
 use Rattle.dstm_engine.specs.Transactions.{BeginsAnew, Leaves, Stays}
-use Rattle.dstm_store.specs.declared.law.StoreLaw.{StoreLaw}
-use Rattle.dstm_tables.specs.Attempts.{is_look_object, looks_at_object}
-use Rattle.dstm_tables.specs.Law.{keeps}
-use Rattle.dstm_tables.specs.Rechecks.{looks}
-use Rattle.dstm_tables.proofs.Begun.{begun_there, count_later}
-use Rattle.dstm_tables.proofs.FewSights.{beginning_looks, count_kinds, looks_more, none_looks, none_yet, open_looks, sights_more}
+use Rattle.dstm_engine.proofs.BegunThere.{begun_there, count_later}
+use Rattle.dstm_engine.proofs.FewSights.{beginning_looks, count_kinds, looks_more, none_looks, none_yet, open_looks, sights_more}
 
--- no sight more than looks at an object
-abbrev pub IsFew : Called StoreLaw → Type 0
-IsFew k = sights k ≤ looks k
+-- no more sights were added than looks at an object
+abbrev pub AddsFew : {L : Type 0} → (k n : Called L) → Type 0
+AddsFew k n = sights n + looks k ≤ looks n + sights k
+
+pub adds_none : {L : Type 0} (k n : Called L) → n ≡ k → AddsFew k n
+adds_none k n same = subst (AddsFew k) (sym same) (omega arith)
+
+-- so there are no more since any count
+pub few_still : {L : Type 0} (k n : Called L) → AddsFew k n → (s l : ℕ) → sights k + l ≤ looks k + s →
+    sights n + l ≤ looks n + s
+few_still k n adds s l few = omega arith
+
+pub few_since : {L : Type 0} (k n : Called L) → sights k ≤ looks k → AddsFew k n → sights n ≤ looks n
+few_since k n few adds = omega arith
 
 -- ---- an attempt that goes on
 
-module _ (k n : Called StoreLaw) (home : n.home ≡ k.home) (number : n.number ≡ k.number) (past : IsPastOf k.log n.log) where
+module _ {L : Type 0} (k n : Called L) (home : n.home ≡ k.home) (number : n.number ≡ k.number) (past : IsPastOf k.log n.log) where
   -- as n has the table and the number
-  there : (P : Home StoreLaw → ℕ → Type 0) → P k.home k.number → P n.home n.number
-  there P is = subst (λ (h : Home StoreLaw). P h n.number) (sym home) (subst (P k.home) (sym number) is)
+  there : (P : Home L → ℕ → Type 0) → P k.home k.number → P n.home n.number
+  there P is = subst (λ (h : Home L). P h n.number) (sym home) (subst (P k.home) (sym number) is)
 
   module _ (attempt : begun_log n.number n.log ≡ begun_log k.number k.log) where
     same_begun : (local (shape_of n) k.log n.number).begun ≡ (state n).begun
@@ -68,8 +75,8 @@ module _ (k n : Called StoreLaw) (home : n.home ≡ k.home) (number : n.number �
 
     -- events that look at the own status no more often than at an object
     few_by : (events : List Event) → events_of k.number n.log ≡ events ++ events_of k.number k.log →
-        count_kinds is_look_self events ≤ count_kinds is_look_object events → IsFew k → IsFew n
-    few_by events own few was =
+        count_kinds is_look_self events ≤ count_kinds is_look_object events → AddsFew k n
+    few_by events own few =
         let s = shape_of n in
         let c = n.number in
         let i = (state n).begun in
@@ -91,41 +98,42 @@ module _ (k n : Called StoreLaw) (home : n.home ≡ k.home) (number : n.number �
 
 -- ---- opens
 
-module _ (k n : Called StoreLaw) (attempt : begun_log n.number n.log ≡ begun_log k.number k.log) (was : IsFew k) where
-  opens_few : (w : Work) (a : Option Again) → is_open w ≡ true → Performs keeps (Doing w) k n a → IsFew n
+module _ {L : Type 0} (holds : L → List Val → Type 0) (k n : Called L)
+    (attempt : begun_log n.number n.log ≡ begun_log k.number k.log) where
+  opens_few : (w : Work) (a : Option Again) → is_open w ≡ true → Performs holds (Doing w) k n a → AddsFew k n
   opens_few w a opens p =
       few_by k n p.same.0 p.same.1 p.seen attempt p.events p.own
-      (open_looks w (shape_of k) (state k) k.generator p.events opens p.call.obeys) was
+      (open_looks w (shape_of k) (state k) k.generator p.events opens p.call.obeys)
 
   -- an open makes no event of an object that is open already
   pub read_few : (o : ℕ) (r : Result Val Again) → (IsSome (held k o) → n ≡ k) →
-      (held k o ≡ None → OnOk r (Stays keeps (reading (shape_of k) o) k n)) →
-      IfErr r (Leaves keeps (reading (shape_of k) o) k n) → IsFew n
+      (held k o ≡ None → OnOk r (Stays holds (reading (shape_of k) o) k n)) →
+      IfErr r (Leaves holds (reading (shape_of k) o) k n) → AddsFew k n
   read_few o r again stays leaves = by r stays leaves (held k o) again refl
     where
       opens : is_open (reading (shape_of k) o) ≡ true
       opens = cond_both (shape_of k).all_write (Writing o) (Reading o) (λ (w : Work). is_open w ≡ true) (λ _. refl) (λ _. refl)
 
-      by : (r : Result Val Again) → (held k o ≡ None → OnOk r (Stays keeps (reading (shape_of k) o) k n)) →
-          IfErr r (Leaves keeps (reading (shape_of k) o) k n) → (h : Option Val) → (IsSome h → n ≡ k) → held k o ≡ h → IsFew n
+      by : (r : Result Val Again) → (held k o ≡ None → OnOk r (Stays holds (reading (shape_of k) o) k n)) →
+          IfErr r (Leaves holds (reading (shape_of k) o) k n) → (h : Option Val) → (IsSome h → n ≡ k) → held k o ≡ h → AddsFew k n
       by (Err a) stays leaves h again is = opens_few (reading (shape_of k) o) (Some a) opens leaves.steps
       by (Ok v) stays leaves None again is = opens_few (reading (shape_of k) o) None opens (stays is).steps
-      by (Ok v) stays leaves (Some w) again is = subst IsFew (sym (again refl)) was
+      by (Ok v) stays leaves (Some w) again is = adds_none k n (again refl)
 
   pub write_few : (o : ℕ) (r : Result Val Again) → (IsTrue (is_opened k o) → n ≡ k) →
-      (is_opened k o ≡ false → OnOk r (Stays keeps (Writing o) k n)) → IfErr r (Leaves keeps (Writing o) k n) → IsFew n
+      (is_opened k o ≡ false → OnOk r (Stays holds (Writing o) k n)) → IfErr r (Leaves holds (Writing o) k n) → AddsFew k n
   write_few o r again stays leaves = by r stays leaves (is_opened k o) again refl
     where
-      by : (r : Result Val Again) → (is_opened k o ≡ false → OnOk r (Stays keeps (Writing o) k n)) →
-          IfErr r (Leaves keeps (Writing o) k n) → (b : Bool) → (IsTrue b → n ≡ k) → is_opened k o ≡ b → IsFew n
+      by : (r : Result Val Again) → (is_opened k o ≡ false → OnOk r (Stays holds (Writing o) k n)) →
+          IfErr r (Leaves holds (Writing o) k n) → (b : Bool) → (IsTrue b → n ≡ k) → is_opened k o ≡ b → AddsFew k n
       by (Err a) stays leaves b again is = opens_few (Writing o) (Some a) refl leaves.steps
       by (Ok v) stays leaves false again is = opens_few (Writing o) None refl (stays is).steps
-      by (Ok v) stays leaves true again is = subst IsFew (sym (again refl)) was
+      by (Ok v) stays leaves true again is = adds_none k n (again refl)
 
 -- ---- an attempt that begins
 
-pub begins_few : (k b : Called StoreLaw) → BeginsAnew keeps k b → IsFew b
-begins_few k b begins =
+pub begins_few : {L : Type 0} (holds : L → List Val → Type 0) (k b : Called L) → BeginsAnew holds k b → sights b ≤ looks b
+begins_few holds k b begins =
     let p = begins.steps in
     let s = shape_of b in
     let c = b.number in
