@@ -1,22 +1,23 @@
 -- The words of objects name locators that are used, and the owners of these are attempts that began.
-use Rattle.std.proofs.Common.{◌≡◌, ◌≢◌, ◌+◌, ◌-◌, ◌*◌, ◌/◌, ◌%◌, ◌<◌, ◌≤◌, ◌==◌, ◌⊎◌, ◌∷◌, ◌∙◌, ℕ, inl, inr, List, [], refl, ap, arith, sym, true, Option, Some, None, is_some, subst}
+use Rattle.std.proofs.Common.{◌≡◌, ◌≢◌, ◌+◌, ◌-◌, ◌*◌, ◌/◌, ◌%◌, ◌<◌, ◌≤◌, ◌⊎◌, ◌∷◌, ◌∙◌, ℕ, inl, inr, List, [], refl, ap, arith, sym, true, Option, Some, None, is_some, subst}
 use Rattle.std.proofs.Math.Nat.{div-add-mod}
-use Rattle.std.proofs.lemmas.Bool.{cond_both, eq-eqb, cases_eq, cases_lt}
-use Rattle.dstm_core.specs.declared.event.Kind.TheVariants.{Begin, LookObj, LookOwner, LookStatus, LookOld, LookNew, PutOwner, PutOld, Install, LookNumber, LookSelf, Kill, LookRank, Pause, Resume, LookHigh, Release, Validating as ToValidating}
+use Rattle.std.proofs.lemmas.Bool.{eq-eqb, cases_eq, cases_lt}
+use Rattle.dstm_core.specs.declared.event.Kind.TheVariants.{LookObj, LookOwner, LookStatus, LookOld, LookNew, PutOwner, PutOld, Install, Kill, LookRank, LookHigh}
 use Rattle.dstm_core.specs.declared.state.Phase.TheVariants.{Outside, Running}
 use Rattle.dstm_core.specs.Words.Word.{OwnerWord, OldWord}
 use Rattle.dstm_core.specs.declared.shape.Shape.{Shape}
 use Rattle.dstm_core.specs.Events.{Event}
 use Rattle.dstm_core.specs.declared.state.Resolution.{Resolution}
 use Rattle.dstm_core.specs.declared.event.Kind.{Kind}
-use Rattle.dstm_core.specs.State.{LocalState, or_zero, own_attempt, next_locator, given, version, is_resolved, or_unresolved, res, keep_resolved}
+use Rattle.dstm_core.specs.State.{LocalState, or_zero, own_attempt, next_locator, version, is_resolved, or_unresolved, res}
 use Rattle.dstm_core.specs.Rules.{target, after, AllowedAs}
 use Rattle.dstm_core.specs.Traces.{at, word}
 use Rattle.dstm_core.specs.Runs.{local, Core}
-use Rattle.dstm_core.specs.Words.{place}
+use Rattle.dstm_core.specs.Words.{HasWord, Word, place}
 use Rattle.dstm_core.proofs.Places.{kept, put_at}
-use Rattle.dstm_core.proofs.Static.{Static, running, static, local_own, local_other, callers, installed_how, held_how, installed_up}
-use Rattle.dstm_core.proofs.Columns.{step, Same, caller_of, index_of, in_table, Used, Begun, used_more, begun_still, own_in, Step, Installed, objects, OwnerPut, owners, OldPut, olds}
+use Rattle.dstm_core.proofs.Static.{Static, running, static, local_own, local_other, callers, installed_how, HeldHow, held_how, held_old_how, installed_up}
+use Rattle.dstm_core.proofs.Columns.{Aims, Begun, ChangeOf, Installed, Same, Step, Used, begun_still, caller_of, in_table, index_of, objects, own_in, stays, step, used_more}
+use Rattle.dstm_core.proofs.Untouched.{unlooked}
 
 -- a word of an object
 abbrev pub Names : Shape → List Event → ℕ → Type 0
@@ -103,45 +104,108 @@ own_number s es e p h =
     let num : or_zero (local s es e.caller).number ≡ e.caller = ap or_zero run.0 in
     ap (λ n. n * s.locators + (local s es e.caller).installed) num
 
-pub put_owner_may : (s : Shape) (l : LocalState) (e : Event) (k : Kind) → k ≡ PutOwner → AllowedAs k s l e →
-    (l.phase ≢ Outside) × (l.installed < s.locators) × (e.put ≡ own_attempt s l)
-put_owner_may s l e PutOwner q a = ((λ h. let i = a.2.0 in cc), a.2.2, a.1.1)
-put_owner_may s l e k q a = absurd (cc)
-
-pub put_old_may : (s : Shape) (l : LocalState) (e : Event) (k : Kind) → k ≡ PutOld → AllowedAs k s l e →
-    (l.phase ≢ Outside) × (is_some l.held_owner ≡ true)
-put_old_may s l e PutOld q a = ((λ h. let i = a.2.0 in cc), ap is_some a.2.4)
-put_old_may s l e k q a = absurd (cc)
-
 pub install_may : (s : Shape) (l : LocalState) (e : Event) (k : Kind) → k ≡ Install → AllowedAs k s l e →
     (l.phase ≡ Running) × (l.held_owner ≡ Some (own_attempt s l)) × (l.held_old ≡ version (res l))
     × (is_some l.resolution ≡ true) × (is_resolved (res l) ≡ true)
 install_may s l e Install q a = (a.2.0, a.2.4, a.2.5, a.2.2, a.2.3)
 install_may s l e k q a = absurd (cc)
 
+-- a word of locators that only one kind of event changes, at its caller's first unused locator, and what a caller's
+-- state tells of that word
+pub record Holding (s : Shape) (w : ℕ → Word) (k : Kind) (held : LocalState → Option ℕ) : Type 0 where
+  pub has : (m : ℕ) → m < s.callers * s.locators → HasWord s (w m)
+  pub change : (l : LocalState) (e : Event) (m : ℕ) → ChangeOf (w m) s l e → Aims e k m (next_locator s l)
+  pub target : (l : LocalState) (e : Event) → target k s l e ≡ w (next_locator s l)
+  pub may : (c : ℕ) (l : LocalState) (e : Event) → Static s c l → AllowedAs k s l e →
+      (l.phase ≢ Outside) × (l.installed < s.locators)
+  pub room : (c : ℕ) (l : LocalState) → Static s c l → is_some (held l) ≡ true → l.installed < s.locators
+  pub how : (l : LocalState) (e : Event) (j : Kind) (a : ℕ) → held (after j s l e) ≡ Some a →
+      HeldHow s l e j k (held l) a
+
+pub owners : (s : Shape) → Holding s OwnerWord PutOwner (λ l. l.held_owner)
+owners s = record {
+  has = λ m b. b;
+  change = λ l e m h. h;
+  target = λ l e. refl;
+  may = λ c l e t a. ((λ h. let i = a.2.0 in cc), a.2.2);
+  room = λ c l t h. t.held h;
+  how = λ l e j a h. held_how s l e j a h;
+}
+
+pub olds : (s : Shape) → Holding s OldWord PutOld (λ l. l.held_old)
+olds s = record {
+  has = λ m b. b;
+  change = λ l e m h. h;
+  target = λ l e. refl;
+  may = λ c l e t a. ((λ h. let i = a.2.0 in cc), t.held (ap is_some a.2.4));
+  room = λ c l t h. t.held_old h;
+  how = λ l e j a h. held_old_how s l e j a h;
+}
+
+module _ (s : Shape) (w : ℕ → Word) (k : Kind) (held : LocalState → Option ℕ) (hold : Holding s w k held) where
+  may_put : (es : List Event) (e : Event) → Step s es e → e.kind ≡ k →
+      ((local s es e.caller).phase ≢ Outside) × ((local s es e.caller).installed < s.locators)
+  may_put es e p q =
+      hold.may e.caller (local s es e.caller) e p.own
+      (subst (λ (k : Kind). AllowedAs k s (local s es e.caller) e) q p.fits.allowed)
+
+  -- it stays at locators that are used
+  used_stays : (es : List Event) (e : Event) (m : ℕ) → Step s es e → Used s es m → Same s es e (w m)
+  used_stays es e m p u =
+      stays s es e (w m) p (hold.has m u.below) (λ h. let x = hold.change (local s es e.caller) e m h in
+      let may = may_put es e p x.kind in
+      fresh s es e.caller may.1 (subst (Used s es) (x.number ∙ own_number s es e p may.0) u))
+
+  -- the caller's state tells what it holds
+  pub held_step : (es : List Event) (e : Event) → Core s es → Step s es e →
+      ((c a : ℕ) → c < s.callers → held (local s es c) ≡ Some a →
+      word s es (w (c * s.locators + (local s es c).installed)) ≡ a) → (c a : ℕ) → c < s.callers →
+      held (local s (e ∷ es) c) ≡ Some a →
+      word s (e ∷ es) (w (c * s.locators + (local s (e ∷ es) c).installed)) ≡ a
+  held_step es e core p before c a lt =
+      callers s es e
+      (λ c l. (a : ℕ) → c < s.callers → held l ≡ Some a →
+      word s (e ∷ es) (w (c * s.locators + l.installed)) ≡ a)
+      (λ a _ h. let how = hold.how (local s es e.caller) e e.kind a h in rw how.0 (own a how.1))
+      (λ c d a lt h. other c lt d a h) c a lt
+    where
+      own : (a : ℕ) → ((e.kind ≡ k) × (e.put ≡ a)) ⊎ ((e.kind ≢ k) × (held (local s es e.caller) ≡ Some a)) →
+          word s (e ∷ es) (w (e.caller * s.locators + (local s es e.caller).installed)) ≡ a
+      own a (inl x) =
+          put_at es e _
+          (p.fits.allowed.0 ∙ ap (λ k. place s (target k s (local s es e.caller) e)) x.0
+          ∙ ap (place s) (hold.target (local s es e.caller) e)
+          ∙ ap (λ m. place s (w m)) (own_number s es e p (may_put es e p x.0).0)) ∙ x.1
+      own a (inr x) =
+          let room = hold.room e.caller (local s es e.caller) p.own (ap is_some x.1) in
+          stays s es e (w (e.caller * s.locators + (local s es e.caller).installed)) p
+          (hold.has _ (in_table e.caller s.locators _ s.callers p.fits.caller room))
+          (λ h. x.0 (hold.change (local s es e.caller) e _ h).kind) ∙ before e.caller a p.fits.caller x.1
+
+      other : (c : ℕ) → c < s.callers → e.caller ≢ c → (a : ℕ) → held (local s es c) ≡ Some a →
+          word s (e ∷ es) (w (c * s.locators + (local s es c).installed)) ≡ a
+      other c inside d a h =
+          stays s es e (w (c * s.locators + (local s es c).installed)) p
+          (hold.has _ (in_table c s.locators _ s.callers inside room))
+          (λ h. apart (hold.change (local s es e.caller) e _ h)) ∙ before c a inside h
+        where
+          room : (local s es c).installed < s.locators
+          room = hold.room c (local s es c) (static s es core c) (ap is_some h)
+
+          apart : Aims e k (c * s.locators + (local s es c).installed) (next_locator s (local s es e.caller)) → ⊥
+          apart x = let may = may_put es e p x.kind in
+              d
+              (sym (caller_of e.caller s.locators (local s es e.caller).installed may.1)
+              ∙ ap (λ m. m / s.locators) (sym (x.number ∙ own_number s es e p may.0))
+              ∙ caller_of c s.locators (local s es c).installed room)
+
 pub owner_stays : (s : Shape) (es : List Event) (e : Event) (m : ℕ) → Step s es e → Used s es m →
     Same s es e (OwnerWord m)
-owner_stays s es e m p u = go (owners s es e m p u.below)
-  where
-    go : (Same s es e (OwnerWord m)) ⊎ OwnerPut s es e m → Same s es e (OwnerWord m)
-    go (inl x) = x
-    go (inr x) =
-        let may : ((local s es e.caller).phase ≢ Outside) × ((local s es e.caller).installed < s.locators)
-        × (e.put ≡ own_attempt s (local s es e.caller)) =
-        put_owner_may s (local s es e.caller) e e.kind x.kind p.fits.allowed in
-        absurd (fresh s es e.caller may.1 (subst (Used s es) (x.locator ∙ own_number s es e p may.0) u))
+owner_stays s = used_stays s OwnerWord PutOwner (λ l. l.held_owner) (owners s)
 
 pub old_stays : (s : Shape) (es : List Event) (e : Event) (m : ℕ) → Step s es e → Used s es m →
     Same s es e (OldWord m)
-old_stays s es e m p u = go (olds s es e m p u.below)
-  where
-    go : (Same s es e (OldWord m)) ⊎ OldPut s es e m → Same s es e (OldWord m)
-    go (inl x) = x
-    go (inr x) =
-        let may : ((local s es e.caller).phase ≢ Outside) × (is_some (local s es e.caller).held_owner ≡ true) =
-        put_old_may s (local s es e.caller) e e.kind x.kind p.fits.allowed in
-        absurd (fresh s es e.caller (p.own.held may.1)
-        (subst (Used s es) (x.locator ∙ own_number s es e p may.0) u))
+old_stays s = used_stays s OldWord PutOld (λ l. l.held_old) (olds s)
 
 -- the locator of a successful Install is used from then on
 pub used_new : (s : Shape) (es : List Event) (e : Event) → Step s es e → e.kind ≡ Install →
@@ -189,14 +253,6 @@ pub own_begun : (s : Shape) (es : List Event) (c : ℕ) → Static s c (local s 
 own_begun s es c t b h = let x = own_place s c (local s es c) t b h in
     record { below = own_in s c (local s es c) t b h; begun = rw (x.1, x.2) x.3 }
 
-pub other_kind_owner : (s : Shape) (es : List Event) (e : Event) (m : ℕ) → Step s es e →
-    m < s.callers * s.locators → e.kind ≢ PutOwner → Same s es e (OwnerWord m)
-other_kind_owner s es e m p b h = go (owners s es e m p b)
-  where
-    go : (Same s es e (OwnerWord m)) ⊎ OwnerPut s es e m → Same s es e (OwnerWord m)
-    go (inl x) = x
-    go (inr x) = absurd (h x.kind)
-
 owner_step : (s : Shape) (es : List Event) (e : Event) → Step s es e → Basic s es → (m : ℕ) →
     Used s (e ∷ es) m → OwnerFits s (e ∷ es) m
 owner_step s es e p b m u = go (used_back s es e m u)
@@ -221,63 +277,7 @@ owner_step s es e p b m u = go (used_back s es e m u)
 
     go : Used s es m ⊎ Fresh s es e m → OwnerFits s (e ∷ es) m
     go (inl x) = fit m (owner_stays s es e m p x) (b.owner m x)
-    go (inr f) = fit m (other_kind_owner s es e m p u.below (λ q. let i = f.kind in cc)) (new f)
-
-is_put_owner : (k : Kind) → (k ≡ PutOwner) ⊎ (k ≢ PutOwner)
-is_put_owner PutOwner = inl refl
-is_put_owner k = inr (λ h. cc)
-
--- what the first unused locator holds
-held_step : (s : Shape) (es : List Event) (e : Event) → Core s es → Step s es e → Basic s es → (c a : ℕ) →
-    c < s.callers → (local s (e ∷ es) c).held_owner ≡ Some a →
-    word s (e ∷ es) (OwnerWord (c * s.locators + (local s (e ∷ es) c).installed)) ≡ a
-held_step s es e core p b c a lt =
-    callers s es e
-    (λ c l. (a : ℕ) → c < s.callers → l.held_owner ≡ Some a →
-    word s (e ∷ es) (OwnerWord (c * s.locators + l.installed)) ≡ a) (λ a _ h. own (is_put_owner e.kind) a h)
-    (λ c d a lt h. other c lt d a h) c a lt
-  where
-    put : e.kind ≡ PutOwner → (a : ℕ) → Some e.put ≡ Some a →
-        word s (e ∷ es) (OwnerWord (e.caller * s.locators + (local s es e.caller).installed)) ≡ a
-    put q a h = let may = put_owner_may s (local s es e.caller) e e.kind q p.fits.allowed in
-        put_at es e _
-        (p.fits.allowed.0 ∙ ap (λ k. place s (target k s (local s es e.caller) e)) q
-        ∙ ap (λ m. place s (OwnerWord m)) (own_number s es e p may.0)) ∙ cc
-
-    own : (e.kind ≡ PutOwner) ⊎ (e.kind ≢ PutOwner) → (a : ℕ) →
-        (after e.kind s (local s es e.caller) e).held_owner ≡ Some a →
-        word s (e ∷ es)
-        (OwnerWord (e.caller * s.locators + (after e.kind s (local s es e.caller) e).installed)) ≡ a
-    own (inl q) a h = rw q (put q a (rw q at h))
-    own (inr q) a h = let back = held_how s (local s es e.caller) e e.kind a q h in
-        let lt : (local s es e.caller).installed < s.locators = p.own.held (ap is_some back.0) in
-        rw (
-          back.1,
-          other_kind_owner s es e (e.caller * s.locators + (local s es e.caller).installed) p
-              (in_table e.caller s.locators (local s es e.caller).installed s.callers p.fits.caller lt) q,
-        )
-        (b.held e.caller a p.fits.caller back.0)
-
-    other : (c : ℕ) → c < s.callers → e.caller ≢ c → (a : ℕ) → (local s es c).held_owner ≡ Some a →
-        word s (e ∷ es) (OwnerWord (c * s.locators + (local s es c).installed)) ≡ a
-    other c inside d a h = go (owners s es e (c * s.locators + (local s es c).installed) p below)
-      where
-        room : (local s es c).installed < s.locators
-        room = (static s es core c).held (ap is_some h)
-
-        below : c * s.locators + (local s es c).installed < s.callers * s.locators
-        below = in_table c s.locators (local s es c).installed s.callers inside room
-
-        go : (word s (e ∷ es) (OwnerWord (c * s.locators + (local s es c).installed)) ≡ word s es
-            (OwnerWord (c * s.locators + (local s es c).installed)))
-            ⊎ OwnerPut s es e (c * s.locators + (local s es c).installed) →
-            word s (e ∷ es) (OwnerWord (c * s.locators + (local s es c).installed)) ≡ a
-        go (inl x) = x ∙ b.held c a inside h
-        go (inr x) = let may = put_owner_may s (local s es e.caller) e e.kind x.kind p.fits.allowed in
-            absurd (d
-            (sym (caller_of e.caller s.locators (local s es e.caller).installed may.1)
-            ∙ ap (λ m. m / s.locators) (sym (x.locator ∙ own_number s es e p may.0))
-            ∙ caller_of c s.locators (local s es c).installed room))
+    go (inr f) = fit m (stays s es e (OwnerWord m) p u.below (λ x. let i = f.kind in let j = x.kind in cc)) (new f)
 
 -- what is known of a resolution stays known
 pub owner_is_more : (s : Shape) (es : List Event) (e : Event) → Step s es e → (x : ℕ) (o : Option ℕ) →
@@ -296,15 +296,9 @@ pub res_known : (s : Shape) (es : List Event) (r : Option Resolution) → ResBas
 res_known s es None h = (inl refl, tt)
 res_known s es (Some r) h = h
 
-res_kept : (s : Shape) (es : List Event) (r : Option Resolution) → ResBasic s es r →
-    ResBasic s es (keep_resolved r)
-res_kept s es None h = tt
-res_kept s es (Some r) h = cond_both (is_resolved r) (Some r) None (ResBasic s es) (λ _. h) (λ _. tt)
-
 res_own : (s : Shape) (es : List Event) (e : Event) → Step s es e → Basic s es → (k : Kind) →
     AllowedAs k s (local s es e.caller) e → ResBasic s (e ∷ es) (local s es e.caller).resolution →
     ResBasic s (e ∷ es) (after k s (local s es e.caller) e).resolution
-res_own s es e p b Begin a h = tt
 res_own s es e p b LookObj a h = (
   subst (Names s (e ∷ es)) (sym p.fits.linked) (names_more s es e (at es e.place) (b.object e.place a.3)),
   tt,
@@ -315,23 +309,9 @@ res_own s es e p b LookStatus a h = res_known s (e ∷ es) (local s es e.caller)
 res_own s es e p b LookOld a h = res_known s (e ∷ es) (local s es e.caller).resolution h
 res_own s es e p b LookNew a h = res_known s (e ∷ es) (local s es e.caller).resolution h
 res_own s es e p b Kill a h = res_known s (e ∷ es) (local s es e.caller).resolution h
-res_own s es e p b Install a h =
-    cond_both (e.found == e.expected) _ _ (λ (l : LocalState). ResBasic s (e ∷ es) l.resolution) (λ _. tt)
-    (λ _. tt)
-res_own s es e p b LookNumber a h = res_kept s (e ∷ es) (local s es e.caller).resolution h
-res_own s es e p b LookSelf a h =
-    cond_both (e.found == given (local s es e.caller).phase) _ _
-    (λ (l : LocalState). ResBasic s (e ∷ es) l.resolution) (λ _. h) (λ _. h)
-res_own s es e p b ToValidating a h =
-    cond_both (e.found == 1) _ _ (λ (l : LocalState). ResBasic s (e ∷ es) l.resolution) (λ _. h) (λ _. h)
 res_own s es e p b LookRank a h = res_known s (e ∷ es) (local s es e.caller).resolution h
 res_own s es e p b LookHigh a h = res_known s (e ∷ es) (local s es e.caller).resolution h
-res_own s es e p b Release a h = tt
-res_own s es e p b Pause a h =
-    cond_both (e.found == 1) _ _ (λ (l : LocalState). ResBasic s (e ∷ es) l.resolution) (λ _. h) (λ _. h)
-res_own s es e p b Resume a h =
-    cond_both (e.found == 2) _ _ (λ (l : LocalState). ResBasic s (e ∷ es) l.resolution) (λ _. h) (λ _. h)
-res_own s es e p b k a h = h
+res_own s es e p b k a h = unlooked (ResBasic s (e ∷ es)) s (local s es e.caller) e k refl tt h
 
 pub basic : (s : Shape) (es : List Event) → Core s es → Basic s es
 basic s [] core =
@@ -346,7 +326,7 @@ basic s (e ∷ es) core = let b : Basic s es = basic s es core.0 in let p : Step
     record {
       object = object_step s es e p b;
       owner = owner_step s es e p b;
-      held = held_step s es e core.0 p b;
+      held = held_step s OwnerWord PutOwner (λ l. l.held_owner) (owners s) es e core.0 p b.held;
       res = callers s es e (λ c l. ResBasic s (e ∷ es) l.resolution)
           (res_own s es e p b e.kind p.fits.allowed
           (res_more s es e p (local s es e.caller).resolution (b.res e.caller)))

@@ -1,42 +1,29 @@
 -- Attempts that have begun: how their count grows, and what their statuses can be.
-use Rattle.std.proofs.Common.{◌%◌, ◌*◌, ◌+◌, ◌-◌, ◌/◌, ◌<◌, ◌==◌, ◌∙◌, ◌∷◌, ◌≡◌, ◌≢◌, ◌≤◌, ◌⊎◌, List, Some, [], ap, arith, inl, inr, refl, subst, sym, ℕ}
+use Rattle.std.proofs.Common.{◌%◌, ◌*◌, ◌+◌, ◌-◌, ◌/◌, ◌<◌, ◌∙◌, ◌∷◌, ◌≡◌, ◌≢◌, ◌≤◌, ◌⊎◌, List, Some, [], ap, arith, inl, inr, refl, subst, sym, ℕ}
 use Rattle.std.proofs.Math.Nat.{div-add-mod}
-use Rattle.std.proofs.lemmas.Bool.{cases_eq, cases_lt, cond_both}
+use Rattle.std.proofs.lemmas.Bool.{cases_eq, cases_lt}
 use Rattle.dstm_core.specs.Events.{Event}
 use Rattle.dstm_core.specs.Rules.{after}
 use Rattle.dstm_core.specs.Runs.{Core, local}
-use Rattle.dstm_core.specs.State.{LocalState, given, next_attempt, res}
-use Rattle.dstm_core.specs.Traces.{at, word}
+use Rattle.dstm_core.specs.State.{LocalState, next_attempt, res}
+use Rattle.dstm_core.specs.Traces.{word}
 use Rattle.dstm_core.specs.Words.{place}
 use Rattle.dstm_core.specs.Words.Word.{OwnerWord, StatusWord}
 use Rattle.dstm_core.specs.declared.event.Kind.{Kind}
-use Rattle.dstm_core.specs.declared.event.Kind.TheVariants.{Begin, Commit, Install, LookSelf, Pause, Quit, Resume, Validating as ToValidating}
+use Rattle.dstm_core.specs.declared.event.Kind.TheVariants.{Begin, Commit, Pause, Quit, Resume, Validating as ToValidating}
 use Rattle.dstm_core.specs.declared.shape.Shape.{Shape}
 use Rattle.dstm_core.proofs.Basic.{Names, OwnerIs, basic, res_known}
-use Rattle.dstm_core.proofs.Columns.{Begun, Same, StatusMove, StatusMoved, Step, begins, kills, moves, statuses, step}
+use Rattle.dstm_core.proofs.Columns.{Begun, Changed, Same, StatusMove, Step, begins, change, kills, moves, step}
 use Rattle.dstm_core.proofs.Places.{put_at}
 use Rattle.dstm_core.proofs.Static.{local_other, local_own}
 use Rattle.dstm_core.proofs.Statuses.{begin_may, begin_put, next_number}
+use Rattle.std.proofs.lemmas.Bool.Decides.{nat_tests}
 
 -- attempts begun grow by 1 at a Begin, and stay at every other event
 pub begun_how : (s : Shape) (l : LocalState) (e : Event) (k : Kind) →
     ((k ≡ Begin) × ((after k s l e).begun ≡ l.begun + 1)) ⊎ ((k ≢ Begin) × ((after k s l e).begun ≡ l.begun))
 begun_how s l e Begin = inl (refl, refl)
-begun_how s l e Install = inr (
-  (λ q. cc),
-  cond_both (e.found == e.expected) _ _ (λ (m : LocalState). m.begun ≡ l.begun) (λ _. refl) (λ _. refl),
-)
-begun_how s l e LookSelf = inr (
-  (λ q. cc),
-  cond_both (e.found == given l.phase) _ _ (λ (m : LocalState). m.begun ≡ l.begun) (λ _. refl) (λ _. refl),
-)
-begun_how s l e ToValidating = inr
-    ((λ q. cc), cond_both (e.found == 1) _ _ (λ (m : LocalState). m.begun ≡ l.begun) (λ _. refl) (λ _. refl))
-begun_how s l e Pause = inr
-    ((λ q. cc), cond_both (e.found == 1) _ _ (λ (m : LocalState). m.begun ≡ l.begun) (λ _. refl) (λ _. refl))
-begun_how s l e Resume = inr
-    ((λ q. cc), cond_both (e.found == 2) _ _ (λ (m : LocalState). m.begun ≡ l.begun) (λ _. refl) (λ _. refl))
-begun_how s l e k = inr ((λ q. cc), refl)
+begun_how s l e k = inr ((λ q. cc), grind (arith, nat_tests))
 
 -- an attempt that has begun after an event had begun before it, or begins with it
 pub begun_back : (s : Shape) (es : List Event) (e : Event) (a : ℕ) → Begun s (e ∷ es) a →
@@ -100,7 +87,7 @@ status_code s (e ∷ es) core a u = go (λ b. status_code s es core.0 a b) (begu
     st : Step s es e
     st = step s es e core
 
-    old : IsCode (word s es (StatusWord a)) → Same s es e (StatusWord a) ⊎ StatusMoved s es e a →
+    old : IsCode (word s es (StatusWord a)) → Same s es e (StatusWord a) ⊎ Changed s es e (StatusWord a) →
         IsCode (word s (e ∷ es) (StatusWord a))
     old b (inl x) = rw x b
     old b (inr x) = rw x.now (moved_code s (local s es e.caller) e a x.how)
@@ -108,7 +95,7 @@ status_code s (e ∷ es) core a u = go (λ b. status_code s es core.0 a b) (begu
     go : (Begun s es a → IsCode (word s es (StatusWord a))) →
         Begun s es a ⊎ ((e.kind ≡ Begin) × (a ≡ e.caller * s.attempts + (local s es e.caller).begun)) →
         IsCode (word s (e ∷ es) (StatusWord a))
-    go ih (inl b) = old (ih b) (statuses s es e a st u.below)
+    go ih (inl b) = old (ih b) (change s es e (StatusWord a) st u.below)
     go ih (inr x) =
         let l : LocalState = local s es e.caller in
         let may = begin_may s l e e.kind x.0 core.1.allowed in

@@ -19,6 +19,7 @@ use Rattle.dstm_core.specs.Words.Word.{CallersWord, NumbersWord, StampsWord}
 use Rattle.dstm_core.proofs.Static.{Static, static, running, callers, local_own}
 use Rattle.dstm_core.proofs.Columns.{step, Same, enrolled, numbers, stamps}
 use Rattle.dstm_machines.proofs.Totals.{total, total-≤, total-<, total-bound}
+use Rattle.std.proofs.lemmas.Bool.Decides.{nat_tests}
 
 -- the attempts of a caller that can draw no number any more
 abbrev pub spent_by : Phase → ℕ → ℕ
@@ -93,22 +94,7 @@ stamped_le false n = (omega arith, omega arith)
 stamped_step : (s : Shape) (l : LocalState) (e : Event) (k : Kind) → stamped l ≤ stamped (after k s l e)
 stamped_step s l e Stamp = (stamped_le l.stamped l.begun).1
 stamped_step s l e Begin = (stamped_le l.stamped l.begun).1
-stamped_step s l e Install =
-    cond_both (e.found == e.expected) _ _ (λ (m : LocalState). stamped l ≤ stamped m) (λ _. omega arith)
-    (λ _. omega arith)
-stamped_step s l e LookSelf =
-    cond_both (e.found == given l.phase) _ _ (λ (m : LocalState). stamped l ≤ stamped m) (λ _. omega arith)
-    (λ _. omega arith)
-stamped_step s l e ToValidating =
-    cond_both (e.found == 1) _ _ (λ (m : LocalState). stamped l ≤ stamped m) (λ _. omega arith)
-    (λ _. omega arith)
-stamped_step s l e Pause =
-    cond_both (e.found == 1) _ _ (λ (m : LocalState). stamped l ≤ stamped m) (λ _. omega arith)
-    (λ _. omega arith)
-stamped_step s l e Resume =
-    cond_both (e.found == 2) _ _ (λ (m : LocalState). stamped l ≤ stamped m) (λ _. omega arith)
-    (λ _. omega arith)
-stamped_step s l e k = omega arith
+stamped_step s l e k = grind (arith, nat_tests)
 
 stamped_stamp : (s : Shape) (l : LocalState) (e : Event) (k : Kind) → k ≡ Stamp → AllowedAs k s l e →
     stamped l < stamped (after k s l e)

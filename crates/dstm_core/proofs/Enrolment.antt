@@ -1,18 +1,19 @@
 -- Who has a number: a caller enrols first, and makes no other event on the word that counts the callers.
-use Rattle.std.proofs.Common.{◌+◌, ◌∙◌, ◌≡◌, ◌≢◌, ◌==◌, ◌⊎◌, ℕ, inl, inr, refl, ap, arith, sym, true, false, is_some}
-use Rattle.std.proofs.lemmas.Bool.{cond_both, cases_Bool}
+use Rattle.std.proofs.Common.{◌+◌, ◌∙◌, ◌≡◌, ◌≢◌, ◌⊎◌, ℕ, inl, inr, refl, ap, arith, sym, true, false, is_some}
+use Rattle.std.proofs.lemmas.Bool.{cases_Bool}
 use Rattle.dstm_core.specs.Events.{Event}
 use Rattle.dstm_core.specs.declared.event.Kind.{Kind}
-use Rattle.dstm_core.specs.declared.event.Kind.TheVariants.{Enrol, Rank, Install, LookSelf, Validating as ToValidating, Pause, Resume}
+use Rattle.dstm_core.specs.declared.event.Kind.TheVariants.{Enrol, Rank}
 use Rattle.dstm_core.specs.declared.state.Phase.{Phase}
 use Rattle.dstm_core.specs.declared.state.Phase.TheVariants.{Outside}
 use Rattle.dstm_core.specs.declared.shape.Shape.{Shape}
 use Rattle.dstm_core.specs.Rules.{MayRank, after, target, AllowedAs}
-use Rattle.dstm_core.specs.State.{LocalState, first, given}
+use Rattle.dstm_core.specs.State.{LocalState, first}
 use Rattle.dstm_core.specs.Words.{place}
 use Rattle.dstm_core.specs.Words.Word.{CallersWord}
 use Rattle.dstm_core.proofs.Places.{same_place}
 use Rattle.dstm_core.proofs.Static.{Static, Inside}
+use Rattle.std.proofs.lemmas.Bool.Decides.{nat_tests}
 
 -- a caller's first event is an Enrol
 pub enrols : (s : Shape) (e : Event) (k : Kind) → AllowedAs k s first e →
@@ -31,20 +32,10 @@ lies_elsewhere s l e k n a q =
     not_callers s l e k n (same_place s (target k s l e) CallersWord a.3 tt (sym a.0 ∙ q))
 
 -- a number once found is kept
-number_kept : (s : Shape) (l : LocalState) (e : Event) (k : Kind) → k ≢ Enrol →
+pub number_kept : (s : Shape) (l : LocalState) (e : Event) (k : Kind) → k ≢ Enrol →
     (after k s l e).number ≡ l.number
 number_kept s l e Enrol n = absurd (n refl)
-number_kept s l e Install n =
-    cond_both (e.found == e.expected) _ _ (λ (m : LocalState). m.number ≡ l.number) (λ _. refl) (λ _. refl)
-number_kept s l e LookSelf n =
-    cond_both (e.found == given l.phase) _ _ (λ (m : LocalState). m.number ≡ l.number) (λ _. refl) (λ _. refl)
-number_kept s l e ToValidating n =
-    cond_both (e.found == 1) _ _ (λ (m : LocalState). m.number ≡ l.number) (λ _. refl) (λ _. refl)
-number_kept s l e Pause n =
-    cond_both (e.found == 1) _ _ (λ (m : LocalState). m.number ≡ l.number) (λ _. refl) (λ _. refl)
-number_kept s l e Resume n =
-    cond_both (e.found == 2) _ _ (λ (m : LocalState). m.number ≡ l.number) (λ _. refl) (λ _. refl)
-number_kept s l e k n = refl
+number_kept s l e k n = grind (arith, nat_tests)
 
 -- without a number there is no attempt, and no event but an Enrol
 outside : (s : Shape) (c : ℕ) (l : LocalState) → Static s c l → is_some l.number ≡ false → l.phase ≡ Outside

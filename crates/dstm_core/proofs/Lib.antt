@@ -26,3 +26,4 @@ pub mod Spare
 pub mod LeftWords
 pub mod Sharing
 pub mod Absent
+pub mod Untouched

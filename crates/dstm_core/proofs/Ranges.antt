@@ -13,14 +13,15 @@ use Rattle.dstm_core.specs.declared.state.Read.{Read}
 use Rattle.dstm_core.specs.declared.state.Resolution.{Resolution}
 use Rattle.dstm_core.specs.Rules.{rank_of, target, MayRank, May, AllowedAs, after}
 use Rattle.dstm_core.specs.Runs.{local, Core}
-use Rattle.dstm_core.specs.State.{LocalState, or_zero, next_attempt, given, read_of, drop_read, or_read, next_write, or_unresolved, res, version, version_by, is_resolved, keep_resolved, record_resolved}
+use Rattle.dstm_core.specs.State.{LocalState, or_zero, next_attempt, read_of, drop_read, or_read, next_write, or_unresolved, res, version, version_by, is_resolved, record_resolved}
 use Rattle.dstm_core.specs.Traces.{at, word}
 use Rattle.dstm_core.specs.Words.{place, HasWord}
 use Rattle.dstm_core.specs.Words.Word.{OldWord, OwnerWord}
 use Rattle.dstm_core.proofs.Places.{put_at}
 use Rattle.dstm_core.proofs.Static.{InShape, Static, static, res-in_shape, numbered-get, callers}
-use Rattle.dstm_core.proofs.Columns.{in_table, own_in, next_locator_in, step, Same, OldPut, olds}
+use Rattle.dstm_core.proofs.Columns.{in_table, own_in, next_locator_in, step, Changed, Same, change}
 use Rattle.dstm_core.proofs.Basic.{Names, names_more, Basic, basic, ResBasic, OwnerIs, res_known}
+use Rattle.dstm_core.proofs.Untouched.{unlooked, unrecorded}
 
 -- ---- of a caller's state alone
 
@@ -42,13 +43,8 @@ version_word : (word : ℕ) (status old : Option ℕ) → 0 < or_zero (version_b
 version_word zero status old h = absurd (omega arith)
 version_word (suc word) status old h = omega arith
 
-known_kept : (r : Option Resolution) → KnownOf r → KnownOf (keep_resolved r)
-known_kept None h = tt
-known_kept (Some r) h = cond_both (is_resolved r) (Some r) None KnownOf (λ _. h) (λ _. tt)
-
 known_step : (s : Shape) (l : LocalState) (e : Event) (k : Kind) → AllowedAs k s l e → KnownOf l.resolution →
     KnownOf (after k s l e).resolution
-known_step s l e Begin a h = tt
 known_step s l e LookObj a h =
     record { owner = λ q. absurd (cc); status = λ q. absurd (cc); high = λ q. absurd (cc) }
 known_step s l e LookOwner a h =
@@ -69,19 +65,7 @@ known_step s l e LookNew a h =
     let n = known_res l.resolution h in record { owner = n.owner; status = n.status; high = n.high }
 known_step s l e Kill a h =
     let n = known_res l.resolution h in record { owner = n.owner; status = λ _. n.owner a.2.2; high = n.high }
-known_step s l e Install a h =
-    cond_both (e.found == e.expected) _ _ (λ (m : LocalState). KnownOf m.resolution) (λ _. tt) (λ _. tt)
-known_step s l e LookNumber a h = known_kept l.resolution h
-known_step s l e LookSelf a h =
-    cond_both (e.found == given l.phase) _ _ (λ (m : LocalState). KnownOf m.resolution) (λ _. h) (λ _. h)
-known_step s l e Release a h = tt
-known_step s l e ToValidating a h =
-    cond_both (e.found == 1) _ _ (λ (m : LocalState). KnownOf m.resolution) (λ _. h) (λ _. h)
-known_step s l e Pause a h =
-    cond_both (e.found == 1) _ _ (λ (m : LocalState). KnownOf m.resolution) (λ _. h) (λ _. h)
-known_step s l e Resume a h =
-    cond_both (e.found == 2) _ _ (λ (m : LocalState). KnownOf m.resolution) (λ _. h) (λ _. h)
-known_step s l e k a h = h
+known_step s l e k a h = unlooked KnownOf s l e k refl tt h
 
 pub known : (s : Shape) (es : List Event) → Core s es → (c : ℕ) → KnownOf (local s es c).resolution
 known s [] core c = tt
@@ -131,16 +115,8 @@ reads_step s l e Begin b h = tt
 reads_step s l e Install b h = cond_both (e.found == e.expected) _ _ (λ (m : LocalState). ReadsIn s m.reads)
     (λ _. reads_drop s (res l).object l.reads h) (λ _. h)
 reads_step s l e LookNumber b h = reads_recorded s l.resolution l.reads b h
-reads_step s l e LookSelf b h =
-    cond_both (e.found == given l.phase) _ _ (λ (m : LocalState). ReadsIn s m.reads) (λ _. h) (λ _. h)
 reads_step s l e Release b h = reads_drop s e.place l.reads h
-reads_step s l e ToValidating b h =
-    cond_both (e.found == 1) _ _ (λ (m : LocalState). ReadsIn s m.reads) (λ _. h) (λ _. h)
-reads_step s l e Pause b h =
-    cond_both (e.found == 1) _ _ (λ (m : LocalState). ReadsIn s m.reads) (λ _. h) (λ _. h)
-reads_step s l e Resume b h =
-    cond_both (e.found == 2) _ _ (λ (m : LocalState). ReadsIn s m.reads) (λ _. h) (λ _. h)
-reads_step s l e k b h = h
+reads_step s l e k b h = unrecorded (ReadsIn s) s l e k refl h
 
 pub reads_in : (s : Shape) (es : List Event) → Core s es → (c : ℕ) → ReadsIn s (local s es c).reads
 reads_in s [] core c = tt
@@ -194,15 +170,9 @@ old_names_more : (s : Shape) (es : List Event) (e : Event) (r : Option Resolutio
 old_names_more s es e None h = tt
 old_names_more s es e (Some r) h = names_more s es e (or_zero r.old) h
 
-old_kept : (s : Shape) (es : List Event) (r : Option Resolution) → OldNames s es r →
-    OldNames s es (keep_resolved r)
-old_kept s es None h = tt
-old_kept s es (Some r) h = cond_both (is_resolved r) (Some r) None (OldNames s es) (λ _. h) (λ _. tt)
-
 old_own : (s : Shape) (es : List Event) (e : Event) (l : LocalState) (k : Kind) → AllowedAs k s l e →
     e.found ≡ at es e.place → ((m : ℕ) → m < s.callers * s.locators → Names s es (word s es (OldWord m))) →
     OldNames s (e ∷ es) l.resolution → OldNames s (e ∷ es) (after k s l e).resolution
-old_own s es e l Begin a q w h = tt
 old_own s es e l LookObj a q w h = inl refl
 old_own s es e l LookOwner a q w h = old_res s (e ∷ es) l.resolution h
 old_own s es e l LookStatus a q w h = old_res s (e ∷ es) l.resolution h
@@ -213,32 +183,18 @@ old_own s es e l LookOld a q w h =
 old_own s es e l LookHigh a q w h = old_res s (e ∷ es) l.resolution h
 old_own s es e l LookNew a q w h = old_res s (e ∷ es) l.resolution h
 old_own s es e l Kill a q w h = old_res s (e ∷ es) l.resolution h
-old_own s es e l Install a q w h =
-    cond_both (e.found == e.expected) _ _ (λ (m : LocalState). OldNames s (e ∷ es) m.resolution) (λ _. tt)
-    (λ _. tt)
-old_own s es e l LookNumber a q w h = old_kept s (e ∷ es) l.resolution h
-old_own s es e l LookSelf a q w h =
-    cond_both (e.found == given l.phase) _ _ (λ (m : LocalState). OldNames s (e ∷ es) m.resolution) (λ _. h)
-    (λ _. h)
-old_own s es e l Release a q w h = tt
-old_own s es e l ToValidating a q w h =
-    cond_both (e.found == 1) _ _ (λ (m : LocalState). OldNames s (e ∷ es) m.resolution) (λ _. h) (λ _. h)
-old_own s es e l Pause a q w h =
-    cond_both (e.found == 1) _ _ (λ (m : LocalState). OldNames s (e ∷ es) m.resolution) (λ _. h) (λ _. h)
-old_own s es e l Resume a q w h =
-    cond_both (e.found == 2) _ _ (λ (m : LocalState). OldNames s (e ∷ es) m.resolution) (λ _. h) (λ _. h)
-old_own s es e l k a q w h = h
+old_own s es e l k a q w h = unlooked (OldNames s (e ∷ es)) s l e k refl tt h
 
 old_words : (s : Shape) (es : List Event) (e : Event) → Core s (e ∷ es) → Olds s es → (m : ℕ) →
     m < s.callers * s.locators → Names s (e ∷ es) (word s (e ∷ es) (OldWord m))
-old_words s es e core o m b = go (olds s es e m (step s es e core) b)
+old_words s es e core o m b = go (change s es e (OldWord m) (step s es e core) b)
   where
-    go : Same s es e (OldWord m) ⊎ OldPut s es e m → Names s (e ∷ es) (word s (e ∷ es) (OldWord m))
+    go : Same s es e (OldWord m) ⊎ Changed s es e (OldWord m) → Names s (e ∷ es) (word s (e ∷ es) (OldWord m))
     go (inl x) = subst (Names s (e ∷ es)) (sym x) (names_more s es e (word s es (OldWord m)) (o.word m b))
     go (inr x) =
-        let puts = put_old_puts s (local s es e.caller) e e.kind x.kind core.1.allowed in
+        let puts = put_old_puts s (local s es e.caller) e e.kind x.how.kind core.1.allowed in
         let here : e.place ≡ place s (OldWord m) =
-        puts.0 ∙ ap (place s) puts.2 ∙ ap (λ m. place s (OldWord m)) (sym x.locator) in
+        puts.0 ∙ ap (place s) puts.2 ∙ ap (λ m. place s (OldWord m)) (sym x.how.number) in
         let now : word s (e ∷ es) (OldWord m) ≡ or_zero (version (res (local s es e.caller))) =
         put_at es e (place s (OldWord m)) here ∙ puts.1 in
         subst (Names s (e ∷ es)) (sym now)

@@ -1,23 +1,23 @@
 -- Ranks are small under the managers where they rise.
-use Rattle.std.proofs.Common.{◌*◌, ◌<◌, ◌==◌, ◌∙◌, ◌∷◌, ◌≡◌, ◌≤◌, ◌⊎◌, List, Option, None, Some, [], ap, arith, false, inl, inr, true, ℕ}
-use Rattle.std.proofs.lemmas.Bool.{cond_both}
+use Rattle.std.proofs.Common.{◌*◌, ◌<◌, ◌∙◌, ◌∷◌, ◌≡◌, ◌≤◌, ◌⊎◌, List, Option, None, Some, [], ap, arith, refl, false, inl, inr, true, ℕ}
 use Rattle.dstm_core.specs.Events.{Event}
 use Rattle.dstm_core.specs.Rules.{AllowedAs, MayRank, Rises, after}
 use Rattle.dstm_core.specs.Runs.{Core, local}
-use Rattle.dstm_core.specs.State.{LocalState, given, is_resolved, keep_resolved, or_unresolved, or_zero, res}
+use Rattle.dstm_core.specs.State.{LocalState, or_unresolved, or_zero, res}
 use Rattle.dstm_core.specs.Traces.{at, word}
 use Rattle.dstm_core.specs.Words.Word.{RankWord}
 use Rattle.dstm_core.specs.declared.event.Kind.{Kind}
-use Rattle.dstm_core.specs.declared.event.Kind.TheVariants.{Begin, Install, Kill, LookHigh, LookNew, LookNumber, LookObj, LookOld, LookOwner, LookRank, LookSelf, LookStatus, Pause, Rank, Release, Resume, Validating as ToValidating}
+use Rattle.dstm_core.specs.declared.event.Kind.TheVariants.{Kill, LookHigh, LookNew, LookObj, LookOld, LookOwner, LookRank, LookStatus, Rank}
 use Rattle.dstm_core.specs.declared.shape.Manager.TheVariants.{Greedy}
 use Rattle.dstm_core.specs.declared.shape.Shape.{Shape}
 use Rattle.dstm_core.specs.declared.shape.TheConstants.{MAX_RANK}
 use Rattle.dstm_core.specs.declared.state.Phase.{Phase}
 use Rattle.dstm_core.specs.declared.state.Phase.TheVariants.{Outside, Running}
 use Rattle.dstm_core.specs.declared.state.Resolution.{Resolution}
-use Rattle.dstm_core.proofs.Columns.{RankPut, Same, ranks, step}
+use Rattle.dstm_core.proofs.Columns.{Changed, Same, change, step}
 use Rattle.dstm_core.proofs.Stamps.{StampHow, at_begin, at_enrol, at_other, at_rank, at_stamp, stamp_greedy, stamp_how}
 use Rattle.dstm_core.proofs.Static.{callers}
+use Rattle.dstm_core.proofs.Untouched.{unlooked}
 
 -- a rank that was found is small
 abbrev pub FoundSmall : Option Resolution → Type 0
@@ -67,14 +67,9 @@ small_res : (r : Option Resolution) → FoundSmall r → or_zero (or_unresolved 
 small_res None h = omega arith
 small_res (Some r) h = h
 
-small_kept : (r : Option Resolution) → FoundSmall r → FoundSmall (keep_resolved r)
-small_kept None h = tt
-small_kept (Some r) h = cond_both (is_resolved r) (Some r) None FoundSmall (λ _. h) (λ _. tt)
-
 found_small : (s : Shape) (es : List Event) (l : LocalState) (e : Event) (k : Kind) → AllowedAs k s l e →
     e.found ≡ at es e.place → ((a : ℕ) → a < s.callers * s.attempts → word s es (RankWord a) ≤ MAX_RANK) →
     FoundSmall l.resolution → FoundSmall (after k s l e).resolution
-found_small s es l e Begin a f w h = tt
 found_small s es l e LookObj a f w h = omega arith
 found_small s es l e LookOwner a f w h = small_res l.resolution h
 found_small s es l e LookStatus a f w h = small_res l.resolution h
@@ -85,19 +80,7 @@ found_small s es l e LookOld a f w h = small_res l.resolution h
 found_small s es l e LookHigh a f w h = small_res l.resolution h
 found_small s es l e LookNew a f w h = small_res l.resolution h
 found_small s es l e Kill a f w h = small_res l.resolution h
-found_small s es l e Install a f w h =
-    cond_both (e.found == e.expected) _ _ (λ (m : LocalState). FoundSmall m.resolution) (λ _. tt) (λ _. tt)
-found_small s es l e LookNumber a f w h = small_kept l.resolution h
-found_small s es l e LookSelf a f w h =
-    cond_both (e.found == given l.phase) _ _ (λ (m : LocalState). FoundSmall m.resolution) (λ _. h) (λ _. h)
-found_small s es l e ToValidating a f w h =
-    cond_both (e.found == 1) _ _ (λ (m : LocalState). FoundSmall m.resolution) (λ _. h) (λ _. h)
-found_small s es l e Pause a f w h =
-    cond_both (e.found == 1) _ _ (λ (m : LocalState). FoundSmall m.resolution) (λ _. h) (λ _. h)
-found_small s es l e Resume a f w h =
-    cond_both (e.found == 2) _ _ (λ (m : LocalState). FoundSmall m.resolution) (λ _. h) (λ _. h)
-found_small s es l e Release a f w h = tt
-found_small s es l e k a f w h = h
+found_small s es l e k a f w h = unlooked FoundSmall s l e k refl tt h
 
 pub are_small : (s : Shape) (es : List Event) → Rises s.manager → Core s es → AreSmall s es
 are_small s [] g core = record { words = λ a b. omega arith; own = λ c. omega arith; found = λ c. tt }
@@ -105,7 +88,7 @@ are_small s (e ∷ es) g core = next (are_small s es g core.0)
   where
     next : AreSmall s es → AreSmall s (e ∷ es)
     next h = record {
-      words = λ a b. words a b (ranks s es e a (step s es e core) b);
+      words = λ a b. words a b (change s es e (RankWord a) (step s es e core) b);
       own = callers s es e (λ c l. l.rank ≤ MAX_RANK)
           (own_small s (local s es e.caller) e e.kind g core.1.allowed (h.own e.caller)
           (stamp_how s (local s es e.caller) e e.kind core.1.allowed)) (λ c _. h.own c);
@@ -115,11 +98,11 @@ are_small s (e ∷ es) g core = next (are_small s es g core.0)
           (λ c _. h.found c);
     }
       where
-        words : (a : ℕ) → a < s.callers * s.attempts → Same s es e (RankWord a) ⊎ RankPut s es e a →
+        words : (a : ℕ) → a < s.callers * s.attempts → Same s es e (RankWord a) ⊎ Changed s es e (RankWord a) →
             word s (e ∷ es) (RankWord a) ≤ MAX_RANK
         words a b (inl x) = let y = h.words a b in omega arith
         words a b (inr x) =
-            let y = rank_stored s (local s es e.caller) e e.kind x.kind g (h.own e.caller) core.1.allowed in
+            let y = rank_stored s (local s es e.caller) e e.kind x.how.kind g (h.own e.caller) core.1.allowed in
             let z = x.now in omega arith
 
 -- a rank that a caller has found is small

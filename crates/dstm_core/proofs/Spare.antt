@@ -4,13 +4,14 @@ use Rattle.std.proofs.lemmas.Bool.{cond_both}
 use Rattle.dstm_core.specs.Events.{Event}
 use Rattle.dstm_core.specs.Rules.{after}
 use Rattle.dstm_core.specs.Runs.{local}
-use Rattle.dstm_core.specs.State.{LocalState, given}
+use Rattle.dstm_core.specs.State.{LocalState}
 use Rattle.dstm_core.specs.declared.event.Kind.{Kind}
-use Rattle.dstm_core.specs.declared.event.Kind.TheVariants.{Begin, Install, LookSelf, Pause, Resume, Validating as ToValidating}
+use Rattle.dstm_core.specs.declared.event.Kind.TheVariants.{Begin, Install}
 use Rattle.dstm_core.specs.declared.shape.Shape.{Shape}
 use Rattle.dstm_core.specs.declared.state.Write.{Write}
 use Rattle.dstm_core.proofs.Begun.{begun_how}
 use Rattle.dstm_core.proofs.Static.{callers, local_own}
+use Rattle.std.proofs.lemmas.Bool.Decides.{nat_tests}
 
 -- the locators installed before the attempt's first
 abbrev Same : LocalState → LocalState → Type 0
@@ -21,11 +22,7 @@ same_writes s l e Begin n = absurd (n refl)
 same_writes s l e Install n =
     cond_both (e.found == e.expected) _ _ (Same l)
     (λ _. omega (arith, length-append {A = Write} l.writes)) (λ _. refl)
-same_writes s l e LookSelf n = cond_both (e.found == given l.phase) _ _ (Same l) (λ _. refl) (λ _. refl)
-same_writes s l e ToValidating n = cond_both (e.found == 1) _ _ (Same l) (λ _. refl) (λ _. refl)
-same_writes s l e Pause n = cond_both (e.found == 1) _ _ (Same l) (λ _. refl) (λ _. refl)
-same_writes s l e Resume n = cond_both (e.found == 2) _ _ (Same l) (λ _. refl) (λ _. refl)
-same_writes s l e k n = refl
+same_writes s l e k n = grind (arith, nat_tests)
 
 -- in an attempt, of a caller that had begun b attempts and installed i locators before it
 record Uses (b i : ℕ) (l : LocalState) : Type 0 where

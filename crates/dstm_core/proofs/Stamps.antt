@@ -16,7 +16,7 @@ use Rattle.dstm_core.specs.declared.shape.Shape.{Shape}
 use Rattle.dstm_core.specs.declared.state.Phase.{Phase}
 use Rattle.dstm_core.specs.declared.state.Phase.TheVariants.{Outside, Running, Putting}
 use Rattle.dstm_core.proofs.Basic.{own_place}
-use Rattle.dstm_core.proofs.Columns.{RankPut, Same, Step, caller_of, in_table, ranks, stamps, step}
+use Rattle.dstm_core.proofs.Columns.{Aims, Same, Step, caller_of, in_table, stamps, stays, step}
 use Rattle.dstm_core.proofs.Places.{put_at}
 use Rattle.dstm_core.proofs.Static.{callers, running, static}
 use Rattle.dstm_core.proofs.Statuses.{begun_up, next_number}
@@ -304,32 +304,31 @@ ready s (e ∷ es) core c q =
         record { outside = (out x.outside).0; number = ap is_some n ∙ x.number; begun = rw be x.begun }
 
 -- a Rank is of an attempt of its caller
-rank_owner : (s : Shape) (es : List Event) (e : Event) (a : ℕ) → Step s es e → RankPut s es e a →
+rank_owner : (s : Shape) (es : List Event) (e : Event) (a : ℕ) → Step s es e →
+    Aims e Rank a (rank_of (local s es e.caller).phase s (local s es e.caller)) →
     a / s.attempts ≡ e.caller
 rank_owner s es e a p r = go (rank_where s (local s es e.caller) e e.kind r.kind p.fits.allowed).0
   where
     go : RankWhere s (local s es e.caller) → a / s.attempts ≡ e.caller
     go (inl x) =
         let is : a ≡ e.caller * s.attempts + (local s es e.caller).begun =
-        r.attempt ∙ ap (λ q. rank_of q s (local s es e.caller)) x.outside
+        r.number ∙ ap (λ q. rank_of q s (local s es e.caller)) x.outside
         ∙ next_number s e.caller (local s es e.caller) p.own x.number in
         ap (λ n. n / s.attempts) is ∙ caller_of e.caller s.attempts (local s es e.caller).begun x.begun
     go (inr x) =
-        ap (λ n. n / s.attempts) (r.attempt ∙ ap (λ q. rank_of q s (local s es e.caller)) x)
+        ap (λ n. n / s.attempts) (r.number ∙ ap (λ q. rank_of q s (local s es e.caller)) x)
         ∙ (own_place s e.caller (local s es e.caller) p.own p.fits.caller (λ z. cc)).1
 
 -- the ranks of a caller's attempts stay at an event of another, and at one of another kind
 rank_stays : (s : Shape) (es : List Event) (e : Event) (c i : ℕ) → Step s es e → c < s.callers →
     i < s.attempts → (e.caller ≢ c) ⊎ (e.kind ≢ Rank) → Same s es e (RankWord (c * s.attempts + i))
 rank_stays s es e c i p b lt d =
-    go (ranks s es e (c * s.attempts + i) p (in_table c s.attempts i s.callers b lt)) d
+    stays s es e (RankWord (c * s.attempts + i)) p (in_table c s.attempts i s.callers b lt) (λ r. go r d)
   where
-    go : Same s es e (RankWord (c * s.attempts + i)) ⊎ RankPut s es e (c * s.attempts + i) →
-        (e.caller ≢ c) ⊎ (e.kind ≢ Rank) → Same s es e (RankWord (c * s.attempts + i))
-    go (inl x) d = x
-    go (inr r) (inl d) =
-        absurd (d (sym (rank_owner s es e (c * s.attempts + i) p r) ∙ caller_of c s.attempts i lt))
-    go (inr r) (inr d) = absurd (d r.kind)
+    go : Aims e Rank (c * s.attempts + i) (rank_of (local s es e.caller).phase s (local s es e.caller)) →
+        (e.caller ≢ c) ⊎ (e.kind ≢ Rank) → ⊥
+    go r (inl d) = d (sym (rank_owner s es e (c * s.attempts + i) p r) ∙ caller_of c s.attempts i lt)
+    go r (inr d) = d r.kind
 
 -- the rank word of an attempt under way holds its rank, and so does that of an attempt whose rank was put
 pub record Stored (s : Shape) (es : List Event) (c : ℕ) (l : LocalState) : Type 0 where

@@ -10,10 +10,11 @@ use Rattle.dstm_core.specs.Events.{Event}
 use Rattle.dstm_core.specs.declared.state.Resolution.{Resolution}
 use Rattle.dstm_core.specs.declared.event.Kind.{Kind}
 use Rattle.dstm_core.specs.declared.state.Write.{Write}
-use Rattle.dstm_core.specs.State.{LocalState, or_zero, next_locator, given, version, is_resolved, or_unresolved, res, keep_resolved, or_write}
+use Rattle.dstm_core.specs.State.{LocalState, or_zero, next_locator, given, version, or_unresolved, res, or_write}
 use Rattle.dstm_core.specs.Rules.{leave, install, after, AllowedAs}
 use Rattle.dstm_core.specs.Runs.{local, Core, core as machine}
 use Rattle.dstm_machines.proofs.Runs as runs
+use Rattle.dstm_core.proofs.Untouched.{unlooked}
 
 -- a resolution is of an object of the shape
 abbrev pub InShape : Shape → Option Resolution → Type 0
@@ -43,21 +44,35 @@ length-snoc ws w = omega (arith, length-append {A = Write} ws (w ∷ []))
 abbrev pub Inside : ℕ → Option ℕ → ℕ → Type 0
 Inside c number begun = (number ≡ Some c) × (0 < begun)
 
--- what holds of the parts of a caller's state: its number, phase, attempts begun, locators installed, resolution,
--- what the first unused locator holds, the writes, how many are put, and whether the next one's high part is
-pub record StaticBy (s : Shape) (c : ℕ) (n : Option ℕ) (p : Phase) (b i : ℕ) (r : Option Resolution)
-    (o d : Option ℕ) (ws : List Write) (k : ℕ) (h : Bool) : Type 0 where
+-- of a caller's number, its phase, and the attempts that it has begun
+pub record Who (s : Shape) (c : ℕ) (n : Option ℕ) (p : Phase) (b : ℕ) : Type 0 where
   pub number : (n ≡ None) ⊎ (n ≡ Some c)
   pub active : (p ≡ Outside) ⊎ Inside c n b
   pub begun : b ≤ s.attempts
+
+-- of the locators that it has installed, and what the first unused one holds
+pub record Holds (s : Shape) (i : ℕ) (o d : Option ℕ) : Type 0 where
   pub installed : i ≤ s.locators
-  pub object : InShape s r
   pub held : is_some o ≡ true → i < s.locators
   pub held_old : is_some d ≡ true → i < s.locators
+
+-- of its writes, how many are put, and whether the next one's high part is
+pub record Puts (s : Shape) (c i : ℕ) (ws : List Write) (k : ℕ) (h : Bool) : Type 0 where
   pub count : length ws ≤ i
   pub written : k ≤ length ws
   pub high : h ≡ true → k < length ws
   pub numbered : Numbered (c * s.locators + (i - length ws)) ws
+
+-- of all parts of its state: a record over them, so that an event leaves it where it leaves them
+pub record StaticBy (s : Shape) (c : ℕ) (n : Option ℕ) (p : Phase) (b i : ℕ) (r : Option Resolution)
+    (o d : Option ℕ) (ws : List Write) (k : ℕ) (h : Bool) : Type 0 where
+  pub who : Who s c n p b
+  pub open who use *
+  pub object : InShape s r
+  pub holds : Holds s i o d
+  pub open holds use *
+  pub puts : Puts s c i ws k h
+  pub open puts use *
 
 -- what holds of a caller's state alone
 abbrev pub Static : Shape → ℕ → LocalState → Type 0
@@ -71,10 +86,6 @@ res-in_shape s l h i = go l.resolution h i
     go : (r : Option Resolution) → InShape s r → is_some r ≡ true → (or_unresolved r).object < s.objects
     go None h i = absurd (cc)
     go (Some r) h i = h
-
-kept_resolved : (s : Shape) (r : Option Resolution) → InShape s r → InShape s (keep_resolved r)
-kept_resolved s None h = tt
-kept_resolved s (Some r) h = cond_both (is_resolved r) (Some r) None (InShape s) (λ _. h) (λ _. tt)
 
 -- the guard of a look at a resolution says that there is one
 pub has_owner : (r : Option Resolution) → is_some (or_unresolved r).owner ≡ true → is_some r ≡ true
@@ -109,17 +120,10 @@ running s c l t h = go t.active
 in_phase : (s : Shape) (c : ℕ) (l : LocalState) (p : Phase) → Static s c l →
     (p ≡ Outside) ⊎ Inside c l.number l.begun → Static s c (record l { phase = p })
 in_phase s c l p t h = record {
-  number = t.number;
-  active = h;
-  begun = t.begun;
-  installed = t.installed;
+  who = record { number = t.number; active = h; begun = t.begun };
   object = t.object;
-  held = t.held;
-  held_old = t.held_old;
-  count = t.count;
-  written = t.written;
-  high = t.high;
-  numbered = t.numbered;
+  holds = t.holds;
+  puts = t.puts;
 }
 
 left : (s : Shape) (c : ℕ) (l : LocalState) → Static s c l → Static s c (leave l)
@@ -132,19 +136,7 @@ entered s c l p t h = in_phase s c l p t (inr (running s c l t h))
 -- the same state with another resolution
 with_resolution : (s : Shape) (c : ℕ) (l : LocalState) (r : Option Resolution) → Static s c l → InShape s r →
     Static s c (record l { resolution = r })
-with_resolution s c l r t h = record {
-  number = t.number;
-  active = t.active;
-  begun = t.begun;
-  installed = t.installed;
-  object = h;
-  held = t.held;
-  held_old = t.held_old;
-  count = t.count;
-  written = t.written;
-  high = t.high;
-  numbered = t.numbered;
-}
+with_resolution s c l r t h = record { who = t.who; object = h; holds = t.holds; puts = t.puts }
 
 -- more was found out of the object that is being resolved
 looked : (s : Shape) (c : ℕ) (l : LocalState) (r : Resolution) → Static s c l → is_some l.resolution ≡ true →
@@ -166,46 +158,30 @@ installs s c l e t a =
     let own : or_zero l.number * s.locators + l.installed ≡ c * s.locators + l.installed =
     ap (λ n. n * s.locators + l.installed) number in
     record {
-      number = t.number;
-      active = t.active;
-      begun = t.begun;
-      installed = omega arith;
+      who = t.who;
       object = tt;
-      held = λ h. absurd (cc);
-      held_old = λ h. absurd (cc);
-      count = rw long (omega arith);
-      written = let written = t.written in rw long (omega arith);
-      high = λ h. let high = t.high h in rw long (omega arith);
-      numbered = rw base (numbered-snoc _ l.writes w t.numbered (omega arith));
+      holds = record { installed = omega arith; held = λ h. absurd (cc); held_old = λ h. absurd (cc) };
+      puts = record {
+        count = rw long (omega arith);
+        written = let written = t.written in rw long (omega arith);
+        high = λ h. let high = t.high h in rw long (omega arith);
+        numbered = rw base (numbered-snoc _ l.writes w t.numbered (omega arith));
+      };
     }
 
 pub static_step : (s : Shape) (c : ℕ) (l : LocalState) (e : Event) (k : Kind) → Static s c l →
     (k ≡ Enrol → e.found ≡ c) → AllowedAs k s l e → Static s c (after k s l e)
 static_step s c l e Enrol t n a = record {
-  number = inr (ap Some (n refl));
-  active = grind (arith);
-  begun = t.begun;
-  installed = t.installed;
+  who = record { number = inr (ap Some (n refl)); active = grind (arith); begun = t.begun };
   object = t.object;
-  held = t.held;
-  held_old = t.held_old;
-  count = t.count;
-  written = t.written;
-  high = t.high;
-  numbered = t.numbered;
+  holds = t.holds;
+  puts = t.puts;
 }
 static_step s c l e Begin t n a = record {
-  number = t.number;
-  active = inr (grind (arith), omega arith);
-  begun = omega arith;
-  installed = t.installed;
+  who = record { number = t.number; active = inr (grind (arith), omega arith); begun = omega arith };
   object = tt;
-  held = t.held;
-  held_old = t.held_old;
-  count = omega arith;
-  written = omega arith;
-  high = λ h. absurd (cc);
-  numbered = tt;
+  holds = t.holds;
+  puts = record { count = omega arith; written = omega arith; high = λ h. absurd (cc); numbered = tt };
 }
 static_step s c l e LookObj t n a = with_resolution s c l _ t a.3
 static_step s c l e LookOwner t n a = looked s c l _ t (has_word l.resolution a.2.2) refl
@@ -216,63 +192,35 @@ static_step s c l e LookHigh t n a = looked s c l _ t (has_version l.resolution 
 static_step s c l e LookNew t n a = looked s c l _ t (has_high l.resolution a.2.2) refl
 static_step s c l e Kill t n a = looked s c l _ t (has_owner l.resolution a.2.2) refl
 static_step s c l e PutOwner t n a = record {
-  number = t.number;
-  active = t.active;
-  begun = t.begun;
-  installed = t.installed;
+  who = t.who;
   object = t.object;
-  held = λ _. a.2.2;
-  held_old = t.held_old;
-  count = t.count;
-  written = t.written;
-  high = t.high;
-  numbered = t.numbered;
+  holds = record { installed = t.installed; held = λ _. a.2.2; held_old = t.held_old };
+  puts = t.puts;
 }
 static_step s c l e PutOld t n a = record {
-  number = t.number;
-  active = t.active;
-  begun = t.begun;
-  installed = t.installed;
+  who = t.who;
   object = t.object;
-  held = t.held;
-  held_old = λ _. t.held (ap is_some a.2.4);
-  count = t.count;
-  written = t.written;
-  high = t.high;
-  numbered = t.numbered;
+  holds = record { installed = t.installed; held = t.held; held_old = λ _. t.held (ap is_some a.2.4) };
+  puts = t.puts;
 }
 static_step s c l e Install t n a =
     cond_both (e.found == e.expected) _ _ (Static s c) (λ _. installs s c l e t a)
     (λ _. with_resolution s c l None t tt)
-static_step s c l e LookNumber t n a = with_resolution s c l _ t (kept_resolved s l.resolution t.object)
+static_step s c l e LookNumber t n a = with_resolution s c l _ t (unlooked (InShape s) s l e LookNumber refl tt t.object)
 static_step s c l e LookSelf t n a =
     cond_both (e.found == given l.phase) _ _ (Static s c) (λ _. t) (λ _. left s c l t)
 static_step s c l e Release t n a = with_resolution s c l None t tt
 static_step s c l e PutHigh t n a = record {
-  number = t.number;
-  active = inr (running s c l t (λ h. grind arith));
-  begun = t.begun;
-  installed = t.installed;
+  who = record { number = t.number; active = inr (running s c l t (λ h. grind arith)); begun = t.begun };
   object = t.object;
-  held = t.held;
-  held_old = t.held_old;
-  count = t.count;
-  written = t.written;
-  high = λ _. a.2.2;
-  numbered = t.numbered;
+  holds = t.holds;
+  puts = record { count = t.count; written = t.written; high = λ _. a.2.2; numbered = t.numbered };
 }
 static_step s c l e PutNew t n a = record {
-  number = t.number;
-  active = inr (running s c l t (λ h. grind arith));
-  begun = t.begun;
-  installed = t.installed;
+  who = record { number = t.number; active = inr (running s c l t (λ h. grind arith)); begun = t.begun };
   object = t.object;
-  held = t.held;
-  held_old = t.held_old;
-  count = t.count;
-  written = omega arith;
-  high = λ h. absurd (cc);
-  numbered = t.numbered;
+  holds = t.holds;
+  puts = record { count = t.count; written = omega arith; high = λ h. absurd (cc); numbered = t.numbered };
 }
 static_step s c l e ToValidating t n a = cond_both (e.found == 1) _ _ (Static s c)
     (λ _. entered s c l Validating t (λ h. grind arith)) (λ _. left s c l t)
@@ -288,17 +236,10 @@ static_step s c l e k t n a = t
 -- each caller's state, in a core run
 pub static : (s : Shape) (es : List Event) → Core s es → (c : ℕ) → Static s c (local s es c)
 static s [] core c = record {
-  number = inl refl;
-  active = inl refl;
-  begun = omega arith;
-  installed = omega arith;
+  who = record { number = inl refl; active = inl refl; begun = omega arith };
   object = tt;
-  held = λ h. absurd (cc);
-  held_old = λ h. absurd (cc);
-  count = omega arith;
-  written = omega arith;
-  high = λ h. absurd (cc);
-  numbered = tt;
+  holds = record { installed = omega arith; held = λ h. absurd (cc); held_old = λ h. absurd (cc) };
+  puts = record { count = omega arith; written = omega arith; high = λ h. absurd (cc); numbered = tt };
 }
 static s (e ∷ es) core c = cond_both (e.caller == c) _ _ (Static s c)
     (λ same. let P : ℕ → Type 0 = λ n. Static s n (after e.kind s (local s es n) e) in
@@ -309,39 +250,11 @@ static s (e ∷ es) core c = cond_both (e.caller == c) _ _ (Static s c)
 
 -- attempts and locators are only ever added
 pub begun_step : (s : Shape) (l : LocalState) (e : Event) (k : Kind) → l.begun ≤ (after k s l e).begun
-begun_step s l e Begin = omega arith
-begun_step s l e Install =
-    cond_both (e.found == e.expected) _ _ (λ (m : LocalState). l.begun ≤ m.begun) (λ _. omega arith)
-    (λ _. omega arith)
-begun_step s l e LookSelf =
-    cond_both (e.found == given l.phase) _ _ (λ (m : LocalState). l.begun ≤ m.begun) (λ _. omega arith)
-    (λ _. omega arith)
-begun_step s l e ToValidating =
-    cond_both (e.found == 1) _ _ (λ (m : LocalState). l.begun ≤ m.begun) (λ _. omega arith) (λ _. omega arith)
-begun_step s l e Pause =
-    cond_both (e.found == 1) _ _ (λ (m : LocalState). l.begun ≤ m.begun) (λ _. omega arith) (λ _. omega arith)
-begun_step s l e Resume =
-    cond_both (e.found == 2) _ _ (λ (m : LocalState). l.begun ≤ m.begun) (λ _. omega arith) (λ _. omega arith)
-begun_step s l e k = omega arith
+begun_step s l e k = grind (arith, nat_tests)
 
 pub installed_step : (s : Shape) (l : LocalState) (e : Event) (k : Kind) →
     l.installed ≤ (after k s l e).installed
-installed_step s l e Install =
-    cond_both (e.found == e.expected) _ _ (λ (m : LocalState). l.installed ≤ m.installed) (λ _. omega arith)
-    (λ _. omega arith)
-installed_step s l e LookSelf =
-    cond_both (e.found == given l.phase) _ _ (λ (m : LocalState). l.installed ≤ m.installed) (λ _. omega arith)
-    (λ _. omega arith)
-installed_step s l e ToValidating =
-    cond_both (e.found == 1) _ _ (λ (m : LocalState). l.installed ≤ m.installed) (λ _. omega arith)
-    (λ _. omega arith)
-installed_step s l e Pause =
-    cond_both (e.found == 1) _ _ (λ (m : LocalState). l.installed ≤ m.installed) (λ _. omega arith)
-    (λ _. omega arith)
-installed_step s l e Resume =
-    cond_both (e.found == 2) _ _ (λ (m : LocalState). l.installed ≤ m.installed) (λ _. omega arith)
-    (λ _. omega arith)
-installed_step s l e k = omega arith
+installed_step s l e k = grind (arith, nat_tests)
 
 pub begun_more : (s : Shape) (es : List Event) (e : Event) (c : ℕ) →
     (local s es c).begun ≤ (local s (e ∷ es) c).begun
@@ -374,38 +287,22 @@ callers = runs.callers machine
 pub installed_how : (s : Shape) (l : LocalState) (e : Event) (k : Kind) →
     ((after k s l e).installed ≡ l.installed)
     ⊎ ((k ≡ Install) × (e.found ≡ e.expected) × ((after k s l e).installed ≡ l.installed + 1))
-installed_how s l e Install = grind (arith, nat_tests)
-installed_how s l e LookSelf =
-    inl (cond_both (e.found == given l.phase) _ _ (λ (m : LocalState). m.installed ≡ l.installed) (λ _. refl)
-    (λ _. refl))
-installed_how s l e ToValidating =
-    inl (cond_both (e.found == 1) _ _ (λ (m : LocalState). m.installed ≡ l.installed) (λ _. refl) (λ _. refl))
-installed_how s l e Pause =
-    inl (cond_both (e.found == 1) _ _ (λ (m : LocalState). m.installed ≡ l.installed) (λ _. refl) (λ _. refl))
-installed_how s l e Resume =
-    inl (cond_both (e.found == 2) _ _ (λ (m : LocalState). m.installed ≡ l.installed) (λ _. refl) (λ _. refl))
-installed_how s l e k = inl refl
+installed_how s l e k = grind (arith, nat_tests)
 
--- what the first unused locator holds stays, but at a put on it
-pub held_how : (s : Shape) (l : LocalState) (e : Event) (k : Kind) (a : ℕ) → k ≢ PutOwner →
-    (after k s l e).held_owner ≡ Some a → (l.held_owner ≡ Some a) × ((after k s l e).installed ≡ l.installed)
-held_how s l e PutOwner a h q = absurd (h refl)
-held_how s l e Install a h q = grind (arith, nat_tests)
-held_how s l e LookSelf a h q = grind (arith, nat_tests)
-held_how s l e ToValidating a h q = grind (arith, nat_tests)
-held_how s l e Pause a h q = grind (arith, nat_tests)
-held_how s l e Resume a h q = grind (arith, nat_tests)
-held_how s l e k a h q = (q, refl)
+-- what the first unused locator holds was put by this event, or is what it held
+abbrev pub HeldHow : Shape → LocalState → Event → Kind → Kind → Option ℕ → ℕ → Type 0
+HeldHow s l e k put held a = ((after k s l e).installed ≡ l.installed)
+    × (((k ≡ put) × (e.put ≡ a)) ⊎ ((k ≢ put) × (held ≡ Some a)))
 
-pub held_old_how : (s : Shape) (l : LocalState) (e : Event) (k : Kind) (a : ℕ) → k ≢ PutOld →
-    (after k s l e).held_old ≡ Some a → (l.held_old ≡ Some a) × ((after k s l e).installed ≡ l.installed)
-held_old_how s l e PutOld a h q = absurd (h refl)
-held_old_how s l e Install a h q = grind (arith, nat_tests)
-held_old_how s l e LookSelf a h q = grind (arith, nat_tests)
-held_old_how s l e ToValidating a h q = grind (arith, nat_tests)
-held_old_how s l e Pause a h q = grind (arith, nat_tests)
-held_old_how s l e Resume a h q = grind (arith, nat_tests)
-held_old_how s l e k a h q = (q, refl)
+pub held_how : (s : Shape) (l : LocalState) (e : Event) (k : Kind) (a : ℕ) →
+    (after k s l e).held_owner ≡ Some a → HeldHow s l e k PutOwner l.held_owner a
+held_how s l e PutOwner a q = (refl, inl (refl, cc))
+held_how s l e k a q = (grind (arith, nat_tests), inr ((λ z. cc), grind (arith, nat_tests)))
+
+pub held_old_how : (s : Shape) (l : LocalState) (e : Event) (k : Kind) (a : ℕ) →
+    (after k s l e).held_old ≡ Some a → HeldHow s l e k PutOld l.held_old a
+held_old_how s l e PutOld a q = (refl, inl (refl, cc))
+held_old_how s l e k a q = (grind (arith, nat_tests), inr ((λ z. cc), grind (arith, nat_tests)))
 
 pub installed_up : (s : Shape) (l : LocalState) (e : Event) (k : Kind) → k ≡ Install → e.found ≡ e.expected →
     (after k s l e).installed ≡ l.installed + 1

@@ -14,7 +14,7 @@ use Rattle.dstm_core.specs.Runs.{local, Core}
 use Rattle.dstm_core.specs.Words.{place}
 use Rattle.dstm_core.proofs.Places.{put_at}
 use Rattle.dstm_core.proofs.Static.{Static, static, begun_more, local_own, callers}
-use Rattle.dstm_core.proofs.Columns.{step, caller_of, index_of, in_table, own_in, Step, Begins, StatusMove, begins, moves, kills, StatusMoved, statuses}
+use Rattle.dstm_core.proofs.Columns.{Begins, Changed, StatusMove, Step, begins, caller_of, change, in_table, index_of, kills, moves, own_in, step}
 use Rattle.dstm_core.specs.Traces.{word}
 use Rattle.dstm_core.proofs.Basic.{own_place}
 
@@ -47,7 +47,7 @@ unbegun_step : (s : Shape) (es : List Event) (e : Event) → Step s es e → (c 
     i < s.attempts → (local s (e ∷ es) c).begun ≤ i → word s es (StatusWord (c * s.attempts + i)) ≡ 0 →
     word s (e ∷ es) (StatusWord (c * s.attempts + i)) ≡ 0
 unbegun_step s es e st c i p q h before =
-    go (statuses s es e (c * s.attempts + i) st (in_table c s.attempts i s.callers p q))
+    go (change s es e (StatusWord (c * s.attempts + i)) st (in_table c s.attempts i s.callers p q))
   where
     beginning : Begins s (local s es e.caller) e (c * s.attempts + i) → ⊥
     beginning b = let may = begin_may s (local s es e.caller) e e.kind b.kind st.fits.allowed in
@@ -72,7 +72,7 @@ unbegun_step s es e st c i p q h before =
     moved (kills k) w = let f = k.found in let b = before in absurd (omega arith)
 
     go : (word s (e ∷ es) (StatusWord (c * s.attempts + i)) ≡ word s es (StatusWord (c * s.attempts + i)))
-        ⊎ StatusMoved s es e (c * s.attempts + i) → word s (e ∷ es) (StatusWord (c * s.attempts + i)) ≡ 0
+        ⊎ Changed s es e (StatusWord (c * s.attempts + i)) → word s (e ∷ es) (StatusWord (c * s.attempts + i)) ≡ 0
     go (inl x) = x ∙ before
     go (inr x) = moved x.how x.was
 
@@ -87,7 +87,7 @@ unbegun s (e ∷ es) core c i p q h = let m = begun_more s es e c in
 pub finished_step : (s : Shape) (es : List Event) (e : Event) (a : ℕ) → Core s (e ∷ es) →
     a < s.callers * s.attempts → 4 ≤ word s es (StatusWord a) →
     word s (e ∷ es) (StatusWord a) ≡ word s es (StatusWord a)
-finished_step s es e a core h f = go (statuses s es e a st h)
+finished_step s es e a core h f = go (change s es e (StatusWord a) st h)
   where
     st : Step s es e
     st = step s es e core
@@ -103,7 +103,7 @@ finished_step s es e a core h f = go (statuses s es e a st h)
         omega arith
     moved (kills k) w = let q = k.found in omega arith
 
-    go : (word s (e ∷ es) (StatusWord a) ≡ word s es (StatusWord a)) ⊎ StatusMoved s es e a →
+    go : (word s (e ∷ es) (StatusWord a) ≡ word s es (StatusWord a)) ⊎ Changed s es e (StatusWord a) →
         word s (e ∷ es) (StatusWord a) ≡ word s es (StatusWord a)
     go (inl x) = x
     go (inr x) = absurd (moved x.how x.was)
@@ -190,7 +190,7 @@ pub own_status_step : (s : Shape) (es : List Event) (e : Event) → Core s (e �
     (word s (e ∷ es) (StatusWord (own_attempt s (local s es c))) ≡ given (local s es c).phase)
     ⊎ (word s (e ∷ es) (StatusWord (own_attempt s (local s es c))) ≡ 5)
 own_status_step s es e core c lt out quiet before =
-    go (statuses s es e (own_attempt s (local s es c)) st (own_in s c (local s es c) t lt out))
+    go (change s es e (StatusWord (own_attempt s (local s es c))) st (own_in s c (local s es c) t lt out))
   where
     st : Step s es e
     st = step s es e core
@@ -226,7 +226,7 @@ own_status_step s es e core c lt out quiet before =
     moved (kills k) w = inr (w ∙ k.put)
 
     go : (word s (e ∷ es) (StatusWord (own_attempt s (local s es c))) ≡ word s es
-        (StatusWord (own_attempt s (local s es c)))) ⊎ StatusMoved s es e (own_attempt s (local s es c)) →
+        (StatusWord (own_attempt s (local s es c)))) ⊎ Changed s es e (StatusWord (own_attempt s (local s es c))) →
         (word s (e ∷ es) (StatusWord (own_attempt s (local s es c))) ≡ given (local s es c).phase)
         ⊎ (word s (e ∷ es) (StatusWord (own_attempt s (local s es c))) ≡ 5)
     go (inl x) = rw x before

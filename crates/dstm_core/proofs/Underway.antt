@@ -19,7 +19,7 @@ use Rattle.dstm_core.specs.declared.state.Phase.{Phase}
 use Rattle.dstm_core.specs.declared.state.Phase.TheVariants.{Outside, Running, Paused, Putting, Validating}
 use Rattle.dstm_core.proofs.Basic.{own_place}
 use Rattle.dstm_core.proofs.Begun.{begun_how}
-use Rattle.dstm_core.proofs.Columns.{Begun, Kills, Moves, StatusMove, StatusMoved, Step, begins, in_table, kills, moves, own_in, statuses, step}
+use Rattle.dstm_core.proofs.Columns.{Begun, Changed, Kills, Moves, StatusMove, Step, begins, change, in_table, kills, moves, own_in, step}
 use Rattle.dstm_core.proofs.Places.{put_at}
 use Rattle.dstm_core.proofs.Static.{callers, local_other, local_own, static}
 use Rattle.dstm_core.proofs.Statuses.{OwnStatus, PhaseHow, at_begin, at_move, at_none, begin_may, begin_put, finished_step, given_live, own_differs, own_status, phase_how}
@@ -332,7 +332,7 @@ status_or_killed s es e c core b h i before = go (own_status s (e ∷ es) core c
     at_word : word s (e ∷ es) (StatusWord (own_attempt s (local s es c))) ≡ 5 →
         (word s (e ∷ es) (StatusWord (own_attempt s (local s es c))) ≡ word s es (StatusWord (own_attempt s
         (local s es c))))
-        ⊎ StatusMoved s es e (own_attempt s (local s es c)) →
+        ⊎ Changed s es e (StatusWord (own_attempt s (local s es c))) →
         Kills s (local s es e.caller) e (own_attempt s (local s es c))
         × (word s es (StatusWord (own_attempt s (local s es c))) ≡ e.found)
     at_word n (inl x) = absurd (let g = (given_live (local s es c).phase h).1 in let y = before in omega arith)
@@ -345,5 +345,5 @@ status_or_killed s es e c core b h i before = go (own_status s (e ∷ es) core c
     go (inl x) = inl x
     go (inr x) = inr (at_word (ap (λ n. word s (e ∷ es) (StatusWord n)) (sym (own_same s es e c core b h i))
         ∙ x)
-        (statuses s es e (own_attempt s (local s es c)) st (own_in s c (local s es c)
+        (change s es e (StatusWord (own_attempt s (local s es c))) st (own_in s c (local s es c)
         (static s es core.0 c) b h)))

@@ -1,19 +1,19 @@
 -- The prefix at a sight's place holds the entry of each Commit that stands before the attempt's Begin.
-use Rattle.std.proofs.Common.{◌*◌, ◌++◌, ◌<◌, ◌==◌, ◌∙◌, ◌∷◌, ◌≡◌, ◌≢◌, ◌⊎◌, Bool, List, Some, [], ap, append_assoc, arith, inl, inr, refl, subst, sym, true, ℕ}
-use Rattle.std.proofs.lemmas.Bool.{and_from, cond_both, eq-eqb}
+use Rattle.std.proofs.Common.{◌*◌, ◌++◌, ◌<◌, ◌∙◌, ◌∷◌, ◌≡◌, ◌≢◌, ◌⊎◌, Bool, List, Some, [], ap, append_assoc, arith, inl, inr, refl, subst, sym, true, ℕ}
+use Rattle.std.proofs.lemmas.Bool.{and_from, eq-eqb}
 use Rattle.std.specs.List.{Contains}
 use Rattle.std.specs.Prelude.{reverse}
 use Rattle.dstm_model.specs.declared.value.Val.{Val}
 use Rattle.dstm_core.specs.Histories.{commits_at, entry_at, entry_of, history, is_draw, pass_place, prefix_at, will_of}
 use Rattle.dstm_core.specs.Rules.{AllowedAs, after}
 use Rattle.dstm_core.specs.Runs.{Core, local}
-use Rattle.dstm_core.specs.State.{LocalState, given, own_attempt}
+use Rattle.dstm_core.specs.State.{LocalState, own_attempt}
 use Rattle.dstm_core.specs.Traces.{IsPastOf, word}
 use Rattle.dstm_core.specs.Words.{place}
 use Rattle.dstm_core.specs.Words.Word.{StatusWord}
 use Rattle.dstm_core.specs.Events.{Event}
 use Rattle.dstm_core.specs.declared.event.Kind.{Kind}
-use Rattle.dstm_core.specs.declared.event.Kind.TheVariants.{Begin, Check, Commit, Draw, Install, LookSelf, Pause, PutHigh, PutNew, Quit, Resume, Validating as ToValidating}
+use Rattle.dstm_core.specs.declared.event.Kind.TheVariants.{Check, Commit, Draw, Quit}
 use Rattle.dstm_core.specs.declared.shape.Shape.{Shape}
 use Rattle.dstm_core.specs.declared.state.Phase.TheVariants.{Drawn, Outside, Running}
 use Rattle.dstm_core.proofs.Columns.{own_in}
@@ -30,6 +30,7 @@ use Rattle.dstm_opacity.proofs.Numbers.{pass_past}
 use Rattle.dstm_opacity.proofs.Passes.{check_after}
 use Rattle.dstm_opacity.proofs.SinceDraw.{drawn_may}
 use Rattle.dstm_opacity.specs.Laws.{HoldCommitsBefore, IsBeginOf, IsCommit}
+use Rattle.std.proofs.lemmas.Bool.Decides.{nat_tests}
 
 -- the Draw of an attempt that has drawn and is under way, whose reads and writes have stayed since
 pub record DrawOf (s : Shape) (es : List Event) (l : LocalState) : Type 0 where
@@ -44,28 +45,7 @@ pub record DrawOf (s : Shape) (es : List Event) (l : LocalState) : Type 0 where
 -- the phase that says so comes of a Draw, or was there
 pub drawn_back : (s : Shape) (l : LocalState) (e : Event) (k : Kind) → (after k s l e).phase ≡ Drawn →
     (k ≡ Draw) ⊎ (l.phase ≡ Drawn)
-drawn_back s l e Draw h = inl refl
-drawn_back s l e Install h =
-    inr (cond_both (e.found == e.expected) _ _ (λ (m : LocalState). m.phase ≡ Drawn → l.phase ≡ Drawn)
-    (λ _ q. q) (λ _ q. q) h)
-drawn_back s l e LookSelf h =
-    inr (cond_both (e.found == given l.phase) _ _ (λ (m : LocalState). m.phase ≡ Drawn → l.phase ≡ Drawn)
-    (λ _ q. q) (λ _ q. absurd (cc)) h)
-drawn_back s l e ToValidating h =
-    inr (cond_both (e.found == 1) _ _ (λ (m : LocalState). m.phase ≡ Drawn → l.phase ≡ Drawn)
-    (λ _ q. absurd (cc)) (λ _ q. absurd (cc)) h)
-drawn_back s l e Pause h =
-    inr (cond_both (e.found == 1) _ _ (λ (m : LocalState). m.phase ≡ Drawn → l.phase ≡ Drawn)
-    (λ _ q. absurd (cc)) (λ _ q. absurd (cc)) h)
-drawn_back s l e Resume h =
-    inr (cond_both (e.found == 2) _ _ (λ (m : LocalState). m.phase ≡ Drawn → l.phase ≡ Drawn)
-    (λ _ q. absurd (cc)) (λ _ q. absurd (cc)) h)
-drawn_back s l e Begin h = absurd (cc)
-drawn_back s l e PutHigh h = absurd (cc)
-drawn_back s l e PutNew h = absurd (cc)
-drawn_back s l e Commit h = absurd (cc)
-drawn_back s l e Quit h = absurd (cc)
-drawn_back s l e k h = inr h
+drawn_back s l e k h = grind (arith, nat_tests)
 
 -- what keeps an attempt drawn is a Check
 still_drawn : (s : Shape) (l : LocalState) (e : Event) (k : Kind) →

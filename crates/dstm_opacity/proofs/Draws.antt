@@ -14,7 +14,7 @@ use Rattle.dstm_core.specs.declared.shape.Shape.{Shape}
 use Rattle.dstm_core.specs.declared.state.Phase.{Phase}
 use Rattle.dstm_core.specs.declared.state.Phase.TheVariants.{Drawn, Outside, Putting, Running, Validating}
 use Rattle.dstm_core.proofs.Basic.{own_begun}
-use Rattle.dstm_core.proofs.Columns.{Begun, Moves, StatusMove, StatusMoved, begins, begun_still, caller_of, index_of, kills, moves, statuses, step}
+use Rattle.dstm_core.proofs.Columns.{Begun, Changed, Moves, StatusMove, begins, begun_still, caller_of, change, index_of, kills, moves, step}
 use Rattle.dstm_core.proofs.Static.{callers, static}
 use Rattle.dstm_core.proofs.Statuses.{PhaseHow, begin_may, begin_put, next_number, own_differs, phase_how}
 use Rattle.dstm_core.proofs.Underway.{goes_on}
@@ -192,7 +192,7 @@ pub committed_drawn : (s : Shape) (es : List Event) → Core s es → (a : ℕ) 
 unfolding is_drawn
 committed_drawn s [] core a lt h = absurd (omega arith)
 committed_drawn s (e ∷ es) core a lt h =
-    go (statuses s es e a (step s es e core) lt) (committed_drawn s es core.0 a lt)
+    go (change s es e (StatusWord a) (step s es e core) lt) (committed_drawn s es core.0 a lt)
   where
     by_move : Moves s (local s es e.caller) e a →
         ((e.kind ≡ ToValidating) × (e.put ≡ 3)) ⊎ ((e.kind ≡ Commit) × (e.put ≡ 4))
@@ -211,7 +211,7 @@ committed_drawn s (e ∷ es) core a lt h =
     moved (moves m) w = by_move m m.how w
     moved (kills k) w = let p = k.put in absurd (omega arith)
 
-    go : (word s (e ∷ es) (StatusWord a) ≡ word s es (StatusWord a)) ⊎ StatusMoved s es e a →
+    go : (word s (e ∷ es) (StatusWord a) ≡ word s es (StatusWord a)) ⊎ Changed s es e (StatusWord a) →
         (word s es (StatusWord a) ≡ 4 → drawn s es a ≡ true) → drawn s (e ∷ es) a ≡ true
     go (inl x) ih = drawn_more s es e a (ih (sym x ∙ h))
     go (inr x) ih = drawn_more s es e a (moved x.how x.now)

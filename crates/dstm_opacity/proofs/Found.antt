@@ -1,18 +1,18 @@
 -- The values that are found of versions, and those that are put, stay.
 use Rattle.std.proofs.Common.{◌++◌, ◌-◌, ◌<◌, ◌==◌, ◌∙◌, ◌∷◌, ◌≡◌, ◌⊎◌, List, None, Option, Some, [], ap, arith, false, inl, inr, is_some, refl, sym, true, ℕ}
-use Rattle.std.proofs.lemmas.Bool.{cases_Bool, cond_both, eq-eqb, ne_eqb}
+use Rattle.std.proofs.lemmas.Bool.{cases_Bool, eq-eqb, ne_eqb}
 use Rattle.std.proofs.lemmas.Bool.Decides.{nat_tests}
 use Rattle.dstm_model.specs.declared.value.Val.{Val}
 use Rattle.dstm_core.specs.Histories.{new_value, version_value}
 use Rattle.dstm_core.specs.Rules.{AllowedAs, after}
 use Rattle.dstm_core.specs.Runs.{Core, local}
-use Rattle.dstm_core.specs.State.{LocalState, given, is_live, is_resolved, keep_resolved, or_unresolved, or_zero, res, version, version_by}
+use Rattle.dstm_core.specs.State.{LocalState, is_live, or_unresolved, or_zero, res, version, version_by}
 use Rattle.dstm_core.specs.Traces.{at, word}
 use Rattle.dstm_core.specs.Words.{place}
 use Rattle.dstm_core.specs.Words.Word.{HighWord, LowWord}
 use Rattle.dstm_core.specs.Events.{Event}
 use Rattle.dstm_core.specs.declared.event.Kind.{Kind}
-use Rattle.dstm_core.specs.declared.event.Kind.TheVariants.{Begin, Install, Kill, LookHigh, LookNew, LookNumber, LookObj, LookOld, LookOwner, LookRank, LookSelf, LookStatus, Pause, Release, Resume, Validating as ToValidating}
+use Rattle.dstm_core.specs.declared.event.Kind.TheVariants.{Kill, LookHigh, LookNew, LookObj, LookOld, LookOwner, LookRank, LookStatus}
 use Rattle.dstm_core.specs.declared.shape.Shape.{Shape}
 use Rattle.dstm_core.specs.declared.state.Resolution.{Resolution}
 use Rattle.dstm_core.proofs.Basic.{basic}
@@ -23,6 +23,7 @@ use Rattle.dstm_opacity.proofs.Recorded.{named_settled, old_settled, settled_mor
 use Rattle.dstm_opacity.proofs.Values.{value_stays}
 use Rattle.dstm_opacity.proofs.Versions.{Settled, res_named, res_seen, seen_res}
 use Rattle.dstm_opacity.specs.Laws.{IsFound, looked_at}
+use Rattle.dstm_core.proofs.Untouched.{unlooked}
 
 -- a high part was found of a version that a locator has
 abbrev pub HighFits : Option Resolution → Type 0
@@ -33,10 +34,6 @@ pub high_of : (o : Option Resolution) → HighFits o → is_some (or_unresolved 
     0 < or_zero (version (or_unresolved o))
 high_of None h i = absurd (cc)
 high_of (Some r) h i = h i
-
-high_kept : (o : Option Resolution) → HighFits o → HighFits (keep_resolved o)
-high_kept None h = tt
-high_kept (Some r) h = cond_both (is_resolved r) (Some r) None HighFits (λ _. h) (λ _. tt)
 
 -- while the owner is not found finished no version is known but the first value
 pub version_unknown : (word : ℕ) (st old : Option ℕ) → or_zero st < 4 → or_zero (version_by word st old) ≡ 0
@@ -69,7 +66,6 @@ live_below n q = grind (arith, nat_tests)
 high_own : (s : Shape) (es : List Event) (e : Event) → Core s (e ∷ es) → (k : Kind) →
     AllowedAs k s (local s es e.caller) e → HighFits (local s es e.caller).resolution →
     HighFits (after k s (local s es e.caller) e).resolution
-high_own s es e core Begin a h = tt
 high_own s es e core LookObj a h = λ i. absurd (cc)
 high_own s es e core LookOwner a h = λ i. high_of (local s es e.caller).resolution h i
 high_own s es e core LookStatus a h = λ i.
@@ -91,25 +87,12 @@ high_own s es e core LookOld a h = λ i. again (high_of (local s es e.caller).re
         rw (version_old (res l).word (res l).status (Some e.found) a.2.2 x.0) (omega arith)
 high_own s es e core LookHigh a h = λ i. a.2.2
 high_own s es e core LookNew a h = λ i. high_of (local s es e.caller).resolution h i
-high_own s es e core Install a h =
-    cond_both (e.found == e.expected) _ _ (λ (l : LocalState). HighFits l.resolution) (λ _. tt) (λ _. tt)
-high_own s es e core LookNumber a h = high_kept (local s es e.caller).resolution h
-high_own s es e core LookSelf a h =
-    cond_both (e.found == given (local s es e.caller).phase) _ _ (λ (l : LocalState). HighFits l.resolution)
-    (λ _. h) (λ _. h)
-high_own s es e core ToValidating a h =
-    cond_both (e.found == 1) _ _ (λ (l : LocalState). HighFits l.resolution) (λ _. h) (λ _. h)
 high_own s es e core Kill a h = λ i.
     let known = high_of (local s es e.caller).resolution h i in
     let r = res (local s es e.caller) in
     let live = live_below (or_zero r.status) a.2.3 in
     let none = version_unknown r.word r.status r.old live in absurd (omega arith)
-high_own s es e core Release a h = tt
-high_own s es e core Pause a h =
-    cond_both (e.found == 1) _ _ (λ (l : LocalState). HighFits l.resolution) (λ _. h) (λ _. h)
-high_own s es e core Resume a h =
-    cond_both (e.found == 2) _ _ (λ (l : LocalState). HighFits l.resolution) (λ _. h) (λ _. h)
-high_own s es e core k a h = h
+high_own s es e core k a h = unlooked HighFits s (local s es e.caller) e k refl tt h
 
 -- so in every core run
 pub high_fits : (s : Shape) (es : List Event) → Core s es → (c : ℕ) → HighFits (local s es c).resolution

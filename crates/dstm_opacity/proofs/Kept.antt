@@ -1,19 +1,19 @@
 -- What an attempt has put and seen stays in every later run.
-use Rattle.std.proofs.Common.{◌*◌, ◌++◌, ◌<◌, ◌∙◌, ◌∷◌, ◌≡◌, ◌≢◌, ◌⊎◌, List, [], ap, inl, inr, refl, sym, true, ℕ}
+use Rattle.std.proofs.Common.{◌*◌, ◌++◌, ◌<◌, ◌∙◌, ◌∷◌, ◌≡◌, ◌≢◌, ◌⊎◌, List, [], ap, inl, inr, refl, subst, sym, true, ℕ}
 use Rattle.dstm_model.specs.declared.value.Val.{Val}
 use Rattle.dstm_core.specs.Histories.{entry_of, is_draw, old_values, read_values, seen}
 use Rattle.dstm_core.specs.Rules.{AllowedAs}
 use Rattle.dstm_core.specs.Runs.{Core, local}
 use Rattle.dstm_core.specs.State.{LocalState, next_write, own_attempt}
-use Rattle.dstm_core.specs.Traces.{at, word}
-use Rattle.dstm_core.specs.Words.{place}
+use Rattle.dstm_core.specs.Traces.{at}
+use Rattle.dstm_core.specs.Words.{HasWord, Word, place}
 use Rattle.dstm_core.specs.Words.Word.{HighWord, LowWord}
 use Rattle.dstm_core.specs.Events.{Event}
 use Rattle.dstm_core.specs.declared.event.Kind.{Kind}
 use Rattle.dstm_core.specs.declared.event.Kind.TheVariants.{Draw, PutHigh, PutNew}
 use Rattle.dstm_core.specs.declared.shape.Shape.{Shape}
 use Rattle.dstm_core.specs.declared.state.Phase.TheVariants.{Outside}
-use Rattle.dstm_core.proofs.Columns.{HighPut, NewPut, highs, news, step}
+use Rattle.dstm_core.proofs.Columns.{Aims, ChangeOf, stays, step}
 use Rattle.dstm_core.proofs.Places.{put_at}
 use Rattle.dstm_core.proofs.Pasts.{core_past}
 use Rattle.dstm_core.proofs.Stores.{high_word_once, new_word_once}
@@ -22,73 +22,54 @@ use Rattle.dstm_opacity.proofs.Recorded.{ReadsNamed, reads, reads_more}
 use Rattle.dstm_opacity.proofs.Values.{WritesKept, entry_later, kept_from, kept_more, old_values_stay, read_values_stay}
 use Rattle.dstm_opacity.proofs.Written.{written}
 
--- a PutNew and a PutHigh aim at words of the shape
-pub low_aim : (s : Shape) (l : LocalState) (e : Event) (k : Kind) → k ≡ PutNew → AllowedAs k s l e →
-    (e.place ≡ place s (LowWord (next_write l).locator)) × ((next_write l).locator < s.callers * s.locators)
-low_aim s l e PutNew q a = (a.0, a.3)
-low_aim s l e k q a = absurd (cc)
+-- a kind that puts a part of new values, at the caller's next write, and each at most once
+record PutsPart (s : Shape) (w : ℕ → Word) (k : Kind) : Type 0 where
+  pub has : (m : ℕ) → m < s.callers * s.locators → HasWord s (w m)
+  pub change : (l : LocalState) (e : Event) (m : ℕ) → ChangeOf (w m) s l e → Aims e k m (next_write l).locator
+  pub aim : (l : LocalState) (e : Event) → AllowedAs k s l e →
+      (e.place ≡ place s (w (next_write l).locator)) × ((next_write l).locator < s.callers * s.locators)
+  pub once : (more es : List Event) (e d : Event) → Core s (e ∷ (more ++ d ∷ es)) → e.kind ≡ k → d.kind ≡ k →
+      e.place ≢ d.place
 
-pub high_aim : (s : Shape) (l : LocalState) (e : Event) (k : Kind) → k ≡ PutHigh → AllowedAs k s l e →
-    (e.place ≡ place s (HighWord (next_write l).locator)) × ((next_write l).locator < s.callers * s.locators)
-high_aim s l e PutHigh q a = (a.0, a.3)
-high_aim s l e k q a = absurd (cc)
-
--- each is put at most once, so what was put stays
-pub low_put_stays : (s : Shape) (more es : List Event) (d : Event) → Core s (more ++ d ∷ es) →
-    d.kind ≡ PutNew → at (more ++ d ∷ es) d.place ≡ d.put
-low_put_stays s [] es d core k = put_at es d d.place refl
-low_put_stays s (e ∷ more) es d core k =
-    go (news s (more ++ d ∷ es) e m (step s (more ++ d ∷ es) e core) aim.1) (low_put_stays s more es d core.0 k)
+-- so what was put stays
+part_stays : (s : Shape) (w : ℕ → Word) (k : Kind) → PutsPart s w k → (more es : List Event) (d : Event) →
+    Core s (more ++ d ∷ es) → d.kind ≡ k → at (more ++ d ∷ es) d.place ≡ d.put
+part_stays s w k part [] es d core q = put_at es d d.place refl
+part_stays s w k part (e ∷ more) es d core q =
+    ap (at (e ∷ (more ++ d ∷ es))) (aim es d q (core_past s more (d ∷ es) core.0).1.allowed).0
+    ∙ stays s (more ++ d ∷ es) e (w (next_write (local s es d.caller)).locator)
+    (step s (more ++ d ∷ es) e core)
+    (part.has _ (aim es d q (core_past s more (d ∷ es) core.0).1.allowed).1) apart
+    ∙ ap (at (more ++ d ∷ es)) (sym (aim es d q (core_past s more (d ∷ es) core.0).1.allowed).0)
+    ∙ part_stays s w k part more es d core.0 q
   where
-    aim : (d.place ≡ place s (LowWord (next_write (local s es d.caller)).locator))
+    aim : (es : List Event) (d : Event) → d.kind ≡ k → AllowedAs d.kind s (local s es d.caller) d →
+        (d.place ≡ place s (w (next_write (local s es d.caller)).locator))
         × ((next_write (local s es d.caller)).locator < s.callers * s.locators)
-    aim = low_aim s (local s es d.caller) d d.kind k (core_past s more (d ∷ es) core.0).1.allowed
+    aim es d q a =
+        part.aim (local s es d.caller) d (subst (λ (k : Kind). AllowedAs k s (local s es d.caller) d) q a)
 
-    m : ℕ
-    m = (next_write (local s es d.caller)).locator
-
-    go : (word s (e ∷ (more ++ d ∷ es)) (LowWord (next_write (local s es d.caller)).locator)
-        ≡ word s (more ++ d ∷ es) (LowWord (next_write (local s es d.caller)).locator))
-        ⊎ NewPut s (more ++ d ∷ es) e (next_write (local s es d.caller)).locator →
-        at (more ++ d ∷ es) d.place ≡ d.put → at (e ∷ (more ++ d ∷ es)) d.place ≡ d.put
-    go (inl x) ih =
-        ap (at (e ∷ (more ++ d ∷ es))) aim.0 ∙ x ∙ ap (at (more ++ d ∷ es)) (sym aim.0) ∙ ih
-    go (inr x) ih =
-        let own = low_aim s (local s (more ++ d ∷ es) e.caller) e e.kind x.kind core.1.allowed in
-        absurd (new_word_once s more es e d core x.kind k
-        (own.0 ∙ ap (λ n. place s (LowWord n)) (sym x.locator) ∙ sym aim.0))
-
--- the same of the high part
-pub high_put_stays : (s : Shape) (more es : List Event) (d : Event) → Core s (more ++ d ∷ es) →
-    d.kind ≡ PutHigh → at (more ++ d ∷ es) d.place ≡ d.put
-high_put_stays s [] es d core k = put_at es d d.place refl
-high_put_stays s (e ∷ more) es d core k =
-    go (highs s (more ++ d ∷ es) e m (step s (more ++ d ∷ es) e core) aim.1)
-    (high_put_stays s more es d core.0 k)
-  where
-    aim : (d.place ≡ place s (HighWord (next_write (local s es d.caller)).locator))
-        × ((next_write (local s es d.caller)).locator < s.callers * s.locators)
-    aim = high_aim s (local s es d.caller) d d.kind k (core_past s more (d ∷ es) core.0).1.allowed
-
-    m : ℕ
-    m = (next_write (local s es d.caller)).locator
-
-    go : (word s (e ∷ (more ++ d ∷ es)) (HighWord (next_write (local s es d.caller)).locator)
-        ≡ word s (more ++ d ∷ es) (HighWord (next_write (local s es d.caller)).locator))
-        ⊎ HighPut s (more ++ d ∷ es) e (next_write (local s es d.caller)).locator →
-        at (more ++ d ∷ es) d.place ≡ d.put → at (e ∷ (more ++ d ∷ es)) d.place ≡ d.put
-    go (inl x) ih =
-        ap (at (e ∷ (more ++ d ∷ es))) aim.0 ∙ x ∙ ap (at (more ++ d ∷ es)) (sym aim.0) ∙ ih
-    go (inr x) ih =
-        let own = high_aim s (local s (more ++ d ∷ es) e.caller) e e.kind x.kind core.1.allowed in
-        absurd (high_word_once s more es e d core x.kind k
-        (own.0 ∙ ap (λ n. place s (HighWord n)) (sym x.locator) ∙ sym aim.0))
+    apart : ChangeOf (w (next_write (local s es d.caller)).locator) s (local s (more ++ d ∷ es) e.caller) e → ⊥
+    apart h = let x = part.change (local s (more ++ d ∷ es) e.caller) e _ h in
+        part.once more es e d core x.kind q
+        ((aim (more ++ d ∷ es) e x.kind core.1.allowed).0 ∙ ap (λ n. place s (w n)) (sym x.number)
+        ∙ sym (aim es d q (core_past s more (d ∷ es) core.0).1.allowed).0)
 
 -- of either part
 pub put_stays : (s : Shape) (more es : List Event) (d : Event) → Core s (more ++ d ∷ es) →
     (d.kind ≡ PutHigh) ⊎ (d.kind ≡ PutNew) → at (more ++ d ∷ es) d.place ≡ d.put
-put_stays s more es d core (inl k) = high_put_stays s more es d core k
-put_stays s more es d core (inr k) = low_put_stays s more es d core k
+put_stays s more es d core (inl k) = part_stays s HighWord PutHigh (record {
+  has = λ m b. b;
+  change = λ l e m h. h;
+  aim = λ l e a. (a.0, a.3);
+  once = high_word_once s;
+}) more es d core k
+put_stays s more es d core (inr k) = part_stays s LowWord PutNew (record {
+  has = λ m b. b;
+  change = λ l e m h. h;
+  aim = λ l e a. (a.0, a.3);
+  once = new_word_once s;
+}) more es d core k
 
 -- the values of what was read and replaced
 seen_later : (s : Shape) (start : List Val) (more q : List Event) (own : ℕ) (l : LocalState) →

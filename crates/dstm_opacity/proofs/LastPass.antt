@@ -28,6 +28,8 @@ use Rattle.dstm_opacity.proofs.Recorded.{ReadsNamed, resolved_version}
 use Rattle.dstm_opacity.proofs.States.{Agreed, Cur, agreed_by_index, agreed_drop, agreed_snoc}
 use Rattle.dstm_opacity.proofs.Versions.{ResSeen, meant, owner_of, res_named, res_seen, res_seen_more, version_at}
 use Rattle.dstm_opacity.proofs.Written.{WritesOk}
+use Rattle.dstm_core.proofs.Untouched.{unlooked, unrecorded}
+use Rattle.std.proofs.lemmas.Bool.Decides.{nat_tests}
 
 -- an open resolution whose object is not among the reads is of the current version
 abbrev pub ResCur : Shape → (ℕ → Bool) → List Event → List Read → Option Resolution → Type 0
@@ -129,17 +131,9 @@ own_reads s will es e core f Install b k h c =
     (λ _. agreed_drop s will (e ∷ es) (res (local s es e.caller)).object (local s es e.caller).reads h) (λ _. h)
 own_reads s will es e core f LookNumber b k h c =
     agreed_record s will (e ∷ es) core f (local s es e.caller).resolution (local s es e.caller).reads b k h c
-own_reads s will es e core f LookSelf b k h c =
-    cond_both (e.found == given (local s es e.caller).phase) _ _
-    (λ (l : LocalState). Agreed s will (e ∷ es) l.reads) (λ _. h) (λ _. h)
-own_reads s will es e core f ToValidating b k h c =
-    cond_both (e.found == 1) _ _ (λ (l : LocalState). Agreed s will (e ∷ es) l.reads) (λ _. h) (λ _. h)
 own_reads s will es e core f Release b k h c = agreed_drop s will (e ∷ es) e.place (local s es e.caller).reads h
-own_reads s will es e core f Pause b k h c =
-    cond_both (e.found == 1) _ _ (λ (l : LocalState). Agreed s will (e ∷ es) l.reads) (λ _. h) (λ _. h)
-own_reads s will es e core f Resume b k h c =
-    cond_both (e.found == 2) _ _ (λ (l : LocalState). Agreed s will (e ∷ es) l.reads) (λ _. h) (λ _. h)
-own_reads s will es e core f j b k h c = h
+own_reads s will es e core f j b k h c =
+    unrecorded (Agreed s will (e ∷ es)) s (local s es e.caller) e j refl h
 
 own_res : (s : Shape) (will : ℕ → Bool) (es : List Event) (e : Event) → Core s (e ∷ es) →
     Foretells s will (e ∷ es) → (k : Kind) → AllowedAs k s (local s es e.caller) e →
@@ -175,12 +169,6 @@ own_res s will es e core f LookNumber a c = go (keep_resolved (local s es e.call
     go None q = tt
     go (Some r) q =
         λ n. absurd (kept_recorded (local s es e.caller).resolution (local s es e.caller).reads r q n)
-own_res s will es e core f LookSelf a c =
-    cond_both (e.found == given (local s es e.caller).phase) _ _
-    (λ (l : LocalState). ResCur s will (e ∷ es) l.reads l.resolution) (λ _. c) (λ _. c)
-own_res s will es e core f ToValidating a c =
-    cond_both (e.found == 1) _ _ (λ (l : LocalState). ResCur s will (e ∷ es) l.reads l.resolution) (λ _. c)
-    (λ _. c)
 own_res s will es e core f LookRank a c =
     cur_res s will (e ∷ es) (local s es e.caller).reads (local s es e.caller).resolution
     (has_owner (local s es e.caller).resolution a.2.2) c
@@ -188,13 +176,9 @@ own_res s will es e core f LookHigh a c =
     cur_res s will (e ∷ es) (local s es e.caller).reads (local s es e.caller).resolution
     (has_version (local s es e.caller).resolution a.2.2) c
 own_res s will es e core f Release a c = tt
-own_res s will es e core f Pause a c =
-    cond_both (e.found == 1) _ _ (λ (l : LocalState). ResCur s will (e ∷ es) l.reads l.resolution) (λ _. c)
-    (λ _. c)
-own_res s will es e core f Resume a c =
-    cond_both (e.found == 2) _ _ (λ (l : LocalState). ResCur s will (e ∷ es) l.reads l.resolution) (λ _. c)
-    (λ _. c)
-own_res s will es e core f k a c = c
+own_res s will es e core f k a c =
+    unlooked (ResCur s will (e ∷ es) (after k s (local s es e.caller) e).reads) s (local s es e.caller) e k refl tt
+    (unrecorded (λ rs. ResCur s will (e ∷ es) rs (local s es e.caller).resolution) s (local s es e.caller) e k refl c)
 
 data LastHow (l : LocalState) (e : Event) (k : Kind) (n : ℕ) : Type 0 where
   by_self : k ≡ LookSelf → l.pass ≡ Some n → LastHow l e k n
@@ -252,11 +236,7 @@ PassOk s will es c l = (n : ℕ) → l.phase ≡ Running → l.pass ≡ Some n �
 
 self_same : (s : Shape) (l : LocalState) (e : Event) (k : Kind) → k ≡ LookSelf →
     ((after k s l e).reads ≡ l.reads) × ((after k s l e).resolution ≡ l.resolution)
-self_same s l e LookSelf q = (
-  cond_both (e.found == given l.phase) _ _ (λ (m : LocalState). m.reads ≡ l.reads) (λ _. refl) (λ _. refl),
-  cond_both (e.found == given l.phase) _ _ (λ (m : LocalState). m.resolution ≡ l.resolution) (λ _. refl)
-      (λ _. refl),
-)
+self_same s l e LookSelf q = (grind (arith, nat_tests), grind (arith, nat_tests))
 self_same s l e k q = absurd (cc)
 
 -- the caller's own event keeps this

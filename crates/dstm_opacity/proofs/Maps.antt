@@ -1,5 +1,5 @@
 -- Maps, entries and the sights of a live attempt.
-use Rattle.std.proofs.Common.{◌++◌, ◌+◌, ◌-◌, ◌==◌, ◌∙◌, ◌∷◌, ◌≡◌, ◌≤◌, List, [], arith, length, subst, suc, zero, ℕ, if◌then◌else◌}
+use Rattle.std.proofs.Common.{◌++◌, ◌+◌, ◌==◌, ◌∙◌, ◌∷◌, ◌≡◌, ◌≤◌, List, [], arith, length, subst, suc, zero, ℕ, if◌then◌else◌}
 use Rattle.std.proofs.lemmas.Bool.{cond_both, eqb-false, eqb-true}
 use Rattle.dstm_model.specs.Map.{Agrees, Entry, IsUnnamed, NamesOnce, state_after}
 use Rattle.dstm_model.specs.declared.value.Val.{Val}

@@ -1,100 +1,31 @@
 -- What the old words of locators and the recorded reads name.
-use Rattle.std.proofs.Common.{◌&&◌, ◌*◌, ◌++◌, ◌+◌, ◌-◌, ◌/◌, ◌<◌, ◌==◌, ◌∙◌, ◌∷◌, ◌≡◌, ◌≢◌, ◌⊎◌, List, None, Option, Some, [], ap, arith, if◌then◌else◌, inl, inr, is_none, is_some, refl, sym, true, ℕ}
+use Rattle.std.proofs.Common.{◌&&◌, ◌*◌, ◌++◌, ◌+◌, ◌-◌, ◌<◌, ◌==◌, ◌∙◌, ◌∷◌, ◌≡◌, ◌⊎◌, List, None, Option, Some, [], ap, arith, if◌then◌else◌, inl, inr, is_none, is_some, refl, sym, true, ℕ}
 use Rattle.std.proofs.lemmas.Bool.{and_parts, cond_both}
-use Rattle.dstm_core.specs.Rules.{after, target}
+use Rattle.dstm_core.specs.Rules.{after}
 use Rattle.dstm_core.specs.Runs.{Core, local}
-use Rattle.dstm_core.specs.State.{LocalState, drop_read, given, is_resolved, or_zero, own_attempt, read_of, record_resolved, res, version}
+use Rattle.dstm_core.specs.State.{LocalState, drop_read, is_resolved, or_zero, own_attempt, read_of, record_resolved, res, version}
 use Rattle.dstm_core.specs.Traces.{word}
-use Rattle.dstm_core.specs.Words.{place}
 use Rattle.dstm_core.specs.Words.Word.{OldWord, OwnerWord}
 use Rattle.dstm_core.specs.Events.{Event}
 use Rattle.dstm_core.specs.declared.event.Kind.{Kind}
-use Rattle.dstm_core.specs.declared.event.Kind.TheVariants.{Begin, Install, LookNumber, LookSelf, Pause, PutOld, Release, Resume, Validating as ToValidating}
+use Rattle.dstm_core.specs.declared.event.Kind.TheVariants.{Begin, Install, LookNumber, PutOld, Release}
 use Rattle.dstm_core.specs.declared.shape.Shape.{Shape}
 use Rattle.dstm_core.specs.declared.state.Read.{Read}
 use Rattle.dstm_core.specs.declared.state.Resolution.{Resolution}
-use Rattle.dstm_core.proofs.Basic.{Fresh, ResBasic, basic, install_may, old_stays, own_number, put_old_may, res_more, used_back}
-use Rattle.dstm_core.proofs.Columns.{OldPut, Step, Used, caller_of, in_table, olds, step, used_more}
+use Rattle.dstm_core.proofs.Basic.{Fresh, ResBasic, basic, held_step, install_may, old_stays, olds, res_more, used_back}
+use Rattle.dstm_core.proofs.Columns.{Used, stays, step, used_more}
 use Rattle.dstm_core.proofs.Locators.{install_fresh}
-use Rattle.dstm_core.proofs.Places.{put_at}
-use Rattle.dstm_core.proofs.Static.{InShape, callers, held_old_how, static}
+use Rattle.dstm_core.proofs.Static.{InShape, callers, static}
 use Rattle.dstm_opacity.proofs.Versions.{Named, ResSeen, Settled, by_abort, by_commit, by_zero, named_more, res_named, res_seen, res_seen_more, status_more}
-
--- an old word is put by a PutOld alone
-pub other_kind_old : (s : Shape) (es : List Event) (e : Event) (m : ℕ) → Step s es e →
-    m < s.callers * s.locators → e.kind ≢ PutOld → word s (e ∷ es) (OldWord m) ≡ word s es (OldWord m)
-other_kind_old s es e m p b h = go (olds s es e m p b)
-  where
-    go : (word s (e ∷ es) (OldWord m) ≡ word s es (OldWord m)) ⊎ OldPut s es e m →
-        word s (e ∷ es) (OldWord m) ≡ word s es (OldWord m)
-    go (inl x) = x
-    go (inr x) = absurd (h x.kind)
-
--- a kind is PutOld or another
-pub is_put_old : (k : Kind) → (k ≡ PutOld) ⊎ (k ≢ PutOld)
-is_put_old PutOld = inl refl
-is_put_old k = inr (λ h. cc)
-
-held_old_step : (s : Shape) (es : List Event) (e : Event) → Core s es → Step s es e →
-    ((c a : ℕ) → c < s.callers → (local s es c).held_old ≡ Some a →
-    word s es (OldWord (c * s.locators + (local s es c).installed)) ≡ a) → (c a : ℕ) → c < s.callers →
-    (local s (e ∷ es) c).held_old ≡ Some a →
-    word s (e ∷ es) (OldWord (c * s.locators + (local s (e ∷ es) c).installed)) ≡ a
-held_old_step s es e core p before c a lt =
-    callers s es e
-    (λ c l. (a : ℕ) → c < s.callers → l.held_old ≡ Some a →
-    word s (e ∷ es) (OldWord (c * s.locators + l.installed)) ≡ a) (λ a _ h. own (is_put_old e.kind) a h)
-    (λ c d a lt h. other c lt d a h) c a lt
-  where
-    put : e.kind ≡ PutOld → (a : ℕ) → Some e.put ≡ Some a →
-        word s (e ∷ es) (OldWord (e.caller * s.locators + (local s es e.caller).installed)) ≡ a
-    put q a h = let may = put_old_may s (local s es e.caller) e e.kind q p.fits.allowed in
-        put_at es e _
-        (p.fits.allowed.0 ∙ ap (λ k. place s (target k s (local s es e.caller) e)) q
-        ∙ ap (λ m. place s (OldWord m)) (own_number s es e p may.0)) ∙ cc
-
-    own : (e.kind ≡ PutOld) ⊎ (e.kind ≢ PutOld) → (a : ℕ) →
-        (after e.kind s (local s es e.caller) e).held_old ≡ Some a →
-        word s (e ∷ es)
-        (OldWord (e.caller * s.locators + (after e.kind s (local s es e.caller) e).installed)) ≡ a
-    own (inl q) a h = rw q (put q a (rw q at h))
-    own (inr q) a h = let back = held_old_how s (local s es e.caller) e e.kind a q h in
-        let room : (local s es e.caller).installed < s.locators = p.own.held_old (ap is_some back.0) in
-        rw (
-          back.1,
-          other_kind_old s es e (e.caller * s.locators + (local s es e.caller).installed) p
-              (in_table e.caller s.locators (local s es e.caller).installed s.callers p.fits.caller room) q,
-        )
-        (before e.caller a p.fits.caller back.0)
-
-    other : (c : ℕ) → c < s.callers → e.caller ≢ c → (a : ℕ) → (local s es c).held_old ≡ Some a →
-        word s (e ∷ es) (OldWord (c * s.locators + (local s es c).installed)) ≡ a
-    other c inside d a h = go (olds s es e (c * s.locators + (local s es c).installed) p below)
-      where
-        room : (local s es c).installed < s.locators
-        room = (static s es core c).held_old (ap is_some h)
-
-        below : c * s.locators + (local s es c).installed < s.callers * s.locators
-        below = in_table c s.locators (local s es c).installed s.callers inside room
-
-        go : (word s (e ∷ es) (OldWord (c * s.locators + (local s es c).installed)) ≡ word s es
-            (OldWord (c * s.locators + (local s es c).installed)))
-            ⊎ OldPut s es e (c * s.locators + (local s es c).installed) →
-            word s (e ∷ es) (OldWord (c * s.locators + (local s es c).installed)) ≡ a
-        go (inl x) = x ∙ before c a inside h
-        go (inr x) = let may = put_old_may s (local s es e.caller) e e.kind x.kind p.fits.allowed in
-            let mine : (local s es e.caller).installed < s.locators = p.own.held may.1 in
-            absurd (d
-            (sym (caller_of e.caller s.locators (local s es e.caller).installed mine)
-            ∙ ap (λ m. m / s.locators) (sym (x.locator ∙ own_number s es e p may.0))
-            ∙ caller_of c s.locators (local s es c).installed room))
+use Rattle.dstm_core.proofs.Untouched.{unrecorded}
 
 -- what the first unused locator holds as its old version is in the word
 pub held_olds : (s : Shape) (es : List Event) → Core s es → (c a : ℕ) → c < s.callers →
     (local s es c).held_old ≡ Some a → word s es (OldWord (c * s.locators + (local s es c).installed)) ≡ a
 held_olds s [] core c a lt h = absurd (cc)
 held_olds s (e ∷ es) core c a lt h =
-    held_old_step s es e core.0 (step s es e core) (held_olds s es core.0) c a lt h
+    held_step s OldWord PutOld (λ l. l.held_old) (olds s) es e core.0 (step s es e core) (held_olds s es core.0) c
+    a lt h
 
 -- what an installer stores as the old version is the version that the word replaced names
 pub resolved_version : (r : Resolution) → is_resolved r ≡ true → version r ≡ Some (or_zero (version r))
@@ -159,7 +90,10 @@ old_settled s (e ∷ es) core m u = go (used_back s es e m u) (old_settled s es 
         rw (old_stays s es e m (step s es e core) x) (settled_more s es e (word s es (OldWord m)) core (ih m x))
     go (inr x) ih = let r = replaces s es e core x.kind x.succeeds in
         let loc : m ≡ e.put - 1 = x.locator ∙ sym r.locator in
-        rw (other_kind_old s es e m (step s es e core) u.below (λ q. let i = x.kind in cc), loc)
+        rw (
+          stays s es e (OldWord m) (step s es e core) u.below (λ q. let i = x.kind in let j = q.kind in cc),
+          loc,
+        )
         (settled_more s es e (word s es (OldWord (e.put - 1))) core
         (named_settled s es (res (local s es e.caller)).word (word s es (OldWord (e.put - 1))) ih r.named))
 
@@ -209,17 +143,8 @@ reads_own s es e Install i b n h =
     (λ _. reads_drop s (e ∷ es) (res (local s es e.caller)).object (local s es e.caller).reads h) (λ _. h)
 reads_own s es e LookNumber i b n h =
     reads_record s (e ∷ es) (local s es e.caller).resolution (local s es e.caller).reads i b n h
-reads_own s es e LookSelf i b n h =
-    cond_both (e.found == given (local s es e.caller).phase) _ _
-    (λ (l : LocalState). ReadsNamed s (e ∷ es) l.reads) (λ _. h) (λ _. h)
-reads_own s es e ToValidating i b n h =
-    cond_both (e.found == 1) _ _ (λ (l : LocalState). ReadsNamed s (e ∷ es) l.reads) (λ _. h) (λ _. h)
 reads_own s es e Release i b n h = reads_drop s (e ∷ es) e.place (local s es e.caller).reads h
-reads_own s es e Pause i b n h =
-    cond_both (e.found == 1) _ _ (λ (l : LocalState). ReadsNamed s (e ∷ es) l.reads) (λ _. h) (λ _. h)
-reads_own s es e Resume i b n h =
-    cond_both (e.found == 2) _ _ (λ (l : LocalState). ReadsNamed s (e ∷ es) l.reads) (λ _. h) (λ _. h)
-reads_own s es e k i b n h = h
+reads_own s es e k i b n h = unrecorded (ReadsNamed s (e ∷ es)) s (local s es e.caller) e k refl h
 
 -- each recorded read names its version
 pub reads : (s : Shape) (es : List Event) → Core s es → (c : ℕ) → ReadsNamed s es (local s es c).reads

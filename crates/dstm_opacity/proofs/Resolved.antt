@@ -1,15 +1,15 @@
 -- Both parts found of a resolution's version are its value in every later run.
-use Rattle.std.proofs.Common.{◌++◌, ◌<◌, ◌==◌, ◌∙◌, ◌∷◌, ◌≡◌, List, Option, None, Some, [], ap, arith, is_some, refl, sym, ℕ}
-use Rattle.std.proofs.lemmas.Bool.{cond_both, ne_eqb}
+use Rattle.std.proofs.Common.{◌++◌, ◌<◌, ◌∙◌, ◌∷◌, ◌≡◌, List, Some, [], ap, arith, is_some, refl, sym, ℕ}
+use Rattle.std.proofs.lemmas.Bool.{ne_eqb}
 use Rattle.dstm_model.specs.declared.value.Val.{Val}
 use Rattle.dstm_core.specs.Histories.{version_value}
 use Rattle.dstm_core.specs.Rules.{AllowedAs, after}
 use Rattle.dstm_core.specs.Runs.{Core, local}
-use Rattle.dstm_core.specs.State.{LocalState, given, is_resolved, keep_resolved, or_unresolved, or_zero, res, unresolved, version, version_by}
+use Rattle.dstm_core.specs.State.{or_unresolved, or_zero, res, unresolved, version, version_by}
 use Rattle.dstm_core.specs.Traces.{at}
 use Rattle.dstm_core.specs.Events.{Event}
 use Rattle.dstm_core.specs.declared.event.Kind.{Kind}
-use Rattle.dstm_core.specs.declared.event.Kind.TheVariants.{Begin, Install, Kill, LookHigh, LookNew, LookNumber, LookObj, LookOld, LookOwner, LookRank, LookSelf, LookStatus, Pause, Release, Resume, Validating as ToValidating}
+use Rattle.dstm_core.specs.declared.event.Kind.TheVariants.{Begin, Kill, LookHigh, LookNew, LookObj, LookOld, LookOwner, LookRank, LookStatus}
 use Rattle.dstm_core.specs.declared.shape.Shape.{Shape}
 use Rattle.dstm_core.specs.declared.state.Resolution.{Resolution}
 use Rattle.dstm_core.proofs.Pasts.{core_past}
@@ -18,6 +18,7 @@ use Rattle.dstm_core.proofs.Static.{callers}
 use Rattle.dstm_opacity.proofs.Found.{high_fits, high_of, live_below, look_settled, some_of, value_later, version_aborted, version_old, version_unknown}
 use Rattle.dstm_opacity.proofs.Values.{value_stays}
 use Rattle.dstm_opacity.proofs.Versions.{res_seen, seen_res}
+use Rattle.dstm_core.proofs.Untouched.{unlooked}
 
 -- each part that was found is that of the version's value
 pub record FoundParts (s : Shape) (start : List Val) (es : List Event) (r : Resolution) : Type 0 where
@@ -27,13 +28,6 @@ pub record FoundParts (s : Shape) (start : List Val) (es : List Event) (r : Reso
 
 nothing : (s : Shape) (start : List Val) (es : List Event) → FoundParts s start es unresolved
 nothing s start es = record { high = λ n q. absurd (cc); low = λ n q. absurd (cc) }
-
-parts_kept : (s : Shape) (start : List Val) (es : List Event) (o : Option Resolution) →
-    FoundParts s start es (or_unresolved o) → FoundParts s start es (or_unresolved (keep_resolved o))
-parts_kept s start es None h = h
-parts_kept s start es (Some r) h =
-    cond_both (is_resolved r) (Some r) None (λ (o : Option Resolution). FoundParts s start es (or_unresolved o))
-    (λ _. h) (λ _. nothing s start es)
 
 -- what a caller has found stays so at an event
 parts_more : (s : Shape) (start : List Val) (es : List Event) (e : Event) (c : ℕ) → Core s (e ∷ es) →
@@ -114,30 +108,13 @@ parts_own s start es e core LookNew a b h = record {
             (put_at es e _ a.0 ∙ a.1.1 ∙ cc),
       );
 }
-parts_own s start es e core Install a b h =
-    cond_both (e.found == e.expected) _ _
-    (λ (l : LocalState). FoundParts s start (e ∷ es) (or_unresolved l.resolution))
-    (λ _. nothing s start (e ∷ es)) (λ _. nothing s start (e ∷ es))
-parts_own s start es e core LookNumber a b h =
-    parts_kept s start (e ∷ es) (local s es e.caller).resolution h
-parts_own s start es e core LookSelf a b h =
-    cond_both (e.found == given (local s es e.caller).phase) _ _
-    (λ (l : LocalState). FoundParts s start (e ∷ es) (or_unresolved l.resolution)) (λ _. h) (λ _. h)
-parts_own s start es e core ToValidating a b h =
-    cond_both (e.found == 1) _ _ (λ (l : LocalState). FoundParts s start (e ∷ es) (or_unresolved l.resolution))
-    (λ _. h) (λ _. h)
 parts_own s start es e core Kill a b h =
     let r = res (local s es e.caller) in
     none_found s start es e.caller _ core.0
     (version_unknown r.word r.status r.old (live_below (or_zero r.status) a.2.3)) b refl refl (e ∷ es)
-parts_own s start es e core Release a b h = nothing s start (e ∷ es)
-parts_own s start es e core Pause a b h =
-    cond_both (e.found == 1) _ _ (λ (l : LocalState). FoundParts s start (e ∷ es) (or_unresolved l.resolution))
-    (λ _. h) (λ _. h)
-parts_own s start es e core Resume a b h =
-    cond_both (e.found == 2) _ _ (λ (l : LocalState). FoundParts s start (e ∷ es) (or_unresolved l.resolution))
-    (λ _. h) (λ _. h)
-parts_own s start es e core k a b h = h
+parts_own s start es e core k a b h =
+    unlooked (λ o. FoundParts s start (e ∷ es) (or_unresolved o)) s (local s es e.caller) e k refl
+    (nothing s start (e ∷ es)) h
 
 -- so in every core run
 pub found_parts : (s : Shape) (start : List Val) (es : List Event) → Core s es → (c : ℕ) →

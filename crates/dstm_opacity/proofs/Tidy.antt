@@ -3,7 +3,7 @@ use Rattle.std.proofs.Common.{◌&&◌, ◌++◌, ◌==◌, ◌∙◌, ◌∷◌
 use Rattle.std.proofs.lemmas.Bool.{and_parts, cases_Bool, cond_both, eqb-false, eqb-true, ne_eqb}
 use Rattle.dstm_core.specs.Rules.{AllowedAs, after, install}
 use Rattle.dstm_core.specs.Runs.{Core, local}
-use Rattle.dstm_core.specs.State.{LocalState, drop_read, given, is_resolved, keep_resolved, or_unresolved, read_of, record_resolved, res, write_of}
+use Rattle.dstm_core.specs.State.{LocalState, drop_read, given, is_resolved, or_unresolved, read_of, record_resolved, res, write_of}
 use Rattle.dstm_core.specs.Events.{Event}
 use Rattle.dstm_core.specs.declared.event.Kind.{Kind}
 use Rattle.dstm_core.specs.declared.event.Kind.TheVariants.{Begin, Install, Kill, LookHigh, LookNew, LookNumber, LookObj, LookOld, LookOwner, LookRank, LookSelf, LookStatus, Pause, Release, Resume, Validating as ToValidating}
@@ -13,6 +13,7 @@ use Rattle.dstm_core.specs.declared.state.Resolution.{Resolution}
 use Rattle.dstm_core.specs.declared.state.Write.{Write}
 use Rattle.dstm_core.proofs.Static.{callers, has_high, has_owner, has_status, has_version, has_word}
 use Rattle.dstm_opacity.proofs.LastPass.{none_from}
+use Rattle.dstm_core.proofs.Untouched.{unlooked}
 
 -- no object is read twice
 abbrev pub ReadsOnce : List Read → Type 0
@@ -139,10 +140,6 @@ record_once (Some x) ws rs h a r =
     (λ q. let two = and_parts (is_resolved x) (is_none (read_of x.object rs)) q in
     (reads_more_once rs _ h (none_from (read_of x.object rs) two.1), apart_snoc ws rs _ a r)) (λ _. (h, a))
 
-kept_apart : (ws : List Write) (o : Option Resolution) → ResApart ws o → ResApart ws (keep_resolved o)
-kept_apart ws None h = tt
-kept_apart ws (Some r) h = cond_both (is_resolved r) (Some r) None (ResApart ws) (λ _. h) (λ _. tt)
-
 -- a look at the resolution's object
 looked : (l : LocalState) (r : Resolution) → Tidy l → is_some l.resolution ≡ true → r.object ≡ (res l).object →
     TidyBy l.reads l.writes (Some r)
@@ -184,7 +181,7 @@ tidy_step s l e LookNumber t a =
       reads = r.0;
       writes = t.writes;
       apart = r.1;
-      res = kept_apart l.writes l.resolution t.res;
+      res = unlooked (ResApart l.writes) s l e LookNumber refl tt t.res;
     }
 tidy_step s l e Release t a = record {
   reads = drop_once e.place l.reads t.reads;

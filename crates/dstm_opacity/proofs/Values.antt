@@ -17,7 +17,7 @@ use Rattle.dstm_core.specs.declared.state.Phase.TheVariants.{Outside, Putting, R
 use Rattle.dstm_core.specs.declared.state.Read.{Read}
 use Rattle.dstm_core.specs.declared.state.Write.{Write}
 use Rattle.dstm_core.proofs.Basic.{old_stays, owner_stays}
-use Rattle.dstm_core.proofs.Columns.{HighPut, NewPut, Used, highs, news, step, used_more}
+use Rattle.dstm_core.proofs.Columns.{Used, stays, step, used_more}
 use Rattle.dstm_core.proofs.Statuses.{own_status}
 use Rattle.dstm_opacity.proofs.Draws.{drawn_more, drawn_phase, is_drawn}
 use Rattle.dstm_opacity.proofs.Recorded.{ReadsNamed, named_settled, old_settled, reads_more}
@@ -35,18 +35,9 @@ low_stays : (s : Shape) (es : List Event) (e : Event) (m : ℕ) → Core s (e �
     (puts_value e.kind ≡ true → m ≡ (next_write (local s es e.caller)).locator → ⊥) →
     new_value s (e ∷ es) m ≡ new_value s es m
 unfolding puts_value
-low_stays s es e m core u h = let a = low (news s es e m (step s es e core) u.below) in
-    let b = high (highs s es e m (step s es e core) u.below) in cc
-  where
-    low : (word s (e ∷ es) (LowWord m) ≡ word s es (LowWord m)) ⊎ NewPut s es e m →
-        word s (e ∷ es) (LowWord m) ≡ word s es (LowWord m)
-    low (inl x) = x
-    low (inr x) = absurd (h (ap puts_value x.kind) x.locator)
-
-    high : (word s (e ∷ es) (HighWord m) ≡ word s es (HighWord m)) ⊎ HighPut s es e m →
-        word s (e ∷ es) (HighWord m) ≡ word s es (HighWord m)
-    high (inl x) = x
-    high (inr x) = absurd (h (ap puts_value x.kind) x.locator)
+low_stays s es e m core u h =
+    let a = stays s es e (LowWord m) (step s es e core) u.below (λ x. h (ap puts_value x.kind) x.number) in
+    let b = stays s es e (HighWord m) (step s es e core) u.below (λ x. h (ap puts_value x.kind) x.number) in cc
 
 -- where a part of a new value may be put
 pub put_new_may : (s : Shape) (l : LocalState) (e : Event) (k : Kind) → puts_value k ≡ true →

@@ -1,15 +1,15 @@
 -- Which version a word names, and what a caller knows of it.
-use Rattle.std.proofs.Common.{◌&&◌, ◌+◌, ◌-◌, ◌<◌, ◌==◌, ◌∙◌, ◌∷◌, ◌≡◌, ◌≤◌, ◌⊎◌, Bool, List, None, Option, Some, [], ap, arith, false, if◌then◌else◌, inl, inr, is_some, sym, true, ℕ}
-use Rattle.std.proofs.lemmas.Bool.{cases_Bool, cond_both, eqb-true}
+use Rattle.std.proofs.Common.{◌&&◌, ◌+◌, ◌-◌, ◌<◌, ◌==◌, ◌∙◌, ◌∷◌, ◌≡◌, ◌≤◌, ◌⊎◌, Bool, List, None, Option, Some, [], ap, arith, false, if◌then◌else◌, inl, inr, is_some, refl, sym, true, ℕ}
+use Rattle.std.proofs.lemmas.Bool.{cases_Bool, eqb-true}
 use Rattle.dstm_core.specs.Histories.{drawn, is_draw}
 use Rattle.dstm_core.specs.Rules.{AllowedAs, after}
 use Rattle.dstm_core.specs.Runs.{Core, local}
-use Rattle.dstm_core.specs.State.{LocalState, given, is_resolved, keep_resolved, or_unresolved, or_zero, own_attempt, res, version, version_by, write_of}
+use Rattle.dstm_core.specs.State.{or_unresolved, or_zero, own_attempt, res, version, version_by, write_of}
 use Rattle.dstm_core.specs.Traces.{at, word}
 use Rattle.dstm_core.specs.Words.Word.{OldWord, OwnerWord, StatusWord}
 use Rattle.dstm_core.specs.Events.{Event}
 use Rattle.dstm_core.specs.declared.event.Kind.{Kind}
-use Rattle.dstm_core.specs.declared.event.Kind.TheVariants.{Begin, Install, Kill, LookHigh, LookNew, LookNumber, LookObj, LookOld, LookOwner, LookRank, LookSelf, LookStatus, Pause, Release, Resume, Validating as ToValidating}
+use Rattle.dstm_core.specs.declared.event.Kind.TheVariants.{Kill, LookHigh, LookNew, LookObj, LookOld, LookOwner, LookRank, LookStatus}
 use Rattle.dstm_core.specs.declared.shape.Shape.{Shape}
 use Rattle.dstm_core.specs.declared.state.Resolution.{Resolution}
 use Rattle.dstm_core.specs.declared.state.Write.{Write}
@@ -18,6 +18,7 @@ use Rattle.dstm_core.proofs.Columns.{Step, Used, step, used_more}
 use Rattle.dstm_core.proofs.Places.{put_at}
 use Rattle.dstm_core.proofs.Static.{callers}
 use Rattle.dstm_core.proofs.Statuses.{finished_step}
+use Rattle.dstm_core.proofs.Untouched.{unlooked}
 
 -- the version of an object after a write of it, where there is one
 abbrev pub new_version : Option Write → ℕ → ℕ
@@ -144,11 +145,6 @@ res_named s es r v b h q =
     version_named s es (or_unresolved r).word (or_unresolved r).status (or_unresolved r).old v
     (res_known s es r b).0 (seen_res s es r h) q
 
-seen_kept : (s : Shape) (es : List Event) (r : Option Resolution) → ResSeen s es r →
-    ResSeen s es (keep_resolved r)
-seen_kept s es None h = tt
-seen_kept s es (Some r) h = cond_both (is_resolved r) (Some r) None (ResSeen s es) (λ _. h) (λ _. tt)
-
 -- what an event finds at the word that it looks at, and that a load leaves it
 found_at : (s : Shape) (es : List Event) (e : Event) (p : ℕ) → Step s es e → e.place ≡ p → e.put ≡ e.found →
     e.found ≡ at (e ∷ es) p
@@ -164,7 +160,6 @@ seen_own : (s : Shape) (es : List Event) (e : Event) → Core s (e ∷ es) → (
     AllowedAs k s (local s es e.caller) e → ResBasic s (e ∷ es) (local s es e.caller).resolution →
     ResSeen s (e ∷ es) (local s es e.caller).resolution →
     ResSeen s (e ∷ es) (after k s (local s es e.caller) e).resolution
-seen_own s es e core Begin a b h = tt
 seen_own s es e core LookObj a b h = record { status = λ f. absurd (omega arith); old = λ v q. absurd (cc) }
 seen_own s es e core LookOwner a b h = seen_res s (e ∷ es) (local s es e.caller).resolution h
 seen_own s es e core LookStatus a b h = let l = local s es e.caller in
@@ -193,23 +188,9 @@ seen_own s es e core Kill a b h = let l = local s es e.caller in let k = seen_re
           (o.0, ap (λ n. word s (e ∷ es) (StatusWord n)) (sym o.1) ∙ put_at es e _ a.0);
       old = k.old;
     }
-seen_own s es e core Install a b h =
-    cond_both (e.found == e.expected) _ _ (λ (l : LocalState). ResSeen s (e ∷ es) l.resolution) (λ _. tt)
-    (λ _. tt)
-seen_own s es e core LookNumber a b h = seen_kept s (e ∷ es) (local s es e.caller).resolution h
-seen_own s es e core LookSelf a b h =
-    cond_both (e.found == given (local s es e.caller).phase) _ _
-    (λ (l : LocalState). ResSeen s (e ∷ es) l.resolution) (λ _. h) (λ _. h)
-seen_own s es e core ToValidating a b h =
-    cond_both (e.found == 1) _ _ (λ (l : LocalState). ResSeen s (e ∷ es) l.resolution) (λ _. h) (λ _. h)
 seen_own s es e core LookRank a b h = seen_res s (e ∷ es) (local s es e.caller).resolution h
 seen_own s es e core LookHigh a b h = seen_res s (e ∷ es) (local s es e.caller).resolution h
-seen_own s es e core Release a b h = tt
-seen_own s es e core Pause a b h =
-    cond_both (e.found == 1) _ _ (λ (l : LocalState). ResSeen s (e ∷ es) l.resolution) (λ _. h) (λ _. h)
-seen_own s es e core Resume a b h =
-    cond_both (e.found == 2) _ _ (λ (l : LocalState). ResSeen s (e ∷ es) l.resolution) (λ _. h) (λ _. h)
-seen_own s es e core k a b h = h
+seen_own s es e core k a b h = unlooked (ResSeen s (e ∷ es)) s (local s es e.caller) e k refl tt h
 
 -- what was found of each caller's resolution holds
 pub res_seen : (s : Shape) (es : List Event) → Core s es → (c : ℕ) → ResSeen s es (local s es c).resolution

@@ -11,7 +11,7 @@ use Rattle.dstm_core.specs.declared.event.Kind.TheVariants.{Commit, Install, Pau
 use Rattle.dstm_core.specs.declared.shape.Shape.{Shape}
 use Rattle.dstm_core.specs.declared.state.Phase.TheVariants.{Running}
 use Rattle.dstm_core.proofs.Basic.{install_may, install_put}
-use Rattle.dstm_core.proofs.Columns.{Installed, StatusMove, StatusMoved, begins, kills, moves, objects, own_in, statuses, step}
+use Rattle.dstm_core.proofs.Columns.{Changed, Installed, StatusMove, begins, change, kills, moves, objects, own_in, step}
 use Rattle.dstm_core.proofs.Locators.{installed_stays, no_locator_twice}
 use Rattle.dstm_core.proofs.Places.{put_at}
 use Rattle.dstm_core.proofs.Static.{static}
@@ -139,7 +139,7 @@ writers_in_draw_order s later more es e d core k h j i same done =
     before : 4 ≤ word s (e ∷ (more ++ d ∷ es)) (StatusWord (own_attempt s (local s es d.caller))) →
         (word s (e ∷ (more ++ d ∷ es)) (StatusWord (own_attempt s (local s es d.caller))) ≡ word s
         (more ++ d ∷ es) (StatusWord (own_attempt s (local s es d.caller))))
-        ⊎ StatusMoved s (more ++ d ∷ es) e (own_attempt s (local s es d.caller)) →
+        ⊎ Changed s (more ++ d ∷ es) e (StatusWord (own_attempt s (local s es d.caller))) →
         word s (more ++ d ∷ es) (StatusWord (own_attempt s (local s es d.caller))) ≡ 4
     before z (inl y) =
         sym y ∙ sym
@@ -156,5 +156,5 @@ writers_in_draw_order s later more es e d core k h j i same done =
         absurd (no_locator_twice s more es e d core_e k h j i
         (sym (put_at (more ++ d ∷ es) e d.place same) ∙ z))
     go (inr z) =
-        before z (statuses s (more ++ d ∷ es) e (own_attempt s (local s es d.caller))
+        before z (change s (more ++ d ∷ es) e (StatusWord (own_attempt s (local s es d.caller)))
         (step s (more ++ d ∷ es) e core_e) own_below)

@@ -1,27 +1,28 @@
 -- What a caller that is in an attempt has installed.
 use Rattle.std.proofs.Common.{◌*◌, ◌++◌, ◌+◌, ◌-◌, ◌<◌, ◌==◌, ◌∙◌, ◌∷◌, ◌≡◌, ◌≢◌, ◌⊎◌, List, [], ap, arith, false, inl, inr, refl, subst, sym, true, ℕ}
-use Rattle.std.proofs.lemmas.Bool.{cases_Bool, cond_both, eqb-false, eqb-true}
+use Rattle.std.proofs.lemmas.Bool.{cases_Bool, eqb-false, eqb-true}
 use Rattle.dstm_core.specs.Rules.{after, target}
 use Rattle.dstm_core.specs.Runs.{Core, local}
-use Rattle.dstm_core.specs.State.{LocalState, given, next_locator, or_zero, own_attempt, res, version}
+use Rattle.dstm_core.specs.State.{LocalState, next_locator, or_zero, own_attempt, res, version}
 use Rattle.dstm_core.specs.Traces.{at, word}
 use Rattle.dstm_core.specs.Words.{place}
 use Rattle.dstm_core.specs.Words.Word.{OldWord, OwnerWord, StatusWord}
 use Rattle.dstm_core.specs.Events.{Event}
 use Rattle.dstm_core.specs.declared.event.Kind.{Kind}
-use Rattle.dstm_core.specs.declared.event.Kind.TheVariants.{Begin, Install, LookSelf, Pause, Resume, Validating as ToValidating}
+use Rattle.dstm_core.specs.declared.event.Kind.TheVariants.{Begin, Install}
 use Rattle.dstm_core.specs.declared.shape.Shape.{Shape}
 use Rattle.dstm_core.specs.declared.state.Phase.TheVariants.{Outside}
 use Rattle.dstm_core.specs.declared.state.Write.{Write}
-use Rattle.dstm_core.proofs.Basic.{install_may, install_put, old_stays, other_kind_owner, own_number, owner_stays}
-use Rattle.dstm_core.proofs.Columns.{Installed, Used, objects, own_in, step, used_more}
+use Rattle.dstm_core.proofs.Basic.{install_may, install_put, old_stays, own_number, owner_stays}
+use Rattle.dstm_core.proofs.Columns.{Installed, Used, objects, own_in, stays, step, used_more}
 use Rattle.dstm_core.proofs.Locators.{install_fresh}
 use Rattle.dstm_core.proofs.Places.{put_at}
 use Rattle.dstm_core.proofs.Static.{callers, res-in_shape, static}
 use Rattle.dstm_core.proofs.Statuses.{OwnStatus, PhaseHow, finished_step, given_live, own_status, phase_how}
 use Rattle.dstm_core.proofs.Underway.{goes_on}
-use Rattle.dstm_opacity.proofs.Recorded.{other_kind_old, replaces}
+use Rattle.dstm_opacity.proofs.Recorded.{replaces}
 use Rattle.dstm_opacity.proofs.Versions.{Named, by_abort, by_commit, by_zero, status_of}
+use Rattle.std.proofs.lemmas.Bool.Decides.{nat_tests}
 
 -- a write: its locator is the attempt's, has the old version, and stands in the object or the attempt is aborted
 pub record WriteOk (s : Shape) (es : List Event) (own : ℕ) (w : Write) : Type 0 where
@@ -126,20 +127,7 @@ writes_how s l e Install = go (cases_Bool (e.found == e.expected))
     go : (e.found == e.expected ≡ true) ⊎ (e.found == e.expected ≡ false) → WritesHow s l e Install
     go (inl q) = added refl (eqb-true e.found e.expected q) (rw q refl)
     go (inr q) = unchanged (λ z. cc) (rw q refl) (λ _. eqb-false e.found e.expected q)
-writes_how s l e LookSelf =
-    unchanged (λ z. cc)
-    (cond_both (e.found == given l.phase) _ _ (λ (m : LocalState). m.writes ≡ l.writes) (λ _. refl) (λ _. refl))
-    (λ z. cc)
-writes_how s l e ToValidating =
-    unchanged (λ z. cc)
-    (cond_both (e.found == 1) _ _ (λ (m : LocalState). m.writes ≡ l.writes) (λ _. refl) (λ _. refl)) (λ z. cc)
-writes_how s l e Pause =
-    unchanged (λ z. cc)
-    (cond_both (e.found == 1) _ _ (λ (m : LocalState). m.writes ≡ l.writes) (λ _. refl) (λ _. refl)) (λ z. cc)
-writes_how s l e Resume =
-    unchanged (λ z. cc)
-    (cond_both (e.found == 2) _ _ (λ (m : LocalState). m.writes ≡ l.writes) (λ _. refl) (λ _. refl)) (λ z. cc)
-writes_how s l e k = unchanged (λ z. cc) refl (λ z. cc)
+writes_how s l e k = unchanged (λ z. cc) (grind (arith, nat_tests)) (λ z. cc)
 
 -- the write of a successful Install
 pub write_new : (s : Shape) (es : List Event) (e : Event) → Core s (e ∷ es) → e.kind ≡ Install →
@@ -163,9 +151,9 @@ write_new s es e core k h = let l = local s es e.caller in
       object = res-in_shape s l p.own.object may.3;
       used = subst (Used s (e ∷ es)) loc f.1;
       owner = ap (λ m. word s (e ∷ es) (OwnerWord m)) (sym loc)
-          ∙ other_kind_owner s es e (e.put - 1) p f.1.below (λ q. cc) ∙ r.owner;
+          ∙ stays s es e (OwnerWord (e.put - 1)) p f.1.below (λ x. let i = x.kind in cc) ∙ r.owner;
       old = ap (λ m. word s (e ∷ es) (OldWord m)) (sym loc)
-          ∙ other_kind_old s es e (e.put - 1) p f.1.below (λ q. cc) ∙ r.old;
+          ∙ stays s es e (OldWord (e.put - 1)) p f.1.below (λ x. let i = x.kind in cc) ∙ r.old;
       here = inr (put_at es e _ (p.fits.allowed.0 ∙ ap (λ k. place s (target k s l e)) k) ∙ one);
     }
 

@@ -1,6 +1,6 @@
 -- What a call on an attempt adds to what its caller has committed.
 use Rattle.std.proofs.Common.{◌&&◌, ◌++◌, ◌+◌, ◌==◌, ◌∙◌, ◌∷◌, ◌≡◌, ◌≢◌, ◌⊎◌, List, [], add-one, ap, append_assoc, arith, false, inl, inr, length, length-append, refl, subst, sym, true, ℕ}
-use Rattle.std.proofs.lemmas.Bool.{and_parts, cases_Bool, cond_both, eq-eqb}
+use Rattle.std.proofs.lemmas.Bool.{and_parts, cases_Bool, eq-eqb}
 use Rattle.std.proofs.lemmas.List.Elements.{All-cons, All-nil, filter-append}
 use Rattle.dstm_machines.proofs.Own.{own_first}
 use Rattle.dstm_opacity.specs.Committed.{attempt_of, done_by, has_committed, is_commit}
@@ -8,10 +8,10 @@ use Rattle.dstm_opacity.proofs.Stays.{NoneCommits, call_adds_none, same_told, to
 use Rattle.dstm_core.specs.Events.{Event}
 use Rattle.dstm_core.specs.Rules.{after}
 use Rattle.dstm_core.specs.Runs.{Core, local}
-use Rattle.dstm_core.specs.State.{LocalState, given}
+use Rattle.dstm_core.specs.State.{LocalState}
 use Rattle.dstm_core.specs.Traces.{IsPastOf, events_of}
 use Rattle.dstm_core.specs.declared.event.Kind.{Kind}
-use Rattle.dstm_core.specs.declared.event.Kind.TheVariants.{Begin, Commit, Install, LookSelf, Pause, Resume, Validating as ToValidating}
+use Rattle.dstm_core.specs.declared.event.Kind.TheVariants.{Commit}
 use Rattle.dstm_core.specs.declared.shape.Shape.{Shape}
 use Rattle.dstm_core.specs.declared.state.Phase.TheVariants.{Outside}
 use Rattle.dstm_core.proofs.Pasts.{core_past}
@@ -25,6 +25,7 @@ use Rattle.rand_pcg.specs.Lcg.{Lcg}
 use Rattle.dstm_progress.specs.Calls.{EveryCommitIsAdded, EveryOtherCallAddsNothing}
 use Rattle.dstm_progress.proofs.OwnEvents.{after_own, allowed_own}
 use Rattle.dstm_progress.proofs.Sound.{Sound, sound_after, sound_before}
+use Rattle.std.proofs.lemmas.Bool.Decides.{nat_tests}
 
 -- ---- a call that does not commit
 
@@ -62,20 +63,7 @@ adds_nothing = λ w s start c g events later before h un.
 commits_by : (s : Shape) (l : LocalState) (e : Event) (k : Kind) → l.committed ≡ false →
     (after k s l e).committed ≡ true → is_commit k && (e.found == 3) ≡ true
 commits_by s l e Commit n c = c
-commits_by s l e Begin n c = absurd (cc)
-commits_by s l e Install n c =
-    absurd (cond_both (e.found == e.expected) _ _ (λ (m : LocalState). m.committed ≡ true → ⊥) (λ _ q. cc)
-    (λ _ q. cc) c)
-commits_by s l e LookSelf n c =
-    absurd (cond_both (e.found == given l.phase) _ _ (λ (m : LocalState). m.committed ≡ true → ⊥) (λ _ q. cc)
-    (λ _ q. cc) c)
-commits_by s l e ToValidating n c =
-    absurd (cond_both (e.found == 1) _ _ (λ (m : LocalState). m.committed ≡ true → ⊥) (λ _ q. cc) (λ _ q. cc) c)
-commits_by s l e Pause n c =
-    absurd (cond_both (e.found == 1) _ _ (λ (m : LocalState). m.committed ≡ true → ⊥) (λ _ q. cc) (λ _ q. cc) c)
-commits_by s l e Resume n c =
-    absurd (cond_both (e.found == 2) _ _ (λ (m : LocalState). m.committed ≡ true → ⊥) (λ _ q. cc) (λ _ q. cc) c)
-commits_by s l e k n c = absurd (cc)
+commits_by s l e k n c = absurd (grind (arith, nat_tests))
 
 -- a Commit keeps what the attempt has done
 commit_keeps : (s : Shape) (start : List Val) (run : List Event) (c : ℕ) (l : LocalState) (e : Event) (k : Kind) →

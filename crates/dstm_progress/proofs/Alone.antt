@@ -3,7 +3,7 @@ use Rattle.std.proofs.Common.{◌*◌, ◌++◌, ◌+◌, ◌-◌, ◌<◌, ◌=
 use Rattle.std.proofs.lemmas.Bool.{and_parts, cases_Bool, cond_both, eq-eqb, eqb-true}
 use Rattle.dstm_core.specs.Rules.{AllowedAs, after}
 use Rattle.dstm_core.specs.Runs.{Core, local}
-use Rattle.dstm_core.specs.State.{LocalState, drop_read, given, is_live, is_other, is_resolved, keep_resolved, next_read, or_read, or_unresolved, or_zero, own_attempt, read_of, record_resolved, res}
+use Rattle.dstm_core.specs.State.{LocalState, drop_read, given, is_live, is_other, is_resolved, next_read, or_read, or_unresolved, or_zero, own_attempt, read_of, record_resolved, res}
 use Rattle.dstm_core.specs.Traces.{at, word}
 use Rattle.dstm_core.specs.Words.{place}
 use Rattle.dstm_core.specs.Words.Word.{NumbersWord, StatusWord}
@@ -15,7 +15,7 @@ use Rattle.dstm_core.specs.declared.state.Phase.TheVariants.{Outside, Running, P
 use Rattle.dstm_core.specs.declared.state.Read.{Read}
 use Rattle.dstm_core.specs.declared.state.Resolution.{Resolution}
 use Rattle.dstm_core.proofs.Basic.{Names, ResBasic, basic, res_known}
-use Rattle.dstm_core.proofs.Columns.{Installed, Kills, Same, StatusMove, StatusMoved, begins, kills, moves, numbers, objects, statuses, step}
+use Rattle.dstm_core.proofs.Columns.{Changed, Installed, Kills, Same, StatusMove, begins, change, kills, moves, numbers, objects, step}
 use Rattle.dstm_core.proofs.Places.{put_at}
 use Rattle.dstm_core.proofs.Static.{InShape, has_high, has_owner, has_status, has_version, has_word, local_own, res-in_shape, static}
 use Rattle.dstm_opacity.proofs.Versions.{owner_of, status_of}
@@ -24,6 +24,8 @@ use Rattle.dstm_progress.proofs.Oldest.{looked_apart, owner_same, paused_how}
 use Rattle.dstm_progress.proofs.Ranks.{owner_known}
 use Rattle.dstm_opacity.proofs.Tidy.{drop_keeps, read_of-none, read_apart}
 use Rattle.dstm_opacity.proofs.LastPass.{none_from}
+use Rattle.dstm_core.proofs.Untouched.{unlooked, unrecorded}
+use Rattle.std.proofs.lemmas.Bool.Decides.{nat_tests}
 
 -- ---- reads that are as they were recorded
 
@@ -105,11 +107,6 @@ pub now_res : (s : Shape) (es : List Event) (own : ℕ) (r : Option Resolution) 
     ResNow s es own (Some (or_unresolved r))
 now_res s es own None i h = absurd (cc)
 now_res s es own (Some r) i h = h
-
-res_kept : (s : Shape) (es : List Event) (own : ℕ) (r : Option Resolution) → ResNow s es own r →
-    ResNow s es own (keep_resolved r)
-res_kept s es own None h = tt
-res_kept s es own (Some r) h = cond_both (is_resolved r) (Some r) None (ResNow s es own) (λ _. h) (λ _. tt)
 
 pub now_record : (s : Shape) (es : List Event) (own : ℕ) (o : Option Resolution) (rs : List Read) →
     InShape s o →
@@ -201,18 +198,7 @@ fresh_after s es e LookObj f a h n = rw f (now_of s es (local s es e.caller).rea
 fresh_after s es e Check f a h n = let l = local s es e.caller in
     let w : e.found ≡ (next_read l).word = f ∙ ap (at es) a.0 ∙ now_get s es l.reads l.checked n a.2.2 in
     rw (eq-eqb e.found (next_read l).word w) refl
-fresh_after s es e Install f a h n =
-    cond_both (e.found == e.expected) _ _ (λ (m : LocalState). m.stale ≡ false) (λ _. h) (λ _. h)
-fresh_after s es e LookSelf f a h n =
-    cond_both (e.found == given (local s es e.caller).phase) _ _ (λ (m : LocalState). m.stale ≡ false) (λ _. h)
-    (λ _. h)
-fresh_after s es e ToValidating f a h n =
-    cond_both (e.found == 1) _ _ (λ (m : LocalState). m.stale ≡ false) (λ _. h) (λ _. h)
-fresh_after s es e Pause f a h n =
-    cond_both (e.found == 1) _ _ (λ (m : LocalState). m.stale ≡ false) (λ _. h) (λ _. h)
-fresh_after s es e Resume f a h n =
-    cond_both (e.found == 2) _ _ (λ (m : LocalState). m.stale ≡ false) (λ _. h) (λ _. h)
-fresh_after s es e k f a h n = h
+fresh_after s es e k f a h n = grind (arith, nat_tests)
 
 -- the reads
 reads_after : (s : Shape) (es : List Event) (e : Event) (own : ℕ) (k : Kind) →
@@ -231,39 +217,25 @@ reads_after s es e own Install ok but keep i r n =
 reads_after s es e own LookNumber ok but keep i r n = let l = local s es e.caller in
     now_keep s es e (record_resolved l.resolution l.reads) (keep (λ q. cc))
     (now_record s es own l.resolution l.reads i r n)
-reads_after s es e own LookSelf ok but keep i r n =
-    cond_both (e.found == given (local s es e.caller).phase) _ _ (λ (m : LocalState). AreNow s (e ∷ es) m.reads)
-    (λ _. now_keep s es e (local s es e.caller).reads (keep (λ q. cc)) n)
-    (λ _. now_keep s es e (local s es e.caller).reads (keep (λ q. cc)) n)
-reads_after s es e own ToValidating ok but keep i r n =
-    cond_both (e.found == 1) _ _ (λ (m : LocalState). AreNow s (e ∷ es) m.reads)
-    (λ _. now_keep s es e (local s es e.caller).reads (keep (λ q. cc)) n)
-    (λ _. now_keep s es e (local s es e.caller).reads (keep (λ q. cc)) n)
-reads_after s es e own Pause ok but keep i r n =
-    cond_both (e.found == 1) _ _ (λ (m : LocalState). AreNow s (e ∷ es) m.reads)
-    (λ _. now_keep s es e (local s es e.caller).reads (keep (λ q. cc)) n)
-    (λ _. now_keep s es e (local s es e.caller).reads (keep (λ q. cc)) n)
-reads_after s es e own Resume ok but keep i r n =
-    cond_both (e.found == 2) _ _ (λ (m : LocalState). AreNow s (e ∷ es) m.reads)
-    (λ _. now_keep s es e (local s es e.caller).reads (keep (λ q. cc)) n)
-    (λ _. now_keep s es e (local s es e.caller).reads (keep (λ q. cc)) n)
 reads_after s es e own Release ok but keep i r n = let l = local s es e.caller in
     now_keep s es e (drop_read e.place l.reads) (keep (λ q. cc)) (now_drop s es e.place l.reads n)
-reads_after s es e own k ok but keep i r n = now_keep s es e (local s es e.caller).reads (keep (λ q. cc)) n
+reads_after s es e own k ok but keep i r n =
+    unrecorded (AreNow s (e ∷ es)) s (local s es e.caller) e k refl
+    (now_keep s es e (local s es e.caller).reads (keep (λ q. cc)) n)
 
 -- the status of another attempt stays, but at a Kill
 pub status_keep : (s : Shape) (es : List Event) (e : Event) (a : ℕ) → Core s (e ∷ es) →
     a < s.callers * s.attempts →
     e.kind ≢ Begin → e.kind ≢ Kill → a ≢ own_attempt s (local s es e.caller) →
     word s (e ∷ es) (StatusWord a) ≡ word s es (StatusWord a)
-status_keep s es e a core b n k d = go (statuses s es e a (step s es e core) b)
+status_keep s es e a core b n k d = go (change s es e (StatusWord a) (step s es e core) b)
   where
     moved : StatusMove s (local s es e.caller) e a → ⊥
     moved (begins x) = n x.kind
     moved (moves x) = d x.attempt
     moved (kills x) = k x.kind
 
-    go : (word s (e ∷ es) (StatusWord a) ≡ word s es (StatusWord a)) ⊎ StatusMoved s es e a →
+    go : (word s (e ∷ es) (StatusWord a) ≡ word s es (StatusWord a)) ⊎ Changed s es e (StatusWord a) →
         word s (e ∷ es) (StatusWord a) ≡ word s es (StatusWord a)
     go (inl x) = x
     go (inr x) = absurd (moved x.how)
@@ -345,28 +317,10 @@ res_after s es e LookNew core q out a h was = let l = local s es e.caller in
     now_res s (e ∷ es) (own_attempt s l) l.resolution (has_high l.resolution a.2.2) (h (λ z. cc) (λ z. cc))
 res_after s es e Install core q out a h was =
     cond_both (e.found == e.expected) _ _
-    (λ (m : LocalState). ResNow s (e ∷ es) (own_attempt s (local s es e.caller)) m.resolution) (λ _. tt)
-    (λ _. tt)
-res_after s es e LookNumber core q out a h was = let l = local s es e.caller in
-    res_kept s (e ∷ es) (own_attempt s l) l.resolution (h (λ z. cc) (λ z. cc))
-res_after s es e LookSelf core q out a h was =
-    cond_both (e.found == given (local s es e.caller).phase) _ _
-    (λ (m : LocalState). ResNow s (e ∷ es) (own_attempt s (local s es e.caller)) m.resolution)
-    (λ _. h (λ z. cc) (λ z. cc)) (λ _. h (λ z. cc) (λ z. cc))
-res_after s es e ToValidating core q out a h was =
-    cond_both (e.found == 1) _ _
-    (λ (m : LocalState). ResNow s (e ∷ es) (own_attempt s (local s es e.caller)) m.resolution)
-    (λ _. h (λ z. cc) (λ z. cc)) (λ _. h (λ z. cc) (λ z. cc))
-res_after s es e Pause core q out a h was =
-    cond_both (e.found == 1) _ _
-    (λ (m : LocalState). ResNow s (e ∷ es) (own_attempt s (local s es e.caller)) m.resolution)
-    (λ _. h (λ z. cc) (λ z. cc)) (λ _. h (λ z. cc) (λ z. cc))
-res_after s es e Resume core q out a h was =
-    cond_both (e.found == 2) _ _
-    (λ (m : LocalState). ResNow s (e ∷ es) (own_attempt s (local s es e.caller)) m.resolution)
-    (λ _. h (λ z. cc) (λ z. cc)) (λ _. h (λ z. cc) (λ z. cc))
-res_after s es e Release core q out a h was = tt
-res_after s es e k core q out a h was = h (λ z. cc) (λ z. cc)
+    (λ (m : LocalState). ResNow s (e ∷ es) (own_attempt s (local s es e.caller)) m.resolution) (λ _. tt) (λ _. tt)
+res_after s es e k core q out a h was =
+    unlooked (ResNow s (e ∷ es) (own_attempt s (local s es e.caller))) s (local s es e.caller) e k refl tt
+    (h (λ z. cc) (λ z. cc))
 
 -- the numbers: what they are where the count of numbers stays, and at a Draw
 numbers_drop : (s : Shape) (es : List Event) (e : Event) (l m : LocalState) →

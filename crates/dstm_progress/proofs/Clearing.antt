@@ -1,13 +1,13 @@
 -- Between calls no stamp and no rank is left.
-use Rattle.std.proofs.Common.{◌&&◌, ◌==◌, ◌∷◌, ◌≡◌, ◌≢◌, ◌⊎◌, ◌∙◌, Bool, List, Option, [], ap, false, inl, inr, not, refl, subst, sym, true}
+use Rattle.std.proofs.Common.{Bool, List, Option, [], ap, arith, false, inl, inr, not, refl, subst, sym, true, ◌&&◌, ◌∙◌, ◌∷◌, ◌≡◌, ◌≢◌, ◌⊎◌}
 use Rattle.std.proofs.lemmas.Bool.{cases_Bool, cond_both}
 use Rattle.rand_pcg.specs.Lcg.{Lcg}
 use Rattle.dstm_core.specs.Events.{Event}
 use Rattle.dstm_core.specs.Rules.{AllowedAs, after, is_outside}
 use Rattle.dstm_core.specs.Runs.{local}
-use Rattle.dstm_core.specs.State.{LocalState, given}
+use Rattle.dstm_core.specs.State.{LocalState}
 use Rattle.dstm_core.specs.declared.event.Kind.{Kind}
-use Rattle.dstm_core.specs.declared.event.Kind.TheVariants.{Begin, Enrol, Install, LookSelf, Pause, Quit, Rank, Resume, Stamp, Validating as ToValidating}
+use Rattle.dstm_core.specs.declared.event.Kind.TheVariants.{Begin, Enrol, Quit, Rank, Stamp}
 use Rattle.dstm_core.specs.declared.shape.Shape.{Shape}
 use Rattle.dstm_core.specs.declared.state.Phase.TheVariants.{Outside}
 use Rattle.dstm_order.specs.Beginnings.{IsClear}
@@ -21,6 +21,7 @@ use Rattle.dstm_progress.proofs.Beginnings.{begin_kind, begins_last, spent_at}
 use Rattle.dstm_progress.proofs.Calls.{inside_phase, nothing_due}
 use Rattle.dstm_progress.proofs.Own.{AreAllowed}
 use Rattle.dstm_progress.proofs.OwnEvents.{after_own, allowed_own}
+use Rattle.std.proofs.lemmas.Bool.Decides.{nat_tests}
 
 -- ---- one event
 
@@ -30,17 +31,7 @@ clear_inside : (s : Shape) (l : LocalState) (e : Event) (k : Kind) → AllowedAs
 clear_inside s l e Stamp a i h = absurd (i a.2.0)
 clear_inside s l e Rank a i h = record { no_stamp = h.no_stamp; no_rank = inside_phase l.phase i }
 clear_inside s l e Begin a i h = record { no_stamp = refl; no_rank = refl }
-clear_inside s l e Install a i h = cond_both (e.found == e.expected) _ _ IsClear
-    (λ _. record { no_stamp = h.no_stamp; no_rank = h.no_rank }) (λ _. record { no_stamp = h.no_stamp; no_rank = h.no_rank })
-clear_inside s l e LookSelf a i h = cond_both (e.found == given l.phase) _ _ IsClear
-    (λ _. record { no_stamp = h.no_stamp; no_rank = h.no_rank }) (λ _. record { no_stamp = h.no_stamp; no_rank = h.no_rank })
-clear_inside s l e ToValidating a i h = cond_both (e.found == 1) _ _ IsClear
-    (λ _. record { no_stamp = h.no_stamp; no_rank = h.no_rank }) (λ _. record { no_stamp = h.no_stamp; no_rank = h.no_rank })
-clear_inside s l e Pause a i h = cond_both (e.found == 1) _ _ IsClear
-    (λ _. record { no_stamp = h.no_stamp; no_rank = h.no_rank }) (λ _. record { no_stamp = h.no_stamp; no_rank = h.no_rank })
-clear_inside s l e Resume a i h = cond_both (e.found == 2) _ _ IsClear
-    (λ _. record { no_stamp = h.no_stamp; no_rank = h.no_rank }) (λ _. record { no_stamp = h.no_stamp; no_rank = h.no_rank })
-clear_inside s l e k a i h = record { no_stamp = h.no_stamp; no_rank = h.no_rank }
+clear_inside s l e k a i h = record { no_stamp = grind (arith, nat_tests, h.no_stamp); no_rank = grind (arith, nat_tests, h.no_rank) }
 
 clear_at : (s : Shape) (l : LocalState) (e : Event) (k : Kind) → e.kind ≡ k → IsClear (after k s l e) →
     IsClear (after e.kind s l e)

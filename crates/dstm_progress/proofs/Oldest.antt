@@ -1,16 +1,16 @@
 -- An attempt that begins as the oldest is the oldest as long as it is under way; it never waits, and nobody aborts
 -- it.
 use Rattle.std.proofs.Common.{◌++◌, ◌+◌, ◌-◌, ◌/◌, ◌<◌, ◌==◌, ◌∙◌, ◌∷◌, ◌≡◌, ◌≢◌, ◌≤◌, ◌⊎◌, List, Option, None, Some, [], ap, arith, cond, false, inl, inr, is_some, refl, sym, true, ℕ}
-use Rattle.std.proofs.lemmas.Bool.{cases_eq, cond_both}
+use Rattle.std.proofs.lemmas.Bool.{cases_eq}
 use Rattle.std.proofs.lemmas.Bool.Decides.{nat_tests}
 use Rattle.dstm_core.specs.Rules.{AllowedAs, MayKill, after}
 use Rattle.dstm_core.specs.Runs.{Core, local}
-use Rattle.dstm_core.specs.State.{LocalState, given, is_live, is_resolved, keep_resolved, or_unresolved, or_zero, own_attempt, res, write_of}
+use Rattle.dstm_core.specs.State.{LocalState, given, is_live, or_unresolved, or_zero, own_attempt, res, write_of}
 use Rattle.dstm_core.specs.Traces.{at, word}
 use Rattle.dstm_core.specs.Words.Word.{RankWord, StampsWord, StatusWord}
 use Rattle.dstm_core.specs.Events.{Event}
 use Rattle.dstm_core.specs.declared.event.Kind.{Kind}
-use Rattle.dstm_core.specs.declared.event.Kind.TheVariants.{Begin, Commit, Draw, Install, Kill, LookHigh, LookNew, LookNumber, LookObj, LookOld, LookOwner, LookRank, LookSelf, LookStatus, Pause, PutHigh, PutNew, Quit, Release, Resume, Validating as ToValidating}
+use Rattle.dstm_core.specs.declared.event.Kind.TheVariants.{Begin, Kill, LookHigh, LookNew, LookObj, LookOld, LookOwner, LookRank, LookStatus, Pause}
 use Rattle.dstm_core.specs.declared.shape.Manager.{Manager}
 use Rattle.dstm_core.specs.declared.shape.Manager.TheVariants.{Greedy}
 use Rattle.dstm_core.specs.declared.shape.Shape.{Shape}
@@ -34,6 +34,7 @@ use Rattle.dstm_core.proofs.Underway.{live_under_way}
 use Rattle.dstm_opacity.proofs.Found.{live_below}
 use Rattle.dstm_opacity.proofs.Begins.{begun_later}
 use Rattle.dstm_core.proofs.Absent.{some_zero}
+use Rattle.dstm_core.proofs.Untouched.{unlooked}
 
 -- ---- the oldest stays the oldest
 
@@ -139,12 +140,6 @@ elder_of : (s : Shape) (es : List Event) (rank own : ℕ) (r : Option Resolution
     IsElder s es rank own (Some (or_unresolved r))
 elder_of s es rank own None h = ((λ p. absurd (omega arith)), (λ q. absurd (cc)))
 elder_of s es rank own (Some r) h = h
-
-elder_kept : (s : Shape) (es : List Event) (rank own : ℕ) (r : Option Resolution) → IsElder s es rank own r →
-    IsElder s es rank own (keep_resolved r)
-elder_kept s es rank own None h = tt
-elder_kept s es rank own (Some r) h =
-    cond_both (is_resolved r) (Some r) None (IsElder s es rank own) (λ _. h) (λ _. tt)
 
 pub owner_same : (s : Shape) (es : List Event) (e : Event) (x : ℕ) → Core s (e ∷ es) → Names s es x → 0 < x →
     owner_of s (e ∷ es) x ≡ owner_of s es x
@@ -255,51 +250,15 @@ elder_own s es e g core f LookHigh n a i h = let l = local s es e.caller in
     elder_of s (e ∷ es) l.rank (own_attempt s l) l.resolution h
 elder_own s es e g core f LookNew n a i h = let l = local s es e.caller in
     elder_of s (e ∷ es) l.rank (own_attempt s l) l.resolution h
-elder_own s es e g core f Install n a i h =
-    cond_both (e.found == e.expected) _ _ (λ (m : LocalState). IsElder s (e ∷ es) (local s es e.caller).rank
-    (own_attempt s (local s es e.caller)) m.resolution) (λ _. tt) (λ _. tt)
-elder_own s es e g core f LookNumber n a i h = let l = local s es e.caller in
-    elder_kept s (e ∷ es) l.rank (own_attempt s l) l.resolution h
-elder_own s es e g core f LookSelf n a i h =
-    cond_both (e.found == given (local s es e.caller).phase) _ _ (λ (m : LocalState). IsElder s (e ∷ es)
-    (local s es e.caller).rank (own_attempt s (local s es e.caller)) m.resolution) (λ _. h) (λ _. h)
-elder_own s es e g core f ToValidating n a i h =
-    cond_both (e.found == 1) _ _ (λ (m : LocalState). IsElder s (e ∷ es)
-    (local s es e.caller).rank (own_attempt s (local s es e.caller)) m.resolution) (λ _. h) (λ _. h)
-elder_own s es e g core f Pause n a i h =
-    cond_both (e.found == 1) _ _ (λ (m : LocalState). IsElder s (e ∷ es)
-    (local s es e.caller).rank (own_attempt s (local s es e.caller)) m.resolution) (λ _. h) (λ _. h)
-elder_own s es e g core f Resume n a i h =
-    cond_both (e.found == 2) _ _ (λ (m : LocalState). IsElder s (e ∷ es)
-    (local s es e.caller).rank (own_attempt s (local s es e.caller)) m.resolution) (λ _. h) (λ _. h)
-elder_own s es e g core f Release n a i h = tt
-elder_own s es e g core f k n a i h = h
+elder_own s es e g core f k n a i h =
+    unlooked (IsElder s (e ∷ es) (local s es e.caller).rank (own_attempt s (local s es e.caller))) s
+    (local s es e.caller) e k refl tt h
 
 -- ---- it never waits
 
 pub paused_how : (s : Shape) (l : LocalState) (e : Event) (k : Kind) → AllowedAs k s l e →
     (after k s l e).phase ≡ Paused → (k ≡ Pause) ⊎ (l.phase ≡ Paused)
-paused_how s l e Pause a h = inl refl
-paused_how s l e Begin a h = absurd (cc)
-paused_how s l e PutHigh a h = absurd (cc)
-paused_how s l e PutNew a h = absurd (cc)
-paused_how s l e Draw a h = absurd (cc)
-paused_how s l e Commit a h = absurd (cc)
-paused_how s l e Quit a h = absurd (cc)
-paused_how s l e Install a h = inr
-    (cond_both (e.found == e.expected) _ _ (λ (m : LocalState). m.phase ≡ Paused → l.phase ≡ Paused) (λ _ q. q)
-    (λ _ q. q) h)
-paused_how s l e LookSelf a h = inr
-    (cond_both (e.found == given l.phase) _ _ (λ (m : LocalState). m.phase ≡ Paused →
-    l.phase ≡ Paused) (λ _ q. q)
-    (λ _ q. absurd (cc)) h)
-paused_how s l e ToValidating a h = inr
-    (cond_both (e.found == 1) _ _ (λ (m : LocalState). m.phase ≡ Paused → l.phase ≡ Paused) (λ _ q. absurd (cc))
-    (λ _ q. absurd (cc)) h)
-paused_how s l e Resume a h = inr
-    (cond_both (e.found == 2) _ _ (λ (m : LocalState). m.phase ≡ Paused → l.phase ≡ Paused) (λ _ q. absurd (cc))
-    (λ _ q. absurd (cc)) h)
-paused_how s l e k a h = inr h
+paused_how s l e k a h = grind (arith, nat_tests)
 
 pause_may : (s : Shape) (l : LocalState) (e : Event) (k : Kind) → k ≡ Pause → AllowedAs k s l e →
     (is_some (res l).rank ≡ true) × (or_zero (res l).rank ≤ l.rank) × (is_live (or_zero (res l).status) ≡ true)

@@ -1,41 +1,41 @@
 -- Ranks under Greedy: the rank of an attempt that has begun stays, and so does what was found of it.
-use Rattle.std.proofs.Common.{◌%◌, ◌*◌, ◌+◌, ◌-◌, ◌/◌, ◌<◌, ◌==◌, ◌∙◌, ◌∷◌, ◌≡◌, ◌⊎◌, List, Option, None, Some, [], ap, arith, inl, inr, is_some, subst, sym, true, ℕ}
-use Rattle.std.proofs.lemmas.Bool.{cond_both}
+use Rattle.std.proofs.Common.{List, None, Option, Some, [], ap, arith, inl, inr, is_some, refl, subst, sym, true, ℕ, ◌%◌, ◌*◌, ◌+◌, ◌-◌, ◌/◌, ◌<◌, ◌∙◌, ◌∷◌, ◌≡◌}
 use Rattle.dstm_core.specs.Rules.{AllowedAs, after, rank_of}
 use Rattle.dstm_core.specs.Runs.{Core, local}
-use Rattle.dstm_core.specs.State.{LocalState, given, is_resolved, keep_resolved, or_unresolved, or_zero, res}
+use Rattle.dstm_core.specs.State.{or_unresolved, or_zero, res}
 use Rattle.dstm_core.specs.Traces.{word}
 use Rattle.dstm_core.specs.Words.Word.{RankWord}
 use Rattle.dstm_core.specs.Events.{Event}
 use Rattle.dstm_core.specs.declared.event.Kind.{Kind}
-use Rattle.dstm_core.specs.declared.event.Kind.TheVariants.{Begin, Install, Kill, LookHigh, LookNew, LookNumber, LookObj, LookOld, LookOwner, LookRank, LookSelf, LookStatus, Pause, Release, Resume, Validating as ToValidating}
+use Rattle.dstm_core.specs.declared.event.Kind.TheVariants.{Kill, LookHigh, LookNew, LookObj, LookOld, LookOwner, LookRank, LookStatus, Rank}
 use Rattle.dstm_core.specs.declared.shape.Manager.TheVariants.{Greedy}
 use Rattle.dstm_core.specs.declared.shape.Shape.{Shape}
 use Rattle.dstm_core.specs.declared.state.Resolution.{Resolution}
 use Rattle.dstm_core.proofs.Basic.{Names, OwnerIs, ResBasic, basic, owner_stays, res_known, res_more}
-use Rattle.dstm_core.proofs.Columns.{Begun, RankPut, Same, Step, caller_of, index_of, ranks, step}
+use Rattle.dstm_core.proofs.Columns.{Aims, Begun, Step, caller_of, index_of, stays, step}
 use Rattle.dstm_core.proofs.Stamps.{rank_may}
 use Rattle.dstm_core.proofs.Places.{put_at}
 use Rattle.dstm_core.proofs.Static.{callers}
 use Rattle.dstm_core.proofs.Statuses.{next_number}
 use Rattle.dstm_opacity.proofs.Versions.{owner_of}
+use Rattle.dstm_core.proofs.Untouched.{unlooked}
 
 -- a Rank under Greedy stores the rank of the first unused attempt of its caller
 rank_target : (s : Shape) (es : List Event) (e : Event) (a : ℕ) → s.manager ≡ Greedy → Step s es e →
-    RankPut s es e a → a ≡ e.caller * s.attempts + (local s es e.caller).begun
+    Aims e Rank a (rank_of (local s es e.caller).phase s (local s es e.caller)) →
+    a ≡ e.caller * s.attempts + (local s es e.caller).begun
 rank_target s es e a g p r =
     let may = rank_may s (local s es e.caller) e e.kind r.kind g p.fits.allowed in
-    r.attempt ∙ ap (λ q. rank_of q s (local s es e.caller)) may.outside
+    r.number ∙ ap (λ q. rank_of q s (local s es e.caller)) may.outside
     ∙ next_number s e.caller (local s es e.caller) p.own may.number
 
 -- the rank of an attempt that began stays
 pub begun_rank_stays : (s : Shape) (es : List Event) (e : Event) (a : ℕ) → s.manager ≡ Greedy → Step s es e →
     Begun s es a → word s (e ∷ es) (RankWord a) ≡ word s es (RankWord a)
-begun_rank_stays s es e a g p b = go (ranks s es e a p b.below)
+begun_rank_stays s es e a g p b = stays s es e (RankWord a) p b.below other
   where
-    go : Same s es e (RankWord a) ⊎ RankPut s es e a → word s (e ∷ es) (RankWord a) ≡ word s es (RankWord a)
-    go (inl x) = x
-    go (inr r) =
+    other : Aims e Rank a (rank_of (local s es e.caller).phase s (local s es e.caller)) → ⊥
+    other r =
         let t = rank_target s es e a g p r in
         let may = rank_may s (local s es e.caller) e e.kind r.kind g p.fits.allowed in
         let owner : a / s.attempts ≡ e.caller = ap (λ n. n / s.attempts) t
@@ -44,7 +44,7 @@ begun_rank_stays s es e a g p b = go (ranks s es e a p b.below)
         ∙ index_of e.caller s.attempts (local s es e.caller).begun may.begun in
         let before : a % s.attempts < (local s es e.caller).begun =
         subst (λ n. a % s.attempts < (local s es n).begun) owner b.begun in
-        absurd (omega arith)
+        omega arith
 
 -- ---- what was found of a rank
 
@@ -80,11 +80,6 @@ pub found_rank : (s : Shape) (es : List Event) (r : Option Resolution) → RankF
 found_rank s es None h n q = absurd (cc)
 found_rank s es (Some r) h n q = h n q
 
-found_kept : (s : Shape) (es : List Event) (r : Option Resolution) → RankFound s es r →
-    RankFound s es (keep_resolved r)
-found_kept s es None h = tt
-found_kept s es (Some r) h = cond_both (is_resolved r) (Some r) None (RankFound s es) (λ _. h) (λ _. tt)
-
 -- an owner that was found is the locator's
 pub owner_known : (s : Shape) (es : List Event) (x : ℕ) (o : Option ℕ) → OwnerIs s es x o → is_some o ≡ true →
     (0 < x) × (or_zero o ≡ owner_of s es x)
@@ -95,7 +90,6 @@ found_own : (s : Shape) (es : List Event) (e : Event) → s.manager ≡ Greedy �
     AllowedAs k s (local s es e.caller) e → ResBasic s (e ∷ es) (local s es e.caller).resolution →
     RankFound s (e ∷ es) (local s es e.caller).resolution →
     RankFound s (e ∷ es) (after k s (local s es e.caller) e).resolution
-found_own s es e g core Begin a b h = tt
 found_own s es e g core LookObj a b h = λ n q. absurd (cc)
 found_own s es e g core LookOwner a b h = found_rank s (e ∷ es) (local s es e.caller).resolution h
 found_own s es e g core LookStatus a b h = found_rank s (e ∷ es) (local s es e.caller).resolution h
@@ -109,21 +103,7 @@ found_own s es e g core LookOld a b h = found_rank s (e ∷ es) (local s es e.ca
 found_own s es e g core LookHigh a b h = found_rank s (e ∷ es) (local s es e.caller).resolution h
 found_own s es e g core LookNew a b h = found_rank s (e ∷ es) (local s es e.caller).resolution h
 found_own s es e g core Kill a b h = found_rank s (e ∷ es) (local s es e.caller).resolution h
-found_own s es e g core Install a b h =
-    cond_both (e.found == e.expected) _ _ (λ (l : LocalState). RankFound s (e ∷ es) l.resolution) (λ _. tt)
-    (λ _. tt)
-found_own s es e g core LookNumber a b h = found_kept s (e ∷ es) (local s es e.caller).resolution h
-found_own s es e g core LookSelf a b h =
-    cond_both (e.found == given (local s es e.caller).phase) _ _
-    (λ (l : LocalState). RankFound s (e ∷ es) l.resolution) (λ _. h) (λ _. h)
-found_own s es e g core Release a b h = tt
-found_own s es e g core ToValidating a b h =
-    cond_both (e.found == 1) _ _ (λ (l : LocalState). RankFound s (e ∷ es) l.resolution) (λ _. h) (λ _. h)
-found_own s es e g core Pause a b h =
-    cond_both (e.found == 1) _ _ (λ (l : LocalState). RankFound s (e ∷ es) l.resolution) (λ _. h) (λ _. h)
-found_own s es e g core Resume a b h =
-    cond_both (e.found == 2) _ _ (λ (l : LocalState). RankFound s (e ∷ es) l.resolution) (λ _. h) (λ _. h)
-found_own s es e g core k a b h = h
+found_own s es e g core k a b h = unlooked (RankFound s (e ∷ es)) s (local s es e.caller) e k refl tt h
 
 -- what each caller found of a rank holds
 pub rank_found : (s : Shape) (es : List Event) → s.manager ≡ Greedy → Core s es → (c : ℕ) →

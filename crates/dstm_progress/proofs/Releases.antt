@@ -1,5 +1,5 @@
 -- No Release without a call that lets a read go.
-use Rattle.std.proofs.Common.{◌&&◌, ◌≡◌, ◌≢◌, ◌⊎◌, ◌∙◌, ◌++◌, ◌∷◌, ◌==◌, ◌||◌, Bool, List, [], Some, None, true, false, ap, inl, inr, refl, subst, sym, not, ℕ}
+use Rattle.std.proofs.Common.{◌&&◌, ◌≡◌, ◌≢◌, ◌⊎◌, ◌∙◌, ◌++◌, ◌∷◌, ◌==◌, ◌||◌, List, [], Some, None, true, false, ap, inl, inr, refl, subst, sym, not, ℕ}
 use Rattle.std.specs.Prelude.{Option, if◌then◌else◌, is_some}
 use Rattle.std.proofs.lemmas.Bool.{cases_Bool, cond_both, eq-eqb}
 use Rattle.rand_pcg.specs.Lcg.{Lcg}

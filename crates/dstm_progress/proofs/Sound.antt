@@ -14,6 +14,7 @@ use Rattle.dstm_core.specs.declared.state.Phase.TheVariants.{Drawn, Outside, Pau
 use Rattle.dstm_order.specs.Calls.{state_after}
 use Rattle.dstm_progress.proofs.Own.{AreAllowed}
 use Rattle.dstm_progress.proofs.OwnEvents.{allowed_before, whole_allowed, whole_state}
+use Rattle.dstm_core.proofs.Enrolment.{number_kept}
 
 -- an attempt has a number drawn once it is in the phase Drawn, and before that none
 abbrev pub DrawnIn : Phase → Option ℕ → Type 0
@@ -124,17 +125,7 @@ sound_before s c run before events core own =
 number_step : (s : Shape) (l : LocalState) (e : Event) (k : Kind) → AllowedAs k s l e → is_some l.number ≡ true →
     (after k s l e).number ≡ l.number
 number_step s l e Enrol a h = absurd (let x = ap is_some a.2 in cc)
-number_step s l e Install a h =
-    cond_both (e.found == e.expected) _ _ (λ (m : LocalState). m.number ≡ l.number) (λ _. refl) (λ _. refl)
-number_step s l e LookSelf a h =
-    cond_both (e.found == given l.phase) _ _ (λ (m : LocalState). m.number ≡ l.number) (λ _. refl) (λ _. refl)
-number_step s l e ToValidating a h =
-    cond_both (e.found == 1) _ _ (λ (m : LocalState). m.number ≡ l.number) (λ _. refl) (λ _. refl)
-number_step s l e Pause a h =
-    cond_both (e.found == 1) _ _ (λ (m : LocalState). m.number ≡ l.number) (λ _. refl) (λ _. refl)
-number_step s l e Resume a h =
-    cond_both (e.found == 2) _ _ (λ (m : LocalState). m.number ≡ l.number) (λ _. refl) (λ _. refl)
-number_step s l e k a h = refl
+number_step s l e k a h = number_kept s l e k (λ q. cc)
 
 pub number_stays : (s : Shape) (l : LocalState) (es : List Event) → AreAllowed s l es → is_some l.number ≡ true →
     (state_after s l es).number ≡ l.number

@@ -1,12 +1,12 @@
 -- A read that was found stale: the event that found it so.
-use Rattle.std.proofs.Common.{◌==◌, ◌||◌, ◌∙◌, ◌∷◌, ◌≡◌, ◌≢◌, ◌⊎◌, List, None, [], ap, arith, false, inl, inr, is_some, refl, true, ℕ}
+use Rattle.std.proofs.Common.{◌||◌, ◌∙◌, ◌∷◌, ◌≡◌, ◌≢◌, ◌⊎◌, List, None, [], ap, arith, false, inl, inr, is_some, refl, true, ℕ}
 use Rattle.std.specs.Prelude.{slice_get}
-use Rattle.std.proofs.lemmas.Bool.{cond_both, or_right}
+use Rattle.std.proofs.lemmas.Bool.{or_right}
 use Rattle.dstm_core.specs.Events.{Event}
 use Rattle.dstm_core.specs.Rules.{AllowedAs, after}
-use Rattle.dstm_core.specs.State.{LocalState, given, or_read}
+use Rattle.dstm_core.specs.State.{LocalState, or_read}
 use Rattle.dstm_core.specs.declared.event.Kind.{Kind}
-use Rattle.dstm_core.specs.declared.event.Kind.TheVariants.{Begin, Check, Install, LookObj, LookSelf, Pause, Quit, Resume, Validating as ToValidating}
+use Rattle.dstm_core.specs.declared.event.Kind.TheVariants.{Check, LookObj, Quit}
 use Rattle.dstm_core.specs.declared.shape.Shape.{Shape}
 use Rattle.dstm_core.specs.declared.state.Phase.TheVariants.{Drawn, Outside, Running}
 use Rattle.dstm_order.specs.Calls.{Obeys, due_after, effort_of, newest_of, stale_object, state_after}
@@ -18,6 +18,7 @@ use Rattle.dstm_progress.proofs.Own.{AreAllowed}
 use Rattle.rand_pcg.specs.Lcg.{Lcg}
 use Rattle.dstm_progress.specs.Causes.{Has, finds_stale}
 use Rattle.dstm_progress.proofs.Sound.{Sound, drawn_in, sound_after}
+use Rattle.std.proofs.lemmas.Bool.Decides.{nat_tests}
 
 -- an event that finds a read stale is at the object of this read
 stale_how : (s : Shape) (l : LocalState) (e : Event) (k : Kind) → AllowedAs k s l e → Sound l →
@@ -30,19 +31,7 @@ stale_how s l e Check a h was now =
         (is_some l.pass || is_some l.drawn) ≡ true
     some (inl x) = rw x.1 refl
     some (inr q) = or_right (is_some l.pass) (is_some l.drawn) (drawn_in l Drawn h q)
-stale_how s l e Begin a h was now = absurd (cc)
-stale_how s l e Install a h was now =
-    absurd (cond_both (e.found == e.expected) _ _ (λ (m : LocalState). m.stale ≡ true → ⊥) (λ _ q. cc) (λ _ q. cc) now)
-stale_how s l e LookSelf a h was now =
-    absurd (cond_both (e.found == given l.phase) _ _ (λ (m : LocalState). m.stale ≡ true → ⊥) (λ _ q. cc) (λ _ q. cc)
-    now)
-stale_how s l e ToValidating a h was now =
-    absurd (cond_both (e.found == 1) _ _ (λ (m : LocalState). m.stale ≡ true → ⊥) (λ _ q. cc) (λ _ q. cc) now)
-stale_how s l e Pause a h was now =
-    absurd (cond_both (e.found == 1) _ _ (λ (m : LocalState). m.stale ≡ true → ⊥) (λ _ q. cc) (λ _ q. cc) now)
-stale_how s l e Resume a h was now =
-    absurd (cond_both (e.found == 2) _ _ (λ (m : LocalState). m.stale ≡ true → ⊥) (λ _ q. cc) (λ _ q. cc) now)
-stale_how s l e k a h was now = absurd (cc)
+stale_how s l e k a h was now = absurd (grind (arith, nat_tests))
 
 pub quit_object : (s : Shape) (l : LocalState) (e : Event) (k : Kind) → k ≡ Quit →
     stale_object (after k s l e) ≡ stale_object l

@@ -1,17 +1,15 @@
 -- What an attempt was handed is validated at once.
-use Rattle.std.proofs.Common.{◌≡◌, ◌⊎◌, ◌∙◌, ◌++◌, ◌∷◌, ◌==◌, ◌&&◌, ◌||◌, Bool, List, [], Some, None, true, false, ap, inl, inr, refl, subst, sym, not, ℕ}
+use Rattle.std.proofs.Common.{◌≡◌, ◌⊎◌, ◌∙◌, ◌++◌, ◌∷◌, ◌==◌, ◌&&◌, ◌||◌, Bool, List, [], Some, None, true, false, ap, inl, inr, refl, subst, sym, not}
 use Rattle.std.specs.Prelude.{Option, if◌then◌else◌, is_some}
-use Rattle.std.proofs.lemmas.Bool.{cases_Bool, cond_both, or_parts}
+use Rattle.std.proofs.lemmas.Bool.{cases_Bool, cond_both}
 use Rattle.rand_pcg.specs.Lcg.{Lcg}
 use Rattle.dstm_core.specs.Events.{Event}
 use Rattle.dstm_core.specs.Rules.{AllowedAs, after, is_outside}
 use Rattle.dstm_core.specs.State.{LocalState, first}
-use Rattle.dstm_core.specs.Traces.{events_of}
 use Rattle.dstm_core.specs.declared.event.Kind.{Kind}
-use Rattle.dstm_core.specs.declared.event.Kind.TheVariants.{Begin, Check, Enrol, Install, LookNumber, LookSelf, Quit, Rank, Stamp}
+use Rattle.dstm_core.specs.declared.event.Kind.TheVariants.{Begin, Check, Install, LookNumber, LookSelf, Quit, Rank, Stamp}
 use Rattle.dstm_core.specs.declared.shape.Manager.{Manager}
 use Rattle.dstm_core.specs.declared.shape.Shape.{Shape}
-use Rattle.dstm_core.specs.declared.state.Phase.{Phase}
 use Rattle.dstm_core.specs.declared.state.Phase.TheVariants.{Running}
 use Rattle.dstm_machines.specs.Traces.{Each}
 use Rattle.dstm_order.specs.Calls.{IsCall, Obeys, effort_of, newest_of, state_after}
@@ -24,7 +22,7 @@ use Rattle.dstm_order.specs.Tasks.{Task, Work}
 use Rattle.dstm_order.specs.Tasks.Task.{Beginning, Doing, Enrolling, Leaving}
 use Rattle.dstm_order.proofs.Rows.{pass_by}
 use Rattle.dstm_progress.specs.Lives.{EveryValueIsValidated, IsOfPass, awaits_after, awaits_sight}
-use Rattle.dstm_progress.proofs.Own.{AreAllowed, allowed_split, state_both}
+use Rattle.dstm_progress.proofs.Own.{AreAllowed, allowed_split}
 use Rattle.dstm_progress.proofs.OwnEvents.{whole_allowed}
 
 -- ---- what is due while a value awaits a sight

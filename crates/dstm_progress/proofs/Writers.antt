@@ -3,7 +3,7 @@ use Rattle.std.proofs.Common.{◌++◌, ◌==◌, ◌∙◌, ◌∷◌, ◌≡�
 use Rattle.std.proofs.lemmas.Bool.{cases_Bool, cond_both, or_right}
 use Rattle.dstm_core.specs.Rules.{AllowedAs, after}
 use Rattle.dstm_core.specs.Runs.{Core, local}
-use Rattle.dstm_core.specs.State.{LocalState, drop_read, given, keep_resolved, res}
+use Rattle.dstm_core.specs.State.{LocalState, drop_read, keep_resolved, res}
 use Rattle.dstm_core.specs.Traces.{events_of}
 use Rattle.dstm_core.specs.Events.{Event}
 use Rattle.dstm_core.specs.declared.event.Kind.{Kind}
@@ -29,6 +29,9 @@ use Rattle.dstm_progress.proofs.Calls.{inside_phase, nothing_due}
 use Rattle.dstm_progress.proofs.Own.{AreAllowed, allowed_split, own_allowed, state_both}
 use Rattle.dstm_progress.proofs.Room.{opens}
 use Rattle.dstm_order.proofs.Rows.{Resolves, checking_by, checks_by, giving_way_by, pass_by, passed_by, put_by, putting_by, resolving_by}
+use Rattle.dstm_core.proofs.Untouched.{reads_stay, unlooked}
+use Rattle.std.proofs.lemmas.Bool.Decides.{nat_tests}
+use Rattle.dstm_core.proofs.Enrolment.{number_kept}
 
 -- ---- which events are due while an object is resolved
 
@@ -225,45 +228,19 @@ reads_after s l e Install c h =
     (λ _. ap (drop_read (res l).object) h) (λ _. h)
 reads_after s l e LookNumber c h = rw (c refl) h
 reads_after s l e Release c h = ap (drop_read e.place) h
-reads_after s l e LookSelf c h =
-    cond_both (e.found == given l.phase) _ _ (λ (m : LocalState). m.reads ≡ []) (λ _. h) (λ _. h)
-reads_after s l e ToValidating c h =
-    cond_both (e.found == 1) _ _ (λ (m : LocalState). m.reads ≡ []) (λ _. h) (λ _. h)
-reads_after s l e Pause c h = cond_both (e.found == 1) _ _ (λ (m : LocalState). m.reads ≡ []) (λ _. h) (λ _. h)
-reads_after s l e Resume c h = cond_both (e.found == 2) _ _ (λ (m : LocalState). m.reads ≡ []) (λ _. h) (λ _. h)
-reads_after s l e k c h = h
+reads_after s l e k c h = reads_stay s l e k refl ∙ h
 
 agreed_after : (s : Shape) (l : LocalState) (e : Event) (k : Kind) → AllowedAs k s l e → l.reads ≡ [] →
     l.stale ≡ false → (after k s l e).stale ≡ false
 agreed_after s l e Begin a r h = refl
 agreed_after s l e LookObj a r h = rw r refl
 agreed_after s l e Check a r h = absurd (let x = a.2.2 in let y = ap length r in omega arith)
-agreed_after s l e Install a r h =
-    cond_both (e.found == e.expected) _ _ (λ (m : LocalState). m.stale ≡ false) (λ _. h) (λ _. h)
-agreed_after s l e LookSelf a r h =
-    cond_both (e.found == given l.phase) _ _ (λ (m : LocalState). m.stale ≡ false) (λ _. h) (λ _. h)
-agreed_after s l e ToValidating a r h =
-    cond_both (e.found == 1) _ _ (λ (m : LocalState). m.stale ≡ false) (λ _. h) (λ _. h)
-agreed_after s l e Pause a r h =
-    cond_both (e.found == 1) _ _ (λ (m : LocalState). m.stale ≡ false) (λ _. h) (λ _. h)
-agreed_after s l e Resume a r h =
-    cond_both (e.found == 2) _ _ (λ (m : LocalState). m.stale ≡ false) (λ _. h) (λ _. h)
-agreed_after s l e k a r h = h
+agreed_after s l e k a r h = grind (arith, nat_tests)
 
 number_after : (s : Shape) (l : LocalState) (e : Event) (k : Kind) → is_some l.number ≡ true →
     is_some (after k s l e).number ≡ true
 number_after s l e Enrol h = refl
-number_after s l e Install h =
-    cond_both (e.found == e.expected) _ _ (λ (m : LocalState). is_some m.number ≡ true) (λ _. h) (λ _. h)
-number_after s l e LookSelf h =
-    cond_both (e.found == given l.phase) _ _ (λ (m : LocalState). is_some m.number ≡ true) (λ _. h) (λ _. h)
-number_after s l e ToValidating h =
-    cond_both (e.found == 1) _ _ (λ (m : LocalState). is_some m.number ≡ true) (λ _. h) (λ _. h)
-number_after s l e Pause h =
-    cond_both (e.found == 1) _ _ (λ (m : LocalState). is_some m.number ≡ true) (λ _. h) (λ _. h)
-number_after s l e Resume h =
-    cond_both (e.found == 2) _ _ (λ (m : LocalState). is_some m.number ≡ true) (λ _. h) (λ _. h)
-number_after s l e k h = h
+number_after s l e k h = ap is_some (number_kept s l e k (λ q. cc)) ∙ h
 
 clear_after : (s : Shape) (l : LocalState) (e : Event) (k : Kind) → AllowedAs k s l e → l.reads ≡ [] →
     is_some l.number ≡ true → (is_calm k ≡ true → l.resolution ≡ None) → is_busy k ≡ false →
@@ -274,14 +251,10 @@ clear_after s l e Begin a r n c b i = refl
 clear_after s l e Quit a r n c b i = absurd (i refl)
 clear_after s l e Check a r n c b i = absurd (let x = a.2.2 in let y = ap length r in omega arith)
 clear_after s l e Release a r n c b i = refl
-clear_after s l e Install a r n c b i =
-    cond_both (e.found == e.expected) _ _ (λ (m : LocalState). m.resolution ≡ None) (λ _. refl) (λ _. refl)
+clear_after s l e Install a r n c b i = grind (arith, nat_tests)
 clear_after s l e LookNumber a r n c b i = ap keep_resolved (c refl)
-clear_after s l e LookSelf a r n c b i =
-    cond_both (e.found == given l.phase) _ _ (λ (m : LocalState). m.resolution ≡ None) (λ _. c refl)
-    (λ _. c refl)
-clear_after s l e ToValidating a r n c b i =
-    cond_both (e.found == 1) _ _ (λ (m : LocalState). m.resolution ≡ None) (λ _. c refl) (λ _. c refl)
+clear_after s l e LookSelf a r n c b i = unlooked (λ o. o ≡ None) s l e LookSelf refl refl (c refl)
+clear_after s l e ToValidating a r n c b i = unlooked (λ o. o ≡ None) s l e ToValidating refl refl (c refl)
 clear_after s l e Rank a r n c b i = c refl
 clear_after s l e PutHigh a r n c b i = c refl
 clear_after s l e PutNew a r n c b i = c refl

@@ -1,0 +1,61 @@
+-- Which parts of a caller's state an event leaves as they were.
+use Rattle.std.proofs.Common.{Bool, ◌≡◌, ◌⊎◌, List, None, Option, Some, arith, false, inl, inr, refl, subst, sym, true}
+use Rattle.std.proofs.lemmas.Bool.Decides.{nat_tests}
+use Rattle.std.proofs.lemmas.Bool.{cond_both}
+use Rattle.dstm_core.specs.Events.{Event}
+use Rattle.dstm_core.specs.Rules.{after}
+use Rattle.dstm_core.specs.State.{LocalState, is_resolved, keep_resolved}
+use Rattle.dstm_core.specs.declared.event.Kind.TheVariants.{Begin, Install, Kill, LookHigh, LookNew, LookNumber, LookObj, LookOld, LookOwner, LookRank, LookStatus, Release}
+use Rattle.dstm_core.specs.declared.event.Kind.{Kind}
+use Rattle.dstm_core.specs.declared.shape.Shape.{Shape}
+use Rattle.dstm_core.specs.declared.state.Read.{Read}
+use Rattle.dstm_core.specs.declared.state.Resolution.{Resolution}
+
+-- kinds that find something out of the object that is being resolved
+abbrev pub is_look : Kind → Bool
+is_look LookObj = true
+is_look LookOwner = true
+is_look LookStatus = true
+is_look LookRank = true
+is_look LookOld = true
+is_look LookHigh = true
+is_look LookNew = true
+is_look Kill = true
+is_look k = false
+
+kept_how : (r : Option Resolution) → (keep_resolved r ≡ r) ⊎ (keep_resolved r ≡ None)
+kept_how None = inl refl
+kept_how (Some r) = cond_both (is_resolved r) (Some r) None (λ o. (o ≡ Some r) ⊎ (o ≡ None)) (λ _. inl refl)
+    (λ _. inr refl)
+
+resolution_how : (s : Shape) (l : LocalState) (e : Event) (k : Kind) → is_look k ≡ false →
+    ((after k s l e).resolution ≡ l.resolution) ⊎ ((after k s l e).resolution ≡ None)
+resolution_how s l e LookNumber q = kept_how l.resolution
+resolution_how s l e k q = grind (arith, nat_tests)
+
+-- any other leaves the resolution, or drops it
+pub unlooked : (P : Option Resolution → Type 0) (s : Shape) (l : LocalState) (e : Event) (k : Kind) →
+    is_look k ≡ false → P None → P l.resolution → P (after k s l e).resolution
+unlooked P s l e k q none h = go (resolution_how s l e k q)
+  where
+    go : ((after k s l e).resolution ≡ l.resolution) ⊎ ((after k s l e).resolution ≡ None) →
+        P (after k s l e).resolution
+    go (inl x) = subst P (sym x) h
+    go (inr x) = subst P (sym x) none
+
+-- kinds that change what is recorded of reads
+abbrev pub records : Kind → Bool
+records Begin = true
+records Install = true
+records LookNumber = true
+records Release = true
+records k = false
+
+pub reads_stay : (s : Shape) (l : LocalState) (e : Event) (k : Kind) → records k ≡ false →
+    (after k s l e).reads ≡ l.reads
+reads_stay s l e k q = grind (arith, nat_tests)
+
+-- any other leaves them
+pub unrecorded : (P : List Read → Type 0) (s : Shape) (l : LocalState) (e : Event) (k : Kind) →
+    records k ≡ false → P l.reads → P (after k s l e).reads
+unrecorded P s l e k q h = subst P (sym (reads_stay s l e k q)) h
