@@ -20,6 +20,7 @@ use Rattle.dstm_core.proofs.Columns.{Aims, Same, Step, caller_of, in_table, stam
 use Rattle.dstm_core.proofs.Places.{put_at}
 use Rattle.dstm_core.proofs.Static.{callers, running, static}
 use Rattle.dstm_core.proofs.Statuses.{begun_up, next_number}
+use Rattle.std.proofs.lemmas.Bool.Decides.{nat_tests}
 
 -- ---- Greedy's own kinds
 
@@ -85,6 +86,11 @@ pub data StampHow (s : Shape) (l : LocalState) (e : Event) (k : Kind) : Type 0 w
       (l.phase ≡ Outside → ((after k s l e).phase ≡ Outside) × ((after k s l e).stands ≡ l.stands)) →
       StampHow s l e k
 
+-- who is outside an attempt stays there, but at a Begin
+stays_outside : (s : Shape) (l : LocalState) (e : Event) (k : Kind) → AllowedAs k s l e → k ≢ Begin →
+    l.phase ≡ Outside → (after k s l e).phase ≡ Outside
+stays_outside s l e k a b q = grind (arith, nat_tests)
+
 -- the state of a kind that touches none of it, in the same phase
 unstamped : (s : Shape) (l : LocalState) (e : Event) (k : Kind) → k ≢ Begin → k ≢ Rank → k ≢ Stamp →
     (after k s l e).ranked ≡ l.ranked → (after k s l e).rank ≡ l.rank → (after k s l e).number ≡ l.number →
@@ -104,72 +110,11 @@ stamp_how s l e Begin a = at_begin refl (go a.2.3) refl refl refl
     go : (s.manager ≡ Polite) ⊎ (l.ranked ≡ true) → (l.ranked ≡ true) ⊎ (s.manager ≡ Polite)
     go (inl x) = inr x
     go (inr x) = inl x
-stamp_how s l e Install a = go (cases_Bool (e.found == e.expected))
-  where
-    go : (e.found == e.expected ≡ true) ⊎ (e.found == e.expected ≡ false) → StampHow s l e Install
-    go (inl q) = unstamped s l e Install (λ q. cc) (λ q. cc) (λ q. cc) (rw q refl) (rw q refl) (rw q refl)
-        (rw q refl)
-        (rw q refl) (rw q (λ h. h)) (rw q (λ h. h))
-    go (inr q) = unstamped s l e Install (λ q. cc) (λ q. cc) (λ q. cc) (rw q refl) (rw q refl) (rw q refl)
-        (rw q refl)
-        (rw q refl) (rw q (λ h. h)) (rw q (λ h. h))
-stamp_how s l e LookSelf a = go (cases_Bool (e.found == given l.phase))
-  where
-    go : (e.found == given l.phase ≡ true) ⊎ (e.found == given l.phase ≡ false) → StampHow s l e LookSelf
-    go (inl q) = unstamped s l e LookSelf (λ q. cc) (λ q. cc) (λ q. cc) (rw q refl) (rw q refl) (rw q refl)
-        (rw q refl)
-        (rw q refl) (rw q (λ h. h)) (rw q (λ h. h))
-    go (inr q) = unstamped s l e LookSelf (λ q. cc) (λ q. cc) (λ q. cc) (rw q refl) (rw q refl) (rw q refl)
-        (rw q refl)
-        (rw q refl) (rw q (λ h. absurd (h refl))) (rw q (λ h. refl))
-stamp_how s l e PutHigh a = unstamped s l e PutHigh (λ q. cc) (λ q. cc) (λ q. cc) refl refl refl refl refl
-    (λ _ q. go q a.2.0) (λ q. absurd (go q a.2.0))
-  where
-    go : l.phase ≡ Outside → (l.phase ≡ Running) ⊎ (l.phase ≡ Putting) → ⊥
-    go q (inl z) = cc
-    go q (inr z) = cc
-stamp_how s l e PutNew a = unstamped s l e PutNew (λ q. cc) (λ q. cc) (λ q. cc) refl refl refl refl refl
-    (λ _ q. let z = a.2.0 in cc) (λ q. absurd (let z = a.2.0 in cc))
-stamp_how s l e ToValidating a = go (cases_Bool (e.found == 1))
-  where
-    inside : ((l.phase ≡ Running) × (l.writes ≡ [])) ⊎ ((l.phase ≡ Putting) × (l.written ≡ length l.writes)) →
-        l.phase ≡ Outside → ⊥
-    inside (inl z) q = let y = z.0 in cc
-    inside (inr z) q = let y = z.0 in cc
-
-    go : (e.found == 1 ≡ true) ⊎ (e.found == 1 ≡ false) → StampHow s l e ToValidating
-    go (inl q) = unstamped s l e ToValidating (λ q. cc) (λ q. cc) (λ q. cc) (rw q refl) (rw q refl) (rw q refl)
-        (rw q refl)
-        (rw q refl) (λ _. inside a.2.0) (λ z. absurd (inside a.2.0 z))
-    go (inr q) = unstamped s l e ToValidating (λ q. cc) (λ q. cc) (λ q. cc) (rw q refl) (rw q refl) (rw q refl)
-        (rw q refl)
-        (rw q refl) (λ _. inside a.2.0) (λ z. absurd (inside a.2.0 z))
-stamp_how s l e Draw a = unstamped s l e Draw (λ q. cc) (λ q. cc) (λ q. cc) refl refl refl refl refl
-    (λ _ q. let z = a.2.0 in cc) (λ q. absurd (let z = a.2.0 in cc))
 stamp_how s l e Commit a = at_other (λ q. cc) (λ q. cc) (λ q. cc) refl refl refl refl
-    (cond_both (e.found == 3) false l.stands (λ b. b ≡ true → l.stands ≡ true) (λ _ q. absurd (cc)) (λ _ q. q))
-    (λ h. absurd (h refl)) (λ q. absurd (let z = a.2.0 in cc))
-stamp_how s l e Quit a = unstamped s l e Quit (λ q. cc) (λ q. cc) (λ q. cc) refl refl refl refl refl
-    (λ h. absurd (h refl)) (λ _. refl)
-stamp_how s l e Pause a = go (cases_Bool (e.found == 1))
-  where
-    go : (e.found == 1 ≡ true) ⊎ (e.found == 1 ≡ false) → StampHow s l e Pause
-    go (inl q) = unstamped s l e Pause (λ q. cc) (λ q. cc) (λ q. cc) (rw q refl) (rw q refl) (rw q refl)
-        (rw q refl)
-        (rw q refl) (λ _ z. let y = a.2.0 in cc) (λ z. absurd (let y = a.2.0 in cc))
-    go (inr q) = unstamped s l e Pause (λ q. cc) (λ q. cc) (λ q. cc) (rw q refl) (rw q refl) (rw q refl)
-        (rw q refl)
-        (rw q refl) (λ _ z. let y = a.2.0 in cc) (λ z. absurd (let y = a.2.0 in cc))
-stamp_how s l e Resume a = go (cases_Bool (e.found == 2))
-  where
-    go : (e.found == 2 ≡ true) ⊎ (e.found == 2 ≡ false) → StampHow s l e Resume
-    go (inl q) = unstamped s l e Resume (λ q. cc) (λ q. cc) (λ q. cc) (rw q refl) (rw q refl) (rw q refl)
-        (rw q refl)
-        (rw q refl) (λ _ z. let y = a.2.0 in cc) (λ z. absurd (let y = a.2.0 in cc))
-    go (inr q) = unstamped s l e Resume (λ q. cc) (λ q. cc) (λ q. cc) (rw q refl) (rw q refl) (rw q refl)
-        (rw q refl)
-        (rw q refl) (λ _ z. let y = a.2.0 in cc) (λ z. absurd (let y = a.2.0 in cc))
-stamp_how s l e k a = unstamped s l e k (λ q. cc) (λ q. cc) (λ q. cc) refl refl refl refl refl (λ h. h) (λ h. h)
+    (λ q. grind (arith, nat_tests)) (λ h. absurd (h refl)) (λ q. absurd (let z = a.2.0 in cc))
+stamp_how s l e k a = unstamped s l e k (λ q. cc) (λ q. cc) (λ q. cc) (grind (arith, nat_tests))
+    (grind (arith, nat_tests)) (grind (arith, nat_tests)) (grind (arith, nat_tests)) (grind (arith, nat_tests))
+    (λ h z. h (stays_outside s l e k a (λ q. cc) z)) (stays_outside s l e k a (λ q. cc))
 
 -- ---- stamps that stand
 
