@@ -1,6 +1,6 @@
 -- What the commands read, what they write, and with which status they end.
 use Rattle.std.specs.Prelude.{◌≡◌, ℕ, ◌+◌, Bool, true, false, nat_le, if◌then◌else◌, String, string_bytes, List, []}
-use Rattle.std.specs.Prelude.{◌++◌, ◌⊎◌, All}
+use Rattle.std.specs.Prelude.{◌++◌, ◌⊎◌}
 use Rattle.std.specs.Prelude.{length, map, sum, Option, Some, None, IfSome, Result, Ok, Err, IsOk, codes, decimal}
 use Rattle.std.specs.Global.{Global}
 use Rattle.dstm_text.specs.Lines.{lines_of, split_lines}

@@ -1,18 +1,17 @@
 -- The text of a generated workload is short.
-use Rattle.std.proofs.Common.{◌≡◌, ℕ, ◌+◌, ◌*◌, ◌^◌, ◌%◌, ◌<◌, ◌≤◌, Bool, true, false, not, ◌&&◌, List, [], ◌∷◌, ◌++◌, length, map, codes, decimal, if◌then◌else◌, sym, ap, ◌∙◌, arith, length-append}
-use Rattle.std.specs.List.{All, range_with_len, flat_map}
+use Rattle.std.proofs.Common.{ℕ, ◌*◌, ◌%◌, ◌<◌, ◌≤◌, Bool, true, false, not, ◌&&◌, List, [], ◌∷◌, ◌++◌, length, map, codes, decimal, if◌then◌else◌, arith, length-append}
+use Rattle.std.specs.List.{All, range_with_len}
 use Rattle.std.proofs.lemmas.Fmt.{length-decimal-le}
 use Rattle.std.proofs.lemmas.List.Elements.{All-head, All-tail, All-map}
 use Rattle.std.proofs.lemmas.Grind.{flat_map-append}
-use Rattle.std.proofs.lemmas.List.FromFn.{length-map-range_with_len}
-use Rattle.std.proofs.Math.Nat.{mod-lt, mod-le}
+use Rattle.std.proofs.Math.Nat.{mod-lt}
 use Rattle.dstm_model.specs.declared.op.Op.{Op}
 use Rattle.dstm_model.specs.declared.op.Op.TheVariants.{Transfer, Balance, Total, Insert, Remove, Member}
 use Rattle.dstm_model.specs.declared.op.Which.TheVariants as which
 use Rattle.dstm_workload.specs.declared.workload.Job.{Job}
-use Rattle.dstm_workload.specs.Writing.{spaced, joined, lined, fields_of_op, is_orelse, semicolon, fields_of_ops, fields_of_job, head_of, text_of_workload}
+use Rattle.dstm_workload.specs.Writing.{spaced, joined, lined, fields_of_op, is_orelse, fields_of_ops, fields_of_job, head_of, text_of_workload}
 use Rattle.dstm_gen.specs.Words.{skip}
-use Rattle.dstm_gen.specs.Generated.{op_with, ops_count, op_at, ops_of, job_place, job_at, jobs_of, generated}
+use Rattle.dstm_gen.specs.Generated.{op_with, ops_count, op_at, job_place, job_at, jobs_of, generated}
 use Rattle.dstm_gen.proofs.Validity.{length-ops_of, length-jobs_of}
 
 -- a number below 10,000 has at most four digits

@@ -1,5 +1,5 @@
 -- What a call does that was made again after others did nothing.
-use Rattle.std.proofs.Common.{◌≡◌, ℕ, List, Option, Some, None, Ok, Err, Result, ◌∙◌, ◌++◌, refl, sym}
+use Rattle.std.proofs.Common.{ℕ, List, Option, Some, None, Ok, Err, Result, ◌∙◌, refl, sym}
 use Rattle.std.specs.Prelude.{take}
 use Rattle.std.specs.Io.KnownBytes.{Appends, Consumes, Keeps, ReadConsumes, WriteAppends}
 

@@ -4,7 +4,7 @@ use Rattle.dstm_model.specs.declared.op.Which.TheVariants as which
 use Rattle.dstm_model.specs.declared.op.Op.TheVariants.{Insert}
 use Rattle.dstm_model.specs.declared.reply.Reply.TheVariants.{Yes, Full}
 use Rattle.dstm_model.specs.Map.{value_at}
-use Rattle.dstm_model.specs.Objects.{Does, list_begin, tree_begin, free_object, node_object}
+use Rattle.dstm_model.specs.Objects.{Does, list_begin, tree_begin, free_object}
 use Rattle.dstm_mem.specs.declared.memory.Mem.{Ghosts}
 use Rattle.dstm_mem.specs.Memory.{with_set}
 use Rattle.dstm_mem.proofs.Operations.{only_reads-none, opens_to_set-none}

@@ -4,12 +4,12 @@ use Rattle.dstm_model.specs.declared.op.Which.TheVariants as which
 use Rattle.dstm_model.specs.declared.op.Op.TheVariants.{Remove}
 use Rattle.dstm_model.specs.declared.reply.Reply.TheVariants.{Yes}
 use Rattle.dstm_model.specs.Map.{value_at}
-use Rattle.dstm_model.specs.Objects.{Does, list_begin, tree_begin, free_object, node_object}
+use Rattle.dstm_model.specs.Objects.{Does, list_begin, tree_begin, free_object}
 use Rattle.dstm_mem.specs.Memory.{with_set}
 use Rattle.dstm_mem.proofs.Operations.{only_reads-none, opens_to_set-none}
 use Rattle.dstm_mem.proofs.Operating.{untouched-none, operates-then, operates-ended}
 use Rattle.dstm_mem.proofs.WithSet.{length-with_set}
-use Rattle.dstm_list.specs.List.{IsList, IsOfList, node}
+use Rattle.dstm_list.specs.List.{IsList, IsOfList}
 use Rattle.dstm_list.proofs.Operations.{does-no_remove, does-remove}
 use Rattle.dstm_list.proofs.Steps.{next_within, node-of_list}
 use Rattle.dstm_list.proofs.Walked.{operates-at, set-known}

@@ -1,5 +1,5 @@
 use Rattle.std.proofs.Common.{◌≡◌, arith, rules, subst, inl, inr}
-use Rattle.dstm_model.specs.declared.op.Op.TheVariants.{Transfer, Balance, Total, Insert, Remove, Member, Put, Get}
+use Rattle.dstm_model.specs.declared.op.Op.TheVariants.{Insert, Remove, Member}
 use Rattle.dstm_model.specs.declared.op.Which.TheVariants as which
 use Rattle.dstm_model.specs.Layout.{FitsLayout}
 use Rattle.dstm_store.proofs.Parts.{of-bank, of-list, of-tree, known-as}

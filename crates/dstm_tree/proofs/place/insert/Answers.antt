@@ -1,4 +1,4 @@
-use Rattle.dstm_tree.proofs.Base.{refl, sym, ◌∙◌}
+use Rattle.dstm_tree.proofs.Base.{refl}
 use Rattle.dstm_tree.proofs.Stepping.{steps-as}
 use Rattle.dstm_tree.proofs.place.insert.Goals as goal
 

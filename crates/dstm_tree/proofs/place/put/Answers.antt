@@ -1,4 +1,3 @@
-use Rattle.dstm_tree.proofs.Base.{refl, sym, ◌∙◌}
 use Rattle.dstm_tree.proofs.Stepping.{steps-as}
 use Rattle.dstm_tree.proofs.place.put.Goals as goal
 
