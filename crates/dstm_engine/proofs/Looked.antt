@@ -12,7 +12,7 @@ use Rattle.dstm_machines.proofs.Own.{own_later}
 use Rattle.dstm_order.specs.Passes.{is_open}
 use Rattle.dstm_order.specs.Tasks.{Work}
 use Rattle.dstm_order.specs.Tasks.Task.{Doing}
-use Rattle.dstm_order.specs.Tasks.Work.{Reading, Writing}
+use Rattle.dstm_order.specs.Tasks.Work.{Reading, Releasing, Writing}
 use Rattle.dstm_order.specs.declared.again.Again.{Again}
 use Rattle.dstm_progress.specs.Disturbed.{count_of}
 use Rattle.dstm_words.specs.Seats.{Home}
@@ -20,6 +20,7 @@ use Rattle.dstm_engine.specs.Attempts.{completes_pass, is_look_object, is_look_s
 use Rattle.dstm_engine.specs.Callers.{Called, begun_log, held, is_opened, shape_of, state}
 use Rattle.dstm_engine.specs.Calls.{Performs, reading}
 use Rattle.dstm_engine.specs.Transactions.{BeginsAnew, Leaves, Stays}
+use Rattle.dstm_engine.proofs.Released.{no_self}
 use Rattle.dstm_engine.proofs.BegunThere.{begun_there, count_later}
 use Rattle.dstm_engine.proofs.FewSights.{beginning_looks, count_kinds, looks_more, none_looks, none_yet, open_looks, sights_more}
 
@@ -129,6 +130,13 @@ module _ {L : Type 0} (holds : L → List Val → Type 0) (k n : Called L)
       by (Err a) stays leaves b again is = opens_few (Writing o) (Some a) refl leaves.steps
       by (Ok v) stays leaves false again is = opens_few (Writing o) None refl (stays is).steps
       by (Ok v) stays leaves true again is = adds_none k n (again refl)
+
+-- neither does a release, which makes sure of nothing
+pub release_few : {L : Type 0} (holds : L → List Val → Type 0) (k n : Called L) →
+    begun_log n.number n.log ≡ begun_log k.number k.log → (o : ℕ) → Performs holds (Doing (Releasing o)) k n None → AddsFew k n
+release_few holds k n attempt o p =
+    let none = none_looks p.events (no_self o (shape_of k) (state k) k.generator p.events p.call.obeys).0 in
+    few_by k n p.same.0 p.same.1 p.seen attempt p.events p.own (omega arith)
 
 -- ---- an attempt that begins
 

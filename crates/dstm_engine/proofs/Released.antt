@@ -191,7 +191,7 @@ not_self Release p = refl
 not_self Quit p = refl
 not_self k p = absurd (cc)
 
-no_self : (o : ℕ) (s : Shape) (l : LocalState) (g : Lcg) (es : List Event) → Obeys (Doing (Releasing o)) s l g es →
+pub no_self : (o : ℕ) (s : Shape) (l : LocalState) (g : Lcg) (es : List Event) → Obeys (Doing (Releasing o)) s l g es →
     NoSelf es × IsPartingNewest (newest_of es)
 no_self o s l g [] h = (tt, tt)
 no_self o s l g (e ∷ es) h =

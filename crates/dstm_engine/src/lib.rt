@@ -19,7 +19,7 @@ pub use dstm_order::Again;
 pub use dstm_steps::Tally;
 pub use error::{Done, Ended, EnrolError, Spent};
 pub use making::{attempt, attempt_loose};
-pub use opener::{Counted, Opener};
+pub use opener::{Counted, Kept, LetGo, Opener, TellsLetGo};
 pub use shape::{MOST_OBJECTS, shape_for};
 pub use stm::{Founder, Record, Stm};
 pub use tx::Tx;

@@ -1,13 +1,13 @@
-ghost use Rattle.std.specs.Prelude.{◌≡◌, ◌+◌, ◌≤◌, ℕ, List, OnOk, IfErr};
+ghost use Rattle.std.specs.Prelude.{◌≡◌, ◌+◌, ◌≤◌, ℕ, List, OnOk, IfErr, false};
 ghost use Rattle.dstm_engine.specs.Attempts.{Admits, looks, sights};
-ghost use Rattle.dstm_engine.specs.Callers.{live_held, live_opened, written};
+ghost use Rattle.dstm_engine.specs.Callers.{live_held, live_opened, shape_of, written};
 ghost use Rattle.dstm_engine.specs.Makes.{let_go};
-ghost use Rattle.dstm_mem.specs.Memory.{with_set};
+ghost use Rattle.dstm_mem.specs.Memory.{HoldsAtMost, with_set};
 ghost use Rattle.dstm_mem.specs.Operations.{IsFresh, Leads};
 ghost use Rattle.dstm_model.specs.declared.value.Val.{Val};
 
 use crate::tx::Tx;
-use dstm_mem::{Body, Mem};
+use dstm_mem::{Body, LooseBody, Mem, Release};
 use dstm_model::{Law, Val};
 use dstm_order::Again;
 use std::marker::{Brand, PhantomData};
@@ -28,17 +28,39 @@ impl Counted for Brand {
     ghost looks = { 0 };
 }
 
-/// An attempt on which a body may open objects and set them, and neither let a read go nor make sure again that what it
-/// has read stands. So how many reads its caller has let go tells the memory too, and since it was counted the attempt
-/// has had at most one sight for each look at an object.
+/// Whether a body keeps its reads.
+pub trait TellsLetGo {
+    ghost use Rattle.std.specs.Prelude.{ℕ};
+
+    /// What is told of how many reads a caller has let go.
+    ghost told: { ℕ → ℕ };
+}
+
+/// It keeps them.
+pub struct Kept;
+
+impl TellsLetGo for Kept {
+    ghost told = { λ let_go. let_go };
+}
+
+/// It may let them go.
+pub struct LetGo;
+
+impl TellsLetGo for LetGo {
+    ghost told = { λ _. 0 };
+}
+
+/// An attempt on which a body may open objects and set them, and not make sure again that what it has read stands: since it
+/// was counted the attempt has had at most one sight for each look at an object. Where the body keeps its reads, how many
+/// its caller has let go tells the memory too: so it lets none go.
 #[derive(Drop)]
-pub struct Opener<'b, 'a, L: Law, C: Counted> {
+pub struct Opener<'b, 'a, L: Law, C: Counted, K: TellsLetGo> {
     pub tx: &'b mut Tx<'a, L>,
-    pub counted: PhantomData<C>,
+    pub of: PhantomData<(C, K)>,
     ghost few: { sights tx.now.caller.now + C.looks ≤ looks tx.now.caller.now + C.sights },
 }
 
-impl<'b, 'a, L: Law, C: Counted> Mem for Opener<'b, 'a, L, C> {
+impl<'b, 'a, L: Law, C: Counted, K: TellsLetGo> Mem for Opener<'b, 'a, L, C, K> {
     ghost use Rattle.std.specs.Prelude.{ℕ};
     ghost use Rattle.dstm_engine.specs.Attempts.{Admits};
     ghost use Rattle.dstm_engine.specs.Callers.{is_live, live_held, live_opened, shape_of, written};
@@ -51,7 +73,7 @@ impl<'b, 'a, L: Law, C: Counted> Mem for Opener<'b, 'a, L, C> {
     ghost Place = { (TxPlace L × ℕ) × ℕ };
 
     ghost place = { λ o.
-        ((tx_place o.tx.now.caller.ghost_name o.tx.now.stm.now o.tx.now.caller.now, let_go o.tx.now.caller.now), o.tx.ghost_name) };
+        ((tx_place o.tx.now.caller.ghost_name o.tx.now.stm.now o.tx.now.caller.now, K.told (let_go o.tx.now.caller.now)), o.tx.ghost_name) };
 
     ghost all_write = { λ p. p.0.0.home.terms.shape.all_write };
 
@@ -88,6 +110,26 @@ impl<'b, 'a, L: Law, C: Counted> Mem for Opener<'b, 'a, L, C> {
     ghost admitted_agrees = { λ o map admits. live_agrees o.tx.now.caller.now map admits.agrees };
 }
 
+impl<'b, 'a, L: Law, C: Counted> Release for Opener<'b, 'a, L, C, LetGo> {
+    ghost use Rattle.std.proofs.Common.{ap};
+    ghost use Rattle.dstm_engine.specs.Places.{IsBegunMap, admits_exactly, began_stays};
+
+    ghost Began = { λ o. IsBegunMap L.holds o.tx.now.caller.now };
+
+    fn is_read(&self, o: u32) -> bool {
+        Tx::is_read(self.tx, o)
+    }
+
+    fn release(&mut self, o: u32) {
+        Tx::release(self.tx, o);
+    }
+
+    ghost admits_exactly = { λ o map live. admits_exactly L.holds o.tx.now.caller.now map live };
+
+    ghost began_stays = { λ s t map same. began_stays L.holds s.tx.now.caller.now t.tx.now.caller.now map
+        s.tx.now.caller.ghost_name t.tx.now.caller.ghost_name s.tx.now.stm.now t.tx.now.stm.now (ap (λ p. p.0.0) same) };
+}
+
 impl<'a, L: Law> Tx<'a, L> {
     /// Runs a body that keeps its reads once, on an attempt on which nothing was read, set or opened. It makes sure that
     /// its reads stand no more often than it looks at an object.
@@ -110,6 +152,29 @@ impl<'a, L: Law> Tx<'a, L> {
             ≤ looks self.new.caller.now + sights self.old.caller.now }
     {
         run_counted::<L, B, Brand>(self, body)
+    }
+
+    /// The same with a body that lets reads go. Where reads stay reads, it keeps no more of them than it says at most.
+    pub fn run_loose<B: LooseBody<L>>(&mut self, body: &mut B) -> Result<(), Again>
+        requires fresh { IsFresh ⟦<Tx<'a, L> as Mem>⟧ self.old }
+        requires lawful { (map : List Val) → Admits L.holds self.old.caller.now map → L.holds (B.law body.old) map }
+
+        ensures lawful { OnOk result ((map : List Val) → Admits L.holds self.new.caller.now map →
+            L.holds (B.law body.new) (with_set map (written self.new.caller.now))) }
+        ensures right { OnOk result ((map : List Val) → Admits L.holds self.new.caller.now map →
+            B.right body.new map (with_set map (written self.new.caller.now))) }
+        ensures leaves { OnOk result
+            (B.leaves body.new (live_held self.new.caller.now) (live_opened self.new.caller.now)) }
+        ensures most { OnOk result ((shape_of self.old.caller.now).all_write ≡ false →
+            (most : ℕ) → B.keeps_at_most body.new most → HoldsAtMost most (live_held self.new.caller.now)) }
+        ensures law { B.law body.new ≡ B.law body.old }
+        ensures task { B.task body.new ≡ B.task body.old }
+        ensures outcome { IfErr result (λ _. B.outcome body.new ≡ B.outcome body.old) }
+        ensures leads { Leads ⟦<Tx<'a, L> as Mem>⟧ self.old self.new result }
+        ensures few { sights self.new.caller.now + looks self.old.caller.now
+            ≤ looks self.new.caller.now + sights self.old.caller.now }
+    {
+        run_loosely::<L, B, Brand>(self, body)
     }
 }
 
@@ -137,7 +202,37 @@ fn run_counted<'a, L: Law, B: Body<L>, C: Counted>(
 {
     let mut opener = Opener {
         tx: &mut *tx,
-        counted: PhantomData::<C>,
+        of: PhantomData::<(C, Kept)>,
+    };
+    body.run(&mut opener)
+}
+
+// And with a body that lets reads go.
+fn run_loosely<'a, L: Law, B: LooseBody<L>, C: Counted>(
+    tx: &mut Tx<'a, L>,
+    body: &mut B,
+) -> Result<(), Again>
+    requires fresh { IsFresh ⟦<Tx<'a, L> as Mem>⟧ tx.old }
+    requires lawful { (map : List Val) → Admits L.holds tx.old.caller.now map → L.holds (B.law body.old) map }
+    requires few { sights tx.old.caller.now + C.looks ≤ looks tx.old.caller.now + C.sights }
+
+    ensures lawful { OnOk result ((map : List Val) → Admits L.holds tx.new.caller.now map →
+        L.holds (B.law body.new) (with_set map (written tx.new.caller.now))) }
+    ensures right { OnOk result ((map : List Val) → Admits L.holds tx.new.caller.now map →
+        B.right body.new map (with_set map (written tx.new.caller.now))) }
+    ensures leaves { OnOk result
+        (B.leaves body.new (live_held tx.new.caller.now) (live_opened tx.new.caller.now)) }
+    ensures most { OnOk result ((shape_of tx.old.caller.now).all_write ≡ false →
+        (most : ℕ) → B.keeps_at_most body.new most → HoldsAtMost most (live_held tx.new.caller.now)) }
+    ensures law { B.law body.new ≡ B.law body.old }
+    ensures task { B.task body.new ≡ B.task body.old }
+    ensures outcome { IfErr result (λ _. B.outcome body.new ≡ B.outcome body.old) }
+    ensures leads { Leads ⟦<Tx<'a, L> as Mem>⟧ tx.old tx.new result }
+    ensures few { sights tx.new.caller.now + C.looks ≤ looks tx.new.caller.now + C.sights }
+{
+    let mut opener = Opener {
+        tx: &mut *tx,
+        of: PhantomData::<(C, LetGo)>,
     };
     body.run(&mut opener)
 }

@@ -24,7 +24,7 @@ ghost use Rattle.dstm_tables.specs.declared.tables.Caller.TheVariants.{Dstm};
 
 use crate::trying::{Finished, Tried};
 use dstm_compose::{CompBody, Outcome};
-use dstm_engine::{Caller, Ended, Opener, Spent, Stm, Tx, attempt_loose};
+use dstm_engine::{Caller, Ended, Kept, Opener, Spent, Stm, Tx, attempt_loose};
 use dstm_mem::{Body, Mem};
 use dstm_model::Layout;
 use dstm_order::Again;
@@ -119,7 +119,7 @@ fn run<'a>(tx: &mut Tx<'a, StoreLaw>, body: &mut CompBody) -> Result<(), Again>
 {
     let mut opener = Opener {
         tx: &mut *tx,
-        counted: PhantomData::<Brand>,
+        of: PhantomData::<(Brand, Kept)>,
     };
     body.run(&mut opener)
 }

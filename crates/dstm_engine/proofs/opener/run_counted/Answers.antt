@@ -1,11 +1,9 @@
-use Rattle.std.proofs.Common.{◌+◌, ◌∙◌, ◌≡◌, ◌≤◌, List, ap, false, refl, subst, sym, Some, ℕ}
+use Rattle.std.proofs.Common.{◌∙◌, ◌≡◌, List, ap, false, refl, subst, sym, Some, ℕ}
 use Rattle.std.specs.Prelude.{IfErr, IsSome, IsTrue, OnOk}
 use Rattle.dstm_model.specs.declared.value.Val.{Val}
 use Rattle.dstm_mem.proofs.InTheEnd.{in_the_end}
-use Rattle.dstm_mem.specs.Memory.{with_set}
-use Rattle.dstm_engine.specs.Attempts.{Admits, looks, sights}
-use Rattle.dstm_engine.specs.Callers.{is_live, live_held, live_opened, shape_of, written}
-use Rattle.dstm_engine.specs.Makes.{let_go}
+use Rattle.dstm_engine.specs.Attempts.{Admits}
+use Rattle.dstm_engine.specs.Callers.{is_live, live_held, shape_of}
 use Rattle.dstm_engine.specs.Transactions.{tx_place}
 use Rattle.dstm_engine.specs.declared.tx.Tx.{Tx}
 use Rattle.dstm_engine.proofs.opener.run_counted.Goals as goal

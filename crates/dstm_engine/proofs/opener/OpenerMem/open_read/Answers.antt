@@ -14,8 +14,8 @@ pub returns-clause-place : goal.returns-clause-place
 returns-clause-place g c =
     ap (λ (x : TxPlace _ × ℕ). (x, c.args.self.now.tx.ghost_name))
     (same_both _ _ _ _ c.open_read.ensures.place
-    (read_keeps g.L.Law.holds c.args.self.now.tx.now.caller.now c.open_read.new.self.caller.now c.args.o c.open_read.result
-    c.open_read.ensures.again c.open_read.ensures.stays c.open_read.ensures.leaves))
+    (ap g.K.TellsLetGo.told (read_keeps g.L.Law.holds c.args.self.now.tx.now.caller.now c.open_read.new.self.caller.now c.args.o c.open_read.result
+    c.open_read.ensures.again c.open_read.ensures.stays c.open_read.ensures.leaves)))
 
 -- in an attempt that is live what is open for writing is told as it is
 unmarked_live : {L : Type 0} (A : Type 0) (k n : Called L) (r : Result Val Again) → is_live k ≡ true → is_live n ≡ is_ok r →

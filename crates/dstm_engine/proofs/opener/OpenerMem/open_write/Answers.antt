@@ -11,8 +11,8 @@ pub returns-clause-place : goal.returns-clause-place
 returns-clause-place g c =
     ap (λ (x : TxPlace _ × ℕ). (x, c.args.self.now.tx.ghost_name))
     (same_both _ _ _ _ c.open_write.ensures.place
-    (write_keeps g.L.Law.holds c.args.self.now.tx.now.caller.now c.open_write.new.self.caller.now c.args.o
-    c.open_write.result c.open_write.ensures.again c.open_write.ensures.stays c.open_write.ensures.leaves))
+    (ap g.K.TellsLetGo.told (write_keeps g.L.Law.holds c.args.self.now.tx.now.caller.now c.open_write.new.self.caller.now c.args.o
+    c.open_write.result c.open_write.ensures.again c.open_write.ensures.stays c.open_write.ensures.leaves)))
 
 pub returns-clause-found : goal.returns-clause-found
 returns-clause-found g c =
