@@ -1,5 +1,5 @@
 -- How far the counting words rise, and that no add on them wraps.
-use Rattle.std.proofs.Common.{◌≡◌, ◌+◌, ◌-◌, ◌*◌, ◌^◌, ◌<◌, ◌≤◌, ◌==◌, ◌⊎◌, ◌∷◌, ℕ, inl, inr, List, [], ap, arith, sym, subst, true, Option, Some, None}
+use Rattle.std.proofs.Common.{List, None, Option, Some, [], ap, arith, inl, inr, subst, sym, true, ℕ, ◌*◌, ◌+◌, ◌-◌, ◌<◌, ◌==◌, ◌^◌, ◌∷◌, ◌≡◌, ◌≤◌, ◌⊎◌}
 use Rattle.std.proofs.lemmas.Bool.{cond_both}
 use Rattle.std.proofs.lemmas.Nat.{mul-le}
 use Rattle.dstm_machines.proofs.Runs as runs
@@ -13,6 +13,7 @@ use Rattle.dstm_tl2.specs.State.{LocalState, look_of}
 use Rattle.dstm_tl2.specs.Words.{Table}
 use Rattle.dstm_tl2.proofs.Clock.{Draws, NoDraw, clock, clock_step}
 use Rattle.dstm_tl2.proofs.Places.{first_clock}
+use Rattle.std.proofs.lemmas.Bool.Decides.{nat_tests}
 
 -- the attempts of a caller that can draw no number any more
 abbrev spent_by : Option ℕ → ℕ → ℕ
@@ -30,14 +31,7 @@ spent_step : (t : Table) (l : LocalState) (e : Event) (k : Kind) → AllowedAs k
     spent l ≤ spent (after k t l e)
 spent_step t l e Sample a = let x = spent_le l.drawn l.begun in omega arith
 spent_step t l e (Draw w) a = spent_le l.drawn l.begun
-spent_step t l e LookAgain a =
-    cond_both (e.found == (look_of l).word) (record_read l) (record l { look = None })
-    (λ (m : LocalState). spent l ≤ spent m) (λ _. omega arith) (λ _. omega arith)
-spent_step t l e (Lock w) a =
-    cond_both (e.found == e.expected) (lock l w.value)
-    (record l { look = None; writes = Some w.value; failed = true })
-    (λ (m : LocalState). spent l ≤ spent m) (λ _. omega arith) (λ _. omega arith)
-spent_step t l e k a = omega arith
+spent_step t l e k a = grind (arith, nat_tests)
 
 draw_spends : (t : Table) (l : LocalState) (e : Event) (k : Kind) → is_draw k ≡ true → AllowedAs k t l e →
     spent l < spent (after k t l e)
@@ -55,14 +49,7 @@ begun_le t (e ∷ es) run c =
     step : (l : LocalState) (k : Kind) → AllowedAs k t l e → l.begun ≤ t.attempts →
         (after k t l e).begun ≤ t.attempts
     step l Sample a h = let x = a.2.1 in omega arith
-    step l LookAgain a h =
-        cond_both (e.found == (look_of l).word) (record_read l) (record l { look = None })
-        (λ (m : LocalState). m.begun ≤ t.attempts) (λ _. h) (λ _. h)
-    step l (Lock w) a h =
-        cond_both (e.found == e.expected) (lock l w.value)
-        (record l { look = None; writes = Some w.value; failed = true })
-        (λ (m : LocalState). m.begun ≤ t.attempts) (λ _. h) (λ _. h)
-    step l k a h = h
+    step l k a h = grind (arith, nat_tests)
 
 clock_le : (t : Table) (es : List Event) → Run t es → clock t es ≤ total t.callers (λ c. spent (local t es c))
 clock_le t [] run = let z : clock t [] ≡ 0 = first_clock t in omega arith
