@@ -2,6 +2,7 @@
 #![tactic(auto)]
 
 mod attempts;
+mod pairs;
 mod places;
 mod table;
 mod times;
@@ -20,7 +21,7 @@ fn main(rt: HostRuntime) -> anyhow::Result<()> {
         println!(rt; "usage: bench_engine polite|karma|polka|greedy")?;
         return Ok(());
     };
-    println!(rt; "objects opened     quit   commit     read    write")?;
+    println!(rt; "objects opened     quit   commit     read    write     body    cells")?;
     for objects in SIZES {
         let times = measure(&rt, rt.alloc(), manager, objects)?;
         println!(rt; "{objects:>7} {:>6} {times}", objects.min(MAX_OPENED))?;
