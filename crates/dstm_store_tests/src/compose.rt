@@ -1,108 +1,31 @@
-ghost use Rattle.std.specs.Prelude.{◌≡◌, List, All, IsTrue, IfOk};
-ghost use Rattle.dstm_model.specs.Layout.{IsValid, FitsLayout, FitsCond, FitsKey};
-ghost use Rattle.dstm_model.specs.Store.{IsPlain};
+ghost use Rattle.std.specs.Prelude.{◌≡◌, IfOk};
+ghost use Rattle.dstm_model.specs.Layout.{IsValid};
 ghost use Rattle.dstm_store.specs.Whole.{IsLawful};
 
+use crate::counting::{Counting, NO_OPENS, Opens};
+use crate::operations::{ops_of, pick, plain_of};
 use dstm_compose::{CompBody, Outcome};
-use dstm_mem::{Body, FlatMem, LooseBody, Mem, Never, Release};
-use dstm_model::{
-    AMOUNT_LIMIT, Cond, KEY_LIMIT, Law, Layout, Op, Ops, PlainStore, Replies, Reply, Val, Which,
-};
+use dstm_mem::{Body, FlatMem, LooseBody};
+use dstm_model::{Cond, Law, Layout, Op, PlainStore, Replies, Reply, Val, Which};
 use dstm_store::{LooseJobBody, StoreLaw, opening, read_state};
 use std::alloc::{AllocError, Global};
 use std::test::Fail;
 
-// ---- a memory that counts
+// ---- bodies on a memory that counts
 
-// How many calls open an object, and how many objects are reads that were opened so: they were not let go, and not
-// opened for writing.
+// How many calls open an object, and how many objects are reads that are kept.
 #[derive(Clone, Copy, Debug, PartialEq, Eq)]
 struct Counts {
     opens: u32,
     kept: u32,
 }
 
-const NO_COUNTS: Counts = Counts { opens: 0, kept: 0 };
-
-#[derive(Drop)]
-struct Counting {
-    mem: FlatMem,
-    counts: Counts,
-}
-
-impl Mem for Counting {
-    ghost use Rattle.std.specs.Prelude.{List, length};
-    ghost use Rattle.std.proofs.Common.{ap, subst, sym};
-    ghost use Rattle.dstm_model.specs.declared.value.Val.{Val};
-    ghost use Rattle.dstm_mem.specs.Memory.{AgreesWith};
-    ghost use Rattle.dstm_mem.specs.Flat.{held_in, held_in-agrees};
-
-    type Err = Never;
-
-    ghost Place = { List Val };
-
-    ghost place = { λ m. ⟦<FlatMem as Mem>⟧.place m.mem };
-
-    ghost all_write = { ⟦<FlatMem as Mem>⟧.all_write };
-
-    ghost objects = { λ m. ⟦<FlatMem as Mem>⟧.objects m.mem };
-
-    ghost held = { λ m. ⟦<FlatMem as Mem>⟧.held m.mem };
-
-    ghost written = { λ m. ⟦<FlatMem as Mem>⟧.written m.mem };
-
-    ghost is_opened = { λ m. ⟦<FlatMem as Mem>⟧.is_opened m.mem };
-
-    ghost is_live = { λ m. ⟦<FlatMem as Mem>⟧.is_live m.mem };
-
-    ghost error = { λ m. ⟦<FlatMem as Mem>⟧.error m.mem };
-
-    ghost Admits = { λ m. ⟦<FlatMem as Mem>⟧.Admits m.mem };
-
-    fn open_read(&mut self, o: u32) -> Result<Val, Never> {
-        self.counts.opens = self.counts.opens.saturating_add(1);
-        if !self.mem.is_read(o) {
-            self.counts.kept = self.counts.kept.saturating_add(1);
-        }
-        self.mem.open_read(o)
+fn counts_of(counting: &Counting) -> Counts {
+    let Opens { reads, writes } = counting.opens;
+    Counts {
+        opens: reads.saturating_add(writes),
+        kept: counting.kept,
     }
-
-    fn open_write(&mut self, o: u32) -> Result<Val, Never> {
-        self.counts.opens = self.counts.opens.saturating_add(1);
-        if self.mem.is_read(o) {
-            self.counts.kept = self.counts.kept.saturating_sub(1);
-        }
-        self.mem.open_write(o)
-    }
-
-    fn set(&mut self, o: u32, v: Val) {
-        self.mem.set(o, v);
-    }
-
-    ghost admitted_length = { λ m map e. ap length e };
-
-    ghost admitted_agrees = { λ m map e. subst (λ x. AgreesWith x (held_in m.mem.values.items m.mem.notes.items))
-        (sym e) (held_in-agrees m.mem.values.items m.mem.notes.items) };
-}
-
-impl Release for Counting {
-    ghost use Rattle.dstm_mem.specs.Flat.{flat_admits};
-    ghost use Rattle.std.proofs.Common.{◌∙◌};
-
-    ghost Began = { λ m map. map ≡ m.mem.values.items };
-
-    fn is_read(&self, o: u32) -> bool {
-        self.mem.is_read(o)
-    }
-
-    fn release(&mut self, o: u32) {
-        self.counts.kept = self.counts.kept.saturating_sub(1);
-        self.mem.release(o);
-    }
-
-    ghost admits_exactly = { λ m map live. flat_admits m.mem.values.items m.mem.notes.items map };
-
-    ghost began_stays = { λ m n map same began. began ∙ same };
 }
 
 // Runs a body on lawful values, and answers what was counted and the values that it leaves.
@@ -118,10 +41,11 @@ fn run_body<L: Law, B: Body<L>>(
     let mem = FlatMem::make(alloc, values)?;
     let mut counting = Counting {
         mem,
-        counts: NO_COUNTS,
+        opens: NO_OPENS,
+        kept: 0,
     };
     match body.run(&mut counting) {
-        Ok(()) => Ok((counting.counts, counting.mem.values())),
+        Ok(()) => Ok((counts_of(&counting), counting.mem.values())),
         Err(never) => match never {},
     }
 }
@@ -138,89 +62,16 @@ fn run_loose<L: Law, B: LooseBody<L>>(
     let mem = FlatMem::make(alloc, values)?;
     let mut counting = Counting {
         mem,
-        counts: NO_COUNTS,
+        opens: NO_OPENS,
+        kept: 0,
     };
     match body.run(&mut counting) {
-        Ok(()) => Ok((counting.counts, counting.mem.values())),
+        Ok(()) => Ok((counts_of(&counting), counting.mem.values())),
         Err(never) => match never {},
     }
 }
 
 // ---- jobs
-
-// Tells whether an operation fits a layout.
-fn fits(layout: &Layout, op: &Op) -> bool
-    ensures { IsTrue result → FitsLayout layout.now op.now }
-{
-    match *op {
-        Op::Transfer {
-            source,
-            target,
-            amount,
-        } => source < layout.accounts && target < layout.accounts && amount < AMOUNT_LIMIT,
-        Op::Balance { account } => account < layout.accounts,
-        Op::Total => layout.accounts > 0,
-        Op::Insert { which, key } => fits_key(layout, which, key),
-        Op::Remove { which, key } => fits_key(layout, which, key),
-        Op::Member { which, key } => fits_key(layout, which, key),
-        Op::Put { key, .. } => fits_key(layout, Which::Tree, key),
-        Op::Get { key } => fits_key(layout, Which::Tree, key),
-        Op::Await(cond) => fits_cond(layout, cond),
-        Op::OrElse => true,
-    }
-}
-
-fn fits_cond(layout: &Layout, cond: Cond) -> bool
-    ensures { IsTrue result → FitsCond layout.now cond }
-{
-    match cond {
-        Cond::Balance { account, least } => account < layout.accounts && least < AMOUNT_LIMIT,
-        Cond::Key { which, key } => fits_key(layout, which, key),
-    }
-}
-
-fn fits_key(layout: &Layout, which: Which, key: u32) -> bool
-    ensures { IsTrue result → FitsKey layout.now which key }
-{
-    let room = match which {
-        Which::List => layout.list,
-        Which::Tree => layout.tree,
-    };
-    room > 0 && key < KEY_LIMIT
-}
-
-fn is_plain(op: &Op) -> bool
-    ensures { IsTrue result → IsPlain op.now }
-{
-    !matches!(op, Op::Await(_) | Op::OrElse)
-}
-
-// The operations that fit, at most eight.
-fn ops_of(layout: &Layout, list: &[Op]) -> Ops
-    ensures { All (FitsLayout layout.now) result }
-{
-    let mut ops = Ops::new();
-    for op in list {
-        if ops.as_slice().len() < 8 && fits(layout, op) {
-            ops.push(*op);
-        }
-    }
-    ops
-}
-
-// The same without conditions and separators.
-fn plain_of(layout: &Layout, list: &[Op]) -> Ops
-    ensures fits { All (FitsLayout layout.now) result }
-    ensures plain { All IsPlain result }
-{
-    let mut ops = Ops::new();
-    for op in list {
-        if ops.as_slice().len() < 8 && fits(layout, op) && is_plain(op) {
-            ops.push(*op);
-        }
-    }
-    ops
-}
 
 // Runs a job with branches: how it ends, what was counted, and the values that it leaves.
 fn run_branches(
@@ -255,33 +106,6 @@ fn run_releasing(
 }
 
 // ---- beside the plain store
-
-// An operation on one of three accounts, or on one of ten keys.
-fn pick(seed: u32) -> Op {
-    let key = seed / 256 % 10;
-    let which = if seed / 4_096 % 2 == 0 {
-        Which::List
-    } else {
-        Which::Tree
-    };
-    match seed / 65_536 % 9 {
-        0 => Op::Transfer {
-            source: key % 3,
-            target: key / 3 % 3,
-            amount: u64::from(seed % 60),
-        },
-        1 => Op::Balance { account: key % 3 },
-        2 => Op::Total,
-        3 => Op::Member { which, key },
-        4 => Op::Remove { which, key },
-        5 => Op::Put {
-            key,
-            value: u64::from(seed),
-        },
-        6 => Op::Get { key },
-        _ => Op::Insert { which, key },
-    }
-}
 
 // A condition on one of the accounts, or on one of the keys.
 fn pick_cond(seed: u32) -> Cond {

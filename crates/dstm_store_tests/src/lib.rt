@@ -7,11 +7,15 @@ mod bank;
 #[cfg(test)]
 mod compose;
 #[cfg(test)]
+mod counting;
+#[cfg(test)]
 mod list;
 #[cfg(test)]
 mod mem;
 #[cfg(test)]
 mod model;
+#[cfg(test)]
+mod operations;
 #[cfg(test)]
 mod store;
 #[cfg(test)]

@@ -1,6 +1,6 @@
-ghost use Rattle.std.specs.Prelude.{◌≡◌, ◌<◌, List, All, IsTrue, IfOk};
+ghost use Rattle.std.specs.Prelude.{◌≡◌, ◌<◌, List, All, IfOk};
 ghost use Rattle.dstm_model.specs.declared.value.Val.{Val};
-ghost use Rattle.dstm_model.specs.Layout.{IsValid, FitsLayout, FitsKey};
+ghost use Rattle.dstm_model.specs.Layout.{IsValid, FitsLayout};
 ghost use Rattle.dstm_model.specs.Store.{IsPlain};
 ghost use Rattle.dstm_model.specs.Objects.{objects_of};
 ghost use Rattle.dstm_mem.specs.Memory.{with_set};
@@ -8,48 +8,15 @@ ghost use Rattle.dstm_mem.specs.Operations.{IsReady};
 ghost use Rattle.dstm_store.specs.Whole.{StandsFor, IsLawful};
 ghost use Rattle.dstm_store.specs.Job.{DoesAll};
 
-use dstm_mem::{Body, FlatMem, Mem, Never};
-use dstm_model::{
-    AMOUNT_LIMIT, Item, KEY_LIMIT, Law, Layout, Op, Ops, PlainStore, Replies, Reply, State, Val,
-    Which,
-};
+use crate::counting::{Counting, NO_OPENS, Opens};
+use crate::operations::{can_run, pick, plain_of};
+use dstm_mem::{Body, FlatMem, Mem};
+use dstm_model::{Item, Law, Layout, Op, Ops, PlainStore, Replies, Reply, State, Val, Which};
 use dstm_store::{JobBody, StoreLaw, opening, read_state, run_op, stands_for_one};
 use std::alloc::{AllocError, Global};
 use std::test::Fail;
 
 // ---- a store on a memory of one thread
-
-// Tells whether an operation is one that may be run.
-fn fits(layout: &Layout, op: &Op) -> bool
-    ensures fits { IsTrue result → FitsLayout layout.now op.now }
-    ensures plain { IsTrue result → IsPlain op.now }
-{
-    match *op {
-        Op::Transfer {
-            source,
-            target,
-            amount,
-        } => source < layout.accounts && target < layout.accounts && amount < AMOUNT_LIMIT,
-        Op::Balance { account } => account < layout.accounts,
-        Op::Total => layout.accounts > 0,
-        Op::Insert { which, key } => fits_key(layout, which, key),
-        Op::Remove { which, key } => fits_key(layout, which, key),
-        Op::Member { which, key } => fits_key(layout, which, key),
-        Op::Put { key, .. } => fits_key(layout, Which::Tree, key),
-        Op::Get { key } => fits_key(layout, Which::Tree, key),
-        Op::Await(_) | Op::OrElse => false,
-    }
-}
-
-fn fits_key(layout: &Layout, which: Which, key: u32) -> bool
-    ensures { IsTrue result → FitsKey layout.now which key }
-{
-    let room = match which {
-        Which::List => layout.list,
-        Which::Tree => layout.tree,
-    };
-    room > 0 && key < KEY_LIMIT
-}
 
 // The answer to an operation, and Never to one that may not be run.
 fn answer(mem: &mut FlatMem, layout: &Layout, op: &Op) -> Reply
@@ -57,7 +24,7 @@ fn answer(mem: &mut FlatMem, layout: &Layout, op: &Op) -> Reply
     requires ready { IsReady ⟦<FlatMem as Mem>⟧ (objects_of layout.now) (StandsFor layout.now) mem.old }
     ensures { IsReady ⟦<FlatMem as Mem>⟧ (objects_of layout.now) (StandsFor layout.now) mem.new }
 {
-    if !fits(layout, op) {
+    if !can_run(layout, op) {
         return Reply::Never;
     }
     match run_op(mem, layout, op) {
@@ -187,7 +154,7 @@ fn run_plain(alloc: Global, layout: &Layout, ops: &[Op]) -> Result<(Vec<Reply>, 
     let mut store = PlainStore::opening(alloc, layout)?;
     let mut replies = Vec::new(alloc);
     for op in ops {
-        let reply = if fits(layout, op) {
+        let reply = if can_run(layout, op) {
             store.apply(op)?
         } else {
             Reply::Never
@@ -196,33 +163,6 @@ fn run_plain(alloc: Global, layout: &Layout, ops: &[Op]) -> Result<(Vec<Reply>, 
     }
     let state = store.state(alloc)?;
     Ok((replies, state))
-}
-
-// An operation on one of three accounts, or on one of ten keys.
-fn pick(seed: u32) -> Op {
-    let key = seed / 256 % 10;
-    let which = if seed / 4_096 % 2 == 0 {
-        Which::List
-    } else {
-        Which::Tree
-    };
-    match seed / 65_536 % 9 {
-        0 => Op::Transfer {
-            source: key % 3,
-            target: key / 3 % 3,
-            amount: u64::from(seed % 60),
-        },
-        1 => Op::Balance { account: key % 3 },
-        2 => Op::Total,
-        3 => Op::Member { which, key },
-        4 => Op::Remove { which, key },
-        5 => Op::Put {
-            key,
-            value: u64::from(seed),
-        },
-        6 => Op::Get { key },
-        _ => Op::Insert { which, key },
-    }
 }
 
 #[test]
@@ -294,22 +234,6 @@ fn run_job(
     Ok((body.replies(), after))
 }
 
-// The first operations that may be run, at most eight.
-fn ops_of(layout: &Layout, list: &[Op]) -> Ops
-    ensures fits { All (FitsLayout layout.now) result }
-    ensures plain { All IsPlain result }
-{
-    let mut ops = Ops::new();
-    for op in list {
-        let is_full = ops.as_slice().len() == 8;
-        if is_full || !fits(layout, op) {
-            return ops;
-        }
-        ops.push(*op);
-    }
-    ops
-}
-
 // The answers of jobs one after the other, and what the store holds then.
 fn run_jobs(
     alloc: Global,
@@ -321,7 +245,7 @@ fn run_jobs(
     let mut values = opening(alloc, layout)?;
     let mut replies = Vec::new(alloc);
     for job in jobs {
-        let ops = ops_of(layout, job);
+        let ops = plain_of(layout, job);
         let (answered, after) = run_job(alloc, layout, values, &ops)?;
         values = after;
         replies.extend_from_slice(answered.as_slice())?;
@@ -432,81 +356,13 @@ fn jobs_that_put_and_get(rt: HostRuntime) -> Result<(), Fail> {
 
 // ---- how many objects an operation opens
 
-// How many calls open an object, for reading and for writing.
-#[derive(Clone, Copy, Debug, PartialEq, Eq)]
-struct Opens {
-    reads: u32,
-    writes: u32,
-}
-
-const NO_OPENS: Opens = Opens {
-    reads: 0,
-    writes: 0,
-};
-
-// A memory that counts the calls that open an object.
-#[derive(Drop)]
-struct Counting {
-    mem: FlatMem,
-    opens: Opens,
-}
-
-impl Mem for Counting {
-    ghost use Rattle.std.specs.Prelude.{List, length};
-    ghost use Rattle.std.proofs.Common.{ap, subst, sym};
-    ghost use Rattle.dstm_model.specs.declared.value.Val.{Val};
-    ghost use Rattle.dstm_mem.specs.Memory.{AgreesWith};
-    ghost use Rattle.dstm_mem.specs.Flat.{held_in, held_in-agrees};
-
-    type Err = Never;
-
-    ghost Place = { List Val };
-
-    ghost place = { λ m. ⟦<FlatMem as Mem>⟧.place m.mem };
-
-    ghost all_write = { ⟦<FlatMem as Mem>⟧.all_write };
-
-    ghost objects = { λ m. ⟦<FlatMem as Mem>⟧.objects m.mem };
-
-    ghost held = { λ m. ⟦<FlatMem as Mem>⟧.held m.mem };
-
-    ghost written = { λ m. ⟦<FlatMem as Mem>⟧.written m.mem };
-
-    ghost is_opened = { λ m. ⟦<FlatMem as Mem>⟧.is_opened m.mem };
-
-    ghost is_live = { λ m. ⟦<FlatMem as Mem>⟧.is_live m.mem };
-
-    ghost error = { λ m. ⟦<FlatMem as Mem>⟧.error m.mem };
-
-    ghost Admits = { λ m. ⟦<FlatMem as Mem>⟧.Admits m.mem };
-
-    fn open_read(&mut self, o: u32) -> Result<Val, Never> {
-        self.opens.reads = self.opens.reads.saturating_add(1);
-        self.mem.open_read(o)
-    }
-
-    fn open_write(&mut self, o: u32) -> Result<Val, Never> {
-        self.opens.writes = self.opens.writes.saturating_add(1);
-        self.mem.open_write(o)
-    }
-
-    fn set(&mut self, o: u32, v: Val) {
-        self.mem.set(o, v);
-    }
-
-    ghost admitted_length = { λ m map e. ap length e };
-
-    ghost admitted_agrees = { λ m map e. subst (λ x. AgreesWith x (held_in m.mem.values.items m.mem.notes.items))
-        (sym e) (held_in-agrees m.mem.values.items m.mem.notes.items) };
-}
-
 // The answer to an operation, and what it opens; None for one that may not be run.
 fn count(mem: &mut Counting, layout: &Layout, op: &Op) -> Option<(Reply, Opens)>
     requires valid { IsValid layout.now }
     requires ready { IsReady ⟦<Counting as Mem>⟧ (objects_of layout.now) (StandsFor layout.now) mem.old }
     ensures { IsReady ⟦<Counting as Mem>⟧ (objects_of layout.now) (StandsFor layout.now) mem.new }
 {
-    if !fits(layout, op) {
+    if !can_run(layout, op) {
         return None;
     }
     mem.opens = NO_OPENS;
@@ -552,6 +408,7 @@ fn what_the_bank_opens(rt: HostRuntime) -> Result<(), Fail> {
     let mut mem = Counting {
         mem: opened(rt.alloc(), &layout)?,
         opens: NO_OPENS,
+        kept: 0,
     };
     let rows = [
         (pay(0, 1, 20), Reply::Moved, 0, 2),
@@ -592,6 +449,7 @@ fn what_the_list_opens(rt: HostRuntime) -> Result<(), Fail> {
     let mut mem = Counting {
         mem: opened(rt.alloc(), &layout)?,
         opens: NO_OPENS,
+        kept: 0,
     };
     let rows = [
         (list_member(20), Reply::No, 1, 0),
@@ -678,6 +536,7 @@ fn few_objects_of_a_large_tree_are_opened(rt: HostRuntime) -> Result<(), Fail> {
     let mut mem = Counting {
         mem: opened(rt.alloc(), &layout)?,
         opens: NO_OPENS,
+        kept: 0,
     };
     let alloc = rt.alloc();
     let ops = on_all_keys(alloc, Kind::Insert, 37)?;
@@ -708,6 +567,7 @@ fn a_full_tree_is_only_read(rt: HostRuntime) -> Result<(), Fail> {
     let mut mem = Counting {
         mem: opened(rt.alloc(), &layout)?,
         opens: NO_OPENS,
+        kept: 0,
     };
     let rows = [
         (tree_insert(3), Reply::Yes, 3, 3),

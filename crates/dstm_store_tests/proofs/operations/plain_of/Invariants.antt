@@ -1,7 +1,7 @@
 use Rattle.std.proofs.Common.{All}
 use Rattle.dstm_model.specs.Layout.{FitsLayout}
 use Rattle.dstm_model.specs.Store.{IsPlain}
-use Rattle.dstm_store_tests.proofs.compose.plain_of.Given as goal
+use Rattle.dstm_store_tests.proofs.operations.plain_of.Given as goal
 
 abbrev pub invariant-loop-op : goal.invariant-loop-op
 invariant-loop-op l = record {

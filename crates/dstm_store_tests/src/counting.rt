@@ -1,0 +1,98 @@
+use dstm_mem::{FlatMem, Mem, Never, Release};
+use dstm_model::Val;
+
+/// How many calls open an object, for reading and for writing.
+#[derive(Clone, Copy, Debug, PartialEq, Eq)]
+pub(crate) struct Opens {
+    pub(crate) reads: u32,
+    pub(crate) writes: u32,
+}
+
+pub(crate) const NO_OPENS: Opens = Opens {
+    reads: 0,
+    writes: 0,
+};
+
+/// A memory that counts the calls that open an object, and the objects that are reads which were opened so: they were not
+/// let go, and not opened for writing.
+#[derive(Drop)]
+pub(crate) struct Counting {
+    pub(crate) mem: FlatMem,
+    pub(crate) opens: Opens,
+    pub(crate) kept: u32,
+}
+
+impl Mem for Counting {
+    ghost use Rattle.std.specs.Prelude.{List, length};
+    ghost use Rattle.std.proofs.Common.{ap, subst, sym};
+    ghost use Rattle.dstm_model.specs.declared.value.Val.{Val};
+    ghost use Rattle.dstm_mem.specs.Memory.{AgreesWith};
+    ghost use Rattle.dstm_mem.specs.Flat.{held_in, held_in-agrees};
+
+    type Err = Never;
+
+    ghost Place = { List Val };
+
+    ghost place = { λ m. ⟦<FlatMem as Mem>⟧.place m.mem };
+
+    ghost all_write = { ⟦<FlatMem as Mem>⟧.all_write };
+
+    ghost objects = { λ m. ⟦<FlatMem as Mem>⟧.objects m.mem };
+
+    ghost held = { λ m. ⟦<FlatMem as Mem>⟧.held m.mem };
+
+    ghost written = { λ m. ⟦<FlatMem as Mem>⟧.written m.mem };
+
+    ghost is_opened = { λ m. ⟦<FlatMem as Mem>⟧.is_opened m.mem };
+
+    ghost is_live = { λ m. ⟦<FlatMem as Mem>⟧.is_live m.mem };
+
+    ghost error = { λ m. ⟦<FlatMem as Mem>⟧.error m.mem };
+
+    ghost Admits = { λ m. ⟦<FlatMem as Mem>⟧.Admits m.mem };
+
+    fn open_read(&mut self, o: u32) -> Result<Val, Never> {
+        self.opens.reads = self.opens.reads.saturating_add(1);
+        if !self.mem.is_read(o) {
+            self.kept = self.kept.saturating_add(1);
+        }
+        self.mem.open_read(o)
+    }
+
+    fn open_write(&mut self, o: u32) -> Result<Val, Never> {
+        self.opens.writes = self.opens.writes.saturating_add(1);
+        if self.mem.is_read(o) {
+            self.kept = self.kept.saturating_sub(1);
+        }
+        self.mem.open_write(o)
+    }
+
+    fn set(&mut self, o: u32, v: Val) {
+        self.mem.set(o, v);
+    }
+
+    ghost admitted_length = { λ m map e. ap length e };
+
+    ghost admitted_agrees = { λ m map e. subst (λ x. AgreesWith x (held_in m.mem.values.items m.mem.notes.items))
+        (sym e) (held_in-agrees m.mem.values.items m.mem.notes.items) };
+}
+
+impl Release for Counting {
+    ghost use Rattle.dstm_mem.specs.Flat.{flat_admits};
+    ghost use Rattle.std.proofs.Common.{◌≡◌, ◌∙◌};
+
+    ghost Began = { λ m map. map ≡ m.mem.values.items };
+
+    fn is_read(&self, o: u32) -> bool {
+        self.mem.is_read(o)
+    }
+
+    fn release(&mut self, o: u32) {
+        self.kept = self.kept.saturating_sub(1);
+        self.mem.release(o);
+    }
+
+    ghost admits_exactly = { λ m map live. flat_admits m.mem.values.items m.mem.notes.items map };
+
+    ghost began_stays = { λ m n map same began. began ∙ same };
+}

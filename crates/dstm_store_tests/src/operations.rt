@@ -1,0 +1,114 @@
+ghost use Rattle.std.specs.Prelude.{All, IsTrue};
+ghost use Rattle.dstm_model.specs.Layout.{FitsLayout, FitsCond, FitsKey};
+ghost use Rattle.dstm_model.specs.Store.{IsPlain};
+
+use dstm_model::{AMOUNT_LIMIT, Cond, KEY_LIMIT, Layout, Op, Ops, Which};
+
+/// Tells whether an operation fits a layout.
+pub(crate) fn fits(layout: &Layout, op: &Op) -> bool
+    ensures { IsTrue result → FitsLayout layout.now op.now }
+{
+    match *op {
+        Op::Transfer {
+            source,
+            target,
+            amount,
+        } => source < layout.accounts && target < layout.accounts && amount < AMOUNT_LIMIT,
+        Op::Balance { account } => account < layout.accounts,
+        Op::Total => layout.accounts > 0,
+        Op::Insert { which, key } => fits_key(layout, which, key),
+        Op::Remove { which, key } => fits_key(layout, which, key),
+        Op::Member { which, key } => fits_key(layout, which, key),
+        Op::Put { key, .. } => fits_key(layout, Which::Tree, key),
+        Op::Get { key } => fits_key(layout, Which::Tree, key),
+        Op::Await(cond) => fits_cond(layout, cond),
+        Op::OrElse => true,
+    }
+}
+
+fn fits_cond(layout: &Layout, cond: Cond) -> bool
+    ensures { IsTrue result → FitsCond layout.now cond }
+{
+    match cond {
+        Cond::Balance { account, least } => account < layout.accounts && least < AMOUNT_LIMIT,
+        Cond::Key { which, key } => fits_key(layout, which, key),
+    }
+}
+
+fn fits_key(layout: &Layout, which: Which, key: u32) -> bool
+    ensures { IsTrue result → FitsKey layout.now which key }
+{
+    let room = match which {
+        Which::List => layout.list,
+        Which::Tree => layout.tree,
+    };
+    room > 0 && key < KEY_LIMIT
+}
+
+fn is_plain(op: &Op) -> bool
+    ensures { IsTrue result → IsPlain op.now }
+{
+    !matches!(op, Op::Await(_) | Op::OrElse)
+}
+
+/// Tells whether it may be run by itself.
+pub(crate) fn can_run(layout: &Layout, op: &Op) -> bool
+    ensures fits { IsTrue result → FitsLayout layout.now op.now }
+    ensures plain { IsTrue result → IsPlain op.now }
+{
+    is_plain(op) && fits(layout, op)
+}
+
+/// The operations that fit, at most eight.
+pub(crate) fn ops_of(layout: &Layout, list: &[Op]) -> Ops
+    ensures { All (FitsLayout layout.now) result }
+{
+    let mut ops = Ops::new();
+    for op in list {
+        if ops.as_slice().len() < 8 && fits(layout, op) {
+            ops.push(*op);
+        }
+    }
+    ops
+}
+
+/// The same without conditions and separators.
+pub(crate) fn plain_of(layout: &Layout, list: &[Op]) -> Ops
+    ensures fits { All (FitsLayout layout.now) result }
+    ensures plain { All IsPlain result }
+{
+    let mut ops = Ops::new();
+    for op in list {
+        if ops.as_slice().len() < 8 && can_run(layout, op) {
+            ops.push(*op);
+        }
+    }
+    ops
+}
+
+/// An operation on one of three accounts, or on one of ten keys.
+pub(crate) fn pick(seed: u32) -> Op {
+    let key = seed / 256 % 10;
+    let which = if seed / 4_096 % 2 == 0 {
+        Which::List
+    } else {
+        Which::Tree
+    };
+    match seed / 65_536 % 9 {
+        0 => Op::Transfer {
+            source: key % 3,
+            target: key / 3 % 3,
+            amount: u64::from(seed % 60),
+        },
+        1 => Op::Balance { account: key % 3 },
+        2 => Op::Total,
+        3 => Op::Member { which, key },
+        4 => Op::Remove { which, key },
+        5 => Op::Put {
+            key,
+            value: u64::from(seed),
+        },
+        6 => Op::Get { key },
+        _ => Op::Insert { which, key },
+    }
+}
