@@ -1,6 +1,7 @@
 -- The examples are core runs.
-use Rattle.std.proofs.Common.{◌≡◌, ◌≢◌, ◌<◌, ℕ, suc, zero, true, inl, inr, refl, arith}
-use Rattle.dstm_core.specs.Runs.{Core, local}
+use Rattle.std.proofs.Common.{◌∷◌, ◌≡◌, ◌≢◌, ◌<◌, List, [], ℕ, suc, zero, true, inl, inr, refl, arith}
+use Rattle.dstm_core.specs.Runs.{Core, core, local}
+use Rattle.dstm_core.specs.Events.{Event}
 use Rattle.dstm_core.specs.declared.shape.Manager.TheVariants.{Greedy, Karma}
 use Rattle.dstm_order.specs.Drive.{nine, small, zeros}
 use Rattle.dstm_order.specs.Calls.{IsCall}
@@ -9,65 +10,26 @@ use Rattle.dstm_order.specs.Tasks.Work.{Committing, Writing}
 use Rattle.dstm_progress.specs.Alone.{IsAlone}
 use Rattle.dstm_progress.specs.Example.{SomeAttempts, before, begun, begun_oldest, committed, newest, opened, or_event, the_calls}
 use Rattle.dstm_progress.specs.Oldest.{IsOldest}
-use Rattle.dstm_machines.proofs.Fitting.{enrol, fit}
+use Rattle.dstm_machines.proofs.Fitting.{enrol, fit, run_then, ◌also◌}
+
+-- events, the oldest first
+abbrev oldest_first : List Event → List Event → List Event
+oldest_first [] later = later
+oldest_first (e ∷ es) later = oldest_first es (e ∷ later)
 
 core_begun : Core (small Karma) begun
-core_begun = (
-  (
-    (
-      (
-        (
-          (
-            (
-              (
-                (
-                  (
-                    tt,
-                    enrol refl (omega arith) refl (refl, (refl, refl), refl, tt),
-                  ),
-                  fit refl (omega arith) (λ q. cc) (
-                    refl,
-                    (refl, refl),
-                    (
-                      refl,
-                      omega arith,
-                      inl
-                          (inl refl, inl refl),
-                    ),
-                    omega arith,
-                  ),
-                ),
-                fit refl (omega arith) (λ q. cc) (
-                  refl,
-                  (refl, refl),
-                  (refl, refl, omega arith, inr refl),
-                  omega arith,
-                ),
-              ),
-              fit refl (omega arith) (λ q. cc) (refl, (refl, refl), (refl, refl, refl), omega arith),
-            ),
-            fit refl (omega arith) (λ q. cc) (refl, (refl, refl), (refl, refl, omega arith), omega arith),
-          ),
-          fit refl (omega arith) (λ q. cc) (refl, (refl, refl), (refl, refl, refl, refl, refl), omega arith),
-        ),
-        fit refl (omega arith) (λ q. cc) (refl, (refl, refl), (refl, refl, refl, refl, refl, refl), omega arith),
-      ),
-      enrol refl (omega arith) refl (refl, (refl, refl), refl, tt),
-    ),
-    fit refl (omega arith) (λ q. cc) (
-      refl,
-      (refl, refl),
-      (
-        refl,
-        omega arith,
-        inl
-            (inl refl, inl refl),
-      ),
-      omega arith,
-    ),
-  ),
-  fit refl (omega arith) (λ q. cc) (refl, (refl, refl), (refl, refl, omega arith, inr refl), omega arith),
-)
+core_begun = run_then core (small Karma) [] (oldest_first (begun) []) tt (
+    enrol refl (omega arith) refl (refl, (refl, refl), refl, tt) also
+    fit refl (omega arith) (λ q. cc) (refl, (refl, refl), (refl, omega arith, inl (inl refl, inl refl)), omega arith) also
+    fit refl (omega arith) (λ q. cc) (refl, (refl, refl), (refl, refl, omega arith, inr refl), omega arith) also
+    fit refl (omega arith) (λ q. cc) (refl, (refl, refl), (refl, refl, refl), omega arith) also
+    fit refl (omega arith) (λ q. cc) (refl, (refl, refl), (refl, refl, omega arith), omega arith) also
+    fit refl (omega arith) (λ q. cc) (refl, (refl, refl), (refl, refl, refl, refl, refl), omega arith) also
+    fit refl (omega arith) (λ q. cc) (refl, (refl, refl), (refl, refl, refl, refl, refl, refl), omega arith) also
+    enrol refl (omega arith) refl (refl, (refl, refl), refl, tt) also
+    fit refl (omega arith) (λ q. cc) (refl, (refl, refl), (refl, omega arith, inl (inl refl, inl refl)), omega arith) also
+    fit refl (omega arith) (λ q. cc) (refl, (refl, refl), (refl, refl, omega arith, inr refl), omega arith) also
+    tt)
 
 core_opened : Core (small Karma) opened
 core_opened = (
@@ -277,51 +239,16 @@ alone = record {
 }
 
 core_oldest : Core (small Greedy) begun_oldest
-core_oldest = (
-  (
-    (
-      (
-        (
-          (
-            (
-              (
-                tt,
-                enrol refl (omega arith) refl (refl, (refl, refl), refl, tt),
-              ),
-              enrol refl (omega arith) refl (refl, (refl, refl), refl, tt),
-            ),
-            fit refl (omega arith) (λ q. cc) (refl, (refl, refl), (refl, refl, refl, refl), tt),
-          ),
-          fit refl (omega arith) (λ q. cc) (refl, (refl, refl), (refl, refl, refl, refl), tt),
-        ),
-        fit refl (omega arith) (λ q. cc) (
-          refl,
-          (refl, refl),
-          (
-            refl,
-            omega arith,
-            inr
-                (refl, refl, refl),
-          ),
-          omega arith,
-        ),
-      ),
-      fit refl (omega arith) (λ q. cc) (refl, (refl, refl), (refl, refl, omega arith, inr refl), omega arith),
-    ),
-    fit refl (omega arith) (λ q. cc) (
-      refl,
-      (refl, refl),
-      (
-        refl,
-        omega arith,
-        inr
-            (refl, refl, refl),
-      ),
-      omega arith,
-    ),
-  ),
-  fit refl (omega arith) (λ q. cc) (refl, (refl, refl), (refl, refl, omega arith, inr refl), omega arith),
-)
+core_oldest = run_then core (small Greedy) [] (oldest_first (begun_oldest) []) tt (
+    enrol refl (omega arith) refl (refl, (refl, refl), refl, tt) also
+    enrol refl (omega arith) refl (refl, (refl, refl), refl, tt) also
+    fit refl (omega arith) (λ q. cc) (refl, (refl, refl), (refl, refl, refl, refl), tt) also
+    fit refl (omega arith) (λ q. cc) (refl, (refl, refl), (refl, refl, refl, refl), tt) also
+    fit refl (omega arith) (λ q. cc) (refl, (refl, refl), (refl, omega arith, inr (refl, refl, refl)), omega arith) also
+    fit refl (omega arith) (λ q. cc) (refl, (refl, refl), (refl, refl, omega arith, inr refl), omega arith) also
+    fit refl (omega arith) (λ q. cc) (refl, (refl, refl), (refl, omega arith, inr (refl, refl, refl)), omega arith) also
+    fit refl (omega arith) (λ q. cc) (refl, (refl, refl), (refl, refl, omega arith, inr refl), omega arith) also
+    tt)
 
 oldest : IsOldest (small Greedy) begun_oldest 1
 oldest = record { live = refl; least = least }
