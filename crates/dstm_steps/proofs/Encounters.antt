@@ -3,7 +3,7 @@ use Rattle.std.proofs.Common.{◌≡◌, ◌≢◌, ◌⊎◌, ℕ, ◌<◌, ◌
 use Rattle.std.specs.Prelude.{Option, Result, Ok, Err, OnOk}
 use Rattle.std.proofs.lemmas.Bool.{cases_eq}
 use Rattle.std.proofs.lemmas.Bool.Decides.{nat_tests}
-use Rattle.dstm_core.specs.declared.event.Kind.TheVariants.{LookObj, LookOwner, LookRank}
+use Rattle.dstm_core.specs.declared.event.Kind.TheVariants.{LookObj, LookRank}
 use Rattle.dstm_core.specs.declared.shape.Shape.{Shape}
 use Rattle.dstm_core.specs.declared.state.Phase.TheVariants.{Running}
 use Rattle.dstm_core.specs.declared.state.Read.{Read}
@@ -19,7 +19,7 @@ use Rattle.dstm_order.specs.Efforts.{Effort}
 use Rattle.dstm_order.specs.Order.{Due, just, has_ranks}
 use Rattle.dstm_order.specs.Tasks.{Task}
 use Rattle.dstm_words.specs.Seats.{Home, view_of, state_by}
-use Rattle.dstm_steps.specs.Conflicts.{Encounters, Meets, Starts}
+use Rattle.dstm_steps.specs.Conflicts.{Encounters, Meets}
 use Rattle.dstm_steps.specs.declared.steps.Steps.{Steps}
 use Rattle.dstm_steps.specs.Finding.{word_of, is_changed}
 use Rattle.dstm_steps.specs.Under.{Began, InTask, Under, Resolving, made_by, now}

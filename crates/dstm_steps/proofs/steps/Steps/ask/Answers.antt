@@ -1,4 +1,4 @@
-use Rattle.std.proofs.Common.{◌≡◌, subst, None, ◌+◌, refl, ap, sym, ◌∙◌, ◌-◌, arith, inl, ne_eqb}
+use Rattle.std.proofs.Common.{◌≡◌, ℕ, ◌<◌, subst, None, ◌+◌, refl, ap, sym, ◌∙◌, ◌-◌, arith, inl, ne_eqb}
 use Rattle.std.proofs.lemmas.Bool.Decides.{nat_tests}
 use Rattle.dstm_core.specs.Events.{Event}
 use Rattle.dstm_core.specs.declared.event.Kind.TheVariants.{Kill, LookStatus, Pause}
@@ -6,7 +6,7 @@ use Rattle.dstm_machines.specs.Traces.Access.{Load}
 use Rattle.dstm_core.specs.State.{LocalState}
 use Rattle.dstm_steps.specs.declared.steps.Steps.{Steps}
 use Rattle.dstm_order.specs.Order.{just, on_choice}
-use Rattle.dstm_steps.specs.Under.{Under, Went, Began, made_by, now, effort_by}
+use Rattle.dstm_steps.specs.Under.{Under, Went, Began, Resolving, made_by, now, effort_by}
 use Rattle.dstm_steps.proofs.Meeting.{round_in, rank_in, waits_some}
 use Rattle.dstm_steps.proofs.Ranged.{owner_in}
 use Rattle.dstm_steps.proofs.Stepping.{went_on, under_is, turn_last, turn_more}
@@ -14,10 +14,12 @@ use Rattle.dstm_core.specs.declared.shape.Manager.{Manager}
 use Rattle.dstm_core.specs.Rules.{after}
 use Rattle.dstm_managers.specs.declared.decider.Choice.TheVariants.{Wait}
 use Rattle.dstm_managers.specs.Choices.{DeciderState, decider_after as decided}
-use Rattle.dstm_order.specs.Efforts.{chosen}
+use Rattle.dstm_order.specs.Efforts.{Effort, chosen, turn}
 use Rattle.dstm_core.specs.Words.{place}
 use Rattle.dstm_core.specs.Words.Word.{StatusWord}
 use Rattle.dstm_steps.proofs.Stepping.{may_make, makes_by, went_adds, chosen_is, kill_keeps, give_way_keeps, manager_kept, first_turn}
+use Rattle.dstm_steps.proofs.steps.Steps.ask.Given.{Over}
+use Rattle.dstm_steps.proofs.steps.Steps.ask.Goals.{After-load-code}
 use Rattle.dstm_steps.proofs.steps.Steps.ask.Goals as goal
 
 pub status-place-requires-clause-below : goal.status-place-requires-clause-below
@@ -77,128 +79,89 @@ returns-in-GiveWay-clause-give_way g c is =
       chose,
     )
 
-pub returns-then-turns-eq1-clause-waits : goal.returns-then-turns-eq1-clause-waits
-returns-then-turns-eq1-clause-waits g c code is =
+-- the turns to be waited are those that the manager chose
+chose_wait : (g : Over) (c : After-load-code g) →
+    chosen c.args.words.now.terms.shape.manager (now c.args.words.now c.args.self.now) (effort_by c.args.self.now)
+    ≡ Wait c.in-Wait.turns
+chose_wait g c =
+    chosen_is g.L.Law.holds c.args.words.now g.B.InCall.began c.args.self.now _ _ c.requires.under c.args.enemy
+    c.args.status c.requires.enemy c.requires.status.0 ∙ sym c.in-Wait.ensures.answer
+
+-- the caller while it waits, in this round
+abbrev waiting : (g : Over) → After-load-code g → ℕ → Steps g.row.L.Denot
+waiting g c round = record c.args.self.now {
+  seat = c.load-code.new.self;
+  decider = c.decide.new.self;
+  left = c.in-Wait.turns - 1;
+  round = round;
+}
+
+-- what it counts of the wait, one turn of which has passed
+abbrev waited : (g : Over) → After-load-code g → Effort
+waited g c = record (effort_by c.args.self.now) { generator = c.decide.new.self.generator }
+
+waits : (g : Over) (c : After-load-code g) (code round : ℕ) → c.load-code.result ≡ code →
+    turn c.in-Wait.turns (waited g c) ≡ effort_by (waiting g c round) →
+    (now c.args.words.now (waiting g c round) ≡ after LookStatus c.args.words.now.terms.shape
+    (now c.args.words.now c.args.self.now) (made_by g.B.InCall.began Load LookStatus 0 code))
+    × Resolving g.L.Law.holds c.args.words.now g.B.InCall.began (waiting g c round)
+waits g c code round found counts =
     let b : Began = g.B.InCall.began in
     let old : Steps g.row.L.Denot = c.args.self.now in
-    let new : Steps g.row.L.Denot =
-    record old {
-      seat = c.load-code.new.self;
-      decider = c.decide.new.self;
-      left = c.in-Wait.turns - 1;
-      round =
-          old.round + 1;
-    } in
+    let new : Steps g.row.L.Denot = waiting g c round in
     let l : LocalState = now c.args.words.now old in
     let manager : Manager = c.args.words.now.terms.shape.manager in
     let e : Event = made_by b Load LookStatus c.status-place.result c.load-code.result in
-    let chose : chosen manager l (effort_by old) ≡ Wait c.in-Wait.turns =
-    chosen_is g.L.Law.holds c.args.words.now g.B.InCall.began old _ _ c.requires.under c.args.enemy c.args.status
-    c.requires.enemy c.requires.status.0
-    ∙ sym c.in-Wait.ensures.answer in
-    let due_wait : Under g.L.Law.holds c.args.words.now g.B.InCall.began old (just LookStatus) None =
-    under_is g.L.Law.holds c.args.words.now g.B.InCall.began old _ _ _ _ c.requires.under (ap on_choice chose) refl in
-    let w : Went g.L.Law.holds c.args.words.now g.B.InCall.began old new e =
-    went_adds g.L.Law.holds c.args.words.now g.B.InCall.began old new e _ _ due_wait
-    (makes_by g.L.Law.holds c.args.words.now g.B.InCall.began _ _ Load LookStatus c.status-place.result c.load-code.result
+    let chose = chose_wait g c in
+    let due_wait : Under g.L.Law.holds c.args.words.now b old (just LookStatus) None =
+    under_is g.L.Law.holds c.args.words.now b old _ _ _ _ c.requires.under (ap on_choice chose) refl in
+    let w : Went g.L.Law.holds c.args.words.now b old new e =
+    went_adds g.L.Law.holds c.args.words.now b old new e _ _ due_wait
+    (makes_by g.L.Law.holds c.args.words.now b _ _ Load LookStatus c.status-place.result c.load-code.result
     c.requires.under.number c.load-code.ensures.event)
     c.load-code.ensures.seat refl (refl, tt) in
     let m = c.requires.under.mirror in
-    let found : c.load-code.result ≡ code = cc in
     let generator : (decided (record { manager = manager; generator = old.decider.generator })
     (Wait c.in-Wait.turns)).generator ≡ c.decide.new.self.generator =
     rw (← c.requires.under.manager) (ap (λ (d : DeciderState). d.generator) (sym c.in-Wait.ensures.left)) in
     let kept : c.decide.new.self.manager ≡ old.decider.manager =
     rw c.in-Wait.ensures.left (manager_kept old.decider c.in-Wait.turns) in (
       w.state ∙ ap (λ n. after LookStatus c.args.words.now.terms.shape l (made_by b Load LookStatus 0 n)) found,
-      went_on g.L.Law.holds c.args.words.now g.B.InCall.began old new new e w refl
+      went_on g.L.Law.holds c.args.words.now b old new new e w refl
           (record {
             shape = refl;
             manager = kept;
             mirror = record { own = m.own; installed = m.installed; rank = m.rank };
             effort = first_turn manager l (effort_by old) e c.in-Wait.turns (rw c.requires.status.0 refl)
                 c.requires.running.phase c.requires.left chose
-                ∙ turn_last c.in-Wait.turns
-                (record (effort_by old) {
-                  generator =
-                      (decided (record { manager = manager; generator = old.decider.generator })
-                      (Wait c.in-Wait.turns)).generator;
-                }) c.if-turns-eq1.true ∙ rw generator refl;
+                ∙ ap (λ n. turn c.in-Wait.turns (record (effort_by old) { generator = n })) generator ∙ counts;
           })
           (rw (w.state, c.requires.running.phase) refl) (rw w.state c.requires.running.agreed) c.requires.tries,
     )
+
+pub returns-then-turns-eq1-clause-waits : goal.returns-then-turns-eq1-clause-waits
+returns-then-turns-eq1-clause-waits g c code is =
+    let before = (goal.at.returns-then-turns-eq1-clause-waits g c).After-load-code in
+    waits g before code (c.args.self.now.round + 1) (cc) (turn_last c.in-Wait.turns (waited g before) c.if-turns-eq1.true)
 
 pub returns-else-turns-eq1-clause-waits : goal.returns-else-turns-eq1-clause-waits
 returns-else-turns-eq1-clause-waits g c code is =
-    let b : Began = g.B.InCall.began in
-    let old : Steps g.row.L.Denot = c.args.self.now in
-    let new : Steps g.row.L.Denot =
-    record old { seat = c.load-code.new.self; decider = c.decide.new.self; left = c.in-Wait.turns - 1 } in
-    let l : LocalState = now c.args.words.now old in
-    let manager : Manager = c.args.words.now.terms.shape.manager in
-    let e : Event = made_by b Load LookStatus c.status-place.result c.load-code.result in
-    let chose : chosen manager l (effort_by old) ≡ Wait c.in-Wait.turns =
-    chosen_is g.L.Law.holds c.args.words.now g.B.InCall.began old _ _ c.requires.under c.args.enemy c.args.status
-    c.requires.enemy c.requires.status.0
-    ∙ sym c.in-Wait.ensures.answer in
-    let due_wait : Under g.L.Law.holds c.args.words.now g.B.InCall.began old (just LookStatus) None =
-    under_is g.L.Law.holds c.args.words.now g.B.InCall.began old _ _ _ _ c.requires.under (ap on_choice chose) refl in
-    let w : Went g.L.Law.holds c.args.words.now g.B.InCall.began old new e =
-    went_adds g.L.Law.holds c.args.words.now g.B.InCall.began old new e _ _ due_wait
-    (makes_by g.L.Law.holds c.args.words.now g.B.InCall.began _ _ Load LookStatus c.status-place.result c.load-code.result
-    c.requires.under.number c.load-code.ensures.event)
-    c.load-code.ensures.seat refl (refl, tt) in
-    let m = c.requires.under.mirror in
-    let found : c.load-code.result ≡ code = cc in
-    let generator : (decided (record { manager = manager; generator = old.decider.generator })
-    (Wait c.in-Wait.turns)).generator ≡ c.decide.new.self.generator =
-    rw (← c.requires.under.manager) (ap (λ (d : DeciderState). d.generator) (sym c.in-Wait.ensures.left)) in
-    let kept : c.decide.new.self.manager ≡ old.decider.manager =
-    rw c.in-Wait.ensures.left (manager_kept old.decider c.in-Wait.turns) in (
-      w.state ∙ ap (λ n. after LookStatus c.args.words.now.terms.shape l (made_by b Load LookStatus 0 n)) found,
-      went_on g.L.Law.holds c.args.words.now g.B.InCall.began old new new e w refl
-          (record {
-            shape = refl;
-            manager = kept;
-            mirror = record { own = m.own; installed = m.installed; rank = m.rank };
-            effort = first_turn manager l (effort_by old) e c.in-Wait.turns (rw c.requires.status.0 refl)
-                c.requires.running.phase c.requires.left chose
-                ∙ turn_more c.in-Wait.turns
-                (record (effort_by old) {
-                  generator =
-                      (decided (record { manager = manager; generator = old.decider.generator })
-                      (Wait c.in-Wait.turns)).generator;
-                }) c.if-turns-eq1.false ∙ rw generator refl;
-          })
-          (rw (w.state, c.requires.running.phase) refl) (rw w.state c.requires.running.agreed) c.requires.tries,
-    )
+    let before = (goal.at.returns-else-turns-eq1-clause-waits g c).After-load-code in
+    waits g before code c.args.self.now.round (cc) (turn_more c.in-Wait.turns (waited g before) c.if-turns-eq1.false)
+
+-- the rounds of a wait are few
+few_rounds : (g : Over) (c : After-load-code g) → c.args.self.now.round < 1024
+few_rounds g c =
+    round_in c.args.words.now.terms.shape.manager _ _ _ _ c.in-Wait.turns _
+    (rank_in g.L.Law.holds c.args.words.now g.B.InCall.began c.args.self.now _ _ c.requires.under) (chose_wait g c)
 
 pub returns-then-turns-eq1-clause-rounds : goal.returns-then-turns-eq1-clause-rounds
 returns-then-turns-eq1-clause-rounds g c code is =
-    let old : Steps g.row.L.Denot = c.args.self.now in
-    let l : LocalState = now c.args.words.now old in
-    let manager : Manager = c.args.words.now.terms.shape.manager in
-    let chose : chosen manager l (effort_by old) ≡ Wait c.in-Wait.turns =
-    chosen_is g.L.Law.holds c.args.words.now g.B.InCall.began old _ _ c.requires.under c.args.enemy c.args.status
-    c.requires.enemy c.requires.status.0 ∙ sym c.in-Wait.ensures.answer in (
-      rw c.if-turns-eq1.true refl,
-      round_in manager _ _ _ _ c.in-Wait.turns _
-          (rank_in g.L.Law.holds c.args.words.now g.B.InCall.began old _ _ c.requires.under) chose,
-      refl,
-    )
+    (rw c.if-turns-eq1.true refl, few_rounds g (goal.at.returns-then-turns-eq1-clause-rounds g c).After-load-code, refl)
 
 pub returns-else-turns-eq1-clause-rounds : goal.returns-else-turns-eq1-clause-rounds
 returns-else-turns-eq1-clause-rounds g c code is =
-    let old : Steps g.row.L.Denot = c.args.self.now in
-    let l : LocalState = now c.args.words.now old in
-    let manager : Manager = c.args.words.now.terms.shape.manager in
-    let chose : chosen manager l (effort_by old) ≡ Wait c.in-Wait.turns =
-    chosen_is g.L.Law.holds c.args.words.now g.B.InCall.began old _ _ c.requires.under c.args.enemy c.args.status
-    c.requires.enemy c.requires.status.0 ∙ sym c.in-Wait.ensures.answer in
-    let some = waits_some manager _ _ _ _ c.in-Wait.turns _ chose in
-    let more = c.if-turns-eq1.false in (
-      rw (ne_eqb (c.in-Wait.turns - 1) 0 (λ q. omega arith)) refl,
-      round_in manager _ _ _ _ c.in-Wait.turns _
-          (rank_in g.L.Law.holds c.args.words.now g.B.InCall.began old _ _ c.requires.under) chose,
-      refl,
-    )
+    let before = (goal.at.returns-else-turns-eq1-clause-rounds g c).After-load-code in
+    let some = waits_some c.args.words.now.terms.shape.manager _ _ _ _ c.in-Wait.turns _ (chose_wait g before) in
+    let more = c.if-turns-eq1.false in
+    (rw (ne_eqb (c.in-Wait.turns - 1) 0 (λ q. omega arith)) refl, few_rounds g before, refl)

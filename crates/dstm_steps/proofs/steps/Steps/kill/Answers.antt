@@ -5,9 +5,11 @@ use Rattle.dstm_core.specs.declared.event.Kind.TheVariants.{Kill}
 use Rattle.dstm_machines.specs.Traces.Access.{Exchange}
 use Rattle.dstm_words.specs.Seats.{found_in}
 use Rattle.dstm_steps.specs.declared.steps.Steps.{Steps}
-use Rattle.dstm_steps.specs.Under.{made_by, effort_by}
+use Rattle.dstm_steps.specs.Under.{After, made_by, effort_by}
 use Rattle.dstm_steps.proofs.Ranged.{owner_in}
 use Rattle.dstm_steps.proofs.Stepping.{went_on, went_lost, exchanged, exchange_failed}
+use Rattle.dstm_steps.proofs.steps.Steps.kill.Given.{Over}
+use Rattle.dstm_steps.proofs.steps.Steps.kill.Goals.{In-Err}
 use Rattle.dstm_steps.proofs.steps.Steps.kill.Goals as goal
 
 pub status-place-requires-clause-below : goal.status-place-requires-clause-below
@@ -36,40 +38,33 @@ returns-in-Ok-clause-goes_on g c tries =
     })
     (rw (state, c.requires.running.phase) refl) (rw (state, c.requires.running.agreed) refl) tries
 
-pub returns-in-Err-clause-goes_on : goal.returns-in-Err-clause-goes_on
-returns-in-Err-clause-goes_on g c tries =
+-- an exchange that failed is counted
+failed : (g : Over) (c : In-Err g) →
+    After c.args.words.now c.args.self.now (record c.exchange.new.self { missed = c.exchange.new.self.missed + 1 })
+    (made_by g.B.InCall.began (Exchange c.code.result c.code-2.result) Kill c.status-place.result
+    (found_in c.exchange.result))
+failed g c =
     let e : Event = made_by g.B.InCall.began (Exchange c.code.result c.code-2.result) Kill c.status-place.result
     (found_in c.exchange.result) in
     let rest = c.exchange.ensures.rest in
-    let m = c.requires.under.mirror in
-    let state = c.exchange.ensures.went.state in
-    let new : Steps g.row.L.Denot = record c.exchange.new.self { missed = c.exchange.new.self.missed + 1 } in
-    went_on g.L.Law.holds c.args.words.now g.B.InCall.began c.args.self.now c.exchange.new.self new e
-    c.exchange.ensures.went refl
-    (record {
+    let m = c.requires.under.mirror in record {
       shape = ap (λ (s : Steps g.row.L.Denot). s.shape) rest;
       manager = ap (λ (s : Steps g.row.L.Denot). s.decider.manager) rest;
       mirror = record { own = rw rest m.own; installed = rw rest m.installed; rank = rw rest m.rank };
       effort = exchange_failed (effort_by c.args.self.now) e
           (λ q. c.in-Err.ensures.answer (sym (ap found_in c.in-Err.is) ∙ q)) ∙ rw rest refl;
-    })
+    }
+
+pub returns-in-Err-clause-goes_on : goal.returns-in-Err-clause-goes_on
+returns-in-Err-clause-goes_on g c tries =
+    let state = c.exchange.ensures.went.state in
+    went_on g.L.Law.holds c.args.words.now g.B.InCall.began c.args.self.now c.exchange.new.self _ _
+    c.exchange.ensures.went refl (failed g (goal.at.returns-in-Err-clause-goes_on g c).In-Err)
     (rw (state, c.requires.running.phase) refl) (rw (state, c.requires.running.agreed) refl) tries
 
 pub returns-in-Err-clause-lost : goal.returns-in-Err-clause-lost
 returns-in-Err-clause-lost g c lost =
-    let e : Event = made_by g.B.InCall.began (Exchange c.code.result c.code-2.result) Kill c.status-place.result
-    (found_in c.exchange.result) in
-    let rest = c.exchange.ensures.rest in
-    let m = c.requires.under.mirror in
     let state = c.exchange.ensures.went.state in
-    let new : Steps g.row.L.Denot = record c.exchange.new.self { missed = c.exchange.new.self.missed + 1 } in
-    went_lost g.L.Law.holds c.args.words.now g.B.InCall.began c.args.self.now c.exchange.new.self new e
-    c.exchange.ensures.went refl
-    (record {
-      shape = ap (λ (s : Steps g.row.L.Denot). s.shape) rest;
-      manager = ap (λ (s : Steps g.row.L.Denot). s.decider.manager) rest;
-      mirror = record { own = rw rest m.own; installed = rw rest m.installed; rank = rw rest m.rank };
-      effort = exchange_failed (effort_by c.args.self.now) e
-          (λ q. c.in-Err.ensures.answer (sym (ap found_in c.in-Err.is) ∙ q)) ∙ rw rest refl;
-    })
+    went_lost g.L.Law.holds c.args.words.now g.B.InCall.began c.args.self.now c.exchange.new.self _ _
+    c.exchange.ensures.went refl (failed g (goal.at.returns-in-Err-clause-lost g c).In-Err)
     (rw (state, c.requires.running.phase) refl) lost

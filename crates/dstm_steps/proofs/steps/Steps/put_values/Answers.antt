@@ -1,23 +1,43 @@
-use Rattle.std.proofs.Common.{◌≡◌, ◌+◌, refl, ap, subst, arith, inr, length}
+use Rattle.std.proofs.Common.{◌≡◌, ◌<◌, ◌+◌, refl, ap, subst, arith, inr, length}
+use Rattle.std.specs.Prelude.{slice_index_or}
 use Rattle.dstm_core.specs.Events.{Event}
 use Rattle.dstm_core.specs.declared.event.Kind.TheVariants.{PutHigh}
 use Rattle.dstm_core.specs.State.{LocalState}
 use Rattle.dstm_machines.specs.Traces.Access.{Store}
 use Rattle.dstm_steps.specs.Under.{made_by}
-use Rattle.dstm_steps.specs.Writes.{ArePut}
-use Rattle.dstm_steps.proofs.PutLoop.{ready, next_put, numbered, lawful_put, puts_more, puts_all, puts_kept}
+use Rattle.dstm_steps.specs.Writes.{ArePut, no_slot}
+use Rattle.dstm_steps.proofs.PutLoop.{NextPut, ready, next_put, numbered, lawful_put, puts_more, puts_all, puts_kept}
 use Rattle.dstm_machines.proofs.Pasts.{past_past}
 use Rattle.dstm_steps.proofs.Ranged.{few_locators, in_word}
 use Rattle.dstm_steps.proofs.Stepping.{under_is}
+use Rattle.dstm_steps.proofs.steps.Steps.put_values.Given.{Over}
+use Rattle.dstm_steps.proofs.steps.Steps.put_values.Goals.{After-put_high, In-loop-i}
 use Rattle.dstm_steps.proofs.steps.Steps.put_values.Goals as goal
 
-pub overflow_cast-locator : goal.overflow_cast-locator
-overflow_cast-locator g c =
-    let n = next_put g.L.Law.holds c.args.words.now g.B.InCall.began c.args.self.now c.loop-i.self c.args.first
-    c.args.writes.now c.loop-i.i
-    c.requires.slots (numbered g.L.Law.holds c.args.words.now g.B.InCall.began c.args.self.now _ _ c.requires.under
-    c.args.first c.requires.first)
-    c.requires.values c.loop-i.invariant.writes c.loop-i.invariant.written c.loop-i-test.true in
+-- the write whose value is put next, before its high part is put and after it
+next_before : (g : Over) (c : In-loop-i g) →
+    NextPut g.L.Law.holds c.args.words.now g.B.InCall.began c.loop-i.self (c.args.first + c.loop-i.i)
+    (slice_index_or c.args.writes.now c.loop-i.i no_slot)
+next_before g c =
+    next_put g.L.Law.holds c.args.words.now g.B.InCall.began c.args.self.now c.loop-i.self c.args.first
+    c.args.writes.now c.loop-i.i c.requires.slots
+    (numbered g.L.Law.holds c.args.words.now g.B.InCall.began c.args.self.now _ _ c.requires.under c.args.first
+    c.requires.first) c.requires.values c.loop-i.invariant.writes c.loop-i.invariant.written c.loop-i-test.true
+
+next_between : (g : Over) (c : After-put_high g) →
+    NextPut g.L.Law.holds c.args.words.now g.B.InCall.began c.put_high.new.self (c.args.first + c.loop-i.i)
+    (slice_index_or c.args.writes.now c.loop-i.i no_slot)
+next_between g c =
+    next_put g.L.Law.holds c.args.words.now g.B.InCall.began c.args.self.now c.put_high.new.self c.args.first
+    c.args.writes.now c.loop-i.i c.requires.slots
+    (numbered g.L.Law.holds c.args.words.now g.B.InCall.began c.args.self.now _ _ c.requires.under c.args.first
+    c.requires.first) c.requires.values (rw c.put_high.ensures.state c.loop-i.invariant.writes)
+    (rw c.put_high.ensures.state c.loop-i.invariant.written) c.loop-i-test.true
+
+-- its locator is a small number
+locator_fits : (g : Over) (c : In-loop-i g) → c.args.first + c.loop-i.i < 4294967296
+locator_fits g c =
+    let n = next_before g c in
     let few = few_locators c.args.words.now.terms.shape c.requires.under.run.valid in
     let e : Event = made_by g.B.InCall.began (Store 0) PutHigh 0 0 in
     let below = rw n.locator_is at
@@ -26,79 +46,41 @@ overflow_cast-locator g c =
     (c.loop-i.invariant.phase, c.loop-i.invariant.agreed, n.left, c.loop-i.invariant.none)) in
     omega arith
 
+pub overflow_cast-locator : goal.overflow_cast-locator
+overflow_cast-locator g c = let fits = locator_fits g (goal.at.overflow_cast-locator g c).In-loop-i in omega arith
+
 pub overflow_add-locator : goal.overflow_add-locator
-overflow_add-locator g c =
-    let n = next_put g.L.Law.holds c.args.words.now g.B.InCall.began c.args.self.now c.loop-i.self c.args.first
-    c.args.writes.now c.loop-i.i
-    c.requires.slots (numbered g.L.Law.holds c.args.words.now g.B.InCall.began c.args.self.now _ _ c.requires.under
-    c.args.first c.requires.first)
-    c.requires.values c.loop-i.invariant.writes c.loop-i.invariant.written c.loop-i-test.true in
-    let few = few_locators c.args.words.now.terms.shape c.requires.under.run.valid in
-    let e : Event = made_by g.B.InCall.began (Store 0) PutHigh 0 0 in
-    let below = rw n.locator_is at
-    (in_word g.L.Law.holds c.args.words.now g.B.InCall.began c.loop-i.self _ _ c.loop-i.invariant.under PutHigh e
-    (λ q. absurd (cc))
-    (c.loop-i.invariant.phase, c.loop-i.invariant.agreed, n.left, c.loop-i.invariant.none)) in
-    omega arith
+overflow_add-locator g c = let fits = locator_fits g (goal.at.overflow_add-locator g c).In-loop-i in omega arith
 
 pub put_high-requires-clause-under : goal.put_high-requires-clause-under
 put_high-requires-clause-under g c =
-    let n = next_put g.L.Law.holds c.args.words.now g.B.InCall.began c.args.self.now c.loop-i.self c.args.first
-    c.args.writes.now c.loop-i.i
-    c.requires.slots (numbered g.L.Law.holds c.args.words.now g.B.InCall.began c.args.self.now _ _ c.requires.under
-    c.args.first c.requires.first)
-    c.requires.values c.loop-i.invariant.writes c.loop-i.invariant.written c.loop-i-test.true in
+    let n = next_before g (goal.at.put_high-requires-clause-under g c).In-loop-i in
     under_is g.L.Law.holds c.args.words.now g.B.InCall.began c.loop-i.self _ _ _ _ c.loop-i.invariant.under
     (rw c.to_put-value.ensures (n.high c.loop-i.invariant.none)) refl
 
 pub put_high-requires-clause-next : goal.put_high-requires-clause-next
 put_high-requires-clause-next g c =
-    let n = next_put g.L.Law.holds c.args.words.now g.B.InCall.began c.args.self.now c.loop-i.self c.args.first
-    c.args.writes.now c.loop-i.i
-    c.requires.slots (numbered g.L.Law.holds c.args.words.now g.B.InCall.began c.args.self.now _ _ c.requires.under
-    c.args.first c.requires.first)
-    c.requires.values c.loop-i.invariant.writes c.loop-i.invariant.written c.loop-i-test.true in
-    (n.left, c.loop-i.invariant.none)
+    ((next_before g (goal.at.put_high-requires-clause-next g c).In-loop-i).left, c.loop-i.invariant.none)
 
 pub put_high-requires-clause-locator : goal.put_high-requires-clause-locator
 put_high-requires-clause-locator g c =
-    let n = next_put g.L.Law.holds c.args.words.now g.B.InCall.began c.args.self.now c.loop-i.self c.args.first
-    c.args.writes.now c.loop-i.i
-    c.requires.slots (numbered g.L.Law.holds c.args.words.now g.B.InCall.began c.args.self.now _ _ c.requires.under
-    c.args.first c.requires.first)
-    c.requires.values c.loop-i.invariant.writes c.loop-i.invariant.written c.loop-i-test.true in
-    n.locator_is
+    (next_before g (goal.at.put_high-requires-clause-locator g c).In-loop-i).locator_is
 
 pub put_low-requires-clause-under : goal.put_low-requires-clause-under
 put_low-requires-clause-under g c =
-    let n = next_put g.L.Law.holds c.args.words.now g.B.InCall.began c.args.self.now c.put_high.new.self c.args.first
-    c.args.writes.now c.loop-i.i
-    c.requires.slots (numbered g.L.Law.holds c.args.words.now g.B.InCall.began c.args.self.now _ _ c.requires.under
-    c.args.first c.requires.first)
-    c.requires.values (rw c.put_high.ensures.state c.loop-i.invariant.writes)
-    (rw c.put_high.ensures.state c.loop-i.invariant.written) c.loop-i-test.true in
+    let n = next_between g (goal.at.put_low-requires-clause-under g c).After-put_high in
     under_is g.L.Law.holds c.args.words.now g.B.InCall.began c.put_high.new.self _ _ _ _ c.put_high.ensures.under
     (rw c.to_put-value.ensures (n.low (rw c.put_high.ensures.state refl))) refl
 
 pub put_low-requires-clause-next : goal.put_low-requires-clause-next
-put_low-requires-clause-next g c =
-    let n = next_put g.L.Law.holds c.args.words.now g.B.InCall.began c.args.self.now c.put_high.new.self c.args.first
-    c.args.writes.now c.loop-i.i
-    c.requires.slots (numbered g.L.Law.holds c.args.words.now g.B.InCall.began c.args.self.now _ _ c.requires.under
-    c.args.first c.requires.first)
-    c.requires.values (rw c.put_high.ensures.state c.loop-i.invariant.writes)
-    (rw c.put_high.ensures.state c.loop-i.invariant.written) c.loop-i-test.true in
-    (n.left, rw c.put_high.ensures.state refl)
+put_low-requires-clause-next g c = (
+  (next_between g (goal.at.put_low-requires-clause-next g c).After-put_high).left,
+  rw c.put_high.ensures.state refl,
+)
 
 pub put_low-requires-clause-locator : goal.put_low-requires-clause-locator
 put_low-requires-clause-locator g c =
-    let n = next_put g.L.Law.holds c.args.words.now g.B.InCall.began c.args.self.now c.put_high.new.self c.args.first
-    c.args.writes.now c.loop-i.i
-    c.requires.slots (numbered g.L.Law.holds c.args.words.now g.B.InCall.began c.args.self.now _ _ c.requires.under
-    c.args.first c.requires.first)
-    c.requires.values (rw c.put_high.ensures.state c.loop-i.invariant.writes)
-    (rw c.put_high.ensures.state c.loop-i.invariant.written) c.loop-i-test.true in
-    n.locator_is
+    (next_between g (goal.at.put_low-requires-clause-locator g c).After-put_high).locator_is
 
 pub put_low-requires-clause-lawful : goal.put_low-requires-clause-lawful
 put_low-requires-clause-lawful g c =
