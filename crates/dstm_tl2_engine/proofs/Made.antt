@@ -1,6 +1,6 @@
 -- An attempt that was made, from the clauses of its calls.
 use Rattle.std.proofs.Common.{◌≡◌, ◌⊎◌, ◌++◌, ◌∙◌, ◌∷◌, ℕ, List, [], arith, inl, inr, refl, sym, ap, subst, length}
-use Rattle.std.specs.Prelude.{IsSome, Option, None, Some, false, is_some, true, ◌+◌}
+use Rattle.std.specs.Prelude.{Bool, IsSome, Option, None, Some, false, is_some, true, ◌+◌}
 use base.Fml.{GName}
 use Rattle.dstm_model.specs.declared.value.Val.{Val}
 use Rattle.dstm_model.specs.Map.{Agrees, state_after, with_writes}
@@ -18,7 +18,9 @@ use Rattle.dstm_tl2_words.specs.Seats.{Home}
 use Rattle.dstm_tl2_order.specs.declared.again.TlAgain.{TlAgain}
 use Rattle.dstm_tl2_engine.specs.Attempts.{Admits, Committed, Commits, CommitsRun, Seen, Settles, StandsIn, done}
 use Rattle.dstm_tl2_engine.specs.Callers.{TlCalled, begun_log, held, is_opened, law_of, objects_of, since_sample, start_of, state, table_of_caller, written}
-use Rattle.dstm_tl2_engine.specs.Calls.{IsMade, IsTold}
+use Rattle.dstm_tl2_engine.specs.Calls.{IsMade, IsTold, Performs}
+use Rattle.dstm_tl2_order.specs.Tasks.Task.{Doing}
+use Rattle.dstm_tl2_order.specs.Tasks.Work.{Committing}
 use Rattle.dstm_tl2_engine.specs.Endings.{Attempts}
 use Rattle.dstm_tl2_engine.specs.Transactions.{BeginsAnew, TxPlace, tx_place}
 use Rattle.dstm_tl2_engine.proofs.Begun.{begun_count}
@@ -165,10 +167,18 @@ module _ {L : Type 0} (holds : L → List Val → Type 0) (k b t : TlCalled L) (
           st.reads
 
   -- and it is what the run of its body left
-  pub runs : (is_right : List Val → List Val → Type 0) (n : TlCalled L) (drawn : ℕ) → Commits t n drawn →
-      ((map : List Val) → Admits holds t map → is_right map (with_set map (written t))) →
-      CommitsRun holds is_right k n drawn
-  runs is_right n drawn commits right = record { ran = t; same = (home, number); right = right; commits = commits }
+  pub runs : (is_right : List Val → List Val → Type 0) (leaves : (ℕ → Option Val) → (ℕ → Bool) → Type 0)
+      (n : TlCalled L) (drawn : ℕ) → Commits t n drawn →
+      ((map : List Val) → Admits holds t map → is_right map (with_set map (written t))) → leaves (held t) (is_opened t) →
+      Performs holds (Doing (Committing t.writes)) t n None → CommitsRun holds is_right leaves k n drawn
+  runs is_right leaves n drawn commits right left commit = record {
+    ran = t;
+    same = (home, number);
+    right = right;
+    left = left;
+    commits = commits;
+    commit = commit;
+  }
 
   -- the reference that the attempt has is the one that it was begun with
   pub same_name : (s : GName) → q ≡ s → s ≡ r

@@ -1,5 +1,5 @@
 -- What an attempt has seen, which maps it admits, and what it committed.
-use Rattle.std.specs.Prelude.{◌≡◌, ℕ, true, false, List, [], ◌∷◌, ◌++◌, length, None, Some, if◌then◌else◌}
+use Rattle.std.specs.Prelude.{◌≡◌, ℕ, Bool, true, false, List, [], ◌∷◌, ◌++◌, length, Option, None, Some, if◌then◌else◌}
 use Rattle.dstm_mem.specs.Memory.{AgreesWith, value_in, with_set}
 use Rattle.dstm_model.specs.declared.value.Val.{Val}
 use Rattle.dstm_model.specs.Map.{Agrees, Entry, state_after, with_writes}
@@ -10,6 +10,9 @@ use Rattle.dstm_tl2.specs.State.{is_valid}
 pub use Rattle.dstm_tl2.specs.Committed.{Committed, commits, attempt_of, done_by}
 pub use Rattle.dstm_tl2.specs.Telling.{StandsIn}
 use Rattle.dstm_tl2_engine.specs.Callers.{TlCalled, table_of_caller, objects_of, start_of, law_of, state, held, written, handed, is_opened}
+use Rattle.dstm_tl2_engine.specs.Calls.{Performs}
+use Rattle.dstm_tl2_order.specs.Tasks.Task.{Doing}
+use Rattle.dstm_tl2_order.specs.Tasks.Work.{Committing}
 
 module _ {L : Type 0} where
   abbrev pub done : TlCalled L → List Committed
@@ -60,10 +63,12 @@ module _ {L : Type 0} where
         StandsRight holds is_right n later entry
 
   -- THE RUN IS COMMITTED: what was read, opened and set where the body's run ended is what the attempt has committed,
-  -- and what the run promises of its memory holds there.
-  pub record CommitsRun (holds : L → List Val → Type 0) (is_right : List Val → List Val → Type 0) (k n : TlCalled L)
-      (number : ℕ) : Type 0 where
+  -- and what the run promises of its memory holds there. All that the caller did from there on is to commit.
+  pub record CommitsRun (holds : L → List Val → Type 0) (is_right : List Val → List Val → Type 0)
+      (leaves : (ℕ → Option Val) → (ℕ → Bool) → Type 0) (k n : TlCalled L) (number : ℕ) : Type 0 where
     pub ran : TlCalled L
     pub same : (ran.home ≡ k.home) × (ran.number ≡ k.number)
     pub right : (map : List Val) → Admits holds ran map → is_right map (with_set map (written ran))
+    pub left : leaves (held ran) (is_opened ran)
     pub commits : Commits ran n number
+    pub commit : Performs holds (Doing (Committing ran.writes)) ran n None

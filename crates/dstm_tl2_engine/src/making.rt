@@ -22,7 +22,7 @@ pub fn tl_attempt<L: Law, B: Body<L>>(
     ensures settles { IfOk result (λ done.
         Settles L.holds (B.right body.new) caller.old caller.new done.number) }
     ensures runs { IfOk result (λ done.
-        CommitsRun L.holds (B.right body.new) caller.old caller.new done.number) }
+        CommitsRun L.holds (B.right body.new) (B.leaves body.new) caller.old caller.new done.number) }
     ensures ended { IfErr result (EndsBy L.holds caller.old caller.new) }
     ensures spent { IfErr result (λ e. IsSpent e ↔ (is_spent (table_of_caller caller.old) (state caller.old) ≡ true)) }
     ensures enough { IfOk result (λ _. is_spent (table_of_caller caller.old) (state caller.old) ≡ true → ⊥) }

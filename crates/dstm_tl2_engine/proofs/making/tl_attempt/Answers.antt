@@ -45,10 +45,11 @@ returns-in-Ok-commit-clause-runs g c =
     let b = c.in-Ok.tx.caller.now in
     let t = c.run.new.mem.caller.now in
     let right = g.B.Body.right c.run.new.self in
+    let leaves = g.B.Body.leaves c.run.new.self in
     let name = same_name g.L.Law.holds k b t _ _ _ _ begins place _ c.in-Ok.ensures.same in
-    in_the_end (λ n. CommitsRun g.L.Law.holds right k n c.in-Ok-commit.number) _ _ _ _ (assumption c) name
-    (runs g.L.Law.holds k b t _ _ _ _ begins place right c.commit.new.self.0 c.in-Ok-commit.number
-    c.in-Ok-commit.ensures.number c.in-Ok-run.ensures.right)
+    in_the_end (λ n. CommitsRun g.L.Law.holds right leaves k n c.in-Ok-commit.number) _ _ _ _ (assumption c) name
+    (runs g.L.Law.holds k b t _ _ _ _ begins place right leaves c.commit.new.self.0 c.in-Ok-commit.number
+    c.in-Ok-commit.ensures.number c.in-Ok-run.ensures.right c.in-Ok-run.ensures.leaves c.in-Ok-commit.ensures.stays.steps)
 
 pub returns-in-Err-commit-clause-ended : goal.returns-in-Err-commit-clause-ended
 returns-in-Err-commit-clause-ended g c =
