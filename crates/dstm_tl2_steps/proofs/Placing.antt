@@ -1,16 +1,16 @@
 -- What is open of an object, by where it stands.
-use Rattle.std.proofs.Common.{◌+◌, ◌++◌, ◌-◌, ◌<◌, ◌≤◌, ◌∙◌, ◌∷◌, ◌≡◌, ◌≢◌, List, None, Some, [], ap, arith, cond, false, inl, inr, length, length-append, refl, subst, sym, true, ℕ, ◌⊎◌}
+use Rattle.std.proofs.Common.{◌+◌, ◌++◌, ◌-◌, ◌<◌, ◌≤◌, ◌∙◌, ◌∷◌, ◌≡◌, ◌≢◌, Bool, List, None, Some, [], ap, arith, inl, inr, length, length-append, refl, subst, sym, true, ℕ, ◌⊎◌}
 use Rattle.std.specs.Prelude.{IsSome, is_some, slice_index_or, slice_set}
 use Rattle.std.proofs.Math.Seq.{get_or-append_seam}
 use Rattle.std.proofs.lemmas.List.{get_or_append_left, get_or_default, get_or-set_other, get_or-set_same, length-set}
-use Rattle.std.proofs.lemmas.Bool.{cases_Bool, cases_eq}
+use Rattle.std.proofs.lemmas.Bool.{cases_eq}
 use Rattle.dstm_mem.specs.Memory.{value_in}
 use Rattle.dstm_model.specs.declared.value.Val.{Val}
 use Rattle.dstm_tl2.specs.State.{no_write}
 use Rattle.dstm_tl2_steps.specs.Opened.{ArePlaced, IsReadOf, IsWriteOf, no_place, no_slot, place_at, read_at, read_slot, set_writes, with_value, write_at}
 use Rattle.dstm_tl2_steps.specs.declared.opened.Place.{Place}
 use Rattle.dstm_tl2_steps.specs.declared.opened.ReadSlot.{ReadSlot}
-use Rattle.dstm_tl2_steps.proofs.Slots.{ReadsApart, WritesApart, length-with_value, object-with_value, read_none, read_one, reads_few, set_push, set_same, value_in-set, value_in-with_other, value_in-with_value, with_value_is, write_none, write_one, writes_few}
+use Rattle.dstm_tl2_steps.proofs.Slots.{ReadsApart, WritesApart, length-with_value, object-with_value, read_none, read_one, reads_few, value_in-set_here, value_in-set_other, with_value_is, write_none, write_one, writes_few}
 
 module _ (reads : List ReadSlot) (writes : List (ℕ × Val)) (places : List Place)
     (p : ArePlaced reads writes places) where
@@ -70,14 +70,6 @@ module _ (reads : List ReadSlot) (writes : List (ℕ × Val)) (places : List Pla
         by (inl q) = q
         by (inr some) = let there = write_there some in absurd (cc)
 
-    -- and was not set
-    pub unset_there : value_in writes o ≡ None → (place_at places o).set ≡ false
-    unset_there none = by (cases_Bool (place_at places o).set)
-      where
-        by : ((place_at places o).set ≡ true) ⊎ ((place_at places o).set ≡ false) → (place_at places o).set ≡ false
-        by (inl q) = absurd (p.set_places o q (unopened_there none))
-        by (inr q) = q
-
     -- an object that is open for writing stands among the writes
     pub write_stands : IsSome (value_in writes o) → (place_at places o).write ≢ 0
     write_stands some none =
@@ -117,15 +109,6 @@ module _ (places : List Place) (o : ℕ) (q : Place) (below : o < length places)
           (ap (λ (y : Place). y.write) put_here ∙ is)
       by (inr other) = ap (λ (y : Place). y.write) (put_other x other)
 
-  pub put_set : q.set ≡ (place_at places o).set → (x : ℕ) → (place_at put x).set ≡ (place_at places x).set
-  put_set is x = by (cases_eq x o)
-    where
-      by : (x ≡ o) ⊎ (x ≡ o → ⊥) → (place_at put x).set ≡ (place_at places x).set
-      by (inl same) =
-          subst (λ n. (place_at put n).set ≡ (place_at places n).set) (sym same)
-          (ap (λ (y : Place). y.set) put_here ∙ is)
-      by (inr other) = ap (λ (y : Place). y.set) (put_other x other)
-
 -- ---- one read more
 
 module _ (reads : List ReadSlot) (writes : List (ℕ × Val)) (places : List Place) (s : ReadSlot) (n : ℕ)
@@ -148,9 +131,6 @@ module _ (reads : List ReadSlot) (writes : List (ℕ × Val)) (places : List Pla
 
   noted_write : (x : ℕ) → (place_at noted x).write ≡ (place_at places x).write
   noted_write = put_write places s.object noted_place below refl
-
-  pub noted_set : (x : ℕ) → (place_at noted x).set ≡ (place_at places x).set
-  noted_set = put_set places s.object noted_place below refl
 
   longer_reads : length (reads ++ s ∷ []) ≡ length reads + 1
   longer_reads = let a = length-append reads (s ∷ []) in omega arith
@@ -225,7 +205,6 @@ module _ (reads : List ReadSlot) (writes : List (ℕ × Val)) (places : List Pla
     write_places = λ x lt some.
         subst (λ k. IsWriteOf writes x (k - 1)) (sym (noted_write x))
         (p.write_places x (let z = size_noted in omega arith) (λ z. some (noted_write x ∙ z)));
-    set_places = λ x yes none. p.set_places x (sym (noted_set x) ∙ yes) (sym (noted_write x) ∙ none);
   }
 
   -- so there was room for it
@@ -259,9 +238,6 @@ module _ (reads : List ReadSlot) (writes : List (ℕ × Val)) (places : List Pla
 
   opened_read : (x : ℕ) → (place_at opened x).read ≡ (place_at places x).read
   opened_read = put_read places o opened_place below refl
-
-  opened_set : (x : ℕ) → (place_at opened x).set ≡ (place_at places x).set
-  opened_set = put_set places o opened_place below refl
 
   longer_writes : length new_writes ≡ length writes + 1
   longer_writes = let a = length-append writes ((o, v) ∷ []) in omega arith
@@ -325,17 +301,6 @@ module _ (reads : List ReadSlot) (writes : List (ℕ × Val)) (places : List Pla
                 ∙ r.object;
           })
 
-  -- what was set is open for writing, as before
-  set_opened_places : (x : ℕ) → (place_at opened x).set ≡ true → (place_at opened x).write ≢ 0
-  set_opened_places x was_set = by (cases_eq x o)
-    where
-      by : (x ≡ o) ⊎ (x ≡ o → ⊥) → (place_at opened x).write ≢ 0
-      by (inl same) zero_there =
-          let at : (place_at opened x).write ≡ n =
-          ap (λ k. (place_at opened k).write) same ∙ ap (λ (y : Place). y.write) opened_here in omega arith
-      by (inr other) zero_there =
-          p.set_places x (sym (opened_set x) ∙ was_set) (sym (ap (λ (y : Place). y.write) (opened_other x other)) ∙ zero_there)
-
   pub placed_opened : ArePlaced reads new_writes opened
   placed_opened = record {
     reads_below = λ i lt. let b = p.reads_below i lt in let z = size_opened in omega arith;
@@ -346,7 +311,6 @@ module _ (reads : List ReadSlot) (writes : List (ℕ × Val)) (places : List Pla
     writes_below = below_opened;
     writes_placed = λ x i r. opened_new x i (write_split x i r);
     write_places = places_opened;
-    set_places = set_opened_places;
   }
 
   -- so there was room for it
@@ -355,103 +319,62 @@ module _ (reads : List ReadSlot) (writes : List (ℕ × Val)) (places : List Pla
       let few = few_writes reads new_writes opened placed_opened in
       let z = size_opened in let l = longer_writes in omega arith
 
-  -- it is not set
-  pub set_opened : set_writes opened new_writes ≡ set_writes places writes
-  set_opened =
-      set_push opened writes (o, v) (opened_set o ∙ unset_there reads writes places p o below none)
-      ∙ set_same places opened writes opened_set
-
 -- ---- a value that is set
 
-module _ (reads : List ReadSlot) (writes : List (ℕ × Val)) (places : List Place) (o : ℕ) (v : Val)
-    (p : ArePlaced reads writes places) (below : o < length places) (some : IsSome (value_in writes o)) where
-  abbrev set_place : Place
-  set_place = record (place_at places o) { set = true }
+module _ (reads : List ReadSlot) (writes : List (ℕ × Val)) (places : List Place) (sets : List Bool) (o : ℕ) (v : Val)
+    (p : ArePlaced reads writes places) (long : length sets ≡ length writes) (below : o < length places)
+    (some : IsSome (value_in writes o)) where
+  -- its slot, which is the only one of the object
+  abbrev slot : ℕ
+  slot = (place_at places o).write - 1
 
-  abbrev pub with_set : List Place
-  with_set = put places o set_place below
+  pub slot_there : IsWriteOf writes o slot
+  slot_there = p.write_places o below (write_stands reads writes places p o below some)
 
-  pub size_set : length with_set ≡ length places
-  size_set = size_put places o set_place below
-
-  set_read : (x : ℕ) → (place_at with_set x).read ≡ (place_at places x).read
-  set_read = put_read places o set_place below refl
-
-  set_write : (x : ℕ) → (place_at with_set x).write ≡ (place_at places x).write
-  set_write = put_write places o set_place below refl
+  slot_only : (i : ℕ) → IsWriteOf writes o i → i ≡ slot
+  slot_only i r = let q = p.writes_placed o i r in omega arith
 
   -- the value stands in the object's place
-  pub set_there : slice_set writes ((place_at places o).write - 1)
-      ((write_at writes ((place_at places o).write - 1)).0, v) ≡ with_value o v writes
-  set_there =
-      with_value_is writes o ((place_at places o).write - 1) v
-      (p.write_places o below (write_stands reads writes places p o below some))
-      (λ i r. let q = p.writes_placed o i r in omega arith)
+  set_there : slice_set writes slot ((write_at writes slot).0, v) ≡ with_value o v writes
+  set_there = with_value_is writes o slot v slot_there slot_only
 
   -- as the call finds it
-  pub set_found : (q : Place) (w : ℕ × Val) → q ≡ place_at places o → w ≡ slice_index_or writes (q.write - 1) w →
-      slice_set writes (q.write - 1) (w.0, v) ≡ with_value o v writes
-  set_found q w at found =
-      let n = (place_at places o).write - 1 in
-      let there = p.write_places o below (write_stands reads writes places p o below some) in
-      let slot : w ≡ write_at writes n =
-      found ∙ ap (λ (y : Place). slice_index_or writes (y.write - 1) w) at
-      ∙ get_or_default writes n w no_write there.within in
-      ap (λ (y : Place). slice_set writes (y.write - 1) (w.0, v)) at
-      ∙ ap (λ (y : ℕ × Val). slice_set writes n (y.0, v)) slot ∙ set_there
+  pub set_found : (n : ℕ) (w : ℕ × Val) → n ≡ slot → w ≡ slice_index_or writes n w →
+      slice_set writes n (w.0, v) ≡ with_value o v writes
+  set_found n w is found =
+      let there : w ≡ write_at writes slot =
+      found ∙ ap (λ k. slice_index_or writes k w) is ∙ get_or_default writes slot w no_write slot_there.within in
+      ap (λ k. slice_set writes k (w.0, v)) is ∙ ap (λ (y : ℕ × Val). slice_set writes slot (y.0, v)) there ∙ set_there
 
-  set_set_places : (x : ℕ) → (place_at with_set x).set ≡ true → (place_at with_set x).write ≢ 0
-  set_set_places x was_set = by (cases_eq x o)
-    where
-      by : (x ≡ o) ⊎ (x ≡ o → ⊥) → (place_at with_set x).write ≢ 0
-      by (inl same) zero_there =
-          write_stands reads writes places p o below some
-          (ap (λ k. (place_at places k).write) (sym same) ∙ sym (set_write x) ∙ zero_there)
-      by (inr other) zero_there =
-          p.set_places x (ap (λ (y : Place). y.set) (sym (put_other places o set_place below x other)) ∙ was_set)
-          (sym (set_write x) ∙ zero_there)
-
-  pub placed_set : ArePlaced reads (with_value o v writes) with_set
+  pub placed_set : ArePlaced reads (with_value o v writes) places
   placed_set = record {
-    reads_below = λ i lt. let b = p.reads_below i lt in let z = size_set in omega arith;
-    reads_placed = λ x i r. set_read x ∙ p.reads_placed x i r;
-    read_places = λ x lt yes.
-        subst (λ k. IsReadOf reads x (k - 1)) (sym (set_read x))
-        (p.read_places x (let z = size_set in omega arith) (λ z. yes (set_read x ∙ z)));
+    reads_below = p.reads_below;
+    reads_placed = p.reads_placed;
+    read_places = p.read_places;
     writes_below = λ i lt.
-        subst (λ x. x < length with_set) (sym (object-with_value o v writes i))
-        (let b = p.writes_below i (let q = length-with_value o v writes in omega arith) in
-        let z = size_set in omega arith);
-    writes_placed = λ x i r. set_write x ∙ p.writes_placed x i (record {
+        subst (λ x. x < length places) (sym (object-with_value o v writes i))
+        (p.writes_below i (let q = length-with_value o v writes in omega arith));
+    writes_placed = λ x i r. p.writes_placed x i (record {
       within = let q = length-with_value o v writes in let w = r.within in omega arith;
       object = sym (object-with_value o v writes i) ∙ r.object;
     });
     write_places = λ x lt yes.
-        let r = p.write_places x (let z = size_set in omega arith) (λ z. yes (set_write x ∙ z)) in
-        subst (λ k. IsWriteOf (with_value o v writes) x (k - 1)) (sym (set_write x)) (record {
+        let r = p.write_places x lt yes in record {
           within = let q = length-with_value o v writes in let w = r.within in omega arith;
           object = object-with_value o v writes ((place_at places x).write - 1) ∙ r.object;
-        });
-    set_places = set_set_places;
+        };
   }
 
   -- the object was set to it
-  pub set_here : value_in (set_writes with_set (with_value o v writes)) o ≡ Some v
-  set_here =
-      value_in-set with_set (with_value o v writes) o
-      ∙ ap (λ b. cond b (value_in (with_value o v writes) o) None)
-      (ap (λ (y : Place). y.set) (put_here places o set_place below))
-      ∙ value_in-with_value o v writes some
+  pub set_here : value_in (set_writes (slice_set sets slot true) (with_value o v writes)) o ≡ Some v
+  set_here = value_in-set_here sets writes o slot v long slot_there slot_only
 
   -- and the others to what they were set before
   pub set_others : (x : ℕ) → x ≢ o →
-      value_in (set_writes with_set (with_value o v writes)) x ≡ value_in (set_writes places writes) x
+      value_in (set_writes (slice_set sets slot true) (with_value o v writes)) x ≡ value_in (set_writes sets writes) x
   set_others x other =
-      value_in-set with_set (with_value o v writes) x
-      ∙ ap (λ (y : Place). cond y.set (value_in (with_value o v writes) x) None)
-      (put_other places o set_place below x other)
-      ∙ ap (λ y. cond (place_at places x).set y None) (value_in-with_other o v writes x other)
-      ∙ sym (value_in-set places writes x)
+      value_in-set_other sets writes o slot v x other slot_there slot_only
+      (let w = slot_there.within in omega arith)
 
 -- ---- nothing is open any more
 
@@ -462,12 +385,8 @@ module _ (reads : List ReadSlot) (writes : List (ℕ × Val)) (places unread aga
     (read_done : (i : ℕ) → i < length reads → (place_at unread (read_at reads i).object).read ≡ 0)
     (read_same : (o : ℕ) → ((place_at unread o).read ≡ 0) ⊎ ((place_at unread o).read ≡ (place_at places o).read))
     (write_kept : (o : ℕ) → (place_at unread o).write ≡ (place_at places o).write)
-    (set_kept : (o : ℕ) → (place_at unread o).set ≡ (place_at places o).set)
-    (write_done : (i : ℕ) → i < length writes → ((place_at forgotten (write_at writes i).0).write ≡ 0)
-    × ((place_at forgotten (write_at writes i).0).set ≡ false))
-    (write_same : (o : ℕ) → (((place_at forgotten o).write ≡ 0) × ((place_at forgotten o).set ≡ false))
-    ⊎ (((place_at forgotten o).write ≡ (place_at again o).write)
-    × ((place_at forgotten o).set ≡ (place_at again o).set)))
+    (write_done : (i : ℕ) → i < length writes → (place_at forgotten (write_at writes i).0).write ≡ 0)
+    (write_same : (o : ℕ) → ((place_at forgotten o).write ≡ 0) ⊎ ((place_at forgotten o).write ≡ (place_at again o).write))
     (read_kept : (o : ℕ) → (place_at forgotten o).read ≡ (place_at again o).read) where
   pub size_forgotten : length forgotten ≡ length places
   size_forgotten = size_again ∙ ap length same ∙ size
@@ -491,28 +410,14 @@ module _ (reads : List ReadSlot) (writes : List (ℕ × Val)) (places unread aga
   no_writes : (o : ℕ) → o < length places → (place_at forgotten o).write ≡ 0
   no_writes o lt = by (write_same o) (cases_eq (place_at places o).write 0)
     where
-      by : (((place_at forgotten o).write ≡ 0) × ((place_at forgotten o).set ≡ false))
-          ⊎ (((place_at forgotten o).write ≡ (place_at again o).write)
-          × ((place_at forgotten o).set ≡ (place_at again o).set)) →
+      by : ((place_at forgotten o).write ≡ 0) ⊎ ((place_at forgotten o).write ≡ (place_at again o).write) →
           ((place_at places o).write ≡ 0) ⊎ ((place_at places o).write ≡ 0 → ⊥) → (place_at forgotten o).write ≡ 0
-      by (inl gone) known = gone.0
+      by (inl gone) known = gone
       by (inr as_before) (inl none) =
-          as_before.0 ∙ ap (λ xs. (place_at xs o).write) same ∙ write_kept o ∙ none
+          as_before ∙ ap (λ xs. (place_at xs o).write) same ∙ write_kept o ∙ none
       by (inr as_before) (inr some) =
           let r = p.write_places o lt some in
-          ap (λ n. (place_at forgotten n).write) (sym r.object) ∙ (write_done ((place_at places o).write - 1) r.within).0
-
-  none_set : (o : ℕ) → (place_at forgotten o).set ≡ true → (place_at forgotten o).write ≢ 0
-  none_set o was_set none = by (write_same o)
-    where
-      by : (((place_at forgotten o).write ≡ 0) × ((place_at forgotten o).set ≡ false))
-          ⊎ (((place_at forgotten o).write ≡ (place_at again o).write)
-          × ((place_at forgotten o).set ≡ (place_at again o).set)) → ⊥
-      by (inl gone) = let unset = gone.1 in absurd (cc)
-      by (inr as_before) =
-          p.set_places o
-          (sym (as_before.1 ∙ ap (λ xs. (place_at xs o).set) same ∙ set_kept o) ∙ was_set)
-          (sym (as_before.0 ∙ ap (λ xs. (place_at xs o).write) same ∙ write_kept o) ∙ none)
+          ap (λ n. (place_at forgotten n).write) (sym r.object) ∙ write_done ((place_at places o).write - 1) r.within
 
   pub nothing_placed : ArePlaced [] [] forgotten
   nothing_placed = record {
@@ -522,5 +427,4 @@ module _ (reads : List ReadSlot) (writes : List (ℕ × Val)) (places unread aga
     writes_below = λ i lt. absurd (omega arith);
     writes_placed = λ o i r. let w = r.within in absurd (omega arith);
     write_places = λ o lt some. absurd (some (no_writes o (let z = size_forgotten in omega arith)));
-    set_places = none_set;
   }

@@ -1,22 +1,19 @@
 -- The reads and the writes of an attempt, by object.
-use Rattle.std.proofs.Common.{◌++◌, ◌<◌, ◌≤◌, ◌==◌, ◌∙◌, ◌∷◌, ◌≡◌, ◌≢◌, List, None, Option, Some, [], ap, arith, cond, false, inl, inr, length, map, refl, subst, sym, true, ℕ, ◌⊎◌, eqb}
+use Rattle.std.proofs.Common.{◌++◌, ◌<◌, ◌≤◌, ◌==◌, ◌∙◌, ◌∷◌, ◌≡◌, ◌≢◌, Bool, List, None, Option, Some, [], ap, arith, cond, false, inl, inr, length, map, refl, subst, sym, true, ℕ, ◌⊎◌, eqb}
 use Prim.Native.Nat.{zero, suc}
 use Rattle.std.specs.Prelude.{IsSome, is_some, option_map, slice_index_or, slice_set}
 use Rattle.std.specs.List.{list_any}
 use Rattle.std.proofs.lemmas.Bool.{cases_Bool, cond_both, eqb-true, eq-eqb, ne_eqb, or_cases}
 use Rattle.std.proofs.lemmas.List.{get_or-map, get_or_default, length-map}
-use Rattle.std.proofs.lemmas.Map.Entries.{lookup-filter-keys}
 use Rattle.std.proofs.lemmas.Map.Keys.{IsDistinct-from_apart}
 use Rattle.std.proofs.lemmas.Map.Steps.{length-le_from_distinct_below}
 use Rattle.dstm_mem.proofs.Finding.{find_none, find_one, lookup_find}
 use Rattle.dstm_mem.specs.Memory.{value_in}
 use Rattle.dstm_model.specs.declared.value.Val.{Val}
 use Rattle.dstm_model.specs.Map.{IsUnnamed, NamesOnce}
-use Rattle.dstm_tl2.specs.Histories.{read_values}
 use Rattle.dstm_tl2.specs.State.{no_write, or_read, read_of, recorded, write_of}
-use Rattle.dstm_tl2_steps.specs.Opened.{IsReadOf, IsWriteOf, no_slot, place_at, read_at, read_slot, set_writes, with_value, write_at}
+use Rattle.dstm_tl2_steps.specs.Opened.{IsReadOf, IsWriteOf, no_slot, read_at, read_slot, set_writes, with_value, write_at}
 use Rattle.dstm_tl2_steps.specs.Reads.{slot_read}
-use Rattle.dstm_tl2_steps.specs.declared.opened.Place.{Place}
 use Rattle.dstm_tl2_steps.specs.declared.opened.ReadSlot.{ReadSlot}
 
 -- ---- where the slot of an object stands
@@ -55,25 +52,28 @@ write_one writes o n r only =
 
 -- ---- another value for an object
 
+-- the only write of the object that is not the first is the only one of the others
+module _ (w : ℕ × Val) (writes : List (ℕ × Val)) (o n : ℕ) (r : IsWriteOf (w ∷ writes) o (suc n))
+    (only : (i : ℕ) → IsWriteOf (w ∷ writes) o i → i ≡ suc n) where
+  later_write : IsWriteOf writes o n
+  later_write = record { within = let within = r.within in omega arith; object = r.object }
+
+  later_only : (i : ℕ) → IsWriteOf writes o i → i ≡ n
+  later_only i q =
+      let e = only (suc i) (record { within = let within = q.within in omega arith; object = q.object }) in omega arith
+
+  not_first : w.0 == o ≡ false
+  not_first =
+      ne_eqb w.0 o (λ same. let e = only 0 (record { within = omega arith; object = same }) in absurd (omega arith))
+
 -- the write with another value, in its place
 pub with_value_is : (writes : List (ℕ × Val)) (o n : ℕ) (v : Val) → IsWriteOf writes o n →
     ((i : ℕ) → IsWriteOf writes o i → i ≡ n) → slice_set writes n ((write_at writes n).0, v) ≡ with_value o v writes
 with_value_is [] o n v r only = let w = r.within in absurd (omega arith)
 with_value_is (w ∷ writes) o zero v r only = rw (eq-eqb w.0 o r.object) (ap (λ x. (x, v) ∷ writes) r.object)
-with_value_is (w ∷ writes) o (suc n) v r only = by (with_value_is writes o n v later rest) (cases_Bool (w.0 == o))
-  where
-    later : IsWriteOf writes o n
-    later = record { within = let w = r.within in omega arith; object = r.object }
-
-    rest : (i : ℕ) → IsWriteOf writes o i → i ≡ n
-    rest i q = let e = only (suc i) (record { within = let w = q.within in omega arith; object = q.object }) in omega arith
-
-    by : slice_set writes n ((write_at writes n).0, v) ≡ with_value o v writes →
-        (w.0 == o ≡ true) ⊎ (w.0 == o ≡ false) →
-        slice_set (w ∷ writes) (suc n) ((write_at (w ∷ writes) (suc n)).0, v) ≡ with_value o v (w ∷ writes)
-    by ih (inl q) =
-        let e = only 0 (record { within = omega arith; object = eqb-true w.0 o q }) in absurd (omega arith)
-    by ih (inr q) = rw q (ap (λ xs. w ∷ xs) ih)
+with_value_is (w ∷ writes) o (suc n) v r only =
+    rw (not_first w writes o n r only)
+    (ap (λ xs. w ∷ xs) (with_value_is writes o n v (later_write w writes o n r only) (later_only w writes o n r only)))
 
 pub length-with_value : (o : ℕ) (v : Val) (writes : List (ℕ × Val)) → length (with_value o v writes) ≡ length writes
 length-with_value o v [] = refl
@@ -122,27 +122,66 @@ value_in-with_other o v (w ∷ writes) p other = by (value_in-with_other o v wri
 
 -- ---- what was set
 
--- what an object was set to
-pub value_in-set : (places : List Place) (writes : List (ℕ × Val)) (o : ℕ) →
-    value_in (set_writes places writes) o ≡ cond (place_at places o).set (value_in writes o) None
-value_in-set places writes o =
-    lookup-filter-keys (λ k. k == o) (λ k. (place_at places k).set) (place_at places o).set
-    (λ k same. ap (λ x. (place_at places x).set) (eqb-true k o same)) writes
+-- what is opened is not set
+pub set_push : (sets : List Bool) (writes : List (ℕ × Val)) (w : ℕ × Val) → length sets ≡ length writes →
+    set_writes (sets ++ false ∷ []) (writes ++ w ∷ []) ≡ set_writes sets writes
+set_push [] [] w long = refl
+set_push [] (x ∷ writes) w long = absurd (omega arith)
+set_push (s ∷ sets) [] w long = absurd (omega arith)
+set_push (s ∷ sets) (x ∷ writes) w long =
+    ap (λ xs. cond s (x ∷ xs) xs) (set_push sets writes w (omega arith))
 
--- where each object is as before, the same was set
-pub set_same : (old new : List Place) (writes : List (ℕ × Val)) →
-    ((o : ℕ) → (place_at new o).set ≡ (place_at old o).set) → set_writes new writes ≡ set_writes old writes
-set_same old new [] same = refl
-set_same old new (w ∷ writes) same =
-    ap (λ b. cond b (w ∷ set_writes new writes) (set_writes new writes)) (same w.0)
-    ∙ ap (λ xs. cond (place_at old w.0).set (w ∷ xs) xs) (set_same old new writes same)
+-- what is set has the new value
+pub value_in-set_here : (sets : List Bool) (writes : List (ℕ × Val)) (o n : ℕ) (v : Val) →
+    length sets ≡ length writes → IsWriteOf writes o n → ((i : ℕ) → IsWriteOf writes o i → i ≡ n) →
+    value_in (set_writes (slice_set sets n true) (with_value o v writes)) o ≡ Some v
+value_in-set_here sets [] o n v long r only = let w = r.within in absurd (omega arith)
+value_in-set_here [] (w ∷ writes) o n v long r only = absurd (omega arith)
+value_in-set_here (s ∷ sets) (w ∷ writes) o zero v long r only =
+    rw (eq-eqb w.0 o r.object) (rw (eq-eqb o o refl) refl)
+value_in-set_here (s ∷ sets) (w ∷ writes) o (suc n) v long r only =
+    by (cases_Bool s)
+    (value_in-set_here sets writes o n v (omega arith) (later_write w writes o n r only) (later_only w writes o n r only))
+  where
+    differ : w.0 == o ≡ false
+    differ = not_first w writes o n r only
 
--- what is opened and not set
-pub set_push : (places : List Place) (writes : List (ℕ × Val)) (w : ℕ × Val) → (place_at places w.0).set ≡ false →
-    set_writes places (writes ++ w ∷ []) ≡ set_writes places writes
-set_push places [] w unset = rw unset refl
-set_push places (x ∷ writes) w unset =
-    ap (λ xs. cond (place_at places x.0).set (x ∷ xs) xs) (set_push places writes w unset)
+    by : (s ≡ true) ⊎ (s ≡ false) → value_in (set_writes (slice_set sets n true) (with_value o v writes)) o ≡ Some v →
+        value_in (set_writes (slice_set (s ∷ sets) (suc n) true) (with_value o v (w ∷ writes))) o ≡ Some v
+    by (inl set) ih = rw differ (rw set (rw differ ih))
+    by (inr unset) ih = rw differ (rw unset ih)
+
+-- and the others what they were set to before
+pub value_in-set_other : (sets : List Bool) (writes : List (ℕ × Val)) (o n : ℕ) (v : Val) (p : ℕ) → p ≢ o →
+    IsWriteOf writes o n → ((i : ℕ) → IsWriteOf writes o i → i ≡ n) → n < length sets →
+    value_in (set_writes (slice_set sets n true) (with_value o v writes)) p ≡ value_in (set_writes sets writes) p
+value_in-set_other sets [] o n v p other r only lt = let w = r.within in absurd (omega arith)
+value_in-set_other [] (w ∷ writes) o n v p other r only lt = absurd (omega arith)
+value_in-set_other (s ∷ sets) (w ∷ writes) o zero v p other r only lt = by (cases_Bool s)
+  where
+    here : w.0 == p ≡ false
+    here = ne_eqb w.0 p (λ z. other (sym z ∙ r.object))
+
+    there : o == p ≡ false
+    there = ne_eqb o p (λ z. other (sym z))
+
+    by : (s ≡ true) ⊎ (s ≡ false) →
+        value_in (set_writes (slice_set (s ∷ sets) 0 true) (with_value o v (w ∷ writes))) p
+        ≡ value_in (set_writes (s ∷ sets) (w ∷ writes)) p
+    by (inl set) = rw (eq-eqb w.0 o r.object) (rw set (rw (there, here) refl))
+    by (inr unset) = rw (eq-eqb w.0 o r.object) (rw unset (rw there refl))
+value_in-set_other (s ∷ sets) (w ∷ writes) o (suc n) v p other r only lt =
+    by (cases_Bool s)
+    (value_in-set_other sets writes o n v p other (later_write w writes o n r only) (later_only w writes o n r only)
+    (omega arith))
+  where
+    by : (s ≡ true) ⊎ (s ≡ false) →
+        value_in (set_writes (slice_set sets n true) (with_value o v writes)) p ≡ value_in (set_writes sets writes) p →
+        value_in (set_writes (slice_set (s ∷ sets) (suc n) true) (with_value o v (w ∷ writes))) p
+        ≡ value_in (set_writes (s ∷ sets) (w ∷ writes)) p
+    by (inl set) ih =
+        rw (not_first w writes o n r only) (rw set (ap (λ x. cond (w.0 == p) (Some w.1) x) ih))
+    by (inr unset) ih = rw (not_first w writes o n r only) (rw unset ih)
 
 -- ---- lists that name each object once
 

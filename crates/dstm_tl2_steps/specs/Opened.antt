@@ -1,5 +1,5 @@
 -- What an attempt has open.
-use Rattle.std.specs.Prelude.{◌≡◌, ◌≢◌, ℕ, ◌+◌, ◌-◌, ◌^◌, ◌<◌, ◌≤◌, ◌==◌, true, false, List, [], ◌∷◌, filter, find, length, slice_index_or, vec_capacity, Option, None, Some, if◌then◌else◌}
+use Rattle.std.specs.Prelude.{◌≡◌, ◌≢◌, ℕ, ◌+◌, ◌-◌, ◌^◌, ◌<◌, ◌≤◌, ◌==◌, Bool, List, [], ◌∷◌, find, length, slice_index_or, vec_capacity, Option, None, Some, if◌then◌else◌}
 use Rattle.dstm_model.specs.Map.{no_value}
 use Rattle.dstm_model.specs.declared.value.Val.{Val}
 use Rattle.dstm_tl2.specs.State.{no_write}
@@ -34,7 +34,7 @@ abbrev pub no_slot : ReadSlot
 no_slot = record { object = 0; word = 0; value = no_value }
 
 abbrev pub no_place : Place
-no_place = record { read = 0; write = 0; set = false }
+no_place = record { read = 0; write = 0 }
 
 abbrev pub read_at : List ReadSlot → ℕ → ReadSlot
 read_at slots i = slice_index_or slots i no_slot
@@ -46,8 +46,10 @@ abbrev pub place_at : List Place → ℕ → Place
 place_at places o = slice_index_or places o no_place
 
 -- the writes that were set
-abbrev pub set_writes : List Place → List (ℕ × Val) → List (ℕ × Val)
-set_writes places writes = filter (λ (w : ℕ × Val). (place_at places w.0).set) writes
+abbrev pub set_writes : List Bool → List (ℕ × Val) → List (ℕ × Val)
+set_writes [] writes = []
+set_writes (s ∷ sets) [] = []
+set_writes (s ∷ sets) (w ∷ writes) = if s then w ∷ set_writes sets writes else set_writes sets writes
 
 -- the slot of the read of the object
 pub record IsReadOf (slots : List ReadSlot) (o i : ℕ) : Type 0 where
@@ -59,7 +61,7 @@ pub record IsWriteOf (writes : List (ℕ × Val)) (o i : ℕ) : Type 0 where
   pub within : i < length writes
   pub object : (write_at writes i).0 ≡ o
 
--- the slots that stand in these places; only what is open for writing was set
+-- the slots that stand in these places
 pub record ArePlaced (reads : List ReadSlot) (writes : List (ℕ × Val)) (places : List Place) : Type 0 where
   pub reads_below : (i : ℕ) → i < length reads → (read_at reads i).object < length places
   pub reads_placed : (o i : ℕ) → IsReadOf reads o i → (place_at places o).read ≡ i + 1
@@ -69,10 +71,11 @@ pub record ArePlaced (reads : List ReadSlot) (writes : List (ℕ × Val)) (place
   pub writes_placed : (o i : ℕ) → IsWriteOf writes o i → (place_at places o).write ≡ i + 1
   pub write_places : (o : ℕ) → o < length places → (place_at places o).write ≢ 0 →
       IsWriteOf writes o ((place_at places o).write - 1)
-  pub set_places : (o : ℕ) → (place_at places o).set ≡ true → (place_at places o).write ≢ 0
 
 pub record HasPlaces (o : Inside) : Type 0 where
   pub placed : ArePlaced o.reads.items o.writes.items o.places.items
+  pub sets : length o.sets.items ≡ length o.writes.items
   pub room : (length o.places.items ≤ vec_capacity o.reads) × (length o.places.items ≤ vec_capacity o.writes)
+      × (length o.places.items ≤ vec_capacity o.sets)
   pub few : (length o.reads.items ≤ length o.places.items) × (length o.writes.items ≤ length o.places.items)
       × (length o.places.items < 2 ^ 31)

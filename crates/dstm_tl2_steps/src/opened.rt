@@ -1,5 +1,5 @@
 // What an attempt has open, and where each object stands in it.
-ghost use Rattle.std.specs.Prelude.{IfSome, ◌≡◌, ◌≢◌, ◌⊎◌, ℕ, ◌+◌, ◌^◌, ◌<◌, ◌≤◌, [], ◌∷◌, ◌++◌, Some, None, IfOk, IsSome, length, false, true};
+ghost use Rattle.std.specs.Prelude.{IfSome, ◌≡◌, ◌≢◌, ◌⊎◌, ℕ, ◌+◌, ◌^◌, ◌<◌, ◌≤◌, [], ◌∷◌, ◌++◌, Some, None, IfOk, IsSome, length};
 ghost use Rattle.dstm_mem.specs.Memory.{value_in};
 ghost use Rattle.dstm_tl2_steps.specs.Opened.{OpenedAs, place_at, read_at, read_slot, set_writes, slots_value, with_value, write_at};
 
@@ -15,12 +15,11 @@ pub struct ReadSlot {
     pub value: Val,
 }
 
-// Where an object stands in the two lists: its slot plus 1, or 0. What is open for writing may have been set.
+// Where an object stands in the two lists: its slot plus 1, or 0.
 #[derive(Clone, Copy, Debug)]
 pub struct Place {
     read: u32,
     write: u32,
-    set: bool,
 }
 
 /// The reads and the writes of an attempt. There is room for all objects from the making on.
@@ -28,6 +27,8 @@ pub struct Place {
 pub struct Opened {
     reads: Vec<ReadSlot>,
     writes: Vec<(u32, Val)>,
+    /// Whether each of the writes was set.
+    sets: Vec<bool>,
     places: Vec<Place>,
 }
 
@@ -41,7 +42,7 @@ impl Model for Opened {
       objects = length o.places.items;
       reads = o.reads.items;
       writes = o.writes.items;
-      set = set_writes o.places.items o.writes.items;
+      set = set_writes o.sets.items o.writes.items;
     } };
 
     ghost invariant = { HasPlaces };
@@ -53,14 +54,11 @@ impl Opened {
         requires few { objects < 2 ^ 31 }
         ensures { IfOk result (λ o. o ≡ record { objects = objects; reads = []; writes = []; set = [] }) }
     {
-        let nowhere = Place {
-            read: 0,
-            write: 0,
-            set: false,
-        };
+        let nowhere = Place { read: 0, write: 0 };
         Ok(Opened {
             reads: Vec::with_capacity(alloc, objects as usize)?,
             writes: Vec::with_capacity(alloc, objects as usize)?,
+            sets: Vec::with_capacity(alloc, objects as usize)?,
             places: vec![in alloc; nowhere; objects as usize]?,
         })
     }
@@ -151,6 +149,7 @@ impl Opened {
         ensures { self.new ≡ record self.old { writes = self.old.writes ++ (o, value) ∷ [] } }
     {
         self.writes.push_reserved((o, value));
+        self.sets.push_reserved(false);
         self.places[o as usize].write = self.writes.len() as u32;
     }
 
@@ -163,9 +162,9 @@ impl Opened {
         ensures value { value_in self.new.set o ≡ Some value }
         ensures rest { (self.new.objects ≡ self.old.objects) × (self.new.reads ≡ self.old.reads) }
     {
-        let place = &mut self.places[o as usize];
-        place.set = true;
-        self.writes[place.write as usize - 1].1 = value;
+        let slot = self.places[o as usize].write as usize - 1;
+        self.writes[slot].1 = value;
+        self.sets[slot] = true;
     }
 
     /// Nothing is open any more.
@@ -176,6 +175,7 @@ impl Opened {
         forget_writes(&mut self.places, &self.writes);
         self.reads.clear();
         self.writes.clear();
+        self.sets.clear();
     }
 }
 
@@ -187,7 +187,6 @@ fn forget_reads(places: &mut [Place], reads: &[ReadSlot])
     ensures same { (o : ℕ) → ((place_at places.new o).read ≡ 0)
         ⊎ ((place_at places.new o).read ≡ (place_at places.old o).read) }
     ensures writes { (o : ℕ) → (place_at places.new o).write ≡ (place_at places.old o).write }
-    ensures set { (o : ℕ) → (place_at places.new o).set ≡ (place_at places.old o).set }
 {
     for slot in reads {
         places[slot.object as usize].read = 0;
@@ -198,17 +197,12 @@ fn forget_reads(places: &mut [Place], reads: &[ReadSlot])
 fn forget_writes(places: &mut [Place], writes: &[(u32, Val)])
     requires below { (i : ℕ) → i < length writes.now → (write_at writes.now i).0 < length places.old }
     ensures size { length places.new ≡ length places.old }
-    ensures done { (i : ℕ) → i < length writes.now →
-        ((place_at places.new (write_at writes.now i).0).write ≡ 0)
-        × ((place_at places.new (write_at writes.now i).0).set ≡ false) }
-    ensures same { (o : ℕ) → (((place_at places.new o).write ≡ 0) × ((place_at places.new o).set ≡ false))
-        ⊎ (((place_at places.new o).write ≡ (place_at places.old o).write)
-        × ((place_at places.new o).set ≡ (place_at places.old o).set)) }
+    ensures done { (i : ℕ) → i < length writes.now → (place_at places.new (write_at writes.now i).0).write ≡ 0 }
+    ensures same { (o : ℕ) → ((place_at places.new o).write ≡ 0)
+        ⊎ ((place_at places.new o).write ≡ (place_at places.old o).write) }
     ensures reads { (o : ℕ) → (place_at places.new o).read ≡ (place_at places.old o).read }
 {
     for write in writes {
-        let place = &mut places[write.0 as usize];
-        place.write = 0;
-        place.set = false;
+        places[write.0 as usize].write = 0;
     }
 }

@@ -8,5 +8,4 @@ invariant-loop-slot l = record {
   same : (o : ℕ) → ((place_at l.places o).read ≡ 0)
       ⊎ ((place_at l.places o).read ≡ (place_at l.initial.places o).read);
   writes : (o : ℕ) → (place_at l.places o).write ≡ (place_at l.initial.places o).write;
-  set : (o : ℕ) → (place_at l.places o).set ≡ (place_at l.initial.places o).set;
 }

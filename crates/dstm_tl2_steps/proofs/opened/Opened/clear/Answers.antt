@@ -1,4 +1,4 @@
-use Rattle.std.proofs.Common.{◌<◌, ◌∙◌, ◌≡◌, List, [], ap, arith, false, length, subst, sym, ℕ}
+use Rattle.std.proofs.Common.{◌<◌, ◌∙◌, ◌≡◌, List, [], ap, arith, length, subst, sym, ℕ}
 use Rattle.std.specs.Vec.{with_items}
 use Rattle.std.proofs.lemmas.List.{with_items_is}
 use Rattle.dstm_model.specs.declared.value.Val.{Val}
@@ -28,11 +28,10 @@ invariant_of-self c =
     let read_done = subst (λ (xs : List ReadSlot). (i : ℕ) → i < length xs →
     (place_at unread (read_at xs i).object).read ≡ 0) c.deref.ensures.value first.done in
     let write_done = subst (λ (xs : List (ℕ × Val)). (i : ℕ) → i < length xs →
-    ((place_at forgotten (write_at xs i).0).write ≡ 0) × ((place_at forgotten (write_at xs i).0).set ≡ false))
-    c.deref-2.ensures.value second.done in
+    (place_at forgotten (write_at xs i).0).write ≡ 0) c.deref-2.ensures.value second.done in
     let placed = subst (ArePlaced reads writes) (sym value) old.placed in
     let empty = nothing_placed reads writes places unread again forgotten placed first.size same second.size
-    read_done first.same first.writes first.set write_done second.same second.reads in
+    read_done first.same first.writes write_done second.same second.reads in
     let size : length forgotten ≡ length places = second.size ∙ ap length same ∙ first.size in
     let long : length places ≡ length c.self.inside.places.items = ap length value in
     let wide : length (with_items once forgotten).items ≡ length forgotten = ap length twice_is in
@@ -40,12 +39,18 @@ invariant_of-self c =
     let no_writes : length c.clear-2.new.self.items ≡ 0 = ap length c.clear-2.ensures.items in
     let read_room = c.clear.ensures.capacity in
     let write_room = c.clear-2.ensures.capacity in
+    let set_room = c.clear-3.ensures.capacity in
     record {
       placed =
           subst (λ rs. ArePlaced rs c.clear-2.new.self.items (with_items once forgotten).items)
           (sym c.clear.ensures.items)
           (subst (λ ws. ArePlaced [] ws (with_items once forgotten).items) (sym c.clear-2.ensures.items)
           (subst (ArePlaced [] []) (sym twice_is) empty));
-      room = ((let a = old.room.0 in omega arith), (let a = old.room.1 in omega arith));
+      sets = ap length c.clear-3.ensures.items ∙ sym no_writes;
+      room = (
+        (let a = old.room.0 in omega arith),
+        (let a = old.room.1 in omega arith),
+        (let a = old.room.2 in omega arith),
+      );
       few = (omega arith, omega arith, (let a = old.few.2 in omega arith));
     }

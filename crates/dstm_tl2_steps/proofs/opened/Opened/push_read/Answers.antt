@@ -45,12 +45,18 @@ invariant_of-self c =
     subst (λ (q : Place). HasPlaces (record {
       reads = c.push_reserved.new.self;
       writes = c.self.inside.writes;
+      sets = c.self.inside.sets;
       places = with_item c.self.inside.places o (record q { read = n });
     })) (sym at)
     (record {
       placed =
           subst (λ rs. ArePlaced rs writes (slice_set places o (record (place_at places o) { read = n })))
           (sym c.push_reserved.ensures.items) (placed_noted reads writes places s n old.placed below none is);
-      room = ((let a = old.room.0 in omega arith), (let a = old.room.1 in omega arith));
+      sets = old.sets;
+      room = (
+        (let a = old.room.0 in omega arith),
+        (let a = old.room.1 in omega arith),
+        (let a = old.room.2 in omega arith),
+      );
       few = (omega arith, (let a = old.few.1 in omega arith), (let a = old.few.2 in omega arith));
     })
