@@ -8,6 +8,7 @@ ghost use Rattle.dstm_tables.specs.Callers.{CameByCalls, HasSeed};
 ghost use Rattle.dstm_crew.specs.Opened.{IsOpened, with_jobs};
 ghost use Rattle.dstm_crew.specs.Playing.{CanPlay, HasPlayed, WasBrokenOff};
 
+use crate::closing::close_behind;
 use crate::play::Play;
 use crate::progress::Progress;
 use crate::sweeping::run_alone;
@@ -55,9 +56,8 @@ pub(crate) fn play_alone<G>(
         &mut progress.rows,
     );
     founder.retire(&table, caller);
-    let (left, closed) = table.close(alloc, founder)?;
+    let left = close_behind(alloc, table, founder, &mut progress.rounds)?;
     progress.values = left;
-    progress.rounds.push_reserved(closed);
     Ok(())
 }
 

@@ -7,6 +7,7 @@
 
 mod alone;
 mod beside;
+mod closing;
 mod collecting;
 mod crew;
 mod gate;

@@ -6,6 +6,7 @@ ghost use Rattle.dstm_records.specs.Rounds.{is_parallel};
 ghost use Rattle.dstm_crew.specs.Shares.{IsOpen, WereRun};
 
 use crate::beside::run_all;
+use crate::closing::close_behind;
 use crate::gate::Gate;
 use crate::play::Play;
 use crate::retiring::retire_all;
@@ -49,7 +50,6 @@ pub(crate) fn run_shares<R: Threads + Sync, G: Gate + Sync>(
     let mut workers = seat_all(alloc, play.options, &table, &mut founder, shares)?;
     run_all(rt, &table, play, number == 0, &mut workers);
     let shares = retire_all(alloc, &table, &mut founder, workers)?;
-    let (left, closed) = table.close(alloc, founder)?;
-    rounds.push_reserved(closed);
+    let left = close_behind(alloc, table, founder, rounds)?;
     Ok((shares, left))
 }

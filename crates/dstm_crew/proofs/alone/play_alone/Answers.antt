@@ -1,8 +1,6 @@
-use Rattle.std.proofs.Common.{List, [], ◌∷◌, ◌++◌, arith, refl, rules, ap, subst, ◌∙◌}
+use Rattle.std.proofs.Common.{List, arith, refl, rules, ap, subst, ◌∙◌}
 use Rattle.dstm_model.specs.declared.value.Val.{Val}
-use Rattle.dstm_tables.specs.declared.tables.Round.{Round}
 use Rattle.dstm_tables.specs.Founders.{seen_by}
-use Rattle.dstm_tables.specs.Tells.{IsRun, values_of}
 use Rattle.dstm_crew.specs.Opened.{IsOpened}
 use Rattle.dstm_crew.proofs.Closes.{adds_alone, can_run, least_came, opened_for}
 use Rattle.dstm_crew.specs.declared.progress.Progress.{Progress}
@@ -62,18 +60,17 @@ returns-clause-played g c =
     c.in_ok-table.ensures.opened) in
     let ran = c.run_alone.ensures.ran in
     let taken = c.retire.new.self in
-    let is = c.in_ok-left.ensures.round in
     record {
       now = ran.now;
       closed = seen_by taken;
       rows_are = ran.goes.rows_are;
-      rounds_are = c.push_reserved.ensures.items ∙ ap (λ (r : Round). p.rounds.items ++ r ∷ []) is;
+      rounds_are = c.in_ok-left.ensures.kept;
       adds = adds_alone workload options c.args.number p.rows.items p.values.items table c.in_ok-table.founder taken
           c.in_ok-table.caller c.run_alone.new.caller c.run_alone.new.rows.items c.run_alone.new.turns c.requires.alone
           c.requires.can.begins opened ran (λ none. c.run_alone.ensures.keeps none ∙ opened.none_let_go) c.retire.ensures
-          (subst IsRun is c.in_ok-left.ensures.run)
+          c.in_ok-left.ensures.run
           (least_came workload options p.rows.items c.args.progress.now.turns c.count_waiting-waiting.result.first
           c.in_ok-table.caller c.requires.can.turns c.count_waiting-waiting.ensures.first c.in_ok-table.ensures.come)
-          c.in_ok-left.left.items (c.in_ok-left.ensures.values ∙ ap values_of is);
+          c.in_ok-left.left.items c.in_ok-left.ensures.values;
       turns_are = ran.goes.turns_are;
     }

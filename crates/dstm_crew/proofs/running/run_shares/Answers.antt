@@ -2,15 +2,14 @@ use Rattle.std.proofs.Common.{◌≡◌, ◌∙◌, List, ap, length, map, rules
 use Rattle.std.specs.Prelude.{All}
 use Rattle.std.proofs.lemmas.List.Elements.{All-weaker}
 use Rattle.dstm_tables.specs.declared.founding.Founder.{Founder}
-use Rattle.dstm_tables.specs.Founders.{first_of}
-use Rattle.dstm_tables.specs.Tells.{IsRun, values_of}
+use Rattle.dstm_tables.specs.Founders.{first_of, seen_by}
 use Rattle.dstm_records.specs.Records.{IsDstmMade, IsMade}
 use Rattle.dstm_records.specs.Rounds.{locators_for}
 use Rattle.dstm_records.proofs.Making.{is_made}
 use Rattle.dstm_crew.specs.declared.share.Share.{Share}
 use Rattle.dstm_crew.specs.declared.worker.Worker.{Worker}
 use Rattle.dstm_crew.specs.Seats.{HasBack, HasCome, HasEnded, RestsAt, share_of}
-use Rattle.dstm_crew.specs.Shares.{WereRun, asked_of, most_places}
+use Rattle.dstm_crew.specs.Shares.{asked_of, most_places}
 use Rattle.dstm_crew.specs.Workers.{IsReady}
 use Rattle.dstm_crew.proofs.Closed.{Closes, was_made, were_run, written_back}
 use Rattle.dstm_crew.proofs.Seating.{all_ready}
@@ -77,15 +76,13 @@ returns-clause-run g c =
       ended = c.run_all.ensures.ended;
       back = subst (λ (ws : List Worker). HasBack table 0 ws f) whole c.in_ok-shares.ensures.founder;
       are = c.in_ok-shares.ensures.shares ∙ ap (map share_of) whole;
-      run = subst IsRun c.in_ok-left.ensures.round c.in_ok-left.ensures.run;
-      left_is = c.in_ok-left.ensures.values ∙ ap values_of c.in_ok-left.ensures.round;
+      run = c.in_ok-left.ensures.run;
+      left_is = c.in_ok-left.ensures.values;
     } in (
-      c.in_ok-left.closed,
+      seen_by f,
       (
-        search rules,
-        subst (WereRun workload options number values c.in_ok-left.left.items shares c.in_ok-shares.shares.items)
-            (sym c.in_ok-left.ensures.round)
-            (were_run workload options number table f values c.in_ok-left.left.items shares c.in_ok-shares.shares.items before workers
-            closes),
+        c.in_ok-left.ensures.kept,
+        were_run workload options number table f values c.in_ok-left.left.items shares c.in_ok-shares.shares.items before workers
+            closes,
       ),
     )
