@@ -1,4 +1,5 @@
 mod Calling
 pub mod Closures
-mod Sends
+pub mod Found
+pub mod Sends
 mod UnderWay

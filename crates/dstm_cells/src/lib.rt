@@ -8,6 +8,7 @@ mod memory;
 #[cfg(test)]
 mod tests;
 mod thread;
+mod transaction;
 mod tx;
 mod under_way;
 
@@ -15,5 +16,6 @@ pub use cell::{Cell, Word};
 pub use dstm_core::Manager;
 pub use error::{Failed, GaveUp, Stop};
 pub use memory::{MOST_CELLS, MOST_THREADS, Memory};
-pub use thread::Me;
+pub use thread::{Me, Part};
+pub use transaction::Transaction;
 pub use under_way::Tx;

@@ -1,14 +1,16 @@
 // Cells, and threads that change them.
-ghost use Rattle.std.specs.Prelude.{◌≡◌, ◌≤◌, length, IfOk};
+ghost use Rattle.std.specs.Prelude.{◌≡◌, ◌≤◌, [], length, IfOk, OnOk};
+ghost use Rattle.dstm_cells.specs.Cells.{Adds, Founds, IsFor};
 ghost use Rattle.dstm_engine.specs.Tables.{founded};
+ghost use Rattle.dstm_model.specs.Map.{value_at};
 
 use crate::cell::{Cell, Word};
 use crate::error::{Failed, GaveUp};
-use crate::thread::Me;
+use crate::thread::{Me, Part};
 use crate::under_way::Tx;
 use dstm_core::{Manager, Shape};
 use dstm_engine::{EnrolError, Founder, MOST_OBJECTS, Stm, shape_for};
-use dstm_model::{AnyLaw, Val};
+use dstm_model::{AnyLaw, Law, Val};
 use std::alloc::Global;
 use std::marker::PhantomData;
 use std::thread::{Threads, for_each_mut};
@@ -19,11 +21,12 @@ pub const MOST_CELLS: u32 = MOST_OBJECTS;
 /// The most threads of a run.
 pub const MOST_THREADS: u32 = 63;
 
-/// Cells that transactions on threads may change.
+/// Cells that transactions on threads may change, under a law: one that forbids nothing, where none is named.
 #[derive(Drop)]
-pub struct Memory {
+pub struct Memory<L: Law = AnyLaw> {
     alloc: Global,
     manager: Manager,
+    law: L,
     values: Vec<Val>,
     ghost few: { length values.items ≤ 524288 },
 }
@@ -44,15 +47,29 @@ impl Memory {
     /// The same under another manager, which decides what a transaction does when another one is changing a cell that
     /// it wants to change.
     pub fn with_manager(alloc: Global, manager: Manager) -> Memory {
+        Memory::with_law(alloc, manager, AnyLaw)
+    }
+}
+
+impl<L: Law + Copy> Memory<L> {
+    /// A memory with no cell, whose runs keep a law over the values of its cells, in the order in which they were made.
+    pub fn with_law(alloc: Global, manager: Manager, law: L) -> Memory<L>
+        ensures law { result.law ≡ law }
+        ensures empty { result.values.items ≡ [] }
+    {
         Memory {
             alloc,
             manager,
+            law,
             values: Vec::new(alloc),
         }
     }
 
     /// A new cell. There are at most 524,288.
-    pub fn cell<T: Word>(&mut self, value: T) -> Result<Cell<T>, Failed> {
+    pub fn cell<T: Word>(&mut self, value: T) -> Result<Cell<T>, Failed>
+        ensures law { self.new.law ≡ self.old.law }
+        ensures made { IfOk result (λ cell. Adds T.found self.old.values.items self.new.values.items cell.object value) }
+    {
         if self.values.len() >= MOST_CELLS as usize {
             return Err(Failed::Full);
         }
@@ -65,13 +82,70 @@ impl Memory {
     }
 
     /// What a cell holds between runs. Of a cell that this memory has not, what two words of 0 stand for.
-    pub fn get<T: Word>(&self, cell: Cell<T>) -> T {
+    pub fn get<T: Word>(&self, cell: Cell<T>) -> T
+        ensures { result ≡ T.found (value_at self.now.values.items cell.object) }
+    {
         match self.values.get(cell.object as usize) {
             Some(value) => T::of_val(*value),
             None => T::of_val(Val { low: 0, high: 0 }),
         }
     }
 
+    /// A table that has the values of the cells, for a run of so many threads, from 1 to 63, and what gives out their
+    /// parts.
+    pub fn found(&self, threads: u32) -> Result<(Stm<L>, Founder<L>), Failed>
+        requires lawful { L.holds self.now.law self.now.values.items }
+        ensures founds { IfOk result (λ t. Founds self.now.law self.now.values.items t.0 t.1) }
+        ensures threads { OnOk result ((1 ≤ threads) × (threads ≤ 63)) }
+    {
+        if threads == 0 || threads > MOST_THREADS {
+            return Err(Failed::Threads);
+        }
+        let shape = Shape {
+            manager: self.manager,
+            ..shape_for(self.values.len() as u32, threads + 1)
+        };
+        let start = Vec::from_slice(self.alloc, &self.values)?;
+        Ok(Stm::make(self.alloc, start, shape, self.law)?)
+    }
+
+    /// A thread's part in a run on a table that was founded for it. From the seed come the random lengths of its waits.
+    pub fn part<'a>(
+        &self,
+        stm: &'a Stm<L>,
+        founder: &mut Founder<L>,
+        seed: u64,
+    ) -> Result<Me<'a, L>, Failed>
+        requires table { founder.old.home ≡ stm.now }
+        ensures table { founder.new.home ≡ stm.now }
+        ensures home { IfOk result (λ me. me.tx.caller.home ≡ stm.now) }
+    {
+        match founder.caller(self.alloc, stm, seed) {
+            Ok(caller) => Ok(Part {
+                tx: Tx::new(self.alloc, caller, stm),
+            }),
+            Err(EnrolError::Memory(error)) => Err(Failed::from(error)),
+            Err(EnrolError::Full) => Err(Failed::Threads),
+        }
+    }
+
+    /// Takes the values of the cells from a table that was founded for a run. They are lawful.
+    pub fn take(&mut self, stm: &Stm<L>, founder: &mut Founder<L>) -> Result<(), Failed>
+        requires lawful { L.holds self.old.law self.old.values.items }
+        requires founds { IsFor self.old.law self.old.values.items stm.now }
+        requires table { founder.old.home ≡ stm.now }
+        ensures law { self.new.law ≡ self.old.law }
+        ensures lawful { L.holds self.new.law self.new.values.items }
+        ensures size { length self.new.values.items ≡ length self.old.values.items }
+        ensures table { founder.new.home ≡ stm.now }
+    {
+        let mut last = self.part(stm, founder, 0)?;
+        self.values = last.tx.values(self.alloc, self.values.len() as u32)?;
+        Ok(())
+    }
+}
+
+impl Memory {
     /// Calls the closure with each number below `threads`, from 1 to 63, each in a thread of its own where one can be
     /// made, and gives it the thread's part by which to make transactions.
     pub fn run<R: Threads + Sync, F>(&mut self, rt: &R, threads: u32, f: F) -> Result<(), Failed>
@@ -79,18 +153,9 @@ impl Memory {
         F: Fn(&mut Me<'_>, usize) -> Result<(), GaveUp> + Sync,
         requires callable { F.IsAlwaysCallable f }
     {
-        if threads == 0 || threads > MOST_THREADS {
-            return Err(Failed::Threads);
-        }
-        let objects = self.values.len() as u32;
-        let shape = Shape {
-            manager: self.manager,
-            ..shape_for(objects, threads + 1)
-        };
-        let start = Vec::from_slice(self.alloc, &self.values)?;
-        let (stm, mut founder) = Stm::make(self.alloc, start, shape, AnyLaw)?;
-        let mut last = take_seat(self.alloc, &stm, &mut founder, 0)?;
-        let mut seats = take_seats(self.alloc, &stm, &mut founder, threads)?;
+        let (stm, mut founder) = self.found(threads)?;
+        let mut last = self.part(&stm, &mut founder, 0)?;
+        let mut seats = self.seats(&stm, &mut founder, threads)?;
         for_each_mut(
             rt,
             &mut seats,
@@ -99,46 +164,27 @@ impl Memory {
                 requires { F.IsAlwaysCallable f }
             { work(&f, seat, number) },
         );
-        self.values = last.me.values(self.alloc, objects)?;
+        self.values = last.tx.values(self.alloc, self.values.len() as u32)?;
         how_all_ended(&seats)
     }
-}
 
-// Gives out so many seats of the table.
-fn take_seats<'a>(
-    alloc: Global,
-    stm: &'a Stm<AnyLaw>,
-    founder: &mut Founder<AnyLaw>,
-    count: u32,
-) -> Result<Vec<Seat<'a>>, Failed>
-    requires table { founder.old.home ≡ stm.now }
-{
-    let mut seats = Vec::with_capacity(alloc, count as usize)?;
-    for seed in 0..count {
-        seats.push(take_seat(alloc, stm, founder, seed)?)?;
-    }
-    Ok(seats)
-}
-
-// Gives out a seat of the table.
-fn take_seat<'a>(
-    alloc: Global,
-    stm: &'a Stm<AnyLaw>,
-    founder: &mut Founder<AnyLaw>,
-    seed: u32,
-) -> Result<Seat<'a>, Failed>
-    requires table { founder.old.home ≡ stm.now }
-    ensures table { founder.new.home ≡ stm.now }
-{
-    match founder.caller(alloc, stm, u64::from(seed)) {
-        Ok(caller) => Ok(Seat {
-            me: Me {
-                tx: Tx::new(alloc, caller, stm),
-            },
-            ended: Ok(()),
-        }),
-        Err(EnrolError::Memory(error)) => Err(Failed::from(error)),
-        Err(EnrolError::Full) => Err(Failed::Threads),
+    // Gives out so many seats of the table.
+    fn seats<'a>(
+        &self,
+        stm: &'a Stm<AnyLaw>,
+        founder: &mut Founder<AnyLaw>,
+        count: u32,
+    ) -> Result<Vec<Seat<'a>>, Failed>
+        requires table { founder.old.home ≡ stm.now }
+    {
+        let mut seats = Vec::with_capacity(self.alloc, count as usize)?;
+        for seed in 0..count {
+            seats.push(Seat {
+                me: self.part(stm, founder, u64::from(seed))?,
+                ended: Ok(()),
+            })?;
+        }
+        Ok(seats)
     }
 }
 

@@ -1,37 +1,38 @@
 // A thread's part in a run.
-ghost use Rattle.std.specs.Prelude.{◌≡◌, length, IfErr, IfOk};
-ghost use Rattle.dstm_cells.specs.Closures.{KeepsEach, TookEffect};
-ghost use Rattle.dstm_cells.specs.UnderWay.{AddsNothing, Keeps};
+ghost use Rattle.std.specs.Prelude.{◌≡◌, IfErr, IfOk};
+ghost use Rattle.dstm_cells.specs.Closures.{IsLawful, KeepsEach, TookEffect};
+ghost use Rattle.dstm_cells.specs.UnderWay.{AddsNothing};
 
-use crate::error::{Failed, GaveUp, Stop};
+use crate::error::{GaveUp, Stop};
+use crate::transaction::Transaction;
 use crate::under_way::Tx;
-use dstm_model::Val;
-use std::alloc::Global;
+use dstm_model::AnyLaw;
 use std::thread::yield_now;
 
 // The attempts of each thread in a run.
 const ATTEMPTS: u32 = 65_536;
 
-// How often all objects are read together when nobody sets them any more.
-const READINGS: u32 = 64;
-
 /// A thread's part in a run: it makes transactions, one after the other.
 #[derive(Drop)]
-pub struct Me<'a> {
-    pub(crate) tx: Tx<'a>,
+pub struct Part<X> {
+    pub(crate) tx: X,
 }
 
-impl<'a> Me<'a> {
+/// A thread's part in a run on a memory, under a law where one is named.
+pub type Me<'a, L = AnyLaw> = Part<Tx<'a, L>>;
+
+impl<X: Transaction> Part<X> {
     /// Makes a transaction: calls the closure, and again, until what it did has taken effect as a whole. What an
     /// attempt has set that does not take effect nobody sees. The answer is that of the last call.
     pub fn atomically<R: Drop, F>(&mut self, f: F) -> Result<R, GaveUp>
     where
-        F: FnMut(&mut Tx<'_>) -> Result<R, Stop>,
+        F: FnMut(&mut X) -> Result<R, Stop>,
         requires callable { F.IsAlwaysCallable f }
-        ensures took { KeepsEach F.FnMut →
-            IfOk result (TookEffect F.FnMut self.old.tx.caller self.new.tx.caller) }
-        ensures nothing { KeepsEach F.FnMut →
-            IfErr result (λ _. AddsNothing self.old.tx.caller self.new.tx.caller) }
+        requires lawful { IsLawful X.caller F.FnMut X.Rule.holds }
+        ensures took { KeepsEach X.caller F.FnMut →
+            IfOk result (TookEffect X.caller F.FnMut X.Rule.holds (X.caller self.old.tx) (X.caller self.new.tx)) }
+        ensures nothing { KeepsEach X.caller F.FnMut →
+            IfErr result (λ _. AddsNothing (X.caller self.old.tx) (X.caller self.new.tx)) }
     {
         let mut f = f;
         self.tx.renew();
@@ -43,7 +44,7 @@ impl<'a> Me<'a> {
                         return Ok(answer);
                     }
                 }
-                Err(stop) => self.leave(stop)?,
+                Err(stop) => self.tx.leave(stop)?,
             }
             yield_now();
         }
@@ -53,45 +54,6 @@ impl<'a> Me<'a> {
     /// From now on a transaction that retries looks so many times at most whether something that it has read has
     /// changed, and gives way at each look: 1,048,576 times, where it is not told.
     pub fn set_looks(&mut self, looks: u32) {
-        self.tx.looks = looks;
-    }
-
-    // Leaves the attempt that a closure has stopped, and tells whether there may be another one.
-    fn leave(&mut self, stop: Stop) -> Result<(), GaveUp>
-        ensures { Keeps self.old.tx self.new.tx }
-    {
-        let waited = match stop {
-            Stop::Again => Ok(()),
-            Stop::Retry => self.tx.wait(),
-            Stop::Foreign => Err(GaveUp::Foreign),
-            Stop::Memory => Err(GaveUp::Memory),
-        };
-        self.tx.abandon();
-        waited
-    }
-
-    // The values of all objects, so many, by one transaction.
-    pub(crate) fn values(&mut self, alloc: Global, objects: u32) -> Result<Vec<Val>, Failed>
-        ensures { IfOk result (λ values. length values.items ≡ objects) }
-    {
-        for _ in 0..READINGS {
-            if self.tx.begin().is_err() {
-                return Err(Failed::Unread);
-            }
-            match self.tx.all(alloc, objects) {
-                Ok(values) => {
-                    if self.tx.commit() {
-                        return Ok(values);
-                    }
-                }
-                Err(stop) => {
-                    self.tx.abandon();
-                    if stop == Stop::Memory {
-                        return Err(Failed::Memory);
-                    }
-                }
-            }
-        }
-        Err(Failed::Unread)
+        self.tx.set_looks(looks);
     }
 }

@@ -1,26 +1,31 @@
 // What a closure may do in its transaction.
-ghost use Rattle.std.specs.Prelude.{◌≡◌, ◌<◌, length, true, false, IfOk, IsTrue, Ok, OnOk, Err, if◌then◌else◌};
-ghost use Rattle.dstm_engine.specs.Callers.{is_live, shape_of};
+ghost use Rattle.std.specs.Prelude.{◌≡◌, ◌<◌, List, length, true, false, IfOk, IsTrue, Ok, OnOk, Err, if◌then◌else◌};
+ghost use Rattle.dstm_engine.specs.Callers.{is_live, law_of, shape_of};
 ghost use Rattle.dstm_engine.specs.Transactions.{BeginsAnew};
 ghost use Rattle.dstm_cells.specs.Closures.{KeepsOnce};
-ghost use Rattle.dstm_cells.specs.UnderWay.{AddsNothing, Changes, Exchanges, Finds, Gets, Keeps, TakesEffect, holds};
+ghost use Rattle.dstm_cells.specs.UnderWay.{AddsNothing, Changes, Exchanges, Finds, Gets, IsUntouched, Keeps, LeavesLawful, MayBegin, TakesEffect, seen};
 ghost use Rattle.dstm_cells.specs.declared.error.Stop.TheVariants.{Retry};
 
 use crate::cell::{Cell, Word};
-use crate::error::{GaveUp, Stop};
+use crate::error::{Failed, GaveUp, Stop};
+use crate::transaction::Transaction;
 use crate::under_way::{Tx, Undo};
 use dstm_engine::{Caller, Stm, Tx as Attempt};
-use dstm_model::{AnyLaw, Val};
+use dstm_model::{Law, Val};
 use std::alloc::Global;
 use std::thread::yield_now;
 
 /// How often a transaction that retries looks whether something that it has read has changed, where it is not told.
 pub const LOOKS: u32 = 1_048_576;
 
-impl<'a> Tx<'a> {
+// How often all objects are read together when nobody sets them any more.
+const READINGS: u32 = 64;
+
+impl<'a, L: Law> Tx<'a, L> {
     // What makes the transactions of one caller of a table, one after the other.
-    pub(crate) fn new(alloc: Global, caller: Caller<AnyLaw>, stm: &'a Stm<AnyLaw>) -> Tx<'a>
+    pub(crate) fn new(alloc: Global, caller: Caller<L>, stm: &'a Stm<L>) -> Tx<'a, L>
         requires table { caller.home ≡ stm.now }
+        ensures caller { result.caller ≡ caller }
     {
         Tx {
             caller,
@@ -33,8 +38,8 @@ impl<'a> Tx<'a> {
 
     /// What a cell holds.
     pub fn get<T: Word>(&mut self, cell: Cell<T>) -> Result<T, Stop>
-        ensures keeps { Keeps self.old self.new }
-        ensures gets { IfOk result (Gets T.found self.old.caller self.new.caller cell.object) }
+        ensures keeps { Keeps self.old.caller self.new.caller }
+        ensures gets { IfOk result (Gets L.holds T.found self.old.caller self.new.caller cell.object) }
     {
         let val = self.read(cell.object)?;
         Ok(T::of_val(val))
@@ -42,8 +47,8 @@ impl<'a> Tx<'a> {
 
     /// Puts a value into a cell.
     pub fn set<T: Word>(&mut self, cell: Cell<T>, value: T) -> Result<(), Stop>
-        ensures keeps { Keeps self.old self.new }
-        ensures puts { OnOk result ((had : T) × Changes T.found self.old.caller self.new.caller cell.object had value) }
+        ensures keeps { Keeps self.old.caller self.new.caller }
+        ensures puts { OnOk result ((had : T) × Changes L.holds T.found self.old.caller self.new.caller cell.object had value) }
     {
         let _old = self.replace(cell, value)?;
         Ok(())
@@ -51,8 +56,8 @@ impl<'a> Tx<'a> {
 
     /// Puts a value into a cell, and answers what it held.
     pub fn replace<T: Word>(&mut self, cell: Cell<T>, value: T) -> Result<T, Stop>
-        ensures keeps { Keeps self.old self.new }
-        ensures puts { IfOk result (λ had. Changes T.found self.old.caller self.new.caller cell.object had value) }
+        ensures keeps { Keeps self.old.caller self.new.caller }
+        ensures puts { IfOk result (λ had. Changes L.holds T.found self.old.caller self.new.caller cell.object had value) }
     {
         let old = self.change(cell.object, |_| value.to_val())?;
         Ok(T::of_val(old))
@@ -61,9 +66,9 @@ impl<'a> Tx<'a> {
     /// Changes what a cell holds, and answers what it held.
     pub fn update<T: Word, F: FnOnce(T) -> T>(&mut self, cell: Cell<T>, f: F) -> Result<T, Stop>
         requires callable { F.IsAlwaysCallable f }
-        ensures keeps { Keeps self.old self.new }
+        ensures keeps { Keeps self.old.caller self.new.caller }
         ensures puts { IfOk result (λ had.
-            (value : T) × F.post f had value × Changes T.found self.old.caller self.new.caller cell.object had value) }
+            (value : T) × F.post f had value × Changes L.holds T.found self.old.caller self.new.caller cell.object had value) }
     {
         let old = self.change(cell.object, |val| f(T::of_val(val)).to_val())?;
         Ok(T::of_val(old))
@@ -84,6 +89,128 @@ impl<'a> Tx<'a> {
         Err(Stop::Retry)
     }
 
+    // Opens an object for reading.
+    fn read(&mut self, object: u32) -> Result<Val, Stop>
+        ensures keeps { Keeps self.old.caller self.new.caller }
+        ensures finds { IfOk result (Finds L.holds self.old.caller self.new.caller object) }
+        ensures may { OnOk result ((map : List Val) × MayBegin L.holds self.new.caller map) }
+    {
+        let mut tx = self.caller.resume(self.stm);
+        may_open(&tx, object)?;
+        let value = tx.open_read(object)?;
+        Ok(value)
+    }
+
+    // Sets an object to what this makes of its value, and answers what it had. In an alternative this is noted.
+    fn change<F: FnOnce(Val) -> Val>(&mut self, object: u32, f: F) -> Result<Val, Stop>
+        requires callable { F.IsAlwaysCallable f }
+        ensures keeps { Keeps self.old.caller self.new.caller }
+        ensures changes { IfOk result (λ had.
+            (value : Val) × F.post f had value × Exchanges L.holds self.old.caller self.new.caller object had value) }
+    {
+        let mut tx = self.caller.resume(self.stm);
+        may_open(&tx, object)?;
+        let value = tx.open_write(object)?;
+        if self.alternatives > 0 {
+            self.undos.push(Undo { object, value })?;
+        }
+        tx.set(object, f(value));
+        Ok(value)
+    }
+
+    // Sets an object, and opens it for writing where it is not open. It notes nothing.
+    fn put(&mut self, object: u32, value: Val) -> Result<(), Stop>
+        ensures { Keeps self.old.caller self.new.caller }
+    {
+        let mut tx = self.caller.resume(self.stm);
+        may_open(&tx, object)?;
+        let _old = tx.open_write(object)?;
+        tx.set(object, value);
+        Ok(())
+    }
+
+    // Undoes what was set since so many objects were noted, the last one first.
+    fn undo_to(&mut self, kept: usize) -> Result<(), Stop>
+        ensures { Keeps self.old.caller self.new.caller }
+    {
+        for _ in kept..self.undos.len() {
+            let Some(undo) = self.undos.pop() else {
+                break;
+            };
+            self.put(undo.object, undo.value)?;
+        }
+        Ok(())
+    }
+
+    // Waits until something that the attempt has read has changed, or it was aborted. It gives way at each look.
+    pub(crate) fn wait(&mut self) -> Result<(), GaveUp>
+        ensures { Keeps self.old.caller self.new.caller }
+    {
+        for _ in 0..self.looks {
+            yield_now();
+            if !self.is_current() {
+                return Ok(());
+            }
+        }
+        Err(GaveUp::Idle)
+    }
+
+    // All that the attempt has read is still current.
+    fn is_current(&mut self) -> bool
+        ensures { Keeps self.old.caller self.new.caller }
+    {
+        let mut tx = self.caller.resume(self.stm);
+        if !tx.is_live() {
+            return false;
+        }
+        tx.recheck().is_ok()
+    }
+
+    // The values of all objects, so many, by one transaction. They are lawful.
+    pub(crate) fn values(&mut self, alloc: Global, objects: u32) -> Result<Vec<Val>, Failed>
+        requires all { objects ≡ (shape_of self.old.caller).objects }
+        ensures all { IfOk result (λ values. length values.items ≡ objects) }
+        ensures lawful { IfOk result (λ values. L.holds (law_of self.old.caller) values.items) }
+    {
+        for _ in 0..READINGS {
+            if self.begin().is_err() {
+                return Err(Failed::Unread);
+            }
+            match self.all(alloc, objects) {
+                Ok(values) => {
+                    if self.commit() {
+                        return Ok(values);
+                    }
+                }
+                Err(stop) => match self.leave(stop) {
+                    Ok(()) => {}
+                    Err(GaveUp::Memory) => return Err(Failed::Memory),
+                    Err(_) => return Err(Failed::Unread),
+                },
+            }
+        }
+        Err(Failed::Unread)
+    }
+
+    // The values of all objects, by an attempt that has set nothing. They are lawful.
+    pub(crate) fn all(&mut self, alloc: Global, objects: u32) -> Result<Vec<Val>, Stop>
+        requires all { objects ≡ (shape_of self.old.caller).objects }
+        requires may { (map : List Val) × MayBegin L.holds self.old.caller map }
+        requires untouched { IsUntouched self.old.caller }
+        ensures all { IfOk result (λ values. length values.items ≡ objects) }
+        ensures lawful { IfOk result (λ values. L.holds (law_of self.old.caller) values.items) }
+        ensures untouched { OnOk result (IsUntouched self.new.caller) }
+        ensures keeps { Keeps self.old.caller self.new.caller }
+    {
+        let mut values = Vec::with_capacity(alloc, objects as usize)?;
+        for object in 0..objects {
+            values.push(self.read(object)?)?;
+        }
+        Ok(values)
+    }
+}
+
+impl<'a> Tx<'a> {
     /// Goes on by the first alternative, or by the second one where the first retries. What the first has set is then
     /// undone; what it has read stays read, so that a change of it ends the waiting if the second retries too.
     pub fn or_else<R: Drop, F, G>(&mut self, first: F, second: G) -> Result<R, Stop>
@@ -92,7 +219,8 @@ impl<'a> Tx<'a> {
         G: FnOnce(&mut Tx<'_>) -> Result<R, Stop>,
         requires first { F.IsAlwaysCallable first }
         requires second { G.IsAlwaysCallable second }
-        ensures { KeepsOnce F.FnOnce first → KeepsOnce G.FnOnce second → Keeps self.old self.new }
+        ensures { KeepsOnce (λ tx. tx.caller) F.FnOnce first → KeepsOnce (λ tx. tx.caller) G.FnOnce second
+            → Keeps self.old.caller self.new.caller }
     {
         let kept = self.undos.len();
         self.alternatives = self.alternatives.saturating_add(1);
@@ -106,134 +234,11 @@ impl<'a> Tx<'a> {
             answer => answer,
         }
     }
-
-    // Opens an object for reading.
-    fn read(&mut self, object: u32) -> Result<Val, Stop>
-        ensures keeps { Keeps self.old self.new }
-        ensures finds { IfOk result (Finds self.old.caller self.new.caller object) }
-    {
-        let mut tx = self.caller.resume(self.stm);
-        may_open(&tx, object)?;
-        let value = tx.open_read(object)?;
-        Ok(value)
-    }
-
-    // Sets an object to what this makes of its value, and answers what it had. In an alternative this is noted.
-    fn change<F: FnOnce(Val) -> Val>(&mut self, object: u32, f: F) -> Result<Val, Stop>
-        requires callable { F.IsAlwaysCallable f }
-        ensures keeps { Keeps self.old self.new }
-        ensures changes { IfOk result (λ had.
-            (value : Val) × F.post f had value × Exchanges self.old.caller self.new.caller object had value) }
-    {
-        let mut tx = self.caller.resume(self.stm);
-        may_open(&tx, object)?;
-        let value = tx.open_write(object)?;
-        if self.alternatives > 0 {
-            self.undos.push(Undo { object, value })?;
-        }
-        tx.set(object, f(value));
-        Ok(value)
-    }
-
-    // Sets an object, and opens it for writing where it is not open.
-    fn put(&mut self, object: u32, value: Val) -> Result<(), Stop>
-        ensures { Keeps self.old self.new }
-    {
-        let mut tx = self.caller.resume(self.stm);
-        may_open(&tx, object)?;
-        let _old = tx.open_write(object)?;
-        tx.set(object, value);
-        Ok(())
-    }
-
-    // Undoes what was set since so many objects were noted, the last one first.
-    fn undo_to(&mut self, kept: usize) -> Result<(), Stop>
-        ensures { Keeps self.old self.new }
-    {
-        for _ in kept..self.undos.len() {
-            let Some(undo) = self.undos.pop() else {
-                break;
-            };
-            self.put(undo.object, undo.value)?;
-        }
-        Ok(())
-    }
-
-    // Makes the next attempt the first of a new transaction.
-    pub(crate) fn renew(&mut self)
-        ensures { AddsNothing self.old.caller self.new.caller }
-    {
-        self.caller.next_transaction();
-    }
-
-    // Begins an attempt.
-    pub(crate) fn begin(&mut self) -> Result<(), GaveUp>
-        ensures begins { OnOk result (BeginsAnew holds self.old.caller self.new.caller) }
-        ensures nothing { AddsNothing self.old.caller self.new.caller }
-    {
-        self.undos.clear();
-        self.alternatives = 0;
-        begin(&mut self.caller, self.stm)
-    }
-
-    // Commits the attempt, and tells whether it has taken effect.
-    pub(crate) fn commit(&mut self) -> bool
-        ensures takes { result ≡ true → TakesEffect self.old.caller self.new.caller }
-        ensures keeps { result ≡ false → Keeps self.old self.new }
-    {
-        let tx = self.caller.resume(self.stm);
-        if !tx.is_live() {
-            return false;
-        }
-        tx.commit().is_ok()
-    }
-
-    // Leaves the attempt.
-    pub(crate) fn abandon(&mut self)
-        ensures { Keeps self.old self.new }
-    {
-        self.caller.resume(self.stm).abandon();
-    }
-
-    // Waits until something that the attempt has read has changed, or it was aborted. It gives way at each look.
-    pub(crate) fn wait(&mut self) -> Result<(), GaveUp>
-        ensures { Keeps self.old self.new }
-    {
-        for _ in 0..self.looks {
-            yield_now();
-            if !self.is_current() {
-                return Ok(());
-            }
-        }
-        Err(GaveUp::Idle)
-    }
-
-    // All that the attempt has read is still current.
-    fn is_current(&mut self) -> bool
-        ensures { Keeps self.old self.new }
-    {
-        let mut tx = self.caller.resume(self.stm);
-        if !tx.is_live() {
-            return false;
-        }
-        tx.recheck().is_ok()
-    }
-
-    // The values of the first objects, by one attempt.
-    pub(crate) fn all(&mut self, alloc: Global, objects: u32) -> Result<Vec<Val>, Stop>
-        ensures { IfOk result (λ values. length values.items ≡ objects) }
-    {
-        let mut values = Vec::with_capacity(alloc, objects as usize)?;
-        for object in 0..objects {
-            values.push(self.read(object)?)?;
-        }
-        Ok(values)
-    }
 }
 
 // Whether an attempt is live, and has such an object.
 #[inline]
-fn may_open(tx: &Attempt<'_, AnyLaw>, object: u32) -> Result<(), Stop>
+fn may_open<L: Law>(tx: &Attempt<'_, L>, object: u32) -> Result<(), Stop>
     ensures { OnOk result (IsTrue (is_live tx.now.caller.now) × (object < (shape_of tx.now.caller.now).objects)) }
 {
     if !tx.is_live() {
@@ -242,18 +247,5 @@ fn may_open(tx: &Attempt<'_, AnyLaw>, object: u32) -> Result<(), Stop>
     if object >= tx.objects() {
         return Err(Stop::Foreign);
     }
-    Ok(())
-}
-
-// Begins an attempt of a caller, which stays one of the table.
-fn begin(caller: &mut Caller<AnyLaw>, stm: &Stm<AnyLaw>) -> Result<(), GaveUp>
-    requires table { caller.old.home ≡ stm.now }
-    ensures table { caller.new.home ≡ stm.now }
-    ensures begins { OnOk result (BeginsAnew holds caller.old caller.new) }
-    ensures nothing { AddsNothing caller.old caller.new }
-{
-    let Ok(_tx) = caller.begin(stm) else {
-        return Err(GaveUp::Spent);
-    };
     Ok(())
 }

@@ -2,7 +2,7 @@
 ghost use Rattle.std.specs.Prelude.{◌≡◌};
 
 use dstm_engine::{Caller, Stm};
-use dstm_model::{AnyLaw, Val};
+use dstm_model::{AnyLaw, Law, Val};
 
 // What an object had before an alternative set it.
 #[derive(Clone, Copy, Debug)]
@@ -11,11 +11,11 @@ pub struct Undo {
     pub value: Val,
 }
 
-/// A transaction under way.
+/// A transaction under way, on a memory under a law.
 #[derive(Drop)]
-pub struct Tx<'a> {
-    pub(crate) caller: Caller<AnyLaw>,
-    pub(crate) stm: &'a Stm<AnyLaw>,
+pub struct Tx<'a, L: Law = AnyLaw> {
+    pub(crate) caller: Caller<L>,
+    pub(crate) stm: &'a Stm<L>,
     pub(crate) undos: Vec<Undo>,
     // How many alternatives it is in of which each may yet be undone.
     pub(crate) alternatives: u32,

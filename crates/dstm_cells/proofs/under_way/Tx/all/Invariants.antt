@@ -1,6 +1,15 @@
-use Rattle.std.proofs.Common.{◌≡◌, length}
+use Rattle.std.proofs.Common.{◌≡◌, ◌<◌, ℕ, List, length}
+use Rattle.dstm_model.specs.declared.value.Val.{Val}
+use Rattle.dstm_model.specs.Map.{value_at}
+use Rattle.dstm_cells.specs.UnderWay.{IsUntouched, Keeps, MayBegin}
 use Rattle.dstm_cells.proofs.under_way.Tx.all.Given as goal
 
--- a value for each object so far
+-- it has set nothing, and so far the values are those of each map at which it may have begun
 abbrev pub invariant-loop-object : goal.invariant-loop-object
-invariant-loop-object l = length l.values.items ≡ l.object
+invariant-loop-object g l =
+    (length l.values.items ≡ l.object)
+    × Keeps l.fn.self.caller l.self.caller
+    × IsUntouched l.self.caller
+    × ((map : List Val) × MayBegin g.L.Law.holds l.self.caller map)
+    × ((map : List Val) → MayBegin g.L.Law.holds l.self.caller map →
+    (o : ℕ) → o < l.object → value_at l.values.items o ≡ value_at map o)

@@ -12,10 +12,10 @@ returns-clause-changes g c =
     let had = c.in_ok-value.value in
     let kept = c.open_write.ensures.kept in
     let found =
-    finds old opened c.args.object had (ap (λ (k : Called _). k.set) kept)
+    finds g.L.Law.holds old opened c.args.object had (ap (λ (k : Called _). k.set) kept)
     c.in_ok-may_open.ensures.1 c.open_write.ensures.narrows c.in_ok-value.ensures.value in (
       c.f.result,
       c.f.ensures,
-      subst (λ (k : Called _). Exchanges k new c.args.object had c.f.result) c.resume-tx.ensures.attempt
-          (puts old opened new c.args.object had c.f.result found c.set.ensures.kept c.set.ensures.written),
+      subst (λ (k : Called _). Exchanges g.L.Law.holds k new c.args.object had c.f.result) c.resume-tx.ensures.attempt
+          (puts g.L.Law.holds old opened new c.args.object had c.f.result found c.set.ensures.kept c.set.ensures.written),
     )

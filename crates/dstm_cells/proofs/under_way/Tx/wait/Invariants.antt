@@ -3,4 +3,4 @@ use Rattle.dstm_cells.proofs.under_way.Tx.wait.Given as goal
 
 -- it stays the same attempt
 abbrev pub invariant-loop : goal.invariant-loop
-invariant-loop l = Keeps l.fn.self l.self
+invariant-loop g l = Keeps l.fn.self.caller l.self.caller

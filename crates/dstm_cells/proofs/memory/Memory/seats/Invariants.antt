@@ -1,5 +1,5 @@
 use Rattle.std.proofs.Common.{◌≡◌}
-use Rattle.dstm_cells.proofs.memory.take_seats.Given as goal
+use Rattle.dstm_cells.proofs.memory.Memory.seats.Given as goal
 
 -- the founder stays the table's
 abbrev pub invariant-loop-seed : goal.invariant-loop-seed

@@ -1,9 +1,10 @@
 use Rattle.dstm_cells.specs.Closures.{KeepsEach}
 use Rattle.dstm_cells.specs.UnderWay.{AddsNothing}
-use Rattle.dstm_cells.proofs.thread.Me.atomically.Given as goal
+use Rattle.dstm_cells.proofs.thread.Part.atomically.Given as goal
 
 -- nothing was committed so far
 abbrev pub invariant-loop : goal.invariant-loop
 invariant-loop g l =
     goal.F-IsAlwaysCallable g l.f
-    × (KeepsEach g.F.FnMut → AddsNothing l.fn.self.tx.caller l.self.tx.caller)
+    × (KeepsEach g.X.Transaction.caller g.F.FnMut →
+    AddsNothing (g.X.Transaction.caller l.fn.self.tx) (g.X.Transaction.caller l.self.tx))

@@ -1,0 +1,94 @@
+// What makes the transactions of a thread, one after the other.
+ghost use Rattle.std.specs.Prelude.{◌≡◌, true, false, OnOk};
+ghost use Rattle.dstm_engine.specs.Callers.{Called};
+ghost use Rattle.dstm_engine.specs.Transactions.{BeginsAnew};
+ghost use Rattle.dstm_cells.specs.UnderWay.{AddsNothing, Keeps, LeavesLawful, TakesEffect};
+
+use crate::error::{GaveUp, Stop};
+use crate::under_way::Tx;
+use dstm_engine::{Caller, Stm};
+use dstm_model::Law;
+
+/// What makes the transactions of a thread, one after the other, on a memory under a law: a `Tx`.
+pub trait Transaction: Drop {
+    /// The law.
+    type Rule: Law;
+
+    /// The caller of a table that makes the attempts.
+    ghost caller: { Self → Called Self.Rule };
+
+    /// Makes the next attempt the first of a new transaction.
+    fn renew(&mut self)
+        ensures { AddsNothing (caller self.old) (caller self.new) };
+
+    /// Begins an attempt.
+    fn begin(&mut self) -> Result<(), GaveUp>
+        ensures begins { OnOk result (BeginsAnew Self.Rule.holds (caller self.old) (caller self.new)) }
+        ensures nothing { AddsNothing (caller self.old) (caller self.new) };
+
+    /// Commits the attempt, and tells whether it has taken effect.
+    fn commit(&mut self) -> bool
+        requires lawful { LeavesLawful Self.Rule.holds (caller self.old) }
+        ensures takes { result ≡ true → TakesEffect Self.Rule.holds (caller self.old) (caller self.new) }
+        ensures keeps { result ≡ false → Keeps (caller self.old) (caller self.new) };
+
+    /// Leaves the attempt that a closure has stopped, and tells whether there may be another one.
+    fn leave(&mut self, stop: Stop) -> Result<(), GaveUp>
+        ensures { Keeps (caller self.old) (caller self.new) };
+
+    /// How often a transaction that retries looks at most whether something that it has read has changed.
+    fn set_looks(&mut self, looks: u32)
+        ensures { Keeps (caller self.old) (caller self.new) };
+}
+
+impl<'a, L: Law> Transaction for Tx<'a, L> {
+    type Rule = L;
+
+    ghost caller = { λ tx. tx.caller };
+
+    fn renew(&mut self) {
+        self.caller.next_transaction();
+    }
+
+    fn begin(&mut self) -> Result<(), GaveUp> {
+        self.undos.clear();
+        self.alternatives = 0;
+        begin(&mut self.caller, self.stm)
+    }
+
+    fn commit(&mut self) -> bool {
+        let tx = self.caller.resume(self.stm);
+        if !tx.is_live() {
+            return false;
+        }
+        tx.commit().is_ok()
+    }
+
+    fn leave(&mut self, stop: Stop) -> Result<(), GaveUp> {
+        let waited = match stop {
+            Stop::Again => Ok(()),
+            Stop::Retry => self.wait(),
+            Stop::Foreign => Err(GaveUp::Foreign),
+            Stop::Memory => Err(GaveUp::Memory),
+        };
+        self.caller.resume(self.stm).abandon();
+        waited
+    }
+
+    fn set_looks(&mut self, looks: u32) {
+        self.looks = looks;
+    }
+}
+
+// Begins an attempt of a caller, which stays one of the table.
+fn begin<L: Law>(caller: &mut Caller<L>, stm: &Stm<L>) -> Result<(), GaveUp>
+    requires table { caller.old.home ≡ stm.now }
+    ensures table { caller.new.home ≡ stm.now }
+    ensures begins { OnOk result (BeginsAnew L.holds caller.old caller.new) }
+    ensures nothing { AddsNothing caller.old caller.new }
+{
+    let Ok(_tx) = caller.begin(stm) else {
+        return Err(GaveUp::Spent);
+    };
+    Ok(())
+}
