@@ -20,7 +20,7 @@ use Rattle.dstm_tables.specs.declared.trying.Finished.{Finished}
 use Rattle.dstm_tables.specs.Jobs.{HadToStop, NoneWasted}
 use Rattle.dstm_tables.specs.Tells.{ByCalls, callers_of, committed_of, start_of}
 use Rattle.dstm_tables.proofs.History.{sights_agree}
-use Rattle.dstm_records.specs.Records.{ArePaired, IsMade, IsParallel, IsRoundOf, IsRun, TellOf, next_of, seed_for}
+use Rattle.dstm_records.specs.Records.{ArePaired, IsMade, IsParallel, IsRoundOf, TellOf, next_of, seed_for}
 use Rattle.dstm_records.specs.Rounds.{all_workers, greatest, has_job, is_parallel, left_by, most_jobs, workers_in, workers_left}
 use Rattle.dstm_records.specs.Running.{AddsRound, Begins, turns_behind}
 use Rattle.dstm_records.proofs.Collecting.{Collected}
