@@ -1,20 +1,19 @@
 -- Stamps and ranks: how a caller's state changes in what is about its stamp, which stamps stand, and what the rank
 -- words hold.
-use Rattle.std.proofs.Common.{◌*◌, ◌+◌, ◌-◌, ◌/◌, ◌<◌, ◌==◌, ◌∙◌, ◌∷◌, ◌≡◌, ◌≢◌, ◌≤◌, ◌⊎◌, List, None, [], ap, arith, false, inl, inr, is_some, length, refl, sym, true, ℕ}
-use Rattle.std.proofs.lemmas.Bool.{cases_Bool, cond_both}
+use Rattle.std.proofs.Common.{◌*◌, ◌+◌, ◌-◌, ◌/◌, ◌<◌, ◌∙◌, ◌∷◌, ◌≡◌, ◌≢◌, ◌≤◌, ◌⊎◌, List, None, [], ap, arith, false, inl, inr, is_some, refl, sym, true, ℕ}
 use Rattle.dstm_core.specs.Events.{Event}
 use Rattle.dstm_core.specs.Rules.{AllowedAs, MayRank, after, is_outside, rank_of}
 use Rattle.dstm_core.specs.Runs.{Core, local}
-use Rattle.dstm_core.specs.State.{LocalState, given, own_attempt}
+use Rattle.dstm_core.specs.State.{LocalState, own_attempt}
 use Rattle.dstm_core.specs.Traces.{word}
 use Rattle.dstm_core.specs.Words.{place}
 use Rattle.dstm_core.specs.Words.Word.{RankWord, StampsWord}
 use Rattle.dstm_core.specs.declared.event.Kind.{Kind}
-use Rattle.dstm_core.specs.declared.event.Kind.TheVariants.{Begin, Commit, Draw, Enrol, Install, LookSelf, Pause, PutHigh, PutNew, Quit, Rank, Resume, Stamp, Validating as ToValidating}
+use Rattle.dstm_core.specs.declared.event.Kind.TheVariants.{Begin, Commit, Enrol, Rank, Stamp}
 use Rattle.dstm_core.specs.declared.shape.Manager.TheVariants.{Greedy, Karma, Polka, Polite}
 use Rattle.dstm_core.specs.declared.shape.Shape.{Shape}
 use Rattle.dstm_core.specs.declared.state.Phase.{Phase}
-use Rattle.dstm_core.specs.declared.state.Phase.TheVariants.{Outside, Running, Putting}
+use Rattle.dstm_core.specs.declared.state.Phase.TheVariants.{Outside, Running}
 use Rattle.dstm_core.proofs.Basic.{own_place}
 use Rattle.dstm_core.proofs.Columns.{Aims, Same, Step, caller_of, in_table, stamps, stays, step}
 use Rattle.dstm_core.proofs.Places.{put_at}

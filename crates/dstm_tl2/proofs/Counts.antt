@@ -1,15 +1,14 @@
 -- How far the counting words rise, and that no add on them wraps.
-use Rattle.std.proofs.Common.{List, None, Option, Some, [], ap, arith, inl, inr, subst, sym, true, ℕ, ◌*◌, ◌+◌, ◌-◌, ◌<◌, ◌==◌, ◌^◌, ◌∷◌, ◌≡◌, ◌≤◌, ◌⊎◌}
-use Rattle.std.proofs.lemmas.Bool.{cond_both}
+use Rattle.std.proofs.Common.{List, None, Option, Some, [], ap, arith, inl, inr, subst, sym, true, ℕ, ◌*◌, ◌+◌, ◌-◌, ◌<◌, ◌^◌, ◌∷◌, ◌≡◌, ◌≤◌, ◌⊎◌}
 use Rattle.std.proofs.lemmas.Nat.{mul-le}
 use Rattle.dstm_machines.proofs.Runs as runs
 use Rattle.dstm_machines.proofs.Totals.{total, total-≤, total-<, total-bound}
 use Rattle.dstm_tl2.specs.declared.kind.Kind.{Kind}
-use Rattle.dstm_tl2.specs.declared.kind.Kind.TheVariants.{Enrol, Sample, LookAgain, Lock, Draw}
+use Rattle.dstm_tl2.specs.declared.kind.Kind.TheVariants.{Enrol, Sample, Draw}
 use Rattle.dstm_tl2.specs.Histories.{is_draw}
-use Rattle.dstm_tl2.specs.Rules.{AllowedAs, Event, after, lock, record_read}
+use Rattle.dstm_tl2.specs.Rules.{AllowedAs, Event, after}
 use Rattle.dstm_tl2.specs.Runs.{Fits, Run, local, tl2}
-use Rattle.dstm_tl2.specs.State.{LocalState, look_of}
+use Rattle.dstm_tl2.specs.State.{LocalState}
 use Rattle.dstm_tl2.specs.Words.{Table}
 use Rattle.dstm_tl2.proofs.Clock.{Draws, NoDraw, clock, clock_step}
 use Rattle.dstm_tl2.proofs.Places.{first_clock}

@@ -1,4 +1,4 @@
-use Rattle.std.proofs.Common.{◌∷◌, ◌≡◌, ◌≢◌, ◌+◌, ◌==◌, ◌∙◌, refl, ap, sym, true, false, eq-eqb, ne_eqb}
+use Rattle.std.proofs.Common.{◌∷◌, ◌≡◌, ◌+◌, ◌==◌, ◌∙◌, refl, ap, sym, true, false, eq-eqb, ne_eqb}
 use Rattle.dstm_core.specs.Events.{Event}
 use Rattle.dstm_core.specs.declared.event.Kind.TheVariants.{Install}
 use Rattle.dstm_machines.specs.Traces.Access.{Exchange}
