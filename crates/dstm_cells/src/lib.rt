@@ -17,5 +17,4 @@ pub use dstm_core::Manager;
 pub use error::{Failed, GaveUp, Stop};
 pub use memory::{MOST_CELLS, MOST_THREADS, Memory};
 pub use thread::{Me, Part};
-pub use transaction::Transaction;
 pub use under_way::Tx;
