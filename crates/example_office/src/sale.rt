@@ -1,0 +1,55 @@
+// What a desk does: it sells tickets, one after the other.
+ghost use Rattle.std.specs.Prelude.{◌≡◌, List, IfOk, OnOk};
+ghost use Rattle.dstm_cells.specs.UnderWay.{IsUntouched, Keeps, LeavesLawful, MayBegin, seen};
+ghost use Rattle.example_office.specs.Tickets.{AreCells, Sells};
+
+use dstm_cells::{Cell, GaveUp, Me, Stop, Tx};
+use dstm_model::{Law, Val};
+
+/// The law of the office: the tickets that are left, and those that each desk has sold, are all there were.
+#[derive(Clone, Copy, Debug)]
+pub struct NoneLost {
+    pub all: u64,
+}
+
+impl Law for NoneLost {
+    ghost use Rattle.example_office.specs.Tickets.{AddUp};
+
+    ghost holds = { λ law map. AddUp law.all map };
+}
+
+// Sells one ticket at a desk, and tells whether one was left.
+fn sell(tx: &mut Tx<'_, NoneLost>, left: Cell<u64>, desk: Cell<u64>) -> Result<bool, Stop>
+    requires cells { AreCells left.object desk.object }
+    ensures keeps { Keeps tx.old.caller tx.new.caller }
+    ensures lawful { OnOk result (IsUntouched tx.old.caller → LeavesLawful ⟦<NoneLost as Law>⟧.holds tx.new.caller) }
+    ensures right { IfOk result (λ sold. IsUntouched tx.old.caller → (map : List Val)
+        → MayBegin ⟦<NoneLost as Law>⟧.holds tx.new.caller map
+        → Sells desk.object sold map (seen tx.new.caller map)) }
+{
+    let tickets = tx.get(left)?;
+    if tickets == 0 {
+        return Ok(false);
+    }
+    let sold = tx.get(desk)?;
+    tx.set(left, tickets - 1)?;
+    tx.set(desk, sold.wrapping_add(1))?;
+    Ok(true)
+}
+
+/// Sells tickets at a desk until none is left.
+pub fn sell_at(
+    me: &mut Me<'_, NoneLost>,
+    left: Cell<u64>,
+    desk: Cell<u64>,
+    most: u64,
+) -> Result<(), GaveUp>
+    requires cells { AreCells left.object desk.object }
+{
+    for _ in 0..most {
+        if !me.atomically(|tx| sell(tx, left, desk))? {
+            break;
+        }
+    }
+    Ok(())
+}
