@@ -1,4 +1,5 @@
 pub mod Retrying
+pub mod Kept
 pub mod Worked
 pub mod Asking
 pub mod Sweeps

@@ -1,5 +1,6 @@
 pub mod Releases
 pub mod Tries
+pub mod Done
 pub mod Workers
 pub mod Alone
 pub mod Opened

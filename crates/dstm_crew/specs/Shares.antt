@@ -1,5 +1,5 @@
 -- Private: the shares of a parallel round: what its workers have to do, and what they have done on its table.
-use Rattle.std.specs.Prelude.{◌≡◌, ℕ, ◌<◌, ◌≤◌, ◌==◌, ◌||◌, Bool, true, filter, List, [], ◌∷◌, length, map, reverse, zip, vec_capacity, All}
+use Rattle.std.specs.Prelude.{◌≡◌, ℕ, ◌<◌, ◌≤◌, ◌==◌, ◌||◌, Bool, true, filter, List, [], ◌∷◌, length, map, reverse, zip, All}
 use Rattle.dstm_model.specs.declared.value.Val.{Val}
 use Rattle.dstm_tables.specs.declared.tables.Round.{Round}
 use Rattle.dstm_words.specs.Seats.{AreApart}
@@ -28,7 +28,7 @@ workers_of workload number left = filter (takes_part number left) (all_workers w
 pub record IsOpen (workload : Workload) (share : Share) : Type 0 where
   pub within : All (λ place. place < length workload.jobs) share.places.items
   pub empty : share.done.items ≡ []
-  pub room : length share.places.items ≤ vec_capacity share.done
+  pub room : length share.places.items ≤ share.done.room
 
 -- each of these workers has a share, with its jobs that are left
 pub record AreShares (workload : Workload) (left : List Job) (workers : List ℕ) (shares : List Share) : Type 0 where

@@ -1,5 +1,5 @@
 -- What a worker has done in a round.
-use Rattle.std.specs.Prelude.{◌≡◌, ℕ, ◌<◌, ◌≤◌, true, List, [], ◌∷◌, length, reverse, zip, vec_capacity, All, Option}
+use Rattle.std.specs.Prelude.{◌≡◌, ℕ, ◌<◌, ◌≤◌, true, List, [], ◌∷◌, length, reverse, zip, All, Option}
 use Rattle.std.specs.List.{slice_get}
 use Rattle.std.specs.Option.{option_map}
 use Rattle.dstm_model.specs.Answers.{Committed}
@@ -41,7 +41,7 @@ pub record IsReady (workload : Workload) (table : Table) (worker : Worker) : Typ
   pub none_done : done worker.caller ≡ []
   pub within : All (λ place. place < length workload.jobs) worker.places.items
   pub empty : worker.done.items ≡ []
-  pub room : length worker.places.items ≤ vec_capacity worker.done
+  pub room : length worker.places.items ≤ worker.done.room
 
 -- a worker that has run its jobs
 pub record HasRun (workload : Workload) (options : Options) (old new : Worker) : Type 0 where

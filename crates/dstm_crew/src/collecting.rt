@@ -4,6 +4,7 @@ ghost use Rattle.dstm_options.specs.declared.options.Options.{Options as Choices
 ghost use Rattle.dstm_crew.specs.Collecting.{AreRunBy, AreTaken, CanCollect, HasCollected, IsFit, IsNext, IsRowOf, lesser_of, number_at};
 
 use crate::share::Share;
+use dstm_model::{Replies, Reply};
 use dstm_report::{Row, Turns};
 use dstm_workload::Workload;
 
@@ -68,8 +69,7 @@ fn lesser(found: Option<(usize, u64)>, place: usize, number: u64) -> Option<(usi
 fn number_of(share: &Share, place: usize) -> Option<u64>
     ensures { result ≡ number_at share.now place }
 {
-    let finished = share.done.get(place)?;
-    Some(finished.number)
+    share.done.number(place)
 }
 
 // Adds the row of what stands at a place of what was done.
@@ -81,13 +81,24 @@ fn push_row(workload: &Workload, round: u64, share: &Share, place: usize, rows: 
     ensures len { vec_len rows.new ≡ vec_len rows.old + 1 }
     ensures capacity { vec_capacity rows.new ≡ vec_capacity rows.old }
 {
-    let finished = &share.done[place];
     let job = &workload.jobs.as_slice()[share.places[place]];
     rows.push_reserved(Row {
         line: job.line,
         worker: share.worker,
         round,
-        number: finished.number,
-        replies: finished.replies.copy(),
+        number: share.done.number(place).unwrap(),
+        replies: copy_of(share.done.replies(place)),
     });
+}
+
+// These replies once more.
+fn copy_of(items: &[Reply]) -> Replies
+    requires { length items.now ≤ 8 }
+    ensures { result ≡ items.now }
+{
+    let mut copy = Replies::new();
+    for reply in items {
+        copy.push(*reply);
+    }
+    copy
 }

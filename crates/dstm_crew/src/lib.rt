@@ -10,6 +10,7 @@ mod beside;
 mod closing;
 mod collecting;
 mod crew;
+mod done;
 mod gate;
 mod play;
 mod playing;
@@ -27,6 +28,7 @@ mod trying;
 mod worker;
 
 pub use crew::run_crew;
+pub use done::Done;
 pub use dstm_options::{Engine, Options};
 pub use dstm_records::Rounds;
 pub use dstm_tables::Round;

@@ -1,4 +1,4 @@
-use dstm_tables::Finished;
+use crate::done::Done;
 
 /// What one worker has to do in a round, and what it has done of it.
 #[derive(Drop)]
@@ -7,5 +7,5 @@ pub struct Share {
     /// Where its jobs stand that are left, in file order.
     pub places: Vec<usize>,
     /// What was done of them, from the first on. There is room for all.
-    pub done: Vec<Finished>,
+    pub done: Done,
 }

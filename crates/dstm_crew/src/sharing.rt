@@ -1,6 +1,7 @@
 ghost use Rattle.std.specs.Prelude.{◌≡◌, IfOk};
 ghost use Rattle.dstm_crew.specs.Shares.{AreShares, workers_of};
 
+use crate::done::Done;
 use crate::share::Share;
 use dstm_report::Turns;
 use dstm_workload::Workload;
@@ -21,7 +22,7 @@ pub(crate) fn shares_of(
     for worker in 0..workload.workers {
         let places = turns.places(alloc, worker)?;
         if number == 0 || !places.is_empty() {
-            let done = Vec::with_capacity(alloc, places.len())?;
+            let done = Done::with_room(alloc, places.len())?;
             shares.push(Share {
                 worker,
                 places,

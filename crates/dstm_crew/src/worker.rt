@@ -4,11 +4,12 @@ ghost use Rattle.dstm_tables.specs.Callers.{let_go};
 ghost use Rattle.dstm_records.specs.Records.{KeepsReads};
 ghost use Rattle.dstm_crew.specs.Workers.{IsReady, HasRun};
 
+use crate::done::Done;
 use crate::gate::Gate;
 use crate::style::style_for;
 use crate::trying::try_job;
 use dstm_options::Options;
-use dstm_tables::{Caller, Finished, Table};
+use dstm_tables::{Caller, Table};
 use dstm_workload::Workload;
 
 /// A worker in a parallel round.
@@ -19,7 +20,7 @@ pub struct Worker {
     /// Where its jobs stand that are left, in file order.
     pub places: Vec<usize>,
     /// What was done of them, from the first on. There is room for all.
-    pub done: Vec<Finished>,
+    pub done: Done,
 }
 
 impl Worker {
@@ -46,7 +47,7 @@ impl Worker {
                 gate.pass(self.number, job.line);
             }
             match try_job(style, &mut self.caller, table, &workload.layout, job) {
-                Ok(finished) => self.done.push_reserved(finished),
+                Ok(finished) => self.done.push(&finished),
                 Err(_) => return,
             }
         }

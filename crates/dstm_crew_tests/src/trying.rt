@@ -6,7 +6,7 @@ ghost use Rattle.dstm_tables.specs.Tells.{callers_of};
 ghost use Rattle.dstm_workload.specs.Workload.{IsValidWorkload};
 
 use dstm_core::{Manager, Shape};
-use dstm_crew::{OpenGate, Worker};
+use dstm_crew::{Done, OpenGate, Worker};
 use dstm_model::{Layout, Reply};
 use dstm_options::{Engine, Options};
 use dstm_store::{StoreLaw, opening, read_state};
@@ -67,7 +67,7 @@ fn run_worker(
     engine: Engine,
     workload: &Workload,
     release: bool,
-) -> Result<(Vec<Finished>, Vec<u64>), Fail>
+) -> Result<(Done, Vec<u64>), Fail>
     requires { IsValidWorkload workload.now }
 {
     let options = Options {
@@ -79,7 +79,7 @@ fn run_worker(
     };
     let (table, mut founder, caller) = open_table(alloc, engine, &workload.layout)?;
     let places = places_of(alloc, workload.jobs.as_slice().len())?;
-    let done = Vec::with_capacity(alloc, places.len())?;
+    let done = Done::with_room(alloc, places.len())?;
     let mut worker = Worker {
         number: 0,
         caller,
@@ -110,16 +110,13 @@ fn a_worker_runs_its_jobs(rt: HostRuntime) -> Result<(), Fail> {
     ] {
         let (done, bank) = run_worker(rt.alloc(), engine, &workload, release)?;
         assert_eq!(rt; done.len(), 2);
-        assert_eq!(rt; done[0].number, 0);
+        assert_eq!(rt; done.number(0), Some(0));
         assert_eq!(rt;
-            done[0].replies.as_slice(),
+            done.replies(0),
             [Reply::Moved, Reply::Number(200)].as_slice()
         );
-        assert_eq!(rt; done[1].number, 1);
-        assert_eq!(rt;
-            done[1].replies.as_slice(),
-            [Reply::Yes, Reply::Yes].as_slice()
-        );
+        assert_eq!(rt; done.number(1), Some(1));
+        assert_eq!(rt; done.replies(1), [Reply::Yes, Reply::Yes].as_slice());
         assert_eq!(rt; bank.as_slice(), [70, 130].as_slice());
     }
     Ok(())
@@ -135,7 +132,7 @@ fn a_worker_runs_branches(rt: HostRuntime) -> Result<(), Fail> {
     for engine in [Engine::Dstm, Engine::Tl2] {
         let (done, bank) = run_worker(rt.alloc(), engine, &workload, false)?;
         assert_eq!(rt; done.len(), 1);
-        assert_eq!(rt; done[0].replies.as_slice(), [Reply::Moved].as_slice());
+        assert_eq!(rt; done.replies(0), [Reply::Moved].as_slice());
         assert_eq!(rt; bank.as_slice(), [160, 40].as_slice());
     }
     Ok(())

@@ -46,9 +46,10 @@ overflow_add-place c =
     c.loop-least.next.items c.deref.result.now c.in-Some.least c.index-shares-least.result c.index-place.result.now
     c.loop-least.invariant.0 c.deref.ensures.value c.in-Some.ensures.some c.index-shares-least.is c.index-place.ensures in
     let some = t.some in
-    let small = c.index-shares-least.result.done.small in
-    let ok = c.index-shares-least.result.done.ok in
-    omega (arith, some, small, ok.0, ok.1)
+    let enough = t.fit.enough in
+    let small = c.index-shares-least.result.places.small in
+    let ok = c.index-shares-least.result.places.ok in
+    omega (arith, some, enough, small, ok.0, ok.1)
 
 pub loop-least-preserved : goal.loop-least-preserved
 loop-least-preserved c =

@@ -4,6 +4,7 @@ use Rattle.std.proofs.lemmas.Bool.{eqb-true}
 use Rattle.dstm_workload.specs.declared.workload.Job.{Job}
 use Rattle.dstm_report.specs.Turns.{job_at, jobs_of}
 use Rattle.dstm_crew.specs.declared.share.Share.{Share}
+use Rattle.dstm_crew.specs.Done.{DoneAs}
 use Rattle.dstm_crew.specs.Shares.{AreShares, takes_part}
 use Rattle.dstm_crew.proofs.Workers.{no_part_of, part_of, share_more, share_skip}
 use Rattle.dstm_crew.proofs.sharing.shares_of.Goals as goal
@@ -37,8 +38,8 @@ loop-worker-preserved c =
           (record {
             within = subst (λ (js : List Job). All (λ place. place < length js) c.in_ok-places.places.items) c.requires
                 c.in_ok-places.ensures.within;
-            empty = w.in_ok-done.ensures.items;
-            room = let cap = w.in_ok-done.ensures.capacity in
+            empty = ap (λ (d : DoneAs). d.items) w.in_ok-done.ensures;
+            room = let cap = ap (λ (d : DoneAs). d.room) w.in_ok-done.ensures in
                 let len = w.len.ensures in
                 let ok = c.in_ok-places.places.ok.0 in
                 omega (arith, cap, len, ok);

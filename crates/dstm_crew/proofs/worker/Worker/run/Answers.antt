@@ -1,9 +1,10 @@
-use Rattle.std.proofs.Common.{◌≡◌, ◌<◌, ℕ, List, [], ◌∷◌, ◌++◌, get_or, length, rules, refl, sym, ap, subst, ◌∙◌}
+use Rattle.std.proofs.Common.{◌≡◌, ◌<◌, ◌≤◌, ◌+◌, ℕ, List, [], ◌∷◌, ◌++◌, get_or, length, length-append, rules, refl, sym, ap, subst, ◌∙◌}
 use Rattle.std.proofs.lemmas.List.{get_or_default}
 use Rattle.dstm_workload.specs.declared.workload.Job.{Job}
 use Rattle.dstm_report.specs.Turns.{job_at, no_job}
 use Rattle.dstm_tables.specs.declared.style.Style.{Style}
 use Rattle.dstm_tables.specs.declared.trying.Finished.{Finished}
+use Rattle.dstm_crew.specs.Done.{DoneAs}
 use Rattle.dstm_crew.specs.Releases.{releases}
 use Rattle.dstm_crew.specs.Tries.{HasLeft}
 use Rattle.dstm_crew.proofs.Worked.{Stands, all_done, at_start, next_is, not_loose, one_done, stopped}
@@ -48,11 +49,11 @@ loop-at-preserved g c =
     let style = c.style_for-style.result in
     let stands : Stands workload style k m places (finished ++ next ∷ []) =
     one_done workload style k n m places finished next job place c.loop-at.invariant.4 c.in-Ok.ensures.done more at is in
-    let items : c.push_reserved.new.self.items ≡ finished ++ next ∷ [] = c.push_reserved.ensures.items in (
+    let items : c.push.new.self.items ≡ finished ++ next ∷ [] = ap (λ (d : DoneAs). d.items) c.push.ensures in (
       c.loop-at.invariant.0,
       c.loop-at.invariant.1,
-      search rules,
-      search rules,
+      ap length items ∙ length-append finished (next ∷ []) ∙ ap (λ (n : ℕ). n + 1) count,
+      subst (λ (n : ℕ). length places ≤ n) (sym (ap (λ (d : DoneAs). d.room) c.push.ensures)) c.loop-at.invariant.3,
       subst (λ (fs : List Finished). Stands workload style k m places fs) (sym items) stands,
       λ none.
           c.try_job.ensures.keeps (not_loose c.args.options.now workload.version style c.requires.valid.newest c.style_for-style.ensures none)
