@@ -2,7 +2,6 @@
 #![tactic(auto)]
 
 mod attempts;
-mod pairs;
 mod places;
 mod table;
 mod times;
@@ -21,7 +20,7 @@ fn main(rt: HostRuntime) -> anyhow::Result<()> {
         println!(rt; "usage: bench_engine polite|karma|polka|greedy")?;
         return Ok(());
     };
-    println!(rt; "objects opened     quit   commit     read    write     body    cells")?;
+    println!(rt; "objects opened     quit   commit     read    write")?;
     for objects in SIZES {
         let times = measure(&rt, rt.alloc(), manager, objects)?;
         println!(rt; "{objects:>7} {:>6} {times}", objects.min(MAX_OPENED))?;

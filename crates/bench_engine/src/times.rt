@@ -2,13 +2,11 @@
 ghost use Rattle.std.specs.Prelude.{◌<◌, ◌≤◌};
 
 use crate::attempts::Use;
-use crate::pairs::{time_bodies, time_cells};
 use crate::places::MAX_OBJECTS;
 use crate::table::Table;
 use dstm_core::Manager;
 use std::alloc::Global;
 use std::fmt::{self, Display, Formatter, Write};
-use std::thread::Threads;
 use std::time::Clock;
 
 // The tables of which the least of each time is told.
@@ -21,32 +19,17 @@ pub struct Times {
     commit: f64,
     read: f64,
     write: f64,
-    // as a body, and as a closure over cells
-    body: f64,
-    cells: f64,
 }
 
 impl Times {
-    // The times on new tables of so many objects. In the first attempts of a table no object has a locator: those count
-    // for nothing.
-    fn once<R: Clock + Threads + Sync>(
-        rt: &R,
-        alloc: Global,
-        manager: Manager,
-        objects: u32,
-    ) -> anyhow::Result<Times>
-        requires some { 0 < objects }
-        requires few { objects ≤ MAX_OBJECTS }
-    {
-        let mut table = Table::make(alloc, manager, objects)?;
-        let _first = table.time(rt, Use::Write)?;
+    // The times on a table. In its first attempts no object has a locator: those count for nothing.
+    fn of(table: &mut Table, clock: &impl Clock) -> anyhow::Result<Times> {
+        let _first = table.time(clock, Use::Write)?;
         Ok(Times {
-            quit: table.time(rt, Use::Quit)?,
-            commit: table.time(rt, Use::Commit)?,
-            read: table.time(rt, Use::Read)?,
-            write: table.time(rt, Use::Write)?,
-            body: time_bodies(rt, alloc, manager, objects)?,
-            cells: time_cells(rt, alloc, manager, objects)?,
+            quit: table.time(clock, Use::Quit)?,
+            commit: table.time(clock, Use::Commit)?,
+            read: table.time(clock, Use::Read)?,
+            write: table.time(clock, Use::Write)?,
         })
     }
 
@@ -57,8 +40,6 @@ impl Times {
             commit: self.commit.min(other.commit),
             read: self.read.min(other.read),
             write: self.write.min(other.write),
-            body: self.body.min(other.body),
-            cells: self.cells.min(other.cells),
         }
     }
 }
@@ -66,14 +47,13 @@ impl Times {
 impl Display for Times {
     fn fmt<W: Write>(&self, f: &mut Formatter<W>) -> fmt::Result {
         write!(f, "{:>8.1} {:>8.1} ", self.quit, self.commit)?;
-        write!(f, "{:>8.1} {:>8.1} ", self.read, self.write)?;
-        write!(f, "{:>8.1} {:>8.1}", self.body, self.cells)
+        write!(f, "{:>8.1} {:>8.1}", self.read, self.write)
     }
 }
 
 /// The least of each time on several tables.
-pub fn measure<R: Clock + Threads + Sync>(
-    rt: &R,
+pub fn measure(
+    clock: &impl Clock,
     alloc: Global,
     manager: Manager,
     objects: u32,
@@ -81,9 +61,23 @@ pub fn measure<R: Clock + Threads + Sync>(
     requires some { 0 < objects }
     requires few { objects ≤ MAX_OBJECTS }
 {
-    let mut least = Times::once(rt, alloc, manager, objects)?;
+    let mut least = measure_once(clock, alloc, manager, objects)?;
     for _ in 1..TABLES {
-        least = least.min(Times::once(rt, alloc, manager, objects)?);
+        least = least.min(measure_once(clock, alloc, manager, objects)?);
     }
     Ok(least)
+}
+
+// The times on a new table.
+fn measure_once(
+    clock: &impl Clock,
+    alloc: Global,
+    manager: Manager,
+    objects: u32,
+) -> anyhow::Result<Times>
+    requires some { 0 < objects }
+    requires few { objects ≤ MAX_OBJECTS }
+{
+    let mut table = Table::make(alloc, manager, objects)?;
+    Times::of(&mut table, clock)
 }

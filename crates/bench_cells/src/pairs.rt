@@ -1,16 +1,22 @@
 // Transactions that change two objects, as a body of the engine and as a closure over cells.
 ghost use Rattle.std.specs.Prelude.{◌≡◌, ◌<◌, ◌≤◌, IfOk};
+ghost use Rattle.dstm_core.specs.Words.{IsValid};
 
-use crate::places::{ATTEMPTS, MAX_OBJECTS, shape_of};
 use anyhow::bail;
 use dstm_cells::{Cell, GaveUp, Me, Memory};
-use dstm_core::Manager;
-use dstm_engine::{Caller, Founder, Stm, attempt};
+use dstm_core::{Manager, Shape};
+use dstm_engine::{Caller, Founder, Stm, attempt, shape_for};
 use dstm_mem::{Body, Mem, OfSize};
 use dstm_model::Val;
 use std::alloc::Global;
 use std::thread::Threads;
 use std::time::{Clock, Instant};
+
+/// The most objects of a table.
+pub const MAX_OBJECTS: u32 = 10_000;
+
+// The transactions that are timed together.
+const ATTEMPTS: u32 = 400;
 
 // Adds one to an object and takes one from another one, which may be the same.
 #[derive(Debug, Drop)]
@@ -80,6 +86,18 @@ pub fn time_bodies(
         bail!("an attempt was left");
     }
     Ok(1e9 * took.as_secs_f64() / f64::from(ATTEMPTS))
+}
+
+// A table of so many objects for one caller.
+fn shape_of(objects: u32, manager: Manager) -> Shape
+    requires few { objects ≤ MAX_OBJECTS }
+    ensures valid { IsValid result }
+    ensures objects { result.objects ≡ objects }
+{
+    Shape {
+        manager,
+        ..shape_for(objects, 1)
+    }
 }
 
 // Makes the transactions, and tells whether all took effect.

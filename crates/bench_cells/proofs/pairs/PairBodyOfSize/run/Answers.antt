@@ -1,6 +1,6 @@
 use Rattle.std.proofs.Common.{◌∙◌}
 use Rattle.dstm_mem.proofs.WithSet.{length-with_set}
-use Rattle.bench_engine.proofs.pairs.PairBodyOfSize.run.Goals as goal
+use Rattle.bench_cells.proofs.pairs.PairBodyOfSize.run.Goals as goal
 
 pub returns-clause-lawful : goal.returns-clause-lawful
 returns-clause-lawful g c map admitted =

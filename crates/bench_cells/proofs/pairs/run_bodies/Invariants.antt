@@ -1,5 +1,5 @@
 use Rattle.std.proofs.Common.{◌≡◌}
-use Rattle.bench_engine.proofs.pairs.run_bodies.Given as goal
+use Rattle.bench_cells.proofs.pairs.run_bodies.Given as goal
 
 -- the caller stays one of the table's
 abbrev pub invariant-loop-number : goal.invariant-loop-number
