@@ -1,4 +1,4 @@
-use Rattle.std.proofs.Common.{◌≡◌, ◌∙◌, ◌<◌, All, List, ap, length, rules, subst, sym}
+use Rattle.std.proofs.Common.{◌≡◌, ◌∙◌, ◌<◌, All, List, ap, arith, length, subst, sym}
 use Rattle.dstm_model.specs.declared.layout.Layout.{Layout}
 use Rattle.dstm_model.specs.declared.value.Val.{Val}
 use Rattle.dstm_store.specs.Whole.{IsLawful}
@@ -7,6 +7,7 @@ use Rattle.dstm_tables.specs.Founders.{first_of, seen_by}
 use Rattle.dstm_tables.specs.Tells.{layout_of}
 use Rattle.dstm_tables.proofs.Same.{first_past, first_seen, layout_is, layout_past}
 use Rattle.dstm_workload.specs.declared.workload.Job.{Job}
+use Rattle.dstm_crew.specs.Done.{DoneAs}
 use Rattle.dstm_crew_tests.proofs.trying.run_worker.Goals as goal
 
 pub run-requires-clause-ready : goal.run-requires-clause-ready
@@ -20,8 +21,11 @@ run-requires-clause-ready c =
       none_done = opened.done;
       within = subst (λ (jobs : List Job). All (λ place. place < length jobs) c.in_ok-places.places.items) c.as_slice.ensures
           c.in_ok-places.ensures;
-      empty = c.in_ok-done.ensures.items;
-      room = search rules;
+      empty = ap (λ (d : DoneAs). d.items) c.in_ok-done.ensures;
+      room = let cap = ap (λ (d : DoneAs). d.room) c.in_ok-done.ensures in
+          let len = c.len.ensures in
+          let ok = c.in_ok-places.places.ok.0 in
+          omega (arith, cap, len, ok);
     }
 
 pub read_state-requires-clause-lawful : goal.read_state-requires-clause-lawful
