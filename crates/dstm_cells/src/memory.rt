@@ -1,6 +1,8 @@
 // Cells, and threads that change them.
-ghost use Rattle.std.specs.Prelude.{◌≡◌, ◌≤◌, [], length, IfOk, OnOk};
+ghost use Rattle.std.specs.Prelude.{◌≡◌, ◌⊎◌, ◌↔◌, ◌<◌, ◌≤◌, [], length, Err, IfErr, IfOk, OnOk};
 ghost use Rattle.dstm_cells.specs.Cells.{Adds, Founds, IsFor};
+ghost use Rattle.dstm_cells.specs.declared.error.Failed.TheVariants as failed;
+ghost use Rattle.dstm_core.specs.declared.shape.Manager.TheVariants.{Polka};
 ghost use Rattle.dstm_engine.specs.Tables.{founded};
 ghost use Rattle.dstm_model.specs.Map.{value_at};
 
@@ -40,13 +42,19 @@ struct Seat<'a> {
 
 impl Memory {
     /// A memory with no cell, under the manager Polka.
-    pub fn new(alloc: Global) -> Memory {
+    pub fn new(alloc: Global) -> Memory
+        ensures manager { result.manager ≡ Polka }
+        ensures empty { result.values.items ≡ [] }
+    {
         Memory::with_manager(alloc, Manager::Polka)
     }
 
     /// The same under another manager, which decides what a transaction does when another one is changing a cell that
     /// it wants to change.
-    pub fn with_manager(alloc: Global, manager: Manager) -> Memory {
+    pub fn with_manager(alloc: Global, manager: Manager) -> Memory
+        ensures manager { result.manager ≡ manager }
+        ensures empty { result.values.items ≡ [] }
+    {
         Memory::with_law(alloc, manager, AnyLaw)
     }
 }
@@ -54,6 +62,7 @@ impl Memory {
 impl<L: Law + Copy> Memory<L> {
     /// A memory with no cell, whose runs keep a law over the values of its cells, in the order in which they were made.
     pub fn with_law(alloc: Global, manager: Manager, law: L) -> Memory<L>
+        ensures manager { result.manager ≡ manager }
         ensures law { result.law ≡ law }
         ensures empty { result.values.items ≡ [] }
     {
@@ -67,7 +76,10 @@ impl<L: Law + Copy> Memory<L> {
 
     /// A new cell. There are at most 524,288.
     pub fn cell<T: Word>(&mut self, value: T) -> Result<Cell<T>, Failed>
+        ensures manager { self.new.manager ≡ self.old.manager }
         ensures law { self.new.law ≡ self.old.law }
+        ensures full { result ≡ Err failed.Full ↔ length self.old.values.items ≡ 524288 }
+        ensures fails { IfErr result (λ why. self.new.values.items ≡ self.old.values.items) }
         ensures made { IfOk result (λ cell. Adds T.found self.old.values.items self.new.values.items cell.object value) }
     {
         if self.values.len() >= MOST_CELLS as usize {
@@ -96,7 +108,9 @@ impl<L: Law + Copy> Memory<L> {
     pub fn found(&self, threads: u32) -> Result<(Stm<L>, Founder<L>), Failed>
         requires lawful { L.holds self.now.law self.now.values.items }
         ensures founds { IfOk result (λ t. Founds self.now.law self.now.values.items t.0 t.1) }
+        ensures manager { IfOk result (λ t. t.0.terms.shape.manager ≡ self.now.manager) }
         ensures threads { OnOk result ((1 ≤ threads) × (threads ≤ 63)) }
+        ensures refused { (threads ≡ 0) ⊎ (63 < threads) → result ≡ Err failed.Threads }
     {
         if threads == 0 || threads > MOST_THREADS {
             return Err(Failed::Threads);
@@ -134,6 +148,7 @@ impl<L: Law + Copy> Memory<L> {
         requires lawful { L.holds self.old.law self.old.values.items }
         requires founds { IsFor self.old.law self.old.values.items stm.now }
         requires table { founder.old.home ≡ stm.now }
+        ensures manager { self.new.manager ≡ self.old.manager }
         ensures law { self.new.law ≡ self.old.law }
         ensures lawful { L.holds self.new.law self.new.values.items }
         ensures size { length self.new.values.items ≡ length self.old.values.items }
@@ -152,6 +167,10 @@ impl Memory {
     where
         F: Fn(&mut Me<'_>, usize) -> Result<(), GaveUp> + Sync,
         requires callable { F.IsAlwaysCallable f }
+        ensures manager { self.new.manager ≡ self.old.manager }
+        ensures size { length self.new.values.items ≡ length self.old.values.items }
+        ensures threads { OnOk result ((1 ≤ threads) × (threads ≤ 63)) }
+        ensures refused { (threads ≡ 0) ⊎ (63 < threads) → (result ≡ Err failed.Threads) × (self.new ≡ self.old) }
     {
         let (stm, mut founder) = self.found(threads)?;
         let mut last = self.part(&stm, &mut founder, 0)?;
