@@ -21,10 +21,11 @@ def shown(names, figures):
 
 
 def ratio_of(name, other, most, clock, processors):
-    """How many times that of the other the first one took: on the clock, and in brackets on all processors. What is above
-    the most that is aimed at by both stands in bold."""
-    both = [figure[name] / max(figure[other], 0.1) for figure in (clock, processors)]
-    text = f"{both[0]:.2f} ({both[1]:.2f})"
+    """How many times that of the other the first one took: on the clock, and in brackets on all processors, or `-` where
+    the other has told next to no processor time. What is above the most that is aimed at by both stands in bold."""
+    is_told = processors[other] > clock[other] / 10
+    both = [figure[name] / max(figure[other], 0.1) for figure in (clock, processors)][: 1 + is_told]
+    text = f"{both[0]:.2f} ({f'{both[1]:.2f}' if is_told else '-'})"
     return f"**{text}**" if most and min(both) > most + 0.005 else text
 
 
