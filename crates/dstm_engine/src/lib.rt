@@ -17,6 +17,7 @@ mod tx;
 pub use caller::Caller;
 pub use dstm_order::Again;
 pub use dstm_steps::Tally;
+pub use dstm_words::Zeros;
 pub use error::{Done, Ended, EnrolError, Spent};
 pub use making::{attempt, attempt_loose};
 pub use opener::{Counted, Kept, LetGo, Opener, TellsLetGo};

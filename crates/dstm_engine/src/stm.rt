@@ -19,7 +19,7 @@ use crate::opened::Opened;
 use dstm_core::{Kind, Shape};
 use dstm_managers::Decider;
 use dstm_model::{Law, Val};
-use dstm_words::{CoreSeat, Terms, Words};
+use dstm_words::{CoreSeat, Terms, Words, Zeros};
 use std::alloc::{AllocError, Global};
 use std::marker::Model;
 use std::snapshot::Snapshot;

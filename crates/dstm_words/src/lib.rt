@@ -5,8 +5,10 @@
 mod machine;
 mod terms;
 mod words;
+mod zeros;
 
 pub use dstm_seats::Left;
 pub use machine::{Core, CoreSeat};
 pub use terms::Terms;
 pub use words::Words;
+pub use zeros::Zeros;

@@ -1,11 +1,12 @@
 // The words, and the steps on them.
-ghost use Rattle.std.specs.Prelude.{◌≡◌, ◌≢◌, ℕ, ◌<◌, length, true, None, IfOk, MatchResult};
+ghost use Rattle.std.specs.Prelude.{◌≡◌, ◌≢◌, ℕ, ◌<◌, length, max, true, None, IfOk, MatchResult, OnOk};
 ghost use Rattle.dstm_machines.specs.Traces.Access.{Load, Store, Exchange, Add};
-ghost use Rattle.dstm_core.specs.Words.{IsValid};
+ghost use Rattle.dstm_core.specs.Words.{IsValid, word_count};
 ghost use Rattle.dstm_words.specs.Seats.{view_of, founder, found_in, kept_part, given_part, ActsBy, IsOf, IsOut, Joined, LeftBy, Makes, MayMake, StoresLawfully};
 
 use crate::machine::{Core, CoreSeat};
 use crate::terms::Terms;
+use crate::zeros::Zeros;
 use dstm_core::{Kind, Shape};
 use dstm_model::{Law, Val};
 use dstm_seats::Left;
@@ -51,20 +52,26 @@ impl<L: Law> Words<L> {
             law: Snapshot::of(&law),
             start: Snapshot::of(&first),
         };
-        Words::of_terms(alloc, &terms)
+        Words::of_terms(alloc, &mut Zeros::new(alloc), &terms)
     }
 
-    /// A new table that was told this.
-    pub fn of_terms(alloc: Global, terms: &Terms<L>) -> Result<(Words<L>, CoreSeat<L>), AllocError>
+    /// A new table that was told this. Its words are copied from zeros, which stay for the next table.
+    pub fn of_terms(
+        alloc: Global,
+        zeros: &mut Zeros,
+        terms: &Terms<L>,
+    ) -> Result<(Words<L>, CoreSeat<L>), AllocError>
         requires valid { IsValid terms.now.shape }
         requires values { length terms.now.start.value.items ≡ terms.now.shape.objects }
         requires lawful { L.holds terms.now.law.value terms.now.start.value.items }
         ensures terms { IfOk result (λ t. t.0.terms ≡ terms.now) }
         ensures seat { IfOk result (λ t. IsOf t.0 t.1) }
         ensures new { IfOk result (λ t. view_of t.1 ≡ founder terms.now) }
+        ensures zeros { OnOk result (zeros.new ≡ max zeros.old (word_count terms.now.shape)) }
     {
-        let zeros = vec![in alloc; 0u64; terms.shape.words() as usize]?;
-        let (words, seat) = dstm_seats::Words::make(alloc, terms, zeros.as_slice())?;
+        let count = terms.shape.words() as usize;
+        zeros.grow(count)?;
+        let (words, seat) = dstm_seats::Words::make(alloc, terms, zeros.first(count))?;
         Ok((Words { words }, seat))
     }
 
