@@ -46,3 +46,4 @@ pub mod LettingGo
 pub mod BegunThere
 pub mod FewSights
 pub mod Looked
+pub mod Companies

@@ -5,6 +5,7 @@ pub mod Tables
 pub mod Mirror
 pub mod Enrolled
 pub mod Closing
+pub mod Companies
 pub mod Opened
 pub mod Began
 pub mod Beginnings

@@ -5,6 +5,7 @@ mod beginning;
 mod caller;
 mod closing;
 mod error;
+mod founding;
 pub mod laws;
 mod making;
 mod opened;

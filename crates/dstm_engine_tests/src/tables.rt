@@ -62,6 +62,22 @@ fn a_caller_with_one_attempt_is_spent_after_it(rt: HostRuntime) -> Result<(), Fa
     Ok(())
 }
 
+// Callers that are given out together are taken back together.
+#[test]
+fn callers_are_given_out_and_taken_back_together(rt: HostRuntime) -> Result<(), Fail> {
+    let alloc = rt.alloc();
+    let start = vec![in alloc; low(7)]?;
+    let (stm, mut founder) = Stm::make(alloc, start, small(2), AnyLaw)?;
+    let callers = founder.callers(alloc, &stm, 2)?;
+    assert_eq!(rt; callers.len(), 2);
+    assert_eq!(rt; founder.out(), 2);
+    founder.retire_all(&stm, callers);
+    assert_eq!(rt; founder.out(), 0);
+    let (values, _record) = stm.close(alloc, founder)?;
+    assert_eq!(rt; values.as_slice(), [low(7)].as_slice());
+    Ok(())
+}
+
 // A guest draws a number of its own on the table's words. The table closes without a record.
 #[test]
 fn a_guest_draws_a_number_of_its_own(rt: HostRuntime) -> Result<(), Fail> {

@@ -1,0 +1,20 @@
+use Rattle.std.proofs.Common.{◌≡◌, ◌∙◌, ◌+◌, ap, arith, length}
+use Rattle.std.proofs.lemmas.List.{length_push}
+use Rattle.std.proofs.lemmas.List.Elements.{All-pop}
+use Rattle.dstm_engine.specs.Companies.{IsOfTable}
+use Rattle.dstm_engine.proofs.stm.Founder.retire_all.Goals as goal
+
+pub loop-caller-preserved : goal.loop-caller-preserved
+loop-caller-preserved g c =
+    let before = c.loop-caller.invariant in
+    let left = c.pop.new.self.items in
+    let one : length c.loop-caller.callers.items ≡ length left + 1 =
+    ap length c.in-Some.ensures.items ∙ length_push left c.in-Some.caller in
+    let taken : c.loop-caller.self.view.out ≡ c.take_back.new.self.view.out + 1 = c.take_back.ensures.out in
+    record {
+      callers = (All-pop (IsOfTable c.args.stm.now) c.loop-caller.callers.items left c.pop.result c.pop.ensures.items before.callers).0;
+      table = c.take_back.ensures.table;
+      guests = c.take_back.ensures.guests ∙ before.guests;
+      left = omega (arith, one, taken, before.left);
+      out = omega (arith, one, taken, before.out);
+    }

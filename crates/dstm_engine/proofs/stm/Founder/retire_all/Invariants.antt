@@ -1,0 +1,17 @@
+use Rattle.std.proofs.Common.{◌≡◌, ◌≤◌, ◌+◌, length}
+use Rattle.std.specs.Prelude.{All}
+use Rattle.dstm_engine.specs.Companies.{IsOfTable}
+use Rattle.dstm_engine.proofs.stm.Founder.retire_all.Given as goal
+
+-- those that are left are out
+abbrev pub invariant-loop-caller : goal.invariant-loop-caller
+invariant-loop-caller g l = record {
+  callers : All (IsOfTable l.fn.stm) l.callers.items;
+  table : l.self.home ≡ l.fn.stm;
+  guests : l.self.guests ≡ l.fn.self.guests;
+  left : length l.callers.items ≤ l.self.view.out;
+  out : l.self.view.out + length l.fn.callers.items ≡ l.fn.self.view.out + length l.callers.items;
+}
+
+abbrev pub decreases-loop-caller : goal.decreases-loop-caller
+decreases-loop-caller g l = length l.callers.items
