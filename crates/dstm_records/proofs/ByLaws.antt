@@ -8,11 +8,12 @@ use Rattle.dstm_tables.specs.Tells.{ByCalls}
 use Rattle.dstm_tables.specs.Tells as known
 use Rattle.dstm_tables.specs.declared.tables.Round.{Round}
 use Rattle.dstm_tables.specs.declared.tables.Round.TheVariants.{Dstm, Tl2}
-use Rattle.dstm_records.specs.Laws.{EachIsBoundedWhenAlone, EachKeepsItsRank, EachKillsAsChosen, EachWasHandedRightly, IsBoundedWhenAlone, KeepsItsRank, KillsAsChosen, WasHandedRightly}
+use Rattle.dstm_records.specs.Laws.{EachIsBoundedWhenAlone, EachIsSafeWhenOldest, EachKeepsItsRank, EachKillsAsChosen, EachWasHandedRightly, IsBoundedWhenAlone, IsSafeWhenOldest, KeepsItsRank, KillsAsChosen, WasHandedRightly}
 use Rattle.dstm_records.proofs.AloneAttempts.{bounded_alone}
 use Rattle.dstm_records.proofs.Callers.{of_each}
 use Rattle.dstm_records.proofs.HandedByDstm.{dstm_handed}
 use Rattle.dstm_records.proofs.HandedByTl2.{tl2_handed}
+use Rattle.dstm_records.proofs.OldestAttempts.{safe_when_oldest}
 use Rattle.dstm_records.proofs.Patience.{all_chosen}
 
 handed : (seed : ℕ) (round : Round) (c : ℕ) → known.IsRun round → ByCalls seed round c → WasHandedRightly round c
@@ -36,6 +37,10 @@ alone seed (Dstm r) c run calls = λ by on was waits.
     bounded_alone r.terms.shape (started r.terms.shape.manager seed).generator r.log c run.run.core by on was waits
 alone seed (Tl2 r) c run calls = tt
 
+safe : (seed : ℕ) (round : Round) (c : ℕ) → known.IsRun round → ByCalls seed round c → IsSafeWhenOldest round c
+safe seed (Dstm r) c run by = λ greedy was. safe_when_oldest r.terms.shape r.log c run.run.core greedy was
+safe seed (Tl2 r) c run by = tt
+
 pub each_was_handed : EachWasHandedRightly
 each_was_handed = of_each (λ seed. WasHandedRightly) handed
 
@@ -47,3 +52,6 @@ each_keeps_its_rank = of_each (λ seed. KeepsItsRank) ranks
 
 pub each_is_bounded_when_alone : EachIsBoundedWhenAlone
 each_is_bounded_when_alone = of_each IsBoundedWhenAlone alone
+
+pub each_is_safe_when_oldest : EachIsSafeWhenOldest
+each_is_safe_when_oldest = of_each (λ seed. IsSafeWhenOldest) safe

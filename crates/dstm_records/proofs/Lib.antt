@@ -10,6 +10,7 @@ pub mod Making
 pub mod Together
 pub mod HandedByDstm
 pub mod HandedByTl2
+pub mod OldestAttempts
 pub mod Patience
 pub mod WorkersLeft
 pub mod Callers

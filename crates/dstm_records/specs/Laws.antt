@@ -8,6 +8,7 @@ use Rattle.dstm_managers.specs.Choices.{started}
 use Rattle.dstm_order.specs.Made as made
 use Rattle.dstm_order.specs.Retries.{KeepsRank, TriesAgain}
 use Rattle.dstm_progress.specs.Alone.{Made, all_events}
+use Rattle.dstm_progress.specs.Oldest.{IsUntouched}
 use Rattle.dstm_tl2.specs.Sharing.{table_of}
 use Rattle.dstm_workload.specs.Workload.{IsValidWorkload}
 use Rattle.dstm_workload.specs.declared.workload.Workload.{Workload}
@@ -17,6 +18,7 @@ use Rattle.dstm_tables.specs.declared.tables.Round.TheVariants.{Dstm, Tl2}
 use Rattle.dstm_tables.specs.Tells.{ByCalls, callers_of}
 use Rattle.dstm_records.specs.Alone.{IsBoundedAlone, WasAlone}
 use Rattle.dstm_records.specs.Handed.{DstmHanded, Tl2Handed}
+use Rattle.dstm_records.specs.Oldest.{WasOldest}
 use Rattle.dstm_records.specs.Patience.{WasChosen}
 use Rattle.dstm_records.specs.Records.{AreFirstRounds, seed_for}
 
@@ -62,6 +64,17 @@ IsBoundedWhenAlone seed (Tl2 r) c = Unit {0}
 
 abbrev pub EachIsBoundedWhenAlone : Type 0
 EachIsBoundedWhenAlone = OfEachCaller IsBoundedWhenAlone
+
+-- THE OLDEST IS LEFT ALONE, under Greedy: while an attempt is under way that began while its transaction was the oldest live
+-- one, it does not wait, and no other caller changes its status
+abbrev pub IsSafeWhenOldest : Round → ℕ → Type 0
+IsSafeWhenOldest (Dstm r) c =
+    r.terms.shape.manager ≡ Greedy → (was : WasOldest r.terms.shape r.log c) →
+    IsUntouched r.terms.shape (was.since ++ was.begin ∷ was.before) c
+IsSafeWhenOldest (Tl2 r) c = Unit {0}
+
+abbrev pub EachIsSafeWhenOldest : Type 0
+EachIsSafeWhenOldest = OfEachCaller (λ seed. IsSafeWhenOldest)
 
 -- A RETRY STAYS THE SAME TRANSACTION: it draws no stamp and keeps its rank; TL2 has neither
 abbrev pub KeepsItsRank : Round → ℕ → Type 0

@@ -3,6 +3,7 @@ pub mod Told
 pub mod Records
 pub mod Running
 pub mod Handed
+pub mod Oldest
 pub mod Patience
 pub mod Alone
 pub mod Laws

@@ -1,7 +1,7 @@
 //! Laws of the records of a run, however it ended: what the calls of the callers come to. Each holds of every caller of every
 //! round that has a record. The functions do nothing.
 
-ghost use Rattle.dstm_records.specs.Laws.{EachIsBoundedWhenAlone, EachIsByCalls, EachKeepsItsRank, EachKillsAsChosen, EachWasHandedRightly};
+ghost use Rattle.dstm_records.specs.Laws.{EachIsBoundedWhenAlone, EachIsByCalls, EachIsSafeWhenOldest, EachKeepsItsRank, EachKillsAsChosen, EachWasHandedRightly};
 
 /// Each caller has made its events by calls that obey the order of steps, one after the other from nothing; under DSTM from
 /// the generator of a worker's seed on.
@@ -24,6 +24,12 @@ pub fn kills_were_chosen()
 /// steps.
 pub fn alone_attempts_were_bounded()
     ensures { EachIsBoundedWhenAlone }
+{}
+
+/// Under Greedy an attempt that began while its transaction was the oldest live one has not waited, and no other caller has
+/// changed its status.
+pub fn oldest_attempts_were_safe()
+    ensures { EachIsSafeWhenOldest }
 {}
 
 /// A retry stayed the same transaction: it drew no stamp and kept its rank.
