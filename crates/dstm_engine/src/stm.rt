@@ -1,6 +1,6 @@
-ghost use Rattle.std.specs.Prelude.{◌≡◌, ◌↔◌, ℕ, ◌+◌, ◌<◌, ◌≤◌, ◌∷◌, length, true, IfOk, IfErr, MatchResult, MatchOption, Some};
+ghost use Rattle.std.specs.Prelude.{◌≡◌, ◌↔◌, ℕ, ◌+◌, ◌<◌, ◌≤◌, ◌∷◌, length, max, true, IfOk, IfErr, MatchResult, MatchOption, OnOk, Some};
 ghost use Rattle.dstm_core.specs.Histories.{history_of};
-ghost use Rattle.dstm_core.specs.Words.{IsValid, place};
+ghost use Rattle.dstm_core.specs.Words.{IsValid, place, word_count};
 ghost use Rattle.dstm_engine.specs.Callers.{Called};
 ghost use Rattle.dstm_engine.specs.Tables.{Enrols, Retires, founded};
 ghost use Rattle.dstm_model.specs.Map.{state_after, value_at};
@@ -118,12 +118,33 @@ impl<L: Law> Stm<L> {
         ensures start { IfOk result (λ t. t.0.terms.start.value.items ≡ start.items) }
         ensures founder { IfOk result (λ t. t.1 ≡ founded t.0) }
     {
+        Stm::make_with(alloc, &mut Zeros::new(alloc), start, shape, law)
+    }
+
+    /// The same, for a program that makes tables one after the other: the words are copied from zeros, which stay for
+    /// the next table.
+    pub fn make_with(
+        alloc: Global,
+        zeros: &mut Zeros,
+        start: Vec<Val>,
+        shape: Shape,
+        law: L,
+    ) -> Result<(Stm<L>, Founder<L>), AllocError>
+        requires valid { IsValid shape }
+        requires values { length start.items ≡ shape.objects }
+        requires lawful { L.holds law start.items }
+        ensures shape { IfOk result (λ t. t.0.terms.shape ≡ shape) }
+        ensures law { IfOk result (λ t. t.0.terms.law.value ≡ law) }
+        ensures start { IfOk result (λ t. t.0.terms.start.value.items ≡ start.items) }
+        ensures founder { IfOk result (λ t. t.1 ≡ founded t.0) }
+        ensures zeros { OnOk result (zeros.new ≡ max zeros.old (word_count shape)) }
+    {
         let terms = Terms {
             shape,
             law: Snapshot::of(&law),
             start: Snapshot::of(&start),
         };
-        let (words, seat) = Words::of_terms(alloc, &terms)?;
+        let (words, seat) = Words::of_terms(alloc, zeros, &terms)?;
         let stm = Stm {
             words,
             shape,
