@@ -17,7 +17,7 @@ use dstm_options::Options;
 use dstm_records::shape_for;
 use dstm_report::Turns;
 use dstm_store::StoreLaw;
-use dstm_tables::{Caller, Founder, Table, make};
+use dstm_tables::{Caller, Founder, Table, Zeros, make};
 use dstm_workload::Workload;
 use std::alloc::{AllocError, Global};
 use std::mem::replace;
@@ -44,7 +44,14 @@ pub(crate) fn play_alone<G>(
 {
     let waiting = count_waiting(&progress.turns, play.workload.workers);
     let values = replace(&mut progress.values, Vec::new(alloc));
-    let (table, founder, caller) = open_table(alloc, play.workload, play.options, waiting, values)?;
+    let (table, founder, caller) = open_table(
+        alloc,
+        play.workload,
+        play.options,
+        waiting,
+        &mut progress.zeros,
+        values,
+    )?;
     let mut founder = founder;
     let mut caller = caller;
     run_alone(
@@ -84,6 +91,7 @@ fn open_table(
     workload: &Workload,
     options: &Options,
     waiting: Waiting,
+    zeros: &mut Zeros,
     values: Vec<Val>,
 ) -> Result<(Table, Founder, Caller), AllocError>
     requires valid { IsValidWorkload workload.now }
@@ -104,7 +112,7 @@ fn open_table(
     let law = StoreLaw {
         layout: workload.layout,
     };
-    let (table, mut founder) = make(alloc, options.engine, values, shape, law)?;
+    let (table, mut founder) = make(alloc, options.engine, zeros, values, shape, law)?;
     let seed = options.seed.wrapping_add(u64::from(waiting.first));
     let caller = founder.caller(alloc, &table, seed)?;
     Ok((table, founder, caller))

@@ -15,6 +15,7 @@ use dstm_options::Options;
 use dstm_records::Rounds;
 use dstm_report::{Report, Row, Rows, Turns};
 use dstm_store::{opening, read_state};
+use dstm_tables::Zeros;
 use dstm_workload::Workload;
 use std::alloc::{AllocError, Global};
 use std::mem::replace;
@@ -50,6 +51,7 @@ pub fn run_crew<R: Threads + Sync, G: Gate + Sync>(
         turns: _,
         rows,
         rounds: records,
+        zeros: _,
     } = progress;
     *rounds = Rounds::from_vec(records);
     played?;
@@ -81,6 +83,7 @@ fn begin<'a>(
         turns,
         rows: Vec::new(alloc),
         rounds,
+        zeros: Zeros::new(alloc),
     })
 }
 

@@ -35,6 +35,7 @@ pub fn play_parallel<R: Threads + Sync, G: Gate + Sync>(
         alloc,
         play,
         number,
+        &mut progress.zeros,
         values,
         shares,
         &mut progress.rounds,

@@ -1,6 +1,6 @@
 use dstm_model::Val;
 use dstm_report::{Row, Turns};
-use dstm_tables::Round;
+use dstm_tables::{Round, Zeros};
 
 /// How far a run has come between two rounds.
 #[derive(Drop)]
@@ -13,4 +13,6 @@ pub struct Progress<'a> {
     pub rows: Vec<Row>,
     /// The records of the rounds, behind those that were there before.
     pub rounds: Vec<Round>,
+    /// Of these each round's table is made.
+    pub zeros: Zeros,
 }

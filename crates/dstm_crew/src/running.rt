@@ -15,7 +15,7 @@ use crate::share::Share;
 use crate::sizing::shape_for;
 use dstm_model::Val;
 use dstm_store::StoreLaw;
-use dstm_tables::{Round, make};
+use dstm_tables::{Round, Zeros, make};
 use std::alloc::{AllocError, Global};
 use std::thread::Threads;
 
@@ -26,6 +26,7 @@ pub(crate) fn run_shares<R: Threads + Sync, G: Gate + Sync>(
     alloc: Global,
     play: &Play<'_, G>,
     number: u64,
+    zeros: &mut Zeros,
     values: Vec<Val>,
     shares: Vec<Share>,
     rounds: &mut Vec<Round>,
@@ -46,7 +47,7 @@ pub(crate) fn run_shares<R: Threads + Sync, G: Gate + Sync>(
     let law = StoreLaw {
         layout: play.workload.layout,
     };
-    let (table, mut founder) = make(alloc, play.options.engine, values, shape, law)?;
+    let (table, mut founder) = make(alloc, play.options.engine, zeros, values, shape, law)?;
     let mut workers = seat_all(alloc, play.options, &table, &mut founder, shares)?;
     run_all(rt, &table, play, number == 0, &mut workers);
     let shares = retire_all(alloc, &table, &mut founder, workers)?;

@@ -10,7 +10,9 @@ use dstm_crew::{Done, OpenGate, Worker};
 use dstm_model::{Layout, Reply};
 use dstm_options::{Engine, Options};
 use dstm_store::{StoreLaw, opening, read_state};
-use dstm_tables::{Caller, Finished, Founder, OnlyTried, Style, Table, give_up, make, try_alone};
+use dstm_tables::{
+    Caller, Finished, Founder, OnlyTried, Style, Table, Zeros, give_up, make, try_alone,
+};
 use dstm_workload::{Workload, read_workload};
 use std::alloc::{AllocError, Global};
 use std::test::Fail;
@@ -45,7 +47,7 @@ fn open_table(
         all_write: false,
     };
     let law = StoreLaw { layout: *layout };
-    let (table, mut founder) = make(alloc, engine, start, shape, law)?;
+    let (table, mut founder) = make(alloc, engine, &mut Zeros::new(alloc), start, shape, law)?;
     let caller = founder.caller(alloc, &table, 7)?;
     Ok((table, founder, caller))
 }

@@ -7,7 +7,7 @@ ghost use Rattle.dstm_tables.specs.Tells.{IsRun, callers_of, layout_of, values_o
 
 use crate::tables::{Caller, Round, Table};
 use dstm_core::Shape;
-use dstm_engine::{EnrolError, Stm};
+use dstm_engine::{EnrolError, Stm, Zeros};
 use dstm_model::Val;
 use dstm_options::Engine;
 use dstm_store::StoreLaw;
@@ -22,10 +22,11 @@ pub enum Founder {
 }
 
 /// A new table of an engine, whose objects have these values, and its founder. Of the shape TL2 takes the numbers of
-/// callers and of attempts.
+/// callers and of attempts, and it takes no zeros: each of its words has a value at once.
 pub fn make(
     alloc: Global,
     engine: Engine,
+    zeros: &mut Zeros,
     values: Vec<Val>,
     shape: Shape,
     law: StoreLaw,
@@ -37,7 +38,7 @@ pub fn make(
 {
     match engine {
         Engine::Dstm => {
-            let (stm, founder) = Stm::make(alloc, values, shape, law)?;
+            let (stm, founder) = Stm::make_with(alloc, zeros, values, shape, law)?;
             Ok((Table::Dstm(stm), Founder::Dstm(founder)))
         }
         Engine::Tl2 => {

@@ -13,6 +13,7 @@ mod tables;
 mod tl2;
 mod trying;
 
+pub use dstm_engine::Zeros;
 pub use founding::{Founder, make};
 pub use only::{OnlyTried, give_up, try_alone};
 pub use style::Style;

@@ -28,7 +28,10 @@ run_alone-requires-clause-can g c =
 
 pub returns-in_err-table-clause-broken_off : goal.returns-in_err-table-clause-broken_off
 returns-in_err-table-clause-broken_off g c =
-    let left : Progress = record c.args.progress.now { values = c.replace-values.new.dest } in
+    let left : Progress = record c.args.progress.now {
+      values = c.replace-values.new.dest;
+      zeros = c.open_table.new.zeros;
+    } in
     let broken = nothing_played c.args.number c.args.progress.now left refl refl in search (rules, broken)
 
 pub returns-in_err-left-clause-broken_off : goal.returns-in_err-left-clause-broken_off
@@ -38,6 +41,7 @@ returns-in_err-left-clause-broken_off g c =
       values = c.replace-values.new.dest;
       turns = c.run_alone.new.turns;
       rows = c.run_alone.new.rows;
+      zeros = c.open_table.new.zeros;
     } in
     let broken : WasBrokenOff c.args.number c.args.progress.now left = record {
       none = refl;

@@ -24,6 +24,7 @@ returns-in_err-shares-2-clause-broken_off g c =
     let left : Progress = record c.args.progress.now {
       values = c.replace-values.new.dest;
       rounds = c.run_shares.new.rounds;
+      zeros = c.run_shares.new.zeros;
     } in
     let broken = nothing_played c.args.number c.args.progress.now left c.in_err-shares-2.ensures.none refl in
     search (rules, broken)
@@ -79,6 +80,7 @@ returns-clause-played g c =
       turns = c.collect.new.turns;
       rows = c.collect.new.rows;
       rounds = c.run_shares.new.rounds;
+      zeros = c.run_shares.new.zeros;
     } in
     has_played workload options c.args.number p q before shares closed c.requires.parallel
     c.requires.can.begins c.requires.can.turns c.in_ok-shares.ensures run
