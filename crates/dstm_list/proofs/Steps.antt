@@ -1,7 +1,7 @@
 -- A walk along the list to a key's place. No memory stands in these lemmas.
 use Rattle.std.proofs.Common.{◌≡◌, ◌≢◌, ℕ, ◌+◌, ◌-◌, ◌<◌, ◌≤◌, List, [], ◌∷◌, ◌++◌, true, false, cond, ◌==◌, arith}
 use Rattle.std.proofs.Common.{refl, sym, ◌∙◌, ap, subst, inl, inr}
-use Rattle.std.specs.Prelude.{Some, None}
+use Rattle.std.specs.Prelude.{Option, Some, None, MatchOption}
 use Rattle.std.specs.List.{AllByRecursion as Each}
 use Rattle.std.specs.List.Sorted.{IsStrictlyIncreasing}
 use Rattle.std.proofs.lemmas.Bool.{ne_eqb, eq-eqb, cases_eq}
@@ -15,6 +15,7 @@ use Rattle.dstm_model.specs.Store.{Store}
 use Rattle.dstm_model.specs.Objects.{list_begin, node_object}
 use Rattle.dstm_model.proofs.Objects.{structure_objects-declared}
 use Rattle.dstm_list.specs.declared.node.Node.{Node}
+use Rattle.dstm_list.specs.declared.walk.Place.{Place}
 use Rattle.dstm_list.specs.List.{Cell, IsList, IsChain, IsOfList, numbers_of, first_of, node, key_of, next_of}
 use Rattle.dstm_list.specs.Place.{Stands, IsPlace, IsFirst, AllLess, AllGreater, link_after, key_after}
 use Rattle.dstm_list.proofs.Keys.{Rise, Rise-of_increasing, Rise-after, Rise-next, AllGreater-of_Rise}
@@ -175,7 +176,7 @@ pub rise_of : {layout : Layout} {values : List Val} {store : Store} (list : IsLi
     Rise 0 list.cells
 rise_of list = Rise-of_increasing list.cells (subst IsStrictlyIncreasing list.keys list.rising)
 
-pub place-found : {begin key object : ℕ} {before : Node} {cells : List Cell} (next : Node)
+place-found : {begin key object : ℕ} {before : Node} {cells : List Cell} (next : Node)
     (stands : Stands begin key object before cells) → IsNext stands.ahead before.next next → next.key ≡ key →
     IsPlace begin key (record { link = object; before = before; node = Some next }) cells
 place-found {key = key} next stands ahead same = record {
@@ -183,7 +184,7 @@ place-found {key = key} next stands ahead same = record {
   here = subst (IsFirst key (Some next)) (sym ahead.cells_are) (ahead.key ∙ same, ahead.next_is);
 }
 
-pub place-passed : {layout : Layout} {values : List Val} {store : Store} {key object : ℕ} {before : Node}
+place-passed : {layout : Layout} {values : List Val} {store : Store} {key object : ℕ} {before : Node}
     (next : Node) (list : IsList layout values store)
     (stands : Stands (list_begin layout) key object before list.cells) →
     IsNext stands.ahead before.next next → key < next.key →
@@ -199,6 +200,30 @@ place-passed {key = key} next list stands ahead greater =
           (Rise-after 0 stands.behind c ahead.rest rise),
     ) in
     record { stands = stands; here = subst (AllGreater key) (sym ahead.cells_are) all }
+
+place-behind : {layout : Layout} {values : List Val} {store : Store} {key object : ℕ} {before : Node}
+    (next : Node) (node : Option Node) (list : IsList layout values store)
+    (stands : Stands (list_begin layout) key object before list.cells) → IsNext stands.ahead before.next next →
+    MatchOption node (key < next.key) (λ n. (n ≡ next) × (next.key ≡ key)) →
+    IsPlace (list_begin layout) key (record { link = object; before = before; node = node }) list.cells
+place-behind next None list stands ahead greater = place-passed next list stands ahead greater
+place-behind {layout} {key = key} {object = object} {before = before} next (Some n) list stands ahead (is, same) =
+    subst (λ (m : Node). IsPlace (list_begin layout) key
+    (record { link = object; before = before; node = Some m }) list.cells) (sym is)
+    (place-found next stands ahead same)
+
+-- the key's place, where the next node does not hold a lesser key
+pub place-next : {layout : Layout} {values : List Val} {store : Store} {key object : ℕ} {before : Node}
+    (next : Node) (place : Place) (list : IsList layout values store)
+    (stands : Stands (list_begin layout) key object before list.cells) → IsNext stands.ahead before.next next →
+    place.link ≡ object → place.before ≡ before →
+    MatchOption place.node (key < next.key) (λ n. (n ≡ next) × (next.key ≡ key)) →
+    IsPlace (list_begin layout) key place list.cells
+place-next {layout} {key = key} {object = object} next place list stands ahead link holds node =
+    subst (λ (l : ℕ). IsPlace (list_begin layout) key
+    (record { link = l; before = place.before; node = place.node }) list.cells) (sym link)
+    (subst (λ (b : Node). IsPlace (list_begin layout) key (record { link = object; before = b; node = place.node })
+    list.cells) (sym holds) (place-behind next place.node list stands ahead node))
 
 nothing : (n key : ℕ) (cells : List Cell) → Each (IsNumber n) (numbers_of cells) →
     first_of (numbers_of cells) ≡ 0 →

@@ -9,18 +9,18 @@ use Rattle.dstm_model.specs.declared.op.Op.TheVariants.{Member}
 use Rattle.dstm_model.specs.declared.reply.Reply.{Reply}
 use Rattle.dstm_model.specs.Layout.{IsValid}
 use Rattle.dstm_model.specs.Store.{Store, yes_or_no}
-use Rattle.dstm_model.specs.Objects.{Does, list_begin, node_object}
+use Rattle.dstm_model.specs.Objects.{Does, objects_of, list_begin, node_object}
 use Rattle.dstm_mem.specs.declared.memory.Mem.{Ghosts}
 use Rattle.dstm_mem.specs.Memory.{with_set}
-use Rattle.dstm_mem.specs.Operations.{Leads, OnlyReads}
+use Rattle.dstm_mem.specs.Operations.{IsReady, Leads, OnlyReads}
 use Rattle.dstm_mem.specs.Operates.{Operates, Applies}
-use Rattle.dstm_mem.proofs.Operations.{leads-answers, opens_to_set-of_reads}
+use Rattle.dstm_mem.proofs.Operations.{leads-answers, opens_to_set-of_reads, ready-reads}
 use Rattle.dstm_mem.proofs.Operating.{Through, operates-as, operates-then}
 use Rattle.dstm_mem.proofs.WithSet.{with_set-same}
 use Rattle.dstm_list.specs.declared.node.Node.{Node}
 use Rattle.dstm_list.specs.declared.walk.Place.{Place}
 use Rattle.dstm_list.specs.List.{IsList, IsOfList, SameOutside, SameButThree}
-use Rattle.dstm_list.specs.Place.{Finds, Walks, Sees, Stands}
+use Rattle.dstm_list.specs.Place.{Finds, Walks, IsReadyAt, Sees, Stands}
 use Rattle.dstm_list.proofs.Steps.{IsNext, stands-seen}
 use Rattle.dstm_list.proofs.Operations.{does-member}
 
@@ -81,20 +81,37 @@ module _ {S E : Type 0} (M : Ghosts S E) (layout : Layout) where
     };
   }
 
-  -- what is applied after a walk is applied by both
-  pub applies-walked : {old mid new : S} {place : Place} {key : ℕ} (op : Op) (reply : Reply) →
-      Operates M (IsOfList layout) (λ found. Unit {0}) (λ found. Unit {0}) (Walks layout key) old mid (Ok place) →
-      Applies M (IsOfList layout) (IsList layout) op mid new (Ok reply) →
-      Applies M (IsOfList layout) (IsList layout) op old new (Ok reply)
-  applies-walked op reply walks done =
-      operates-as (operates-then walks done) (λ look. (tt, look)) (λ all. (tt, all))
-      (λ before after h.
-      subst (λ (values : List Val). Does (IsList layout) op values after reply) h.first.same h.second)
+  -- after a walk the memory is ready for a change at the place
+  pub ready-walked : {old new : S} {place : Place} {key : ℕ} → IsReady M (objects_of layout) (IsList layout) old →
+      IsOfList layout place.link →
+      Operates M (IsOfList layout) (λ found. Unit {0}) (λ found. Unit {0}) (Walks layout key) old new (Ok place) →
+      IsReadyAt M layout key place new
+  ready-walked {place = place} {key = key} ready link walks = record {
+    ready = ready-reads M (Ok place) ready walks.leads (walks.quiet tt);
+    admits = walks.leads.admits;
+    found = λ map admitted.
+        let walked = walks.does map admitted in
+        subst (λ (values : List Val). Finds layout values key place) (sym walked.same) walked.finds;
+    link = link;
+  }
 
-  pub few-walked : {old mid new : S} → OnlyReads M old mid → SameButThree layout (M.written mid) (M.written new) →
-      SameButThree layout (M.written old) (M.written new)
-  few-walked reads few =
-      (few.0, (few.1.0, λ p not_link not_node not_free. few.1.1 p not_link not_node not_free ∙ reads.sets p))
+  -- what a change did after a walk, both did: it is applied, and three objects at most are set
+  pub record Changes (op : Op) (old new : S) (reply : Reply) : Type 0 where
+    pub applies : Applies M (IsOfList layout) (IsList layout) op old new (Ok reply)
+    pub few : SameButThree layout (M.written old) (M.written new)
+
+  pub changes-walked : {old mid new : S} {place : Place} {key : ℕ} (op : Op) (reply : Reply) →
+      Operates M (IsOfList layout) (λ found. Unit {0}) (λ found. Unit {0}) (Walks layout key) old mid (Ok place) →
+      Changes op mid new reply → Changes op old new reply
+  changes-walked op reply walks done =
+      let reads = walks.quiet tt in
+      let few = done.few in
+      record {
+        applies = operates-as (operates-then walks done.applies) (λ look. (tt, look)) (λ all. (tt, all))
+            (λ before after h.
+            subst (λ (values : List Val). Does (IsList layout) op values after reply) h.first.same h.second);
+        few = (few.0, (few.1.0, λ p not_link not_node not_free. few.1.1 p not_link not_node not_free ∙ reads.sets p));
+      }
 
   -- a walk alone tells whether the key is there
   pub member-walked : {old new : S} {place : Place} {key : ℕ} (reply : Reply) →

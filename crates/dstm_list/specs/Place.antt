@@ -4,10 +4,13 @@ use Rattle.dstm_model.specs.declared.value.Val.{Val}
 use Rattle.dstm_model.specs.declared.layout.Layout.{Layout}
 use Rattle.dstm_model.specs.Map.{value_at}
 use Rattle.dstm_model.specs.Store.{Store}
-use Rattle.dstm_model.specs.Objects.{list_begin, node_object}
+use Rattle.dstm_model.specs.Objects.{objects_of, list_begin, node_object}
+use Rattle.dstm_mem.specs.declared.memory.Mem.{Ghosts}
+use Rattle.dstm_mem.specs.Memory.{with_set}
+use Rattle.dstm_mem.specs.Operations.{IsReady}
 use Rattle.dstm_list.specs.declared.node.Node.{Node}
 use Rattle.dstm_list.specs.declared.walk.Place.{Place}
-use Rattle.dstm_list.specs.List.{Cell, IsList, numbers_of, first_of, key_of, next_of}
+use Rattle.dstm_list.specs.List.{Cell, IsList, IsOfList, numbers_of, first_of, key_of, next_of}
 
 -- the object that links to what comes after these cells: that of the last one, or the given one where
 -- there is none
@@ -59,6 +62,13 @@ Finds layout values key place =
 pub record Walks (layout : Layout) (key : ℕ) (place : Place) (before after : List Val) : Type 0 where
   pub same : after ≡ before
   pub finds : Finds layout before key place
+
+-- The memory is ready for a change at this place: it admits a map, and in each that it admits the place is the key's.
+pub record IsReadyAt {S E : Type 0} (M : Ghosts S E) (layout : Layout) (key : ℕ) (place : Place) (memory : S) : Type 0 where
+  pub ready : IsReady M (objects_of layout) (IsList layout) memory
+  pub admits : (map : List Val) × M.Admits memory map
+  pub found : (map : List Val) → M.Admits memory map → Finds layout (with_set map (M.written memory)) key place
+  pub link : IsOfList layout place.link
 
 -- an object was seen to hold this node, and nothing was changed
 pub record Sees (object : ℕ) (node : Node) (before after : List Val) : Type 0 where

@@ -1,14 +1,11 @@
-ghost use Rattle.std.specs.Prelude.{◌≡◌, ◌≢◌, List, IfOk, OnOk, IsTrue, is_some};
-ghost use Rattle.dstm_model.specs.declared.value.Val.{Val};
+ghost use Rattle.std.specs.Prelude.{◌≡◌, ◌≢◌, IfOk, OnOk, IsTrue, is_some};
 ghost use Rattle.dstm_model.specs.declared.op.Which.TheVariants as which;
 ghost use Rattle.dstm_model.specs.Layout.{IsValid, FitsLayout};
 ghost use Rattle.dstm_model.specs.Store.{yes_or_no};
-ghost use Rattle.dstm_model.specs.Objects.{objects_of, list_begin, free_object, node_object};
-ghost use Rattle.dstm_mem.specs.Memory.{with_set};
-ghost use Rattle.dstm_mem.specs.Operations.{IsReady};
+ghost use Rattle.dstm_model.specs.Objects.{list_begin, free_object, node_object};
 ghost use Rattle.dstm_mem.specs.Operates.{Applies};
 ghost use Rattle.dstm_list.specs.List.{IsList, IsOfList, SameButThree};
-ghost use Rattle.dstm_list.specs.Place.{Finds};
+ghost use Rattle.dstm_list.specs.Place.{IsReadyAt};
 ghost use Rattle.dstm_list.specs.Reads.{AddsNoRead, AddsReadOf};
 
 use crate::node::Node;
@@ -28,11 +25,7 @@ pub fn insert_at<M: Mem>(
 ) -> Result<Reply, M::Err>
     requires valid { IsValid layout.now }
     requires fits { FitsLayout layout.now (Op.Insert which.List key) }
-    requires ready { IsReady M.Mem (objects_of layout.now) (IsList layout.now) mem.old }
-    requires admits { (map : List Val) × M.Admits mem.old map }
-    requires found { (map : List Val) → M.Admits mem.old map →
-        Finds layout.now (with_set map (M.written mem.old)) key place }
-    requires link { IsOfList layout.now place.link }
+    requires ready { IsReadyAt M.Mem layout.now key place mem.old }
 
     ensures applies { Applies M.Mem (IsOfList layout.now) (IsList layout.now) (Op.Insert which.List key)
         mem.old mem.new result }
@@ -74,11 +67,7 @@ pub fn remove_at<M: Mem>(
 ) -> Result<Reply, M::Err>
     requires valid { IsValid layout.now }
     requires fits { FitsLayout layout.now (Op.Remove which.List key) }
-    requires ready { IsReady M.Mem (objects_of layout.now) (IsList layout.now) mem.old }
-    requires admits { (map : List Val) × M.Admits mem.old map }
-    requires found { (map : List Val) → M.Admits mem.old map →
-        Finds layout.now (with_set map (M.written mem.old)) key place }
-    requires link { IsOfList layout.now place.link }
+    requires ready { IsReadyAt M.Mem layout.now key place mem.old }
 
     ensures applies { Applies M.Mem (IsOfList layout.now) (IsList layout.now) (Op.Remove which.List key)
         mem.old mem.new result }

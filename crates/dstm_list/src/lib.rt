@@ -20,7 +20,7 @@ use dstm_model::{Layout, Op, Reply};
 pub use edit::{insert_at, member_at, remove_at};
 pub use node::Node;
 pub use object::node_object;
-pub use walk::{Place, find};
+pub use walk::{Place, find, place_before};
 
 /// Adds a key. Where the reply is Yes it sets the node that was the first free one, the head of the free
 /// chain, and the head or the node that now links to the new node; else it sets nothing.

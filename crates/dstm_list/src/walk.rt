@@ -1,10 +1,10 @@
-ghost use Rattle.std.specs.Prelude.{◌<◌, IfOk};
+ghost use Rattle.std.specs.Prelude.{◌≡◌, ◌<◌, ◌≤◌, IfOk, MatchOption};
 ghost use Rattle.dstm_model.specs.Layout.{IsValid};
 ghost use Rattle.dstm_model.specs.Objects.{objects_of};
 ghost use Rattle.dstm_mem.specs.Operations.{IsReady};
 ghost use Rattle.dstm_mem.specs.Operates.{Operates};
 ghost use Rattle.dstm_list.specs.List.{IsList, IsOfList};
-ghost use Rattle.dstm_list.specs.Place.{Walks};
+ghost use Rattle.dstm_list.specs.Place.{Walks, IsReadyAt};
 
 use crate::node::Node;
 use crate::object::{look, node_object};
@@ -30,26 +30,15 @@ pub fn find<M: Mem>(mem: &mut M, layout: &Layout, key: u32) -> Result<Place, M::
 
     ensures walks { Operates M.Mem (IsOfList layout.now) (λ found. Unit {0}) (λ found. Unit {0}) (Walks layout.now key)
         mem.old mem.new result }
-    ensures link { IfOk result (λ found. IsOfList layout.now found.link) }
+    ensures ready { IfOk result (λ found. IsReadyAt M.Mem layout.now key found mem.new) }
 {
     let mut link = layout.accounts;
     let mut before = look(mem, layout, link)?;
     while before.next != 0 {
         let object = node_object(layout, before.next);
         let node = look(mem, layout, object)?;
-        if node.key == u64::from(key) {
-            return Ok(Place {
-                link,
-                before,
-                node: Some(node),
-            });
-        }
-        if node.key > u64::from(key) {
-            return Ok(Place {
-                link,
-                before,
-                node: None,
-            });
+        if node.key >= u64::from(key) {
+            return Ok(place_before(link, before, node, key));
         }
         link = object;
         before = node;
@@ -59,4 +48,18 @@ pub fn find<M: Mem>(mem: &mut M, layout: &Layout, key: u32) -> Result<Place, M::
         before,
         node: None,
     })
+}
+
+/// The place of a key behind an object that holds `before`, where the node comes next.
+pub fn place_before(link: u32, before: Node, next: Node, key: u32) -> Place
+    requires { key ≤ next.key }
+    ensures link { result.link ≡ link }
+    ensures before { result.before ≡ before }
+    ensures node { MatchOption result.node (key < next.key) (λ node. (node ≡ next) × (next.key ≡ key)) }
+{
+    Place {
+        link,
+        before,
+        node: (next.key == u64::from(key)).then_some(next),
+    }
 }

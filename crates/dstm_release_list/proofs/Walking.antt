@@ -1,7 +1,7 @@
 -- A walk that lets reads go: what is known where it stands, and after a step.
 use Rattle.std.proofs.Common.{◌≡◌, ◌≢◌, ◌↔◌, ℕ, ◌<◌, ◌≤◌, List, length, IsTrue, false, arith, refl, sym, ◌∙◌, ap}
 use Rattle.std.proofs.Common.{subst, inl, inr}
-use Rattle.std.specs.Prelude.{Option, Some, None, IsSome, IfSome, MatchOption, ◌⊎◌, Ok, Bool, is_some, ◌&&◌, not}
+use Rattle.std.specs.Prelude.{Option, Some, None, IsSome, IfSome, ◌⊎◌, Ok, Bool, is_some, ◌&&◌, not}
 use Rattle.std.proofs.lemmas.Bool.{cases_eq, cases_Bool}
 use Rattle.dstm_model.specs.declared.value.Val.{Val}
 use Rattle.dstm_model.specs.declared.layout.Layout.{Layout}
@@ -16,10 +16,10 @@ use Rattle.dstm_mem.proofs.Operations.{leads-then, only_reads-then}
 use Rattle.dstm_list.specs.List.{IsList, IsOfList, SameOutside, key_of, next_of, numbers_of, first_of}
 use Rattle.dstm_list.specs.declared.node.Node.{Node}
 use Rattle.dstm_list.specs.declared.walk.Place.{Place}
-use Rattle.dstm_list.specs.Place.{Stands, IsPlace}
+use Rattle.dstm_list.specs.Place.{Stands}
 use Rattle.dstm_list.proofs.Numbers.{IsNumber, each-left}
 use Rattle.dstm_list.proofs.Steps.{IsNext, head-of_list, node-of_list, next_within, next_greater, stands-start}
-use Rattle.dstm_list.proofs.Steps.{stands-next, used_within, first_within, place-found, place-passed}
+use Rattle.dstm_list.proofs.Steps.{stands-next, used_within, first_within}
 use Rattle.dstm_release_list.specs.declared.stop.Stop.{Stop}
 use Rattle.dstm_list.specs.Reads.{IsRead}
 use Rattle.dstm_list.proofs.Reading.{read-same, unread-opened}
@@ -85,13 +85,17 @@ pub record Older {S E : Type 0} (M : Ghosts S E) (layout : Layout) (start memory
   pub inner : older.object ≢ list_begin layout
   pub last_inner : last.object ≢ list_begin layout
 
--- where a walk stands that began at one state of the memory and has come to another
-pub record Walking {S E : Type 0} (M : Ghosts S E) (layout : Layout) (key : ℕ) (start memory : S) (head : Stop)
-    (behind : Option Stop) (last : Stop) : Type 0 where
+-- a walk has led from one state of the memory to another and only read, and nothing but the list's objects
+pub record Way {S E : Type 0} (M : Ghosts S E) (layout : Layout) (start memory : S) (last : Stop) : Type 0 where
   pub leads : Leads M start memory (Ok last)
   pub looks : OnlyReads M start memory
   pub holds : SameOutside layout (M.held start) (M.held memory)
   pub opens : SameOutside layout (M.is_opened start) (M.is_opened memory)
+
+-- where a walk stands that began at one state of the memory and has come to another
+pub record Walking {S E : Type 0} (M : Ghosts S E) (layout : Layout) (key : ℕ) (start memory : S) (head : Stop)
+    (behind : Option Stop) (last : Stop) : Type 0 where
+  pub way : Way M layout start memory last
   pub head_at : head.object ≡ list_begin layout
   pub head_owes : Owes M start memory head
   pub head_seen : behind ≡ None → Sees M memory head
@@ -107,10 +111,7 @@ pub record Walking {S E : Type 0} (M : Ghosts S E) (layout : Layout) (key : ℕ)
 -- after the next node was opened
 pub record Opened {S E : Type 0} (M : Ghosts S E) (layout : Layout) (key : ℕ) (start memory : S) (head : Stop)
     (behind : Option Stop) (last next : Stop) : Type 0 where
-  pub leads : Leads M start memory (Ok next)
-  pub looks : OnlyReads M start memory
-  pub holds : SameOutside layout (M.held start) (M.held memory)
-  pub opens : SameOutside layout (M.is_opened start) (M.is_opened memory)
+  pub way : Way M layout start memory next
   pub head_seen : behind ≡ None → Sees M memory head
   pub last_seen : Sees M memory last
   pub anchored : Anchored M memory layout key head last
@@ -127,10 +128,7 @@ pub record Opened {S E : Type 0} (M : Ghosts S E) (layout : Layout) (key : ℕ) 
 -- after a step: the next node was opened, and what stands before the last two was let go
 pub record Advanced {S E : Type 0} (M : Ghosts S E) (layout : Layout) (key : ℕ) (start memory : S) (head : Stop)
     (behind : Option Stop) (last next : Stop) : Type 0 where
-  pub leads : Leads M start memory (Ok next)
-  pub looks : OnlyReads M start memory
-  pub holds : SameOutside layout (M.held start) (M.held memory)
-  pub opens : SameOutside layout (M.is_opened start) (M.is_opened memory)
+  pub way : Way M layout start memory next
   pub head_owes : Owes M start memory head
   pub head_seen : behind ≡ None → Sees M memory head
   pub last_owes : Owes M start memory last
@@ -288,8 +286,8 @@ module _ {S E : Type 0} (M : Ghosts S E) (start : S) where
     opened {old = old} {new = new} key head behind last next o laws ready valid declared so_far some o_is visits
         visit_leads visit_looks =
         let begin = list_begin layout in
-        let leads = leads-then M so_far.leads visit_leads in
-        let looks = only_reads-then M so_far.leads so_far.looks visit_looks in
+        let leads = leads-then M so_far.way.leads visit_leads in
+        let looks = only_reads-then M so_far.way.leads so_far.way.looks visit_looks in
         let later = λ (stop : Stop) (sees : Sees M old stop).
         sees-opened M stop o sees visits.held visit_looks.sets in
         let last_seen = later last so_far.last_seen in
@@ -321,10 +319,12 @@ module _ {S E : Type 0} (M : Ghosts S E) (start : S) where
         let next_apart = older_apart behind last next so_far.older later visits.sees
         (λ older below inner. omega (arith, below, rises inner)) in
         record {
-          leads = leads;
-          looks = looks;
-          holds = λ p outside. visits.held.others p (other p outside) ∙ so_far.holds p outside;
-          opens = λ p outside. visits.opened.others p (other p outside) ∙ so_far.opens p outside;
+          way = record {
+            leads = leads;
+            looks = looks;
+            holds = λ p outside. visits.held.others p (other p outside) ∙ so_far.way.holds p outside;
+            opens = λ p outside. visits.opened.others p (other p outside) ∙ so_far.way.opens p outside;
+          };
           head_seen = λ none. later head (so_far.head_seen none);
           last_seen = last_seen;
           anchored = anchored;
@@ -334,7 +334,7 @@ module _ {S E : Type 0} (M : Ghosts S E) (start : S) where
             own = λ is. elim (cases_held (M.held start next.object)) [
               | inl none ↦ none
               | inr held ↦
-                  let before = so_far.leads.holds next.object held in
+                  let before = so_far.way.leads.holds next.object held in
                   absurd (none_some (M.held start next.object)
                   (sym before ∙ ap (M.held old) visits.object ∙ visits.own is) held)
             ];
@@ -429,30 +429,32 @@ module _ {S E : Type 0} (M : Ghosts S E) (start : S) where
         sees-same M head sees (none_same head behind head.object none lets) lets.written in
         let holds = λ (o : ℕ) (some : IsSome (M.held start o)).
         let same : M.held new o ≡ M.held start o = elim (lets.held o) [
-          | inl same ↦ same ∙ at.leads.holds o some
+          | inl same ↦ same ∙ at.way.leads.holds o some
           | inr (own, none) ↦
               absurd (none_some (M.held start o) (own_none head behind last o head_owes older own) some)
         ] in same in
-        let place = lets.place ∙ at.leads.place in
+        let place = lets.place ∙ at.way.leads.place in
         record {
-          leads = record {
-            place = place;
-            objects = lets.objects ∙ at.leads.objects;
-            narrows = narrows-kept start new laws live lets.live place holds;
-            admits = (at.leads.admits.0, lets.widens at.leads.admits.0 at.leads.admits.1);
-            live = lets.live;
-            holds = holds;
-            ended = tt;
+          way = record {
+            leads = record {
+              place = place;
+              objects = lets.objects ∙ at.way.leads.objects;
+              narrows = narrows-kept start new laws live lets.live place holds;
+              admits = (at.way.leads.admits.0, lets.widens at.way.leads.admits.0 at.way.leads.admits.1);
+              live = lets.live;
+              holds = holds;
+              ended = tt;
+            };
+            looks = record {
+              sets = λ o. lets.written o ∙ at.way.looks.sets o;
+              opens = λ off o. lets.opened o ∙ at.way.looks.opens off o;
+            };
+            holds = λ p outside. elim (lets.held p) [
+              | inl same ↦ same ∙ at.way.holds p outside
+              | inr (own, none) ↦ absurd (outside (own_in mid head behind last p head_in older own))
+            ];
+            opens = λ p outside. lets.opened p ∙ at.way.opens p outside;
           };
-          looks = record {
-            sets = λ o. lets.written o ∙ at.looks.sets o;
-            opens = λ off o. lets.opened o ∙ at.looks.opens off o;
-          };
-          holds = λ p outside. elim (lets.held p) [
-            | inl same ↦ same ∙ at.holds p outside
-            | inr (own, none) ↦ absurd (outside (own_in mid head behind last p head_in older own))
-          ];
-          opens = λ p outside. lets.opened p ∙ at.opens p outside;
           head_owes = owes-later head head_owes (opened_stays head.object);
           head_seen = λ none. head_later none (at.head_seen none);
           last_owes = owes-later last last_owes (opened_stays last.object);
@@ -474,14 +476,14 @@ module _ {S E : Type 0} (M : Ghosts S E) (start : S) where
     -- ---- the whole walk
 
     -- a step: the next node is opened, and what stands before the last two is let go
-    pub stepped : {Began : S → List Val → Type 0} {old mid new : S} (key : ℕ) (head : Stop) (behind : Option Stop)
-        (last next : Stop) (o : ℕ) → Laws M Began → IsReady M (objects_of layout) (IsList layout) start →
+    pub stepped : {Began : S → List Val → Type 0} {old mid new : S} {key : ℕ} {head : Stop} {behind : Option Stop}
+        {last next : Stop} {o : ℕ} → Laws M Began → IsReady M (objects_of layout) (IsList layout) start →
         IsValid layout → 0 < layout.list → Walking M layout key start old head behind last →
         last.node.next ≢ 0 → o ≡ node_object (list_begin layout) last.node.next → Visits M old mid o next →
         Leads M old mid (Ok next) → OnlyReads M old mid → LetsGo M (IsOwnOfTwo head behind) mid new →
         IfSome behind (λ o. IsTrue o.is_own → ¬ IsRead M new o.object) →
         Advanced M layout key start new head behind last next
-    stepped {old = old} {mid = mid} key head behind last next o laws ready valid declared so_far some o_is visits
+    stepped {old = old} {mid = mid} {key} {head} {behind} {last} {next} {o} laws ready valid declared so_far some o_is visits
         visit_leads visit_looks lets gone =
         let later = λ (stop : Stop) (owes : Owes M start old stop).
         owes-later stop owes (visits.opened.kept stop.object) in
@@ -517,10 +519,12 @@ module _ {S E : Type 0} (M : Ghosts S E) (start : S) where
           ];
         } in
         record {
-          leads = leads;
-          looks = looks;
-          holds = λ p outside. visits.held.others p (other p outside);
-          opens = λ p outside. visits.opened.others p (other p outside);
+          way = record {
+            leads = leads;
+            looks = looks;
+            holds = λ p outside. visits.held.others p (other p outside);
+            opens = λ p outside. visits.opened.others p (other p outside);
+          };
           head_at = visits.object;
           head_owes = owes;
           head_seen = λ none. visits.sees;
@@ -561,10 +565,7 @@ module _ {S E : Type 0} (M : Ghosts S E) (start : S) where
         let not_begin : next.object ≢ begin = λ e. omega (arith, e, at.next_at) in
         let first = λ (at_begin : last.object ≡ begin). older_none old before last so_far.older at_begin in
         record {
-          leads = at.leads;
-          looks = at.looks;
-          holds = at.holds;
-          opens = at.opens;
+          way = at.way;
           head_at = so_far.head_at;
           head_owes = at.head_owes;
           head_seen = λ is. at.head_seen (first (none is ∙ so_far.head_at));
@@ -596,47 +597,18 @@ module _ {S E : Type 0} (M : Ghosts S E) (start : S) where
         }
 
     -- what a map says that is admitted where the walk stands
-    abbrev pub at-map : {Began : S → List Val → Type 0} {A : Type 0} {new : S} {x : A} (map : List Val)
-        (store : Store) → Laws M Began → IsReady M (objects_of layout) (IsList layout) start → IsValid layout → 0 < layout.list →
-        Leads M start new (Ok x) → OnlyReads M start new → M.Admits new map →
-        IsList layout (with_set map (M.written start)) store → At M layout start new map store
-    at-map {new = new} map store laws ready valid declared leads looks admitted list = record {
+    abbrev pub at-map : {Began : S → List Val → Type 0} {new : S} {last : Stop} {map : List Val} {store : Store} →
+        Laws M Began → IsReady M (objects_of layout) (IsList layout) start → IsValid layout → 0 < layout.list →
+        Way M layout start new last → M.Admits new map → IsList layout (with_set map (M.written start)) store →
+        At M layout start new map store
+    at-map {new = new} {map = map} laws ready valid declared way admitted list = record {
       valid = valid;
       declared = declared;
-      size = laws.sizes start map (leads.narrows map admitted) ∙ ready.objects;
+      size = laws.sizes start map (way.leads.narrows map admitted) ∙ ready.objects;
       agrees = laws.agrees new map admitted;
-      same = looks.sets;
+      same = way.looks.sets;
       list = list;
     }
-
-    place_of : {values : List Val} {store : Store} (key : ℕ) (last next : Stop) (node : Option Node)
-        (list : IsList layout values store)
-        (stands : Stands (list_begin layout) key last.object last.node list.cells) →
-        IsNext stands.ahead last.node.next next.node →
-        MatchOption node (key < next.node.key) (λ n. (n ≡ next.node) × (next.node.key ≡ key)) →
-        IsPlace (list_begin layout) key (record { link = last.object; before = last.node; node = node }) list.cells
-    place_of key last next None list stands ahead greater = place-passed next.node list stands ahead greater
-    place_of key last next (Some n) list stands ahead (is, same) =
-        subst (λ (m : Node). IsPlace (list_begin layout) key
-        (record { link = last.object; before = last.node; node = Some m }) list.cells) (sym is)
-        (place-found next.node stands ahead same)
-
-    -- the key's place, where the next node does not hold a lesser key
-    pub place-next : {map : List Val} {store : Store} {new : S} (key : ℕ) (head : Stop) (behind : Option Stop)
-        (last next : Stop) (place : Place) (at : At M layout start new map store) →
-        head.object ≡ list_begin layout → last.node.next ≢ 0 →
-        Advanced M layout key start new head behind last next → place.link ≡ last.object →
-        place.before ≡ last.node →
-        MatchOption place.node (key < next.node.key) (λ n. (n ≡ next.node) × (next.node.key ≡ key)) →
-        IsPlace (list_begin layout) key place at.list.cells
-    place-next key head behind last next place at head_at some stepped link before node =
-        let begin = list_begin layout in
-        let stands = stands-held key head last at head_at stepped.last_seen stepped.anchored in
-        let ahead = next-held last next at stands stepped.next_seen stepped.next_at some in
-        subst (λ (l : ℕ). IsPlace begin key (record { link = l; before = place.before; node = place.node })
-        at.list.cells) (sym link)
-        (subst (λ (b : Node). IsPlace begin key (record { link = last.object; before = b; node = place.node })
-        at.list.cells) (sym before) (place_of key last next place.node at.list stands ahead node))
 
     -- the reads that are added, where the walk ends before a node
     pub adds-next : {new : S} (key : ℕ) (head : Stop) (behind : Option Stop) (last next : Stop) (place : Place) →

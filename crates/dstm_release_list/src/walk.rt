@@ -1,14 +1,14 @@
-ghost use Rattle.std.specs.Prelude.{◌≡◌, ◌<◌, ◌≤◌, IfOk, MatchOption};
+ghost use Rattle.std.specs.Prelude.{◌<◌, IfOk};
 ghost use Rattle.dstm_model.specs.Layout.{IsValid};
 ghost use Rattle.dstm_model.specs.Objects.{objects_of};
 ghost use Rattle.dstm_mem.specs.Operations.{IsReady};
 ghost use Rattle.dstm_mem.specs.Operates.{Operates};
 ghost use Rattle.dstm_list.specs.List.{IsList, IsOfList};
-ghost use Rattle.dstm_list.specs.Place.{Walks};
+ghost use Rattle.dstm_list.specs.Place.{Walks, IsReadyAt};
 ghost use Rattle.dstm_release_list.specs.Walk.{AddsToPlace};
 
 use crate::stop::{Stop, let_go, visit};
-use dstm_list::{Node, Place, node_object};
+use dstm_list::{Place, node_object, place_before};
 use dstm_mem::Release;
 use dstm_model::Layout;
 
@@ -21,7 +21,7 @@ pub fn walk<M: Release>(mem: &mut M, layout: &Layout, key: u32) -> Result<Place,
 
     ensures walks { Operates M.Mem (IsOfList layout.now) (λ found. Unit {0}) (λ found. Unit {0}) (Walks layout.now key)
         mem.old mem.new result }
-    ensures link { IfOk result (λ found. IsOfList layout.now found.link) }
+    ensures ready { IfOk result (λ found. IsReadyAt M.Mem layout.now key found mem.new) }
     ensures adds { IfOk result (AddsToPlace M.Mem layout.now mem.old mem.new) }
 {
     let head = visit(mem, layout.accounts)?;
@@ -31,7 +31,7 @@ pub fn walk<M: Release>(mem: &mut M, layout: &Layout, key: u32) -> Result<Place,
         let next = visit(mem, node_object(layout, last.node.next))?;
         let_go(mem, layout, head, behind);
         if next.node.key >= u64::from(key) {
-            return Ok(place_at(last, next.node, key));
+            return Ok(place_before(last.object, last.node, next.node, key));
         }
         behind = last.unless_at(head);
         last = next;
@@ -41,18 +41,4 @@ pub fn walk<M: Release>(mem: &mut M, layout: &Layout, key: u32) -> Result<Place,
         before: last.node,
         node: None,
     })
-}
-
-// The place of a key behind this stop, where the node comes next.
-fn place_at(last: Stop, next: Node, key: u32) -> Place
-    requires { key ≤ next.key }
-    ensures link { result.link ≡ last.object }
-    ensures before { result.before ≡ last.node }
-    ensures node { MatchOption result.node (key < next.key) (λ node. (node ≡ next) × (next.key ≡ key)) }
-{
-    Place {
-        link: last.object,
-        before: last.node,
-        node: (next.key == u64::from(key)).then_some(next),
-    }
 }

@@ -26,7 +26,7 @@ returns-then-is_some-clause-applies g c =
       marks = λ all. opens_to_set-none M c.args.mem.now;
       quiet = λ look. only_reads-none M c.args.mem.now;
       does = λ map admitted.
-          does-no_insert c.args.key c.args.place (c.requires.found map admitted)
+          does-no_insert c.args.key c.args.place (c.requires.ready.found map admitted)
           (sym c.is_some.ensures ∙ c.if-is_some.true);
     }
 
@@ -40,7 +40,7 @@ returns-then-number-eq0-clause-applies g c =
     let before = with_set map (g.M.Mem.written c.args.mem.now) in
     subst (λ after. Does (IsList layout) (Insert which.List c.args.key) before after Full) (sym seen.same)
     (does-full c.args.key c.in_ok-number.field-0.next c.args.place c.requires.valid c.requires.fits.0
-    (c.requires.found map admitted) (sym c.is_some.ensures ∙ c.if-is_some.false)
+    (c.requires.ready.found map admitted) (sym c.is_some.ensures ∙ c.if-is_some.false)
     (seen.next ∙ ap next_of (ap (value_at before) free_is)) c.if-number-eq0.true))
 
 pub replace-requires-clause-list : goal.replace-requires-clause-list
@@ -48,7 +48,7 @@ replace-requires-clause-list g c =
     let layout = c.args.layout.now in
     let looks = c.in_ok-number.ensures.looks in
     let (map, admitted) = looks.leads.admits in
-    let (store, list) = c.requires.ready.lawful map (looks.leads.narrows map admitted) in
+    let (store, list) = c.requires.ready.ready.lawful map (looks.leads.narrows map admitted) in
     let before = with_set map (g.M.Mem.written c.args.mem.now) in
     let free_is : c.node_object-free.result ≡ free_object (list_begin layout) =
     omega (arith, c.node_object-free.ensures) in
@@ -75,7 +75,7 @@ returns-clause-applies g c =
     let had = h.first.first.second in
     let size = g.met.M.Mem.admitted_length start map admitted in
     let in_map : tree_begin layout ≤ length before =
-    omega (arith, size, c.requires.ready.objects, length-with_set map (M.written start)) in
+    omega (arith, size, c.requires.ready.ready.objects, length-with_set map (M.written start)) in
     let free = seen.next ∙ ap next_of (ap (value_at before) free_is) in
     let rest = ap (value_at before) (sym c.node_object-object.ensures)
     ∙ ap (λ x. value_at x c.node_object-object.result) (sym seen.same) ∙ had.had in
@@ -85,7 +85,7 @@ returns-clause-applies g c =
     let three = set-known h.second.set two refl c.value-2.ensures in
     subst (λ after. Does (IsList layout) (Insert which.List c.args.key) before after Yes) (sym three)
     (does-insert c.args.key i place c.in_ok-rest.rest c.requires.valid c.requires.fits.0 in_map
-    (c.requires.found map admitted) (sym c.is_some.ensures ∙ c.if-is_some.false) c.requires.link free
+    (c.requires.ready.found map admitted) (sym c.is_some.ensures ∙ c.if-is_some.false) c.requires.ready.link free
     c.if-number-eq0.false rest))
 
 pub returns-then-is_some-clause-few : goal.returns-then-is_some-clause-few

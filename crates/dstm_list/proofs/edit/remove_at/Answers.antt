@@ -23,17 +23,17 @@ returns-in_default-clause-applies g c =
       outside = λ o out. untouched-none M c.args.mem.now o;
       marks = λ all. opens_to_set-none M c.args.mem.now;
       quiet = λ look. only_reads-none M c.args.mem.now;
-      does = λ map admitted. does-no_remove c.args.key c.args.place (c.requires.found map admitted) c.in_default.is;
+      does = λ map admitted. does-no_remove c.args.key c.args.place (c.requires.ready.found map admitted) c.in_default.is;
     }
 
 pub replace-requires-2-clause-list : goal.replace-requires-2-clause-list
 replace-requires-2-clause-list g c =
     let layout = c.args.layout.now in
-    let (map, admitted) = c.requires.admits in
-    let (store, list) = c.requires.ready.lawful map admitted in
+    let (map, admitted) = c.requires.ready.admits in
+    let (store, list) = c.requires.ready.ready.lawful map admitted in
     subst (IsOfList layout) (sym c.node_object-object.ensures)
     (node-of_list layout c.args.place.before.next c.requires.fits.0
-    (next_within list (c.requires.found map admitted store list).stands))
+    (next_within list (c.requires.ready.found map admitted store list).stands))
 
 pub returns-clause-applies : goal.returns-clause-applies
 returns-clause-applies g c =
@@ -50,14 +50,14 @@ returns-clause-applies g c =
     let before = with_set map (M.written start) in
     let size = g.met.M.Mem.admitted_length start map admitted in
     let in_map : tree_begin layout ≤ length before =
-    omega (arith, size, c.requires.ready.objects, length-with_set map (M.written start)) in
+    omega (arith, size, c.requires.ready.ready.objects, length-with_set map (M.written start)) in
     let had = ap (value_at before) (sym free_is) ∙ h.first.first.had in
     let one = set-known h.first.first.set refl free_is c.value.ensures in
     let two = set-known h.first.second.set one c.node_object-object.ensures refl in
     let three = set-known h.second.set two refl c.value-2.ensures in
     subst (λ after. Does (IsList layout) (Remove which.List c.args.key) before after Yes) (sym three)
-    (does-remove c.args.key place found c.in_ok-rest.rest c.requires.fits.0 in_map (c.requires.found map admitted)
-    c.in-Some.is c.requires.link had))
+    (does-remove c.args.key place found c.in_ok-rest.rest c.requires.fits.0 in_map (c.requires.ready.found map admitted)
+    c.in-Some.is c.requires.ready.link had))
 
 pub returns-in_default-clause-few : goal.returns-in_default-clause-few
 returns-in_default-clause-few g c = (0, (0, λ p _ _ _. refl))

@@ -4,8 +4,8 @@ use Rattle.dstm_mem.proofs.Operating.{operates-as, operates-then}
 use Rattle.dstm_list.specs.List.{IsOfList}
 use Rattle.dstm_list.specs.Place.{Stands}
 use Rattle.dstm_list.proofs.Steps.{left, head-of_list, node-of_list, next_within, stands-start, stands-on}
-use Rattle.dstm_list.proofs.Steps.{place-found, place-passed, place-end, left-less}
-use Rattle.dstm_list.proofs.Walked.{next-seen}
+use Rattle.dstm_list.proofs.Steps.{place-next, place-end, left-less}
+use Rattle.dstm_list.proofs.Walked.{next-seen, ready-walked}
 use Rattle.dstm_list.proofs.walk.find.Goals as goal
 
 pub loop-before-init : goal.loop-before-init
@@ -28,27 +28,23 @@ look-requires-in-loop-before-clause-list g c =
     subst (IsOfList layout) (sym c.node_object-object.ensures)
     (node-of_list layout c.loop-before.before.next c.requires.declared within)
 
-pub returns-then-node-from-clause-walks : goal.returns-then-node-from-clause-walks
-returns-then-node-from-clause-walks g c =
-    let walked = c.loop-before.invariant.walked in
-    operates-as (operates-then walked c.in_ok-node.ensures.looks) (λ q. (q, q)) (λ q. (q, q)) (λ before after h. record {
+pub returns-then-node-from : goal.returns-then-node-from
+returns-then-node-from g c =
+    let so_far = c.loop-before.invariant in
+    let place = c.place_before.ensures in
+    let walks = operates-as (operates-then so_far.walked c.in_ok-node.ensures.looks) (λ q. (q, q)) (λ q. (q, q))
+    (λ before after h. record {
       same = h.second.same ∙ h.first.same;
       finds = λ store list.
-          place-found c.in_ok-node.node (h.first.stands store list)
+          place-next c.in_ok-node.node c.place_before.result list (h.first.stands store list)
           (next-seen c.requires.valid c.loop-before-test.true c.node_object-object.ensures h store list)
-          (c.if-node-from.true ∙ c.from.ensures);
-    })
-
-pub returns-then-node-from-2-clause-walks : goal.returns-then-node-from-2-clause-walks
-returns-then-node-from-2-clause-walks g c =
-    let walked = c.loop-before.invariant.walked in
-    operates-as (operates-then walked c.in_ok-node.ensures.looks) (λ q. (q, q)) (λ q. (q, q)) (λ before after h. record {
-      same = h.second.same ∙ h.first.same;
-      finds = λ store list.
-          place-passed c.in_ok-node.node list (h.first.stands store list)
-          (next-seen c.requires.valid c.loop-before-test.true c.node_object-object.ensures h store list)
-          (omega (arith, c.if-node-from-2.true, c.from-in-loop-before.ensures));
-    })
+          place.link place.before place.node;
+    }) in
+    record {
+      walks = walks;
+      ready = ready-walked g.M.Mem c.args.layout.now c.requires.ready
+          (subst (IsOfList c.args.layout.now) (sym place.link) so_far.link) walks;
+    }
 
 pub loop-before-smaller : goal.loop-before-smaller
 loop-before-smaller g c =
@@ -58,14 +54,7 @@ loop-before-smaller g c =
     let (map, admitted) = both.leads.admits in
     let (store, list) = c.requires.ready.lawful map (both.leads.narrows map admitted) in
     let h = both.does map admitted in
-    let less : node.key < c.args.key =
-    omega (
-      arith,
-      c.if-node-from.false,
-      c.from.ensures,
-      c.if-node-from-2.false,
-      c.from-in-loop-before.ensures,
-    ) in
+    let less : node.key < c.args.key = omega (arith, c.if-node-from.false, c.from.ensures) in
     subst (λ o. left begin c.args.key o node.key < left begin c.args.key c.loop-before.link c.loop-before.before.key)
     (sym c.node_object-object.ensures)
     (left-less node list (h.first.stands store list)
@@ -79,14 +68,7 @@ loop-before-preserved g c =
     let (some, allowed) = walked.leads.admits in
     let (some_store, some_list) = c.requires.ready.lawful some (walked.leads.narrows some allowed) in
     let within = next_within some_list ((walked.does some allowed).stands some_store some_list) in
-    let less : node.key < c.args.key =
-    omega (
-      arith,
-      c.if-node-from.false,
-      c.from.ensures,
-      c.if-node-from-2.false,
-      c.from-in-loop-before.ensures,
-    ) in
+    let less : node.key < c.args.key = omega (arith, c.if-node-from.false, c.from.ensures) in
     record {
       walked = operates-as (operates-then walked c.in_ok-node.ensures.looks) (λ q. (q, q)) (λ q. (q, q))
           (λ before after h. record {
@@ -101,9 +83,11 @@ loop-before-preserved g c =
           (node-of_list layout c.loop-before.before.next c.requires.declared within);
     }
 
-pub returns-clause-walks : goal.returns-clause-walks
-returns-clause-walks g c =
-    operates-as c.loop-before.invariant.walked (λ q. q) (λ q. q) (λ before after h. record {
+pub returns : goal.returns
+returns g c =
+    let so_far = c.loop-before.invariant in
+    let walks = operates-as so_far.walked (λ q. q) (λ q. q) (λ before after h. record {
       same = h.same;
       finds = λ store list. place-end list (h.stands store list) c.loop-before-test.false;
-    })
+    }) in
+    record { walks = walks; ready = ready-walked g.M.Mem c.args.layout.now c.requires.ready so_far.link walks }

@@ -1,10 +1,10 @@
 use Rattle.std.proofs.Common.{◌<◌, arith, sym, subst}
 use Rattle.dstm_model.specs.Objects.{list_begin}
 use Rattle.dstm_list.specs.List.{IsOfList}
-use Rattle.dstm_list.proofs.Steps.{left, node-of_list, next_within, left-less, place-end}
-use Rattle.dstm_list.proofs.Walked.{walks-by}
+use Rattle.dstm_list.proofs.Steps.{left, node-of_list, next_within, left-less, place-next, place-end}
+use Rattle.dstm_list.proofs.Walked.{walks-by, ready-walked}
 use Rattle.dstm_release_list.proofs.Walking.{Laws, walking-start, walking-on, stepped, stands-held, next-held, at-map}
-use Rattle.dstm_release_list.proofs.Walking.{place-next, adds-next, adds-end}
+use Rattle.dstm_release_list.proofs.Walking.{adds-next, adds-end}
 use Rattle.dstm_release_list.proofs.walk.walk.Given as given
 use Rattle.dstm_release_list.proofs.walk.walk.Goals as goal
 
@@ -26,55 +26,55 @@ pub visit-requires-in-loop-last-clause-exists : goal.visit-requires-in-loop-last
 visit-requires-in-loop-last-clause-exists g c =
     let so_far = c.loop-last.invariant in
     let layout = c.args.layout.now in
-    let (map, admitted) = so_far.leads.admits in
-    let (store, list) = c.requires.ready.lawful map (so_far.leads.narrows map admitted) in
-    let at = at-map g.M.Mem c.args.mem.now layout map store (laws g) c.requires.ready c.requires.valid
-    c.requires.declared so_far.leads so_far.looks admitted list in
+    let leads = so_far.way.leads in
+    let (map, admitted) = leads.admits in
+    let (store, list) = c.requires.ready.lawful map (leads.narrows map admitted) in
+    let at = at-map g.M.Mem c.args.mem.now layout (laws g) c.requires.ready c.requires.valid c.requires.declared
+    so_far.way admitted list in
     let stands = stands-held c.args.key c.in_ok-head.head c.loop-last.last at so_far.head_at so_far.last_seen
     so_far.anchored in
     let within = node-of_list layout c.loop-last.last.node.next c.requires.declared (next_within list stands) in
-    omega (arith, within, c.node_object.ensures, so_far.leads.objects, c.requires.ready.objects)
+    omega (arith, within, c.node_object.ensures, leads.objects, c.requires.ready.objects)
 
 pub returns-then-next-from : goal.returns-then-next-from
 returns-then-next-from g c =
-    let layout = c.args.layout.now in
-    let head = c.in_ok-head.head in
-    let last = c.loop-last.last in
     let so_far = c.loop-last.invariant in
-    let opened = c.in_ok-next.ensures in
-    let step = stepped g.M.Mem c.args.mem.now layout c.args.key head c.loop-last.behind last c.in_ok-next.next
-    c.node_object.result (laws g) c.requires.ready c.requires.valid c.requires.declared so_far c.loop-last-test.true
-    c.node_object.ensures opened.visits opened.leads opened.looks c.let_go.ensures.lets c.let_go.ensures.gone in
-    let place = c.place_at.ensures in
+    let step = stepped g.M.Mem c.args.mem.now c.args.layout.now (laws g) c.requires.ready c.requires.valid
+    c.requires.declared so_far c.loop-last-test.true c.node_object.ensures c.in_ok-next.ensures.visits
+    c.in_ok-next.ensures.leads c.in_ok-next.ensures.looks c.let_go.ensures.lets c.let_go.ensures.gone in
+    let layout = c.args.layout.now in
+    let last = c.loop-last.last in
+    let next = c.in_ok-next.next in
+    let place = c.place_before.ensures in
+    let walks = walks-by g.M.Mem layout c.args.key c.place_before.result step.way.leads step.way.looks step.way.holds
+    step.way.opens (λ map admitted store list.
+    let at = at-map g.M.Mem c.args.mem.now layout (laws g) c.requires.ready c.requires.valid c.requires.declared
+    step.way admitted list in
+    let stands = stands-held c.args.key c.in_ok-head.head last at so_far.head_at step.last_seen step.anchored in
+    place-next next.node c.place_before.result list stands
+    (next-held last next at stands step.next_seen step.next_at c.loop-last-test.true) place.link place.before
+    place.node) in
     record {
-      walks = walks-by g.M.Mem layout c.args.key c.place_at.result step.leads step.looks step.holds step.opens
-          (λ map admitted store list.
-          let at = at-map g.M.Mem c.args.mem.now layout map store (laws g) c.requires.ready c.requires.valid
-          c.requires.declared step.leads step.looks admitted list in
-          place-next g.M.Mem c.args.mem.now layout c.args.key head c.loop-last.behind last c.in_ok-next.next
-          c.place_at.result at so_far.head_at c.loop-last-test.true step place.link place.before place.node);
-      link = subst (IsOfList layout) (sym place.link) so_far.last_in;
-      adds = adds-next g.M.Mem c.args.mem.now layout c.args.key head c.loop-last.behind last c.in_ok-next.next
-          c.place_at.result step place.link place.before;
+      walks = walks;
+      ready = ready-walked g.M.Mem layout c.requires.ready (subst (IsOfList layout) (sym place.link) so_far.last_in) walks;
+      adds = adds-next g.M.Mem c.args.mem.now layout c.args.key c.in_ok-head.head c.loop-last.behind last next
+          c.place_before.result step place.link place.before;
     }
 
 pub loop-last-smaller : goal.loop-last-smaller
 loop-last-smaller g c =
-    let layout = c.args.layout.now in
-    let head = c.in_ok-head.head in
-    let last = c.loop-last.last in
     let so_far = c.loop-last.invariant in
-    let opened = c.in_ok-next.ensures in
-    let step = stepped g.M.Mem c.args.mem.now layout c.args.key head c.loop-last.behind last c.in_ok-next.next
-    c.node_object.result (laws g) c.requires.ready c.requires.valid c.requires.declared so_far c.loop-last-test.true
-    c.node_object.ensures opened.visits opened.leads opened.looks c.let_go.ensures.lets c.let_go.ensures.gone in
+    let step = stepped g.M.Mem c.args.mem.now c.args.layout.now (laws g) c.requires.ready c.requires.valid
+    c.requires.declared so_far c.loop-last-test.true c.node_object.ensures c.in_ok-next.ensures.visits
+    c.in_ok-next.ensures.leads c.in_ok-next.ensures.looks c.let_go.ensures.lets c.let_go.ensures.gone in
+    let last = c.loop-last.last in
     let next = c.in_ok-next.next in
-    let begin = list_begin layout in
-    let (map, admitted) = step.leads.admits in
-    let (store, list) = c.requires.ready.lawful map (step.leads.narrows map admitted) in
-    let at = at-map g.M.Mem c.args.mem.now layout map store (laws g) c.requires.ready c.requires.valid
-    c.requires.declared step.leads step.looks admitted list in
-    let stands = stands-held c.args.key head last at so_far.head_at step.last_seen step.anchored in
+    let begin = list_begin c.args.layout.now in
+    let (map, admitted) = step.way.leads.admits in
+    let (store, list) = c.requires.ready.lawful map (step.way.leads.narrows map admitted) in
+    let at = at-map g.M.Mem c.args.mem.now c.args.layout.now (laws g) c.requires.ready c.requires.valid
+    c.requires.declared step.way admitted list in
+    let stands = stands-held c.args.key c.in_ok-head.head last at so_far.head_at step.last_seen step.anchored in
     let ahead = next-held last next at stands step.next_seen step.next_at c.loop-last-test.true in
     let less : next.node.key < c.args.key = omega (arith, c.if-next-from.false, c.from.ensures) in
     subst (λ o. left begin c.args.key o next.node.key < left begin c.args.key last.object last.node.key)
@@ -82,32 +82,31 @@ loop-last-smaller g c =
 
 pub loop-last-preserved : goal.loop-last-preserved
 loop-last-preserved g c =
-    let layout = c.args.layout.now in
-    let head = c.in_ok-head.head in
-    let last = c.loop-last.last in
     let so_far = c.loop-last.invariant in
-    let opened = c.in_ok-next.ensures in
-    let step = stepped g.M.Mem c.args.mem.now layout c.args.key head c.loop-last.behind last c.in_ok-next.next
-    c.node_object.result (laws g) c.requires.ready c.requires.valid c.requires.declared so_far c.loop-last-test.true
-    c.node_object.ensures opened.visits opened.leads opened.looks c.let_go.ensures.lets c.let_go.ensures.gone in
+    let step = stepped g.M.Mem c.args.mem.now c.args.layout.now (laws g) c.requires.ready c.requires.valid
+    c.requires.declared so_far c.loop-last-test.true c.node_object.ensures c.in_ok-next.ensures.visits
+    c.in_ok-next.ensures.leads c.in_ok-next.ensures.looks c.let_go.ensures.lets c.let_go.ensures.gone in
     let next = c.in_ok-next.next in
     let less : next.node.key < c.args.key = omega (arith, c.if-next-from.false, c.from.ensures) in
-    walking-on g.M.Mem c.args.mem.now layout c.args.key head c.loop-last.behind last next c.unless_at-behind.result
-    c.requires.declared so_far c.loop-last-test.true step less c.unless_at-behind.ensures.none
-    c.unless_at-behind.ensures.some
+    walking-on g.M.Mem c.args.mem.now c.args.layout.now c.args.key c.in_ok-head.head c.loop-last.behind
+    c.loop-last.last next c.unless_at-behind.result c.requires.declared so_far c.loop-last-test.true step
+    less c.unless_at-behind.ensures.none c.unless_at-behind.ensures.some
 
-pub returns-clause-walks : goal.returns-clause-walks
-returns-clause-walks g c =
+pub returns : goal.returns
+returns g c =
     let so_far = c.loop-last.invariant in
-    walks-by g.M.Mem c.args.layout.now c.args.key _ so_far.leads so_far.looks so_far.holds so_far.opens
+    let layout = c.args.layout.now in
+    let way = so_far.way in
+    let walks = walks-by g.M.Mem layout c.args.key _ way.leads way.looks way.holds way.opens
     (λ map admitted store list.
-    let at = at-map g.M.Mem c.args.mem.now c.args.layout.now map store (laws g) c.requires.ready c.requires.valid
-    c.requires.declared so_far.leads so_far.looks admitted list in
+    let at = at-map g.M.Mem c.args.mem.now layout (laws g) c.requires.ready c.requires.valid c.requires.declared way
+    admitted list in
     place-end list
     (stands-held c.args.key c.in_ok-head.head c.loop-last.last at so_far.head_at so_far.last_seen so_far.anchored)
-    c.loop-last-test.false)
-
-pub returns-clause-adds : goal.returns-clause-adds
-returns-clause-adds g c =
-    adds-end g.M.Mem c.args.mem.now c.args.layout.now c.args.key c.in_ok-head.head c.loop-last.behind
-    c.loop-last.last c.loop-last.invariant
+    c.loop-last-test.false) in
+    record {
+      walks = walks;
+      ready = ready-walked g.M.Mem layout c.requires.ready so_far.last_in walks;
+      adds = adds-end g.M.Mem c.args.mem.now layout c.args.key c.in_ok-head.head c.loop-last.behind c.loop-last.last
+          so_far;
+    }
