@@ -95,9 +95,37 @@ impl<'a> Body<StoreLaw> for JobBody<'a> {
     ghost leaves = { λ job held opened. (o : ℕ) → Audits job.task o → IsSome (held o) };
 
     fn run<M: Mem>(&mut self, mem: &mut M) -> Result<(), M::Err> {
-        self.replies = run_all::<M, KeepsReads>(mem, self.layout, self.ops.as_slice())?;
+        self.replies = run_fresh::<M, KeepsReads>(mem, self.layout, self.ops)?;
         Ok(())
     }
+}
+
+/// Runs operations in order as the body of a transaction: on a fresh memory, from any map that it admits.
+#[inline(always)]
+pub(crate) fn run_fresh<M: Mem, L: ListWalk<M>>(
+    mem: &mut M,
+    layout: &Layout,
+    ops: &Ops,
+) -> Result<Replies, M::Err>
+    requires valid { IsValid layout.now }
+    requires fits { All (FitsLayout layout.now) ops.now }
+    requires fresh { IsFresh M.Mem mem.old }
+    requires lawful { (map : List Val) → M.Admits mem.old map → IsLawful layout.now map }
+
+    ensures right { IfOk result (λ replies. (map : List Val) → M.Admits mem.new map →
+        DoesAll (record { layout = layout.now; ops = ops.now }) map (with_set map (M.written mem.new)) replies) }
+    ensures lawful { OnOk result ((map : List Val) → M.Admits mem.new map →
+        IsLawful layout.now (with_set map (M.written mem.new))) }
+    ensures audits { OnOk result ((o : ℕ) → Audits (record { layout = layout.now; ops = ops.now }) o →
+        IsSome (M.held mem.new o)) }
+    ensures few { L.lets_go ≡ true → M.all_write (M.place mem.old) ≡ false →
+        OnOk result ((most : ℕ) → KeepsAtMost (record { layout = layout.now; ops = ops.now }) most →
+        HoldsAtMost most (M.held mem.new)) }
+
+    ensures leads { Leads M.Mem mem.old mem.new result }
+{
+    let replies = run_all::<M, L>(mem, layout, ops.as_slice())?;
+    Ok(replies)
 }
 
 /// Runs operations in order, and answers their replies. A condition among them was seen to hold, so it

@@ -2,7 +2,7 @@ ghost use Rattle.std.specs.Prelude.{◌≡◌, ℕ, [], All, IsSome};
 ghost use Rattle.dstm_model.specs.Layout.{IsValid, FitsLayout};
 ghost use Rattle.dstm_model.specs.Store.{IsPlain};
 
-use crate::job::{JobTask, run_all};
+use crate::job::{JobTask, run_fresh};
 use crate::law::StoreLaw;
 use crate::lists::HandOverHand;
 use dstm_mem::{LooseBody, Release};
@@ -77,11 +77,7 @@ impl LooseBody<StoreLaw> for LooseJobBody {
     ghost keeps_at_most = { λ job. KeepsAtMost job.task };
 
     fn run<M: Release>(&mut self, mem: &mut M) -> Result<(), M::Err> {
-        self.replies = run_all::<M, HandOverHand>(
-            mem,
-            &self.task.layout,
-            self.task.ops.as_slice(),
-        )?;
+        self.replies = run_fresh::<M, HandOverHand>(mem, &self.task.layout, &self.task.ops)?;
         Ok(())
     }
 }

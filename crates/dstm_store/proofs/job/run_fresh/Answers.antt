@@ -1,0 +1,22 @@
+use Rattle.std.proofs.Common.{List, subst}
+use Rattle.dstm_model.specs.declared.value.Val.{Val}
+use Rattle.dstm_model.specs.declared.op.Op.{Op}
+use Rattle.dstm_mem.specs.Memory.{with_set}
+use Rattle.dstm_store.specs.Job.{DoesAll}
+use Rattle.dstm_store.proofs.Bodies.{ready-fresh, of-fresh}
+use Rattle.dstm_store.proofs.job.run_fresh.Goals as goal
+
+pub run_all-requires-clause-ready : goal.run_all-requires-clause-ready
+run_all-requires-clause-ready g c =
+    ready-fresh g.M.Mem c.args.layout.now c.args.mem.now g.met.M.Mem.admitted_length c.requires.fresh c.requires.lawful
+
+pub returns-clause-right : goal.returns-clause-right
+returns-clause-right g c map admitted =
+    let layout = c.args.layout.now in
+    let after = with_set map (g.M.Mem.written c.run_all.new.mem) in
+    let replies = c.in_ok-replies.replies in
+    subst (λ (ops : List Op). DoesAll (record { layout = layout; ops = ops }) map after replies)
+    c.as_slice.ensures.value
+    (of-fresh g.M.Mem c.args.mem.now map
+    (λ (before : List Val). DoesAll (record { layout = layout; ops = c.as_slice.result.now }) before after replies)
+    c.requires.fresh (c.in_ok-replies.ensures.does map admitted))
