@@ -2,107 +2,76 @@ ghost use Rattle.std.specs.Prelude.{◌≡◌, IfOk};
 ghost use Rattle.dstm_model.specs.Layout.{IsValid};
 ghost use Rattle.dstm_store.specs.Whole.{IsLawful};
 
-use crate::counting::{Counting, NO_OPENS, Opens};
-use crate::operations::{ops_of, pick, plain_of};
+use crate::counting::{Counting, Counts, run_body};
+use crate::operations::{BANK, NOTHING, OF_EACH, ops_of, pay, pick, plain_of};
 use dstm_compose::{CompBody, Outcome};
-use dstm_mem::{Body, FlatMem, LooseBody};
-use dstm_model::{Cond, Law, Layout, Op, PlainStore, Replies, Reply, Val, Which};
+use dstm_mem::LooseBody;
+use dstm_model::{Cond, Layout, Op, PlainStore, Replies, Reply, State, Val, Which};
 use dstm_store::{LooseJobBody, StoreLaw, opening, read_state};
 use std::alloc::{AllocError, Global};
 use std::test::Fail;
 
-// ---- bodies on a memory that counts
-
-// How many calls open an object, and how many objects are reads that are kept.
-#[derive(Clone, Copy, Debug, PartialEq, Eq)]
-struct Counts {
-    opens: u32,
-    kept: u32,
-}
-
-fn counts_of(counting: &Counting) -> Counts {
-    let Opens { reads, writes } = counting.opens;
-    Counts {
-        opens: reads.saturating_add(writes),
-        kept: counting.kept,
-    }
-}
-
-// Runs a body on lawful values, and answers what was counted and the values that it leaves.
-fn run_body<L: Law, B: Body<L>>(
-    alloc: Global,
-    values: Vec<Val>,
-    body: &mut B,
-) -> Result<(Counts, Vec<Val>), AllocError>
-    requires { L.holds (B.law body.old) values.items }
-    ensures law { B.law body.new ≡ B.law body.old }
-    ensures lawful { IfOk result (λ done. L.holds (B.law body.new) done.1.items) }
-{
-    let mem = FlatMem::make(alloc, values)?;
-    let mut counting = Counting {
-        mem,
-        opens: NO_OPENS,
-        kept: 0,
-    };
-    match body.run(&mut counting) {
-        Ok(()) => Ok((counts_of(&counting), counting.mem.values())),
-        Err(never) => match never {},
-    }
-}
-
-fn run_loose<L: Law, B: LooseBody<L>>(
-    alloc: Global,
-    values: Vec<Val>,
-    body: &mut B,
-) -> Result<(Counts, Vec<Val>), AllocError>
-    requires { L.holds (B.law body.old) values.items }
-    ensures law { B.law body.new ≡ B.law body.old }
-    ensures lawful { IfOk result (λ done. L.holds (B.law body.new) done.1.items) }
-{
-    let mem = FlatMem::make(alloc, values)?;
-    let mut counting = Counting {
-        mem,
-        opens: NO_OPENS,
-        kept: 0,
-    };
-    match body.run(&mut counting) {
-        Ok(()) => Ok((counts_of(&counting), counting.mem.values())),
-        Err(never) => match never {},
-    }
-}
-
 // ---- jobs
 
-// Runs a job with branches: how it ends, what was counted, and the values that it leaves.
-fn run_branches(
-    alloc: Global,
-    layout: &Layout,
-    values: Vec<Val>,
-    list: &[Op],
-) -> Result<(Outcome, Counts, Vec<Val>), AllocError>
-    requires valid { IsValid layout.now }
-    requires lawful { IsLawful layout.now values.items }
-    ensures { IfOk result (λ done. IsLawful layout.now done.2.items) }
-{
-    let mut body = CompBody::make(layout, &ops_of(layout, list));
-    let (counts, after) = run_body::<StoreLaw, CompBody>(alloc, values, &mut body)?;
-    Ok((body.outcome(), counts, after))
+// How a job is run: with its branches, or its operations one after the other, letting reads go.
+#[derive(Clone, Copy, Debug, PartialEq, Eq)]
+enum Style {
+    Branches,
+    Releasing,
 }
 
-// Runs a job that lets reads go.
-fn run_releasing(
+// Runs a job: its replies where it is not blocked, what was counted, and the values that it leaves.
+fn run_job(
     alloc: Global,
     layout: &Layout,
     values: Vec<Val>,
+    style: Style,
     list: &[Op],
-) -> Result<(Replies, Counts, Vec<Val>), AllocError>
+) -> Result<(Option<Replies>, Counts, Vec<Val>), AllocError>
     requires valid { IsValid layout.now }
     requires lawful { IsLawful layout.now values.items }
     ensures { IfOk result (λ done. IsLawful layout.now done.2.items) }
 {
+    if style == Style::Branches {
+        let mut body = CompBody::make(layout, &ops_of(layout, list));
+        let (counts, after) = run_body::<StoreLaw, CompBody>(alloc, values, &mut body)?;
+        return Ok((replies_of(body.outcome()), counts, after));
+    }
     let mut body = LooseJobBody::make(layout, &plain_of(layout, list));
-    let (counts, after) = run_loose::<StoreLaw, LooseJobBody>(alloc, values, &mut body)?;
-    Ok((body.replies(), counts, after))
+    let (counts, after) = run_loose(alloc, values, &mut body)?;
+    Ok((Some(body.replies()), counts, after))
+}
+
+fn run_loose(
+    alloc: Global,
+    values: Vec<Val>,
+    body: &mut LooseJobBody,
+) -> Result<(Counts, Vec<Val>), AllocError>
+    requires { IsLawful body.old.task.layout values.items }
+    ensures layout { body.new.task.layout ≡ body.old.task.layout }
+    ensures lawful { IfOk result (λ done. IsLawful body.new.task.layout done.1.items) }
+{
+    let mut mem = Counting::of(alloc, values)?;
+    match body.run(&mut mem) {
+        Ok(()) => Ok(mem.end()),
+        Err(never) => match never {},
+    }
+}
+
+fn replies_of(outcome: Outcome) -> Option<Replies> {
+    match outcome {
+        Outcome::Ran(replies) => Some(replies),
+        Outcome::Blocked => None,
+    }
+}
+
+// Tells whether a job has these replies, or is blocked as it should be.
+fn answers(replies: &Option<Replies>, wanted: Option<&[Reply]>) -> bool {
+    match (replies, wanted) {
+        (Some(replies), Some(wanted)) => replies.as_slice() == wanted,
+        (None, None) => true,
+        _ => false,
+    }
 }
 
 // ---- beside the plain store
@@ -163,15 +132,6 @@ fn pick_job(seed: u32) -> [Op; 8] {
     ]
 }
 
-// Tells whether a job ended as the plain store says.
-fn same_outcome(outcome: &Outcome, wanted: &Option<Replies>) -> bool {
-    match (outcome, wanted) {
-        (Outcome::Ran(replies), Some(wanted)) => replies.as_slice() == wanted.as_slice(),
-        (Outcome::Blocked, None) => true,
-        _ => false,
-    }
-}
-
 // How many of these jobs end as the plain store says, and leave what it leaves: each with its branches, and then its
 // operations one after the other, letting reads go. How many of them were blocked.
 fn run_beside(alloc: Global, layout: &Layout, jobs: u32) -> Result<(u32, u32), AllocError>
@@ -185,20 +145,20 @@ fn run_beside(alloc: Global, layout: &Layout, jobs: u32) -> Result<(u32, u32), A
     for _job in 0..jobs {
         seed = next_of(seed);
         let job = pick_job(seed);
-        let (outcome, _counts, after) = run_branches(alloc, layout, values, &job)?;
+        let (chosen, _counts, after) = run_job(alloc, layout, values, Style::Branches, &job)?;
         let wanted = store.apply_job(&ops_of(layout, &job))?;
         if wanted.is_none() {
             blocked = blocked.saturating_add(1);
         }
-        let (replies, _loose, left) = run_releasing(alloc, layout, after, &job)?;
+        let (all, _loose, left) = run_job(alloc, layout, after, Style::Releasing, &job)?;
         let plain = store.apply_job(&plain_of(layout, &job))?;
         let state = read_state(alloc, layout, &left)?;
         let holds = store.state(alloc)?;
         let is_held = state.bank.as_slice() == holds.bank.as_slice()
             && state.list.as_slice() == holds.list.as_slice()
             && state.tree.as_slice() == holds.tree.as_slice();
-        if same_outcome(&outcome, &wanted)
-            && same_outcome(&Outcome::Ran(replies), &plain)
+        if answers(&chosen, wanted.as_ref().map(|replies| replies.as_slice()))
+            && answers(&all, plain.as_ref().map(|replies| replies.as_slice()))
             && is_held
         {
             same = same.saturating_add(1);
@@ -210,13 +170,7 @@ fn run_beside(alloc: Global, layout: &Layout, jobs: u32) -> Result<(u32, u32), A
 
 #[test]
 fn jobs_with_branches_end_as_on_the_plain_store(rt: HostRuntime) -> Result<(), Fail> {
-    let layout = Layout {
-        accounts: 3,
-        opening: 50,
-        list: 5,
-        tree: 6,
-    };
-    let (same, blocked) = run_beside(rt.alloc(), &layout, 2_000)?;
+    let (same, blocked) = run_beside(rt.alloc(), &OF_EACH, 2_000)?;
     assert_eq!(rt; same, 2_000);
     assert!(rt; blocked > 100);
     Ok(())
@@ -224,29 +178,41 @@ fn jobs_with_branches_end_as_on_the_plain_store(rt: HostRuntime) -> Result<(), F
 
 // ---- worked rows
 
+// A job, its replies where it is not blocked, and, where that is told, how many calls open an object and how many reads are
+// kept.
+type Row<'a> = (&'a [Op], Option<&'a [Reply]>, Option<(u32, u32)>);
+
+// Runs jobs one after the other: the first row that says something else of its job, and what the store holds then.
+fn run_rows(
+    alloc: Global,
+    layout: &Layout,
+    style: Style,
+    rows: &[Row<'_>],
+) -> Result<(Option<usize>, State), AllocError>
+    requires { IsValid layout.now }
+{
+    let mut values = opening(alloc, layout)?;
+    let mut other = None;
+    for (i, row) in rows.iter().enumerate() {
+        let (job, wanted, told) = *row;
+        let (replies, counts, after) = run_job(alloc, layout, values, style, job)?;
+        values = after;
+        if other.is_none()
+            && !(answers(&replies, wanted)
+                && told.is_none_or(|told| told == (counts.opens, counts.kept)))
+        {
+            other = Some(i);
+        }
+    }
+    Ok((other, read_state(alloc, layout, &values)?))
+}
+
 fn await_balance(account: u32, least: u64) -> Op {
     Op::Await(Cond::Balance { account, least })
 }
 
-fn pay(source: u32, target: u32, amount: u64) -> Op {
-    Op::Transfer {
-        source,
-        target,
-        amount,
-    }
-}
-
 #[test]
 fn the_first_open_branch_is_run(rt: HostRuntime) -> Result<(), Fail> {
-    let layout = Layout {
-        accounts: 2,
-        opening: 100,
-        list: 0,
-        tree: 0,
-    };
-    let values = opening(rt.alloc(), &layout)?;
-
-    // Both conditions are looked at, and no more.
     let both = [
         await_balance(0, 150),
         pay(0, 1, 1),
@@ -254,157 +220,82 @@ fn the_first_open_branch_is_run(rt: HostRuntime) -> Result<(), Fail> {
         await_balance(1, 101),
         Op::Total,
     ];
-    let (outcome, counts, values) = run_branches(rt.alloc(), &layout, values, &both)?;
-    assert!(rt; same_outcome(&outcome, &None));
-    assert_eq!(rt; counts, Counts { opens: 2, kept: 2 });
-
-    // The second branch is open: one look, and two accounts to pay from and to.
     let second = [
         await_balance(0, 150),
         pay(0, 1, 1),
         Op::OrElse,
         pay(1, 0, 60),
     ];
-    let (outcome, counts, values) = run_branches(rt.alloc(), &layout, values, &second)?;
-    assert!(rt; ran(&outcome, &[Reply::Moved]));
-    assert_eq!(rt; counts.opens, 3);
-
-    // The first of two open branches is run.
     let first = [await_balance(0, 150), Op::Total, Op::OrElse, pay(0, 1, 5)];
-    let (outcome, counts, values) = run_branches(rt.alloc(), &layout, values, &first)?;
-    assert!(rt; ran(&outcome, &[Reply::Yes, Reply::Number(200)]));
-    assert_eq!(rt; counts.opens, 3);
-    let state = read_state(rt.alloc(), &layout, &values)?;
+    let rows: [Row<'_>; 3] = [
+        // Both conditions are looked at, and no more.
+        (&both, None, Some((2, 2))),
+        // The second branch is open: one look, and two accounts to pay from and to, which are no reads.
+        (&second, Some(&[Reply::Moved]), Some((3, 0))),
+        // The first of two open branches is run.
+        (
+            &first,
+            Some(&[Reply::Yes, Reply::Number(200)]),
+            Some((3, 2)),
+        ),
+    ];
+    let (other, state) = run_rows(rt.alloc(), &BANK, Style::Branches, &rows)?;
+    assert_eq!(rt; other, None);
     assert_eq!(rt; state.bank.as_slice(), [160, 40].as_slice());
     Ok(())
 }
 
-// Tells whether a job ran with these replies.
-fn ran(outcome: &Outcome, wanted: &[Reply]) -> bool {
-    match outcome {
-        Outcome::Ran(replies) => replies.as_slice() == wanted,
-        Outcome::Blocked => false,
-    }
-}
-
-fn insert(key: u32) -> Op {
-    Op::Insert {
-        which: Which::List,
-        key,
-    }
-}
-
-fn remove(key: u32) -> Op {
-    Op::Remove {
-        which: Which::List,
-        key,
-    }
-}
-
-fn member(key: u32) -> Op {
-    Op::Member {
-        which: Which::List,
-        key,
-    }
-}
-
 #[test]
 fn a_walk_hand_over_hand_keeps_few_reads(rt: HostRuntime) -> Result<(), Fail> {
-    let layout = Layout {
-        accounts: 0,
-        opening: 0,
-        list: 8,
-        tree: 0,
-    };
-    let alloc = rt.alloc();
-    let values = opening(alloc, &layout)?;
-    let keys = [insert(10), insert(20), insert(30), insert(40), insert(50)];
-    let (replies, _counts, values) = run_releasing(alloc, &layout, values, &keys)?;
-    assert_eq!(rt; replies.as_slice(), [Reply::Yes; 5].as_slice());
-    let state = read_state(alloc, &layout, &values)?;
+    let layout = Layout { list: 8, ..NOTHING };
+    let which = Which::List;
+    let keys = [10, 20, 30, 40, 50].map(|key| Op::Insert { which, key });
+    let last = [Op::Member { which, key: 50 }];
+    let two = [Op::Member { which, key: 50 }, Op::Member { which, key: 15 }];
+    let rows: [Row<'_>; 4] = [
+        (&keys, Some(&[Reply::Yes; 5]), None),
+        // The head and the five nodes, each once; the nodes of 40 and 50 stay.
+        (&last, Some(&[Reply::Yes]), Some((6, 2))),
+        // Then the head and the nodes of 10 and 20 stay, too.
+        (&two, Some(&[Reply::Yes, Reply::No]), Some((9, 5))),
+        (&[Op::Insert { which, key: 5 }], Some(&[Reply::Yes]), None),
+    ];
+    let (other, state) = run_rows(rt.alloc(), &layout, Style::Releasing, &rows[..1])?;
+    assert_eq!(rt; other, None);
     assert_eq!(rt; state.list.as_slice(), [10, 20, 30, 40, 50].as_slice());
-
-    // The head and the five nodes, each once; the nodes of 40 and 50 stay.
-    let (replies, counts, values) = run_releasing(alloc, &layout, values, &[member(50)])?;
-    assert_eq!(rt; replies.as_slice(), [Reply::Yes].as_slice());
-    assert_eq!(rt; counts, Counts { opens: 6, kept: 2 });
-
-    // Then the head and the nodes of 10 and 20 stay, too.
-    let two = [member(50), member(15)];
-    let (replies, counts, values) = run_releasing(alloc, &layout, values, &two)?;
-    assert_eq!(rt; replies.as_slice(), [Reply::Yes, Reply::No].as_slice());
-    assert_eq!(rt; counts, Counts { opens: 9, kept: 5 });
-    let (replies, _counts, values) = run_releasing(alloc, &layout, values, &[insert(5)])?;
-    assert_eq!(rt; replies.as_slice(), [Reply::Yes].as_slice());
-    let state = read_state(alloc, &layout, &values)?;
+    let (other, state) = run_rows(rt.alloc(), &layout, Style::Releasing, &rows)?;
+    assert_eq!(rt; other, None);
     assert_eq!(rt; state.list.as_slice(), [5, 10, 20, 30, 40, 50].as_slice());
     Ok(())
 }
 
-// What one operation on the list answers and counts, and the values that it leaves.
-fn run_one(
-    alloc: Global,
-    layout: &Layout,
-    values: Vec<Val>,
-    op: Op,
-) -> Result<(Option<Reply>, Counts, Vec<Val>), AllocError>
-    requires valid { IsValid layout.now }
-    requires lawful { IsLawful layout.now values.items }
-    ensures { IfOk result (λ done. IsLawful layout.now done.2.items) }
-{
-    let (replies, counts, after) = run_releasing(alloc, layout, values, &[op])?;
-    Ok((replies.as_slice().first().copied(), counts, after))
-}
-
 #[test]
 fn an_edit_hand_over_hand_keeps_few_reads(rt: HostRuntime) -> Result<(), Fail> {
-    let layout = Layout {
-        accounts: 0,
-        opening: 0,
-        list: 6,
-        tree: 0,
-    };
-    let alloc = rt.alloc();
-    let values = opening(alloc, &layout)?;
-    let keys = [insert(10), insert(20), insert(30), insert(40), insert(50)];
-    let (_replies, _counts, values) = run_releasing(alloc, &layout, values, &keys)?;
-
-    // The head, the five nodes and the head of the free chain are read; three objects are opened for writing, and the
-    // node of 50 is the one read that stays.
-    let (reply, counts, values) = run_one(alloc, &layout, values, insert(45))?;
-    assert_eq!(rt; reply, Some(Reply::Yes));
-    assert_eq!(rt; counts, Counts { opens: 10, kept: 1 });
-
-    // No node is free. The head, the nodes of 10 and 20, and the head of the free chain stay.
-    let (reply, counts, values) = run_one(alloc, &layout, values, insert(15))?;
-    assert_eq!(rt; reply, Some(Reply::Full));
-    assert_eq!(rt; counts, Counts { opens: 4, kept: 4 });
-
-    // The key is there: the nodes of 45 and 50 stay.
-    let (reply, counts, values) = run_one(alloc, &layout, values, insert(50))?;
-    assert_eq!(rt; reply, Some(Reply::No));
-    assert_eq!(rt; counts, Counts { opens: 7, kept: 2 });
-
-    // The head and the six nodes are read; the last two are opened for writing, and no read stays.
-    let (reply, counts, values) = run_one(alloc, &layout, values, remove(50))?;
-    assert_eq!(rt; reply, Some(Reply::Yes));
-    assert_eq!(rt; counts, Counts { opens: 10, kept: 0 });
-
-    // At the second node the head is a read still.
-    let (reply, counts, values) = run_one(alloc, &layout, values, remove(20))?;
-    assert_eq!(rt; reply, Some(Reply::Yes));
-    assert_eq!(rt; counts, Counts { opens: 6, kept: 1 });
-
-    // Before the second node that is left the head and that node are.
-    let (reply, counts, values) = run_one(alloc, &layout, values, insert(15))?;
-    assert_eq!(rt; reply, Some(Reply::Yes));
-    assert_eq!(rt; counts, Counts { opens: 7, kept: 2 });
-
-    // The head and the nodes of 10 and 15 are.
-    let (reply, counts, values) = run_one(alloc, &layout, values, remove(12))?;
-    assert_eq!(rt; reply, Some(Reply::No));
-    assert_eq!(rt; counts, Counts { opens: 3, kept: 3 });
-    let state = read_state(alloc, &layout, &values)?;
+    let layout = Layout { list: 6, ..NOTHING };
+    let which = Which::List;
+    let keys = [10, 20, 30, 40, 50].map(|key| Op::Insert { which, key });
+    let insert = |key: u32| [Op::Insert { which, key }];
+    let remove = |key: u32| [Op::Remove { which, key }];
+    let rows: [Row<'_>; 8] = [
+        (&keys, Some(&[Reply::Yes; 5]), None),
+        // The head, the five nodes and the head of the free chain are read; three objects are opened for writing, and
+        // the node of 50 is the one read that stays.
+        (&insert(45), Some(&[Reply::Yes]), Some((10, 1))),
+        // No node is free. The head, the nodes of 10 and 20, and the head of the free chain stay.
+        (&insert(15), Some(&[Reply::Full]), Some((4, 4))),
+        // The key is there: the nodes of 45 and 50 stay.
+        (&insert(50), Some(&[Reply::No]), Some((7, 2))),
+        // The head and the six nodes are read; the last two are opened for writing, and no read stays.
+        (&remove(50), Some(&[Reply::Yes]), Some((10, 0))),
+        // At the second node the head is a read still.
+        (&remove(20), Some(&[Reply::Yes]), Some((6, 1))),
+        // Before the second node that is left the head and that node are.
+        (&insert(15), Some(&[Reply::Yes]), Some((7, 2))),
+        // The head and the nodes of 10 and 15 are.
+        (&remove(12), Some(&[Reply::No]), Some((3, 3))),
+    ];
+    let (other, state) = run_rows(rt.alloc(), &layout, Style::Releasing, &rows)?;
+    assert_eq!(rt; other, None);
     assert_eq!(rt; state.list.as_slice(), [10, 15, 30, 40, 45].as_slice());
     Ok(())
 }

@@ -1,5 +1,17 @@
-use dstm_mem::{FlatMem, Mem, Never, Release};
-use dstm_model::Val;
+ghost use Rattle.std.specs.Prelude.{◌≡◌, ◌<◌, List, length, IfOk};
+ghost use Rattle.dstm_model.specs.declared.value.Val.{Val};
+ghost use Rattle.dstm_model.specs.Layout.{IsValid};
+ghost use Rattle.dstm_model.specs.Objects.{objects_of, IsBank};
+ghost use Rattle.dstm_mem.specs.Memory.{with_set};
+ghost use Rattle.dstm_mem.specs.Operations.{IsFresh, IsReady};
+ghost use Rattle.dstm_list.specs.List.{IsList};
+ghost use Rattle.dstm_tree.specs.Objects.{IsTree};
+ghost use Rattle.dstm_store.specs.Whole.{StandsFor};
+
+use dstm_mem::{Body, FlatMem, Mem, Never, Release};
+use dstm_model::{Law, Layout, Val};
+use dstm_store::opening;
+use std::alloc::{AllocError, Global};
 
 /// How many calls open an object, for reading and for writing.
 #[derive(Clone, Copy, Debug, PartialEq, Eq)]
@@ -19,7 +31,74 @@ pub(crate) const NO_OPENS: Opens = Opens {
 pub(crate) struct Counting {
     pub(crate) mem: FlatMem,
     pub(crate) opens: Opens,
+    kept: u32,
+}
+
+/// How many calls open an object, and how many objects are reads that are kept.
+#[derive(Clone, Copy, Debug, PartialEq, Eq)]
+pub(crate) struct Counts {
+    pub(crate) opens: u32,
     pub(crate) kept: u32,
+}
+
+impl Counting {
+    /// A memory of these values, which counted nothing so far.
+    pub(crate) fn of(alloc: Global, values: Vec<Val>) -> Result<Counting, AllocError>
+        ensures fresh { IfOk result (IsFresh ⟦<Counting as Mem>⟧) }
+        ensures objects { IfOk result (λ mem. ⟦<Counting as Mem>⟧.objects mem ≡ length values.items) }
+        ensures admits { IfOk result (λ mem. (map : List Val) →
+            ⟦<Counting as Mem>⟧.Admits mem map → map ≡ values.items) }
+    {
+        let mem = FlatMem::make(alloc, values)?;
+        Ok(Counting {
+            mem,
+            opens: NO_OPENS,
+            kept: 0,
+        })
+    }
+
+    /// What was counted, and the values with what is set.
+    pub(crate) fn end(self) -> (Counts, Vec<Val>)
+        ensures { (map : List Val) → ⟦<Counting as Mem>⟧.Admits self map →
+            result.1.items ≡ with_set map (⟦<Counting as Mem>⟧.written self) }
+    {
+        let Counting { mem, opens, kept } = self;
+        let opens = opens.reads.saturating_add(opens.writes);
+        (Counts { opens, kept }, mem.values())
+    }
+}
+
+/// A memory of the opening values.
+pub(crate) fn opened(alloc: Global, layout: &Layout) -> Result<Counting, AllocError>
+    requires { IsValid layout.now }
+    ensures store { IfOk result (IsReady ⟦<Counting as Mem>⟧ (objects_of layout.now) (StandsFor layout.now)) }
+    ensures bank { IfOk result (IsReady ⟦<Counting as Mem>⟧ (objects_of layout.now) (IsBank layout.now)) }
+    ensures list { IfOk result (IsReady ⟦<Counting as Mem>⟧ (objects_of layout.now) (IsList layout.now)) }
+    ensures tree { 0 < layout.now.tree →
+        IfOk result (IsReady ⟦<Counting as Mem>⟧ (objects_of layout.now) (IsTree layout.now)) }
+{
+    let values = opening(alloc, layout)?;
+    let mem = Counting::of(alloc, values)?;
+    Ok(mem)
+}
+
+/// Runs a body on lawful values: what was counted, and the values that it leaves.
+pub(crate) fn run_body<L: Law, B: Body<L>>(
+    alloc: Global,
+    values: Vec<Val>,
+    body: &mut B,
+) -> Result<(Counts, Vec<Val>), AllocError>
+    requires { L.holds (B.law body.old) values.items }
+    ensures law { B.law body.new ≡ B.law body.old }
+    ensures task { B.task body.new ≡ B.task body.old }
+    ensures lawful { IfOk result (λ done. L.holds (B.law body.new) done.1.items) }
+    ensures right { IfOk result (λ done. B.right body.new values.items done.1.items) }
+{
+    let mut mem = Counting::of(alloc, values)?;
+    match body.run(&mut mem) {
+        Ok(()) => Ok(mem.end()),
+        Err(never) => match never {},
+    }
 }
 
 impl Mem for Counting {

@@ -5,8 +5,10 @@ ghost use Rattle.dstm_model.specs.Objects.{objects_of};
 ghost use Rattle.dstm_mem.specs.Operations.{IsReady};
 ghost use Rattle.dstm_list.specs.List.{IsList};
 
-use dstm_list::{Node, insert, member, remove};
-use dstm_mem::{FlatMem, Mem};
+use crate::counting::{Counting, opened};
+use crate::operations::NOTHING;
+use dstm_list::{insert, member, remove};
+use dstm_mem::Mem;
 use dstm_model::{Layout, Op, Reply, Val, Which};
 use std::collections::BTreeSet;
 use std::test::Fail;
@@ -33,11 +35,11 @@ fn run_step<M: Mem>(mem: &mut M, layout: &Layout, step: Step, key: u32) -> Resul
 }
 
 // The answer to an operation on a memory of one thread.
-fn answer(mem: &mut FlatMem, layout: &Layout, step: Step, key: u32) -> Reply
+fn answer(mem: &mut Counting, layout: &Layout, step: Step, key: u32) -> Reply
     requires valid { IsValid layout.now }
     requires fits { FitsLayout layout.now (Op.Member which.List key) }
-    requires ready { IsReady ⟦<FlatMem as Mem>⟧ (objects_of layout.now) (IsList layout.now) mem.old }
-    ensures { IsReady ⟦<FlatMem as Mem>⟧ (objects_of layout.now) (IsList layout.now) mem.new }
+    requires ready { IsReady ⟦<Counting as Mem>⟧ (objects_of layout.now) (IsList layout.now) mem.old }
+    ensures { IsReady ⟦<Counting as Mem>⟧ (objects_of layout.now) (IsList layout.now) mem.new }
 {
     match run_step(mem, layout, step, key) {
         Ok(reply) => reply,
@@ -45,36 +47,30 @@ fn answer(mem: &mut FlatMem, layout: &Layout, step: Step, key: u32) -> Reply
     }
 }
 
+// Room for two keys, behind one account.
+const TWO: Layout = Layout {
+    accounts: 1,
+    opening: 100,
+    list: 2,
+    ..NOTHING
+};
+
 #[test]
 fn two_keys_fill_the_list(rt: HostRuntime) -> Result<(), Fail> {
-    let layout = Layout {
-        accounts: 1,
-        opening: 100,
-        list: 2,
-        tree: 0,
-    };
-    let money = Val { low: 100, high: 0 };
-    let none = Val { low: 0, high: 0 };
-    let one = Val { low: 1, high: 0 };
-    let two = Val { low: 2, high: 0 };
-    let values = vec![in rt.alloc(); money, none, one, two, none]?;
-    let mut mem = FlatMem::make(rt.alloc(), values)?;
-    assert_eq!(rt; answer(&mut mem, &layout, Step::Member, 0), Reply::No);
-    assert_eq!(rt; answer(&mut mem, &layout, Step::Insert, 9), Reply::Yes);
-    assert_eq!(rt; answer(&mut mem, &layout, Step::Insert, 4), Reply::Yes);
-    assert_eq!(rt; answer(&mut mem, &layout, Step::Insert, 6), Reply::Full);
-    assert_eq!(rt; answer(&mut mem, &layout, Step::Insert, 9), Reply::No);
-    assert_eq!(rt; answer(&mut mem, &layout, Step::Member, 9), Reply::Yes);
-    assert_eq!(rt; answer(&mut mem, &layout, Step::Remove, 9), Reply::Yes);
-    assert_eq!(rt; answer(&mut mem, &layout, Step::Remove, 9), Reply::No);
-    assert_eq!(rt; answer(&mut mem, &layout, Step::Insert, 0), Reply::Yes);
+    let mut mem = opened(rt.alloc(), &TWO)?;
+    assert_eq!(rt; answer(&mut mem, &TWO, Step::Member, 0), Reply::No);
+    assert_eq!(rt; answer(&mut mem, &TWO, Step::Insert, 9), Reply::Yes);
+    assert_eq!(rt; answer(&mut mem, &TWO, Step::Insert, 4), Reply::Yes);
+    assert_eq!(rt; answer(&mut mem, &TWO, Step::Insert, 6), Reply::Full);
+    assert_eq!(rt; answer(&mut mem, &TWO, Step::Insert, 9), Reply::No);
+    assert_eq!(rt; answer(&mut mem, &TWO, Step::Member, 9), Reply::Yes);
+    assert_eq!(rt; answer(&mut mem, &TWO, Step::Remove, 9), Reply::Yes);
+    assert_eq!(rt; answer(&mut mem, &TWO, Step::Remove, 9), Reply::No);
+    assert_eq!(rt; answer(&mut mem, &TWO, Step::Insert, 0), Reply::Yes);
     // Node 1 holds the key 0 and links to node 2, which holds the key 4.
-    let four = Val {
-        low: 4 * 2_048,
-        high: 0,
-    };
-    let after = [money, one, none, two, four];
-    assert_eq!(rt; mem.values().as_slice(), after.as_slice());
+    let after = [100, 1, 0, 2, 4 * 2_048].map(|low| Val { low, high: 0 });
+    let (_, values) = mem.end();
+    assert_eq!(rt; values.as_slice(), after.as_slice());
     Ok(())
 }
 
@@ -97,18 +93,8 @@ fn expected(keys: &mut BTreeSet<u32>, room: usize, step: Step, key: u32) -> Resu
 
 #[test]
 fn a_list_answers_as_a_set_does(rt: HostRuntime) -> Result<(), Fail> {
-    let layout = Layout {
-        accounts: 0,
-        opening: 0,
-        list: 3,
-        tree: 0,
-    };
-    let none = Val { low: 0, high: 0 };
-    let one = Val { low: 1, high: 0 };
-    let two = Val { low: 2, high: 0 };
-    let three = Val { low: 3, high: 0 };
-    let values = vec![in rt.alloc(); none, one, two, three, none]?;
-    let mut mem = FlatMem::make(rt.alloc(), values)?;
+    let layout = Layout { list: 3, ..NOTHING };
+    let mut mem = opened(rt.alloc(), &layout)?;
     let mut keys = BTreeSet::new(rt.alloc());
     let mut number: u32 = 1;
     'steps: for _ in 0..60 {

@@ -2,9 +2,9 @@ ghost use Rattle.std.specs.Prelude.{◌≡◌, ℕ, ◌<◌, List, length, slice
 ghost use Rattle.dstm_model.specs.declared.value.Val.{Val};
 ghost use Rattle.dstm_model.specs.Map.{value_at};
 
+use crate::counting::run_body;
 use dstm_mem::{Body, FlatMem, Mem, Release, admits_what_it_holds};
 use dstm_model::{Law, Val};
-use std::alloc::{AllocError, Global};
 use std::test::Fail;
 
 // The law that there is an object.
@@ -42,23 +42,6 @@ impl Body<NotEmpty> for Replace {
         self.found = mem.open_write(0)?;
         mem.set(0, self.value);
         Ok(())
-    }
-}
-
-// Runs any body on these values, and answers the values that it leaves.
-fn run_flat<L: Law, B: Body<L>>(
-    alloc: Global,
-    values: Vec<Val>,
-    body: &mut B,
-) -> Result<Vec<Val>, AllocError>
-    requires { L.holds (B.law body.old) values.items }
-    ensures lawful { IfOk result (λ after. L.holds (B.law body.new) after.items) }
-    ensures right { IfOk result (λ after. B.right body.new values.items after.items) }
-{
-    let mut mem = FlatMem::make(alloc, values)?;
-    match body.run(&mut mem) {
-        Ok(()) => Ok(mem.values()),
-        Err(never) => match never {},
     }
 }
 
@@ -124,7 +107,7 @@ fn a_body_leaves_what_it_sets(rt: HostRuntime) -> Result<(), Fail> {
         found: three,
     };
     let values = vec![in rt.alloc(); one, one]?;
-    let after = run_flat::<NotEmpty, Replace>(rt.alloc(), values, &mut body)?;
+    let (_, after) = run_body::<NotEmpty, Replace>(rt.alloc(), values, &mut body)?;
     assert_eq!(rt; after.as_slice(), [three, one].as_slice());
     assert_eq!(rt; body.found, one);
     Ok(())

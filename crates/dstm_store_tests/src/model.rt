@@ -1,33 +1,13 @@
+use crate::operations::{BANK, pay};
 use dstm_model::{Cond, Item, Items, Layout, Numbers, Op, Ops, PlainStore, Replies, Reply, Which};
 use std::test::Fail;
 
 #[test]
 fn transfers_move_money(rt: HostRuntime) -> Result<(), Fail> {
-    let layout = Layout {
-        accounts: 2,
-        opening: 100,
-        list: 0,
-        tree: 0,
-    };
-    let mut store = PlainStore::opening(rt.alloc(), &layout)?;
-    let moved = store.apply(&Op::Transfer {
-        source: 0,
-        target: 1,
-        amount: 30,
-    })?;
-    assert_eq!(rt; moved, Reply::Moved);
-    let poor = store.apply(&Op::Transfer {
-        source: 0,
-        target: 1,
-        amount: 80,
-    })?;
-    assert_eq!(rt; poor, Reply::Poor);
-    let own = store.apply(&Op::Transfer {
-        source: 1,
-        target: 1,
-        amount: 130,
-    })?;
-    assert_eq!(rt; own, Reply::Moved);
+    let mut store = PlainStore::opening(rt.alloc(), &BANK)?;
+    assert_eq!(rt; store.apply(&pay(0, 1, 30))?, Reply::Moved);
+    assert_eq!(rt; store.apply(&pay(0, 1, 80))?, Reply::Poor);
+    assert_eq!(rt; store.apply(&pay(1, 1, 130))?, Reply::Moved);
     let state = store.state(rt.alloc())?;
     assert_eq!(rt; state.bank.as_slice(), [70, 130].as_slice());
     assert_eq!(rt; state.list.as_slice().len(), 0);
@@ -55,12 +35,7 @@ fn lists_keep_their_order(rt: HostRuntime) -> Result<(), Fail> {
 
 #[test]
 fn jobs_take_their_first_open_branch(rt: HostRuntime) -> Result<(), Fail> {
-    let layout = Layout {
-        accounts: 2,
-        opening: 100,
-        list: 1,
-        tree: 0,
-    };
+    let layout = Layout { list: 1, ..BANK };
     let mut store = PlainStore::opening(rt.alloc(), &layout)?;
     let mut ops = Ops::new();
     ops.push(Op::Await(Cond::Balance {
@@ -70,11 +45,7 @@ fn jobs_take_their_first_open_branch(rt: HostRuntime) -> Result<(), Fail> {
     ops.push(Op::Total);
     assert!(rt; store.apply_job(&ops)?.is_none());
     ops.push(Op::OrElse);
-    ops.push(Op::Transfer {
-        source: 1,
-        target: 0,
-        amount: 60,
-    });
+    ops.push(pay(1, 0, 60));
     ops.push(Op::OrElse);
     ops.push(Op::Balance { account: 1 });
     let moved = store.apply_job(&ops)?.ok_or("an open branch")?;

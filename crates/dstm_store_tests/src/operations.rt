@@ -1,8 +1,41 @@
-ghost use Rattle.std.specs.Prelude.{All, IsTrue};
+ghost use Rattle.std.specs.Prelude.{◌≡◌, All, IsTrue};
 ghost use Rattle.dstm_model.specs.Layout.{FitsLayout, FitsCond, FitsKey};
 ghost use Rattle.dstm_model.specs.Store.{IsPlain};
 
 use dstm_model::{AMOUNT_LIMIT, Cond, KEY_LIMIT, Layout, Op, Ops, Which};
+
+/// The layout of nothing, to which a test adds what it is about.
+pub(crate) const NOTHING: Layout = Layout {
+    accounts: 0,
+    opening: 0,
+    list: 0,
+    tree: 0,
+};
+
+/// Two accounts, each opened with 100.
+pub(crate) const BANK: Layout = Layout {
+    accounts: 2,
+    opening: 100,
+    ..NOTHING
+};
+
+/// A bank, a list and a tree.
+pub(crate) const OF_EACH: Layout = Layout {
+    accounts: 3,
+    opening: 50,
+    list: 5,
+    tree: 6,
+};
+
+pub(crate) fn pay(source: u32, target: u32, amount: u64) -> Op
+    ensures { result ≡ Op.Transfer source target amount }
+{
+    Op::Transfer {
+        source,
+        target,
+        amount,
+    }
+}
 
 /// Tells whether an operation fits a layout.
 pub(crate) fn fits(layout: &Layout, op: &Op) -> bool

@@ -1,48 +1,35 @@
-ghost use Rattle.std.specs.Prelude.{◌≡◌, ◌<◌, List, All, IfOk};
-ghost use Rattle.dstm_model.specs.declared.value.Val.{Val};
+ghost use Rattle.std.specs.Prelude.{All, IfOk};
 ghost use Rattle.dstm_model.specs.Layout.{IsValid, FitsLayout};
 ghost use Rattle.dstm_model.specs.Store.{IsPlain};
 ghost use Rattle.dstm_model.specs.Objects.{objects_of};
-ghost use Rattle.dstm_mem.specs.Memory.{with_set};
 ghost use Rattle.dstm_mem.specs.Operations.{IsReady};
 ghost use Rattle.dstm_store.specs.Whole.{StandsFor, IsLawful};
 ghost use Rattle.dstm_store.specs.Job.{DoesAll};
 
-use crate::counting::{Counting, NO_OPENS, Opens};
-use crate::operations::{can_run, pick, plain_of};
-use dstm_mem::{Body, FlatMem, Mem};
-use dstm_model::{Item, Law, Layout, Op, Ops, PlainStore, Replies, Reply, State, Val, Which};
+use crate::counting::{Counting, NO_OPENS, Opens, opened, run_body};
+use crate::operations::{BANK, NOTHING, OF_EACH, can_run, pay, pick, plain_of};
+use dstm_mem::Mem;
+use dstm_model::{Item, Layout, Op, Ops, PlainStore, Replies, Reply, State, Val, Which};
 use dstm_store::{JobBody, StoreLaw, opening, read_state, run_op, stands_for_one};
 use std::alloc::{AllocError, Global};
 use std::test::Fail;
 
 // ---- a store on a memory of one thread
 
-// The answer to an operation, and Never to one that may not be run.
-fn answer(mem: &mut FlatMem, layout: &Layout, op: &Op) -> Reply
+// The answer to an operation, and what it opens; None for one that may not be run.
+fn count(mem: &mut Counting, layout: &Layout, op: &Op) -> Option<(Reply, Opens)>
     requires valid { IsValid layout.now }
-    requires ready { IsReady ⟦<FlatMem as Mem>⟧ (objects_of layout.now) (StandsFor layout.now) mem.old }
-    ensures { IsReady ⟦<FlatMem as Mem>⟧ (objects_of layout.now) (StandsFor layout.now) mem.new }
+    requires ready { IsReady ⟦<Counting as Mem>⟧ (objects_of layout.now) (StandsFor layout.now) mem.old }
+    ensures { IsReady ⟦<Counting as Mem>⟧ (objects_of layout.now) (StandsFor layout.now) mem.new }
 {
     if !can_run(layout, op) {
-        return Reply::Never;
+        return None;
     }
+    mem.opens = NO_OPENS;
     match run_op(mem, layout, op) {
-        Ok(reply) => reply,
+        Ok(reply) => Some((reply, mem.opens)),
         Err(never) => match never {},
     }
-}
-
-// The memory that holds the opening values.
-fn opened(alloc: Global, layout: &Layout) -> Result<FlatMem, AllocError>
-    requires { IsValid layout.now }
-    ensures objects { IfOk result (λ mem. ⟦<FlatMem as Mem>⟧.objects mem ≡ objects_of layout.now) }
-    ensures lawful { IfOk result (λ mem. (map : List Val) → ⟦<FlatMem as Mem>⟧.Admits mem map →
-        IsLawful layout.now (with_set map (⟦<FlatMem as Mem>⟧.written mem))) }
-{
-    let values = opening(alloc, layout)?;
-    let mem = FlatMem::make(alloc, values)?;
-    Ok(mem)
 }
 
 // The answers to operations one after the other, and what the store holds then.
@@ -52,37 +39,52 @@ fn run_each(alloc: Global, layout: &Layout, ops: &[Op]) -> Result<(Vec<Reply>, S
     let mut mem = opened(alloc, layout)?;
     let mut replies = Vec::new(alloc);
     for op in ops {
-        let reply = answer(&mut mem, layout, op);
+        let reply = match count(&mut mem, layout, op) {
+            Some((reply, _)) => reply,
+            None => Reply::Never,
+        };
         replies.push(reply)?;
     }
-    let values = mem.values();
+    let (_, values) = mem.end();
     let state = read_state(alloc, layout, &values)?;
     Ok((replies, state))
 }
 
-#[test]
-fn accounts_and_a_list(rt: HostRuntime) -> Result<(), Fail> {
-    let layout = Layout {
-        accounts: 2,
-        opening: 100,
-        list: 2,
-        tree: 0,
-    };
-    let values = opening(rt.alloc(), &layout)?;
-    let lows = values
+// Tells whether these are the low parts of a layout's opening values.
+fn opens_with(alloc: Global, layout: &Layout, lows: &[u64]) -> Result<bool, AllocError>
+    requires { IsValid layout.now }
+{
+    let values = opening(alloc, layout)?;
+    let found = values
         .iter()
         .map(|value| value.low)
-        .collect::<Vec<u64>>(rt.alloc())?;
-    assert_eq!(rt; lows.as_slice(), [100, 100, 0, 1, 2, 0].as_slice());
+        .collect::<Vec<u64>>(alloc)?;
+    Ok(found.as_slice() == lows)
+}
+
+// Behind the balances a list or a tree begins with its head, or its root; its nodes are free, each naming the next one.
+#[test]
+fn every_node_is_free_at_the_opening(rt: HostRuntime) -> Result<(), Fail> {
+    let alloc = rt.alloc();
+    let both = Layout { list: 2, ..BANK };
+    let list = Layout { list: 3, ..NOTHING };
+    let tree = Layout { tree: 8, ..NOTHING };
+    assert!(rt; opens_with(alloc, &BANK, &[100, 100])?);
+    assert!(rt; opens_with(alloc, &both, &[100, 100, 0, 1, 2, 0])?);
+    assert!(rt; opens_with(alloc, &list, &[0, 1, 2, 3, 0])?);
+    assert!(rt; opens_with(alloc, &tree, &[0, 1, 2, 3, 4, 5, 6, 7, 8, 0])?);
+    Ok(())
+}
+
+#[test]
+fn accounts_and_a_list(rt: HostRuntime) -> Result<(), Fail> {
+    let layout = Layout { list: 2, ..BANK };
+    let which = Which::List;
     let ops = [
-        Op::Transfer {
-            source: 0,
-            target: 1,
-            amount: 30,
-        },
-        list_insert(9),
-        list_insert(4),
-        list_insert(6),
+        pay(0, 1, 30),
+        Op::Insert { which, key: 9 },
+        Op::Insert { which, key: 4 },
+        Op::Insert { which, key: 6 },
     ];
     let (replies, state) = run_each(rt.alloc(), &layout, &ops)?;
     let wanted = [Reply::Moved, Reply::Yes, Reply::Yes, Reply::Full];
@@ -95,20 +97,15 @@ fn accounts_and_a_list(rt: HostRuntime) -> Result<(), Fail> {
 
 #[test]
 fn a_tree_that_was_full(rt: HostRuntime) -> Result<(), Fail> {
-    let layout = Layout {
-        accounts: 0,
-        opening: 0,
-        list: 0,
-        tree: 3,
-    };
+    let layout = Layout { tree: 3, ..NOTHING };
     let which = Which::Tree;
     let ops = [
-        tree_insert(2),
-        tree_insert(1),
-        tree_insert(3),
-        tree_insert(4),
+        Op::Insert { which, key: 2 },
+        Op::Insert { which, key: 1 },
+        Op::Insert { which, key: 3 },
+        Op::Insert { which, key: 4 },
         Op::Remove { which, key: 2 },
-        tree_insert(4),
+        Op::Insert { which, key: 4 },
     ];
     let (replies, state) = run_each(rt.alloc(), &layout, &ops)?;
     let wanted = [
@@ -125,20 +122,6 @@ fn a_tree_that_was_full(rt: HostRuntime) -> Result<(), Fail> {
     assert_eq!(rt; state.bank.as_slice().len(), 0);
     assert_eq!(rt; state.list.as_slice().len(), 0);
     Ok(())
-}
-
-fn list_insert(key: u32) -> Op {
-    Op::Insert {
-        which: Which::List,
-        key,
-    }
-}
-
-fn tree_insert(key: u32) -> Op {
-    Op::Insert {
-        which: Which::Tree,
-        key,
-    }
 }
 
 fn item(key: u64, value: u64) -> Item {
@@ -167,20 +150,14 @@ fn run_plain(alloc: Global, layout: &Layout, ops: &[Op]) -> Result<(Vec<Reply>, 
 
 #[test]
 fn operations_answer_as_the_plain_store_does(rt: HostRuntime) -> Result<(), Fail> {
-    let layout = Layout {
-        accounts: 3,
-        opening: 50,
-        list: 5,
-        tree: 6,
-    };
     let mut ops = Vec::new(rt.alloc());
     let mut seed: u32 = 1;
     for _step in 0..400 {
         seed = seed.wrapping_mul(1_103_515_245).wrapping_add(12_345);
         ops.push(pick(seed))?;
     }
-    let (replies, state) = run_each(rt.alloc(), &layout, &ops)?;
-    let (wanted, holds) = run_plain(rt.alloc(), &layout, &ops)?;
+    let (replies, state) = run_each(rt.alloc(), &OF_EACH, &ops)?;
+    let (wanted, holds) = run_plain(rt.alloc(), &OF_EACH, &ops)?;
     assert_eq!(rt; replies.as_slice(), wanted.as_slice());
     assert_eq!(rt; state.bank.as_slice(), holds.bank.as_slice());
     assert_eq!(rt; state.list.as_slice(), holds.list.as_slice());
@@ -193,25 +170,6 @@ fn operations_answer_as_the_plain_store_does(rt: HostRuntime) -> Result<(), Fail
 #[test]
 fn the_law_can_be_cited(_rt: HostRuntime) {
     stands_for_one();
-}
-
-// Runs any body on lawful values, and answers the values that it leaves.
-fn run_flat<L: Law, B: Body<L>>(
-    alloc: Global,
-    values: Vec<Val>,
-    body: &mut B,
-) -> Result<Vec<Val>, AllocError>
-    requires { L.holds (B.law body.old) values.items }
-    ensures law { B.law body.new ≡ B.law body.old }
-    ensures task { B.task body.new ≡ B.task body.old }
-    ensures lawful { IfOk result (λ after. L.holds (B.law body.new) after.items) }
-    ensures right { IfOk result (λ after. B.right body.new values.items after.items) }
-{
-    let mut mem = FlatMem::make(alloc, values)?;
-    match body.run(&mut mem) {
-        Ok(()) => Ok(mem.values()),
-        Err(never) => match never {},
-    }
 }
 
 // Runs a job on lawful values, and answers its replies and the values that it leaves.
@@ -230,7 +188,7 @@ fn run_job(
         DoesAll (record { layout = layout.now; ops = ops.now }) values.items done.1.items done.0) }
 {
     let mut body = JobBody::make(layout, ops);
-    let after = run_flat::<StoreLaw, JobBody<'_>>(alloc, values, &mut body)?;
+    let (_, after) = run_body::<StoreLaw, JobBody<'_>>(alloc, values, &mut body)?;
     Ok((body.replies(), after))
 }
 
@@ -256,24 +214,17 @@ fn run_jobs(
 
 #[test]
 fn jobs_on_a_list_of_one_key(rt: HostRuntime) -> Result<(), Fail> {
-    let layout = Layout {
-        accounts: 0,
-        opening: 0,
-        list: 1,
-        tree: 0,
-    };
-    let remove = Op::Remove {
-        which: Which::List,
-        key: 5,
-    };
-    let (first, again, other) = ([list_insert(5)], [list_insert(5)], [list_insert(6)]);
-    let (taken, last) = ([remove], [list_insert(6)]);
+    let layout = Layout { list: 1, ..NOTHING };
+    let which = Which::List;
+    let five = [Op::Insert { which, key: 5 }];
+    let six = [Op::Insert { which, key: 6 }];
+    let taken = [Op::Remove { which, key: 5 }];
     let jobs = [
-        first.as_slice(),
-        again.as_slice(),
-        other.as_slice(),
+        five.as_slice(),
+        five.as_slice(),
+        six.as_slice(),
         taken.as_slice(),
-        last.as_slice(),
+        six.as_slice(),
     ];
     let (replies, state) = run_jobs(rt.alloc(), &layout, &jobs)?;
     let wanted = [Reply::Yes, Reply::No, Reply::Full, Reply::Yes, Reply::Yes];
@@ -284,52 +235,30 @@ fn jobs_on_a_list_of_one_key(rt: HostRuntime) -> Result<(), Fail> {
 
 #[test]
 fn a_job_of_all_keys(rt: HostRuntime) -> Result<(), Fail> {
-    let layout = Layout {
-        accounts: 0,
-        opening: 0,
-        list: 0,
-        tree: 7,
-    };
-    let insert = [
-        tree_insert(1),
-        tree_insert(2),
-        tree_insert(3),
-        tree_insert(4),
-        tree_insert(5),
-        tree_insert(6),
-        tree_insert(7),
-    ];
-    let remove = [Op::Remove {
-        which: Which::Tree,
-        key: 4,
-    }];
+    let layout = Layout { tree: 7, ..NOTHING };
+    let which = Which::Tree;
+    let insert = [1, 2, 3, 4, 5, 6, 7].map(|key| Op::Insert { which, key });
+    let remove = [Op::Remove { which, key: 4 }];
     let jobs = [insert.as_slice(), remove.as_slice()];
     let (replies, state) = run_jobs(rt.alloc(), &layout, &jobs)?;
     assert_eq!(rt; replies.as_slice(), [Reply::Yes; 8].as_slice());
-    let items = [
-        item(1, 0),
-        item(2, 0),
-        item(3, 0),
-        item(5, 0),
-        item(6, 0),
-        item(7, 0),
-    ];
+    let items = [1, 2, 3, 5, 6, 7].map(|key| item(key, 0));
     assert_eq!(rt; state.tree.as_slice(), items.as_slice());
     Ok(())
 }
 
 #[test]
 fn jobs_that_put_and_get(rt: HostRuntime) -> Result<(), Fail> {
-    let layout = Layout {
-        accounts: 0,
-        opening: 0,
-        list: 0,
-        tree: 2,
-    };
+    let layout = Layout { tree: 2, ..NOTHING };
+    let which = Which::Tree;
     let added = [Op::Put { key: 5, value: 9 }];
     let replaced = [Op::Put { key: 5, value: 8 }];
     let looked = [Op::Get { key: 5 }, Op::Get { key: 6 }];
-    let filled = [tree_insert(5), tree_insert(6), Op::Put { key: 7, value: 1 }];
+    let filled = [
+        Op::Insert { which, key: 5 },
+        Op::Insert { which, key: 6 },
+        Op::Put { key: 7, value: 1 },
+    ];
     let last = [Op::Get { key: 6 }];
     let jobs = [
         added.as_slice(),
@@ -356,22 +285,6 @@ fn jobs_that_put_and_get(rt: HostRuntime) -> Result<(), Fail> {
 
 // ---- how many objects an operation opens
 
-// The answer to an operation, and what it opens; None for one that may not be run.
-fn count(mem: &mut Counting, layout: &Layout, op: &Op) -> Option<(Reply, Opens)>
-    requires valid { IsValid layout.now }
-    requires ready { IsReady ⟦<Counting as Mem>⟧ (objects_of layout.now) (StandsFor layout.now) mem.old }
-    ensures { IsReady ⟦<Counting as Mem>⟧ (objects_of layout.now) (StandsFor layout.now) mem.new }
-{
-    if !can_run(layout, op) {
-        return None;
-    }
-    mem.opens = NO_OPENS;
-    match run_op(mem, layout, op) {
-        Ok(reply) => Some((reply, mem.opens)),
-        Err(never) => match never {},
-    }
-}
-
 // An operation, its answer, and how many objects it opens for reading and for writing.
 type Row = (Op, Reply, u32, u32);
 
@@ -389,27 +302,14 @@ fn first_other(mem: &mut Counting, layout: &Layout, rows: &[Row]) -> Option<usiz
     None
 }
 
-fn pay(source: u32, target: u32, amount: u64) -> Op {
-    Op::Transfer {
-        source,
-        target,
-        amount,
-    }
-}
-
 #[test]
 fn what_the_bank_opens(rt: HostRuntime) -> Result<(), Fail> {
     let layout = Layout {
         accounts: 5,
         opening: 50,
-        list: 0,
-        tree: 0,
+        ..NOTHING
     };
-    let mut mem = Counting {
-        mem: opened(rt.alloc(), &layout)?,
-        opens: NO_OPENS,
-        kept: 0,
-    };
+    let mut mem = opened(rt.alloc(), &layout)?;
     let rows = [
         (pay(0, 1, 20), Reply::Moved, 0, 2),
         (pay(0, 1, 31), Reply::Poor, 0, 1),
@@ -422,66 +322,29 @@ fn what_the_bank_opens(rt: HostRuntime) -> Result<(), Fail> {
     Ok(())
 }
 
-fn list_remove(key: u32) -> Op {
-    Op::Remove {
-        which: Which::List,
-        key,
-    }
-}
-
-fn list_member(key: u32) -> Op {
-    Op::Member {
-        which: Which::List,
-        key,
-    }
-}
-
 // A walk reads the head and each node up to the first that does not have a lesser key. What is added or taken
 // out sets three objects, and what is added reads the head of the free chain first.
 #[test]
 fn what_the_list_opens(rt: HostRuntime) -> Result<(), Fail> {
-    let layout = Layout {
-        accounts: 0,
-        opening: 0,
-        list: 4,
-        tree: 0,
-    };
-    let mut mem = Counting {
-        mem: opened(rt.alloc(), &layout)?,
-        opens: NO_OPENS,
-        kept: 0,
-    };
+    let layout = Layout { list: 4, ..NOTHING };
+    let which = Which::List;
+    let mut mem = opened(rt.alloc(), &layout)?;
     let rows = [
-        (list_member(20), Reply::No, 1, 0),
-        (list_insert(10), Reply::Yes, 2, 3),
-        (list_insert(20), Reply::Yes, 3, 3),
-        (list_insert(40), Reply::Yes, 4, 3),
-        (list_insert(30), Reply::Yes, 5, 3),
-        (list_insert(30), Reply::No, 4, 0),
-        (list_insert(25), Reply::Full, 5, 0),
-        (list_member(20), Reply::Yes, 3, 0),
-        (list_member(50), Reply::No, 5, 0),
-        (list_remove(5), Reply::No, 2, 0),
-        (list_remove(20), Reply::Yes, 3, 3),
-        (list_member(40), Reply::Yes, 4, 0),
+        (Op::Member { which, key: 20 }, Reply::No, 1, 0),
+        (Op::Insert { which, key: 10 }, Reply::Yes, 2, 3),
+        (Op::Insert { which, key: 20 }, Reply::Yes, 3, 3),
+        (Op::Insert { which, key: 40 }, Reply::Yes, 4, 3),
+        (Op::Insert { which, key: 30 }, Reply::Yes, 5, 3),
+        (Op::Insert { which, key: 30 }, Reply::No, 4, 0),
+        (Op::Insert { which, key: 25 }, Reply::Full, 5, 0),
+        (Op::Member { which, key: 20 }, Reply::Yes, 3, 0),
+        (Op::Member { which, key: 50 }, Reply::No, 5, 0),
+        (Op::Remove { which, key: 5 }, Reply::No, 2, 0),
+        (Op::Remove { which, key: 20 }, Reply::Yes, 3, 3),
+        (Op::Member { which, key: 40 }, Reply::Yes, 4, 0),
     ];
     assert_eq!(rt; first_other(&mut mem, &layout, &rows), None);
     Ok(())
-}
-
-// The most objects that one of these operations opens for reading, and for writing.
-fn most_opens(mem: &mut Counting, layout: &Layout, ops: &[Op]) -> Option<Opens>
-    requires valid { IsValid layout.now }
-    requires ready { IsReady ⟦<Counting as Mem>⟧ (objects_of layout.now) (StandsFor layout.now) mem.old }
-    ensures { IsReady ⟦<Counting as Mem>⟧ (objects_of layout.now) (StandsFor layout.now) mem.new }
-{
-    let mut most = NO_OPENS;
-    for op in ops {
-        let (_, opens) = count(mem, layout, op)?;
-        most.reads = most.reads.max(opens.reads);
-        most.writes = most.writes.max(opens.writes);
-    }
-    Some(most)
 }
 
 // Tells whether each of these operations opens at most so many objects for reading, and for writing.
@@ -490,10 +353,13 @@ fn opens_at_most(mem: &mut Counting, layout: &Layout, ops: &[Op], reads: u32, wr
     requires ready { IsReady ⟦<Counting as Mem>⟧ (objects_of layout.now) (StandsFor layout.now) mem.old }
     ensures { IsReady ⟦<Counting as Mem>⟧ (objects_of layout.now) (StandsFor layout.now) mem.new }
 {
-    match most_opens(mem, layout, ops) {
-        Some(most) => most.reads <= reads && most.writes <= writes,
-        None => false,
+    for op in ops {
+        match count(mem, layout, op) {
+            Some((_, opens)) if opens.reads <= reads && opens.writes <= writes => {}
+            _ => return false,
+        }
     }
+    true
 }
 
 #[derive(Clone, Copy, Debug, PartialEq, Eq)]
@@ -528,16 +394,10 @@ fn on_all_keys(alloc: Global, kind: Kind, leap: u8) -> Result<Vec<Op>, AllocErro
 #[test]
 fn few_objects_of_a_large_tree_are_opened(rt: HostRuntime) -> Result<(), Fail> {
     let layout = Layout {
-        accounts: 0,
-        opening: 0,
-        list: 0,
         tree: 1_023,
+        ..NOTHING
     };
-    let mut mem = Counting {
-        mem: opened(rt.alloc(), &layout)?,
-        opens: NO_OPENS,
-        kept: 0,
-    };
+    let mut mem = opened(rt.alloc(), &layout)?;
     let alloc = rt.alloc();
     let ops = on_all_keys(alloc, Kind::Insert, 37)?;
     assert!(rt; opens_at_most(&mut mem, &layout, &ops, 23, 25));
@@ -558,23 +418,15 @@ fn few_objects_of_a_large_tree_are_opened(rt: HostRuntime) -> Result<(), Fail> {
 
 #[test]
 fn a_full_tree_is_only_read(rt: HostRuntime) -> Result<(), Fail> {
-    let layout = Layout {
-        accounts: 0,
-        opening: 0,
-        list: 0,
-        tree: 1,
-    };
-    let mut mem = Counting {
-        mem: opened(rt.alloc(), &layout)?,
-        opens: NO_OPENS,
-        kept: 0,
-    };
+    let layout = Layout { tree: 1, ..NOTHING };
+    let which = Which::Tree;
+    let mut mem = opened(rt.alloc(), &layout)?;
     let rows = [
-        (tree_insert(3), Reply::Yes, 3, 3),
-        (tree_insert(4), Reply::Full, 3, 0),
+        (Op::Insert { which, key: 3 }, Reply::Yes, 3, 3),
+        (Op::Insert { which, key: 4 }, Reply::Full, 3, 0),
         (Op::Put { key: 5, value: 6 }, Reply::Full, 3, 0),
         (Op::Put { key: 3, value: 6 }, Reply::No, 2, 1),
-        (tree_insert(3), Reply::No, 2, 0),
+        (Op::Insert { which, key: 3 }, Reply::No, 2, 0),
     ];
     assert_eq!(rt; first_other(&mut mem, &layout, &rows), None);
     Ok(())

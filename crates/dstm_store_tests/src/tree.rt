@@ -1,25 +1,19 @@
-ghost use Rattle.std.specs.Prelude.{◌≡◌, List, IfOk, OnOk};
-ghost use Rattle.dstm_model.specs.declared.value.Val.{Val};
+ghost use Rattle.std.specs.Prelude.{OnOk};
 ghost use Rattle.dstm_model.specs.Layout.{IsValid, FitsLayout};
-ghost use Rattle.dstm_model.specs.Store.{Store};
-ghost use Rattle.dstm_model.specs.Objects.{objects_of, plain};
-ghost use Rattle.dstm_mem.specs.Memory.{with_set};
+ghost use Rattle.dstm_model.specs.Objects.{objects_of};
 ghost use Rattle.dstm_mem.specs.Operations.{IsReady};
 ghost use Rattle.dstm_tree.specs.Objects.{IsTree};
 
-use dstm_mem::{FlatMem, Mem};
+use crate::counting::{Counting, opened};
+use crate::operations::NOTHING;
+use dstm_mem::Mem;
 use dstm_model::{Layout, Op, Reply, Val, Which};
 use dstm_tree::{get, height_is_logarithmic, insert, member, put, remove};
-use std::alloc::{AllocError, Global};
+use std::alloc::AllocError;
 use std::collections::BTreeMap;
 use std::test::Fail;
 
-const LAYOUT: Layout = Layout {
-    accounts: 0,
-    opening: 0,
-    list: 0,
-    tree: 8,
-};
+const LAYOUT: Layout = Layout { tree: 8, ..NOTHING };
 
 // Runs one operation of the tree; another one is taken as a look-up of key 0.
 fn run_op<M: Mem>(mem: &mut M, layout: &Layout, op: Op) -> Result<Reply, M::Err>
@@ -48,46 +42,16 @@ fn run_op<M: Mem>(mem: &mut M, layout: &Layout, op: Op) -> Result<Reply, M::Err>
     }
 }
 
-// The answer to an operation on a memory of one thread.
-fn answer(mem: &mut FlatMem, layout: &Layout, op: Op) -> Reply
-    requires valid { IsValid layout.now }
-    requires fits { FitsLayout layout.now op }
-    requires tree { FitsLayout layout.now (Op.Get 0) }
-    requires ready { IsReady ⟦<FlatMem as Mem>⟧ (objects_of layout.now) (IsTree layout.now) mem.old }
-    ensures { IsReady ⟦<FlatMem as Mem>⟧ (objects_of layout.now) (IsTree layout.now) mem.new }
+// The answer to an operation on a memory of one thread with a tree of eight nodes.
+fn answer(mem: &mut Counting, op: Op) -> Reply
+    requires fits { FitsLayout LAYOUT op }
+    requires ready { IsReady ⟦<Counting as Mem>⟧ (objects_of LAYOUT) (IsTree LAYOUT) mem.old }
+    ensures { IsReady ⟦<Counting as Mem>⟧ (objects_of LAYOUT) (IsTree LAYOUT) mem.new }
 {
-    match run_op(mem, layout, op) {
+    match run_op(mem, &LAYOUT, op) {
         Ok(reply) => reply,
         Err(never) => match never {},
     }
-}
-
-fn free(next: u64) -> Val
-    ensures { result ≡ plain next }
-{
-    Val { low: next, high: 0 }
-}
-
-// The memory in which the tree is empty.
-fn opened(alloc: Global) -> Result<FlatMem, AllocError>
-    ensures objects { IfOk result (λ mem. ⟦<FlatMem as Mem>⟧.objects mem ≡ objects_of LAYOUT) }
-    ensures lawful { IfOk result (λ mem. (map : List Val) → ⟦<FlatMem as Mem>⟧.Admits mem map →
-        (store : Store) × IsTree LAYOUT (with_set map (⟦<FlatMem as Mem>⟧.written mem)) store) }
-{
-    let values = vec![in alloc;
-        free(0),
-        free(1),
-        free(2),
-        free(3),
-        free(4),
-        free(5),
-        free(6),
-        free(7),
-        free(8),
-        free(0),
-    ]?;
-    let mem = FlatMem::make(alloc, values)?;
-    Ok(mem)
 }
 
 // What a map with room for eight keys answers.
@@ -137,104 +101,58 @@ fn pick(seed: u32) -> Op
 
 #[test]
 fn operations_answer_as_a_map_does(rt: HostRuntime) -> Result<(), Fail> {
-    let mut mem = opened(rt.alloc())?;
+    let mut mem = opened(rt.alloc(), &LAYOUT)?;
     let mut map = BTreeMap::new(rt.alloc());
     let mut seed: u32 = 1;
     for _step in 0..400 {
         seed = seed.wrapping_mul(1_103_515_245).wrapping_add(12_345);
         let op = pick(seed);
-        let reply = answer(&mut mem, &LAYOUT, op);
+        let reply = answer(&mut mem, op);
         assert_eq!(rt; reply, expected(&mut map, op)?);
     }
     Ok(())
 }
 
-fn tree_insert(key: u32) -> Op
-    ensures { result ≡ Op.Insert Which.Tree key }
-{
-    Op::Insert {
-        which: Which::Tree,
-        key,
-    }
-}
-
 #[test]
 fn a_full_tree_has_room_again_after_a_removal(rt: HostRuntime) -> Result<(), Fail> {
-    let mut mem = opened(rt.alloc())?;
-    for key in 1..9 {
-        assert_eq!(rt; answer(&mut mem, &LAYOUT, tree_insert(key)), Reply::Yes);
-    }
-    assert_eq!(rt; answer(&mut mem, &LAYOUT, tree_insert(9)), Reply::Full);
-    assert_eq!(rt; answer(&mut mem, &LAYOUT, tree_insert(4)), Reply::No);
     let which = Which::Tree;
-    assert_eq!(rt;
-        answer(&mut mem, &LAYOUT, Op::Remove { which, key: 2 }),
-        Reply::Yes
-    );
-    assert_eq!(rt;
-        answer(&mut mem, &LAYOUT, Op::Remove { which, key: 2 }),
-        Reply::No
-    );
-    assert_eq!(rt; answer(&mut mem, &LAYOUT, tree_insert(9)), Reply::Yes);
-    assert_eq!(rt;
-        answer(&mut mem, &LAYOUT, Op::Member { which, key: 9 }),
-        Reply::Yes
-    );
-    assert_eq!(rt;
-        answer(&mut mem, &LAYOUT, Op::Member { which, key: 2 }),
-        Reply::No
-    );
+    let mut mem = opened(rt.alloc(), &LAYOUT)?;
+    for key in 1..9 {
+        assert_eq!(rt; answer(&mut mem, Op::Insert { which, key }), Reply::Yes);
+    }
+    assert_eq!(rt; answer(&mut mem, Op::Insert { which, key: 9 }), Reply::Full);
+    assert_eq!(rt; answer(&mut mem, Op::Insert { which, key: 4 }), Reply::No);
+    assert_eq!(rt; answer(&mut mem, Op::Remove { which, key: 2 }), Reply::Yes);
+    assert_eq!(rt; answer(&mut mem, Op::Remove { which, key: 2 }), Reply::No);
+    assert_eq!(rt; answer(&mut mem, Op::Insert { which, key: 9 }), Reply::Yes);
+    assert_eq!(rt; answer(&mut mem, Op::Member { which, key: 9 }), Reply::Yes);
+    assert_eq!(rt; answer(&mut mem, Op::Member { which, key: 2 }), Reply::No);
     Ok(())
 }
 
 #[test]
 fn a_key_has_the_value_that_was_put_last(rt: HostRuntime) -> Result<(), Fail> {
-    let mut mem = opened(rt.alloc())?;
-    assert_eq!(rt;
-        answer(&mut mem, &LAYOUT, Op::Put { key: 5, value: 9 }),
-        Reply::Yes
-    );
-    assert_eq!(rt;
-        answer(&mut mem, &LAYOUT, Op::Put { key: 5, value: 8 }),
-        Reply::No
-    );
-    assert_eq!(rt;
-        answer(&mut mem, &LAYOUT, Op::Get { key: 5 }),
-        Reply::Number(8)
-    );
-    assert_eq!(rt;
-        answer(&mut mem, &LAYOUT, Op::Get { key: 6 }),
-        Reply::Absent
-    );
-    assert_eq!(rt; answer(&mut mem, &LAYOUT, tree_insert(5)), Reply::No);
-    assert_eq!(rt; answer(&mut mem, &LAYOUT, tree_insert(6)), Reply::Yes);
-    assert_eq!(rt;
-        answer(&mut mem, &LAYOUT, Op::Get { key: 5 }),
-        Reply::Number(8)
-    );
-    assert_eq!(rt;
-        answer(&mut mem, &LAYOUT, Op::Get { key: 6 }),
-        Reply::Number(0)
-    );
+    let which = Which::Tree;
+    let mut mem = opened(rt.alloc(), &LAYOUT)?;
+    assert_eq!(rt; answer(&mut mem, Op::Put { key: 5, value: 9 }), Reply::Yes);
+    assert_eq!(rt; answer(&mut mem, Op::Put { key: 5, value: 8 }), Reply::No);
+    assert_eq!(rt; answer(&mut mem, Op::Get { key: 5 }), Reply::Number(8));
+    assert_eq!(rt; answer(&mut mem, Op::Get { key: 6 }), Reply::Absent);
+    assert_eq!(rt; answer(&mut mem, Op::Insert { which, key: 5 }), Reply::No);
+    assert_eq!(rt; answer(&mut mem, Op::Insert { which, key: 6 }), Reply::Yes);
+    assert_eq!(rt; answer(&mut mem, Op::Get { key: 5 }), Reply::Number(8));
+    assert_eq!(rt; answer(&mut mem, Op::Get { key: 6 }), Reply::Number(0));
     // The root and the free node are 1 and 3; node 1 is black and has key 5, node 2 on its right is red.
-    let values = mem.values();
-    assert_eq!(rt; values.first(), Some(&free(1)));
-    assert_eq!(rt; values.get(1), Some(&free(3)));
-    assert_eq!(rt;
-        values.get(2),
-        Some(&Val {
-            low: 42_949_672_962,
-            high: 8
-        })
-    );
-    assert_eq!(rt;
-        values.get(3),
-        Some(&Val {
-            low: 55_834_574_848,
-            high: 0
-        })
-    );
-    assert_eq!(rt; values.get(4), Some(&free(4)));
+    let (_, values) = mem.end();
+    let parts = [
+        (1, 0),
+        (3, 0),
+        (42_949_672_962, 8),
+        (55_834_574_848, 0),
+        (4, 0),
+    ];
+    let wanted = parts.map(|(low, high)| Val { low, high });
+    assert_eq!(rt; values.get(..5), Some(wanted.as_slice()));
     Ok(())
 }
 

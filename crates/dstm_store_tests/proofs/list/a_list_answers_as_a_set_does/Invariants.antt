@@ -10,7 +10,7 @@ use Rattle.dstm_store_tests.proofs.list.a_list_answers_as_a_set_does.Given as go
 abbrev pub invariant-steps : goal.invariant-steps
 invariant-steps g l = record {
   small : l.number < 1009;
-  objects : length l.mem.values.items ≡ objects_of l.layout;
-  lawful : (map : List Val) → map ≡ l.mem.values.items →
-      (store : Store) × IsList l.layout (with_set map (written_in l.mem.notes.items)) store;
+  objects : length l.mem.mem.values.items ≡ objects_of l.layout;
+  lawful : (map : List Val) → map ≡ l.mem.mem.values.items →
+      (store : Store) × IsList l.layout (with_set map (written_in l.mem.mem.notes.items)) store;
 }

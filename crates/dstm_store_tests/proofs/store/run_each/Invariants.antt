@@ -8,7 +8,7 @@ use Rattle.dstm_store_tests.proofs.store.run_each.Given as goal
 
 abbrev pub invariant-loop-op : goal.invariant-loop-op
 invariant-loop-op l = record {
-  objects : length l.mem.values.items ≡ objects_of l.layout;
-  lawful : (map : List Val) → map ≡ l.mem.values.items →
-      IsLawful l.layout (with_set map (written_in l.mem.notes.items));
+  objects : length l.mem.mem.values.items ≡ objects_of l.layout;
+  lawful : (map : List Val) → map ≡ l.mem.mem.values.items →
+      IsLawful l.layout (with_set map (written_in l.mem.mem.notes.items));
 }

@@ -10,7 +10,7 @@ use Rattle.dstm_store_tests.proofs.tree.a_full_tree_has_room_again_after_a_remov
 
 abbrev pub invariant-loop-key : goal.invariant-loop-key
 invariant-loop-key g l = record {
-  objects : length l.mem.values.items ≡ objects_of LAYOUT;
-  lawful : (map : List Val) → map ≡ l.mem.values.items → (store : Store) ×
-      IsTree LAYOUT (with_set map (written_in l.mem.notes.items)) store;
+  objects : length l.mem.mem.values.items ≡ objects_of LAYOUT;
+  lawful : (map : List Val) → map ≡ l.mem.mem.values.items → (store : Store) ×
+      IsTree LAYOUT (with_set map (written_in l.mem.mem.notes.items)) store;
 }

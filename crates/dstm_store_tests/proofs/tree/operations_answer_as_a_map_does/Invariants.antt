@@ -10,7 +10,7 @@ use Rattle.dstm_store_tests.proofs.tree.operations_answer_as_a_map_does.Given as
 
 abbrev pub invariant-loop-step : goal.invariant-loop-step
 invariant-loop-step g l = record {
-  objects : length l.mem.values.items ≡ objects_of LAYOUT;
-  lawful : (map : List Val) → map ≡ l.mem.values.items → (store : Store) ×
-      IsTree LAYOUT (with_set map (written_in l.mem.notes.items)) store;
+  objects : length l.mem.mem.values.items ≡ objects_of LAYOUT;
+  lawful : (map : List Val) → map ≡ l.mem.mem.values.items → (store : Store) ×
+      IsTree LAYOUT (with_set map (written_in l.mem.mem.notes.items)) store;
 }

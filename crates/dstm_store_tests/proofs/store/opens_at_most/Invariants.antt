@@ -4,7 +4,7 @@ use Rattle.dstm_model.specs.Objects.{objects_of}
 use Rattle.dstm_mem.specs.Memory.{with_set}
 use Rattle.dstm_mem.specs.Flat.{written_in}
 use Rattle.dstm_store.specs.Whole.{IsLawful}
-use Rattle.dstm_store_tests.proofs.store.most_opens.Given as goal
+use Rattle.dstm_store_tests.proofs.store.opens_at_most.Given as goal
 
 abbrev pub invariant-loop-op : goal.invariant-loop-op
 invariant-loop-op l = record {
