@@ -1,8 +1,8 @@
 -- The loop of the checks: the slots that it has before it hold the reads that are left to check.
 use Rattle.std.proofs.lemmas.List.Elements.{All-filter, All-get_or}
-use Rattle.std.proofs.Common.{◌≡◌, ◌≢◌, ◌==◌, ◌<◌, ◌≤◌, ◌+◌, ◌∷◌, ◌∙◌, ◌⊎◌, ℕ, inl, inr, Bool, List, [], refl, ap, arith, sym, subst, true, false, Option, Some, None, is_some, length, drop, length-drop}
+use Rattle.std.proofs.Common.{◌≡◌, ◌≢◌, ◌==◌, ◌<◌, ◌≤◌, ◌+◌, ◌∷◌, ◌∙◌, ℕ, Bool, List, [], refl, ap, arith, sym, subst, true, false, Option, Some, None, is_some, length, drop, length-drop}
 use Rattle.std.specs.Prelude.{◌||◌, not, is_none, IfNone, map, filter, slice_get, slice_index_or, if◌then◌else◌}
-use Rattle.std.proofs.lemmas.Bool.{cases_Bool, eq-eqb, ne_eqb}
+use Rattle.std.proofs.lemmas.Bool.{eq-eqb, ne_eqb}
 use Rattle.std.proofs.lemmas.List.{drop_all, drop_more}
 use Rattle.std.proofs.lemmas.Option.{slice_get-get_or}
 use Rattle.dstm_mem.specs.Memory.{value_in}
@@ -20,7 +20,7 @@ use Rattle.dstm_tl2_order.specs.declared.again.TlAgain.TheVariants.{Changed, Loc
 use Rattle.dstm_tl2_steps.specs.declared.opened.ReadSlot.{ReadSlot}
 use Rattle.dstm_tl2_steps.specs.declared.steps.Steps.{Steps}
 use Rattle.dstm_tl2_steps.specs.Opened.{no_slot, read_at}
-use Rattle.dstm_tl2_order.specs.Order.{Due, in_checking, in_giving_back, in_writing_back}
+use Rattle.dstm_tl2_order.specs.Order.{Due, in_checking, in_giving_back}
 use Rattle.dstm_tl2_order.specs.Order.Due.{Just}
 use Rattle.dstm_tl2_steps.specs.Reads.{slot_read}
 use Rattle.dstm_tl2_steps.specs.Under.{Began, Under, Went, answer_by, made_by, now}
@@ -176,15 +176,6 @@ module _ {L : Type 0} (holds : L → List Val → Type 0) (home : Home L) (b : B
 -- what is due while a read is left, and once none is
 check_due : (l : LocalState) → l.checked < length (to_check l) → in_checking l ≡ Just Check
 check_due l h = rw (ne_eqb l.checked (length (to_check l)) (λ q. omega arith)) refl
-
-pub write_due : (l : LocalState) (number : ℕ) → is_valid l ≡ true → l.drawn ≡ Some number →
-    in_checking l ≡ in_writing_back number l.holds
-write_due l number valid drawn = go (cases_Bool (l.checked == length (to_check l)))
-  where
-    go : ((l.checked == length (to_check l)) ≡ true) ⊎ ((l.checked == length (to_check l)) ≡ false) →
-        in_checking l ≡ in_writing_back number l.holds
-    go (inl q) = rw (q, drawn) refl
-    go (inr q) = absurd (let v : is_valid l ≡ false = rw (drawn, q) refl in cc)
 
 module _ {L : Type 0} (holds : L → List Val → Type 0) (home : Home L) (b : Began) (start : Steps L)
     (writes : List (ℕ × Val)) where

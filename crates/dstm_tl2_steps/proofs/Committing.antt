@@ -1,22 +1,21 @@
 -- To commit: what holds after the Draw, after the checks, and once all is unlocked.
-use Rattle.std.proofs.Common.{◌≡◌, ◌∙◌, ℕ, List, refl, ap, sym, true, false, Option, Some, None, take}
+use Rattle.std.proofs.Common.{◌≡◌, ◌∙◌, ℕ, List, refl, ap, sym, false, Option, Some, None, take}
 use Rattle.std.specs.Prelude.{map}
 use Rattle.dstm_model.specs.declared.value.Val.{Val}
 use Rattle.dstm_machines.specs.Traces.Access.{Add}
 use Rattle.dstm_tl2.specs.Rules.{new_hold}
 use Rattle.dstm_tl2.specs.Sharing.{table_of}
-use Rattle.dstm_tl2.specs.State.{LocalState, Read, is_valid, recorded}
+use Rattle.dstm_tl2.specs.State.{LocalState, Read, recorded}
 use Rattle.dstm_tl2.specs.Words.{Table}
 use Rattle.dstm_tl2_words.specs.Seats.{Home}
 use Rattle.dstm_tl2_order.specs.declared.again.TlAgain.{TlAgain}
 use Rattle.dstm_tl2_steps.specs.declared.steps.Steps.{Steps}
 use Rattle.dstm_tl2_steps.specs.Opened.{OpenedAs}
-use Rattle.dstm_tl2_order.specs.Order.{draws, in_checking, in_giving_back, in_writing_back}
+use Rattle.dstm_tl2_order.specs.Order.{draws, in_checking, in_giving_back}
 use Rattle.dstm_tl2_order.specs.Order.Due.{Done, Just}
 use Rattle.dstm_tl2_order.specs.Tasks.{Task, Work}
 use Rattle.dstm_tl2_order.specs.Tasks.Task.{Doing}
 use Rattle.dstm_tl2_steps.specs.Under.{Began, Lists, Under, Went, in_freeing, made_by, now, when_free}
-use Rattle.dstm_tl2_steps.proofs.Checking.{write_due}
 use Rattle.dstm_tl2_steps.proofs.GivingBack.{freed_done}
 use Rattle.dstm_tl2_steps.proofs.Going.{goes_on}
 use Rattle.dstm_tl2_steps.proofs.WritingBack.{due_is, is_doing}
@@ -91,15 +90,6 @@ module _ {L : Type 0} (holds : L → List Val → Type 0) (home : Home L) (b : B
         lists_kept start new opened n m lists q (ap (λ (l : LocalState). l.reads) state)
         (ap (λ (l : LocalState). l.holds) state)
 
-    -- the checks leave it
-    pub drawn_still : (mid new : Steps L) (told : List (ℕ × Val)) (at number : ℕ) → told ≡ writes →
-        Went holds home b start mid None (made_by b Add (draws told) at number) →
-        now home new ≡ record (now home mid) { checked = (now home new).checked; failed = (now home new).failed } →
-        (now home new).drawn ≡ Some number
-    drawn_still mid new told at number same w state =
-        ap (λ (l : LocalState). l.drawn) state
-        ∙ ap (λ (l : LocalState). l.drawn) (drawn_state mid told at number same w)
-
     -- what is locked is to be given back
     pub bad_under : (steps : Steps L) (a : Option TlAgain) →
         Under holds home b steps (in_giving_back (now home steps).holds) a →
@@ -115,10 +105,3 @@ module _ {L : Type 0} (holds : L → List Val → Type 0) (home : Home L) (b : B
     bad_ends steps a v =
         due_is holds home b steps _ _ a v
         (free_ends b.task is_commit.0 is_commit.1 (table_of home.terms) (now home steps))
-
-  -- every check was good
-  pub good_under : (steps : Steps L) (number : ℕ) → Under holds home b steps (in_checking (now home steps)) None →
-      is_valid (now home steps) ≡ true → (now home steps).drawn ≡ Some number →
-      Under holds home b steps (in_writing_back number (now home steps).holds) None
-  good_under steps number u valid drawn =
-      due_is holds home b steps _ _ None u (write_due (now home steps) number valid drawn)

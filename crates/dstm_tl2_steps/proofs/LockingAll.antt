@@ -1,11 +1,11 @@
 -- Locking what an attempt writes, in the order of opening.
-use Rattle.std.proofs.Common.{◌≡◌, ◌≢◌, ◌∙◌, ℕ, ◌+◌, ◌<◌, ◌≤◌, List, [], ◌∷◌, ◌++◌, true, false, Some, None, is_some, inl, inr, refl, sym, ap, subst, length, map, take, arith}
+use Rattle.std.proofs.Common.{◌≡◌, ◌≢◌, ◌∙◌, ℕ, ◌+◌, ◌<◌, ◌≤◌, List, true, Some, None, is_some, refl, sym, ap, subst, length, map, take, arith}
 use Rattle.std.specs.Prelude.{Option, IfSome, IsSome, if◌then◌else◌}
 use Rattle.std.proofs.lemmas.Bool.{eq-eqb, ne_eqb}
 use Rattle.dstm_model.specs.declared.value.Val.{Val}
 use Rattle.dstm_machines.specs.Traces.Access.{Exchange}
 use Rattle.dstm_tl2.specs.Failing.{is_locked}
-use Rattle.dstm_tl2.specs.Rules.{lock, new_hold}
+use Rattle.dstm_tl2.specs.Rules.{new_hold}
 use Rattle.dstm_tl2.specs.Sharing.{table_of}
 use Rattle.dstm_tl2.specs.State.{LocalState, read_of, recorded}
 use Rattle.dstm_mem.specs.Memory.{value_in}
@@ -15,43 +15,18 @@ use Rattle.dstm_tl2_order.specs.declared.again.TlAgain.TheVariants.{Locked, Chan
 use Rattle.dstm_tl2_steps.specs.declared.steps.Steps.{Steps}
 use Rattle.dstm_tl2_steps.specs.Opened.{OpenedAs, read_slot, write_at}
 use Rattle.dstm_tl2_order.specs.Order.{in_locking, locks, when_locked}
-use Rattle.dstm_tl2_order.specs.Order.Due.{Done, Just}
+use Rattle.dstm_tl2_order.specs.Order.Due.{Done}
 use Rattle.dstm_tl2_steps.specs.Reads.{AtRest, slot_read}
 use Rattle.dstm_tl2_order.specs.Tasks.{Work}
 use Rattle.dstm_tl2_order.specs.Tasks.Task.{Doing}
 use Rattle.dstm_tl2_steps.specs.Under.{Began, HasLocked, Lists, Under, Went, in_freeing, made_by, now, when_free}
 use Rattle.dstm_tl2_steps.proofs.Going.{goes_on}
-use Rattle.dstm_tl2_steps.proofs.Held.{holds_more}
 use Rattle.dstm_tl2_steps.proofs.GivingBack.{freed_done}
 use Rattle.dstm_tl2_steps.proofs.Stepping.{is_something, under_is}
 use Rattle.dstm_tl2_steps.proofs.Slots.{is_written_at}
 use Rattle.dstm_tl2_steps.proofs.Slotted.{slot_there, slot_word}
 
 -- ---- the state of an attempt that locks
-
--- an attempt at rest has locked none
-pub locked_none : (start : LocalState) (writes : List (ℕ × Val)) → AtRest start → HasLocked start writes 0 start
-locked_none start writes rest = record {
-  told = inl rest.untold.0;
-  same = ap (λ n. record start { locked = n }) rest.untold.1
-      ∙ ap (λ holds. record start { locked = 0; holds = holds }) rest.untold.2;
-}
-
--- one more is locked
-pub locked_more : (start state : LocalState) (writes : List (ℕ × Val)) (i : ℕ) → start.look ≡ None →
-    HasLocked start writes i state → i < length writes → HasLocked start writes (i + 1) (lock state writes)
-locked_more start state writes i no_look has left = record {
-  told = inr refl;
-  same = ap (λ (state : LocalState). lock state writes) has.same
-      ∙ ap (λ look. record start {
-        look = look;
-        writes = Some writes;
-        locked = i + 1;
-        holds = map (new_hold start) (take i writes) ++ new_hold start (write_at writes i) ∷ [];
-      }) (sym no_look)
-      ∙ ap (λ holds. record start { writes = Some writes; locked = i + 1; holds = holds })
-      (sym (holds_more start writes i left));
-}
 
 module _ {L : Type 0} (holds : L → List Val → Type 0) (home : Home L) (began : Began) where
   -- Since a state of the call so many objects were locked, and the next is to be locked.
@@ -60,18 +35,6 @@ module _ {L : Type 0} (holds : L → List Val → Type 0) (home : Home L) (began
     pub within : i ≤ length writes
     pub under : (work : Work) → began.task ≡ Doing work →
         Under holds home began steps (in_locking writes work (now home steps)) None
-
-  pub locks_none : (start : Steps L) (writes : List (ℕ × Val)) →
-      ((work : Work) × (began.task ≡ Doing work)
-      × Under holds home began start (in_locking writes work (now home start)) None) →
-      AtRest (now home start) → Locks start writes 0 start
-  locks_none start writes call rest = record {
-    has = locked_none (now home start) writes rest;
-    within = omega arith;
-    under = λ work task.
-        let same : call.0 ≡ work = (let both = sym call.1 ∙ task in cc) in
-        subst (λ work. Under holds home began start (in_locking writes work (now home start)) None) same call.2;
-  }
 
   module _ (start old : Steps L) (opened : OpenedAs) (i : ℕ) (lists : Lists home start opened 0)
       (rest : AtRest (now home start)) (so_far : Locks start opened.writes i old) where
@@ -85,15 +48,6 @@ module _ {L : Type 0} (holds : L → List Val → Type 0) (home : Home L) (began
     }
 
     module _ (left : i < length opened.writes) (work : Work) (task : began.task ≡ Doing work) where
-      -- to lock the next one is due
-      pub next_locks : (items : List (ℕ × Val)) → items ≡ opened.writes →
-          Under holds home began old (Just (locks items)) None
-      next_locks items same_items =
-          let count : (now home old).locked ≡ i = ap (λ (state : LocalState). state.locked) so_far.has.same in
-          under_is holds home began old _ _ _ _ (so_far.under work task)
-          (rw (ne_eqb (now home old).locked (length opened.writes) (λ q. omega arith))
-          (ap (λ items. Just (locks items)) (sym same_items))) refl
-
       module _ (new : Steps L) (o word found : ℕ) (items : List (ℕ × Val)) (same_items : items ≡ opened.writes)
           (went_with : Went holds home began old new None
           (made_by began (Exchange word (word + 1)) (locks items) o found)) where
@@ -102,24 +56,6 @@ module _ {L : Type 0} (holds : L → List Val → Type 0) (home : Home L) (began
         went =
             subst (λ items. Went holds home began old new None
             (made_by began (Exchange word (word + 1)) (locks items) o found)) same_items went_with
-
-        -- it is locked
-        locked_now : found ≡ word → now home new ≡ lock (now home old) opened.writes
-        locked_now same = went.state ∙ rw (eq-eqb found word same) refl
-
-        pub locks_one : found ≡ word → Locks start opened.writes (i + 1) new
-        locks_one same =
-            let state : now home new ≡ lock (now home old) opened.writes = locked_now same in
-            let sound : (now home new).failed ≡ false =
-            ap (λ (state : LocalState). state.failed) state
-            ∙ ap (λ (state : LocalState). state.failed) so_far.has.same ∙ rest.sound.0 in record {
-              has = subst (HasLocked (now home start) opened.writes (i + 1)) (sym state)
-                  (locked_more (now home start) (now home old) opened.writes i rest.no_look so_far.has left);
-              within = omega arith;
-              under = λ work task.
-                  under_is holds home began new _ _ _ _ (goes_on holds home began work old new None _ task went)
-                  (rw sound refl) (rw (eq-eqb found word same) refl);
-            }
 
         -- it had another word, which ends the attempt
         lost_now : found ≢ word → now home new ≡ record (now home old) {
@@ -149,36 +85,6 @@ module _ {L : Type 0} (holds : L → List Val → Type 0) (home : Home L) (began
               holds = map (new_hold (now home start)) (take i opened.writes);
               failed = true;
             }) (sym rest.no_look)
-
-        -- and once what was locked is given back
-        pub lost_free : (last : Steps L) → found ≢ word →
-            now home last ≡ record (now home new) { holds = []; gave_back = (now home last).gave_back } →
-            now home last ≡ record (now home start) {
-              writes = (now home last).writes;
-              locked = (now home last).locked;
-              holds = [];
-              failed = true;
-              gave_back = (now home last).gave_back;
-            }
-        lost_free last other free =
-            let same : now home last ≡ record (now home start) {
-              writes = Some opened.writes;
-              locked = i;
-              holds = [];
-              failed = true;
-              gave_back = (now home last).gave_back;
-            } =
-            free ∙ ap (λ (state : LocalState). record state {
-              holds = [];
-              gave_back = (now home last).gave_back;
-            }) (lost other) in
-            same ∙ ap (λ (state : LocalState). record (now home start) {
-              writes = state.writes;
-              locked = state.locked;
-              holds = [];
-              failed = true;
-              gave_back = (now home last).gave_back;
-            }) (sym same)
 
         pub lost_under : (again : TlAgain) → found ≢ word →
             again ≡ (if is_locked found then Locked o else Changed o) →

@@ -4,6 +4,7 @@ use Rattle.std.specs.Prelude.{Option, Bool, not, nat_le, if◌then◌else◌}
 use Rattle.std.proofs.lemmas.Bool.{and_parts, eq-eqb, eqb-false, leb-true, ne_eqb}
 use Rattle.dstm_model.specs.declared.value.Val.{Val}
 use Rattle.dstm_machines.specs.Traces.Access.{Load}
+use Rattle.dstm_tl2.specs.declared.kind.Kind.{Kind}
 use Rattle.dstm_tl2.specs.declared.kind.Kind.TheVariants.{LookLock, LookLow, LookHigh, LookAgain}
 use Rattle.dstm_tl2.specs.Failing.{is_locked, is_readable}
 use Rattle.dstm_tl2.specs.Rules.{IsReadable}
@@ -47,6 +48,11 @@ module _ {L : Type 0} (holds : L → List Val → Type 0) (home : Home L) (began
       Under holds home began steps (LookAt o) again → (work : Work) × (began.task ≡ Doing work)
   on_attempt steps o again under = looks_in _ _ _ _ o under.due
 
+  -- the look that is due next, at an object whose word is readable
+  pub record Looks (steps : Steps L) (kind : Kind) (again : Option TlAgain) : Type 0 where
+    pub due : Under holds home began steps (Just kind) again
+    pub good : IsReadable (now home steps).sample (look_of (now home steps)).word
+
   module _ (old new : Steps L) (again : Option TlAgain) (o word : ℕ) where
     -- the word of the first look stays that of the read under way
     pub word_first : Went holds home began old new again (made_by began Load LookLock o word) →
@@ -73,20 +79,15 @@ module _ {L : Type 0} (holds : L → List Val → Type 0) (home : Home L) (began
           ∙ ap (λ (steps : Steps L). steps.sample) (sym rest)
 
       -- a first look at a readable word
-      pub looked : (if is_readable new.sample word then None else Some why) ≡ None →
-          Under holds home began new (Just LookLow) again
+      pub looked : (if is_readable new.sample word then None else Some why) ≡ None → Looks new LookLow again
       looked test =
-          let good : is_readable new.sample word ≡ true = tells_good (is_readable new.sample word) why test in
-          under_is holds home began new _ _ _ _ (goes_on holds home began task.0 old new again _ task.1 went)
-          (rw (sample_now, good) refl)
-          (rw (← under.sample) (rw (ap (λ (steps : Steps L). steps.sample) (sym rest)) (rw good refl)))
-
-      pub looked_readable : (if is_readable new.sample word then None else Some why) ≡ None →
-          IsReadable (now home new).sample (look_of (now home new)).word
-      looked_readable test =
-          let good : is_readable new.sample word ≡ true = tells_good (is_readable new.sample word) why test in
-          subst (IsReadable (now home new).sample) (sym (word_first went))
-          (subst (λ n. IsReadable n word) (sym sample_now) (readable new.sample word good))
+          let good : is_readable new.sample word ≡ true = tells_good (is_readable new.sample word) why test in record {
+            due = under_is holds home began new _ _ _ _ (goes_on holds home began task.0 old new again _ task.1 went)
+                (rw (sample_now, good) refl)
+                (rw (← under.sample) (rw (ap (λ (steps : Steps L). steps.sample) (sym rest)) (rw good refl)));
+            good = subst (IsReadable (now home new).sample) (sym (word_first went))
+                (subst (λ n. IsReadable n word) (sym sample_now) (readable new.sample word good));
+          }
 
       -- a first look at another word ends the call
       pub not_readable : (found : TlAgain) →
@@ -102,13 +103,11 @@ module _ {L : Type 0} (holds : L → List Val → Type 0) (home : Home L) (began
     module _ (work : Work) (task : began.task ≡ Doing work) where
       -- the looks at the value stand between the two looks at the lock
       pub looked_low : (at : ℕ) → Went holds home began old new again (made_by began Load LookLow at word) →
-          IsReadable (now home old).sample (look_of (now home old)).word →
-          Under holds home began new (Just LookHigh) again
-          × IsReadable (now home new).sample (look_of (now home new)).word
-      looked_low at went good = (
-        goes_on holds home began work old new again _ task went,
-        subst (λ (state : LocalState). IsReadable state.sample (look_of state).word) (sym went.state) good,
-      )
+          IsReadable (now home old).sample (look_of (now home old)).word → Looks new LookHigh again
+      looked_low at went good = record {
+        due = goes_on holds home began work old new again _ task went;
+        good = subst (λ (state : LocalState). IsReadable state.sample (look_of state).word) (sym went.state) good;
+      }
 
       pub looked_high : (at : ℕ) → Went holds home began old new again (made_by began Load LookHigh at word) →
           Under holds home began new (Just LookAgain) again

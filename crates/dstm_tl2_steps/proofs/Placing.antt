@@ -10,7 +10,7 @@ use Rattle.dstm_tl2.specs.State.{no_write}
 use Rattle.dstm_tl2_steps.specs.Opened.{ArePlaced, IsReadOf, IsWriteOf, no_place, no_slot, place_at, read_at, read_slot, set_writes, with_value, write_at}
 use Rattle.dstm_tl2_steps.specs.declared.opened.Place.{Place}
 use Rattle.dstm_tl2_steps.specs.declared.opened.ReadSlot.{ReadSlot}
-use Rattle.dstm_tl2_steps.proofs.Slots.{ReadsApart, WritesApart, length-with_value, object-with_value, read_none, read_one, reads_few, value_in-set_here, value_in-set_other, with_value_is, write_none, write_one, writes_few}
+use Rattle.dstm_tl2_steps.proofs.Slots.{ReadsApart, WritesApart, read_none, read_one, reads_few, value_in-set_here, value_in-set_other, with_value_is, write_none, write_one, writes_few}
 
 module _ (reads : List ReadSlot) (writes : List (ℕ × Val)) (places : List Place)
     (p : ArePlaced reads writes places) where
@@ -54,6 +54,33 @@ module _ (reads : List ReadSlot) (writes : List (ℕ × Val)) (places : List Pla
         write_one writes o ((place_at places o).write - 1) (p.write_places o below some)
         (λ i r. let q = p.writes_placed o i r in omega arith)
 
+    -- what a call finds in the object's place
+    module _ (place : Place) (found : place ≡ slice_index_or places o place) where
+      pub place_is : place_at places o ≡ place
+      place_is = get_or_default places o no_place place below ∙ sym found
+
+      pub found_no_read : place.read ≡ 0 → read_slot reads o ≡ None
+      found_no_read none = no_read_there (ap (λ (x : Place). x.read) place_is ∙ none)
+
+      pub found_read : place.read ≢ 0 → (slot : ReadSlot) → slot ≡ slice_index_or reads (place.read - 1) slot →
+          read_slot reads o ≡ Some slot
+      found_read some slot is =
+          let there : read_slot reads o ≡ Some (read_at reads (place.read - 1)) =
+          rw place_is at (read_there (rw place_is some)) in
+          let within = rw place_is at (p.read_places o below (rw place_is some)).within in
+          there ∙ ap Some (get_or_default reads (place.read - 1) no_slot slot within ∙ sym is)
+
+      pub found_no_write : place.write ≡ 0 → value_in writes o ≡ None
+      found_no_write none = no_write_there (ap (λ (x : Place). x.write) place_is ∙ none)
+
+      pub found_write : place.write ≢ 0 → (w : ℕ × Val) → w ≡ slice_index_or writes (place.write - 1) w →
+          value_in writes o ≡ Some w.1
+      found_write some w is =
+          let there : value_in writes o ≡ Some (write_at writes (place.write - 1)).1 =
+          rw place_is at (write_there (rw place_is some)) in
+          let within = rw place_is at (p.write_places o below (rw place_is some)).within in
+          there ∙ ap (λ (w : ℕ × Val). Some w.1) (get_or_default writes (place.write - 1) no_write w within ∙ sym is)
+
     -- an object that was not read stands nowhere among the reads
     pub unread_there : read_slot reads o ≡ None → (place_at places o).read ≡ 0
     unread_there none = by (cases_eq (place_at places o).read 0)
@@ -91,31 +118,21 @@ module _ (places : List Place) (o : ℕ) (q : Place) (below : o < length places)
   put_other x other = get_or-set_other places o x q no_place other
 
   -- what the change keeps of its place it keeps of all
-  pub put_read : q.read ≡ (place_at places o).read → (x : ℕ) → (place_at put x).read ≡ (place_at places x).read
-  put_read is x = by (cases_eq x o)
+  pub put_keeps : (f : Place → ℕ) → f q ≡ f (place_at places o) → (x : ℕ) → f (place_at put x) ≡ f (place_at places x)
+  put_keeps f is x = by (cases_eq x o)
     where
-      by : (x ≡ o) ⊎ (x ≡ o → ⊥) → (place_at put x).read ≡ (place_at places x).read
-      by (inl same) =
-          subst (λ n. (place_at put n).read ≡ (place_at places n).read) (sym same)
-          (ap (λ (y : Place). y.read) put_here ∙ is)
-      by (inr other) = ap (λ (y : Place). y.read) (put_other x other)
-
-  pub put_write : q.write ≡ (place_at places o).write → (x : ℕ) → (place_at put x).write ≡ (place_at places x).write
-  put_write is x = by (cases_eq x o)
-    where
-      by : (x ≡ o) ⊎ (x ≡ o → ⊥) → (place_at put x).write ≡ (place_at places x).write
-      by (inl same) =
-          subst (λ n. (place_at put n).write ≡ (place_at places n).write) (sym same)
-          (ap (λ (y : Place). y.write) put_here ∙ is)
-      by (inr other) = ap (λ (y : Place). y.write) (put_other x other)
+      by : (x ≡ o) ⊎ (x ≡ o → ⊥) → f (place_at put x) ≡ f (place_at places x)
+      by (inl same) = subst (λ n. f (place_at put n) ≡ f (place_at places n)) (sym same) (ap f put_here ∙ is)
+      by (inr other) = ap f (put_other x other)
 
 -- ---- one read more
 
 module _ (reads : List ReadSlot) (writes : List (ℕ × Val)) (places : List Place) (s : ReadSlot) (n : ℕ)
     (p : ArePlaced reads writes places) (below : s.object < length places)
-    (none : read_slot reads s.object ≡ None) (is : n ≡ length reads + 1) where
+    (none : read_slot reads s.object ≡ None) (is : n ≡ length reads + 1) (place : Place)
+    (found : place ≡ slice_index_or places s.object place) where
   abbrev noted_place : Place
-  noted_place = record (place_at places s.object) { read = n }
+  noted_place = record place { read = n }
 
   abbrev pub noted : List Place
   noted = put places s.object noted_place below
@@ -130,7 +147,9 @@ module _ (reads : List ReadSlot) (writes : List (ℕ × Val)) (places : List Pla
   noted_other = put_other places s.object noted_place below
 
   noted_write : (x : ℕ) → (place_at noted x).write ≡ (place_at places x).write
-  noted_write = put_write places s.object noted_place below refl
+  noted_write =
+      put_keeps places s.object noted_place below (λ (x : Place). x.write)
+      (ap (λ (x : Place). x.write) (sym (place_is reads writes places p s.object below place found)))
 
   longer_reads : length (reads ++ s ∷ []) ≡ length reads + 1
   longer_reads = let a = length-append reads (s ∷ []) in omega arith
@@ -207,22 +226,30 @@ module _ (reads : List ReadSlot) (writes : List (ℕ × Val)) (places : List Pla
         (p.write_places x (let z = size_noted in omega arith) (λ z. some (noted_write x ∙ z)));
   }
 
-  -- so there was room for it
-  pub room_read : length reads < length places
-  room_read =
+  noted_room : length reads < length places
+  noted_room =
       let few = few_reads (reads ++ s ∷ []) writes noted placed_noted in let z = size_noted in let l = longer_reads in
       omega arith
+
+-- so there was room for it
+pub room_read : (reads : List ReadSlot) (writes : List (ℕ × Val)) (places : List Place) (s : ReadSlot) →
+    ArePlaced reads writes places → s.object < length places → read_slot reads s.object ≡ None →
+    length reads < length places
+room_read reads writes places s p below none =
+    noted_room reads writes places s (length reads + 1) p below none refl (place_at places s.object)
+    (get_or_default places s.object no_place (place_at places s.object) below)
 
 -- ---- one object more is open for writing
 
 module _ (reads : List ReadSlot) (writes : List (ℕ × Val)) (places : List Place) (o : ℕ) (v : Val) (n : ℕ)
     (p : ArePlaced reads writes places) (below : o < length places)
-    (none : value_in writes o ≡ None) (is : n ≡ length writes + 1) where
+    (none : value_in writes o ≡ None) (is : n ≡ length writes + 1) (place : Place)
+    (found : place ≡ slice_index_or places o place) where
   abbrev new_writes : List (ℕ × Val)
   new_writes = writes ++ (o, v) ∷ []
 
   abbrev opened_place : Place
-  opened_place = record (place_at places o) { write = n }
+  opened_place = record place { write = n }
 
   abbrev pub opened : List Place
   opened = put places o opened_place below
@@ -237,7 +264,9 @@ module _ (reads : List ReadSlot) (writes : List (ℕ × Val)) (places : List Pla
   opened_other = put_other places o opened_place below
 
   opened_read : (x : ℕ) → (place_at opened x).read ≡ (place_at places x).read
-  opened_read = put_read places o opened_place below refl
+  opened_read =
+      put_keeps places o opened_place below (λ (x : Place). x.read)
+      (ap (λ (x : Place). x.read) (sym (place_is reads writes places p o below place found)))
 
   longer_writes : length new_writes ≡ length writes + 1
   longer_writes = let a = length-append writes ((o, v) ∷ []) in omega arith
@@ -313,68 +342,64 @@ module _ (reads : List ReadSlot) (writes : List (ℕ × Val)) (places : List Pla
     write_places = places_opened;
   }
 
-  -- so there was room for it
-  pub room_write : length writes < length places
-  room_write =
+  opened_room : length writes < length places
+  opened_room =
       let few = few_writes reads new_writes opened placed_opened in
       let z = size_opened in let l = longer_writes in omega arith
 
+pub room_write : (reads : List ReadSlot) (writes : List (ℕ × Val)) (places : List Place) (o : ℕ) (v : Val) →
+    ArePlaced reads writes places → o < length places → value_in writes o ≡ None → length writes < length places
+room_write reads writes places o v p below none =
+    opened_room reads writes places o v (length writes + 1) p below none refl (place_at places o)
+    (get_or_default places o no_place (place_at places o) below)
+
 -- ---- a value that is set
 
-module _ (reads : List ReadSlot) (writes : List (ℕ × Val)) (places : List Place) (sets : List Bool) (o : ℕ) (v : Val)
-    (p : ArePlaced reads writes places) (long : length sets ≡ length writes) (below : o < length places)
-    (some : IsSome (value_in writes o)) where
+-- An object that is open for writing, with what a call finds in its place.
+pub record IsOpen (reads : List ReadSlot) (writes : List (ℕ × Val)) (places : List Place) (sets : List Bool) (o : ℕ)
+    (place : Place) : Type 0 where
+  pub placed : ArePlaced reads writes places
+  pub long : length sets ≡ length writes
+  pub below : o < length places
+  pub some : IsSome (value_in writes o)
+  pub found : place ≡ slice_index_or places o place
+
+module _ {reads : List ReadSlot} {writes : List (ℕ × Val)} {places : List Place} {sets : List Bool} {o : ℕ}
+    {place : Place} (at : IsOpen reads writes places sets o place) where
+  place_found : place_at places o ≡ place
+  place_found = place_is reads writes places at.placed o at.below place at.found
+
+  pub stands : place.write ≢ 0
+  stands = rw place_found at (write_stands reads writes places at.placed o at.below at.some)
+
   -- its slot, which is the only one of the object
-  abbrev slot : ℕ
-  slot = (place_at places o).write - 1
+  pub slot_there : IsWriteOf writes o (place.write - 1)
+  slot_there = rw place_found at (at.placed.write_places o at.below (rw place_found stands))
 
-  pub slot_there : IsWriteOf writes o slot
-  slot_there = p.write_places o below (write_stands reads writes places p o below some)
+  slot_only : (i : ℕ) → IsWriteOf writes o i → i ≡ place.write - 1
+  slot_only i r =
+      let q = at.placed.writes_placed o i r in let e = ap (λ (x : Place). x.write) place_found in omega arith
 
-  slot_only : (i : ℕ) → IsWriteOf writes o i → i ≡ slot
-  slot_only i r = let q = p.writes_placed o i r in omega arith
-
-  -- the value stands in the object's place
-  set_there : slice_set writes slot ((write_at writes slot).0, v) ≡ with_value o v writes
-  set_there = with_value_is writes o slot v slot_there slot_only
-
-  -- as the call finds it
-  pub set_found : (n : ℕ) (w : ℕ × Val) → n ≡ slot → w ≡ slice_index_or writes n w →
-      slice_set writes n (w.0, v) ≡ with_value o v writes
-  set_found n w is found =
-      let there : w ≡ write_at writes slot =
-      found ∙ ap (λ k. slice_index_or writes k w) is ∙ get_or_default writes slot w no_write slot_there.within in
-      ap (λ k. slice_set writes k (w.0, v)) is ∙ ap (λ (y : ℕ × Val). slice_set writes slot (y.0, v)) there ∙ set_there
-
-  pub placed_set : ArePlaced reads (with_value o v writes) places
-  placed_set = record {
-    reads_below = p.reads_below;
-    reads_placed = p.reads_placed;
-    read_places = p.read_places;
-    writes_below = λ i lt.
-        subst (λ x. x < length places) (sym (object-with_value o v writes i))
-        (p.writes_below i (let q = length-with_value o v writes in omega arith));
-    writes_placed = λ x i r. p.writes_placed x i (record {
-      within = let q = length-with_value o v writes in let w = r.within in omega arith;
-      object = sym (object-with_value o v writes i) ∙ r.object;
-    });
-    write_places = λ x lt yes.
-        let r = p.write_places x lt yes in record {
-          within = let q = length-with_value o v writes in let w = r.within in omega arith;
-          object = object-with_value o v writes ((place_at places x).write - 1) ∙ r.object;
-        };
-  }
+  -- the value stands there
+  pub set_there : (v : Val) (w : ℕ × Val) → w ≡ slice_index_or writes (place.write - 1) w →
+      slice_set writes (place.write - 1) (w.0, v) ≡ with_value o v writes
+  set_there v w is =
+      ap (λ (y : ℕ × Val). slice_set writes (place.write - 1) (y.0, v))
+      (is ∙ get_or_default writes (place.write - 1) w no_write slot_there.within)
+      ∙ with_value_is writes o (place.write - 1) v slot_there slot_only
 
   -- the object was set to it
-  pub set_here : value_in (set_writes (slice_set sets slot true) (with_value o v writes)) o ≡ Some v
-  set_here = value_in-set_here sets writes o slot v long slot_there slot_only
+  pub set_here : (v : Val) →
+      value_in (set_writes (slice_set sets (place.write - 1) true) (with_value o v writes)) o ≡ Some v
+  set_here v = value_in-set_here sets writes o (place.write - 1) v at.long slot_there slot_only
 
   -- and the others to what they were set before
-  pub set_others : (x : ℕ) → x ≢ o →
-      value_in (set_writes (slice_set sets slot true) (with_value o v writes)) x ≡ value_in (set_writes sets writes) x
-  set_others x other =
-      value_in-set_other sets writes o slot v x other slot_there slot_only
-      (let w = slot_there.within in omega arith)
+  pub set_others : (v : Val) (x : ℕ) → x ≢ o →
+      value_in (set_writes (slice_set sets (place.write - 1) true) (with_value o v writes)) x
+      ≡ value_in (set_writes sets writes) x
+  set_others v x other =
+      value_in-set_other sets writes o (place.write - 1) v x other slot_there slot_only
+      (let w = slot_there.within in let long = at.long in omega arith)
 
 -- ---- nothing is open any more
 

@@ -220,43 +220,31 @@ few_numbers numbers n below apart =
             let same = eqb-true q k here in let first : k < n = below 0 (omega arith) in omega arith
         by ih (inr later) = ih later
 
-abbrev objects_read : List ReadSlot → List ℕ
-objects_read slots = map (λ (s : ReadSlot). s.object) slots
+-- so there are no more named things than names
+few_named : {A : Type 0} (name : A → ℕ) (d : A) (n : ℕ) (xs : List A) →
+    ((i : ℕ) → i < length xs → name (slice_index_or xs i d) < n) →
+    ((i j : ℕ) → i < j → j < length xs → name (slice_index_or xs i d) ≢ name (slice_index_or xs j d)) → length xs ≤ n
+few_named {A = A} name d n xs below apart =
+    subst (λ k. k ≤ n) long
+    (few_numbers (map name xs) n
+    (λ i lt. let in_list : i < length xs = omega (arith, long) in
+    subst (λ k. k < n) (sym (at i in_list)) (below i in_list))
+    (λ i j lower lt same. let in_list : j < length xs = omega (arith, long) in
+    apart i j lower in_list (sym (at i (omega arith)) ∙ same ∙ at j in_list)))
+  where
+    long : length (map name xs) ≡ length xs
+    long = length-map xs name
 
-abbrev objects_written : List (ℕ × Val) → List ℕ
-objects_written writes = map (λ (w : ℕ × Val). w.0) writes
+    at : (i : ℕ) → i < length xs → slice_index_or (map name xs) i 0 ≡ name (slice_index_or xs i d)
+    at i lt = get_or-map name xs i d 0 lt
 
 pub reads_few : (objects : ℕ) (slots : List ReadSlot) → ReadsBelow objects slots → ReadsApart slots →
     length slots ≤ objects
-reads_few objects slots below apart =
-    subst (λ n. n ≤ objects) long
-    (few_numbers (objects_read slots) objects
-    (λ i lt. let in_list : i < length slots = omega (arith, long) in
-    subst (λ n. n < objects) (sym (at i in_list)) (below i in_list))
-    (λ i j lower lt same. let in_list : j < length slots = omega (arith, long) in
-    apart i j lower in_list (sym (at i (omega arith)) ∙ same ∙ at j in_list)))
-  where
-    long : length (objects_read slots) ≡ length slots
-    long = length-map slots (λ (s : ReadSlot). s.object)
-
-    at : (i : ℕ) → i < length slots → slice_index_or (objects_read slots) i 0 ≡ (read_at slots i).object
-    at i lt = get_or-map (λ (s : ReadSlot). s.object) slots i no_slot 0 lt
+reads_few objects slots below apart = few_named (λ (s : ReadSlot). s.object) no_slot objects slots below apart
 
 pub writes_few : (objects : ℕ) (writes : List (ℕ × Val)) → WritesBelow objects writes → WritesApart writes →
     length writes ≤ objects
-writes_few objects writes below apart =
-    subst (λ n. n ≤ objects) long
-    (few_numbers (objects_written writes) objects
-    (λ i lt. let in_list : i < length writes = omega (arith, long) in
-    subst (λ n. n < objects) (sym (at i in_list)) (below i in_list))
-    (λ i j lower lt same. let in_list : j < length writes = omega (arith, long) in
-    apart i j lower in_list (sym (at i (omega arith)) ∙ same ∙ at j in_list)))
-  where
-    long : length (objects_written writes) ≡ length writes
-    long = length-map writes (λ (w : ℕ × Val). w.0)
-
-    at : (i : ℕ) → i < length writes → slice_index_or (objects_written writes) i 0 ≡ (write_at writes i).0
-    at i lt = get_or-map (λ (w : ℕ × Val). w.0) writes i no_write 0 lt
+writes_few objects writes below apart = few_named (λ (w : ℕ × Val). w.0) no_write objects writes below apart
 
 -- the same in the words of a history
 pub writes_once : (objects : ℕ) (writes : List (ℕ × Val)) → WritesBelow objects writes → WritesApart writes →

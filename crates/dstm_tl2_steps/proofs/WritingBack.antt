@@ -1,8 +1,7 @@
 -- To write back and to unlock what is locked, one object after the other.
-use Rattle.std.proofs.Common.{◌≡◌, ◌≢◌, ◌==◌, ◌<◌, ◌≤◌, ◌+◌, ◌*◌, ◌-◌, ◌⊎◌, ◌∷◌, ◌∙◌, ℕ, inl, inr, Bool, List, [], refl, ap, arith, sym, subst, true, false, Option, Some, None, is_some, length, drop, take}
+use Rattle.std.proofs.Common.{◌≡◌, ◌≢◌, ◌==◌, ◌<◌, ◌+◌, ◌*◌, ◌-◌, ◌⊎◌, ◌∷◌, ◌∙◌, ℕ, inl, inr, Bool, List, [], refl, ap, arith, sym, subst, true, false, Option, Some, None, is_some, length, drop}
 use Rattle.std.specs.Prelude.{◌||◌, ◌&&◌, not, map}
 use Rattle.std.proofs.lemmas.Bool.{and_parts, cases_eq, eq-eqb, ne_eqb, not-true}
-use Rattle.std.proofs.lemmas.List.{drop_all, take_all}
 use Rattle.dstm_model.specs.declared.value.Val.{Val}
 use Rattle.dstm_machines.specs.Traces.Access.{Store}
 use Rattle.dstm_tl2.specs.declared.kind.Kind.TheVariants.{Enrol, Sample, Unlock, WriteHigh, WriteLow}
@@ -20,7 +19,7 @@ use Rattle.dstm_tl2_order.specs.Order.Due.{Done, FreeAs, Just, LookAt, PutHigh, 
 use Rattle.dstm_tl2_order.specs.Tasks.{Task, Work}
 use Rattle.dstm_tl2_order.specs.Tasks.Task.{Beginning, Doing, Enrolling, Returning}
 use Rattle.dstm_tl2_steps.specs.Under.{Began, IsFirst, Under, Went, made_by, now}
-use Rattle.dstm_tl2_steps.proofs.InRun.{new_word}
+use Rattle.dstm_tl2_steps.proofs.InRun.{held_below, new_word}
 use Rattle.dstm_tl2_steps.proofs.GivingBack.{without_first}
 use Rattle.dstm_tl2_steps.proofs.Going.{goes_on}
 use Rattle.dstm_tl2_steps.proofs.Held.{first_from}
@@ -112,11 +111,6 @@ or_false false = refl
 
 module _ {L : Type 0} (holds : L → List Val → Type 0) (home : Home L) (b : Began) (number o : ℕ) (value : Val)
     (start : Steps L) (rest : List Hold) (first : IsFirst (now home start) (o, value) rest) where
-  -- the low part is due first
-  pub low_due : Under holds home b start (in_writing_back number (now home start).holds) None →
-      Under holds home b start (PutLow o) None
-  low_due u = due_is holds home b start _ _ None u (ap (in_writing_back number) first.held)
-
   -- its low part is written
   pub record LowPut (steps : Steps L) : Type 0 where
     pub state : now home steps ≡ record (now home start) {
@@ -131,79 +125,90 @@ module _ {L : Type 0} (holds : L → List Val → Type 0) (home : Home L) (b : B
     }
     pub under : Under holds home b steps (FreeAs o (2 * number + 2)) None
 
-  pub low_put : (work : Work) → b.task ≡ Doing work → (new : Steps L) (found : ℕ) →
-      Went holds home b start new None
-      (made_by b (Store value.low) WriteLow (place (table_of home.terms) (LowWord o)) found) →
-      LowPut new
-  low_put work task new found w =
-      let at : objects (table_of home.terms) + o - objects (table_of home.terms) ≡ o = omega arith in
-      let state : now home new ≡ record (now home start) {
-        holds = with_low (new_hold (now home start) (o, value)) ∷ rest;
-      } =
-      w.state
-      ∙ ap (λ n. record (now home start) { holds = marked with_low n (now home start).holds }) at
-      ∙ ap (λ hs. record (now home start) { holds = marked with_low o hs }) first.held
-      ∙ ap (λ hs. record (now home start) { holds = hs })
-      (marked_first with_low o (new_hold (now home start) (o, value)) rest refl first.once) in
-      record {
-        state = state;
-        under = due_is holds home b new _ _ _ (goes_on holds home b work start new None _ task w)
-            (ap (λ (l : LocalState). in_writing_back (or_zero l.drawn) l.holds) state);
-      }
+  -- the object is of the table
+  pub first_below : (d : Due) (a : Option TlAgain) → Under holds home b start d a → o < objects (table_of home.terms)
+  first_below d a u =
+      held_below holds home b start d a u o (first_is_held (now home start) (o, value) rest first)
 
-  pub high_put : (work : Work) → b.task ≡ Doing work → (now home start).drawn ≡ Some number →
-      (old new : Steps L) (found : ℕ) → LowPut old →
-      Went holds home b old new None
-      (made_by b (Store value.high) WriteHigh (place (table_of home.terms) (HighWord o)) found) →
-      HighPut new
-  high_put work task drawn old new found low w =
-      let at : 2 * objects (table_of home.terms) + o - 2 * objects (table_of home.terms) ≡ o = omega arith in
-      let state : now home new ≡ record (now home start) {
-        holds = with_high (with_low (new_hold (now home start) (o, value))) ∷ rest;
-      } =
-      w.state
-      ∙ ap (λ n. record (now home old) { holds = marked with_high n (now home old).holds }) at
-      ∙ ap (λ (l : LocalState). record l { holds = marked with_high o l.holds }) low.state
-      ∙ ap (λ hs. record (now home start) { holds = hs })
-      (marked_first with_high o (with_low (new_hold (now home start) (o, value))) rest refl first.once) in
-      record {
-        state = state;
-        under = due_is holds home b new _ _ _ (goes_on holds home b work old new None _ task w)
-            (ap (λ (l : LocalState). in_writing_back (or_zero l.drawn) l.holds) state
-            ∙ ap (λ n. FreeAs o (2 * or_zero n + 2)) drawn);
-      }
+  module _ (u : Under holds home b start (in_writing_back number (now home start).holds) None) where
+    -- the low part is due first
+    low_due : Under holds home b start (PutLow o) None
+    low_due = due_is holds home b start _ _ None u (ap (in_writing_back number) first.held)
 
-  pub unlocked_state : (d : Due) (a : Option TlAgain) → Under holds home b start d a →
-      (now home start).drawn ≡ Some number → (old new : Steps L) (found : ℕ) → HighPut old →
-      Went holds home b old new None (made_by b (Store (2 * number + 2)) Unlock o found) →
-      now home new ≡ record (now home start) { holds = rest }
-  unlocked_state d a u drawn old new found high w =
-      let l : LocalState = now home start in
-      let k : Hold = with_high (with_low (new_hold l (o, value))) in
-      let other : (2 * number + 2 == (new_hold l (o, value)).word) ≡ false =
-      new_word holds home b start d a u number o (new_hold l (o, value)) drawn (first_held l (o, value) rest first) in
-      let here : hold_of o (k ∷ rest) ≡ Some k = rw (eq-eqb o o refl) refl in
-      let gave : (l.gave_back || (2 * number + 2 == (or_hold (hold_of o (k ∷ rest))).word)) ≡ l.gave_back =
-      ap (λ h. l.gave_back || (2 * number + 2 == (or_hold h).word)) here
-      ∙ ap (λ x. l.gave_back || x) other ∙ or_false l.gave_back in
-      w.state
-      ∙ ap (λ (m : LocalState). record m {
-        holds = without o m.holds;
-        gave_back = m.gave_back || (2 * number + 2 == (or_hold (hold_of o m.holds)).word);
-      }) high.state
-      ∙ ap (λ x. record l { holds = without o (k ∷ rest); gave_back = x }) gave
-      ∙ ap (λ hs. record l { holds = hs }) (without_first k rest first.once)
+    work : (work : Work) × (b.task ≡ Doing work)
+    work = is_doing holds home b start _ _ low_due refl
 
-  pub unlocked : (work : Work) → b.task ≡ Doing work → is_valid (now home start) ≡ true →
-      (now home start).drawn ≡ Some number → (old new : Steps L) (found : ℕ) →
-      Went holds home b old new None (made_by b (Store (2 * number + 2)) Unlock o found) →
-      now home new ≡ record (now home start) { holds = rest } →
-      Under holds home b new (in_writing_back number (now home new).holds) None
-  unlocked work task valid drawn old new found w state =
-      let good : (now home new).failed ≡ false =
-      ap (λ (l : LocalState). l.failed) state ∙ valid_good (now home start) valid in
-      let same : (now home new).drawn ≡ Some number = ap (λ (l : LocalState). l.drawn) state ∙ drawn in
-      due_is holds home b new _ _ _ (goes_on holds home b work old new None _ task w) (rw (good, same) refl)
+    pub low_put : (new : Steps L) (found : ℕ) →
+        Went holds home b start new None
+        (made_by b (Store value.low) WriteLow (place (table_of home.terms) (LowWord o)) found) →
+        LowPut new
+    low_put new found w =
+        let at : objects (table_of home.terms) + o - objects (table_of home.terms) ≡ o = omega arith in
+        let state : now home new ≡ record (now home start) {
+          holds = with_low (new_hold (now home start) (o, value)) ∷ rest;
+        } =
+        w.state
+        ∙ ap (λ n. record (now home start) { holds = marked with_low n (now home start).holds }) at
+        ∙ ap (λ hs. record (now home start) { holds = marked with_low o hs }) first.held
+        ∙ ap (λ hs. record (now home start) { holds = hs })
+        (marked_first with_low o (new_hold (now home start) (o, value)) rest refl first.once) in
+        record {
+          state = state;
+          under = due_is holds home b new _ _ _ (goes_on holds home b work.0 start new None _ work.1 w)
+              (ap (λ (l : LocalState). in_writing_back (or_zero l.drawn) l.holds) state);
+        }
+
+    pub high_put : (now home start).drawn ≡ Some number → (old new : Steps L) (found : ℕ) → LowPut old →
+        Went holds home b old new None
+        (made_by b (Store value.high) WriteHigh (place (table_of home.terms) (HighWord o)) found) →
+        HighPut new
+    high_put drawn old new found low w =
+        let at : 2 * objects (table_of home.terms) + o - 2 * objects (table_of home.terms) ≡ o = omega arith in
+        let state : now home new ≡ record (now home start) {
+          holds = with_high (with_low (new_hold (now home start) (o, value))) ∷ rest;
+        } =
+        w.state
+        ∙ ap (λ n. record (now home old) { holds = marked with_high n (now home old).holds }) at
+        ∙ ap (λ (l : LocalState). record l { holds = marked with_high o l.holds }) low.state
+        ∙ ap (λ hs. record (now home start) { holds = hs })
+        (marked_first with_high o (with_low (new_hold (now home start) (o, value))) rest refl first.once) in
+        record {
+          state = state;
+          under = due_is holds home b new _ _ _ (goes_on holds home b work.0 old new None _ work.1 w)
+              (ap (λ (l : LocalState). in_writing_back (or_zero l.drawn) l.holds) state
+              ∙ ap (λ n. FreeAs o (2 * or_zero n + 2)) drawn);
+        }
+
+    pub unlocked_state : (now home start).drawn ≡ Some number → (old new : Steps L) (found : ℕ) → HighPut old →
+        Went holds home b old new None (made_by b (Store (2 * number + 2)) Unlock o found) →
+        now home new ≡ record (now home start) { holds = rest }
+    unlocked_state drawn old new found high w =
+        let l : LocalState = now home start in
+        let k : Hold = with_high (with_low (new_hold l (o, value))) in
+        let other : (2 * number + 2 == (new_hold l (o, value)).word) ≡ false =
+        new_word holds home b start _ _ u number o (new_hold l (o, value)) drawn (first_held l (o, value) rest first) in
+        let here : hold_of o (k ∷ rest) ≡ Some k = rw (eq-eqb o o refl) refl in
+        let gave : (l.gave_back || (2 * number + 2 == (or_hold (hold_of o (k ∷ rest))).word)) ≡ l.gave_back =
+        ap (λ h. l.gave_back || (2 * number + 2 == (or_hold h).word)) here
+        ∙ ap (λ x. l.gave_back || x) other ∙ or_false l.gave_back in
+        w.state
+        ∙ ap (λ (m : LocalState). record m {
+          holds = without o m.holds;
+          gave_back = m.gave_back || (2 * number + 2 == (or_hold (hold_of o m.holds)).word);
+        }) high.state
+        ∙ ap (λ x. record l { holds = without o (k ∷ rest); gave_back = x }) gave
+        ∙ ap (λ hs. record l { holds = hs }) (without_first k rest first.once)
+
+    pub unlocked : is_valid (now home start) ≡ true →
+        (now home start).drawn ≡ Some number → (old new : Steps L) (found : ℕ) →
+        Went holds home b old new None (made_by b (Store (2 * number + 2)) Unlock o found) →
+        now home new ≡ record (now home start) { holds = rest } →
+        Under holds home b new (in_writing_back number (now home new).holds) None
+    unlocked valid drawn old new found w state =
+        let good : (now home new).failed ≡ false =
+        ap (λ (l : LocalState). l.failed) state ∙ valid_good (now home start) valid in
+        let same : (now home new).drawn ≡ Some number = ap (λ (l : LocalState). l.drawn) state ∙ drawn in
+        due_is holds home b new _ _ _ (goes_on holds home b work.0 old new None _ work.1 w) (rw (good, same) refl)
 
 -- ---- one write after the other
 
@@ -215,16 +220,6 @@ module _ {L : Type 0} (holds : L → List Val → Type 0) (home : Home L) (b : B
       holds = map (new_hold (now home start)) (drop i writes);
     }
     pub under : Under holds home b steps (in_writing_back number (now home steps).holds) None
-
-  pub none_written : (now home start).holds ≡ map (new_hold (now home start)) (take (length writes) writes) →
-      Under holds home b start (in_writing_back number (now home start).holds) None → Writing start 0
-  none_written held u = record {
-    state =
-        let all : (now home start).holds ≡ map (new_hold (now home start)) writes =
-        held ∙ ap (map (new_hold (now home start))) (take_all (length writes) writes (omega arith)) in
-        ap (λ hs. record (now home start) { holds = hs }) all;
-    under = u;
-  }
 
   -- the object of the next write is the first of those that are locked
   pub next_is_first : (steps : Steps L) (i : ℕ) → Writing steps i → i < length writes →
@@ -244,23 +239,3 @@ module _ {L : Type 0} (holds : L → List Val → Type 0) (home : Home L) (b : B
         ∙ ap (λ (l : LocalState). record l { holds = map (new_hold (now home start)) (drop (i + 1) writes) }) w.state;
     under = u;
   }
-
-  pub valid_still : (steps : Steps L) (i : ℕ) → Writing steps i → is_valid (now home start) ≡ true →
-      is_valid (now home steps) ≡ true
-  valid_still steps i w v = ap is_valid w.state ∙ v
-
-  pub drawn_still : (steps : Steps L) (i : ℕ) → Writing steps i → (now home start).drawn ≡ Some number →
-      (now home steps).drawn ≡ Some number
-  drawn_still steps i w d = ap (λ (l : LocalState). l.drawn) w.state ∙ d
-
-  pub all_written : (steps : Steps L) (i : ℕ) → Writing steps i → length writes ≤ i →
-      now home steps ≡ record (now home start) { holds = [] }
-  all_written steps i w h =
-      w.state
-      ∙ ap (λ ws. record (now home start) { holds = map (new_hold (now home start)) ws }) (drop_all i writes h)
-
-  pub written_under : (steps : Steps L) (i : ℕ) → Writing steps i → length writes ≤ i →
-      Under holds home b steps Done None
-  written_under steps i w h =
-      due_is holds home b steps _ _ None w.under
-      (ap (λ (l : LocalState). in_writing_back number l.holds) (all_written steps i w h))

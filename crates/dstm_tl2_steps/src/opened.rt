@@ -64,6 +64,7 @@ impl Opened {
     }
 
     /// The read of an object.
+    #[tactic(auto, using(crate::proofs::Placing::found_no_read, crate::proofs::Placing::found_read))]
     pub fn read(&self, o: u32) -> Option<ReadSlot>
         requires exists { o < self.now.objects }
         ensures { result ≡ read_slot self.now.reads o }
@@ -76,6 +77,7 @@ impl Opened {
     }
 
     /// The new value of an object that is open for writing.
+    #[tactic(auto, using(crate::proofs::Placing::found_no_write, crate::proofs::Placing::found_write))]
     pub fn write(&self, o: u32) -> Option<Val>
         requires exists { o < self.now.objects }
         ensures { result ≡ value_in self.now.writes o }

@@ -10,14 +10,6 @@ use Rattle.dstm_tl2_steps.specs.declared.steps.Steps.{Steps}
 use Rattle.dstm_tl2_steps.proofs.Stepping.{number_of, went_by}
 use Rattle.dstm_tl2_steps.proofs.steps.Steps.begin.Goals as goal
 
-pub load-self-requires-clause-allowed : goal.load-self-requires-clause-allowed
-load-self-requires-clause-allowed g c = λ found below. (
-  c.clock-clock.ensures ∙ ap (λ n. 3 * n + 1) c.requires.under.places,
-  (refl, refl),
-  (c.requires.number, c.requires.left, c.requires.free),
-  tt,
-)
-
 pub returns : goal.returns
 returns g c =
     let old : Steps g.row.L.Denot = c.args.self.now in

@@ -4,26 +4,6 @@ use Rattle.dstm_tl2_steps.proofs.Checking.{Checking, checked_all, checked_none, 
 use Rattle.dstm_tl2_steps.proofs.steps.Steps.check_all.Goals as goal
 use Rattle.dstm_tl2_steps.proofs.steps.Steps.check_all.Goals.{then-is_none+else-is_some, else-is_none}
 
-pub check_one-bad-requires-clause-under : goal.check_one-bad-requires-clause-under
-check_one-bad-requires-clause-under g c =
-    let within : c.loop-slot.slot-index < length c.args.opened.now.reads =
-    rw c.reads-slot-items.ensures.items at c.loop-slot-test.true in
-    (next_is g.L.Law.holds c.args.words.now g.B.InCall.began c.args.self.now c.args.opened.now.writes
-    c.loop-slot.self c.args.opened.now.reads c.loop-slot.slot-index c.loop-slot.invariant within
-    (slot_is c.args.opened.now.writes c.reads-slot-items.result.now c.args.opened.now.reads c.loop-slot.slot-index
-    c.write.result c.is_none.result true c.reads-slot-items.ensures.items c.write.ensures c.is_none.ensures
-    c.if-is_none.true)).due
-
-pub check_one-bad-requires-clause-left : goal.check_one-bad-requires-clause-left
-check_one-bad-requires-clause-left g c =
-    let within : c.loop-slot.slot-index < length c.args.opened.now.reads =
-    rw c.reads-slot-items.ensures.items at c.loop-slot-test.true in
-    (next_is g.L.Law.holds c.args.words.now g.B.InCall.began c.args.self.now c.args.opened.now.writes
-    c.loop-slot.self c.args.opened.now.reads c.loop-slot.slot-index c.loop-slot.invariant within
-    (slot_is c.args.opened.now.writes c.reads-slot-items.result.now c.args.opened.now.reads c.loop-slot.slot-index
-    c.write.result c.is_none.result true c.reads-slot-items.ensures.items c.write.ensures c.is_none.ensures
-    c.if-is_none.true)).left
-
 pub check_one-bad-requires-clause-next : goal.check_one-bad-requires-clause-next
 check_one-bad-requires-clause-next g c =
     let within : c.loop-slot.slot-index < length c.args.opened.now.reads =

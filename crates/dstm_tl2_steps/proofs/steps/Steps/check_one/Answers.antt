@@ -1,10 +1,9 @@
-use Rattle.std.proofs.Common.{subst, sym, ap, Some, None, true, false}
-use Rattle.std.specs.Prelude.{not}
+use Rattle.std.proofs.Common.{subst, sym, Some}
 use Rattle.std.proofs.lemmas.Bool.{eq-eqb, ne_eqb}
 use Rattle.dstm_tl2_order.specs.declared.again.TlAgain.{TlAgain}
 use Rattle.dstm_tl2_order.specs.Order.{in_giving_back}
 use Rattle.dstm_tl2_steps.specs.Under.{Under, now}
-use Rattle.dstm_tl2_steps.proofs.Checking.{check_bad, check_below, check_good, check_state}
+use Rattle.dstm_tl2_steps.proofs.Checking.{check_bad, check_below, check_good}
 use Rattle.dstm_tl2_steps.proofs.steps.Steps.check_one.Goals as goal
 
 pub check-found-requires-clause-exists : goal.check-found-requires-clause-exists
@@ -25,15 +24,3 @@ returns-clause-bad g c =
     c.requires.next.1 (ne_eqb c.check-found.result c.args.word c.if-found-word.false) in
     subst (λ (again : TlAgain). Under g.L.Law.holds c.args.words.now g.B.InCall.began c.check-found.new.self
     (in_giving_back (now c.args.words.now c.check-found.new.self).holds) (Some again)) (sym c.changed.ensures) bad
-
-pub returns-then-found-word-clause-rest : goal.returns-then-found-word-clause-rest
-returns-then-found-word-clause-rest g c =
-    check_state g.L.Law.holds c.args.words.now g.B.InCall.began c.args.self.now c.check-found.new.self None c.args.o
-    c.check-found.result c.args.word false c.check-found.ensures.went c.requires.sound.0
-    c.requires.next.1 (ap not (eq-eqb c.check-found.result c.args.word c.if-found-word.true))
-
-pub returns-clause-rest : goal.returns-clause-rest
-returns-clause-rest g c =
-    check_state g.L.Law.holds c.args.words.now g.B.InCall.began c.args.self.now c.check-found.new.self None c.args.o
-    c.check-found.result c.args.word true c.check-found.ensures.went c.requires.sound.0
-    c.requires.next.1 (ap not (ne_eqb c.check-found.result c.args.word c.if-found-word.false))

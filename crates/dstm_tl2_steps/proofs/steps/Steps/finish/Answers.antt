@@ -1,5 +1,5 @@
 use Rattle.std.proofs.Common.{refl, Some}
-use Rattle.dstm_tl2_steps.proofs.Committing.{bad_ends, bad_under, drawn_lists, drawn_still, drawn_under, good_under, lists_checked}
+use Rattle.dstm_tl2_steps.proofs.Committing.{bad_ends, bad_under, drawn_lists, drawn_under, lists_checked}
 use Rattle.dstm_tl2_steps.proofs.steps.Steps.finish.Goals as goal
 
 pub check_all-requires-clause-under : goal.check_all-requires-clause-under
@@ -36,14 +36,6 @@ returns-in-Some-clause-ends g c =
     c.requires.under c.give_back.new.self _ (c.give_back.ensures.under (Some c.in-Some.again)
     (bad_under g.L.Law.holds c.args.words.now g.B.InCall.began c.args.self.now c.args.opened.now.writes
     c.requires.under c.check_all.new.self _ c.in-Some.ensures.bad.1))
-
-pub write_back-requires-clause-under : goal.write_back-requires-clause-under
-write_back-requires-clause-under g c =
-    good_under g.L.Law.holds c.args.words.now g.B.InCall.began c.check_all.new.self c.draw-number.result
-    c.in_default.ensures.good.1 c.in_default.ensures.good.0
-    (drawn_still g.L.Law.holds c.args.words.now g.B.InCall.began c.args.self.now c.args.opened.now.writes
-    c.requires.under c.draw-number.new.self c.check_all.new.self c.writes.result.now.items _
-    c.draw-number.result c.writes.ensures.items c.draw-number.ensures.went c.check_all.ensures.rest)
 
 pub write_back-requires-clause-lists : goal.write_back-requires-clause-lists
 write_back-requires-clause-lists g c =

@@ -1,120 +1,82 @@
-use Rattle.std.proofs.Common.{◌≡◌, ◌+◌, ◌<◌, ◌≤◌, ◌∙◌, Some, length, refl, ap, sym, subst}
+use Rattle.std.proofs.Common.{◌≡◌, ◌<◌, ◌≤◌, ◌∙◌, Some, length, refl, ap, sym, subst}
 use Rattle.dstm_tl2.specs.State.{read_of}
 use Rattle.dstm_tl2_steps.specs.Opened.{write_at}
 use Rattle.dstm_tl2_steps.specs.Under.{Lists, now}
-use Rattle.dstm_tl2_steps.proofs.LockingAll.{has_slot, has_word, lists_now, locks_all, locks_none, locks_one, lost_ends, lost_free, lost_lists, lost_under, next_locks, then_goes_on, was_read}
+use Rattle.dstm_tl2_steps.proofs.LockingAll.{has_slot, has_word, lists_now, locks_all, lost_ends, lost_lists, lost_under, then_goes_on, was_read}
 use Rattle.dstm_tl2_steps.proofs.Slotted.{not_nothing}
+use Rattle.dstm_tl2_steps.proofs.steps.Steps.lock_all.Given.{Over}
+use Rattle.dstm_tl2_steps.proofs.steps.Steps.lock_all.Goals.{In-loop-write}
 use Rattle.dstm_tl2_steps.proofs.steps.Steps.lock_all.Goals as goal
 
-pub loop-write-init : goal.loop-write-init
-loop-write-init g c = record {
-  so_far = locks_none g.L.Law.holds c.args.words.now g.B.InCall.began c.args.self.now c.args.opened.now.writes
-      c.requires.work c.requires.rest;
-  counted = c.requires.none;
-}
+-- a write is left
+within : (g : Over) (c : In-loop-write g) → c.loop-write.write-index < length c.args.opened.now.writes
+within g c = rw (c.deref-write-items.ensures.value ∙ c.writes.ensures.items) at c.loop-write-test.true
+
+-- it is of the object that is locked
+named : (g : Over) (c : In-loop-write g) →
+    (write_at c.args.opened.now.writes c.loop-write.write-index).0
+    ≡ (write_at c.deref-write-items.result.now c.loop-write.write-index).0
+named g c =
+    ap (λ ws. (write_at ws c.loop-write.write-index).0)
+    (sym (c.deref-write-items.ensures.value ∙ c.writes.ensures.items))
 
 pub word-word-requires-clause-read : goal.word-word-requires-clause-read
 word-word-requires-clause-read g c =
-    let same : c.deref-write-items.result.now ≡ c.args.opened.now.writes =
-    c.deref-write-items.ensures.value ∙ c.writes.ensures.items in
     has_slot g.L.Law.holds c.args.words.now g.B.InCall.began c.args.self.now c.loop-write.self c.args.opened.now
     c.loop-write.write-index c.requires.lists c.requires.rest c.loop-write.invariant.so_far c.requires.read
-    (subst (λ ws. c.loop-write.write-index < length ws) same c.loop-write-test.true)
-    _ (ap (λ ws. (write_at ws c.loop-write.write-index).0) (sym same))
-
-pub lock-requires-clause-under : goal.lock-requires-clause-under
-lock-requires-clause-under g c =
-    let same : c.deref-write-items.result.now ≡ c.args.opened.now.writes =
-    c.deref-write-items.ensures.value ∙ c.writes.ensures.items in
-    next_locks g.L.Law.holds c.args.words.now g.B.InCall.began c.args.self.now c.loop-write.self c.args.opened.now
-    c.loop-write.write-index c.requires.lists c.requires.rest c.loop-write.invariant.so_far
-    (subst (λ ws. c.loop-write.write-index < length ws) same c.loop-write-test.true)
-    c.requires.work.0 c.requires.work.1 _ c.writes-in-loop-write.ensures.items
+    (within g (goal.at.word-word-requires-clause-read g c).In-loop-write)
+    _ (named g (goal.at.word-word-requires-clause-read g c).In-loop-write)
 
 pub lock-requires-clause-exists : goal.lock-requires-clause-exists
 lock-requires-clause-exists g c =
-    let same : c.deref-write-items.result.now ≡ c.args.opened.now.writes =
-    c.deref-write-items.ensures.value ∙ c.writes.ensures.items in
+    let at = (goal.at.lock-requires-clause-exists g c).In-loop-write in
     subst (λ n. (write_at c.deref-write-items.result.now c.loop-write.write-index).0 < n) c.requires.lists.objects
-    (rw same (c.writes.ensures.below c.loop-write.write-index
-    (subst (λ ws. c.loop-write.write-index < length ws) same c.loop-write-test.true)))
+    (subst (λ n. n < c.args.opened.now.objects) (named g at)
+    (c.writes.ensures.below c.loop-write.write-index (within g at)))
 
 pub lock-requires-clause-read : goal.lock-requires-clause-read
 lock-requires-clause-read g c =
-    let same : c.deref-write-items.result.now ≡ c.args.opened.now.writes =
-    c.deref-write-items.ensures.value ∙ c.writes.ensures.items in
     not_nothing (read_of (write_at c.deref-write-items.result.now c.loop-write.write-index).0
     (now c.args.words.now c.loop-write.self).reads)
     (was_read g.L.Law.holds c.args.words.now g.B.InCall.began c.args.self.now c.loop-write.self c.args.opened.now
     c.loop-write.write-index c.requires.lists c.requires.rest c.loop-write.invariant.so_far c.requires.read
-    (subst (λ ws. c.loop-write.write-index < length ws) same c.loop-write-test.true)
-    _ (ap (λ ws. (write_at ws c.loop-write.write-index).0) (sym same)))
+    (within g (goal.at.lock-requires-clause-read g c).In-loop-write)
+    _ (named g (goal.at.lock-requires-clause-read g c).In-loop-write))
 
 pub lock-requires-clause-word : goal.lock-requires-clause-word
 lock-requires-clause-word g c =
-    let same : c.deref-write-items.result.now ≡ c.args.opened.now.writes =
-    c.deref-write-items.ensures.value ∙ c.writes.ensures.items in
     has_word g.L.Law.holds c.args.words.now g.B.InCall.began c.args.self.now c.loop-write.self c.args.opened.now
     c.loop-write.write-index c.requires.lists c.requires.rest c.loop-write.invariant.so_far c.requires.read
-    (subst (λ ws. c.loop-write.write-index < length ws) same c.loop-write-test.true)
-    _ (ap (λ ws. (write_at ws c.loop-write.write-index).0) (sym same)) c.word-word.result c.word-word.ensures
+    (within g (goal.at.lock-requires-clause-word g c).In-loop-write)
+    _ (named g (goal.at.lock-requires-clause-word g c).In-loop-write) c.word-word.result c.word-word.ensures
 
 pub give_back-requires-clause-under : goal.give_back-requires-clause-under
-give_back-requires-clause-under g c =
-    let same : c.deref-write-items.result.now ≡ c.args.opened.now.writes =
-    c.deref-write-items.ensures.value ∙ c.writes.ensures.items in (
-      Some _,
-      lost_under g.L.Law.holds c.args.words.now g.B.InCall.began c.args.self.now c.loop-write.self c.args.opened.now
-          c.loop-write.write-index c.requires.lists c.requires.rest c.loop-write.invariant.so_far
-          (subst (λ ws. c.loop-write.write-index < length ws) same c.loop-write-test.true)
-          c.requires.work.0 c.requires.work.1 c.lock.new.self _ c.word-word.result c.in-Err.found _
-          c.writes-in-loop-write.ensures.items c.in-Err.ensures.went _ c.in-Err.ensures.answer refl,
-    )
+give_back-requires-clause-under g c = (
+  Some _,
+  lost_under g.L.Law.holds c.args.words.now g.B.InCall.began c.args.self.now c.loop-write.self c.args.opened.now
+      c.loop-write.write-index c.requires.lists c.requires.rest c.loop-write.invariant.so_far
+      (within g (goal.at.give_back-requires-clause-under g c).In-loop-write)
+      c.requires.work.0 c.requires.work.1 c.lock.new.self _ c.word-word.result c.in-Err.found _
+      c.writes-in-loop-write.ensures.items c.in-Err.ensures.went _ c.in-Err.ensures.answer refl,
+)
 
 pub give_back-requires-clause-lists : goal.give_back-requires-clause-lists
 give_back-requires-clause-lists g c =
-    let same : c.deref-write-items.result.now ≡ c.args.opened.now.writes =
-    c.deref-write-items.ensures.value ∙ c.writes.ensures.items in
     subst (Lists c.args.words.now c.lock.new.self c.args.opened.now) (sym c.loop-write.invariant.counted)
     (lost_lists g.L.Law.holds c.args.words.now g.B.InCall.began c.args.self.now c.loop-write.self c.args.opened.now
     c.loop-write.write-index c.requires.lists c.requires.rest c.loop-write.invariant.so_far
-    (subst (λ ws. c.loop-write.write-index < length ws) same c.loop-write-test.true)
+    (within g (goal.at.give_back-requires-clause-lists g c).In-loop-write)
     c.requires.work.0 c.requires.work.1 c.lock.new.self _ c.word-word.result c.in-Err.found _
     c.writes-in-loop-write.ensures.items c.in-Err.ensures.went c.in-Err.ensures.answer)
 
 pub returns-in-Err-clause-ends : goal.returns-in-Err-clause-ends
 returns-in-Err-clause-ends g c =
-    let same : c.deref-write-items.result.now ≡ c.args.opened.now.writes =
-    c.deref-write-items.ensures.value ∙ c.writes.ensures.items in
     lost_ends g.L.Law.holds c.args.words.now g.B.InCall.began c.args.self.now c.loop-write.self c.args.opened.now
     c.loop-write.write-index c.requires.lists c.requires.rest c.loop-write.invariant.so_far
-    (subst (λ ws. c.loop-write.write-index < length ws) same c.loop-write-test.true)
+    (within g (goal.at.returns-in-Err-clause-ends g c).In-loop-write)
     c.requires.work.0 c.requires.work.1 c.lock.new.self _ c.word-word.result c.in-Err.found _
     c.writes-in-loop-write.ensures.items c.in-Err.ensures.went c.give_back.new.self c.changed.result
     c.in-Err.ensures.answer c.changed.ensures c.give_back.ensures.under
-
-pub returns-in-Err-clause-left : goal.returns-in-Err-clause-left
-returns-in-Err-clause-left g c =
-    let same : c.deref-write-items.result.now ≡ c.args.opened.now.writes =
-    c.deref-write-items.ensures.value ∙ c.writes.ensures.items in
-    lost_free g.L.Law.holds c.args.words.now g.B.InCall.began c.args.self.now c.loop-write.self c.args.opened.now
-    c.loop-write.write-index c.requires.lists c.requires.rest c.loop-write.invariant.so_far
-    (subst (λ ws. c.loop-write.write-index < length ws) same c.loop-write-test.true)
-    c.requires.work.0 c.requires.work.1 c.lock.new.self _ c.word-word.result c.in-Err.found _
-    c.writes-in-loop-write.ensures.items c.in-Err.ensures.went c.give_back.new.self c.in-Err.ensures.answer
-    c.give_back.ensures.rest
-
-pub loop-write-preserved : goal.loop-write-preserved
-loop-write-preserved g c =
-    let same : c.deref-write-items.result.now ≡ c.args.opened.now.writes =
-    c.deref-write-items.ensures.value ∙ c.writes.ensures.items in record {
-      so_far = locks_one g.L.Law.holds c.args.words.now g.B.InCall.began c.args.self.now c.loop-write.self
-          c.args.opened.now c.loop-write.write-index c.requires.lists c.requires.rest c.loop-write.invariant.so_far
-          (subst (λ ws. c.loop-write.write-index < length ws) same c.loop-write-test.true)
-          c.requires.work.0 c.requires.work.1 c.lock.new.self _ c.word-word.result c.in_default.field-0 _
-          c.writes-in-loop-write.ensures.items c.in_default.ensures.went c.in_default.ensures.answer;
-      counted = ap (λ n. n + 1) c.loop-write.invariant.counted;
-    }
 
 pub returns-clause-all : goal.returns-clause-all
 returns-clause-all g c =
@@ -124,14 +86,6 @@ returns-clause-all g c =
     ∙ (locks_all g.L.Law.holds c.args.words.now g.B.InCall.began c.args.self.now c.loop-write.self
     c.args.opened.now.writes c.loop-write.write-index c.loop-write.invariant.so_far
     (subst (λ ws. length ws ≤ c.loop-write.write-index) same c.loop-write-test.false)).0
-
-pub returns-clause-state : goal.returns-clause-state
-returns-clause-state g c =
-    let same : c.deref-write-items.result.now ≡ c.args.opened.now.writes =
-    c.deref-write-items.ensures.value ∙ c.writes.ensures.items in
-    (locks_all g.L.Law.holds c.args.words.now g.B.InCall.began c.args.self.now c.loop-write.self
-    c.args.opened.now.writes c.loop-write.write-index c.loop-write.invariant.so_far
-    (subst (λ ws. length ws ≤ c.loop-write.write-index) same c.loop-write-test.false)).1
 
 pub returns-clause-lists : goal.returns-clause-lists
 returns-clause-lists g c =
