@@ -52,7 +52,7 @@ impl<'a, L: Law> Transaction for Tx<'a, L> {
 
     fn begin(&mut self) -> Result<(), GaveUp> {
         self.undos.clear();
-        self.alternatives = 0;
+        self.notes = false;
         begin(&mut self.caller, self.stm)
     }
 

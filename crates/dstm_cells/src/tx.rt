@@ -1,9 +1,9 @@
 // What a closure may do in its transaction.
-ghost use Rattle.std.specs.Prelude.{◌≡◌, ◌<◌, List, length, true, false, IfOk, IsTrue, Ok, OnOk, Err, if◌then◌else◌};
+ghost use Rattle.std.specs.Prelude.{◌≡◌, ◌<◌, List, length, true, false, IfErr, IfOk, IsTrue, Ok, OnOk, Err, if◌then◌else◌};
 ghost use Rattle.dstm_engine.specs.Callers.{is_live, law_of, shape_of};
 ghost use Rattle.dstm_engine.specs.Transactions.{BeginsAnew};
 ghost use Rattle.dstm_cells.specs.Closures.{KeepsOnce};
-ghost use Rattle.dstm_cells.specs.UnderWay.{AddsNothing, Changes, Exchanges, Finds, Gets, IsUntouched, Keeps, LeavesLawful, MayBegin, TakesEffect, seen};
+ghost use Rattle.dstm_cells.specs.UnderWay.{AddsNothing, Changes, Exchanges, Finds, Gets, IsUntouched, Keeps, LeavesLawful, MayBegin, MayNotOpen, Refuses, StopsChange, StopsLook, TakesEffect, seen};
 ghost use Rattle.dstm_cells.specs.declared.error.Stop.TheVariants.{Retry};
 
 use crate::cell::{Cell, Word};
@@ -31,7 +31,7 @@ impl<'a, L: Law> Tx<'a, L> {
             caller,
             stm,
             undos: Vec::new(alloc),
-            alternatives: 0,
+            notes: false,
             looks: LOOKS,
         }
     }
@@ -39,6 +39,8 @@ impl<'a, L: Law> Tx<'a, L> {
     /// What a cell holds.
     pub fn get<T: Word>(&mut self, cell: Cell<T>) -> Result<T, Stop>
         ensures keeps { Keeps self.old.caller self.new.caller }
+        ensures stops { IfErr result (StopsLook L.holds cell.object self.old.caller self.new.caller) }
+        ensures refuses { Refuses self.old.caller cell.object result }
         ensures gets { IfOk result (Gets L.holds T.found self.old.caller self.new.caller cell.object) }
     {
         let val = self.read(cell.object)?;
@@ -48,6 +50,8 @@ impl<'a, L: Law> Tx<'a, L> {
     /// Puts a value into a cell.
     pub fn set<T: Word>(&mut self, cell: Cell<T>, value: T) -> Result<(), Stop>
         ensures keeps { Keeps self.old.caller self.new.caller }
+        ensures stops { IfErr result (StopsChange L.holds self.old.notes cell.object self.old.caller self.new.caller) }
+        ensures refuses { Refuses self.old.caller cell.object result }
         ensures puts { OnOk result ((had : T) × Changes L.holds T.found self.old.caller self.new.caller cell.object had value) }
     {
         let _old = self.replace(cell, value)?;
@@ -57,6 +61,8 @@ impl<'a, L: Law> Tx<'a, L> {
     /// Puts a value into a cell, and answers what it held.
     pub fn replace<T: Word>(&mut self, cell: Cell<T>, value: T) -> Result<T, Stop>
         ensures keeps { Keeps self.old.caller self.new.caller }
+        ensures stops { IfErr result (StopsChange L.holds self.old.notes cell.object self.old.caller self.new.caller) }
+        ensures refuses { Refuses self.old.caller cell.object result }
         ensures puts { IfOk result (λ had. Changes L.holds T.found self.old.caller self.new.caller cell.object had value) }
     {
         let old = self.change(cell.object, |_| value.to_val())?;
@@ -67,6 +73,8 @@ impl<'a, L: Law> Tx<'a, L> {
     pub fn update<T: Word, F: FnOnce(T) -> T>(&mut self, cell: Cell<T>, f: F) -> Result<T, Stop>
         requires callable { F.IsAlwaysCallable f }
         ensures keeps { Keeps self.old.caller self.new.caller }
+        ensures stops { IfErr result (StopsChange L.holds self.old.notes cell.object self.old.caller self.new.caller) }
+        ensures refuses { Refuses self.old.caller cell.object result }
         ensures puts { IfOk result (λ had.
             (value : T) × F.post f had value × Changes L.holds T.found self.old.caller self.new.caller cell.object had value) }
     {
@@ -92,6 +100,8 @@ impl<'a, L: Law> Tx<'a, L> {
     // Opens an object for reading.
     fn read(&mut self, object: u32) -> Result<Val, Stop>
         ensures keeps { Keeps self.old.caller self.new.caller }
+        ensures stops { IfErr result (StopsLook L.holds object self.old.caller self.new.caller) }
+        ensures refuses { Refuses self.old.caller object result }
         ensures finds { IfOk result (Finds L.holds self.old.caller self.new.caller object) }
         ensures may { OnOk result ((map : List Val) × MayBegin L.holds self.new.caller map) }
     {
@@ -105,13 +115,15 @@ impl<'a, L: Law> Tx<'a, L> {
     fn change<F: FnOnce(Val) -> Val>(&mut self, object: u32, f: F) -> Result<Val, Stop>
         requires callable { F.IsAlwaysCallable f }
         ensures keeps { Keeps self.old.caller self.new.caller }
+        ensures stops { IfErr result (StopsChange L.holds self.old.notes object self.old.caller self.new.caller) }
+        ensures refuses { Refuses self.old.caller object result }
         ensures changes { IfOk result (λ had.
             (value : Val) × F.post f had value × Exchanges L.holds self.old.caller self.new.caller object had value) }
     {
         let mut tx = self.caller.resume(self.stm);
         may_open(&tx, object)?;
         let value = tx.open_write(object)?;
-        if self.alternatives > 0 {
+        if self.notes {
             self.undos.push(Undo { object, value })?;
         }
         tx.set(object, f(value));
@@ -120,7 +132,10 @@ impl<'a, L: Law> Tx<'a, L> {
 
     // Sets an object, and opens it for writing where it is not open. It notes nothing.
     fn put(&mut self, object: u32, value: Val) -> Result<(), Stop>
-        ensures { Keeps self.old.caller self.new.caller }
+        ensures keeps { Keeps self.old.caller self.new.caller }
+        ensures stops { IfErr result (StopsChange L.holds false object self.old.caller self.new.caller) }
+        ensures refuses { Refuses self.old.caller object result }
+        ensures puts { OnOk result ((had : Val) × Exchanges L.holds self.old.caller self.new.caller object had value) }
     {
         let mut tx = self.caller.resume(self.stm);
         may_open(&tx, object)?;
@@ -222,10 +237,11 @@ impl<'a> Tx<'a> {
         ensures { KeepsOnce (λ tx. tx.caller) F.FnOnce first → KeepsOnce (λ tx. tx.caller) G.FnOnce second
             → Keeps self.old.caller self.new.caller }
     {
+        let notes = self.notes;
         let kept = self.undos.len();
-        self.alternatives = self.alternatives.saturating_add(1);
+        self.notes = true;
         let answer = first(self);
-        self.alternatives = self.alternatives.saturating_sub(1);
+        self.notes = notes;
         match answer {
             Err(Stop::Retry) => {
                 self.undo_to(kept)?;
@@ -239,7 +255,9 @@ impl<'a> Tx<'a> {
 // Whether an attempt is live, and has such an object.
 #[inline]
 fn may_open<L: Law>(tx: &Attempt<'_, L>, object: u32) -> Result<(), Stop>
-    ensures { OnOk result (IsTrue (is_live tx.now.caller.now) × (object < (shape_of tx.now.caller.now).objects)) }
+    ensures may { OnOk result (IsTrue (is_live tx.now.caller.now) × (object < (shape_of tx.now.caller.now).objects)) }
+    ensures may_not { IfErr result (MayNotOpen tx.now.caller.now object) }
+    ensures refuses { Refuses tx.now.caller.now object result }
 {
     if !tx.is_live() {
         return Err(Stop::Again);

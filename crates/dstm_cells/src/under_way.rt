@@ -17,8 +17,8 @@ pub struct Tx<'a, L: Law = AnyLaw> {
     pub(crate) caller: Caller<L>,
     pub(crate) stm: &'a Stm<L>,
     pub(crate) undos: Vec<Undo>,
-    // How many alternatives it is in of which each may yet be undone.
-    pub(crate) alternatives: u32,
+    // It is in an alternative which may yet be undone, and notes what it sets.
+    pub(crate) notes: bool,
     pub(crate) looks: u32,
     ghost table: { caller.home ≡ stm.now },
 }

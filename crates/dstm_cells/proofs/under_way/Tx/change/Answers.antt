@@ -13,7 +13,7 @@ returns-clause-changes g c =
     let kept = c.open_write.ensures.kept in
     let found =
     finds g.L.Law.holds old opened c.args.object had (ap (λ (k : Called _). k.set) kept)
-    c.in_ok-may_open.ensures.1 c.open_write.ensures.narrows c.in_ok-value.ensures.value in (
+    c.in_ok-may_open.ensures.may.1 c.open_write.ensures.narrows c.in_ok-value.ensures.value in (
       c.f.result,
       c.f.ensures,
       subst (λ (k : Called _). Exchanges g.L.Law.holds k new c.args.object had c.f.result) c.resume-tx.ensures.attempt

@@ -9,5 +9,5 @@ returns-clause-finds g c =
     let new = c.open_read.new.self.caller.now in
     let kept = c.open_read.ensures.kept in
     subst (λ (k : Called _). Finds g.L.Law.holds k new c.args.object c.in_ok-value.value) c.resume-tx.ensures.attempt
-    (finds g.L.Law.holds c.resume-tx.result.caller.now new c.args.object c.in_ok-value.value (ap (λ (k : Called _). k.set) kept) c.in_ok-may_open.ensures.1 c.open_read.ensures.narrows
+    (finds g.L.Law.holds c.resume-tx.result.caller.now new c.args.object c.in_ok-value.value (ap (λ (k : Called _). k.set) kept) c.in_ok-may_open.ensures.may.1 c.open_read.ensures.narrows
     c.in_ok-value.ensures.value)
