@@ -1,12 +1,14 @@
 -- What is known of a closure's calls.
-use Rattle.std.proofs.Common.{refl}
-use Rattle.std.specs.Prelude.{Result, IfErr, Ok, Err}
+use Rattle.std.proofs.Common.{◌≡◌, List, refl, subst, sym}
+use Rattle.std.specs.Prelude.{Result, IfErr, IsErrAnd, Ok, Err}
 use denote.Ref.{MutBor}
 use Rattle.std.specs.Fn.{Called, CalledAtMut, Mut, Once}
+use Rattle.dstm_model.specs.declared.value.Val.{Val}
 use Rattle.dstm_engine.specs.Callers.{Called as Caller}
+use Rattle.dstm_engine.specs.Transactions.{BeginsAnew}
 use Rattle.dstm_cells.specs.declared.error.Stop.{Stop}
-use Rattle.dstm_cells.specs.Closures.{KeepsOnce}
-use Rattle.dstm_cells.specs.UnderWay.{Keeps}
+use Rattle.dstm_cells.specs.Closures.{CalledAnew, KeepsEach, KeepsOnce}
+use Rattle.dstm_cells.specs.UnderWay.{AddsNothing, Keeps}
 
 module _ {X F R : Type 0} where
   -- a call of an alternative
@@ -22,7 +24,29 @@ module _ {X F R : Type 0} where
       (answer : Result R Stop) → Called g f (p, tt) (answer, (q, tt)) n → CalledAtMut g f p.now answer n q.now
   called_at g f n p q answer called = record { shown = p; shows = refl; left = q; called = called; leaves = refl }
 
+  -- a call of a closure on an attempt that had just begun
+  abbrev pub called_anew : {L : Type 0} (caller : X → Caller L)
+      (g : Mut F (MutBor X × Unit {0}) (Result R Stop × (MutBor X × Unit {0}))) (holds : L → List Val → Type 0)
+      (k : Caller L) (before : Caller L) (f n : F) (p q : MutBor X) (found answer : Result R Stop) →
+      AddsNothing k before → BeginsAnew holds before (caller p.now) → KeepsEach caller g →
+      Called g f (p, tt) (found, (q, tt)) n → found ≡ answer → CalledAnew caller g holds k answer
+  called_anew caller g holds k before f n p q found answer same begins keeps called is = record {
+    before = before;
+    same = same;
+    began = p.now;
+    begins = begins;
+    ended = q.now;
+    called = (f, n, subst (λ r. CalledAtMut g f p.now r n q.now) is (called_at g f n p q found called));
+    keeps = keeps f n p.now q.now found (called_at g f n p q found called);
+  }
+
 -- what holds whatever an error is
 pub if_err : {R E X : Type 0} (answer : Result R E) → X → IfErr answer (λ _. X)
 if_err (Ok r) x = tt
 if_err (Err e) x = x
+
+-- what holds of an error that is known
+pub is_err : {R E : Type 0} (answer : Result R E) (why : E) (P : E → Type 0) → IsErrAnd answer (λ e. e ≡ why) → P why →
+    IfErr answer P
+is_err (Ok r) why P is p = tt
+is_err (Err e) why P is p = subst P (sym is) p

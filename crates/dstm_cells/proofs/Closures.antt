@@ -9,11 +9,11 @@ use Rattle.dstm_opacity.specs.Committed.{Committed}
 use Rattle.dstm_words.specs.Seats.{Home}
 use Rattle.dstm_engine.specs.Attempts.{Settles, done}
 use Rattle.dstm_engine.specs.Callers.{Called}
-use Rattle.dstm_engine.specs.Transactions.{TxPlace, tx_place}
+use Rattle.dstm_engine.specs.Transactions.{TxPlace}
 use Rattle.dstm_engine.proofs.Made.{settled}
 use Rattle.dstm_cells.specs.declared.error.Stop.{Stop}
 use Rattle.dstm_cells.specs.Closures.{TookEffect}
-use Rattle.dstm_cells.specs.UnderWay.{AddsNothing, Attempt, MayBegin, attempt, seen}
+use Rattle.dstm_cells.specs.UnderWay.{AddsNothing, Attempt, MayBegin, seen}
 
 abbrev place_of : {L : Type 0} → GName → Home L → Attempt L → TxPlace L
 place_of name table a = record {
@@ -52,10 +52,10 @@ module _ {X L F R : Type 0} (caller : X → Called L)
   -- caller has committed this one alone.
   pub answers_right : (k n : Called L) (answer : R) (t : TookEffect caller g holds k n answer)
       (is_right : List Val → List Val → Type 0) →
-      ((map : List Val) → MayBegin holds (caller t.ended) map → is_right map (seen (caller t.ended) map)) →
+      ((map : List Val) → MayBegin holds (caller t.last.ended) map → is_right map (seen (caller t.last.ended) map)) →
       Settles holds is_right k n t.takes.number
   answers_right k n answer t is_right right =
-      let name = t.called.2.shown.ghost_name in
-      settles_from holds k t.before n is_right t.takes.number t.same
-      (settled holds t.before (caller t.began) (caller t.ended) name name t.before.home t.before.home t.begins
-      (ap (place_of name t.before.home) t.keeps) is_right n t.takes.number t.takes.home t.takes.run t.takes.commits right)
+      let name = t.last.called.2.shown.ghost_name in
+      settles_from holds k t.last.before n is_right t.takes.number t.last.same
+      (settled holds t.last.before (caller t.last.began) (caller t.last.ended) name name t.last.before.home t.last.before.home t.last.begins
+      (ap (place_of name t.last.before.home) t.last.keeps) is_right n t.takes.number t.takes.home t.takes.run t.takes.commits right)

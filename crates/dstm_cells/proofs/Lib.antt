@@ -1,5 +1,7 @@
+mod Attempting
 mod Calling
 pub mod Closures
 pub mod Found
 pub mod Sends
+mod Spending
 mod UnderWay

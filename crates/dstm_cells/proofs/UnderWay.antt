@@ -9,7 +9,7 @@ use Rattle.dstm_mem.proofs.WithSet.{value_at-opened, with_set-set}
 use Rattle.dstm_words.specs.Seats.{Home}
 use Rattle.dstm_engine.specs.Callers.{Called, handed, held, law_of, shape_of, written}
 use Rattle.dstm_engine.proofs.Made.{set_admits}
-use Rattle.dstm_cells.specs.UnderWay.{AddsNothing, Attempt, Exchanges, Finds, MayBegin, attempt, seen}
+use Rattle.dstm_cells.specs.UnderWay.{AddsNothing, Attempt, Exchanges, Finds, MayBegin, attempt}
 
 module _ {L : Type 0} where
   -- one whose attempt stays the same adds nothing

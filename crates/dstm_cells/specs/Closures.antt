@@ -1,11 +1,14 @@
 -- What a transaction that a closure makes has done.
-use Rattle.std.specs.Prelude.{List, Result, Ok}
+use Rattle.std.specs.Prelude.{◌≡◌, ◌⊎◌, ℕ, List, Result, Ok, Err}
 use denote.Ref.{MutBor}
 use Rattle.std.specs.Fn.{CalledAtMut, FnOnceReturnsAtMut, Mut, Once}
 use Rattle.dstm_model.specs.declared.value.Val.{Val}
 use Rattle.dstm_engine.specs.Callers.{Called}
 use Rattle.dstm_engine.specs.Transactions.{BeginsAnew}
+use Rattle.dstm_cells.specs.declared.error.GaveUp.{GaveUp}
+use Rattle.dstm_cells.specs.declared.error.GaveUp.TheVariants.{Spent}
 use Rattle.dstm_cells.specs.declared.error.Stop.{Stop}
+use Rattle.dstm_cells.specs.Attempts.{Follows, IsSpent}
 use Rattle.dstm_cells.specs.UnderWay.{AddsNothing, IsUntouched, Keeps, LeavesLawful, TakesEffect}
 
 module _ {X L F R : Type 0} (caller : X → Called L) where
@@ -28,15 +31,31 @@ module _ {X L F R : Type 0} (caller : X → Called L) where
           (f n : F) (old new : X) (answer : R) → CalledAtMut g f old (Ok answer) n new → IsUntouched (caller old) →
           LeavesLawful holds (caller new)
 
-      -- ONE ATTEMPT TOOK EFFECT, and nothing else: the closure was called on an attempt that had just begun, and
-      -- answered this; what was read and set then is what the caller has committed, beside what it had committed
-      -- before.
-      pub record TookEffect (k n : Called L) (answer : R) : Type 0 where
+      -- the closure was called on an attempt that had just begun, and answered this; the caller had committed nothing
+      -- more before it
+      pub record CalledAnew (k : Called L) (answer : Result R Stop) : Type 0 where
         pub before : Called L
         pub same : AddsNothing k before
         pub began : X
         pub begins : BeginsAnew holds before (caller began)
         pub ended : X
-        pub called : (f : F) × (after : F) × CalledAtMut g f began (Ok answer) after ended
+        pub called : (f : F) × (after : F) × CalledAtMut g f began answer after ended
         pub keeps : Keeps (caller began) (caller ended)
-        pub takes : TakesEffect holds (caller ended) n
+
+      -- ONE ATTEMPT TOOK EFFECT, and nothing else: the closure answered this on it; what was read and set then is what the
+      -- caller has committed, beside what it had committed before.
+      pub record TookEffect (k n : Called L) (answer : R) : Type 0 where
+        pub last : CalledAnew k (Ok answer)
+        pub takes : TakesEffect holds (caller last.ended) n
+
+      module _ (patience : X → ℕ) where
+        -- THE CLOSURE STOPPED ITS ATTEMPT, and that is why there is no further one.
+        pub record WasStopped (k : Called L) (why : GaveUp) : Type 0 where
+          pub stop : Stop
+          pub last : CalledAnew k (Err stop)
+          pub follows : Follows holds (patience last.ended) (caller last.ended) stop (Err why)
+
+        -- WHY A TRANSACTION DID NOT TAKE EFFECT: the caller has no attempt left, or no locator; or the closure stopped its
+        -- attempt.
+        abbrev pub GaveUpFor : Called L → Called L → GaveUp → Type 0
+        GaveUpFor k n why = ((why ≡ Spent) × IsSpent n) ⊎ WasStopped k why

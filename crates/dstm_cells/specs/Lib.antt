@@ -1,3 +1,4 @@
+pub mod Attempts
 pub mod Cells
 pub mod Closures
 pub mod UnderWay

@@ -1,6 +1,6 @@
 // A thread's part in a run.
 ghost use Rattle.std.specs.Prelude.{◌≡◌, IfErr, IfOk};
-ghost use Rattle.dstm_cells.specs.Closures.{IsLawful, KeepsEach, TookEffect};
+ghost use Rattle.dstm_cells.specs.Closures.{GaveUpFor, IsLawful, KeepsEach, TookEffect};
 ghost use Rattle.dstm_cells.specs.UnderWay.{AddsNothing};
 
 use crate::error::{GaveUp, Stop};
@@ -8,9 +8,6 @@ use crate::transaction::Transaction;
 use crate::under_way::Tx;
 use dstm_model::AnyLaw;
 use std::thread::yield_now;
-
-// The attempts of each thread in a run.
-const ATTEMPTS: u32 = 65_536;
 
 /// A thread's part in a run: it makes transactions, one after the other.
 #[derive(Drop)]
@@ -33,10 +30,12 @@ impl<X: Transaction> Part<X> {
             IfOk result (TookEffect X.caller F.FnMut X.Rule.holds (X.caller self.old.tx) (X.caller self.new.tx)) }
         ensures nothing { KeepsEach X.caller F.FnMut →
             IfErr result (λ _. AddsNothing (X.caller self.old.tx) (X.caller self.new.tx)) }
+        ensures why { KeepsEach X.caller F.FnMut →
+            IfErr result (GaveUpFor X.caller F.FnMut X.Rule.holds X.patience (X.caller self.old.tx) (X.caller self.new.tx)) }
     {
         let mut f = f;
         self.tx.renew();
-        for _ in 0..=ATTEMPTS {
+        for _number in 0..self.tx.attempts() {
             self.tx.begin()?;
             match f(&mut self.tx) {
                 Ok(answer) => {
@@ -53,7 +52,10 @@ impl<X: Transaction> Part<X> {
 
     /// From now on a transaction that retries looks so many times at most whether something that it has read has
     /// changed, and gives way at each look: 1,048,576 times, where it is not told.
-    pub fn set_looks(&mut self, looks: u32) {
+    pub fn set_looks(&mut self, looks: u32)
+        ensures same { X.caller self.new.tx ≡ X.caller self.old.tx }
+        ensures looks { X.patience self.new.tx ≡ looks }
+    {
         self.tx.set_looks(looks);
     }
 }

@@ -1,8 +1,10 @@
 // What makes the transactions of a thread, one after the other.
-ghost use Rattle.std.specs.Prelude.{◌≡◌, true, false, OnOk};
-ghost use Rattle.dstm_engine.specs.Callers.{Called};
+ghost use Rattle.std.specs.Prelude.{◌≡◌, ℕ, true, false, IfErr, OnOk};
+ghost use Rattle.dstm_engine.specs.Callers.{Called, shape_of};
 ghost use Rattle.dstm_engine.specs.Transactions.{BeginsAnew};
+ghost use Rattle.dstm_cells.specs.Attempts.{Follows, IsLost, IsSpent};
 ghost use Rattle.dstm_cells.specs.UnderWay.{AddsNothing, Keeps, LeavesLawful, TakesEffect};
+ghost use Rattle.dstm_cells.specs.declared.error.GaveUp.TheVariants.{Spent};
 
 use crate::error::{GaveUp, Stop};
 use crate::under_way::Tx;
@@ -17,34 +19,51 @@ pub trait Transaction: Drop {
     /// The caller of a table that makes the attempts.
     ghost caller: { Self → Called Self.Rule };
 
+    /// How often a transaction that retries looks at most.
+    ghost patience: { Self → ℕ };
+
+    /// The attempts of its caller in a run.
+    fn attempts(&self) -> u32
+        ensures { result ≡ (shape_of (caller self.now)).attempts };
+
     /// Makes the next attempt the first of a new transaction.
     fn renew(&mut self)
-        ensures { AddsNothing (caller self.old) (caller self.new) };
+        ensures { caller self.new ≡ record (caller self.old) { fresh = true } };
 
     /// Begins an attempt.
     fn begin(&mut self) -> Result<(), GaveUp>
         ensures begins { OnOk result (BeginsAnew Self.Rule.holds (caller self.old) (caller self.new)) }
+        ensures spent { IfErr result (λ why. (why ≡ Spent) × IsSpent (caller self.new)) }
         ensures nothing { AddsNothing (caller self.old) (caller self.new) };
 
     /// Commits the attempt, and tells whether it has taken effect.
     fn commit(&mut self) -> bool
         requires lawful { LeavesLawful Self.Rule.holds (caller self.old) }
         ensures takes { result ≡ true → TakesEffect Self.Rule.holds (caller self.old) (caller self.new) }
-        ensures keeps { result ≡ false → Keeps (caller self.old) (caller self.new) };
+        ensures keeps { result ≡ false → Keeps (caller self.old) (caller self.new) }
+        ensures lost { result ≡ false → IsLost Self.Rule.holds (caller self.old) (caller self.new) };
 
     /// Leaves the attempt that a closure has stopped, and tells whether there may be another one.
     fn leave(&mut self, stop: Stop) -> Result<(), GaveUp>
-        ensures { Keeps (caller self.old) (caller self.new) };
+        ensures keeps { Keeps (caller self.old) (caller self.new) }
+        ensures follows { Follows Self.Rule.holds (patience self.old) (caller self.old) stop result };
 
     /// How often a transaction that retries looks at most whether something that it has read has changed.
     fn set_looks(&mut self, looks: u32)
-        ensures { Keeps (caller self.old) (caller self.new) };
+        ensures same { caller self.new ≡ caller self.old }
+        ensures looks { patience self.new ≡ looks };
 }
 
 impl<'a, L: Law> Transaction for Tx<'a, L> {
     type Rule = L;
 
     ghost caller = { λ tx. tx.caller };
+
+    ghost patience = { λ tx. tx.looks };
+
+    fn attempts(&self) -> u32 {
+        self.stm.shape().attempts
+    }
 
     fn renew(&mut self) {
         self.caller.next_transaction();
@@ -65,14 +84,9 @@ impl<'a, L: Law> Transaction for Tx<'a, L> {
     }
 
     fn leave(&mut self, stop: Stop) -> Result<(), GaveUp> {
-        let waited = match stop {
-            Stop::Again => Ok(()),
-            Stop::Retry => self.wait(),
-            Stop::Foreign => Err(GaveUp::Foreign),
-            Stop::Memory => Err(GaveUp::Memory),
-        };
+        let next = self.follow(stop);
         self.caller.resume(self.stm).abandon();
-        waited
+        next
     }
 
     fn set_looks(&mut self, looks: u32) {
@@ -85,6 +99,7 @@ fn begin<L: Law>(caller: &mut Caller<L>, stm: &Stm<L>) -> Result<(), GaveUp>
     requires table { caller.old.home ≡ stm.now }
     ensures table { caller.new.home ≡ stm.now }
     ensures begins { OnOk result (BeginsAnew L.holds caller.old caller.new) }
+    ensures spent { IfErr result (λ why. (why ≡ Spent) × IsSpent caller.new) }
     ensures nothing { AddsNothing caller.old caller.new }
 {
     let Ok(_tx) = caller.begin(stm) else {

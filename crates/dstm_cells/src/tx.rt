@@ -1,9 +1,13 @@
 // What a closure may do in its transaction.
-ghost use Rattle.std.specs.Prelude.{◌≡◌, ◌<◌, List, length, true, false, IfErr, IfOk, IsTrue, Ok, OnOk, Err, if◌then◌else◌};
+ghost use Rattle.std.specs.Prelude.{◌+◌, ◌≡◌, ◌<◌, List, length, true, false, IfErr, IfOk, IsTrue, Ok, OnOk, Err, if◌then◌else◌};
+ghost use Rattle.dstm_engine.specs.Attempts.{sights};
 ghost use Rattle.dstm_engine.specs.Callers.{is_live, law_of, shape_of};
 ghost use Rattle.dstm_engine.specs.Transactions.{BeginsAnew};
+ghost use Rattle.dstm_order.specs.Tasks.Work.{Rechecking};
+ghost use Rattle.dstm_cells.specs.Attempts.{Follows, WasWoken};
 ghost use Rattle.dstm_cells.specs.Closures.{KeepsOnce};
-ghost use Rattle.dstm_cells.specs.UnderWay.{AddsNothing, Changes, Exchanges, Finds, Gets, IsUntouched, Keeps, LeavesLawful, MayBegin, MayNotOpen, Refuses, StopsChange, StopsLook, TakesEffect, seen};
+ghost use Rattle.dstm_cells.specs.UnderWay.{AddsNothing, Changes, Exchanges, Finds, Gets, IsOver, IsUntouched, Keeps, LeavesLawful, MayBegin, MayNotOpen, Refuses, StopsChange, StopsLook, TakesEffect, seen};
+ghost use Rattle.dstm_cells.specs.declared.error.GaveUp.TheVariants.{Idle};
 ghost use Rattle.dstm_cells.specs.declared.error.Stop.TheVariants.{Retry};
 
 use crate::cell::{Cell, Word};
@@ -26,6 +30,7 @@ impl<'a, L: Law> Tx<'a, L> {
     pub(crate) fn new(alloc: Global, caller: Caller<L>, stm: &'a Stm<L>) -> Tx<'a, L>
         requires table { caller.home ≡ stm.now }
         ensures caller { result.caller ≡ caller }
+        ensures looks { result.looks ≡ LOOKS }
     {
         Tx {
             caller,
@@ -157,11 +162,27 @@ impl<'a, L: Law> Tx<'a, L> {
         Ok(())
     }
 
-    // Waits until something that the attempt has read has changed, or it was aborted. It gives way at each look.
-    pub(crate) fn wait(&mut self) -> Result<(), GaveUp>
-        ensures { Keeps self.old.caller self.new.caller }
+    // What follows where a closure has stopped the attempt. After a retry it waits.
+    pub(crate) fn follow(&mut self, stop: Stop) -> Result<(), GaveUp>
+        ensures keeps { Keeps self.old.caller self.new.caller }
+        ensures follows { Follows L.holds self.old.looks self.old.caller stop result }
     {
-        for _ in 0..self.looks {
+        match stop {
+            Stop::Again => Ok(()),
+            Stop::Retry => self.wait(),
+            Stop::Foreign => Err(GaveUp::Foreign),
+            Stop::Memory => Err(GaveUp::Memory),
+        }
+    }
+
+    // Waits until something that the attempt has read has changed, or it was aborted. It gives way at each look.
+    fn wait(&mut self) -> Result<(), GaveUp>
+        ensures keeps { Keeps self.old.caller self.new.caller }
+        ensures woken { OnOk result (WasWoken L.holds self.old.caller) }
+        ensures idle { IfErr result (λ why. (why ≡ Idle)
+            × (sights self.new.caller ≡ sights self.old.caller + self.old.looks)) }
+    {
+        for _look in 0..self.looks {
             yield_now();
             if !self.is_current() {
                 return Ok(());
@@ -172,7 +193,9 @@ impl<'a, L: Law> Tx<'a, L> {
 
     // All that the attempt has read is still current.
     fn is_current(&mut self) -> bool
-        ensures { Keeps self.old.caller self.new.caller }
+        ensures keeps { Keeps self.old.caller self.new.caller }
+        ensures sight { result ≡ true → sights self.new.caller ≡ sights self.old.caller + 1 }
+        ensures over { result ≡ false → IsOver L.holds Rechecking self.old.caller self.new.caller }
     {
         let mut tx = self.caller.resume(self.stm);
         if !tx.is_live() {
