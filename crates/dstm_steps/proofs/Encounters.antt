@@ -9,6 +9,7 @@ use Rattle.dstm_core.specs.declared.state.Phase.TheVariants.{Running}
 use Rattle.dstm_core.specs.declared.state.Read.{Read}
 use Rattle.dstm_core.specs.Rules.{after}
 use Rattle.dstm_core.specs.Runs.{local}
+use Rattle.dstm_core.specs.declared.state.Resolution.{Resolution}
 use Rattle.dstm_core.specs.State.{LocalState, res, is_live, is_other, read_of}
 use Rattle.dstm_machines.specs.Traces.Access.{Load}
 use Rattle.dstm_model.specs.declared.value.Val.{Val}
@@ -70,43 +71,16 @@ pub stale_found : (l : LocalState) (c : Effort) (object : ℕ) → l.stale ≡ t
 stale_found l c object stale pass drawn same = rw (stale, pass, drawn, same) refl
 
 -- a LookObj that found no read stale keeps the attempt
-pub stays_object : (old new : LocalState) (object word : ℕ) (changed : Bool) → new ≡ record old {
-  resolution = Some (record {
-    object = object;
-    word = word;
-    owner = None;
-    status = None;
-    rank = None;
-    old = None;
-    high = None;
-    value = None;
-  });
-  stale = changed;
-  pass = None;
-  checked = 0;
-} → old.stale ≡ false → changed ≡ false →
-    new ≡ record old { resolution = new.resolution; pass = new.pass; checked = new.checked }
-stays_object old new object word changed q agreed same =
+pub stays_object : (old new : LocalState) (found : Option Resolution) (changed : Bool) →
+    new ≡ record old { resolution = found; stale = changed; pass = None; checked = 0 } → old.stale ≡ false →
+    changed ≡ false → new ≡ record old { resolution = new.resolution; pass = new.pass; checked = new.checked }
+stays_object old new found changed q agreed same =
     q ∙ rw (
       ap (λ (l : LocalState). l.resolution) q,
       ap (λ (l : LocalState). l.pass) q,
       ap (λ (l : LocalState). l.checked) q,
     )
-    (ap (λ b. record old {
-      resolution = Some (record {
-        object = object;
-        word = word;
-        owner = None;
-        status = None;
-        rank = None;
-        old = None;
-        high = None;
-        value = None;
-      });
-      stale = b;
-      pass = None;
-      checked = 0;
-    }) (same ∙ sym agreed))
+    (ap (λ b. record old { resolution = found; stale = b; pass = None; checked = 0 }) (same ∙ sym agreed))
 
 module _ {L : Type 0} (holds : L → List Val → Type 0) (home : Home L) (b : Began) where
   -- where there are ranks that of a live owner is looked at

@@ -209,24 +209,8 @@ module _ {L : Type 0} (holds : L → List Val → Type 0) (home : Home L) (b : B
       } → Resolving holds home b new → old.left ≡ 0 → new.left ≡ old.left → new.round ≡ old.round →
       new.missed < MAX_MISSED → Meets holds home b Running new owner put
   killed_as old new owner code put met state under none left round tries =
-      let status : (res (now home new)).status ≡ Some put = ap (λ l. (res l).status) state in
-      record {
-        under = under;
-        in_phase = ap (λ (l : LocalState). l.phase) state ∙ met.in_phase;
-        agreed = ap (λ (l : LocalState). l.stale) state ∙ met.agreed;
-        uncommitted = ap (λ (l : LocalState). l.committed) state ∙ met.uncommitted;
-        word = rw state met.word;
-        owner_is = ap (λ l. (res l).owner) state ∙ met.owner_is;
-        status = status;
-        rank = rw state met.rank;
-        old = ap (λ l. (res l).old) state ∙ met.old;
-        high = ap (λ l. (res l).high) state ∙ met.high;
-        value = ap (λ l. (res l).value) state ∙ met.value;
-        named = code_in holds home b new _ _ under put status;
-        rounds = let before = met.rounds in omega arith;
-        waiting = λ _ h. omega arith;
-        tries = tries;
-      }
+      looked_again Running old new owner code put met state under (let before = met.rounds in omega arith)
+      (λ _ h. omega arith) tries
 
   -- as an attempt begins or ends to give way
   pub in_other_phase : (p q : Phase) (old new : Steps L) (owner code : ℕ) → Meets holds home b p old owner code →

@@ -1,6 +1,7 @@
 -- What a caller finds is in range: the words that it is aimed at are words of the table.
-use Rattle.std.proofs.Common.{◌≡◌, ◌≢◌, ◌⊎◌, false, ◌-◌, ◌*◌, ◌^◌, ◌<◌, List, true, is_some, sym, ap, subst, arith, inl}
+use Rattle.std.proofs.Common.{ℕ, Some, refl, ◌≡◌, ◌≢◌, ◌⊎◌, false, ◌-◌, ◌*◌, ◌^◌, ◌<◌, List, true, is_some, sym, ap, subst, arith, inl}
 use Rattle.std.specs.Prelude.{Option}
+use Rattle.std.proofs.lemmas.Bool.Decides.{nat_tests}
 use Rattle.std.proofs.lemmas.Nat.{mul-le}
 use Rattle.dstm_core.specs.Events.{Event}
 use Rattle.dstm_core.specs.declared.event.Kind.{Kind}
@@ -10,7 +11,7 @@ use Rattle.dstm_core.specs.declared.shape.TheConstants.{MAX_CALLERS, MAX_ATTEMPT
 use Rattle.dstm_core.specs.declared.state.Phase.TheVariants.{Running, Paused}
 use Rattle.dstm_core.specs.Rules.{target, May}
 use Rattle.dstm_core.specs.Runs.{local}
-use Rattle.dstm_core.specs.State.{or_zero, res, version}
+use Rattle.dstm_core.specs.State.{is_live, or_zero, res, version}
 use Rattle.dstm_machines.specs.Traces.Access.{Load}
 use Rattle.dstm_core.specs.Words.{IsValid, HasWord}
 use Rattle.dstm_core.proofs.Ranges.{in_range}
@@ -67,3 +68,10 @@ module _ {L : Type 0} {task : Task} (holds : L → List Val → Type 0) (home : 
   pub version_in : IsRunning (now home steps) → 0 < or_zero (version (res (now home steps))) →
       or_zero (version (res (now home steps))) - 1 < home.terms.shape.callers * home.terms.shape.locators
   version_in r h = in_word LookHigh any (λ q. absurd (cc)) (r.phase, r.agreed, h)
+
+  -- the same as a step is told of it
+  pub owner_below : (owner code : ℕ) → IsRunning (now home steps) → (res (now home steps)).owner ≡ Some owner →
+      (res (now home steps)).status ≡ Some code → is_live code ≡ true →
+      owner < steps.shape.callers * steps.shape.attempts
+  owner_below owner code r is status live =
+      rw u.shape (rw is at (owner_in r (rw is refl) (rw status (grind (arith, nat_tests, live)))))

@@ -228,6 +228,22 @@ module _ {L : Type 0} (holds : L → List Val → Type 0) (home : Home L) (b : B
       ) in
       subst (λ o. AllowedAs k s l (event_by way (number_or o found) k p found)) (sym u.number) all
 
+-- ---- what a caller remembers after an event
+
+-- It remembers all as before, but for what the call has behind it, and no word of its own has changed.
+pub after_rest : {L : Type 0} (home : Home L) (old new steps : Steps L) (e : Event) →
+    new ≡ record old { seat = new.seat } →
+    steps ≡ record new { missed = steps.missed; round = steps.round; left = steps.left } →
+    IsMirror home.terms.shape old (after e.kind home.terms.shape (now home old) e) →
+    effort_after e.kind home.terms.shape.manager (now home old) (effort_by old) e ≡ effort_by steps →
+    After home old steps e
+after_rest home old new steps e rest more mirror effort = record {
+  shape = rw (more, rest) refl;
+  manager = rw (more, rest) refl;
+  mirror = record { own = rw (more, rest) mirror.own; installed = rw (more, rest) mirror.installed; rank = rw (more, rest) mirror.rank };
+  effort = effort;
+}
+
 -- ---- what is due after an event
 
 -- a live attempt goes on as the table says
@@ -341,23 +357,17 @@ status_named status.Committed = refl
 status_named status.Aborted = refl
 
 -- to abort and to give way take no word
+takes_none : (m : Manager) → (takes_word m decision.Kill ≡ false) × (takes_word m decision.GiveWay ≡ false)
+takes_none Polite = (refl, refl)
+takes_none Karma = (refl, refl)
+takes_none Polka = (refl, refl)
+takes_none Greedy = (refl, refl)
+
 pub kill_keeps : (d : DeciderState) → decided d decision.Kill ≡ d
-kill_keeps d = go d.manager refl
-  where
-    go : (m : Manager) → d.manager ≡ m → decided d decision.Kill ≡ d
-    go Polite q = rw q refl
-    go Karma q = rw q refl
-    go Polka q = rw q refl
-    go Greedy q = rw q refl
+kill_keeps d = rw (takes_none d.manager).0 refl
 
 pub give_way_keeps : (d : DeciderState) → decided d decision.GiveWay ≡ d
-give_way_keeps d = go d.manager refl
-  where
-    go : (m : Manager) → d.manager ≡ m → decided d decision.GiveWay ≡ d
-    go Polite q = rw q refl
-    go Karma q = rw q refl
-    go Polka q = rw q refl
-    go Greedy q = rw q refl
+give_way_keeps d = rw (takes_none d.manager).1 refl
 
 -- what the table says that the manager chooses is what the caller's decider answers
 pub chosen_is : {L : Type 0} (holds : L → List Val → Type 0) (home : Home L) (b : Began) (steps : Steps L) (d : Due)

@@ -8,27 +8,26 @@ use Rattle.dstm_steps.specs.declared.steps.Steps.{Steps}
 use Rattle.dstm_order.specs.Order.{just, on_choice}
 use Rattle.dstm_steps.specs.Under.{Under, Went, Began, Resolving, made_by, now, effort_by}
 use Rattle.dstm_steps.proofs.Meeting.{round_in, rank_in, waits_some}
-use Rattle.dstm_steps.proofs.Ranged.{owner_in}
+use Rattle.dstm_steps.proofs.Ranged.{owner_below}
 use Rattle.dstm_steps.proofs.Stepping.{went_on, under_is, turn_last, turn_more}
 use Rattle.dstm_core.specs.declared.shape.Manager.{Manager}
 use Rattle.dstm_core.specs.Rules.{after}
+use Rattle.dstm_managers.specs.declared.decider.Choice.{Choice}
 use Rattle.dstm_managers.specs.declared.decider.Choice.TheVariants.{Wait}
-use Rattle.dstm_managers.specs.Choices.{DeciderState, decider_after as decided}
+use Rattle.dstm_managers.specs.declared.decider.Choice.TheVariants as decision
+use Rattle.dstm_managers.specs.Choices.{DeciderState, choice, decider_after as decided, next_word}
 use Rattle.dstm_order.specs.Efforts.{Effort, chosen, turn}
-use Rattle.dstm_core.specs.Words.{place}
+use Rattle.dstm_core.specs.Words.{code_of, place}
 use Rattle.dstm_core.specs.Words.Word.{StatusWord}
 use Rattle.dstm_steps.proofs.Stepping.{may_make, makes_by, went_adds, chosen_is, kill_keeps, give_way_keeps, manager_kept, first_turn}
 use Rattle.dstm_steps.proofs.steps.Steps.ask.Given.{Over}
-use Rattle.dstm_steps.proofs.steps.Steps.ask.Goals.{After-load-code}
+use Rattle.dstm_steps.proofs.steps.Steps.ask.Goals.{After-decide, After-load-code}
 use Rattle.dstm_steps.proofs.steps.Steps.ask.Goals as goal
 
 pub status-place-requires-clause-below : goal.status-place-requires-clause-below
 status-place-requires-clause-below g c =
-    rw c.requires.under.shape
-    (rw c.requires.owner at
-    (owner_in g.L.Law.holds c.args.words.now g.B.InCall.began c.args.self.now _ _ c.requires.under
-    c.requires.running (rw c.requires.owner refl)
-    (let live = c.requires.status.1 in let status = c.requires.status.0 in rw status (grind (arith, nat_tests)))))
+    owner_below g.L.Law.holds c.args.words.now g.B.InCall.began c.args.self.now _ _ c.requires.under c.args.owner
+    (code_of c.args.status) c.requires.running c.requires.owner c.requires.status.0 c.requires.status.1
 
 pub load-code-requires-clause-allowed : goal.load-code-requires-clause-allowed
 load-code-requires-clause-allowed g c =
@@ -45,39 +44,37 @@ load-code-requires-clause-allowed g c =
       );
     })
 
+-- where it says to abort or to give way nothing has changed
+chose : (g : Over) (c : After-decide g) (x : Choice) →
+    decided c.args.self.now.decider x ≡ c.args.self.now.decider → c.decide.new.self ≡ decided c.args.self.now.decider x →
+    x ≡ choice c.args.self.now.decider.manager c.args.self.now.rank c.args.enemy c.args.status c.args.self.now.round
+    (next_word c.args.self.now.decider) →
+    (record c.args.self.now { decider = c.decide.new.self } ≡ c.args.self.now)
+    × Under g.L.Law.holds c.args.words.now g.B.InCall.began (record c.args.self.now { decider = c.decide.new.self })
+    (on_choice x) None
+    × (chosen c.args.words.now.terms.shape.manager (now c.args.words.now c.args.self.now) (effort_by c.args.self.now) ≡ x)
+chose g c x keeps left answer =
+    let old : Steps g.row.L.Denot = c.args.self.now in
+    let same = ap (λ d. record old { decider = d }) (left ∙ keeps) in
+    let here =
+    chosen_is g.L.Law.holds c.args.words.now g.B.InCall.began old _ _ c.requires.under c.args.enemy c.args.status
+    c.requires.enemy c.requires.status.0 ∙ sym answer in (
+      same,
+      subst (λ s. Under g.L.Law.holds c.args.words.now g.B.InCall.began s (on_choice x) None) (sym same)
+          (under_is g.L.Law.holds c.args.words.now g.B.InCall.began old _ _ _ _ c.requires.under (ap on_choice here)
+          refl),
+      here,
+    )
+
 pub returns-in-Kill-clause-kill : goal.returns-in-Kill-clause-kill
 returns-in-Kill-clause-kill g c is =
-    let old : Steps g.row.L.Denot = c.args.self.now in
-    let new : Steps g.row.L.Denot = record old { decider = c.decide.new.self } in
-    let same : new ≡ old =
-    ap (λ d. record old { decider = d }) (c.in-Kill.ensures.left ∙ kill_keeps old.decider) in
-    let chose =
-    chosen_is g.L.Law.holds c.args.words.now g.B.InCall.began old _ _ c.requires.under c.args.enemy c.args.status
-    c.requires.enemy c.requires.status.0
-    ∙ sym c.in-Kill.ensures.answer in (
-      same,
-      subst (λ s. Under g.L.Law.holds c.args.words.now g.B.InCall.began s (just Kill) None) (sym same)
-          (under_is g.L.Law.holds c.args.words.now g.B.InCall.began old _ _ _ _ c.requires.under (ap on_choice chose)
-          refl),
-      chose,
-    )
+    chose g (goal.at.returns-in-Kill-clause-kill g c).After-decide decision.Kill
+    (kill_keeps c.args.self.now.decider) c.in-Kill.ensures.left c.in-Kill.ensures.answer
 
 pub returns-in-GiveWay-clause-give_way : goal.returns-in-GiveWay-clause-give_way
 returns-in-GiveWay-clause-give_way g c is =
-    let old : Steps g.row.L.Denot = c.args.self.now in
-    let new : Steps g.row.L.Denot = record old { decider = c.decide.new.self } in
-    let same : new ≡ old =
-    ap (λ d. record old { decider = d }) (c.in-GiveWay.ensures.left ∙ give_way_keeps old.decider) in
-    let chose =
-    chosen_is g.L.Law.holds c.args.words.now g.B.InCall.began old _ _ c.requires.under c.args.enemy c.args.status
-    c.requires.enemy c.requires.status.0
-    ∙ sym c.in-GiveWay.ensures.answer in (
-      same,
-      subst (λ s. Under g.L.Law.holds c.args.words.now g.B.InCall.began s (just Pause) None) (sym same)
-          (under_is g.L.Law.holds c.args.words.now g.B.InCall.began old _ _ _ _ c.requires.under (ap on_choice chose)
-          refl),
-      chose,
-    )
+    chose g (goal.at.returns-in-GiveWay-clause-give_way g c).After-decide decision.GiveWay
+    (give_way_keeps c.args.self.now.decider) c.in-GiveWay.ensures.left c.in-GiveWay.ensures.answer
 
 -- the turns to be waited are those that the manager chose
 chose_wait : (g : Over) (c : After-load-code g) →

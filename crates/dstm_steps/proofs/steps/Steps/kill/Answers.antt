@@ -3,22 +3,20 @@ use Rattle.std.proofs.lemmas.Bool.Decides.{nat_tests}
 use Rattle.dstm_core.specs.Events.{Event}
 use Rattle.dstm_core.specs.declared.event.Kind.TheVariants.{Kill}
 use Rattle.dstm_machines.specs.Traces.Access.{Exchange}
+use Rattle.dstm_core.specs.Words.{code_of}
 use Rattle.dstm_words.specs.Seats.{found_in}
 use Rattle.dstm_steps.specs.declared.steps.Steps.{Steps}
 use Rattle.dstm_steps.specs.Under.{After, made_by, effort_by}
-use Rattle.dstm_steps.proofs.Ranged.{owner_in}
-use Rattle.dstm_steps.proofs.Stepping.{went_on, went_lost, exchanged, exchange_failed}
+use Rattle.dstm_steps.proofs.Ranged.{owner_below}
+use Rattle.dstm_steps.proofs.Stepping.{after_rest, went_on, went_lost, exchanged, exchange_failed}
 use Rattle.dstm_steps.proofs.steps.Steps.kill.Given.{Over}
 use Rattle.dstm_steps.proofs.steps.Steps.kill.Goals.{In-Err}
 use Rattle.dstm_steps.proofs.steps.Steps.kill.Goals as goal
 
 pub status-place-requires-clause-below : goal.status-place-requires-clause-below
 status-place-requires-clause-below g c =
-    rw c.requires.under.shape
-    (rw c.requires.owner at
-    (owner_in g.L.Law.holds c.args.words.now g.B.InCall.began c.args.self.now _ _ c.requires.under
-    c.requires.running (rw c.requires.owner refl)
-    (let live = c.requires.status.1 in let status = c.requires.status.0 in rw status (grind (arith, nat_tests)))))
+    owner_below g.L.Law.holds c.args.words.now g.B.InCall.began c.args.self.now _ _ c.requires.under c.args.owner
+    (code_of c.args.status) c.requires.running c.requires.owner c.requires.status.0 c.requires.status.1
 
 pub returns-in-Ok-clause-goes_on : goal.returns-in-Ok-clause-goes_on
 returns-in-Ok-clause-goes_on g c tries =
@@ -30,12 +28,9 @@ returns-in-Ok-clause-goes_on g c tries =
     let new : Steps g.row.L.Denot = c.exchange.new.self in
     went_on g.L.Law.holds c.args.words.now g.B.InCall.began c.args.self.now c.exchange.new.self new e
     c.exchange.ensures.went refl
-    (record {
-      shape = ap (λ (s : Steps g.row.L.Denot). s.shape) rest;
-      manager = ap (λ (s : Steps g.row.L.Denot). s.decider.manager) rest;
-      mirror = record { own = rw rest m.own; installed = rw rest m.installed; rank = rw rest m.rank };
-      effort = exchanged (effort_by c.args.self.now) e (ap found_in c.in-Ok.is ∙ c.in-Ok.ensures.answer) ∙ rw rest refl;
-    })
+    (after_rest c.args.words.now c.args.self.now new _ e rest refl
+    (record { own = m.own; installed = m.installed; rank = m.rank })
+    (exchanged (effort_by c.args.self.now) e (ap found_in c.in-Ok.is ∙ c.in-Ok.ensures.answer) ∙ rw rest refl))
     (rw (state, c.requires.running.phase) refl) (rw (state, c.requires.running.agreed) refl) tries
 
 -- an exchange that failed is counted
@@ -47,13 +42,11 @@ failed g c =
     let e : Event = made_by g.B.InCall.began (Exchange c.code.result c.code-2.result) Kill c.status-place.result
     (found_in c.exchange.result) in
     let rest = c.exchange.ensures.rest in
-    let m = c.requires.under.mirror in record {
-      shape = ap (λ (s : Steps g.row.L.Denot). s.shape) rest;
-      manager = ap (λ (s : Steps g.row.L.Denot). s.decider.manager) rest;
-      mirror = record { own = rw rest m.own; installed = rw rest m.installed; rank = rw rest m.rank };
-      effort = exchange_failed (effort_by c.args.self.now) e
-          (λ q. c.in-Err.ensures.answer (sym (ap found_in c.in-Err.is) ∙ q)) ∙ rw rest refl;
-    }
+    let m = c.requires.under.mirror in
+    after_rest c.args.words.now c.args.self.now c.exchange.new.self _ e rest refl
+    (record { own = m.own; installed = m.installed; rank = m.rank })
+    (exchange_failed (effort_by c.args.self.now) e (λ q. c.in-Err.ensures.answer (sym (ap found_in c.in-Err.is) ∙ q))
+    ∙ rw rest refl)
 
 pub returns-in-Err-clause-goes_on : goal.returns-in-Err-clause-goes_on
 returns-in-Err-clause-goes_on g c tries =

@@ -1,4 +1,4 @@
-use Rattle.std.proofs.Common.{◌∙◌, refl, ap, subst}
+use Rattle.std.proofs.Common.{◌≡◌, ◌∙◌, refl, ap, subst}
 use Rattle.dstm_core.specs.Events.{Event}
 use Rattle.dstm_core.specs.declared.event.Kind.TheVariants.{Quit}
 use Rattle.dstm_core.specs.Words.{place}
@@ -10,6 +10,10 @@ use Rattle.dstm_words.specs.Seats.{found_in}
 use Rattle.dstm_steps.specs.Under.{InTask, due_next_by, answer_by}
 use Rattle.dstm_steps.proofs.Checks.{own_in_shape}
 use Rattle.dstm_steps.proofs.Stepping.{makes_by, may_make, went_adds}
+use Rattle.dstm_order.specs.Tasks.{Task}
+use Rattle.dstm_order.specs.Tasks.Task.{Beginning, Leaving}
+use Rattle.dstm_steps.proofs.steps.Steps.leave.Given.{Over}
+use Rattle.dstm_steps.proofs.steps.Steps.leave.Goals.{After-exchange}
 use Rattle.dstm_steps.proofs.steps.Steps.leave.Goals as goal
 
 pub status-place-requires-clause-below : goal.status-place-requires-clause-below
@@ -29,58 +33,48 @@ exchange-requires-clause-allowed g c =
       may = c.requires.live;
     })
 
-pub returns-clause-state : goal.returns-clause-state
-returns-clause-state g c =
+went : (g : Over) (c : After-exchange g) →
+    WentOn g.L.Law.holds c.args.words.now g.B.InCall.began.task g.B.InCall.began c.args.self.now
+    (record c.args.self.now { seat = c.exchange.new.self })
+    (made_by g.B.InCall.began (Exchange c.code.result c.code-2.result) Quit c.status-place.result
+    (found_in c.exchange.result))
+went g c =
     let b : Began = g.B.InCall.began in
-    let old : Steps g.row.L.Denot = c.args.self.now in
-    let new : Steps g.row.L.Denot = record old { seat = c.exchange.new.self } in
-    let e : Event =
-    made_by b (Exchange c.code.result c.code-2.result) Quit c.status-place.result (found_in c.exchange.result) in
-    (went_adds g.L.Law.holds c.args.words.now b old new e _ _ c.requires.under
+    went_adds g.L.Law.holds c.args.words.now b c.args.self.now _ _ _ _ c.requires.under
     (makes_by g.L.Law.holds c.args.words.now b _ _ (Exchange c.code.result c.code-2.result) Quit c.status-place.result
     (found_in c.exchange.result) c.requires.under.number c.exchange.ensures.event) c.exchange.ensures.seat refl
-    (refl, tt)).state
+    (refl, tt)
 
-pub returns-clause-leaves : goal.returns-clause-leaves
-returns-clause-leaves g c task =
+-- the call goes on, whatever it is
+left : (g : Over) (c : After-exchange g) (task : Task) → g.B.InCall.began.task ≡ task →
+    let new : Steps g.row.L.Denot = record c.args.self.now { seat = c.exchange.new.self } in
+    let e : Event = made_by g.B.InCall.began (Exchange c.code.result c.code-2.result) Quit c.status-place.result
+    (found_in c.exchange.result) in
+    InTask g.L.Law.holds c.args.words.now task g.B.InCall.began new (due_next_by c.args.words.now task new e)
+    (answer_by c.args.words.now task new e)
+left g c task is =
     let b : Began = g.B.InCall.began in
-    let old : Steps g.row.L.Denot = c.args.self.now in
-    let new : Steps g.row.L.Denot = record old { seat = c.exchange.new.self } in
-    let e : Event =
-    made_by b (Exchange c.code.result c.code-2.result) Quit c.status-place.result (found_in c.exchange.result) in
+    let new : Steps g.row.L.Denot = record c.args.self.now { seat = c.exchange.new.self } in
+    let e : Event = made_by b (Exchange c.code.result c.code-2.result) Quit c.status-place.result
+    (found_in c.exchange.result) in
     let m = c.requires.under.mirror in
-    let w : WentOn g.L.Law.holds c.args.words.now b.task b old new e =
-    went_adds g.L.Law.holds c.args.words.now b old new e _ _ c.requires.under
-    (makes_by g.L.Law.holds c.args.words.now b _ _ (Exchange c.code.result c.code-2.result) Quit c.status-place.result
-    (found_in c.exchange.result) c.requires.under.number c.exchange.ensures.event) c.exchange.ensures.seat refl
-    (refl, tt) in
-    rw w.state at (subst (λ t. InTask g.L.Law.holds c.args.words.now t b new (due_next_by c.args.words.now t new e)
-    (answer_by c.args.words.now t new e)) task
-    (w.goes_on new refl (record {
-      shape = refl;
-      manager = refl;
-      mirror = record { own = m.own; installed = m.installed; rank = m.rank };
-      effort = refl;
-    })))
-
-pub returns-clause-begins : goal.returns-clause-begins
-returns-clause-begins g c fresh task =
-    let b : Began = g.B.InCall.began in
-    let old : Steps g.row.L.Denot = c.args.self.now in
-    let new : Steps g.row.L.Denot = record old { seat = c.exchange.new.self } in
-    let e : Event =
-    made_by b (Exchange c.code.result c.code-2.result) Quit c.status-place.result (found_in c.exchange.result) in
-    let m = c.requires.under.mirror in
-    let w : WentOn g.L.Law.holds c.args.words.now b.task b old new e =
-    went_adds g.L.Law.holds c.args.words.now b old new e _ _ c.requires.under
-    (makes_by g.L.Law.holds c.args.words.now b _ _ (Exchange c.code.result c.code-2.result) Quit c.status-place.result
-    (found_in c.exchange.result) c.requires.under.number c.exchange.ensures.event) c.exchange.ensures.seat refl
-    (refl, tt) in
     subst (λ t. InTask g.L.Law.holds c.args.words.now t b new (due_next_by c.args.words.now t new e)
-    (answer_by c.args.words.now t new e)) task
-    (w.goes_on new refl (record {
+    (answer_by c.args.words.now t new e)) is
+    ((went g c).goes_on new refl (record {
       shape = refl;
       manager = refl;
       mirror = record { own = m.own; installed = m.installed; rank = m.rank };
       effort = refl;
     }))
+
+pub returns-clause-state : goal.returns-clause-state
+returns-clause-state g c = (went g (goal.at.returns-clause-state g c).After-exchange).state
+
+pub returns-clause-leaves : goal.returns-clause-leaves
+returns-clause-leaves g c task =
+    let before = (goal.at.returns-clause-leaves g c).After-exchange in
+    rw (went g before).state at (left g before Leaving task)
+
+pub returns-clause-begins : goal.returns-clause-begins
+returns-clause-begins g c fresh task =
+    left g (goal.at.returns-clause-begins g c).After-exchange (Beginning fresh) task

@@ -1,16 +1,16 @@
 use Rattle.std.proofs.Common.{◌∙◌, refl, ap, false, None}
-use Rattle.dstm_core.specs.Events.{Event}
 use Rattle.dstm_core.specs.declared.event.Kind.TheVariants.{Rank}
 use Rattle.dstm_core.specs.State.{LocalState}
 use Rattle.dstm_core.specs.Words.{place}
 use Rattle.dstm_core.specs.Words.Word.{RankWord}
 use Rattle.dstm_machines.specs.Traces.Access.{Store}
 use Rattle.dstm_order.specs.Tasks.Task.{Beginning}
-use Rattle.dstm_steps.specs.declared.steps.Steps.{Steps}
 use Rattle.dstm_steps.specs.Under.{Began, WentOn, made_by, now}
 use Rattle.dstm_core.specs.Rules.{is_outside}
 use Rattle.dstm_steps.proofs.Stepping.{makes_by, may_make, went_adds}
 use Rattle.dstm_steps.proofs.Unused.{next_in_shape}
+use Rattle.dstm_steps.proofs.steps.Steps.rank_next.Given.{Over}
+use Rattle.dstm_steps.proofs.steps.Steps.rank_next.Goals.{After-store}
 use Rattle.dstm_steps.proofs.steps.Steps.rank_next.Goals as goal
 
 pub rank-place-requires-clause-below : goal.rank-place-requires-clause-below
@@ -28,18 +28,20 @@ store-requires-clause-allowed g c =
       may = rw c.requires.outside (c.requires.number, c.requires.unused, c.requires.may);
     })
 
+went : (g : Over) (c : After-store g) →
+    WentOn g.L.Law.holds c.args.words.now (Beginning c.args.fresh) g.B.InCall.began c.args.self.now
+    (record c.args.self.now { seat = c.store.new.self; rank = c.args.rank })
+    (made_by g.B.InCall.began (Store c.args.rank) Rank c.rank-place.result c.store.ensures.event.0)
+went g c =
+    let b : Began = g.B.InCall.began in
+    went_adds g.L.Law.holds c.args.words.now b c.args.self.now _ _ _ _ c.requires.under
+    (makes_by g.L.Law.holds c.args.words.now b _ _ (Store c.args.rank) Rank c.rank-place.result c.store.ensures.event.0
+    c.requires.under.number c.store.ensures.event.1) c.store.ensures.seat refl (refl, refl)
+
 pub returns-clause-state : goal.returns-clause-state
 returns-clause-state g c =
-    let b : Began = g.B.InCall.began in
-    let old : Steps g.row.L.Denot = c.args.self.now in
-    let new : Steps g.row.L.Denot = record old { seat = c.store.new.self; rank = c.args.rank } in
-    let e : Event = made_by b (Store c.args.rank) Rank c.rank-place.result c.store.ensures.event.0 in
-    let state : LocalState = now c.args.words.now old in
-    let w : WentOn g.L.Law.holds c.args.words.now (Beginning c.args.fresh) b old new e =
-    went_adds g.L.Law.holds c.args.words.now b old new e _ _ c.requires.under
-    (makes_by g.L.Law.holds c.args.words.now b _ _ (Store c.args.rank) Rank c.rank-place.result c.store.ensures.event.0
-    c.requires.under.number c.store.ensures.event.1) c.store.ensures.seat refl (refl, refl) in
-    w.state ∙ ap (λ p. record state {
+    let state : LocalState = now c.args.words.now c.args.self.now in
+    (went g (goal.at.returns-clause-state g c).After-store).state ∙ ap (λ p. record state {
       rank = c.args.rank;
       ranked = is_outside p;
       owed = false;
@@ -49,16 +51,8 @@ returns-clause-state g c =
 
 pub returns-clause-under : goal.returns-clause-under
 returns-clause-under g c =
-    let b : Began = g.B.InCall.began in
-    let old : Steps g.row.L.Denot = c.args.self.now in
-    let new : Steps g.row.L.Denot = record old { seat = c.store.new.self; rank = c.args.rank } in
-    let e : Event = made_by b (Store c.args.rank) Rank c.rank-place.result c.store.ensures.event.0 in
     let m = c.requires.under.mirror in
-    let w : WentOn g.L.Law.holds c.args.words.now (Beginning c.args.fresh) b old new e =
-    went_adds g.L.Law.holds c.args.words.now b old new e _ _ c.requires.under
-    (makes_by g.L.Law.holds c.args.words.now b _ _ (Store c.args.rank) Rank c.rank-place.result c.store.ensures.event.0
-    c.requires.under.number c.store.ensures.event.1) c.store.ensures.seat refl (refl, refl) in
-    w.goes_on new refl (record {
+    (went g (goal.at.returns-clause-under g c).After-store).goes_on _ refl (record {
       shape = refl;
       manager = refl;
       mirror = record { own = m.own; installed = m.installed; rank = refl };

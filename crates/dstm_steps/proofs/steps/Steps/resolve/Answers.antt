@@ -82,7 +82,7 @@ returns-clause-attempt g c =
     ∙ ap (λ o. is_changed o c.look_object-word.result) c.requires.read
     ∙ sym c.is_changed.ensures ∙ c.if-is_changed.false in
     let first : KeepsAttempt old new =
-    stays_object old new c.args.object c.look_object-word.result _ state c.requires.running.agreed same in
+    stays_object old new _ _ state c.requires.running.agreed same in
     on_ok c.resolve_word.result (λ (stays : StaysAt new last). stays.attempt
     ∙ ap (λ (l : LocalState). record l { resolution = last.resolution; pass = last.pass; checked = last.checked })
     first)

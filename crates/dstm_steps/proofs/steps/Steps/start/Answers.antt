@@ -1,14 +1,14 @@
 use Rattle.std.proofs.Common.{◌≡◌, ◌+◌, ◌-◌, ◌∙◌, refl, ap, sym, arith}
-use Rattle.dstm_core.specs.Events.{Event}
 use Rattle.dstm_core.specs.declared.event.Kind.TheVariants.{Begin}
 use Rattle.dstm_core.specs.Words.{place}
 use Rattle.dstm_core.specs.Words.Word.{StatusWord}
 use Rattle.dstm_machines.specs.Traces.Access.{Store}
 use Rattle.dstm_order.specs.Tasks.Task.{Beginning}
-use Rattle.dstm_steps.specs.declared.steps.Steps.{Steps}
 use Rattle.dstm_steps.specs.Under.{Began, WentOn, made_by, now}
 use Rattle.dstm_steps.proofs.Stepping.{makes_by, may_make, went_adds}
 use Rattle.dstm_steps.proofs.Unused.{next_in_shape}
+use Rattle.dstm_steps.proofs.steps.Steps.start.Given.{Over}
+use Rattle.dstm_steps.proofs.steps.Steps.start.Goals.{After-store}
 use Rattle.dstm_steps.proofs.steps.Steps.start.Goals as goal
 
 pub status-place-requires-clause-below : goal.status-place-requires-clause-below
@@ -26,29 +26,25 @@ store-requires-clause-allowed g c =
       may = (c.requires.outside, c.requires.number, c.requires.unused, c.requires.ranked);
     })
 
-pub returns-clause-state : goal.returns-clause-state
-returns-clause-state g c =
+went : (g : Over) (c : After-store g) →
+    WentOn g.L.Law.holds c.args.words.now (Beginning c.args.fresh) g.B.InCall.began c.args.self.now
+    (record c.args.self.now { seat = c.store.new.self; own = c.args.next })
+    (made_by g.B.InCall.began (Store c.code.result) Begin c.status-place.result c.store.ensures.event.0)
+went g c =
     let b : Began = g.B.InCall.began in
-    let old : Steps g.row.L.Denot = c.args.self.now in
-    let new : Steps g.row.L.Denot = record old { seat = c.store.new.self; own = c.args.next } in
-    let e : Event = made_by b (Store c.code.result) Begin c.status-place.result c.store.ensures.event.0 in
-    (went_adds g.L.Law.holds c.args.words.now b old new e _ _ c.requires.under
+    went_adds g.L.Law.holds c.args.words.now b c.args.self.now _ _ _ _ c.requires.under
     (makes_by g.L.Law.holds c.args.words.now b _ _ (Store c.code.result) Begin c.status-place.result c.store.ensures.event.0
-    c.requires.under.number c.store.ensures.event.1) c.store.ensures.seat refl (refl, tt)).state
+    c.requires.under.number c.store.ensures.event.1) c.store.ensures.seat refl (refl, tt)
+
+pub returns-clause-state : goal.returns-clause-state
+returns-clause-state g c = (went g (goal.at.returns-clause-state g c).After-store).state
 
 pub returns-clause-under : goal.returns-clause-under
 returns-clause-under g c =
-    let b : Began = g.B.InCall.began in
-    let old : Steps g.row.L.Denot = c.args.self.now in
-    let new : Steps g.row.L.Denot = record old { seat = c.store.new.self; own = c.args.next } in
-    let e : Event = made_by b (Store c.code.result) Begin c.status-place.result c.store.ensures.event.0 in
     let m = c.requires.under.mirror in
-    let one : (now c.args.words.now old).begun + 1 - 1 ≡ (now c.args.words.now old).begun = omega arith in
-    let w : WentOn g.L.Law.holds c.args.words.now (Beginning c.args.fresh) b old new e =
-    went_adds g.L.Law.holds c.args.words.now b old new e _ _ c.requires.under
-    (makes_by g.L.Law.holds c.args.words.now b _ _ (Store c.code.result) Begin c.status-place.result c.store.ensures.event.0
-    c.requires.under.number c.store.ensures.event.1) c.store.ensures.seat refl (refl, tt) in
-    w.goes_on new refl (record {
+    let one : (now c.args.words.now c.args.self.now).begun + 1 - 1 ≡ (now c.args.words.now c.args.self.now).begun =
+    omega arith in
+    (went g (goal.at.returns-clause-under g c).After-store).goes_on _ refl (record {
       shape = refl;
       manager = refl;
       mirror = record { own = rw one (sym c.requires.next); installed = m.installed; rank = m.rank };

@@ -1,12 +1,7 @@
-use Rattle.std.proofs.Common.{refl, ap, ◌-◌, arith, inr}
+use Rattle.std.proofs.Common.{refl, arith, inr}
 use Rattle.std.proofs.lemmas.Bool.Decides.{nat_tests}
-use Rattle.dstm_core.specs.Events.{Event}
-use Rattle.dstm_core.specs.declared.event.Kind.TheVariants.{LookStatus}
-use Rattle.dstm_machines.specs.Traces.Access.{Load}
-use Rattle.dstm_steps.specs.declared.steps.Steps.{Steps}
-use Rattle.dstm_steps.specs.Under.{made_by}
 use Rattle.dstm_steps.proofs.Ranged.{owner_found_in}
-use Rattle.dstm_steps.proofs.Stepping.{went_on}
+use Rattle.dstm_steps.proofs.Stepping.{after_rest, went_on}
 use Rattle.dstm_steps.proofs.steps.Steps.turn_aside.Goals as goal
 
 pub status-place-requires-clause-below : goal.status-place-requires-clause-below
@@ -20,14 +15,9 @@ returns-clause-under g c =
     let rest = c.look-status.ensures.rest in
     let m = c.requires.under.mirror in
     let state = c.look-status.ensures.went.state in
-    let e : Event = made_by g.B.InCall.began Load LookStatus c.status-place.result c.look-status.result in
-    let new : Steps g.row.L.Denot = record c.look-status.new.self { left = c.look-status.new.self.left - 1 } in
-    went_on g.L.Law.holds c.args.words.now g.B.InCall.began c.args.self.now c.look-status.new.self new e
+    went_on g.L.Law.holds c.args.words.now g.B.InCall.began c.args.self.now c.look-status.new.self _ _
     c.look-status.ensures.went refl
-    (record {
-      shape = ap (λ (s : Steps g.row.L.Denot). s.shape) rest;
-      manager = ap (λ (s : Steps g.row.L.Denot). s.decider.manager) rest;
-      mirror = record { own = rw rest m.own; installed = rw rest m.installed; rank = rw rest m.rank };
-      effort = rw (c.requires.status.0, c.requires.phase, rest) refl;
-    })
+    (after_rest c.args.words.now c.args.self.now c.look-status.new.self _ _ rest refl
+    (record { own = m.own; installed = m.installed; rank = m.rank })
+    (rw (c.requires.status.0, c.requires.phase, rest) refl))
     (rw (state, c.requires.phase) refl) (rw state c.requires.agreed.0) (rw rest c.requires.tries)
