@@ -17,6 +17,7 @@ use Rattle.dstm_tl2.specs.Words.{objects}
 use Rattle.dstm_tl2_words.specs.Seats.{Home, view_of}
 use Rattle.dstm_tl2_order.specs.declared.again.TlAgain.{TlAgain}
 use Rattle.dstm_tl2_steps.specs.declared.steps.Steps.{Steps}
+use Rattle.dstm_tl2_steps.proofs.Slots.{WritesApart, WritesBelow, writes_once}
 use Rattle.dstm_tl2_order.specs.Calls.{answer_of}
 use Rattle.dstm_tl2_order.specs.Order.Due.{Done}
 use Rattle.dstm_tl2_steps.specs.Reads.{AtRest}
@@ -31,6 +32,7 @@ use Rattle.dstm_tl2_engine.specs.Callers.{TlCalled, handed, held, is_live, state
 use Rattle.dstm_tl2_engine.specs.Calls as calls
 use Rattle.dstm_tl2_engine.specs.Calls.{IsMade, Performs}
 use Rattle.dstm_tl2_engine.specs.Mirror.{Tied, called}
+use Rattle.dstm_tl2_engine.proofs.Calling.{begun_as}
 use Rattle.dstm_tl2_engine.proofs.Told.{locked_made, rest_can, rest_made, told_more}
 use Rattle.dstm_tl2_order.specs.Laws.{CanLock}
 use Rattle.dstm_tl2_engine.specs.Outcomes.{IsLeft}
@@ -40,7 +42,7 @@ use Rattle.dstm_tl2_engine.proofs.AfterCall.{attempt_kept, done_invalid, done_va
 use Rattle.dstm_tl2_order.proofs.Causing.{causes_of}
 use Rattle.dstm_tl2.proofs.Done.{failed_invalid, undrawn_invalid}
 use Rattle.dstm_tl2_engine.proofs.Others.{others_of}
-use Rattle.dstm_tl2_engine.proofs.Tying.{kept, now_there, performs_then, state_then}
+use Rattle.dstm_tl2_engine.proofs.Tying.{ends_here, kept, now_there, performs_then, state_then}
 use Rattle.dstm_tl2_engine.proofs.Working.{KeptBy, TellsOnce, are_closing, closes, closing_keeps, one_is, tell_once, works_on}
 
 -- ---- what is written, and what is set
@@ -178,174 +180,185 @@ module _ {L : Type 0} (holds : L → List Val → Type 0) (c : Inside L) (v : Ti
 
   -- ---- a call that has left its attempt
 
-  module _ (work : Work) (is : closes work ≡ true) (new : Steps L) (again : TlAgain)
-      (u : Under holds (called c).home (began_of (Doing work) (called c)) new Done (Some again))
-      (once : NamesOnce (objects (table_of c.terms)) (works_on work))
-      (free : (now (called c).home new).holds ≡ []) where
+  pub record Left (work : Work) (new : Steps L) (again : TlAgain) : Type 0 where
+    pub closing : closes work ≡ true
+    pub under : Under holds (called c).home (began_of (Doing work) (called c)) new Done (Some again)
+    pub once : NamesOnce (objects (table_of c.terms)) (works_on work)
+    pub free : (now (called c).home new).holds ≡ []
+    pub made : IsMade (called c)
+    pub can : CanLock (Doing work) (state (called c))
+
+  module _ (work : Work) (new : Steps L) (again : TlAgain) (by : Left work new again) where
     abbrev pub left_as : Inside L
-    left_as = closed_as work is new (Some again) u 0 (Some again)
+    left_as = closed_as work by.closing new (Some again) by.under 0 (Some again)
 
     left_failed : (state (called left_as)).failed ≡ true
     left_failed =
-        (then_keeps work is new (Some again) u 0 (Some again)).failed ∙ or_true (state (called c)).failed
+        (then_keeps work by.closing new (Some again) by.under 0 (Some again)).failed ∙ or_true (state (called c)).failed
       where
         or_true : (b : Bool) → (b || true) ≡ true
         or_true true = refl
         or_true false = refl
 
     left_free : (state (called left_as)).holds ≡ []
-    left_free = ap (λ (l : LocalState). l.holds) (then_is work is new (Some again) u 0 (Some again)) ∙ free
+    left_free = ap (λ (l : LocalState). l.holds) (then_is work by.closing new (Some again) by.under 0 (Some again)) ∙ by.free
 
     others : 1 < c.terms.callers
     others =
-        others_of (table_of c.terms) c.number (view_of new.seat).log (called c).log u.events again u.run.run.run
-        v.number.0 u.own u.gives
+        others_of (table_of c.terms) c.number (view_of new.seat).log (called c).log by.under.events again by.under.run.run.run
+        v.number.0 by.under.own by.under.gives
         (λ event later early is_in.
         (one_is (TellsOnce (objects (table_of c.terms))) later event early
         (subst (All (λ (e : Event). TellsOnce (objects (table_of c.terms)) e.kind)) is_in
-        (tell_once (objects (table_of c.terms)) work (table_of c.terms) (state (called c)) u.events is once
-        u.obeys))).1)
+        (tell_once (objects (table_of c.terms)) work (table_of c.terms) (state (called c)) by.under.events by.closing by.once
+        by.under.obeys))).1)
 
     pub left_is : IsLeft (called left_as)
     left_is =
         left_after holds (called c) (called left_as) (Doing work) (Some again)
-        (then_steps work is new (Some again) u 0 (Some again)) again refl refl refl left_free (inl left_failed) others
+        (then_steps work by.closing new (Some again) by.under 0 (Some again)) again refl refl refl left_free (inl left_failed) others
 
-    pub left_told : IsMade (called c) → CanLock (Doing work) (state (called c)) → calls.IsTold (called left_as)
-    left_told made can =
-        closed_told work is new (Some again) u 0 (Some again) made can (λ none. absurd (cc)) refl
+    pub left_told : calls.IsTold (called left_as)
+    left_told =
+        closed_told work by.closing new (Some again) by.under 0 (Some again) by.made by.can (λ none. absurd (cc)) refl
 
-    pub left_tied : IsMade (called c) → CanLock (Doing work) (state (called c)) → Tied holds left_as
-    left_tied made can =
-        closed_tied work is new (Some again) u 0 (Some again) (omega arith) free (λ some. absurd (some refl))
-        (λ locked. absurd (let sound = locked.sound.0 in let failed = left_failed in cc)) left_is (left_told made can)
+    pub left_tied : Tied holds left_as
+    left_tied =
+        closed_tied work by.closing new (Some again) by.under 0 (Some again) (omega arith) by.free (λ some. absurd (some refl))
+        (λ locked. absurd (let sound = locked.sound.0 in let failed = left_failed in cc)) left_is left_told
 
     pub left_leaves : Leaves holds work (called c) (called left_as) again
     left_leaves = record {
-      steps = then_steps work is new (Some again) u 0 (Some again);
+      steps = then_steps work by.closing new (Some again) by.under 0 (Some again);
       cause =
           causes_of (table_of_caller (called c)) (state (called c))
-          (then_steps work is new (Some again) u 0 (Some again)).events again
-          (sym (then_steps work is new (Some again) u 0 (Some again)).answers);
+          (then_steps work by.closing new (Some again) by.under 0 (Some again)).events again
+          (sym (then_steps work by.closing new (Some again) by.under 0 (Some again)).answers);
       left = left_is;
       attempt =
           attempt_kept holds (called c) (called left_as) (Doing work) (Some again)
-          (then_steps work is new (Some again) u 0 (Some again)) refl;
+          (then_steps work by.closing new (Some again) by.under 0 (Some again)) refl;
       done =
-          closed_done work is new (Some again) u 0 (Some again) (failed_invalid (state (called left_as)) left_failed);
+          closed_done work by.closing new (Some again) by.under 0 (Some again) (failed_invalid (state (called left_as)) left_failed);
     }
 
   -- ---- a call that has locked
 
-  module _ (new : Steps L)
-      (u : Under holds (called c).home (began_of (Doing (Locking c.opened.writes)) (called c)) new Done None)
-      (rest : AtRest (state (called c))) (live : is_live (called c) ≡ true)
-      (state_is : under.HasLocked (state (called c)) c.opened.writes (length c.opened.writes)
-      (now (called c).home new))
-      (locks : (now (called c).home new).holds
-      ≡ map (new_hold (now (called c).home new)) (take (length c.opened.writes) c.opened.writes)) where
+  pub record Locked (new : Steps L) : Type 0 where
+    pub ends : Under holds (called c).home (began_of (Doing (Locking c.opened.writes)) (called c)) new Done None
+    pub rest : AtRest (state (called c))
+    pub live : is_live (called c) ≡ true
+    pub state_is : under.HasLocked (state (called c)) c.opened.writes (length c.opened.writes)
+        (now (called c).home new)
+    pub locks : (now (called c).home new).holds
+        ≡ map (new_hold (now (called c).home new)) (take (length c.opened.writes) c.opened.writes)
+
+  module _ (new : Steps L) (by : Locked new) where
     abbrev pub locked_as : Inside L
-    locked_as = closed_as (Locking c.opened.writes) refl new None u (length c.opened.writes) c.left
+    locked_as = closed_as (Locking c.opened.writes) refl new None by.ends (length c.opened.writes) c.left
 
     is_then : state (called locked_as) ≡ now (called c).home new
-    is_then = then_is (Locking c.opened.writes) refl new None u (length c.opened.writes) c.left
+    is_then = then_is (Locking c.opened.writes) refl new None by.ends (length c.opened.writes) c.left
 
     pub locked_undrawn : (now (called c).home new).drawn ≡ None
-    locked_undrawn = ap (λ (l : LocalState). l.drawn) state_is.same ∙ rest.undrawn
+    locked_undrawn = ap (λ (l : LocalState). l.drawn) by.state_is.same ∙ by.rest.undrawn
 
     pub has_locked : HasLocked (called locked_as)
     has_locked = record {
       begun = subst (λ n. 0 < n)
-          (sym (ap (λ (l : LocalState). l.begun) is_then ∙ ap (λ (l : LocalState). l.begun) state_is.same)) rest.begun;
-      locked = ap (λ (l : LocalState). l.locked) is_then ∙ ap (λ (l : LocalState). l.locked) state_is.same;
+          (sym (ap (λ (l : LocalState). l.begun) is_then ∙ ap (λ (l : LocalState). l.begun) by.state_is.same)) by.rest.begun;
+      locked = ap (λ (l : LocalState). l.locked) is_then ∙ ap (λ (l : LocalState). l.locked) by.state_is.same;
       told = subst (λ (l : LocalState). l.writes ≢ None → l.writes ≡ Some c.opened.writes) (sym is_then)
-          (told_some (now (called c).home new).writes c.opened.writes state_is.told);
+          (told_some (now (called c).home new).writes c.opened.writes by.state_is.told);
       all = subst (λ (l : LocalState). l.holds ≡ map (new_hold l) c.opened.writes) (sym is_then)
-          (locks ∙ ap (map (new_hold (now (called c).home new))) (take-length c.opened.writes));
+          (by.locks ∙ ap (map (new_hold (now (called c).home new))) (take-length c.opened.writes));
       undrawn = ap (λ (l : LocalState). l.drawn) is_then ∙ locked_undrawn;
       sound = (
-        ap (λ (l : LocalState). l.failed) is_then ∙ ap (λ (l : LocalState). l.failed) state_is.same ∙ rest.sound.0,
-        ap (λ (l : LocalState). l.gave_back) is_then ∙ ap (λ (l : LocalState). l.gave_back) state_is.same
-            ∙ rest.sound.1,
+        ap (λ (l : LocalState). l.failed) is_then ∙ ap (λ (l : LocalState). l.failed) by.state_is.same ∙ by.rest.sound.0,
+        ap (λ (l : LocalState). l.gave_back) is_then ∙ ap (λ (l : LocalState). l.gave_back) by.state_is.same
+            ∙ by.rest.sound.1,
       );
-      live = live;
+      live = by.live;
     }
 
     pub locked_told : calls.IsTold (called locked_as)
     locked_told =
-        closed_told (Locking c.opened.writes) refl new None u (length c.opened.writes) c.left
-        (rest_made (called c) rest) (rest_can (state (called c)) rest (length c.opened.writes))
-        (λ _. no_answer c.left live) (no_answer c.left live)
+        closed_told (Locking c.opened.writes) refl new None by.ends (length c.opened.writes) c.left
+        (rest_made (called c) by.rest) (rest_can (state (called c)) by.rest (length c.opened.writes))
+        (λ _. no_answer c.left by.live) (no_answer c.left by.live)
 
     pub locked_tied : IsLawful holds (called c) → Tied holds locked_as
     locked_tied lawful =
-        closed_tied (Locking c.opened.writes) refl new None u (length c.opened.writes) c.left (omega arith) locks
+        closed_tied (Locking c.opened.writes) refl new None by.ends (length c.opened.writes) c.left (omega arith) by.locks
         (λ some. locked_undrawn)
-        (λ locked. then_lawful (Locking c.opened.writes) refl new None u (length c.opened.writes) c.left lawful)
-        (subst (λ x. IfSome x (λ again. IsLeft (called locked_as))) (sym (no_answer c.left live)) tt) locked_told
+        (λ locked. then_lawful (Locking c.opened.writes) refl new None by.ends (length c.opened.writes) c.left lawful)
+        (subst (λ x. IfSome x (λ again. IsLeft (called locked_as))) (sym (no_answer c.left by.live)) tt) locked_told
 
     pub locked_stays : Stays holds (Locking c.opened.writes) (called c) (called locked_as)
-    locked_stays = closed_stays (Locking c.opened.writes) refl new None u (length c.opened.writes) c.left refl
+    locked_stays = closed_stays (Locking c.opened.writes) refl new None by.ends (length c.opened.writes) c.left refl
 
     pub locked_kept : called locked_as ≡ record (called c) { log = (view_of new.seat).log; left = None }
     locked_kept =
-        then_kept (Locking c.opened.writes) refl new None u (length c.opened.writes) c.left
-        ∙ ap (λ x. record (called c) { log = (view_of new.seat).log; left = x }) (no_answer c.left live)
+        then_kept (Locking c.opened.writes) refl new None by.ends (length c.opened.writes) c.left
+        ∙ ap (λ x. record (called c) { log = (view_of new.seat).log; left = x }) (no_answer c.left by.live)
 
     pub locked_done : done (called locked_as) ≡ done (called c)
     locked_done =
-        closed_done (Locking c.opened.writes) refl new None u (length c.opened.writes) c.left
+        closed_done (Locking c.opened.writes) refl new None by.ends (length c.opened.writes) c.left
         (undrawn_invalid (state (called locked_as)) has_locked.undrawn)
 
   -- ---- a call that has finished
 
-  module _ (new : Steps L)
-      (u : Under holds (called c).home (began_of (Doing (Finishing c.opened.writes)) (called c)) new Done None)
-      (locked : HasLocked (called c)) (number : ℕ) (valid : is_valid (now (called c).home new) ≡ true)
-      (drawn : (now (called c).home new).drawn ≡ Some number)
-      (told : (now (called c).home new).writes ≡ Some c.opened.writes)
-      (free : (now (called c).home new).holds ≡ []) where
+  pub record Finished (new : Steps L) (number : ℕ) : Type 0 where
+    pub ends : Under holds (called c).home (began_of (Doing (Finishing c.opened.writes)) (called c)) new Done None
+    pub locked : HasLocked (called c)
+    pub valid : is_valid (now (called c).home new) ≡ true
+    pub drawn : (now (called c).home new).drawn ≡ Some number
+    pub told : (now (called c).home new).writes ≡ Some c.opened.writes
+    pub free : (now (called c).home new).holds ≡ []
+
+  module _ (new : Steps L) (number : ℕ) (by : Finished new number) where
     abbrev pub finished_as : Inside L
-    finished_as = closed_as (Finishing c.opened.writes) refl new None u 0 c.left
+    finished_as = closed_as (Finishing c.opened.writes) refl new None by.ends 0 c.left
 
     by_then : state (called finished_as) ≡ now (called c).home new
-    by_then = then_is (Finishing c.opened.writes) refl new None u 0 c.left
+    by_then = then_is (Finishing c.opened.writes) refl new None by.ends 0 c.left
 
     pub finished_told : calls.IsTold (called finished_as)
     finished_told =
-        closed_told (Finishing c.opened.writes) refl new None u 0 c.left (locked_made (called c) locked) tt
-        (λ _. no_answer c.left locked.live) (no_answer c.left locked.live)
+        closed_told (Finishing c.opened.writes) refl new None by.ends 0 c.left (locked_made (called c) by.locked) tt
+        (λ _. no_answer c.left by.locked.live) (no_answer c.left by.locked.live)
 
     pub finished_tied : Tied holds finished_as
     finished_tied =
-        closed_tied (Finishing c.opened.writes) refl new None u 0 c.left (omega arith) free (λ some. absurd (some refl))
+        closed_tied (Finishing c.opened.writes) refl new None by.ends 0 c.left (omega arith) by.free (λ some. absurd (some refl))
         (λ more. absurd (let none : (now (called c).home new).drawn ≡ None =
         ap (λ (l : LocalState). l.drawn) (sym by_then) ∙ more.undrawn in cc))
-        (subst (λ x. IfSome x (λ again. IsLeft (called finished_as))) (sym (no_answer c.left locked.live)) tt)
+        (subst (λ x. IfSome x (λ again. IsLeft (called finished_as))) (sym (no_answer c.left by.locked.live)) tt)
         finished_told
 
     pub finished_stays : Stays holds (Finishing c.opened.writes) (called c) (called finished_as)
-    finished_stays = closed_stays (Finishing c.opened.writes) refl new None u 0 c.left refl
+    finished_stays = closed_stays (Finishing c.opened.writes) refl new None by.ends 0 c.left refl
 
     pub finished_commits : Commits (called c) (called finished_as) number
     finished_commits = record {
-      valid = ap is_valid by_then ∙ valid;
-      drawn = ap (λ (l : LocalState). l.drawn) by_then ∙ drawn;
-      free = ap (λ (l : LocalState). l.holds) by_then ∙ free;
+      valid = ap is_valid by_then ∙ by.valid;
+      drawn = ap (λ (l : LocalState). l.drawn) by_then ∙ by.drawn;
+      free = ap (λ (l : LocalState). l.holds) by_then ∙ by.free;
       entry = entry_of (state (called finished_as)) (or_writes (state (called finished_as)).writes);
       done =
           done_valid holds (called c) (called finished_as) (Doing (Finishing c.opened.writes)) None
-          (then_steps (Finishing c.opened.writes) refl new None u 0 c.left) refl
-          (undrawn_invalid (state (called c)) locked.undrawn) (ap is_valid by_then ∙ valid)
+          (then_steps (Finishing c.opened.writes) refl new None by.ends 0 c.left) refl
+          (undrawn_invalid (state (called c)) by.locked.undrawn) (ap is_valid by_then ∙ by.valid)
           ∙ ap (λ n. record {
             caller = c.number;
             number = n;
             entry = entry_of (state (called finished_as)) (or_writes (state (called finished_as)).writes);
-          } ∷ done (called c)) (ap (λ (l : LocalState). or_zero l.drawn) by_then ∙ ap or_zero drawn);
-      reads = λ o. held_then (Finishing c.opened.writes) refl new None u 0 c.left o;
+          } ∷ done (called c)) (ap (λ (l : LocalState). or_zero l.drawn) by_then ∙ ap or_zero by.drawn);
+      reads = λ o. held_then (Finishing c.opened.writes) refl new None by.ends 0 c.left o;
       writes = λ o.
           ap (λ (l : LocalState). value_in (or_writes l.writes) o) by_then
-          ∙ ap (λ ws. value_in (or_writes ws) o) told
+          ∙ ap (λ ws. value_in (or_writes ws) o) by.told
           ∙ put_is (value_in c.opened.writes o) (handed (called c) o) (v.puts o);
       only = λ o. unset_is (written (called c) o) (value_in c.opened.writes o) (v.sets o);
     }
@@ -355,6 +368,20 @@ module _ {L : Type 0} (holds : L → List Val → Type 0) (c : Inside L) (v : Ti
   module _ (home : Home L) (same : (called c).home ≡ home) where
     pub free_here : (new : Steps L) → (now home new).holds ≡ [] → (now (called c).home new).holds ≡ []
     free_here new free = subst (λ (x : Home L). (now x new).holds ≡ []) (sym same) free
+
+    pub left_here : (work : Work) → closes work ≡ true → works_on work ≡ c.opened.writes → (new : Steps L)
+        (again : TlAgain) → Under holds home (begun_as home (Doing work) c.steps) new Done (Some again) →
+        (now home new).holds ≡ [] → WritesBelow c.opened.objects c.opened.writes → WritesApart c.opened.writes →
+        IsMade (called c) → CanLock (Doing work) (state (called c)) → Left work new again
+    left_here work is on new again u free below apart made can = record {
+      closing = is;
+      under = ends_here holds c v home same (Doing work) new Done (Some again) u;
+      once = rw on (subst (λ n. NamesOnce n c.opened.writes) v.objects
+          (writes_once c.opened.objects c.opened.writes below apart));
+      free = free_here new free;
+      made = made;
+      can = can;
+    }
 
     pub locks_here : (new : Steps L) (count : ℕ) → Lists home new c.opened count → count ≡ length c.opened.writes →
         (now (called c).home new).holds

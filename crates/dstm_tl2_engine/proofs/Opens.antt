@@ -531,24 +531,30 @@ pub record Stops {L : Type 0} (holds : L → List Val → Type 0) (o : ℕ) (k n
   pub continues : Continues holds k n
   pub seen : Seen holds n
 
-module _ {L : Type 0} (holds : L → List Val → Type 0) (c : Inside L) (v : Tied holds c) (k : TlCalled L)
-    (view : called c ≡ k) (home stm : Home L) (table : k.home ≡ stm) (words : home ≡ stm) (o : ℕ)
-    (rest : AtRest (state k)) (unread : held k o ≡ None)
-  where
-    same_home : (called c).home ≡ home
-    same_home = ap (λ (k : TlCalled L). k.home) view ∙ table ∙ sym words
+-- An object is to be read that is not held. The caller that contracts see is the one that its fields stand for, and the
+-- words are those of its table.
+pub record Unread {L : Type 0} (holds : L → List Val → Type 0) (c : Inside L) (k : TlCalled L) (home : Home L) (o : ℕ) :
+    Type 0 where
+  pub tied : Tied holds c
+  pub view : called c ≡ k
+  pub same : (called c).home ≡ home
+  pub rest : AtRest (state k)
+  pub unread : held k o ≡ None
 
+module _ {L : Type 0} {holds : L → List Val → Type 0} {c : Inside L} {k : TlCalled L} {home : Home L} {o : ℕ}
+    (at : Unread holds c k home o)
+  where
     here : now home c.steps ≡ state (called c)
-    here = now_there holds c v home same_home
+    here = now_there holds c at.tied home at.same
 
     at_rest : AtRest (state (called c))
-    at_rest = subst (λ (k : TlCalled L). AtRest (state k)) (sym view) rest
+    at_rest = subst (λ (k : TlCalled L). AtRest (state k)) (sym at.view) at.rest
 
     unheld : held (called c) o ≡ None
-    unheld = ap (λ (k : TlCalled L). held k o) view ∙ unread
+    unheld = ap (λ (k : TlCalled L). held k o) at.view ∙ at.unread
 
     pub read_under : Under holds home (begun_as home (Doing (Opening o)) c.steps) c.steps (LookAt o) None
-    read_under = starts_there holds c v home same_home (Doing (Opening o))
+    read_under = starts_there holds c at.tied home at.same (Doing (Opening o))
 
     pub read_at_rest : AtRest (now home c.steps)
     read_at_rest = subst (λ (l : LocalState). AtRest l) (sym here) at_rest
@@ -560,10 +566,10 @@ module _ {L : Type 0} (holds : L → List Val → Type 0) (c : Inside L) (v : Ti
     pub slot_exists : (p : ℕ) → p ≡ o → o < objects_of k → p < c.opened.objects
     slot_exists p q below =
         subst (λ n. n < c.opened.objects) (sym q)
-        (subst (λ n. o < n) (sym v.objects) (subst (λ (k : TlCalled L). o < objects_of k) (sym view) below))
+        (subst (λ n. o < n) (sym at.tied.objects) (subst (λ (k : TlCalled L). o < objects_of k) (sym at.view) below))
 
     pub slot_unread : (p : ℕ) → p ≡ o → read_slot c.opened.reads p ≡ None
-    slot_unread p q = ap (read_slot c.opened.reads) q ∙ unheld_slot holds c v o unheld
+    slot_unread p q = ap (read_slot c.opened.reads) q ∙ unheld_slot holds c at.tied o unheld
 
     module _ (live : is_live k ≡ true) (new : Steps L) (slot : ReadSlot) (is : slot.object ≡ o)
         (u : Under holds home (begun_as home (Doing (Opening o)) c.steps) new Done None)
@@ -571,37 +577,37 @@ module _ {L : Type 0} (holds : L → List Val → Type 0) (c : Inside L) (v : Ti
         (opened : OpenedAs) (pushed : opened ≡ record c.opened { reads = c.opened.reads ++ slot ∷ [] })
       where
         is_on : is_live (called c) ≡ true
-        is_on = ap (λ (k : TlCalled L). is_live k) view ∙ live
+        is_on = ap (λ (k : TlCalled L). is_live k) at.view ∙ live
 
         u_here : Under holds (called c).home (began_of (Doing (Opening o)) (called c)) new Done None
-        u_here = ends_here holds c v home same_home (Doing (Opening o)) new Done None u
+        u_here = ends_here holds c at.tied home at.same (Doing (Opening o)) new Done None u
 
         adds_here : now (called c).home new ≡ record (state (called c)) {
           reads = (state (called c)).reads ++ slot_read slot ∷ [];
         }
         adds_here =
-            ap (λ h. now h new) same_home ∙ adds
+            ap (λ h. now h new) at.same ∙ adds
             ∙ ap (λ (l : LocalState). record l { reads = l.reads ++ slot_read slot ∷ [] }) here
 
         pub first_tied : Tied holds (record c { steps = new; opened = opened })
         first_tied =
             subst (λ (x : OpenedAs). Tied holds (record c { steps = new; opened = x })) (sym pushed)
-            (read_tied holds c v is_on at_rest o new unheld slot is u_here adds_here)
+            (read_tied holds c at.tied is_on at_rest o new unheld slot is u_here adds_here)
 
         pub first_reads : Reads holds o k (called (record c { steps = new; opened = opened })) slot.value
         first_reads =
             subst (λ (k : TlCalled L). Reads holds o k (called (record c { steps = new; opened = opened })) slot.value)
-            view
+            at.view
             (subst (λ (x : OpenedAs).
             Reads holds o (called c) (called (record c { steps = new; opened = x })) slot.value) (sym pushed)
             (record {
-              stays = read_stays holds c v is_on at_rest o new unheld slot is u_here adds_here;
-              kept = read_kept holds c v is_on at_rest o new unheld slot is u_here adds_here;
-              continues = read_continues holds c v is_on at_rest o new unheld slot is u_here adds_here;
-              opens = read_opens holds c v is_on at_rest o new unheld slot is u_here adds_here;
-              rest = read_rest holds c v is_on at_rest o new unheld slot is u_here adds_here;
-              seen = read_seen holds c v is_on at_rest o new unheld slot is u_here adds_here;
-              reads = read_value holds c v is_on at_rest o new unheld slot is u_here adds_here;
+              stays = read_stays holds c at.tied is_on at_rest o new unheld slot is u_here adds_here;
+              kept = read_kept holds c at.tied is_on at_rest o new unheld slot is u_here adds_here;
+              continues = read_continues holds c at.tied is_on at_rest o new unheld slot is u_here adds_here;
+              opens = read_opens holds c at.tied is_on at_rest o new unheld slot is u_here adds_here;
+              rest = read_rest holds c at.tied is_on at_rest o new unheld slot is u_here adds_here;
+              seen = read_seen holds c at.tied is_on at_rest o new unheld slot is u_here adds_here;
+              reads = read_value holds c at.tied is_on at_rest o new unheld slot is u_here adds_here;
             }))
 
     module _ (new : Steps L) (again : TlAgain)
@@ -609,25 +615,25 @@ module _ {L : Type 0} (holds : L → List Val → Type 0) (c : Inside L) (v : Ti
         (same : now home new ≡ record (now home c.steps) { look = (now home new).look })
       where
         u_left : Under holds (called c).home (began_of (Doing (Opening o)) (called c)) new Done (Some again)
-        u_left = ends_here holds c v home same_home (Doing (Opening o)) new Done (Some again) u
+        u_left = ends_here holds c at.tied home at.same (Doing (Opening o)) new Done (Some again) u
 
         same_left : now (called c).home new ≡ record (state (called c)) { look = (now (called c).home new).look }
         same_left =
-            ap (λ h. now h new) same_home ∙ same
+            ap (λ h. now h new) at.same ∙ same
             ∙ ap (λ (l : LocalState). record l { look = (now home new).look }) here
-            ∙ ap (λ h. record (state (called c)) { look = (now h new).look }) (sym same_home)
+            ∙ ap (λ h. record (state (called c)) { look = (now h new).look }) (sym at.same)
 
         pub left_tied : Tied holds (record c { steps = new; left = Some again })
-        left_tied = stopped_tied holds c v at_rest o new again u_left same_left
+        left_tied = stopped_tied holds c at.tied at_rest o new again u_left same_left
 
         pub left_stops : Stops holds o k (called (record c { steps = new; left = Some again })) again
         left_stops =
             subst (λ (k : TlCalled L). Stops holds o k (called (record c { steps = new; left = Some again })) again)
-            view (record {
-              leaves = stopped_leaves holds c v at_rest o new again u_left same_left;
-              kept = stopped_kept holds c v at_rest o new again u_left same_left;
-              continues = stopped_continues holds c v at_rest o new again u_left same_left;
-              seen = stopped_seen holds c v at_rest o new again u_left same_left;
+            at.view (record {
+              leaves = stopped_leaves holds c at.tied at_rest o new again u_left same_left;
+              kept = stopped_kept holds c at.tied at_rest o new again u_left same_left;
+              continues = stopped_continues holds c at.tied at_rest o new again u_left same_left;
+              seen = stopped_seen holds c at.tied at_rest o new again u_left same_left;
             })
 
 -- ---- an open of what is open already

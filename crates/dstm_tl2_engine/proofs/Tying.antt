@@ -18,7 +18,7 @@ use Rattle.dstm_tl2_engine.proofs.Calling.{StepsOf, began_is, begun_as, now_is, 
 use Rattle.dstm_tl2_engine.proofs.Seeing.{seen_now}
 use Rattle.dstm_tl2_engine.specs.Attempts.{Seen}
 use Rattle.dstm_tl2_engine.specs.Began.{began_of}
-use Rattle.dstm_tl2_engine.specs.Callers.{objects_of, seat_view, state}
+use Rattle.dstm_tl2_engine.specs.Callers.{TlCalled, objects_of, seat_view, state}
 use Rattle.dstm_tl2_engine.specs.Calls.{Performs}
 use Rattle.dstm_tl2_engine.specs.Mirror.{Tied, called}
 use Rattle.dstm_tl2_engine.specs.declared.caller.TlCaller.TheInside.{Inside}
@@ -108,3 +108,8 @@ pub performs_then : {L : Type 0} (holds : L → List Val → Type 0) (c : Inside
 performs_then holds c task new again u opened left =
     performs holds (called c) task new again (called (record c { steps = new; opened = opened; left = left })) u refl
     (ap (λ t. record (called c).home { table = t }) u.seat.0) refl
+
+-- the caller that contracts see is the one that its fields stand for, and the words are those of its table
+pub at_words : {L : Type 0} (c : Inside L) (k : TlCalled L) (stm words : Home L) → called c ≡ k → k.home ≡ stm →
+    words ≡ stm → (called c).home ≡ words
+at_words c k stm words view table same = ap (λ (k : TlCalled _). k.home) view ∙ table ∙ sym same

@@ -4,6 +4,8 @@ use Rattle.std.proofs.lemmas.Result.{IfOk-weaker}
 use Rattle.dstm_tl2_engine.proofs.Opens.{handed_held, hands, held_opened, none_some, unhanded_unheld, unset_unheld}
 use Rattle.dstm_tl2_engine.specs.Attempts.{Seen}
 use Rattle.dstm_tl2_engine.specs.Callers.{TlCalled, handed, held, written}
+use Rattle.dstm_tl2_engine.proofs.caller.TlCaller.open_read.Given.{Over}
+use Rattle.dstm_tl2_engine.proofs.caller.TlCaller.open_read.Goals.{After-value}
 use Rattle.dstm_tl2_engine.proofs.caller.TlCaller.open_read.Goals as goal
 
 pub returns-in-Some-clause-stays : goal.returns-in-Some-clause-stays
@@ -24,24 +26,24 @@ returns-in-Some-clause-value g c =
     sym c.in-Some.is ∙ c.value.ensures
     ∙ hands g.L.Law.holds c.self.inside c.self.invariant c.args.self.now c.self.view_is c.args.o
 
+unheld : (g : Over) (c : After-value g) → c.value.result ≡ None → held c.args.self.now c.args.o ≡ None
+unheld g c none =
+    unhanded_unheld g.L.Law.holds c.self.inside c.self.invariant c.args.self.now c.self.view_is c.args.o
+    (sym c.value.ensures ∙ none)
+
 pub read_first-requires-clause-unread : goal.read_first-requires-clause-unread
 read_first-requires-clause-unread g c =
-    unhanded_unheld g.L.Law.holds c.self.inside c.self.invariant c.args.self.now c.self.view_is c.args.o
-    (sym c.value.ensures ∙ c.in_default.is)
+    unheld g (goal.at.read_first-requires-clause-unread g c).After-value c.in_default.is
 
 pub returns-clause-again : goal.returns-clause-again
-returns-clause-again g c =
-    λ some.
+returns-clause-again g c some =
     absurd (none_some (held c.args.self.now c.args.o)
-    (unhanded_unheld g.L.Law.holds c.self.inside c.self.invariant c.args.self.now c.self.view_is c.args.o
-    (sym c.value.ensures ∙ c.in_default.is)) some)
+    (unheld g (goal.at.returns-clause-again g c).After-value c.in_default.is) some)
 
 pub returns-clause-answered : goal.returns-clause-answered
-returns-clause-answered g c =
-    λ some.
+returns-clause-answered g c some =
     absurd (none_some (held c.args.self.now c.args.o)
-    (unhanded_unheld g.L.Law.holds c.self.inside c.self.invariant c.args.self.now c.self.view_is c.args.o
-    (sym c.value.ensures ∙ c.in_default.is)) some)
+    (unheld g (goal.at.returns-clause-answered g c).After-value c.in_default.is) some)
 
 pub returns-in-Some-clause-seen : goal.returns-in-Some-clause-seen
 returns-in-Some-clause-seen g c = subst (Seen g.L.Law.holds) c.self.view_is c.self.invariant.seen
@@ -53,7 +55,6 @@ returns-clause-value g c =
     let unset : written n c.args.o ≡ None =
     ap (λ (k : TlCalled _). written k c.args.o) c.read_first.ensures.kept
     ∙ unset_unheld g.L.Law.holds c.self.inside c.self.invariant c.args.self.now c.self.view_is c.args.o
-    (unhanded_unheld g.L.Law.holds c.self.inside c.self.invariant c.args.self.now c.self.view_is c.args.o
-    (sym c.value.ensures ∙ c.in_default.is)) in
+    (unheld g (goal.at.returns-clause-value g c).After-value c.in_default.is) in
     IfOk-weaker c.read_first.result (λ v. Some v ≡ held n c.args.o) (λ v. Some v ≡ handed n c.args.o)
     (λ v read. read ∙ ap (λ w. option_or w (held n c.args.o)) (sym unset)) c.read_first.ensures.value

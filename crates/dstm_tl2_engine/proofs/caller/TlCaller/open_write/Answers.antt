@@ -4,7 +4,8 @@ use Rattle.dstm_mem.specs.Memory.{value_in}
 use Rattle.dstm_tl2_engine.proofs.Opens.{held_opened, IsRead, none_some, no_slot_unheld, pushed_marks, pushed_opens, pushed_stays, pushed_steps, pushed_tied, pushed_value, put_held, read_before, read_by}
 use Rattle.dstm_tl2_engine.specs.Callers.{TlCalled, held}
 use Rattle.dstm_tl2_engine.proofs.caller.TlCaller.open_write.Goals as goal
-use Rattle.dstm_tl2_engine.proofs.caller.TlCaller.open_write.Goals.{in-Some-read, in-None+in_ok-value-in-None}
+use Rattle.dstm_tl2_engine.proofs.caller.TlCaller.open_write.Given.{Over}
+use Rattle.dstm_tl2_engine.proofs.caller.TlCaller.open_write.Goals.{After-push_write, After-read, in-Some-read, in-None+in_ok-value-in-None}
 
 pub returns-in-Some-clause-stays : goal.returns-in-Some-clause-stays
 returns-in-Some-clause-stays g c =
@@ -19,40 +20,44 @@ returns-in-Some-clause-opens g c =
     (put_held g.L.Law.holds c.self.inside c.self.invariant c.args.self.now c.self.view_is c.args.o
     (ap is_some (sym c.write.ensures ∙ c.in-Some.is)))
 
+unheld : (g : Over) (c : After-read g) → c.read.result ≡ None → held c.args.self.now c.args.o ≡ None
+unheld g c none =
+    no_slot_unheld g.L.Law.holds c.self.inside c.self.invariant c.args.self.now c.self.view_is c.args.o
+    (sym c.read.ensures ∙ none)
+
 pub read_first-requires-clause-unread : goal.read_first-requires-clause-unread
 read_first-requires-clause-unread g c =
-    no_slot_unheld g.L.Law.holds c.self.inside c.self.invariant c.args.self.now c.self.view_is c.args.o
-    (sym c.read.ensures ∙ c.in-None.is)
+    unheld g (goal.at.read_first-requires-clause-unread g c).After-read c.in-None.is
 
 pub returns-in_err-value-in-None-clause-answered : goal.returns-in_err-value-in-None-clause-answered
-returns-in_err-value-in-None-clause-answered g c =
-    λ some.
+returns-in_err-value-in-None-clause-answered g c some =
     absurd (none_some (held c.args.self.now c.args.o)
-    (no_slot_unheld g.L.Law.holds c.self.inside c.self.invariant c.args.self.now c.self.view_is c.args.o
-    (sym c.read.ensures ∙ c.in-None.is)) some)
+    (unheld g (goal.at.returns-in_err-value-in-None-clause-answered g c).After-read c.in-None.is) some)
 
 pub returns-in_err-value-in-None-clause-steps : goal.returns-in_err-value-in-None-clause-steps
-returns-in_err-value-in-None-clause-steps g c =
-    λ some.
+returns-in_err-value-in-None-clause-steps g c some =
     absurd (none_some (held c.args.self.now c.args.o)
-    (no_slot_unheld g.L.Law.holds c.self.inside c.self.invariant c.args.self.now c.self.view_is c.args.o
-    (sym c.read.ensures ∙ c.in-None.is)) some)
+    (unheld g (goal.at.returns-in_err-value-in-None-clause-steps g c).After-read c.in-None.is) some)
+
+-- the object is read, before this call or in it
+is_read : (g : Over) (c : After-push_write g) →
+    IsRead g.L.Law.holds c.args.o c.args.self.now c.match-read.self c.match-read.value
+is_read g c = elim c.match-read.branch [
+  | in-Some-read w ↦
+      read_before g.L.Law.holds c.self.inside c.self.invariant c.args.self.now c.match-read.self c.self.view_is
+      c.args.o w.in-Some-read.slot c.match-read.value c.requires.live c.requires.rest
+      (sym c.read.ensures ∙ w.in-Some-read.is) w.self-is w.value-is
+  | in-None+in_ok-value-in-None w ↦
+      let e = w.in_ok-value-in-None.ensures in
+      read_by g.L.Law.holds c.args.o c.args.self.now w.read_first.new.self c.match-read.self
+      w.in_ok-value-in-None.value c.match-read.value
+      (no_slot_unheld g.L.Law.holds c.self.inside c.self.invariant c.args.self.now c.self.view_is c.args.o
+      (sym c.read.ensures ∙ w.in-None.is)) e.stays e.kept e.opens e.rest e.value w.self-is w.value-is
+]
 
 pub invariant_of-self : goal.invariant_of-self
 invariant_of-self g c =
-    let r : IsRead g.L.Law.holds c.args.o c.args.self.now c.match-read.self c.match-read.value =
-    elim c.match-read.branch [
-      | in-Some-read w ↦
-          read_before g.L.Law.holds c.self.inside c.self.invariant c.args.self.now c.match-read.self c.self.view_is
-          c.args.o w.in-Some-read.slot c.match-read.value c.requires.live c.requires.rest
-          (sym c.read.ensures ∙ w.in-Some-read.is) w.self-is w.value-is
-      | in-None+in_ok-value-in-None w ↦
-          let e = w.in_ok-value-in-None.ensures in
-          read_by g.L.Law.holds c.args.o c.args.self.now w.read_first.new.self c.match-read.self
-          w.in_ok-value-in-None.value c.match-read.value
-          (no_slot_unheld g.L.Law.holds c.self.inside c.self.invariant c.args.self.now c.self.view_is c.args.o
-          (sym c.read.ensures ∙ w.in-None.is)) e.stays e.kept e.opens e.rest e.value w.self-is w.value-is
-    ] in
+    let r = is_read g c in
     let unopened : value_in c.args.self.now.writes c.args.o ≡ None =
     ap (λ (k : TlCalled _). value_in k.writes c.args.o) (sym c.self.view_is) ∙ sym c.write.ensures ∙ c.in_default.is in
     pushed_tied g.L.Law.holds c.args.o c.args.self.now c.match-read.self c.match-read.value r c.self-2.inside
@@ -60,19 +65,7 @@ invariant_of-self g c =
 
 pub returns : goal.returns
 returns g c =
-    let r : IsRead g.L.Law.holds c.args.o c.args.self.now c.match-read.self c.match-read.value =
-    elim c.match-read.branch [
-      | in-Some-read w ↦
-          read_before g.L.Law.holds c.self.inside c.self.invariant c.args.self.now c.match-read.self c.self.view_is
-          c.args.o w.in-Some-read.slot c.match-read.value c.requires.live c.requires.rest
-          (sym c.read.ensures ∙ w.in-Some-read.is) w.self-is w.value-is
-      | in-None+in_ok-value-in-None w ↦
-          let e = w.in_ok-value-in-None.ensures in
-          read_by g.L.Law.holds c.args.o c.args.self.now w.read_first.new.self c.match-read.self
-          w.in_ok-value-in-None.value c.match-read.value
-          (no_slot_unheld g.L.Law.holds c.self.inside c.self.invariant c.args.self.now c.self.view_is c.args.o
-          (sym c.read.ensures ∙ w.in-None.is)) e.stays e.kept e.opens e.rest e.value w.self-is w.value-is
-    ] in
+    let r = is_read g c in
     let unopened : value_in c.args.self.now.writes c.args.o ≡ None =
     ap (λ (k : TlCalled _). value_in k.writes c.args.o) (sym c.self.view_is) ∙ sym c.write.ensures ∙ c.in_default.is in
     record {

@@ -1,52 +1,53 @@
 use Rattle.std.proofs.Common.{rules}
-use Rattle.dstm_tl2_engine.proofs.Opens.{first_reads, first_tied, left_stops, left_tied, read_at_rest, read_under, read_unread, slot_exists, slot_unread}
+use Rattle.dstm_tl2_engine.proofs.Opens.{Unread, first_reads, first_tied, left_stops, left_tied, read_at_rest, read_under, read_unread, slot_exists, slot_unread}
+use Rattle.dstm_tl2_engine.proofs.Tying.{at_words}
+use Rattle.dstm_tl2_engine.proofs.caller.TlCaller.read_first.Given.{Over}
+use Rattle.dstm_tl2_engine.proofs.caller.TlCaller.read_first.Goals.{After-words}
 use Rattle.dstm_tl2_engine.proofs.caller.TlCaller.read_first.Goals as goal
 
+unread : (g : Over) (c : After-words g) →
+    Unread g.L.Law.holds c.self.inside c.args.self.now c.words.result.now c.args.o
+unread g c = record {
+  tied = c.self.invariant;
+  view = c.self.view_is;
+  same = at_words c.self.inside c.args.self.now c.args.stm.now _ c.self.view_is c.requires.table c.words.ensures;
+  rest = c.requires.rest;
+  unread = c.requires.unread;
+}
+
 pub read-requires-clause-under : goal.read-requires-clause-under
-read-requires-clause-under g c =
-    read_under g.L.Law.holds c.self.inside c.self.invariant c.args.self.now c.self.view_is c.words.result.now
-    c.args.stm.now c.requires.table c.words.ensures c.args.o c.requires.rest c.requires.unread
+read-requires-clause-under g c = read_under (unread g (goal.at.read-requires-clause-under g c).After-words)
 
 pub read-requires-clause-rest : goal.read-requires-clause-rest
-read-requires-clause-rest g c =
-    read_at_rest g.L.Law.holds c.self.inside c.self.invariant c.args.self.now c.self.view_is c.words.result.now
-    c.args.stm.now c.requires.table c.words.ensures c.args.o c.requires.rest c.requires.unread
+read-requires-clause-rest g c = read_at_rest (unread g (goal.at.read-requires-clause-rest g c).After-words)
 
 pub read-requires-clause-unread : goal.read-requires-clause-unread
-read-requires-clause-unread g c =
-    read_unread g.L.Law.holds c.self.inside c.self.invariant c.args.self.now c.self.view_is c.words.result.now
-    c.args.stm.now c.requires.table c.words.ensures c.args.o c.requires.rest c.requires.unread
+read-requires-clause-unread g c = read_unread (unread g (goal.at.read-requires-clause-unread g c).After-words)
 
 pub push_read-requires-clause-exists : goal.push_read-requires-clause-exists
 push_read-requires-clause-exists g c =
-    slot_exists g.L.Law.holds c.self.inside c.self.invariant c.args.self.now c.self.view_is c.words.result.now
-    c.args.stm.now c.requires.table c.words.ensures c.args.o c.requires.rest c.requires.unread
+    slot_exists (unread g (goal.at.push_read-requires-clause-exists g c).After-words)
     c.in-Ok.slot.object c.in-Ok.ensures.object c.requires.exists
 
 pub push_read-requires-clause-unread : goal.push_read-requires-clause-unread
 push_read-requires-clause-unread g c =
-    slot_unread g.L.Law.holds c.self.inside c.self.invariant c.args.self.now c.self.view_is c.words.result.now
-    c.args.stm.now c.requires.table c.words.ensures c.args.o c.requires.rest c.requires.unread
+    slot_unread (unread g (goal.at.push_read-requires-clause-unread g c).After-words)
     c.in-Ok.slot.object c.in-Ok.ensures.object
 
 pub invariant_of-self : goal.invariant_of-self
 invariant_of-self g c =
-    first_tied g.L.Law.holds c.self.inside c.self.invariant c.args.self.now c.self.view_is c.words.result.now
-    c.args.stm.now c.requires.table c.words.ensures c.args.o c.requires.rest c.requires.unread
+    first_tied (unread g (goal.at.invariant_of-self g c).After-words)
     c.requires.live c.read.new.self c.in-Ok.slot c.in-Ok.ensures.object c.in-Ok.ensures.ends_well c.in-Ok.ensures.reads
     c.push_read.new.self c.push_read.ensures
 
 pub invariant_of-self-in-Err : goal.invariant_of-self-in-Err
 invariant_of-self-in-Err g c =
-    left_tied g.L.Law.holds c.self.inside c.self.invariant c.args.self.now c.self.view_is c.words.result.now
-    c.args.stm.now c.requires.table c.words.ensures c.args.o c.requires.rest c.requires.unread
+    left_tied (unread g (goal.at.invariant_of-self-in-Err g c).After-words)
     c.read.new.self c.in-Err.again c.in-Err.ensures.ends c.in-Err.ensures.same
 
 pub returns-in-Ok : goal.returns-in-Ok
 returns-in-Ok g c =
-    let read =
-    first_reads g.L.Law.holds c.self.inside c.self.invariant c.args.self.now c.self.view_is c.words.result.now
-    c.args.stm.now c.requires.table c.words.ensures c.args.o c.requires.rest c.requires.unread
+    let read = first_reads (unread g (goal.at.returns-in-Ok g c).After-words)
     c.requires.live c.read.new.self c.in-Ok.slot c.in-Ok.ensures.object c.in-Ok.ensures.ends_well c.in-Ok.ensures.reads
     c.push_read.new.self c.push_read.ensures in
     record {
@@ -62,9 +63,7 @@ returns-in-Ok g c =
 
 pub returns-in-Err : goal.returns-in-Err
 returns-in-Err g c =
-    let left =
-    left_stops g.L.Law.holds c.self.inside c.self.invariant c.args.self.now c.self.view_is c.words.result.now
-    c.args.stm.now c.requires.table c.words.ensures c.args.o c.requires.rest c.requires.unread
+    let left = left_stops (unread g (goal.at.returns-in-Err g c).After-words)
     c.read.new.self c.in-Err.again c.in-Err.ensures.ends c.in-Err.ensures.same in
     record {
       stays = search rules;
