@@ -3,7 +3,7 @@ use Rattle.std.proofs.Common.{◌≡◌, ◌≢◌, ◌⊎◌, ◌*◌, ℕ, ◌
 use Rattle.std.specs.Prelude.{Option, Bool, ◌||◌, if◌then◌else◌, slice_get}
 use Rattle.dstm_core.specs.Events.{Event}
 use Rattle.dstm_core.specs.declared.event.Kind.TheVariants.{Check, LookSelf, Commit}
-use Rattle.dstm_core.specs.Rules.{May}
+use Rattle.dstm_core.specs.Rules.{is_outside, May}
 use Rattle.dstm_core.specs.Runs.{local}
 use Rattle.dstm_core.specs.State.{LocalState, next_read, or_read, res}
 use Rattle.dstm_machines.specs.Traces.Access.{Load}
@@ -62,6 +62,12 @@ module _ {L : Type 0} (holds : L → List Val → Type 0) (home : Home L) (b : B
       let here : now home steps ≡ local s log b.number = ap (λ o. state_by s o log) u.number in
       rw (u.mirror.own, here) (own_in s b.number (local s log b.number) (static s log u.run.run.core b.number) u.caller
       (subst (λ (l : LocalState). l.phase ≢ Outside) here live))
+
+  -- as a step needs it
+  pub own_below : {task : Task} (steps : Steps L) (d : Due) (a : Option Again) → InTask holds home task b steps d a →
+      is_outside (now home steps).phase ≡ false → steps.own < steps.shape.callers * steps.shape.attempts
+  own_below steps d a u live =
+      rw u.shape (own_in_shape steps d a u (λ q. let out : is_outside (now home steps).phase ≡ true = ap is_outside q in cc))
 
   module _ (next : LocalState → Due) (start : LocalState) where
     -- one read was checked, and it is good

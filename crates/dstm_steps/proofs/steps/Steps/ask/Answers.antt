@@ -1,7 +1,7 @@
 use Rattle.std.proofs.Common.{◌≡◌, ℕ, ◌<◌, subst, None, ◌+◌, refl, ap, sym, ◌∙◌, ◌-◌, arith, inl, ne_eqb}
 use Rattle.std.proofs.lemmas.Bool.Decides.{nat_tests}
 use Rattle.dstm_core.specs.Events.{Event}
-use Rattle.dstm_core.specs.declared.event.Kind.TheVariants.{Kill, LookStatus, Pause}
+use Rattle.dstm_core.specs.declared.event.Kind.TheVariants.{LookStatus}
 use Rattle.dstm_machines.specs.Traces.Access.{Load}
 use Rattle.dstm_core.specs.State.{LocalState}
 use Rattle.dstm_steps.specs.declared.steps.Steps.{Steps}

@@ -1,9 +1,7 @@
-use Rattle.dstm_steps.proofs.Checks.{own_in_shape}
+use Rattle.std.proofs.Common.{refl}
+use Rattle.dstm_steps.proofs.Checks.{own_below}
 use Rattle.dstm_steps.proofs.steps.Steps.finish.Goals as goal
 
 pub status-status-requires-clause-below : goal.status-status-requires-clause-below
 status-status-requires-clause-below g c =
-    let own = own_in_shape g.L.Law.holds c.args.words.now g.B.InCall.began c.args.self.now _ _ c.requires.under
-    (λ q. let p = c.requires.phase in cc) in
-    let shape = c.requires.under.shape in
-    rw shape own
+    own_below g.L.Law.holds c.args.words.now g.B.InCall.began c.args.self.now _ _ c.requires.under (rw c.requires.phase refl)

@@ -4,16 +4,13 @@ use Rattle.dstm_core.specs.declared.event.Kind.TheVariants.{Rank}
 use Rattle.dstm_machines.specs.Traces.Access.{Store}
 use Rattle.dstm_steps.specs.declared.steps.Steps.{Steps}
 use Rattle.dstm_steps.specs.Under.{made_by}
-use Rattle.dstm_steps.proofs.Checks.{own_in_shape}
+use Rattle.dstm_steps.proofs.Checks.{own_below}
 use Rattle.dstm_steps.proofs.Stepping.{went_on}
 use Rattle.dstm_steps.proofs.steps.Steps.rank_up.Goals as goal
 
 pub rank-place-requires-clause-below : goal.rank-place-requires-clause-below
 rank-place-requires-clause-below g c =
-    let own = own_in_shape g.L.Law.holds c.args.words.now g.B.InCall.began c.args.self.now _ _ c.requires.under
-    (λ q. let p = c.requires.running.phase in cc) in
-    let shape = c.requires.under.shape in
-    rw shape own
+    own_below g.L.Law.holds c.args.words.now g.B.InCall.began c.args.self.now _ _ c.requires.under (rw c.requires.running.phase refl)
 
 pub returns-clause-under : goal.returns-clause-under
 returns-clause-under g c =

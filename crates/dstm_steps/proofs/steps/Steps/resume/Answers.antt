@@ -4,7 +4,7 @@ use Rattle.dstm_core.specs.declared.event.Kind.TheVariants.{Resume}
 use Rattle.dstm_machines.specs.Traces.Access.{Exchange}
 use Rattle.dstm_words.specs.Seats.{found_in}
 use Rattle.dstm_steps.specs.Under.{After, IsMirror, made_by}
-use Rattle.dstm_steps.proofs.Checks.{own_in_shape}
+use Rattle.dstm_steps.proofs.Checks.{own_below}
 use Rattle.dstm_steps.proofs.Stepping.{after_rest, went_on, went_out, under_is}
 use Rattle.dstm_steps.proofs.steps.Steps.resume.Given.{Over}
 use Rattle.dstm_steps.proofs.steps.Steps.resume.Goals.{After-exchange-found}
@@ -12,10 +12,7 @@ use Rattle.dstm_steps.proofs.steps.Steps.resume.Goals as goal
 
 pub status-status-requires-clause-below : goal.status-status-requires-clause-below
 status-status-requires-clause-below g c =
-    let own = own_in_shape g.L.Law.holds c.args.words.now g.B.InCall.began c.args.self.now _ _ c.requires.under
-    (λ q. let p = c.requires.phase in cc) in
-    let shape = c.requires.under.shape in
-    rw shape own
+    own_below g.L.Law.holds c.args.words.now g.B.InCall.began c.args.self.now _ _ c.requires.under (rw c.requires.phase refl)
 
 changed : (g : Over) (c : After-exchange-found g) →
     After c.args.words.now c.args.self.now (record c.exchange-found.new.self { left = 0 })
