@@ -75,3 +75,26 @@ module _ {L : Type 0} {task : Task} (holds : L → List Val → Type 0) (home : 
       owner < steps.shape.callers * steps.shape.attempts
   owner_below owner code r is status live =
       rw u.shape (rw is at (owner_in r (rw is refl) (rw status (grind (arith, nat_tests, live)))))
+
+-- the locator that a call is told of: it is of the table, and its number fits
+module _ {L : Type 0} {task : Task} {holds : L → List Val → Type 0} {home : Home L} {b : Began} {steps : Steps L}
+    {d : Due} {a : Option Again} (u : InTask holds home task b steps d a) where
+  pub version_below : {named : ℕ} → IsRunning (now home steps) →
+      (version (res (now home steps)) ≡ Some named) × (0 < named) → named - 1 < steps.shape.callers * steps.shape.locators
+  version_below r n = rw u.shape (rw n.0 at (version_in holds home b steps d a u r (rw n.0 n.1)))
+
+  pub version_fits : {named : ℕ} → IsRunning (now home steps) →
+      (version (res (now home steps)) ≡ Some named) × (0 < named) → named - 1 < 2 ^ 32
+  version_fits r n =
+      let few = few_locators home.terms.shape u.run.valid in
+      let below = rw n.0 at (version_in holds home b steps d a u r (rw n.0 n.1)) in omega arith
+
+  pub word_below : {word : ℕ} → IsRunning (now home steps) → ((res (now home steps)).word ≡ word) × (0 < word) →
+      word - 1 < steps.shape.callers * steps.shape.locators
+  word_below r n = rw u.shape (rw n.0 at (locator_in holds home b steps d a u r (rw n.0 n.1)))
+
+  pub word_fits : {word : ℕ} → IsRunning (now home steps) → ((res (now home steps)).word ≡ word) × (0 < word) →
+      word - 1 < 2 ^ 32
+  word_fits r n =
+      let few = few_locators home.terms.shape u.run.valid in
+      let below = rw n.0 at (locator_in holds home b steps d a u r (rw n.0 n.1)) in omega arith

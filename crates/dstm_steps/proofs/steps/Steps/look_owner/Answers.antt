@@ -1,22 +1,14 @@
 use Rattle.std.proofs.Common.{◌≡◌, refl, arith}
 use Rattle.dstm_core.specs.State.{or_zero, res}
 use Rattle.dstm_steps.specs.Under.{now}
-use Rattle.dstm_steps.proofs.Ranged.{few_attempts, few_locators, locator_in, owner_in}
+use Rattle.dstm_steps.proofs.Ranged.{few_attempts, owner_in, word_below, word_fits}
 use Rattle.dstm_steps.proofs.steps.Steps.look_owner.Goals as goal
 
 pub overflow_cast-locator : goal.overflow_cast-locator
-overflow_cast-locator g c =
-    let few = few_locators c.args.words.now.terms.shape c.requires.under.run.valid in
-    let below = locator_in g.L.Law.holds c.args.words.now g.B.InCall.began c.args.self.now _ _ c.requires.under
-    c.requires.running (rw c.requires.word.0 c.requires.word.1) in
-    let word = c.requires.word.0 in omega arith
+overflow_cast-locator g c = let fits = word_fits c.requires.under c.requires.running c.requires.word in omega arith
 
 pub owner-place-requires-clause-below : goal.owner-place-requires-clause-below
-owner-place-requires-clause-below g c =
-    rw c.requires.under.shape
-    (rw c.requires.word.0 at
-    (locator_in g.L.Law.holds c.args.words.now g.B.InCall.began c.args.self.now _ _ c.requires.under
-    c.requires.running (rw c.requires.word.0 c.requires.word.1)))
+owner-place-requires-clause-below g c = word_below c.requires.under c.requires.running c.requires.word
 
 pub overflow_cast-result : goal.overflow_cast-result
 overflow_cast-result g c =
