@@ -3,7 +3,7 @@ use Rattle.std.proofs.Common.{◌++◌, ◌<◌, ◌≤◌, ◌==◌, ◌∙◌,
 use Prim.Native.Nat.{zero, suc}
 use Rattle.std.specs.Prelude.{IsSome, is_some, option_map, slice_index_or, slice_set}
 use Rattle.std.specs.List.{list_any}
-use Rattle.std.proofs.lemmas.Bool.{cases_Bool, cond_both, eqb-true, eq-eqb, ne_eqb, or_cases}
+use Rattle.std.proofs.lemmas.Bool.{cases_Bool, eqb-true, eq-eqb, ne_eqb, or_cases}
 use Rattle.std.proofs.lemmas.List.{get_or-map, get_or_default, length-map}
 use Rattle.std.proofs.lemmas.Map.Keys.{IsDistinct-from_apart}
 use Rattle.std.proofs.lemmas.Map.Steps.{length-le_from_distinct_below}
@@ -74,26 +74,6 @@ with_value_is (w ∷ writes) o zero v r only = rw (eq-eqb w.0 o r.object) (ap (�
 with_value_is (w ∷ writes) o (suc n) v r only =
     rw (not_first w writes o n r only)
     (ap (λ xs. w ∷ xs) (with_value_is writes o n v (later_write w writes o n r only) (later_only w writes o n r only)))
-
-pub length-with_value : (o : ℕ) (v : Val) (writes : List (ℕ × Val)) → length (with_value o v writes) ≡ length writes
-length-with_value o v [] = refl
-length-with_value o v (w ∷ writes) =
-    cond_both (w.0 == o) ((o, v) ∷ writes) (w ∷ with_value o v writes)
-    (λ xs. length xs ≡ length (w ∷ writes)) (λ _. refl) (λ _. let ih = length-with_value o v writes in omega arith)
-
--- the objects stay where they are
-pub object-with_value : (o : ℕ) (v : Val) (writes : List (ℕ × Val)) (i : ℕ) →
-    (write_at (with_value o v writes) i).0 ≡ (write_at writes i).0
-object-with_value o v [] i = refl
-object-with_value o v (w ∷ writes) i = by (object-with_value o v writes) i (cases_Bool (w.0 == o))
-  where
-    by : ((j : ℕ) → (write_at (with_value o v writes) j).0 ≡ (write_at writes j).0) → (i : ℕ) →
-        (w.0 == o ≡ true) ⊎ (w.0 == o ≡ false) →
-        (write_at (with_value o v (w ∷ writes)) i).0 ≡ (write_at (w ∷ writes) i).0
-    by ih zero (inl q) = rw q (sym (eqb-true w.0 o q))
-    by ih (suc i) (inl q) = rw q refl
-    by ih zero (inr q) = rw q refl
-    by ih (suc i) (inr q) = rw q (ih i)
 
 -- the object has the value then, and the others are as before
 pub value_in-with_value : (o : ℕ) (v : Val) (writes : List (ℕ × Val)) → IsSome (value_in writes o) →
