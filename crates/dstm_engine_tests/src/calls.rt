@@ -6,7 +6,7 @@ ghost use Rattle.dstm_engine.specs.Callers.{is_live, shape_of};
 
 use dstm_core::{Manager, Shape};
 use dstm_engine::{Caller, Founder, Spent, Stm, Tally, Tx};
-use dstm_model::{AnyLaw, Val};
+use dstm_model::{AnyLaw, Law, Val};
 use dstm_order::Again;
 use std::alloc::Global;
 use std::test::Fail;
@@ -38,6 +38,24 @@ pub fn shape(objects: u32, manager: Manager, all_write: bool) -> Shape
     }
 }
 
+// A shape with one object, and one attempt and one locator for each caller.
+pub fn small(callers: u32, manager: Manager) -> Shape
+    requires callers { (0 < callers) × (callers ≤ 2) }
+    ensures valid { IsValid result }
+    ensures objects { result.objects ≡ 1 }
+    ensures callers { result.callers ≡ callers }
+    ensures manager { result.manager ≡ manager }
+{
+    Shape {
+        objects: 1,
+        callers,
+        attempts: 1,
+        locators: 1,
+        manager,
+        all_write: false,
+    }
+}
+
 // A table of this shape, whose values are all 0, with two callers.
 pub fn two_callers(alloc: Global, shape: Shape) -> Result<Pair, Fail>
     requires valid { IsValid shape }
@@ -53,11 +71,11 @@ pub fn two_callers(alloc: Global, shape: Shape) -> Result<Pair, Fail>
 }
 
 // A new caller.
-fn caller(
+pub fn caller<L: Law>(
     alloc: Global,
-    stm: &Stm<AnyLaw>,
-    founder: &mut Founder<AnyLaw>,
-) -> Result<Caller<AnyLaw>, Fail>
+    stm: &Stm<L>,
+    founder: &mut Founder<L>,
+) -> Result<Caller<L>, Fail>
     requires table { founder.old.home ≡ stm.now }
     ensures table { founder.new.home ≡ founder.old.home }
     ensures caller { IfOk result (λ k. k.home ≡ stm.now) }

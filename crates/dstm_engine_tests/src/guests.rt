@@ -13,7 +13,7 @@ ghost use Rattle.dstm_engine_tests.specs.Guests.{
   is_store,
 };
 
-use crate::calls::{Answer, begin, commit, low, open, tally};
+use crate::calls::{Answer, begin, commit, low, open, small, tally};
 use dstm_core::{Event, Kind, Local, Manager, Shape};
 use dstm_engine::{Caller, Stm, Tally};
 use dstm_model::AnyLaw;
@@ -183,24 +183,9 @@ fn come(caller: &mut Caller<AnyLaw>, stm: &Stm<AnyLaw>) -> Option<(Answer, Answe
     Some((value, number, caller.tally()))
 }
 
-// One object, with an attempt and a locator for each of two callers.
-fn small(manager: Manager) -> Shape
-    ensures valid { IsValid result }
-    ensures objects { result.objects ≡ 1 }
-{
-    Shape {
-        objects: 1,
-        callers: 2,
-        attempts: 1,
-        locators: 1,
-        manager,
-        all_write: false,
-    }
-}
-
 // What a caller gets that comes after this event of the guest.
 fn after_guest(alloc: Global, manager: Manager, last: usize) -> Result<Outcome, Fail> {
-    let shape = small(manager);
+    let shape = small(2, manager);
     let start = vec![in alloc; low(5)]?;
     let (stm, mut founder) = Stm::make(alloc, start, shape, AnyLaw)?;
     let Some(guest) = founder.guest(&stm) else {

@@ -5,9 +5,9 @@ ghost use Rattle.dstm_model.specs.Store.{IsPlain};
 ghost use Rattle.dstm_model.specs.declared.op.Which.TheVariants as which;
 ghost use Rattle.dstm_engine.specs.Callers.{law_of};
 
-use crate::calls::Answer;
+use crate::calls::{Answer, caller};
 use dstm_core::{Manager, Shape};
-use dstm_engine::{Caller, Ended, Founder, Spent, Stm, attempt};
+use dstm_engine::{Caller, Ended, Spent, Stm, attempt};
 use dstm_mem::{Body, LooseBody};
 use dstm_model::{Layout, Op, Ops, Replies, Reply, Which};
 use dstm_order::Again;
@@ -152,47 +152,34 @@ fn five_keys(alloc: Global, layout: &Layout) -> Result<FiveKeys, Fail>
     Ok(FiveKeys { stm, one, two })
 }
 
-fn caller(
-    alloc: Global,
-    stm: &Stm<StoreLaw>,
-    founder: &mut Founder<StoreLaw>,
-) -> Result<Caller<StoreLaw>, Fail>
-    requires table { founder.old.home ≡ stm.now }
-    ensures table { founder.new.home ≡ founder.old.home }
-    ensures caller { IfOk result (λ k. k.home ≡ stm.now) }
-{
-    match founder.caller(alloc, stm, 0) {
-        Ok(caller) => Ok(caller),
-        Err(_) => Err(Fail::new("no caller")),
-    }
-}
+// Room for eight keys.
+const LAYOUT: Layout = Layout {
+    accounts: 0,
+    opening: 0,
+    list: 8,
+    tree: 0,
+};
 
 // The plain walk has read the head of the list, and is overtaken there; hand over hand the head was let go.
 #[test]
 fn a_look_up_hand_over_hand_is_not_overtaken(rt: HostRuntime) -> Result<(), Fail> {
-    let layout = Layout {
-        accounts: 0,
-        opening: 0,
-        list: 8,
-        tree: 0,
-    };
-    let mut table = five_keys(rt.alloc(), &layout)?;
+    let mut table = five_keys(rt.alloc(), &LAYOUT)?;
     let Some((found, inserted, committed)) = look_up(
         &mut table.one,
         &mut table.two,
         &table.stm,
-        &layout,
+        &LAYOUT,
     ) else {
         return Err(Fail::new("left"));
     };
     assert_eq!(rt; found.as_slice(), [Reply::Yes].as_slice());
     assert!(rt; (inserted, committed) == (Some(Ok(5)), Some(Err(Again::Stale(0)))));
-    let mut table = five_keys(rt.alloc(), &layout)?;
+    let mut table = five_keys(rt.alloc(), &LAYOUT)?;
     let Some((found, inserted, committed)) = look_up_hand_over_hand(
         &mut table.one,
         &mut table.two,
         &table.stm,
-        &layout,
+        &LAYOUT,
     ) else {
         return Err(Fail::new("left"));
     };

@@ -1,5 +1,6 @@
 ghost use Rattle.dstm_core.specs.Words.{IsValid};
 
+use crate::calls::small;
 use crate::rows::{Row, event_of, events_of};
 use dstm_core::{Event, Kind, Local, Manager, Replay, Shape, Status, replay};
 use std::alloc::{AllocError, Global};
@@ -37,14 +38,7 @@ const COMMITS: [Row; 11] = [
 
 #[test]
 fn one_caller_commits(rt: HostRuntime) -> Result<(), Fail> {
-    let shape = Shape {
-        objects: 1,
-        callers: 1,
-        attempts: 1,
-        locators: 1,
-        manager: Manager::Polite,
-        all_write: false,
-    };
+    let shape = small(1, Manager::Polite);
     let trace = events_of(rt.alloc(), &COMMITS)?;
     assert_eq!(rt; replay(rt.alloc(), &shape, &trace)?, Replay::Run);
     let undrawn = replay_with(rt.alloc(), &shape, &trace, 9, (0, Kind::Commit, 1, 3, 3, 4))?;

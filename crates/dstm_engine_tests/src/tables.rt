@@ -1,28 +1,10 @@
-ghost use Rattle.std.specs.Prelude.{◌≡◌, ◌<◌, ◌≤◌, IfSome};
-ghost use Rattle.dstm_core.specs.Words.{IsValid};
+ghost use Rattle.std.specs.Prelude.{◌≡◌, IfSome};
 
-use crate::calls::{Answer, begin, commit, is_spent, low, set};
-use dstm_core::{Kind, Manager, Shape};
+use crate::calls::{Answer, begin, commit, is_spent, low, set, small};
+use dstm_core::{Kind, Manager};
 use dstm_engine::{Caller, EnrolError, Spent, Stm};
 use dstm_model::{AnyLaw, Val};
 use std::test::Fail;
-
-// A shape with one object, and one attempt and one locator for each caller.
-fn small(callers: u32) -> Shape
-    requires { (0 < callers) × (callers ≤ 2) }
-    ensures valid { IsValid result }
-    ensures objects { result.objects ≡ 1 }
-    ensures callers { result.callers ≡ callers }
-{
-    Shape {
-        objects: 1,
-        callers,
-        attempts: 1,
-        locators: 1,
-        manager: Manager::Polite,
-        all_write: false,
-    }
-}
 
 // Sets the object and commits.
 fn set_nine(caller: &mut Caller<AnyLaw>, stm: &Stm<AnyLaw>) -> Option<(Answer, Answer)>
@@ -43,7 +25,7 @@ fn set_nine(caller: &mut Caller<AnyLaw>, stm: &Stm<AnyLaw>) -> Option<(Answer, A
 fn a_caller_with_one_attempt_is_spent_after_it(rt: HostRuntime) -> Result<(), Fail> {
     let alloc = rt.alloc();
     let start = vec![in alloc; low(0)]?;
-    let (stm, mut founder) = Stm::make(alloc, start, small(1), AnyLaw)?;
+    let (stm, mut founder) = Stm::make(alloc, start, small(1, Manager::Polite), AnyLaw)?;
     let Ok(caller) = founder.caller(alloc, &stm, 0) else {
         return Err(Fail::new("no caller"));
     };
@@ -83,7 +65,7 @@ fn callers_are_given_out_and_taken_back_together(rt: HostRuntime) -> Result<(), 
 fn a_guest_draws_a_number_of_its_own(rt: HostRuntime) -> Result<(), Fail> {
     let five = Val { low: 5, high: 1 };
     let start = vec![in rt.alloc(); five]?;
-    let shape = small(1);
+    let shape = small(1, Manager::Polite);
     let (stm, mut founder) = Stm::make(rt.alloc(), start, shape, AnyLaw)?;
     let Some(guest) = founder.guest(&stm) else {
         return Err(Fail::new("no guest"));
@@ -106,7 +88,7 @@ fn a_guest_draws_a_number_of_its_own(rt: HostRuntime) -> Result<(), Fail> {
 fn an_attempt_that_opens_nothing_is_rechecked_and_commits(rt: HostRuntime) -> Result<(), Fail> {
     let alloc = rt.alloc();
     let start = vec![in alloc; low(5)]?;
-    let (stm, mut founder) = Stm::make(alloc, start, small(1), AnyLaw)?;
+    let (stm, mut founder) = Stm::make(alloc, start, small(1, Manager::Polite), AnyLaw)?;
     let Ok(caller) = founder.caller(alloc, &stm, 0) else {
         return Err(Fail::new("no caller"));
     };

@@ -1,8 +1,9 @@
-ghost use Rattle.std.specs.Prelude.{◌≡◌, ◌≢◌, ◌<◌, ◌≤◌, [], ◌∷◌, Some, true};
+ghost use Rattle.std.specs.Prelude.{◌≡◌, ◌≢◌, ◌<◌, [], ◌∷◌, Some, true};
 ghost use Rattle.dstm_core.specs.State.{first};
 ghost use Rattle.dstm_core.specs.Words.{IsValid};
 ghost use Rattle.dstm_words.specs.Seats.{view_of, caller_state, CanEnrol, IsOf, IsOut};
 
+use crate::calls::small;
 use dstm_core::{Kind, Manager, Shape, Status};
 use dstm_model::{AnyLaw, Law, Val};
 use dstm_words::{CoreSeat, Words};
@@ -107,26 +108,9 @@ fn side_by_side<L: Law + Send + Sync, R: Threads + Sync>(
     (one.0, two.0)
 }
 
-// A shape with one object, and one attempt and one locator for each caller.
-fn small(callers: u32) -> Shape
-    requires { (0 < callers) × (callers ≤ 2) }
-    ensures valid { IsValid result }
-    ensures polite { (result.manager ≡ Manager.Polite) × (result.objects ≡ 1) }
-    ensures callers { result.callers ≡ callers }
-{
-    Shape {
-        objects: 1,
-        callers,
-        attempts: 1,
-        locators: 1,
-        manager: Manager::Polite,
-        all_write: false,
-    }
-}
-
 #[test]
 fn one_caller(rt: HostRuntime) -> Result<(), Fail> {
-    let shape = small(1);
+    let shape = small(1, Manager::Polite);
     let start = [Val { low: 5, high: 0 }];
     let (words, mut first) = Words::make(rt.alloc(), shape, AnyLaw, start.as_slice())?;
     let mut seat = words.split(&mut first);
@@ -144,7 +128,7 @@ fn one_caller(rt: HostRuntime) -> Result<(), Fail> {
 // Two seats on one thread, whose events alternate. The one that is joined first knows the longer log.
 #[test]
 fn two_callers_in_turns(rt: HostRuntime) -> Result<(), Fail> {
-    let shape = small(2);
+    let shape = small(2, Manager::Polite);
     let start = [Val { low: 5, high: 0 }];
     let (words, mut first) = Words::make(rt.alloc(), shape, AnyLaw, start.as_slice())?;
     let mut one = words.split(&mut first);
@@ -166,7 +150,7 @@ fn two_callers_in_turns(rt: HostRuntime) -> Result<(), Fail> {
 
 #[test]
 fn two_callers_side_by_side(rt: HostRuntime) -> Result<(), Fail> {
-    let shape = small(2);
+    let shape = small(2, Manager::Polite);
     let start = [Val { low: 5, high: 0 }];
     let (words, mut first) = Words::make(rt.alloc(), shape, AnyLaw, start.as_slice())?;
     let (one, two) = side_by_side(&rt, &words, &shape, &mut first);
