@@ -7,6 +7,7 @@ pub mod LastValues
 pub mod Alone
 pub mod Made
 pub mod Slots
+pub mod AtPlace
 pub mod Calling
 pub mod Starting
 pub mod Tying
