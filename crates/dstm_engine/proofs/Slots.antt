@@ -73,6 +73,18 @@ module _ (reads : List ReadSlot) (writes : List WriteSlot) (places : List Place)
       write_one writes o ((place_at places o).write - 1) (p.write_places o below some)
       (λ i r. let q = p.writes_placed o i r in omega arith)
 
+-- an element that is set stays as it was in a part that is the same
+same_part : {A B : Type 0} (xs : List A) (d : A) (part : A → B) (o : ℕ) (new : A) → o < length xs →
+    part new ≡ part (slice_index_or xs o d) → (x : ℕ) →
+    part (slice_index_or (slice_set xs o new) x d) ≡ part (slice_index_or xs x d)
+same_part xs d part o new below same x = by (cases_eq x o)
+  where
+    by : (x ≡ o) ⊎ (x ≡ o → ⊥) → part (slice_index_or (slice_set xs o new) x d) ≡ part (slice_index_or xs x d)
+    by (inl is) =
+        subst (λ n. part (slice_index_or (slice_set xs o new) n d) ≡ part (slice_index_or xs n d)) (sym is)
+        (ap part (get_or-set_same xs o new d below) ∙ same)
+    by (inr other) = ap part (get_or-set_other xs o x new d other)
+
 -- ---- a value that is set
 
 -- the slot with a value set, in its place
@@ -160,13 +172,8 @@ module _ (reads : List ReadSlot) (writes : List WriteSlot) (places : List Place)
       get_or-set_other places s.object x (record (place_at places s.object) { write = n }) no_place other
 
   put_read : (x : ℕ) → (place_at put x).read ≡ (place_at places x).read
-  put_read x = by (cases_eq x s.object)
-    where
-      by : (x ≡ s.object) ⊎ (x ≡ s.object → ⊥) → (place_at put x).read ≡ (place_at places x).read
-      by (inl same) =
-          subst (λ o. (place_at put o).read ≡ (place_at places o).read) (sym same)
-          (ap (λ (q : Place). q.read) put_here)
-      by (inr other) = ap (λ (q : Place). q.read) (put_other x other)
+  put_read =
+      same_part places no_place (λ (q : Place). q.read) s.object (record (place_at places s.object) { write = n }) below refl
 
   alone : (i : ℕ) → IsWriteOf writes s.object i → ⊥
   alone i r =
@@ -404,22 +411,12 @@ module _ (reads : List ReadSlot) (writes : List WriteSlot) (places : List Place)
   freed_other x other = get_or-set_other places o x (record (place_at places o) { read = 0 }) no_place other
 
   freed_write : (x : ℕ) → (place_at freed x).write ≡ (place_at places x).write
-  freed_write x = by (cases_eq x o)
-    where
-      by : (x ≡ o) ⊎ (x ≡ o → ⊥) → (place_at freed x).write ≡ (place_at places x).write
-      by (inl same) =
-          subst (λ n. (place_at freed n).write ≡ (place_at places n).write) (sym same)
-          (ap (λ (q : Place). q.write) freed_here)
-      by (inr other) = ap (λ (q : Place). q.write) (freed_other x other)
+  freed_write =
+      same_part places no_place (λ (q : Place). q.write) o (record (place_at places o) { read = 0 }) below refl
 
   object_left : (j : ℕ) → (read_at left j).object ≡ (read_at reads j).object
-  object_left j = by (cases_eq j i)
-    where
-      by : (j ≡ i) ⊎ (j ≡ i → ⊥) → (read_at left j).object ≡ (read_at reads j).object
-      by (inl same) =
-          subst (λ n. (read_at left n).object ≡ (read_at reads n).object) (sym same)
-          (ap (λ (s : ReadSlot). s.object) slot_here)
-      by (inr other) = ap (λ (s : ReadSlot). s.object) (slot_other j other)
+  object_left =
+      same_part reads no_read (λ (s : ReadSlot). s.object) i (record (read_at reads i) { kept = false }) there.within refl
 
   -- a slot that is still kept is another one
   still : (x j : ℕ) → IsReadOf left x j → (j ≢ i) × IsReadOf reads x j
@@ -663,13 +660,8 @@ module _ (reads : List ReadSlot) (writes : List WriteSlot) (places : List Place)
       get_or-set_other places s.object x (record (place_at places s.object) { read = n }) no_place other
 
   noted_write : (x : ℕ) → (place_at noted x).write ≡ (place_at places x).write
-  noted_write x = by (cases_eq x s.object)
-    where
-      by : (x ≡ s.object) ⊎ (x ≡ s.object → ⊥) → (place_at noted x).write ≡ (place_at places x).write
-      by (inl same) =
-          subst (λ o. (place_at noted o).write ≡ (place_at places o).write) (sym same)
-          (ap (λ (q : Place). q.write) noted_here)
-      by (inr other) = ap (λ (q : Place). q.write) (noted_other x other)
+  noted_write =
+      same_part places no_place (λ (q : Place). q.write) s.object (record (place_at places s.object) { read = n }) below refl
 
   unread : (i : ℕ) → IsReadOf reads s.object i → ⊥
   unread i r =
