@@ -1,5 +1,5 @@
 -- What an open of an object hands out that is open already, and what an open answers.
-use Rattle.std.proofs.Common.{◌++◌, ◌==◌, ◌∙◌, ◌∷◌, ◌≡◌, ◌≢◌, ◌⊎◌, List, None, Option, Some, [], ap, false, inl, inr, map, refl, subst, sym, true, ℕ}
+use Rattle.std.proofs.Common.{◌++◌, ◌<◌, ◌==◌, ◌∙◌, ◌∷◌, ◌≡◌, ◌≢◌, ◌⊎◌, List, None, Option, Some, [], ap, arith, false, inl, inr, length, map, refl, subst, sym, true, ℕ}
 use Rattle.std.specs.Prelude.{Err, IfErr, IfOk, Ok, OnOk, Result, if◌then◌else◌, is_some, option_map}
 use Rattle.std.specs.Option.{option_or}
 use Rattle.std.proofs.lemmas.Bool.{cases_Bool, cond_both, eqb-true}
@@ -12,7 +12,9 @@ use Rattle.dstm_core.specs.State.{read_of, write_of}
 use Rattle.dstm_core.specs.declared.shape.Shape.{Shape}
 use Rattle.dstm_core.specs.declared.state.Read.{Read}
 use Rattle.dstm_core.specs.declared.state.Write.{Write}
-use Rattle.dstm_mem.specs.Memory.{value_in}
+use Rattle.dstm_mem.proofs.WithSet.{found_by, unchanged_by}
+use Rattle.dstm_mem.specs.Memory.{value_in, with_set}
+use Rattle.dstm_model.specs.Map.{value_at}
 use Rattle.dstm_model.specs.declared.value.Val.{Val}
 use Rattle.dstm_opacity.proofs.Tidy.{Apart, WritesOnce, tidy}
 use Rattle.dstm_order.specs.Tasks.{Work}
@@ -23,12 +25,13 @@ use Rattle.dstm_engine.proofs.Setting.{opened_slot, with_new_apart}
 use Rattle.dstm_engine.proofs.Sights.{sighted_admits}
 use Rattle.dstm_engine.proofs.Slots.{slot_read}
 use Rattle.dstm_engine.proofs.Tying.{live_there}
-use Rattle.dstm_engine.specs.Callers.{Called, entry, handed, held, is_live, is_opened, shape_of, state}
+use Rattle.dstm_engine.specs.Attempts.{Admits}
+use Rattle.dstm_engine.specs.Callers.{Called, entry, handed, held, is_live, is_opened, shape_of, state, written}
 use Rattle.dstm_engine.specs.Calls.{reading}
 use Rattle.dstm_engine.specs.Mirror.{Tied, called, set_pairs, slot_old, slot_value, with_new}
 use Rattle.dstm_engine.specs.Opened.{read_slot, slots_value, write_slot}
 use Rattle.dstm_engine.specs.Opens.{Continues, Opens, Stops}
-use Rattle.dstm_engine.specs.Transactions.{Leaves, Stays}
+use Rattle.dstm_engine.specs.Transactions.{Leaves, Stays, given_back}
 use Rattle.dstm_engine.specs.declared.caller.Caller.TheInside.{Inside}
 
 -- ---- the values of the slots
@@ -187,6 +190,30 @@ reading_all s o all = rw all refl
 pub reading_some : (s : Shape) (o : ℕ) → s.all_write ≡ false → Reading o ≡ reading s o
 reading_some s o some = rw some refl
 
+-- it finds the object's value, and what is set stays so
+module _ {L : Type 0} (holds : L → List Val → Type 0) (k n : Called L) (r : Result Val Again)
+    (kept : n ≡ record k { log = n.log; generator = n.generator; left = given_back r }) where
+  pub finds : (o : ℕ) → o < (shape_of k).objects → IfOk r (λ v. Some v ≡ handed n o) →
+      IfOk r (λ v. (map : List Val) → Admits holds n map → value_at (with_set map (written n)) o ≡ v)
+  finds o exists value =
+      let same = ap (λ (k : Called L). (shape_of k).objects) kept in
+      found_by r (Admits holds n) (held n) (written n) o
+      (λ map admitted.
+      let size = admitted.length in
+      let within : o < length map = omega arith in (within, admitted.agrees)) value
+
+  pub sets_none : OnOk r ((map : List Val) → with_set map (written n) ≡ with_set map (written k))
+  sets_none = unchanged_by r (written k) (written n) (λ p. ap (λ (k : Called L). written k p) kept)
+
+-- it stays on its attempt, or leaves it
+module _ {L : Type 0} (holds : L → List Val → Type 0) (k : Called L) (o : ℕ) (work : Work)
+    (is : work ≡ reading (shape_of k) o) (r : Result Val Again) (n : Called L) where
+  pub read_stays : IfOk r (Opens holds work o k n) → OnOk r (Stays holds (reading (shape_of k) o) k n)
+  read_stays opens = subst (λ w. OnOk r (Stays holds w k n)) is (ok_then r _ _ (λ x o. o.stays) opens)
+
+  pub read_leaves : IfErr r (Stops holds work k n) → IfErr r (Leaves holds (reading (shape_of k) o) k n)
+  read_leaves stops = subst (λ w. IfErr r (Leaves holds w k n)) is (if_err r _ _ (λ e s. s.leaves) stops)
+
 module _ {L : Type 0} (holds : L → List Val → Type 0) (c : Inside L) (v : Tied holds c) (k : Called L)
     (view : called c ≡ k) (live : is_live k ≡ true) (o : ℕ) where
   on : c.live ≡ true
@@ -225,14 +252,3 @@ module _ {L : Type 0} (holds : L → List Val → Type 0) (c : Inside L) (v : Ti
   held_continues some =
       subst (λ (k : Called L). Continues holds o k k) view
       (open_already holds c v on o (ap (λ (k : Called L). is_some (held k o)) view ∙ some))
-
-  -- an open for reading stays on its attempt, or leaves it
-  pub read_stays : (work : Work) → work ≡ reading (shape_of k) o → (r : Result Val Again) (n : Called L) →
-      IfOk r (Opens holds work o k n) → OnOk r (Stays holds (reading (shape_of k) o) k n)
-  read_stays work is r n opens =
-      subst (λ w. OnOk r (Stays holds w k n)) is (ok_then r _ _ (λ x o. o.stays) opens)
-
-  pub read_leaves : (work : Work) → work ≡ reading (shape_of k) o → (r : Result Val Again) (n : Called L) →
-      IfErr r (Stops holds work k n) → IfErr r (Leaves holds (reading (shape_of k) o) k n)
-  read_leaves work is r n stops =
-      subst (λ w. IfErr r (Leaves holds w k n)) is (if_err r _ _ (λ e s. s.leaves) stops)

@@ -1,7 +1,5 @@
-use Rattle.std.proofs.Common.{ℕ, ◌<◌, ap, arith, length}
-use Rattle.dstm_mem.proofs.WithSet.{found_by, unchanged_by}
-use Rattle.dstm_engine.specs.Attempts.{Admits}
-use Rattle.dstm_engine.specs.Callers.{Called, held, shape_of, written}
+use Rattle.std.proofs.Common.{ℕ, ap}
+use Rattle.dstm_engine.proofs.Handing.{finds, sets_none}
 use Rattle.dstm_engine.specs.Transactions.{TxPlace}
 use Rattle.dstm_engine.proofs.LettingGo.{write_keeps, same_both}
 use Rattle.dstm_engine.proofs.Looked.{few_still, write_few}
@@ -16,18 +14,12 @@ returns-clause-place g c =
 
 pub returns-clause-found : goal.returns-clause-found
 returns-clause-found g c =
-    let now = c.open_write.new.self.caller.now in
-    let same = ap (λ (k : Called _). (shape_of k).objects) c.open_write.ensures.kept in
-    found_by c.open_write.result (Admits g.L.Law.holds now) (held now) (written now) c.args.o
-    (λ map admitted.
-    let size = admitted.length in
-    let within : c.args.o < length map = omega (arith, size, same, c.requires.exists) in (within, admitted.agrees))
-    c.open_write.ensures.value
+    finds g.L.Law.holds c.args.self.now.tx.now.caller.now c.open_write.new.self.caller.now c.open_write.result c.open_write.ensures.kept
+    c.args.o c.requires.exists c.open_write.ensures.value
 
 pub returns-clause-unchanged : goal.returns-clause-unchanged
 returns-clause-unchanged g c =
-    unchanged_by c.open_write.result (written c.args.self.now.tx.now.caller.now) (written c.open_write.new.self.caller.now)
-    (λ p. ap (λ (k : Called _). written k p) c.open_write.ensures.kept)
+    sets_none g.L.Law.holds c.args.self.now.tx.now.caller.now c.open_write.new.self.caller.now c.open_write.result c.open_write.ensures.kept
 
 pub invariant_of-self : goal.invariant_of-self
 invariant_of-self g c =

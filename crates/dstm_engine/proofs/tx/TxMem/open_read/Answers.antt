@@ -1,20 +1,11 @@
-use Rattle.std.proofs.Common.{◌<◌, ap, arith, length}
-use Rattle.dstm_mem.proofs.WithSet.{found_by, unchanged_by}
-use Rattle.dstm_engine.specs.Attempts.{Admits}
-use Rattle.dstm_engine.specs.Callers.{Called, held, shape_of, written}
+use Rattle.dstm_engine.proofs.Handing.{finds, sets_none}
 use Rattle.dstm_engine.proofs.tx.TxMem.open_read.Goals as goal
 
 pub returns-clause-found : goal.returns-clause-found
 returns-clause-found g c =
-    let now = c.open_read.new.self.caller.now in
-    let same = ap (λ (k : Called _). (shape_of k).objects) c.open_read.ensures.kept in
-    found_by c.open_read.result (Admits g.L.Law.holds now) (held now) (written now) c.args.o
-    (λ map admitted.
-    let size = admitted.length in
-    let within : c.args.o < length map = omega (arith, size, same, c.requires.exists) in (within, admitted.agrees))
-    c.open_read.ensures.value
+    finds g.L.Law.holds c.args.self.now.caller.now c.open_read.new.self.caller.now c.open_read.result c.open_read.ensures.kept
+    c.args.o c.requires.exists c.open_read.ensures.value
 
 pub returns-clause-unchanged : goal.returns-clause-unchanged
 returns-clause-unchanged g c =
-    unchanged_by c.open_read.result (written c.args.self.now.caller.now) (written c.open_read.new.self.caller.now)
-    (λ p. ap (λ (k : Called _). written k p) c.open_read.ensures.kept)
+    sets_none g.L.Law.holds c.args.self.now.caller.now c.open_read.new.self.caller.now c.open_read.result c.open_read.ensures.kept
