@@ -1,11 +1,12 @@
 -- A caller after it was to begin an attempt.
-use Rattle.std.proofs.Common.{◌++◌, ◌+◌, ◌<◌, ◌==◌, ◌≤◌, ◌∙◌, ◌∷◌, ◌≡◌, ◌⊎◌, List, None, [], ap, arith, false, inl, inr, length, refl, subst, sym, true, ℕ}
+use Rattle.std.proofs.Common.{◌++◌, ◌+◌, ◌<◌, ◌==◌, ◌≤◌, ◌∙◌, ◌∷◌, ◌≡◌, ◌⊎◌, Bool, List, None, [], ap, arith, false, inl, inr, length, not, refl, subst, sym, true, ℕ}
 use Rattle.std.specs.Prelude.{IfSome, is_some}
 use Rattle.std.specs.declared.snapshot.Snapshot.{Snapshot}
 use Rattle.std.proofs.lemmas.Bool.{cases_Bool, eq-eqb}
 use Rattle.std.proofs.lemmas.List.Elements.{All-nil}
 use Rattle.dstm_opacity.proofs.Stays.{call_adds_none}
 use Rattle.dstm_opacity.specs.Committed.{done_by}
+use Rattle.dstm_steps.proofs.Stepping.{began_as}
 use Rattle.dstm_steps.specs.Reads.{words_of}
 use Rattle.dstm_steps.specs.Under.{InTask, now}
 use Rattle.dstm_steps.specs.Writes.{AreWrites}
@@ -30,7 +31,8 @@ use Rattle.dstm_order.specs.Order.Due.{Done}
 use Rattle.dstm_order.specs.Tasks.Task.{Beginning}
 use Rattle.dstm_progress.proofs.Own.{newest_own}
 use Rattle.dstm_progress.specs.Alone.{Made}
-use Rattle.dstm_words.specs.Seats.{view_of}
+use Rattle.dstm_words.specs.Seats.{Home, number_or, view_of}
+use Rattle.dstm_engine.proofs.AtCall.{AtCall, ends_at, state_at}
 use Rattle.dstm_engine.proofs.Calling.{performs}
 use Rattle.dstm_engine.proofs.Continuing.{kept_most}
 use Rattle.dstm_engine.proofs.Leaving.{not_made}
@@ -40,10 +42,11 @@ use Rattle.dstm_engine.proofs.Tying.{mirror_then, renewed, state_then}
 use Rattle.dstm_engine.specs.Attempts.{done}
 use Rattle.dstm_engine.specs.Began.{began_of}
 use Rattle.dstm_engine.specs.Beginnings.{ended}
-use Rattle.dstm_engine.specs.Callers.{begun_log, held, is_running, state}
+use Rattle.dstm_engine.specs.Callers.{Called, begun_log, held, is_running, state}
 use Rattle.dstm_engine.specs.Calls.{IsMade, IsTold}
 use Rattle.dstm_engine.specs.Outcomes.{IsLeft, Promises}
 use Rattle.dstm_engine.specs.Mirror.{AtRest, Tied, called}
+use Rattle.dstm_engine.specs.Opened.{OpenedAs}
 use Rattle.dstm_engine.specs.Transactions.{BeginsAnew, SpentFrom}
 use Rattle.dstm_engine.specs.declared.caller.Caller.TheInside.{Inside}
 
@@ -281,3 +284,79 @@ module _ {L : Type 0} (holds : L → List Val → Type 0) (c : Inside L) (v : Ti
         },
       );
     }
+
+-- ---- as the answers of a begin see it
+
+abbrev begun_with : {L : Type 0} → Inside L → Steps L → Snapshot DeciderState → Bool → OpenedAs → Inside L
+begun_with c new began live opened = record c {
+  steps = new;
+  begun = c.begun + 1;
+  fresh = false;
+  live = live;
+  last_number = None;
+  left = None;
+  began = began;
+  opened = opened;
+}
+
+module _ {L : Type 0} {holds : L → List Val → Type 0} {c : Inside L} {k : Called L} {words : Home L} {steps : Steps L}
+    (at : AtCall holds c k words steps) (new : Steps L)
+    (over : InTask holds words (Beginning c.fresh)
+    (began_as words (Beginning c.fresh) (number_or (view_of steps.seat).number 0) steps) new Done None) (spent : Bool)
+    (told : is_spent c.terms.shape (state (called c)) ≡ spent) where
+  done_there : InTask holds (called c).home (Beginning c.fresh) (began_of (Beginning c.fresh) (called c)) new Done None
+  done_there = ends_at at (Beginning c.fresh) new None over
+
+  module _ (yes : spent ≡ true) (is : spent ≡ true → now words new ≡ ended c.live (now words steps))
+      (idle : c.live ≡ false → spent ≡ true → new ≡ steps) where
+    quit : now (called c).home new ≡ ended c.live (state (called c))
+    quit =
+        subst (λ (h : Home L). now h new ≡ ended c.live (state (called c))) (sym at.home)
+        (is yes ∙ ap (ended c.live) (state_at at))
+
+    still : c.live ≡ false → new ≡ renewed c.steps
+    still dead = idle dead yes ∙ at.begun
+
+    pub spent_caller : Tied holds (record c { steps = new; live = not spent })
+    spent_caller =
+        subst (λ b. Tied holds (record c { steps = new; live = not b })) (sym yes)
+        (spent_tied holds c at.tied new done_there quit still)
+
+    pub spends : SpentFrom holds k (called (record c { steps = new; live = false }))
+    spends =
+        subst (λ (k : Called L). SpentFrom holds k (called (record c { steps = new; live = false }))) at.view
+        (spent_from holds c at.tied new done_there quit still (told ∙ yes))
+
+  module _ (no : spent ≡ false) (is : spent ≡ false → now words new ≡ begin (record (ended c.live (now words steps)) {
+    rank = new.rank;
+    stands = (now words new).stands;
+  })) (began : Snapshot DeciderState) (took : began.value ≡ steps.decider) (opened : OpenedAs)
+      (cleared : opened ≡ record c.opened { reads = []; writes = [] }) where
+    next : now (called c).home new ≡ begin (record (ended c.live (state (called c))) {
+      rank = new.rank;
+      stands = (now (called c).home new).stands;
+    })
+    next =
+        subst (λ (h : Home L). now h new ≡ begin (record (ended c.live (state (called c))) {
+          rank = new.rank;
+          stands = (now h new).stands;
+        })) (sym at.home)
+        (is no ∙ ap (λ (l : LocalState). begin (record (ended c.live l) {
+          rank = new.rank;
+          stands = (now words new).stands;
+        })) (state_at at))
+
+    same : began.value ≡ c.steps.decider
+    same = took ∙ ap (λ (s : Steps L). s.decider) at.begun
+
+    pub begun_caller : Tied holds (begun_with c new began (not spent) opened)
+    begun_caller =
+        subst (λ b. Tied holds (begun_with c new began (not b) opened)) (sym no)
+        (subst (λ (o : OpenedAs). Tied holds (begun_with c new began true o)) (sym cleared)
+        (anew_tied holds c at.tied new done_there began same next (told ∙ no)))
+
+    pub begins : BeginsAnew holds k (called (begun_with c new began true opened))
+    begins =
+        subst (λ (k : Called L). BeginsAnew holds k (called (begun_with c new began true opened))) at.view
+        (subst (λ (o : OpenedAs). BeginsAnew holds (called c) (called (begun_with c new began true o))) (sym cleared)
+        (begins_anew holds c at.tied new done_there began same next (told ∙ no)))
