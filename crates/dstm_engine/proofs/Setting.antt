@@ -1,5 +1,5 @@
 -- A value that is set.
-use Rattle.std.proofs.Common.{◌++◌, ◌==◌, ◌∙◌, ◌∷◌, ◌≡◌, ◌≢◌, ◌⊎◌, List, None, Option, Some, [], ap, cond, false, inl, inr, map, refl, subst, sym, true, ℕ}
+use Rattle.std.proofs.Common.{◌++◌, ◌==◌, ◌∙◌, ◌∷◌, ◌≡◌, ◌≢◌, ◌⊎◌, Bool, List, None, Option, Some, [], ap, cond, false, inl, inr, map, refl, subst, sym, true, ℕ}
 use Rattle.std.specs.Prelude.{IfSome, is_some}
 use Rattle.std.proofs.lemmas.Bool.{cases_Bool, cond_both, eqb-true, ne_eqb}
 use Rattle.dstm_steps.specs.Writes.{AreWrites}
@@ -8,7 +8,7 @@ use Rattle.dstm_core.specs.State.{write_of}
 use Rattle.dstm_core.specs.declared.state.Write.{Write}
 use Rattle.dstm_mem.specs.Memory.{SetsOnly, value_in}
 use Rattle.dstm_model.specs.declared.value.Val.{Val}
-use Rattle.dstm_engine.specs.Callers.{Called}
+use Rattle.dstm_engine.specs.Callers.{Called, state}
 use Rattle.dstm_engine.specs.Outcomes.{IsLeft, Promises}
 use Rattle.dstm_engine.specs.Mirror.{Tied, called, set_pairs, slot_old, with_new}
 use Rattle.dstm_engine.specs.Opened.{with_set_slot, write_slot}
@@ -92,13 +92,17 @@ sets_only o v slots some = record {
 }
 
 -- what contracts see of the caller then
-abbrev after_set : {L : Type 0} → Inside L → ℕ → Val → Called L
-after_set c o v = record (called c) { set = set_pairs (with_set_slot o v c.opened.writes) }
+abbrev after_set : {L : Type 0} → Inside L → Bool → List WriteSlot → Called L
+after_set c fresh slots = record (called c) { fresh = fresh; set = set_pairs slots }
 
--- and the caller stays as it was else
-pub set_tied : {L : Type 0} (holds : L → List Val → Type 0) (c : Inside L) (o : ℕ) (v : Val) → Tied holds c →
-    c.live ≡ true → Tied holds (record c { opened = record c.opened { writes = with_set_slot o v c.opened.writes } })
-set_tied holds c o v t live = record {
+-- a caller stays as it was but for its transaction and the values that it sets
+pub stays_tied : {L : Type 0} (holds : L → List Val → Type 0) (c : Inside L) (fresh : Bool) (slots : List WriteSlot) →
+    Tied holds c → (fresh ≡ false → c.fresh ≡ false) →
+    IfSome c.left (λ again. IsLeft (after_set c fresh slots) again × Promises (after_set c fresh slots) again) →
+    (c.live ≡ true → AreWrites slots (state (called c)).writes) →
+    map slot_old slots ≡ map slot_old c.opened.writes →
+    Tied holds (record c { fresh = fresh; opened = record c.opened { writes = slots } })
+stays_tied holds c fresh slots t still ended writes olds = record {
   seat = t.seat;
   run = t.run;
   number = t.number;
@@ -107,14 +111,12 @@ set_tied holds c o v t live = record {
   begun = t.begun;
   phase = t.phase;
   manager = t.manager;
-  fresh = t.fresh;
+  fresh = λ h. t.fresh (still h);
   unused = t.unused;
   last_number = t.last_number;
   rest = t.rest;
   left = t.left;
-  ended =
-      subst (λ left. IfSome left (λ again. IsLeft (after_set c o v) again × Promises (after_set c o v) again))
-      (sym (t.left live)) tt;
+  ended = ended;
   uncommitted = t.uncommitted;
   told = λ made. let x = t.told made in record {
     calls = x.calls;
@@ -139,11 +141,20 @@ set_tied holds c o v t live = record {
   };
   reads = t.reads;
   values = t.values;
-  writes = λ live. are_writes_set o v c.opened.writes _ (t.writes live);
-  olds = λ live. t.olds live ∙ sym (olds_set o v c.opened.writes);
+  writes = writes;
+  olds = λ live. t.olds live ∙ sym olds;
   objects = t.objects;
   locators = t.locators;
 }
+
+-- a value that is set
+pub set_tied : {L : Type 0} (holds : L → List Val → Type 0) (c : Inside L) (o : ℕ) (v : Val) → Tied holds c →
+    c.live ≡ true → Tied holds (record c { opened = record c.opened { writes = with_set_slot o v c.opened.writes } })
+set_tied holds c o v t live =
+    let slots = with_set_slot o v c.opened.writes in
+    stays_tied holds c c.fresh slots t (λ h. h)
+    (subst (λ left. IfSome left (λ again. IsLeft (after_set c c.fresh slots) again × Promises (after_set c c.fresh slots) again))
+    (sym (t.left live)) tt) (λ on. are_writes_set o v c.opened.writes _ (t.writes on)) (olds_set o v c.opened.writes)
 
 -- an object that was opened for writing has no value set yet
 pub set_pairs_push : (slots : List WriteSlot) (s : WriteSlot) → s.new ≡ None →
