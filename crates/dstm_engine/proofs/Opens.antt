@@ -22,7 +22,7 @@ use Rattle.dstm_opacity.proofs.Room.{one_more_write}
 use Rattle.dstm_steps.specs.Finding.{word_of}
 use Rattle.dstm_core.specs.Events.{Event}
 use Rattle.dstm_core.specs.Histories.{old_values, read_values, version_value}
-use Rattle.dstm_core.specs.Runs.{Core, local}
+use Rattle.dstm_core.specs.Runs.{local}
 use Rattle.dstm_core.specs.State.{LocalState, drop_read, read_of, write_of}
 use Rattle.dstm_core.specs.declared.shape.Shape.{Shape}
 use Rattle.dstm_core.specs.declared.state.Phase.TheVariants.{Outside, Running}
@@ -45,7 +45,7 @@ use Rattle.dstm_engine.proofs.Continuing.{doing_keeps, kept_live, kept_most, tol
 use Rattle.dstm_engine.proofs.HeldStill.{by_version, narrows_by, same_held, still_held}
 use Rattle.dstm_engine.proofs.Keeping.{DropsNone, opens_keep, read_apart, write_apart, write_last, write_more}
 use Rattle.dstm_engine.proofs.Left.{call_there, current_there, left_as, left_done, left_leaves, left_tied, on_tied, performed, stays, told_there}
-use Rattle.dstm_engine.proofs.Rechecking.{held_stay}
+use Rattle.dstm_engine.proofs.Steady.{stay}
 use Rattle.dstm_engine.proofs.Setting.{opened_slot, set_pairs_push}
 use Rattle.dstm_engine.proofs.Sights.{open_sees, sees_all, sighted_admits}
 use Rattle.dstm_engine.proofs.Slots.{slot_read, words_push, words_without}
@@ -83,19 +83,6 @@ module _ {L : Type 0} (holds : L → List Val → Type 0) (c : Inside L) (v : Ti
   holds_same =
       same_held c.terms.shape c.terms.start.value.items (called c).log (view_of new.seat).log c.number u.run.run.core
       u.seen v.number.0 (current_there holds c v live work new answer u).live
-
-  pub values_stay : (read_values c.terms.shape c.terms.start.value.items (view_of new.seat).log (state (called c)).reads
-      ≡ read_values c.terms.shape c.terms.start.value.items (called c).log (state (called c)).reads)
-      × (old_values c.terms.shape c.terms.start.value.items (view_of new.seat).log (state (called c)).writes
-      ≡ old_values c.terms.shape c.terms.start.value.items (called c).log (state (called c)).writes)
-  values_stay =
-      subst (λ xs. (read_values c.terms.shape c.terms.start.value.items xs (state (called c)).reads
-      ≡ read_values c.terms.shape c.terms.start.value.items (called c).log (state (called c)).reads)
-      × (old_values c.terms.shape c.terms.start.value.items xs (state (called c)).writes
-      ≡ old_values c.terms.shape c.terms.start.value.items (called c).log (state (called c)).writes)) u.seen.whole
-      (held_stay c.terms.shape c.terms.start.value.items u.seen.later (called c).log c.number
-      (subst (Core c.terms.shape) (sym u.seen.whole) u.run.run.core) v.number.0
-      (current_there holds c v live work new answer u).live)
 
   -- the caller's home, as a call leaves it
   pub same_home : (called (record c { steps = new })).home ≡ (called c).home
@@ -477,7 +464,7 @@ module _ {L : Type 0} (holds : L → List Val → Type 0) (c : Inside L) (v : Ti
       ap (read_values c.terms.shape c.terms.start.value.items (view_of new.seat).log) adds.reads
       ∙ read_values-push c.terms.shape c.terms.start.value.items (view_of new.seat).log (state (called c)).reads _
       ∙ ap (λ xs. xs ++ (o, version_value c.terms.shape c.terms.start.value.items (view_of new.seat).log o version) ∷ [])
-      ((values_stay holds c v live (Reading o) refl new None u).0 ∙ v.values live)
+      ((stay holds c v live (Reading o) new None u).0 ∙ v.values live)
       ∙ ap (λ x. map slot_value c.opened.reads ++ (o, x) ∷ []) valued ∙ sym (slot_values-push c.opened.reads _)
 
   writes : AreWrites c.opened.writes (now (called c).home new).writes
@@ -487,7 +474,7 @@ module _ {L : Type 0} (holds : L → List Val → Type 0) (c : Inside L) (v : Ti
       ≡ map slot_old c.opened.writes
   olds =
       ap (old_values c.terms.shape c.terms.start.value.items (view_of new.seat).log) adds.writes
-      ∙ (values_stay holds c v live (Reading o) refl new None u).1 ∙ v.olds live
+      ∙ (stay holds c v live (Reading o) new None u).1 ∙ v.olds live
 
   no_reading : c.terms.shape.all_write ≡ true → IsNoReading (Reading o)
   no_reading all = absurd (cc)
@@ -632,7 +619,7 @@ module _ {L : Type 0} (holds : L → List Val → Type 0) (c : Inside L) (v : Ti
   values_w =
       ap (read_values c.terms.shape c.terms.start.value.items (view_of new.seat).log) adds.reads
       ∙ values_without c.terms.shape c.terms.start.value.items (view_of new.seat).log (state (called c)).reads
-      c.opened.reads o ((values_stay holds c v live (Writing o) refl new None u).0 ∙ v.values live)
+      c.opened.reads o ((stay holds c v live (Writing o) new None u).0 ∙ v.values live)
 
   writes_w : AreWrites write_opened.writes (now (called c).home new).writes
   writes_w =
@@ -645,7 +632,7 @@ module _ {L : Type 0} (holds : L → List Val → Type 0) (c : Inside L) (v : Ti
       ap (old_values c.terms.shape c.terms.start.value.items (view_of new.seat).log) adds.writes
       ∙ old_values-push c.terms.shape c.terms.start.value.items (view_of new.seat).log (state (called c)).writes _
       ∙ ap (λ xs. xs ++ (o, version_value c.terms.shape c.terms.start.value.items (view_of new.seat).log o version) ∷ [])
-      ((values_stay holds c v live (Writing o) refl new None u).1 ∙ v.olds live)
+      ((stay holds c v live (Writing o) new None u).1 ∙ v.olds live)
       ∙ ap (λ x. map slot_old c.opened.writes ++ (o, x) ∷ []) valued ∙ sym (slot_olds-push c.opened.writes _)
 
   no_more : length (now (called c).home new).reads ≤ length (state (called c)).reads + 1
