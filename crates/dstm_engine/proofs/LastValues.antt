@@ -1,5 +1,5 @@
 -- The values that the words of a closed table tell.
-use Rattle.std.proofs.Common.{◌*◌, ◌-◌, ◌<◌, ◌==◌, ◌∙◌, ◌≡◌, ◌≢◌, List, arith, inl, inr, refl, subst, sym, true, ℕ}
+use Rattle.std.proofs.Common.{◌*◌, ◌-◌, ◌<◌, ◌==◌, ◌∙◌, ◌≡◌, ◌≢◌, List, ap, arith, inl, inr, refl, subst, sym, true, ℕ}
 use Rattle.std.specs.Prelude.{length, slice_index}
 use Rattle.std.proofs.lemmas.Bool.{cond_both, eqb-false}
 use Rattle.std.proofs.lemmas.List.{ext_get_or}
@@ -70,7 +70,7 @@ same_current s start log one other a b =
     let h : o < s.objects = let q = a.objects in omega (arith, within) in a.values o h ∙ sym (b.values o h))
 
 -- the values have those of a table, by what the table was told
-pub told_by : (values : List Val) (s shape : Shape) (start first : List Val) (words : List ℕ) → s ≡ shape →
+told_by : (values : List Val) (s shape : Shape) (start first : List Val) (words : List ℕ) → s ≡ shape →
     start ≡ first →
     ((o : ℕ) → o < shape.objects → value_at values o ≡ value_left shape first words o) →
     (o : ℕ) → o < s.objects → value_at values o ≡ value_left s start words o
@@ -85,15 +85,16 @@ module _ {L : Type 0} (holds : L → List Val → Type 0) (terms : Terms L) (v :
   last_run = subst (IsRunOf holds terms) (l.whole first none_out) l.run
 
 module _ {L : Type 0} (holds : L → List Val → Type 0) (terms : Terms L) (v : View L) (words : List ℕ)
-    (l : LeftBy holds terms v words) (first : v.first ≡ true) (none_out : v.out ≡ 0) (values : List Val)
-    (objects : length values ≡ terms.shape.objects)
-    (told : (o : ℕ) → o < terms.shape.objects →
-    value_at values o ≡ value_left terms.shape terms.start.value.items words o) where
+    (l : LeftBy holds terms v words) (first : v.first ≡ true) (none_out : v.out ≡ 0) (shape : Shape) (start : List Val)
+    (is_shape : terms.shape ≡ shape) (is_start : terms.start.value.items ≡ start) (values : List Val)
+    (objects : length values ≡ shape.objects)
+    (told : (o : ℕ) → o < shape.objects → value_at values o ≡ value_left shape start words o) where
   in_table : IsCurrent terms.shape terms.start.value.items l.log values
   in_table = record {
-    objects = objects;
+    objects = objects ∙ ap (λ (s : Shape). s.objects) (sym is_shape);
     values = λ o h.
-        told o h ∙ left_is_current terms.shape l.log words l.left terms.start.value.items o l.run.run.core h;
+        told_by values terms.shape shape terms.start.value.items start words is_shape is_start told o h
+        ∙ left_is_current terms.shape l.log words l.left terms.start.value.items o l.run.run.core h;
   }
 
   -- the values that the words of a closed table tell, where no seat is out, are the current ones

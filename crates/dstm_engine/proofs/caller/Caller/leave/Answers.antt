@@ -11,6 +11,8 @@ use Rattle.dstm_engine.specs.Callers.{Called, is_running, seat_view, shape_of, s
 use Rattle.dstm_engine.specs.Calls.{Performs}
 use Rattle.dstm_engine.specs.Mirror.{called, phase_by}
 use Rattle.dstm_engine.proofs.Leaving.{left_already, none_holds, not_made, own_below, quit_allowed, quit_run, quit_state, quit_view, quits}
+use Rattle.dstm_engine.proofs.caller.Caller.leave.Given.{Over}
+use Rattle.dstm_engine.proofs.caller.Caller.leave.Goals.{After-exchange-found}
 use Rattle.dstm_engine.proofs.caller.Caller.leave.Goals as goal
 
 pub status-status-requires-clause-below : goal.status-status-requires-clause-below
@@ -38,6 +40,18 @@ exchange-found-requires-clause-allowed g c = λ found lt.
     (quit_allowed k c.words.result.now c.self.inside.steps.seat.me.0 c.status-status.result found home
     v.seat.0 ph (own_below g.L.Law.holds k v.run v.number.0 ph) at)
 
+-- its exchange is that of a Quit
+quitted : (g : Over) (c : After-exchange-found g) → Makes g.L.Law.holds (seat_view (called c.self.inside)) (Exchange 1 5) Quit
+    c.status-status.result (found_in c.exchange-found.result) c.exchange-found.new.self.me.0
+quitted g c =
+    let w = c.exchange-found.new.self.me.0 in
+    let found = found_in c.exchange-found.result in
+    let seat = c.self.inside.steps.seat.me.0 in
+    subst (λ (x : View _). Makes g.L.Law.holds x (Exchange 1 5) Quit c.status-status.result found w) c.self.invariant.seat.0
+    (subst (λ b. Makes g.L.Law.holds seat (Exchange 1 b) Quit c.status-status.result found w) c.code-aborted.ensures
+    (subst (λ a. Makes g.L.Law.holds seat (Exchange a c.code-aborted.result) Quit c.status-status.result found w)
+    c.code-active.ensures c.exchange-found.ensures.event))
+
 pub invariant_of-self : goal.invariant_of-self
 invariant_of-self g c =
     let v = c.self.invariant in
@@ -45,13 +59,7 @@ invariant_of-self g c =
     let k = called c.self.inside in
     let w = c.exchange-found.new.self.me.0 in
     let found = found_in c.exchange-found.result in
-    let m : Makes g.L.Law.holds (seat_view k) (Exchange 1 5) Quit c.status-status.result found w =
-    subst (λ (x : View _). Makes g.L.Law.holds x (Exchange 1 5) Quit c.status-status.result found w) v.seat.0
-    (subst (λ b. Makes g.L.Law.holds c.self.inside.steps.seat.me.0 (Exchange 1 b) Quit c.status-status.result found w)
-    c.code-aborted.ensures
-    (subst (λ a. Makes g.L.Law.holds c.self.inside.steps.seat.me.0 (Exchange a c.code-aborted.result) Quit
-    c.status-status.result found w)
-    c.code-active.ensures c.exchange-found.ensures.event)) in
+    let m = quitted g (goal.at.invariant_of-self g c).After-exchange-found in
     let st = quit_state g.L.Law.holds k w c.status-status.result found m in
     record {
       seat = (quit_view g.L.Law.holds k w c.status-status.result found m, c.exchange-found.ensures.seat.1);
@@ -98,13 +106,7 @@ returns-then-self-clause-steps g c =
     let k = called c.self.inside in
     let w = c.exchange-found.new.self.me.0 in
     let found = found_in c.exchange-found.result in
-    let m : Makes g.L.Law.holds (seat_view k) (Exchange 1 5) Quit c.status-status.result found w =
-    subst (λ (x : View _). Makes g.L.Law.holds x (Exchange 1 5) Quit c.status-status.result found w) v.seat.0
-    (subst (λ b. Makes g.L.Law.holds c.self.inside.steps.seat.me.0 (Exchange 1 b) Quit c.status-status.result found w)
-    c.code-aborted.ensures
-    (subst (λ a. Makes g.L.Law.holds c.self.inside.steps.seat.me.0 (Exchange a c.code-aborted.result) Quit
-    c.status-status.result found w)
-    c.code-active.ensures c.exchange-found.ensures.event)) in
+    let m = quitted g (goal.at.returns-then-self-clause-steps g c).After-exchange-found in
     let home : k.home ≡ c.words.result.now =
     ap (λ (x : Called _). x.home) c.self.view_is ∙ c.requires.table ∙ sym c.words.ensures in
     let table : c.exchange-found.new.self.table_id ≡ k.home.table =

@@ -5,7 +5,7 @@ use Rattle.dstm_core.specs.State.{LocalState, drop_read, read_of}
 use Rattle.dstm_engine.proofs.AtCall.{AtCall, at_call, ends_at, state_at}
 use Rattle.dstm_engine.proofs.Released.{holds_without, read_there, released_place, released_tied, released_widens}
 use Rattle.dstm_engine.specs.Attempts.{Admits}
-use Rattle.dstm_engine.specs.Callers.{Called, held, is_opened}
+use Rattle.dstm_engine.specs.Callers.{Called, held, is_opened, state}
 use Rattle.dstm_engine.specs.Mirror.{Tied, called}
 use Rattle.dstm_engine.specs.Opened.{OpenedAs, without_read}
 use Rattle.dstm_engine.specs.Transactions.{tx_place}
@@ -14,7 +14,7 @@ use Rattle.dstm_order.specs.Tasks.Task.{Doing}
 use Rattle.dstm_order.specs.Tasks.Work.{Releasing}
 use Rattle.dstm_words.specs.Seats.{Home}
 use Rattle.dstm_engine.proofs.caller.Caller.release.Given.{Over}
-use Rattle.dstm_engine.proofs.caller.Caller.release.Goals.{After-words}
+use Rattle.dstm_engine.proofs.caller.Caller.release.Goals.{After-release, After-words}
 use Rattle.dstm_engine.proofs.caller.Caller.release.Goals as goal
 
 begun : (g : Over) (c : After-words g) →
@@ -35,6 +35,24 @@ release-requires-clause-read g c =
     ap (λ (l : LocalState). is_some (read_of c.args.o l.reads)) (state_at (begun g before))
     ∙ read_there g.L.Law.holds c.self.inside c.self.invariant c.args.o (read g before)
 
+-- the read is let go, and nothing else has changed
+dropped : (g : Over) (c : After-release g) →
+    AtCall g.L.Law.holds c.self.inside c.args.self.now c.words.result.now c.renew.new.steps →
+    now (called c.self.inside).home c.release.new.self ≡ record (state (called c.self.inside)) {
+      reads = drop_read c.args.o (state (called c.self.inside)).reads;
+      resolution = None;
+      pass = None;
+      checked = 0;
+    }
+dropped g c at =
+    ap (λ (h : Home _). now h c.release.new.self) at.home ∙ c.release.ensures.state
+    ∙ ap (λ (l : LocalState). record l {
+      reads = drop_read c.args.o l.reads;
+      resolution = None;
+      pass = None;
+      checked = 0;
+    }) (state_at at)
+
 pub invariant_of-self : goal.invariant_of-self
 invariant_of-self g c =
     let before = (goal.at.invariant_of-self g c).After-words in
@@ -42,14 +60,7 @@ invariant_of-self g c =
     let x = c.self.inside in
     let live : x.live ≡ true = at.live ∙ c.requires.live in
     let u = ends_at at (Doing (Releasing c.args.o)) c.release.new.self None c.release.ensures.under in
-    let is =
-    ap (λ (h : Home _). now h c.release.new.self) at.home ∙ c.release.ensures.state
-    ∙ ap (λ (l : LocalState). record l {
-      reads = drop_read c.args.o l.reads;
-      resolution = None;
-      pass = None;
-      checked = 0;
-    }) (state_at at) in
+    let is = dropped g (goal.at.invariant_of-self g c).After-release at in
     subst (λ (o : OpenedAs). Tied g.L.Law.holds (record x { steps = c.release.new.self; opened = o }))
     (sym c.drop_read.ensures) (released_tied g.L.Law.holds x at.tied live c.args.o c.release.new.self u is (read g before))
 
@@ -60,14 +71,7 @@ returns g c =
     let x = c.self.inside in
     let live : x.live ≡ true = at.live ∙ c.requires.live in
     let u = ends_at at (Doing (Releasing c.args.o)) c.release.new.self None c.release.ensures.under in
-    let is =
-    ap (λ (h : Home _). now h c.release.new.self) at.home ∙ c.release.ensures.state
-    ∙ ap (λ (l : LocalState). record l {
-      reads = drop_read c.args.o l.reads;
-      resolution = None;
-      pass = None;
-      checked = 0;
-    }) (state_at at) in
+    let is = dropped g (goal.at.returns g c).After-release at in
     record {
       steps = search rules;
       kept = search rules;
