@@ -1,5 +1,5 @@
 -- Each new word of a locator is stored at most once.
-use Rattle.std.proofs.Common.{not, ◌&&◌, ◌≡◌, ◌≢◌, ◌+◌, ◌-◌, ◌*◌, ◌/◌, ◌%◌, ◌<◌, ◌≤◌, ◌==◌, ◌⊎◌, ◌∷◌, ◌++◌, ◌∙◌, ℕ, inl, inr, List, [], refl, ap, arith, sym, Bool, true, false, length, length-append}
+use Rattle.std.proofs.Common.{not, ◌&&◌, ◌≡◌, ◌≢◌, ◌+◌, ◌-◌, ◌*◌, ◌/◌, ◌%◌, ◌<◌, ◌≤◌, ◌==◌, ◌⊎◌, ◌∷◌, ◌++◌, ◌∙◌, ℕ, inl, inr, List, [], refl, ap, arith, sym, Bool, true, false, length, length-append, subst}
 use Rattle.std.proofs.lemmas.Bool.{cases_Bool, and_parts, eqb-true}
 use Rattle.dstm_core.specs.Laws.{is_load, put_count}
 use Rattle.dstm_core.specs.Words.{Word}
@@ -168,93 +168,82 @@ module _ (extra : Bool → ℕ) (small : (b : Bool) → extra b ≤ one_if b) wh
       ap (λ n. counted extra (local s (more ++ d ∷ es) n)) c in
       let one = x.up in omega arith
 
--- ---- low new words
+-- ---- the low and the high new words
 
-abbrev pub no_more : Bool → ℕ
+-- One of the two words of a new value: its puts are of one kind, and after each the locator put can be put no more.
+record Part (extra : Bool → ℕ) (puts : Kind) (w : ℕ → Word) : Type 0 where
+  pub small : (b : Bool) → extra b ≤ one_if b
+  pub same : (s : Shape) (m n : ℕ) → place s (w m) ≡ place s (w n) → m ≡ n
+  -- the first locator that can be put is put
+  pub settles :
+      (s : Shape) (c : ℕ) (l : LocalState) (e : Event) → Static s c l → AllowedAs puts s l e →
+      (e.place ≡ place s (w (c * s.locators + counted extra l)))
+      × (counted extra (after puts s l e) ≡ counted extra l + 1) × (counted extra l < s.locators)
+  -- no other kind puts it
+  pub only :
+      (s : Shape) (l : LocalState) (e : Event) (m : ℕ) (k : Kind) → target k s l e ≡ w m →
+      not (is_load (access k s l e)) ≡ true → k ≡ puts
+
+-- a high part that was put does not count for the low one
+abbrev no_more : Bool → ℕ
 no_more put = 0
 
-none_small : (b : Bool) → no_more b ≤ one_if b
-none_small b = omega arith
+low_part : Part no_more PutNew LowWord
+low_part = record {
+  small = λ b. omega arith;
+  same = λ s m n h. omega arith;
+  settles = λ s c l e t a. let lt = a.2.2 in
+      let x = in_attempt no_more (λ b. omega arith) l.phase l (λ z. let i = a.2.0 in cc) in
+      let n = numbered-get _ l.writes l.written t.numbered lt in let y = t.count in let z = t.installed in
+      (a.0 ∙ ap (λ m. place s (LowWord m)) (omega arith), omega arith, omega arith);
+  only = only;
+}
+  where
+    only : (s : Shape) (l : LocalState) (e : Event) (m : ℕ) (k : Kind) → target k s l e ≡ LowWord m →
+        not (is_load (access k s l e)) ≡ true → k ≡ PutNew
+    only s l e m PutNew q h = refl
+    only s l e m k q h = absurd (grind arith)
 
--- the number of a caller's locators whose low new word can be put no more
-abbrev pub settled : LocalState → ℕ
-settled l = counted no_more l
+high_part : Part one_if PutHigh HighWord
+high_part = record {
+  small = λ b. omega arith;
+  same = λ s m n h. omega arith;
+  settles = λ s c l e t a. let lt = a.2.2 in
+      let x = in_attempt one_if (λ b. omega arith) l.phase l (λ z. let i = a.2.0 in grind arith) in
+      let o : one_if l.high_put ≡ 0 = ap one_if a.2.3 in
+      let n = numbered-get _ l.writes l.written t.numbered lt in let y = t.count in let z = t.installed in
+      (a.0 ∙ ap (λ m. place s (HighWord m)) (omega arith), omega arith, omega arith);
+  only = only;
+}
+  where
+    only : (s : Shape) (l : LocalState) (e : Event) (m : ℕ) (k : Kind) → target k s l e ≡ HighWord m →
+        not (is_load (access k s l e)) ≡ true → k ≡ PutHigh
+    only s l e m PutHigh q h = refl
+    only s l e m k q h = absurd (grind arith)
 
-pub settled_in : (p : Phase) (l : LocalState) → p ≢ Outside →
-    count_by no_more p l ≡ l.installed - length l.writes + l.written
-settled_in Outside l h = absurd (h refl)
-settled_in p l h = omega arith
+module _ {extra : Bool → ℕ} {k : Kind} {w : ℕ → Word} (part : Part extra k w) (s : Shape) where
+  part_puts : (es : List Event) (e : Event) → Core s (e ∷ es) → e.kind ≡ k → Puts s es e (counted extra) w
+  part_puts es e core is =
+      let l = local s es e.caller in
+      let x = part.settles s e.caller l e (static s es core.0 e.caller)
+      (subst (λ k. AllowedAs k s l e) is core.1.allowed) in
+      record { place = x.0; up = ap (λ k. counted extra (after k s l e)) is ∙ x.1; below = x.2 }
 
-pub settled_later : (s : Shape) (more es : List Event) (c : ℕ) → Core s (more ++ es) →
-    settled (local s es c) ≤ settled (local s (more ++ es) c)
-settled_later s more es c core = count_later no_more none_small s more es c core
-
--- a PutNew puts the first locator that can be put, which can be put no more after it
-put_new_settles : (s : Shape) (c : ℕ) (l : LocalState) (e : Event) (k : Kind) → k ≡ PutNew → Static s c l →
-    AllowedAs k s l e →
-    (e.place ≡ place s (LowWord (c * s.locators + settled l))) × (settled (after k s l e) ≡ settled l + 1)
-    × (settled l < s.locators)
-put_new_settles s c l e PutNew q t a = let lt = a.2.2 in
-    let x = settled_in l.phase l (λ z. let i = a.2.0 in cc) in
-    let n = numbered-get _ l.writes l.written t.numbered lt in let y = t.count in let z = t.installed in
-    (a.0 ∙ ap (λ m. place s (LowWord m)) (omega arith), omega arith, omega arith)
-put_new_settles s c l e k q t a = absurd (cc)
-
-pub new_puts : (s : Shape) (es : List Event) (e : Event) → Core s (e ∷ es) → e.kind ≡ PutNew →
-    Puts s es e settled LowWord
-new_puts s es e core k =
-    let x = put_new_settles s e.caller (local s es e.caller) e e.kind k (static s es core.0 e.caller)
-    core.1.allowed in
-    record { place = x.0; up = x.1; below = x.2 }
+  part_word_once : (more es : List Event) (e d : Event) → Core s (e ∷ (more ++ d ∷ es)) → e.kind ≡ k → d.kind ≡ k →
+      e.place ≢ d.place
+  part_word_once more es e d core is was =
+      put_apart extra part.small s more es e d w (part.same s) core.0 (part_puts (more ++ d ∷ es) e core is)
+      (part_puts es d (core_past s more (d ∷ es) core.0) was)
 
 -- a locator's low new word is stored at most once
 pub new_word_once : (s : Shape) (more es : List Event) (e d : Event) → Core s (e ∷ (more ++ d ∷ es)) →
     e.kind ≡ PutNew → d.kind ≡ PutNew → e.place ≢ d.place
-new_word_once s more es e d core k j =
-    put_apart no_more none_small s more es e d LowWord (λ m n h. omega arith) core.0
-    (new_puts s (more ++ d ∷ es) e core k) (new_puts s es d (core_past s more (d ∷ es) core.0) j)
+new_word_once s more es e d core is was = part_word_once low_part s more es e d core is was
 
--- ---- high new words
-
-one_small : (b : Bool) → one_if b ≤ one_if b
-one_small b = omega arith
-
--- the number of a caller's locators whose high new word can be put no more
-abbrev pub high_settled : LocalState → ℕ
-high_settled l = counted one_if l
-
-pub high_in : (p : Phase) (l : LocalState) → p ≢ Outside →
-    count_by one_if p l ≡ l.installed - length l.writes + l.written + one_if l.high_put
-high_in p l h = in_attempt one_if one_small p l h
-
-pub high_later : (s : Shape) (more es : List Event) (c : ℕ) → Core s (more ++ es) →
-    high_settled (local s es c) ≤ high_settled (local s (more ++ es) c)
-high_later s more es c core = count_later one_if one_small s more es c core
-
-put_high_settles : (s : Shape) (c : ℕ) (l : LocalState) (e : Event) (k : Kind) → k ≡ PutHigh → Static s c l →
-    AllowedAs k s l e →
-    (e.place ≡ place s (HighWord (c * s.locators + high_settled l)))
-    × (high_settled (after k s l e) ≡ high_settled l + 1) × (high_settled l < s.locators)
-put_high_settles s c l e PutHigh q t a = let lt = a.2.2 in
-    let x = high_in l.phase l (λ z. let i = a.2.0 in grind arith) in
-    let o : one_if l.high_put ≡ 0 = ap one_if a.2.3 in
-    let n = numbered-get _ l.writes l.written t.numbered lt in let y = t.count in let z = t.installed in
-    (a.0 ∙ ap (λ m. place s (HighWord m)) (omega arith), omega arith, omega arith)
-put_high_settles s c l e k q t a = absurd (cc)
-
-pub high_puts : (s : Shape) (es : List Event) (e : Event) → Core s (e ∷ es) → e.kind ≡ PutHigh →
-    Puts s es e high_settled HighWord
-high_puts s es e core k =
-    let x = put_high_settles s e.caller (local s es e.caller) e e.kind k (static s es core.0 e.caller)
-    core.1.allowed in
-    record { place = x.0; up = x.1; below = x.2 }
-
--- a locator's high new word is stored at most once
+-- and so is its high one
 pub high_word_once : (s : Shape) (more es : List Event) (e d : Event) → Core s (e ∷ (more ++ d ∷ es)) →
     e.kind ≡ PutHigh → d.kind ≡ PutHigh → e.place ≢ d.place
-high_word_once s more es e d core k j =
-    put_apart one_if one_small s more es e d HighWord (λ m n h. omega arith) core.0
-    (high_puts s (more ++ d ∷ es) e core k) (high_puts s es d (core_past s more (d ∷ es) core.0) j)
+high_word_once s more es e d core is was = part_word_once high_part s more es e d core is was
 
 -- ---- how often a new word is put
 
@@ -306,39 +295,23 @@ once_step s es e f w m same grows puts ih = go (cases_Bool (is_put s es e (w m))
           not_yet = λ h. let more = grows (m / s.locators) in count ∙ ih.not_yet (omega arith);
         }
 
--- only a PutNew puts a low new word, and only a PutHigh a high one
-low_kind : (s : Shape) (l : LocalState) (e : Event) (m : ℕ) (k : Kind) → target k s l e ≡ LowWord m →
-    not (is_load (access k s l e)) ≡ true → k ≡ PutNew
-low_kind s l e m PutNew q h = refl
-low_kind s l e m k q h = absurd (grind arith)
-
-high_kind : (s : Shape) (l : LocalState) (e : Event) (m : ℕ) (k : Kind) → target k s l e ≡ HighWord m →
-    not (is_load (access k s l e)) ≡ true → k ≡ PutHigh
-high_kind s l e m PutHigh q h = refl
-high_kind s l e m k q h = absurd (grind arith)
+part_once : {extra : Bool → ℕ} {k : Kind} {w : ℕ → Word} → Part extra k w → (s : Shape) (es : List Event) (m : ℕ) →
+    ((l : LocalState) (e : Event) → AllowedAs e.kind s l e → e.place ≡ place s (w m) → target e.kind s l e ≡ w m) →
+    Core s es → Once s es (counted extra) w m
+part_once part s [] m aims core = record { once = omega arith; not_yet = λ _. refl }
+part_once {extra = extra} {k = k} {w = w} part s (e ∷ es) m aims core =
+    once_step s es e (counted extra) w m (part.same s) (λ c. count_later extra part.small s (e ∷ []) es c core) puts
+    (part_once part s es m aims core.0)
+  where
+    puts : is_put s es e (w m) ≡ true → Puts s es e (counted extra) w
+    puts q =
+        let l = local s es e.caller in let is = put_parts s es e (w m) q in
+        part_puts part s es e core (part.only s l e m e.kind (aims l e core.1.allowed is.1) is.0)
 
 pub low_once : (s : Shape) (es : List Event) (m : ℕ) → Core s es → m < s.callers * s.locators →
-    Once s es settled LowWord m
-low_once s [] m core b = record { once = omega arith; not_yet = λ _. refl }
-low_once s (e ∷ es) m core b = once_step s es e settled LowWord m (λ m n h. omega arith)
-    (λ c. settled_later s (e ∷ []) es c core) puts (low_once s es m core.0 b)
-  where
-    puts : is_put s es e (LowWord m) ≡ true → Puts s es e settled LowWord
-    puts q =
-        let at_word = aimed s (local s es e.caller) e (LowWord m) core.1.allowed b
-        (put_parts s es e (LowWord m) q).1 in
-        let kind = low_kind s (local s es e.caller) e m e.kind at_word (put_parts s es e (LowWord m) q).0 in
-        new_puts s es e core kind
+    Once s es (counted no_more) LowWord m
+low_once s es m core b = part_once low_part s es m (λ l e a q. aimed s l e (LowWord m) a b q) core
 
 pub high_once : (s : Shape) (es : List Event) (m : ℕ) → Core s es → m < s.callers * s.locators →
-    Once s es high_settled HighWord m
-high_once s [] m core b = record { once = omega arith; not_yet = λ _. refl }
-high_once s (e ∷ es) m core b = once_step s es e high_settled HighWord m (λ m n h. omega arith)
-    (λ c. high_later s (e ∷ []) es c core) puts (high_once s es m core.0 b)
-  where
-    puts : is_put s es e (HighWord m) ≡ true → Puts s es e high_settled HighWord
-    puts q =
-        let at_word = aimed s (local s es e.caller) e (HighWord m) core.1.allowed b
-        (put_parts s es e (HighWord m) q).1 in
-        let kind = high_kind s (local s es e.caller) e m e.kind at_word (put_parts s es e (HighWord m) q).0 in
-        high_puts s es e core kind
+    Once s es (counted one_if) HighWord m
+high_once s es m core b = part_once high_part s es m (λ l e a q. aimed s l e (HighWord m) a b q) core
