@@ -144,21 +144,11 @@ own_res s will es e core f Begin a c = tt
 own_res s will es e core f LookObj a c =
     λ _. current s will (e ∷ es) core f e.place a.3
     ∙ ap (meant s will (e ∷ es)) (put_at es e e.place refl ∙ a.1.1)
-own_res s will es e core f LookOwner a c =
-    cur_res s will (e ∷ es) (local s es e.caller).reads (local s es e.caller).resolution
-    (has_word (local s es e.caller).resolution a.2.2) c
-own_res s will es e core f LookStatus a c =
-    cur_res s will (e ∷ es) (local s es e.caller).reads (local s es e.caller).resolution
-    (has_owner (local s es e.caller).resolution a.2.2) c
-own_res s will es e core f LookOld a c =
-    cur_res s will (e ∷ es) (local s es e.caller).reads (local s es e.caller).resolution
-    (has_status (local s es e.caller).resolution 4 a.2.2) c
-own_res s will es e core f LookNew a c =
-    cur_res s will (e ∷ es) (local s es e.caller).reads (local s es e.caller).resolution
-    (has_high (local s es e.caller).resolution a.2.2) c
-own_res s will es e core f Kill a c =
-    cur_res s will (e ∷ es) (local s es e.caller).reads (local s es e.caller).resolution
-    (has_owner (local s es e.caller).resolution a.2.2) c
+own_res s will es e core f LookOwner a c = cur_res s will (e ∷ es) _ _ (has_word (local s es e.caller).resolution a.2.2) c
+own_res s will es e core f LookStatus a c = cur_res s will (e ∷ es) _ _ (has_owner (local s es e.caller).resolution a.2.2) c
+own_res s will es e core f LookOld a c = cur_res s will (e ∷ es) _ _ (has_status (local s es e.caller).resolution 4 a.2.2) c
+own_res s will es e core f LookNew a c = cur_res s will (e ∷ es) _ _ (has_high (local s es e.caller).resolution a.2.2) c
+own_res s will es e core f Kill a c = cur_res s will (e ∷ es) _ _ (has_owner (local s es e.caller).resolution a.2.2) c
 own_res s will es e core f Install a c =
     cond_both (e.found == e.expected) _ _ (λ (l : LocalState). ResCur s will (e ∷ es) l.reads l.resolution)
     (λ _. tt) (λ _. tt)
@@ -169,12 +159,8 @@ own_res s will es e core f LookNumber a c = go (keep_resolved (local s es e.call
     go None q = tt
     go (Some r) q =
         λ n. absurd (kept_recorded (local s es e.caller).resolution (local s es e.caller).reads r q n)
-own_res s will es e core f LookRank a c =
-    cur_res s will (e ∷ es) (local s es e.caller).reads (local s es e.caller).resolution
-    (has_owner (local s es e.caller).resolution a.2.2) c
-own_res s will es e core f LookHigh a c =
-    cur_res s will (e ∷ es) (local s es e.caller).reads (local s es e.caller).resolution
-    (has_version (local s es e.caller).resolution a.2.2) c
+own_res s will es e core f LookRank a c = cur_res s will (e ∷ es) _ _ (has_owner (local s es e.caller).resolution a.2.2) c
+own_res s will es e core f LookHigh a c = cur_res s will (e ∷ es) _ _ (has_version (local s es e.caller).resolution a.2.2) c
 own_res s will es e core f Release a c = tt
 own_res s will es e core f k a c =
     unlooked (ResCur s will (e ∷ es) (after k s (local s es e.caller) e).reads) s (local s es e.caller) e k refl tt

@@ -61,11 +61,14 @@ write_of-ok s es own o (v ∷ ws) w k h = go (cases_Bool (v.object == o)) (λ z.
     go (inr q) ih = ih (rw q at h)
 
 -- that the word of an object names a locator of an attempt was so before, or an Install just made it so
-mine_back : (s : Shape) (es : List Event) (e : Event) (o a : ℕ) → Core s (e ∷ es) → o < s.objects →
-    0 < at (e ∷ es) o → owner_of s (e ∷ es) (at (e ∷ es) o) ≡ a →
+abbrev Back : Shape → List Event → Event → ℕ → ℕ → Type 0
+Back s es e o a =
     ((at (e ∷ es) o ≡ at es o) × (0 < at es o) × Used s es (at es o - 1) × (owner_of s es (at es o) ≡ a))
     ⊎ ((e.kind ≡ Install) × (e.found ≡ e.expected) × (o ≡ (res (local s es e.caller)).object)
     × (a ≡ own_attempt s (local s es e.caller)))
+
+mine_back : (s : Shape) (es : List Event) (e : Event) (o a : ℕ) → Core s (e ∷ es) → o < s.objects →
+    0 < at (e ∷ es) o → owner_of s (e ∷ es) (at (e ∷ es) o) ≡ a → Back s es e o a
 mine_back s es e o a core h pos q = go (objects s es e o (step s es e core) h)
   where
     keep : (at (e ∷ es) o ≡ at es o) → (at es o ≡ 0) ⊎ ((0 < at es o) × Used s es (at es o - 1)) →
@@ -79,10 +82,7 @@ mine_back s es e o a core h pos q = go (objects s es e o (step s es e core) h)
           ∙ q,
     )
 
-    go : (at (e ∷ es) o ≡ at es o) ⊎ Installed s es e o →
-        ((at (e ∷ es) o ≡ at es o) × (0 < at es o) × Used s es (at es o - 1) × (owner_of s es (at es o) ≡ a))
-        ⊎ ((e.kind ≡ Install) × (e.found ≡ e.expected) × (o ≡ (res (local s es e.caller)).object)
-        × (a ≡ own_attempt s (local s es e.caller)))
+    go : (at (e ∷ es) o ≡ at es o) ⊎ Installed s es e o → Back s es e o a
     go (inl x) = inl (keep x ((basic s es core.0).object o h))
     go (inr i) = let ok = i.how.found ∙ sym i.how.expected in let w = write_new s es e core i.how.kind ok in
         let less : at (e ∷ es) o - 1 ≡ next_locator s (local s es e.caller) = let n = i.now in omega arith in
@@ -109,21 +109,14 @@ mine_own s es e core (cleared k w) ph ih o h pos q =
         subst (λ m. a % s.attempts < (local s es m).begun) c b.begun in
         omega arith
 
-    go : ((at (e ∷ es) o ≡ at es o) × (0 < at es o) × Used s es (at es o - 1)
-        × (owner_of s es (at es o) ≡ next_attempt s (local s es e.caller)))
-        ⊎ ((e.kind ≡ Install) × (e.found ≡ e.expected) × (o ≡ (res (local s es e.caller)).object)
-        × (next_attempt s (local s es e.caller) ≡ own_attempt s (local s es e.caller))) → ⊥
+    go : Back s es e o (next_attempt s (local s es e.caller)) → ⊥
     go (inl x) = unused (owner_of s es (at es o)) x.3 ((basic s es core.0).owner (at es o - 1) x.2).begun
     go (inr x) = let i = x.0 in absurd (cc)
 mine_own s es e core (unchanged n w i) ph ih o h pos q =
     let on = goes_on s (local s es e.caller) e e.kind core.1.allowed n ph in
     go on.0 (mine_back s es e o (own_attempt s (local s es e.caller)) core h pos (q ∙ on.1))
   where
-    go : (local s es e.caller).phase ≢ Outside →
-        ((at (e ∷ es) o ≡ at es o) × (0 < at es o) × Used s es (at es o - 1)
-        × (owner_of s es (at es o) ≡ own_attempt s (local s es e.caller)))
-        ⊎ ((e.kind ≡ Install) × (e.found ≡ e.expected) × (o ≡ (res (local s es e.caller)).object)
-        × (own_attempt s (local s es e.caller) ≡ own_attempt s (local s es e.caller))) →
+    go : (local s es e.caller).phase ≢ Outside → Back s es e o (own_attempt s (local s es e.caller)) →
         is_some (write_of o (after e.kind s (local s es e.caller) e).writes) ≡ true
     go out (inl x) = rw w (ih out o h x.1 x.3)
     go out (inr x) = absurd (i x.0 x.1)
@@ -131,11 +124,7 @@ mine_own s es e core (added k f w) ph ih o h pos q =
     let on = goes_on s (local s es e.caller) e e.kind core.1.allowed (λ q. cc) ph in
     go on.0 (mine_back s es e o (own_attempt s (local s es e.caller)) core h pos (q ∙ on.1))
   where
-    go : (local s es e.caller).phase ≢ Outside →
-        ((at (e ∷ es) o ≡ at es o) × (0 < at es o) × Used s es (at es o - 1)
-        × (owner_of s es (at es o) ≡ own_attempt s (local s es e.caller)))
-        ⊎ ((e.kind ≡ Install) × (e.found ≡ e.expected) × (o ≡ (res (local s es e.caller)).object)
-        × (own_attempt s (local s es e.caller) ≡ own_attempt s (local s es e.caller))) →
+    go : (local s es e.caller).phase ≢ Outside → Back s es e o (own_attempt s (local s es e.caller)) →
         is_some (write_of o (after e.kind s (local s es e.caller) e).writes) ≡ true
     go out (inl x) = rw w (write_of-snoc o (local s es e.caller).writes _ (ih out o h x.1 x.3))
     go out (inr x) = rw w (write_of-new o (local s es e.caller).writes _ (sym x.2))

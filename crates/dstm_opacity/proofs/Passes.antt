@@ -95,14 +95,36 @@ check_shows s will q es r p core f b n w = let core_q = core_before s q es p cor
     current s will q core_q f_q r.object b ∙ ap (meant s will q) back
     ∙ named_meant s will q r.word r.version core_q f_q n
 
--- what a Check leaves
-pub check_after : (s : Shape) (l : LocalState) (e : Event) (k : Kind) → k ≡ Check → AllowedAs k s l e →
+-- so it does for one read more than were checked
+pub check_more : (s : Shape) (will : ℕ → Bool) (q es : List Event) (e : Event) → IsPastOf q es → Core s (e ∷ es) →
+    Foretells s will (e ∷ es) → (l : LocalState) → ReadsNamed s q l.reads → l.checked < length l.reads →
+    ((i : ℕ) → i < l.checked → Cur s will q (or_read (slice_get l.reads i))) →
+    e.place ≡ (next_read l).object → not (e.found == (next_read l).word) ≡ false → (i : ℕ) → i < l.checked + 1 →
+    Cur s will q (or_read (slice_get l.reads i))
+check_more s will q es e p core f l named lt checked place ns i y = go (cases_lt i l.checked)
+  where
+    one : Cur s will q (next_read l)
+    one = let at_r = reads_at s q l.reads l.checked named lt in
+        check_shows s will q es (next_read l) p core.0 (foretells_past s will es e core f) at_r.0 at_r.1
+        (sym (ap (at es) place) ∙ sym core.1.linked ∙ eqb-true e.found (next_read l).word (not-false _ ns))
+
+    go : (i < l.checked) ⊎ (l.checked ≤ i) → Cur s will q (or_read (slice_get l.reads i))
+    go (inl z) = checked i z
+    go (inr z) = let same : l.checked ≡ i = omega arith in
+        subst (λ j. Cur s will q (or_read (slice_get l.reads j))) same one
+
+-- what a Check leaves of its caller's state
+abbrev pub AfterCheck : Shape → LocalState → Event → Kind → Type 0
+AfterCheck s l e k =
     ((after k s l e).checked ≡ l.checked + 1) × ((after k s l e).stale ≡ not (e.found == (next_read l).word))
     × ((after k s l e).reads ≡ l.reads) × (e.place ≡ (next_read l).object)
     × ((after k s l e).resolution ≡ l.resolution) × ((after k s l e).writes ≡ l.writes)
     × (own_attempt s (after k s l e) ≡ own_attempt s l) × ((after k s l e).last_pass ≡ l.last_pass)
     × (is_look_number k ≡ false) × (is_draw k ≡ false) × ((after k s l e).phase ≡ l.phase)
     × ((after k s l e).drawn ≡ l.drawn)
+
+pub check_after : (s : Shape) (l : LocalState) (e : Event) (k : Kind) → k ≡ Check → AllowedAs k s l e →
+    AfterCheck s l e k
 check_after s l e Check q a = (refl, refl, refl, a.0, refl, refl, refl, refl, refl, refl, refl, refl)
 check_after s l e k q a = absurd (cc)
 
@@ -173,50 +195,15 @@ pass_own s will es e core f h p n (by_look k r m) = rw (place_new es e x.7) (rec
 pass_own s will es e core f h p n (by_check k r m lt st) =
     go (check_after s (local s es e.caller) e e.kind k core.1.allowed) (p n r m)
   where
-    one : PassHas s will (pass_place e.caller es) (local s es e.caller) n →
-        e.place ≡ (next_read (local s es e.caller)).object →
-        not (e.found == (next_read (local s es e.caller)).word) ≡ false →
-        Cur s will (pass_place e.caller es) (next_read (local s es e.caller))
-    one has pl ns =
-        let at_r =
-        reads_at s (pass_place e.caller es) (local s es e.caller).reads
-        (local s es e.caller).checked has.named lt in
-        check_shows s will (pass_place e.caller es) es (next_read (local s es e.caller))
-        (pass_past e.caller es) core.0 (foretells_past s will es e core f) at_r.0 at_r.1
-        (sym (ap (at es) pl) ∙ sym core.1.linked
-        ∙ eqb-true e.found (next_read (local s es e.caller)).word (not-false _ ns))
-
-    each : PassHas s will (pass_place e.caller es) (local s es e.caller) n →
-        e.place ≡ (next_read (local s es e.caller)).object →
-        not (e.found == (next_read (local s es e.caller)).word) ≡ false → (i : ℕ) →
-        (i < (local s es e.caller).checked) ⊎ ((local s es e.caller).checked ≤ i) →
-        i < (local s es e.caller).checked + 1 →
-        Cur s will (pass_place e.caller es) (or_read (slice_get (local s es e.caller).reads i))
-    each has pl ns i (inl z) y = has.checked st i z
-    each has pl ns i (inr z) y = let same : (local s es e.caller).checked ≡ i = omega arith in
-        subst (λ j. Cur s will (pass_place e.caller es)
-        (or_read (slice_get (local s es e.caller).reads j))) same (one has pl ns)
-
-    go : ((after e.kind s (local s es e.caller) e).checked ≡ (local s es e.caller).checked + 1)
-        × ((after e.kind s (local s es e.caller) e).stale ≡ not
-        (e.found == (next_read (local s es e.caller)).word))
-        × ((after e.kind s (local s es e.caller) e).reads ≡ (local s es e.caller).reads)
-        × (e.place ≡ (next_read (local s es e.caller)).object)
-        × ((after e.kind s (local s es e.caller) e).resolution ≡ (local s es e.caller).resolution)
-        × ((after e.kind s (local s es e.caller) e).writes ≡ (local s es e.caller).writes)
-        × (own_attempt s (after e.kind s (local s es e.caller) e) ≡ own_attempt s (local s es e.caller))
-        × ((after e.kind s (local s es e.caller) e).last_pass ≡ (local s es e.caller).last_pass)
-        × (is_look_number e.kind ≡ false) × (is_draw e.kind ≡ false)
-        × ((after e.kind s (local s es e.caller) e).phase ≡ (local s es e.caller).phase)
-        × ((after e.kind s (local s es e.caller) e).drawn ≡ (local s es e.caller).drawn) →
+    go : AfterCheck s (local s es e.caller) e e.kind →
         PassHas s will (pass_place e.caller es) (local s es e.caller) n →
         PassHas s will (pass_place e.caller (e ∷ es)) (after e.kind s (local s es e.caller) e) n
     go x has = rw (place_keeps e.caller es e x.8) (record {
       number = has.number;
       named = rw x.2 has.named;
-      checked =
-          λ ns i y. rw x.2
-          (each has x.3 (sym x.1 ∙ ns) i (cases_lt i (local s es e.caller).checked) (rw x.0 at y));
+      checked = λ ns i y. rw x.2
+          (check_more s will (pass_place e.caller es) es e (pass_past e.caller es) core f (local s es e.caller)
+          has.named lt (has.checked st) x.3 (sym x.1 ∙ ns) i (rw x.0 at y));
       same = λ q. rw x.2 (has.same (sym x.7 ∙ q));
       recorded = λ r q y. has.recorded r (sym x.4 ∙ q) (rw x.2 at y);
       writes = rw (x.6, x.5) has.writes;

@@ -1,10 +1,10 @@
 -- What an attempt has shown since its draw: where it commits, all that it read was current at the draw.
-use Rattle.std.proofs.Common.{◌*◌, ◌++◌, ◌+◌, ◌<◌, ◌==◌, ◌∙◌, ◌∷◌, ◌≡◌, ◌≤◌, ◌⊎◌, Bool, List, Some, [], ap, append_assoc, arith, false, inl, inr, length, not, refl, slice_get, subst, sym, true, ℕ}
-use Rattle.std.proofs.lemmas.Bool.{cases_eq, cases_lt, eq-eqb, eqb-true, not-false}
-use Rattle.dstm_core.specs.Histories.{is_draw, is_look_number, will_of}
+use Rattle.std.proofs.Common.{◌*◌, ◌++◌, ◌+◌, ◌<◌, ◌∙◌, ◌∷◌, ◌≡◌, ◌⊎◌, Bool, List, Some, [], ap, append_assoc, arith, false, inl, inr, length, refl, slice_get, subst, sym, true, ℕ}
+use Rattle.std.proofs.lemmas.Bool.{cases_eq, eq-eqb}
+use Rattle.dstm_core.specs.Histories.{is_draw, will_of}
 use Rattle.dstm_core.specs.Rules.{AllowedAs, MayRank, after}
 use Rattle.dstm_core.specs.Runs.{Core, local}
-use Rattle.dstm_core.specs.State.{LocalState, given, next_read, or_read, own_attempt}
+use Rattle.dstm_core.specs.State.{LocalState, given, or_read, own_attempt}
 use Rattle.dstm_core.specs.Traces.{IsPastOf, at, word}
 use Rattle.dstm_core.specs.Words.{place}
 use Rattle.dstm_core.specs.Words.Word.{NumbersWord, StatusWord}
@@ -20,7 +20,7 @@ use Rattle.dstm_core.proofs.Pasts.{core_past}
 use Rattle.dstm_core.proofs.Statuses.{OwnStatus, finished_step, own_status}
 use Rattle.dstm_opacity.proofs.Current.{Foretells, foretells_past}
 use Rattle.dstm_opacity.proofs.Draws.{draw_may}
-use Rattle.dstm_opacity.proofs.Passes.{check_after, check_shows, passes, reads_at}
+use Rattle.dstm_opacity.proofs.Passes.{AfterCheck, check_after, check_more, passes}
 use Rattle.dstm_opacity.proofs.Recorded.{ReadsNamed, reads}
 use Rattle.dstm_opacity.proofs.Sights.{foretold, will_is}
 use Rattle.dstm_opacity.proofs.States.{Agreed, Cur, agreed_by_index}
@@ -141,25 +141,15 @@ draw_own s will q es e p core f inn named d (inr (inr k)) =
 draw_own s will q es e p core f inn named d (inl k) =
     since (rw (local_own s es e) (go (check_after s (local s es e.caller) e e.kind k core.1.allowed)))
   where
-    go : ((after e.kind s (local s es e.caller) e).checked ≡ (local s es e.caller).checked + 1)
-        × ((after e.kind s (local s es e.caller) e).stale ≡ not
-        (e.found == (next_read (local s es e.caller)).word))
-        × ((after e.kind s (local s es e.caller) e).reads ≡ (local s es e.caller).reads)
-        × (e.place ≡ (next_read (local s es e.caller)).object)
-        × ((after e.kind s (local s es e.caller) e).resolution ≡ (local s es e.caller).resolution)
-        × ((after e.kind s (local s es e.caller) e).writes ≡ (local s es e.caller).writes)
-        × (own_attempt s (after e.kind s (local s es e.caller) e) ≡ own_attempt s (local s es e.caller))
-        × ((after e.kind s (local s es e.caller) e).last_pass ≡ (local s es e.caller).last_pass)
-        × (is_look_number e.kind ≡ false) × (is_draw e.kind ≡ false)
-        × ((after e.kind s (local s es e.caller) e).phase ≡ (local s es e.caller).phase)
-        × ((after e.kind s (local s es e.caller) e).drawn ≡ (local s es e.caller).drawn) →
+    go : AfterCheck s (local s es e.caller) e e.kind →
         SinceDraw s will q e.caller (after e.kind s (local s es e.caller) e)
     go x = record {
       phase = x.10 ∙ d.phase;
       own = x.6 ∙ d.own;
       reads = x.2 ∙ d.reads;
-      checked =
-          λ ns i y. rw x.2 (each (sym x.1 ∙ ns) i (cases_lt i (local s es e.caller).checked) (rw x.0 at y));
+      checked = λ ns i y. rw x.2
+          (check_more s will q es e p core f (local s es e.caller) named_now st.1 (d.checked st.0) x.3 (sym x.1 ∙ ns) i
+          (rw x.0 at y));
       same = λ z. d.same (sym x.7 ∙ z ∙ x.11);
     }
       where
@@ -169,23 +159,6 @@ draw_own s will q es e p core f inn named d (inl k) =
 
         named_now : ReadsNamed s q (local s es e.caller).reads
         named_now = rw d.reads named
-
-        one : not (e.found == (next_read (local s es e.caller)).word) ≡ false →
-            Cur s will q (next_read (local s es e.caller))
-        one ns = let at_r = reads_at s q (local s es e.caller).reads
-            (local s es e.caller).checked named_now st.1 in
-            check_shows s will q es (next_read (local s es e.caller)) p core.0
-            (foretells_past s will es e core f) at_r.0 at_r.1
-            (sym (ap (at es) x.3) ∙ sym core.1.linked
-            ∙ eqb-true e.found (next_read (local s es e.caller)).word (not-false _ ns))
-
-        each : not (e.found == (next_read (local s es e.caller)).word) ≡ false → (i : ℕ) →
-            (i < (local s es e.caller).checked) ⊎ ((local s es e.caller).checked ≤ i) →
-            i < (local s es e.caller).checked + 1 →
-            Cur s will q (or_read (slice_get (local s es e.caller).reads i))
-        each ns i (inl z) y = d.checked st.0 i z
-        each ns i (inr z) y = let same : (local s es e.caller).checked ≡ i = omega arith in
-            subst (λ j. Cur s will q (or_read (slice_get (local s es e.caller).reads j))) same (one ns)
 
 draw_step : (s : Shape) (will : ℕ → Bool) (q : List Event) (c : ℕ) (es : List Event) (e : Event) → IsPastOf q es →
     Core s (e ∷ es) → Foretells s will (e ∷ es) → c < s.callers →

@@ -1,15 +1,14 @@
 -- Committed writers of one object commit in the order in which they install.
-use Rattle.std.proofs.Common.{◌*◌, ◌++◌, ◌+◌, ◌-◌, ◌<◌, ◌∙◌, ◌∷◌, ◌≡◌, ◌≤◌, ◌⊎◌, List, Some, [], ap, arith, inl, inr, is_some, refl, subst, sym, true, ℕ}
+use Rattle.std.proofs.Common.{◌*◌, ◌++◌, ◌+◌, ◌-◌, ◌<◌, ◌∙◌, ◌∷◌, ◌≡◌, ◌≤◌, ◌⊎◌, List, [], ap, arith, inl, inr, refl, subst, sym, ℕ}
 use Rattle.dstm_core.specs.Rules.{target}
 use Rattle.dstm_core.specs.Runs.{Core, local}
-use Rattle.dstm_core.specs.State.{LocalState, is_resolved, next_locator, or_zero, own_attempt, res, version}
+use Rattle.dstm_core.specs.State.{LocalState, next_locator, or_zero, own_attempt, res, version}
 use Rattle.dstm_core.specs.Traces.{at, word}
 use Rattle.dstm_core.specs.Words.{place}
 use Rattle.dstm_core.specs.Words.Word.{OldWord, OwnerWord, StatusWord}
 use Rattle.dstm_core.specs.Events.{Event}
 use Rattle.dstm_core.specs.declared.event.Kind.TheVariants.{Commit, Install, Pause, Quit, Resume, Validating as ToValidating}
 use Rattle.dstm_core.specs.declared.shape.Shape.{Shape}
-use Rattle.dstm_core.specs.declared.state.Phase.TheVariants.{Running}
 use Rattle.dstm_core.proofs.Basic.{install_may, install_put}
 use Rattle.dstm_core.proofs.Columns.{Changed, Installed, StatusMove, begins, change, kills, moves, objects, own_in, step}
 use Rattle.dstm_core.proofs.Locators.{installed_stays, no_locator_twice}
@@ -20,6 +19,13 @@ use Rattle.dstm_core.proofs.Statuses.{finished_stays, finished_step}
 use Rattle.dstm_opacity.proofs.Recorded.{replaces}
 use Rattle.dstm_opacity.proofs.Versions.{Named, by_abort, by_commit, by_zero}
 use Rattle.dstm_opacity.proofs.Written.{WriteOk, write_new}
+
+-- an attempt that installs has its status in the table
+pub installs_below : (s : Shape) (es : List Event) (d : Event) → Core s (d ∷ es) → d.kind ≡ Install →
+    own_attempt s (local s es d.caller) < s.callers * s.attempts
+installs_below s es d core k =
+    let may = install_may s (local s es d.caller) d d.kind k core.1.allowed in
+    own_in s d.caller (local s es d.caller) (static s es core.0 d.caller) core.1.caller (λ z. let y = may.0 in cc)
 
 -- a locator stays in its object until its owner is finished
 replaced_finished : (s : Shape) (more es : List Event) (d : Event) → Core s (more ++ d ∷ es) →
@@ -41,16 +47,8 @@ replaced_finished s (e ∷ more) es d core k h = go (replaced_finished s more es
         })
     made = write_new s es d core_d k h
 
-    may : ((local s es d.caller).phase ≡ Running)
-        × ((local s es d.caller).held_owner ≡ Some (own_attempt s (local s es d.caller)))
-        × ((local s es d.caller).held_old ≡ version (res (local s es d.caller)))
-        × (is_some (local s es d.caller).resolution ≡ true) × (is_resolved (res (local s es d.caller)) ≡ true)
-    may = install_may s (local s es d.caller) d d.kind k core_d.1.allowed
-
     own_below : own_attempt s (local s es d.caller) < s.callers * s.attempts
-    own_below =
-        own_in s d.caller (local s es d.caller) (static s es core_d.0 d.caller) core_d.1.caller
-        (λ z. let y = may.0 in cc)
+    own_below = installs_below s es d core_d k
 
     place_is : d.place ≡ (res (local s es d.caller)).object
     place_is = core_d.1.allowed.0 ∙ ap (λ k. place s (target k s (local s es d.caller) d)) k
@@ -125,16 +123,8 @@ writers_in_draw_order s later more es e d core k h j i same done =
     core_d : Core s (d ∷ es)
     core_d = core_past s more (d ∷ es) core_e.0
 
-    may : ((local s es d.caller).phase ≡ Running)
-        × ((local s es d.caller).held_owner ≡ Some (own_attempt s (local s es d.caller)))
-        × ((local s es d.caller).held_old ≡ version (res (local s es d.caller)))
-        × (is_some (local s es d.caller).resolution ≡ true) × (is_resolved (res (local s es d.caller)) ≡ true)
-    may = install_may s (local s es d.caller) d d.kind j core_d.1.allowed
-
     own_below : own_attempt s (local s es d.caller) < s.callers * s.attempts
-    own_below =
-        own_in s d.caller (local s es d.caller) (static s es core_d.0 d.caller) core_d.1.caller
-        (λ z. let y = may.0 in cc)
+    own_below = installs_below s es d core_d j
 
     before : 4 ≤ word s (e ∷ (more ++ d ∷ es)) (StatusWord (own_attempt s (local s es d.caller))) →
         (word s (e ∷ (more ++ d ∷ es)) (StatusWord (own_attempt s (local s es d.caller))) ≡ word s
