@@ -10,7 +10,8 @@ use Rattle.dstm_machines.specs.Traces.{Access}
 use Rattle.dstm_machines.specs.Traces.Access.{Load, Store, Exchange, Add}
 use Rattle.dstm_seats.specs.declared.view.View.{View}
 use Rattle.dstm_seats.specs.Rule.{Kept}
-use Rattle.dstm_seats.specs.Seats.{caller_state, event_by, made, state_by, MakesKept, Makes, MayMake}
+use Rattle.atomic_table.specs.declared.shared.Seat.{Seat}
+use Rattle.dstm_seats.specs.Seats.{Home, IsOf, caller_state, event_by, made, state_by, view_of, MakesKept, Makes, MayMake}
 use Rattle.dstm_machines.specs.Sharing.{Enrolling, Shared}
 use Rattle.dstm_seats.proofs.Keeping.{steps}
 
@@ -24,7 +25,7 @@ module _ {K T B S : Type 0} (shared : Shared K T B S) (laws : Enrolling shared) 
   table = shared.table key
 
   -- the word is one of the table's
-  pub place_inside : (v : View K T) (way : Access) (kind : K) (place : ℕ) → MayMake shared key v way kind place →
+  place_inside : (v : View K T) (way : Access) (kind : K) (place : ℕ) → MayMake shared key v way kind place →
       place < shared.word_count table
   place_inside v way kind place may =
       laws.inside table (caller_state shared key v) (made v way kind place 0) (may 0 (lit< tt))
@@ -106,3 +107,24 @@ module _ {K T B S : Type 0} (shared : Shared K T B S) (laws : Enrolling shared) 
       (λ c n. (refl, refl, refl))
       (λ log c n run f l. sym (mod-eq_of_lt (laws.adds key log (event_by Add c kind place n) run f add)))
       live (λ found l. (may found l, keeps found)) ticket)
+
+-- what a step requires of its seat, and that its word is one of the table's
+pub record Ready {K T B S : Type 0} (shared : Shared K T B S) (home : Home T) (seat : Seat ℕ (View K T)) (way : Access)
+    (kind : K) (place : ℕ) : Type 0 where
+  pub of : IsOf home seat
+  pub may : MayMake shared home.terms (view_of seat) way kind place
+  pub keeps : MakesKept shared home.terms (view_of seat) way kind place
+  pub inside : place < shared.word_count (shared.table home.terms)
+
+-- what is required of the table as it is seen is so of its fields
+pub ready : {K T B S : Type 0} (shared : Shared K T B S) (laws : Enrolling shared) (self home : Home T) → self ≡ home →
+    (seat : Seat ℕ (View K T)) (way : Access) (kind : K) (place : ℕ) → IsOf self seat →
+    MayMake shared self.terms (view_of seat) way kind place →
+    MakesKept shared self.terms (view_of seat) way kind place → Ready shared home seat way kind place
+ready shared laws self home is seat way kind place of may keeps =
+    subst (λ home. Ready shared home seat way kind place) is (record {
+      of = of;
+      may = may;
+      keeps = keeps;
+      inside = place_inside shared laws self.terms (view_of seat) way kind place may;
+    })

@@ -1,25 +1,17 @@
-use Rattle.std.proofs.Common.{◌<◌, arith, sym, subst}
+use Rattle.std.proofs.Common.{arith, sym}
 use Rattle.dstm_machines.specs.Traces.Access.{Exchange}
-use Rattle.dstm_seats.specs.Seats.{Home, IsOf, MakesKept, MayMake}
-use Rattle.dstm_seats.proofs.Moves.{place_inside, exchanges}
+use Rattle.dstm_seats.proofs.Moves.{ready, exchanges}
 use Rattle.dstm_seats.proofs.words.Words.exchange_as.Goals as goal
 
 pub compare_exchange-requires : goal.compare_exchange-requires
 compare_exchange-requires g c =
-    let shared = g.M.Machine.shared in
-    let key = c.self.inside.table.shared.key in
-    let seat = c.args.seat.now in
-    let place = c.args.place in
-    let way = Exchange c.args.expected c.args.put in
-    let May : Home g.row.M-Terms.Denot → Type 0 = λ home.
-    IsOf home seat × MayMake shared home.terms seat.me.0 way c.args.kind place
-    × MakesKept shared home.terms seat.me.0 way c.args.kind place in
-    let may = subst May (sym c.self.view_is) (c.requires.seat, c.requires.allowed, c.requires.keeps) in
-    let inside : place < shared.word_count (shared.table key) =
-    place_inside shared g.M.Machine.enrolling key seat.me.0 way c.args.kind place may.1 in
+    let r = ready g.M.Machine.shared g.M.Machine.enrolling _ _ (sym c.self.view_is) c.args.seat.now
+    (Exchange c.args.expected c.args.put) c.args.kind c.args.place c.requires.seat c.requires.allowed
+    c.requires.keeps in
+    let inside = r.inside in
     let wide = c.self.invariant.1 in (
-      may.0.0,
+      r.of.0,
       omega arith,
-      exchanges shared g.M.Machine.enrolling key _ _ seat.me g.J.Told.kind c.args.kind place c.args.expected
-          c.args.put c.requires.kind may.0.2 may.1 may.2,
+      exchanges g.M.Machine.shared g.M.Machine.enrolling _ _ _ c.args.seat.now.me g.J.Told.kind c.args.kind c.args.place
+          c.args.expected c.args.put c.requires.kind r.of.2 r.may r.keeps,
     )
