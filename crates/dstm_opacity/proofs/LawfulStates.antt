@@ -1,5 +1,5 @@
 -- The state after every prefix of a history is lawful.
-use Rattle.std.proofs.Common.{◌++◌, ◌∙◌, ◌∷◌, ◌≡◌, ◌≢◌, ◌⊎◌, List, [], inl, inr, length, subst, sym, true}
+use Rattle.std.proofs.Common.{◌++◌, ◌∙◌, ◌∷◌, ◌≡◌, ◌⊎◌, List, [], inl, inr, length, subst, sym, true}
 use Rattle.std.proofs.lemmas.Bool.{and_parts}
 use Rattle.dstm_model.specs.Map.{with_writes, KeepsLaw}
 use Rattle.dstm_model.specs.declared.value.Val.{Val}
@@ -10,17 +10,16 @@ use Rattle.dstm_core.specs.Events.{Event}
 use Rattle.dstm_core.specs.declared.event.Kind.{Kind}
 use Rattle.dstm_core.specs.declared.event.Kind.TheVariants.{PutHigh, PutNew}
 use Rattle.dstm_core.specs.declared.shape.Shape.{Shape}
-use Rattle.dstm_core.specs.declared.state.Phase.TheVariants.{Outside, Validating}
+use Rattle.dstm_core.specs.declared.state.Phase.TheVariants.{Validating}
 use Rattle.dstm_core.proofs.Pasts.{core_past}
 use Rattle.dstm_core.proofs.Prefixes.{lawful_past}
 use Rattle.dstm_machines.proofs.Histories as histories
 use Rattle.dstm_machines.proofs.Orders.{map_after, state_length}
 use Rattle.dstm_opacity.proofs.Draws.{draw_may, drawn_yes}
 use Rattle.dstm_opacity.proofs.KeptLaw.{law_ok}
-use Rattle.dstm_opacity.proofs.Legal.{legal_entry}
+use Rattle.dstm_opacity.proofs.Legal.{draws_ok, legal_entry}
 use Rattle.dstm_opacity.proofs.Recorded.{reads, reads_more}
 use Rattle.dstm_opacity.proofs.Values.{WritesKept, entry_later, entry_stays, kept_from, kept_more, puts_value}
-use Rattle.dstm_opacity.proofs.Written.{written}
 
 put_draw : (k : Kind) → puts_value k ≡ true → is_draw k ≡ true → ⊥
 unfolding puts_value
@@ -43,12 +42,9 @@ law_entry s start holds es d more long core law k w h =
     v : (local s es d.caller).phase ≡ Validating
     v = draw_may s (local s es d.caller) d d.kind k core_d.1.allowed
 
-    out : (local s es d.caller).phase ≢ Outside
-    out = λ z. let y = v in cc
-
     kept : WritesKept s es (own_attempt s (local s es d.caller)) (local s es d.caller).writes
     kept = kept_from s es (own_attempt s (local s es d.caller)) (local s es d.caller).writes
-        (written s es core_d.0 d.caller core_d.1.caller out)
+        (draws_ok s es d core_d k)
 
     not_put : is_draw d.kind ≡ true → puts_value d.kind ≡ true → ⊥
     not_put x y = put_draw d.kind y x

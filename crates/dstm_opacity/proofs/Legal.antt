@@ -25,6 +25,12 @@ use Rattle.dstm_opacity.proofs.SinceDraw.{draw_agreed}
 use Rattle.dstm_opacity.proofs.States.{agrees_state, old_current}
 use Rattle.dstm_opacity.proofs.Written.{WritesOk, written}
 
+-- what an attempt has written at its draw is as it was found
+pub draws_ok : (s : Shape) (es : List Event) (d : Event) → Core s (d ∷ es) → is_draw d.kind ≡ true →
+    WritesOk s es (own_attempt s (local s es d.caller)) (local s es d.caller).writes
+draws_ok s es d core k = written s es core.0 d.caller core.1.caller
+    (λ z. let v = draw_may s (local s es d.caller) d d.kind k core.1.allowed in cc)
+
 -- an entry agrees with the state at its draw
 pub legal_entry : (s : Shape) (start : List Val) (es : List Event) (d : Event) (more : List Event) →
     length start ≡ s.objects → Core s (more ++ d ∷ es) → is_draw d.kind ≡ true →
@@ -49,7 +55,7 @@ legal_entry s start es d more long core k w =
     out = λ z. let y = v in cc
 
     ok : WritesOk s es (own_attempt s (local s es d.caller)) (local s es d.caller).writes
-    ok = written s es core_d.0 d.caller core_d.1.caller out
+    ok = draws_ok s es d core_d k
 
     undrawn : drawn s es (own_attempt s (local s es d.caller)) ≡ false
     undrawn = drawn_phase s es core_d.0 d.caller core_d.1.caller out ∙ ap is_drawn v
