@@ -1,6 +1,6 @@
 -- A load, a store, an exchange and an add keep the rule.
 use Rattle.std.proofs.Common.{◌≡◌, ◌≢◌, ◌⊎◌, ℕ, ◌+◌, ◌^◌, ◌<◌, ◌≤◌, List, [], ◌∷◌, set, get_or, refl, sym, ap, ◌∙◌, subst, ⊎_elim, inl, inr, arith, length-set, get_or-set_same, get_or-set_other, Some, None}
-use Rattle.std.specs.Prelude.{Contains, All, Option, IfSome}
+use Rattle.std.specs.Prelude.{Contains, Option, IfSome}
 use Rattle.std.proofs.lemmas.List.Elements.{All-weaker, All-nil, Contains-append_cases}
 use lib.ListN.{get_elem?}
 use mathlib.Core.Logic.{dite}
@@ -9,7 +9,7 @@ use native.Mathlib.Decide.{ℕ_discrete}
 use Rattle.atomic_table.specs.Table.{State, Me, keeps, stepped, Allows}
 use Rattle.atomic_table.proofs.Lists.{at_set, set_here}
 use Rattle.dstm_machines.specs.declared.event.Event.{Event}
-use Rattle.dstm_machines.specs.Traces.{IsPastOf, events_of}
+use Rattle.dstm_machines.specs.Traces.{events_of}
 use Rattle.dstm_machines.specs.Machines.{Fits, held, local}
 use Rattle.dstm_machines.proofs.Pasts.{past_self, past_more}
 use Rattle.dstm_machines.proofs.Runs.{elsewhere, local_other, put_at}
@@ -87,35 +87,34 @@ module _ {K T B S : Type 0} (shared : Shared K T B S) (laws : Enrolling shared) 
       (at_set vs id j w u ej))
       (at_set vs id i w v ei)
 
-  -- What has to be known of an event and of the view after it
-  record Turn (s : St) (k : Kept shared key s) (id at_place : ℕ) (v : V) (e : Event K) (w : V) : Type 0 where
+  -- the view after an event that goes on from the longest log
+  abbrev after_turn : (s : St) → Kept shared key s → V → Event K → V
+  after_turn s k v e = moved v e (e ∷ k.log)
+
+  -- What has to be known of such an event and of the view after it
+  record Turn (s : St) (k : Kept shared key s) (id at_place : ℕ) (v : V) (e : Event K) : Type 0 where
     fits : Fits shared.machine table k.log e
     run : shared.IsRunOf key (e ∷ k.log)
     inside : e.place < shared.word_count table
     mine : events_of e.caller k.log ≡ own_events v
     there : e.place ≡ at_place
-    log : w.log ≡ e ∷ k.log
-    olds : w.olds ≡ []
-    terms : w.terms ≡ v.terms
     live : v.terms ≡ Some key
-    first : w.first ≡ v.first
-    out : w.out ≡ v.out
-    apart : w.apart ≡ v.apart
-    number : w.number ≡ Some e.caller
-    has : Contains w.numbers e.caller
-    unlike : AreApart w.numbers
-    numbers : (n : ℕ) → Contains w.numbers n → (n ≡ e.caller) ⊎ Contains v.numbers n
+    has : Contains (after_turn s k v e).numbers e.caller
+    unlike : AreApart (after_turn s k v e).numbers
+    numbers : (n : ℕ) → Contains (after_turn s k v e).numbers n → (n ≡ e.caller) ⊎ Contains v.numbers n
     others : (j : ℕ) (u : V) (n : ℕ) → j ≢ id → get_elem? s.views j ≡ some u → Contains u.numbers n →
         e.caller ≢ n
     more : enrolled shared key k.log ≤ enrolled shared key (e ∷ k.log)
     known : e.caller < enrolled shared key (e ∷ k.log)
-    tickets : w.enrolments + enrolled shared key (e ∷ k.log) ≡ v.enrolments + enrolled shared key k.log
+    tickets : (after_turn s k v e).enrolments + enrolled shared key (e ∷ k.log)
+        ≡ v.enrolments + enrolled shared key k.log
 
   -- a number that the seat had has its state, also after an event of the seat
-  named_after : (s : St) (k : Kept shared key s) (id at_place : ℕ) (v : V) (e : Event K) (w : V) →
-      get_elem? s.views id ≡ some v → Turn s k id at_place v e w → (n : ℕ) → Contains w.numbers n →
+  named_after : (s : St) (k : Kept shared key s) (id at_place : ℕ) (v : V) (e : Event K) →
+      get_elem? s.views id ≡ some v → Turn s k id at_place v e → (n : ℕ) →
+      Contains (after_turn s k v e).numbers n →
       shared.number (state (e ∷ k.log) n) ≡ Some n
-  named_after s k id at_place v e w at_id t n has = dite (ℕ_discrete e.caller n)
+  named_after s k id at_place v e at_id t n has = dite (ℕ_discrete e.caller n)
       (λ same. subst (λ m. shared.number (state (e ∷ k.log) m) ≡ Some m) same
       (laws.named table k.log e (laws.follows key (e ∷ k.log) t.run)))
       (λ other. ⊎_elim (λ (is : n ≡ e.caller). absurd (other (sym is)))
@@ -124,16 +123,17 @@ module _ {K T B S : Type 0} (shared : Shared K T B S) (laws : Enrolling shared) 
       ∙ (k.seats id v at_id).begun n was)
       (t.numbers n has))
 
-  turned : (s : St) (k : Kept shared key s) (id at_place : ℕ) (c : List (ℕ × ℕ)) (v w : V) (e : Event K) →
-      get_elem? s.views id ≡ some v → Turn s k id at_place v e w →
-      Kept shared key (stepped s at_place e.put id c w keeps)
-  turned s k id at_place c v w e at_id t =
+  turned : (s : St) (k : Kept shared key s) (id at_place : ℕ) (c : List (ℕ × ℕ)) (v : V) (e : Event K) →
+      get_elem? s.views id ≡ some v → Turn s k id at_place v e →
+      Kept shared key (stepped s at_place e.put id c (after_turn s k v e) keeps)
+  turned s k id at_place c v e at_id t =
+      let w : V = after_turn s k v e in
       let log : List (Event K) = e ∷ k.log in
       let f : Sees shared key k.log id v = k.seats id v at_id in
       let wide = k.wide in let inside = t.inside in let there = t.there in
       record {
         log = log;
-        longest = (id, w, set_here s.views id w (inside_of s.views id v at_id), t.log);
+        longest = (id, w, set_here s.views id w (inside_of s.views id v at_id), refl);
         run = t.run;
         wide = length-set s.words at_place e.put ∙ k.wide;
         left = λ p l. dite (ℕ_discrete p at_place)
@@ -146,21 +146,20 @@ module _ {K T B S : Type 0} (shared : Shared K T B S) (laws : Enrolling shared) 
             others_event n e k.log (λ x. omega arith) ∙ k.fresh n (omega arith);
         seats = each_set (λ j u. Sees shared key log j u) s.views id w
             (record {
-              past = subst (λ l. IsPastOf l log) (sym t.log) (past_self log);
-              olds = subst (All (GoesOn log w.numbers)) (sym t.olds) (All-nil (GoesOn log w.numbers));
-              mine = λ n has. ap (events_of n) (sym t.log);
+              past = past_self log;
+              olds = All-nil (GoesOn log w.numbers);
+              mine = λ n has. refl;
               known = λ n has. let a = t.known in let m = t.more in
                   ⊎_elim (λ (x : n ≡ e.caller). omega arith) (λ was. let l = f.known n was in omega arith)
                   (t.numbers n has);
               unlike = t.unlike;
-              begun = λ n has. subst (λ l. shared.number (state l n) ≡ Some n) (sym t.log)
-                  (named_after s k id at_place v e w at_id t n has);
-              number = λ n is. subst (Contains w.numbers) (some_of e.caller n (sym t.number ∙ is)) t.has;
-              first = λ is. f.first (sym t.first ∙ is);
-              stays = λ is. t.apart ∙ f.stays (sym t.first ∙ is);
-              none_out = λ is. t.out ∙ f.none_out (sym t.first ∙ is);
-              spent = λ is no. t.terms ∙ f.spent (sym t.first ∙ is) (sym t.apart ∙ no);
-              empty = λ none. absurd (none_some key (sym none ∙ t.terms ∙ t.live));
+              begun = λ n has. named_after s k id at_place v e at_id t n has;
+              number = λ n is. subst (Contains w.numbers) (some_of e.caller n is) t.has;
+              first = λ is. f.first is;
+              stays = λ is. f.stays is;
+              none_out = λ is. f.none_out is;
+              spent = λ is no. f.spent is no;
+              empty = λ none. absurd (none_some key (sym none ∙ t.live));
             })
             (λ j u away here. sees_more k.log j e u t.more (λ n has. t.others j u n away here has)
             (k.seats j u here));
@@ -171,7 +170,7 @@ module _ {K T B S : Type 0} (shared : Shared K T B S) (laws : Enrolling shared) 
             let b = k.tickets in let q = t.tickets in omega arith;
         outs = let d = sum_set (λ (x : V). x.out) s.views id v w at_id in
             let d' = sum_set (λ (x : V). x.apart) s.views id v w at_id in
-            let o = t.out in let o' = t.apart in let b = k.outs in omega arith;
+            let b = k.outs in omega arith;
       }
 
   -- what the seat's step keeps, at the longest log
@@ -192,7 +191,7 @@ module _ {K T B S : Type 0} (shared : Shared K T B S) (laws : Enrolling shared) 
       get_elem? s.views id ≡ some v → v.terms ≡ Some key → e.caller ≡ number_or o e.found → e.place ≡ at_place →
       e.found ≡ get_or s.words at_place 0 → Allowed (state_by shared.machine table o v.log) e →
       KeepsSince shared key v e → (o ≡ None → 0 < v.enrolments) →
-      Turn s k id at_place v e (moved v e (e ∷ k.log))
+      Turn s k id at_place v e
   turn_of s k id at_place v e (Some m) is at_id live caller there found may law ticket =
       let f : Sees shared key k.log id v = k.seats id v at_id in
       let has : Contains v.numbers m = f.number m is in
@@ -225,14 +224,7 @@ module _ {K T B S : Type 0} (shared : Shared K T B S) (laws : Enrolling shared) 
         inside = inside;
         mine = mine ∙ ap (λ c. events_of c v.log) caller ∙ sym (ap (λ (x : Option ℕ). events_by x v.log) is);
         there = there;
-        log = refl;
-        olds = refl;
-        terms = refl;
         live = live;
-        first = refl;
-        out = refl;
-        apart = refl;
-        number = refl;
         has = subst (λ l. Contains l e.caller) (sym ns) (subst (Contains v.numbers) (sym caller) has);
         unlike = subst AreApart (sym ns) f.unlike;
         numbers = λ n h. inr (subst (λ l. Contains l n) ns h);
@@ -275,14 +267,7 @@ module _ {K T B S : Type 0} (shared : Shared K T B S) (laws : Enrolling shared) 
         inside = inside;
         mine = none ∙ sym (ap (λ (x : Option ℕ). events_by x v.log) is);
         there = there;
-        log = refl;
-        olds = refl;
-        terms = refl;
         live = live;
-        first = refl;
-        out = refl;
-        apart = refl;
-        number = refl;
         has = subst (λ l. Contains l e.caller) (sym ns) (head_of e.caller v.numbers);
         unlike = subst AreApart (sym ns) ((λ h. let b = f.known e.caller h in omega arith), f.unlike);
         numbers = λ n h. ⊎_elim (λ a. inl (one_of e.caller n a)) (λ b. inr b)
@@ -325,11 +310,11 @@ module _ {K T B S : Type 0} (shared : Shared K T B S) (laws : Enrolling shared) 
       let log : List (Event K) = e ∷ k.log in
       let w : V = moved v e log in
       let past = (k.seats id v at_id).past in
-      let turn : Turn s k id at_place v e w =
+      let turn : Turn s k id at_place v e =
       turn_of s k id at_place v e v.number refl at_id live
       (fit.0 ∙ ap (number_or v.number) (sym fit.2)) fit.1 fit.2
       ok.0 ok.1 ticket in
-      let kept = turned s k id at_place me.1 v w e at_id turn in (
+      let kept = turned s k id at_place me.1 v e at_id turn in (
         w,
         keeps,
         tt,
