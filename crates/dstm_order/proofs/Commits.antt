@@ -20,8 +20,8 @@ use Rattle.dstm_order.specs.Order.Due.{Step, Done}
 use Rattle.dstm_order.specs.Passes.{EveryCommitIsValidated}
 use Rattle.dstm_order.specs.Tasks.Task.{Doing}
 use Rattle.dstm_order.specs.Tasks.Work.{Committing}
-use Rattle.dstm_order.proofs.Rows.{pass_by, checking_by, checks_by, putting_by, put_by, passed_by}
-use Rattle.dstm_order.proofs.Validations.{Chain, GoesOn, goes_on, due_kind, NoTest, is_test, no_test, row_tests, first_no, test_goes, chain_none, chain_more, chain_ends, commit_is}
+use Rattle.dstm_order.proofs.Rows.{is_test, pass_by, checking_by, checks_by, putting_by, put_by, passed_by}
+use Rattle.dstm_order.proofs.Validations.{Chain, GoesOn, goes_on, due_kind, NoTest, no_test, row_tests, first_no, test_goes, chain_none, chain_more, chain_ends, commit_is}
 
 -- ---- the events of a commit
 

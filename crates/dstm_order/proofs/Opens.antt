@@ -21,7 +21,7 @@ use Rattle.dstm_order.specs.Passes.{is_open, EndsInPass, EndsInRank, EveryOpenEn
 use Rattle.dstm_order.specs.Tasks.{Work}
 use Rattle.dstm_order.specs.Tasks.Task.{Doing}
 use Rattle.dstm_order.specs.Tasks.Work.{Reading, Writing}
-use Rattle.dstm_order.proofs.Rows.{resolving_by, giving_way_by, pass_by, passed_by}
+use Rattle.dstm_order.proofs.Rows.{resolves, resolves_by, resolving_by, giving_way_by, pass_by, passed_by}
 use Rattle.dstm_order.proofs.Validations.{GoesOn, goes_on, due_kind, every_pass}
 
 -- ---- the events of an open
@@ -84,16 +84,12 @@ checks_early p l h = pass_by IsEarly l refl refl
 resolving_early : (w : Work) (m : Manager) (l : LocalState) (c : Effort) → is_open w ≡ true →
     IsEarly (in_resolving m l c (when_resolved w))
 resolving_early w m l c h =
-    resolving_by IsEarly m l c (when_resolved w) (record {
-      owner = refl;
-      status = refl;
-      rank = refl;
-      old = refl;
-      high = refl;
-      new = refl;
-      kill = refl;
-      pause = refl;
-    }) (λ _. giving_way_by IsEarly l c refl refl refl) (resolved_early w h)
+    resolving_by IsEarly m l c (when_resolved w) (resolves_by IsEarly resolves_early)
+    (λ _. giving_way_by IsEarly l c refl refl refl) (resolved_early w h)
+  where
+    resolves_early : (k : Kind) → resolves k ≡ true → IsEarly (just k)
+    resolves_early Rank q = absurd (cc)
+    resolves_early k q = cc
 
 -- in an open a step follows that is early, unless its newest event is a LookSelf, a Rank or a Quit
 next_early : (k : Kind) (e : Event) (w : Work) (m : Manager) (l : LocalState) (c : Effort) → is_open w ≡ true →

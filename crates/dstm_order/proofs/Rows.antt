@@ -1,8 +1,11 @@
 -- A fact of what is due, from the same fact of each event that a row of the table of steps names.
-use Rattle.std.proofs.Common.{◌&&◌, ◌==◌, ◌||◌, ◌≡◌, is_none, length, nat_lt, not, refl, true, ℕ}
+use Rattle.std.proofs.Common.{◌&&◌, ◌==◌, ◌||◌, ◌≡◌, Bool, Option, Some, None, false, is_none, length, nat_lt, not, refl, true, ℕ}
 use Rattle.std.proofs.lemmas.Bool.{cond_both}
 use Rattle.dstm_core.specs.State.{LocalState, is_live, is_resolved, next_write, res, version}
-use Rattle.dstm_core.specs.declared.event.Kind.TheVariants.{Check, Commit, Kill, LookHigh, LookNew, LookOld, LookOwner, LookRank, LookSelf, LookStatus, Pause, PutHigh, PutNew, Quit, Rank, Resume, Validating as ToValidating}
+use Rattle.dstm_core.proofs.Untouched.{is_look}
+use Rattle.dstm_core.specs.Events.{Event}
+use Rattle.dstm_core.specs.declared.event.Kind.{Kind}
+use Rattle.dstm_core.specs.declared.event.Kind.TheVariants.{Begin, Check, Commit, Draw, Enrol, Install, Kill, LookHigh, LookNew, LookNumber, LookObj, LookOld, LookOwner, LookRank, LookSelf, LookStatus, Pause, PutHigh, PutNew, PutOld, PutOwner, Quit, Rank, Release, Resume, Stamp, Validating as ToValidating}
 use Rattle.dstm_core.specs.declared.shape.Manager.{Manager}
 use Rattle.dstm_core.specs.declared.state.Phase.{Phase}
 use Rattle.dstm_core.specs.declared.state.Phase.TheVariants.{Drawn, Paused}
@@ -10,7 +13,7 @@ use Rattle.dstm_managers.specs.declared.decider.Choice.{Choice}
 use Rattle.dstm_managers.specs.declared.decider.Choice.TheVariants as decision
 use Rattle.dstm_model.specs.declared.value.Val.{Val}
 use Rattle.dstm_order.specs.Efforts.{Effort, chosen}
-use Rattle.dstm_order.specs.Order.{Due, enemy_code, has_ranks, in_checking, in_checks, in_conflict, in_giving_way, in_pass, in_putting, in_resolving, is_paused, is_same, just, on_choice, rises, when_passed, when_put}
+use Rattle.dstm_order.specs.Order.{Due, at_first, enemy_code, has_ranks, in_checking, in_checks, in_conflict, in_giving_way, in_pass, in_putting, in_resolving, is_paused, is_same, just, next, next_or_first, on_choice, rises, when_passed, when_put, when_resolved}
 use Rattle.dstm_order.specs.Order.Due.{Done, Step}
 use Rattle.dstm_order.specs.Tasks.{Work}
 use Rattle.dstm_order.specs.Tasks.Work.{Reading, Writing, Releasing, Rechecking, Committing}
@@ -25,6 +28,25 @@ pub record Resolves (P : Due → Type 0) : Type 0 where
   pub new : P (just LookNew)
   pub kill : P (just Kill)
   pub pause : P (just Pause)
+
+-- the kinds of these events
+abbrev pub resolves : Kind → Bool
+resolves LookObj = false
+resolves Pause = true
+resolves k = is_look k
+
+-- where it is a fact of each event of such a kind
+pub resolves_by : (P : Due → Type 0) → ((k : Kind) → resolves k ≡ true → P (just k)) → Resolves P
+resolves_by P each = record {
+  owner = each LookOwner refl;
+  status = each LookStatus refl;
+  rank = each LookRank refl;
+  old = each LookOld refl;
+  high = each LookHigh refl;
+  new = each LookNew refl;
+  kill = each Kill refl;
+  pause = each Pause refl;
+}
 
 pub choice_by : (P : Due → Type 0) (c : Choice) → Resolves P → P (on_choice c)
 choice_by P decision.Kill h = h.kill
@@ -91,3 +113,91 @@ passed_by P (Reading o) m l done rank = cond_both (rises m) _ _ P (λ _. rank _)
 passed_by P (Writing o) m l done rank = cond_both (rises m) _ _ P (λ _. rank _) (λ _. done)
 passed_by P (Releasing o) m l done rank = cond_both (rises m) _ _ P (λ _. rank _) (λ _. done)
 passed_by P (Committing v) m l done rank = cond_both (rises m) _ _ P (λ _. rank _) (λ _. done)
+
+-- ---- the whole table
+
+-- a check, or the end of some checks
+abbrev pub is_test : Kind → Bool
+is_test Check = true
+is_test LookSelf = true
+is_test Commit = true
+is_test k = false
+
+-- after these such an event is due
+abbrev pub is_tested : Kind → Bool
+is_tested LookNumber = true
+is_tested Check = true
+is_tested Draw = true
+is_tested k = false
+
+-- after these events an object is being resolved
+abbrev pub is_resolving : Kind → Bool
+is_resolving Pause = true
+is_resolving Resume = true
+is_resolving k = is_look k
+
+-- any other event, but for a Release, and those that begin or drop an attempt
+abbrev pub is_step : Kind → Bool
+is_step LookObj = true
+is_step Release = false
+is_step Begin = false
+is_step Quit = false
+is_step k = not (is_test k || is_resolving k)
+
+-- a fact of nothing due, of each step, and of the Release where one is asked for
+pub record EachStep (P : Due → Type 0) (w : Work) : Type 0 where
+  pub done : P Done
+  pub step : (k : Kind) (n : ℕ) → is_step k ≡ true → P (Step k n)
+  pub release : (o : ℕ) → w ≡ Releasing o → P (Step Release o)
+
+steps_put : (P : Due → Type 0) (w : Work) (l : LocalState) → EachStep P w → P (when_put w l)
+steps_put P w l h =
+    put_by P w l h.done (h.step ToValidating 0 refl) (λ n. h.step PutHigh n refl) (λ n. h.step PutNew n refl)
+
+pub first_by : (P : Due → Type 0) (w : Work) (l : LocalState) → EachStep P w → P (at_first w l)
+first_by P (Reading o) l h = h.step LookObj o refl
+first_by P (Writing o) l h = h.step LookObj o refl
+first_by P (Releasing o) l h = h.release o refl
+first_by P Rechecking l h = h.step LookNumber 0 refl
+first_by P (Committing v) l h = steps_put P (Committing v) l h
+
+pub resolved_by : (P : Due → Type 0) (w : Work) → EachStep P w → P (when_resolved w)
+resolved_by P (Reading o) h = h.step LookNumber 0 refl
+resolved_by P (Writing o) h = h.step PutOwner 0 refl
+resolved_by P w h = h.done
+
+-- so it is one of what is due after an event, where it is one of the row that resolves an object, and of the tests
+pub next_by : (P : Due → Type 0) (k : Kind) (e : Event) (w : Work) (m : Manager) (l : LocalState) (f : Effort) →
+    EachStep P w → P (in_resolving m l f (when_resolved w)) →
+    ((j : Kind) → is_tested k ≡ true → is_test j ≡ true → P (just j)) → P (next k e w m l f)
+next_by P LookNumber e w m l f h resolving test = pass_by P l (test LookSelf refl refl) (test Check refl refl)
+next_by P Check e w m l f h resolving test =
+    checks_by P l.phase l (test LookSelf refl refl) (test Commit refl refl) (test Check refl refl)
+next_by P Draw e w m l f h resolving test = checking_by P l (test Commit refl refl) (test Check refl refl)
+next_by P PutOwner e w m l f h resolving test = h.step PutOld 0 refl
+next_by P PutOld e w m l f h resolving test = h.step Install 0 refl
+next_by P Install e w m l f h resolving test =
+    cond_both (e.found == e.expected) _ _ P (λ _. h.step LookNumber 0 refl) (λ _. first_by P w l h)
+next_by P LookSelf e w m l f h resolving test = passed_by P w m l h.done (λ n. h.step Rank n refl)
+next_by P PutHigh e w m l f h resolving test = steps_put P w l h
+next_by P PutNew e w m l f h resolving test = steps_put P w l h
+next_by P ToValidating e w m l f h resolving test = h.step Draw 0 refl
+next_by P Rank e w m l f h resolving test = h.done
+next_by P Release e w m l f h resolving test = h.done
+next_by P Commit e w m l f h resolving test = h.done
+next_by P Quit e w m l f h resolving test = h.done
+next_by P Enrol e w m l f h resolving test = h.done
+next_by P Stamp e w m l f h resolving test = h.done
+next_by P Begin e w m l f h resolving test = h.done
+next_by P k e w m l f h resolving test = resolving
+
+pub table_by : (P : Due → Type 0) (o : Option Event) (w : Work) (m : Manager) (l : LocalState) (f : Effort) →
+    EachStep P w → P (in_resolving m l f (when_resolved w)) →
+    ((j : Kind) → is_test j ≡ true → P (just j)) → P (next_or_first o w m l f)
+table_by P None w m l f h resolving test = first_by P w l h
+table_by P (Some e) w m l f h resolving test = next_by P e.kind e w m l f h resolving (λ j _ q. test j q)
+
+pub next_resolving : (k : Kind) (e : Event) (w : Work) (m : Manager) (l : LocalState) (f : Effort) →
+    is_resolving k ≡ true → next k e w m l f ≡ in_resolving m l f (when_resolved w)
+next_resolving LookObj e w m l f q = refl
+next_resolving k e w m l f q = cc

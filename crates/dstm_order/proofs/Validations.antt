@@ -4,7 +4,7 @@ use Rattle.std.specs.Prelude.{Option, if◌then◌else◌, slice_get}
 use Rattle.std.proofs.lemmas.Bool.{cond_both, eqb-true, or_parts}
 use Rattle.dstm_core.specs.Events.{Event}
 use Rattle.dstm_core.specs.declared.event.Kind.{Kind}
-use Rattle.dstm_core.specs.declared.event.Kind.TheVariants.{Enrol, Stamp, Rank, Begin, PutOwner, PutOld, Install, LookNumber, Check, LookSelf, Release, PutHigh, PutNew, Validating as ToValidating, Draw, Commit, Quit}
+use Rattle.dstm_core.specs.declared.event.Kind.TheVariants.{LookNumber, Check, LookSelf, Draw, Commit, Quit}
 use Rattle.dstm_core.specs.declared.shape.Manager.{Manager}
 use Rattle.dstm_core.specs.declared.shape.Shape.{Shape}
 use Rattle.dstm_core.specs.declared.state.Phase.{Phase}
@@ -19,16 +19,9 @@ use Rattle.dstm_order.specs.Order.Due.{Step, Done}
 use Rattle.dstm_order.specs.Passes.{AreChecks, checks_needed, Validates, EveryPassIsComplete}
 use Rattle.dstm_order.specs.Tasks.{Work}
 use Rattle.dstm_order.specs.Tasks.Task.{Doing}
-use Rattle.dstm_order.specs.Tasks.Work.{Reading, Writing, Releasing, Rechecking, Committing}
-use Rattle.dstm_order.proofs.Rows.{resolving_by, giving_way_by, checking_by, putting_by, put_by, passed_by}
+use Rattle.dstm_order.proofs.Rows.{EachStep, is_step, is_test, resolves, resolves_by, first_by, resolved_by, next_by, giving_way_by, resolving_by, checking_by}
 
 -- ---- the rows in which a check, or the end of some checks, is due
-
-abbrev pub is_test : Kind → Bool
-is_test Check = true
-is_test LookSelf = true
-is_test Commit = true
-is_test k = false
 
 abbrev pub tests : Due → Bool
 tests (Step k n) = is_test k
@@ -37,32 +30,24 @@ tests Done = false
 abbrev pub NoTest : Due → Type 0
 NoTest d = tests d ≡ false
 
-resolved_no : (w : Work) → NoTest (when_resolved w)
-resolved_no (Reading o) = refl
-resolved_no (Writing o) = refl
-resolved_no (Releasing o) = refl
-resolved_no Rechecking = refl
-resolved_no (Committing v) = refl
-
-pub first_no : (w : Work) (l : LocalState) → NoTest (at_first w l)
-first_no (Reading o) l = refl
-first_no (Writing o) l = refl
-first_no (Releasing o) l = refl
-first_no Rechecking l = refl
-first_no (Committing v) l = putting_by NoTest v l refl (λ n. refl) (λ n. refl)
+steps_no : (w : Work) → EachStep NoTest w
+steps_no w = record { done = refl; step = λ k n q. no k q; release = λ o q. refl }
+  where
+    no : (k : Kind) → is_step k ≡ true → is_test k ≡ false
+    no Check q = absurd (cc)
+    no k q = cc
 
 resolving_no : (w : Work) (m : Manager) (l : LocalState) (c : Effort) → NoTest (in_resolving m l c (when_resolved w))
 resolving_no w m l c =
-    resolving_by NoTest m l c (when_resolved w) (record {
-      owner = refl;
-      status = refl;
-      rank = refl;
-      old = refl;
-      high = refl;
-      new = refl;
-      kill = refl;
-      pause = refl;
-    }) (λ _. giving_way_by NoTest l c refl refl refl) (resolved_no w)
+    resolving_by NoTest m l c (when_resolved w) (resolves_by NoTest no) (λ _. giving_way_by NoTest l c refl refl refl)
+    (resolved_by NoTest w (steps_no w))
+  where
+    no : (k : Kind) → resolves k ≡ true → NoTest (just k)
+    no Check q = absurd (cc)
+    no k q = cc
+
+pub first_no : (w : Work) (l : LocalState) → NoTest (at_first w l)
+first_no w l = first_by NoTest w l (steps_no w)
 
 -- such a row is that of a LookNumber, a Check or a Draw
 pub row_tests : (k : Kind) (e : Event) (w : Work) (m : Manager) (l : LocalState) (c : Effort) →
@@ -70,22 +55,8 @@ pub row_tests : (k : Kind) (e : Event) (w : Work) (m : Manager) (l : LocalState)
 row_tests LookNumber e w m l c = inl refl
 row_tests Check e w m l c = inr (inl refl)
 row_tests Draw e w m l c = inr (inr (inl refl))
-row_tests PutOwner e w m l c = inr (inr (inr refl))
-row_tests PutOld e w m l c = inr (inr (inr refl))
-row_tests Install e w m l c =
-    inr (inr (inr (cond_both (e.found == e.expected) _ _ NoTest (λ _. refl) (λ _. first_no w l))))
-row_tests LookSelf e w m l c = inr (inr (inr (passed_by NoTest w m l refl (λ n. refl))))
-row_tests PutHigh e w m l c = inr (inr (inr (put_by NoTest w l refl refl (λ n. refl) (λ n. refl))))
-row_tests PutNew e w m l c = inr (inr (inr (put_by NoTest w l refl refl (λ n. refl) (λ n. refl))))
-row_tests ToValidating e w m l c = inr (inr (inr refl))
-row_tests Rank e w m l c = inr (inr (inr refl))
-row_tests Release e w m l c = inr (inr (inr refl))
-row_tests Commit e w m l c = inr (inr (inr refl))
-row_tests Quit e w m l c = inr (inr (inr refl))
-row_tests Enrol e w m l c = inr (inr (inr refl))
-row_tests Stamp e w m l c = inr (inr (inr refl))
-row_tests Begin e w m l c = inr (inr (inr refl))
-row_tests k e w m l c = inr (inr (inr (resolving_no w m l c)))
+row_tests k e w m l c =
+    inr (inr (inr (next_by NoTest k e w m l c (steps_no w) (resolving_no w m l c) (λ j tested q. absurd (cc)))))
 
 -- ---- a call on a live attempt that goes on
 
