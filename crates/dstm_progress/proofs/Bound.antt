@@ -22,7 +22,7 @@ use Rattle.dstm_progress.specs.Alone.{AloneBound, AloneEnds, AreCalls, AreOf, Is
 use Rattle.dstm_progress.proofs.Alone.{Undisturbed, install_succeeds, kill_succeeds}
 use Rattle.dstm_progress.proofs.Calls.{GoesOn, IsFresh, append_assoc_events, are_of_split, begins_awake, begins_undisturbed, calls_go, due_next, fresh_begin, goes_on_step, local_after, missed_after, no_pause_due, no_quit_due, nothing_due, own_status_found, unmet_more}
 use Rattle.dstm_progress.proofs.Room.{Blank, Stage, Still, base, closes, drawing, ended, installing, numbering, opening, opens, owning, passed, passing, puts_left, putting, releasing, resolving, tail, validating}
-use Rattle.dstm_order.proofs.Rows.{Resolves, checking_by, pass_by, putting_by, resolving_by}
+use Rattle.dstm_order.proofs.Rows.{checking_by, pass_by, putting_by, resolves_by, resolving_by}
 use Rattle.dstm_order.proofs.EnemyRanks.{found_is_rank}
 use Rattle.dstm_progress.proofs.Stages.{Facts, stage_step}
 
@@ -50,18 +50,6 @@ first_stage s (Committing v) l f r = putting refl v refl refl (λ q. (r.blank q)
 abbrev pub IsStep : Due → Type 0
 IsStep d = d ≢ Done
 
-pub resolves_step : Resolves IsStep
-resolves_step = record {
-  owner = λ q. cc;
-  status = λ q. cc;
-  rank = λ q. cc;
-  old = λ q. cc;
-  high = λ q. cc;
-  new = λ q. cc;
-  kill = λ q. cc;
-  pause = λ q. cc;
-}
-
 resolved_due : (w : Work) → opens w ≡ true → IsStep (when_resolved w)
 resolved_due (Reading o) h q = cc
 resolved_due (Writing o) h q = cc
@@ -72,7 +60,7 @@ resolved_due (Committing v) h q = cc
 resolving_due : (m : Manager) (w : Work) (l : LocalState) (f : Effort) → opens w ≡ true → l.phase ≡ Running →
     IsStep (in_resolving m l f (when_resolved w))
 resolving_due m w l f op ph =
-    resolving_by IsStep m l f (when_resolved w) resolves_step (λ q. absurd (cc)) (resolved_due w op)
+    resolving_by IsStep m l f (when_resolved w) (resolves_by IsStep (λ k _ q. cc)) (λ q. absurd (cc)) (resolved_due w op)
 
 some_not_none : (o : Option ℕ) → is_some o ≡ true → o ≡ None → ⊥
 some_not_none None h q = cc

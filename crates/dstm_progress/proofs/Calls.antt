@@ -9,7 +9,7 @@ use Rattle.dstm_core.specs.Words.{place}
 use Rattle.dstm_core.specs.Words.Word.{StatusWord}
 use Rattle.dstm_core.specs.Events.{Event}
 use Rattle.dstm_core.specs.declared.event.Kind.{Kind}
-use Rattle.dstm_core.specs.declared.event.Kind.TheVariants.{Begin, Check, Commit, Draw, Install, Kill, LookHigh, LookNew, LookNumber, LookObj, LookOld, LookOwner, LookRank, LookSelf, LookStatus, Pause, PutHigh, PutNew, PutOld, PutOwner, Quit, Resume, Validating as ToValidating}
+use Rattle.dstm_core.specs.declared.event.Kind.TheVariants.{Begin, Commit, Draw, Install, Kill, LookObj, LookSelf, LookStatus, Pause, PutHigh, PutNew, Quit, Resume, Validating as ToValidating}
 use Rattle.dstm_core.specs.declared.shape.Manager.{Manager}
 use Rattle.dstm_core.specs.declared.shape.Manager.TheVariants.{Greedy}
 use Rattle.dstm_core.specs.declared.shape.Shape.{Shape}
@@ -20,19 +20,17 @@ use Rattle.dstm_core.proofs.Places.{put_at}
 use Rattle.dstm_core.proofs.Static.{has_owner, local_own, local_other}
 use Rattle.dstm_core.proofs.Pasts.{core_past}
 use Rattle.dstm_core.proofs.Statuses.{begin_put}
-use Rattle.dstm_model.specs.declared.value.Val.{Val}
 use Rattle.dstm_opacity.proofs.Versions.{owner_of, status_of}
 use Rattle.dstm_order.specs.Calls.{Obeys, effort_of, newest_of, state_after}
 use Rattle.dstm_order.specs.Efforts.{Effort, effort_after}
-use Rattle.dstm_order.specs.Order.{Due, IsDue, at_first, due, in_putting, in_resolving, is_paused, next, next_or_first, when_resolved}
+use Rattle.dstm_order.specs.Order.{Due, IsDue, due, is_paused, next_or_first, when_resolved}
 use Rattle.dstm_order.specs.Order.Due.{Done, Step}
 use Rattle.dstm_order.specs.Tasks.{Work}
 use Rattle.dstm_order.specs.Tasks.Task.{Doing}
-use Rattle.dstm_order.specs.Tasks.Work.{Reading, Writing, Releasing, Rechecking, Committing}
 use Rattle.rand_pcg.specs.Lcg.{Lcg}
 use Rattle.dstm_progress.specs.Alone.{AloneCommits, AreCalls, AreOf, IsAlone, IsUnmet, Made, all_events, generator_after}
 use Rattle.dstm_progress.proofs.Alone.{ResNow, Undisturbed, awake_step, install_succeeds, kill_succeeds, now_res, undisturbed_step}
-use Rattle.dstm_order.proofs.Rows.{Resolves, checking_by, checks_by, pass_by, passed_by, put_by, putting_by, resolving_by}
+use Rattle.dstm_order.proofs.Rows.{EachStep, is_step, is_test, resolved_by, resolves, resolves_by, resolving_by, table_by}
 use Rattle.dstm_core.proofs.Underway.{is_outside_now, live_under_way}
 use Rattle.dstm_opacity.proofs.Found.{live_below}
 use Rattle.dstm_order.proofs.Misses.{turn_missed}
@@ -52,70 +50,16 @@ pub not_paused : (p : Phase) → p ≢ Paused → is_paused p ≡ false
 not_paused Paused h = absurd (h refl)
 not_paused p h = refl
 
-resolves_no_quit : Resolves NoQuit
-resolves_no_quit = record {
-  owner = λ q. cc;
-  status = λ q. cc;
-  rank = λ q. cc;
-  old = λ q. cc;
-  high = λ q. cc;
-  new = λ q. cc;
-  kill = λ q. cc;
-  pause = λ q. cc;
-}
-
-resolving_no_quit : (m : Manager) (l : LocalState) (c : Effort) (d : Due) → l.phase ≢ Paused → NoQuit d →
-    NoQuit (in_resolving m l c d)
-resolving_no_quit m l c d np h = resolving_by NoQuit m l c d resolves_no_quit (λ q. absurd (np q)) h
-
-resolved_no_quit : (w : Work) → NoQuit (when_resolved w)
-resolved_no_quit (Reading o) = λ q. cc
-resolved_no_quit (Writing o) = λ q. cc
-resolved_no_quit (Releasing o) = tt
-resolved_no_quit Rechecking = tt
-resolved_no_quit (Committing v) = tt
-
-putting_no_quit : (v : ℕ → Val) (l : LocalState) → NoQuit (in_putting v l)
-putting_no_quit v l = putting_by NoQuit v l (λ q. cc) (λ n q. cc) (λ n q. cc)
-
-first_no_quit : (w : Work) (l : LocalState) → NoQuit (at_first w l)
-first_no_quit (Reading o) l = λ q. cc
-first_no_quit (Writing o) l = λ q. cc
-first_no_quit (Releasing o) l = λ q. cc
-first_no_quit Rechecking l = λ q. cc
-first_no_quit (Committing v) l = putting_no_quit v l
-
-next_no_quit : (k : Kind) (e : Event) (w : Work) (m : Manager) (l : LocalState) (c : Effort) →
-    l.phase ≢ Paused →
-    NoQuit (next k e w m l c)
-next_no_quit PutOwner e w m l c np = λ q. cc
-next_no_quit PutOld e w m l c np = λ q. cc
-next_no_quit Install e w m l c np =
-    cond_both (e.found == e.expected) _ _ NoQuit (λ _ q. cc) (λ _. first_no_quit w l)
-next_no_quit LookNumber e w m l c np = pass_by NoQuit l (λ q. cc) (λ q. cc)
-next_no_quit Check e w m l c np = checks_by NoQuit l.phase l (λ q. cc) (λ q. cc) (λ q. cc)
-next_no_quit LookSelf e w m l c np = passed_by NoQuit w m l tt (λ n q. cc)
-next_no_quit PutHigh e w m l c np = put_by NoQuit w l tt (λ q. cc) (λ n q. cc) (λ n q. cc)
-next_no_quit PutNew e w m l c np = put_by NoQuit w l tt (λ q. cc) (λ n q. cc) (λ n q. cc)
-next_no_quit ToValidating e w m l c np = λ q. cc
-next_no_quit Draw e w m l c np = checking_by NoQuit l (λ q. cc) (λ q. cc)
-next_no_quit LookObj e w m l c np = resolving_no_quit m l c (when_resolved w) np (resolved_no_quit w)
-next_no_quit LookOwner e w m l c np = resolving_no_quit m l c (when_resolved w) np (resolved_no_quit w)
-next_no_quit LookStatus e w m l c np = resolving_no_quit m l c (when_resolved w) np (resolved_no_quit w)
-next_no_quit LookRank e w m l c np = resolving_no_quit m l c (when_resolved w) np (resolved_no_quit w)
-next_no_quit LookOld e w m l c np = resolving_no_quit m l c (when_resolved w) np (resolved_no_quit w)
-next_no_quit LookHigh e w m l c np = resolving_no_quit m l c (when_resolved w) np (resolved_no_quit w)
-next_no_quit LookNew e w m l c np = resolving_no_quit m l c (when_resolved w) np (resolved_no_quit w)
-next_no_quit Kill e w m l c np = resolving_no_quit m l c (when_resolved w) np (resolved_no_quit w)
-next_no_quit Pause e w m l c np = resolving_no_quit m l c (when_resolved w) np (resolved_no_quit w)
-next_no_quit Resume e w m l c np = resolving_no_quit m l c (when_resolved w) np (resolved_no_quit w)
-next_no_quit k e w m l c np = tt
-
 pub newest_no_quit : (e : Option Event) (w : Work) (m : Manager) (l : LocalState) (c : Effort) →
     l.phase ≢ Paused →
     NoQuit (next_or_first e w m l c)
-newest_no_quit None w m l c np = first_no_quit w l
-newest_no_quit (Some e) w m l c np = next_no_quit e.kind e w m l c np
+newest_no_quit e w m l c np = table_by NoQuit e w m l c steps
+    (resolving_by NoQuit m l c (when_resolved w) (resolves_by NoQuit (λ k q z. let x = ap resolves z in cc)) (λ q. absurd (np q))
+    (resolved_by NoQuit w steps))
+    (λ k q z. let x = ap is_test z in cc)
+  where
+    steps : EachStep NoQuit w
+    steps = record { done = tt; step = λ k n q z. let x = ap is_step z in cc; release = λ o q z. cc }
 
 pub inside_phase : (p : Phase) → p ≢ Outside → is_outside p ≡ false
 inside_phase Outside h = absurd (h refl)

@@ -1,5 +1,5 @@
 -- Who disturbs an attempt: another caller, since its Begin or, where it gives way, before it.
-use Rattle.std.proofs.Common.{◌&&◌, ◌++◌, ◌+◌, ◌<◌, ◌==◌, ◌∙◌, ◌∷◌, ◌≡◌, ◌≢◌, ◌≤◌, ◌⊎◌, Bool, List, [], ap, append-nil, arith, false, inl, inr, is_some, length, not, refl, subst, sym, true, ℕ}
+use Rattle.std.proofs.Common.{◌&&◌, ◌++◌, ◌+◌, ◌<◌, ◌==◌, ◌∙◌, ◌∷◌, ◌≡◌, ◌≢◌, ◌≤◌, ◌⊎◌, Bool, List, [], ap, append-nil, arith, false, inl, inr, not, refl, subst, sym, true, ℕ}
 use Rattle.std.proofs.lemmas.Bool.{cases_Bool, cases_lt, eq-eqb, ne_eqb}
 use Rattle.dstm_core.specs.Events.{Event}
 use Rattle.dstm_core.specs.Rules.{AllowedAs, after}
@@ -8,7 +8,7 @@ use Rattle.dstm_core.specs.State.{LocalState, given, own_attempt}
 use Rattle.dstm_core.specs.Words.{place}
 use Rattle.dstm_core.specs.Words.Word.{StatusWord}
 use Rattle.dstm_core.specs.declared.event.Kind.{Kind}
-use Rattle.dstm_core.specs.declared.event.Kind.TheVariants.{Begin, Check, Commit, Draw, Enrol, Install, Kill, LookHigh, LookNew, LookNumber, LookObj, LookOld, LookOwner, LookRank, LookSelf, LookStatus, Pause, PutHigh, PutNew, PutOld, PutOwner, Quit, Rank, Release, Resume, Stamp, Validating as ToValidating}
+use Rattle.dstm_core.specs.declared.event.Kind.TheVariants.{Begin, Commit, Enrol, Install, Kill, LookSelf, Pause, Quit, Rank, Resume, Stamp, Validating as ToValidating}
 use Rattle.dstm_core.specs.declared.shape.Shape.{Shape}
 use Rattle.dstm_core.specs.declared.state.Phase.{Phase}
 use Rattle.dstm_core.specs.declared.state.Phase.TheVariants.{Drawn, Outside, Paused, Putting, Running, Validating}
@@ -24,63 +24,10 @@ use Rattle.dstm_progress.specs.Disturbed.Disturbed.{became_stale, gave_way, miss
 use Rattle.dstm_progress.specs.Calls.{DisturbedBesideAnother, DisturbedByAnother, NoneIsDisturbedAlone}
 use Rattle.dstm_progress.proofs.Alone.{Undisturbed, awake_step, fresh_after, install_succeeds, kill_succeeds, undisturbed_step}
 use Rattle.dstm_progress.proofs.Calls.{begins_undisturbed, no_pause_due, not_paused, own_status_found}
+use Rattle.dstm_progress.proofs.Outside.{early, early_out, is_early}
 use Rattle.dstm_progress.proofs.Others.{one_alone, own_or_other}
 
--- ---- what is allowed before a Begin
-
-abbrev is_early : Kind → Bool
-is_early Enrol = true
-is_early Stamp = true
-is_early Rank = true
-is_early Begin = true
-is_early k = false
-
-early : (s : Shape) (l : LocalState) (e : Event) (k : Kind) → AllowedAs k s l e → l.phase ≡ Outside →
-    is_early k ≡ true
-early s l e Enrol a o = refl
-early s l e Stamp a o = refl
-early s l e Rank a o = refl
-early s l e Begin a o = refl
-early s l e LookStatus a o = go a.2.0
-  where
-    go : (l.phase ≡ Running) ⊎ (l.phase ≡ Paused) → false ≡ true
-    go (inl x) = absurd (cc)
-    go (inr x) = absurd (cc)
-early s l e Check a o = go a.2.0
-  where
-    go : ((l.phase ≡ Running) × (is_some l.pass ≡ true)) ⊎ (l.phase ≡ Drawn) → false ≡ true
-    go (inl x) = absurd (let y = x.0 in cc)
-    go (inr x) = absurd (cc)
-early s l e PutHigh a o = go a.2.0
-  where
-    go : (l.phase ≡ Running) ⊎ (l.phase ≡ Putting) → false ≡ true
-    go (inl x) = absurd (cc)
-    go (inr x) = absurd (cc)
-early s l e ToValidating a o = go a.2.0
-  where
-    go : ((l.phase ≡ Running) × (l.writes ≡ [])) ⊎ ((l.phase ≡ Putting) × (l.written ≡ length l.writes)) →
-        false ≡ true
-    go (inl x) = absurd (let y = x.0 in cc)
-    go (inr x) = absurd (let y = x.0 in cc)
-early s l e Quit a o = absurd (a.2 o)
-early s l e LookObj a o = absurd (let x = a.2.0 in cc)
-early s l e LookOwner a o = absurd (let x = a.2.0 in cc)
-early s l e LookRank a o = absurd (let x = a.2.0 in cc)
-early s l e LookOld a o = absurd (let x = a.2.0 in cc)
-early s l e LookHigh a o = absurd (let x = a.2.0 in cc)
-early s l e LookNew a o = absurd (let x = a.2.0 in cc)
-early s l e PutOwner a o = absurd (let x = a.2.0 in cc)
-early s l e PutOld a o = absurd (let x = a.2.0 in cc)
-early s l e Install a o = absurd (let x = a.2.0 in cc)
-early s l e LookNumber a o = absurd (let x = a.2.0 in cc)
-early s l e LookSelf a o = absurd (let x = a.2.0 in cc)
-early s l e Release a o = absurd (let x = a.2.0 in cc)
-early s l e PutNew a o = absurd (let x = a.2.0 in cc)
-early s l e Draw a o = absurd (let x = a.2.0 in cc)
-early s l e Commit a o = absurd (let x = a.2.0 in cc)
-early s l e Kill a o = absurd (let x = a.2.0 in cc)
-early s l e Pause a o = absurd (let x = a.2.0 in cc)
-early s l e Resume a o = absurd (let x = a.2.0 in cc)
+-- ---- the events before a Begin
 
 not_both : (b : Bool) → (b && not b) ≡ false
 not_both true = refl
@@ -105,15 +52,6 @@ early_apart Stamp h = refl
 early_apart Rank h = refl
 early_apart Begin h = refl
 early_apart k h = absurd (cc)
-
--- of these only a Begin begins an attempt
-early_out : (s : Shape) (l : LocalState) (e : Event) (k : Kind) → is_early k ≡ true → l.phase ≡ Outside →
-    (after k s l e).phase ≢ Outside → k ≡ Begin
-early_out s l e Enrol h o i = absurd (i o)
-early_out s l e Stamp h o i = absurd (i o)
-early_out s l e Rank h o i = absurd (i o)
-early_out s l e Begin h o i = refl
-early_out s l e k h o i = absurd (cc)
 
 -- ---- an own event, of an attempt that found all as it is
 

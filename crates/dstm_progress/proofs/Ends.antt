@@ -1,16 +1,16 @@
 -- What stands of an attempt that has ended.
-use Rattle.std.proofs.Common.{◌*◌, ◌+◌, ◌-◌, ◌<◌, ◌∙◌, ◌∷◌, ◌≡◌, ◌≢◌, ◌≤◌, ◌⊎◌, Bool, List, None, Some, [], ap, arith, false, inl, inr, is_some, length, refl, subst, sym, true, ℕ, nat_lt, not}
+use Rattle.std.proofs.Common.{◌*◌, ◌+◌, ◌-◌, ◌<◌, ◌∙◌, ◌∷◌, ◌≡◌, ◌≢◌, ◌≤◌, ◌⊎◌, Bool, List, None, Some, [], ap, arith, false, inl, inr, is_some, subst, sym, true, ℕ, nat_lt, not}
 use Rattle.std.proofs.lemmas.Bool.{cases_eq, ltb-false, ltb-true, not-true, or_cases}
 use Rattle.dstm_core.specs.Events.{Event}
-use Rattle.dstm_core.specs.Rules.{AllowedAs, after}
+use Rattle.dstm_core.specs.Rules.{after}
 use Rattle.dstm_core.specs.Runs.{Core, local}
 use Rattle.dstm_core.specs.State.{LocalState, or_zero, own_attempt}
 use Rattle.dstm_core.specs.Traces.{at, word}
 use Rattle.dstm_core.specs.Words.Word.{StatusWord}
 use Rattle.dstm_core.specs.declared.event.Kind.{Kind}
-use Rattle.dstm_core.specs.declared.event.Kind.TheVariants.{Begin, Commit, Enrol, Install, LookSelf, Pause, PutHigh, PutNew, Draw, Resume, Validating as ToValidating}
+use Rattle.dstm_core.specs.declared.event.Kind.TheVariants.{Begin}
 use Rattle.dstm_core.specs.declared.shape.Shape.{Shape}
-use Rattle.dstm_core.specs.declared.state.Phase.TheVariants.{Outside, Putting, Running}
+use Rattle.dstm_core.specs.declared.state.Phase.TheVariants.{Outside}
 use Rattle.dstm_core.proofs.Begun.{begun_how}
 use Rattle.dstm_core.proofs.Columns.{in_table}
 use Rattle.dstm_core.proofs.Pasts.{core_past}
@@ -22,6 +22,7 @@ use Rattle.dstm_progress.specs.Ends.{ended_as}
 use Rattle.dstm_progress.specs.Calls.{CallersAreInRange, EveryEndStays, TheSpentAreUsedUp}
 use Rattle.dstm_progress.proofs.Leaves.{Left, LeftHow, left_how}
 use Rattle.dstm_progress.proofs.Leaves.LeftHow.{by_commit, by_other, by_quit}
+use Rattle.dstm_progress.proofs.Outside.{outside_keeps}
 use Rattle.dstm_progress.proofs.Sound.{sound}
 
 -- ---- who has made a step is a caller of the table
@@ -82,27 +83,6 @@ left_word : (s : Shape) (l : LocalState) (e : Event) (k : Kind) → LeftHow s l 
 left_word s l e k (by_commit c p) = rw c p
 left_word s l e k (by_quit q c p) = rw c p
 left_word s l e k (by_other q f c p) = rw c p
-
--- between attempts nothing changes but what prepares the next one
-outside_keeps : (s : Shape) (l : LocalState) (e : Event) (k : Kind) → AllowedAs k s l e →
-    is_some l.number ≡ true → l.phase ≡ Outside → (after k s l e).phase ≡ Outside →
-    (own_attempt s (after k s l e) ≡ own_attempt s l) × ((after k s l e).committed ≡ l.committed)
-outside_keeps s l e Enrol a n o p = absurd (let x = ap is_some a.2 in cc)
-outside_keeps s l e Begin a n o p = absurd (cc)
-outside_keeps s l e PutHigh a n o p = absurd (cc)
-outside_keeps s l e PutNew a n o p = absurd (cc)
-outside_keeps s l e Draw a n o p = absurd (cc)
-outside_keeps s l e Install a n o p = absurd (let x = a.2.0 in cc)
-outside_keeps s l e LookSelf a n o p = absurd (let x = a.2.0 in cc)
-outside_keeps s l e ToValidating a n o p = absurd (go a.2.0)
-  where
-    go : ((l.phase ≡ Running) × (l.writes ≡ [])) ⊎ ((l.phase ≡ Putting) × (l.written ≡ length l.writes)) → ⊥
-    go (inl x) = let y = x.0 in cc
-    go (inr x) = let y = x.0 in cc
-outside_keeps s l e Commit a n o p = absurd (let x = a.2.0 in cc)
-outside_keeps s l e Pause a n o p = absurd (let x = a.2.0 in cc)
-outside_keeps s l e Resume a n o p = absurd (let x = a.2.0 in cc)
-outside_keeps s l e k a n o p = (refl, refl)
 
 -- an event that is no Begin begins no attempt, as none does after which no attempt is under way
 pub no_begin : (s : Shape) (l : LocalState) (e : Event) (k : Kind) → k ≢ Begin → (after k s l e).begun ≡ l.begun

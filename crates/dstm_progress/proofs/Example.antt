@@ -1,5 +1,5 @@
 -- The examples are core runs.
-use Rattle.std.proofs.Common.{◌∷◌, ◌≡◌, ◌≢◌, ◌<◌, List, [], ℕ, suc, zero, true, inl, inr, refl, arith}
+use Rattle.std.proofs.Common.{◌∷◌, ◌≡◌, ◌≢◌, ◌<◌, List, [], ℕ, suc, zero, true, drop, inl, inr, refl, arith}
 use Rattle.dstm_core.specs.Runs.{Core, core, local}
 use Rattle.dstm_core.specs.Events.{Event}
 use Rattle.dstm_core.specs.declared.shape.Manager.TheVariants.{Greedy, Karma}
@@ -31,6 +31,22 @@ core_begun = run_then core (small Karma) [] (oldest_first (begun) []) tt (
     fit refl (omega arith) (λ q. cc) (refl, (refl, refl), (refl, refl, omega arith, inr refl), omega arith) also
     tt)
 
+-- caller 1 has found the half done attempt, and waited for it
+abbrev waited : List Event
+waited = drop 8 opened
+
+core_waited : Core (small Karma) waited
+core_waited = run_then core (small Karma) begun (oldest_first (newest 8 waited) []) core_begun (
+    fit refl (omega arith) (λ q. cc) (refl, (refl, refl), (refl, refl, refl), omega arith) also
+    fit refl (omega arith) (λ q. cc) (refl, (refl, refl), (refl, refl, omega arith), omega arith) also
+    fit refl (omega arith) (λ q. cc) (refl, (refl, refl), (inl refl, refl, refl, omega arith), omega arith) also
+    fit refl (omega arith) (λ q. cc) (refl, (refl, refl), (refl, refl, refl, (λ q. cc)), omega arith) also
+    fit refl (omega arith) (λ q. cc) (refl, (refl, refl), (inl refl, refl, refl, omega arith), omega arith) also
+    fit refl (omega arith) (λ q. cc) (refl, (refl, refl), (inl refl, refl, refl, omega arith), omega arith) also
+    fit refl (omega arith) (λ q. cc) (refl, (refl, refl), (inl refl, refl, refl, omega arith), omega arith) also
+    fit refl (omega arith) (λ q. cc) (refl, (refl, refl), (inl refl, refl, refl, omega arith), omega arith) also
+    tt)
+
 core_opened : Core (small Karma) opened
 core_opened = (
   (
@@ -40,76 +56,7 @@ core_opened = (
           (
             (
               (
-                (
-                  (
-                    (
-                      (
-                        (
-                          (
-                            (
-                              (
-                                core_begun,
-                                fit refl (omega arith) (λ q. cc) (
-                                  refl,
-                                  (refl, refl),
-                                  (refl, refl, refl),
-                                  omega arith,
-                                ),
-                              ),
-                              fit refl (omega arith) (λ q. cc) (
-                                refl,
-                                (refl, refl),
-                                (refl, refl, omega arith),
-                                omega arith,
-                              ),
-                            ),
-                            fit refl (omega arith) (λ q. cc) (
-                              refl,
-                              (refl, refl),
-                              (inl refl, refl, refl, omega arith),
-                              omega arith,
-                            ),
-                          ),
-                          fit refl (omega arith) (λ q. cc) (
-                            refl,
-                            (refl, refl),
-                            (
-                              refl,
-                              refl,
-                              refl,
-                              (λ q. cc),
-                            ),
-                            omega arith,
-                          ),
-                        ),
-                        fit refl (omega arith) (λ q. cc) (
-                          refl,
-                          (refl, refl),
-                          (inl refl, refl, refl, omega arith),
-                          omega arith,
-                        ),
-                      ),
-                      fit refl (omega arith) (λ q. cc) (
-                        refl,
-                        (refl, refl),
-                        (inl refl, refl, refl, omega arith),
-                        omega arith,
-                      ),
-                    ),
-                    fit refl (omega arith) (λ q. cc) (
-                      refl,
-                      (refl, refl),
-                      (inl refl, refl, refl, omega arith),
-                      omega arith,
-                    ),
-                  ),
-                  fit refl (omega arith) (λ q. cc) (
-                    refl,
-                    (refl, refl),
-                    (inl refl, refl, refl, omega arith),
-                    omega arith,
-                  ),
-                ),
+                core_waited,
                 fit refl (omega arith) (λ q. cc) (refl, (refl, refl), (refl, refl, refl, refl, tt), omega arith),
               ),
               fit refl (omega arith) (λ q. cc) (refl, (refl, refl), (refl, refl, refl), omega arith),

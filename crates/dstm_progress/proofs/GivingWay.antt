@@ -1,6 +1,6 @@
 -- Giving way: where a look at the enemy is due, or the Quit after the last one, all looks since the Pause found the
 -- enemy live and not waiting.
-use Rattle.std.proofs.Common.{◌+◌, ◌++◌, ◌-◌, ◌==◌, ◌&&◌, ◌||◌, ◌∙◌, ◌∷◌, ◌≡◌, ◌≢◌, ◌≤◌, ◌⊎◌, Bool, List, Some, [], add-one, ap, arith, false, inl, inr, is_some, length, not, refl, subst, sym, true, ℕ}
+use Rattle.std.proofs.Common.{⊎_elim, ◌+◌, ◌++◌, ◌-◌, ◌==◌, ◌&&◌, ◌||◌, ◌∙◌, ◌∷◌, ◌≡◌, ◌≢◌, ◌≤◌, ◌⊎◌, Bool, List, Some, [], add-one, ap, arith, false, inl, inr, is_some, length, not, refl, subst, sym, true, ℕ}
 use Rattle.std.proofs.lemmas.Bool.{cases_Bool, cond_both, eqb-false, not-false, or_parts}
 use Rattle.dstm_core.specs.Events.{Event}
 use Rattle.dstm_core.specs.Rules.{AllowedAs, after}
@@ -103,17 +103,13 @@ look_only s l e Quit a n was now = absurd (cc)
 look_only s l e Resume a n was now =
     absurd (cond_both (e.found == 2) _ _ (λ (m : LocalState). m.phase ≡ Paused → ⊥) (λ _ q. cc) (λ _ q. cc) now)
 look_only s l e Rank a n was now = absurd (let x = rw was at a.2 in x)
-look_only s l e Check a n was now = absurd (go a.2.0)
-  where
-    go : ((l.phase ≡ Running) × (is_some l.pass ≡ true)) ⊎ (l.phase ≡ Drawn) → ⊥
-    go (inl x) = let y = x.0 in cc
-    go (inr x) = cc
+look_only s l e Check a n was now =
+    absurd (⊎_elim (λ (x : (l.phase ≡ Running) × (is_some l.pass ≡ true)). let y = x.0 in cc)
+    (λ (x : l.phase ≡ Drawn). cc) a.2.0)
 look_only s l e PutHigh a n was now = absurd (cc)
-look_only s l e ToValidating a n was now = absurd (go a.2.0)
-  where
-    go : ((l.phase ≡ Running) × (l.writes ≡ [])) ⊎ ((l.phase ≡ Putting) × (l.written ≡ length l.writes)) → ⊥
-    go (inl x) = let y = x.0 in cc
-    go (inr x) = let y = x.0 in cc
+look_only s l e ToValidating a n was now =
+    absurd (⊎_elim (λ (x : (l.phase ≡ Running) × (l.writes ≡ [])). let y = x.0 in cc)
+    (λ (x : (l.phase ≡ Putting) × (l.written ≡ length l.writes)). let y = x.0 in cc) a.2.0)
 look_only s l e k a n was now = absurd (let x = a.2.0 in cc)
 
 pub record Looks (s : Shape) (l : LocalState) (e : Event) (k : Kind) : Type 0 where

@@ -1,30 +1,33 @@
 -- A Kill is chosen by the manager.
-use Rattle.std.proofs.Common.{◌≡◌, ◌∙◌, ◌&&◌, ◌==◌, ◌||◌, Bool, Some, None, true, false, refl, subst, sym, nat_lt, is_none}
+use Rattle.std.proofs.Common.{◌≡◌, ◌≢◌, ◌∙◌, ◌&&◌, ◌==◌, ◌||◌, Bool, true, false, ap, refl, subst, sym, nat_lt, is_none, ℕ}
 use Rattle.std.specs.Prelude.{Option}
 use Rattle.std.proofs.lemmas.Bool.{cond_both}
 use Rattle.dstm_core.specs.Events.{Event}
 use Rattle.dstm_core.specs.Rules.{is_outside}
 use Rattle.dstm_core.specs.State.{LocalState, is_live, is_resolved, res, version}
 use Rattle.dstm_core.specs.declared.event.Kind.{Kind}
-use Rattle.dstm_core.specs.declared.event.Kind.TheVariants.{Begin, Check, Commit, Draw, Enrol, Install, Kill, LookHigh, LookNew, LookNumber, LookOld, LookOwner, LookRank, LookSelf, LookStatus, PutHigh, PutNew, PutOld, PutOwner, Quit, Rank, Release, Resume, LookObj, Stamp, Validating as ToValidating}
+use Rattle.dstm_core.specs.declared.event.Kind.TheVariants.{Kill, LookHigh, LookNew, LookOld, LookOwner, LookRank, LookStatus, Quit, Release, Resume}
 use Rattle.dstm_core.specs.declared.shape.Manager.{Manager}
 use Rattle.dstm_core.specs.declared.shape.Shape.{Shape}
 use Rattle.dstm_managers.specs.declared.decider.Choice.{Choice}
 use Rattle.dstm_managers.specs.declared.decider.Choice.TheVariants as decision
 use Rattle.dstm_order.specs.Calls.{effort_of, newest_of, state_after}
 use Rattle.dstm_order.specs.Efforts.{Effort, chosen, most_missed}
-use Rattle.dstm_order.specs.Order.{Due, IsDue, at_first, due, enemy_code, has_ranks, in_conflict, in_resolving, is_paused, just, next, next_or_first, on_choice, when_resolved}
+use Rattle.dstm_order.specs.Order.{Due, IsDue, due, enemy_code, has_ranks, in_conflict, in_resolving, is_paused, just, next_or_first, on_choice, when_resolved}
 use Rattle.dstm_order.specs.Order.Due.{Done, Step}
 use Rattle.dstm_order.specs.Tasks.{Work}
 use Rattle.dstm_order.specs.Tasks.Task.{Doing}
-use Rattle.dstm_order.specs.Tasks.Work.{Reading, Writing, Releasing, Rechecking, Committing}
-use Rattle.dstm_order.proofs.Rows.{checking_by, checks_by, giving_way_by, pass_by, passed_by, put_by, putting_by}
+use Rattle.dstm_order.proofs.Rows.{EachStep, giving_way_by, is_step, is_test, resolved_by, table_by}
 use Rattle.dstm_progress.specs.Lives.{KillsAreChosen}
 
 abbrev kills : Due → Bool
 kills (Step Kill n) = true
 kills (Step k n) = false
 kills Done = false
+
+no_kill : (k : Kind) (n : ℕ) → k ≢ Kill → kills (Step k n) ≡ false
+no_kill Kill n h = absurd (h refl)
+no_kill k n h = refl
 
 -- where a Kill is due it was chosen
 abbrev Chosen : Choice → Due → Type 0
@@ -37,13 +40,6 @@ on_chosen : (c : Choice) → Chosen c (on_choice c)
 on_chosen decision.Kill q = refl
 on_chosen (decision.Wait t) q = absurd (cc)
 on_chosen decision.GiveWay q = absurd (cc)
-
-resolved_no : (c : Choice) (w : Work) → Chosen c (when_resolved w)
-resolved_no c (Reading o) = never c (just LookNumber) refl
-resolved_no c (Writing o) = never c (just PutOwner) refl
-resolved_no c (Releasing o) = never c Done refl
-resolved_no c Rechecking = never c Done refl
-resolved_no c (Committing v) = never c Done refl
 
 module _ (m : Manager) (l : LocalState) (f : Effort) where
   abbrev C : Due → Type 0
@@ -68,43 +64,16 @@ module _ (m : Manager) (l : LocalState) (f : Effort) where
       cond_both (is_none (version (res l))) _ _ C (λ _. unlike (just LookOld) refl) (λ _.
       cond_both (is_none (res l).high) _ _ C (λ _. unlike (just LookHigh) refl) (λ _. unlike (just LookNew) refl)))))))
 
-  first_row : (w : Work) → C (at_first w l)
-  first_row (Reading o) = unlike (Step LookObj o) refl
-  first_row (Writing o) = unlike (Step LookObj o) refl
-  first_row (Releasing o) = unlike (Step Release o) refl
-  first_row Rechecking = unlike (just LookNumber) refl
-  first_row (Committing v) =
-      putting_by C v l (unlike (just ToValidating) refl) (λ n. unlike (Step PutHigh n) refl) (λ n. unlike (Step PutNew n) refl)
-
-  next_row : (k : Kind) (e : Event) (w : Work) → C (next k e w m l f)
-  next_row PutOwner e w = unlike (just PutOld) refl
-  next_row PutOld e w = unlike (just Install) refl
-  next_row Install e w =
-      cond_both (e.found == e.expected) _ _ C (λ _. unlike (just LookNumber) refl) (λ _. first_row w)
-  next_row LookNumber e w = pass_by C l (unlike (just LookSelf) refl) (unlike (just Check) refl)
-  next_row Check e w =
-      checks_by C l.phase l (unlike (just LookSelf) refl) (unlike (just Commit) refl) (unlike (just Check) refl)
-  next_row LookSelf e w = passed_by C w m l (unlike Done refl) (λ n. unlike (Step Rank n) refl)
-  next_row PutHigh e w =
-      put_by C w l (unlike Done refl) (unlike (just ToValidating) refl) (λ n. unlike (Step PutHigh n) refl)
-      (λ n. unlike (Step PutNew n) refl)
-  next_row PutNew e w =
-      put_by C w l (unlike Done refl) (unlike (just ToValidating) refl) (λ n. unlike (Step PutHigh n) refl)
-      (λ n. unlike (Step PutNew n) refl)
-  next_row ToValidating e w = unlike (just Draw) refl
-  next_row Draw e w = checking_by C l (unlike (just Commit) refl) (unlike (just Check) refl)
-  next_row Rank e w = unlike Done refl
-  next_row Release e w = unlike Done refl
-  next_row Commit e w = unlike Done refl
-  next_row Quit e w = unlike Done refl
-  next_row Enrol e w = unlike Done refl
-  next_row Stamp e w = unlike Done refl
-  next_row Begin e w = unlike Done refl
-  next_row k e w = resolving (when_resolved w) (resolved_no (chosen m l f) w)
+  steps : (w : Work) → EachStep C w
+  steps w = record {
+    done = unlike Done refl;
+    step = λ k n q. unlike (Step k n) (no_kill k n (λ z. let x = ap is_step z in cc));
+    release = λ o q. unlike (Step Release o) refl;
+  }
 
   table_row : (o : Option Event) (w : Work) → C (next_or_first o w m l f)
-  table_row None w = first_row w
-  table_row (Some e) w = next_row e.kind e w
+  table_row o w = table_by C o w m l f (steps w) (resolving (when_resolved w) (resolved_by C w (steps w)))
+      (λ k q. unlike (just k) (no_kill k 0 (λ z. let x = ap is_test z in cc)))
 
 due_row : (w : Work) (s : Shape) (o : Option Event) (l : LocalState) (f : Effort) →
     Chosen (chosen s.manager l f) (due (Doing w) s o l f)

@@ -28,6 +28,12 @@ aborted : (e : Event) (g : ℕ) → (e.found == g) ≡ false → (e.found ≡ g)
 aborted e g q (inl x) = absurd (let y = eq-eqb e.found g x in cc)
 aborted e g q (inr x) = x
 
+-- an attempt that another one has aborted is left at its own status
+by_another : (s : Shape) (l : LocalState) (e : Event) (k : Kind) → e.place ≡ place s (StatusWord (own_attempt s l)) →
+    is_at_own k ≡ true → own_attempt s (after k s l e) ≡ own_attempt s l → e.found ≡ 5 →
+    (after k s l e).committed ≡ false → e.put ≡ 5 → Left s l e k
+by_another s l e k at own same five n put = record { at = at; same = same; how = by_other own five n put }
+
 pub left_how : (s : Shape) (l : LocalState) (e : Event) (k : Kind) → AllowedAs k s l e → l.phase ≢ Outside →
     l.committed ≡ false → (after k s l e).phase ≡ Outside →
     (e.place ≡ place s (StatusWord (own_attempt s l)) → (e.found ≡ given l.phase) ⊎ (e.found ≡ 5)) → Left s l e k
@@ -42,11 +48,8 @@ left_how s l e LookSelf a i n o f = go (cases_Bool (e.found == given l.phase))
   where
     go : (e.found == given l.phase ≡ true) ⊎ (e.found == given l.phase ≡ false) → Left s l e LookSelf
     go (inl q) = absurd (i (rw q at o))
-    go (inr q) = let five = aborted e (given l.phase) q (f a.0) in record {
-      at = a.0;
-      same = rw q refl;
-      how = by_other refl five (rw q n) (a.1.1 ∙ five);
-    }
+    go (inr q) = let five = aborted e (given l.phase) q (f a.0) in
+        by_another s l e LookSelf a.0 refl (rw q refl) five (rw q n) (a.1.1 ∙ five)
 left_how s l e ToValidating a i n o f = go (cases_Bool (e.found == 1))
   where
     was : ((l.phase ≡ Running) × (l.writes ≡ [])) ⊎ ((l.phase ≡ Putting) × (l.written ≡ length l.writes)) →
@@ -56,20 +59,14 @@ left_how s l e ToValidating a i n o f = go (cases_Bool (e.found == 1))
 
     go : (e.found == 1 ≡ true) ⊎ (e.found == 1 ≡ false) → Left s l e ToValidating
     go (inl q) = absurd (let x : Validating ≡ Outside = rw q at o in cc)
-    go (inr q) = let five = aborted e 1 q (rw (was a.2.0) at f a.0) in record {
-      at = a.0;
-      same = rw q refl;
-      how = by_other refl five (rw q n) (a.1.1 ∙ rw q five);
-    }
+    go (inr q) = let five = aborted e 1 q (rw (was a.2.0) at f a.0) in
+        by_another s l e ToValidating a.0 refl (rw q refl) five (rw q n) (a.1.1 ∙ rw q five)
 left_how s l e Commit a i n o f = go (cases_Bool (e.found == 3))
   where
     go : (e.found == 3 ≡ true) ⊎ (e.found == 3 ≡ false) → Left s l e Commit
     go (inl q) = record { at = a.0; same = refl; how = by_commit q (a.1.1 ∙ rw q refl) }
-    go (inr q) = let five = aborted e 3 q (rw (ap given a.2.0) at f a.0) in record {
-      at = a.0;
-      same = refl;
-      how = by_other refl five q (a.1.1 ∙ rw q five);
-    }
+    go (inr q) = let five = aborted e 3 q (rw (ap given a.2.0) at f a.0) in
+        by_another s l e Commit a.0 refl refl five q (a.1.1 ∙ rw q five)
 left_how s l e Quit a i n o f = go (cases_Bool (e.found == given l.phase))
   where
     go : (e.found == given l.phase ≡ true) ⊎ (e.found == given l.phase ≡ false) → Left s l e Quit
@@ -80,18 +77,12 @@ left_how s l e Pause a i n o f = go (cases_Bool (e.found == 1))
   where
     go : (e.found == 1 ≡ true) ⊎ (e.found == 1 ≡ false) → Left s l e Pause
     go (inl q) = absurd (let x : Paused ≡ Outside = rw q at o in cc)
-    go (inr q) = let five = aborted e 1 q (rw (ap given a.2.0) at f a.0) in record {
-      at = a.0;
-      same = rw q refl;
-      how = by_other refl five (rw q n) (a.1.1 ∙ rw q five);
-    }
+    go (inr q) = let five = aborted e 1 q (rw (ap given a.2.0) at f a.0) in
+        by_another s l e Pause a.0 refl (rw q refl) five (rw q n) (a.1.1 ∙ rw q five)
 left_how s l e Resume a i n o f = go (cases_Bool (e.found == 2))
   where
     go : (e.found == 2 ≡ true) ⊎ (e.found == 2 ≡ false) → Left s l e Resume
     go (inl q) = absurd (let x : Running ≡ Outside = rw q at o in cc)
-    go (inr q) = let five = aborted e 2 q (rw (ap given a.2.0) at f a.0) in record {
-      at = a.0;
-      same = rw q refl;
-      how = by_other refl five (rw q n) (a.1.1 ∙ rw q five);
-    }
+    go (inr q) = let five = aborted e 2 q (rw (ap given a.2.0) at f a.0) in
+        by_another s l e Resume a.0 refl (rw q refl) five (rw q n) (a.1.1 ∙ rw q five)
 left_how s l e k a i n o f = absurd (i o)

@@ -17,6 +17,7 @@ pub mod Example
 pub mod OwnEvents
 pub mod Sound
 pub mod Leaves
+pub mod Outside
 pub mod Ends
 pub mod StaleReads
 pub mod GivingWay

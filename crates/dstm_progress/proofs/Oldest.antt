@@ -7,6 +7,7 @@ use Rattle.dstm_core.specs.Rules.{AllowedAs, MayKill, after}
 use Rattle.dstm_core.specs.Runs.{Core, local}
 use Rattle.dstm_core.specs.State.{LocalState, given, is_live, or_unresolved, or_zero, own_attempt, res, write_of}
 use Rattle.dstm_core.specs.Traces.{at, word}
+use Rattle.dstm_core.specs.Words.{place}
 use Rattle.dstm_core.specs.Words.Word.{RankWord, StampsWord, StatusWord}
 use Rattle.dstm_core.specs.Events.{Event}
 use Rattle.dstm_core.specs.declared.event.Kind.{Kind}
@@ -189,6 +190,24 @@ younger s es c x g core b o (inr z) pos apart live =
 kill_put : (found expected put : ℕ) → put ≡ cond (found == expected) 5 found → (put ≡ 5) ⊎ (put ≡ found)
 kill_put found expected put h = grind (arith, nat_tests)
 
+-- the owner whose status it just found is younger, where it was found unfinished
+elder_met : (s : Shape) (es : List Event) (e : Event) → s.manager ≡ Greedy → Core s (e ∷ es) → Safe s es e.caller →
+    is_some (res (local s es e.caller)).owner ≡ true →
+    e.place ≡ place s (StatusWord (or_zero (res (local s es e.caller)).owner)) → e.found < 4 →
+    (0 < (res (local s es e.caller)).word)
+    × ((local s es e.caller).rank < rank_of_owner s (e ∷ es) (res (local s es e.caller)).word)
+elder_met s es e g core f met here live =
+    let l = local s es e.caller in
+    let known = elder_of s es l.rank (own_attempt s l) l.resolution f.elder in
+    let r = res_known s es l.resolution ((basic s es core.0).res e.caller) in
+    let o = owner_known s es (res l).word (res l).owner r.1 met in
+    let w : status_of s es (res l).word ≡ e.found =
+    ap (λ m. word s es (StatusWord m)) (sym o.1) ∙ ap (at es) (sym here) ∙ sym core.1.linked in (
+      o.0,
+      rw (owner_rank_stays s es e (res l).word g core r.0 o.0)
+          (younger s es e.caller (res l).word g core.0 core.1.caller f.oldest r.0 o.0 (known.0 o.0) (omega arith)),
+    )
+
 -- the oldest finds its enemies younger
 elder_own : (s : Shape) (es : List Event) (e : Event) → s.manager ≡ Greedy → Core s (e ∷ es) →
     Safe s es e.caller → (k : Kind) → k ≢ Begin → AllowedAs k s (local s es e.caller) e →
@@ -206,50 +225,24 @@ elder_own s es e g core f LookObj n a i h = (
       (sym (owner_same s es e (at es e.place) core named pos') ∙ ap (owner_of s (e ∷ es)) (sym found) ∙ q)),
   (λ q. absurd (cc)),
 )
-elder_own s es e g core f LookStatus n a i h =
-    let l = local s es e.caller in
-    let known = elder_of s es l.rank (own_attempt s l) l.resolution f.elder in
-    let r = res_known s es l.resolution ((basic s es core.0).res e.caller) in
-    let o = owner_known s es (res l).word (res l).owner r.1 a.2.2 in (
-      (elder_of s (e ∷ es) l.rank (own_attempt s l) l.resolution h).0,
-      (λ q. (
-        o.0,
-        rw (owner_rank_stays s es e (res l).word g core r.0 o.0)
-            (younger s es e.caller (res l).word g core.0 core.1.caller f.oldest r.0 o.0 (known.0 o.0)
-            (let w : status_of s es (res l).word ≡ e.found = ap (λ m. word s es (StatusWord m)) (sym o.1)
-            ∙ ap (at es) (sym a.0) ∙ sym core.1.linked in let y = live_below e.found q in omega arith)),
-      )),
-    )
-elder_own s es e g core f Kill n a i h =
-    let l = local s es e.caller in
-    let known = elder_of s es l.rank (own_attempt s l) l.resolution f.elder in
-    let r = res_known s es l.resolution ((basic s es core.0).res e.caller) in
-    let o = owner_known s es (res l).word (res l).owner r.1 a.2.2 in (
-      (elder_of s (e ∷ es) l.rank (own_attempt s l) l.resolution h).0,
-      (λ q. (
-        o.0,
-        rw (owner_rank_stays s es e (res l).word g core r.0 o.0)
-            (younger s es e.caller (res l).word g core.0 core.1.caller f.oldest r.0 o.0 (known.0 o.0)
-            (let w : status_of s es (res l).word ≡ e.found = ap (λ m. word s es (StatusWord m)) (sym o.1)
-            ∙ ap (at es) (sym a.0) ∙ sym core.1.linked in
-            let y = live_below e.put q in
-            rw w (go y (kill_put e.found (or_zero (res l).status) e.put a.1.1)))),
-      )),
-    )
+elder_own s es e g core f LookStatus n a i h = let l = local s es e.caller in (
+  (elder_of s (e ∷ es) l.rank (own_attempt s l) l.resolution h).0,
+  (λ q. elder_met s es e g core f a.2.2 a.0 (live_below e.found q)),
+)
+elder_own s es e g core f Kill n a i h = let l = local s es e.caller in (
+  (elder_of s (e ∷ es) l.rank (own_attempt s l) l.resolution h).0,
+  (λ q. elder_met s es e g core f a.2.2 a.0
+      (go (live_below e.put q) (kill_put e.found (or_zero (res l).status) e.put a.1.1))),
+)
   where
     go : e.put < 4 → (e.put ≡ 5) ⊎ (e.put ≡ e.found) → e.found < 4
     go y (inl z) = absurd (omega arith)
     go y (inr z) = omega arith
-elder_own s es e g core f LookOwner n a i h = let l = local s es e.caller in
-    elder_of s (e ∷ es) l.rank (own_attempt s l) l.resolution h
-elder_own s es e g core f LookRank n a i h = let l = local s es e.caller in
-    elder_of s (e ∷ es) l.rank (own_attempt s l) l.resolution h
-elder_own s es e g core f LookOld n a i h = let l = local s es e.caller in
-    elder_of s (e ∷ es) l.rank (own_attempt s l) l.resolution h
-elder_own s es e g core f LookHigh n a i h = let l = local s es e.caller in
-    elder_of s (e ∷ es) l.rank (own_attempt s l) l.resolution h
-elder_own s es e g core f LookNew n a i h = let l = local s es e.caller in
-    elder_of s (e ∷ es) l.rank (own_attempt s l) l.resolution h
+elder_own s es e g core f LookOwner n a i h = elder_of s (e ∷ es) _ _ (local s es e.caller).resolution h
+elder_own s es e g core f LookRank n a i h = elder_of s (e ∷ es) _ _ (local s es e.caller).resolution h
+elder_own s es e g core f LookOld n a i h = elder_of s (e ∷ es) _ _ (local s es e.caller).resolution h
+elder_own s es e g core f LookHigh n a i h = elder_of s (e ∷ es) _ _ (local s es e.caller).resolution h
+elder_own s es e g core f LookNew n a i h = elder_of s (e ∷ es) _ _ (local s es e.caller).resolution h
 elder_own s es e g core f k n a i h =
     unlooked (IsElder s (e ∷ es) (local s es e.caller).rank (own_attempt s (local s es e.caller))) s
     (local s es e.caller) e k refl tt h

@@ -1,5 +1,5 @@
 -- No Release without a call that lets a read go.
-use Rattle.std.proofs.Common.{◌&&◌, ◌≡◌, ◌≢◌, ◌⊎◌, ◌∙◌, ◌++◌, ◌∷◌, ◌==◌, ◌||◌, List, [], Some, None, true, false, ap, inl, inr, refl, subst, sym, not, ℕ}
+use Rattle.std.proofs.Common.{◌&&◌, ◌≡◌, ◌≢◌, ◌⊎◌, ◌∙◌, ◌++◌, ◌∷◌, ◌==◌, ◌||◌, List, [], true, false, ap, inl, inr, refl, subst, sym, not, ℕ}
 use Rattle.std.specs.Prelude.{Option, if◌then◌else◌, is_some}
 use Rattle.std.proofs.lemmas.Bool.{cases_Bool, cond_both, eq-eqb}
 use Rattle.rand_pcg.specs.Lcg.{Lcg}
@@ -8,19 +8,19 @@ use Rattle.dstm_core.specs.Rules.{is_outside}
 use Rattle.dstm_core.specs.State.{LocalState, first}
 use Rattle.dstm_core.specs.Traces.{events_of}
 use Rattle.dstm_core.specs.declared.event.Kind.{Kind}
-use Rattle.dstm_core.specs.declared.event.Kind.TheVariants.{Begin, Check, Commit, Draw, Enrol, Install, LookNumber, LookSelf, PutHigh, PutNew, PutOld, PutOwner, Quit, Rank, Release, Stamp, Validating as ToValidating}
+use Rattle.dstm_core.specs.declared.event.Kind.TheVariants.{Begin, Rank, Release, Stamp}
 use Rattle.dstm_core.specs.declared.shape.Manager.{Manager}
 use Rattle.dstm_core.specs.declared.shape.Shape.{Shape}
 use Rattle.dstm_machines.specs.Traces.{Each}
 use Rattle.dstm_machines.proofs.Own.{own_first, own_other}
 use Rattle.dstm_order.specs.Calls.{Obeys, effort_of, newest_of, state_after}
 use Rattle.dstm_order.specs.Efforts.{Effort, most_missed}
-use Rattle.dstm_order.specs.Order.{Due, IsDue, at_first, due, has_begun, has_ranks, has_stamps, in_resolving, is_spent, just, next, next_or_first, rises, when_resolved}
+use Rattle.dstm_order.specs.Order.{Due, IsDue, due, has_begun, has_ranks, has_stamps, is_spent, just, next_or_first, rises, when_resolved}
 use Rattle.dstm_order.specs.Order.Due.{Done, Step}
 use Rattle.dstm_order.specs.Tasks.{Task, Work}
 use Rattle.dstm_order.specs.Tasks.Task.{Beginning, Doing, Enrolling, Leaving}
-use Rattle.dstm_order.specs.Tasks.Work.{Reading, Writing, Releasing, Rechecking, Committing}
-use Rattle.dstm_order.proofs.Rows.{checking_by, checks_by, giving_way_by, pass_by, passed_by, put_by, putting_by, resolving_by}
+use Rattle.dstm_order.specs.Tasks.Work.{Releasing}
+use Rattle.dstm_order.proofs.Rows.{EachStep, giving_way_by, is_step, is_test, resolves, resolved_by, resolves_by, resolving_by, table_by}
 use Rattle.dstm_order.specs.Made.{AreMade, Call, events_in, generator_by, state_by}
 use Rattle.dstm_order.specs.Retries.{KeepsReads}
 use Rattle.dstm_progress.specs.Lives.{NoReleases, lets_go}
@@ -29,62 +29,21 @@ abbrev NoRelease : Due → Type 0
 NoRelease (Step k n) = lets_go k ≡ false
 NoRelease Done = Unit {0}
 
-abbrev Holds : Work → Type 0
-Holds (Releasing o) = ⊥
-Holds w = Unit {0}
+-- no event of a call but a Release lets a read go
+no_release : (k : Kind) → k ≢ Release → lets_go k ≡ false
+no_release Release h = absurd (h refl)
+no_release k h = refl
 
-resolved_no : (w : Work) → NoRelease (when_resolved w)
-resolved_no (Reading o) = refl
-resolved_no (Writing o) = refl
-resolved_no (Releasing o) = tt
-resolved_no Rechecking = tt
-resolved_no (Committing v) = tt
-
-first_no : (w : Work) (l : LocalState) → Holds w → NoRelease (at_first w l)
-first_no (Reading o) l h = refl
-first_no (Writing o) l h = refl
-first_no (Releasing o) l h = absurd h
-first_no Rechecking l h = refl
-first_no (Committing v) l h = putting_by NoRelease v l refl (λ n. refl) (λ n. refl)
-
-resolving_no : (w : Work) (m : Manager) (l : LocalState) (f : Effort) → NoRelease (in_resolving m l f (when_resolved w))
-resolving_no w m l f =
-    resolving_by NoRelease m l f (when_resolved w) (record {
-      owner = refl;
-      status = refl;
-      rank = refl;
-      old = refl;
-      high = refl;
-      new = refl;
-      kill = refl;
-      pause = refl;
-    }) (λ _. giving_way_by NoRelease l f refl refl refl) (resolved_no w)
-
-next_no : (k : Kind) (e : Event) (w : Work) (m : Manager) (l : LocalState) (f : Effort) → Holds w →
-    NoRelease (next k e w m l f)
-next_no PutOwner e w m l f h = refl
-next_no PutOld e w m l f h = refl
-next_no Install e w m l f h = cond_both (e.found == e.expected) _ _ NoRelease (λ _. refl) (λ _. first_no w l h)
-next_no LookNumber e w m l f h = pass_by NoRelease l refl refl
-next_no Check e w m l f h = checks_by NoRelease l.phase l refl refl refl
-next_no LookSelf e w m l f h = passed_by NoRelease w m l tt (λ n. refl)
-next_no PutHigh e w m l f h = put_by NoRelease w l tt refl (λ n. refl) (λ n. refl)
-next_no PutNew e w m l f h = put_by NoRelease w l tt refl (λ n. refl) (λ n. refl)
-next_no ToValidating e w m l f h = refl
-next_no Draw e w m l f h = checking_by NoRelease l refl refl
-next_no Rank e w m l f h = tt
-next_no Release e w m l f h = tt
-next_no Commit e w m l f h = tt
-next_no Quit e w m l f h = tt
-next_no Enrol e w m l f h = tt
-next_no Stamp e w m l f h = tt
-next_no Begin e w m l f h = tt
-next_no k e w m l f h = resolving_no w m l f
-
-table_no : (o : Option Event) (w : Work) (m : Manager) (l : LocalState) (f : Effort) → Holds w →
-    NoRelease (next_or_first o w m l f)
-table_no None w m l f h = first_no w l h
-table_no (Some e) w m l f h = next_no e.kind e w m l f h
+table_no : (o : Option Event) (w : Work) (m : Manager) (l : LocalState) (f : Effort) →
+    ((o : ℕ) → w ≡ Releasing o → NoRelease (Step Release o)) → NoRelease (next_or_first o w m l f)
+table_no o w m l f held = table_by NoRelease o w m l f steps
+    (resolving_by NoRelease m l f (when_resolved w)
+    (resolves_by NoRelease (λ k q. no_release k (λ z. let x = ap resolves z in cc)))
+    (λ _. giving_way_by NoRelease l f refl refl refl) (resolved_by NoRelease w steps))
+    (λ k q. no_release k (λ z. let x = ap is_test z in cc))
+  where
+    steps : EachStep NoRelease w
+    steps = record { done = tt; step = λ k n q. no_release k (λ z. let x = ap is_step z in cc); release = held }
 
 due_no : (t : Task) (s : Shape) (o : Option Event) (l m : LocalState) (f : Effort) → KeepsReads m t → NoRelease (due t s o l f)
 due_no Enrolling s o l m f h = cond_both (is_some l.number) _ _ NoRelease (λ _. tt) (λ _. refl)
@@ -100,14 +59,12 @@ due_no (Beginning fresh) s o l m f h =
 due_no Leaving s o l m f h = cond_both (is_outside l.phase) _ _ NoRelease (λ _. tt) (λ _. refl)
 due_no (Doing w) s o l m f h =
     cond_both (is_outside l.phase) _ _ NoRelease (λ _. tt) (λ _.
-    cond_both (l.stale || f.missed == most_missed) _ _ NoRelease (λ _. refl) (λ _. table_no o w s.manager l f (held w h)))
+    cond_both (l.stale || f.missed == most_missed) _ _ NoRelease (λ _. refl) (λ _.
+    table_no o w s.manager l f (held w h)))
   where
-    held : (w : Work) → KeepsReads m (Doing w) → Holds w
-    held (Releasing o) h = h
-    held (Reading o) h = tt
-    held (Writing o) h = tt
-    held Rechecking h = tt
-    held (Committing v) h = tt
+    held : (w : Work) → KeepsReads m (Doing w) → (o : ℕ) → w ≡ Releasing o → NoRelease (Step Release o)
+    held (Releasing p) h o q = absurd h
+    held w h o q = absurd (cc)
 
 not_release : (d : Due) (e : Event) → NoRelease d → IsDue d e → e.kind ≢ Release
 not_release (Step k n) e other is q = absurd (let x : true ≡ false = ap lets_go (sym q ∙ is.0) ∙ other in cc)

@@ -9,7 +9,6 @@ use Rattle.dstm_core.specs.Words.Word.{StatusWord}
 use Rattle.dstm_core.specs.Events.{Event}
 use Rattle.dstm_core.specs.declared.event.Kind.{Kind}
 use Rattle.dstm_core.specs.declared.event.Kind.TheVariants.{Check, Commit, Draw, Install, Kill, LookHigh, LookNew, LookNumber, LookObj, LookOld, LookOwner, LookRank, LookSelf, LookStatus, Pause, PutHigh, PutNew, PutOld, Rank, Release, Validating as ToValidating}
-use Rattle.dstm_core.specs.declared.shape.Manager.{Manager}
 use Rattle.dstm_core.specs.declared.shape.Shape.{Shape}
 use Rattle.dstm_core.specs.declared.state.Phase.TheVariants.{Outside, Running, Putting, Validating, Drawn}
 use Rattle.dstm_core.specs.declared.state.Read.{Read}
@@ -193,51 +192,19 @@ conflict_step s w l f n e fa op st un ow ss rm i =
         let rm' : base w + (left_of s.manager f + 4) ≤ n = rw q at rm in
         at_left q (omega arith) (cases_Bool (nat_lt 0 f.left)) j
 
--- what is left by what is known
-looking_at_owner : (m : Manager) (r : Resolution) (t : ℕ) → is_resolved r ≡ false → is_none r.owner ≡ true →
-    looking m r t ≡ t + 7
-looking_at_owner m r t a b = rw (a, b) refl
-
-looking_at_status : (m : Manager) (r : Resolution) (t : ℕ) → is_resolved r ≡ false → is_none r.owner ≡ false →
-    is_none r.status ≡ true → looking m r t ≡ t + 6
-looking_at_status m r t a b c = rw (a, b, c) refl
-
-looking_at_live : (m : Manager) (r : Resolution) (t : ℕ) → is_resolved r ≡ false → is_none r.owner ≡ false →
-    is_none r.status ≡ false → is_live (or_zero r.status) ≡ true →
-    looking m r t ≡ (if has_ranks m && is_none r.rank then t + 5 else t + 4)
-looking_at_live m r t a b c d = rw (a, b, c, d) refl
-
-looking_at_old : (m : Manager) (r : Resolution) (t : ℕ) → is_resolved r ≡ false → is_none r.owner ≡ false →
-    is_none r.status ≡ false → is_live (or_zero r.status) ≡ false → is_none (version r) ≡ true →
-    looking m r t ≡ 3
-looking_at_old m r t a b c d e = rw (a, b, c, d, e) refl
-
-looking_at_high : (m : Manager) (r : Resolution) (t : ℕ) → is_resolved r ≡ false → is_none r.owner ≡ false →
-    is_none r.status ≡ false → is_live (or_zero r.status) ≡ false → is_none (version r) ≡ false →
-    is_none r.high ≡ true → looking m r t ≡ 2
-looking_at_high m r t a b c d e h = rw (a, b, c, d, e, h) refl
-
-looking_at_new : (m : Manager) (r : Resolution) (t : ℕ) → is_resolved r ≡ false → is_none r.owner ≡ false →
-    is_none r.status ≡ false → is_live (or_zero r.status) ≡ false → is_none (version r) ≡ false →
-    is_none r.high ≡ false → looking m r t ≡ 1
-looking_at_new m r t a b c d e h = rw (a, b, c, d, e, h) refl
-
 resolving_step : (s : Shape) (w : Work) (l : LocalState) (f : Effort) (n : ℕ) (e : Event) → Facts s l e →
     opens w ≡ true → Still l → Unread l → base w + looking s.manager (res l) (left_of s.manager f) ≤ n →
     IsDue (in_resolving s.manager l f (when_resolved w)) e → NextStage s w e l f n e.kind
 resolving_step s w l f n e fa op st un rm i = at_done (cases_Bool (is_resolved (res l)))
     (rw (not_paused l.phase (λ q. let x = st.phase in cc)) at i)
   where
-    Then : Due → Type 0
-    Then d = IsDue d e → NextStage s w e l f n e.kind
-
     at_high : is_resolved (res l) ≡ false → is_none (res l).owner ≡ false → is_none (res l).status ≡ false →
         is_live (or_zero (res l).status) ≡ false → is_none (version (res l)) ≡ false →
         (is_none (res l).high ≡ true) ⊎ (is_none (res l).high ≡ false) →
         IsDue (if is_none (res l).high then just LookHigh else just LookNew) e → NextStage s w e l f n e.kind
     at_high a b c d v (inl h) i =
         let j : IsDue (just LookHigh) e = rw h at i in
-        let was = looking_at_high s.manager (res l) (left_of s.manager f) a b c d v h in
+        let was : looking s.manager (res l) (left_of s.manager f) ≡ 2 = rw (a, b, c, d, v, h) refl in
         subst (NextStage s w e l f n) (sym j.0) (record {
           room = base w + looking s.manager (res (after LookHigh s l e)) (left_of s.manager f);
           stage = resolving op refl (still_at l _ refl refl refl st) un (omega arith);
@@ -247,7 +214,7 @@ resolving_step s w l f n e fa op st un rm i = at_done (cases_Bool (is_resolved (
         })
     at_high a b c d v (inr h) i =
         let j : IsDue (just LookNew) e = rw h at i in
-        let was = looking_at_new s.manager (res l) (left_of s.manager f) a b c d v h in
+        let was : looking s.manager (res l) (left_of s.manager f) ≡ 1 = rw (a, b, c, d, v, h) refl in
         subst (NextStage s w e l f n) (sym j.0) (record {
           room = base w + looking s.manager (res (after LookNew s l e)) (left_of s.manager f);
           stage = resolving op refl (still_at l _ refl refl refl st) un (omega arith);
@@ -263,7 +230,7 @@ resolving_step s w l f n e fa op st un rm i = at_done (cases_Bool (is_resolved (
     at_version a b c d (inl v) i =
         let j : IsDue (just LookOld) e = rw v at i in
         let al : AllowedAs LookOld s l e = subst (λ k. AllowedAs k s l e) j.0 fa.allowed in
-        let was = looking_at_old s.manager (res l) (left_of s.manager f) a b c d v in
+        let was : looking s.manager (res l) (left_of s.manager f) ≡ 3 = rw (a, b, c, d, v) refl in
         subst (NextStage s w e l f n) (sym j.0) (record {
           room = base w + looking s.manager (res (after LookOld s l e)) (left_of s.manager f);
           stage = resolving op refl (still_at l _ refl refl refl st) un (omega arith);
@@ -278,7 +245,9 @@ resolving_step s w l f n e fa op st un rm i = at_done (cases_Bool (is_resolved (
         else if is_none (version (res l)) then just LookOld
         else if is_none (res l).high then just LookHigh else just LookNew) e → NextStage s w e l f n e.kind
     at_live a b c (inl d) i =
-        let was = looking_at_live s.manager (res l) (left_of s.manager f) a b c d in
+        let was : looking s.manager (res l) (left_of s.manager f)
+        ≡ (if has_ranks s.manager && is_none (res l).rank then left_of s.manager f + 5 else left_of s.manager f + 4) =
+        rw (a, b, c, d) refl in
         conflict_step s w l f n e fa op st un b c (subst (λ k. base w + k ≤ n) was rm) (rw d at i)
     at_live a b c (inr d) i = at_version a b c d (cases_Bool (is_none (version (res l)))) (rw d at i)
 
@@ -290,7 +259,7 @@ resolving_step s w l f n e fa op st un rm i = at_done (cases_Bool (is_resolved (
         else if is_none (res l).high then just LookHigh else just LookNew) e → NextStage s w e l f n e.kind
     at_status a b (inl c) i =
         let j : IsDue (just LookStatus) e = rw c at i in
-        let was = looking_at_status s.manager (res l) (left_of s.manager f) a b c in
+        let was : looking s.manager (res l) (left_of s.manager f) ≡ left_of s.manager f + 6 = rw (a, b, c) refl in
         let same : effort_after LookStatus s.manager l f e ≡ f = rw (none_some (res l).status c) refl in
         let now : left_of s.manager (effort_after LookStatus s.manager l f e) ≡ left_of s.manager f =
         ap (left_of s.manager) same in
@@ -311,7 +280,7 @@ resolving_step s w l f n e fa op st un rm i = at_done (cases_Bool (is_resolved (
         else if is_none (res l).high then just LookHigh else just LookNew) e → NextStage s w e l f n e.kind
     at_owner a (inl b) i =
         let j : IsDue (just LookOwner) e = rw b at i in
-        let was = looking_at_owner s.manager (res l) (left_of s.manager f) a b in
+        let was : looking s.manager (res l) (left_of s.manager f) ≡ left_of s.manager f + 7 = rw (a, b) refl in
         subst (NextStage s w e l f n) (sym j.0) (record {
           room = base w + looking s.manager (res (after LookOwner s l e)) (left_of s.manager f);
           stage = resolving op refl (still_at l _ refl refl refl st) un (omega arith);

@@ -24,11 +24,11 @@ use Rattle.dstm_order.specs.Tasks.Work.{Reading, Writing, Releasing, Rechecking,
 use Rattle.rand_pcg.specs.Lcg.{Lcg}
 use Rattle.dstm_progress.specs.Alone.{AreCalls, Made, all_events, generator_after}
 use Rattle.dstm_progress.specs.Oldest.{IsNoReading, OpensToWrite}
-use Rattle.dstm_progress.proofs.Bound.{IsStep, resolves_step}
+use Rattle.dstm_progress.proofs.Bound.{IsStep}
 use Rattle.dstm_progress.proofs.Calls.{inside_phase, nothing_due}
 use Rattle.dstm_progress.proofs.Own.{AreAllowed, allowed_split, own_allowed, state_both}
 use Rattle.dstm_progress.proofs.Room.{opens}
-use Rattle.dstm_order.proofs.Rows.{Resolves, checking_by, checks_by, giving_way_by, pass_by, passed_by, put_by, putting_by, resolving_by}
+use Rattle.dstm_order.proofs.Rows.{next_resolving, resolves, resolves_by, checking_by, checks_by, giving_way_by, pass_by, passed_by, put_by, putting_by, resolving_by}
 use Rattle.dstm_core.proofs.Untouched.{reads_stay, unlooked}
 use Rattle.std.proofs.lemmas.Bool.Decides.{nat_tests}
 use Rattle.dstm_core.proofs.Enrolment.{number_kept}
@@ -55,17 +55,9 @@ not_calm : (d : Due) (e : Event) → NotCalm d → IsDue d e → is_calm e.kind 
 not_calm (Step k o) e h i q = let x : is_calm e.kind ≡ is_calm k = ap is_calm i.0 in cc
 not_calm Done e h i q = i
 
-resolves_busy : Resolves NotCalm
-resolves_busy = record {
-  owner = refl;
-  status = refl;
-  rank = refl;
-  old = refl;
-  high = refl;
-  new = refl;
-  kill = refl;
-  pause = refl;
-}
+resolves_busy : (k : Kind) → resolves k ≡ true → is_calm k ≡ false
+resolves_busy LookNumber q = absurd (cc)
+resolves_busy k q = cc
 
 resolved_busy : (w : Work) → ((o : ℕ) → w ≢ Reading o) → NotCalm (when_resolved w)
 resolved_busy (Reading o) h = absurd (h o refl)
@@ -77,7 +69,7 @@ resolved_busy (Committing v) h = tt
 resolving_busy : (m : Manager) (l : LocalState) (f : Effort) (d : Due) → NotCalm d →
     NotCalm (in_resolving m l f d)
 resolving_busy m l f d h =
-    resolving_by NotCalm m l f d resolves_busy (λ _. giving_way_by NotCalm l f refl refl refl) h
+    resolving_by NotCalm m l f d (resolves_by NotCalm resolves_busy) (λ _. giving_way_by NotCalm l f refl refl refl) h
 
 -- after these the object is being resolved, or installed
 abbrev pub is_busy : Kind → Bool
@@ -98,19 +90,10 @@ is_busy k = false
 busy_next : (k : Kind) (e : Event) (w : Work) (m : Manager) (l : LocalState) (f : Effort) → ((o : ℕ) →
     w ≢ Reading o) →
     is_busy k ≡ true → NotCalm (next k e w m l f)
-busy_next LookObj e w m l f h q = resolving_busy m l f (when_resolved w) (resolved_busy w h)
-busy_next LookOwner e w m l f h q = resolving_busy m l f (when_resolved w) (resolved_busy w h)
-busy_next LookStatus e w m l f h q = resolving_busy m l f (when_resolved w) (resolved_busy w h)
-busy_next LookRank e w m l f h q = resolving_busy m l f (when_resolved w) (resolved_busy w h)
-busy_next LookOld e w m l f h q = resolving_busy m l f (when_resolved w) (resolved_busy w h)
-busy_next LookHigh e w m l f h q = resolving_busy m l f (when_resolved w) (resolved_busy w h)
-busy_next LookNew e w m l f h q = resolving_busy m l f (when_resolved w) (resolved_busy w h)
-busy_next Kill e w m l f h q = resolving_busy m l f (when_resolved w) (resolved_busy w h)
-busy_next Pause e w m l f h q = resolving_busy m l f (when_resolved w) (resolved_busy w h)
-busy_next Resume e w m l f h q = resolving_busy m l f (when_resolved w) (resolved_busy w h)
 busy_next PutOwner e w m l f h q = refl
 busy_next PutOld e w m l f h q = refl
-busy_next k e w m l f h q = absurd (cc)
+busy_next k e w m l f h q =
+    subst NotCalm (sym (next_resolving k e w m l f (cc))) (resolving_busy m l f (when_resolved w) (resolved_busy w h))
 
 abbrev pub is_busy_now : Option Event → Bool
 is_busy_now None = false
@@ -305,23 +288,15 @@ writes_or_not (Committing v) h q = absurd (cc)
 
 resolving_due : (m : Manager) (l : LocalState) (f : Effort) (d : Due) → IsStep d → IsStep (in_resolving m l f d)
 resolving_due m l f d h =
-    resolving_by IsStep m l f d resolves_step (λ _. giving_way_by IsStep l f (λ q. cc) (λ q. cc) (λ q. cc)) h
+    resolving_by IsStep m l f d (resolves_by IsStep (λ k _ q. cc)) (λ _. giving_way_by IsStep l f (λ q. cc) (λ q. cc) (λ q. cc)) h
 
 busy_due : (k : Kind) (e : Event) (w : Work) (m : Manager) (l : LocalState) (f : Effort) →
     when_resolved w ≡ just PutOwner → is_busy k ≡ true → next k e w m l f ≢ Done
-busy_due LookObj e w m l f h q = resolving_due m l f (when_resolved w) (λ z. let x = sym h ∙ z in cc)
-busy_due LookOwner e w m l f h q = resolving_due m l f (when_resolved w) (λ z. let x = sym h ∙ z in cc)
-busy_due LookStatus e w m l f h q = resolving_due m l f (when_resolved w) (λ z. let x = sym h ∙ z in cc)
-busy_due LookRank e w m l f h q = resolving_due m l f (when_resolved w) (λ z. let x = sym h ∙ z in cc)
-busy_due LookOld e w m l f h q = resolving_due m l f (when_resolved w) (λ z. let x = sym h ∙ z in cc)
-busy_due LookHigh e w m l f h q = resolving_due m l f (when_resolved w) (λ z. let x = sym h ∙ z in cc)
-busy_due LookNew e w m l f h q = resolving_due m l f (when_resolved w) (λ z. let x = sym h ∙ z in cc)
-busy_due Kill e w m l f h q = resolving_due m l f (when_resolved w) (λ z. let x = sym h ∙ z in cc)
-busy_due Pause e w m l f h q = resolving_due m l f (when_resolved w) (λ z. let x = sym h ∙ z in cc)
-busy_due Resume e w m l f h q = resolving_due m l f (when_resolved w) (λ z. let x = sym h ∙ z in cc)
 busy_due PutOwner e w m l f h q = λ z. cc
 busy_due PutOld e w m l f h q = λ z. cc
-busy_due k e w m l f h q = absurd (cc)
+busy_due k e w m l f h q =
+    subst IsStep (sym (next_resolving k e w m l f (cc)))
+    (resolving_due m l f (when_resolved w) (λ z. let x = sym h ∙ z in cc))
 
 -- at its end no object is being resolved
 end_clear : (s : Shape) (w : Work) (n : Option Event) (l : LocalState) (f : Effort) → ((o : ℕ) →
