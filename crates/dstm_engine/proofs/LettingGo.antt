@@ -1,6 +1,6 @@
 -- Calls that let no read go.
 use Rattle.std.proofs.Common.{◌≡◌, ◌∙◌, ◌++◌, ◌∷◌, Bool, List, [], None, Ok, Err, true, false, ap, refl, ℕ}
-use Rattle.std.specs.Prelude.{IfErr, IsSome, IsTrue, OnOk, Option, Some, Result}
+use Rattle.std.specs.Prelude.{IfErr, IsSome, IsTrue, OnOk, Option, Some, Result, is_some}
 use Rattle.std.proofs.lemmas.Bool.{cond_both}
 use Rattle.dstm_core.specs.Events.{Event}
 use Rattle.dstm_core.specs.Traces.{events_of}
@@ -14,6 +14,7 @@ use Rattle.dstm_order.specs.Tasks.Task.{Doing}
 use Rattle.dstm_order.specs.Tasks.Work.{Reading, Writing}
 use Rattle.dstm_progress.specs.Lives.{lets_go}
 use Rattle.dstm_progress.proofs.Releases.{NoneIn, call_none}
+use Rattle.dstm_engine.proofs.Opens.{none_of}
 use Rattle.dstm_engine.specs.Callers.{Called, held, is_opened, shape_of, state}
 use Rattle.dstm_engine.specs.Calls.{Performs, reading}
 use Rattle.dstm_engine.specs.Makes.{count_let_go, let_go}
@@ -38,35 +39,31 @@ module _ {L : Type 0} (holds : L → List Val → Type 0) (k n : Called L) where
       ∙ none_added p.events (events_of k.number k.log)
       (call_none t (shape_of k) (state k) k.generator p.events keeps p.call.obeys)
 
-  -- neither does an open, which makes no event of an object that is open already
+  -- an open of an object that is open already makes no event, and another one those of its work
+  pub by_open : (w : Work) (r : Result Val Again) (is : Bool) → (is ≡ true → n ≡ k) →
+      (is ≡ false → OnOk r (Stays holds w k n)) → IfErr r (Leaves holds w k n) → (P : Type 0) → (n ≡ k → P) →
+      ((a : Option Again) → Performs holds (Doing w) k n a → P) → P
+  by_open w (Err e) is again stays leaves P none one = one (Some e) leaves.steps
+  by_open w (Ok v) true again stays leaves P none one = none (again refl)
+  by_open w (Ok v) false again stays leaves P none one = one None (stays refl).steps
+
+  -- so it lets none go either
   pub read_keeps : (o : ℕ) (r : Result Val Again) → (IsSome (held k o) → n ≡ k) →
       (held k o ≡ None → OnOk r (Stays holds (reading (shape_of k) o) k n)) →
       IfErr r (Leaves holds (reading (shape_of k) o) k n) → let_go n ≡ let_go k
-  read_keeps o r again stays leaves = by r stays leaves (held k o) again refl
-    where
-      keeps : KeepsReads (state k) (Doing (reading (shape_of k) o))
-      keeps =
-          cond_both (shape_of k).all_write (Writing o) (Reading o) (λ (w : Work). KeepsReads (state k) (Doing w))
-          (λ _. tt) (λ _. tt)
-
-      by : (r : Result Val Again) → (held k o ≡ None → OnOk r (Stays holds (reading (shape_of k) o) k n)) →
-          IfErr r (Leaves holds (reading (shape_of k) o) k n) → (h : Option Val) → (IsSome h → n ≡ k) → held k o ≡ h →
-          let_go n ≡ let_go k
-      by (Err a) stays leaves h again is = lets_none_go (Doing (reading (shape_of k) o)) (Some a) keeps leaves.steps
-      by (Ok v) stays leaves None again is = lets_none_go (Doing (reading (shape_of k) o)) None keeps (stays is).steps
-      by (Ok v) stays leaves (Some w) again is = ap let_go (again refl)
+  read_keeps o r again stays leaves =
+      by_open (reading (shape_of k) o) r (is_some (held k o)) again (λ no. stays (none_of (held k o) no)) leaves
+      (let_go n ≡ let_go k) (λ same. ap let_go same)
+      (λ a. lets_none_go (Doing (reading (shape_of k) o)) a
+      (cond_both (shape_of k).all_write (Writing o) (Reading o) (λ (w : Work). KeepsReads (state k) (Doing w)) (λ _. tt)
+      (λ _. tt)))
 
   pub write_keeps : (o : ℕ) (r : Result Val Again) → (IsTrue (is_opened k o) → n ≡ k) →
       (is_opened k o ≡ false → OnOk r (Stays holds (Writing o) k n)) → IfErr r (Leaves holds (Writing o) k n) →
       let_go n ≡ let_go k
-  write_keeps o r again stays leaves = by r stays leaves (is_opened k o) again refl
-    where
-      by : (r : Result Val Again) → (is_opened k o ≡ false → OnOk r (Stays holds (Writing o) k n)) →
-          IfErr r (Leaves holds (Writing o) k n) → (b : Bool) → (IsTrue b → n ≡ k) → is_opened k o ≡ b →
-          let_go n ≡ let_go k
-      by (Err a) stays leaves b again is = lets_none_go (Doing (Writing o)) (Some a) tt leaves.steps
-      by (Ok v) stays leaves false again is = lets_none_go (Doing (Writing o)) None tt (stays is).steps
-      by (Ok v) stays leaves true again is = ap let_go (again refl)
+  write_keeps o r again stays leaves =
+      by_open (Writing o) r (is_opened k o) again stays leaves (let_go n ≡ let_go k) (λ same. ap let_go same)
+      (λ a. lets_none_go (Doing (Writing o)) a tt)
 
 -- a memory that tells it too is the same
 pub same_both : {A : Type 0} (a b : A) (m n : ℕ) → a ≡ b → m ≡ n → ◌≡◌ {A = A × ℕ} (a, m) (b, n)

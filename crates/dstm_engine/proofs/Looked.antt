@@ -1,6 +1,6 @@
 -- An open adds to an attempt at most one sight for each look at an object.
-use Rattle.std.proofs.Common.{◌≡◌, ◌∙◌, ◌+◌, ◌≤◌, ◌++◌, ℕ, List, None, Some, Ok, Err, true, false, refl, sym, ap, subst, arith}
-use Rattle.std.specs.Prelude.{Bool, IfErr, IsSome, IsTrue, OnOk, Option, Result}
+use Rattle.std.proofs.Common.{◌≡◌, ◌∙◌, ◌+◌, ◌≤◌, ◌++◌, ℕ, List, None, true, false, refl, sym, ap, subst, arith}
+use Rattle.std.specs.Prelude.{Bool, IfErr, IsSome, IsTrue, OnOk, Option, Result, is_some}
 use Rattle.std.proofs.lemmas.Bool.{cond_both}
 use Rattle.dstm_model.specs.declared.value.Val.{Val}
 use Rattle.dstm_core.specs.Events.{Event}
@@ -20,6 +20,8 @@ use Rattle.dstm_engine.specs.Attempts.{completes_pass, is_look_object, is_look_s
 use Rattle.dstm_engine.specs.Callers.{Called, begun_log, held, is_opened, shape_of, state}
 use Rattle.dstm_engine.specs.Calls.{Performs, reading}
 use Rattle.dstm_engine.specs.Transactions.{BeginsAnew, Leaves, Stays}
+use Rattle.dstm_engine.proofs.LettingGo.{by_open}
+use Rattle.dstm_engine.proofs.Opens.{none_of}
 use Rattle.dstm_engine.proofs.Released.{no_self}
 use Rattle.dstm_engine.proofs.BegunThere.{begun_there, count_later}
 use Rattle.dstm_engine.proofs.FewSights.{beginning_looks, count_kinds, looks_more, none_looks, none_yet, open_looks, sights_more}
@@ -106,30 +108,20 @@ module _ {L : Type 0} (holds : L → List Val → Type 0) (k n : Called L)
       few_by k n p.same.0 p.same.1 p.seen attempt p.events p.own
       (open_looks w (shape_of k) (state k) k.generator p.events opens p.call.obeys)
 
-  -- an open makes no event of an object that is open already
   pub read_few : (o : ℕ) (r : Result Val Again) → (IsSome (held k o) → n ≡ k) →
       (held k o ≡ None → OnOk r (Stays holds (reading (shape_of k) o) k n)) →
       IfErr r (Leaves holds (reading (shape_of k) o) k n) → AddsFew k n
-  read_few o r again stays leaves = by r stays leaves (held k o) again refl
-    where
-      opens : is_open (reading (shape_of k) o) ≡ true
-      opens = cond_both (shape_of k).all_write (Writing o) (Reading o) (λ (w : Work). is_open w ≡ true) (λ _. refl) (λ _. refl)
-
-      by : (r : Result Val Again) → (held k o ≡ None → OnOk r (Stays holds (reading (shape_of k) o) k n)) →
-          IfErr r (Leaves holds (reading (shape_of k) o) k n) → (h : Option Val) → (IsSome h → n ≡ k) → held k o ≡ h → AddsFew k n
-      by (Err a) stays leaves h again is = opens_few (reading (shape_of k) o) (Some a) opens leaves.steps
-      by (Ok v) stays leaves None again is = opens_few (reading (shape_of k) o) None opens (stays is).steps
-      by (Ok v) stays leaves (Some w) again is = adds_none k n (again refl)
+  read_few o r again stays leaves =
+      by_open holds k n (reading (shape_of k) o) r (is_some (held k o)) again (λ no. stays (none_of (held k o) no)) leaves
+      (AddsFew k n) (adds_none k n)
+      (λ a. opens_few (reading (shape_of k) o) a
+      (cond_both (shape_of k).all_write (Writing o) (Reading o) (λ (w : Work). is_open w ≡ true) (λ _. refl) (λ _. refl)))
 
   pub write_few : (o : ℕ) (r : Result Val Again) → (IsTrue (is_opened k o) → n ≡ k) →
       (is_opened k o ≡ false → OnOk r (Stays holds (Writing o) k n)) → IfErr r (Leaves holds (Writing o) k n) → AddsFew k n
-  write_few o r again stays leaves = by r stays leaves (is_opened k o) again refl
-    where
-      by : (r : Result Val Again) → (is_opened k o ≡ false → OnOk r (Stays holds (Writing o) k n)) →
-          IfErr r (Leaves holds (Writing o) k n) → (b : Bool) → (IsTrue b → n ≡ k) → is_opened k o ≡ b → AddsFew k n
-      by (Err a) stays leaves b again is = opens_few (Writing o) (Some a) refl leaves.steps
-      by (Ok v) stays leaves false again is = opens_few (Writing o) None refl (stays is).steps
-      by (Ok v) stays leaves true again is = adds_none k n (again refl)
+  write_few o r again stays leaves =
+      by_open holds k n (Writing o) r (is_opened k o) again stays leaves (AddsFew k n) (adds_none k n)
+      (λ a. opens_few (Writing o) a refl)
 
 -- neither does a release, which makes sure of nothing
 pub release_few : {L : Type 0} (holds : L → List Val → Type 0) (k n : Called L) →
