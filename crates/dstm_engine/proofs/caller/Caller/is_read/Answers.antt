@@ -5,6 +5,8 @@ use Rattle.dstm_steps.specs.declared.slots.WriteSlot.{WriteSlot}
 use Rattle.dstm_engine.proofs.Holding.{both_there, is_read_dead, is_read_there}
 use Rattle.dstm_engine.specs.Callers.{Called, live_held, live_opened}
 use Rattle.dstm_engine.specs.Opened.{read_slot, write_slot}
+use Rattle.dstm_engine.proofs.caller.Caller.is_read.Given.{Over}
+use Rattle.dstm_engine.proofs.caller.Caller.is_read.Goals.{After-is_some}
 use Rattle.dstm_engine.proofs.caller.Caller.is_read.Goals as goal
 
 pub returns-then-not-self : goal.returns-then-not-self
@@ -12,11 +14,15 @@ returns-then-not-self g c =
     sym (is_read_dead g.L.Law.holds c.self.inside c.self.invariant c.args.o c.if-not-self.true)
     ∙ ap (λ (k : Called _). is_some (live_held k c.args.o) && not (live_opened k c.args.o)) c.self.view_is
 
+-- it is read where it has a slot
+read : (g : Over) (c : After-is_some g) → is_some (read_slot c.self.inside.opened.reads c.args.o) ≡ c.is_some.result
+read g c = ap (λ (r : Option ReadSlot). is_some r) (sym c.read.ensures) ∙ sym c.is_some.ensures
+
 pub returns-then-is_some : goal.returns-then-is_some
 returns-then-is_some g c =
     let x = c.self.inside in
     let read : is_some (read_slot x.opened.reads c.args.o) ≡ true =
-    ap (λ (r : Option ReadSlot). is_some r) (sym c.read.ensures) ∙ sym c.is_some.ensures ∙ c.if-is_some.true in
+    read g (goal.at.returns-then-is_some g c).After-is_some ∙ c.if-is_some.true in
     let write : is_some (write_slot x.opened.writes c.args.o) ≡ not c.is_none.result =
     ap (λ (w : Option WriteSlot). is_some w) (sym c.write.ensures) ∙ c.is_none.ensures in
     sym (is_read_there g.L.Law.holds x c.self.invariant c.args.o c.if-not-self.false
@@ -27,7 +33,7 @@ pub returns-else-is_some : goal.returns-else-is_some
 returns-else-is_some g c =
     let x = c.self.inside in
     let read : is_some (read_slot x.opened.reads c.args.o) ≡ false =
-    ap (λ (r : Option ReadSlot). is_some r) (sym c.read.ensures) ∙ sym c.is_some.ensures ∙ c.if-is_some.false in
+    read g (goal.at.returns-else-is_some g c).After-is_some ∙ c.if-is_some.false in
     c.if-is_some.false
     ∙ sym (is_read_there g.L.Law.holds x c.self.invariant c.args.o c.if-not-self.false
     ∙ ap (λ b. b && not (is_some (write_slot x.opened.writes c.args.o))) read)

@@ -25,14 +25,14 @@ not_held g c none some =
     let no : is_some (held c.args.self.now c.args.o) ≡ false = ap is_some (unheld g c none) in cc
 
 -- what is to do where all objects are opened for writing, and where not
-all : (g : Over) (c : After-value g) → c.self.inside.terms.shape.all_write ≡ true →
+is_writing : (g : Over) (c : After-value g) → c.self.inside.terms.shape.all_write ≡ true →
     Writing c.args.o ≡ reading (shape_of c.args.self.now) c.args.o
-all g c is =
+is_writing g c is =
     reading_all (shape_of c.args.self.now) c.args.o (ap (λ (k : Called _). (shape_of k).all_write) (sym c.self.view_is) ∙ is)
 
-some : (g : Over) (c : After-value g) → c.self.inside.terms.shape.all_write ≡ false →
+is_reading : (g : Over) (c : After-value g) → c.self.inside.terms.shape.all_write ≡ false →
     Reading c.args.o ≡ reading (shape_of c.args.self.now) c.args.o
-some g c is =
+is_reading g c is =
     reading_some (shape_of c.args.self.now) c.args.o (ap (λ (k : Called _). (shape_of k).all_write) (sym c.self.view_is) ∙ is)
 
 pub returns-in-Some-clause-stays : goal.returns-in-Some-clause-stays
@@ -72,13 +72,13 @@ pub returns-then-self-clause-stays : goal.returns-then-self-clause-stays
 returns-then-self-clause-stays g c =
     λ none.
     read_stays g.L.Law.holds c.args.self.now c.args.o (Writing c.args.o)
-    (all g (goal.at.returns-then-self-clause-stays g c).After-value c.if-self.true) c.write_out.result c.write_out.new.self
+    (is_writing g (goal.at.returns-then-self-clause-stays g c).After-value c.if-self.true) c.write_out.result c.write_out.new.self
     c.write_out.ensures.opens
 
 pub returns-then-self-clause-leaves : goal.returns-then-self-clause-leaves
 returns-then-self-clause-leaves g c =
     read_leaves g.L.Law.holds c.args.self.now c.args.o (Writing c.args.o)
-    (all g (goal.at.returns-then-self-clause-leaves g c).After-value c.if-self.true) c.write_out.result c.write_out.new.self
+    (is_writing g (goal.at.returns-then-self-clause-leaves g c).After-value c.if-self.true) c.write_out.result c.write_out.new.self
     c.write_out.ensures.stops
 
 pub returns-then-self-clause-unmarked : goal.returns-then-self-clause-unmarked
@@ -99,11 +99,11 @@ pub returns-else-self-clause-stays : goal.returns-else-self-clause-stays
 returns-else-self-clause-stays g c =
     λ none.
     read_stays g.L.Law.holds c.args.self.now c.args.o (Reading c.args.o)
-    (some g (goal.at.returns-else-self-clause-stays g c).After-value c.if-self.false) c.read_out.result c.read_out.new.self
+    (is_reading g (goal.at.returns-else-self-clause-stays g c).After-value c.if-self.false) c.read_out.result c.read_out.new.self
     c.read_out.ensures.opens
 
 pub returns-else-self-clause-leaves : goal.returns-else-self-clause-leaves
 returns-else-self-clause-leaves g c =
     read_leaves g.L.Law.holds c.args.self.now c.args.o (Reading c.args.o)
-    (some g (goal.at.returns-else-self-clause-leaves g c).After-value c.if-self.false) c.read_out.result c.read_out.new.self
+    (is_reading g (goal.at.returns-else-self-clause-leaves g c).After-value c.if-self.false) c.read_out.result c.read_out.new.self
     c.read_out.ensures.stops
