@@ -1,8 +1,8 @@
 -- What is known of a closure's calls.
-use Rattle.std.proofs.Common.{◌≡◌, List, refl, subst, sym}
+use Rattle.std.proofs.Common.{◌≡◌, List, ap, refl, subst, sym}
 use Rattle.std.specs.Prelude.{Result, IfErr, IsErrAnd, Ok, Err}
 use denote.Ref.{MutBor}
-use Rattle.std.specs.Fn.{Called, CalledAtMut, Mut, Once}
+use Rattle.std.specs.Fn.{Called, CalledAtMut, FnOnceReturnsAtMut, Mut, Once}
 use Rattle.dstm_model.specs.declared.value.Val.{Val}
 use Rattle.dstm_engine.specs.Callers.{Called as Caller}
 use Rattle.dstm_engine.specs.Transactions.{BeginsAnew}
@@ -18,6 +18,17 @@ module _ {X F R : Type 0} where
       Keeps (caller p.now) (caller q.now)
   once_kept caller g f p q answer keeps met =
       keeps p.now q.now answer (record { shown = p; shows = refl; left = q; met = met; leaves = refl })
+
+  abbrev pub once_at : (g : Once F (MutBor X × Unit {0}) (Result R Stop × (MutBor X × Unit {0}))) (f : F) (p q : MutBor X)
+      (found answer : Result R Stop) → g.post f (p, tt) (found, (q, tt)) → found ≡ answer →
+      FnOnceReturnsAtMut g f p.now answer q.now
+  once_at g f p q found answer met is = record {
+    shown = p;
+    shows = refl;
+    left = q;
+    met = subst (λ r. g.post f (p, tt) (r, (q, tt))) is met;
+    leaves = refl;
+  }
 
   -- a call of a closure
   pub called_at : (g : Mut F (MutBor X × Unit {0}) (Result R Stop × (MutBor X × Unit {0}))) (f n : F) (p q : MutBor X)
@@ -50,3 +61,7 @@ pub is_err : {R E : Type 0} (answer : Result R E) (why : E) (P : E → Type 0) �
     IfErr answer P
 is_err (Ok r) why P is p = tt
 is_err (Err e) why P is p = subst P (sym is) p
+
+pub err_is : {R E : Type 0} (answer : Result R E) (why : E) → IsErrAnd answer (λ e. e ≡ why) → answer ≡ Err why
+err_is (Ok r) why is = absurd is
+err_is (Err e) why is = ap Err is

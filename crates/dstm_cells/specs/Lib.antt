@@ -1,3 +1,4 @@
+pub mod Alternatives
 pub mod Attempts
 pub mod Cells
 pub mod Closures

@@ -2,6 +2,7 @@
 //! Whoever uses it states no law and proves nothing.
 #![tactic(auto)]
 
+mod alternatives;
 mod cell;
 mod error;
 mod memory;
@@ -12,6 +13,7 @@ mod transaction;
 mod tx;
 mod under_way;
 
+pub use alternatives::or_else;
 pub use cell::{Cell, Word};
 pub use dstm_core::Manager;
 pub use error::{Failed, GaveUp, Stop};

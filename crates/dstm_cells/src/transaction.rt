@@ -1,10 +1,12 @@
 // What makes the transactions of a thread, one after the other.
-ghost use Rattle.std.specs.Prelude.{◌≡◌, ℕ, true, false, IfErr, OnOk};
+ghost use Rattle.std.specs.Prelude.{◌++◌, ◌≡◌, ℕ, List, [], true, false, length, IfErr, OnOk};
 ghost use Rattle.dstm_engine.specs.Callers.{Called, shape_of};
 ghost use Rattle.dstm_engine.specs.Transactions.{BeginsAnew};
+ghost use Rattle.dstm_cells.specs.Alternatives.{Noting, StopsUndoing, Undoes, noting};
 ghost use Rattle.dstm_cells.specs.Attempts.{Follows, IsLost, IsSpent};
 ghost use Rattle.dstm_cells.specs.UnderWay.{AddsNothing, Keeps, LeavesLawful, TakesEffect};
 ghost use Rattle.dstm_cells.specs.declared.error.GaveUp.TheVariants.{Spent};
+ghost use Rattle.dstm_cells.specs.declared.under_way.Undo.{Undo};
 
 use crate::error::{GaveUp, Stop};
 use crate::under_way::Tx;
@@ -21,6 +23,9 @@ pub trait Transaction: Drop {
 
     /// How often a transaction that retries looks at most.
     ghost patience: { Self → ℕ };
+
+    /// The attempt, and what it notes so that an alternative can be undone.
+    ghost noting: { Self → Noting Self.Rule };
 
     /// The attempts of its caller in a run.
     fn attempts(&self) -> u32
@@ -52,6 +57,26 @@ pub trait Transaction: Drop {
     fn set_looks(&mut self, looks: u32)
         ensures same { caller self.new ≡ caller self.old }
         ensures looks { patience self.new ≡ looks };
+
+    /// From here on it notes what it sets, or no longer. Tells whether it did before.
+    fn note(&mut self, notes: bool) -> bool
+        ensures before { result ≡ (noting self.old).notes }
+        ensures notes { noting self.new ≡ record (noting self.old) { notes = notes } };
+
+    /// How much it has noted.
+    fn noted(&self) -> usize
+        ensures { result ≡ length (noting self.now).undos };
+
+    /// Undoes what was set since so much was noted, the last one first.
+    fn undo_to(&mut self, kept: usize) -> Result<(), Stop>
+        ensures keeps { Keeps (noting self.old).caller (noting self.new).caller }
+        ensures notes { (noting self.new).notes ≡ (noting self.old).notes }
+        ensures undone { OnOk result ((first added : List Undo) → (noting self.old).undos ≡ first ++ added → length first ≡ kept
+            → Undoes Self.Rule.holds first added [] (noting self.old) (noting self.new)) }
+        ensures left { IfErr result (λ _. (first added : List Undo) → (noting self.old).undos ≡ first ++ added
+            → length first ≡ kept
+            → (left : List Undo) × Undoes Self.Rule.holds first added left (noting self.old) (noting self.new)) }
+        ensures stops { IfErr result (StopsUndoing Self.Rule.holds (noting self.old).caller (noting self.new).caller) };
 }
 
 impl<'a, L: Law> Transaction for Tx<'a, L> {
@@ -60,6 +85,8 @@ impl<'a, L: Law> Transaction for Tx<'a, L> {
     ghost caller = { λ tx. tx.caller };
 
     ghost patience = { λ tx. tx.looks };
+
+    ghost noting = { noting };
 
     fn attempts(&self) -> u32 {
         self.stm.shape().attempts
@@ -91,6 +118,26 @@ impl<'a, L: Law> Transaction for Tx<'a, L> {
 
     fn set_looks(&mut self, looks: u32) {
         self.looks = looks;
+    }
+
+    fn note(&mut self, notes: bool) -> bool {
+        let before = self.notes;
+        self.notes = notes;
+        before
+    }
+
+    fn noted(&self) -> usize {
+        self.undos.len()
+    }
+
+    fn undo_to(&mut self, kept: usize) -> Result<(), Stop> {
+        while self.undos.len() > kept {
+            let last = self.undos.len() - 1;
+            let undo = self.undos[last];
+            self.put(undo.object, undo.value)?;
+            self.undos.truncate(last);
+        }
+        Ok(())
     }
 }
 

@@ -1,22 +1,24 @@
 // What a closure may do in its transaction.
-ghost use Rattle.std.specs.Prelude.{◌+◌, ◌≡◌, ◌<◌, List, length, true, false, IfErr, IfOk, IsTrue, Ok, OnOk, Err, if◌then◌else◌};
+ghost use Rattle.std.specs.Prelude.{◌++◌, ◌+◌, ◌≡◌, ◌<◌, List, [], ◌∷◌, length, true, false, IfErr, IfOk, IsTrue, Ok, OnOk, Err, if◌then◌else◌};
 ghost use Rattle.dstm_engine.specs.Attempts.{sights};
 ghost use Rattle.dstm_engine.specs.Callers.{is_live, law_of, shape_of};
 ghost use Rattle.dstm_engine.specs.Transactions.{BeginsAnew};
 ghost use Rattle.dstm_order.specs.Tasks.Work.{Rechecking};
+ghost use Rattle.dstm_cells.specs.Alternatives.{Notes, NotesOnce, OrElse, noting};
 ghost use Rattle.dstm_cells.specs.Attempts.{Follows, WasWoken};
 ghost use Rattle.dstm_cells.specs.Closures.{KeepsOnce};
 ghost use Rattle.dstm_cells.specs.UnderWay.{AddsNothing, Changes, Exchanges, Finds, Gets, IsOver, IsUntouched, Keeps, LeavesLawful, MayBegin, MayNotOpen, Refuses, StopsChange, StopsLook, TakesEffect, seen};
 ghost use Rattle.dstm_cells.specs.declared.error.GaveUp.TheVariants.{Idle};
 ghost use Rattle.dstm_cells.specs.declared.error.Stop.TheVariants.{Retry};
 
+use crate::alternatives::or_else;
 use crate::cell::{Cell, Word};
 use crate::error::{Failed, GaveUp, Stop};
 use crate::transaction::Transaction;
 use crate::under_way::{Tx, Undo};
 use dstm_engine::{Caller, Stm, Tx as Attempt};
-use dstm_model::{Law, Val};
-use std::alloc::Global;
+use dstm_model::{AnyLaw, Law, Val};
+use std::alloc::{AllocFailed, Global};
 use std::thread::yield_now;
 
 /// How often a transaction that retries looks whether something that it has read has changed, where it is not told.
@@ -45,6 +47,7 @@ impl<'a, L: Law> Tx<'a, L> {
     pub fn get<T: Word>(&mut self, cell: Cell<T>) -> Result<T, Stop>
         ensures keeps { Keeps self.old.caller self.new.caller }
         ensures stops { IfErr result (StopsLook L.holds cell.object self.old.caller self.new.caller) }
+        ensures notes { Notes L.holds (noting self.old) (noting self.new) }
         ensures refuses { Refuses self.old.caller cell.object result }
         ensures gets { IfOk result (Gets L.holds T.found self.old.caller self.new.caller cell.object) }
     {
@@ -56,6 +59,7 @@ impl<'a, L: Law> Tx<'a, L> {
     pub fn set<T: Word>(&mut self, cell: Cell<T>, value: T) -> Result<(), Stop>
         ensures keeps { Keeps self.old.caller self.new.caller }
         ensures stops { IfErr result (StopsChange L.holds self.old.notes cell.object self.old.caller self.new.caller) }
+        ensures notes { Notes L.holds (noting self.old) (noting self.new) }
         ensures refuses { Refuses self.old.caller cell.object result }
         ensures puts { OnOk result ((had : T) × Changes L.holds T.found self.old.caller self.new.caller cell.object had value) }
     {
@@ -67,6 +71,7 @@ impl<'a, L: Law> Tx<'a, L> {
     pub fn replace<T: Word>(&mut self, cell: Cell<T>, value: T) -> Result<T, Stop>
         ensures keeps { Keeps self.old.caller self.new.caller }
         ensures stops { IfErr result (StopsChange L.holds self.old.notes cell.object self.old.caller self.new.caller) }
+        ensures notes { Notes L.holds (noting self.old) (noting self.new) }
         ensures refuses { Refuses self.old.caller cell.object result }
         ensures puts { IfOk result (λ had. Changes L.holds T.found self.old.caller self.new.caller cell.object had value) }
     {
@@ -79,6 +84,7 @@ impl<'a, L: Law> Tx<'a, L> {
         requires callable { F.IsAlwaysCallable f }
         ensures keeps { Keeps self.old.caller self.new.caller }
         ensures stops { IfErr result (StopsChange L.holds self.old.notes cell.object self.old.caller self.new.caller) }
+        ensures notes { Notes L.holds (noting self.old) (noting self.new) }
         ensures refuses { Refuses self.old.caller cell.object result }
         ensures puts { IfOk result (λ had.
             (value : T) × F.post f had value × Changes L.holds T.found self.old.caller self.new.caller cell.object had value) }
@@ -106,6 +112,7 @@ impl<'a, L: Law> Tx<'a, L> {
     fn read(&mut self, object: u32) -> Result<Val, Stop>
         ensures keeps { Keeps self.old.caller self.new.caller }
         ensures stops { IfErr result (StopsLook L.holds object self.old.caller self.new.caller) }
+        ensures notes { Notes L.holds (noting self.old) (noting self.new) }
         ensures refuses { Refuses self.old.caller object result }
         ensures finds { IfOk result (Finds L.holds self.old.caller self.new.caller object) }
         ensures may { OnOk result ((map : List Val) × MayBegin L.holds self.new.caller map) }
@@ -121,6 +128,7 @@ impl<'a, L: Law> Tx<'a, L> {
         requires callable { F.IsAlwaysCallable f }
         ensures keeps { Keeps self.old.caller self.new.caller }
         ensures stops { IfErr result (StopsChange L.holds self.old.notes object self.old.caller self.new.caller) }
+        ensures notes { Notes L.holds (noting self.old) (noting self.new) }
         ensures refuses { Refuses self.old.caller object result }
         ensures changes { IfOk result (λ had.
             (value : Val) × F.post f had value × Exchanges L.holds self.old.caller self.new.caller object had value) }
@@ -128,17 +136,17 @@ impl<'a, L: Law> Tx<'a, L> {
         let mut tx = self.caller.resume(self.stm);
         may_open(&tx, object)?;
         let value = tx.open_write(object)?;
-        if self.notes {
-            self.undos.push(Undo { object, value })?;
-        }
+        note_undo(&mut self.undos, self.notes, Undo { object, value })?;
         tx.set(object, f(value));
         Ok(value)
     }
 
     // Sets an object, and opens it for writing where it is not open. It notes nothing.
-    fn put(&mut self, object: u32, value: Val) -> Result<(), Stop>
+    pub(crate) fn put(&mut self, object: u32, value: Val) -> Result<(), Stop>
         ensures keeps { Keeps self.old.caller self.new.caller }
         ensures stops { IfErr result (StopsChange L.holds false object self.old.caller self.new.caller) }
+        ensures undos { self.new.undos.items ≡ self.old.undos.items }
+        ensures notes { self.new.notes ≡ self.old.notes }
         ensures refuses { Refuses self.old.caller object result }
         ensures puts { OnOk result ((had : Val) × Exchanges L.holds self.old.caller self.new.caller object had value) }
     {
@@ -146,19 +154,6 @@ impl<'a, L: Law> Tx<'a, L> {
         may_open(&tx, object)?;
         let _old = tx.open_write(object)?;
         tx.set(object, value);
-        Ok(())
-    }
-
-    // Undoes what was set since so many objects were noted, the last one first.
-    fn undo_to(&mut self, kept: usize) -> Result<(), Stop>
-        ensures { Keeps self.old.caller self.new.caller }
-    {
-        for _ in kept..self.undos.len() {
-            let Some(undo) = self.undos.pop() else {
-                break;
-            };
-            self.put(undo.object, undo.value)?;
-        }
         Ok(())
     }
 
@@ -257,22 +252,27 @@ impl<'a> Tx<'a> {
         G: FnOnce(&mut Tx<'_>) -> Result<R, Stop>,
         requires first { F.IsAlwaysCallable first }
         requires second { G.IsAlwaysCallable second }
-        ensures { KeepsOnce (λ tx. tx.caller) F.FnOnce first → KeepsOnce (λ tx. tx.caller) G.FnOnce second
+        ensures keeps { KeepsOnce (λ tx. tx.caller) F.FnOnce first → KeepsOnce (λ tx. tx.caller) G.FnOnce second
             → Keeps self.old.caller self.new.caller }
+        ensures notes { NotesOnce noting F.FnOnce first ⟦<AnyLaw as Law>⟧.holds → NotesOnce noting G.FnOnce second ⟦<AnyLaw as Law>⟧.holds
+            → Notes ⟦<AnyLaw as Law>⟧.holds (noting self.old) (noting self.new) }
+        ensures does { NotesOnce noting F.FnOnce first ⟦<AnyLaw as Law>⟧.holds
+            → OrElse noting ⟦<AnyLaw as Law>⟧.holds F.FnOnce first G.FnOnce second (noting self.old) (noting self.new) result }
     {
-        let notes = self.notes;
-        let kept = self.undos.len();
-        self.notes = true;
-        let answer = first(self);
-        self.notes = notes;
-        match answer {
-            Err(Stop::Retry) => {
-                self.undo_to(kept)?;
-                second(self)
-            }
-            answer => answer,
-        }
+        or_else(self, first, second)
     }
+}
+
+// Notes, in an alternative, what an object had.
+#[inline]
+fn note_undo(undos: &mut Vec<Undo>, notes: bool, undo: Undo) -> Result<(), AllocFailed<Undo>>
+    ensures noted { OnOk result (notes ≡ true → undos.new.items ≡ undos.old.items ++ (undo ∷ [])) }
+    ensures failed { IfErr result (λ _. (notes ≡ true) × (undos.new.items ≡ undos.old.items)) }
+{
+    if !notes {
+        return Ok(());
+    }
+    undos.push(undo)
 }
 
 // Whether an attempt is live, and has such an object.

@@ -1,7 +1,8 @@
-use Rattle.std.proofs.Common.{ap, subst}
+use Rattle.std.proofs.Common.{ap, refl, rules, subst}
 use Rattle.dstm_engine.specs.Callers.{Called}
 use Rattle.dstm_cells.specs.UnderWay.{Exchanges}
 use Rattle.dstm_cells.proofs.UnderWay.{finds, puts}
+use Rattle.dstm_cells.proofs.Undoing.{notes_nothing, notes_one}
 use Rattle.dstm_cells.proofs.under_way.Tx.change.Goals as goal
 
 pub returns-clause-changes : goal.returns-clause-changes
@@ -19,3 +20,16 @@ returns-clause-changes g c =
       subst (λ (k : Called _). Exchanges g.L.Law.holds k new c.args.object had c.f.result) c.resume-tx.ensures.attempt
           (puts g.L.Law.holds old opened new c.args.object had c.f.result found c.set.ensures.kept c.set.ensures.written),
     )
+
+pub returns-in_err-value-clause-notes : goal.returns-in_err-value-clause-notes
+returns-in_err-value-clause-notes g c = notes_nothing g.L.Law.holds _ _ (search rules) refl refl (search rules)
+
+pub returns-in_err-note_undo-clause-notes : goal.returns-in_err-note_undo-clause-notes
+returns-in_err-note_undo-clause-notes g c =
+    notes_nothing g.L.Law.holds _ _ (search rules) refl c.in_err-note_undo.ensures.failed.1 (search rules)
+
+pub returns-clause-notes : goal.returns-clause-notes
+unfolding returns-clause-changes
+returns-clause-notes g c =
+    notes_one g.L.Law.holds _ _ c.args.object c.in_ok-value.value c.f.result (search rules) refl
+    c.in_ok-note_undo.ensures.noted (returns-clause-changes g c).2

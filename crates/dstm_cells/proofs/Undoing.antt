@@ -1,0 +1,180 @@
+-- What is noted, and how it is undone.
+use Rattle.std.proofs.Common.{◌≡◌, ◌++◌, ◌+◌, ◌-◌, ◌<◌, ◌≤◌, ◌∙◌, ◌∷◌, List, [], ap, append_assoc, arith, get_or, length, length-append, refl, slice_set, subst, suc, sym, take, true, ℕ}
+use Rattle.std.proofs.Math.Seq.{get_or-append_right, take-append-add, take-length, take-suc}
+use Rattle.std.proofs.lemmas.List.{append-nil, set-get_or, set-set}
+use Rattle.dstm_model.specs.declared.value.Val.{Val}
+use Rattle.dstm_model.specs.Map.{no_value}
+use Rattle.dstm_cells.specs.Alternatives.{IsUndone, Noting, Notes, Undoes, in_alternative, set_back}
+use Rattle.dstm_cells.specs.UnderWay.{Exchanges, Keeps, MayBegin, SetsNothing, seen}
+use Rattle.dstm_cells.specs.declared.under_way.Undo.{Undo}
+
+set_back-append : (first later : List Undo) (map : List Val) →
+    set_back (first ++ later) map ≡ set_back first (set_back later map)
+set_back-append [] later map = refl
+set_back-append (undo ∷ first) later map =
+    ap (λ (xs : List Val). slice_set xs undo.object undo.value) (set_back-append first later map)
+
+-- the last one of what was noted behind the first ones
+last_left : (first left : List Undo) (last : ℕ) (undo : Undo) → length (first ++ left) ≡ last + 1 →
+    length first ≤ last → undo ≡ get_or (first ++ left) last undo →
+    left ≡ take (last - length first) left ++ (undo ∷ [])
+last_left first left last undo size within is =
+    let all : suc (last - length first) ≡ length left = omega (arith, length-append first left, size, within) in
+    let inside : last - length first < length left = omega (arith, all) in
+    sym (ap (λ n. take n left) all ∙ take-length left)
+    ∙ take-suc left (last - length first) undo inside
+    ∙ ap (λ (u : Undo). take (last - length first) left ++ (u ∷ []))
+    (sym (get_or-append_right first left last undo within) ∙ sym is)
+
+-- and those before it
+before_last : (first left : List Undo) (last : ℕ) → length first ≤ last →
+    take last (first ++ left) ≡ first ++ take (last - length first) left
+before_last first left last within =
+    let split : last ≡ length first + (last - length first) = omega (arith, within) in
+    ap (λ n. take n (first ++ left)) split ∙ take-append-add first left (last - length first)
+
+module _ {L : Type 0} (holds : L → List Val → Type 0) where
+  -- nothing was set, and nothing noted
+  pub notes_nothing : (old new : Noting L) → Keeps old.caller new.caller → new.notes ≡ old.notes → new.undos ≡ old.undos →
+      SetsNothing holds old.caller new.caller → Notes holds old new
+  notes_nothing old new keeps same undos unset = record {
+    keeps = keeps;
+    same = same;
+    noted = λ is. record {
+      added = [];
+      is = undos ∙ sym (append-nil old.undos);
+      narrows = unset.narrows;
+      back = λ map may. unset.same map;
+    };
+  }
+
+  -- an object was set, and noted with what it had
+  pub notes_one : (old new : Noting L) (o : ℕ) (had v : Val) → Keeps old.caller new.caller → new.notes ≡ old.notes →
+      (old.notes ≡ true → new.undos ≡ old.undos ++ (record { object = o; value = had } ∷ [])) →
+      Exchanges holds old.caller new.caller o had v → Notes holds old new
+  notes_one old new o had v keeps same undos exchanges = record {
+    keeps = keeps;
+    same = same;
+    noted = λ is. record {
+      added = record { object = o; value = had } ∷ [];
+      is = undos is;
+      narrows = exchanges.puts.narrows;
+      back = λ map may.
+          ap (λ (xs : List Val). slice_set xs o had) (exchanges.puts.puts map)
+          ∙ set-set (seen old.caller map) o v had
+          ∙ ap (slice_set (seen old.caller map) o) (sym (exchanges.value map may))
+          ∙ set-get_or (seen old.caller map) o no_value;
+    };
+  }
+
+  pub notes_twice : (k m n : Noting L) → Notes holds k m → Notes holds m n → Notes holds k n
+  notes_twice k m n one two = record {
+    keeps = two.keeps ∙ one.keeps;
+    same = two.same ∙ one.same;
+    noted = λ is.
+        let a = one.noted is in
+        let b = two.noted (one.same ∙ is) in
+        record {
+          added = a.added ++ b.added;
+          is = b.is ∙ ap (λ xs. xs ++ b.added) a.is ∙ append_assoc k.undos a.added b.added;
+          narrows = λ map may. a.narrows map (b.narrows map may);
+          back = λ map may.
+              set_back-append a.added b.added (seen n.caller map)
+              ∙ ap (set_back a.added) (b.back map may)
+              ∙ a.back map (b.narrows map may);
+        };
+  }
+
+  undoes_one : (first added left : List Undo) (undo : Undo) (k m n : Noting L) (had : Val) →
+      Undoes holds first added (left ++ (undo ∷ [])) k m → n.undos ≡ first ++ left →
+      Exchanges holds m.caller n.caller undo.object had undo.value → Undoes holds first added left k n
+  undoes_one first added left undo k m n had so_far undos exchanges = record {
+    is = undos;
+    narrows = λ map may. so_far.narrows map (exchanges.puts.narrows map may);
+    back = λ map may.
+        ap (set_back left) (exchanges.puts.puts map)
+        ∙ sym (set_back-append left (undo ∷ []) (seen m.caller map))
+        ∙ so_far.back map (exchanges.puts.narrows map may);
+  }
+
+  -- the last one that was noted is set back
+  pub undoes_step : (first added left : List Undo) (last : ℕ) (undo : Undo) (k m n : Noting L) (had : Val) →
+      Undoes holds first added left k m → length m.undos ≡ last + 1 → length first ≤ last →
+      undo ≡ get_or m.undos last undo → n.undos ≡ take last m.undos →
+      Exchanges holds m.caller n.caller undo.object had undo.value → (rest : List Undo) × Undoes holds first added rest k n
+  undoes_step first added left last undo k m n had so_far size within is undos exchanges =
+      let split : left ≡ take (last - length first) left ++ (undo ∷ []) =
+      last_left first left last undo (sym (ap length so_far.is) ∙ size) within
+      (is ∙ ap (λ (xs : List Undo). get_or xs last undo) so_far.is) in (
+        take (last - length first) left,
+        undoes_one first added (take (last - length first) left) undo k m n had
+            (subst (λ (xs : List Undo). Undoes holds first added xs k m) split so_far)
+            (undos ∙ ap (take last) so_far.is ∙ before_last first left last within) exchanges,
+      )
+
+module _ {L : Type 0} (holds : L → List Val → Type 0) (k left m : Noting L) (first : Notes holds (in_alternative k) left)
+    (off : m ≡ record left { notes = k.notes }) where
+  -- the first alternative of a call has noted what it set
+  pub first_notes : Notes holds k m
+  first_notes =
+      let it = first.noted refl in
+      subst (Notes holds k) (sym off) (record {
+        keeps = first.keeps;
+        same = refl;
+        noted = λ is. record { added = it.added; is = it.is; narrows = it.narrows; back = it.back };
+      })
+
+  at_call : {A : Type 0} (part : Noting L → A) → part m ≡ part (record left { notes = k.notes })
+  at_call part = ap part off
+
+  -- what was noted before, and by it
+  pub first_undos : m.undos ≡ k.undos ++ (first.noted refl).added
+  first_undos = at_call (λ x. x.undos) ∙ (first.noted refl).is
+
+  before : (map : List Val) → MayBegin holds m.caller map → MayBegin holds k.caller map
+  before map may = (first.noted refl).narrows map (subst (λ (x : Noting L). MayBegin holds x.caller map) off may)
+
+  back : (map : List Val) → MayBegin holds m.caller map →
+      set_back (first.noted refl).added (seen m.caller map) ≡ seen k.caller map
+  back map may =
+      ap (λ (x : Noting L). set_back (first.noted refl).added (seen x.caller map)) off
+      ∙ (first.noted refl).back map (subst (λ (x : Noting L). MayBegin holds x.caller map) off may)
+
+  module _ (n : Noting L) (keeps : Keeps m.caller n.caller) (notes : n.notes ≡ m.notes) where
+    -- undoing it has stopped
+    pub first_left : (rest : List Undo) → Undoes holds k.undos (first.noted refl).added rest m n → Notes holds k n
+    first_left rest undoes = record {
+      keeps = keeps ∙ first_notes.keeps;
+      same = notes ∙ first_notes.same;
+      noted = λ is. record {
+        added = rest;
+        is = undoes.is;
+        narrows = λ map may. before map (undoes.narrows map may);
+        back = λ map may. undoes.back map may ∙ back map (undoes.narrows map may);
+      };
+    }
+
+    -- it is undone
+    pub first_undone : Undoes holds k.undos (first.noted refl).added [] m n → IsUndone holds k n
+    first_undone undoes =
+        let it = first_left [] undoes in
+        record {
+          keeps = it.keeps;
+          notes = it.same;
+          undos = undoes.is ∙ append-nil k.undos;
+          narrows = λ map may. before map (undoes.narrows map may);
+          same = λ map may. undoes.back map may ∙ back map (undoes.narrows map may);
+        }
+
+-- what is undone is noted
+pub undone_notes : {L : Type 0} (holds : L → List Val → Type 0) (k n : Noting L) → IsUndone holds k n → Notes holds k n
+undone_notes holds k n undone = record {
+  keeps = undone.keeps;
+  same = undone.notes;
+  noted = λ is. record {
+    added = [];
+    is = undone.undos ∙ sym (append-nil k.undos);
+    narrows = undone.narrows;
+    back = undone.same;
+  };
+}

@@ -1,0 +1,151 @@
+use Rattle.std.proofs.Common.{◌∙◌, Err, ap, inl, inr, refl, subst}
+use Rattle.dstm_cells.specs.Alternatives.{Noting, StopsUndoing}
+use Rattle.dstm_cells.specs.UnderWay.{attempt}
+use Rattle.dstm_cells.specs.declared.error.Stop.TheVariants.{Retry}
+use Rattle.dstm_cells.proofs.Alternating.{First, called, leaves, left_notes, stopped, undone}
+use Rattle.dstm_cells.proofs.Calling.{err_is, once_at, once_kept}
+use Rattle.dstm_cells.proofs.Undoing.{notes_twice, undone_notes}
+use Rattle.dstm_cells.proofs.alternatives.or_else.Goals as goal
+
+pub returns-then-not-has_retried-clause-keeps : goal.returns-then-not-has_retried-clause-keeps
+returns-then-not-has_retried-clause-keeps g c first second =
+    ap (λ (k : Noting _). attempt k.caller) c.note-noted.ensures.notes
+    ∙ once_kept (λ x. (g.X.Transaction.noting x).caller) g.F.FnOnce c.args.first _ _ _ first c.first-answer.ensures
+    ∙ ap (λ (k : Noting _). attempt k.caller) c.note-notes.ensures.notes
+
+pub returns-then-not-has_retried-clause-notes : goal.returns-then-not-has_retried-clause-notes
+returns-then-not-has_retried-clause-notes g c first second =
+    let noting = g.X.Transaction.noting in
+    let it : First noting g.F.FnOnce c.args.first c.args.tx.now c.note-notes.new.self c.first-answer.new.arg2
+    c.note-noted.new.self c.first-answer.result =
+    record {
+      on = c.note-notes.ensures.notes;
+      call = once_at g.F.FnOnce c.args.first _ _ _ _ c.first-answer.ensures refl;
+      before = c.note-notes.result;
+      same = c.note-notes.ensures.before;
+      off = c.note-noted.ensures.notes;
+    } in
+    left_notes noting g.F.FnOnce c.args.first g.X.Rule.Law.holds c.args.tx.now c.note-notes.new.self c.first-answer.new.arg2
+    c.note-noted.new.self c.first-answer.result it first
+
+pub returns-then-not-has_retried-clause-does : goal.returns-then-not-has_retried-clause-does
+returns-then-not-has_retried-clause-does g c first =
+    let noting = g.X.Transaction.noting in
+    let it : First noting g.F.FnOnce c.args.first c.args.tx.now c.note-notes.new.self c.first-answer.new.arg2
+    c.note-noted.new.self c.first-answer.result =
+    record {
+      on = c.note-notes.ensures.notes;
+      call = once_at g.F.FnOnce c.args.first _ _ _ _ c.first-answer.ensures refl;
+      before = c.note-notes.result;
+      same = c.note-notes.ensures.before;
+      off = c.note-noted.ensures.notes;
+    } in
+    inl (record {
+      left = noting c.first-answer.new.arg2;
+      called = called noting g.F.FnOnce c.args.first g.X.Rule.Law.holds c.args.tx.now c.note-notes.new.self c.first-answer.new.arg2
+          c.note-noted.new.self c.first-answer.result it;
+      goes_on = c.has_retried.ensures.goes_on c.if-not-has_retried.true;
+      leaves = leaves noting g.F.FnOnce c.args.first g.X.Rule.Law.holds c.args.tx.now c.note-notes.new.self c.first-answer.new.arg2
+          c.note-noted.new.self c.first-answer.result it;
+    })
+
+pub returns-in_err-undo_to-clause-keeps : goal.returns-in_err-undo_to-clause-keeps
+returns-in_err-undo_to-clause-keeps g c first second =
+    c.undo_to.ensures.keeps
+    ∙ ap (λ (k : Noting _). attempt k.caller) c.note-noted.ensures.notes
+    ∙ once_kept (λ x. (g.X.Transaction.noting x).caller) g.F.FnOnce c.args.first _ _ _ first c.first-answer.ensures
+    ∙ ap (λ (k : Noting _). attempt k.caller) c.note-notes.ensures.notes
+
+pub returns-in_err-undo_to-clause-notes : goal.returns-in_err-undo_to-clause-notes
+returns-in_err-undo_to-clause-notes g c first second =
+    let noting = g.X.Transaction.noting in
+    let it : First noting g.F.FnOnce c.args.first c.args.tx.now c.note-notes.new.self c.first-answer.new.arg2
+    c.note-noted.new.self (Err Retry) =
+    record {
+      on = c.note-notes.ensures.notes;
+      call = once_at g.F.FnOnce c.args.first _ _ _ _ c.first-answer.ensures (c.has_retried.ensures.retries c.if-not-has_retried.false);
+      before = c.note-notes.result;
+      same = c.note-notes.ensures.before;
+      off = c.note-noted.ensures.notes;
+    } in
+    stopped noting g.F.FnOnce c.args.first g.X.Rule.Law.holds c.args.tx.now c.note-notes.new.self c.first-answer.new.arg2
+    c.note-noted.new.self (Err Retry) it first
+    c.undo_to.new.self c.noted-kept.result c.noted-kept.ensures c.undo_to.ensures.keeps c.undo_to.ensures.notes c.in_err-undo_to.ensures.left
+
+pub returns-in_err-undo_to-clause-does : goal.returns-in_err-undo_to-clause-does
+returns-in_err-undo_to-clause-does g c first =
+    let noting = g.X.Transaction.noting in
+    let it : First noting g.F.FnOnce c.args.first c.args.tx.now c.note-notes.new.self c.first-answer.new.arg2
+    c.note-noted.new.self (Err Retry) =
+    record {
+      on = c.note-notes.ensures.notes;
+      call = once_at g.F.FnOnce c.args.first _ _ _ _ c.first-answer.ensures (c.has_retried.ensures.retries c.if-not-has_retried.false);
+      before = c.note-notes.result;
+      same = c.note-notes.ensures.before;
+      off = c.note-noted.ensures.notes;
+    } in
+    inr (inr (record {
+      left = noting c.first-answer.new.arg2;
+      retries = called noting g.F.FnOnce c.args.first g.X.Rule.Law.holds c.args.tx.now c.note-notes.new.self c.first-answer.new.arg2
+          c.note-noted.new.self (Err Retry) it;
+      stop = c.in_err-undo_to.field-0.0;
+      is = err_is c.from_residual.result _ c.from_residual.ensures.1;
+      stops = subst (λ (k : Noting _). StopsUndoing g.X.Rule.Law.holds k.caller (noting c.undo_to.new.self).caller c.in_err-undo_to.field-0.0)
+          it.off c.in_err-undo_to.ensures.stops;
+    }))
+
+pub returns-clause-keeps : goal.returns-clause-keeps
+returns-clause-keeps g c first second =
+    once_kept (λ x. (g.X.Transaction.noting x).caller) g.G.FnOnce c.args.second _ _ _ second c.second.ensures
+    ∙ c.undo_to.ensures.keeps
+    ∙ ap (λ (k : Noting _). attempt k.caller) c.note-noted.ensures.notes
+    ∙ once_kept (λ x. (g.X.Transaction.noting x).caller) g.F.FnOnce c.args.first _ _ _ first c.first-answer.ensures
+    ∙ ap (λ (k : Noting _). attempt k.caller) c.note-notes.ensures.notes
+
+pub returns-clause-notes : goal.returns-clause-notes
+returns-clause-notes g c first second =
+    let noting = g.X.Transaction.noting in
+    let it : First noting g.F.FnOnce c.args.first c.args.tx.now c.note-notes.new.self c.first-answer.new.arg2
+    c.note-noted.new.self (Err Retry) =
+    record {
+      on = c.note-notes.ensures.notes;
+      call = once_at g.F.FnOnce c.args.first _ _ _ _ c.first-answer.ensures (c.has_retried.ensures.retries c.if-not-has_retried.false);
+      before = c.note-notes.result;
+      same = c.note-notes.ensures.before;
+      off = c.note-noted.ensures.notes;
+    } in
+    let back = undone noting g.F.FnOnce c.args.first g.X.Rule.Law.holds c.args.tx.now c.note-notes.new.self c.first-answer.new.arg2
+    c.note-noted.new.self (Err Retry) it first
+    c.undo_to.new.self c.noted-kept.result c.noted-kept.ensures c.undo_to.ensures.keeps c.undo_to.ensures.notes c.in_ok-undo_to.ensures.undone in
+    notes_twice g.X.Rule.Law.holds (noting c.args.tx.now) (noting c.undo_to.new.self) (noting c.second.new.arg2)
+    (undone_notes g.X.Rule.Law.holds _ _ back)
+    (second _ _ _ (once_at g.G.FnOnce c.args.second _ _ _ _ c.second.ensures refl))
+
+pub returns-clause-does : goal.returns-clause-does
+returns-clause-does g c first =
+    let noting = g.X.Transaction.noting in
+    let it : First noting g.F.FnOnce c.args.first c.args.tx.now c.note-notes.new.self c.first-answer.new.arg2
+    c.note-noted.new.self (Err Retry) =
+    record {
+      on = c.note-notes.ensures.notes;
+      call = once_at g.F.FnOnce c.args.first _ _ _ _ c.first-answer.ensures (c.has_retried.ensures.retries c.if-not-has_retried.false);
+      before = c.note-notes.result;
+      same = c.note-notes.ensures.before;
+      off = c.note-noted.ensures.notes;
+    } in
+    inr (inl (record {
+      left = noting c.first-answer.new.arg2;
+      retries = called noting g.F.FnOnce c.args.first g.X.Rule.Law.holds c.args.tx.now c.note-notes.new.self c.first-answer.new.arg2
+          c.note-noted.new.self (Err Retry) it;
+      between = noting c.undo_to.new.self;
+      undone = undone noting g.F.FnOnce c.args.first g.X.Rule.Law.holds c.args.tx.now c.note-notes.new.self c.first-answer.new.arg2
+          c.note-noted.new.self (Err Retry) it first
+          c.undo_to.new.self c.noted-kept.result c.noted-kept.ensures c.undo_to.ensures.keeps c.undo_to.ensures.notes c.in_ok-undo_to.ensures.undone;
+      called = record {
+        began = c.undo_to.new.self;
+        at = refl;
+        ended = c.second.new.arg2;
+        returns = once_at g.G.FnOnce c.args.second _ _ _ _ c.second.ensures refl;
+        leaves = refl;
+      };
+    }))

@@ -1,0 +1,113 @@
+-- What an alternative of a transaction has set, how it is undone, and what becomes of two alternatives.
+use Rattle.std.specs.Prelude.{◌≡◌, ◌≢◌, ◌⊎◌, ℕ, Bool, true, false, List, [], ◌∷◌, ◌++◌, Result, Err, slice_set}
+use denote.Ref.{MutBor}
+use Rattle.std.specs.Fn.{FnOnceReturnsAtMut, Once}
+use Rattle.dstm_model.specs.declared.value.Val.{Val}
+use Rattle.dstm_engine.specs.Callers.{Called}
+use Rattle.dstm_cells.specs.declared.error.Stop.{Stop}
+use Rattle.dstm_cells.specs.declared.error.Stop.TheVariants.{Retry}
+use Rattle.dstm_cells.specs.declared.under_way.Tx.{Tx}
+use Rattle.dstm_cells.specs.declared.under_way.Undo.{Undo}
+use Rattle.dstm_cells.specs.UnderWay.{Keeps, MayBegin, StopsChange, seen}
+
+-- these values, with each of these objects set back, the last one first
+abbrev pub set_back : List Undo → List Val → List Val
+set_back [] map = map
+set_back (undo ∷ later) map = slice_set (set_back later map) undo.object undo.value
+
+-- an attempt, whether it notes what it sets, and what it has noted
+pub record Noting (L : Type 0) : Type 0 where
+  pub caller : Called L
+  pub notes : Bool
+  pub undos : List Undo
+
+module _ {L : Type 0} where
+  abbrev pub noting : Tx L → Noting L
+  noting tx = record { caller = tx.caller; notes = tx.notes; undos = tx.undos.items }
+
+  -- it is in an alternative, which may yet be undone
+  abbrev pub in_alternative : Noting L → Noting L
+  in_alternative k = record k { notes = true }
+
+  module _ (holds : L → List Val → Type 0) where
+    -- what was set since is noted, so that it can be undone
+    pub record IsNoted (old new : Noting L) : Type 0 where
+      pub added : List Undo
+      pub is : new.undos ≡ old.undos ++ added
+      pub narrows : (map : List Val) → MayBegin holds new.caller map → MayBegin holds old.caller map
+      pub back : (map : List Val) → MayBegin holds new.caller map →
+          set_back added (seen new.caller map) ≡ seen old.caller map
+
+    -- a call goes on with the same attempt, and notes what it sets where it is in an alternative
+    pub record Notes (old new : Noting L) : Type 0 where
+      pub keeps : Keeps old.caller new.caller
+      pub same : new.notes ≡ old.notes
+      pub noted : old.notes ≡ true → IsNoted old new
+
+    -- of what was noted behind the first ones, these are left, and what they set is still to be set back
+    pub record Undoes (first added left : List Undo) (old new : Noting L) : Type 0 where
+      pub is : new.undos ≡ first ++ left
+      pub narrows : (map : List Val) → MayBegin holds new.caller map → MayBegin holds old.caller map
+      pub back : (map : List Val) → MayBegin holds new.caller map →
+          set_back left (seen new.caller map) ≡ set_back added (seen old.caller map)
+
+    -- IT IS UNDONE: all is set as it was, by the same attempt
+    pub record IsUndone (old new : Noting L) : Type 0 where
+      pub keeps : Keeps old.caller new.caller
+      pub notes : new.notes ≡ old.notes
+      pub undos : new.undos ≡ old.undos
+      pub narrows : (map : List Val) → MayBegin holds new.caller map → MayBegin holds old.caller map
+      pub same : (map : List Val) → MayBegin holds new.caller map → seen new.caller map ≡ seen old.caller map
+
+    -- why undoing stops: a call that sets an object back does
+    pub record StopsUndoing (old new : Called L) (stop : Stop) : Type 0 where
+      pub object : ℕ
+      pub last : Called L
+      pub keeps : Keeps old last
+      pub stops : StopsChange holds false object last new stop
+
+module _ {X L F R : Type 0} (noting : X → Noting L)
+    (g : Once F (MutBor X × Unit {0}) (Result R Stop × (MutBor X × Unit {0}))) (f : F) where
+  -- an alternative notes what it sets, and leaves the transaction that it was given, and no other one in its place
+  abbrev pub NotesOnce : (holds : L → List Val → Type 0) → Type 0
+  NotesOnce holds =
+      (old new : X) (answer : Result R Stop) → FnOnceReturnsAtMut g f old answer new → Notes holds (noting old) (noting new)
+
+  -- an alternative was called here, answered this and left that
+  pub record CalledOn (k : Noting L) (answer : Result R Stop) (n : Noting L) : Type 0 where
+    pub began : X
+    pub at : noting began ≡ k
+    pub ended : X
+    pub returns : FnOnceReturnsAtMut g f began answer ended
+    pub leaves : noting ended ≡ n
+
+module _ {X L F G R : Type 0} (noting : X → Noting L) (holds : L → List Val → Type 0)
+    (g : Once F (MutBor X × Unit {0}) (Result R Stop × (MutBor X × Unit {0}))) (first : F)
+    (h : Once G (MutBor X × Unit {0}) (Result R Stop × (MutBor X × Unit {0}))) (second : G)
+    (k n : Noting L) (answer : Result R Stop) where
+  -- the first alternative did not retry
+  pub record GoesByFirst : Type 0 where
+    pub left : Noting L
+    pub called : CalledOn noting g first (in_alternative k) answer left
+    pub goes_on : answer ≢ Err Retry
+    pub leaves : n ≡ record left { notes = k.notes }
+
+  -- the first alternative retried, what it had set was undone, and the second one was called
+  pub record GoesBySecond : Type 0 where
+    pub left : Noting L
+    pub retries : CalledOn noting g first (in_alternative k) (Err Retry) left
+    pub between : Noting L
+    pub undone : IsUndone holds k between
+    pub called : CalledOn noting h second between answer n
+
+  -- the first alternative retried, and what it had set could not be undone
+  pub record StopsBetween : Type 0 where
+    pub left : Noting L
+    pub retries : CalledOn noting g first (in_alternative k) (Err Retry) left
+    pub stop : Stop
+    pub is : answer ≡ Err stop
+    pub stops : StopsUndoing holds left.caller n.caller stop
+
+  -- WHAT TWO ALTERNATIVES DO
+  abbrev pub OrElse : Type 0
+  OrElse = GoesByFirst ⊎ (GoesBySecond ⊎ StopsBetween)

@@ -1,0 +1,44 @@
+// Alternatives of a transaction.
+ghost use Rattle.std.specs.Prelude.{◌≡◌, ◌≢◌, true, false, Err};
+ghost use Rattle.dstm_cells.specs.Alternatives.{Notes, NotesOnce, OrElse};
+ghost use Rattle.dstm_cells.specs.Closures.{KeepsOnce};
+ghost use Rattle.dstm_cells.specs.UnderWay.{Keeps};
+ghost use Rattle.dstm_cells.specs.declared.error.Stop.TheVariants.{Retry};
+
+use crate::error::Stop;
+use crate::transaction::Transaction;
+
+/// Goes on by the first alternative, or by the second one where the first retries. What the first has set is then undone;
+/// what it has read stays read, so that a change of it ends the waiting if the second retries too. It is `Tx::or_else` for
+/// a memory under any law.
+pub fn or_else<X: Transaction, R: Drop, F, G>(tx: &mut X, first: F, second: G) -> Result<R, Stop>
+where
+    F: FnOnce(&mut X) -> Result<R, Stop>,
+    G: FnOnce(&mut X) -> Result<R, Stop>,
+    requires first { F.IsAlwaysCallable first }
+    requires second { G.IsAlwaysCallable second }
+    ensures keeps { KeepsOnce (λ x. (X.noting x).caller) F.FnOnce first → KeepsOnce (λ x. (X.noting x).caller) G.FnOnce second
+        → Keeps (X.noting tx.old).caller (X.noting tx.new).caller }
+    ensures notes { NotesOnce X.noting F.FnOnce first X.Rule.holds → NotesOnce X.noting G.FnOnce second X.Rule.holds
+        → Notes X.Rule.holds (X.noting tx.old) (X.noting tx.new) }
+    ensures does { NotesOnce X.noting F.FnOnce first X.Rule.holds
+        → OrElse X.noting X.Rule.holds F.FnOnce first G.FnOnce second (X.noting tx.old) (X.noting tx.new) result }
+{
+    let kept = tx.noted();
+    let notes = tx.note(true);
+    let answer = first(tx);
+    let _noted = tx.note(notes);
+    if !has_retried(&answer) {
+        return answer;
+    }
+    tx.undo_to(kept)?;
+    second(tx)
+}
+
+// Whether an alternative has retried.
+fn has_retried<R>(answer: &Result<R, Stop>) -> bool
+    ensures retries { result ≡ true → answer.now ≡ Err Retry }
+    ensures goes_on { result ≡ false → answer.now ≢ Err Retry }
+{
+    matches!(answer, Err(Stop::Retry))
+}
