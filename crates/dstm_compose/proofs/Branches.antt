@@ -1,9 +1,10 @@
 -- What the conditions and the branches of a job say of a store.
-use Rattle.std.proofs.Common.{◌≡◌, ℕ, ◌≤◌, Bool, true, false, List, [], ◌∷◌, length, drop, arith, refl, sym, ◌∙◌, ap}
+use Rattle.std.proofs.Common.{◌≡◌, ℕ, ◌≤◌, Bool, true, false, List, [], ◌∷◌, length, take, drop, arith, refl, sym, ◌∙◌, ap}
 use Rattle.std.proofs.Common.{subst, inl, inr, Bor, length-drop}
 use Rattle.std.proofs.lemmas.Bool.{cases_Bool, cond-true, cond-false}
 use Rattle.std.proofs.lemmas.Option.{same_Some}
-use Rattle.std.proofs.lemmas.List.Elements.{All-drop, Contains-append_right}
+use Rattle.std.proofs.lemmas.List.{take-append-drop}
+use Rattle.std.proofs.lemmas.List.Elements.{All-drop, Contains-append_left, Contains-append_right}
 use Rattle.std.specs.Prelude.{Option, Some, None, IfSome, All, Contains}
 use Rattle.std.specs.List.{find}
 use Rattle.dstm_model.specs.declared.layout.Layout.{Layout}
@@ -17,7 +18,8 @@ use Rattle.dstm_model.specs.Layout.{FitsLayout, FitsCond}
 use Rattle.dstm_model.specs.Store.{Store, IsPlain, apply, yes_or_no, is_member}
 use Rattle.dstm_model.specs.Job.{is_open, holds_in}
 use Rattle.dstm_mem.specs.Operates.{IsLook}
-use Rattle.dstm_compose.specs.Compose.{condition_of, look_of, shows}
+use Rattle.dstm_store.specs.Concerns.{Concerns}
+use Rattle.dstm_compose.specs.Compose.{condition_of, look_of, shows, IsAwaited}
 
 shows-yes : (which : Which) (key : ℕ) (b : Bool) → shows (cond.Key which key) (yes_or_no b) ≡ b
 shows-yes which key true = refl
@@ -78,6 +80,42 @@ pub later_short : (most : ℕ) (ops : List Op) (after : Option (Bor (List Op))) 
     IfSome after (λ a. (n : ℕ) × (a.now ≡ drop n ops)) → IfSome after (λ a. length a.now ≤ most)
 later_short most ops None short is = tt
 later_short most ops (Some a) short is = omega (arith, ap length is.1, length-drop is.0 ops, short)
+
+-- what is among a part of a list is in it
+Contains-taken : {X : Type 0} (n : ℕ) (xs : List X) (x : X) → Contains (take n xs) x → Contains xs x
+Contains-taken {X = X} n xs x has =
+    subst (λ (l : List X). Contains l x) (take-append-drop n xs) (Contains-append_left (take n xs) (drop n xs) x has)
+
+Contains-dropped : {X : Type 0} (n : ℕ) (xs : List X) (x : X) → Contains (drop n xs) x → Contains xs x
+Contains-dropped {X = X} n xs x has =
+    subst (λ (l : List X). Contains l x) (take-append-drop n xs) (Contains-append_right (take n xs) (drop n xs) x has)
+
+-- a branch awaits what its condition is about
+pub awaited_of-condition : (layout : Layout) (branch : List Op) (c : Cond) (o : ℕ) →
+    condition_of branch ≡ Some c → Concerns layout (look_of c) o → IsAwaited layout branch o
+awaited_of-condition layout (Await d ∷ ops) c o is about = (c, (0, omega arith, ap Await cc), about)
+awaited_of-condition layout ops c o is about = absurd (cc is)
+
+-- what the first branch left awaits, the job awaits
+pub awaited_of-branch : (layout : Layout) (ops left branch : List Op) (o : ℕ) →
+    ((x : Op) → Contains left x → Contains ops x) → ((n : ℕ) × (branch ≡ take n left)) → IsAwaited layout branch o →
+    IsAwaited layout ops o
+awaited_of-branch layout ops left branch o among first awaited =
+    let op : Op = Await awaited.0 in (
+      awaited.0,
+      among op (Contains-taken first.0 left op (subst (λ (l : List Op). Contains l op) first.1 awaited.1)),
+      awaited.2,
+    )
+
+-- each operation of what is left is one of the job's
+abbrev pub AreOf : List Op → Option (Bor (List Op)) → Type 0
+AreOf all left = IfSome left (λ ops. (x : Op) → Contains ops.now x → Contains all x)
+
+pub later_among : (all ops : List Op) (after : Option (Bor (List Op))) →
+    ((x : Op) → Contains ops x → Contains all x) → IfSome after (λ a. (n : ℕ) × (a.now ≡ drop n ops)) → AreOf all after
+later_among all ops None among is = tt
+later_among all ops (Some a) among is =
+    λ x has. among x (Contains-dropped is.0 ops x (subst (λ (l : List Op). Contains l x) is.1 has))
 
 -- ---- a branch that is found
 

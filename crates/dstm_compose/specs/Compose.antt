@@ -1,6 +1,7 @@
 -- What a job with branches does on a map: what the branch that is taken does, or nothing.
 use Rattle.std.specs.Prelude.{◌≡◌, ◌<◌, ℕ, Bool, true, false, nat_le, List, ◌∷◌, All, Contains, Option, Some, None}
 use Rattle.dstm_model.specs.declared.value.Val.{Val}
+use Rattle.dstm_model.specs.declared.layout.Layout.{Layout}
 use Rattle.dstm_model.specs.declared.op.Cond.{Cond}
 use Rattle.dstm_model.specs.declared.op.Cond.TheVariants as cond
 use Rattle.dstm_model.specs.declared.op.Op.{Op}
@@ -12,6 +13,7 @@ use Rattle.dstm_model.specs.Store.{Store}
 use Rattle.dstm_model.specs.Job.{JobOutcome, apply_job, branches_of}
 use Rattle.dstm_store.specs.declared.job.JobTask.{JobTask}
 use Rattle.dstm_store.specs.Whole.{StandsFor}
+use Rattle.dstm_store.specs.Concerns.{Concerns}
 use Rattle.dstm_compose.specs.declared.body.Outcome.{Outcome}
 use Rattle.dstm_compose.specs.declared.body.Outcome.TheVariants.{Ran, Blocked}
 
@@ -63,6 +65,10 @@ condition_of ops = None
 abbrev pub look_of : Cond → Op
 look_of (cond.Balance account least) = Balance account
 look_of (cond.Key which key) = Member which key
+
+-- a condition among these operations is about object o: this is its account, or any object of its structure
+abbrev pub IsAwaited : Layout → List Op → ℕ → Type 0
+IsAwaited layout ops o = (c : Cond) × Contains ops (Await c) × Concerns layout (look_of c) o
 
 -- its reply shows that the condition holds
 abbrev pub shows : Cond → Reply → Bool

@@ -3,9 +3,10 @@ ghost use Rattle.dstm_model.specs.declared.value.Val.{Val};
 ghost use Rattle.dstm_model.specs.Layout.{IsValid, FitsLayout};
 ghost use Rattle.dstm_model.specs.Objects.{objects_of};
 ghost use Rattle.dstm_mem.specs.Memory.{with_set};
+ghost use Rattle.dstm_mem.specs.Operates.{IsUntouched};
 ghost use Rattle.dstm_mem.specs.Operations.{IsFresh, IsReady, Leads, OnlyReads};
 ghost use Rattle.dstm_store.specs.Whole.{StandsFor, IsLawful};
-ghost use Rattle.dstm_compose.specs.Compose.{IsRight, Audits};
+ghost use Rattle.dstm_compose.specs.Compose.{IsRight, Audits, IsAwaited};
 
 use crate::branch::open_branch;
 use dstm_mem::{Body, Mem};
@@ -86,7 +87,8 @@ impl Body<StoreLaw> for CompBody {
 
     ghost leaves = { λ body held opened. (o : ℕ) → Audits body.task body.outcome o → IsSome (held o) };
 
-    // The clauses of the trait, and that a run which ends blocked has only read.
+    // The clauses of the trait, and that a run which ends blocked has only read, and only what its job's conditions are
+    // about.
     fn run<M: Mem>(&mut self, mem: &mut M) -> Result<(), M::Err>
         requires fresh { IsFresh M.Mem mem.old }
         requires lawful { (map : List Val) → M.Admits mem.old map → IsLawful self.old.task.layout map }
@@ -101,6 +103,8 @@ impl Body<StoreLaw> for CompBody {
         ensures outcome { IfErr result (λ _. self.new.outcome ≡ self.old.outcome) }
         ensures leads { Leads M.Mem mem.old mem.new result }
         ensures looks { OnOk result (self.new.outcome ≡ Outcome.Blocked → OnlyReads M.Mem mem.old mem.new) }
+        ensures awaited { OnOk result (self.new.outcome ≡ Outcome.Blocked →
+            (o : ℕ) → ¬ (IsAwaited self.new.task.layout self.new.task.ops o) → IsUntouched M.Mem o mem.old mem.new) }
     {
         self.outcome = run_job(mem, &self.task.layout, self.task.ops.as_slice())?;
         Ok(())
@@ -122,6 +126,8 @@ fn run_job<M: Mem>(mem: &mut M, layout: &Layout, ops: &[Op]) -> Result<Outcome, 
     ensures lawful { OnOk result ((map : List Val) → M.Admits mem.new map →
         IsLawful layout.now (with_set map (M.written mem.new))) }
     ensures looks { IfOk result (λ outcome. outcome ≡ Outcome.Blocked → OnlyReads M.Mem mem.old mem.new) }
+    ensures awaited { IfOk result (λ outcome. outcome ≡ Outcome.Blocked →
+        (o : ℕ) → ¬ (IsAwaited layout.now ops.now o) → IsUntouched M.Mem o mem.old mem.new) }
     ensures audits { IfOk result (λ outcome. (o : ℕ) →
         Audits (record { layout = layout.now; ops = ops.now }) outcome o → IsSome (M.held mem.new o)) }
 

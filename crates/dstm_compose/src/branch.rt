@@ -1,4 +1,4 @@
-ghost use Rattle.std.specs.Prelude.{◌≡◌, ◌≤◌, List, length, All, IfOk, OnOk, IfSome, option_copied};
+ghost use Rattle.std.specs.Prelude.{◌≡◌, ℕ, ◌≤◌, List, length, All, IfOk, OnOk, IfSome, option_copied};
 ghost use Rattle.dstm_model.specs.declared.value.Val.{Val};
 ghost use Rattle.dstm_model.specs.Layout.{IsValid, FitsLayout, FitsCond};
 ghost use Rattle.dstm_model.specs.Store.{Store};
@@ -6,14 +6,17 @@ ghost use Rattle.dstm_model.specs.Job.{open_branch, is_open, holds_in};
 ghost use Rattle.dstm_model.specs.Objects.{objects_of};
 ghost use Rattle.dstm_mem.specs.Memory.{with_set};
 ghost use Rattle.dstm_mem.specs.Operations.{IsReady, Leads, OnlyReads};
+ghost use Rattle.dstm_mem.specs.Operates.{IsUntouched};
+ghost use Rattle.dstm_store.specs.Concerns.{Concerns};
 ghost use Rattle.dstm_store.specs.Whole.{StandsFor};
-ghost use Rattle.dstm_compose.specs.Compose.{condition_of, look_of, shows};
+ghost use Rattle.dstm_compose.specs.Compose.{condition_of, look_of, shows, IsAwaited};
 
 use dstm_mem::Mem;
 use dstm_model::{Cond, Layout, Op, Reply, first_branch};
 use dstm_store::run_op;
 
-/// The first open branch of a job. It looks at the conditions in order, up to the first that holds.
+/// The first open branch of a job. It looks at the conditions in order, up to the first that holds, and touches only what
+/// they are about.
 pub fn open_branch<'a, M: Mem>(
     mem: &mut M,
     layout: &Layout,
@@ -30,6 +33,8 @@ pub fn open_branch<'a, M: Mem>(
     ensures fits { IfOk result (λ branch. IfSome branch (λ ops. All (FitsLayout layout.now) ops.now)) }
     ensures short { IfOk result (λ branch. IfSome branch (λ some. length some.now ≤ length ops.now)) }
     ensures looks { OnOk result (OnlyReads M.Mem mem.old mem.new) }
+    ensures awaited { OnOk result ((o : ℕ) → ¬ (IsAwaited layout.now ops.now o) →
+        IsUntouched M.Mem o mem.old mem.new) }
 
     ensures leads { Leads M.Mem mem.old mem.new result }
 {
@@ -54,6 +59,8 @@ fn is_open<M: Mem>(mem: &mut M, layout: &Layout, branch: &[Op]) -> Result<bool, 
     ensures tells { IfOk result (λ yes. (map : List Val) → M.Admits mem.new map → (store : Store) →
         StandsFor layout.now (with_set map (M.written mem.old)) store → yes ≡ is_open store branch.now) }
     ensures looks { OnOk result (OnlyReads M.Mem mem.old mem.new) }
+    ensures awaited { OnOk result ((o : ℕ) → ¬ (IsAwaited layout.now branch.now o) →
+        IsUntouched M.Mem o mem.old mem.new) }
 
     ensures leads { Leads M.Mem mem.old mem.new result }
 {
@@ -82,6 +89,8 @@ fn holds<M: Mem>(mem: &mut M, layout: &Layout, cond: Cond) -> Result<bool, M::Er
     ensures tells { IfOk result (λ yes. (map : List Val) → M.Admits mem.new map → (store : Store) →
         StandsFor layout.now (with_set map (M.written mem.old)) store → yes ≡ holds_in cond store) }
     ensures looks { OnOk result (OnlyReads M.Mem mem.old mem.new) }
+    ensures about { OnOk result ((o : ℕ) → ¬ (Concerns layout.now (look_of cond) o) →
+        IsUntouched M.Mem o mem.old mem.new) }
 
     ensures leads { Leads M.Mem mem.old mem.new result }
 {

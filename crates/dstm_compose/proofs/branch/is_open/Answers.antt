@@ -1,6 +1,6 @@
 use Rattle.std.proofs.Common.{sym, ◌∙◌}
-use Rattle.std.proofs.lemmas.Result.{IfOk-weaker}
-use Rattle.dstm_compose.proofs.Branches.{open-condition, open-free, condition_fits}
+use Rattle.std.proofs.lemmas.Result.{IfOk-weaker, on_ok_weaker}
+use Rattle.dstm_compose.proofs.Branches.{open-condition, open-free, condition_fits, awaited_of-condition}
 use Rattle.dstm_compose.proofs.branch.is_open.Goals as goal
 
 pub holds-requires-clause-fits : goal.holds-requires-clause-fits
@@ -19,3 +19,12 @@ returns-in-Some-clause-tells g c =
 pub returns-in-None-clause-tells : goal.returns-in-None-clause-tells
 returns-in-None-clause-tells g c map admitted store stands =
     sym (open-free store c.args.branch.now (sym c.in-None.ensures))
+
+pub returns-in-Some-clause-awaited : goal.returns-in-Some-clause-awaited
+returns-in-Some-clause-awaited g c =
+    on_ok_weaker c.holds.result
+    (λ about o apart.
+    about o
+    (λ concerns. apart
+    (awaited_of-condition c.args.layout.now c.args.branch.now c.in-Some.cond o (sym c.in-Some.ensures) concerns)))
+    c.holds.ensures.about

@@ -6,9 +6,10 @@ use Rattle.dstm_model.specs.declared.op.Op.{Op}
 use Rattle.dstm_model.specs.Job.{branches_left, is_open}
 use Rattle.dstm_model.specs.Layout.{FitsLayout}
 use Rattle.dstm_mem.proofs.Operations.{leads-answers, leads-then, only_reads-then, ready-reads}
+use Rattle.dstm_mem.proofs.Operating.{untouched-then}
 use Rattle.dstm_mem.proofs.WithSet.{with_set-same}
 use Rattle.dstm_store.specs.Whole.{StandsFor}
-use Rattle.dstm_compose.proofs.Branches.{found-open, found-later, later_fits, later_short}
+use Rattle.dstm_compose.proofs.Branches.{AreOf, found-open, found-later, later_fits, later_short, later_among, awaited_of-branch}
 use Rattle.dstm_compose.proofs.branch.open_branch.Goals as goal
 
 pub is_open-requires-clause-ready : goal.is_open-requires-clause-ready
@@ -47,6 +48,13 @@ loop-rest-preserved g c =
       fits = later_fits c.args.layout.now c.in-Some.ops.now c.first_branch.result.1
           (subst (λ (rest : Option (Bor (List Op))). IfSome rest (λ ops. All (FitsLayout c.args.layout.now) ops.now))
           c.in-Some.is so_far.fits) ahead.after;
+      among = later_among c.args.ops.now c.in-Some.ops.now c.first_branch.result.1
+          (subst (AreOf c.args.ops.now) c.in-Some.is so_far.among) ahead.after;
+      awaited = λ o apart.
+          untouched-then M (so_far.awaited o apart)
+          (told.awaited o (λ awaits. apart
+          (awaited_of-branch c.args.layout.now c.args.ops.now c.in-Some.ops.now c.first_branch.result.0.now o
+          (subst (AreOf c.args.ops.now) c.in-Some.is so_far.among) ahead.first awaits)));
       short = later_short (length c.args.ops.now) c.in-Some.ops.now c.first_branch.result.1
           (subst (λ (rest : Option (Bor (List Op))). IfSome rest (λ ops. length ops.now ≤ length c.args.ops.now))
           c.in-Some.is so_far.short) ahead.after;
@@ -57,3 +65,12 @@ returns-clause-found g c map admitted store stands =
     sym (ap (λ (rest : Option (Bor (List Op))). find (is_open store) (branches_left (option_copied rest)))
     c.in_default.is)
     ∙ c.loop-rest.invariant.found map admitted store stands
+
+pub returns-then-branch-clause-awaited : goal.returns-then-branch-clause-awaited
+returns-then-branch-clause-awaited g c o apart =
+    let M = g.M.Mem in
+    let so_far = c.loop-rest.invariant in
+    untouched-then M (so_far.awaited o apart)
+    (c.in_ok-is_open.ensures.awaited o (λ awaits. apart
+    (awaited_of-branch c.args.layout.now c.args.ops.now c.in-Some.ops.now c.first_branch.result.0.now o
+    (subst (AreOf c.args.ops.now) c.in-Some.is so_far.among) c.first_branch.ensures.first awaits)))

@@ -1,4 +1,4 @@
-use Rattle.std.proofs.Common.{◌≡◌, ◌≤◌, List, length, option_copied}
+use Rattle.std.proofs.Common.{◌≡◌, ◌≤◌, ℕ, List, length, option_copied}
 use Rattle.std.specs.Prelude.{Ok, IfSome}
 use Rattle.std.specs.List.{All, find}
 use Rattle.dstm_model.specs.declared.value.Val.{Val}
@@ -6,8 +6,11 @@ use Rattle.dstm_model.specs.Store.{Store}
 use Rattle.dstm_model.specs.Job.{branches_left, is_open, open_branch}
 use Rattle.dstm_model.specs.Layout.{FitsLayout}
 use Rattle.dstm_mem.specs.Memory.{with_set}
+use Rattle.dstm_mem.specs.Operates.{IsUntouched}
 use Rattle.dstm_mem.specs.Operations.{Leads, OnlyReads}
 use Rattle.dstm_store.specs.Whole.{StandsFor}
+use Rattle.dstm_compose.specs.Compose.{IsAwaited}
+use Rattle.dstm_compose.proofs.Branches.{AreOf}
 use Rattle.dstm_compose.proofs.branch.open_branch.Given as goal
 
 -- the first open branch is among those left, in whatever store an admitted map stands for
@@ -21,6 +24,8 @@ invariant-loop-rest g l =
           StandsFor l.layout (with_set map (M.written l.fn.mem)) store →
           find (is_open store) (branches_left (option_copied l.rest)) ≡ open_branch l.fn.ops store;
       fits : IfSome l.rest (λ ops. All (FitsLayout l.layout) ops.now);
+      among : AreOf l.fn.ops l.rest;
+      awaited : (o : ℕ) → ¬ (IsAwaited l.layout l.fn.ops o) → IsUntouched M o l.fn.mem l.mem;
       short : IfSome l.rest (λ ops. length ops.now ≤ length l.fn.ops);
     }
 
