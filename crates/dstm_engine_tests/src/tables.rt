@@ -49,7 +49,7 @@ fn a_caller_with_one_attempt_is_spent_after_it(rt: HostRuntime) -> Result<(), Fa
 fn callers_are_given_out_and_taken_back_together(rt: HostRuntime) -> Result<(), Fail> {
     let alloc = rt.alloc();
     let start = vec![in alloc; low(7)]?;
-    let (stm, mut founder) = Stm::make(alloc, start, small(2), AnyLaw)?;
+    let (stm, mut founder) = Stm::make(alloc, start, small(2, Manager::Polite), AnyLaw)?;
     let callers = founder.callers(alloc, &stm, 2)?;
     assert_eq!(rt; callers.len(), 2);
     assert_eq!(rt; founder.out(), 2);
