@@ -4,7 +4,6 @@ use denote.RattleType.{RattleType}
 use denote.Param.Send.{IsSend, IsSync, sendable}
 use denote.Param.SendFields.{declared_send}
 use Rattle.std.proofs.Crossing.{crosses}
-use Rattle.dstm_model.proofs.value.AnyLaw.TheSendSync as AnyLaw
 use Rattle.dstm_model.specs.declared.value.Law.{Ghosts}
 use Rattle.dstm_engine.proofs.stm.Stm.TheSendSync as TheStm
 use Rattle.dstm_engine.specs.contracts.stm.Stm as Stm
@@ -33,9 +32,9 @@ pub part_send : (κ : NamedLft) (Y : RattleType) (law : Ghosts Y.Denot) → IsSy
     IsSend (Part.the_row (Tx.the_row κ Y law))
 part_send κ Y law sync = declared_send (Part.the_type (Tx.the_row κ Y law)) (tx_send κ Y law sync, tt)
 
-pub seat_send : (κ : NamedLft) → IsSend (Seat.the_row κ)
-seat_send κ =
-    declared_send (Seat.the_type κ) (
-      part_send κ _ _ AnyLaw.the_sync,
+pub seat_send : (κ : NamedLft) (Y : RattleType) (law : Ghosts Y.Denot) → IsSync Y → IsSend (Seat.the_row κ Y law)
+seat_send κ Y law sync =
+    declared_send (Seat.the_type κ Y law) (
+      part_send κ Y law sync,
       (search (crosses, sendable) depth 20, tt),
     )

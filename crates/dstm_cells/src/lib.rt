@@ -12,6 +12,7 @@ mod thread;
 mod transaction;
 mod tx;
 mod under_way;
+mod work;
 
 pub use alternatives::or_else;
 pub use cell::{Cell, Word};
@@ -20,3 +21,4 @@ pub use error::{Failed, GaveUp, Stop};
 pub use memory::{MOST_CELLS, MOST_THREADS, Memory};
 pub use thread::{Me, Part};
 pub use under_way::Tx;
+pub use work::Work;

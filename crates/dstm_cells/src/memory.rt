@@ -1,5 +1,5 @@
 // Cells, and threads that change them.
-ghost use Rattle.std.specs.Prelude.{◌≡◌, ◌⊎◌, ◌↔◌, ◌<◌, ◌≤◌, [], length, Err, IfErr, IfOk, OnOk};
+ghost use Rattle.std.specs.Prelude.{◌≡◌, ◌⊎◌, ◌↔◌, ◌<◌, ◌≤◌, ℕ, [], length, All, Ok, Err, IfErr, IfOk, OnOk};
 ghost use Rattle.dstm_cells.specs.Cells.{Adds, Founds, IsFor};
 ghost use Rattle.dstm_cells.specs.declared.error.Failed.TheVariants as failed;
 ghost use Rattle.dstm_core.specs.declared.shape.Manager.TheVariants.{Polka};
@@ -10,6 +10,7 @@ use crate::cell::{Cell, Word};
 use crate::error::{Failed, GaveUp};
 use crate::thread::{Me, Part};
 use crate::under_way::Tx;
+use crate::work::Work;
 use dstm_core::{Manager, Shape};
 use dstm_engine::{EnrolError, Founder, MOST_OBJECTS, Stm, shape_for};
 use dstm_model::{AnyLaw, Law, Val};
@@ -35,8 +36,8 @@ pub struct Memory<L: Law = AnyLaw> {
 
 // A thread's part in a run, and how it ended.
 #[derive(Drop)]
-struct Seat<'a> {
-    me: Me<'a>,
+struct Seat<'a, L: Law> {
+    me: Me<'a, L>,
     ended: Result<(), GaveUp>,
 }
 
@@ -110,7 +111,7 @@ impl<L: Law + Copy> Memory<L> {
         ensures founds { IfOk result (λ t. Founds self.now.law self.now.values.items t.0 t.1) }
         ensures manager { IfOk result (λ t. t.0.terms.shape.manager ≡ self.now.manager) }
         ensures threads { OnOk result ((1 ≤ threads) × (threads ≤ 63)) }
-        ensures refused { (threads ≡ 0) ⊎ (63 < threads) → result ≡ Err failed.Threads }
+        ensures refused { result ≡ Err failed.Threads ↔ ((threads ≡ 0) ⊎ (63 < threads)) }
     {
         if threads == 0 || threads > MOST_THREADS {
             return Err(Failed::Threads);
@@ -158,6 +159,60 @@ impl<L: Law + Copy> Memory<L> {
         self.values = last.tx.values(self.alloc, self.values.len() as u32)?;
         Ok(())
     }
+
+    // Gives out so many seats of the table.
+    fn seats<'a>(
+        &self,
+        stm: &'a Stm<L>,
+        founder: &mut Founder<L>,
+        count: u32,
+    ) -> Result<Vec<Seat<'a, L>>, Failed>
+        requires table { founder.old.home ≡ stm.now }
+        ensures count { IfOk result (λ seats. length seats.items ≡ count) }
+    {
+        let mut seats = Vec::with_capacity(self.alloc, count as usize)?;
+        for seed in 0..count {
+            seats.push(Seat {
+                me: self.part(stm, founder, u64::from(seed))?,
+                ended: Ok(()),
+            })?;
+        }
+        Ok(seats)
+    }
+}
+
+impl<L: Law + Copy + Sync> Memory<L> {
+    /// Does the work with each number below `threads`, from 1 to 63, each in a thread of its own where one can be made, as
+    /// `run` does on a memory without a law. What it leaves is lawful.
+    pub fn run_work<R: Threads + Sync, W: Work<L> + Sync>(
+        &mut self,
+        rt: &R,
+        threads: u32,
+        work: &W,
+    ) -> Result<(), Failed>
+        requires lawful { L.holds self.old.law self.old.values.items }
+        ensures manager { self.new.manager ≡ self.old.manager }
+        ensures law { self.new.law ≡ self.old.law }
+        ensures lawful { L.holds self.new.law self.new.values.items }
+        ensures size { length self.new.values.items ≡ length self.old.values.items }
+        ensures threads { OnOk result ((1 ≤ threads) × (threads ≤ 63)) }
+        ensures refused { (threads ≡ 0) ⊎ (63 < threads) → (result ≡ Err failed.Threads) × (self.new ≡ self.old) }
+        ensures ended { OnOk result ((number : ℕ) → number < threads → W.ends work.now number (Ok tt)) }
+    {
+        let (stm, mut founder) = self.found(threads)?;
+        let mut last = self.part(&stm, &mut founder, 0)?;
+        let mut seats = self.seats(&stm, &mut founder, threads)?;
+        for_each_mut(
+            rt,
+            &mut seats,
+            threads as usize,
+            &|number, seat: &mut Seat<'_, L>|
+                ensures { W.ends work.entry.now number seat.exit.now.ended }
+            { seat.ended = work.work(&mut seat.me, number) },
+        );
+        self.values = last.tx.values(self.alloc, self.values.len() as u32)?;
+        how_all_ended(&seats)
+    }
 }
 
 impl Memory {
@@ -179,36 +234,19 @@ impl Memory {
             rt,
             &mut seats,
             threads as usize,
-            &|number, seat: &mut Seat<'_>|
+            &|number, seat: &mut Seat<'_, AnyLaw>|
                 requires { F.IsAlwaysCallable f }
             { work(&f, seat, number) },
         );
         self.values = last.tx.values(self.alloc, self.values.len() as u32)?;
         how_all_ended(&seats)
     }
-
-    // Gives out so many seats of the table.
-    fn seats<'a>(
-        &self,
-        stm: &'a Stm<AnyLaw>,
-        founder: &mut Founder<AnyLaw>,
-        count: u32,
-    ) -> Result<Vec<Seat<'a>>, Failed>
-        requires table { founder.old.home ≡ stm.now }
-    {
-        let mut seats = Vec::with_capacity(self.alloc, count as usize)?;
-        for seed in 0..count {
-            seats.push(Seat {
-                me: self.part(stm, founder, u64::from(seed))?,
-                ended: Ok(()),
-            })?;
-        }
-        Ok(seats)
-    }
 }
 
 // How the first thread ended that did not end well.
-fn how_all_ended(seats: &[Seat<'_>]) -> Result<(), Failed> {
+fn how_all_ended<L: Law>(seats: &[Seat<'_, L>]) -> Result<(), Failed>
+    ensures { OnOk result (All (λ seat. seat.ended ≡ Ok tt) seats.now) }
+{
     for seat in seats {
         if let Err(why) = seat.ended {
             return Err(Failed::GaveUp(why));
@@ -218,7 +256,7 @@ fn how_all_ended(seats: &[Seat<'_>]) -> Result<(), Failed> {
 }
 
 // Calls the closure on a seat, and notes how it ended.
-fn work<F>(f: &F, seat: &mut Seat<'_>, number: usize)
+fn work<F>(f: &F, seat: &mut Seat<'_, AnyLaw>, number: usize)
 where
     F: Fn(&mut Me<'_>, usize) -> Result<(), GaveUp>,
     requires callable { F.IsAlwaysCallable f.now }

@@ -3,7 +3,7 @@ ghost use Rattle.std.specs.Prelude.{◌≡◌, List, IfOk, OnOk};
 ghost use Rattle.dstm_cells.specs.UnderWay.{IsUntouched, Keeps, LeavesLawful, MayBegin, seen};
 ghost use Rattle.example_office.specs.Tickets.{AreCells, Sells};
 
-use dstm_cells::{Cell, GaveUp, Me, Stop, Tx};
+use dstm_cells::{Cell, GaveUp, Me, Stop, Tx, Work};
 use dstm_model::{Law, Val};
 
 /// The law of the office: the tickets that are left, and those that each desk has sold, are all there were.
@@ -37,19 +37,27 @@ fn sell(tx: &mut Tx<'_, NoneLost>, left: Cell<u64>, desk: Cell<u64>) -> Result<b
     Ok(true)
 }
 
-/// Sells tickets at a desk until none is left.
-pub fn sell_at(
-    me: &mut Me<'_, NoneLost>,
-    left: Cell<u64>,
-    desk: Cell<u64>,
-    most: u64,
-) -> Result<(), GaveUp>
-    requires cells { AreCells left.object desk.object }
-{
-    for _ in 0..most {
-        if !me.atomically(|tx| sell(tx, left, desk))? {
-            break;
+/// The cells of the tickets that are left, and of those that each desk has sold.
+#[derive(Clone, Copy)]
+pub struct Desks {
+    pub left: Cell<u64>,
+    pub east: Cell<u64>,
+    pub west: Cell<u64>,
+    pub most: u64,
+    ghost cells: { AreCells left.object east.object × AreCells left.object west.object },
+}
+
+impl Work<NoneLost> for Desks {
+    ghost ends = { λ desks number ended. Unit };
+
+    /// Sells tickets at a desk until none is left.
+    fn work(&self, me: &mut Me<'_, NoneLost>, number: usize) -> Result<(), GaveUp> {
+        let desk = if number == 0 { self.east } else { self.west };
+        for _ in 0..self.most {
+            if !me.atomically(|tx| sell(tx, self.left, desk))? {
+                break;
+            }
         }
+        Ok(())
     }
-    Ok(())
 }

@@ -1,6 +1,9 @@
-use Rattle.std.proofs.Common.{◌≡◌}
+use Rattle.std.proofs.Common.{◌≡◌, length}
 use Rattle.dstm_cells.proofs.memory.Memory.seats.Given as goal
 
--- the founder stays the table's
+-- the founder stays the table's, and a seat was given out for each number so far
 abbrev pub invariant-loop-seed : goal.invariant-loop-seed
-invariant-loop-seed l = l.founder.home ≡ l.fn.stm
+invariant-loop-seed g l = record {
+  table : l.founder.home ≡ l.fn.stm;
+  count : length l.seats.items ≡ l.seed;
+}
