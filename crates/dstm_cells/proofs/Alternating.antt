@@ -4,7 +4,7 @@ use Rattle.std.specs.Prelude.{Result}
 use denote.Ref.{MutBor}
 use Rattle.std.specs.Fn.{FnOnceReturnsAtMut, Once}
 use Rattle.dstm_model.specs.declared.value.Val.{Val}
-use Rattle.dstm_cells.specs.Alternatives.{CalledOn, IsUndone, Noting, Notes, NotesOnce, Undoes, in_alternative}
+use Rattle.dstm_cells.specs.Alternatives.{CalledOn, IsUndone, Noting, Notes, NotesOnce, Undoes, in_alternative, settings}
 use Rattle.dstm_cells.specs.UnderWay.{Keeps}
 use Rattle.dstm_cells.specs.declared.error.Stop.{Stop}
 use Rattle.dstm_cells.specs.declared.under_way.Undo.{Undo}
@@ -35,7 +35,7 @@ module _ {X L F R : Type 0} (noting : X → Noting L)
       left_notes = first_notes holds (noting x) (noting b) (noting m) notes leaves
 
       module _ (n : X) (kept : ℕ) (size : kept ≡ length (noting x).undos) (keeps : Keeps (noting m).caller (noting n).caller)
-          (same : (noting n).notes ≡ (noting m).notes) where
+          (same : settings (noting n) ≡ settings (noting m)) where
         pub undone : ((front added : List Undo) → (noting m).undos ≡ front ++ added → length front ≡ kept →
             Undoes holds front added [] (noting m) (noting n)) → IsUndone holds (noting x) (noting n)
         undone undoes =

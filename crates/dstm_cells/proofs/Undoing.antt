@@ -1,10 +1,10 @@
 -- What is noted, and how it is undone.
-use Rattle.std.proofs.Common.{◌≡◌, ◌++◌, ◌+◌, ◌-◌, ◌<◌, ◌≤◌, ◌∙◌, ◌∷◌, List, [], ap, append_assoc, arith, get_or, length, length-append, refl, slice_set, subst, suc, sym, take, true, ℕ}
+use Rattle.std.proofs.Common.{◌≡◌, ◌++◌, ◌+◌, ◌-◌, ◌<◌, ◌≤◌, ◌∙◌, ◌∷◌, Bool, List, [], ap, append_assoc, arith, get_or, length, length-append, refl, slice_set, subst, suc, sym, take, true, ℕ}
 use Rattle.std.proofs.Math.Seq.{get_or-append_right, take-append-add, take-length, take-suc}
 use Rattle.std.proofs.lemmas.List.{append-nil, set-get_or, set-set}
 use Rattle.dstm_model.specs.declared.value.Val.{Val}
 use Rattle.dstm_model.specs.Map.{no_value}
-use Rattle.dstm_cells.specs.Alternatives.{IsUndone, Noting, Notes, Undoes, in_alternative, set_back}
+use Rattle.dstm_cells.specs.Alternatives.{IsUndone, Noting, Notes, Undoes, in_alternative, set_back, settings}
 use Rattle.dstm_cells.specs.UnderWay.{Exchanges, Keeps, MayBegin, SetsNothing, seen}
 use Rattle.dstm_cells.specs.declared.under_way.Undo.{Undo}
 
@@ -35,7 +35,7 @@ before_last first left last within =
 
 module _ {L : Type 0} (holds : L → List Val → Type 0) where
   -- nothing was set, and nothing noted
-  pub notes_nothing : (old new : Noting L) → Keeps old.caller new.caller → new.notes ≡ old.notes → new.undos ≡ old.undos →
+  pub notes_nothing : (old new : Noting L) → Keeps old.caller new.caller → settings new ≡ settings old → new.undos ≡ old.undos →
       SetsNothing holds old.caller new.caller → Notes holds old new
   notes_nothing old new keeps same undos unset = record {
     keeps = keeps;
@@ -49,7 +49,7 @@ module _ {L : Type 0} (holds : L → List Val → Type 0) where
   }
 
   -- an object was set, and noted with what it had
-  pub notes_one : (old new : Noting L) (o : ℕ) (had v : Val) → Keeps old.caller new.caller → new.notes ≡ old.notes →
+  pub notes_one : (old new : Noting L) (o : ℕ) (had v : Val) → Keeps old.caller new.caller → settings new ≡ settings old →
       (old.notes ≡ true → new.undos ≡ old.undos ++ (record { object = o; value = had } ∷ [])) →
       Exchanges holds old.caller new.caller o had v → Notes holds old new
   notes_one old new o had v keeps same undos exchanges = record {
@@ -73,7 +73,7 @@ module _ {L : Type 0} (holds : L → List Val → Type 0) where
     same = two.same ∙ one.same;
     noted = λ is.
         let a = one.noted is in
-        let b = two.noted (one.same ∙ is) in
+        let b = two.noted (ap (λ s. s.0) one.same ∙ is) in
         record {
           added = a.added ++ b.added;
           is = b.is ∙ ap (λ xs. xs ++ b.added) a.is ∙ append_assoc k.undos a.added b.added;
@@ -120,7 +120,7 @@ module _ {L : Type 0} (holds : L → List Val → Type 0) (k left m : Noting L) 
       let it = first.noted refl in
       subst (Notes holds k) (sym off) (record {
         keeps = first.keeps;
-        same = refl;
+        same = ap (λ (s : Bool × ℕ). (k.notes, s.1)) first.same;
         noted = λ is. record { added = it.added; is = it.is; narrows = it.narrows; back = it.back };
       })
 
@@ -140,12 +140,12 @@ module _ {L : Type 0} (holds : L → List Val → Type 0) (k left m : Noting L) 
       ap (λ (x : Noting L). set_back (first.noted refl).added (seen x.caller map)) off
       ∙ (first.noted refl).back map (subst (λ (x : Noting L). MayBegin holds x.caller map) off may)
 
-  module _ (n : Noting L) (keeps : Keeps m.caller n.caller) (notes : n.notes ≡ m.notes) where
+  module _ (n : Noting L) (keeps : Keeps m.caller n.caller) (same : settings n ≡ settings m) where
     -- undoing it has stopped
     pub first_left : (rest : List Undo) → Undoes holds k.undos (first.noted refl).added rest m n → Notes holds k n
     first_left rest undoes = record {
       keeps = keeps ∙ first_notes.keeps;
-      same = notes ∙ first_notes.same;
+      same = same ∙ first_notes.same;
       noted = λ is. record {
         added = rest;
         is = undoes.is;
@@ -160,7 +160,7 @@ module _ {L : Type 0} (holds : L → List Val → Type 0) (k left m : Noting L) 
         let it = first_left [] undoes in
         record {
           keeps = it.keeps;
-          notes = it.same;
+          settings = it.same;
           undos = undoes.is ∙ append-nil k.undos;
           narrows = λ map may. before map (undoes.narrows map may);
           same = λ map may. undoes.back map may ∙ back map (undoes.narrows map may);
@@ -170,7 +170,7 @@ module _ {L : Type 0} (holds : L → List Val → Type 0) (k left m : Noting L) 
 pub undone_notes : {L : Type 0} (holds : L → List Val → Type 0) (k n : Noting L) → IsUndone holds k n → Notes holds k n
 undone_notes holds k n undone = record {
   keeps = undone.keeps;
-  same = undone.notes;
+  same = undone.settings;
   noted = λ is. record {
     added = [];
     is = undone.undos ∙ sym (append-nil k.undos);

@@ -15,15 +15,20 @@ abbrev pub set_back : List Undo → List Val → List Val
 set_back [] map = map
 set_back (undo ∷ later) map = slice_set (set_back later map) undo.object undo.value
 
--- an attempt, whether it notes what it sets, and what it has noted
+-- an attempt, whether it notes what it sets, and what it has noted; and how often it looks where it retries
 pub record Noting (L : Type 0) : Type 0 where
   pub caller : Called L
   pub notes : Bool
   pub undos : List Undo
+  pub looks : ℕ
 
 module _ {L : Type 0} where
   abbrev pub noting : Tx L → Noting L
-  noting tx = record { caller = tx.caller; notes = tx.notes; undos = tx.undos.items }
+  noting tx = record { caller = tx.caller; notes = tx.notes; undos = tx.undos.items; looks = tx.looks }
+
+  -- whether it notes what it sets, and how often it looks
+  abbrev pub settings : Noting L → Bool × ℕ
+  settings k = (k.notes, k.looks)
 
   -- it is in an alternative, which may yet be undone
   abbrev pub in_alternative : Noting L → Noting L
@@ -41,7 +46,7 @@ module _ {L : Type 0} where
     -- a call goes on with the same attempt, and notes what it sets where it is in an alternative
     pub record Notes (old new : Noting L) : Type 0 where
       pub keeps : Keeps old.caller new.caller
-      pub same : new.notes ≡ old.notes
+      pub same : settings new ≡ settings old
       pub noted : old.notes ≡ true → IsNoted old new
 
     -- of what was noted behind the first ones, these are left, and what they set is still to be set back
@@ -54,7 +59,7 @@ module _ {L : Type 0} where
     -- IT IS UNDONE: all is set as it was, by the same attempt
     pub record IsUndone (old new : Noting L) : Type 0 where
       pub keeps : Keeps old.caller new.caller
-      pub notes : new.notes ≡ old.notes
+      pub settings : settings new ≡ settings old
       pub undos : new.undos ≡ old.undos
       pub narrows : (map : List Val) → MayBegin holds new.caller map → MayBegin holds old.caller map
       pub same : (map : List Val) → MayBegin holds new.caller map → seen new.caller map ≡ seen old.caller map

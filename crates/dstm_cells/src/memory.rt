@@ -3,7 +3,7 @@ ghost use Rattle.std.specs.Prelude.{◌≡◌, ◌⊎◌, ◌↔◌, ◌<◌, �
 ghost use Rattle.dstm_cells.specs.Cells.{Adds, Founds, IsFor};
 ghost use Rattle.dstm_cells.specs.declared.error.Failed.TheVariants as failed;
 ghost use Rattle.dstm_core.specs.declared.shape.Manager.TheVariants.{Polka};
-ghost use Rattle.dstm_engine.specs.Tables.{founded};
+ghost use Rattle.dstm_engine.specs.Tables.{Enrols, founded};
 ghost use Rattle.dstm_model.specs.Map.{value_at};
 
 use crate::cell::{Cell, Word};
@@ -134,6 +134,8 @@ impl<L: Law + Copy> Memory<L> {
         requires table { founder.old.home ≡ stm.now }
         ensures table { founder.new.home ≡ stm.now }
         ensures home { IfOk result (λ me. me.tx.caller.home ≡ stm.now) }
+        ensures enrols { IfOk result (λ me. Enrols L.holds founder.old founder.new seed me.tx.caller) }
+        ensures full { result ≡ Err failed.Threads ↔ founder.old.made ≡ founder.old.home.terms.shape.callers }
     {
         match founder.caller(self.alloc, stm, seed) {
             Ok(caller) => Ok(Part {

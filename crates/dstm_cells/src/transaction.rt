@@ -2,7 +2,7 @@
 ghost use Rattle.std.specs.Prelude.{◌++◌, ◌≡◌, ℕ, List, [], true, false, length, IfErr, OnOk};
 ghost use Rattle.dstm_engine.specs.Callers.{Called, shape_of};
 ghost use Rattle.dstm_engine.specs.Transactions.{BeginsAnew};
-ghost use Rattle.dstm_cells.specs.Alternatives.{Noting, StopsUndoing, Undoes, noting};
+ghost use Rattle.dstm_cells.specs.Alternatives.{Noting, StopsUndoing, Undoes, noting, settings};
 ghost use Rattle.dstm_cells.specs.Attempts.{Follows, IsLost, IsSpent};
 ghost use Rattle.dstm_cells.specs.UnderWay.{AddsNothing, Keeps, LeavesLawful, TakesEffect};
 ghost use Rattle.dstm_cells.specs.declared.error.GaveUp.TheVariants.{Spent};
@@ -70,7 +70,7 @@ pub trait Transaction: Drop {
     /// Undoes what was set since so much was noted, the last one first.
     fn undo_to(&mut self, kept: usize) -> Result<(), Stop>
         ensures keeps { Keeps (noting self.old).caller (noting self.new).caller }
-        ensures notes { (noting self.new).notes ≡ (noting self.old).notes }
+        ensures notes { settings (noting self.new) ≡ settings (noting self.old) }
         ensures undone { OnOk result ((first added : List Undo) → (noting self.old).undos ≡ first ++ added → length first ≡ kept
             → Undoes Self.Rule.holds first added [] (noting self.old) (noting self.new)) }
         ensures left { IfErr result (λ _. (first added : List Undo) → (noting self.old).undos ≡ first ++ added

@@ -4,7 +4,7 @@ ghost use Rattle.dstm_engine.specs.Attempts.{sights};
 ghost use Rattle.dstm_engine.specs.Callers.{is_live, law_of, shape_of};
 ghost use Rattle.dstm_engine.specs.Transactions.{BeginsAnew};
 ghost use Rattle.dstm_order.specs.Tasks.Work.{Rechecking};
-ghost use Rattle.dstm_cells.specs.Alternatives.{Notes, NotesOnce, OrElse, noting};
+ghost use Rattle.dstm_cells.specs.Alternatives.{Notes, NotesOnce, OrElse, noting, settings};
 ghost use Rattle.dstm_cells.specs.Attempts.{Follows, WasWoken};
 ghost use Rattle.dstm_cells.specs.Closures.{KeepsOnce};
 ghost use Rattle.dstm_cells.specs.UnderWay.{AddsNothing, Changes, Exchanges, Finds, Gets, IsOver, IsUntouched, Keeps, LeavesLawful, MayBegin, MayNotOpen, Refuses, StopsChange, StopsLook, TakesEffect, seen};
@@ -146,7 +146,7 @@ impl<'a, L: Law> Tx<'a, L> {
         ensures keeps { Keeps self.old.caller self.new.caller }
         ensures stops { IfErr result (StopsChange L.holds false object self.old.caller self.new.caller) }
         ensures undos { self.new.undos.items ≡ self.old.undos.items }
-        ensures notes { self.new.notes ≡ self.old.notes }
+        ensures notes { settings (noting self.new) ≡ settings (noting self.old) }
         ensures refuses { Refuses self.old.caller object result }
         ensures puts { OnOk result ((had : Val) × Exchanges L.holds self.old.caller self.new.caller object had value) }
     {

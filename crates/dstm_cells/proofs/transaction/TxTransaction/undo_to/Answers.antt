@@ -15,10 +15,16 @@ returns-in_err-put-clause-stops g c =
       stops = c.in_err-put.ensures.stops;
     })
 
+pub returns-in_err-put-clause-notes : goal.returns-in_err-put-clause-notes
+returns-in_err-put-clause-notes g c = c.in_err-put.ensures.notes ∙ c.loop-self.invariant.notes
+
+pub returns-clause-notes : goal.returns-clause-notes
+returns-clause-notes g c = c.loop-self.invariant.notes
+
 pub loop-self-preserved : goal.loop-self-preserved
 loop-self-preserved g c = record {
   keeps = search rules;
-  notes = search rules;
+  notes = c.in_ok-put.ensures.notes ∙ c.loop-self.invariant.notes;
   undoes = λ first added was size.
       let (left, so_far) = c.loop-self.invariant.undoes first added was size in
       let (had, exchanges) = c.in_ok-put.ensures.puts in

@@ -1,5 +1,5 @@
 use Rattle.std.proofs.Common.{◌≡◌, ◌++◌, List, length, vec_len}
-use Rattle.dstm_cells.specs.Alternatives.{Undoes, noting}
+use Rattle.dstm_cells.specs.Alternatives.{Undoes, noting, settings}
 use Rattle.dstm_cells.specs.UnderWay.{Keeps}
 use Rattle.dstm_cells.specs.declared.under_way.Undo.{Undo}
 use Rattle.dstm_cells.proofs.transaction.TxTransaction.undo_to.Given as goal
@@ -8,7 +8,7 @@ use Rattle.dstm_cells.proofs.transaction.TxTransaction.undo_to.Given as goal
 abbrev pub invariant-loop-self : goal.invariant-loop-self
 invariant-loop-self g l = record {
   keeps : Keeps l.fn.self.caller l.self.caller;
-  notes : l.self.notes ≡ l.fn.self.notes;
+  notes : settings (noting l.self) ≡ settings (noting l.fn.self);
   undoes : (first added : List Undo) → l.fn.self.undos.items ≡ first ++ added → length first ≡ l.kept →
       (left : List Undo) × Undoes g.L.Law.holds first added left (noting l.fn.self) (noting l.self);
 }
