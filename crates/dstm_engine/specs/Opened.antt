@@ -1,8 +1,9 @@
 -- What an attempt has open.
-use Rattle.std.specs.Prelude.{◌≡◌, ◌≢◌, ℕ, ◌+◌, ◌-◌, ◌*◌, ◌^◌, ◌<◌, ◌≤◌, ◌==◌, Bool, true, false, List, [], ◌∷◌, filter, find, length, slice_index_or, vec_capacity, Option, None, Some, if◌then◌else◌}
+use Rattle.std.specs.Prelude.{◌≡◌, ℕ, ◌+◌, ◌*◌, ◌^◌, ◌<◌, ◌≤◌, ◌==◌, Bool, true, false, List, [], ◌∷◌, filter, find, length, slice_index_or, vec_capacity, Option, None, Some, if◌then◌else◌}
 use Rattle.dstm_steps.specs.Writes.{to_put}
 use Rattle.dstm_steps.specs.declared.slots.ReadSlot.{ReadSlot}
 use Rattle.dstm_steps.specs.declared.slots.WriteSlot.{WriteSlot}
+use Rattle.dstm_mem.specs.Slots.{ArePlaced, Sort}
 use Rattle.dstm_model.specs.Map.{no_value}
 use Rattle.dstm_model.specs.declared.value.Val.{Val}
 use Rattle.dstm_engine.specs.declared.opened.Opened.TheInside.{Inside}
@@ -61,35 +62,29 @@ write_at slots i = slice_index_or slots i no_write
 abbrev pub place_at : List Place → ℕ → Place
 place_at places o = slice_index_or places o no_place
 
--- the slot of a kept read of the object
-pub record IsReadOf (slots : List ReadSlot) (o i : ℕ) : Type 0 where
-  pub within : i < length slots
-  pub kept : (read_at slots i).kept ≡ true
-  pub object : (read_at slots i).object ≡ o
+-- which objects the slots are of, and which of them count
+abbrev pub reads_sort : Sort ReadSlot
+reads_sort = record { object = λ (slot : ReadSlot). slot.object; counts = is_kept; none = no_read }
 
--- the slot of the object as it is open for writing
-pub record IsWriteOf (slots : List WriteSlot) (o i : ℕ) : Type 0 where
-  pub within : i < length slots
-  pub object : (write_at slots i).object ≡ o
+abbrev pub writes_sort : Sort WriteSlot
+writes_sort = record { object = λ (slot : WriteSlot). slot.object; counts = λ (slot : WriteSlot). true; none = no_write }
+
+-- each object finds its read there
+abbrev pub AreReadPlaces : List ReadSlot → List Place → Type 0
+AreReadPlaces reads places = ArePlaced reads_sort reads (length places) (λ o. (place_at places o).read)
+
+-- and what it is open for writing with
+abbrev pub AreWritePlaces : List WriteSlot → List Place → Type 0
+AreWritePlaces writes places = ArePlaced writes_sort writes (length places) (λ o. (place_at places o).write)
 
 -- no two slots are of one object
 abbrev pub AreApart : List ReadSlot → Type 0
 AreApart slots =
     (i j : ℕ) → i < length slots → j < length slots → (read_at slots i).object ≡ (read_at slots j).object → i ≡ j
 
--- the slots that stand in these places
-pub record ArePlaced (reads : List ReadSlot) (writes : List WriteSlot) (places : List Place) : Type 0 where
-  pub reads_below : (i : ℕ) → i < length reads → (read_at reads i).object < length places
-  pub reads_placed : (o i : ℕ) → IsReadOf reads o i → (place_at places o).read ≡ i + 1
-  pub read_places : (o : ℕ) → o < length places → (place_at places o).read ≢ 0 →
-      IsReadOf reads o ((place_at places o).read - 1)
-  pub writes_below : (i : ℕ) → i < length writes → (write_at writes i).object < length places
-  pub writes_placed : (o i : ℕ) → IsWriteOf writes o i → (place_at places o).write ≡ i + 1
-  pub write_places : (o : ℕ) → o < length places → (place_at places o).write ≢ 0 →
-      IsWriteOf writes o ((place_at places o).write - 1)
-
 pub record HasPlaces (o : Inside) : Type 0 where
-  pub placed : ArePlaced o.reads.items o.writes.items o.places.items
+  pub reads : AreReadPlaces o.reads.items o.places.items
+  pub writes : AreWritePlaces o.writes.items o.places.items
   pub room : (2 * length o.places.items ≤ vec_capacity o.reads) × (length o.places.items ≤ vec_capacity o.writes)
   pub few : (length o.reads.items ≤ 2 * length o.places.items) × (length o.writes.items ≤ length o.places.items)
       × (length o.places.items < 2 ^ 31)

@@ -2,7 +2,7 @@
 ghost use Rattle.std.specs.Prelude.{◌≡◌, ◌≢◌, ◌⊎◌, ℕ, List, ◌+◌, ◌*◌, ◌^◌, ◌<◌, ◌≤◌, [], ◌∷◌, ◌++◌, true, None, IfOk, IsSome, filter, length, map, vec_capacity};
 ghost use Rattle.dstm_steps.specs.Reads.{kept};
 ghost use Rattle.dstm_engine.specs.Mirror.{slot_word};
-ghost use Rattle.dstm_engine.specs.Opened.{OpenedAs, is_kept, place_at, read_at, read_slot, slots_value, with_set_slot, without_read, write_at, write_slot, AreApart, ArePlaced};
+ghost use Rattle.dstm_engine.specs.Opened.{OpenedAs, is_kept, place_at, read_at, read_slot, slots_value, with_set_slot, without_read, write_at, write_slot, AreApart, AreReadPlaces};
 ghost use Rattle.dstm_steps.specs.declared.slots.WriteSlot.{WriteSlot};
 
 use dstm_model::Val;
@@ -168,13 +168,13 @@ impl Opened {
 
 // Where more than half of the reads were let go the others move together, and else nothing changes.
 fn make_room(reads: &mut Vec<ReadSlot>, places: &mut Vec<Place>, gone: &mut usize)
-    requires placed { (writes : List WriteSlot) × ArePlaced reads.old.items writes places.old.items }
+    requires placed { AreReadPlaces reads.old.items places.old.items }
     requires counted { gone.old + length (filter is_kept reads.old.items) ≡ length reads.old.items }
     requires few { length reads.old.items < 2 ^ 32 }
     ensures same { 2 * gone.old ≤ length reads.old.items →
         (reads.new ≡ reads.old) × (places.new ≡ places.old) × (gone.new ≡ gone.old) }
-    ensures placed { (writes : List WriteSlot) → ArePlaced reads.old.items writes places.old.items →
-        ArePlaced reads.new.items writes places.new.items }
+    ensures placed { AreReadPlaces reads.new.items places.new.items }
+    ensures writes { (o : ℕ) → (place_at places.new.items o).write ≡ (place_at places.old.items o).write }
     ensures kept { filter is_kept reads.new.items ≡ filter is_kept reads.old.items }
     ensures counted { gone.new + length (filter is_kept reads.new.items) ≡ length reads.new.items }
     ensures room { length reads.new.items ≤ 2 * length (filter is_kept reads.old.items) }

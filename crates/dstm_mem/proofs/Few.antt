@@ -1,7 +1,12 @@
--- Pairs that name each object once are no more than the objects that they name.
-use Rattle.std.proofs.Common.{◌≡◌, ◌≢◌, ◌⊎◌, ℕ, ◌+◌, ◌≤◌, List, [], ◌∷◌, length, refl, sym, subst, ◌∙◌, inl, inr, arith}
-use Rattle.std.specs.Prelude.{None, IsSome, Contains}
-use Rattle.std.proofs.lemmas.Bool.{cases_eq}
+-- Lists that name each object once are no longer than there are objects.
+use Rattle.std.proofs.Common.{◌≡◌, ◌≢◌, ◌⊎◌, ℕ, ◌+◌, ◌<◌, ◌≤◌, List, [], ◌∷◌, eqb, length, map, refl, sym, subst, true, ◌∙◌, inl, inr, arith}
+use Prim.Native.Nat.{suc}
+use Rattle.std.specs.Prelude.{None, IsSome, Contains, slice_index_or}
+use Rattle.std.specs.List.{list_any}
+use Rattle.std.proofs.lemmas.Bool.{cases_eq, eqb-true, ne_eqb, or_cases}
+use Rattle.std.proofs.lemmas.List.{get_or-map, get_or_default, length-map}
+use Rattle.std.proofs.lemmas.Map.Keys.{IsDistinct-from_apart}
+use Rattle.std.proofs.lemmas.Map.Steps.{length-le_from_distinct_below}
 use Rattle.std.proofs.lemmas.List.Elements.{Contains-append_cases, Contains-append_right, Contains-push_cases}
 use Rattle.dstm_model.specs.declared.value.Val.{Val}
 use Rattle.dstm_model.specs.Map.{NamesOnce}
@@ -67,3 +72,42 @@ named_few n (p ∷ ps) objects once each =
     absurd (let no : IsSome {T = Val} None = subst IsSome none some in cc) in
     rest.all o other (each o (subst IsSome (sym (value_in-other p ps o (λ e. other (sym e)))) held))) in
     let s = rest.shorter in omega arith
+
+-- numbers below a limit that differ are no more than the limit
+few_numbers : (numbers : List ℕ) (n : ℕ) → ((i : ℕ) → i < length numbers → slice_index_or numbers i 0 < n) →
+    ((i j : ℕ) → i < j → j < length numbers → slice_index_or numbers i 0 ≢ slice_index_or numbers j 0) →
+    length numbers ≤ n
+few_numbers numbers n below apart =
+    length-le_from_distinct_below numbers n
+    (IsDistinct-from_apart eqb numbers (λ i j d lower lt. ne_eqb _ _ (λ same. apart i j lower lt
+    (get_or_default numbers i 0 d (omega arith) ∙ same ∙ get_or_default numbers j d 0 lt))))
+    (λ q. has_below numbers q below)
+  where
+    has_below : (ks : List ℕ) (q : ℕ) → ((i : ℕ) → i < length ks → slice_index_or ks i 0 < n) →
+        list_any (eqb q) ks ≡ true → q < n
+    has_below [] q below has = absurd (cc)
+    has_below (k ∷ ks) q below has =
+        by (has_below ks q (λ i lt. below (suc i) (omega arith))) (or_cases (eqb q k) (list_any (eqb q) ks) has)
+      where
+        by : (list_any (eqb q) ks ≡ true → q < n) → (eqb q k ≡ true) ⊎ (list_any (eqb q) ks ≡ true) → q < n
+        by ih (inl here) =
+            let same = eqb-true q k here in let first : k < n = below 0 (omega arith) in omega arith
+        by ih (inr later) = ih later
+
+-- so there are no more named things than names
+pub few_named : {A : Type 0} (name : A → ℕ) (d : A) (n : ℕ) (xs : List A) →
+    ((i : ℕ) → i < length xs → name (slice_index_or xs i d) < n) →
+    ((i j : ℕ) → i < j → j < length xs → name (slice_index_or xs i d) ≢ name (slice_index_or xs j d)) → length xs ≤ n
+few_named {A = A} name d n xs below apart =
+    subst (λ k. k ≤ n) long
+    (few_numbers (map name xs) n
+    (λ i lt. let in_list : i < length xs = omega (arith, long) in
+    subst (λ k. k < n) (sym (at i in_list)) (below i in_list))
+    (λ i j lower lt same. let in_list : j < length xs = omega (arith, long) in
+    apart i j lower in_list (sym (at i (omega arith)) ∙ same ∙ at j in_list)))
+  where
+    long : length (map name xs) ≡ length xs
+    long = length-map xs name
+
+    at : (i : ℕ) → i < length xs → slice_index_or (map name xs) i 0 ≡ name (slice_index_or xs i d)
+    at i lt = get_or-map name xs i d 0 lt

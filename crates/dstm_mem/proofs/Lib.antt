@@ -5,4 +5,5 @@ pub mod Pairs
 pub mod Few
 pub mod Settling
 pub mod Finding
+pub mod Slots
 pub mod InTheEnd

@@ -1,5 +1,5 @@
 -- Operations one after the other, and with other answers.
-use Rattle.std.proofs.Common.{◌≡◌, ℕ, refl, ◌∙◌}
+use Rattle.std.proofs.Common.{ℕ, refl, ◌∙◌}
 use Rattle.std.specs.Prelude.{List, Ok, Err, IsTrue}
 use Rattle.dstm_model.specs.declared.value.Val.{Val}
 use Rattle.dstm_mem.specs.declared.memory.Mem.{Ghosts}

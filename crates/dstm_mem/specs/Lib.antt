@@ -1,4 +1,5 @@
 pub mod Memory
+pub mod Slots
 pub mod Flat
 pub mod Operations
 pub mod Operates

@@ -1,74 +1,45 @@
 -- The reads and the writes of an attempt, by object.
-use Rattle.std.proofs.Common.{◌++◌, ◌<◌, ◌≤◌, ◌==◌, ◌∙◌, ◌∷◌, ◌≡◌, ◌≢◌, Bool, List, None, Option, Some, [], ap, arith, cond, false, inl, inr, length, map, refl, subst, sym, true, ℕ, ◌⊎◌, eqb}
+use Rattle.std.proofs.Common.{◌++◌, ◌<◌, ◌==◌, ◌∙◌, ◌∷◌, ◌≡◌, ◌≢◌, Bool, List, None, Option, Some, [], ap, arith, cond, false, inl, inr, length, map, refl, sym, true, ℕ, ◌⊎◌}
 use Prim.Native.Nat.{zero, suc}
-use Rattle.std.specs.Prelude.{IsSome, is_some, option_map, slice_index_or, slice_set}
-use Rattle.std.specs.List.{list_any}
-use Rattle.std.proofs.lemmas.Bool.{cases_Bool, eqb-true, eq-eqb, ne_eqb, or_cases}
-use Rattle.std.proofs.lemmas.List.{get_or-map, get_or_default, length-map}
-use Rattle.std.proofs.lemmas.Map.Keys.{IsDistinct-from_apart}
-use Rattle.std.proofs.lemmas.Map.Steps.{length-le_from_distinct_below}
-use Rattle.dstm_mem.proofs.Finding.{find_none, find_one, lookup_find}
+use Rattle.std.specs.Prelude.{IsSome, is_some, option_map, slice_set}
+use Rattle.std.proofs.lemmas.Bool.{cases_Bool, eqb-true, eq-eqb, ne_eqb}
+use Rattle.dstm_mem.proofs.Finding.{find_none, lookup_find}
 use Rattle.dstm_mem.specs.Memory.{value_in}
+use Rattle.dstm_mem.specs.Slots.{IsSlotOf}
 use Rattle.dstm_model.specs.declared.value.Val.{Val}
 use Rattle.dstm_model.specs.Map.{IsUnnamed, NamesOnce}
 use Rattle.dstm_tl2.specs.State.{no_write, or_read, read_of, recorded, write_of}
-use Rattle.dstm_tl2_steps.specs.Opened.{IsReadOf, IsWriteOf, no_slot, read_at, read_slot, set_writes, with_value, write_at}
+use Rattle.dstm_tl2_steps.specs.Opened.{read_at, read_slot, set_writes, with_value, write_at, writes_sort}
 use Rattle.dstm_tl2_steps.specs.Reads.{slot_read}
 use Rattle.dstm_tl2_steps.specs.declared.opened.ReadSlot.{ReadSlot}
 
--- ---- where the slot of an object stands
-
--- no slot is a read of the object
-pub read_none : (slots : List ReadSlot) (o : ℕ) → ((i : ℕ) → IsReadOf slots o i → ⊥) → read_slot slots o ≡ None
-read_none slots o none =
-    find_none (λ (s : ReadSlot). s.object == o) no_slot slots
-    (λ i lt q. none i (record { within = lt; object = eqb-true (read_at slots i).object o q }))
-
--- the slot is the only read of the object
-pub read_one : (slots : List ReadSlot) (o n : ℕ) → IsReadOf slots o n → ((i : ℕ) → IsReadOf slots o i → i ≡ n) →
-    read_slot slots o ≡ Some (read_at slots n)
-read_one slots o n r only =
-    find_one (λ (s : ReadSlot). s.object == o) no_slot slots n r.within
-    (eq-eqb (read_at slots n).object o r.object)
-    (λ i lt q. only i (record { within = lt; object = eqb-true (read_at slots i).object o q }))
-
 -- no write is the object's
-pub write_none : (writes : List (ℕ × Val)) (o : ℕ) → ((i : ℕ) → IsWriteOf writes o i → ⊥) → value_in writes o ≡ None
+pub write_none : (writes : List (ℕ × Val)) (o : ℕ) → ((i : ℕ) → IsSlotOf writes_sort writes o i → ⊥) → value_in writes o ≡ None
 write_none writes o none =
     lookup_find (λ p. p == o) writes
     ∙ ap (option_map (λ (w : ℕ × Val). w.1))
     (find_none (λ (w : ℕ × Val). w.0 == o) no_write writes
-    (λ i lt q. none i (record { within = lt; object = eqb-true (write_at writes i).0 o q })))
-
--- the write is the only one of the object
-pub write_one : (writes : List (ℕ × Val)) (o n : ℕ) → IsWriteOf writes o n →
-    ((i : ℕ) → IsWriteOf writes o i → i ≡ n) → value_in writes o ≡ Some (write_at writes n).1
-write_one writes o n r only =
-    lookup_find (λ p. p == o) writes
-    ∙ ap (option_map (λ (w : ℕ × Val). w.1))
-    (find_one (λ (w : ℕ × Val). w.0 == o) no_write writes n r.within
-    (eq-eqb (write_at writes n).0 o r.object)
-    (λ i lt q. only i (record { within = lt; object = eqb-true (write_at writes i).0 o q })))
+    (λ i lt q. none i (record { within = lt; counts = refl; object = eqb-true (write_at writes i).0 o q })))
 
 -- ---- another value for an object
 
 -- the only write of the object that is not the first is the only one of the others
-module _ (w : ℕ × Val) (writes : List (ℕ × Val)) (o n : ℕ) (r : IsWriteOf (w ∷ writes) o (suc n))
-    (only : (i : ℕ) → IsWriteOf (w ∷ writes) o i → i ≡ suc n) where
-  later_write : IsWriteOf writes o n
-  later_write = record { within = let within = r.within in omega arith; object = r.object }
+module _ (w : ℕ × Val) (writes : List (ℕ × Val)) (o n : ℕ) (r : IsSlotOf writes_sort (w ∷ writes) o (suc n))
+    (only : (i : ℕ) → IsSlotOf writes_sort (w ∷ writes) o i → i ≡ suc n) where
+  later_write : IsSlotOf writes_sort writes o n
+  later_write = record { within = let within = r.within in omega arith; counts = refl; object = r.object }
 
-  later_only : (i : ℕ) → IsWriteOf writes o i → i ≡ n
+  later_only : (i : ℕ) → IsSlotOf writes_sort writes o i → i ≡ n
   later_only i q =
-      let e = only (suc i) (record { within = let within = q.within in omega arith; object = q.object }) in omega arith
+      let e = only (suc i) (record { within = let within = q.within in omega arith; counts = refl; object = q.object }) in omega arith
 
   not_first : w.0 == o ≡ false
   not_first =
-      ne_eqb w.0 o (λ same. let e = only 0 (record { within = omega arith; object = same }) in absurd (omega arith))
+      ne_eqb w.0 o (λ same. let e = only 0 (record { within = omega arith; counts = refl; object = same }) in absurd (omega arith))
 
 -- the write with another value, in its place
-pub with_value_is : (writes : List (ℕ × Val)) (o n : ℕ) (v : Val) → IsWriteOf writes o n →
-    ((i : ℕ) → IsWriteOf writes o i → i ≡ n) → slice_set writes n ((write_at writes n).0, v) ≡ with_value o v writes
+pub with_value_is : (writes : List (ℕ × Val)) (o n : ℕ) (v : Val) → IsSlotOf writes_sort writes o n →
+    ((i : ℕ) → IsSlotOf writes_sort writes o i → i ≡ n) → slice_set writes n ((write_at writes n).0, v) ≡ with_value o v writes
 with_value_is [] o n v r only = let w = r.within in absurd (omega arith)
 with_value_is (w ∷ writes) o zero v r only = rw (eq-eqb w.0 o r.object) (ap (λ x. (x, v) ∷ writes) r.object)
 with_value_is (w ∷ writes) o (suc n) v r only =
@@ -113,7 +84,7 @@ set_push (s ∷ sets) (x ∷ writes) w long =
 
 -- what is set has the new value
 pub value_in-set_here : (sets : List Bool) (writes : List (ℕ × Val)) (o n : ℕ) (v : Val) →
-    length sets ≡ length writes → IsWriteOf writes o n → ((i : ℕ) → IsWriteOf writes o i → i ≡ n) →
+    length sets ≡ length writes → IsSlotOf writes_sort writes o n → ((i : ℕ) → IsSlotOf writes_sort writes o i → i ≡ n) →
     value_in (set_writes (slice_set sets n true) (with_value o v writes)) o ≡ Some v
 value_in-set_here sets [] o n v long r only = let w = r.within in absurd (omega arith)
 value_in-set_here [] (w ∷ writes) o n v long r only = absurd (omega arith)
@@ -133,7 +104,7 @@ value_in-set_here (s ∷ sets) (w ∷ writes) o (suc n) v long r only =
 
 -- and the others what they were set to before
 pub value_in-set_other : (sets : List Bool) (writes : List (ℕ × Val)) (o n : ℕ) (v : Val) (p : ℕ) → p ≢ o →
-    IsWriteOf writes o n → ((i : ℕ) → IsWriteOf writes o i → i ≡ n) → n < length sets →
+    IsSlotOf writes_sort writes o n → ((i : ℕ) → IsSlotOf writes_sort writes o i → i ≡ n) → n < length sets →
     value_in (set_writes (slice_set sets n true) (with_value o v writes)) p ≡ value_in (set_writes sets writes) p
 value_in-set_other sets [] o n v p other r only lt = let w = r.within in absurd (omega arith)
 value_in-set_other [] (w ∷ writes) o n v p other r only lt = absurd (omega arith)
@@ -166,9 +137,6 @@ value_in-set_other (s ∷ sets) (w ∷ writes) o (suc n) v p other r only lt =
 -- ---- lists that name each object once
 
 -- the objects are of a table of this size
-abbrev pub ReadsBelow : ℕ → List ReadSlot → Type 0
-ReadsBelow objects slots = (i : ℕ) → i < length slots → (read_at slots i).object < objects
-
 abbrev pub WritesBelow : ℕ → List (ℕ × Val) → Type 0
 WritesBelow objects writes = (i : ℕ) → i < length writes → (write_at writes i).0 < objects
 
@@ -179,54 +147,7 @@ ReadsApart slots = (i j : ℕ) → i < j → j < length slots → (read_at slots
 abbrev pub WritesApart : List (ℕ × Val) → Type 0
 WritesApart writes = (i j : ℕ) → i < j → j < length writes → (write_at writes i).0 ≢ (write_at writes j).0
 
--- numbers below a limit that differ are no more than the limit
-few_numbers : (numbers : List ℕ) (n : ℕ) → ((i : ℕ) → i < length numbers → slice_index_or numbers i 0 < n) →
-    ((i j : ℕ) → i < j → j < length numbers → slice_index_or numbers i 0 ≢ slice_index_or numbers j 0) →
-    length numbers ≤ n
-few_numbers numbers n below apart =
-    length-le_from_distinct_below numbers n
-    (IsDistinct-from_apart eqb numbers (λ i j d lower lt. ne_eqb _ _ (λ same. apart i j lower lt
-    (get_or_default numbers i 0 d (omega arith) ∙ same ∙ get_or_default numbers j d 0 lt))))
-    (λ q. has_below numbers q below)
-  where
-    has_below : (ks : List ℕ) (q : ℕ) → ((i : ℕ) → i < length ks → slice_index_or ks i 0 < n) →
-        list_any (eqb q) ks ≡ true → q < n
-    has_below [] q below has = absurd (cc)
-    has_below (k ∷ ks) q below has =
-        by (has_below ks q (λ i lt. below (suc i) (omega arith))) (or_cases (eqb q k) (list_any (eqb q) ks) has)
-      where
-        by : (list_any (eqb q) ks ≡ true → q < n) → (eqb q k ≡ true) ⊎ (list_any (eqb q) ks ≡ true) → q < n
-        by ih (inl here) =
-            let same = eqb-true q k here in let first : k < n = below 0 (omega arith) in omega arith
-        by ih (inr later) = ih later
-
--- so there are no more named things than names
-few_named : {A : Type 0} (name : A → ℕ) (d : A) (n : ℕ) (xs : List A) →
-    ((i : ℕ) → i < length xs → name (slice_index_or xs i d) < n) →
-    ((i j : ℕ) → i < j → j < length xs → name (slice_index_or xs i d) ≢ name (slice_index_or xs j d)) → length xs ≤ n
-few_named {A = A} name d n xs below apart =
-    subst (λ k. k ≤ n) long
-    (few_numbers (map name xs) n
-    (λ i lt. let in_list : i < length xs = omega (arith, long) in
-    subst (λ k. k < n) (sym (at i in_list)) (below i in_list))
-    (λ i j lower lt same. let in_list : j < length xs = omega (arith, long) in
-    apart i j lower in_list (sym (at i (omega arith)) ∙ same ∙ at j in_list)))
-  where
-    long : length (map name xs) ≡ length xs
-    long = length-map xs name
-
-    at : (i : ℕ) → i < length xs → slice_index_or (map name xs) i 0 ≡ name (slice_index_or xs i d)
-    at i lt = get_or-map name xs i d 0 lt
-
-pub reads_few : (objects : ℕ) (slots : List ReadSlot) → ReadsBelow objects slots → ReadsApart slots →
-    length slots ≤ objects
-reads_few objects slots below apart = few_named (λ (s : ReadSlot). s.object) no_slot objects slots below apart
-
-pub writes_few : (objects : ℕ) (writes : List (ℕ × Val)) → WritesBelow objects writes → WritesApart writes →
-    length writes ≤ objects
-writes_few objects writes below apart = few_named (λ (w : ℕ × Val). w.0) no_write objects writes below apart
-
--- the same in the words of a history
+-- so the writes name each object once, in the words of a history
 pub writes_once : (objects : ℕ) (writes : List (ℕ × Val)) → WritesBelow objects writes → WritesApart writes →
     NamesOnce objects writes
 writes_once objects [] below apart = tt

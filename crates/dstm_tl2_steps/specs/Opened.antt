@@ -1,5 +1,6 @@
 -- What an attempt has open.
-use Rattle.std.specs.Prelude.{◌≡◌, ◌≢◌, ℕ, ◌+◌, ◌-◌, ◌^◌, ◌<◌, ◌≤◌, ◌==◌, Bool, List, [], ◌∷◌, find, length, slice_index_or, vec_capacity, Option, None, Some, if◌then◌else◌}
+use Rattle.std.specs.Prelude.{◌≡◌, ℕ, ◌^◌, ◌<◌, ◌≤◌, ◌==◌, Bool, true, List, [], ◌∷◌, find, length, slice_index_or, vec_capacity, Option, None, Some, if◌then◌else◌}
+use Rattle.dstm_mem.specs.Slots.{ArePlaced, Sort}
 use Rattle.dstm_model.specs.Map.{no_value}
 use Rattle.dstm_model.specs.declared.value.Val.{Val}
 use Rattle.dstm_tl2.specs.State.{no_write}
@@ -51,29 +52,24 @@ set_writes [] writes = []
 set_writes (s ∷ sets) [] = []
 set_writes (s ∷ sets) (w ∷ writes) = if s then w ∷ set_writes sets writes else set_writes sets writes
 
--- the slot of the read of the object
-pub record IsReadOf (slots : List ReadSlot) (o i : ℕ) : Type 0 where
-  pub within : i < length slots
-  pub object : (read_at slots i).object ≡ o
+-- which objects the slots are of
+abbrev pub reads_sort : Sort ReadSlot
+reads_sort = record { object = λ (slot : ReadSlot). slot.object; counts = λ (slot : ReadSlot). true; none = no_slot }
 
--- the slot of the object as it is open for writing
-pub record IsWriteOf (writes : List (ℕ × Val)) (o i : ℕ) : Type 0 where
-  pub within : i < length writes
-  pub object : (write_at writes i).0 ≡ o
+abbrev pub writes_sort : Sort (ℕ × Val)
+writes_sort = record { object = λ (w : ℕ × Val). w.0; counts = λ (w : ℕ × Val). true; none = no_write }
 
--- the slots that stand in these places
-pub record ArePlaced (reads : List ReadSlot) (writes : List (ℕ × Val)) (places : List Place) : Type 0 where
-  pub reads_below : (i : ℕ) → i < length reads → (read_at reads i).object < length places
-  pub reads_placed : (o i : ℕ) → IsReadOf reads o i → (place_at places o).read ≡ i + 1
-  pub read_places : (o : ℕ) → o < length places → (place_at places o).read ≢ 0 →
-      IsReadOf reads o ((place_at places o).read - 1)
-  pub writes_below : (i : ℕ) → i < length writes → (write_at writes i).0 < length places
-  pub writes_placed : (o i : ℕ) → IsWriteOf writes o i → (place_at places o).write ≡ i + 1
-  pub write_places : (o : ℕ) → o < length places → (place_at places o).write ≢ 0 →
-      IsWriteOf writes o ((place_at places o).write - 1)
+-- each object finds its read there
+abbrev pub AreReadPlaces : List ReadSlot → List Place → Type 0
+AreReadPlaces reads places = ArePlaced reads_sort reads (length places) (λ o. (place_at places o).read)
+
+-- and what it is open for writing with
+abbrev pub AreWritePlaces : List (ℕ × Val) → List Place → Type 0
+AreWritePlaces writes places = ArePlaced writes_sort writes (length places) (λ o. (place_at places o).write)
 
 pub record HasPlaces (o : Inside) : Type 0 where
-  pub placed : ArePlaced o.reads.items o.writes.items o.places.items
+  pub reads : AreReadPlaces o.reads.items o.places.items
+  pub writes : AreWritePlaces o.writes.items o.places.items
   pub sets : length o.sets.items ≡ length o.writes.items
   pub room : (length o.places.items ≤ vec_capacity o.reads) × (length o.places.items ≤ vec_capacity o.writes)
       × (length o.places.items ≤ vec_capacity o.sets)

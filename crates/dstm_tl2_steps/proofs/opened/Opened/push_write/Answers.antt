@@ -1,46 +1,60 @@
-use Rattle.std.proofs.Common.{◌+◌, ◌++◌, ◌∷◌, ◌≡◌, [], ap, arith, false, length, length-append, refl, ℕ}
+use Rattle.std.proofs.Common.{◌+◌, ◌++◌, ◌<◌, ◌∙◌, ◌∷◌, ◌≡◌, [], ap, arith, false, length, length-append, refl, sym, ℕ}
+use Rattle.std.specs.Prelude.{slice_set}
 use Rattle.std.proofs.lemmas.List.{length-set}
+use Rattle.dstm_mem.proofs.Slots.{one_more, part_here, part_kept, part_other, placed_alike, room_for}
 use Rattle.dstm_model.specs.declared.value.Val.{Val}
-use Rattle.dstm_tl2_steps.proofs.Placing.{placed_opened, room_write, size_opened}
+use Rattle.dstm_tl2_steps.specs.Opened.{no_place, place_at}
+use Rattle.dstm_tl2_steps.specs.declared.opened.Place.{Place}
+use Rattle.dstm_tl2_steps.proofs.Placing.{place_is, unopened_there}
 use Rattle.dstm_tl2_steps.proofs.Slots.{set_push}
 use Rattle.dstm_tl2_steps.proofs.opened.Opened.push_write.Goals as goal
 
 pub push_reserved-requires : goal.push_reserved-requires
 push_reserved-requires c =
-    let few = room_write _ _ _ c.args.o c.args.value c.self.invariant.placed
-    (rw (← c.self.view_is) at c.requires.exists) (rw (← c.self.view_is) at c.requires.unopened) in
-    let room = c.self.invariant.room.1 in omega arith
+    let old = c.self.invariant in
+    let below = rw (← c.self.view_is) at c.requires.exists in
+    let none = unopened_there _ _ old.writes c.args.o below (rw (← c.self.view_is) at c.requires.unopened) in
+    let few = room_for old.writes (λ x. refl) (c.args.o, c.args.value) below none in
+    let room = old.room.1 in omega arith
 
 pub push_reserved-requires-2 : goal.push_reserved-requires-2
 push_reserved-requires-2 c =
-    let few = room_write _ _ _ c.args.o c.args.value c.self.invariant.placed
-    (rw (← c.self.view_is) at c.requires.exists) (rw (← c.self.view_is) at c.requires.unopened) in
-    let room = c.self.invariant.room.2 in let long = c.self.invariant.sets in omega arith
+    let old = c.self.invariant in
+    let below = rw (← c.self.view_is) at c.requires.exists in
+    let none = unopened_there _ _ old.writes c.args.o below (rw (← c.self.view_is) at c.requires.unopened) in
+    let few = room_for old.writes (λ x. refl) (c.args.o, c.args.value) below none in
+    let room = old.room.2 in let long = old.sets in omega arith
 
 pub invariant_of-self : goal.invariant_of-self
 invariant_of-self c =
     let old = c.self.invariant in
     let writes = c.self.inside.writes.items in
-    let w : ℕ × Val = (c.args.o, c.args.value) in
-    let below = rw (← c.self.view_is) at c.requires.exists in
-    let none = rw (← c.self.view_is) at c.requires.unopened in
+    let places = c.self.inside.places.items in
+    let o = c.args.o in
+    let w : ℕ × Val = (o, c.args.value) in
+    let below : o < length places = rw (← c.self.view_is) at c.requires.exists in
+    let none = unopened_there _ _ old.writes o below (rw (← c.self.view_is) at c.requires.unopened) in
     let ok = c.push_reserved.new.self.ok in
     let items : length c.push_reserved.new.self.items ≡ length (writes ++ w ∷ []) =
     ap length c.push_reserved.ensures.items in
     let longer = length-append writes (w ∷ []) in
     let told = c.len.ensures in
-    let is : c.len.result ≡ length writes + 1 = omega arith in
-    let few = room_write _ _ _ w.0 w.1 old.placed below none in
+    let few = room_for old.writes (λ x. refl) w below none in
     let place = c.index_mut.result.now in
-    let wide = size_opened _ _ _ w.0 w.1 c.len.result old.placed below none is place c.index_mut.ensures.value in
+    let new : Place = record place { write = c.len.result } in
+    let wide = length-set places o new in
     let capacity = c.push_reserved.ensures.capacity in
     let set_capacity = c.push_reserved-2.ensures.capacity in
     let sets : length c.push_reserved-2.new.self.items ≡ length (c.self.inside.sets.items ++ false ∷ []) =
     ap length c.push_reserved-2.ensures.items in
     let more_sets = length-append c.self.inside.sets.items (false ∷ []) in
     record {
-      placed = rw c.push_reserved.ensures.items
-          (placed_opened _ _ _ w.0 w.1 c.len.result old.placed below none is place c.index_mut.ensures.value);
+      reads = placed_alike old.reads _ _ wide (part_kept places no_place o new below (λ (q : Place). q.read)
+          (ap (λ (q : Place). q.read) (sym (place_is places o below place c.index_mut.ensures.value))));
+      writes = rw c.push_reserved.ensures.items
+          (placed_alike (one_more old.writes w below refl none (λ x. (place_at (slice_set places o new) x).write)
+          (part_here places no_place o new below (λ (q : Place). q.write) ∙ (let is : c.len.result ≡ length writes + 1 = omega arith in is))
+          (part_other places no_place o new below (λ (q : Place). q.write))) _ _ wide (λ x. refl));
       sets = let a = old.sets in omega arith;
       room = (
         (let a = old.room.0 in omega arith),

@@ -4,10 +4,9 @@ use Rattle.dstm_tl2_steps.proofs.opened.Opened.set.Goals.{After-index}
 use Rattle.dstm_tl2_steps.proofs.opened.Opened.set.Goals as goal
 
 open_at : (c : After-index) →
-    IsOpen c.self.inside.reads.items c.self.inside.writes.items c.self.inside.places.items c.self.inside.sets.items
-    c.args.o c.index.result.now
+    IsOpen c.self.inside.writes.items c.self.inside.places.items c.self.inside.sets.items c.args.o c.index.result.now
 open_at c = record {
-  placed = c.self.invariant.placed;
+  placed = c.self.invariant.writes;
   long = c.self.invariant.sets;
   below = rw (← c.self.view_is) at c.requires.exists;
   some = rw (← c.self.view_is) at c.requires.opened;
