@@ -123,9 +123,5 @@ pub red_child : {layout : Layout} {map : List Val} {side : Side} {t : Tree} {x :
     x.red ≡ true → IsRedFork layout map side t x
 red_child h red = record { near = h.near; far = h.far; tree = h.tree; red = red; fork = h.fork }
 
-pub black_child : {layout : Layout} {map : List Val} {side : Side} {t : Tree} {x : Node} → Forked layout map side t x →
-    x.red ≡ false → is_red t ≡ false
-black_child h black = ap is_red h.tree ∙ black
-
 pub stands-within : {layout : Layout} {map : List Val} {n : ℕ} {t : Tree} → Stands layout map n t → n ≤ layout.tree
 stands-within {layout} {map} {t} h = omega (arith, number_le layout map t h.nodes)

@@ -90,9 +90,6 @@ Changes-within within h = record {
   nodes = λ i least most none. h.nodes i least most (within i none);
 }
 
-pub Changes-none : (layout : Layout) (one : List Val) (f : ℕ → ℕ) → Changes layout f one one
-Changes-none layout one f = record { root = refl; free = refl; nodes = λ i _ _ _. refl }
-
 -- one node was set
 pub wrote : (layout : Layout) (n : ℕ) (v : Val) (before after : List Val) → 0 < n →
     Sets (object_of layout n) v before after → Changes layout (one_at n) before after

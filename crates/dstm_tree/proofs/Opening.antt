@@ -13,10 +13,6 @@ numbers : ℕ → ℕ → List ℕ
 numbers k zero = []
 numbers k (suc n) = k ∷ numbers (k + 1) n
 
-first : (k n : ℕ) → first_of (numbers k (suc n)) ≡ k
-unfolding numbers
-first k n = refl
-
 pub next-last : (n k : ℕ) → k ≡ n → next_of n k ≡ 0
 next-last n k e = ap (λ b. cond b 0 (k + 1)) (eq-eqb k n e)
 

@@ -1,25 +1,19 @@
 -- A key is placed in a subtree.
 use Rattle.dstm_tree.proofs.Base.{◌≡◌, ℕ, ◌+◌, ◌-◌, ◌<◌, ◌≤◌, true, false, List, [], ◌∷◌, arith, refl, sym, ◌∙◌, ap}
-use Rattle.dstm_tree.proofs.Base.{Val, Layout, value_at, plain, Node, Side, Left, Placed, Full, Found, Root, Request}
+use Rattle.dstm_tree.proofs.Base.{Val, Layout, value_at, plain, Node, Side, Left, Placed, Found, Root, Request}
 use Rattle.dstm_tree.proofs.Base.{IsToward, leaf, count_of, root_of, free_of, object_of, first_of, HasTree, IsRead}
 use Rattle.dstm_tree.proofs.Base.{child, sided, val_of, Reads, Sets, free_count, IsFree, IsTaken, TakesFirstFree}
 use Rattle.dstm_tree.proofs.Base.{CanPlace, AddsRoot, Attaches, PlacesLeaf, Places, blackness, one_at}
 use Rattle.dstm_tree.proofs.Kept.{free_count-first, IsFreeChain-kept, IsFree-kept, wrote}
 use Rattle.dstm_tree.proofs.Sides.{on-counts}
 use Rattle.dstm_tree.proofs.Items.{with_item-here, value_of-root}
-use Rattle.dstm_tree.proofs.Forks.{missing_child, stand, written}
-use Rattle.dstm_tree.proofs.Search.{stands_of, part_of, read_root}
+use Rattle.dstm_tree.proofs.Forks.{stand, written}
+use Rattle.dstm_tree.proofs.Search.{part_of, read_root}
 
 -- ---- a node is taken off the free chain, and a key is placed in it
 
 low_of : (v : Val) (n : ℕ) → v ≡ plain n → v.low ≡ n
 low_of v n e = ap (λ (x : Val). x.low) e
-
-pub taken-none : (layout : Layout) (head : Val) (before after : List Val) → head.low ≡ 0 →
-    Reads (free_of layout) head before after → IsTaken layout 0 before after
-taken-none layout head before after none read [] h = (refl, read.same)
-taken-none layout head before after none read (i ∷ rest) h =
-    absurd (omega (arith, low_of head i (sym read.is ∙ h.unused)))
 
 pub taken : (layout : Layout) (head next : Val) (before mid two after : List Val) → (head.low ≡ 0 → ⊥) →
     Reads (free_of layout) head before mid → Reads (object_of layout head.low) next mid two →
@@ -34,13 +28,6 @@ taken layout head next before mid two after some read read_next set (i ∷ rest)
       first,
       rw (read_next.same, read.same, next_is) at set,
     )
-
-pub leaf-full : (layout : Layout) (q : Request) (number : ℕ) (before after : List Val) → number ≡ 0 →
-    IsTaken layout number before after → PlacesLeaf layout q Full before after
-leaf-full layout q number before after none taken [] h =
-    record { absent = refl; none = refl; same = (taken [] h).1 }
-leaf-full layout q number before after none taken (i ∷ rest) h =
-    absurd (omega (arith, (taken (i ∷ rest) h).0))
 
 leaf_root : (layout : Layout) (q : Request) (x : Node) (free : List ℕ) (before after : List Val) → (x.number ≡ 0 → ⊥) →
     x.red ≡ true → x.key ≡ q.key → x.value ≡ q.value → 0 ≡ x.left → 0 ≡ x.right → IsFree layout before free →
@@ -81,11 +68,6 @@ pub leaf-root : (layout : Layout) (q : Request) (x : Node) (before after : List 
     PlacesLeaf layout q (Root x) before after
 leaf-root layout q x before after some red key value left right taken free h =
     leaf_root layout q x free before after some red key value left right h (taken free h)
-
-pub place-leaf : (layout : Layout) (q : Request) (at depth : ℕ) (placed : Placed) (before after : List Val) → at ≡ 0 →
-    PlacesLeaf layout q placed before after → Places layout q at depth placed before after
-place-leaf layout q at depth placed before after none does h =
-    rw (missing_child none (stands_of h.sub)) (does h.free h.is_free)
 
 -- ---- where the search goes on
 

@@ -1,34 +1,19 @@
 -- A key is taken out of a subtree.
 use Rattle.dstm_tree.proofs.Base.{◌≡◌, ℕ, ◌+◌, ◌-◌, ◌<◌, ◌≤◌, Bool, false, List, ◌∷◌, ◌++◌, arith, refl, sym, ◌∙◌, ap}
-use Rattle.dstm_tree.proofs.Base.{subst, not, Some, None, Val, Layout, value_at, value_of, without_item, Node, Side}
+use Rattle.dstm_tree.proofs.Base.{subst, Some, None, Val, Layout, value_at, value_of, without_item, Node, Side}
 use Rattle.dstm_tree.proofs.Base.{Left, Right, Cut, Least, Removed, other, IsToward, Tree, is_red, items_of, count_of}
 use Rattle.dstm_tree.proofs.Base.{black_height, IsOrdered, object_of, HasTree, IsRead, Subtree, Stands, Fork, child}
 use Rattle.dstm_tree.proofs.Base.{with_child, with_red, sided, val_of, Sets, blackness, Gap, HasGap, Closes, Became}
 use Rattle.dstm_tree.proofs.Base.{Loses, TakesLeast, RemovesRoot, RemovesIf, Hoists, false_from_ne_true}
 use Rattle.dstm_tree.proofs.Base.{true_from_ne_false, one_at}
-use Rattle.dstm_tree.proofs.Kept.{one_at-self, Stands-kept, Changes-more, Changes-within, Changes-none, wrote}
+use Rattle.dstm_tree.proofs.Kept.{one_at-self, Stands-kept, Changes-more, Changes-within, wrote}
 use Rattle.dstm_tree.proofs.Sides.{item_of, child-set, child-kept, sided-counts, on-counts, sided-height}
 use Rattle.dstm_tree.proofs.Items.{value_of-toward, value_of-root, without_item-toward, without_item-here}
 use Rattle.dstm_tree.proofs.Items.{without_item-only}
 use Rattle.dstm_tree.proofs.Forks.{forked_read, missing_child, written, stands-within, not_red}
 use Rattle.dstm_tree.proofs.Search.{stands_of, Rooted, part_of, read_root}
-use Rattle.dstm_tree.proofs.Lift.{falls_unless_red}
 
 -- ---- a child takes its parent's place
-
-pub hoist-none : (layout : Layout) (number : ℕ) (red : Bool) (before : List Val) → number ≡ 0 →
-    Hoists layout number red (record { root = 0; fell = not red }) before before
-hoist-none layout number red before none t h once height colour =
-    let is = missing_child none h in
-    record {
-      tree = t;
-      items = refl;
-      counts = λ i. refl;
-      height_is = omega (arith, falls_unless_red red);
-      colour = λ e. absurd (cc (e, is));
-      stands = subst (λ n. Stands layout before n t) none h;
-      keeps = Changes-none layout before (λ i. count_of i t);
-    }
 
 pub hoist-some : (layout : Layout) (number : ℕ) (red : Bool) (x y : Node) (before mid after : List Val) →
     HasTree layout → (number ≡ 0 → ⊥) → IsRead layout number x before mid → y ≡ with_red false x →
@@ -233,13 +218,6 @@ remove-between {layout} depth x least cut before two after has some p_is does cl
     })
 
 -- ---- a key below the root
-
-pub remove-end : (layout : Layout) (at depth key : ℕ) (before : List Val) → at ≡ 0 →
-    RemovesIf layout key at depth None before before
-remove-end layout at depth key before none h = (
-  ap (λ t. value_of key (items_of t)) (missing_child none (stands_of h)),
-  refl,
-)
 
 -- a node that was read is what stands in the map
 pub read-again : {layout : Layout} {at : ℕ} {x : Node} {before mid : List Val} → IsRead layout at x before mid →

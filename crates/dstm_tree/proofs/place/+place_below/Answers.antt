@@ -1,17 +1,10 @@
 use Rattle.dstm_tree.proofs.Base.{List, arith, sym, subst, Val, LeavesAll}
 use Rattle.dstm_tree.proofs.Attach.{settled}
-use Rattle.dstm_tree.proofs.Placing.{can-below, place-leaf, place-below, place-found, place-replaced}
+use Rattle.dstm_tree.proofs.Placing.{can-below, place-below, place-found, place-replaced}
 use Rattle.dstm_tree.specs.declared.side.Side.TheVariants.{Left}
 use Rattle.dstm_tree.proofs.Walk.{walk}
 use Rattle.dstm_tree.proofs.Stepping.{steps-as, steps-then}
 use Rattle.dstm_tree.proofs.place.+place_below.Goals as goal
-
-pub returns-then-at-eq0-clause-steps : goal.returns-then-at-eq0-clause-steps
-returns-then-at-eq0-clause-steps g t c =
-    let layout = c.args.layout.now in
-    let placed = c.in_ok-placed.placed in
-    steps-as c.in_ok-placed.ensures.steps (settled c.args.request placed) (λ before after.
-    place-leaf layout c.args.request c.args.at c.args.depth placed before after c.if-at-eq0.true)
 
 pub overflow_sub-depth : goal.overflow_sub-depth
 overflow_sub-depth g t c =

@@ -1,13 +1,7 @@
 use Rattle.dstm_tree.proofs.Base.{refl}
-use Rattle.dstm_tree.proofs.Placing.{leaf-full, leaf-root}
+use Rattle.dstm_tree.proofs.Placing.{leaf-root}
 use Rattle.dstm_tree.proofs.Stepping.{steps-as}
 use Rattle.dstm_tree.proofs.place.place_leaf.Goals as goal
-
-pub returns-then-number-eq0-clause-steps : goal.returns-then-number-eq0-clause-steps
-returns-then-number-eq0-clause-steps g c =
-    let layout = c.args.layout.now in
-    steps-as c.in_ok-number.ensures.steps (λ full. c.if-number-eq0.true) (λ before after taken.
-    leaf-full layout c.args.request c.in_ok-number.number before after c.if-number-eq0.true taken)
 
 pub returns-clause-steps : goal.returns-clause-steps
 returns-clause-steps g c =

@@ -1,12 +1,6 @@
-use Rattle.dstm_tree.proofs.Placing.{taken, taken-none}
+use Rattle.dstm_tree.proofs.Placing.{taken}
 use Rattle.dstm_tree.proofs.Stepping.{steps-as, steps-then}
 use Rattle.dstm_tree.proofs.place.take_free.Goals as goal
-
-pub returns-then-first-eq0-clause-steps : goal.returns-then-first-eq0-clause-steps
-returns-then-first-eq0-clause-steps g c =
-    steps-as c.in_ok-head.ensures (λ q. tt) (λ before after read.
-    taken-none c.args.layout.now c.in_ok-head.head before after c.if-first-eq0.true
-    (rw c.free_object.ensures.object at read))
 
 pub returns-clause-steps : goal.returns-clause-steps
 returns-clause-steps g c =

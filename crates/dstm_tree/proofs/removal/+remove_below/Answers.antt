@@ -1,38 +1,14 @@
 use Rattle.dstm_tree.proofs.Base.{arith}
-use Rattle.dstm_tree.proofs.Removing.{remove-end, remove-here, remove-none, has-gap, remove-some, read-again}
+use Rattle.dstm_tree.proofs.Removing.{remove-here, remove-none, has-gap, remove-some}
 use Rattle.dstm_tree.proofs.Search.{part_of, read_root}
-use Rattle.dstm_tree.specs.declared.side.Side.TheVariants.{Left}
 use Rattle.dstm_tree.proofs.Walk.{walk}
-use Rattle.dstm_tree.proofs.Stepping.{open-after, steps-none, steps-as, steps-then}
+use Rattle.dstm_tree.proofs.Stepping.{steps-as, steps-then}
 use Rattle.dstm_tree.proofs.removal.+remove_below.Goals as goal
-
-pub returns-then-at-eq0 : goal.returns-then-at-eq0
-returns-then-at-eq0 g t c =
-    steps-none c.requires.ready
-    (λ before. remove-end c.args.layout.now c.args.at c.args.depth c.args.key before c.if-at-eq0.true)
-
-pub remove_root-requires : goal.remove_root-requires
-remove_root-requires g t c =
-    let read = c.in_ok-node.ensures.steps in
-    let (map, admitted) = read.leads.admits in
-    let number = (read.does map admitted).number in
-    record {
-      some = omega (arith, c.if-at-eq0.false);
-      fits = c.in_ok-node.ensures.fits;
-      ready = open-after c.requires.ready read;
-      lawful = λ m a.
-          let is = read.does m a in
-          (rw (is.number, is.same) (c.requires.lawful m (read.leads.narrows m a)), read-again is);
-    }
 
 pub returns-then-key-node : goal.returns-then-key-node
 returns-then-key-node g t c =
     steps-as (steps-then c.in_ok-node.ensures.steps c.in_ok-removed.ensures) (λ never. absurd (cc never))
     (λ before after h. remove-here c.args.depth c.in_ok-removed.removed after c.if-key-node.true h.first h.second)
-
-pub overflow_sub-depth : goal.overflow_sub-depth
-overflow_sub-depth g t c =
-    (walk Left c.requires.ready c.requires.lawful c.in_ok-node.ensures.steps c.if-at-eq0.false).deep
 
 pub remove_below-requires : goal.remove_below-requires
 remove_below-requires g t c κs within =

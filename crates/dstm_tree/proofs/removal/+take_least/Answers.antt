@@ -16,11 +16,6 @@ returns-then-node-eq0-clause-steps g t c =
     take-least-here c.args.depth c.in_ok-cut.cut after c.requires.ready.tree (λ e. omega (arith, c.requires.some))
     c.if-node-eq0.true h.first h.second)
 
-pub overflow_sub-depth : goal.overflow_sub-depth
-overflow_sub-depth g t c =
-    (walk Left c.requires.ready c.requires.lawful c.in_ok-node.ensures.steps
-    (λ e. omega (arith, c.requires.some))).deep
-
 pub take_least-requires : goal.take_least-requires
 take_least-requires g t c κs within =
     let w = walk Left c.requires.ready c.requires.lawful c.in_ok-node.ensures.steps

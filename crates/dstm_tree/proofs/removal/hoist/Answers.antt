@@ -1,11 +1,6 @@
-use Rattle.dstm_tree.proofs.Removing.{hoist-none, hoist-some}
-use Rattle.dstm_tree.proofs.Stepping.{steps-none, steps-as, steps-then}
+use Rattle.dstm_tree.proofs.Removing.{hoist-some}
+use Rattle.dstm_tree.proofs.Stepping.{steps-as, steps-then}
 use Rattle.dstm_tree.proofs.removal.hoist.Goals as goal
-
-pub returns-then-child-eq0 : goal.returns-then-child-eq0
-returns-then-child-eq0 g c =
-    steps-none c.requires.ready
-    (λ before. hoist-none c.args.layout.now c.args.child c.args.red before c.if-child-eq0.true)
 
 pub returns : goal.returns
 returns g c =

@@ -1,28 +1,14 @@
 use Rattle.dstm_tree.proofs.Base.{List, arith, ◌∙◌, ap, Val, child, Right}
-use Rattle.dstm_tree.proofs.Removing.{go-below, depth-some, subtree-within, remove-only, has-gap, remove-between}
+use Rattle.dstm_tree.proofs.Removing.{go-below, subtree-within, remove-only, has-gap, remove-between}
 use Rattle.dstm_tree.proofs.Search.{part_of, read_root}
 use Rattle.dstm_tree.proofs.Stepping.{steps-as, steps-then}
 use Rattle.dstm_tree.proofs.removal.remove_root.Goals as goal
-
-pub hoist-requires-clause-within : goal.hoist-requires-clause-within
-hoist-requires-clause-within g c =
-    let (map, admitted) = c.requires.ready.admits in
-    let (s, read) = c.requires.lawful map admitted in
-    let within = subtree-within
-    (go-below c.other.result c.requires.ready.tree read (λ e. omega (arith, c.requires.some)) s) in
-    omega (arith, c.child.ensures)
 
 pub returns-in-Some : goal.returns-in-Some
 returns-in-Some g c =
     steps-as c.in_ok-cut.ensures (λ never. never) (λ before after does.
     remove-only c.in-Some.side c.args.depth c.args.node c.in_ok-cut.cut before after c.requires.ready.tree
     c.requires.some c.in-Some.ensures (c.child.ensures ∙ ap (λ s. child s c.args.node) c.other.ensures) does)
-
-pub overflow_sub-depth : goal.overflow_sub-depth
-overflow_sub-depth g c =
-    let (map, admitted) = c.requires.ready.admits in
-    let (s, read) = c.requires.lawful map admitted in
-    depth-some c.requires.ready.tree read (λ e. omega (arith, c.requires.some)) s
 
 pub take_least-requires : goal.take_least-requires
 take_least-requires g c =
