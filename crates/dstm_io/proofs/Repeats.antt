@@ -1,13 +1,9 @@
 -- What a call does that was made again after others did nothing.
-use Rattle.std.proofs.Common.{ℕ, List, Option, Some, None, Ok, Err, Result, ◌∙◌, refl, sym}
+use Rattle.std.proofs.Common.{ℕ, List, Option, Some, None, Ok, Err, Result, ◌∙◌, sym}
 use Rattle.std.specs.Prelude.{take}
 use Rattle.std.specs.Io.KnownBytes.{Appends, Consumes, Keeps, ReadConsumes, WriteAppends}
 
-pub keeps_itself : (a : Option (List ℕ)) → Keeps a a
-keeps_itself None = tt
-keeps_itself (Some xs) = refl
-
-pub keeps_on : (a b c : Option (List ℕ)) → Keeps a b → Keeps b c → Keeps a c
+keeps_on : (a b c : Option (List ℕ)) → Keeps a b → Keeps b c → Keeps a c
 keeps_on None b c h k = tt
 keeps_on (Some xs) (Some ys) (Some zs) h k = k ∙ h
 keeps_on (Some xs) (Some ys) None h k = absurd (k)
@@ -34,3 +30,9 @@ pub writes_on : {E : Type 0} (a b c : Option (List ℕ)) (r : Result ℕ E) (buf
     WriteAppends b c r buf → WriteAppends a c r buf
 writes_on a b c (Ok n) buf h k = appends_on a b c (take n buf) h k
 writes_on a b c (Err e) buf h k = keeps_on a b c h k
+
+-- what a call does from here on it does from the start
+abbrev pub GoesOn : {E : Type 0} → (Option (List ℕ) → Option (List ℕ) → Result ℕ E → List ℕ → Type 0) →
+    Option (List ℕ) → Option (List ℕ) → Type 0
+GoesOn {E} Does start now =
+    (after : Option (List ℕ)) (r : Result ℕ E) (buf : List ℕ) → Does now after r buf → Does start after r buf

@@ -1,6 +1,9 @@
-use Rattle.std.specs.Io.KnownBytes.{Keeps}
+use Rattle.std.specs.declared.io.Error.{Error}
+use Rattle.std.specs.Io.KnownBytes.{WriteAppends}
+use Rattle.dstm_io.proofs.Repeats.{GoesOn}
 use Rattle.dstm_io.proofs.again.write_again.Given as goal
 
--- no byte was written so far
+-- the calls so far did nothing
 abbrev pub invariant-loop : goal.invariant-loop
-invariant-loop g l = Keeps (g.W.Write.contents l.initial.writer) (g.W.Write.contents l.writer)
+invariant-loop g l =
+    GoesOn (WriteAppends {E = Error}) (g.W.Write.contents l.initial.writer) (g.W.Write.contents l.writer)
