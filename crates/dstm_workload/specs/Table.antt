@@ -141,21 +141,20 @@ await_balance = record {
   makes = λ x. op.Await (cond.Balance x.0 x.1.0);
 }
 
-abbrev pub await_list : Form
-await_list = record {
-  words = word.Await ∷ word.List ∷ [];
-  needs = ListNodes;
+-- a key of a structure is awaited
+abbrev pub await_key : Need → Word → Which → Form
+await_key need w structure = record {
+  words = word.Await ∷ w ∷ [];
+  needs = need;
   kinds = Key ∷ [];
-  makes = λ x. op.Await (cond.Key which.List x.0);
+  makes = λ x. op.Await (cond.Key structure x.0);
 }
 
+abbrev pub await_list : Form
+await_list = await_key ListNodes word.List which.List
+
 abbrev pub await_tree : Form
-await_tree = record {
-  words = word.Await ∷ word.Tree ∷ [];
-  needs = TreeNodes;
-  kinds = Key ∷ [];
-  makes = λ x. op.Await (cond.Key which.Tree x.0);
-}
+await_tree = await_key TreeNodes word.Tree which.Tree
 
 -- between two branches
 abbrev pub orelse : Form
