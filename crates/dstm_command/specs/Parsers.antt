@@ -21,8 +21,11 @@ abbrev pub action_of : Choice → ArgAction
 action_of (valued name) = Set
 action_of (flag name) = SetTrue
 
+abbrev pub rule_named : Text → ArgAction → Rule
+rule_named name action = record (new_rule name) { long = Some name; action = Some action }
+
 abbrev pub option_rule : Choice → Rule
-option_rule c = record (new_rule (name_of c)) { long = Some (name_of c); action = Some (action_of c) }
+option_rule c = rule_named (name_of c) (action_of c)
 
 -- `run` with the options of a table
 abbrev pub options_app : Table → App

@@ -2,8 +2,8 @@ ghost use Rattle.std.specs.Prelude.{◌≡◌, false, map, Some, None, IfOk, IsE
 ghost use Rattle.std.specs.List.{list_any};
 ghost use Rattle.clap.specs.Words.{app_of, found_of, with_rule};
 ghost use Rattle.dstm_command.specs.CommandLine.{is_two_hyphens, run_of, run_options, suits};
-ghost use Rattle.dstm_command.specs.Options.{Given, flag, options_in, valued};
-ghost use Rattle.dstm_command.specs.Parsers.{option_rule, options_app, Holds};
+ghost use Rattle.dstm_command.specs.Options.{Given, options_in};
+ghost use Rattle.dstm_command.specs.Parsers.{options_app, rule_named, Holds};
 
 use crate::WordsError;
 use crate::parser::matches;
@@ -31,36 +31,24 @@ fn options_command<'a>(alloc: Global) -> Result<Command<'a>, AllocError>
     let command = Command::new(alloc, "run")
         .no_binary_name(true)
         .disable_help_flag(true);
-    let command = with_value(alloc, command, "engine")?;
-    let command = with_value(alloc, command, "manager")?;
-    let command = with_value(alloc, command, "seed")?;
-    let command = with_flag(alloc, command, "all-write")?;
-    with_flag(alloc, command, "release")
+    let command = with_option(alloc, command, "engine", ArgAction::Set)?;
+    let command = with_option(alloc, command, "manager", ArgAction::Set)?;
+    let command = with_option(alloc, command, "seed", ArgAction::Set)?;
+    let command = with_option(alloc, command, "all-write", ArgAction::SetTrue)?;
+    with_option(alloc, command, "release", ArgAction::SetTrue)
 }
 
-// The command with one more option, which has a value.
-fn with_value<'a>(
+// The command with one more option, which takes a value or is a flag, as its action says.
+fn with_option<'a>(
     alloc: Global,
     command: Command<'a>,
     name: &'a str,
+    action: ArgAction,
 ) -> Result<Command<'a>, AllocError>
     ensures { IfOk result (λ more.
-        app_of more ≡ with_rule (app_of command.entry) (option_rule (valued name.entry.now))) }
+        app_of more ≡ with_rule (app_of command.entry) (rule_named name.entry.now action)) }
 {
-    let option = Arg::new(alloc, name).long(name).action(ArgAction::Set);
-    command.arg(option)
-}
-
-// The command with one more flag.
-fn with_flag<'a>(
-    alloc: Global,
-    command: Command<'a>,
-    name: &'a str,
-) -> Result<Command<'a>, AllocError>
-    ensures { IfOk result (λ more.
-        app_of more ≡ with_rule (app_of command.entry) (option_rule (flag name.entry.now))) }
-{
-    let option = Arg::new(alloc, name).long(name).action(ArgAction::SetTrue);
+    let option = Arg::new(alloc, name).long(name).action(action);
     command.arg(option)
 }
 
