@@ -33,6 +33,14 @@ put_other : (found expected value put : ℕ) → put ≡ cond (found == expected
     expected < 4 → 4 ≤ put
 put_other found expected value put h f v = grind (arith, nat_tests)
 
+-- an exchange by which an attempt is left, though not by the status that it puts, found this aborted
+left_by : (e : Event) (now expected value : ℕ) → now ≡ expected → expected < 4 →
+    e.put ≡ cond (e.found == expected) value e.found → ((e.found == expected) ≡ true → ⊥) →
+    (e.found ≡ now) ⊎ (e.found ≡ 5) → 4 ≤ e.put
+left_by e now expected value same small put other (inl x) = absurd (other (eq-eqb e.found expected (x ∙ same)))
+left_by e now expected value same small put other (inr x) =
+    put_other e.found expected value e.put put (omega arith) small
+
 -- an attempt is left by an event that finds its status aborted, or that finishes it
 pub leaves : (s : Shape) (l : LocalState) (e : Event) (k : Kind) → AllowedAs k s l e → l.phase ≢ Outside →
     (after k s l e).phase ≡ Outside → (e.found ≡ given l.phase) ⊎ (e.found ≡ 5) →
@@ -53,35 +61,32 @@ leaves s l e LookSelf a h out f = go (cases_Bool (e.found == given l.phase)) f
 leaves s l e PutHigh a h out f = absurd (cc)
 leaves s l e PutNew a h out f = absurd (cc)
 leaves s l e Draw a h out f = absurd (cc)
-leaves s l e ToValidating a h out f = go (cases_Bool (e.found == 1)) f a.2.0
+leaves s l e ToValidating a h out f = (
+  a.0,
+  left_by e (given l.phase) 1 3 (was a.2.0) (omega arith) a.1.1
+      (λ q. let w : Validating ≡ Outside = rw q at out in cc) f,
+)
   where
-    go : (e.found == 1 ≡ true) ⊎ (e.found == 1 ≡ false) → (e.found ≡ given l.phase) ⊎ (e.found ≡ 5) →
-        ((l.phase ≡ Running) × (l.writes ≡ [])) ⊎ ((l.phase ≡ Putting) × (l.written ≡ length l.writes)) →
-        (e.place ≡ place s (StatusWord (own_attempt s l))) × (4 ≤ e.put)
-    go (inl q) f z = absurd (let w : Validating ≡ Outside = rw q at out in cc)
-    go (inr q) (inl x) (inl z) = absurd (let y = eq-eqb e.found 1 (x ∙ ap given z.0) in cc)
-    go (inr q) (inl x) (inr z) = absurd (let y = eq-eqb e.found 1 (x ∙ ap given z.0) in cc)
-    go (inr q) (inr x) z = (a.0, put_other e.found 1 3 e.put a.1.1 (omega arith) (omega arith))
+    was : ((l.phase ≡ Running) × (l.writes ≡ [])) ⊎ ((l.phase ≡ Putting) × (l.written ≡ length l.writes)) →
+        given l.phase ≡ 1
+    was (inl x) = ap given x.0
+    was (inr x) = ap given x.0
 leaves s l e Commit a h out f = (a.0, put_finished e.found 3 4 e.put a.1.1 (omega arith) (go f))
   where
     go : (e.found ≡ given l.phase) ⊎ (e.found ≡ 5) → (e.found ≡ 3) ⊎ (e.found ≡ 5)
     go (inl x) = inl (x ∙ ap given a.2.0)
     go (inr x) = inr x
 leaves s l e Quit a h out f = (a.0, put_finished e.found (given l.phase) 5 e.put a.1.1 (omega arith) f)
-leaves s l e Pause a h out f = go (cases_Bool (e.found == 1)) f
-  where
-    go : (e.found == 1 ≡ true) ⊎ (e.found == 1 ≡ false) → (e.found ≡ given l.phase) ⊎ (e.found ≡ 5) →
-        (e.place ≡ place s (StatusWord (own_attempt s l))) × (4 ≤ e.put)
-    go (inl q) f = absurd (let w : Paused ≡ Outside = rw q at out in cc)
-    go (inr q) (inl x) = absurd (let y = eq-eqb e.found 1 (x ∙ ap given a.2.0) in cc)
-    go (inr q) (inr x) = (a.0, put_other e.found 1 2 e.put a.1.1 (omega arith) (omega arith))
-leaves s l e Resume a h out f = go (cases_Bool (e.found == 2)) f
-  where
-    go : (e.found == 2 ≡ true) ⊎ (e.found == 2 ≡ false) → (e.found ≡ given l.phase) ⊎ (e.found ≡ 5) →
-        (e.place ≡ place s (StatusWord (own_attempt s l))) × (4 ≤ e.put)
-    go (inl q) f = absurd (let w : Running ≡ Outside = rw q at out in cc)
-    go (inr q) (inl x) = absurd (let y = eq-eqb e.found 2 (x ∙ ap given a.2.0) in cc)
-    go (inr q) (inr x) = (a.0, put_other e.found 2 1 e.put a.1.1 (omega arith) (omega arith))
+leaves s l e Pause a h out f = (
+  a.0,
+  left_by e (given l.phase) 1 2 (ap given a.2.0) (omega arith) a.1.1
+      (λ q. let w : Paused ≡ Outside = rw q at out in cc) f,
+)
+leaves s l e Resume a h out f = (
+  a.0,
+  left_by e (given l.phase) 2 1 (ap given a.2.0) (omega arith) a.1.1
+      (λ q. let w : Running ≡ Outside = rw q at out in cc) f,
+)
 leaves s l e k a h out f = absurd (h out)
 
 -- an event of an attempt under way that leaves it aims at the own status, which says what it finds

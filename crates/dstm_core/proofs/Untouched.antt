@@ -1,8 +1,9 @@
 -- Which parts of a caller's state an event leaves as they were.
-use Rattle.std.proofs.Common.{Bool, ◌≡◌, ◌⊎◌, List, None, Option, Some, arith, false, inl, inr, refl, subst, sym, true}
+use Rattle.std.proofs.Common.{Bool, ◌≡◌, ◌⊎◌, List, [], ◌∷◌, None, Option, Some, arith, false, inl, inr, refl, subst, sym}
 use Rattle.std.proofs.lemmas.Bool.Decides.{nat_tests}
 use Rattle.std.proofs.lemmas.Bool.{cond_both}
 use Rattle.dstm_core.specs.Events.{Event}
+use Rattle.dstm_core.specs.Kinds.{is_one_of}
 use Rattle.dstm_core.specs.Rules.{after}
 use Rattle.dstm_core.specs.State.{LocalState, is_resolved, keep_resolved}
 use Rattle.dstm_core.specs.declared.event.Kind.TheVariants.{Begin, Install, Kill, LookHigh, LookNew, LookNumber, LookObj, LookOld, LookOwner, LookRank, LookStatus, Release}
@@ -13,15 +14,8 @@ use Rattle.dstm_core.specs.declared.state.Resolution.{Resolution}
 
 -- kinds that find something out of the object that is being resolved
 abbrev pub is_look : Kind → Bool
-is_look LookObj = true
-is_look LookOwner = true
-is_look LookStatus = true
-is_look LookRank = true
-is_look LookOld = true
-is_look LookHigh = true
-is_look LookNew = true
-is_look Kill = true
-is_look k = false
+is_look =
+    is_one_of (LookObj ∷ LookOwner ∷ LookStatus ∷ LookRank ∷ LookOld ∷ LookHigh ∷ LookNew ∷ Kill ∷ [])
 
 kept_how : (r : Option Resolution) → (keep_resolved r ≡ r) ⊎ (keep_resolved r ≡ None)
 kept_how None = inl refl
@@ -45,11 +39,7 @@ unlooked P s l e k q none h = go (resolution_how s l e k q)
 
 -- kinds that change what is recorded of reads
 abbrev pub records : Kind → Bool
-records Begin = true
-records Install = true
-records LookNumber = true
-records Release = true
-records k = false
+records = is_one_of (Begin ∷ Install ∷ LookNumber ∷ Release ∷ [])
 
 pub reads_stay : (s : Shape) (l : LocalState) (e : Event) (k : Kind) → records k ≡ false →
     (after k s l e).reads ≡ l.reads

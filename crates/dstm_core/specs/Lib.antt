@@ -1,5 +1,6 @@
 pub mod Words
 pub mod Events
+pub mod Kinds
 pub mod Traces
 pub mod State
 pub mod Rules

@@ -12,7 +12,7 @@ use Rattle.dstm_core.specs.declared.state.Phase.{Phase}
 use Rattle.dstm_core.specs.declared.state.Phase.TheVariants.{Outside, Running, Paused, Putting, Validating, Drawn}
 use Rattle.dstm_core.specs.declared.state.Resolution.{Resolution}
 use Rattle.dstm_core.specs.declared.status.Status.TheVariants as status
-use Rattle.dstm_core.specs.State.{LocalState, or_zero, next_attempt, own_attempt, next_locator, given, is_live, read_of, write_of, drop_read, is_other, next_read, next_write, res, version, is_resolved, keep_resolved, record_resolved}
+use Rattle.dstm_core.specs.State.{LocalState, first, or_zero, next_attempt, own_attempt, next_locator, given, is_live, read_of, write_of, drop_read, is_other, next_read, next_write, res, version, is_resolved, unresolved, keep_resolved, record_resolved}
 use Rattle.dstm_core.specs.Traces.{Access, Acts}
 use Rattle.dstm_machines.specs.Traces.Access.{Load, Store, Exchange, Add}
 use Rattle.dstm_core.specs.Words.{Word, HasWord, place, code_of}
@@ -203,31 +203,17 @@ AllowedAs kind shape state event =
 
 -- ---- the state after an event
 
--- Begin drops what belongs to the attempt before
+-- Begin drops what belongs to the attempt before: all but these is as it was at first
 abbrev pub begin : LocalState → LocalState
-begin state = record {
+begin state = record first {
   number = state.number;
   begun = state.begun + 1;
   installed = state.installed;
   rank = state.rank;
-  stamped = false;
   stands = state.stands;
-  ranked = false;
-  committed = false;
-  owed = false;
   phase = Running;
-  stale = false;
   held_owner = state.held_owner;
   held_old = state.held_old;
-  reads = [];
-  writes = [];
-  written = 0;
-  high_put = false;
-  resolution = None;
-  pass = None;
-  checked = 0;
-  last_pass = None;
-  drawn = None;
 }
 
 -- the attempt is over
@@ -267,16 +253,7 @@ after Rank shape state event =
     record state { rank = event.put; ranked = is_outside state.phase; owed = false; pass = None; checked = 0 }
 after Begin shape state event = begin state
 after LookObj shape state event = record state {
-  resolution = Some (record {
-    object = event.place;
-    word = event.found;
-    owner = None;
-    status = None;
-    rank = None;
-    old = None;
-    high = None;
-    value = None;
-  });
+  resolution = Some (record unresolved { object = event.place; word = event.found });
   stale = is_other event.found (read_of event.place state.reads);
   pass = None;
   checked = 0;

@@ -1,14 +1,6 @@
 ghost use Rattle.std.specs.Prelude.{◌↔◌, IsTrue};
 ghost use Rattle.dstm_core.specs.Words.{IsPlaceOf, IsValid};
-ghost use Rattle.dstm_core.specs.Words.Word.{
-  ObjectWord,
-  StatusWord,
-  RankWord,
-  OwnerWord,
-  OldWord,
-  LowWord,
-  HighWord,
-};
+ghost use Rattle.dstm_core.specs.Words.Word.{ObjectWord, StatusWord, RankWord, OwnerWord, OldWord, LowWord, HighWord};
 
 use crate::shape::Shape;
 

@@ -1,20 +1,4 @@
-ghost use Rattle.std.specs.Prelude.{
-  ◌≡◌,
-  ◌+◌,
-  ◌<◌,
-  ◌↔◌,
-  ◌++◌,
-  ◌∷◌,
-  [],
-  length,
-  slice_get,
-  IfSome,
-  IsSome,
-  true,
-  IsTrue,
-  OnOk,
-  OnErr,
-};
+ghost use Rattle.std.specs.Prelude.{◌≡◌, ◌+◌, ◌<◌, ◌↔◌, ◌++◌, ◌∷◌, [], length, slice_get, IfSome, IsSome, true, IsTrue, OnOk, OnErr};
 ghost use Rattle.dstm_core.specs.Indexed.{is_among, count_before};
 ghost use Rattle.dstm_core.specs.State.{read_of, drop_read};
 

@@ -1,17 +1,6 @@
 ghost use Rattle.std.specs.Prelude.{◌≡◌, ◌<◌, ◌≤◌, ◌*◌, ◌↔◌, IsTrue};
 ghost use Rattle.dstm_core.specs.Words.{place, word_count, IsValid};
-ghost use Rattle.dstm_core.specs.Words.Word.{
-  ObjectWord,
-  StatusWord,
-  RankWord,
-  OwnerWord,
-  OldWord,
-  LowWord,
-  HighWord,
-  CallersWord,
-  NumbersWord,
-  StampsWord,
-};
+ghost use Rattle.dstm_core.specs.Words.Word.{ObjectWord, StatusWord, RankWord, OwnerWord, OldWord, LowWord, HighWord, CallersWord, NumbersWord, StampsWord};
 
 /// How an attempt meets an enemy, another attempt that has an object open for writing.
 #[derive(Clone, Copy, Debug, PartialEq, Eq)]

@@ -1,18 +1,4 @@
-ghost use Rattle.std.specs.Prelude.{
-  ◌≡◌,
-  ◌+◌,
-  ◌<◌,
-  ◌↔◌,
-  ◌++◌,
-  ◌∷◌,
-  [],
-  length,
-  slice_get,
-  IsSome,
-  IsTrue,
-  OnOk,
-  OnErr,
-};
+ghost use Rattle.std.specs.Prelude.{◌≡◌, ◌+◌, ◌<◌, ◌↔◌, ◌++◌, ◌∷◌, [], length, slice_get, IsSome, IsTrue, OnOk, OnErr};
 ghost use Rattle.dstm_core.specs.State.{write_of};
 
 use crate::state::Write;

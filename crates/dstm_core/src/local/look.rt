@@ -1,13 +1,5 @@
 ghost use Rattle.std.specs.Prelude.{◌≡◌, ◌↔◌, IsTrue};
-ghost use Rattle.dstm_core.specs.declared.event.Kind.TheVariants.{
-  LookObj,
-  LookOwner,
-  LookStatus,
-  LookRank,
-  LookOld,
-  LookHigh,
-  LookNew,
-};
+ghost use Rattle.dstm_core.specs.declared.event.Kind.TheVariants.{LookObj, LookOwner, LookStatus, LookRank, LookOld, LookHigh, LookNew};
 ghost use Rattle.dstm_core.specs.Local.{Allows, next_caller};
 
 use super::Local;

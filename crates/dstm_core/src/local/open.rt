@@ -1,17 +1,4 @@
-ghost use Rattle.std.specs.Prelude.{
-  ◌≡◌,
-  ◌↔◌,
-  ◌+◌,
-  ◌<◌,
-  ◌^◌,
-  IsTrue,
-  IfOk,
-  OnOk,
-  OnErr,
-  true,
-  false,
-  is_some,
-};
+ghost use Rattle.std.specs.Prelude.{◌≡◌, ◌↔◌, ◌+◌, ◌<◌, ◌^◌, IsTrue, IfOk, OnOk, OnErr, true, false, is_some};
 ghost use Rattle.dstm_core.specs.declared.state.Phase.TheVariants.{Running};
 ghost use Rattle.dstm_core.specs.declared.event.Kind.TheVariants.{PutOwner, PutOld, Install};
 ghost use Rattle.dstm_core.specs.State.{res, own_attempt, is_resolved, with_locator};
