@@ -1,49 +1,36 @@
 -- Commits: what stands before the Commit.
-use Rattle.std.proofs.Common.{◌≡◌, ◌⊎◌, ℕ, ◌==◌, ◌||◌, ◌∙◌, Bool, true, false, List, [], ◌∷◌, Some, None, refl, ap, sym, subst, inl, inr}
-use Rattle.std.specs.Prelude.{Option}
-use Rattle.std.proofs.lemmas.Bool.{cond_both}
+use Rattle.std.proofs.Common.{◌≡◌, ◌⊎◌, ℕ, ◌∙◌, Bool, true, List, [], ◌∷◌, Some, None, refl, ap, sym, subst, inl, inr}
 use Rattle.dstm_core.specs.Events.{Event}
+use Rattle.dstm_core.specs.Kinds.{is_one_of}
 use Rattle.dstm_core.specs.declared.event.Kind.{Kind}
 use Rattle.dstm_core.specs.declared.event.Kind.TheVariants.{Rank, LookNumber, Check, LookSelf, PutHigh, PutNew, Validating as ToValidating, Draw, Commit, Quit}
 use Rattle.dstm_core.specs.declared.shape.Manager.{Manager}
 use Rattle.dstm_core.specs.declared.shape.Shape.{Shape}
 use Rattle.dstm_core.specs.declared.state.Phase.{Phase}
 use Rattle.dstm_core.specs.declared.state.Phase.TheVariants.{Drawn}
-use Rattle.dstm_core.specs.Rules.{after, is_outside}
+use Rattle.dstm_core.specs.Rules.{after}
 use Rattle.dstm_core.specs.State.{LocalState}
 use Rattle.dstm_model.specs.declared.value.Val.{Val}
 use Rattle.rand_pcg.specs.Lcg.{Lcg}
 use Rattle.dstm_order.specs.Calls.{Obeys, state_after, effort_of, newest_of, due_after}
-use Rattle.dstm_order.specs.Efforts.{Effort, most_missed}
-use Rattle.dstm_order.specs.Order.{Due, IsDue, due, next, next_or_first, in_putting, in_pass, in_checks}
-use Rattle.dstm_order.specs.Order.Due.{Step, Done}
+use Rattle.dstm_order.specs.Efforts.{Effort}
+use Rattle.dstm_order.specs.Order.{Due, next, in_putting, in_pass, in_checks}
+use Rattle.dstm_order.specs.Order.Due.{Step}
 use Rattle.dstm_order.specs.Passes.{EveryCommitIsValidated}
 use Rattle.dstm_order.specs.Tasks.Task.{Doing}
 use Rattle.dstm_order.specs.Tasks.Work.{Committing}
-use Rattle.dstm_order.proofs.Rows.{is_test, pass_by, checking_by, checks_by, putting_by, put_by, passed_by}
+use Rattle.dstm_order.proofs.Rows.{doing_by, is_due_of, is_test, kind_of_due, pass_by, checking_by, checks_by, putting_by, put_by, passed_by}
 use Rattle.dstm_order.proofs.Validations.{Chain, GoesOn, goes_on, due_kind, NoTest, no_test, row_tests, first_no, test_goes, chain_none, chain_more, chain_ends, commit_is}
 
 -- ---- the events of a commit
 
 -- the kinds of event that a commit may make
 abbrev in_commit : Kind → Bool
-in_commit PutHigh = true
-in_commit PutNew = true
-in_commit ToValidating = true
-in_commit Draw = true
-in_commit Check = true
-in_commit LookSelf = true
-in_commit Rank = true
-in_commit Commit = true
-in_commit Quit = true
-in_commit k = false
-
-abbrev commits : Due → Bool
-commits (Step k n) = in_commit k
-commits Done = true
+in_commit =
+    is_one_of (PutHigh ∷ PutNew ∷ ToValidating ∷ Draw ∷ Check ∷ LookSelf ∷ Rank ∷ Commit ∷ Quit ∷ [])
 
 abbrev InCommit : Due → Type 0
-InCommit d = commits d ≡ true
+InCommit d = is_due_of in_commit d ≡ true
 
 module _ (v : ℕ → Val) where
   first_commits : (l : LocalState) → InCommit (in_putting v l)
@@ -62,24 +49,13 @@ module _ (v : ℕ → Val) where
   next_commits Quit e m l c i = refl
   next_commits k e m l c i = absurd (cc)
 
-  due_commits : (s : Shape) (newest : Option Event) (l : LocalState) (c : Effort) →
-      InCommit (next_or_first newest (Committing v) s.manager l c) →
-      InCommit (due (Doing (Committing v)) s newest l c)
-  due_commits s newest l c h =
-      cond_both (is_outside l.phase) _ _ InCommit (λ _. refl) (λ _.
-      cond_both (l.stale || c.missed == most_missed) _ _ InCommit (λ _. refl) (λ _. h))
-
-  is_kind : (d : Due) (e : Event) → IsDue d e → InCommit d → in_commit e.kind ≡ true
-  is_kind (Step k n) e is h = rw (is.0) h
-  is_kind Done e is h = absurd is
-
   kinds : (s : Shape) (l : LocalState) (g : Lcg) (es : List Event) → Obeys (Doing (Committing v)) s l g es →
       InCommit (due_after (Doing (Committing v)) s l g es)
-  kinds s l g [] obeys = due_commits s None l (effort_of s l g []) (first_commits l)
+  kinds s l g [] obeys = doing_by InCommit (Committing v) s None l (effort_of s l g []) refl refl (first_commits l)
   kinds s l g (e ∷ es) obeys =
-      due_commits s (Some e) (state_after s l (e ∷ es)) (effort_of s l g (e ∷ es))
+      doing_by InCommit (Committing v) s (Some e) (state_after s l (e ∷ es)) (effort_of s l g (e ∷ es)) refl refl
       (next_commits e.kind e s.manager (state_after s l (e ∷ es)) (effort_of s l g (e ∷ es))
-      (is_kind (due_after (Doing (Committing v)) s l g es) e obeys.1 (kinds s l g es obeys.0)))
+      (kind_of_due in_commit (due_after (Doing (Committing v)) s l g es) e obeys.1 (kinds s l g es obeys.0)))
 
   -- ---- the last validation
 
@@ -140,7 +116,7 @@ module _ (v : ℕ → Val) where
       go : Before → (e.kind ≡ LookNumber) ⊎ (e.kind ≡ Check) ⊎ (e.kind ≡ Draw)
           ⊎ NoTest (next e.kind e (Committing v) s.manager new (effort_of s l g (e ∷ es))) → DrawChain s l g (e ∷ es)
       go back (inl q) =
-          let kind = is_kind (due_after (Doing (Committing v)) s l g es) e obeys.1 (kinds s l g es obeys.0) in
+          let kind = kind_of_due in_commit (due_after (Doing (Committing v)) s l g es) e obeys.1 (kinds s l g es obeys.0) in
           let x = ap in_commit q in absurd (cc)
       go back (inr (inl q)) =
           let is : new ≡ after Check s old e = ap (λ k. after k s old e) q in

@@ -1,8 +1,9 @@
 -- Opens: how a call that opens an object ends.
-use Rattle.std.proofs.Common.{◌≡◌, ◌⊎◌, ℕ, ◌+◌, ◌==◌, ◌||◌, ◌∙◌, Bool, true, false, List, [], ◌∷◌, Some, None, refl, ap, sym, subst, inl, inr, min}
+use Rattle.std.proofs.Common.{◌≡◌, ◌⊎◌, ℕ, ◌+◌, ◌==◌, ◌||◌, ◌∙◌, Bool, true, false, not, List, [], ◌∷◌, Some, None, refl, ap, sym, subst, inl, inr, min}
 use Rattle.std.specs.Prelude.{Option, if◌then◌else◌}
 use Rattle.std.proofs.lemmas.Bool.{cond_both}
 use Rattle.dstm_core.specs.Events.{Event}
+use Rattle.dstm_core.specs.Kinds.{is_one_of}
 use Rattle.dstm_core.specs.declared.event.Kind.{Kind}
 use Rattle.dstm_core.specs.declared.event.Kind.TheVariants.{Enrol, Stamp, Rank, Begin, PutOwner, PutOld, Install, LookNumber, Check, LookSelf, Release, PutHigh, PutNew, Validating as ToValidating, Draw, Commit, Quit, Pause, Resume}
 use Rattle.dstm_core.specs.declared.shape.Manager.{Manager}
@@ -21,30 +22,18 @@ use Rattle.dstm_order.specs.Passes.{is_open, EndsInPass, EndsInRank, EveryOpenEn
 use Rattle.dstm_order.specs.Tasks.{Work}
 use Rattle.dstm_order.specs.Tasks.Task.{Doing}
 use Rattle.dstm_order.specs.Tasks.Work.{Reading, Writing}
-use Rattle.dstm_order.proofs.Rows.{resolves, resolves_by, resolving_by, giving_way_by, pass_by, passed_by}
+use Rattle.dstm_order.proofs.Rows.{doing_by, is_due_of, kind_of_due, resolves, resolves_by, resolving_by, giving_way_by, pass_by, passed_by}
 use Rattle.dstm_order.proofs.Validations.{GoesOn, goes_on, due_kind, every_pass}
 
 -- ---- the events of an open
 
 -- the kinds of event that an open may make: those that resolve, install and pass, a Quit, and a Rank
 abbrev in_open : Kind → Bool
-in_open Enrol = false
-in_open Stamp = false
-in_open Begin = false
-in_open Release = false
-in_open PutHigh = false
-in_open PutNew = false
-in_open ToValidating = false
-in_open Draw = false
-in_open Commit = false
-in_open k = true
-
-abbrev opens : Due → Bool
-opens (Step k n) = in_open k
-opens Done = true
+in_open k =
+    not (is_one_of (Enrol ∷ Stamp ∷ Begin ∷ Release ∷ PutHigh ∷ PutNew ∷ ToValidating ∷ Draw ∷ Commit ∷ []) k)
 
 abbrev IsOpen : Due → Type 0
-IsOpen d = opens d ≡ true
+IsOpen d = is_due_of in_open d ≡ true
 
 -- the phases of an attempt in an open
 abbrev open_phase : Phase → Bool
@@ -156,29 +145,19 @@ record Opened (w : Work) (s : Shape) (l : LocalState) (g : Lcg) (es : List Event
   pub phase : open_phase (state_after s l es).phase ≡ true
   pub due : IsOpen (due_after (Doing w) s l g es)
 
-due_opens : (w : Work) (s : Shape) (newest : Option Event) (l : LocalState) (c : Effort) →
-    IsOpen (next_or_first newest w s.manager l c) → IsOpen (due (Doing w) s newest l c)
-due_opens w s newest l c h =
-    cond_both (is_outside l.phase) _ _ IsOpen (λ _. refl) (λ _.
-    cond_both (l.stale || c.missed == most_missed) _ _ IsOpen (λ _. refl) (λ _. h))
-
-is_kind : (d : Due) (e : Event) → IsDue d e → IsOpen d → in_open e.kind ≡ true
-is_kind (Step k n) e is h = rw (is.0) h
-is_kind Done e is h = absurd is
-
 opened : (w : Work) (s : Shape) (l : LocalState) (g : Lcg) (es : List Event) → is_open w ≡ true → l.phase ≡ Running →
     Obeys (Doing w) s l g es → Opened w s l g es
 opened w s l g [] h p obeys = record {
   phase = rw p refl;
-  due = due_opens w s None l (effort_of s l g []) (early_opens (at_first w l) (first_early w l h));
+  due = doing_by IsOpen w s None l (effort_of s l g []) refl refl (early_opens (at_first w l) (first_early w l h));
 }
 opened w s l g (e ∷ es) h p obeys =
     let before = opened w s l g es h p obeys.0 in
-    let kind = is_kind (due_after (Doing w) s l g es) e obeys.1 before.due in
+    let kind = kind_of_due in_open (due_after (Doing w) s l g es) e obeys.1 before.due in
     let phase = phase_opens e.kind s (state_after s l es) e kind before.phase in
     record {
       phase = phase;
-      due = due_opens w s (Some e) (state_after s l (e ∷ es)) (effort_of s l g (e ∷ es))
+      due = doing_by IsOpen w s (Some e) (state_after s l (e ∷ es)) (effort_of s l g (e ∷ es)) refl refl
           (next_opens e.kind e w s.manager (state_after s l (e ∷ es)) (effort_of s l g (e ∷ es)) h kind phase);
     }
 
@@ -242,7 +221,7 @@ ends_by_rank w s l g e [] h p obeys q =
     let early = first_early w l h in let x = ap is_early on.table in absurd (cc)
 ends_by_rank w s l g e (f ∷ fs) h p obeys q =
     go (next_early f.kind f w s.manager old (effort_of s l g (f ∷ fs)) h
-    (is_kind (due_after (Doing w) s l g fs) f obeys.0.1 (opened w s l g fs h p obeys.0.0).due)
+    (kind_of_due in_open (due_after (Doing w) s l g fs) f obeys.0.1 (opened w s l g fs h p obeys.0.0).due)
     (opened w s l g (f ∷ fs) h p obeys.0).phase)
   where
     old : LocalState
@@ -298,7 +277,7 @@ every_open w s l g [] h p call live =
     let early = first_early w l h in let x = ap is_early row in absurd (cc)
 every_open w s l g (e ∷ es) h p call live =
     go (next_early e.kind e w s.manager new (effort_of s l g (e ∷ es)) h
-    (is_kind (due_after (Doing w) s l g es) e call.obeys.1 (opened w s l g es h p call.obeys.0).due)
+    (kind_of_due in_open (due_after (Doing w) s l g es) e call.obeys.1 (opened w s l g es h p call.obeys.0).due)
     (opened w s l g (e ∷ es) h p call.obeys).phase)
   where
     new : LocalState

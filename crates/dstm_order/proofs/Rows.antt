@@ -1,21 +1,25 @@
 -- A fact of what is due, from the same fact of each event that a row of the table of steps names.
-use Rattle.std.proofs.Common.{◌&&◌, ◌==◌, ◌||◌, ◌≡◌, Bool, Option, Some, None, false, is_none, length, nat_lt, not, refl, true, ℕ}
+use Rattle.std.proofs.Common.{◌&&◌, ◌==◌, ◌||◌, ◌≡◌, ◌∷◌, [], Bool, Option, Some, None, is_none, length, nat_lt, not, refl, true, ℕ}
 use Rattle.std.proofs.lemmas.Bool.{cond_both}
 use Rattle.dstm_core.specs.State.{LocalState, is_live, is_resolved, next_write, res, version}
 use Rattle.dstm_core.proofs.Untouched.{is_look}
 use Rattle.dstm_core.specs.Events.{Event}
+use Rattle.dstm_core.specs.Kinds.{is_one_of}
 use Rattle.dstm_core.specs.declared.event.Kind.{Kind}
 use Rattle.dstm_core.specs.declared.event.Kind.TheVariants.{Begin, Check, Commit, Draw, Enrol, Install, Kill, LookHigh, LookNew, LookNumber, LookObj, LookOld, LookOwner, LookRank, LookSelf, LookStatus, Pause, PutHigh, PutNew, PutOld, PutOwner, Quit, Rank, Release, Resume, Stamp, Validating as ToValidating}
 use Rattle.dstm_core.specs.declared.shape.Manager.{Manager}
+use Rattle.dstm_core.specs.declared.shape.Shape.{Shape}
+use Rattle.dstm_core.specs.Rules.{is_outside}
 use Rattle.dstm_core.specs.declared.state.Phase.{Phase}
 use Rattle.dstm_core.specs.declared.state.Phase.TheVariants.{Drawn, Paused}
 use Rattle.dstm_managers.specs.declared.decider.Choice.{Choice}
 use Rattle.dstm_managers.specs.declared.decider.Choice.TheVariants as decision
 use Rattle.dstm_model.specs.declared.value.Val.{Val}
-use Rattle.dstm_order.specs.Efforts.{Effort, chosen}
-use Rattle.dstm_order.specs.Order.{Due, at_first, enemy_code, has_ranks, in_checking, in_checks, in_conflict, in_giving_way, in_pass, in_putting, in_resolving, is_paused, is_same, just, next, next_or_first, on_choice, rises, when_passed, when_put, when_resolved}
+use Rattle.dstm_order.specs.Efforts.{Effort, chosen, most_missed}
+use Rattle.dstm_order.specs.Order.{Due, IsDue, at_first, due, enemy_code, has_ranks, in_checking, in_checks, in_conflict, in_giving_way, in_pass, in_putting, in_resolving, is_paused, is_same, just, next, next_or_first, on_choice, rises, when_passed, when_put, when_resolved}
 use Rattle.dstm_order.specs.Order.Due.{Done, Step}
 use Rattle.dstm_order.specs.Tasks.{Work}
+use Rattle.dstm_order.specs.Tasks.Task.{Doing}
 use Rattle.dstm_order.specs.Tasks.Work.{Reading, Writing, Releasing, Rechecking, Committing}
 
 -- the fact of each event by which an object is resolved
@@ -31,9 +35,8 @@ pub record Resolves (P : Due → Type 0) : Type 0 where
 
 -- the kinds of these events
 abbrev pub resolves : Kind → Bool
-resolves LookObj = false
-resolves Pause = true
-resolves k = is_look k
+resolves =
+    is_one_of (LookOwner ∷ LookStatus ∷ LookRank ∷ LookOld ∷ LookHigh ∷ LookNew ∷ Kill ∷ Pause ∷ [])
 
 -- where it is a fact of each event of such a kind
 pub resolves_by : (P : Due → Type 0) → ((k : Kind) → resolves k ≡ true → P (just k)) → Resolves P
@@ -116,33 +119,39 @@ passed_by P (Committing v) m l done rank = cond_both (rises m) _ _ P (λ _. rank
 
 -- ---- the whole table
 
+-- what is due in a call on a live attempt is nothing, a Quit, or what a row names
+pub doing_by : (P : Due → Type 0) (w : Work) (s : Shape) (o : Option Event) (l : LocalState) (f : Effort) → P Done →
+    P (just Quit) → P (next_or_first o w s.manager l f) → P (due (Doing w) s o l f)
+doing_by P w s o l f done quit row =
+    cond_both (is_outside l.phase) _ _ P (λ _. done) (λ _.
+    cond_both (l.stale || f.missed == most_missed) _ _ P (λ _. quit) (λ _. row))
+
+-- what is due, if anything, is of such a kind
+abbrev pub is_due_of : (Kind → Bool) → Due → Bool
+is_due_of is (Step k n) = is k
+is_due_of is Done = true
+
+pub kind_of_due : (is : Kind → Bool) (d : Due) (e : Event) → IsDue d e → is_due_of is d ≡ true → is e.kind ≡ true
+kind_of_due is (Step k n) e i h = rw (i.0) h
+kind_of_due is Done e i h = absurd i
+
 -- a check, or the end of some checks
 abbrev pub is_test : Kind → Bool
-is_test Check = true
-is_test LookSelf = true
-is_test Commit = true
-is_test k = false
+is_test = is_one_of (Check ∷ LookSelf ∷ Commit ∷ [])
 
 -- after these such an event is due
 abbrev pub is_tested : Kind → Bool
-is_tested LookNumber = true
-is_tested Check = true
-is_tested Draw = true
-is_tested k = false
+is_tested = is_one_of (LookNumber ∷ Check ∷ Draw ∷ [])
 
 -- after these events an object is being resolved
 abbrev pub is_resolving : Kind → Bool
-is_resolving Pause = true
-is_resolving Resume = true
-is_resolving k = is_look k
+is_resolving k = is_one_of (Pause ∷ Resume ∷ []) k || is_look k
 
--- any other event, but for a Release, and those that begin or drop an attempt
+-- any other event, but for a Release, and those that begin or drop an attempt; and a LookObj
 abbrev pub is_step : Kind → Bool
-is_step LookObj = true
-is_step Release = false
-is_step Begin = false
-is_step Quit = false
-is_step k = not (is_test k || is_resolving k)
+is_step =
+    is_one_of (Enrol ∷ Stamp ∷ Rank ∷ LookObj ∷ PutOwner ∷ PutOld ∷ Install ∷ LookNumber ∷ PutHigh ∷ PutNew
+    ∷ ToValidating ∷ Draw ∷ [])
 
 -- a fact of nothing due, of each step, and of the Release where one is asked for
 pub record EachStep (P : Due → Type 0) (w : Work) : Type 0 where

@@ -4,7 +4,7 @@ use Rattle.rand_pcg.specs.Lcg.{Lcg}
 use Rattle.dstm_core.specs.Events.{Event}
 use Rattle.dstm_core.specs.State.{LocalState, first}
 use Rattle.dstm_core.specs.declared.shape.Shape.{Shape}
-use Rattle.dstm_order.specs.Made.{AreMade, ByCalls, Call, events_in, generator_by, state_by}
+use Rattle.dstm_order.specs.Made.{AreMade, ByCalls, Call, state_by}
 use Rattle.dstm_order.specs.Tasks.{Task}
 
 module _ (May Will : LocalState → Task → Type 0) (implies : (l : LocalState) (t : Task) → May l t → Will l t) where

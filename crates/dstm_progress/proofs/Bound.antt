@@ -14,6 +14,7 @@ use Rattle.dstm_order.specs.Calls.{IsCall, Obeys, due_after, effort_of, newest_o
 use Rattle.dstm_order.specs.Efforts.{Effort, effort_after, no_effort}
 use Rattle.dstm_order.specs.Order.{Due, IsDue, at_first, due, in_resolving, next_or_first, when_passed, when_resolved}
 use Rattle.dstm_order.specs.Order.Due.{Done}
+use Rattle.dstm_order.specs.Passes.{is_open}
 use Rattle.dstm_order.specs.Tasks.{Work}
 use Rattle.dstm_order.specs.Tasks.Task.{Doing}
 use Rattle.dstm_order.specs.Tasks.Work.{Reading, Writing, Releasing, Rechecking, Committing}
@@ -21,7 +22,7 @@ use Rattle.rand_pcg.specs.Lcg.{Lcg}
 use Rattle.dstm_progress.specs.Alone.{AloneBound, AloneEnds, AreCalls, AreOf, IsUnmet, Made, all_events, generator_after, price, prices}
 use Rattle.dstm_progress.proofs.Alone.{Undisturbed, install_succeeds, kill_succeeds}
 use Rattle.dstm_progress.proofs.Calls.{GoesOn, IsFresh, append_assoc_events, are_of_split, begins_awake, begins_undisturbed, calls_go, due_next, fresh_begin, goes_on_step, local_after, missed_after, no_pause_due, no_quit_due, nothing_due, own_status_found, unmet_more}
-use Rattle.dstm_progress.proofs.Room.{Blank, Stage, Still, base, closes, drawing, ended, installing, numbering, opening, opens, owning, passed, passing, puts_left, putting, releasing, resolving, tail, validating}
+use Rattle.dstm_progress.proofs.Room.{Blank, Stage, Still, base, closes, drawing, ended, installing, numbering, opening, owning, passed, passing, puts_left, putting, releasing, resolving, tail, validating}
 use Rattle.dstm_order.proofs.Rows.{checking_by, pass_by, putting_by, resolves_by, resolving_by}
 use Rattle.dstm_order.proofs.EnemyRanks.{found_is_rank}
 use Rattle.dstm_progress.proofs.Stages.{Facts, stage_step}
@@ -50,14 +51,14 @@ first_stage s (Committing v) l f r = putting refl v refl refl (λ q. (r.blank q)
 abbrev pub IsStep : Due → Type 0
 IsStep d = d ≢ Done
 
-resolved_due : (w : Work) → opens w ≡ true → IsStep (when_resolved w)
+resolved_due : (w : Work) → is_open w ≡ true → IsStep (when_resolved w)
 resolved_due (Reading o) h q = cc
 resolved_due (Writing o) h q = cc
 resolved_due (Releasing o) h q = cc
 resolved_due Rechecking h q = cc
 resolved_due (Committing v) h q = cc
 
-resolving_due : (m : Manager) (w : Work) (l : LocalState) (f : Effort) → opens w ≡ true → l.phase ≡ Running →
+resolving_due : (m : Manager) (w : Work) (l : LocalState) (f : Effort) → is_open w ≡ true → l.phase ≡ Running →
     IsStep (in_resolving m l f (when_resolved w))
 resolving_due m w l f op ph =
     resolving_by IsStep m l f (when_resolved w) (resolves_by IsStep (λ k _ q. cc)) (λ q. absurd (cc)) (resolved_due w op)
@@ -93,7 +94,7 @@ passed_some (Releasing o) m l e i = omega arith
 passed_some (Committing v) m l e i = omega arith
 passed_some Rechecking m l e i = absurd i
 
-opens_base : (w : Work) → opens w ≡ true → 1 ≤ base w
+opens_base : (w : Work) → is_open w ≡ true → 1 ≤ base w
 opens_base (Reading o) h = omega arith
 opens_base (Writing o) h = omega arith
 opens_base (Releasing o) h = absurd (cc)

@@ -1,5 +1,5 @@
 -- How an attempt is left: by an event at its own status, which it finds or makes finished.
-use Rattle.std.proofs.Common.{◌==◌, ◌∙◌, ◌≡◌, ◌≢◌, ◌⊎◌, [], ap, false, inl, inr, length, refl, true, ℕ}
+use Rattle.std.proofs.Common.{◌==◌, ◌∙◌, ◌≡◌, ◌≢◌, ◌⊎◌, [], ap, cond, false, inl, inr, length, refl, subst, true, ℕ}
 use Rattle.std.proofs.lemmas.Bool.{cases_Bool, cond_both, eq-eqb}
 use Rattle.dstm_core.specs.Events.{Event}
 use Rattle.dstm_core.specs.Rules.{AllowedAs, after}
@@ -34,6 +34,21 @@ by_another : (s : Shape) (l : LocalState) (e : Event) (k : Kind) → e.place ≡
     (after k s l e).committed ≡ false → e.put ≡ 5 → Left s l e k
 by_another s l e k at own same five n put = record { at = at; same = same; how = by_other own five n put }
 
+-- an exchange by which an attempt is left, though not by the status that it puts
+by_exchange : (s : Shape) (l : LocalState) (e : Event) (k : Kind) (expected value : ℕ) →
+    e.place ≡ place s (StatusWord (own_attempt s l)) → is_at_own k ≡ true → given l.phase ≡ expected →
+    ((e.found == expected) ≡ true → ⊥) → (e.found ≡ given l.phase) ⊎ (e.found ≡ 5) →
+    ((e.found == expected) ≡ false → own_attempt s (after k s l e) ≡ own_attempt s l) →
+    ((e.found == expected) ≡ false → (after k s l e).committed ≡ false) →
+    e.put ≡ cond (e.found == expected) value e.found → Left s l e k
+by_exchange s l e k expected value at own same other found keeps none put = go (cases_Bool (e.found == expected))
+  where
+    go : ((e.found == expected) ≡ true) ⊎ ((e.found == expected) ≡ false) → Left s l e k
+    go (inl q) = absurd (other q)
+    go (inr q) =
+        let five = aborted e expected q (subst (λ g. (e.found ≡ g) ⊎ (e.found ≡ 5)) same found) in
+        by_another s l e k at own (keeps q) five (none q) (put ∙ rw q five)
+
 pub left_how : (s : Shape) (l : LocalState) (e : Event) (k : Kind) → AllowedAs k s l e → l.phase ≢ Outside →
     l.committed ≡ false → (after k s l e).phase ≡ Outside →
     (e.place ≡ place s (StatusWord (own_attempt s l)) → (e.found ≡ given l.phase) ⊎ (e.found ≡ 5)) → Left s l e k
@@ -50,17 +65,14 @@ left_how s l e LookSelf a i n o f = go (cases_Bool (e.found == given l.phase))
     go (inl q) = absurd (i (rw q at o))
     go (inr q) = let five = aborted e (given l.phase) q (f a.0) in
         by_another s l e LookSelf a.0 refl (rw q refl) five (rw q n) (a.1.1 ∙ five)
-left_how s l e ToValidating a i n o f = go (cases_Bool (e.found == 1))
+left_how s l e ToValidating a i n o f =
+    by_exchange s l e ToValidating 1 3 a.0 refl (was a.2.0) (λ q. let x : Validating ≡ Outside = rw q at o in cc) (f a.0)
+    (λ q. rw q refl) (λ q. rw q n) a.1.1
   where
     was : ((l.phase ≡ Running) × (l.writes ≡ [])) ⊎ ((l.phase ≡ Putting) × (l.written ≡ length l.writes)) →
         given l.phase ≡ 1
     was (inl x) = ap given x.0
     was (inr x) = ap given x.0
-
-    go : (e.found == 1 ≡ true) ⊎ (e.found == 1 ≡ false) → Left s l e ToValidating
-    go (inl q) = absurd (let x : Validating ≡ Outside = rw q at o in cc)
-    go (inr q) = let five = aborted e 1 q (rw (was a.2.0) at f a.0) in
-        by_another s l e ToValidating a.0 refl (rw q refl) five (rw q n) (a.1.1 ∙ rw q five)
 left_how s l e Commit a i n o f = go (cases_Bool (e.found == 3))
   where
     go : (e.found == 3 ≡ true) ⊎ (e.found == 3 ≡ false) → Left s l e Commit
@@ -73,16 +85,10 @@ left_how s l e Quit a i n o f = go (cases_Bool (e.found == given l.phase))
     go (inl q) = record { at = a.0; same = refl; how = by_quit refl n (a.1.1 ∙ rw q refl) }
     go (inr q) = let five = aborted e (given l.phase) q (f a.0) in
         record { at = a.0; same = refl; how = by_quit refl n (a.1.1 ∙ rw q five) }
-left_how s l e Pause a i n o f = go (cases_Bool (e.found == 1))
-  where
-    go : (e.found == 1 ≡ true) ⊎ (e.found == 1 ≡ false) → Left s l e Pause
-    go (inl q) = absurd (let x : Paused ≡ Outside = rw q at o in cc)
-    go (inr q) = let five = aborted e 1 q (rw (ap given a.2.0) at f a.0) in
-        by_another s l e Pause a.0 refl (rw q refl) five (rw q n) (a.1.1 ∙ rw q five)
-left_how s l e Resume a i n o f = go (cases_Bool (e.found == 2))
-  where
-    go : (e.found == 2 ≡ true) ⊎ (e.found == 2 ≡ false) → Left s l e Resume
-    go (inl q) = absurd (let x : Running ≡ Outside = rw q at o in cc)
-    go (inr q) = let five = aborted e 2 q (rw (ap given a.2.0) at f a.0) in
-        by_another s l e Resume a.0 refl (rw q refl) five (rw q n) (a.1.1 ∙ rw q five)
+left_how s l e Pause a i n o f =
+    by_exchange s l e Pause 1 2 a.0 refl (ap given a.2.0) (λ q. let x : Paused ≡ Outside = rw q at o in cc) (f a.0)
+    (λ q. rw q refl) (λ q. rw q n) a.1.1
+left_how s l e Resume a i n o f =
+    by_exchange s l e Resume 2 1 a.0 refl (ap given a.2.0) (λ q. let x : Running ≡ Outside = rw q at o in cc) (f a.0)
+    (λ q. rw q refl) (λ q. rw q n) a.1.1
 left_how s l e k a i n o f = absurd (i o)

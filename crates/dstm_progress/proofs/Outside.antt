@@ -1,6 +1,7 @@
 -- What may come while a caller has no attempt under way: what begins one.
-use Rattle.std.proofs.Common.{◌≡◌, ◌≢◌, ⊎_elim, Bool, [], ap, false, is_some, length, refl, true}
+use Rattle.std.proofs.Common.{◌≡◌, ◌≢◌, ◌∷◌, ⊎_elim, Bool, [], ap, is_some, length, refl, true}
 use Rattle.dstm_core.specs.Events.{Event}
+use Rattle.dstm_core.specs.Kinds.{is_one_of}
 use Rattle.dstm_core.specs.Rules.{AllowedAs, after}
 use Rattle.dstm_core.specs.State.{LocalState, own_attempt}
 use Rattle.dstm_core.specs.declared.event.Kind.{Kind}
@@ -10,11 +11,7 @@ use Rattle.dstm_core.specs.declared.state.Phase.TheVariants.{Drawn, Outside, Pau
 
 -- kinds of event that come before a Begin, and Begin
 abbrev pub is_early : Kind → Bool
-is_early Enrol = true
-is_early Stamp = true
-is_early Rank = true
-is_early Begin = true
-is_early k = false
+is_early = is_one_of (Enrol ∷ Stamp ∷ Rank ∷ Begin ∷ [])
 
 -- no other may come
 pub early : (s : Shape) (l : LocalState) (e : Event) (k : Kind) → AllowedAs k s l e → l.phase ≡ Outside →

@@ -23,8 +23,9 @@ use Rattle.dstm_managers.proofs.MeetingLemmas.{mark, mark-last, mark-next, round
 use Rattle.dstm_order.specs.Efforts.{Effort, chosen, decider_of, effort_after, status_of, turn, turn_of_conflict, turns_of, when_asked}
 use Rattle.dstm_order.specs.Order.{Due, has_ranks, in_checking, in_pass, in_putting, in_resolving, just, next, when_passed, when_resolved}
 use Rattle.dstm_order.specs.Order.Due.{Done, Step}
+use Rattle.dstm_order.specs.Passes.{is_open}
 use Rattle.dstm_order.specs.Tasks.{Work}
-use Rattle.dstm_order.specs.Tasks.Work.{Reading, Writing, Releasing, Rechecking, Committing}
+use Rattle.dstm_order.specs.Tasks.Work.{Reading, Writing, Rechecking, Committing}
 
 -- ---- the turns that are left of a conflict
 
@@ -202,31 +203,16 @@ looking_done m r t h = rw h refl
 abbrev pub base : Work → ℕ
 base (Reading object) = 4
 base (Writing object) = 8
-base (Releasing object) = 0
-base Rechecking = 0
-base (Committing value) = 0
-
-abbrev pub opens : Work → Bool
-opens (Reading object) = true
-opens (Writing object) = true
-opens (Releasing object) = false
-opens Rechecking = false
-opens (Committing value) = false
+base work = 0
 
 abbrev pub closes : Work → Bool
-closes (Reading object) = false
-closes (Writing object) = false
-closes (Releasing object) = false
-closes Rechecking = false
 closes (Committing value) = true
+closes work = false
 
 -- what comes after a pass
 abbrev pub tail : Work → ℕ
-tail (Reading object) = 1
-tail (Writing object) = 1
-tail (Releasing object) = 1
 tail Rechecking = 0
-tail (Committing value) = 1
+tail work = 1
 
 abbrev pub one_if : Bool → ℕ
 one_if true = 1
@@ -255,12 +241,12 @@ Blank l = l.last_pass ≡ None → (l.reads ≡ []) × (l.resolution ≡ None)
 
 -- where a call stands, by what is due, and that n steps are enough
 pub data Stage (s : Shape) (w : Work) (l : LocalState) (f : Effort) (d : Due) (n : ℕ) : Type 0 where
-  opening : opens w ≡ true → (o : ℕ) → d ≡ Step LookObj o → Still l → Unread l →
+  opening : is_open w ≡ true → (o : ℕ) → d ≡ Step LookObj o → Still l → Unread l →
       base w + 8 + most_turns s.manager ≤ n → Stage s w l f d n
-  resolving : opens w ≡ true → d ≡ in_resolving s.manager l f (when_resolved w) → Still l → Unread l →
+  resolving : is_open w ≡ true → d ≡ in_resolving s.manager l f (when_resolved w) → Still l → Unread l →
       base w + looking s.manager (res l) (left_of s.manager f) ≤ n → Stage s w l f d n
-  owning : opens w ≡ true → d ≡ just PutOld → Still l → Unread l → 7 ≤ n → Stage s w l f d n
-  installing : opens w ≡ true → d ≡ just Install → Still l → Unread l → 6 ≤ n → Stage s w l f d n
+  owning : is_open w ≡ true → d ≡ just PutOld → Still l → Unread l → 7 ≤ n → Stage s w l f d n
+  installing : is_open w ≡ true → d ≡ just Install → Still l → Unread l → 6 ≤ n → Stage s w l f d n
   numbering : closes w ≡ false → d ≡ just LookNumber → Still l → Blank l → 2 + tail w ≤ n → Stage s w l f d n
   passing : closes w ≡ false → d ≡ in_pass l → Still l → is_some l.pass ≡ true → 1 + tail w + unchecked l ≤ n →
       Stage s w l f d n

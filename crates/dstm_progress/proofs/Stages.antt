@@ -20,10 +20,11 @@ use Rattle.dstm_managers.specs.declared.decider.Choice.TheVariants.{Kill as ToKi
 use Rattle.dstm_order.specs.Efforts.{Effort, chosen, effort_after, turn_of_conflict}
 use Rattle.dstm_order.specs.Order.{Due, IsDue, has_ranks, in_checking, in_checks, in_conflict, in_pass, in_putting, in_resolving, is_same, just, on_choice, rises, when_passed, when_put, when_resolved}
 use Rattle.dstm_order.specs.Order.Due.{Done, Step}
+use Rattle.dstm_order.specs.Passes.{is_open}
 use Rattle.dstm_order.specs.Tasks.{Work}
 use Rattle.dstm_order.specs.Tasks.Work.{Reading, Writing, Releasing, Rechecking, Committing}
 use Rattle.dstm_progress.proofs.Calls.{not_paused}
-use Rattle.dstm_progress.proofs.Room.{Blank, NextStage, Stage, Still, Unread, base, closes, conflict_falls, drawing, ended, installing, left_of, looking, looking_done, looking_finished, looking_high, looking_new, looking_owned, looking_ranked, looking_seen, looking_versioned, numbering, one_if, opening, opens, owning, passed, passing, puts_left, putting, releasing, resolving, tail, turns_whole, unchecked, validating}
+use Rattle.dstm_progress.proofs.Room.{Blank, NextStage, Stage, Still, Unread, base, closes, conflict_falls, drawing, ended, installing, left_of, looking, looking_done, looking_finished, looking_high, looking_new, looking_owned, looking_ranked, looking_seen, looking_versioned, numbering, one_if, opening, owning, passed, passing, puts_left, putting, releasing, resolving, tail, turns_whole, unchecked, validating}
 use Rattle.dstm_core.proofs.Static.{length-snoc}
 use Rattle.dstm_core.proofs.Absent.{known_some}
 
@@ -96,7 +97,7 @@ unchecked_none l e s u = go l.last_pass refl
     go (Some n) q = rw q refl
 
 resolved_step : (s : Shape) (w : Work) (l : LocalState) (f : Effort) (n : ℕ) (e : Event) → Facts s l e →
-    opens w ≡ true → Still l → Unread l → base w ≤ n → IsDue (when_resolved w) e → NextStage s w e l f n e.kind
+    is_open w ≡ true → Still l → Unread l → base w ≤ n → IsDue (when_resolved w) e → NextStage s w e l f n e.kind
 resolved_step s (Reading o) l f n e fa op st un rm i =
     subst (NextStage s (Reading o) e l f n) (sym i.0) (record {
       room = 2 + unchecked (after LookNumber s l e);
@@ -115,7 +116,7 @@ resolved_step s (Committing v) l f n e fa op st un rm i = absurd i
 
 -- a turn of a conflict
 turn_step : (s : Shape) (w : Work) (l : LocalState) (f : Effort) (n : ℕ) (e : Event) → Facts s l e →
-    opens w ≡ true → Still l → Unread l → is_none (res l).owner ≡ false → is_none (res l).status ≡ false →
+    is_open w ≡ true → Still l → Unread l → is_none (res l).owner ≡ false → is_none (res l).status ≡ false →
     has_ranks s.manager && is_none (res l).rank ≡ false → base w + left_of s.manager f + 4 ≤ n →
     (0 < f.left) ⊎ ((f.left ≡ 0) × ((t : ℕ) × (chosen s.manager l f ≡ Wait t))) → e.kind ≡ LookStatus →
     NextStage s w e l f n e.kind
@@ -135,7 +136,7 @@ turn_step s w l f n e fa op st un ow ss rk rm t k =
     })
 
 conflict_step : (s : Shape) (w : Work) (l : LocalState) (f : Effort) (n : ℕ) (e : Event) → Facts s l e →
-    opens w ≡ true → Still l → Unread l → is_none (res l).owner ≡ false → is_none (res l).status ≡ false →
+    is_open w ≡ true → Still l → Unread l → is_none (res l).owner ≡ false → is_none (res l).status ≡ false →
     base w + (if has_ranks s.manager && is_none
     (res l).rank then left_of s.manager f + 5 else left_of s.manager f + 4) ≤ n →
     IsDue (in_conflict s.manager l f) e → NextStage s w e l f n e.kind
@@ -193,7 +194,7 @@ conflict_step s w l f n e fa op st un ow ss rm i =
         at_left q (omega arith) (cases_Bool (nat_lt 0 f.left)) j
 
 resolving_step : (s : Shape) (w : Work) (l : LocalState) (f : Effort) (n : ℕ) (e : Event) → Facts s l e →
-    opens w ≡ true → Still l → Unread l → base w + looking s.manager (res l) (left_of s.manager f) ≤ n →
+    is_open w ≡ true → Still l → Unread l → base w + looking s.manager (res l) (left_of s.manager f) ≤ n →
     IsDue (in_resolving s.manager l f (when_resolved w)) e → NextStage s w e l f n e.kind
 resolving_step s w l f n e fa op st un rm i = at_done (cases_Bool (is_resolved (res l)))
     (rw (not_paused l.phase (λ q. let x = st.phase in cc)) at i)
@@ -301,14 +302,14 @@ resolving_step s w l f n e fa op st un rm i = at_done (cases_Bool (is_resolved (
 
 -- ---- the other stages
 
-opens_closes : (w : Work) → opens w ≡ true → (closes w ≡ false) × (tail w ≡ 1)
+opens_closes : (w : Work) → is_open w ≡ true → (closes w ≡ false) × (tail w ≡ 1)
 opens_closes (Reading o) h = (refl, refl)
 opens_closes (Writing o) h = (refl, refl)
 opens_closes (Releasing o) h = absurd (cc)
 opens_closes Rechecking h = absurd (cc)
 opens_closes (Committing v) h = absurd (cc)
 
-opening_step : (s : Shape) (w : Work) (l : LocalState) (f : Effort) (n : ℕ) (e : Event) → opens w ≡ true →
+opening_step : (s : Shape) (w : Work) (l : LocalState) (f : Effort) (n : ℕ) (e : Event) → is_open w ≡ true →
     Still l → Unread l → base w + 8 + most_turns s.manager ≤ n → e.kind ≡ LookObj → NextStage s w e l f n e.kind
 opening_step s w l f n e op st un rm k =
     let whole = turns_whole s.manager in
@@ -321,7 +322,7 @@ opening_step s w l f n e op st un rm k =
           omega arith;
     })
 
-owning_step : (s : Shape) (w : Work) (l : LocalState) (f : Effort) (n : ℕ) (e : Event) → opens w ≡ true →
+owning_step : (s : Shape) (w : Work) (l : LocalState) (f : Effort) (n : ℕ) (e : Event) → is_open w ≡ true →
     Still l → Unread l → 7 ≤ n → e.kind ≡ PutOld → NextStage s w e l f n e.kind
 owning_step s w l f n e op st un rm k = subst (NextStage s w e l f n) (sym k) (record {
   room = 6;
@@ -329,7 +330,7 @@ owning_step s w l f n e op st un rm k = subst (NextStage s w e l f n) (sym k) (r
   falls = omega arith;
 })
 
-installing_step : (s : Shape) (w : Work) (l : LocalState) (f : Effort) (n : ℕ) (e : Event) → opens w ≡ true →
+installing_step : (s : Shape) (w : Work) (l : LocalState) (f : Effort) (n : ℕ) (e : Event) → is_open w ≡ true →
     Still l → Unread l → 6 ≤ n → e.kind ≡ Install → e.found ≡ e.expected → NextStage s w e l f n e.kind
 installing_step s w l f n e op st un rm k ok =
     let c = opens_closes w op in

@@ -4,6 +4,7 @@ use Rattle.std.specs.Prelude.{Option, if◌then◌else◌, is_some}
 use Rattle.std.proofs.lemmas.Bool.{cases_Bool, cond_both}
 use Rattle.rand_pcg.specs.Lcg.{Lcg}
 use Rattle.dstm_core.specs.Events.{Event}
+use Rattle.dstm_core.specs.Kinds.{is_one_of}
 use Rattle.dstm_core.specs.Rules.{AllowedAs, after, is_outside}
 use Rattle.dstm_core.specs.State.{LocalState, first}
 use Rattle.dstm_core.specs.declared.event.Kind.{Kind}
@@ -87,11 +88,7 @@ abbrev Waits : Bool → Option Event → LocalState → Type 0
 Waits awaited o l = awaited ≡ true → HasPass o × (l.phase ≡ Running)
 
 abbrev is_pass : Kind → Bool
-is_pass LookNumber = true
-is_pass Check = true
-is_pass LookSelf = true
-is_pass Quit = true
-is_pass k = false
+is_pass = is_one_of (LookNumber ∷ Check ∷ LookSelf ∷ Quit ∷ [])
 
 pass_is : (k : Kind) → IsOfPass k → is_pass k ≡ true
 pass_is k (inl q) = ap is_pass q

@@ -1,13 +1,14 @@
 -- An attempt on which no object is opened for reading reads nothing, so it never becomes stale.
-use Rattle.std.proofs.Common.{◌++◌, ◌==◌, ◌∙◌, ◌∷◌, ◌≡◌, ◌≢◌, ◌⊎◌, Bool, List, Option, None, Some, [], ap, arith, false, inl, inr, is_some, length, refl, subst, sym, true, ℕ}
+use Rattle.std.proofs.Common.{◌++◌, ◌==◌, ◌||◌, ◌∙◌, ◌∷◌, ◌≡◌, ◌≢◌, ◌⊎◌, Bool, List, Option, None, Some, [], ap, arith, false, inl, inr, is_some, length, refl, subst, sym, true, ℕ}
 use Rattle.std.proofs.lemmas.Bool.{cases_Bool, cond_both, or_right}
 use Rattle.dstm_core.specs.Rules.{AllowedAs, after}
 use Rattle.dstm_core.specs.Runs.{Core, local}
 use Rattle.dstm_core.specs.State.{LocalState, drop_read, keep_resolved, res}
 use Rattle.dstm_core.specs.Traces.{events_of}
 use Rattle.dstm_core.specs.Events.{Event}
+use Rattle.dstm_core.specs.Kinds.{is_one_of}
 use Rattle.dstm_core.specs.declared.event.Kind.{Kind}
-use Rattle.dstm_core.specs.declared.event.Kind.TheVariants.{Begin, Check, Commit, Draw, Enrol, Install, Kill, LookHigh, LookNew, LookNumber, LookObj, LookOld, LookOwner, LookRank, LookSelf, LookStatus, Pause, PutHigh, PutNew, PutOld, PutOwner, Quit, Rank, Release, Resume, Stamp, Validating as ToValidating}
+use Rattle.dstm_core.specs.declared.event.Kind.TheVariants.{Begin, Check, Commit, Draw, Enrol, Install, LookNumber, LookObj, LookSelf, PutHigh, PutNew, PutOld, PutOwner, Quit, Rank, Release, Stamp, Validating as ToValidating}
 use Rattle.dstm_core.specs.declared.shape.Manager.{Manager}
 use Rattle.dstm_core.specs.declared.shape.Shape.{Shape}
 use Rattle.dstm_core.specs.declared.state.Phase.TheVariants.{Outside}
@@ -18,6 +19,7 @@ use Rattle.dstm_order.specs.Calls.{IsCall, Obeys, effort_of, newest_of, state_af
 use Rattle.dstm_order.specs.Efforts.{Effort}
 use Rattle.dstm_order.specs.Order.{Due, IsDue, at_first, due, in_putting, in_resolving, just, next, next_or_first, when_resolved}
 use Rattle.dstm_order.specs.Order.Due.{Done, Step}
+use Rattle.dstm_order.specs.Passes.{is_open}
 use Rattle.dstm_order.specs.Tasks.{Work}
 use Rattle.dstm_order.specs.Tasks.Task.{Doing}
 use Rattle.dstm_order.specs.Tasks.Work.{Reading, Writing, Releasing, Rechecking, Committing}
@@ -27,8 +29,7 @@ use Rattle.dstm_progress.specs.Oldest.{IsNoReading, OpensToWrite}
 use Rattle.dstm_progress.proofs.Bound.{IsStep}
 use Rattle.dstm_progress.proofs.Calls.{inside_phase, nothing_due}
 use Rattle.dstm_progress.proofs.Own.{AreAllowed, allowed_split, own_allowed, state_both}
-use Rattle.dstm_progress.proofs.Room.{opens}
-use Rattle.dstm_order.proofs.Rows.{next_resolving, resolves, resolves_by, checking_by, checks_by, giving_way_by, pass_by, passed_by, put_by, putting_by, resolving_by}
+use Rattle.dstm_order.proofs.Rows.{is_resolving, next_resolving, resolves, resolves_by, checking_by, checks_by, giving_way_by, pass_by, passed_by, put_by, putting_by, resolving_by}
 use Rattle.dstm_core.proofs.Untouched.{reads_stay, unlooked}
 use Rattle.std.proofs.lemmas.Bool.Decides.{nat_tests}
 use Rattle.dstm_core.proofs.Enrolment.{number_kept}
@@ -37,15 +38,8 @@ use Rattle.dstm_core.proofs.Enrolment.{number_kept}
 
 -- events before which the resolution is dropped, where nothing is read
 abbrev pub is_calm : Kind → Bool
-is_calm LookNumber = true
-is_calm LookSelf = true
-is_calm Rank = true
-is_calm PutHigh = true
-is_calm PutNew = true
-is_calm ToValidating = true
-is_calm Draw = true
-is_calm Commit = true
-is_calm k = false
+is_calm =
+    is_one_of (LookNumber ∷ LookSelf ∷ Rank ∷ PutHigh ∷ PutNew ∷ ToValidating ∷ Draw ∷ Commit ∷ [])
 
 abbrev pub NotCalm : Due → Type 0
 NotCalm (Step k o) = is_calm k ≡ false
@@ -73,19 +67,7 @@ resolving_busy m l f d h =
 
 -- after these the object is being resolved, or installed
 abbrev pub is_busy : Kind → Bool
-is_busy LookObj = true
-is_busy LookOwner = true
-is_busy LookStatus = true
-is_busy LookRank = true
-is_busy LookOld = true
-is_busy LookHigh = true
-is_busy LookNew = true
-is_busy Kill = true
-is_busy Pause = true
-is_busy Resume = true
-is_busy PutOwner = true
-is_busy PutOld = true
-is_busy k = false
+is_busy k = is_resolving k || is_one_of (PutOwner ∷ PutOld ∷ []) k
 
 busy_next : (k : Kind) (e : Event) (w : Work) (m : Manager) (l : LocalState) (f : Effort) → ((o : ℕ) →
     w ≢ Reading o) →
@@ -102,11 +84,11 @@ is_busy_now (Some e) = is_busy e.kind
 -- ---- where an open begins
 
 abbrev pub OpensBusy : Work → Due → Type 0
-OpensBusy w (Step k o) = is_busy k ≡ true → opens w ≡ true
+OpensBusy w (Step k o) = is_busy k ≡ true → is_open w ≡ true
 OpensBusy w Done = Unit {0}
 
 opens_busy : (w : Work) (d : Due) (e : Event) → OpensBusy w d → IsDue d e → is_busy e.kind ≡ true →
-    opens w ≡ true
+    is_open w ≡ true
 opens_busy w (Step k o) e h i q = h (ap is_busy (sym i.0) ∙ q)
 opens_busy w Done e h i q = absurd i
 
@@ -152,7 +134,7 @@ pub record ReadsNothing (w : Work) (n : Option Event) (l : LocalState) : Type 0 
   pub agreed : l.stale ≡ false
   pub number : is_some l.number ≡ true
   pub clear : is_busy_now n ≡ false → l.phase ≢ Outside → l.resolution ≡ None
-  pub opening : is_busy_now n ≡ true → opens w ≡ true
+  pub opening : is_busy_now n ≡ true → is_open w ≡ true
 
 due_table : (w : Work) (s : Shape) (n : Option Event) (l : LocalState) (f : Effort) → l.phase ≢ Outside →
     l.stale ≡ false → f.missed == 64 ≡ false → due (Doing w) s n l f ≡ next_or_first n w s.manager l f
@@ -187,11 +169,11 @@ calm_clear w (Some x) m l f e h i r d q = go (cases_Bool (is_busy x.kind))
 
 -- an object is resolved in an open alone
 busy_opens : (w : Work) (n : Option Event) (m : Manager) (l : LocalState) (f : Effort) (e : Event) →
-    ReadsNothing w n l → IsDue (next_or_first n w m l f) e → is_busy e.kind ≡ true → opens w ≡ true
+    ReadsNothing w n l → IsDue (next_or_first n w m l f) e → is_busy e.kind ≡ true → is_open w ≡ true
 busy_opens w None m l f e r d q = opens_busy w (at_first w l) e (first_busy w l) d q
 busy_opens w (Some x) m l f e r d q = go (cases_Bool (is_busy x.kind))
   where
-    go : (is_busy x.kind ≡ true) ⊎ (is_busy x.kind ≡ false) → opens w ≡ true
+    go : (is_busy x.kind ≡ true) ⊎ (is_busy x.kind ≡ false) → is_open w ≡ true
     go (inl b) = r.opening b
     go (inr b) = opens_busy w (next x.kind x w m l f) e (calm_next x.kind x w m l f b) d q
 
@@ -253,7 +235,7 @@ reads_step s w n l f e h a r d = go (due_or_quit s w n l f e i r.agreed d)
     i : l.phase ≢ Outside
     i = λ z. nothing_due w s n l f e z d
 
-    by : (is_calm e.kind ≡ true → l.resolution ≡ None) → (is_busy e.kind ≡ true → opens w ≡ true) →
+    by : (is_calm e.kind ≡ true → l.resolution ≡ None) → (is_busy e.kind ≡ true → is_open w ≡ true) →
         ReadsNothing w (Some e) (after e.kind s l e)
     by c b = record {
       reads = reads_after s l e e.kind c r.reads;
@@ -279,7 +261,7 @@ call_reads s w l g (e ∷ events) h a o r =
 
 -- ---- a call ends with nothing resolved
 
-writes_or_not : (w : Work) → ((o : ℕ) → w ≢ Reading o) → opens w ≡ true → (when_resolved w ≡ just PutOwner)
+writes_or_not : (w : Work) → ((o : ℕ) → w ≢ Reading o) → is_open w ≡ true → (when_resolved w ≡ just PutOwner)
 writes_or_not (Reading o) h q = absurd (h o refl)
 writes_or_not (Writing o) h q = refl
 writes_or_not (Releasing o) h q = absurd (cc)

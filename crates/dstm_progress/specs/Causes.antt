@@ -1,6 +1,7 @@
 -- Why an attempt was left, told by the events of the call that left it. Events stand with the newest first.
 use Rattle.std.specs.Prelude.{◌≡◌, ℕ, ◌≤◌, ◌==◌, ◌&&◌, Bool, true, false, not, List, [], ◌∷◌, ◌++◌, length}
 use Rattle.dstm_core.specs.Events.{Event}
+use Rattle.dstm_core.specs.Kinds.{is_one_of}
 use Rattle.dstm_core.specs.declared.event.Kind.{Kind}
 use Rattle.dstm_core.specs.declared.event.Kind.TheVariants.{LookStatus, LookSelf, Validating as ToValidating, Commit, Quit, Pause, Resume}
 use Rattle.dstm_core.specs.declared.shape.Manager.TheVariants.{Greedy}
@@ -25,13 +26,7 @@ finds_stale shape state event = (after event.kind shape state event).stale && no
 
 -- the event is at its caller's own status, which its caller gave before
 abbrev pub is_at_own : Kind → Bool
-is_at_own LookSelf = true
-is_at_own ToValidating = true
-is_at_own Commit = true
-is_at_own Quit = true
-is_at_own Pause = true
-is_at_own Resume = true
-is_at_own kind = false
+is_at_own = is_one_of (LookSelf ∷ ToValidating ∷ Commit ∷ Quit ∷ Pause ∷ Resume ∷ [])
 
 -- the event found its caller's own status aborted
 abbrev pub finds_aborted : Shape → LocalState → Event → Bool
