@@ -15,28 +15,14 @@ module _ {K T S : Type 0} (machine : Machine K T S) (table : T) where
   run_then before [] run h = run
   run_then before (e ∷ events) run h = run_then (e ∷ before) events (run, h.0) h.1
 
--- an event by which no caller enrols, and one by which one does
-module _ {K T S : Type 0} {machine : Machine K T S} {table : T} {before : List (Event K)} {e : Event K} where
-  pub fit : e.found ≡ at (machine.initial table) before e.place → e.caller < machine.callers table →
-      (machine.Enrols e.kind → ⊥) → machine.Allows table (local machine table before e.caller) e →
-      Fits machine table before e
-  fit linked caller other allowed = record {
-    linked = linked;
-    caller = caller;
-    enrolled = λ q. absurd (other q);
-    allowed = allowed;
-  }
-
-  pub enrol : e.found ≡ at (machine.initial table) before e.place → e.caller < machine.callers table →
-      e.found ≡ e.caller → machine.Allows table (local machine table before e.caller) e →
-      Fits machine table before e
-  enrol linked caller number allowed = record {
-    linked = linked;
-    caller = caller;
-    enrolled = λ q. number;
-    allowed = allowed;
-  }
-
-infixr 30 ◌also◌
-pub ◌also◌ : {A B : Type 0} → A → B → A × B
-◌also◌ x y = (x, y)
+-- an event by which no caller enrols
+pub fit : {K T S : Type 0} {machine : Machine K T S} {table : T} {before : List (Event K)} {e : Event K} →
+    e.found ≡ at (machine.initial table) before e.place → e.caller < machine.callers table →
+    (machine.Enrols e.kind → ⊥) → machine.Allows table (local machine table before e.caller) e →
+    Fits machine table before e
+fit linked caller other allowed = record {
+  linked = linked;
+  caller = caller;
+  enrolled = λ q. absurd (other q);
+  allowed = allowed;
+}

@@ -4,3 +4,4 @@ pub mod Sharing
 pub mod Attempts
 pub mod Histories
 pub mod Laws
+pub mod Examples

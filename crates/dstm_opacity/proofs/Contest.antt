@@ -1,6 +1,7 @@
 -- The contest is a core run.
 use Rattle.std.proofs.Common.{◌≡◌, ◌∷◌, Bool, List, [], ap, arith, drop, false, cond, inl, inr, length, refl, take, true, ◌⊎◌}
 use Rattle.std.proofs.lemmas.Bool.{cases_Bool}
+use Rattle.dstm_machines.specs.Examples.{event, val}
 use Rattle.dstm_machines.specs.Traces.{continued}
 use Rattle.dstm_model.specs.declared.value.Val.{Val}
 use Rattle.dstm_model.specs.Map.{with_writes}
@@ -8,75 +9,20 @@ use Rattle.dstm_core.specs.Events.{Event}
 use Rattle.dstm_core.specs.declared.event.Kind.{Kind}
 use Rattle.dstm_core.specs.declared.event.Kind.TheVariants.{PutNew}
 use Rattle.dstm_core.specs.Histories.{Lawful}
-use Rattle.dstm_core.specs.Runs.{Core, Fits, core}
-use Rattle.dstm_machines.proofs.Fitting.{AllFit, enrol, fit, run_then, ◌also◌}
+use Rattle.dstm_core.specs.Runs.{Core, core}
+use Rattle.dstm_machines.proofs.Fitting.{run_then}
 use Rattle.dstm_opacity.specs.Contest.{SomeContest, before_release, lawful, release, rival_commits, rival_kills, rival_reads, run, shape, start, writer_leaves, writer_opens}
-use Rattle.dstm_opacity.specs.Example.{event, val}
-
-writer_opens-fit : AllFit core shape [] writer_opens
-writer_opens-fit =
-    enrol refl (omega arith) refl (refl, (refl, refl), refl, tt) also
-    fit refl (omega arith) (λ q. cc) (refl, (refl, refl), (refl, omega arith, inl (inl refl, inl refl)), omega arith) also
-    fit refl (omega arith) (λ q. cc) (refl, (refl, refl), (refl, refl, omega arith, inr refl), omega arith) also
-    fit refl (omega arith) (λ q. cc) (refl, (refl, refl), (refl, refl, refl), omega arith) also
-    fit refl (omega arith) (λ q. cc) (refl, (refl, refl), (refl, refl, omega arith), omega arith) also
-    fit refl (omega arith) (λ q. cc) (refl, (refl, refl), (refl, refl, refl, refl, refl), omega arith) also
-    fit refl (omega arith) (λ q. cc) (refl, (refl, refl), (refl, refl, refl, refl, refl, refl), omega arith) also
-    fit refl (omega arith) (λ q. cc) (refl, (refl, refl), (refl, inl refl, refl, refl), omega arith) also
-    tt
-
-rival_reads-fit : AllFit core shape (continued [] writer_opens) rival_reads
-rival_reads-fit =
-    enrol refl (omega arith) refl (refl, (refl, refl), refl, tt) also
-    fit refl (omega arith) (λ q. cc) (refl, (refl, refl), (refl, omega arith, inl (inl refl, inl refl)), omega arith) also
-    fit refl (omega arith) (λ q. cc) (refl, (refl, refl), (refl, refl, omega arith, inr refl), omega arith) also
-    fit refl (omega arith) (λ q. cc) (refl, (refl, refl), (refl, refl, refl), omega arith) also
-    fit refl (omega arith) (λ q. cc) (refl, (refl, refl), (refl, refl), tt) also
-    fit refl (omega arith) (λ q. cc) (refl, (refl, refl), (inl (refl, refl), refl, omega arith), omega arith) also
-    fit refl (omega arith) (λ q. cc) (refl, (refl, refl), (refl, refl, refl, inl refl), omega arith) also
-    tt
-
-release-fits : Fits shape before_release release
-release-fits = fit refl (omega arith) (λ q. cc) (refl, (refl, refl), (refl, refl, refl), omega arith)
 
 abbrev after_release : List Event
 after_release = continued (release ∷ before_release) rival_kills
 
-rival_kills-fit : AllFit core shape (release ∷ before_release) rival_kills
-rival_kills-fit =
-    fit refl (omega arith) (λ q. cc) (refl, (refl, refl), (refl, refl, refl), omega arith) also
-    fit refl (omega arith) (λ q. cc) (refl, (refl, refl), (refl, refl, omega arith), omega arith) also
-    fit refl (omega arith) (λ q. cc) (refl, (refl, refl), (inl refl, refl, refl, omega arith), omega arith) also
-    fit refl (omega arith) (λ q. cc) (refl, (refl, refl), (refl, refl, refl, λ q. cc), omega arith) also
-    fit refl (omega arith) (λ q. cc) (refl, (refl, refl), (refl, refl, refl, refl, tt), omega arith) also
-    tt
-
-writer_leaves-fit : AllFit core shape after_release writer_leaves
-writer_leaves-fit =
-    fit refl (omega arith) (λ q. cc) (refl, (refl, refl), (refl, refl), tt) also
-    fit refl (omega arith) (λ q. cc) (refl, (refl, refl), (refl, refl, refl, inl refl), omega arith) also
-    tt
-
-rival_commits-fit : AllFit core shape (continued after_release writer_leaves) rival_commits
-rival_commits-fit =
-    fit refl (omega arith) (λ q. cc) (refl, (refl, refl), (refl, refl, refl), omega arith) also
-    fit refl (omega arith) (λ q. cc) (refl, (refl, refl), (refl, refl, omega arith), omega arith) also
-    fit refl (omega arith) (λ q. cc) (refl, (refl, refl), (refl, refl, refl, refl, refl), omega arith) also
-    fit refl (omega arith) (λ q. cc) (refl, (refl, refl), (refl, refl, refl, refl, refl, refl), omega arith) also
-    fit refl (omega arith) (λ q. cc) (refl, (refl, refl), (inl refl, refl, omega arith, refl), omega arith) also
-    fit refl (omega arith) (λ q. cc) (refl, (refl, refl), (refl, refl, omega arith, refl), omega arith) also
-    fit refl (omega arith) (λ q. cc) (refl, (refl, refl), (inr (refl, refl), refl), omega arith) also
-    fit refl (omega arith) (λ q. cc) (refl, (refl, refl), (refl, refl), tt) also
-    fit refl (omega arith) (λ q. cc) (refl, (refl, refl), (refl, refl, inl refl), omega arith) also
-    tt
-
 run_fits : Core shape run
 run_fits =
-    let opened = run_then core shape [] writer_opens tt writer_opens-fit in
-    let read = run_then core shape (continued [] writer_opens) rival_reads opened rival_reads-fit in
-    let killed = run_then core shape (release ∷ before_release) rival_kills (read, release-fits) rival_kills-fit in
-    let left = run_then core shape after_release writer_leaves killed writer_leaves-fit in
-    run_then core shape (continued after_release writer_leaves) rival_commits left rival_commits-fit
+    let opened = run_then core shape [] writer_opens tt (grind arith) in
+    let read = run_then core shape (continued [] writer_opens) rival_reads opened (grind arith) in
+    let killed = run_then core shape (release ∷ before_release) rival_kills (read, grind arith) (grind arith) in
+    let left = run_then core shape after_release writer_leaves killed (grind arith) in
+    run_then core shape (continued after_release writer_leaves) rival_commits left (grind arith)
 
 -- ---- the law
 
@@ -121,22 +67,13 @@ run_lawful =
     ) in
     let left = lawful_then after_release writer_leaves refl before in
     let put = lawful_then (continued after_release writer_leaves) (take 5 rival_commits) refl left in
-    lawful_then (event 1 PutNew 20 0 0 9 ∷ opened) (drop 6 rival_commits) refl
+    lawful_then (event 1 (PutNew, 20, 0, 0, 9) ∷ opened) (drop 6 rival_commits) refl
     (put, λ k w map n holds agrees. first_of map n)
 
 -- what the contest shows
 pub some_contest : SomeContest
 some_contest = record {
-  valid = record {
-    objects = omega arith;
-    some_caller = omega arith;
-    callers = omega arith;
-    some_attempt = omega arith;
-    attempts = omega arith;
-    some_locators = omega arith;
-    locators = omega arith;
-    words = omega arith;
-  };
+  valid = grind arith;
   is_run = record { values = refl; core = run_fits; law = run_lawful };
   binds = λ q. cc;
   has_history = refl;

@@ -1,6 +1,7 @@
 -- A core run of a law that binds, under Karma: caller 0 writes an object; caller 1 reads another object and lets it
 -- go, meets caller 0's attempt, aborts it, and then writes the object and commits.
 use Rattle.std.specs.Prelude.{◌≡◌, false, List, [], ◌∷◌, length}
+use Rattle.dstm_machines.specs.Examples.{event, events, val}
 use Rattle.dstm_machines.specs.Traces.{continued}
 use Rattle.dstm_model.specs.declared.value.Val.{Val}
 use Rattle.dstm_model.specs.Map.{Entry, value_at}
@@ -15,7 +16,6 @@ use Rattle.dstm_core.specs.Runs.{local}
 use Rattle.dstm_core.specs.Traces.{word}
 use Rattle.dstm_core.specs.Words.{IsValid, code_of}
 use Rattle.dstm_core.specs.Words.Word.{StatusWord}
-use Rattle.dstm_opacity.specs.Example.{event, val}
 
 abbrev pub shape : Shape
 shape = record { objects = 2; callers = 2; attempts = 2; locators = 2; manager = Karma; all_write = false }
@@ -29,58 +29,37 @@ start = val 5 0 ∷ val 6 1 ∷ []
 
 -- caller 0 opens the first object for writing, and its rank rises
 abbrev pub writer_opens : List Event
-writer_opens =
-    event 0 Enrol 26 0 0 1 ∷
-    event 0 Rank 6 0 0 0 ∷
-    event 0 Begin 2 0 0 1 ∷
-    event 0 LookObj 0 0 0 0 ∷
-    event 0 PutOwner 10 0 0 0 ∷
-    event 0 PutOld 14 0 0 0 ∷
-    event 0 Install 0 0 0 1 ∷
-    event 0 Rank 6 0 0 1 ∷ []
+writer_opens = events 0
+    ((Enrol, 26, 0, 0, 1) ∷ (Rank, 6, 0, 0, 0) ∷ (Begin, 2, 0, 0, 1) ∷ (LookObj, 0, 0, 0, 0) ∷
+    (PutOwner, 10, 0, 0, 0) ∷ (PutOld, 14, 0, 0, 0) ∷ (Install, 0, 0, 0, 1) ∷ (Rank, 6, 0, 0, 1) ∷ [])
 
 -- caller 1 reads the second object, and checks its read in a pass
 abbrev pub rival_reads : List Event
-rival_reads =
-    event 1 Enrol 26 1 1 2 ∷
-    event 1 Rank 8 0 0 0 ∷
-    event 1 Begin 4 0 0 1 ∷
-    event 1 LookObj 1 0 0 0 ∷
-    event 1 LookNumber 27 0 0 0 ∷
-    event 1 Check 1 0 0 0 ∷
-    event 1 LookSelf 4 1 1 1 ∷ []
+rival_reads = events 1
+    ((Enrol, 26, 1, 1, 2) ∷ (Rank, 8, 0, 0, 0) ∷ (Begin, 4, 0, 0, 1) ∷ (LookObj, 1, 0, 0, 0) ∷
+    (LookNumber, 27, 0, 0, 0) ∷ (Check, 1, 0, 0, 0) ∷ (LookSelf, 4, 1, 1, 1) ∷ [])
 
 -- it lets the read go
 abbrev pub release : Event
-release = event 1 Release 1 0 0 0
+release = event 1 (Release, 1, 0, 0, 0)
 
 -- it meets caller 0's attempt in the first object, and aborts it
 abbrev pub rival_kills : List Event
-rival_kills =
-    event 1 LookObj 0 1 1 1 ∷
-    event 1 LookOwner 10 0 0 0 ∷
-    event 1 LookStatus 2 1 1 1 ∷
-    event 1 LookRank 6 1 1 1 ∷
-    event 1 Kill 2 1 1 5 ∷ []
+rival_kills = events 1
+    ((LookObj, 0, 1, 1, 1) ∷ (LookOwner, 10, 0, 0, 0) ∷ (LookStatus, 2, 1, 1, 1) ∷ (LookRank, 6, 1, 1, 1) ∷
+    (Kill, 2, 1, 1, 5) ∷ [])
 
 -- caller 0 finds its attempt aborted, and leaves it
 abbrev pub writer_leaves : List Event
-writer_leaves =
-    event 0 LookNumber 27 0 0 0 ∷
-    event 0 LookSelf 2 5 5 5 ∷ []
+writer_leaves = events 0
+    ((LookNumber, 27, 0, 0, 0) ∷ (LookSelf, 2, 5, 5, 5) ∷ [])
 
 -- caller 1 puts (9, 0) in the first object
 abbrev pub rival_commits : List Event
-rival_commits =
-    event 1 LookOld 14 0 0 0 ∷
-    event 1 PutOwner 12 0 0 2 ∷
-    event 1 PutOld 16 0 0 0 ∷
-    event 1 Install 0 1 1 3 ∷
-    event 1 PutHigh 24 0 0 0 ∷
-    event 1 PutNew 20 0 0 9 ∷
-    event 1 Validating 4 1 1 3 ∷
-    event 1 Draw 27 0 0 1 ∷
-    event 1 Commit 4 3 3 4 ∷ []
+rival_commits = events 1
+    ((LookOld, 14, 0, 0, 0) ∷ (PutOwner, 12, 0, 0, 2) ∷ (PutOld, 16, 0, 0, 0) ∷ (Install, 0, 1, 1, 3) ∷
+    (PutHigh, 24, 0, 0, 0) ∷ (PutNew, 20, 0, 0, 9) ∷ (Validating, 4, 1, 1, 3) ∷ (Draw, 27, 0, 0, 1) ∷
+    (Commit, 4, 3, 3, 4) ∷ [])
 
 abbrev pub before_release : List Event
 before_release = continued (continued [] writer_opens) rival_reads

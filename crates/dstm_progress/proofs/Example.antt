@@ -10,7 +10,7 @@ use Rattle.dstm_order.specs.Tasks.Work.{Committing, Writing}
 use Rattle.dstm_progress.specs.Alone.{IsAlone}
 use Rattle.dstm_progress.specs.Example.{SomeAttempts, before, begun, begun_oldest, committed, newest, opened, or_event, the_calls}
 use Rattle.dstm_progress.specs.Oldest.{IsOldest}
-use Rattle.dstm_machines.proofs.Fitting.{enrol, fit, run_then, ◌also◌}
+use Rattle.dstm_machines.proofs.Fitting.{fit, run_then}
 
 -- events, the oldest first
 abbrev oldest_first : List Event → List Event → List Event
@@ -18,34 +18,14 @@ oldest_first [] later = later
 oldest_first (e ∷ es) later = oldest_first es (e ∷ later)
 
 core_begun : Core (small Karma) begun
-core_begun = run_then core (small Karma) [] (oldest_first (begun) []) tt (
-    enrol refl (omega arith) refl (refl, (refl, refl), refl, tt) also
-    fit refl (omega arith) (λ q. cc) (refl, (refl, refl), (refl, omega arith, inl (inl refl, inl refl)), omega arith) also
-    fit refl (omega arith) (λ q. cc) (refl, (refl, refl), (refl, refl, omega arith, inr refl), omega arith) also
-    fit refl (omega arith) (λ q. cc) (refl, (refl, refl), (refl, refl, refl), omega arith) also
-    fit refl (omega arith) (λ q. cc) (refl, (refl, refl), (refl, refl, omega arith), omega arith) also
-    fit refl (omega arith) (λ q. cc) (refl, (refl, refl), (refl, refl, refl, refl, refl), omega arith) also
-    fit refl (omega arith) (λ q. cc) (refl, (refl, refl), (refl, refl, refl, refl, refl, refl), omega arith) also
-    enrol refl (omega arith) refl (refl, (refl, refl), refl, tt) also
-    fit refl (omega arith) (λ q. cc) (refl, (refl, refl), (refl, omega arith, inl (inl refl, inl refl)), omega arith) also
-    fit refl (omega arith) (λ q. cc) (refl, (refl, refl), (refl, refl, omega arith, inr refl), omega arith) also
-    tt)
+core_begun = run_then core (small Karma) [] (oldest_first (begun) []) tt (grind arith)
 
 -- caller 1 has found the half done attempt, and waited for it
 abbrev waited : List Event
 waited = drop 8 opened
 
 core_waited : Core (small Karma) waited
-core_waited = run_then core (small Karma) begun (oldest_first (newest 8 waited) []) core_begun (
-    fit refl (omega arith) (λ q. cc) (refl, (refl, refl), (refl, refl, refl), omega arith) also
-    fit refl (omega arith) (λ q. cc) (refl, (refl, refl), (refl, refl, omega arith), omega arith) also
-    fit refl (omega arith) (λ q. cc) (refl, (refl, refl), (inl refl, refl, refl, omega arith), omega arith) also
-    fit refl (omega arith) (λ q. cc) (refl, (refl, refl), (refl, refl, refl, (λ q. cc)), omega arith) also
-    fit refl (omega arith) (λ q. cc) (refl, (refl, refl), (inl refl, refl, refl, omega arith), omega arith) also
-    fit refl (omega arith) (λ q. cc) (refl, (refl, refl), (inl refl, refl, refl, omega arith), omega arith) also
-    fit refl (omega arith) (λ q. cc) (refl, (refl, refl), (inl refl, refl, refl, omega arith), omega arith) also
-    fit refl (omega arith) (λ q. cc) (refl, (refl, refl), (inl refl, refl, refl, omega arith), omega arith) also
-    tt)
+core_waited = run_then core (small Karma) begun (oldest_first (newest 8 waited) []) core_begun (grind arith)
 
 core_opened : Core (small Karma) opened
 core_opened = (
@@ -93,109 +73,22 @@ core_committed = (
 )
 
 opens : IsCall (Doing (Writing 0)) (small Karma) (local (small Karma) begun 1) zeros (newest 16 opened)
-opens = record {
-  obeys = (
-    (
-      (
-        (
-          (
-            (
-              (
-                (
-                  (
-                    (
-                      ((((((tt, (refl, refl)), (refl, tt)), (refl, tt)), (refl, tt)), (refl, tt)), (refl, tt)),
-                      (refl, tt),
-                    ),
-                    (refl, tt),
-                  ),
-                  (refl, tt),
-                ),
-                (refl, tt),
-              ),
-              (refl, tt),
-            ),
-            (refl, tt),
-          ),
-          (refl, tt),
-        ),
-        (refl, tt),
-      ),
-      (refl, tt),
-    ),
-    (refl, refl),
-  );
-  done = refl;
-}
+opens = record { obeys = grind arith; done = refl }
 
 commits : IsCall (Doing (Committing nine)) (small Karma) (local (small Karma) opened 1) zeros
     (newest 5 committed)
-commits = record {
-  obeys = (((((tt, (refl, refl)), (refl, refl)), (refl, tt)), (refl, tt)), (refl, tt));
-  done = refl;
-}
+commits = record { obeys = grind arith; done = refl }
 
 alone : IsAlone (small Karma) zeros the_calls (or_event begun) before
 alone = record {
   core = core_committed;
   begins = refl;
-  alone = (
-    refl,
-    (
-      refl,
-      (
-        refl,
-        (
-          refl,
-          (
-            refl,
-            (
-              refl,
-              (
-                refl,
-                (
-                  refl,
-                  (
-                    refl,
-                    (
-                      refl,
-                      (
-                        refl,
-                        (
-                          refl,
-                          (
-                            refl,
-                            (
-                              refl,
-                              (refl, (refl, (refl, (refl, (refl, (refl, (refl, tt))))))),
-                            ),
-                          ),
-                        ),
-                      ),
-                    ),
-                  ),
-                ),
-              ),
-            ),
-          ),
-        ),
-      ),
-    ),
-  );
+  alone = grind arith;
   made = ((tt, opens), commits);
 }
 
 core_oldest : Core (small Greedy) begun_oldest
-core_oldest = run_then core (small Greedy) [] (oldest_first (begun_oldest) []) tt (
-    enrol refl (omega arith) refl (refl, (refl, refl), refl, tt) also
-    enrol refl (omega arith) refl (refl, (refl, refl), refl, tt) also
-    fit refl (omega arith) (λ q. cc) (refl, (refl, refl), (refl, refl, refl, refl), tt) also
-    fit refl (omega arith) (λ q. cc) (refl, (refl, refl), (refl, refl, refl, refl), tt) also
-    fit refl (omega arith) (λ q. cc) (refl, (refl, refl), (refl, omega arith, inr (refl, refl, refl)), omega arith) also
-    fit refl (omega arith) (λ q. cc) (refl, (refl, refl), (refl, refl, omega arith, inr refl), omega arith) also
-    fit refl (omega arith) (λ q. cc) (refl, (refl, refl), (refl, omega arith, inr (refl, refl, refl)), omega arith) also
-    fit refl (omega arith) (λ q. cc) (refl, (refl, refl), (refl, refl, omega arith, inr refl), omega arith) also
-    tt)
+core_oldest = run_then core (small Greedy) [] (oldest_first (begun_oldest) []) tt (grind arith)
 
 oldest : IsOldest (small Greedy) begun_oldest 1
 oldest = record { live = refl; least = least }
