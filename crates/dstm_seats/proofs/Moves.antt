@@ -117,7 +117,7 @@ pub record Ready {K T B S : Type 0} (shared : Shared K T B S) (home : Home T) (s
   pub inside : place < shared.word_count (shared.table home.terms)
 
 -- what is required of the table as it is seen is so of its fields
-pub ready : {K T B S : Type 0} (shared : Shared K T B S) (laws : Enrolling shared) (self home : Home T) → self ≡ home →
+ready : {K T B S : Type 0} (shared : Shared K T B S) (laws : Enrolling shared) (self home : Home T) → self ≡ home →
     (seat : Seat ℕ (View K T)) (way : Access) (kind : K) (place : ℕ) → IsOf self seat →
     MayMake shared self.terms (view_of seat) way kind place →
     MakesKept shared self.terms (view_of seat) way kind place → Ready shared home seat way kind place
@@ -128,3 +128,15 @@ ready shared laws self home is seat way kind place of may keeps =
       keeps = keeps;
       inside = place_inside shared laws self.terms (view_of seat) way kind place may;
     })
+
+-- so all that a step asks for is there, if its play asks for no more
+pub asks : {K T B S : Type 0} (shared : Shared K T B S) (laws : Enrolling shared) (self home : Home T) → self ≡ home →
+    (seat : Seat ℕ (View K T)) (way : Access) (kind : K) (place words : ℕ) → IsOf self seat →
+    MayMake shared self.terms (view_of seat) way kind place →
+    MakesKept shared self.terms (view_of seat) way kind place →
+    words ≡ shared.word_count (shared.table home.terms) → (Play : Type 0) →
+    (Ready shared home seat way kind place → Play) → (seat.table_id ≡ home.table) × (place < words) × Play
+asks shared laws self home is seat way kind place words of may keeps wide Play play =
+    let r = ready shared laws self home is seat way kind place of may keeps in
+    let inside = r.inside in
+    (r.of.0, omega arith, play r)

@@ -1,17 +1,11 @@
-use Rattle.std.proofs.Common.{arith, sym}
+use Rattle.std.proofs.Common.{sym}
 use Rattle.dstm_machines.specs.Traces.Access.{Exchange}
-use Rattle.dstm_seats.proofs.Moves.{ready, exchanges}
+use Rattle.dstm_seats.proofs.Moves.{asks, exchanges}
 use Rattle.dstm_seats.proofs.words.Words.exchange_as.Goals as goal
 
 pub compare_exchange-requires : goal.compare_exchange-requires
 compare_exchange-requires g c =
-    let r = ready g.M.Machine.shared g.M.Machine.enrolling _ _ (sym c.self.view_is) c.args.seat.now
-    (Exchange c.args.expected c.args.put) c.args.kind c.args.place c.requires.seat c.requires.allowed
-    c.requires.keeps in
-    let inside = r.inside in
-    let wide = c.self.invariant.1 in (
-      r.of.0,
-      omega arith,
-      exchanges g.M.Machine.shared g.M.Machine.enrolling _ _ _ c.args.seat.now.me g.J.Told.kind c.args.kind c.args.place
-          c.args.expected c.args.put c.requires.kind r.of.2 r.may r.keeps,
-    )
+    asks g.M.Machine.shared g.M.Machine.enrolling _ _ (sym c.self.view_is) c.args.seat.now (Exchange c.args.expected c.args.put) c.args.kind
+    c.args.place _ c.requires.seat c.requires.allowed c.requires.keeps c.self.invariant.1 _
+    (λ r. exchanges g.M.Machine.shared g.M.Machine.enrolling _ _ _ c.args.seat.now.me g.J.Told.kind c.args.kind
+    c.args.place c.args.expected c.args.put c.requires.kind r.of.2 r.may r.keeps)
