@@ -1,7 +1,6 @@
 -- What the bank's operations do to maps that stand for a bank, and what an open tells of an account.
 use Rattle.std.proofs.Common.{◌≡◌, ◌≢◌, ℕ, ◌+◌, ◌-◌, ◌*◌, ◌^◌, ◌<◌, ◌≤◌, List, length, slice_set, sum, take, arith, refl, sym, ◌∙◌, ap, subst, inl, inr, true, false}
-use Rattle.std.specs.Prelude.{slice_index, nat_lt, Some}
-use Rattle.std.specs.Option.{option_or}
+use Rattle.std.specs.Prelude.{slice_index, nat_lt}
 use Rattle.std.proofs.lemmas.List.{length-set, get_or-set_same, get_or-set_other, set-set, set-get_or, take_all}
 use Rattle.std.proofs.lemmas.Bool.{cases_eq, le-ltb, lt-ltb}
 use Rattle.std.proofs.lemmas.List.Sums.{sum_by_more, sum_by_more_le}
@@ -13,11 +12,8 @@ use Rattle.dstm_model.specs.declared.reply.Reply.TheVariants.{Moved, Poor, Numbe
 use Rattle.dstm_model.specs.Layout.{IsValid}
 use Rattle.dstm_model.specs.Map.{value_at, no_value}
 use Rattle.dstm_model.specs.Store.{Store, balance_of, credit, debit}
-use Rattle.dstm_model.specs.Objects.{objects_of, IsBank, Does, plain}
+use Rattle.dstm_model.specs.Objects.{IsBank, Does, plain}
 use Rattle.dstm_model.proofs.Transfers.{credited_le, sum-moved}
-use Rattle.dstm_mem.specs.declared.memory.Mem.{Ghosts}
-use Rattle.dstm_mem.specs.Memory.{with_set, AgreesWith}
-use Rattle.dstm_mem.proofs.WithSet.{value_at-opened}
 
 -- the account is there, and has this value in the map
 pub record HasAccount (layout : Layout) (map : List Val) (account : ℕ) (v : Val) : Type 0 where
@@ -25,20 +21,10 @@ pub record HasAccount (layout : Layout) (map : List Val) (account : ℕ) (v : Va
   pub value : value_at map account ≡ v
 
 -- an account that was opened, and not set since the start, has the value that the open answers
-pub has-opened : {S E : Type 0} (M : Ghosts S E) {layout : Layout} {start mem : S} {map : List Val} {account : ℕ}
-    {v : Val} → ((s : S) (m : List Val) → M.Admits s m → length m ≡ M.objects s) →
-    ((s : S) (m : List Val) → M.Admits s m → AgreesWith m (M.held s)) → M.objects start ≡ objects_of layout →
-    account < layout.accounts → M.Admits start map → M.Admits mem map →
-    ((p : ℕ) → M.written mem p ≡ M.written start p) →
-    Some v ≡ option_or (M.written mem account) (M.held mem account) →
-    HasAccount layout (with_set map (M.written start)) account v
-has-opened M {layout} {start} {mem} {map} {account} {v} sizes agrees objects within in_start in_mem same value =
-    let size = sizes start map in_start in
-    record {
-      within = within;
-      value = value_at-opened map (M.written start) (M.written mem) (M.held mem) account v
-          (omega (arith, size, objects, within)) (agrees mem map in_mem) same value;
-    }
+pub has-opened : {layout : Layout} {start now : List Val} {account : ℕ} {v : Val} → account < layout.accounts →
+    now ≡ start → value_at now account ≡ v → HasAccount layout start account v
+has-opened {account = account} within same found =
+    record { within = within; value = ap (λ map. value_at map account) (sym same) ∙ found }
 
 pub balance_is : {layout : Layout} {map : List Val} {store : Store} {a : ℕ} {v : Val} →
     IsBank layout map store → HasAccount layout map a v → balance_of a store ≡ v.low

@@ -1,9 +1,9 @@
 -- Operations one after the other, and with other answers.
-use Rattle.std.proofs.Common.{ℕ, refl, ◌∙◌}
+use Rattle.std.proofs.Common.{◌≡◌, ◌≢◌, ℕ, refl, ◌∙◌}
 use Rattle.std.specs.Prelude.{List, Ok, Err, IsTrue}
 use Rattle.dstm_model.specs.declared.value.Val.{Val}
 use Rattle.dstm_mem.specs.declared.memory.Mem.{Ghosts}
-use Rattle.dstm_mem.specs.Memory.{with_set}
+use Rattle.dstm_mem.specs.Memory.{HoldsAlso, MarksAtMost, SetsOnly, with_set}
 use Rattle.dstm_mem.specs.Operates.{IsUntouched, Operates}
 use Rattle.dstm_mem.proofs.Operations.{leads-none, leads-answers, leads-then, leads-ended, only_reads-none, only_reads-then}
 use Rattle.dstm_mem.proofs.Operations.{opens_to_set-none, opens_to_set-then}
@@ -25,6 +25,20 @@ module _ {S E : Type 0} (M : Ghosts S E) where
     held = two.held ∙ one.held;
     opened = two.opened ∙ one.opened;
   }
+
+  -- an open touches no object but its own
+  pub untouched-opened : {old new : S} {object : ℕ} → ((p : ℕ) → M.written new p ≡ M.written old p) →
+      HoldsAlso object (M.held old) (M.held new) → MarksAtMost object (M.is_opened old) (M.is_opened new) → (o : ℕ) →
+      o ≢ object → IsUntouched M o old new
+  untouched-opened written held opened o other =
+      record { written = written o; held = held.others o other; opened = opened.others o other }
+
+  -- nor does a set
+  pub untouched-set : {old new : S} {object : ℕ} {value : Val} →
+      SetsOnly object value (M.written old) (M.written new) → ((p : ℕ) → M.held new p ≡ M.held old p) →
+      ((p : ℕ) → M.is_opened new p ≡ M.is_opened old p) → (o : ℕ) → o ≢ object → IsUntouched M o old new
+  untouched-set written held opened o other =
+      record { written = written.others o other; held = held o; opened = opened o }
 
 module _ {S E : Type 0} {M : Ghosts S E} {In : ℕ → Type 0} where
   -- no operation

@@ -26,18 +26,6 @@ module _ {S E : Type 0} (M : Ghosts S E) where
     ended = tt;
   }
 
-  -- the same with another answer
-  pub leads-answers : {A B : Type 0} {old new : S} {x : A} {y : B} → Leads M old new (Ok x) → Leads M old new (Ok y)
-  leads-answers leads = record {
-    place = leads.place;
-    objects = leads.objects;
-    narrows = leads.narrows;
-    admits = leads.admits;
-    live = leads.live;
-    holds = leads.holds;
-    ended = tt;
-  }
-
   -- one operation after the other
   pub leads-then : {A B : Type 0} {old mid new : S} {x : A} {y : B} → Leads M old mid (Ok x) → Leads M mid new (Ok y) →
       Leads M old new (Ok y)
@@ -52,6 +40,10 @@ module _ {S E : Type 0} (M : Ghosts S E) where
         second.holds o (subst IsSome (sym same) some) ∙ same;
     ended = tt;
   }
+
+  -- the same with another answer
+  pub leads-answers : {A B : Type 0} {old new : S} {x : A} {y : B} → Leads M old new (Ok x) → Leads M old new (Ok y)
+  leads-answers {new = new} {y = y} leads = leads-then leads (leads-none new y leads.admits leads.live)
 
   -- the second gives up
   pub leads-ended : {A B C : Type 0} {old mid new : S} {x : A} {e : E} → Leads M old mid (Ok x) →

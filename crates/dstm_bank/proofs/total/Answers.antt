@@ -1,37 +1,43 @@
-use Rattle.std.proofs.Common.{◌≢◌, ℕ, ◌+◌, ◌<◌, w64, rules, arith, sym, ◌∙◌, ap, subst, inl, inr}
+use Rattle.std.proofs.Common.{◌≢◌, ℕ, ◌+◌, ◌<◌, List, w64, rules, arith, sym, ◌∙◌, ap, subst, inl, inr}
 use Rattle.std.specs.Prelude.{IsSome}
 use Rattle.std.proofs.Math.Facts.{Fits-of_lt}
 use Rattle.std.proofs.lemmas.Bool.{cases_eq}
 use Rattle.dstm_model.specs.declared.op.Op.TheVariants.{Total}
 use Rattle.dstm_model.specs.declared.reply.Reply.TheVariants.{Number}
+use Rattle.dstm_model.specs.declared.value.Val.{Val}
 use Rattle.dstm_model.specs.Objects.{IsBank, Does}
 use Rattle.dstm_mem.specs.Memory.{with_set}
 use Rattle.dstm_mem.proofs.Operations.{opens_to_set-of_reads}
 use Rattle.dstm_mem.proofs.WithSet.{with_set-same}
-use Rattle.dstm_bank.proofs.Accounts.{has-opened, sum_first-more, sum_first-fits, does-total}
+use Rattle.dstm_bank.proofs.Accounts.{HasAccount, has-opened, sum_first-more, sum_first-fits, does-total}
 use Rattle.dstm_bank.proofs.total.Goals as goal
+use Rattle.dstm_bank.proofs.total.Goals.{In_ok-sum}
+use Rattle.dstm_bank.proofs.total.Given.{Over}
+
+-- the account whose balance is added
+counted : (g : Over) (c : In_ok-sum g) (map : List Val) → g.M.Mem.Admits c.open_read.new.self map →
+    HasAccount c.args.layout.now (with_set map (g.M.Mem.written c.args.mem.now)) c.loop-account.account c.in_ok-sum.field-0
+counted g c map admitted =
+    has-opened c.loop-account-test.true
+    (c.in_ok-sum.ensures.unchanged map
+    ∙ with_set-same map (g.M.Mem.written c.args.mem.now) _ c.loop-account.invariant.looks.sets)
+    (c.in_ok-sum.ensures.found map admitted)
 
 pub overflow_add-sum : goal.overflow_add-sum
 overflow_add-sum g c =
-    let M = g.M.Mem in
-    let laws = g.met.M.Mem in
     let so_far = c.loop-account.invariant in
     let opened = c.in_ok-sum.ensures in
     let (map, admitted) = opened.admits in
     let in_loop = opened.narrows map admitted in
-    let in_start = so_far.narrows map in_loop in
-    let has = has-opened M laws.admitted_length laws.admitted_agrees c.requires.ready.objects c.loop-account-test.true
-    in_start admitted (λ p. opened.written p ∙ so_far.looks.sets p) opened.value in
-    let (store, bank) = c.requires.ready.lawful map in_start in
-    let fits = sum_first-fits c.requires.valid bank has in
+    let (store, bank) = c.requires.ready.lawful map (so_far.narrows map in_loop) in
+    let fits =
+    sum_first-fits c.requires.valid bank (counted g (goal.at.overflow_add-sum g c).In_ok-sum map admitted) in
     Fits-of_lt {w = w64} (omega (arith, fits, so_far.sums map in_loop store bank))
 
 pub loop-account-preserved : goal.loop-account-preserved
 loop-account-preserved g c =
     let M = g.M.Mem in
-    let laws = g.met.M.Mem in
     let layout = c.args.layout.now in
-    let start = c.args.mem.now in
     let mem = c.open_read.new.self in
     let so_far = c.loop-account.invariant in
     let opened = c.in_ok-sum.ensures in
@@ -64,10 +70,9 @@ loop-account-preserved g c =
             opened = opened.opened.others p (other_than p out) ∙ before.opened;
           };
       sums = λ map admitted store bank.
-          let in_loop = opened.narrows map admitted in
-          let has = has-opened M laws.admitted_length laws.admitted_agrees c.requires.ready.objects below
-          (so_far.narrows map in_loop) admitted (λ p. opened.written p ∙ so_far.looks.sets p) opened.value in
-          ap (λ n. n + c.in_ok-sum.field-0.low) (so_far.sums map in_loop store bank) ∙ sym (sum_first-more bank has);
+          let has = counted g (goal.at.loop-account-preserved g c).In_ok-sum map admitted in
+          ap (λ n. n + c.in_ok-sum.field-0.low) (so_far.sums map (opened.narrows map admitted) store bank)
+          ∙ sym (sum_first-more bank has);
     }
 
 pub returns-clause-applies : goal.returns-clause-applies

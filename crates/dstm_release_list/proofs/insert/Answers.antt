@@ -7,11 +7,9 @@ use Rattle.dstm_release_list.proofs.insert.Goals as goal
 pub returns : goal.returns
 returns g c =
     let done = c.in_ok-reply.ensures in
-    let changes = changes-walked g.M.Mem c.args.layout.now (Insert which.List c.args.key) c.in_ok-reply.reply
-    c.in_ok-place.ensures.walks (record { applies = done.applies; few = done.few }) in
-    record {
-      applies = changes.applies;
-      few = changes.few;
-      adds = adds-insert g.M.Mem c.args.layout.now c.in_ok-place.place c.in_ok-reply.reply c.in_ok-place.ensures.adds
-          done.looked done.reads done.link_opened;
-    }
+    assumption (
+      changes-walked g.M.Mem c.args.layout.now (Insert which.List c.args.key) c.in_ok-reply.reply
+          c.in_ok-place.ensures.walks (record { applies = done.applies; few = done.few }),
+      adds-insert g.M.Mem c.args.layout.now c.in_ok-place.place c.in_ok-reply.reply c.in_ok-place.ensures.adds
+          done.looked done.reads done.link_opened,
+    )

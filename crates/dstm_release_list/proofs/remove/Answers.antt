@@ -7,11 +7,9 @@ use Rattle.dstm_release_list.proofs.remove.Goals as goal
 pub returns : goal.returns
 returns g c =
     let done = c.in_ok-reply.ensures in
-    let changes = changes-walked g.M.Mem c.args.layout.now (Remove which.List c.args.key) c.in_ok-reply.reply
-    c.in_ok-found.ensures.walks (record { applies = done.applies; few = done.few }) in
-    record {
-      applies = changes.applies;
-      few = changes.few;
-      adds = adds-remove g.M.Mem c.args.layout.now c.in_ok-found.found c.in_ok-reply.reply c.in_ok-found.ensures.adds
-          done.reads done.there done.link_opened done.node_opened;
-    }
+    assumption (
+      changes-walked g.M.Mem c.args.layout.now (Remove which.List c.args.key) c.in_ok-reply.reply
+          c.in_ok-found.ensures.walks (record { applies = done.applies; few = done.few }),
+      adds-remove g.M.Mem c.args.layout.now c.in_ok-found.found c.in_ok-reply.reply c.in_ok-found.ensures.adds
+          done.reads done.there done.link_opened done.node_opened,
+    )
