@@ -1,7 +1,7 @@
 -- What is done to one structure is done to the whole store: the objects of the others are unchanged, and so
 -- is what they stand for.
-use Rattle.std.proofs.Common.{◌≡◌, ℕ, ◌<◌, ◌≤◌, Bool, true, false, List, length, arith, refl, sym, ◌∙◌, ap, subst}
-use Rattle.std.specs.Prelude.{cond, ◌==◌, nat_lt, is_some, Option, Result, Ok, Err, IfOk, OnOk, slice_index, sum}
+use Rattle.std.proofs.Common.{◌≡◌, ℕ, ◌<◌, ◌≤◌, Bool, true, false, List, [], length, arith, refl, sym, ◌∙◌, ap, subst}
+use Rattle.std.specs.Prelude.{Option, Result, Ok, Err, IfOk, OnOk, slice_index, sum}
 use Rattle.dstm_model.specs.declared.value.Val.{Val}
 use Rattle.dstm_model.specs.declared.layout.Layout.{Layout}
 use Rattle.dstm_model.specs.declared.op.Op.{Op}
@@ -9,7 +9,7 @@ use Rattle.dstm_model.specs.declared.op.Op.TheVariants.{Transfer, Balance, Total
 use Rattle.dstm_model.specs.declared.op.Which.TheVariants as which
 use Rattle.dstm_model.specs.declared.reply.Reply.{Reply}
 use Rattle.dstm_model.specs.Map.{value_at}
-use Rattle.dstm_model.specs.Store.{Store, Outcome, apply, balance_of, has_key, value_of}
+use Rattle.dstm_model.specs.Store.{Store, apply}
 use Rattle.dstm_model.specs.Objects.{objects_of, tree_begin, IsBank, Does, plain}
 use Rattle.dstm_mem.specs.declared.memory.Mem.{Ghosts}
 use Rattle.dstm_mem.specs.Memory.{with_set}
@@ -23,6 +23,7 @@ use Rattle.dstm_tree.proofs.Kept.{Holds-kept, IsFreeChain-kept}
 use Rattle.dstm_tree.specs.Steps.{IsOfTree}
 use Rattle.dstm_store.specs.Whole.{StandsFor, IsLawful}
 use Rattle.dstm_store.specs.Concerns.{Concerns}
+use Rattle.dstm_store.specs.Keeps.{is_of_list}
 
 -- ---- what an operation on one structure leaves of the store
 
@@ -41,74 +42,43 @@ pub record OfTree (op : Op) : Type 0 where
   pub balances : (store : Store) → (apply op store).store.balances ≡ store.balances
   pub keys : (store : Store) → (apply op store).store.keys ≡ store.keys
 
--- what holds of two outcomes holds of the one that is chosen
-either : {A : Type 0} (f : Outcome → A) (b : Bool) (x y : Outcome) (v : A) → f x ≡ v → f y ≡ v → f (cond b x y) ≡ v
-either f true x y v first second = first
-either f false x y v first second = second
+abbrev pub is_of_bank : Op → Bool
+is_of_bank (Transfer source target amount) = true
+is_of_bank (Balance account) = true
+is_of_bank Total = true
+is_of_bank op = false
 
-pub transfer-of_bank : (s t x : ℕ) → OfBank (Transfer s t x)
-transfer-of_bank s t x = record {
-  layout = λ store. either (λ o. o.store.layout) (nat_lt (balance_of s store) x) _ _ store.layout refl refl;
-  keys = λ store. either (λ o. o.store.keys) (nat_lt (balance_of s store) x) _ _ store.keys refl refl;
-  items = λ store. either (λ o. o.store.items) (nat_lt (balance_of s store) x) _ _ store.items refl refl;
-}
+abbrev pub is_of_tree : Op → Bool
+is_of_tree (Insert which.Tree key) = true
+is_of_tree (Remove which.Tree key) = true
+is_of_tree (Member which.Tree key) = true
+is_of_tree (Put key value) = true
+is_of_tree (Get key) = true
+is_of_tree op = false
 
-pub balance-of_bank : (a : ℕ) → OfBank (Balance a)
-balance-of_bank a = record { layout = λ store. refl; keys = λ store. refl; items = λ store. refl }
+bank_op : (op : Op) → is_of_bank op ≡ true → OfBank op
+bank_op (Transfer source target amount) is =
+    record { layout = λ store. grind arith; keys = λ store. grind arith; items = λ store. grind arith }
+bank_op (Balance account) is = record { layout = λ store. refl; keys = λ store. refl; items = λ store. refl }
+bank_op Total is = record { layout = λ store. refl; keys = λ store. refl; items = λ store. refl }
+bank_op op is = absurd (cc)
 
-pub total-of_bank : OfBank Total
-total-of_bank = record { layout = λ store. refl; keys = λ store. refl; items = λ store. refl }
+list_op : (op : Op) → is_of_list op ≡ true → OfList op
+list_op (Insert which.List key) is =
+    record { layout = λ store. grind arith; balances = λ store. grind arith; items = λ store. grind arith }
+list_op (Remove which.List key) is = record { layout = λ store. refl; balances = λ store. refl; items = λ store. refl }
+list_op (Member which.List key) is = record { layout = λ store. refl; balances = λ store. refl; items = λ store. refl }
+list_op op is = absurd (cc)
 
-three : {A : Type 0} (f : Outcome → A) (b c : Bool) (x y z : Outcome) (v : A) → f x ≡ v → f y ≡ v → f z ≡ v →
-    f (cond b x (cond c y z)) ≡ v
-three f true c x y z v first second third = first
-three f false true x y z v first second third = second
-three f false false x y z v first second third = third
-
-pub insert-of_list : (key : ℕ) → OfList (Insert which.List key)
-insert-of_list key = record {
-  layout = λ store. three (λ o. o.store.layout) (has_key key store.keys)
-      (length store.keys == store.layout.list) _ _ _ store.layout refl refl refl;
-  balances = λ store. three (λ o. o.store.balances) (has_key key store.keys)
-      (length store.keys == store.layout.list) _ _ _ store.balances refl refl refl;
-  items = λ store. three (λ o. o.store.items) (has_key key store.keys)
-      (length store.keys == store.layout.list) _ _ _ store.items refl refl refl;
-}
-
-pub remove-of_list : (key : ℕ) → OfList (Remove which.List key)
-remove-of_list key = record { layout = λ store. refl; balances = λ store. refl; items = λ store. refl }
-
-pub member-of_list : (key : ℕ) → OfList (Member which.List key)
-member-of_list key = record { layout = λ store. refl; balances = λ store. refl; items = λ store. refl }
-
-pub insert-of_tree : (key : ℕ) → OfTree (Insert which.Tree key)
-insert-of_tree key = record {
-  layout = λ store. three (λ o. o.store.layout) (is_some (value_of key store.items))
-      (length store.items == store.layout.tree) _ _ _ store.layout refl refl refl;
-  balances = λ store. three (λ o. o.store.balances) (is_some (value_of key store.items))
-      (length store.items == store.layout.tree) _ _ _ store.balances refl refl refl;
-  keys = λ store. three (λ o. o.store.keys) (is_some (value_of key store.items))
-      (length store.items == store.layout.tree) _ _ _ store.keys refl refl refl;
-}
-
-pub remove-of_tree : (key : ℕ) → OfTree (Remove which.Tree key)
-remove-of_tree key = record { layout = λ store. refl; balances = λ store. refl; keys = λ store. refl }
-
-pub member-of_tree : (key : ℕ) → OfTree (Member which.Tree key)
-member-of_tree key = record { layout = λ store. refl; balances = λ store. refl; keys = λ store. refl }
-
-pub put-of_tree : (key value : ℕ) → OfTree (Put key value)
-put-of_tree key value = record {
-  layout = λ store. three (λ o. o.store.layout) (is_some (value_of key store.items))
-      (length store.items == store.layout.tree) _ _ _ store.layout refl refl refl;
-  balances = λ store. three (λ o. o.store.balances) (is_some (value_of key store.items))
-      (length store.items == store.layout.tree) _ _ _ store.balances refl refl refl;
-  keys = λ store. three (λ o. o.store.keys) (is_some (value_of key store.items))
-      (length store.items == store.layout.tree) _ _ _ store.keys refl refl refl;
-}
-
-pub get-of_tree : (key : ℕ) → OfTree (Get key)
-get-of_tree key = record { layout = λ store. refl; balances = λ store. refl; keys = λ store. refl }
+tree_op : (op : Op) → is_of_tree op ≡ true → OfTree op
+tree_op (Insert which.Tree key) is =
+    record { layout = λ store. grind arith; balances = λ store. grind arith; keys = λ store. grind arith }
+tree_op (Remove which.Tree key) is = record { layout = λ store. refl; balances = λ store. refl; keys = λ store. refl }
+tree_op (Member which.Tree key) is = record { layout = λ store. refl; balances = λ store. refl; keys = λ store. refl }
+tree_op (Put key value) is =
+    record { layout = λ store. grind arith; balances = λ store. grind arith; keys = λ store. grind arith }
+tree_op (Get key) is = record { layout = λ store. refl; balances = λ store. refl; keys = λ store. refl }
+tree_op op is = absurd (cc)
 
 -- ---- structures whose objects are unchanged
 
@@ -145,70 +115,65 @@ tree-kept layout map after store other t layouts items same = record {
 abbrev pub SameAt : (ℕ → Option Val) → (ℕ → Option Val) → ℕ → Type 0
 SameAt old new p = new p ≡ old p
 
-pub does-bank : (layout : Layout) (op : Op) (map : List Val) (old new : ℕ → Option Val) (reply : Reply) → OfBank op →
-    ((p : ℕ) → layout.accounts ≤ p → SameAt old new p) →
-    Does (IsBank layout) op (with_set map old) (with_set map new) reply →
-    Does (StandsFor layout) op (with_set map old) (with_set map new) reply
-does-bank layout op map old new reply kept same does store whole =
-    let after = does store whole.bank in
-    let before_at = with_set map old in
-    let after_at = with_set map new in (
-      after.0,
-      record {
-        objects = length-with_set map new ∙ sym (length-with_set map old) ∙ whole.objects;
-        laid_out = kept.layout store ∙ whole.laid_out;
-        bank = after.1;
-        list = list-kept after_at (apply op store).store whole.list (kept.layout store) (kept.keys store)
-            (λ p of. value_at-same_set map old new p (same p of.0));
-        tree = λ declared. tree-kept layout before_at after_at store (apply op store).store (whole.tree declared)
-            (kept.layout store) (kept.items store)
-            (λ p of. value_at-same_set map old new p (same p (omega (arith, of))));
-        no_tree = λ none. kept.items store ∙ whole.no_tree none;
-      },
-    )
+-- a map stands for another store, if each of its parts does
+stands-again : (layout : Layout) (map : List Val) (old new : ℕ → Option Val) (store other : Store) →
+    StandsFor layout (with_set map old) store → other.layout ≡ store.layout → IsBank layout (with_set map new) other →
+    IsList layout (with_set map new) other → (0 < layout.tree → IsTree layout (with_set map new) other) →
+    (layout.tree ≡ 0 → other.items ≡ []) → StandsFor layout (with_set map new) other
+stands-again layout map old new store other whole layouts bank list tree none = record {
+  objects = length-with_set map new ∙ sym (length-with_set map old) ∙ whole.objects;
+  laid_out = layouts ∙ whole.laid_out;
+  bank = bank;
+  list = list;
+  tree = tree;
+  no_tree = none;
+}
 
-pub does-list : (layout : Layout) (op : Op) (map : List Val) (old new : ℕ → Option Val) (reply : Reply) → OfList op →
-    SameOutside layout old new →
-    Does (IsList layout) op (with_set map old) (with_set map new) reply →
-    Does (StandsFor layout) op (with_set map old) (with_set map new) reply
-does-list layout op map old new reply kept same does store whole =
-    let after = does store whole.list in
-    let before_at = with_set map old in
-    let after_at = with_set map new in (
-      after.0,
-      record {
-        objects = length-with_set map new ∙ sym (length-with_set map old) ∙ whole.objects;
-        laid_out = kept.layout store ∙ whole.laid_out;
-        bank = bank-kept layout before_at after_at store (apply op store).store whole.bank (kept.balances store)
-            (λ p of. value_at-same_set map old new p (same p (λ h. omega (arith, h.0, of))));
-        list = after.1;
-        tree = λ declared. tree-kept layout before_at after_at store (apply op store).store (whole.tree declared)
-            (kept.layout store) (kept.items store)
-            (λ p of. value_at-same_set map old new p (same p (λ h. omega (arith, h.1, of))));
-        no_tree = λ none. kept.items store ∙ whole.no_tree none;
-      },
-    )
+module _ (layout : Layout) (op : Op) (map : List Val) (old new : ℕ → Option Val) (reply : Reply) where
+  does-bank : OfBank op → ((p : ℕ) → layout.accounts ≤ p → SameAt old new p) →
+      Does (IsBank layout) op (with_set map old) (with_set map new) reply →
+      Does (StandsFor layout) op (with_set map old) (with_set map new) reply
+  does-bank kept same does store whole =
+      let after = does store whole.bank in (
+        after.0,
+        stands-again layout map old new store (apply op store).store whole (kept.layout store) after.1
+            (list-kept (with_set map new) (apply op store).store whole.list (kept.layout store) (kept.keys store)
+            (λ p of. value_at-same_set map old new p (same p of.0)))
+            (λ declared. tree-kept layout (with_set map old) (with_set map new) store (apply op store).store
+            (whole.tree declared) (kept.layout store) (kept.items store)
+            (λ p of. value_at-same_set map old new p (same p (omega (arith, of)))))
+            (λ none. kept.items store ∙ whole.no_tree none),
+      )
 
-pub does-tree : (layout : Layout) (op : Op) (map : List Val) (old new : ℕ → Option Val) (reply : Reply) → OfTree op →
-    0 < layout.tree → ((p : ℕ) → p < tree_begin layout → SameAt old new p) →
-    Does (IsTree layout) op (with_set map old) (with_set map new) reply →
-    Does (StandsFor layout) op (with_set map old) (with_set map new) reply
-does-tree layout op map old new reply kept declared same does store whole =
-    let after = does store (whole.tree declared) in
-    let before_at = with_set map old in
-    let after_at = with_set map new in (
-      after.0,
-      record {
-        objects = length-with_set map new ∙ sym (length-with_set map old) ∙ whole.objects;
-        laid_out = kept.layout store ∙ whole.laid_out;
-        bank = bank-kept layout before_at after_at store (apply op store).store whole.bank (kept.balances store)
-            (λ p of. value_at-same_set map old new p (same p (omega (arith, of))));
-        list = list-kept after_at (apply op store).store whole.list (kept.layout store) (kept.keys store)
-            (λ p of. value_at-same_set map old new p (same p of.1));
-        tree = λ _. after.1;
-        no_tree = λ none. absurd (omega (arith, none, declared));
-      },
-    )
+  does-list : OfList op → SameOutside layout old new →
+      Does (IsList layout) op (with_set map old) (with_set map new) reply →
+      Does (StandsFor layout) op (with_set map old) (with_set map new) reply
+  does-list kept same does store whole =
+      let after = does store whole.list in (
+        after.0,
+        stands-again layout map old new store (apply op store).store whole (kept.layout store)
+            (bank-kept layout (with_set map old) (with_set map new) store (apply op store).store whole.bank
+            (kept.balances store) (λ p of. value_at-same_set map old new p (same p (λ h. omega (arith, h.0, of)))))
+            after.1
+            (λ declared. tree-kept layout (with_set map old) (with_set map new) store (apply op store).store
+            (whole.tree declared) (kept.layout store) (kept.items store)
+            (λ p of. value_at-same_set map old new p (same p (λ h. omega (arith, h.1, of)))))
+            (λ none. kept.items store ∙ whole.no_tree none),
+      )
+
+  does-tree : OfTree op → 0 < layout.tree → ((p : ℕ) → p < tree_begin layout → SameAt old new p) →
+      Does (IsTree layout) op (with_set map old) (with_set map new) reply →
+      Does (StandsFor layout) op (with_set map old) (with_set map new) reply
+  does-tree kept declared same does store whole =
+      let after = does store (whole.tree declared) in (
+        after.0,
+        stands-again layout map old new store (apply op store).store whole (kept.layout store)
+            (bank-kept layout (with_set map old) (with_set map new) store (apply op store).store whole.bank
+            (kept.balances store) (λ p of. value_at-same_set map old new p (same p (omega (arith, of)))))
+            (list-kept (with_set map new) (apply op store).store whole.list (kept.layout store) (kept.keys store)
+            (λ p of. value_at-same_set map old new p (same p of.1)))
+            (λ _. after.1) (λ none. absurd (omega (arith, none, declared))),
+      )
 
 -- the store after an operation is one that the map after stands for
 pub lawful-after : (layout : Layout) (op : Op) (before after : List Val) (reply : Reply) → IsLawful layout before →
@@ -222,49 +187,41 @@ both : {X Y : Type 0} (r : Result X Y) (P R : X → Type 0) (Q : Type 0) → ((x
 both (Ok x) P R Q f p q = f x p q
 both (Err e) P R Q f p q = tt
 
-module _ {S E : Type 0} (M : Ghosts S E) (layout : Layout) {op : Op} {In : ℕ → Type 0} {old new : S}
+module _ {S E : Type 0} (M : Ghosts S E) (layout : Layout) (op : Op) {In : ℕ → Type 0} {old new : S}
     {r : Result Reply E} where
-  pub of-bank : OfBank op → ((o : ℕ) → In o → o < layout.accounts) → Applies M In (IsBank layout) op old new r →
-      Applies M In (StandsFor layout) op old new r
-  of-bank kept within done = record {
+  -- what is done to one structure, if nothing is set outside
+  of-part : {Part : List Val → Store → Type 0} →
+      ((map : List Val) (reply : Reply) → ((p : ℕ) → ¬ In p → M.written new p ≡ M.written old p) →
+      Does Part op (with_set map (M.written old)) (with_set map (M.written new)) reply →
+      Does (StandsFor layout) op (with_set map (M.written old)) (with_set map (M.written new)) reply) →
+      Applies M In Part op old new r → Applies M In (StandsFor layout) op old new r
+  of-part lift done = record {
     leads = done.leads;
     outside = done.outside;
     marks = done.marks;
     quiet = done.quiet;
     does = both r _ _ _
-        (λ reply does same map admitted.
-        does-bank layout op map (M.written old) (M.written new) reply kept
-        (λ p at. (same p (λ inside. omega (arith, at, within p inside))).written) (does map admitted))
-        done.does done.outside;
+        (λ reply does same map admitted. lift map reply (λ p out. (same p out).written) (does map admitted)) done.does
+        done.outside;
   }
 
-  pub of-list : OfList op → ((o : ℕ) → In o → IsOfList layout o) → Applies M In (IsList layout) op old new r →
+  pub of-bank : is_of_bank op ≡ true → ((o : ℕ) → In o → o < layout.accounts) → Applies M In (IsBank layout) op old new r →
       Applies M In (StandsFor layout) op old new r
-  of-list kept within done = record {
-    leads = done.leads;
-    outside = done.outside;
-    marks = done.marks;
-    quiet = done.quiet;
-    does = both r _ _ _
-        (λ reply does same map admitted.
-        does-list layout op map (M.written old) (M.written new) reply kept
-        (λ p out. (same p (λ inside. out (within p inside))).written) (does map admitted))
-        done.does done.outside;
-  }
+  of-bank is within =
+      of-part (λ map reply same. does-bank layout op map (M.written old) (M.written new) reply (bank_op op is)
+      (λ p at. same p (λ inside. omega (arith, at, within p inside))))
 
-  pub of-tree : OfTree op → 0 < layout.tree → ((o : ℕ) → In o → IsOfTree layout o) →
+  pub of-list : is_of_list op ≡ true → ((o : ℕ) → In o → IsOfList layout o) → Applies M In (IsList layout) op old new r →
+      Applies M In (StandsFor layout) op old new r
+  of-list is within =
+      of-part (λ map reply same. does-list layout op map (M.written old) (M.written new) reply (list_op op is)
+      (λ p out. same p (λ inside. out (within p inside))))
+
+  pub of-tree : is_of_tree op ≡ true → 0 < layout.tree → ((o : ℕ) → In o → IsOfTree layout o) →
       Applies M In (IsTree layout) op old new r → Applies M In (StandsFor layout) op old new r
-  of-tree kept declared within done = record {
-    leads = done.leads;
-    outside = done.outside;
-    marks = done.marks;
-    quiet = done.quiet;
-    does = both r _ _ _
-        (λ reply does same map admitted.
-        does-tree layout op map (M.written old) (M.written new) reply kept declared
-        (λ p at. (same p (λ inside. omega (arith, at, within p inside))).written) (does map admitted))
-        done.does done.outside;
-  }
+  of-tree is declared within =
+      of-part (λ map reply same. does-tree layout op map (M.written old) (M.written new) reply (tree_op op is) declared
+      (λ p at. same p (λ inside. omega (arith, at, within p inside))))
 
 -- and leaves a lawful map
 pub leaves-lawful : {S E : Type 0} (M : Ghosts S E) (layout : Layout) (op : Op) {In : ℕ → Type 0} {old new : S}

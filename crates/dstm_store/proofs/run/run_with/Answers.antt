@@ -1,11 +1,8 @@
-use Rattle.std.proofs.Common.{◌≡◌, arith, rules, subst, inl, inr}
-use Rattle.dstm_model.specs.declared.op.Op.TheVariants.{Insert, Remove, Member}
+use Rattle.std.proofs.Common.{◌≡◌, arith, refl, rules, subst, inl, inr}
+use Rattle.dstm_model.specs.declared.op.Op.TheVariants.{Transfer, Balance, Total, Insert, Remove, Member, Put, Get}
 use Rattle.dstm_model.specs.declared.op.Which.TheVariants as which
 use Rattle.dstm_model.specs.Layout.{FitsLayout}
 use Rattle.dstm_store.proofs.Parts.{of-bank, of-list, of-tree, known-as}
-use Rattle.dstm_store.proofs.Parts.{transfer-of_bank, balance-of_bank, total-of_bank, insert-of_list}
-use Rattle.dstm_store.proofs.Parts.{remove-of_list, member-of_list, insert-of_tree, remove-of_tree, member-of_tree}
-use Rattle.dstm_store.proofs.Parts.{put-of_tree, get-of_tree}
 use Rattle.dstm_store.proofs.run.run_with.Goals as goal
 
 pub returns-in-Transfer-clause-applies : goal.returns-in-Transfer-clause-applies
@@ -14,7 +11,7 @@ returns-in-Transfer-clause-applies g c =
     let a = c.in-Transfer in
     let fits = subst (FitsLayout layout) a.is c.requires.fits in
     known-as g.M.Mem layout a.is
-    (of-bank g.M.Mem layout (transfer-of_bank a.source a.target a.amount)
+    (of-bank g.M.Mem layout (Transfer a.source a.target a.amount) refl
     (λ o named. elim named [
       | inl source ↦ omega (arith, source, fits.0)
       | inr target ↦ omega (arith, target, fits.1)
@@ -27,13 +24,13 @@ returns-in-Balance-clause-applies g c =
     let a = c.in-Balance in
     let fits = subst (FitsLayout layout) a.is c.requires.fits in
     known-as g.M.Mem layout a.is
-    (of-bank g.M.Mem layout (balance-of_bank a.account) (λ o same. omega (arith, same, fits)) c.balance.ensures)
+    (of-bank g.M.Mem layout (Balance a.account) refl (λ o same. omega (arith, same, fits)) c.balance.ensures)
 
 pub returns-in-Total-clause-applies : goal.returns-in-Total-clause-applies
 returns-in-Total-clause-applies g c =
     let layout = c.args.layout.now in
     known-as g.M.Mem layout c.in-Total.is
-    (of-bank g.M.Mem layout total-of_bank (λ o inside. inside) c.total.ensures.applies)
+    (of-bank g.M.Mem layout Total refl (λ o inside. inside) c.total.ensures.applies)
 
 pub returns-in-Insert-List-default-clause-applies : goal.returns-in-Insert-List-default-clause-applies
 returns-in-Insert-List-default-clause-applies g c =
@@ -41,7 +38,7 @@ returns-in-Insert-List-default-clause-applies g c =
     let a = c.in-Insert-List-default in
     let is : c.args.op.now ≡ Insert which.List a.key = search (rules, a.is, a.which-is) in
     known-as g.M.Mem layout is
-    (of-list g.M.Mem layout (insert-of_list a.key) (λ o inside. inside) c.insert.ensures.applies)
+    (of-list g.M.Mem layout (Insert which.List a.key) refl (λ o inside. inside) c.insert.ensures.applies)
 
 pub returns-in-Remove-List-default-clause-applies : goal.returns-in-Remove-List-default-clause-applies
 returns-in-Remove-List-default-clause-applies g c =
@@ -49,7 +46,7 @@ returns-in-Remove-List-default-clause-applies g c =
     let a = c.in-Remove-List-default in
     let is : c.args.op.now ≡ Remove which.List a.key = search (rules, a.is, a.which-is) in
     known-as g.M.Mem layout is
-    (of-list g.M.Mem layout (remove-of_list a.key) (λ o inside. inside) c.remove.ensures.applies)
+    (of-list g.M.Mem layout (Remove which.List a.key) refl (λ o inside. inside) c.remove.ensures.applies)
 
 pub returns-in-Member-List-default-clause-applies : goal.returns-in-Member-List-default-clause-applies
 returns-in-Member-List-default-clause-applies g c =
@@ -57,7 +54,7 @@ returns-in-Member-List-default-clause-applies g c =
     let a = c.in-Member-List-default in
     let is : c.args.op.now ≡ Member which.List a.key = search (rules, a.is, a.which-is) in
     known-as g.M.Mem layout is
-    (of-list g.M.Mem layout (member-of_list a.key) (λ o inside. inside) c.member.ensures.applies)
+    (of-list g.M.Mem layout (Member which.List a.key) refl (λ o inside. inside) c.member.ensures.applies)
 
 pub returns-in-Insert-Tree-default-clause-applies : goal.returns-in-Insert-Tree-default-clause-applies
 returns-in-Insert-Tree-default-clause-applies g c =
@@ -66,7 +63,7 @@ returns-in-Insert-Tree-default-clause-applies g c =
     let is : c.args.op.now ≡ Insert which.Tree a.key = search (rules, a.is, a.which-is) in
     let fits = subst (FitsLayout layout) is c.requires.fits in
     known-as g.M.Mem layout is
-    (of-tree g.M.Mem layout (insert-of_tree a.key) fits.0 (λ o inside. inside)
+    (of-tree g.M.Mem layout (Insert which.Tree a.key) refl fits.0 (λ o inside. inside)
     c.insert-in-Insert-Tree-default.ensures)
 
 pub returns-in-Remove-Tree-default-clause-applies : goal.returns-in-Remove-Tree-default-clause-applies
@@ -76,7 +73,7 @@ returns-in-Remove-Tree-default-clause-applies g c =
     let is : c.args.op.now ≡ Remove which.Tree a.key = search (rules, a.is, a.which-is) in
     let fits = subst (FitsLayout layout) is c.requires.fits in
     known-as g.M.Mem layout is
-    (of-tree g.M.Mem layout (remove-of_tree a.key) fits.0 (λ o inside. inside)
+    (of-tree g.M.Mem layout (Remove which.Tree a.key) refl fits.0 (λ o inside. inside)
     c.remove-in-Remove-Tree-default.ensures)
 
 pub returns-in-Member-Tree-default-clause-applies : goal.returns-in-Member-Tree-default-clause-applies
@@ -86,7 +83,7 @@ returns-in-Member-Tree-default-clause-applies g c =
     let is : c.args.op.now ≡ Member which.Tree a.key = search (rules, a.is, a.which-is) in
     let fits = subst (FitsLayout layout) is c.requires.fits in
     known-as g.M.Mem layout is
-    (of-tree g.M.Mem layout (member-of_tree a.key) fits.0 (λ o inside. inside)
+    (of-tree g.M.Mem layout (Member which.Tree a.key) refl fits.0 (λ o inside. inside)
     c.member-in-Member-Tree-default.ensures)
 
 pub returns-in-Put-clause-applies : goal.returns-in-Put-clause-applies
@@ -95,7 +92,7 @@ returns-in-Put-clause-applies g c =
     let a = c.in-Put in
     let fits = subst (FitsLayout layout) a.is c.requires.fits in
     known-as g.M.Mem layout a.is
-    (of-tree g.M.Mem layout (put-of_tree a.key a.value) fits.0 (λ o inside. inside) c.put.ensures)
+    (of-tree g.M.Mem layout (Put a.key a.value) refl fits.0 (λ o inside. inside) c.put.ensures)
 
 pub returns-in-Get-clause-applies : goal.returns-in-Get-clause-applies
 returns-in-Get-clause-applies g c =
@@ -103,4 +100,4 @@ returns-in-Get-clause-applies g c =
     let a = c.in-Get in
     let fits = subst (FitsLayout layout) a.is c.requires.fits in
     known-as g.M.Mem layout a.is
-    (of-tree g.M.Mem layout (get-of_tree a.key) fits.0 (λ o inside. inside) c.get.ensures)
+    (of-tree g.M.Mem layout (Get a.key) refl fits.0 (λ o inside. inside) c.get.ensures)
