@@ -1,5 +1,5 @@
 -- What an attempt at a job with branches leaves, from the clauses of its calls.
-use Rattle.std.proofs.Common.{◌≡◌, ◌≢◌, ◌∙◌, ◌+◌, ◌<◌, ◌≤◌, ◌++◌, ◌∷◌, ℕ, Bool, List, [], None, true, false, refl, sym, ap, subst, arith, length, add-zero}
+use Rattle.std.proofs.Common.{◌≡◌, ◌≢◌, ◌∙◌, ◌+◌, ◌<◌, ◌≤◌, ◌++◌, ◌∷◌, ℕ, Bool, List, [], None, Some, true, false, refl, sym, ap, subst, arith, length, add-zero}
 use Rattle.std.specs.Prelude.{Option, IfSome, if◌then◌else◌, ◌&&◌}
 use Rattle.std.proofs.lemmas.Bool.{cond_both}
 use base.Fml.{GName}
@@ -34,6 +34,7 @@ use Rattle.dstm_order.specs.declared.again.Again.{Again}
 use Rattle.dstm_order.specs.Calls.{IsCall, Obeys, state_after}
 use Rattle.dstm_order.specs.Order.{IsDue, just}
 use Rattle.dstm_order.specs.Order.Due.{Done}
+use Rattle.dstm_order.specs.Tasks.{Task}
 use Rattle.dstm_order.specs.Tasks.Task.{Leaving, Beginning}
 use Rattle.dstm_core.specs.Counts.{is_begin}
 use Rattle.dstm_machines.proofs.Attempts.{log_parts}
@@ -62,7 +63,7 @@ use Rattle.dstm_engine.specs.Makes.{Makes}
 use Rattle.dstm_order.specs.Retries.{TriesAgain, is_new}
 use Rattle.dstm_engine.proofs.AddingUp.{makes_both, makes_one}
 use Rattle.dstm_engine.proofs.Attempting.{told_makes}
-use Rattle.dstm_engine.proofs.Anew.{same_aborted}
+use Rattle.dstm_engine.proofs.Anew.{new_committed, same_aborted}
 use Rattle.dstm_tables.specs.declared.tables.Caller.TheVariants.{Dstm}
 use Rattle.dstm_tables.specs.declared.tables.Table.TheVariants as table
 use Rattle.dstm_tables.specs.Callers.{AtRest}
@@ -73,7 +74,7 @@ use Rattle.dstm_tables.proofs.Doing as doing
 use Rattle.dstm_engine.proofs.BegunThere.{begun_there, count_later}
 use Rattle.dstm_engine.proofs.FewSights.{count_kinds, none_looks, sights_more}
 use Rattle.dstm_engine.proofs.Rechecking.{NoSelf}
-use Rattle.dstm_tables.proofs.Made.{did, not_committed, numbered}
+use Rattle.dstm_tables.proofs.Made.{did, not_committed, numbered, run_there}
 use Rattle.dstm_tables.proofs.SeenLast.{seen_last-agrees, seen_last-skips}
 use Rattle.dstm_tables.proofs.Rechecking.{runs}
 use Rattle.dstm_tables.proofs.StayingByDstm.{in_range}
@@ -164,7 +165,7 @@ module _ (k b t : Called StoreLaw) (r q : GName) (h j : Home StoreLaw) (begins :
           ∙ begins.begun
 
   -- others kept it from its commit
-  pub was_kept_by : (n : Called StoreLaw) (again : Again) → OneMore (Dstm k) (Dstm n) → IsLeft n again → done n ≡ done t →
+  was_kept_by : (n : Called StoreLaw) (again : Again) → OneMore (Dstm k) (Dstm n) → IsLeft n again → done n ≡ done t →
       WasKept (Dstm k) (Dstm n)
   was_kept_by n again one left same = record {
     made = one;
@@ -174,7 +175,7 @@ module _ (k b t : Called StoreLaw) (r q : GName) (h j : Home StoreLaw) (begins :
   }
 
   -- the same of an attempt that had been left as it was given up
-  pub was_kept_dead : (n : Called StoreLaw) (again : Again) → AtRest (Dstm k) → IsTold t → n ≡ t → IsLeft t again →
+  was_kept_dead : (n : Called StoreLaw) (again : Again) → AtRest (Dstm k) → IsTold t → n ≡ t → IsLeft t again →
       IsRunOf keeps t.home.terms n.log → WasKept (Dstm k) (Dstm n)
   was_kept_dead n again rest told same left run =
       let there = ap (λ (x : Called StoreLaw). x.log) same in
@@ -184,7 +185,7 @@ module _ (k b t : Called StoreLaw) (r q : GName) (h j : Home StoreLaw) (begins :
       subst (λ (x : Called StoreLaw). WasKept (Dstm k) (Dstm x)) (sym same) (was_kept_by t again one left refl)
 
   -- it ran the first open branch of the job, and committed
-  pub did_branch : (layout : Layout) (job : Job) (finished : Finished) (n : Called StoreLaw) → AtRest (Dstm k) →
+  did_branch : (layout : Layout) (job : Job) (finished : Finished) (n : Called StoreLaw) → AtRest (Dstm k) →
       (law_of k).layout ≡ layout → n.home ≡ t.home → OneMore (Dstm k) (Dstm n) → Commits t n finished.number →
       ((map : List Val) → Admits keeps t map →
       IsRight (record { layout = layout; ops = job.ops }) map (with_set map (written t)) (Ran finished.replies)) →
@@ -195,7 +196,66 @@ module _ (k b t : Called StoreLaw) (r q : GName) (h j : Home StoreLaw) (begins :
       (made.settled keeps k b t r q h j begins place _ n finished.number nh
       (subst (λ (x : Home StoreLaw). IsRunOf keeps x.terms n.log) nh one.on.rest.run) commits right))
 
+-- ---- from the clauses of its last call
+
+module _ {k b t n x : Called StoreLaw} (a : made.Tried keeps k b t n x) (rest : AtRest (Dstm k)) where
+  -- it committed
+  pub one_committed : n ≡ record t { log = n.log; left = None; fresh = true } →
+      begun_log n.number n.log ≡ begun_log t.number t.log → IsRunOf keeps t.home.terms n.log → IsTold n →
+      (drawn : ℕ) → Commits t n drawn → OneMore (Dstm k) (Dstm n)
+  one_committed kept log run told drawn commits =
+      let nh : n.home ≡ t.home = ap (λ (x : Called StoreLaw). x.home) kept in
+      let nn : n.number ≡ t.number = ap (λ (x : Called StoreLaw). x.number) kept in
+      let there = run_there t n nh run in
+      one_more_by k b t a.reference a.before a.table a.at a.begins a.place n nh nn log there commits.over
+      (calls_by k b t a.reference a.before a.table a.at a.begins a.place rest n nh nn
+      (ap (λ (x : Called StoreLaw). x.began) kept) log told)
+      (λ some. ap (λ (x : Called StoreLaw). x.fresh) kept ∙ sym (new_committed n there.run.core commits.status some))
+
+  -- so it did the job
+  pub did_commit : (layout : Layout) (job : Job) (finished : Finished) → (law_of k).layout ≡ layout →
+      n ≡ record t { log = n.log; left = None; fresh = true } → begun_log n.number n.log ≡ begun_log t.number t.log →
+      IsRunOf keeps t.home.terms n.log → IsTold n → Commits t n finished.number →
+      ((map : List Val) → Admits keeps t map →
+      IsRight (record { layout = layout; ops = job.ops }) map (with_set map (written t)) (Ran finished.replies)) →
+      DidJob Branches layout job (Dstm k) (Dstm x) finished
+  did_commit layout job finished law kept log run told commits right =
+      subst (λ (c : Called StoreLaw). DidJob Branches layout job (Dstm k) (Dstm c) finished) (sym a.end)
+      (did_branch k b t a.reference a.before a.table a.at a.begins a.place layout job finished n rest law
+      (ap (λ (x : Called StoreLaw). x.home) kept) (one_committed kept log run told finished.number commits) commits right)
+
+  -- it did not commit
+  pub was_left : (again : Again) → n ≡ record t { log = n.log; left = Some again } →
+      begun_log n.number n.log ≡ begun_log t.number t.log → IsRunOf keeps t.home.terms n.log → IsTold n →
+      IsLeft n again → done n ≡ done t → WasKept (Dstm k) (Dstm x)
+  was_left again kept log run told left same =
+      let nh : n.home ≡ t.home = ap (λ (x : Called StoreLaw). x.home) kept in
+      let nn : n.number ≡ t.number = ap (λ (x : Called StoreLaw). x.number) kept in
+      let there = run_there t n nh run in
+      subst (λ (c : Called StoreLaw). WasKept (Dstm k) (Dstm c)) (sym a.end)
+      (was_kept_by k b t a.reference a.before a.table a.at a.begins a.place n again
+      (one_more_by k b t a.reference a.before a.table a.at a.begins a.place n nh nn log there left.over
+      (calls_by k b t a.reference a.before a.table a.at a.begins a.place rest n nh nn
+      (ap (λ (x : Called StoreLaw). x.began) kept) log told)
+      (aborted_fresh k b t a.reference a.before a.table a.at a.begins a.place n
+      (ap (λ (x : Called StoreLaw). x.fresh) kept) there left.aborted)) left same)
+
+  -- it had been left as it was given up
+  pub was_dead : (again : Again) → IsTold t → n ≡ t → IsLeft t again → IsRunOf keeps t.home.terms n.log →
+      WasKept (Dstm k) (Dstm x)
+  was_dead again told same left run =
+      subst (λ (c : Called StoreLaw). WasKept (Dstm k) (Dstm c)) (sym a.end)
+      (was_kept_dead k b t a.reference a.before a.table a.at a.begins a.place n again rest told same left run)
+
 -- ---- an attempt that was given up at its job
+
+-- a call leaves the state that its events make
+performed : {task : Task} {again : Option Again} (u n : Called StoreLaw) (p : Performs keeps task u n again) →
+    state n ≡ state_after (shape_of u) (state u) p.events
+performed u n p =
+    ap (λ (x : Home StoreLaw). local x.terms.shape n.log n.number) p.same.0
+    ∙ ap (local (shape_of u) n.log) p.same.1
+    ∙ after_own (shape_of u) u.number n.log u.log p.events p.own
 
 quit_kind : (b : Bool) (e : Event) → IsDue (if b then Done else just Quit) e → e.kind ≡ Quit
 quit_kind true e due = absurd due
@@ -303,10 +363,7 @@ aborts u n p run live some =
 
     committed : (state n).committed ≡ false
     committed =
-        let there : state n ≡ local (shape_of u) n.log u.number =
-        ap (λ (x : Home StoreLaw). local x.terms.shape n.log n.number) p.same.0
-        ∙ ap (local (shape_of u) n.log) p.same.1 in
-        ap (λ (l : LocalState). l.committed) (there ∙ after_own (shape_of u) u.number n.log u.log p.events p.own)
+        ap (λ (l : LocalState). l.committed) (performed u n p)
         ∙ leaving_commits (shape_of u) (state u) u.generator p.events p.call.obeys
         ∙ (sound (shape_of u) u.log run.run.core u.number).goes inside
 
@@ -330,9 +387,7 @@ unused_by k b u n begins home number log unopened left = last ∙ none ∙ first
     first : (state b).installed ≡ (state k).installed
     first =
         let p = begins.steps in
-        let there : state b ≡ local (shape_of k) b.log k.number =
-        ap (λ (x : Home StoreLaw). local x.terms.shape b.log b.number) p.same.0 ∙ ap (local (shape_of k) b.log) p.same.1 in
-        ap (λ (l : LocalState). l.installed) (there ∙ after_own (shape_of k) k.number b.log k.log p.events p.own)
+        ap (λ (l : LocalState). l.installed) (performed k b p)
         ∙ beginning_installs (shape_of k) k.fresh (state k) k.generator p.events p.call.obeys
 
     none : (state u).installed ≡ (state b).installed
@@ -347,10 +402,7 @@ unused_by k b u n begins home number log unopened left = last ∙ none ∙ first
 
     last : (state n).installed ≡ (state u).installed
     last =
-        let there : state n ≡ local (shape_of u) n.log u.number =
-        ap (λ (x : Home StoreLaw). local x.terms.shape n.log n.number) left.same.0
-        ∙ ap (local (shape_of u) n.log) left.same.1 in
-        ap (λ (l : LocalState). l.installed) (there ∙ after_own (shape_of u) u.number n.log u.log left.events left.own)
+        ap (λ (l : LocalState). l.installed) (performed u n left)
         ∙ leaving_installs (shape_of u) (state u) u.generator left.events left.call.obeys
 
 -- an attempt that was rechecked so often, and then given up, in which no branch of the job was open

@@ -30,6 +30,25 @@ use Rattle.dstm_tables.specs.declared.tables.Round.{Round}
 use Rattle.dstm_tables.specs.declared.tables.Round.TheVariants.{Dstm, Tl2}
 use Rattle.dstm_tables.proofs.ClosingByDstm.{had_to_stop_at_close, none_wasted_at_close, state_at_close}
 
+-- what is so under each engine is so whichever it is
+at_close : (P : Round → ℕ → Type 0) →
+    ((terms : core_terms.Terms StoreLaw) (old new : List core_events.Event) (c : ℕ) → core.Core terms.shape new →
+    c < terms.shape.callers → IsPastOf old new → events_of c new ≡ events_of c old →
+    P (Dstm (record { terms = terms; log = old })) c → P (Dstm (record { terms = terms; log = new })) c) →
+    ((terms : tl2_terms.Terms StoreLaw) (old new : List Event) (c : ℕ) → IsPastOf old new →
+    events_of c new ≡ events_of c old → P (Tl2 (record { terms = terms; log = old })) c →
+    P (Tl2 (record { terms = terms; log = new })) c) →
+    (a b : Round) (c : ℕ) → IsRun b → c < callers_of a → IsPast a b → SameOwn c a b → P a c → P b c
+at_close P by_dstm by_tl2 (Dstm a) (Dstm b) c run inside past own was =
+    subst (λ (t : core_terms.Terms StoreLaw). P (Dstm (record { terms = t; log = b.log })) c) (sym past.0)
+    (by_dstm a.terms a.log b.log c
+    (subst (λ (t : core_terms.Terms StoreLaw). core.Core t.shape b.log) past.0 run.run.core) inside past.1 own was)
+at_close P by_dstm by_tl2 (Tl2 a) (Tl2 b) c run inside past own was =
+    subst (λ (t : tl2_terms.Terms StoreLaw). P (Tl2 (record { terms = t; log = b.log })) c) (sym past.0)
+    (by_tl2 a.terms a.log b.log c past.1 own was)
+at_close P by_dstm by_tl2 (Dstm a) (Tl2 b) c run inside past own was = absurd past
+at_close P by_dstm by_tl2 (Tl2 a) (Dstm b) c run inside past own was = absurd past
+
 module _ (workload : Workload) (job : Option Job) where
   -- ---- TL2
 
@@ -79,29 +98,15 @@ module _ (workload : Workload) (job : Option Job) where
 
   pub none_at_close : (a b : Round) (c : ℕ) → IsRun b → c < callers_of a → IsPast a b → SameOwn c a b →
       NoneWasted workload job a c → NoneWasted workload job b c
-  none_at_close (Dstm a) (Dstm b) c run inside past own none =
-      subst (λ (t : core_terms.Terms StoreLaw). core.Core t.shape b.log → c < t.shape.callers →
-      NoneWasted workload job (Dstm (record { terms = t; log = b.log })) c) (sym past.0)
-      (λ ran within. none_wasted_at_close a.terms c a.log b.log ran within past.1 own workload job none)
-      run.run.core (subst (λ (t : core_terms.Terms StoreLaw). c < t.shape.callers) (sym past.0) inside)
-  none_at_close (Tl2 a) (Tl2 b) c run inside past own none =
-      subst (λ (t : tl2_terms.Terms StoreLaw). NoneWasted workload job (Tl2 (record { terms = t; log = b.log })) c) (sym past.0)
-      (tl2_none a.terms a.log b.log c past.1 own none)
-  none_at_close (Dstm a) (Tl2 b) c run inside past own none = absurd past
-  none_at_close (Tl2 a) (Dstm b) c run inside past own none = absurd past
+  none_at_close = at_close (NoneWasted workload job)
+      (λ terms old new c core inside past own none.
+      none_wasted_at_close terms c old new core inside past own workload job none) tl2_none
 
   pub stop_at_close : (a b : Round) (c : ℕ) → IsRun b → c < callers_of a → IsPast a b → SameOwn c a b →
       HadToStop workload job a c → HadToStop workload job b c
-  stop_at_close (Dstm a) (Dstm b) c run inside past own had =
-      subst (λ (t : core_terms.Terms StoreLaw). core.Core t.shape b.log → c < t.shape.callers →
-      HadToStop workload job (Dstm (record { terms = t; log = b.log })) c) (sym past.0)
-      (λ ran within. had_to_stop_at_close a.terms c a.log b.log ran within past.1 own workload job had)
-      run.run.core (subst (λ (t : core_terms.Terms StoreLaw). c < t.shape.callers) (sym past.0) inside)
-  stop_at_close (Tl2 a) (Tl2 b) c run inside past own had =
-      subst (λ (t : tl2_terms.Terms StoreLaw). HadToStop workload job (Tl2 (record { terms = t; log = b.log })) c) (sym past.0)
-      (tl2_stop a.terms a.log b.log c past.1 own had)
-  stop_at_close (Dstm a) (Tl2 b) c run inside past own had = absurd past
-  stop_at_close (Tl2 a) (Dstm b) c run inside past own had = absurd past
+  stop_at_close = at_close (HadToStop workload job)
+      (λ terms old new c core inside past own had.
+      had_to_stop_at_close terms c old new core inside past own workload job had) tl2_stop
 
 -- ---- what a caller has committed
 

@@ -3,8 +3,9 @@ use Rattle.std.proofs.Common.{◌≡◌, ◌⊎◌, ◌==◌, ◌&&◌, ℕ, tru
 use Rattle.std.specs.Prelude.{if◌then◌else◌}
 use Rattle.std.proofs.lemmas.Bool.{cases_Bool, cond_both, eqb-true, eq-eqb}
 use Rattle.std.proofs.lemmas.List.{append-nil}
-use Rattle.std.proofs.lemmas.List.Elements.{All-cons, All-nil, filter-append}
+use Rattle.std.proofs.lemmas.List.Elements.{All-cons, All-nil}
 use Rattle.std.proofs.lemmas.Option.{none-some}
+use Rattle.dstm_machines.specs.declared.event.Event as trace
 use Rattle.dstm_core.specs.Events.{Event}
 use Rattle.dstm_core.specs.declared.event.Kind.{Kind}
 use Rattle.dstm_core.specs.declared.event.Kind.TheVariants.{Enrol, Install, LookSelf, Validating, Pause, Resume}
@@ -12,7 +13,8 @@ use Rattle.dstm_core.specs.declared.shape.Shape.{Shape}
 use Rattle.dstm_core.specs.Rules.{after}
 use Rattle.dstm_core.specs.Runs.{Core, core, local}
 use Rattle.dstm_core.specs.State.{LocalState, first, given}
-use Rattle.dstm_core.specs.Traces.{events_of}
+use Rattle.dstm_machines.specs.Traces.{events_of}
+use Rattle.dstm_machines.proofs.Own.{none_before_only}
 use Rattle.dstm_machines.proofs.Runs.{local-events_of}
 use Rattle.dstm_opacity.specs.Committed.{done_by, has_committed, is_commit}
 use Rattle.dstm_opacity.proofs.Stays.{call_adds_none}
@@ -36,27 +38,16 @@ use Rattle.dstm_tables.specs.Law.{keeps}
 use Rattle.dstm_tables.proofs.Calls.{from_first}
 
 -- an event that stands first among a caller's is that caller's
-head_own : (c : ℕ) (log : List Event) (event : Event) (more : List Event) → events_of c log ≡ event ∷ more → event.caller ≡ c
+pub head_own : {K : Type 0} (c : ℕ) (log : List (trace.Event K)) (event : trace.Event K)
+    (more : List (trace.Event K)) → events_of c log ≡ event ∷ more → event.caller ≡ c
 head_own c [] event more is = absurd (cc)
 head_own c (e ∷ log) event more is =
     elim (cases_Bool (e.caller == c)) [
       | inl own ↦
           let here : e ∷ events_of c log ≡ event ∷ more = rw own at is in
-          let same : e ≡ event = cc in ap (λ (x : Event). x.caller) (sym same) ∙ eqb-true e.caller c own
+          let same : e ≡ event = cc in ap (λ x. x.caller) (sym same) ∙ eqb-true e.caller c own
       | inr other ↦ head_own c log event more (rw other at is)
     ]
-
--- where its Enrol is all that a caller has made, it had made nothing before
-none_before : (c : ℕ) (between log : List Event) (enrol : Event) → enrol.caller ≡ c →
-    events_of c (enrol ∷ (between ++ log)) ≡ enrol ∷ [] → events_of c log ≡ []
-none_before c between log enrol own is =
-    let all : enrol ∷ events_of c (between ++ log) ≡ enrol ∷ [] = rw (eq-eqb enrol.caller c own) at is in
-    let more : events_of c (between ++ log) ≡ [] = cc in
-    empty (events_of c between) (events_of c log) (sym (filter-append (λ (x : Event). x.caller == c) between log) ∙ more)
-  where
-    empty : (us vs : List Event) → us ++ vs ≡ [] → vs ≡ []
-    empty [] vs q = q
-    empty (u ∷ us) vs q = absurd (cc)
 
 -- the only event of the call by which a caller is made
 enrols_by : (shape : Shape) (state : LocalState) (generator : Lcg) (event : Event) → state ≡ first →
@@ -77,7 +68,7 @@ module _ (f g : Founding StoreLaw) (seed : ℕ) (k : Called StoreLaw) (enrols : 
   own = head_own k.number k.log enrols.enrol [] enrols.own
 
   none_there : events_of k.number f.view.log ≡ []
-  none_there = none_before k.number enrols.log.0 f.view.log enrols.enrol own
+  none_there = none_before_only k.number enrols.log.0 f.view.log enrols.enrol own
       (subst (λ (l : List Event). events_of k.number l ≡ enrols.enrol ∷ []) enrols.log.1 enrols.own)
 
   only : enrols.steps.events ≡ enrols.enrol ∷ []

@@ -1,7 +1,7 @@
 -- What gives out the callers of a table, by each engine.
-use Rattle.std.proofs.Common.{◌≡◌, ◌∙◌, ◌∷◌, ◌++◌, ◌==◌, ◌&&◌, ℕ, List, [], None, false, refl, sym, ap, subst, inl, inr}
+use Rattle.std.proofs.Common.{◌≡◌, ◌∙◌, ◌∷◌, ◌++◌, ◌==◌, ◌&&◌, ℕ, [], None, false, refl, sym, ap, subst}
 use Rattle.std.specs.Prelude.{not}
-use Rattle.std.proofs.lemmas.Bool.{and_left, and_right, cases_Bool, eqb-true}
+use Rattle.std.proofs.lemmas.Bool.{and_left, and_right}
 use Rattle.std.proofs.lemmas.List.Elements.{Contains-push}
 use Rattle.dstm_model.specs.Map.{state_after}
 use Rattle.dstm_machines.specs.Traces.{events_of}
@@ -16,7 +16,6 @@ use Rattle.dstm_engine.specs.Tables as dstm_tables
 use Rattle.dstm_tables.proofs.Fresh as fresh
 use Rattle.dstm_core.specs.Histories as core
 use Rattle.dstm_tl2.specs.Histories as tl2_histories
-use Rattle.dstm_tl2.specs.Rules.{Event}
 use Rattle.dstm_tl2.specs.Runs.{local, tl2}
 use Rattle.dstm_tl2.specs.Sharing.{IsRunOf, table_of}
 use Rattle.dstm_tl2.specs.State.{LocalState, is_valid}
@@ -64,22 +63,11 @@ dstm_new t f g seed k home e = record {
   back = ap (λ (x : dstm_tables.Founding StoreLaw). x.view.numbers) e.founder;
 }
 
--- an event that stands first among a caller's is that caller's
-head_own : (c : ℕ) (log : List Event) (event : Event) (more : List Event) → events_of c log ≡ event ∷ more → event.caller ≡ c
-head_own c [] event more is = absurd (cc)
-head_own c (e ∷ log) event more is =
-    elim (cases_Bool (e.caller == c)) [
-      | inl own ↦
-          let here : e ∷ events_of c log ≡ event ∷ more = rw own at is in
-          let same : e ≡ event = cc in ap (λ (x : Event). x.caller) (sym same) ∙ eqb-true e.caller c own
-      | inr other ↦ head_own c log event more (rw other at is)
-    ]
-
 module _ (f g : tl2_tables.TlFounding StoreLaw) (k : called.TlCalled StoreLaw) (e : tl2_tables.Enrols keeps f g k) where
   tl2_done : done_by (called.table_of_caller k) k.log k.number ≡ []
   tl2_done =
       let t = called.table_of_caller k in
-      let own : e.enrol.caller ≡ k.number = head_own k.number k.log e.enrol [] e.own in
+      let own : e.enrol.caller ≡ k.number = fresh.head_own k.number k.log e.enrol [] e.own in
       let alone : events_of k.number (e.enrol ∷ []) ≡ e.enrol ∷ [] =
       subst (λ c. events_of c (e.enrol ∷ []) ≡ e.enrol ∷ []) own (own_event e.enrol []) in
       let same : local t (e.enrol ∷ []) k.number ≡ called.state k =
@@ -98,7 +86,7 @@ module _ (f g : tl2_tables.TlFounding StoreLaw) (k : called.TlCalled StoreLaw) (
   came =
       let u : called.TlCalled StoreLaw = record (tl2_tables.unnumbered f) { number = k.number } in
       tl2_from_first u k
-      (none_before_only k.number e.log.0 f.view.log e.enrol (head_own k.number k.log e.enrol [] e.own)
+      (none_before_only k.number e.log.0 f.view.log e.enrol (fresh.head_own k.number k.log e.enrol [] e.own)
       (ap (events_of k.number) (sym e.log.1) ∙ e.own))
       (makes_one LocksItsWrites keeps Enrolling u k None tt e.steps)
 

@@ -4,7 +4,6 @@ use Rattle.std.specs.Prelude.{◌&&◌, ◌==◌, if◌then◌else◌}
 use Rattle.std.proofs.lemmas.Bool.{and_parts, cases_eq}
 use Rattle.dstm_model.specs.declared.value.Val.{Val}
 use Rattle.dstm_model.specs.declared.layout.Layout.{Layout}
-use Rattle.dstm_model.specs.Answers.{Committed}
 use Rattle.dstm_model.specs.Map.{Agrees, state_after}
 use Rattle.dstm_mem.specs.Memory.{value_in, with_set}
 use Rattle.dstm_mem.proofs.WithSet.{with_set-nothing}
@@ -27,7 +26,7 @@ use Rattle.dstm_tl2_engine.specs.Transactions.{BeginsAnew}
 use Rattle.dstm_store.specs.declared.law.StoreLaw.{StoreLaw}
 use Rattle.dstm_workload.specs.declared.workload.Job.{Job}
 use Rattle.dstm_tables.specs.declared.style.Style.{Style}
-use Rattle.dstm_tables.proofs.Sole.{nothing_named}
+use Rattle.dstm_tables.proofs.Sole.{opened_none}
 use Rattle.dstm_tables.specs.declared.tables.Caller.TheVariants.{Tl2}
 use Rattle.dstm_tables.specs.Callers.{AtRest}
 use Rattle.dstm_tables.specs.Jobs.{StoodAt}
@@ -107,17 +106,10 @@ stays_lawful k b map begins lawful =
 -- a transaction that opened nothing
 pub gave_up : (k b n : TlCalled StoreLaw) (number : ℕ) → BeginsAnew keeps k b → OneMore (Tl2 k) (Tl2 n) → Commits b n number →
     HasGivenUp (Tl2 k) (Tl2 n) number
-gave_up k b n number begins made commits = record {
-  made = made;
-  by = record { caller = b.number; number = number; entry = commits.entry };
-  newest = commits.done
-      ∙ ap (λ (ds : List Committed). record { caller = b.number; number = number; entry = commits.entry } ∷ ds)
-      begins.same_done;
-  drew = refl;
-  nothing_read = nothing_named commits.entry.reads (λ o. commits.reads o ∙ unread o);
-  nothing_written = nothing_named commits.entry.writes (λ o.
-      commits.writes o ∙ ap (λ (w : Bool). if w then handed b o else None) (unopened o));
-}
+gave_up k b n number begins made commits =
+    opened_none (record { caller = b.number; number = number; entry = commits.entry }) made commits.done begins.same_done
+    (λ o. commits.reads o ∙ unread o)
+    (λ o. commits.writes o ∙ ap (λ (w : Bool). if w then handed b o else None) (unopened o))
   where
     unread : (o : ℕ) → held b o ≡ None
     unread o = ap (λ (l : LocalState). value_in (read_values l.reads) o) begins.begun.1

@@ -23,7 +23,9 @@ use Rattle.dstm_tables.specs.Attempts.{HasCommitted, seen_last}
 use Rattle.dstm_tables.specs.Answers.{IsBlockedWith, entries_of}
 use Rattle.dstm_tables.proofs.OnlyByDstm.{NoneCommitted, only_blocked}
 use Rattle.dstm_tables.specs.declared.style.Style.{Style}
+use Rattle.dstm_tables.specs.declared.tables.Caller.{Caller}
 use Rattle.dstm_tables.specs.declared.tables.Caller.TheVariants.{Dstm}
+use Rattle.dstm_tables.specs.Callers as callers
 use Rattle.dstm_tables.specs.Callers.{AtRest}
 use Rattle.dstm_tables.specs.Jobs.{StoodAt}
 use Rattle.dstm_tables.specs.OnlyCallers.{HasGivenUp, StoodAlone}
@@ -78,10 +80,23 @@ stood_alone style layout job k n one law was = record {
 
 -- ---- an entry that names no object
 
-pub nothing_named : (pairs : List (ℕ × Val)) → ((o : ℕ) → value_in pairs o ≡ None) → pairs ≡ []
+nothing_named : (pairs : List (ℕ × Val)) → ((o : ℕ) → value_in pairs o ≡ None) → pairs ≡ []
 nothing_named [] none = refl
 nothing_named (p ∷ ps) none =
     absurd (let some = value_in-same p ps p.0 refl in let unnamed = none p.0 in cc)
+
+-- a transaction that opened nothing
+pub opened_none : {k n : Caller} {before : List Committed} (by : Committed) → OneMore k n → callers.done n ≡ by ∷ before →
+    before ≡ callers.done k → ((o : ℕ) → value_in by.entry.reads o ≡ None) →
+    ((o : ℕ) → value_in by.entry.writes o ≡ None) → HasGivenUp k n by.number
+opened_none by made newest before unread unwritten = record {
+  made = made;
+  by = by;
+  newest = newest ∙ ap (λ (ds : List Committed). by ∷ ds) before;
+  drew = refl;
+  nothing_read = nothing_named by.entry.reads unread;
+  nothing_written = nothing_named by.entry.writes unwritten;
+}
 
 -- ---- a transaction that opens nothing
 
@@ -93,14 +108,7 @@ stays_lawful b map none lawful =
 
 pub gave_up : (k b n : Called StoreLaw) (number : ℕ) → BeginsAnew keeps k b → OneMore (Dstm k) (Dstm n) →
     Commits b n number → HasGivenUp (Dstm k) (Dstm n) number
-gave_up k b n number begins made commits = record {
-  made = made;
-  by = record { caller = b.number; number = number; entry = commits.entry };
-  newest = commits.done
-      ∙ ap (λ (ds : List Committed). record { caller = b.number; number = number; entry = commits.entry } ∷ ds)
-      begins.same_done;
-  drew = refl;
-  nothing_read = nothing_named commits.entry.reads (λ o. commits.reads o ∙ begins.unread o);
-  nothing_written = nothing_named commits.entry.writes (λ o.
-      commits.writes o ∙ ap (λ (b' : Bool). if b' then handed b o else None) (begins.unopened o));
-}
+gave_up k b n number begins made commits =
+    opened_none (record { caller = b.number; number = number; entry = commits.entry }) made commits.done begins.same_done
+    (λ o. commits.reads o ∙ begins.unread o)
+    (λ o. commits.writes o ∙ ap (λ (b' : Bool). if b' then handed b o else None) (begins.unopened o))

@@ -1,37 +1,69 @@
-use Rattle.std.proofs.Common.{◌∙◌, ◌||◌, refl, ap, subst, sym, ℕ, false}
+use Rattle.std.proofs.Common.{◌∙◌, ◌||◌, refl, ap, subst, sym, List, ℕ, false}
 use Rattle.std.specs.Prelude.{◌≡◌, ◌≢◌, is_some, None, Some, Option, IfSome}
 use Rattle.dstm_model.specs.declared.layout.Layout.{Layout}
 use Rattle.dstm_model.specs.Objects.{objects_of}
 use Rattle.dstm_mem.specs.Memory.{with_set}
 use Rattle.dstm_order.specs.declared.again.Again.{Again}
 use Rattle.dstm_words.specs.Seats.{Home}
-use Rattle.dstm_mem.proofs.InTheEnd.{in_the_end}
-use Rattle.dstm_engine.proofs.Made.{ends_keeping, home, same_done, same_name}
+use Rattle.dstm_engine.proofs.Made.{Tried, home, keeps_reads, same_done, tried}
 use Rattle.dstm_engine.proofs.Abandoning.{under_way}
+use Rattle.dstm_model.specs.declared.value.Val.{Val}
+use Rattle.dstm_engine.specs.Attempts.{Admits}
 use Rattle.dstm_engine.specs.Callers.{Called, is_opened, new_value, shape_of, written}
 use Rattle.dstm_engine.specs.Makes.{let_go}
 use Rattle.dstm_engine.specs.Outcomes.{IsLeft, Promises}
 use Rattle.dstm_engine.specs.Transactions.{TxPlace}
-use Rattle.dstm_compose.specs.declared.body.Outcome.TheVariants.{Blocked}
+use Rattle.dstm_compose.specs.Compose.{IsRight}
+use Rattle.dstm_compose.specs.declared.body.Outcome.{Outcome}
+use Rattle.dstm_compose.specs.declared.body.Outcome.TheVariants.{Blocked, Ran}
 use Rattle.dstm_store.specs.declared.job.JobTask.{JobTask}
 use Rattle.dstm_store.specs.Whole.{IsLawful}
 use Rattle.dstm_tables.specs.declared.style.Style.TheVariants.{Branches}
 use Rattle.dstm_tables.specs.declared.tables.Caller.TheVariants.{Dstm}
-use Rattle.dstm_tables.specs.Jobs.{DidJob, StoodAt}
-use Rattle.dstm_tables.specs.Tries.{WasKept}
+use Rattle.dstm_tables.specs.Jobs.{StoodAt}
 use Rattle.dstm_tables.specs.Law.{keeps}
 use Rattle.dstm_order.specs.Tasks.Task.{Beginning, Doing, Leaving}
 use Rattle.dstm_order.specs.Tasks.Work.{Committing}
 use Rattle.dstm_order.specs.Retries.{TriesAgain}
 use Rattle.dstm_engine.proofs.AddingUp.{makes_both, makes_one}
-use Rattle.dstm_engine.proofs.Anew.{new_committed}
 use Rattle.dstm_tables.proofs.Made.{is_spent_from, objects_are, run_there}
-use Rattle.dstm_tables.proofs.Branched.{aborted_fresh, aborts, calls_by, right_for, one_more_by, was_kept_by, was_kept_dead, did_branch, rests, stood_at, unopened_by}
+use Rattle.dstm_tables.proofs.Branched.{aborted_fresh, aborts, calls_by, did_commit, one_more_by, rests, right_for, stood_at, unopened_by, was_dead, was_left}
 use Rattle.dstm_engine.proofs.LettingGo.{lets_none_go}
 use Rattle.dstm_engine.proofs.Looked.{begins_few}
+use Rattle.dstm_tables.proofs.dstm.attempt_branches.Goals.{After-caller-in-Blocked-1, After-caller-in-Err-run-1, After-caller-in-Ran-1, In-Ok-run}
 use Rattle.dstm_tables.proofs.dstm.attempt_branches.Goals as goal
 
 -- The caller ends as the attempt left it, since this has the reference that it was begun with.
+
+ran : (c : After-caller-in-Ran-1) → Tried keeps c.args.caller.now c.in-Ok.tx.caller.now c.run.new.tx.caller.now
+    c.commit.new.self.0 c.caller-in-Ran-1.given.0
+ran c =
+    tried keeps c.args.caller.now c.in-Ok.tx.caller.now c.run.new.tx.caller.now _ _ _ _ c.in-Ok.ensures.begins
+    c.in-Ok-run.ensures.leads.place _ c.commit.new.self.0 _ c.in-Ok.ensures.same (assumption c)
+
+stood : (c : After-caller-in-Blocked-1) → Tried keeps c.args.caller.now c.in-Ok.tx.caller.now
+    c.recheck_often-rechecked.new.tx.caller.now c.abandon.new.self.0 c.caller-in-Blocked-1.given.0
+stood c =
+    tried keeps c.args.caller.now c.in-Ok.tx.caller.now c.recheck_often-rechecked.new.tx.caller.now _ _ _ _
+    c.in-Ok.ensures.begins (c.recheck_often-rechecked.ensures.place ∙ c.in-Ok-run.ensures.leads.place) _
+    c.abandon.new.self.0 _ c.in-Ok.ensures.same (assumption c)
+
+dropped : (c : After-caller-in-Err-run-1) → Tried keeps c.args.caller.now c.in-Ok.tx.caller.now
+    c.run.new.tx.caller.now c.abandon-in-Err-run.new.self.0 c.caller-in-Err-run-1.given.0
+dropped c =
+    tried keeps c.args.caller.now c.in-Ok.tx.caller.now c.run.new.tx.caller.now _ _ _ _ c.in-Ok.ensures.begins
+    c.in-Err-run.ensures.leads.place _ c.abandon-in-Err-run.new.self.0 _ c.in-Ok.ensures.same (assumption c)
+
+-- what the body's outcome is right for
+right : (c : In-Ok-run) (is : Outcome) → c.run.new.body.outcome ≡ is → (map : List Val) →
+    Admits keeps c.run.new.tx.caller.now map →
+    IsRight (record { layout = c.args.layout.now; ops = c.args.job.now.ops }) map
+    (with_set map (written c.run.new.tx.caller.now)) is
+right c is same map admits =
+    right_for c.args.layout.now c.args.job.now.ops c.run.new.body.task c.run.new.body.outcome is map _
+    (ap (λ (j : JobTask). j.layout) c.in-Ok-run.ensures.task ∙ c.make-body.ensures.layout)
+    (ap (λ (j : JobTask). j.ops) c.in-Ok-run.ensures.task ∙ c.make-body.ensures.ops) same
+    (c.in-Ok-run.ensures.right map admits)
 
 pub returns-in-Err-clause-tried : goal.returns-in-Err-clause-tried
 returns-in-Err-clause-tried c =
@@ -53,53 +85,18 @@ commit-requires-clause-lawful c map admits =
 
 pub returns-in-Ok-commit-clause-tried : goal.returns-in-Ok-commit-clause-tried
 returns-in-Ok-commit-clause-tried c =
-    let k = c.args.caller.now in
-    let b = c.in-Ok.tx.caller.now in
-    let t = c.run.new.tx.caller.now in
-    let n = c.commit.new.self.0 in
-    let ran = c.in-Ok-run.ensures in
-    let kept = c.in-Ok-commit.ensures.kept in
-    let begins = c.in-Ok.ensures.begins in
-    let place = ran.leads.place in
-    let name = same_name keeps k b t _ _ _ _ begins place _ c.in-Ok.ensures.same in
-    let nh : n.home ≡ t.home = ap (λ (x : Called _). x.home) kept in
-    let one = one_more_by k b t _ _ _ _ begins place n nh (ap (λ (x : Called _). x.number) kept)
-    c.in-Ok-commit.ensures.attempt (run_there t n nh c.in-Ok-commit.ensures.stays.steps.run) c.in-Ok-commit.ensures.number.over
-    (calls_by k b t _ _ _ _ begins place c.requires.rest n nh (ap (λ (x : Called _). x.number) kept)
-    (ap (λ (x : Called _). x.began) kept) c.in-Ok-commit.ensures.attempt c.in-Ok-commit.ensures.ended.told)
-    (λ some. ap (λ (x : Called _). x.fresh) kept ∙ sym (new_committed n
-    (run_there t n nh c.in-Ok-commit.ensures.stays.steps.run).run.core c.in-Ok-commit.ensures.number.status some)) in
-    in_the_end (λ (x : Called _). DidJob Branches c.args.layout.now c.args.job.now (Dstm k) (Dstm x)
-    (record { number = c.in-Ok-commit.number; replies = c.in-Ran.replies })) _ _ _ _ (assumption c) name
-    (did_branch k b t _ _ _ _ begins place c.args.layout.now c.args.job.now
-    (record { number = c.in-Ok-commit.number; replies = c.in-Ran.replies }) n c.requires.rest c.requires.law nh one
-    c.in-Ok-commit.ensures.number
-    (λ map admits.
-    right_for c.args.layout.now c.args.job.now.ops c.run.new.body.task c.run.new.body.outcome _ map _
-    (ap (λ (j : JobTask). j.layout) ran.task ∙ c.make-body.ensures.layout)
-    (ap (λ (j : JobTask). j.ops) ran.task ∙ c.make-body.ensures.ops) (sym c.outcome.ensures ∙ c.in-Ran.is)
-    (ran.right map admits)))
+    let at = goal.at.returns-in-Ok-commit-clause-tried c in
+    let end = c.in-Ok-commit.ensures in
+    did_commit (ran at.After-caller-in-Ran-1) c.requires.rest c.args.layout.now c.args.job.now
+    (record { number = c.in-Ok-commit.number; replies = c.in-Ran.replies }) c.requires.law end.kept end.attempt
+    end.stays.steps.run end.ended.told end.number
+    (right at.In-Ok-run (Ran c.in-Ran.replies) (sym c.outcome.ensures ∙ c.in-Ran.is))
 
 pub returns-in-Err-commit-clause-tried : goal.returns-in-Err-commit-clause-tried
 returns-in-Err-commit-clause-tried c =
-    let k = c.args.caller.now in
-    let b = c.in-Ok.tx.caller.now in
-    let t = c.run.new.tx.caller.now in
-    let n = c.commit.new.self.0 in
-    let kept = c.in-Err-commit.ensures.kept in
-    let begins = c.in-Ok.ensures.begins in
-    let place = c.in-Ok-run.ensures.leads.place in
-    let name = same_name keeps k b t _ _ _ _ begins place _ c.in-Ok.ensures.same in
-    let nh : n.home ≡ t.home = ap (λ (x : Called _). x.home) kept in
-    let left = c.in-Err-commit.ensures.leaves.left in
-    let one = one_more_by k b t _ _ _ _ begins place n nh (ap (λ (x : Called _). x.number) kept)
-    c.in-Err-commit.ensures.attempt (run_there t n nh c.in-Err-commit.ensures.leaves.steps.run) left.over
-    (calls_by k b t _ _ _ _ begins place c.requires.rest n nh (ap (λ (x : Called _). x.number) kept)
-    (ap (λ (x : Called _). x.began) kept) c.in-Err-commit.ensures.attempt c.in-Err-commit.ensures.ended.told)
-    (aborted_fresh k b t _ _ _ _ begins place n (ap (λ (x : Called _). x.fresh) kept)
-    (run_there t n nh c.in-Err-commit.ensures.leaves.steps.run) left.aborted) in
-    in_the_end (λ (x : Called _). WasKept (Dstm k) (Dstm x)) _ _ _ _ (assumption c) name
-    (was_kept_by k b t _ _ _ _ begins place n _ one left c.in-Err-commit.ensures.done)
+    let end = c.in-Err-commit.ensures in
+    was_left (ran (goal.at.returns-in-Err-commit-clause-tried c).After-caller-in-Ran-1) c.requires.rest
+    c.in-Err-commit.field-0 end.kept end.attempt end.leaves.steps.run end.ended.told end.leaves.left end.done
 
 pub returns-in-Ok-rechecked-clause-tried : goal.returns-in-Ok-rechecked-clause-tried
 returns-in-Ok-rechecked-clause-tried c =
@@ -113,7 +110,7 @@ returns-in-Ok-rechecked-clause-tried c =
     let left = c.abandon.ensures in
     let begins = c.in-Ok.ensures.begins in
     let place = rechecked.place ∙ ran.leads.place in
-    let name = same_name keeps k b u _ _ _ _ begins place _ c.in-Ok.ensures.same in
+    let at = goal.at.returns-in-Ok-rechecked-clause-tried c in
     let nh : n.home ≡ u.home = left.steps.same.0 in
     let one = one_more_by k b u _ _ _ _ begins place n nh left.steps.same.1 left.attempt
     (run_there u n nh left.steps.run) (rests u n left.steps)
@@ -133,49 +130,33 @@ returns-in-Ok-rechecked-clause-tried c =
     rechecked.opened o
     ∙ unopened_by b t o ran.leads.live
     ((ran.looks blocked).opens (ap (λ (h : Home _). h.terms.shape.all_write) began ∙ reads) o) (begins.unopened o) in
-    in_the_end (λ (x : Called _). StoodAt Branches c.args.rechecks c.args.layout.now c.args.job.now (Dstm k) (Dstm x)) _ _ _ _
-    (assumption c) name
+    subst (λ (x : Called _). StoodAt Branches c.args.rechecks c.args.layout.now c.args.job.now (Dstm k) (Dstm x))
+    (sym (stood at.After-caller-in-Blocked-1).end)
     (stood_at c.args.rechecks c.args.layout.now c.args.job.now k b t u n c.requires.some ran.few one
     (left.done ∙ same_done keeps k b u _ _ _ _ begins place) law size rechecked.stands left.steps begins
     (ap (λ (p : TxPlace _). p.home) place) (ap (λ (p : TxPlace _). p.number) place) (ap (λ (p : TxPlace _). p.began) place)
     unopened
-    (λ map admits.
-    right_for c.args.layout.now c.args.job.now.ops c.run.new.body.task c.run.new.body.outcome _ map _
-    (ap (λ (j : JobTask). j.layout) ran.task ∙ c.make-body.ensures.layout)
-    (ap (λ (j : JobTask). j.ops) ran.task ∙ c.make-body.ensures.ops) (sym c.outcome.ensures ∙ c.in-Blocked.is)
-    (ran.right map admits)))
+    (right at.In-Ok-run Blocked blocked))
 
 pub returns-in-Err-rechecked-clause-tried : goal.returns-in-Err-rechecked-clause-tried
 returns-in-Err-rechecked-clause-tried c =
-    let k = c.args.caller.now in
-    let b = c.in-Ok.tx.caller.now in
     let u = c.recheck_often-rechecked.new.tx.caller.now in
-    let begins = c.in-Ok.ensures.begins in
     let rechecked = c.in-Err-rechecked.ensures in
-    let place = rechecked.place ∙ c.in-Ok-run.ensures.leads.place in
-    let name = same_name keeps k b u _ _ _ _ begins place _ c.in-Ok.ensures.same in
     let left : u.left ≢ None = λ none. let some = rechecked.dead in cc in
-    in_the_end (λ (x : Called _). WasKept (Dstm k) (Dstm x)) _ _ _ _ (assumption c) name
-    (was_kept_dead k b u _ _ _ _ begins place c.abandon.new.self.0 _ c.requires.rest
+    was_dead (stood (goal.at.returns-in-Err-rechecked-clause-tried c).After-caller-in-Blocked-1) c.requires.rest _
     (c.abandon.ensures.ended (under_way u _ rechecked.dead)).told (c.abandon.ensures.dead left) rechecked.left
-    c.abandon.ensures.steps.run)
+    c.abandon.ensures.steps.run
 
 pub returns-in-Err-run-clause-tried : goal.returns-in-Err-run-clause-tried
 returns-in-Err-run-clause-tried c =
-    let k = c.args.caller.now in
-    let b = c.in-Ok.tx.caller.now in
     let t = c.run.new.tx.caller.now in
-    let begins = c.in-Ok.ensures.begins in
-    let leads = c.in-Err-run.ensures.leads in
-    let place = leads.place in
-    let name = same_name keeps k b t _ _ _ _ begins place _ c.in-Ok.ensures.same in
-    let again : t.left ≡ Some c.in-Err-run.field-0 = leads.ended.1 in
+    let again : t.left ≡ Some c.in-Err-run.field-0 = c.in-Err-run.ensures.leads.ended.1 in
     let left : t.left ≢ None = λ none. let some = again in cc in
     let ended = c.abandon-in-Err-run.ensures.ended (under_way t _ again) in
-    in_the_end (λ (x : Called _). WasKept (Dstm k) (Dstm x)) _ _ _ _ (assumption c) name
-    (was_kept_dead k b t _ _ _ _ begins place c.abandon-in-Err-run.new.self.0 _ c.requires.rest ended.told (c.abandon-in-Err-run.ensures.dead left)
+    was_dead (dropped (goal.at.returns-in-Err-run-clause-tried c).After-caller-in-Err-run-1) c.requires.rest _ ended.told
+    (c.abandon-in-Err-run.ensures.dead left)
     (subst (λ (o : Option Again). IfSome o (λ (x : Again). IsLeft t x × Promises t x)) again ended.left).0
-    c.abandon-in-Err-run.ensures.steps.run)
+    c.abandon-in-Err-run.ensures.steps.run
 
 -- ---- no read is let go
 
@@ -186,60 +167,30 @@ returns-in-Err-clause-keeps c =
 
 pub returns-in-Ok-commit-clause-keeps : goal.returns-in-Ok-commit-clause-keeps
 returns-in-Ok-commit-clause-keeps c =
-    let k = c.args.caller.now in
-    let b = c.in-Ok.tx.caller.now in
-    let t = c.run.new.tx.caller.now in
-    let begins = c.in-Ok.ensures.begins in
-    let place = c.in-Ok-run.ensures.leads.place in
-    let name = same_name keeps k b t _ _ _ _ begins place _ c.in-Ok.ensures.same in
-    in_the_end (λ (x : Called _). let_go x ≡ let_go k) _ _ c.caller-in-Ran-1.given.0 c.commit.new.self.0 (assumption c) name
-    (ends_keeping keeps k b t _ _ _ _ begins place c.commit.new.self.0 (Doing (Committing (new_value t))) None
-    c.in-Ok-run.ensures.kept tt c.in-Ok-commit.ensures.stays.steps)
+    keeps_reads keeps (ran (goal.at.returns-in-Ok-commit-clause-keeps c).After-caller-in-Ran-1)
+    (Doing (Committing (new_value c.run.new.tx.caller.now))) None c.in-Ok-run.ensures.kept tt
+    c.in-Ok-commit.ensures.stays.steps
 
 pub returns-in-Err-commit-clause-keeps : goal.returns-in-Err-commit-clause-keeps
 returns-in-Err-commit-clause-keeps c =
-    let k = c.args.caller.now in
-    let b = c.in-Ok.tx.caller.now in
-    let t = c.run.new.tx.caller.now in
-    let begins = c.in-Ok.ensures.begins in
-    let place = c.in-Ok-run.ensures.leads.place in
-    let name = same_name keeps k b t _ _ _ _ begins place _ c.in-Ok.ensures.same in
-    in_the_end (λ (x : Called _). let_go x ≡ let_go k) _ _ c.caller-in-Ran-1.given.0 c.commit.new.self.0 (assumption c) name
-    (ends_keeping keeps k b t _ _ _ _ begins place c.commit.new.self.0 (Doing (Committing (new_value t))) (Some c.in-Err-commit.field-0)
-    c.in-Ok-run.ensures.kept tt c.in-Err-commit.ensures.leaves.steps)
+    keeps_reads keeps (ran (goal.at.returns-in-Err-commit-clause-keeps c).After-caller-in-Ran-1)
+    (Doing (Committing (new_value c.run.new.tx.caller.now))) (Some c.in-Err-commit.field-0) c.in-Ok-run.ensures.kept tt
+    c.in-Err-commit.ensures.leaves.steps
+
+stood_keeping : (c : After-caller-in-Blocked-1) → let_go c.caller-in-Blocked-1.given.0 ≡ let_go c.args.caller.now
+stood_keeping c =
+    keeps_reads keeps (stood c) Leaving None (c.recheck_often-rechecked.ensures.kept ∙ c.in-Ok-run.ensures.kept) tt
+    c.abandon.ensures.steps
 
 pub returns-in-Ok-rechecked-clause-keeps : goal.returns-in-Ok-rechecked-clause-keeps
 returns-in-Ok-rechecked-clause-keeps c =
-    let k = c.args.caller.now in
-    let b = c.in-Ok.tx.caller.now in
-    let t = c.recheck_often-rechecked.new.tx.caller.now in
-    let begins = c.in-Ok.ensures.begins in
-    let place = c.in-Ok-rechecked.ensures.place ∙ c.in-Ok-run.ensures.leads.place in
-    let name = same_name keeps k b t _ _ _ _ begins place _ c.in-Ok.ensures.same in
-    in_the_end (λ (x : Called _). let_go x ≡ let_go k) _ _ c.caller-in-Blocked-1.given.0 c.abandon.new.self.0 (assumption c) name
-    (ends_keeping keeps k b t _ _ _ _ begins place c.abandon.new.self.0 Leaving None
-    (c.in-Ok-rechecked.ensures.kept ∙ c.in-Ok-run.ensures.kept) tt c.abandon.ensures.steps)
+    stood_keeping (goal.at.returns-in-Ok-rechecked-clause-keeps c).After-caller-in-Blocked-1
 
 pub returns-in-Err-rechecked-clause-keeps : goal.returns-in-Err-rechecked-clause-keeps
 returns-in-Err-rechecked-clause-keeps c =
-    let k = c.args.caller.now in
-    let b = c.in-Ok.tx.caller.now in
-    let t = c.recheck_often-rechecked.new.tx.caller.now in
-    let begins = c.in-Ok.ensures.begins in
-    let place = c.in-Err-rechecked.ensures.place ∙ c.in-Ok-run.ensures.leads.place in
-    let name = same_name keeps k b t _ _ _ _ begins place _ c.in-Ok.ensures.same in
-    in_the_end (λ (x : Called _). let_go x ≡ let_go k) _ _ c.caller-in-Blocked-1.given.0 c.abandon.new.self.0 (assumption c) name
-    (ends_keeping keeps k b t _ _ _ _ begins place c.abandon.new.self.0 Leaving None
-    (c.in-Err-rechecked.ensures.kept ∙ c.in-Ok-run.ensures.kept) tt c.abandon.ensures.steps)
+    stood_keeping (goal.at.returns-in-Err-rechecked-clause-keeps c).After-caller-in-Blocked-1
 
 pub returns-in-Err-run-clause-keeps : goal.returns-in-Err-run-clause-keeps
 returns-in-Err-run-clause-keeps c =
-    let k = c.args.caller.now in
-    let b = c.in-Ok.tx.caller.now in
-    let t = c.run.new.tx.caller.now in
-    let begins = c.in-Ok.ensures.begins in
-    let place = c.in-Err-run.ensures.leads.place in
-    let name = same_name keeps k b t _ _ _ _ begins place _ c.in-Ok.ensures.same in
-    in_the_end (λ (x : Called _). let_go x ≡ let_go k) _ _ c.caller-in-Err-run-1.given.0 c.abandon-in-Err-run.new.self.0 (assumption c) name
-    (ends_keeping keeps k b t _ _ _ _ begins place c.abandon-in-Err-run.new.self.0 Leaving None
-    c.in-Err-run.ensures.kept tt c.abandon-in-Err-run.ensures.steps)
+    keeps_reads keeps (dropped (goal.at.returns-in-Err-run-clause-keeps c).After-caller-in-Err-run-1) Leaving None
+    c.in-Err-run.ensures.kept tt c.abandon-in-Err-run.ensures.steps

@@ -11,9 +11,15 @@ use Rattle.dstm_engine.specs.declared.tx.Tx.{Tx}
 use Rattle.dstm_store.specs.declared.law.StoreLaw.{StoreLaw}
 use Rattle.dstm_store.specs.Whole.{IsLawful}
 use Rattle.dstm_tables.specs.Law.{keeps}
+use Rattle.dstm_tables.proofs.dstm.run.Goals.{After-tx-1}
 use Rattle.dstm_tables.proofs.dstm.run.Goals as goal
 
 -- The attempt ends as the body left it, since the opener has the reference that it was made with.
+
+same : (c : After-tx-1) → c.tx-1.given.0 ≡ c.run.new.mem.tx.now
+same c =
+    in_the_end (λ (x : Tx StoreLaw). x ≡ c.run.new.mem.tx.now) _ _ c.tx-1.given.0 c.run.new.mem.tx.now (assumption c)
+    (sym (ap (λ p. p.1) c.run.ensures.leads.place)) refl
 
 in_case : {T E X Y : Type 0} (r : Result T E) → (X → Y) → OnOk r X → OnOk r Y
 in_case (Ok v) f is = f is
@@ -21,17 +27,13 @@ in_case (Err e) f is = tt
 
 pub returns-clause-lawful : goal.returns-clause-lawful
 returns-clause-lawful c =
-    let n = c.run.new.mem.tx.now in
-    let is : c.tx-1.given.0 ≡ n =
-    in_the_end (λ (x : Tx StoreLaw). x ≡ n) _ _ c.tx-1.given.0 n (assumption c) (sym (ap (λ p. p.1) c.run.ensures.leads.place)) refl in
+    let is = same (goal.at.returns-clause-lawful c).After-tx-1 in
     subst (λ (x : Tx StoreLaw). OnOk c.run.result ((map : List Val) → Admits keeps x.caller.now map →
     IsLawful c.run.new.self.task.layout (with_set map (written x.caller.now)))) (sym is) c.run.ensures.lawful
 
 pub returns-clause-right : goal.returns-clause-right
 returns-clause-right c =
-    let n = c.run.new.mem.tx.now in
-    let is : c.tx-1.given.0 ≡ n =
-    in_the_end (λ (x : Tx StoreLaw). x ≡ n) _ _ c.tx-1.given.0 n (assumption c) (sym (ap (λ p. p.1) c.run.ensures.leads.place)) refl in
+    let is = same (goal.at.returns-clause-right c).After-tx-1 in
     subst (λ (x : Tx StoreLaw). OnOk c.run.result ((map : List Val) → Admits keeps x.caller.now map →
     IsRight c.run.new.self.task map (with_set map (written x.caller.now)) c.run.new.self.outcome)) (sym is) c.run.ensures.right
 
@@ -39,9 +41,7 @@ pub returns-clause-leads : goal.returns-clause-leads
 returns-clause-leads c =
     let leads = c.run.ensures.leads in
     let k = c.args.tx.now.caller.now in
-    let n = c.run.new.mem.tx.now in
-    let is : c.tx-1.given.0 ≡ n =
-    in_the_end (λ (x : Tx StoreLaw). x ≡ n) _ _ c.tx-1.given.0 n (assumption c) (sym (ap (λ p. p.1) leads.place)) refl in
+    let is = same (goal.at.returns-clause-leads c).After-tx-1 in
     record {
       place = ap (λ (x : Tx StoreLaw). tx_place x.caller.ghost_name x.stm.now x.caller.now) is ∙ ap (λ p. p.0.0) leads.place;
       objects = ap (λ (x : Tx StoreLaw). (shape_of x.caller.now).objects) is ∙ leads.objects;
@@ -57,9 +57,7 @@ returns-clause-leads c =
 
 pub returns-clause-looks : goal.returns-clause-looks
 returns-clause-looks c =
-    let n = c.run.new.mem.tx.now in
-    let is : c.tx-1.given.0 ≡ n =
-    in_the_end (λ (x : Tx StoreLaw). x ≡ n) _ _ c.tx-1.given.0 n (assumption c) (sym (ap (λ p. p.1) c.run.ensures.leads.place)) refl in
+    let is = same (goal.at.returns-clause-looks c).After-tx-1 in
     in_case c.run.result (λ looks blocked. record {
       sets = λ o. ap (λ (x : Tx StoreLaw). written x.caller.now o) is ∙ (looks blocked).sets o;
       opens = λ reads o. ap (λ (x : Tx StoreLaw). live_opened x.caller.now o) is ∙ (looks blocked).opens reads o;
