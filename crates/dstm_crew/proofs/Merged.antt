@@ -272,6 +272,17 @@ module _ (workload : Workload) (options : Options) (r : Round) where
             (reverse (done_of r (caller_there k))) is.done
             (λ releasing reads. recursion_from_All _ _ (is.few_reads releasing reads)))))
 
+    -- the next transaction is of a caller that ran one of the shares
+    there_of : {round : ℕ} {before rows : List Row} {next : List ℕ} (m : Merged round before rows next) (x : Committed)
+        (xs : List Committed) → AreRunBy workload options r shares callers → m.left ≡ x ∷ xs →
+        (k : ℕ) × (k < length callers) × (get_or callers k 0 ≡ x.caller)
+    there_of m x xs run is =
+        all_there callers (callers_of r) x.caller run.apart
+        (shared_below workload options r shares callers run.shared) run.count
+        (all-middle (λ (d : Committed). d.caller < callers_of r) m.done x xs
+        (subst (AllByRecursion (λ (d : Committed). d.caller < callers_of r)) (m.all_are ∙ ap (λ (l : List Committed). m.done ++ l) is)
+        (all-reverse (λ (d : Committed). d.caller < callers_of r) (all_done r) ((is_history r run.run).within))))
+
     -- the row of the share whose next number is the least tells of the next transaction
     pub merged_more : (round : ℕ) (before rows : List Row) (turns : Turning) (next : List ℕ) (at : ℕ) (share : Share)
         (row : Row) → AreRunBy workload options r shares callers → Merged round before rows next →
@@ -329,13 +340,7 @@ module _ (workload : Workload) (options : Options) (r : Round) where
             (subst (λ (l : List Committed). Match Does (pairs_left shares next at) (by_caller (caller_there at) l)) none
             (m.matched at (slice_get_within shares at share here))))
         go (x ∷ xs) some =
-            let within : x.caller < callers_of r =
-            all-middle (λ (d : Committed). d.caller < callers_of r) m.done x xs
-            (subst (AllByRecursion (λ (d : Committed). d.caller < callers_of r)) (m.all_are ∙ ap (λ (l : List Committed). m.done ++ l) some)
-            (all-reverse (λ (d : Committed). d.caller < callers_of r) (all_done r)
-            ((is_history r run.run).within))) in
-            let other = all_there callers (callers_of r) x.caller run.apart
-            (shared_below workload options r shares callers run.shared) run.count within in
+            let other = there_of m x xs run some in
             let rise : Rise m.least (x ∷ xs) = subst (Rise m.least) some m.rise in
             let step = merge_step Does number_of (λ a d does. does.0.number) (length shares) m.least caller_there
             (pairs_left shares next) (pairs_left shares (set next at (k + 1))) at (c.place, f) (drop (k + 1) (pairs_at shares at)) x xs
@@ -425,13 +430,7 @@ module _ (workload : Workload) (options : Options) (r : Round) where
         none_left : (left : List Committed) → m.left ≡ left → left ≡ []
         none_left [] is = refl
         none_left (x ∷ xs) is =
-            let within : x.caller < callers_of r =
-            all-middle (λ (d : Committed). d.caller < callers_of r) m.done x xs
-            (subst (AllByRecursion (λ (d : Committed). d.caller < callers_of r)) (m.all_are ∙ ap (λ (l : List Committed). m.done ++ l) is)
-            (all-reverse (λ (d : Committed). d.caller < callers_of r) (all_done r)
-            ((is_history r run.run).within))) in
-            let other = all_there callers (callers_of r) x.caller run.apart
-            (shared_below workload options r shares callers run.shared) run.count within in
+            let other = there_of m x xs run is in
             let sizes = shared_size workload options r shares callers run.shared in
             absurd (merge_ends Does number_of (λ a d does. does.0.number) (length shares) caller_there (pairs_left shares next) x xs other.0
             (subst (AllMatch Does (length shares) caller_there (pairs_left shares next)) is m.matched)

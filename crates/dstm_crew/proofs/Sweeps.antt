@@ -36,7 +36,7 @@ use Rattle.dstm_records.proofs.Replies.{not_given_up}
 use Rattle.dstm_records.proofs.Told.{AreTold-push, rows_told}
 use Rattle.dstm_tables.specs.declared.tables.Caller.{Caller}
 use Rattle.dstm_tables.specs.declared.tables.Table.{Table}
-use Rattle.dstm_tables.specs.Callers.{AtRest, done, law_of, number_of, round_of}
+use Rattle.dstm_tables.specs.Callers.{AtRest, done, number_of, round_of}
 use Rattle.dstm_tables.specs.Callers as callers
 use Rattle.dstm_tables.specs.Jobs.{DidJob}
 use Rattle.dstm_tables.specs.OnlyCallers.{HasGivenUp, StoodAlone, left_by as values_left}
@@ -48,7 +48,7 @@ use Rattle.dstm_tables.specs.declared.style.Style.{Style}
 use Rattle.dstm_tables.specs.declared.style.Style.TheVariants.{Branches, Loose, Plain}
 use Rattle.dstm_tables.specs.Styles.{style_of}
 use Rattle.dstm_tables.specs.declared.trying.Finished.{Finished}
-use Rattle.dstm_crew.specs.Alone.{CanRunAlone, Goes, HasRunAlone, Leads, MayStep, Sweeps, is_done, still_waiting}
+use Rattle.dstm_crew.specs.Alone.{CanRunAlone, blocked_so_far, Goes, HasRunAlone, Leads, MayStep, Sweeps, is_done, still_waiting}
 use Rattle.dstm_crew.specs.declared.sweeping.Swept.{Swept}
 use Rattle.dstm_crew.specs.declared.sweeping.Swept.TheVariants as swept
 use Rattle.dstm_records.specs.Running.{turns_behind}
@@ -223,49 +223,66 @@ module _ (workload : Workload) (number : ℕ) (table : Table) (first : Caller) (
       subst (λ n. length (still_waiting workload (w + 1) left) + 1 ≡ length (filter (has_job left) (range_with_len w n))) (sym next)
       (rw has (omega arith))
 
+  -- after a worker's turn that adds no row
+  step_on : (k n : Caller) (rows : List Row) (turns : Turning) (w : ℕ) (some : Bool)
+      (s : Sweeps workload number first k before rows turns w some) → Goes workload number first n before rows s.now turns →
+      IfSome (first_job w (left_by workload rows)) (λ job. apply_job job.ops (store_after workload rows) ≡ None) →
+      WasAsked workload before s.now w ⊎ (has_job (left_by workload rows) w ≡ true → ⊥) →
+      callers.begun n ≤ length s.now + blocked_so_far workload before s.now (w + 1) →
+      (s.now ≡ [] → used_by (round_of n) (number_of n) ≡ 0) →
+      (s.now ≡ [] → callers.begun n + length (still_waiting workload (w + 1) (left_by workload before))
+      ≤ length (workers_left workload before)) →
+      Sweeps workload number first n before rows turns (w + 1) some
+  step_on k n rows turns w some s goes blocked asked attempts unused few_tries = record {
+    now = s.now;
+    goes = goes;
+    few = λ v below.
+        elim (cases_lt v w) [
+          | inl before_it ↦ s.few v before_it
+          | inr from_it ↦ let zero_ = s.others v from_it in omega (arith, zero_)
+        ];
+    others = λ v past. s.others v (omega (arith, past));
+    has_row = s.has_row;
+    none_done = s.none_done;
+    blocked = λ not_some v below.
+        elim (cases_lt v w) [
+          | inl before_it ↦ s.blocked not_some v before_it
+          | inr from_it ↦
+              let is : v ≡ w = omega (arith, below, from_it) in
+              subst (λ (u : ℕ). IfSome (first_job u (left_by workload rows))
+              (λ job. apply_job job.ops (store_after workload rows) ≡ None)) (sym is) blocked
+        ];
+    unused = unused;
+    few_tries = few_tries;
+    asked = λ v below has.
+        elim (s.asked v below has) [
+          | inl was ↦ inl was
+          | inr later ↦
+              elim (cases_eq v w) [
+                | inl same ↦
+                    elim asked [
+                      | inl was ↦ inl (subst (WasAsked workload before s.now) (sym same) was)
+                      | inr none ↦ absurd (none (ap (has_job (left_by workload rows)) (sym same) ∙ later.1))
+                    ]
+                | inr other ↦ inr (omega (arith, later.0, other), later.1)
+              ]
+        ];
+    attempts = attempts;
+  }
+
   -- the worker has no job left
   pub step_none : (k : Caller) (rows : List Row) (turns : Turning) (w : ℕ) (some : Bool) → w < workload.workers →
       first_job w turns.left ≡ None → Sweeps workload number first k before rows turns w some →
       Sweeps workload number first k before rows turns (w + 1) some
   step_none k rows turns w some inside none s =
-      let left : turns.left ≡ jobs_left workload.jobs rows = ap (λ (t : Turning). t.left) s.goes.turns_are in
-      record {
-        now = s.now;
-        goes = s.goes;
-        few = λ v below.
-            elim (cases_lt v w) [
-              | inl before_it ↦ s.few v before_it
-              | inr from_it ↦ let zero_ = s.others v from_it in omega (arith, zero_)
-            ];
-        others = λ v past. s.others v (omega (arith, past));
-        has_row = s.has_row;
-        none_done = s.none_done;
-        blocked = λ not_some v below.
-            elim (cases_lt v w) [
-              | inl before_it ↦ s.blocked not_some v before_it
-              | inr from_it ↦
-                  let is : v ≡ w = omega (arith, below, from_it) in
-                  subst (λ (o : Option Job). IfSome o (λ job. apply_job job.ops (store_after workload rows) ≡ None))
-                  (sym (ap (λ (u : ℕ). first_job u (jobs_left workload.jobs rows)) is
-                  ∙ ap (first_job w) (sym left) ∙ none)) tt
-            ];
-        unused = s.unused;
-        few_tries = λ empty. let t = s.few_tries empty in let l = waiting_less w (left_by workload before) inside in omega (arith, t, l);
-        asked = λ v below has.
-            elim (s.asked v below has) [
-              | inl was ↦ inl was
-              | inr later ↦
-                  elim (cases_eq v w) [
-                    | inl same ↦ absurd (has_first v (left_by workload rows) later.1
-                        (ap (λ (u : ℕ). first_job u (left_by workload rows)) same ∙ ap (first_job w) (sym left) ∙ none))
-                    | inr other ↦ inr (omega (arith, later.0, other), later.1)
-                  ]
-            ];
-        attempts =
-            let a = s.attempts in
-            let more = so_far_grows workload before s.now w (w + 1) (omega arith) in
-            omega (arith, a, more);
-      }
+      let left : turns.left ≡ left_by workload rows = ap (λ (t : Turning). t.left) s.goes.turns_are in
+      let no_job : first_job w (left_by workload rows) ≡ None = ap (first_job w) (sym left) ∙ none in
+      let a = s.attempts in
+      let more = so_far_grows workload before s.now w (w + 1) (omega arith) in
+      step_on k k rows turns w some s s.goes
+      (subst (λ (o : Option Job). IfSome o (λ job. apply_job job.ops (store_after workload rows) ≡ None)) (sym no_job) tt)
+      (inr (λ has. has_first w (left_by workload rows) has no_job)) (omega (arith, a, more)) s.unused
+      (λ empty. let t = s.few_tries empty in let l = waiting_less w (left_by workload before) inside in omega (arith, t, l))
 
   -- a worker whose turn it may be has a job left
   has_turn : (w : ℕ) (left : List Job) (job : Job) → first_job w left ≡ Some job → has_job left w ≡ true
@@ -290,56 +307,22 @@ module _ (workload : Workload) (number : ℕ) (table : Table) (first : Caller) (
       let stuck = stood.blocked (store_after workload rows) (stands_now n rows s.now turns goes) in
       let blocked : is_blocked workload rows w ≡ true =
       blocked_now workload before rows s.now w job s.goes.rows_are there stuck in
-      record {
-        now = s.now;
-        goes = goes;
-        few = λ v below.
-            elim (cases_lt v w) [
-              | inl before_it ↦ s.few v before_it
-              | inr from_it ↦ let zero_ = s.others v from_it in omega (arith, zero_)
-            ];
-        others = λ v past. s.others v (omega (arith, past));
-        has_row = s.has_row;
-        none_done = s.none_done;
-        blocked = λ not_some v below.
-            elim (cases_lt v w) [
-              | inl before_it ↦ s.blocked not_some v before_it
-              | inr from_it ↦
-                  let is : v ≡ w = omega (arith, below, from_it) in
-                  subst (λ (o : Option Job). IfSome o (λ job. apply_job job.ops (store_after workload rows) ≡ None))
-                  (sym (ap (λ (u : ℕ). first_job u (jobs_left workload.jobs rows)) is ∙ there))
-                  stuck
-            ];
-        unused = λ empty.
-            stood.unused (writes_same first k s.goes.on ∙ can.reads (third stood.branches))
-            ∙ s.unused empty;
-        few_tries = λ empty.
-            let t = s.few_tries empty in
-            let rows_is : rows ≡ before =
-            s.goes.rows_are ∙ ap (λ (rs : List Row). before ++ rs) empty ∙ append-nil before in
-            let turn_before : first_job w (left_by workload before) ≡ Some job =
-            ap (λ (rs : List Row). first_job w (jobs_left workload.jobs rs)) (sym rows_is) ∙ there in
-            let one = waiting_one w (left_by workload before) inside (has_turn w (left_by workload before) job turn_before) in
-            let more = stood.made.begun in
-            omega (arith, t, one, more);
-        asked = λ v below has.
-            elim (cases_eq v w) [
-              | inl same ↦
-                  inl (asked_blocked workload before rows s.now v s.goes.rows_are
-                  (ap (is_blocked workload rows) same ∙ blocked))
-              | inr other ↦
-                  elim (s.asked v below has) [
-                    | inl was ↦ inl was
-                    | inr later ↦ inr (omega (arith, later.0, other), later.1)
-                  ]
-            ];
-        attempts =
-            let a = s.attempts in
-            let more = stood.made.begun in
-            let one = so_far_blocked workload before s.now w
-            (subst (λ (rs : List Row). is_blocked workload rs w ≡ true) s.goes.rows_are blocked) in
-            omega (arith, a, more, one);
-      }
+      let a = s.attempts in
+      let more = stood.made.begun in
+      let one = so_far_blocked workload before s.now w
+      (subst (λ (rs : List Row). is_blocked workload rs w ≡ true) s.goes.rows_are blocked) in
+      step_on k n rows turns w some s goes
+      (subst (λ (o : Option Job). IfSome o (λ job. apply_job job.ops (store_after workload rows) ≡ None)) (sym there) stuck)
+      (inl (asked_blocked workload before rows s.now w s.goes.rows_are blocked)) (omega (arith, a, more, one))
+      (λ empty. stood.unused (writes_same first k s.goes.on ∙ can.reads (third stood.branches)) ∙ s.unused empty)
+      (λ empty.
+      let t = s.few_tries empty in
+      let rows_is : rows ≡ before =
+      s.goes.rows_are ∙ ap (λ (rs : List Row). before ++ rs) empty ∙ append-nil before in
+      let turn_before : first_job w (left_by workload before) ≡ Some job =
+      ap (λ (rs : List Row). first_job w (jobs_left workload.jobs rs)) (sym rows_is) ∙ there in
+      let one = waiting_one w (left_by workload before) inside (has_turn w (left_by workload before) job turn_before) in
+      omega (arith, t, one, more))
 
   -- what the newest transaction has read is what those before it have left
   agrees_then : (k n : Caller) (by : Committed) → GoesOn first k → GoesOn k n → done n ≡ by ∷ done k →

@@ -253,6 +253,14 @@ module _ (workload : Workload) (options : Options) (old new : Worker) (unbegun :
       subst (λ (ds : List Committed). All (FewAt workload.jobs) (zip new.places.items (reverse ds))) (sym same)
       (stands.few_reads (was_loose releasing) (same_reads n new.caller on reads))
 
+  -- and those did what they had done
+  still_done : (n : Caller) → Stands workload style old.caller n new.places.items new.done.items →
+      done new.caller ≡ done n →
+      AreDone workload.layout workload.jobs new.places.items new.done.items (reverse (done new.caller))
+  still_done n stands same =
+      subst (λ (ds : List Committed). AreDone workload.layout workload.jobs new.places.items new.done.items (reverse ds))
+      (sym same) stands.done
+
   -- all its jobs are done
   pub all_done : Stands workload style old.caller new.caller new.places.items new.done.items →
       length new.done.items ≡ length new.places.items → HasRun workload options old new
@@ -273,9 +281,7 @@ module _ (workload : Workload) (options : Options) (old new : Worker) (unbegun :
     number = number;
     places = places;
     on = goes_on old.caller n new.caller stands.on was.on;
-    done =
-        subst (λ (ds : List Committed). AreDone workload.layout workload.jobs new.places.items new.done.items (reverse ds))
-        (sym was.same_done) stands.done;
+    done = still_done n stands was.same_done;
     none_wasted = λ i some few.
         not_wasted i (then_none old.caller n new.caller (begun new.caller) stands.on was.on stands.none_wasted
         was.none_wasted i (omega arith) few);
@@ -292,9 +298,7 @@ module _ (workload : Workload) (options : Options) (old new : Worker) (unbegun :
     number = number;
     places = places;
     on = goes_on old.caller n new.caller stands.on was.on;
-    done =
-        subst (λ (ds : List Committed). AreDone workload.layout workload.jobs new.places.items new.done.items (reverse ds))
-        (sym was.same_done) stands.done;
+    done = still_done n stands was.same_done;
     none_wasted = λ i some few. by i some few (cases_eq i (begun new.caller));
     left = λ few. inr (let b = was.is_last in omega arith, waited);
     few_reads = same_few n stands was.on was.same_done;

@@ -17,22 +17,10 @@ use Rattle.dstm_records.specs.Rounds.{all_workers, greatest, has_job, left_by, w
 use Rattle.dstm_records.specs.Running.{count_left}
 use Rattle.dstm_crew.specs.declared.share.Share.{Share}
 use Rattle.dstm_crew.specs.Shares.{AreShares, IsOpen, takes_part, workers_of}
+use Rattle.dstm_records.proofs.Callers.{filter_all, range_above}
 use Rattle.dstm_crew.proofs.Jobs.{has_some}
 
 -- ---- parts of a range
-
--- what holds of each holds of those that pass a test
-filter_all : (P : ℕ → Type 0) (p : ℕ → Bool) (xs : List ℕ) → AllByRecursion P xs → AllByRecursion P (filter p xs)
-filter_all P p [] all = tt
-filter_all P p (x ∷ xs) all =
-    elim (p x) as (λ b. AllByRecursion P (cond b (x ∷ filter p xs) (filter p xs))) [
-      | true ↦ (all.0, filter_all P p xs all.1)
-      | false ↦ filter_all P p xs all.1
-    ]
-
-range_above : (low a n : ℕ) → low ≤ a → AllByRecursion (λ m. low ≤ m) (range_with_len a n)
-range_above low a zero le = tt
-range_above low a (suc n) le = (le, range_above low (a + 1) n (omega (arith, le)))
 
 range_below : (a n high : ℕ) → a + n ≤ high → AllByRecursion (λ m. m < high) (range_with_len a n)
 range_below a zero high le = tt

@@ -23,7 +23,7 @@ use Rattle.dstm_records.proofs.WorkersLeft.{AreEarlier, earlier_more, earlier_no
 
 -- ---- the workers of a round differ
 
-range_above : (low a n : ℕ) → low ≤ a → AllByRecursion (λ m. low ≤ m) (range_with_len a n)
+pub range_above : (low a n : ℕ) → low ≤ a → AllByRecursion (λ m. low ≤ m) (range_with_len a n)
 range_above low a zero le = tt
 range_above low a (suc n) le = (le, range_above low (a + 1) n (omega (arith, le)))
 
@@ -38,7 +38,7 @@ distinct_range a zero = tt
 distinct_range a (suc n) =
     (unlike a (range_with_len (a + 1) n) (range_above (a + 1) (a + 1) n (omega arith)), distinct_range (a + 1) n)
 
-filter_all : (P : ℕ → Type 0) (p : ℕ → Bool) (xs : List ℕ) → AllByRecursion P xs → AllByRecursion P (filter p xs)
+pub filter_all : (P : ℕ → Type 0) (p : ℕ → Bool) (xs : List ℕ) → AllByRecursion P xs → AllByRecursion P (filter p xs)
 filter_all P p [] all = tt
 filter_all P p (x ∷ xs) all =
     elim (p x) as (λ b. AllByRecursion P (cond b (x ∷ filter p xs) (filter p xs))) [

@@ -2,7 +2,8 @@ use Rattle.std.proofs.Common.{Option, length, IsSome, sym, ap, subst, arith, rul
 use Rattle.dstm_workload.specs.declared.workload.Job.{Job}
 use Rattle.dstm_report.specs.Turns.{Turning}
 use Rattle.dstm_report.proofs.Rising.{length-without_first}
-use Rattle.dstm_crew.proofs.Merged.{collects_first, collects_last, collects_more, its_turn}
+use Rattle.dstm_crew.proofs.Merged.{Turn, collects_first, collects_last, collects_more, its_turn}
+use Rattle.dstm_crew.proofs.collecting.collect.Goals.{After-push_row-arg-1}
 use Rattle.dstm_crew.proofs.collecting.collect.Goals as goal
 
 pub loop-least-init : goal.loop-least-init
@@ -12,39 +13,37 @@ loop-least-init c = (
   c.requires.room,
 )
 
+-- the share that comes next
+turn : (c : After-push_row-arg-1) → Turn c.args.workload.now c.args.shares.now c.loop-least.turns c.loop-least.next.items
+    c.in-Some.least c.index-shares-least.result c.index-place.result.now
+turn c =
+    its_turn c.args.workload.now c.args.round c.args.rows.now.items c.args.shares.now c.loop-least.rows.items c.loop-least.turns
+    c.loop-least.next.items c.deref.result.now c.in-Some.least c.index-shares-least.result c.index-place.result.now
+    c.loop-least.invariant.0 c.deref.ensures.value c.in-Some.ensures.some c.index-shares-least.is c.index-place.ensures
+
 pub push_row-requires-clause-done : goal.push_row-requires-clause-done
 push_row-requires-clause-done c =
-    (its_turn c.args.workload.now c.args.round c.args.rows.now.items c.args.shares.now c.loop-least.rows.items c.loop-least.turns
-    c.loop-least.next.items c.deref.result.now c.in-Some.least c.index-shares-least.result c.index-place.result.now
-    c.loop-least.invariant.0 c.deref.ensures.value c.in-Some.ensures.some c.index-shares-least.is c.index-place.ensures).some
+    (turn (goal.at.push_row-requires-clause-done c).After-push_row-arg-1).some
 
 pub push_row-requires-clause-fit : goal.push_row-requires-clause-fit
 push_row-requires-clause-fit c =
-    (its_turn c.args.workload.now c.args.round c.args.rows.now.items c.args.shares.now c.loop-least.rows.items c.loop-least.turns
-    c.loop-least.next.items c.deref.result.now c.in-Some.least c.index-shares-least.result c.index-place.result.now
-    c.loop-least.invariant.0 c.deref.ensures.value c.in-Some.ensures.some c.index-shares-least.is c.index-place.ensures).fit
+    (turn (goal.at.push_row-requires-clause-fit c).After-push_row-arg-1).fit
 
 pub push_row-requires-clause-room : goal.push_row-requires-clause-room
 push_row-requires-clause-room c =
-    let t = its_turn c.args.workload.now c.args.round c.args.rows.now.items c.args.shares.now c.loop-least.rows.items c.loop-least.turns
-    c.loop-least.next.items c.deref.result.now c.in-Some.least c.index-shares-least.result c.index-place.result.now
-    c.loop-least.invariant.0 c.deref.ensures.value c.in-Some.ensures.some c.index-shares-least.is c.index-place.ensures in
+    let t = turn (goal.at.push_row-requires-clause-room c).After-push_row-arg-1 in
     let one = length-without_first c.index-shares-least.result.worker c.loop-least.turns.left t.job t.first in
     let room = c.loop-least.invariant.1 in
     omega (arith, one, room)
 
 pub pass-requires : goal.pass-requires
 pass-requires c =
-    let t = its_turn c.args.workload.now c.args.round c.args.rows.now.items c.args.shares.now c.loop-least.rows.items c.loop-least.turns
-    c.loop-least.next.items c.deref.result.now c.in-Some.least c.index-shares-least.result c.index-place.result.now
-    c.loop-least.invariant.0 c.deref.ensures.value c.in-Some.ensures.some c.index-shares-least.is c.index-place.ensures in
+    let t = turn (goal.at.pass-requires c).After-push_row-arg-1 in
     subst (λ (o : Option Job). IsSome o) (sym t.first) (search rules)
 
 pub overflow_add-place : goal.overflow_add-place
 overflow_add-place c =
-    let t = its_turn c.args.workload.now c.args.round c.args.rows.now.items c.args.shares.now c.loop-least.rows.items c.loop-least.turns
-    c.loop-least.next.items c.deref.result.now c.in-Some.least c.index-shares-least.result c.index-place.result.now
-    c.loop-least.invariant.0 c.deref.ensures.value c.in-Some.ensures.some c.index-shares-least.is c.index-place.ensures in
+    let t = turn (goal.at.overflow_add-place c).After-push_row-arg-1 in
     let some = t.some in
     let enough = t.fit.enough in
     let small = c.index-shares-least.result.places.small in
@@ -53,9 +52,7 @@ overflow_add-place c =
 
 pub loop-least-preserved : goal.loop-least-preserved
 loop-least-preserved c =
-    let t = its_turn c.args.workload.now c.args.round c.args.rows.now.items c.args.shares.now c.loop-least.rows.items c.loop-least.turns
-    c.loop-least.next.items c.deref.result.now c.in-Some.least c.index-shares-least.result c.index-place.result.now
-    c.loop-least.invariant.0 c.deref.ensures.value c.in-Some.ensures.some c.index-shares-least.is c.index-place.ensures in
+    let t = turn (goal.at.loop-least-preserved c).After-push_row-arg-1 in
     let one = length-without_first c.index-shares-least.result.worker c.loop-least.turns.left t.job t.first in
     let fewer = ap (λ (turns : Turning). length turns.left) c.pass.ensures in
     let room = c.loop-least.invariant.1 in
@@ -70,9 +67,7 @@ loop-least-preserved c =
 
 pub loop-least-smaller : goal.loop-least-smaller
 loop-least-smaller c =
-    let t = its_turn c.args.workload.now c.args.round c.args.rows.now.items c.args.shares.now c.loop-least.rows.items c.loop-least.turns
-    c.loop-least.next.items c.deref.result.now c.in-Some.least c.index-shares-least.result c.index-place.result.now
-    c.loop-least.invariant.0 c.deref.ensures.value c.in-Some.ensures.some c.index-shares-least.is c.index-place.ensures in
+    let t = turn (goal.at.loop-least-smaller c).After-push_row-arg-1 in
     let one = length-without_first c.index-shares-least.result.worker c.loop-least.turns.left t.job t.first in
     let fewer = ap (λ (turns : Turning). length turns.left) c.pass.ensures in
     omega (arith, one, fewer)

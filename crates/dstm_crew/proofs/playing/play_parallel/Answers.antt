@@ -9,6 +9,8 @@ use Rattle.dstm_crew.specs.Shares.{WereRun, workers_of}
 use Rattle.dstm_crew.proofs.Played.{nothing_played}
 use Rattle.dstm_crew.proofs.Stood.{can_collect, has_played, run_by}
 use Rattle.dstm_crew.proofs.Workers.{workers_few, workers_some}
+use Rattle.dstm_crew.proofs.playing.play_parallel.Given.{Over}
+use Rattle.dstm_crew.proofs.playing.play_parallel.Goals.{In_ok-shares-2}
 use Rattle.dstm_crew.proofs.playing.play_parallel.Goals as goal
 
 pub returns-in_err-shares-clause-broken_off : goal.returns-in_err-shares-clause-broken_off
@@ -47,20 +49,23 @@ run_shares-requires-clause-few g c = λ _ _.
     let n = length-map c.in_ok-shares.shares.items (λ (s : Share). s.worker) in
     omega (arith, few, same, n)
 
+-- the shares were run on the values of before
+ran : (g : Over) (c : In_ok-shares-2 g) → WereRun c.args.play.now.workload.now c.args.play.now.options.now c.args.number
+    c.args.progress.now.values.items c.in_ok-shares-2.left.items c.in_ok-shares.shares.items c.in_ok-shares-2.shares.items
+    c.in_ok-shares-2.ensures.run.0
+ran g c =
+    subst (λ (vs : List Val). WereRun c.args.play.now.workload.now c.args.play.now.options.now c.args.number vs
+    c.in_ok-shares-2.left.items c.in_ok-shares.shares.items c.in_ok-shares-2.shares.items c.in_ok-shares-2.ensures.run.0)
+    (ap (λ v. v.items) c.replace-values.ensures.value) c.in_ok-shares-2.ensures.run.1.1
+
 pub collect-requires-clause-can : goal.collect-requires-clause-can
 collect-requires-clause-can g c =
     let workload = c.args.play.now.workload.now in
-    let options = c.args.play.now.options.now in
     let p = c.args.progress.now in
-    let closed = c.in_ok-shares-2.ensures.run.0 in
-    let before = c.in_ok-shares.shares.items in
-    let shares = c.in_ok-shares-2.shares.items in
-    let left = c.in_ok-shares-2.left.items in
-    let run : WereRun workload options c.args.number p.values.items left before shares closed =
-    subst (λ (vs : List Val). WereRun workload options c.args.number vs left before shares closed)
-    (ap (λ v. v.items) c.replace-values.ensures.value) c.in_ok-shares-2.ensures.run.1.1 in
+    let run = ran g (goal.at.collect-requires-clause-can g c).In_ok-shares-2 in
     subst (λ (ss : List Share). CanCollect workload ss p.rows.items p.turns) (sym c.deref.ensures.value)
-    (can_collect workload options c.args.number p.rows.items p.values.items left p.turns before shares closed
+    (can_collect workload c.args.play.now.options.now c.args.number p.rows.items p.values.items c.in_ok-shares-2.left.items
+    p.turns c.in_ok-shares.shares.items c.in_ok-shares-2.shares.items c.in_ok-shares-2.ensures.run.0
     c.requires.can.begins c.requires.can.turns c.in_ok-shares.ensures run)
 
 pub returns-clause-played : goal.returns-clause-played
@@ -72,9 +77,7 @@ returns-clause-played g c =
     let before = c.in_ok-shares.shares.items in
     let shares = c.in_ok-shares-2.shares.items in
     let left = c.in_ok-shares-2.left.items in
-    let run : WereRun workload options c.args.number p.values.items left before shares closed =
-    subst (λ (vs : List Val). WereRun workload options c.args.number vs left before shares closed)
-    (ap (λ v. v.items) c.replace-values.ensures.value) c.in_ok-shares-2.ensures.run.1.1 in
+    let run = ran g (goal.at.returns-clause-played g c).In_ok-shares-2 in
     let q : Progress = record {
       values = c.in_ok-shares-2.left;
       turns = c.collect.new.turns;

@@ -3,8 +3,10 @@ use Rattle.dstm_report.specs.declared.report.Row.{Row}
 use Rattle.dstm_records.specs.Running.{turns_behind}
 use Rattle.dstm_records.proofs.Running.{Reached, at_first, rounds_left}
 use Rattle.dstm_crew.specs.declared.progress.Progress.{Progress}
-use Rattle.dstm_crew.specs.Playing.{CanPlay}
+use Rattle.dstm_crew.specs.Playing.{CanPlay, HasCome, WasBrokenOff}
 use Rattle.dstm_crew.proofs.Played.{Stands, all_ended, can_play, come_so_far, nothing_played, one_round_more, round_falls, with_room}
+use Rattle.dstm_crew.proofs.rounds.play_rounds.Given.{Over}
+use Rattle.dstm_crew.proofs.rounds.play_rounds.Goals.{After-reserve-in-loop-more, At-loop-more, In_ok-reserve-2}
 use Rattle.dstm_crew.proofs.rounds.play_rounds.Goals as goal
 
 pub loop-more-init : goal.loop-more-init
@@ -19,12 +21,33 @@ loop-more-init g c =
           c.requires.turns;
     }
 
+-- the records are those of the rounds so far, where this one was broken off
+come : (g : Over) (c : At-loop-more g) (q : Progress) → WasBrokenOff c.loop-more.number c.loop-more.progress q →
+    HasCome c.args.play.now.workload.now c.args.play.now.options.now c.args.progress.now q
+come g c =
+    come_so_far c.args.play.now.workload.now c.args.play.now.options.now c.args.progress.now.values.items
+    c.args.progress.now.rounds.items c.loop-more.progress c.loop-more.number c.loop-more.more c.loop-more.invariant.reached
+    c.args.progress.now refl refl
+
+-- what there is once room is reserved
+abbrev reserved : (g : Over) → After-reserve-in-loop-more g → Progress
+reserved g c = record c.loop-more.progress { rows = c.reserve.new.self; rounds = c.reserve-in-loop-more.new.self }
+
+-- stands where it stood
+stands : (g : Over) (c : In_ok-reserve-2 g) → Stands c.args.play.now.workload.now c.args.play.now.options.now
+    c.args.progress.now.values.items c.args.progress.now.rounds.items
+    (record c.loop-more.progress { rows = c.reserve.new.self; rounds = c.reserve-in-loop-more.new.self })
+    c.loop-more.number c.loop-more.more
+stands g c =
+    with_room c.args.play.now.workload.now c.args.play.now.options.now c.args.progress.now.values.items
+    c.args.progress.now.rounds.items c.loop-more.progress c.loop-more.number c.loop-more.more c.reserve.new.self.items
+    c.reserve-in-loop-more.new.self.items c.reserve.ensures.items c.reserve-in-loop-more.ensures.items
+    c.loop-more.invariant.reached
+
 pub returns-in_err-reserve-clause-come : goal.returns-in_err-reserve-clause-come
 returns-in_err-reserve-clause-come g c =
     let q : Progress = record c.loop-more.progress { rows = c.reserve.new.self } in
-    come_so_far c.args.play.now.workload.now c.args.play.now.options.now c.args.progress.now.values.items
-    c.args.progress.now.rounds.items c.loop-more.progress c.loop-more.number c.loop-more.more c.loop-more.invariant.reached
-    c.args.progress.now refl refl q
+    come g (goal.at.returns-in_err-reserve-clause-come g c).At-loop-more q
     (nothing_played c.loop-more.number c.loop-more.progress q refl c.reserve.ensures.items)
 
 pub returns-in_err-reserve-2-clause-come : goal.returns-in_err-reserve-2-clause-come
@@ -33,9 +56,7 @@ returns-in_err-reserve-2-clause-come g c =
       rows = c.reserve.new.self;
       rounds = c.reserve-in-loop-more.new.self;
     } in
-    come_so_far c.args.play.now.workload.now c.args.play.now.options.now c.args.progress.now.values.items
-    c.args.progress.now.rounds.items c.loop-more.progress c.loop-more.number c.loop-more.more c.loop-more.invariant.reached
-    c.args.progress.now refl refl q
+    come g (goal.at.returns-in_err-reserve-2-clause-come g c).At-loop-more q
     (nothing_played c.loop-more.number c.loop-more.progress q c.reserve-in-loop-more.ensures.items c.reserve.ensures.items)
 
 pub play_round-requires : goal.play_round-requires
@@ -44,15 +65,10 @@ play_round-requires g c =
     let options = c.args.play.now.options.now in
     let start = c.args.progress.now.values.items in
     let old = c.args.progress.now.rounds.items in
-    let p : Progress = record c.loop-more.progress {
-      rows = c.reserve.new.self;
-      rounds = c.reserve-in-loop-more.new.self;
-    } in
+    let p = reserved g (goal.at.play_round-requires g c).After-reserve-in-loop-more in
     let stands : Stands workload options start old p c.loop-more.number true =
-    with_room workload options start old c.loop-more.progress c.loop-more.number true c.reserve.new.self.items
-    c.reserve-in-loop-more.new.self.items c.reserve.ensures.items c.reserve-in-loop-more.ensures.items
-    (subst (Stands workload options start old c.loop-more.progress c.loop-more.number) c.loop-more-test.true
-    c.loop-more.invariant.reached) in
+    subst (Stands workload options start old p c.loop-more.number) c.loop-more-test.true
+    (stands g (goal.at.play_round-requires g c).In_ok-reserve-2) in
     let can : CanPlay workload c.loop-more.number p =
     can_play workload options start old p c.loop-more.number stands
     (c.loop-more.invariant.turned ∙ ap (turns_behind workload) (sym c.reserve.ensures.items))
@@ -62,9 +78,7 @@ play_round-requires g c =
 pub returns-in_err-play_round-clause-come : goal.returns-in_err-play_round-clause-come
 returns-in_err-play_round-clause-come g c =
     let broken = c.in_err-play_round.ensures.broken_off in
-    come_so_far c.args.play.now.workload.now c.args.play.now.options.now c.args.progress.now.values.items
-    c.args.progress.now.rounds.items c.loop-more.progress c.loop-more.number c.loop-more.more c.loop-more.invariant.reached
-    c.args.progress.now refl refl c.play_round.new.progress
+    come g (goal.at.returns-in_err-play_round-clause-come g c).At-loop-more c.play_round.new.progress
     (record {
       none = broken.none ∙ c.reserve-in-loop-more.ensures.items;
       unfinished = broken.unfinished;
@@ -78,28 +92,20 @@ loop-more-preserved g c =
     let options = c.args.play.now.options.now in
     let start = c.args.progress.now.values.items in
     let old = c.args.progress.now.rounds.items in
-    let p : Progress = record c.loop-more.progress {
-      rows = c.reserve.new.self;
-      rounds = c.reserve-in-loop-more.new.self;
-    } in
+    let p = reserved g (goal.at.loop-more-preserved g c).After-reserve-in-loop-more in
     let q = c.play_round.new.progress in
     let played = c.in_ok-play_round.ensures.played in
     let more = nat_lt c.len-in-loop-more.result (length c.as_slice-jobs.result.now) in
-    let stands : Stands workload options start old p c.loop-more.number c.loop-more.more =
-    with_room workload options start old c.loop-more.progress c.loop-more.number c.loop-more.more c.reserve.new.self.items
-    c.reserve-in-loop-more.new.self.items c.reserve.ensures.items c.reserve-in-loop-more.ensures.items
-    c.loop-more.invariant.reached in
     let more_is : more ≡ nat_lt (length q.rows.items) (length workload.jobs) = search rules in
     record {
-      reached = one_round_more workload options start old p c.loop-more.number q more more_is played c.loop-more.more stands;
+      reached = one_round_more workload options start old p c.loop-more.number q more more_is played c.loop-more.more
+          (stands g (goal.at.loop-more-preserved g c).In_ok-reserve-2);
       turned = played.turns_are;
     }
 
 pub returns-clause-come : goal.returns-clause-come
 returns-clause-come g c =
-    come_so_far c.args.play.now.workload.now c.args.play.now.options.now c.args.progress.now.values.items
-    c.args.progress.now.rounds.items c.loop-more.progress c.loop-more.number c.loop-more.more c.loop-more.invariant.reached
-    c.args.progress.now refl refl c.loop-more.progress
+    come g (goal.at.returns-clause-come g c).At-loop-more c.loop-more.progress
     (nothing_played c.loop-more.number c.loop-more.progress c.loop-more.progress refl refl)
 
 pub returns-clause-ended : goal.returns-clause-ended
@@ -116,10 +122,7 @@ pub loop-more-smaller : goal.loop-more-smaller
 loop-more-smaller g c =
     let workload = c.args.play.now.workload.now in
     let number = c.loop-more.number in
-    let p : Progress = record c.loop-more.progress {
-      rows = c.reserve.new.self;
-      rounds = c.reserve-in-loop-more.new.self;
-    } in
+    let p = reserved g (goal.at.loop-more-smaller g c).After-reserve-in-loop-more in
     let q = c.play_round.new.progress in
     let more = nat_lt c.len-in-loop-more.result (length c.as_slice-jobs.result.now) in
     let more_is : more ≡ nat_lt (length q.rows.items) (length workload.jobs) = search rules in

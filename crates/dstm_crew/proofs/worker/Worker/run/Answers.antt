@@ -8,6 +8,8 @@ use Rattle.dstm_crew.specs.Done.{DoneAs}
 use Rattle.dstm_crew.specs.Releases.{releases}
 use Rattle.dstm_crew.specs.Tries.{HasLeft}
 use Rattle.dstm_crew.proofs.Worked.{Stands, all_done, at_start, next_is, not_loose, one_done, stopped}
+use Rattle.dstm_crew.proofs.worker.Worker.run.Given.{Over}
+use Rattle.dstm_crew.proofs.worker.Worker.run.Goals.{After-try_job}
 use Rattle.dstm_crew.proofs.worker.Worker.run.Goals as goal
 
 pub loop-at-init : goal.loop-at-init
@@ -26,6 +28,21 @@ loop-at-init g c =
       λ _. refl,
     )
 
+-- the job of this turn is the next one
+its_job : (g : Over) (c : After-try_job g) → (length c.loop-at.self.done.items < length c.loop-at.self.places.items)
+    × (c.index.result.now
+    ≡ get_or c.loop-at.self.places.items (length c.loop-at.self.done.items) c.index.result.now)
+    × (c.index-jobs-index.result ≡ job_at c.args.workload.now.jobs c.index.result.now)
+its_job g c =
+    let place = c.index.result.now in
+    let count : length c.loop-at.self.done.items ≡ c.loop-at.at = c.loop-at.invariant.2 in
+    let inside : place < length c.as_slice-jobs.result.now = search rules in (
+      search rules,
+      c.index.ensures ∙ ap (λ (i : ℕ). get_or c.loop-at.self.places.items i place) (sym count),
+      c.index-jobs-index.is ∙ get_or_default c.as_slice-jobs.result.now place c.index-jobs-index.result no_job inside
+          ∙ ap (λ (js : List Job). job_at js place) c.as_slice-jobs.ensures,
+    )
+
 pub loop-at-preserved : goal.loop-at-preserved
 loop-at-preserved g c =
     let workload = c.args.workload.now in
@@ -36,16 +53,9 @@ loop-at-preserved g c =
     let finished = c.loop-at.self.done.items in
     let next : Finished = c.in-Ok.finished in
     let place = c.index.result.now in
+    let (more, at, is) = its_job g (goal.at.loop-at-preserved g c).After-try_job in
     let count : length finished ≡ c.loop-at.at = c.loop-at.invariant.2 in
-    let more : length finished < length places = search rules in
-    let at : place ≡ get_or places (length finished) place =
-    c.index.ensures ∙ ap (λ (i : ℕ). get_or places i place) (sym count) in
-    let jobs : c.as_slice-jobs.result.now ≡ workload.jobs = c.as_slice-jobs.ensures in
-    let inside : place < length c.as_slice-jobs.result.now = search rules in
     let job = c.index-jobs-index.result in
-    let is : job ≡ job_at workload.jobs place =
-    c.index-jobs-index.is ∙ get_or_default c.as_slice-jobs.result.now place job no_job inside
-    ∙ ap (λ (js : List Job). job_at js place) jobs in
     let style = c.style_for-style.result in
     let stands : Stands workload style k m places (finished ++ next ∷ []) =
     one_done workload style k n m places finished next job place c.loop-at.invariant.4 c.in-Ok.ensures.done more at is in
@@ -68,16 +78,8 @@ returns-in-Err-clause-run g c =
     let places = c.loop-at.self.places.items in
     let finished = c.loop-at.self.done.items in
     let place = c.index.result.now in
-    let count : length finished ≡ c.loop-at.at = c.loop-at.invariant.2 in
-    let more : length finished < length places = search rules in
-    let at : place ≡ get_or places (length finished) place =
-    c.index.ensures ∙ ap (λ (i : ℕ). get_or places i place) (sym count) in
-    let jobs : c.as_slice-jobs.result.now ≡ workload.jobs = c.as_slice-jobs.ensures in
-    let inside : place < length c.as_slice-jobs.result.now = search rules in
+    let (more, at, is) = its_job g (goal.at.returns-in-Err-clause-run g c).After-try_job in
     let job = c.index-jobs-index.result in
-    let is : job ≡ job_at workload.jobs place =
-    c.index-jobs-index.is ∙ get_or_default c.as_slice-jobs.result.now place job no_job inside
-    ∙ ap (λ (js : List Job). job_at js place) jobs in
     stopped workload c.args.options.now c.args.self.now _ c.requires.ready.none_begun c.style_for-style.result c.style_for-style.ensures
     c.loop-at.invariant.0 (ap (λ v. v.items) c.loop-at.invariant.1) n
     (releases c.args.options.now) job c.in-Err.field-0 c.loop-at.invariant.4
