@@ -1,11 +1,27 @@
-use Rattle.std.proofs.Common.{◌∙◌, Err, ap, inl, inr, refl, subst}
+use Rattle.std.proofs.Common.{◌≡◌, ◌∙◌, Err, ap, inl, inr, refl, subst}
+use Rattle.std.specs.Prelude.{Result}
 use Rattle.dstm_cells.specs.Alternatives.{Noting, StopsUndoing}
 use Rattle.dstm_cells.specs.UnderWay.{attempt}
+use Rattle.dstm_cells.specs.declared.error.Stop.{Stop}
 use Rattle.dstm_cells.specs.declared.error.Stop.TheVariants.{Retry}
 use Rattle.dstm_cells.proofs.Alternating.{First, called, leaves, left_notes, stopped, undone}
 use Rattle.dstm_cells.proofs.Calling.{err_is, once_at, once_kept}
 use Rattle.dstm_cells.proofs.Undoing.{notes_twice, undone_notes}
+use Rattle.dstm_cells.proofs.alternatives.or_else.Given.{Over}
+use Rattle.dstm_cells.proofs.alternatives.or_else.Goals.{After-has_retried}
 use Rattle.dstm_cells.proofs.alternatives.or_else.Goals as goal
+
+-- the first alternative was called, and answered this
+first_called : (g : Over) (c : After-has_retried g) (answer : Result g.row.R.Denot Stop) → c.first-answer.result ≡ answer →
+    First g.X.Transaction.noting g.F.FnOnce c.args.first c.args.tx.now c.note-notes.new.self c.first-answer.new.arg2
+    c.note-noted.new.self answer
+first_called g c answer is = record {
+  on = c.note-notes.ensures.notes;
+  call = once_at g.F.FnOnce c.args.first _ _ _ _ c.first-answer.ensures is;
+  before = c.note-notes.result;
+  same = c.note-notes.ensures.before;
+  off = c.note-noted.ensures.notes;
+}
 
 pub returns-then-not-has_retried-clause-keeps : goal.returns-then-not-has_retried-clause-keeps
 returns-then-not-has_retried-clause-keeps g c first second =
@@ -16,30 +32,14 @@ returns-then-not-has_retried-clause-keeps g c first second =
 pub returns-then-not-has_retried-clause-notes : goal.returns-then-not-has_retried-clause-notes
 returns-then-not-has_retried-clause-notes g c first second =
     let noting = g.X.Transaction.noting in
-    let it : First noting g.F.FnOnce c.args.first c.args.tx.now c.note-notes.new.self c.first-answer.new.arg2
-    c.note-noted.new.self c.first-answer.result =
-    record {
-      on = c.note-notes.ensures.notes;
-      call = once_at g.F.FnOnce c.args.first _ _ _ _ c.first-answer.ensures refl;
-      before = c.note-notes.result;
-      same = c.note-notes.ensures.before;
-      off = c.note-noted.ensures.notes;
-    } in
+    let it = first_called g (goal.at.returns-then-not-has_retried-clause-notes g c).After-has_retried c.first-answer.result refl in
     left_notes noting g.F.FnOnce c.args.first g.X.Rule.Law.holds c.args.tx.now c.note-notes.new.self c.first-answer.new.arg2
     c.note-noted.new.self c.first-answer.result it first
 
 pub returns-then-not-has_retried-clause-does : goal.returns-then-not-has_retried-clause-does
 returns-then-not-has_retried-clause-does g c first =
     let noting = g.X.Transaction.noting in
-    let it : First noting g.F.FnOnce c.args.first c.args.tx.now c.note-notes.new.self c.first-answer.new.arg2
-    c.note-noted.new.self c.first-answer.result =
-    record {
-      on = c.note-notes.ensures.notes;
-      call = once_at g.F.FnOnce c.args.first _ _ _ _ c.first-answer.ensures refl;
-      before = c.note-notes.result;
-      same = c.note-notes.ensures.before;
-      off = c.note-noted.ensures.notes;
-    } in
+    let it = first_called g (goal.at.returns-then-not-has_retried-clause-does g c).After-has_retried c.first-answer.result refl in
     inl (record {
       left = noting c.first-answer.new.arg2;
       called = called noting g.F.FnOnce c.args.first g.X.Rule.Law.holds c.args.tx.now c.note-notes.new.self c.first-answer.new.arg2
@@ -59,15 +59,7 @@ returns-in_err-undo_to-clause-keeps g c first second =
 pub returns-in_err-undo_to-clause-notes : goal.returns-in_err-undo_to-clause-notes
 returns-in_err-undo_to-clause-notes g c first second =
     let noting = g.X.Transaction.noting in
-    let it : First noting g.F.FnOnce c.args.first c.args.tx.now c.note-notes.new.self c.first-answer.new.arg2
-    c.note-noted.new.self (Err Retry) =
-    record {
-      on = c.note-notes.ensures.notes;
-      call = once_at g.F.FnOnce c.args.first _ _ _ _ c.first-answer.ensures (c.has_retried.ensures.retries c.if-not-has_retried.false);
-      before = c.note-notes.result;
-      same = c.note-notes.ensures.before;
-      off = c.note-noted.ensures.notes;
-    } in
+    let it = first_called g (goal.at.returns-in_err-undo_to-clause-notes g c).After-has_retried (Err Retry) (c.has_retried.ensures.retries c.if-not-has_retried.false) in
     stopped noting g.F.FnOnce c.args.first g.X.Rule.Law.holds c.args.tx.now c.note-notes.new.self c.first-answer.new.arg2
     c.note-noted.new.self (Err Retry) it first
     c.undo_to.new.self c.noted-kept.result c.noted-kept.ensures c.undo_to.ensures.keeps c.undo_to.ensures.notes c.in_err-undo_to.ensures.left
@@ -75,15 +67,7 @@ returns-in_err-undo_to-clause-notes g c first second =
 pub returns-in_err-undo_to-clause-does : goal.returns-in_err-undo_to-clause-does
 returns-in_err-undo_to-clause-does g c first =
     let noting = g.X.Transaction.noting in
-    let it : First noting g.F.FnOnce c.args.first c.args.tx.now c.note-notes.new.self c.first-answer.new.arg2
-    c.note-noted.new.self (Err Retry) =
-    record {
-      on = c.note-notes.ensures.notes;
-      call = once_at g.F.FnOnce c.args.first _ _ _ _ c.first-answer.ensures (c.has_retried.ensures.retries c.if-not-has_retried.false);
-      before = c.note-notes.result;
-      same = c.note-notes.ensures.before;
-      off = c.note-noted.ensures.notes;
-    } in
+    let it = first_called g (goal.at.returns-in_err-undo_to-clause-does g c).After-has_retried (Err Retry) (c.has_retried.ensures.retries c.if-not-has_retried.false) in
     inr (inr (record {
       left = noting c.first-answer.new.arg2;
       retries = called noting g.F.FnOnce c.args.first g.X.Rule.Law.holds c.args.tx.now c.note-notes.new.self c.first-answer.new.arg2
@@ -105,15 +89,7 @@ returns-clause-keeps g c first second =
 pub returns-clause-notes : goal.returns-clause-notes
 returns-clause-notes g c first second =
     let noting = g.X.Transaction.noting in
-    let it : First noting g.F.FnOnce c.args.first c.args.tx.now c.note-notes.new.self c.first-answer.new.arg2
-    c.note-noted.new.self (Err Retry) =
-    record {
-      on = c.note-notes.ensures.notes;
-      call = once_at g.F.FnOnce c.args.first _ _ _ _ c.first-answer.ensures (c.has_retried.ensures.retries c.if-not-has_retried.false);
-      before = c.note-notes.result;
-      same = c.note-notes.ensures.before;
-      off = c.note-noted.ensures.notes;
-    } in
+    let it = first_called g (goal.at.returns-clause-notes g c).After-has_retried (Err Retry) (c.has_retried.ensures.retries c.if-not-has_retried.false) in
     let back = undone noting g.F.FnOnce c.args.first g.X.Rule.Law.holds c.args.tx.now c.note-notes.new.self c.first-answer.new.arg2
     c.note-noted.new.self (Err Retry) it first
     c.undo_to.new.self c.noted-kept.result c.noted-kept.ensures c.undo_to.ensures.keeps c.undo_to.ensures.notes c.in_ok-undo_to.ensures.undone in
@@ -124,15 +100,7 @@ returns-clause-notes g c first second =
 pub returns-clause-does : goal.returns-clause-does
 returns-clause-does g c first =
     let noting = g.X.Transaction.noting in
-    let it : First noting g.F.FnOnce c.args.first c.args.tx.now c.note-notes.new.self c.first-answer.new.arg2
-    c.note-noted.new.self (Err Retry) =
-    record {
-      on = c.note-notes.ensures.notes;
-      call = once_at g.F.FnOnce c.args.first _ _ _ _ c.first-answer.ensures (c.has_retried.ensures.retries c.if-not-has_retried.false);
-      before = c.note-notes.result;
-      same = c.note-notes.ensures.before;
-      off = c.note-noted.ensures.notes;
-    } in
+    let it = first_called g (goal.at.returns-clause-does g c).After-has_retried (Err Retry) (c.has_retried.ensures.retries c.if-not-has_retried.false) in
     inr (inl (record {
       left = noting c.first-answer.new.arg2;
       retries = called noting g.F.FnOnce c.args.first g.X.Rule.Law.holds c.args.tx.now c.note-notes.new.self c.first-answer.new.arg2
