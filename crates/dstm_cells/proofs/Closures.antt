@@ -9,11 +9,11 @@ use Rattle.dstm_opacity.specs.Committed.{Committed}
 use Rattle.dstm_words.specs.Seats.{Home}
 use Rattle.dstm_engine.specs.Attempts.{Settles, done}
 use Rattle.dstm_engine.specs.Callers.{Called}
-use Rattle.dstm_engine.specs.Transactions.{TxPlace}
+use Rattle.dstm_engine.specs.Transactions.{BeginsAnew, TxPlace}
 use Rattle.dstm_engine.proofs.Made.{settled}
 use Rattle.dstm_cells.specs.declared.error.Stop.{Stop}
 use Rattle.dstm_cells.specs.Closures.{TookEffect}
-use Rattle.dstm_cells.specs.UnderWay.{AddsNothing, Attempt, MayBegin, seen}
+use Rattle.dstm_cells.specs.UnderWay.{AddsNothing, Attempt, Keeps, MayBegin, TakesEffect, seen}
 
 abbrev place_of : {L : Type 0} → GName → Home L → Attempt L → TxPlace L
 place_of name table a = record {
@@ -45,6 +45,17 @@ settles_from {L} holds k before n is_right number same s = record {
     same_home : AddsNothing k before → k.home ≡ before.home
     same_home it = sym it.home
 
+-- An attempt of a caller that had added nothing before it has taken effect: what is right for all values at which it may
+-- have begun, and those that it leaves, is right in every run.
+pub settles_right : {L : Type 0} (holds : L → List Val → Type 0) (name : GName) (k before began ended n : Called L) →
+    AddsNothing k before → BeginsAnew holds before began → Keeps began ended → (t : TakesEffect holds ended n)
+    (is_right : List Val → List Val → Type 0) → ((map : List Val) → MayBegin holds ended map → is_right map (seen ended map)) →
+    Settles holds is_right k n t.number
+settles_right holds name k before began ended n same begins keeps t is_right right =
+    settles_from holds k before n is_right t.number same
+    (settled holds before began ended name name before.home before.home begins (ap (place_of name before.home) keeps)
+    is_right n t.number t.home t.run t.commits right)
+
 module _ {X L F R : Type 0} (caller : X → Called L)
     (g : Mut F (MutBor X × Unit {0}) (Result R Stop × (MutBor X × Unit {0}))) (holds : L → List Val → Type 0) where
   -- THE ANSWER IS RIGHT IN EVERY RUN: where the answer is right for all values at which the attempt may have begun, and
@@ -55,7 +66,5 @@ module _ {X L F R : Type 0} (caller : X → Called L)
       ((map : List Val) → MayBegin holds (caller t.last.ended) map → is_right map (seen (caller t.last.ended) map)) →
       Settles holds is_right k n t.takes.number
   answers_right k n answer t is_right right =
-      let name = t.last.called.2.shown.ghost_name in
-      settles_from holds k t.last.before n is_right t.takes.number t.last.same
-      (settled holds t.last.before (caller t.last.began) (caller t.last.ended) name name t.last.before.home t.last.before.home t.last.begins
-      (ap (place_of name t.last.before.home) t.last.keeps) is_right n t.takes.number t.takes.home t.takes.run t.takes.commits right)
+      settles_right holds t.last.called.2.shown.ghost_name k t.last.before (caller t.last.began) (caller t.last.ended) n
+      t.last.same t.last.begins t.last.keeps t.takes is_right right

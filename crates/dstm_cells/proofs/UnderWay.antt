@@ -55,14 +55,19 @@ module _ {L : Type 0} where
           };
         }
 
-    -- values that are those of a map at which the attempt may have begun, for each object, are lawful
-    pub all_lawful : (k n : Called L) (values map : List Val) (o objects : ℕ) → attempt n ≡ attempt k →
+    -- values that are those of a map at which the attempt may have begun, for each object, are this map
+    pub all_values : (k n : Called L) (values map : List Val) (o objects : ℕ) → attempt n ≡ attempt k →
         objects ≡ (shape_of k).objects → o ≡ objects → length values ≡ o → MayBegin holds n map →
-        ((p : ℕ) → p < o → value_at values p ≡ value_at map p) → holds (law_of k) values
-    all_lawful k n values map o objects same all end size may each =
-        let home : n.home ≡ k.home = ap (λ (a : Attempt L). a.home) same in
-        let objects_same = ap (λ (h : Home L). h.terms.shape.objects) home in
-        let is : values ≡ map =
-        ext_get_or no_value values map (size ∙ end ∙ all ∙ sym objects_same ∙ sym may.length)
-        (λ i within. each i (omega (arith, size, within))) in
-        subst (λ (h : Home L). holds h.terms.law.value values) home (subst (holds (law_of n)) (sym is) may.lawful)
+        ((p : ℕ) → p < o → value_at values p ≡ value_at map p) → map ≡ values
+    all_values k n values map o objects same all end size may each =
+        let objects_same = ap (λ (a : Attempt L). a.home.terms.shape.objects) same in
+        sym
+        (ext_get_or no_value values map (size ∙ end ∙ all ∙ sym objects_same ∙ sym may.length)
+        (λ i within. each i (omega (arith, size, within))))
+
+    -- and lawful
+    pub all_lawful : (k n : Called L) (values map : List Val) → attempt n ≡ attempt k → map ≡ values → MayBegin holds n map →
+        holds (law_of k) values
+    all_lawful k n values map same is may =
+        subst (λ (h : Home L). holds h.terms.law.value values) (ap (λ (a : Attempt L). a.home) same)
+        (subst (holds (law_of n)) is may.lawful)

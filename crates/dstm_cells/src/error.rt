@@ -46,6 +46,11 @@ pub enum Failed {
 }
 
 impl fmt::Display for GaveUp {
+    ghost use Rattle.std.specs.Prelude.{Some};
+    ghost use Rattle.dstm_cells.specs.Texts.{text_of_end};
+
+    ghost output = { λ why. Some (text_of_end why) };
+
     fn fmt<W: fmt::Write>(&self, f: &mut fmt::Formatter<W>) -> fmt::Result {
         match self {
             GaveUp::Spent => write!(f, "a thread's attempts are used up"),
@@ -59,6 +64,11 @@ impl fmt::Display for GaveUp {
 impl Error for GaveUp {}
 
 impl fmt::Display for Failed {
+    ghost use Rattle.std.specs.Prelude.{Some};
+    ghost use Rattle.dstm_cells.specs.Texts.{text_of_failure};
+
+    ghost output = { λ why. Some (text_of_failure why) };
+
     fn fmt<W: fmt::Write>(&self, f: &mut fmt::Formatter<W>) -> fmt::Result {
         match self {
             Failed::Full => write!(f, "the memory has no room for another cell"),

@@ -1,6 +1,7 @@
 // Cells, and threads that change them.
-ghost use Rattle.std.specs.Prelude.{◌≡◌, ◌⊎◌, ◌↔◌, ◌<◌, ◌≤◌, ℕ, [], length, All, Ok, Err, IfErr, IfOk, OnOk};
-ghost use Rattle.dstm_cells.specs.Cells.{Adds, Founds, IsFor};
+ghost use Rattle.std.specs.Prelude.{◌≡◌, ◌⊎◌, ◌↔◌, ◌+◌, ◌<◌, ◌≤◌, ℕ, [], length, All, Ok, Err, IfErr, IfOk, OnOk};
+ghost use Rattle.dstm_cells.specs.Cells.{Adds, Founds, IsFor, ReadsAll, Takes};
+ghost use Rattle.dstm_cells.specs.Runs.{CalledFor, FailsFor, HaveNew, IsCalled, IsFirst, LeavesBy, Ran};
 ghost use Rattle.dstm_cells.specs.declared.error.Failed.TheVariants as failed;
 ghost use Rattle.dstm_core.specs.declared.shape.Manager.TheVariants.{Polka};
 ghost use Rattle.dstm_engine.specs.Tables.{Enrols, founded};
@@ -110,8 +111,10 @@ impl<L: Law + Copy> Memory<L> {
         requires lawful { L.holds self.now.law self.now.values.items }
         ensures founds { IfOk result (λ t. Founds self.now.law self.now.values.items t.0 t.1) }
         ensures manager { IfOk result (λ t. t.0.terms.shape.manager ≡ self.now.manager) }
+        ensures callers { IfOk result (λ t. t.0.terms.shape.callers ≡ threads + 1) }
         ensures threads { OnOk result ((1 ≤ threads) × (threads ≤ 63)) }
         ensures refused { result ≡ Err failed.Threads ↔ ((threads ≡ 0) ⊎ (63 < threads)) }
+        ensures fails { IfErr result (λ why. (why ≡ failed.Threads) ⊎ (why ≡ failed.Memory)) }
     {
         if threads == 0 || threads > MOST_THREADS {
             return Err(Failed::Threads);
@@ -136,6 +139,7 @@ impl<L: Law + Copy> Memory<L> {
         ensures home { IfOk result (λ me. me.tx.caller.home ≡ stm.now) }
         ensures enrols { IfOk result (λ me. Enrols L.holds founder.old founder.new seed me.tx.caller) }
         ensures full { result ≡ Err failed.Threads ↔ founder.old.made ≡ founder.old.home.terms.shape.callers }
+        ensures fails { IfErr result (λ why. (why ≡ failed.Threads) ⊎ (why ≡ failed.Memory)) }
     {
         match founder.caller(self.alloc, stm, seed) {
             Ok(caller) => Ok(Part {
@@ -146,7 +150,8 @@ impl<L: Law + Copy> Memory<L> {
         }
     }
 
-    /// Takes the values of the cells from a table that was founded for a run. They are lawful.
+    /// Takes the values of the cells from a table that was founded for a run, by a transaction of a part of its own: those
+    /// that they have together at its place in the order of all transactions. They are lawful.
     pub fn take(&mut self, stm: &Stm<L>, founder: &mut Founder<L>) -> Result<(), Failed>
         requires lawful { L.holds self.old.law self.old.values.items }
         requires founds { IsFor self.old.law self.old.values.items stm.now }
@@ -156,8 +161,26 @@ impl<L: Law + Copy> Memory<L> {
         ensures lawful { L.holds self.new.law self.new.values.items }
         ensures size { length self.new.values.items ≡ length self.old.values.items }
         ensures table { founder.new.home ≡ stm.now }
+        ensures takes { OnOk result (Takes L.holds founder.old founder.new self.new.values.items) }
+        ensures full { result ≡ Err failed.Threads ↔ founder.old.made ≡ founder.old.home.terms.shape.callers }
+        ensures fails { IfErr result (λ why. (self.new ≡ self.old)
+            × ((why ≡ failed.Threads) ⊎ (why ≡ failed.Memory) ⊎ (why ≡ failed.Unread))) }
     {
         let mut last = self.part(stm, founder, 0)?;
+        self.take_by(&mut last)
+    }
+
+    // Takes the values of the cells by a part of a table that was founded for a run.
+    fn take_by(&mut self, last: &mut Me<'_, L>) -> Result<(), Failed>
+        requires lawful { L.holds self.old.law self.old.values.items }
+        requires founds { IsFor self.old.law self.old.values.items last.old.tx.caller.home }
+        ensures manager { self.new.manager ≡ self.old.manager }
+        ensures law { self.new.law ≡ self.old.law }
+        ensures lawful { L.holds self.new.law self.new.values.items }
+        ensures size { length self.new.values.items ≡ length self.old.values.items }
+        ensures reads { OnOk result (ReadsAll L.holds last.old.tx.caller self.new.values.items) }
+        ensures fails { IfErr result (λ why. (self.new ≡ self.old) × ((why ≡ failed.Memory) ⊎ (why ≡ failed.Unread))) }
+    {
         self.values = last.tx.values(self.alloc, self.values.len() as u32)?;
         Ok(())
     }
@@ -170,7 +193,10 @@ impl<L: Law + Copy> Memory<L> {
         count: u32,
     ) -> Result<Vec<Seat<'a, L>>, Failed>
         requires table { founder.old.home ≡ stm.now }
+        requires room { founder.old.made + count ≤ founder.old.home.terms.shape.callers }
         ensures count { IfOk result (λ seats. length seats.items ≡ count) }
+        ensures new { IfOk result (λ seats. HaveNew L.holds stm.now seats.items) }
+        ensures fails { IfErr result (λ why. why ≡ failed.Memory) }
     {
         let mut seats = Vec::with_capacity(self.alloc, count as usize)?;
         for seed in 0..count {
@@ -200,6 +226,8 @@ impl<L: Law + Copy + Sync> Memory<L> {
         ensures threads { OnOk result ((1 ≤ threads) × (threads ≤ 63)) }
         ensures refused { (threads ≡ 0) ⊎ (63 < threads) → (result ≡ Err failed.Threads) × (self.new ≡ self.old) }
         ensures ended { OnOk result ((number : ℕ) → number < threads → W.ends work.now number (Ok tt)) }
+        ensures fails { IfErr result (FailsFor (W.ends work.now) threads) }
+        ensures left { LeavesBy (Ran L.holds self.old.law self.old.values.items self.new.values.items) (self.new ≡ self.old) result }
     {
         let (stm, mut founder) = self.found(threads)?;
         let mut last = self.part(&stm, &mut founder, 0)?;
@@ -212,7 +240,7 @@ impl<L: Law + Copy + Sync> Memory<L> {
                 ensures { W.ends work.entry.now number seat.exit.now.ended }
             { seat.ended = work.work(&mut seat.me, number) },
         );
-        self.values = last.tx.values(self.alloc, self.values.len() as u32)?;
+        self.take_by(&mut last)?;
         how_all_ended(&seats)
     }
 }
@@ -228,6 +256,12 @@ impl Memory {
         ensures size { length self.new.values.items ≡ length self.old.values.items }
         ensures threads { OnOk result ((1 ≤ threads) × (threads ≤ 63)) }
         ensures refused { (threads ≡ 0) ⊎ (63 < threads) → (result ≡ Err failed.Threads) × (self.new ≡ self.old) }
+        ensures called { OnOk result ((number : ℕ) → number < threads
+            → CalledFor ⟦<AnyLaw as Law>⟧.holds F.Fn f self.old.law self.old.values.items number (Ok tt)) }
+        ensures fails { IfErr result (FailsFor
+            (CalledFor ⟦<AnyLaw as Law>⟧.holds F.Fn f self.old.law self.old.values.items) threads) }
+        ensures left { LeavesBy (Ran ⟦<AnyLaw as Law>⟧.holds self.old.law self.old.values.items self.new.values.items)
+            (self.new ≡ self.old) result }
     {
         let (stm, mut founder) = self.found(threads)?;
         let mut last = self.part(&stm, &mut founder, 0)?;
@@ -238,16 +272,18 @@ impl Memory {
             threads as usize,
             &|number, seat: &mut Seat<'_, AnyLaw>|
                 requires { F.IsAlwaysCallable f }
+                ensures { IsCalled F.Fn f number seat.entry.now.me seat.exit.now.ended seat.exit.now.me }
             { work(&f, seat, number) },
         );
-        self.values = last.tx.values(self.alloc, self.values.len() as u32)?;
+        self.take_by(&mut last)?;
         how_all_ended(&seats)
     }
 }
 
 // How the first thread ended that did not end well.
 fn how_all_ended<L: Law>(seats: &[Seat<'_, L>]) -> Result<(), Failed>
-    ensures { OnOk result (All (λ seat. seat.ended ≡ Ok tt) seats.now) }
+    ensures well { OnOk result (All (λ seat. seat.ended ≡ Ok tt) seats.now) }
+    ensures first { IfErr result (IsFirst seats.now) }
 {
     for seat in seats {
         if let Err(why) = seat.ended {
@@ -262,6 +298,7 @@ fn work<F>(f: &F, seat: &mut Seat<'_, AnyLaw>, number: usize)
 where
     F: Fn(&mut Me<'_>, usize) -> Result<(), GaveUp>,
     requires callable { F.IsAlwaysCallable f.now }
+    ensures { IsCalled F.Fn f.now number seat.old.me seat.new.ended seat.new.me }
 {
     seat.ended = f(&mut seat.me, number);
 }

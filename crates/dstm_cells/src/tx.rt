@@ -1,13 +1,15 @@
 // What a closure may do in its transaction.
-ghost use Rattle.std.specs.Prelude.{◌++◌, ◌+◌, ◌≡◌, ◌<◌, List, [], ◌∷◌, length, true, false, IfErr, IfOk, IsTrue, Ok, OnOk, Err, if◌then◌else◌};
+ghost use Rattle.std.specs.Prelude.{◌++◌, ◌+◌, ◌⊎◌, ◌≡◌, ◌<◌, List, [], ◌∷◌, length, true, false, IfErr, IfOk, IsTrue, Ok, OnOk, Err, if◌then◌else◌};
 ghost use Rattle.dstm_engine.specs.Attempts.{sights};
 ghost use Rattle.dstm_engine.specs.Callers.{is_live, law_of, shape_of};
 ghost use Rattle.dstm_engine.specs.Transactions.{BeginsAnew};
 ghost use Rattle.dstm_order.specs.Tasks.Work.{Rechecking};
 ghost use Rattle.dstm_cells.specs.Alternatives.{Notes, NotesOnce, OrElse, noting, settings};
 ghost use Rattle.dstm_cells.specs.Attempts.{Follows, WasWoken};
+ghost use Rattle.dstm_cells.specs.Cells.{ReadsAll};
 ghost use Rattle.dstm_cells.specs.Closures.{KeepsOnce};
 ghost use Rattle.dstm_cells.specs.UnderWay.{AddsNothing, Changes, Exchanges, Finds, Gets, IsOver, IsUntouched, Keeps, LeavesLawful, MayBegin, MayNotOpen, Refuses, StopsChange, StopsLook, TakesEffect, seen};
+ghost use Rattle.dstm_cells.specs.declared.error.Failed.TheVariants as failed;
 ghost use Rattle.dstm_cells.specs.declared.error.GaveUp.TheVariants.{Idle};
 ghost use Rattle.dstm_cells.specs.declared.error.Stop.TheVariants.{Retry};
 
@@ -204,6 +206,8 @@ impl<'a, L: Law> Tx<'a, L> {
         requires all { objects ≡ (shape_of self.old.caller).objects }
         ensures all { IfOk result (λ values. length values.items ≡ objects) }
         ensures lawful { IfOk result (λ values. L.holds (law_of self.old.caller) values.items) }
+        ensures reads { IfOk result (λ values. ReadsAll L.holds self.old.caller values.items) }
+        ensures fails { IfErr result (λ why. (why ≡ failed.Memory) ⊎ (why ≡ failed.Unread)) }
     {
         for _ in 0..READINGS {
             if self.begin().is_err() {
@@ -232,6 +236,7 @@ impl<'a, L: Law> Tx<'a, L> {
         requires untouched { IsUntouched self.old.caller }
         ensures all { IfOk result (λ values. length values.items ≡ objects) }
         ensures lawful { IfOk result (λ values. L.holds (law_of self.old.caller) values.items) }
+        ensures reads { IfOk result (λ values. (map : List Val) → MayBegin L.holds self.new.caller map → map ≡ values.items) }
         ensures untouched { OnOk result (IsUntouched self.new.caller) }
         ensures keeps { Keeps self.old.caller self.new.caller }
     {

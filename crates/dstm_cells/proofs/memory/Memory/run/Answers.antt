@@ -1,8 +1,75 @@
+use Rattle.std.proofs.Common.{◌≡◌, ◌∙◌, ◌<◌, ℕ, List, Ok, ap, arith, length, rules, subst, sym}
+use Rattle.std.specs.Prelude.{slice_index_or}
 use denote.Param.Send.{sendable}
 use Rattle.std.proofs.Crossing.{crosses}
+use Rattle.std.proofs.lemmas.Result.{MatchResult-weaker, on_ok_weaker}
 use Rattle.dstm_model.proofs.value.AnyLaw.TheSendSync as AnyLaw
+use Rattle.dstm_model.specs.contracts.value.AnyLawLaw.TheImpl as TheLaw
+use Rattle.dstm_engine.specs.Companies.{IsNew}
+use Rattle.dstm_cells.specs.Runs.{CalledFor, End}
+use Rattle.dstm_cells.specs.declared.memory.Seat.{Seat}
+use Rattle.dstm_cells.proofs.Running.{all_ended, first_ended, has_run, lent_back, ran_leaves}
 use Rattle.dstm_cells.proofs.Sends.{seat_send}
+use Rattle.dstm_cells.proofs.memory.Memory.run.Given.{Over}
+use Rattle.dstm_cells.proofs.memory.Memory.run.Goals.{After-how_all_ended}
 use Rattle.dstm_cells.proofs.memory.Memory.run.Goals as goal
 
 pub for_each_mut-requires-send-T : goal.for_each_mut-requires-send-T
 for_each_mut-requires-send-T g c κs within = search (seat_send, AnyLaw.the_sync, crosses, sendable) depth 20
+
+-- the threads have left a seat each
+seats_left : (g : Over) (c : After-how_all_ended g) →
+    (c.deref.result.now ≡ c.for_each_mut.new.s) × (length c.deref.result.now ≡ c.args.threads)
+seats_left g c =
+    lent_back c.in_ok-seats.seats.len c.args.threads c.in_ok-seats.seats.items c.for_each_mut.new.s c.deref.result.now
+    (search rules) (search rules) c.in_ok-seats.ensures.count c.deref.ensures.value
+
+-- what is known of the thread of a number that has ended so
+abbrev called : (g : Over) (c : After-how_all_ended g) → ℕ → End → Type 0
+called g c = CalledFor TheLaw.holds-value.it g.F.Fn c.args.f c.args.self.now.law c.args.self.now.values.items
+
+-- the closure was called with each number, and has ended as its seat tells
+ended : (g : Over) (c : After-how_all_ended g) (other : Seat _) (number : ℕ) → number < c.args.threads →
+    called g c number (slice_index_or c.for_each_mut.new.s number other).ended
+ended g c other number below =
+    let some : length c.deref_mut.result.now ≡ c.args.threads = ap length c.deref_mut.ensures.value ∙ c.in_ok-seats.ensures.count in
+    let change = (c.for_each_mut.ensures number other (omega (arith, some, below))).1 in
+    let new = c.in_ok-seats.ensures.new number other (omega (arith, c.in_ok-seats.ensures.count, below)) in
+    let call : called g c number change.after_call.now.ended =
+    record {
+      home = c.in_ok-stm.stm;
+      starts = c.in_ok-stm.ensures.founds.starts;
+      began = change.argument.now.me;
+      new = subst (λ (seat : Seat _). IsNew TheLaw.holds-value.it c.in_ok-stm.stm number seat.me.tx.caller)
+          (sym (change.argument_is ∙ ap (λ (xs : List _). slice_index_or xs number other) c.deref_mut.ensures.value)) new;
+      ended = change.after_call.now.me;
+      call = change.call;
+    } in
+    subst (called g c number) (ap (λ (seat : Seat _). seat.ended) change.left) call
+
+pub returns-clause-called : goal.returns-clause-called
+returns-clause-called g c =
+    let at = (goal.at.returns-clause-called g c).After-how_all_ended in
+    let other : Seat _ = record { me = c.in_ok-last.last; ended = Ok tt } in
+    on_ok_weaker c.how_all_ended.result
+    (all_ended c.deref.result.now c.for_each_mut.new.s c.args.threads (seats_left g at)
+    (called g at) other (ended g at other))
+    c.how_all_ended.ensures.well
+
+pub returns-clause-fails : goal.returns-clause-fails
+returns-clause-fails g c =
+    let at = (goal.at.returns-clause-fails g c).After-how_all_ended in
+    let other : Seat _ = record { me = c.in_ok-last.last; ended = Ok tt } in
+    MatchResult-weaker c.how_all_ended.result c.how_all_ended.ensures.first (λ x t. t)
+    (first_ended c.deref.result.now c.for_each_mut.new.s c.args.threads (seats_left g at)
+    (called g at) other (ended g at other))
+
+pub returns-clause-left : goal.returns-clause-left
+returns-clause-left g c =
+    ran_leaves c.deref.result.now _ _ c.how_all_ended.result c.how_all_ended.ensures.first
+    (has_run TheLaw.holds-value.it c.args.self.now.law c.args.self.now.values.items c.take_by.new.self.values.items
+    c.in_ok-stm.stm c.in_ok-stm.founder c.part.new.founder c.in_ok-stm.ensures.founds (record {
+      caller = c.in_ok-last.last.tx.caller;
+      enrols = c.in_ok-last.ensures.enrols;
+      reads = c.in_ok-take_by.ensures.reads;
+    }))

@@ -1,35 +1,56 @@
-use Rattle.std.proofs.Common.{◌≡◌, ◌∙◌, ◌++◌, ℕ, List, Ok, ap, arith, drop, length, rules, subst, take}
-use Rattle.std.specs.Prelude.{All}
+use Rattle.std.proofs.Common.{◌≡◌, ◌∙◌, ◌<◌, ℕ, Ok, ap, arith, length, rules, subst}
+use Rattle.std.specs.Prelude.{slice_index_or}
 use denote.Param.Send.{sendable}
 use Rattle.std.proofs.Crossing.{crosses}
-use Rattle.std.proofs.lemmas.Grind.{common_steps}
-use Rattle.std.proofs.lemmas.Result.{on_ok_weaker}
+use Rattle.std.proofs.lemmas.Result.{MatchResult-weaker, on_ok_weaker}
 use Rattle.dstm_cells.specs.declared.memory.Seat.{Seat}
+use Rattle.dstm_cells.proofs.Running.{all_ended, first_ended, has_run, lent_back, ran_leaves}
 use Rattle.dstm_cells.proofs.Sends.{seat_send}
+use Rattle.dstm_cells.proofs.memory.Memory.run_work.Given.{Over}
+use Rattle.dstm_cells.proofs.memory.Memory.run_work.Goals.{After-how_all_ended}
 use Rattle.dstm_cells.proofs.memory.Memory.run_work.Goals as goal
 
 pub for_each_mut-requires-send-T : goal.for_each_mut-requires-send-T
 for_each_mut-requires-send-T g c κs within = search (seat_send, c.type_bounds.sync-L, crosses, sendable) depth 20
 
--- a vector that was lent as a slice has what was left there
-written_back : {X : Type 0} (n : ℕ) (new old : List X) → n ≡ length old → length new ≡ length old →
-    take n (new ++ drop (length new) old) ≡ new
-written_back n new old whole same = grind (arith, common_steps)
+-- the threads have left a seat each
+seats_left : (g : Over) (c : After-how_all_ended g) →
+    (c.deref.result.now ≡ c.for_each_mut.new.s) × (length c.deref.result.now ≡ c.args.threads)
+seats_left g c =
+    lent_back c.in_ok-seats.seats.len c.args.threads c.in_ok-seats.seats.items c.for_each_mut.new.s c.deref.result.now
+    (search rules) (search rules) c.in_ok-seats.ensures.count c.deref.ensures.value
+
+-- and ended as it tells
+ended : (g : Over) (c : After-how_all_ended g) (other : Seat g.row.L.Denot) (number : ℕ) → number < c.args.threads →
+    g.W.Work.ends c.args.work.now number (slice_index_or c.for_each_mut.new.s number other).ended
+ended g c other number below =
+    let some : length c.deref_mut.result.now ≡ c.args.threads = ap length c.deref_mut.ensures.value ∙ c.in_ok-seats.ensures.count in
+    let change = (c.for_each_mut.ensures number other (omega (arith, some, below))).1 in
+    subst (g.W.Work.ends c.args.work.now number) (ap (λ (seat : Seat _). seat.ended) change.left) change.call
 
 pub returns-clause-ended : goal.returns-clause-ended
 returns-clause-ended g c =
-    let new = c.for_each_mut.new.s in
-    let before = c.in_ok-seats.seats.items in
+    let at = (goal.at.returns-clause-ended g c).After-how_all_ended in
     let other : Seat _ = record { me = c.in_ok-last.last; ended = Ok tt } in
-    let well : Seat g.row.L.Denot → Type 0 = λ seat. seat.ended ≡ Ok tt in
-    let some : length c.deref_mut.result.now ≡ c.args.threads = ap length c.deref_mut.ensures.value ∙ c.in_ok-seats.ensures.count in
-    let long : length new ≡ length before = search rules in
-    let count : c.in_ok-seats.seats.len ≡ length before = search rules in
-    let whole : c.deref.result.now ≡ new =
-    c.deref.ensures.value ∙ written_back c.in_ok-seats.seats.len new before count long in
     on_ok_weaker c.how_all_ended.result
-    (λ (all : All well c.deref.result.now) number below.
-    let change = (c.for_each_mut.ensures number other (omega (arith, some, below))).1 in
-    let ended = subst (All well) whole all number other (omega (arith, some, below, long, c.in_ok-seats.ensures.count)) in
-    subst (g.W.Work.ends c.args.work.now number) (ap (λ (seat : Seat _). seat.ended) change.left ∙ ended) change.call)
-    c.how_all_ended.ensures
+    (all_ended c.deref.result.now c.for_each_mut.new.s c.args.threads (seats_left g at)
+    (g.W.Work.ends c.args.work.now) other (ended g at other))
+    c.how_all_ended.ensures.well
+
+pub returns-clause-fails : goal.returns-clause-fails
+returns-clause-fails g c =
+    let at = (goal.at.returns-clause-fails g c).After-how_all_ended in
+    let other : Seat _ = record { me = c.in_ok-last.last; ended = Ok tt } in
+    MatchResult-weaker c.how_all_ended.result c.how_all_ended.ensures.first (λ x t. t)
+    (first_ended c.deref.result.now c.for_each_mut.new.s c.args.threads (seats_left g at)
+    (g.W.Work.ends c.args.work.now) other (ended g at other))
+
+pub returns-clause-left : goal.returns-clause-left
+returns-clause-left g c =
+    ran_leaves c.deref.result.now _ _ c.how_all_ended.result c.how_all_ended.ensures.first
+    (has_run g.L.Law.holds c.args.self.now.law c.args.self.now.values.items c.take_by.new.self.values.items c.in_ok-stm.stm
+    c.in_ok-stm.founder c.part.new.founder c.in_ok-stm.ensures.founds (record {
+      caller = c.in_ok-last.last.tx.caller;
+      enrols = c.in_ok-last.ensures.enrols;
+      reads = c.in_ok-take_by.ensures.reads;
+    }))

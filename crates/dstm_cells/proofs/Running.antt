@@ -1,0 +1,79 @@
+-- What follows for a run from its seats, and from why it failed.
+use Rattle.std.proofs.Common.{◌≡◌, ◌∙◌, ◌∷◌, [], ◌++◌, ◌<◌, ℕ, List, Ok, Err, ap, arith, drop, length, subst, sym, take, ⊎_elim}
+use Rattle.std.specs.Prelude.{All, IfErr, Result, slice_index_or}
+use Rattle.std.proofs.lemmas.Bool.{cases_lt}
+use Rattle.std.proofs.lemmas.Grind.{common_steps}
+use Rattle.std.proofs.lemmas.List.{get_or_push, length_push}
+use Rattle.std.proofs.Math.ListN.{get_or-append}
+use Rattle.dstm_cells.specs.declared.error.Failed.{Failed}
+use Rattle.dstm_cells.specs.declared.memory.Seat.{Seat}
+use Rattle.dstm_model.specs.declared.value.Val.{Val}
+use Rattle.dstm_words.specs.Seats.{Home}
+use Rattle.dstm_engine.specs.Tables.{Founding}
+use Rattle.dstm_cells.specs.Cells.{Founds, Takes}
+use Rattle.dstm_cells.specs.Runs.{End, FailsFor, IsFirst, LeavesBy, Ran}
+
+-- a vector that was lent as a slice has what was left there, in the same number
+pub lent_back : {X : Type 0} (n count : ℕ) (old new whole : List X) → n ≡ length old → length new ≡ length old →
+    length old ≡ count → whole ≡ take n (new ++ drop (length new) old) → (whole ≡ new) × (length whole ≡ count)
+lent_back n count old new whole all same size is =
+    let back : whole ≡ new = is ∙ written_back n new old all same in (back, ap length back ∙ same ∙ size)
+  where
+    written_back : {X : Type 0} (n : ℕ) (new old : List X) → n ≡ length old → length new ≡ length old →
+        take n (new ++ drop (length new) old) ≡ new
+    written_back n new old whole same = grind (arith, common_steps)
+
+-- what holds of each element, with its number, holds with one more behind
+pub each_push : {A : Type 0} (P : ℕ → A → Type 0) (xs : List A) (x : A) →
+    ((n : ℕ) (d : A) → n < length xs → P n (slice_index_or xs n d)) → P (length xs) x →
+    (n : ℕ) (d : A) → n < length (xs ++ x ∷ []) → P n (slice_index_or (xs ++ x ∷ []) n d)
+each_push P xs x each one n d within =
+    ⊎_elim
+    (λ before. subst (P n) (sym (get_or-append xs (x ∷ []) d n before)) (each n d before))
+    (λ behind.
+    let more = length_push xs x in
+    let last : length xs ≡ n = omega (arith, more, within, behind) in
+    subst (P n) (sym (get_or_push xs x d n last)) (subst (λ m. P m x) last one))
+    (cases_lt n (length xs))
+
+module _ {L : Type 0} (seats : List (Seat L)) where
+  -- a run whose values were taken has left them, however its threads have ended
+  pub ran_leaves : (ran same : Type 0) (answer : Result (Unit {0}) Failed) → IfErr answer (IsFirst seats) → ran →
+      LeavesBy ran same answer
+  ran_leaves ran same (Ok x) first left = left
+  ran_leaves ran same (Err why) first left = subst (λ w. LeavesBy ran same (Err w)) (sym first.is) left
+
+  module _ (left : List (Seat L)) (threads : ℕ) (same : (seats ≡ left) × (length seats ≡ threads))
+      (ended : ℕ → End → Type 0) (other : Seat L)
+      (each : (number : ℕ) → number < threads → ended number (slice_index_or left number other).ended) where
+    at_seat : (number : ℕ) → number < threads → ended number (slice_index_or seats number other).ended
+    at_seat number below =
+        subst (λ (xs : List (Seat L)). ended number (slice_index_or xs number other).ended) (sym same.0) (each number below)
+
+    -- all threads have ended well where their seats tell so
+    pub all_ended : All (λ (seat : Seat L). seat.ended ≡ Ok tt) seats → (number : ℕ) → number < threads →
+        ended number (Ok tt)
+    all_ended well number below = subst (ended number) (well number other (omega (arith, same.1, below))) (at_seat number below)
+
+    -- and that is how the first one ended of which they do not
+    pub first_ended : (why : Failed) → IsFirst seats why → FailsFor ended threads why
+    first_ended why it =
+        let first = it.first in
+        subst (FailsFor ended threads) (sym it.is) (record {
+          number = first.number;
+          below = omega (arith, same.1, first.below);
+          ends = subst (ended first.number) (first.ends other) (at_seat first.number (omega (arith, same.1, first.below)));
+          before = λ earlier less.
+              subst (ended earlier) (first.before earlier less other)
+              (at_seat earlier (omega (arith, same.1, less, first.below)));
+        })
+
+-- what a run has left whose values were taken by a part of its own
+pub has_run : {L : Type 0} (holds : L → List Val → Type 0) (rule : L) (before after : List Val) (home : Home L)
+    (f g : Founding L) → Founds rule before home f → Takes holds f g after → Ran holds rule before after
+has_run holds rule before after home f g founds takes = record {
+  home = home;
+  starts = founds.starts;
+  left = g;
+  takes = subst (λ (x : Founding _). Takes holds x g after) founds.founder takes;
+}

@@ -1,0 +1,10 @@
+use Rattle.std.proofs.lemmas.Result.{on_ok_weaker}
+use Rattle.dstm_cells.specs.Cells.{ReadsAll}
+use Rattle.dstm_cells.proofs.memory.Memory.take.Goals as goal
+
+pub returns-clause-takes : goal.returns-clause-takes
+returns-clause-takes g c =
+    on_ok_weaker c.take_by.result
+    (λ (reads : ReadsAll g.L.Law.holds c.in_ok-last.last.tx.caller c.take_by.new.self.values.items).
+    record { caller = c.in_ok-last.last.tx.caller; enrols = c.in_ok-last.ensures.enrols; reads = reads })
+    c.take_by.ensures.reads

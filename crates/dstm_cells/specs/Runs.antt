@@ -1,0 +1,91 @@
+-- What the threads of a run have done, how it ended, and what it has left.
+use Rattle.std.specs.Prelude.{◌≡◌, ◌⊎◌, ℕ, ◌<◌, List, Result, Ok, Err, length, slice_index_or}
+use denote.Ref.{MutBor}
+use Rattle.std.specs.Fn.{Shared}
+use Rattle.dstm_model.specs.declared.value.Val.{Val}
+use Rattle.dstm_words.specs.Seats.{Home}
+use Rattle.dstm_engine.specs.Companies.{IsNew}
+use Rattle.dstm_engine.specs.Tables.{Founding, founded}
+use Rattle.dstm_cells.specs.declared.error.Failed.{Failed}
+use Rattle.dstm_cells.specs.declared.error.Failed.TheVariants as failed
+use Rattle.dstm_cells.specs.declared.error.GaveUp.{GaveUp}
+use Rattle.dstm_cells.specs.declared.memory.Seat.{Seat}
+use Rattle.dstm_cells.specs.declared.thread.Part.{Part}
+use Rattle.dstm_cells.specs.declared.under_way.Tx.{Tx}
+use Rattle.dstm_cells.specs.Cells.{Starts, Takes}
+
+-- how a thread ended
+abbrev pub End : Type 0
+End = Result (Unit {0}) GaveUp
+
+-- THE FIRST THREAD THAT DID NOT END WELL ended so, and those before it ended well
+pub record FirstEnded (ended : ℕ → End → Type 0) (threads : ℕ) (why : GaveUp) : Type 0 where
+  pub number : ℕ
+  pub below : number < threads
+  pub ends : ended number (Err why)
+  pub before : (earlier : ℕ) → earlier < number → ended earlier (Ok tt)
+
+-- WHY A RUN FAILED: the end of the first thread that did not end well; or it is the memory's own failure, and where it is
+-- the number of threads, there are none, or more than 63
+abbrev pub FailsFor : (ended : ℕ → End → Type 0) (threads : ℕ) → Failed → Type 0
+FailsFor ended threads failed.Full = ⊥
+FailsFor ended threads failed.Memory = Unit {0}
+FailsFor ended threads failed.Threads = (threads ≡ 0) ⊎ (63 < threads)
+FailsFor ended threads (failed.GaveUp why) = FirstEnded ended threads why
+FailsFor ended threads failed.Unread = Unit {0}
+
+-- what a run leaves: the first, but the second where the failure is the memory's own
+abbrev pub LeavesBy : (ran same : Type 0) → Result (Unit {0}) Failed → Type 0
+LeavesBy ran same (Ok x) = ran
+LeavesBy ran same (Err failed.Full) = same
+LeavesBy ran same (Err failed.Memory) = same
+LeavesBy ran same (Err failed.Threads) = same
+LeavesBy ran same (Err (failed.GaveUp why)) = ran
+LeavesBy ran same (Err failed.Unread) = same
+
+module _ {L : Type 0} where
+  -- the seat of this number tells that its thread has ended so
+  abbrev pub SeatEnded : List (Seat L) → ℕ → End → Type 0
+  SeatEnded seats number end = (other : Seat L) → (slice_index_or seats number other).ended ≡ end
+
+  -- that is how the first one ended that did not end well, by what the seats tell
+  pub record IsFirst (seats : List (Seat L)) (failure : Failed) : Type 0 where
+    pub why : GaveUp
+    pub is : failure ≡ failed.GaveUp why
+    pub first : FirstEnded (SeatEnded seats) (length seats) why
+
+  module _ (holds : L → List Val → Type 0) where
+    -- each seat has a new part of the table, with its number as the seed
+    abbrev pub HaveNew : Home L → List (Seat L) → Type 0
+    HaveNew table seats =
+        (number : ℕ) (other : Seat L) → number < length seats →
+        IsNew holds table number (slice_index_or seats number other).me.tx.caller
+
+    -- WHAT A RUN HAS LEFT: these values, that the objects of its table had together at the place of a last transaction;
+    -- the table was made of the values before
+    pub record Ran (rule : L) (before after : List Val) : Type 0 where
+      pub home : Home L
+      pub starts : Starts rule before home
+      pub left : Founding L
+      pub takes : Takes holds (founded home) left after
+
+module _ {S F R : Type 0} (g : Shared F (MutBor S × (ℕ × Unit {0})) (R × (MutBor S × Unit {0}))) (f : F) where
+  -- a call of a closure on a thread's part, with its number, answered this, and left that
+  pub record IsCalled (number : ℕ) (began : S) (answer : R) (ended : S) : Type 0 where
+    pub shown : MutBor S
+    pub shows : shown.now ≡ began
+    pub left : MutBor S
+    pub met : g.post f (shown, (number, tt)) (answer, (left, tt))
+    pub leaves : left.now ≡ ended
+
+module _ {L F : Type 0} (holds : L → List Val → Type 0)
+    (g : Shared F (MutBor (Part (Tx L)) × (ℕ × Unit {0})) (End × (MutBor (Part (Tx L)) × Unit {0}))) (f : F)
+    (rule : L) (values : List Val) where
+  -- THE CLOSURE WAS CALLED with this number and answered this, on a new part of a table that was made of these values
+  pub record CalledFor (number : ℕ) (end : End) : Type 0 where
+    pub home : Home L
+    pub starts : Starts rule values home
+    pub began : Part (Tx L)
+    pub new : IsNew holds home number began.tx.caller
+    pub ended : Part (Tx L)
+    pub call : IsCalled g f number began end ended
