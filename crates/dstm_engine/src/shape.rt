@@ -1,4 +1,5 @@
-ghost use Rattle.std.specs.Prelude.{◌≡◌, ◌≤◌};
+ghost use Rattle.std.specs.Prelude.{◌≡◌, ◌+◌, ◌≤◌, false};
+ghost use Rattle.dstm_core.specs.declared.shape.Manager.TheVariants.{Polka};
 ghost use Rattle.dstm_core.specs.Words.{IsValid};
 
 use dstm_core::{MAX_ATTEMPTS, Manager, Shape};
@@ -18,6 +19,10 @@ pub fn shape_for(objects: u32, callers: u32) -> Shape
     ensures valid { IsValid result }
     ensures objects { result.objects ≡ objects }
     ensures callers { result.callers ≡ callers }
+    ensures attempts { result.attempts ≡ 65536 }
+    ensures locators { result.locators ≡ objects + 131072 }
+    ensures manager { result.manager ≡ Polka }
+    ensures all_write { result.all_write ≡ false }
 {
     Shape {
         objects,
