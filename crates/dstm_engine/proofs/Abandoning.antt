@@ -68,9 +68,9 @@ leaving_begins s l gen (e ∷ es) h =
     All-cons (λ (e : Event). is_begin e.kind ≡ false) e es (quit_due (is_outside (state_after s l es).phase) e h.1)
     (leaving_begins s l gen es h.0)
 
-pub leaving_keeps : {L : Type 0} (holds : L → List Val → Type 0) (k n : Called L) → Performs holds Leaving k n None →
+pub leaving_keeps : {L : Type 0} {holds : L → List Val → Type 0} {k n : Called L} → Performs holds Leaving k n None →
     begun_log n.number n.log ≡ begun_log k.number k.log
-leaving_keeps holds k n p =
+leaving_keeps {k = k} {n = n} p =
     ap (λ c. begun_log c n.log) p.same.1
     ∙ begun_after is_begin k.number k.log n.log p.events p.seen p.own
     (leaving_begins (shape_of k) (state k) k.generator p.events p.call.obeys)
@@ -104,23 +104,23 @@ has_begin k some = begun_at k.number k.log (λ none.
     let z = none_begun k.number k.log none in
     let q = begins_are_counted (shape_of k) k.log k.number in omega arith)
 
-pub begun_of : {L : Type 0} (holds : L → List Val → Type 0) (k : Called L) → IsRunOf holds k.home.terms k.log →
+pub begun_of : {L : Type 0} {holds : L → List Val → Type 0} (k : Called L) → IsRunOf holds k.home.terms k.log →
     is_live k ≡ true → 0 < (state k).begun
-begun_of holds k run live =
+begun_of k run live =
     (running (shape_of k) k.number (state k) (static (shape_of k) k.log run.run.core k.number)
     (λ out. let z = ap is_running out in cc)).1
 
-pub ended_is_known : {L : Type 0} (holds : L → List Val → Type 0) (c : Inside L) → Tied holds c →
+pub ended_is_known : {L : Type 0} {holds : L → List Val → Type 0} {c : Inside L} → Tied holds c →
     IsUnderWay (called c) → IsEnded (called c)
-ended_is_known holds c v way = by (cases_Bool (is_live (called c)))
+ended_is_known {c = c} v way = by (cases_Bool (is_live (called c)))
   where
     by : (is_live (called c) ≡ true) ⊎ (is_live (called c) ≡ false) → IsEnded (called c)
     by (inl live) = record {
       told = v.told (inl live);
       left = v.ended;
       bounded = λ none.
-          bounded (called c) (v.told (inl live)) v.run.run.core
-          (has_begin (called c) (begun_of holds (called c) v.run live)) alone_is_bounded prices_by_count;
+          bounded (v.told (inl live)) v.run.run.core
+          (has_begin (called c) (begun_of (called c) v.run live)) alone_is_bounded prices_by_count;
     }
     by (inr dead) =
         let left : is_some c.left ≡ true = subst (λ b. b || is_some c.left ≡ true) dead way in

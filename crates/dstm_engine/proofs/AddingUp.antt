@@ -65,8 +65,8 @@ module _ {L : Type 0} (May : LocalState → Task → Type 0) where
   }
 
   -- the state that they leave
-  pub makes_state : (k n : Called L) (m : Makes May k n) → state n ≡ state_by (shape_of k) (state k) k.generator m.calls
-  makes_state k n m =
+  pub makes_state : {k n : Called L} (m : Makes May k n) → state n ≡ state_by (shape_of k) (state k) k.generator m.calls
+  makes_state {k = k} {n = n} m =
       ap (λ h. local h.terms.shape n.log n.number) m.same.0
       ∙ ap (local (shape_of k) n.log) m.same.1
       ∙ after_own (shape_of k) k.number n.log k.log (events_in m.calls) (ap (λ c. events_of c n.log) (sym m.same.1) ∙ m.own)
@@ -77,7 +77,7 @@ module _ {L : Type 0} (May : LocalState → Task → Type 0) where
       let shape : shape_of n ≡ s = ap (λ h. h.terms.shape) a.same.0 in
       let made : AreMade s (state_by s (state k) k.generator a.calls) (generator_by s (state k) k.generator a.calls) May b.calls =
       subst (λ (g : Lcg). AreMade s (state_by s (state k) k.generator a.calls) g May b.calls) a.generator
-      (subst (λ (l : LocalState). AreMade s l n.generator May b.calls) (makes_state k n a)
+      (subst (λ (l : LocalState). AreMade s l n.generator May b.calls) (makes_state a)
       (subst (λ (z : Shape). AreMade z (state n) n.generator May b.calls) shape b.made)) in
       record {
         calls = b.calls ++ a.calls;
@@ -89,7 +89,7 @@ module _ {L : Type 0} (May : LocalState → Task → Type 0) where
         generator =
             b.generator
             ∙ ap (λ (z : Shape). generator_by z (state n) n.generator b.calls) shape
-            ∙ ap (λ (l : LocalState). generator_by s l n.generator b.calls) (makes_state k n a)
+            ∙ ap (λ (l : LocalState). generator_by s l n.generator b.calls) (makes_state a)
             ∙ ap (λ (g : Lcg). generator_by s (state_by s (state k) k.generator a.calls) g b.calls) a.generator
             ∙ generators_both s (state k) k.generator b.calls a.calls;
         same = (b.same.0 ∙ a.same.0, b.same.1 ∙ a.same.1);

@@ -60,7 +60,7 @@ are_right : (c : ℕ) (xs ys : List Event) → AreOf c (xs ++ ys) → AreOf c ys
 are_right c [] ys h = h
 are_right c (x ∷ xs) ys h = are_right c xs ys h.1
 
-module _ {L : Type 0} (k : Called L) (t : IsTold k) (alone : outcomes.IsAlone k)
+module _ {L : Type 0} {k : Called L} (t : IsTold k) (alone : outcomes.IsAlone k)
     (core : Core (shape_of k) k.log) (b : Begun k.number k.log) where
   since : since_begin k.number k.log ≡ all_events t.calls
   since = since_is k.number k.log (all_events t.calls) t.own alone.own
@@ -90,8 +90,7 @@ module _ {L : Type 0} (k : Called L) (t : IsTold k) (alone : outcomes.IsAlone k)
       (are_right k.number (all_events t.calls) (b.begin ∷ b.before) (subst (AreOf k.number) whole x)).1)
 
   same_state : local (shape_of k) (all_events t.calls ++ b.begin ∷ b.before) b.begin.caller ≡ state k
-  same_state =
-      ap (λ xs. local (shape_of k) xs b.begin.caller) (sym whole) ∙ ap (λ c. local (shape_of k) k.log c) b.own
+  same_state = ap (λ xs. local (shape_of k) xs b.begin.caller) (sym whole) ∙ ap (λ c. local (shape_of k) k.log c) b.own
 
   -- it is left only by its commit
   pub commits : AloneCommits → (state k).phase ≡ Outside → (state k).committed ≡ true
@@ -113,8 +112,7 @@ begin_counts l n e k q = absurd (cc)
 counts_at_most : (s : Shape) (es before : List Event) (begin : Event) → begin.kind ≡ Begin →
     (counts_of s (es ++ begin ∷ before) begin.caller).steps ≤ length es + 1
 counts_at_most s [] before begin k =
-    let h : (counts_of s (begin ∷ before) begin.caller).steps ≡ 1 =
-    rw (eq-eqb begin.caller begin.caller refl)
+    let h : (counts_of s (begin ∷ before) begin.caller).steps ≡ 1 = rw (eq-eqb begin.caller begin.caller refl)
     (begin_counts (local s before begin.caller) (counts_of s before begin.caller) begin begin.kind k) in omega arith
 counts_at_most s (e ∷ es) before begin k =
     let ih = counts_at_most s es before begin k in
@@ -124,16 +122,16 @@ counts_at_most s (e ∷ es) before begin k =
     (λ _. let q = step_counts l n e e.kind (length es + 1) ih in omega arith) (λ _. omega arith)
 
 -- its steps are within the bound
-pub bounded : {L : Type 0} (k : Called L) (t : IsTold k) → Core (shape_of k) k.log → Begun k.number k.log → AloneBound →
+pub bounded : {L : Type 0} {k : Called L} (t : IsTold k) → Core (shape_of k) k.log → Begun k.number k.log → AloneBound →
     PricesByCount → outcomes.IsBounded k t.calls
-bounded k t core b law sum alone =
+bounded {k = k} t core b law sum alone =
     let steps = counts_at_most (shape_of k) (all_events t.calls) b.before b.begin b.kind in
-    let few = law (shape_of k) k.began t.calls b.begin b.before (alone_is k t alone core b)
-    (unmet_of k t alone core b alone.manager) in
+    let few = law (shape_of k) k.began t.calls b.begin b.before (alone_is t alone core b)
+    (unmet_of t alone core b alone.manager) in
     let cost = sum (shape_of k).manager t.calls in
     let here : counts_of (shape_of k) k.log k.number
     ≡ counts_of (shape_of k) (all_events t.calls ++ b.begin ∷ b.before) b.begin.caller
-    = ap (λ xs. counts_of (shape_of k) xs k.number) (whole k t alone core b)
+    = ap (λ xs. counts_of (shape_of k) xs k.number) (whole t alone core b)
     ∙ ap (λ c. counts_of (shape_of k) (all_events t.calls ++ b.begin ∷ b.before) c) (sym b.own) in
     let same = ap (λ (x : Counts). x.steps) here in
     let more : count is_open t.calls * (most_turns (shape_of k).manager + 16)

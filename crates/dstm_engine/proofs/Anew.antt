@@ -29,48 +29,45 @@ below_4 : (p : Phase) → given p < 4
 below_4 Outside = omega arith
 below_4 p = omega arith
 
-module _ (s : Shape) (log : List Event) (c : ℕ) (core : Core s log) (some : 1 ≤ (local s log c).begun) where
-  -- an attempt whose status is committed has committed
-  committed_there : word s log (StatusWord (own_attempt s (local s log c))) ≡ 4 → (local s log c).committed ≡ true
-  committed_there is = by (is_outside_now (local s log c).phase) (cases_Bool (local s log c).committed)
-    where
-      by : ((local s log c).phase ≡ Outside) ⊎ ((local s log c).phase ≢ Outside) →
-          ((local s log c).committed ≡ true) ⊎ ((local s log c).committed ≡ false) → (local s log c).committed ≡ true
-      by o (inl q) = q
-      by (inl out) (inr q) =
-          absurd (let five : 4 ≡ 5 = sym is ∙ end_stays s log c out some [] core ∙ ap ended_as q in omega (arith, five))
-      by (inr inside) (inr q) =
-          absurd (either (own_status s log core c
-          ((callers_in_range s log c core).1 ((sound s log core c).number some)).0 inside))
-        where
-          either : (word s log (StatusWord (own_attempt s (local s log c))) ≡ given (local s log c).phase)
-              ⊎ (word s log (StatusWord (own_attempt s (local s log c))) ≡ 5) → ⊥
-          either (inl g) = let less = below_4 (local s log c).phase in omega (arith, is, g, less)
-          either (inr g) = omega (arith, is, g)
+one_end : (b d : Bool) → ended_as b ≡ ended_as d → b ≡ d
+one_end true true q = refl
+one_end false false q = refl
+one_end true false q = absurd (omega (arith, q))
+one_end false true q = absurd (omega (arith, q))
 
-  -- one whose status is aborted has not
-  aborted_there : word s log (StatusWord (own_attempt s (local s log c))) ≡ 5 → (local s log c).committed ≡ false
-  aborted_there is = by (is_outside_now (local s log c).phase) (cases_Bool (local s log c).committed)
-    where
-      by : ((local s log c).phase ≡ Outside) ⊎ ((local s log c).phase ≢ Outside) →
-          ((local s log c).committed ≡ true) ⊎ ((local s log c).committed ≡ false) → (local s log c).committed ≡ false
-      by o (inr q) = q
-      by (inl out) (inl q) =
-          absurd (let five : 5 ≡ 4 = sym is ∙ end_stays s log c out some [] core ∙ ap ended_as q in omega (arith, five))
-      by (inr inside) (inl q) = absurd (let no_way = (sound s log core c).goes inside in cc)
+-- the status of an attempt that has ended tells whether it has committed
+told_there : (s : Shape) (log : List Event) (c : ℕ) → Core s log → 1 ≤ (local s log c).begun → (b : Bool) →
+    word s log (StatusWord (own_attempt s (local s log c))) ≡ ended_as b → (local s log c).committed ≡ b
+told_there s log c core some b is = by (is_outside_now (local s log c).phase)
+  where
+    inside : (b : Bool) → word s log (StatusWord (own_attempt s (local s log c))) ≡ ended_as b →
+        (local s log c).phase ≢ Outside → (local s log c).committed ≡ b
+    inside false is live = (sound s log core c).goes live
+    inside true is live =
+        absurd (either (own_status s log core c
+        ((callers_in_range s log c core).1 ((sound s log core c).number some)).0 live))
+      where
+        either : (word s log (StatusWord (own_attempt s (local s log c))) ≡ given (local s log c).phase)
+            ⊎ (word s log (StatusWord (own_attempt s (local s log c))) ≡ 5) → ⊥
+        either (inl g) = let less = below_4 (local s log c).phase in omega (arith, is, g, less)
+        either (inr g) = omega (arith, is, g)
+
+    by : ((local s log c).phase ≡ Outside) ⊎ ((local s log c).phase ≢ Outside) → (local s log c).committed ≡ b
+    by (inl out) = one_end (local s log c).committed b (sym (end_stays s log c out some [] core) ∙ is)
+    by (inr live) = inside b is live
 
 -- the next attempt is of a new transaction once one has committed, and of the same one once it was aborted
 pub new_committed : {L : Type 0} (n : Called L) → Core (shape_of n) n.log → StaysAt (shape_of n) n.log n.number 4 →
     1 ≤ (state n).begun → is_new (state n) ≡ true
 new_committed n core stays some =
     not_new (state n).begun ((state n).begun - 1) (state n).committed (omega (arith, some))
-    ∙ committed_there (shape_of n) n.log n.number core some (stays [] core)
+    ∙ told_there (shape_of n) n.log n.number core some true (stays [] core)
 
 pub same_aborted : {L : Type 0} (n : Called L) → Core (shape_of n) n.log → StaysAt (shape_of n) n.log n.number 5 →
     1 ≤ (state n).begun → is_new (state n) ≡ false
 same_aborted n core stays some =
     not_new (state n).begun ((state n).begun - 1) (state n).committed (omega (arith, some))
-    ∙ aborted_there (shape_of n) n.log n.number core some (stays [] core)
+    ∙ told_there (shape_of n) n.log n.number core some false (stays [] core)
 
 pub new_after : {L : Type 0} (holds : L → List Val → Type 0) (k n : Called L) (again : Option Again) →
     Attempts holds k n again → is_new (state n) ≡ is_none again
@@ -84,8 +81,8 @@ new_after holds k n again a = not_new (state n).begun (state k).begun (state n).
 
     by : (o : Option Again) → o ≡ n.left → (o ≡ None → StaysAt (shape_of n) n.log n.number 4) →
         (state n).committed ≡ is_none o
-    by None left stays = committed_there (shape_of n) n.log n.number core some (stays refl [] core)
+    by None left stays = told_there (shape_of n) n.log n.number core some true (stays refl [] core)
     by (Some x) left stays =
         let was : IsLeft n x × Promises n x =
         subst (λ o. IfSome o (λ (y : Again). IsLeft n y × Promises n y)) (sym left) a.ended.left in
-        aborted_there (shape_of n) n.log n.number core some (was.0.aborted [] core)
+        told_there (shape_of n) n.log n.number core some false (was.0.aborted [] core)

@@ -24,25 +24,25 @@ pub record AtCall {L : Type 0} (holds : L → List Val → Type 0) (c : Inside L
   pub begun : steps ≡ renewed c.steps
   pub live : c.live ≡ is_live k
 
-pub at_call : {L : Type 0} (holds : L → List Val → Type 0) (c : Inside L) → Tied holds c → (k : Called L) →
-    called c ≡ k → (stm words : Home L) → k.home ≡ stm → words ≡ stm → (steps : Steps L) → steps ≡ renewed c.steps →
+pub at_call : {L : Type 0} {holds : L → List Val → Type 0} {c : Inside L} → Tied holds c → {k : Called L} →
+    called c ≡ k → {stm words : Home L} → k.home ≡ stm → words ≡ stm → {steps : Steps L} → steps ≡ renewed c.steps →
     AtCall holds c k words steps
-at_call holds c v k view stm words table same steps is = record {
+at_call v {k = k} view table same is = record {
   tied = v;
   view = view;
   home = ap (λ (k : Called _). k.home) view ∙ table ∙ sym same;
   begun = is;
-  live = live_there holds c v ∙ ap is_live view;
+  live = live_there v ∙ ap is_live view;
 }
 
 module _ {L : Type 0} {holds : L → List Val → Type 0} {c : Inside L} {k : Called L} {words : Home L} {steps : Steps L}
     (at : AtCall holds c k words steps) where
   -- the state that its steps know
   pub state_at : now words steps ≡ state (called c)
-  state_at = now_there holds c at.tied words at.home steps at.begun
+  state_at = now_there at.tied at.home at.begun
 
   -- the end of the call
-  pub ends_at : (task : Task) (new : Steps L) (again : Option Again) →
+  pub ends_at : {task : Task} {new : Steps L} {again : Option Again} →
       InTask holds words task (began_as words task (number_or (view_of steps.seat).number 0) steps) new Done again →
       InTask holds (called c).home task (began_of task (called c)) new Done again
-  ends_at task new again u = ends_here holds c at.tied words at.home steps at.begun task new again u
+  ends_at u = ends_here at.tied at.home at.begun u

@@ -59,10 +59,10 @@ at_begin_of c log (e ∷ es) rest begins top own =
     let mine : e.caller == c ≡ true = eq-eqb e.caller c (newest_own c log e (es ++ rest) own).own in
     subst (λ xs. xs ≡ begun_log c xs) (sym top.1) (rw (mine, begins) refl)
 
-module _ {L : Type 0} (holds : L → List Val → Type 0) (c : Inside L) (v : Tied holds c) (new : Steps L)
+module _ {L : Type 0} {holds : L → List Val → Type 0} {c : Inside L} (v : Tied holds c) {new : Steps L}
     (u : InTask holds (called c).home (Beginning c.fresh) (began_of (Beginning c.fresh) (called c)) new Done None) where
   st : local c.terms.shape (view_of new.seat).log c.number ≡ now (called c).home new
-  st = state_then holds c (Beginning c.fresh) new None u
+  st = state_then c u
 
   e : Ended (state (called c)) (ended c.live (state (called c)))
   e = ended_is c.live (state (called c)) v.phase
@@ -124,7 +124,7 @@ module _ {L : Type 0} (holds : L → List Val → Type 0) (c : Inside L) (v : Ti
       run = u.run;
       number = (v.number.0, ends.number ∙ v.number.1);
       shape = u.shape;
-      mirror = mirror_then holds c (Beginning c.fresh) new None u;
+      mirror = mirror_then c u;
       begun = ends.begun ∙ v.begun;
       phase = ends.outside;
       manager = (u.manager, v.manager.1);
@@ -148,7 +148,7 @@ module _ {L : Type 0} (holds : L → List Val → Type 0) (c : Inside L) (v : Ti
     pub spent_from : is_spent c.terms.shape (state (called c)) ≡ true →
         SpentFrom holds (called c) (called (record c { steps = new; live = false }))
     spent_from spent = record {
-      steps = performs holds (called c) (Beginning c.fresh) new None (called (record c { steps = new; live = false })) u
+      steps = performs holds (called c) (called (record c { steps = new; live = false })) u
           refl refl (ap (λ t. record (called c).home { table = t }) u.seat.0) refl;
       caller =
           ap (λ t. record (called (record c { steps = new })) { home = record { table = t; terms = c.terms } }) u.seat.0
@@ -201,7 +201,7 @@ module _ {L : Type 0} (holds : L → List Val → Type 0) (c : Inside L) (v : Ti
       run = u.run;
       number = (v.number.0, ap (λ (l : LocalState). l.number) is_begun ∙ e.number ∙ v.number.1);
       shape = u.shape;
-      mirror = mirror_then holds c (Beginning c.fresh) new None u;
+      mirror = mirror_then c u;
       begun = ap (λ (l : LocalState). l.begun) is_begun ∙ ap (λ n. n + 1) (e.begun ∙ v.begun);
       phase = runs;
       manager = (u.manager, ap (λ (d : DeciderState). d.manager) took ∙ v.manager.0);
@@ -256,7 +256,7 @@ module _ {L : Type 0} (holds : L → List Val → Type 0) (c : Inside L) (v : Ti
 
     pub begins_anew : is_spent c.terms.shape (state (called c)) ≡ false → BeginsAnew holds (called c) (called anew)
     begins_anew enough = record {
-      steps = performs holds (called c) (Beginning c.fresh) new None (called anew) u refl refl
+      steps = performs holds (called c) (called anew) u refl refl
           (ap (λ t. record (called c).home { table = t }) u.seat.0) refl;
       caller =
           ap (λ t. record (called anew) { home = record { table = t; terms = c.terms } }) u.seat.0
@@ -300,12 +300,11 @@ begun_with c new began live opened = record c {
 }
 
 module _ {L : Type 0} {holds : L → List Val → Type 0} {c : Inside L} {k : Called L} {words : Home L} {steps : Steps L}
-    (at : AtCall holds c k words steps) (new : Steps L)
-    (over : InTask holds words (Beginning c.fresh)
+    (at : AtCall holds c k words steps) {new : Steps L} (over : InTask holds words (Beginning c.fresh)
     (began_as words (Beginning c.fresh) (number_or (view_of steps.seat).number 0) steps) new Done None) (spent : Bool)
     (told : is_spent c.terms.shape (state (called c)) ≡ spent) where
   done_there : InTask holds (called c).home (Beginning c.fresh) (began_of (Beginning c.fresh) (called c)) new Done None
-  done_there = ends_at at (Beginning c.fresh) new None over
+  done_there = ends_at at over
 
   module _ (yes : spent ≡ true) (is : spent ≡ true → now words new ≡ ended c.live (now words steps))
       (idle : c.live ≡ false → spent ≡ true → new ≡ steps) where
@@ -320,17 +319,17 @@ module _ {L : Type 0} {holds : L → List Val → Type 0} {c : Inside L} {k : Ca
     pub spent_caller : Tied holds (record c { steps = new; live = not spent })
     spent_caller =
         subst (λ b. Tied holds (record c { steps = new; live = not b })) (sym yes)
-        (spent_tied holds c at.tied new done_there quit still)
+        (spent_tied at.tied done_there quit still)
 
     pub spends : SpentFrom holds k (called (record c { steps = new; live = false }))
     spends =
         subst (λ (k : Called L). SpentFrom holds k (called (record c { steps = new; live = false }))) at.view
-        (spent_from holds c at.tied new done_there quit still (told ∙ yes))
+        (spent_from at.tied done_there quit still (told ∙ yes))
 
   module _ (no : spent ≡ false) (is : spent ≡ false → now words new ≡ begin (record (ended c.live (now words steps)) {
     rank = new.rank;
     stands = (now words new).stands;
-  })) (began : Snapshot DeciderState) (took : began.value ≡ steps.decider) (opened : OpenedAs)
+  })) (began : Snapshot DeciderState) (took : began.value ≡ steps.decider) {opened : OpenedAs}
       (cleared : opened ≡ record c.opened { reads = []; writes = [] }) where
     next : now (called c).home new ≡ begin (record (ended c.live (state (called c))) {
       rank = new.rank;
@@ -340,8 +339,7 @@ module _ {L : Type 0} {holds : L → List Val → Type 0} {c : Inside L} {k : Ca
         subst (λ (h : Home L). now h new ≡ begin (record (ended c.live (state (called c))) {
           rank = new.rank;
           stands = (now h new).stands;
-        })) (sym at.home)
-        (is no ∙ ap (λ (l : LocalState). begin (record (ended c.live l) {
+        })) (sym at.home) (is no ∙ ap (λ (l : LocalState). begin (record (ended c.live l) {
           rank = new.rank;
           stands = (now words new).stands;
         })) (state_at at))
@@ -353,10 +351,10 @@ module _ {L : Type 0} {holds : L → List Val → Type 0} {c : Inside L} {k : Ca
     begun_caller =
         subst (λ b. Tied holds (begun_with c new began (not b) opened)) (sym no)
         (subst (λ (o : OpenedAs). Tied holds (begun_with c new began true o)) (sym cleared)
-        (anew_tied holds c at.tied new done_there began same next (told ∙ no)))
+        (anew_tied at.tied done_there began same next (told ∙ no)))
 
     pub begins : BeginsAnew holds k (called (begun_with c new began true opened))
     begins =
         subst (λ (k : Called L). BeginsAnew holds k (called (begun_with c new began true opened))) at.view
         (subst (λ (o : OpenedAs). BeginsAnew holds (called c) (called (begun_with c new began true o))) (sym cleared)
-        (begins_anew holds c at.tied new done_there began same next (told ∙ no)))
+        (begins_anew at.tied done_there began same next (told ∙ no)))

@@ -65,49 +65,47 @@ module _ {L : Type 0} {holds : L → List Val → Type 0} {c : Inside L} {k : Ca
   on : c.live ≡ true
   on = at.live ∙ live
 
-  left_closed : (work : Work) → is_closed work ≡ true → (new : Steps L) (again : Again) →
+  left_closed : {work : Work} → is_closed work ≡ true → {new : Steps L} {again : Again} →
       InTask holds (called c).home (Doing work) (began_of (Doing work) (called c)) new Done (Some again) →
       (c.terms.shape.all_write ≡ true → IsNoReading work) → (last : Option ℕ) →
       LeftClosed holds work (called c) (called (left_as c new last again)) again
-  left_closed work closed new again u writes last = record {
-    leaves = left_leaves holds c at.tied on work new again u writes last;
-    kept = left_kept holds c at.tied on work new again u writes last
+  left_closed closed {new = new} {again = again} u writes last = record {
+    leaves = left_leaves at.tied on u writes last;
+    kept = left_kept at.tied on u writes last
         ∙ ap (λ g. record (called c) { log = (view_of new.seat).log; generator = g; left = Some again })
-        (same_generator holds c at.tied on work closed new (Some again) u);
-    same_held = λ p. held_same holds c at.tied on work closed new (Some again) u p;
-    same_opened = λ p. opened_same holds c at.tied on work closed new (Some again) u p;
-    over = ap is_running (left_uncommitted holds c at.tied on work new again u writes last).0;
-    place = λ name table. left_place holds c at.tied on work new again u writes last name table;
-    attempt = left_attempt holds c at.tied on work new again u writes last;
-    same_done = left_done holds c at.tied on work new again u writes last;
-    ended = left_ended holds c at.tied on work new again u writes last;
+        (same_generator at.tied on closed u);
+    same_held = λ p. held_same at.tied on closed u p;
+    same_opened = λ p. opened_same at.tied on closed u p;
+    over = ap is_running (left_uncommitted at.tied on u writes last).0;
+    place = λ name table. left_place at.tied on u writes last name table;
+    attempt = left_attempt at.tied on u writes last;
+    same_done = left_done at.tied on u writes last;
+    ended = left_ended at.tied on u writes last;
   }
 
   -- ---- a recheck
 
-  module _ (new : Steps L) (last : Option ℕ) where
-    module _ (again : Again) (done_r : InTask holds words (Doing Rechecking)
+  module _ {new : Steps L} (last : Option ℕ) where
+    module _ {again : Again} (done_r : InTask holds words (Doing Rechecking)
         (began_as words (Doing Rechecking) (number_or (view_of steps.seat).number 0) steps) new Done (Some again)) where
       u_left : InTask holds (called c).home (Doing Rechecking) (began_of (Doing Rechecking) (called c)) new Done
           (Some again)
-      u_left = ends_at at (Doing Rechecking) new (Some again) done_r
+      u_left = ends_at at done_r
 
       pub recheck_left_tied : Tied holds (left_as c new last again)
-      recheck_left_tied = left_tied holds c at.tied on Rechecking new again u_left (λ _. tt) last
+      recheck_left_tied = left_tied at.tied on u_left (λ _. tt) last
 
       pub recheck_left : LeftClosed holds Rechecking k (called (left_as c new last again)) again
-      recheck_left =
-          subst (λ (k : Called L). LeftClosed holds Rechecking k (called (left_as c new last again)) again) at.view
-          (left_closed Rechecking refl new again u_left (λ _. tt) last)
+      recheck_left = rw (← at.view) (left_closed refl u_left (λ _. tt) last)
 
       pub recheck_cause : IsStaleOrKilled again
-      recheck_cause = stale_or_killed holds c at.tied on new again u_left
+      recheck_cause = stale_or_killed at.tied on u_left
 
     module _ (done_r : InTask holds words (Doing Rechecking)
         (began_as words (Doing Rechecking) (number_or (view_of steps.seat).number 0) steps) new Done None)
         (number : ℕ) (is : now words new ≡ passed number (now words steps)) (taken : last ≡ Some number) where
       u_on : InTask holds (called c).home (Doing Rechecking) (began_of (Doing Rechecking) (called c)) new Done None
-      u_on = ends_at at (Doing Rechecking) new None done_r
+      u_on = ends_at at done_r
 
       is_on : now (called c).home new ≡ passed number (state (called c))
       is_on =
@@ -115,67 +113,55 @@ module _ {L : Type 0} {holds : L → List Val → Type 0} {c : Inside L} {k : Ca
           (is ∙ ap (passed number) (state_at at))
 
       pub recheck_tied : Tied holds (record c { steps = new; last_number = last })
-      recheck_tied = rechecked_tied holds c at.tied on new u_on last number is_on taken
+      recheck_tied = rechecked_tied at.tied on u_on number is_on taken
 
       pub rechecked : IsRechecked holds k (called (record c { steps = new; last_number = last }))
-      rechecked =
-          subst (λ (k : Called L). IsRechecked holds k (called (record c { steps = new; last_number = last }))) at.view
-          (record {
-            stays = rechecked_stays holds c at.tied on new u_on last number is_on taken;
-            kept = rechecked_kept holds c at.tied on new u_on last number is_on taken;
-            sight = rechecked_sighted holds c at.tied on new u_on last number is_on taken;
-            one_more = rechecked_counts holds c at.tied on new u_on last number is_on taken;
-            same_held = λ p. held_same holds c at.tied on Rechecking refl new None u_on p;
-            same_opened = λ p. opened_same holds c at.tied on Rechecking refl new None u_on p;
-            live = ap is_running (rechecked_runs holds c at.tied on new u_on last number is_on taken);
-            place = λ name table. rechecked_place holds c at.tied on new u_on last number is_on taken name table;
-          })
+      rechecked = rw (← at.view) (record {
+        stays = rechecked_stays at.tied on u_on number is_on taken;
+        kept = rechecked_kept at.tied on u_on number is_on taken;
+        sight = rechecked_sighted at.tied on u_on number is_on taken;
+        one_more = rechecked_counts at.tied on u_on number is_on taken;
+        same_held = λ p. held_same at.tied on refl u_on p;
+        same_opened = λ p. opened_same at.tied on refl u_on p;
+        live = ap is_running (rechecked_runs at.tied on u_on number is_on taken);
+        place = λ name table. rechecked_place at.tied on u_on number is_on taken name table;
+      })
 
   -- ---- a commit
 
-  module _ (slots : List WriteSlot) (listed : slots ≡ c.opened.writes) (new : Steps L) where
-    commit_ends : (answer : Option Again) →
+  module _ {slots : List WriteSlot} (listed : slots ≡ c.opened.writes) {new : Steps L} where
+    commit_ends : {answer : Option Again} →
         InTask holds words (Doing (Committing (value_there words steps slots)))
         (began_as words (Doing (Committing (value_there words steps slots))) (number_or (view_of steps.seat).number 0) steps)
-        new Done answer →
-        InTask holds (called c).home (Doing (Committing (new_value (called c))))
+        new Done answer → InTask holds (called c).home (Doing (Committing (new_value (called c))))
         (began_of (Doing (Committing (new_value (called c)))) (called c)) new Done answer
-    commit_ends answer u =
+    commit_ends {answer = answer} u =
         subst (λ f. InTask holds (called c).home (Doing (Committing f)) (began_of (Doing (Committing f)) (called c)) new
-        Done answer) (value_is holds c at.tied on words at.home steps at.begun slots listed)
-        (ends_at at (Doing (Committing (value_there words steps slots))) new answer u)
+        Done answer) (value_is at.tied on at.home at.begun listed) (ends_at at u)
 
     module _ (u : InTask holds words (Doing (Committing (value_there words steps slots)))
         (began_as words (Doing (Committing (value_there words steps slots))) (number_or (view_of steps.seat).number 0) steps)
         new Done None) where
       pub commit_tied : Tied holds (record c { steps = new; live = false; fresh = true })
-      commit_tied = committed_tied holds c at.tied on new (commit_ends None u)
+      commit_tied = committed_tied at.tied on (commit_ends u)
 
       pub committed : (number : ℕ) → (now words new).drawn ≡ Some number →
           IsCommitted holds k (called (record c { steps = new; live = false; fresh = true })) number
-      committed number drawn =
-          subst (λ (k : Called L). IsCommitted holds k (called (record c { steps = new; live = false; fresh = true }))
-          number) at.view (record {
-            stays = committed_stays holds c at.tied on new (commit_ends None u);
-            committed = commits holds c at.tied on new (commit_ends None u) number
-                (subst (λ (h : Home L). (now h new).drawn ≡ Some number) (sym at.home) drawn);
-            kept = committed_kept holds c at.tied on new (commit_ends None u);
-            attempt = committed_attempt holds c at.tied on new (commit_ends None u);
-            ended = committed_ended holds c at.tied on new (commit_ends None u);
-          })
+      committed number drawn = rw (← at.view) (record {
+        stays = committed_stays at.tied on (commit_ends u);
+        committed = commits at.tied on (commit_ends u) number
+            (subst (λ (h : Home L). (now h new).drawn ≡ Some number) (sym at.home) drawn);
+        kept = committed_kept at.tied on (commit_ends u);
+        attempt = committed_attempt at.tied on (commit_ends u);
+        ended = committed_ended at.tied on (commit_ends u);
+      })
 
-    module _ (again : Again) (u : InTask holds words (Doing (Committing (value_there words steps slots)))
+    module _ {again : Again} (u : InTask holds words (Doing (Committing (value_there words steps slots)))
         (began_as words (Doing (Committing (value_there words steps slots))) (number_or (view_of steps.seat).number 0) steps)
         new Done (Some again)) where
       pub commit_left_tied : Tied holds (left_as c new c.last_number again)
-      commit_left_tied =
-          left_tied holds c at.tied on (Committing (new_value (called c))) new again (commit_ends (Some again) u) (λ _. tt)
-          c.last_number
+      commit_left_tied = left_tied at.tied on (commit_ends u) (λ _. tt) c.last_number
 
       pub commit_left :
           LeftClosed holds (Committing (new_value k)) k (called (left_as c new c.last_number again)) again
-      commit_left =
-          subst (λ (k : Called L).
-          LeftClosed holds (Committing (new_value k)) k (called (left_as c new c.last_number again)) again) at.view
-          (left_closed (Committing (new_value (called c))) refl new again (commit_ends (Some again) u) (λ _. tt)
-          c.last_number)
+      commit_left = rw (← at.view) (left_closed refl (commit_ends u) (λ _. tt) c.last_number)

@@ -45,9 +45,9 @@ use Rattle.dstm_engine.specs.Transactions.{Stays}
 use Rattle.dstm_engine.specs.declared.caller.Caller.TheInside.{Inside}
 
 -- a recheck or a commit has no exchange but those on its own status
-pub closed_stays : {L : Type 0} (holds : L → List Val → Type 0) (k n : Called L) (work : Work) → is_closed work ≡ true →
+pub closed_stays : {L : Type 0} {holds : L → List Val → Type 0} {k n : Called L} {work : Work} → is_closed work ≡ true →
     Performs holds (Doing work) k n None → Stays holds work k n
-closed_stays holds k n work closed p = record {
+closed_stays {k = k} {work = work} closed p = record {
   steps = p;
   missed =
       let none = plain_misses work p.events
@@ -55,9 +55,8 @@ closed_stays holds k n work closed p = record {
       omega arith;
 }
 
-module _ {L : Type 0} (holds : L → List Val → Type 0) (c : Inside L) (v : Tied holds c) (live : c.live ≡ true)
-    (new : Steps L)
-    (u : InTask holds (called c).home (Doing (Committing (new_value (called c))))
+module _ {L : Type 0} {holds : L → List Val → Type 0} {c : Inside L} (v : Tied holds c) (live : c.live ≡ true)
+    {new : Steps L} (u : InTask holds (called c).home (Doing (Committing (new_value (called c))))
     (began_of (Doing (Committing (new_value (called c)))) (called c)) new Done None) where
   abbrev pub committed_as : Inside L
   committed_as = record c { steps = new; live = false; fresh = true }
@@ -66,74 +65,62 @@ module _ {L : Type 0} (holds : L → List Val → Type 0) (c : Inside L) (v : Ti
   work = Committing (new_value (called c))
 
   steps : Performs holds (Doing (Committing (new_value (called c)))) (called c) (called committed_as) None
-  steps =
-      performed holds c v live (Committing (new_value (called c))) new None u (called committed_as) refl refl refl refl
+  steps = performed v live u (called committed_as) refl refl refl refl
 
   pub committed_stays : Stays holds (Committing (new_value (called c))) (called c) (called committed_as)
-  committed_stays =
-      closed_stays holds (called c) (called committed_as) (Committing (new_value (called c))) refl steps
+  committed_stays = closed_stays refl steps
 
   pub committed_attempt : begun_log c.number (view_of new.seat).log ≡ begun_log c.number (called c).log
-  committed_attempt =
-      doing_keeps holds (Committing (new_value (called c))) (called c) (called committed_as) None steps
+  committed_attempt = doing_keeps steps
 
   pub committed_kept : called committed_as
       ≡ record (called c) { log = (view_of new.seat).log; left = None; fresh = true }
   committed_kept =
       ap (λ t. record (called committed_as) { home = record { table = t; terms = c.terms } }) u.seat.0
       ∙ ap (λ g. record (called c) { log = (view_of new.seat).log; generator = g; fresh = true })
-      (same_generator holds c v live (Committing (new_value (called c))) refl new None u)
+      (same_generator v live refl u)
       ∙ ap (λ left. record (called c) { log = (view_of new.seat).log; left = left; fresh = true }) (v.left live)
 
   ends : ((state (called committed_as)).phase ≡ Outside) × ((state (called committed_as)).committed ≡ true)
       × StaysAt c.terms.shape (view_of new.seat).log c.number (code_of status.Committed)
   ends =
       commit_ends (new_value (called c)) c.terms.shape c.number c.steps.decider.generator u.events (called c).log
-      (view_of new.seat).log (call_there holds c v live (Committing (new_value (called c))) new None u)
-      (current_there holds c v live (Committing (new_value (called c))) new None u).live
-      (call_of holds (called c).home (began_of (Doing (Committing (new_value (called c)))) (called c)) new None u).1
+      (view_of new.seat).log (call_there v live u) (current_there v live u).live (call_of u).1
 
-  told : (left : Option Again) → left ≡ None → IsTold (record (called committed_as) { left = left })
-  told left none =
-      told_more (called c) (told_there holds c v live (Committing (new_value (called c))) new None u) holds
-      (Committing (new_value (called c))) (record (called committed_as) { left = left }) None
-      (performed holds c v live (Committing (new_value (called c))) new None u
-      (record (called committed_as) { left = left }) refl refl refl refl)
-      (current_there holds c v live (Committing (new_value (called c))) new None u).live
+  told : {left : Option Again} → left ≡ None → IsTold (record (called committed_as) { left = left })
+  told {left = left} none =
+      told_more (told_there v live u) (performed v live u
+      (record (called committed_as) { left = left }) refl refl refl refl) (current_there v live u).live
       committed_attempt refl none (λ _. tt)
       (let over = kept_over (record (called committed_as) { left = left }) (ap is_running ends.0) in omega arith)
 
   pub committed_tied : Tied holds committed_as
   committed_tied =
       subst (λ left. Tied holds (record committed_as { left = left })) (sym (v.left live))
-      (over_tied holds c v live (Committing (new_value (called c))) new None u c.last_number true ends.0 (λ h. absurd (cc h))
-      tt (told None refl))
+      (over_tied v live u c.last_number true ends.0 (λ h. absurd (cc h)) tt (told refl))
 
   pub committed_ended : IsEnded (called committed_as)
   committed_ended = record {
-    told = told c.left (v.left live);
+    told = told (v.left live);
     left =
         subst (λ left. IfSome left (λ again. IsLeft (record (called committed_as) { left = left }) again
         × Promises (record (called committed_as) { left = left }) again)) (sym (v.left live)) tt;
     bounded = λ none.
-        bounded (called committed_as) (told c.left (v.left live)) u.run.run.core
-        (has_begin (called committed_as)
-        (subst (λ n. 0 < n) (sym (begun_there holds c v live (Committing (new_value (called c))) new None u))
-        (begun_of holds (called c) v.run (sym (live_there holds c v) ∙ live)))) alone_is_bounded prices_by_count;
+        bounded (told (v.left live)) u.run.run.core (has_begin (called committed_as)
+        (subst (λ n. 0 < n) (sym (begun_there v live u))
+        (begun_of (called c) v.run (sym (live_there v) ∙ live)))) alone_is_bounded prices_by_count;
   }
 
   -- the new values are those last set, or the old ones
   new_are : new_values c.terms.shape (view_of new.seat).log (state (called committed_as)).writes
       ≡ given_values (new_value (called c)) (state (called c)).writes
   new_are =
-      ap (new_values c.terms.shape (view_of new.seat).log)
-      (same_there holds c v live (Committing (new_value (called c))) refl new None u).writes
+      ap (new_values c.terms.shape (view_of new.seat).log) (same_there v live refl u).writes
       ∙ commit_puts c.terms.shape c.number (new_value (called c)) (view_of new.seat).log (called c).log
       c.steps.decider.generator u.events u.run.run.core u.own
       (allowed_own c.terms.shape c.number (view_of new.seat).log (called c).log u.events u.run.run.core u.own) u.obeys
       (are_plain (Committing (new_value (called c))) c.terms.shape (state (called c)) c.steps.decider.generator u.events
-      refl u.obeys)
-      (v.phase ∙ ap phase_by live) (v.uncommitted live) (v.rest live).not_put.0 (v.rest live).not_put.1
+      refl u.obeys) (v.phase ∙ ap phase_by live) (v.uncommitted live) (v.rest live).not_put.0 (v.rest live).not_put.1
       (ap (λ (l : LocalState). l.committed)
       (sym (after_own c.terms.shape c.number (view_of new.seat).log (called c).log u.events u.own)) ∙ ends.1)
 
@@ -145,7 +132,7 @@ module _ {L : Type 0} (holds : L → List Val → Type 0) (c : Inside L) (v : Ti
     where
       by : (b : Bool) → is_opened (called c) o ≡ b →
           cond b (Some (new_value (called c) o)) None ≡ cond b (handed (called c) o) None
-      by true q = handed_value holds c v live o q
+      by true q = handed_value v live o q
       by false q = refl
 
   pub commits : (number : ℕ) → (now (called c).home new).drawn ≡ Some number →
@@ -163,18 +150,14 @@ module _ {L : Type 0} (holds : L → List Val → Type 0) (c : Inside L) (v : Ti
         (is_added (Committing (new_value (called c))) c.terms.shape c.terms.start.value.items c.number
         c.steps.decider.generator u.events u.seen.later (called c).log
         (subst (IsCallIn (Doing (Committing (new_value (called c)))) c.terms.shape c.number c.steps.decider.generator
-        u.events (called c).log) (sym u.seen.whole)
-        (call_there holds c v live (Committing (new_value (called c))) new None u))
-        (current_there holds c v live (Committing (new_value (called c))) new None u).live
+        u.events (called c).log) (sym u.seen.whole) (call_there v live u)) (current_there v live u).live
         (subst (λ xs. (local c.terms.shape xs c.number).committed ≡ true) (sym u.seen.whole) ends.1))
         ∙ ap (λ n. record {
           caller = c.number;
           number = n;
           entry = entry_of c.terms.shape c.terms.start.value.items (view_of new.seat).log (state (called committed_as));
-        } ∷ done (called c))
-        (ap (λ (l : LocalState). or_zero l.drawn)
-        (state_then holds c (Doing (Committing (new_value (called c)))) new None u) ∙ ap or_zero drawn);
-    reads = λ o. held_same holds c v live (Committing (new_value (called c))) refl new None u o;
+        } ∷ done (called c)) (ap (λ (l : LocalState). or_zero l.drawn) (state_then c u) ∙ ap or_zero drawn);
+    reads = λ o. held_same v live refl u o;
     writes = written_then;
-    only = λ o. unwritten holds c v live o;
+    only = λ o. unwritten v live o;
   }

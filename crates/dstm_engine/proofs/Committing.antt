@@ -85,11 +85,9 @@ puts_in (w ∷ ws) o h = go (cases_Bool (w.object == o)) (puts_in ws o h.1)
     go : (w.object == o ≡ true) ⊎ (w.object == o ≡ false) →
         value_in (puts_of ws) o
         ≡ cond (is_some (write_slot ws o)) (option_or (value_in (set_pairs ws) o) (value_in (map slot_old ws) o)) None →
-        value_in (puts_of (w ∷ ws)) o
-        ≡ cond (is_some (write_slot (w ∷ ws) o))
+        value_in (puts_of (w ∷ ws)) o ≡ cond (is_some (write_slot (w ∷ ws) o))
         (option_or (value_in (set_pairs (w ∷ ws)) o) (value_in (map slot_old (w ∷ ws)) o)) None
-    go (inl q) ih =
-        rw q (head w.new q (ap (write_slot ws) (sym (eqb-true w.object o q)) ∙ h.0))
+    go (inl q) ih = rw q (head w.new q (ap (write_slot ws) (sym (eqb-true w.object o q)) ∙ h.0))
     go (inr q) ih =
         rw q (ih ∙ ap (λ x. cond (is_some (write_slot ws o)) (option_or x (value_in (map slot_old ws) o)) None)
         (sym (with_new_apart w.object o w.new (set_pairs ws) q)))
@@ -133,7 +131,7 @@ some_or : (x y : Option Val) → is_some y ≡ true → is_some (option_or x y) 
 some_or None y h = h
 some_or (Some v) y h = refl
 
-module _ {L : Type 0} (holds : L → List Val → Type 0) (c : Inside L) (v : Tied holds c) (live : c.live ≡ true) where
+module _ {L : Type 0} {holds : L → List Val → Type 0} {c : Inside L} (v : Tied holds c) (live : c.live ≡ true) where
   once : SlotsOnce c.opened.writes
   once =
       slots_once c.opened.writes (state (called c)).writes (v.writes live)
@@ -170,8 +168,7 @@ module _ {L : Type 0} (holds : L → List Val → Type 0) (c : Inside L) (v : Ti
   -- nothing is set for an object that is not open for writing
   pub unwritten : (o : ℕ) → is_opened (called c) o ≡ false → written (called c) o ≡ None
   unwritten o shut =
-      unset c.opened.writes o
-      (none_of (write_slot c.opened.writes o)
+      unset c.opened.writes o (none_of (write_slot c.opened.writes o)
       (sym (opened_slot c.opened.writes (state (called c)).writes o (v.writes live)) ∙ shut))
 
   pub handed_value : (o : ℕ) → is_opened (called c) o ≡ true → Some (new_value (called c) o) ≡ handed (called c) o
@@ -198,16 +195,14 @@ module _ {L : Type 0} (holds : L → List Val → Type 0) (c : Inside L) (v : Ti
       Agrees map (seen c.terms.shape c.terms.start.value.items (called c).log (called c).log c.number) →
       holds c.terms.law.value (with_writes map (puts_of c.opened.writes))
   lawful_here lawful map size was agrees =
-      let all : AgreesWith map (held (called c)) =
-      agrees_held map (held (called c))
+      let all : AgreesWith map (held (called c)) = agrees_held map (held (called c))
       (seen c.terms.shape c.terms.start.value.items (called c).log (called c).log c.number) agrees (λ o. refl) in
       subst (holds c.terms.law.value)
       (writes_same map (held (called c)) (written (called c)) (is_opened (called c)) (puts_of c.opened.writes) all
-      puts_handed unwritten)
-      (lawful map (record { length = size; lawful = was; agrees = all }))
+      puts_handed unwritten) (lawful map (record { length = size; lawful = was; agrees = all }))
 
-  module _ (home : Home L) (same : (called c).home ≡ home) (steps : Steps L) (is : steps ≡ renewed c.steps)
-      (slots : List WriteSlot) (listed : slots ≡ c.opened.writes) where
+  module _ {home : Home L} (same : (called c).home ≡ home) {steps : Steps L} (is : steps ≡ renewed c.steps)
+      {slots : List WriteSlot} (listed : slots ≡ c.opened.writes) where
     pub value_is : value_there home steps slots ≡ new_value (called c)
     value_is =
         ap (λ h. value_there h steps slots) (sym same) ∙ ap (λ st. value_there (called c).home st slots) is
@@ -223,7 +218,7 @@ module _ {L : Type 0} (holds : L → List Val → Type 0) (c : Inside L) (v : Ti
         steps (in_putting (value_there home steps slots) (now home steps)) None
     putting_there =
         let task = Doing (Committing (value_there home steps slots)) in
-        let was = now_there holds c v home same steps is in
+        let was = now_there v same is in
         let inside : is_outside (now home steps).phase ≡ false =
         ap (λ (l : LocalState). is_outside l.phase) was ∙ ap is_outside (v.phase ∙ ap phase_by live) in
         let agreed : (now home steps).stale ≡ false = ap (λ (l : LocalState). l.stale) was ∙ (v.rest live).agreed in
@@ -234,7 +229,7 @@ module _ {L : Type 0} (holds : L → List Val → Type 0) (c : Inside L) (v : Ti
         subst (λ again. InTask holds home task (began_as home task (number_or (view_of steps.seat).number 0) steps) steps
         (in_putting (value_there home steps slots) (now home steps)) again) gives
         (subst (λ next. InTask holds home task (began_as home task (number_or (view_of steps.seat).number 0) steps) steps
-        next (answer task None (now home steps) (effort_by steps))) first (starts_there holds c v home same steps is task))
+        next (answer task None (now home steps) (effort_by steps))) first (starts_there v same is task))
 
     pub values_there : All (λ slot. value_there home steps slots slot.object ≡ to_put slot) slots
     values_there =
@@ -282,7 +277,7 @@ module _ {L : Type 0} (holds : L → List Val → Type 0) (c : Inside L) (v : Ti
         + ((now home steps).installed - length (now home steps).writes)
     first_there =
         let shape : c.terms.shape ≡ home.terms.shape = ap (λ (h : Home L). h.terms.shape) same in
-        let was = now_there holds c v home same steps is in
+        let was = now_there v same is in
         let i : steps.installed ≡ (now home steps).installed =
         ap (λ (s : Steps L). s.installed) is ∙ v.mirror.installed ∙ sym (ap (λ (l : LocalState). l.installed) was) in
         let n : length slots ≡ length (now home steps).writes =

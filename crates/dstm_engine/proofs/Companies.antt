@@ -9,9 +9,9 @@ use Rattle.dstm_engine.specs.Callers.{Called}
 use Rattle.dstm_engine.specs.Companies.{AreNew, IsNew}
 
 -- one more is given out, with the next seed
-pub new_push : {L : Type 0} (holds : L → List Val → Type 0) (table : Home L) (ks : List (Called L)) (k : Called L) →
+pub new_push : {L : Type 0} {holds : L → List Val → Type 0} {table : Home L} (ks : List (Called L)) {k : Called L} →
     AreNew holds table ks → IsNew holds table (length ks) k → AreNew holds table (ks ++ k ∷ [])
-new_push holds table ks k new one seed other lt =
+new_push {holds = holds} {table = table} ks {k = k} new one seed other lt =
     ⊎_elim
     (λ before. subst (IsNew holds table seed) (sym (get_or-append ks (k ∷ []) other seed before)) (new seed other before))
     (λ behind.

@@ -110,12 +110,12 @@ kept_over k over = ap (λ b. if b then length (state k).reads else 0) over
 
 -- ---- the calls on an attempt
 
-module _ {L : Type 0} (k : Called L) (t : IsTold k) where
+module _ {L : Type 0} {k : Called L} (t : IsTold k) where
   -- the state of a caller after the calls on its attempt
   pub told_state : state_after (shape_of k) (begun_state k) (all_events t.calls) ≡ state k
   told_state = sym (after_own (shape_of k) k.number k.log (begun_log k.number k.log) (all_events t.calls) t.own)
 
-  module _ (holds : L → List Val → Type 0) (work : Work) (n : Called L) (again : Option Again)
+  module _ {holds : L → List Val → Type 0} {work : Work} {n : Called L} {again : Option Again}
       (p : Performs holds (Doing work) k n again) where
     -- the calls on it, and one more
     abbrev pub one_more : Made
@@ -143,8 +143,7 @@ module _ {L : Type 0} (k : Called L) (t : IsTold k) where
         let s = shape_of k in
         let call = one_more in
         let shape : shape_of n ≡ s = ap (λ h. h.terms.shape) p.same.0 in
-        let began : begun_state n ≡ begun_state k =
-        ap (λ s. local s (begun_log n.number n.log) n.number) shape
+        let began : begun_state n ≡ begun_state k = ap (λ s. local s (begun_log n.number n.log) n.number) shape
         ∙ ap (λ xs. local s xs n.number) same_begin
         ∙ ap (local s (begun_log k.number k.log)) p.same.1 in
         record {
@@ -189,8 +188,7 @@ is_not_begin Begin h = absurd (h refl)
 is_not_begin k h = cc
 
 doing_more : (s : Shape) (work : Work) (gen : Lcg) (c : ℕ) (later before : List Event) → Core s (later ++ before) →
-    Obeys (Doing work) s (local s before c) gen (events_of c later) →
-    begun_log c (later ++ before) ≡ begun_log c before
+    Obeys (Doing work) s (local s before c) gen (events_of c later) → begun_log c (later ++ before) ≡ begun_log c before
 doing_more s work gen c [] before run h = refl
 doing_more s work gen c (e ∷ later) before run h =
     by (doing_more s work gen c later before run.0) (cases_Bool (e.caller == c))
@@ -213,13 +211,12 @@ doing_more s work gen c (e ∷ later) before run h =
     by ih (inl q) =
         let none : is_begin e.kind ≡ false = is_not_begin e.kind (not_begin s (later ++ before) e run (under q)) in
         rw (q, none) (ih (own q).0)
-    by ih (inr q) =
-        rw q (ih (subst (λ b. Told (if b then e ∷ events_of c later else events_of c later)) q h))
+    by ih (inr q) = rw q (ih (subst (λ b. Told (if b then e ∷ events_of c later else events_of c later)) q h))
 
 -- so the last Begin stays
-pub doing_keeps : {L : Type 0} (holds : L → List Val → Type 0) (work : Work) (k n : Called L) (again : Option Again) →
+pub doing_keeps : {L : Type 0} {holds : L → List Val → Type 0} {work : Work} {k n : Called L} {again : Option Again} →
     Performs holds (Doing work) k n again → begun_log n.number n.log ≡ begun_log k.number k.log
-doing_keeps holds work k n again p =
+doing_keeps {work = work} {k = k} {n = n} p =
     let events : events_of k.number p.seen.later ≡ p.events = own_later k.number k.log n.log p.events p.seen p.own in
     ap (λ c. begun_log c n.log) p.same.1
     ∙ subst (λ xs. begun_log k.number xs ≡ begun_log k.number k.log) p.seen.whole

@@ -24,20 +24,19 @@ use Rattle.dstm_managers.specs.Choices.{started}
 use Rattle.dstm_engine.specs.Enrolled.{enrolled_as}
 use Rattle.dstm_engine.specs.Tables.{Enrols, Founding, unnumbered}
 
-enrolling : (s : Shape) (l : LocalState) (gen : Lcg) (e : Event) → e.kind ≡ Enrol → l ≡ first →
+enrolling : (s : Shape) {l : LocalState} (gen : Lcg) (e : Event) → e.kind ≡ Enrol → l ≡ first →
     IsCall Enrolling s l gen (e ∷ [])
-enrolling s l gen e k h =
+enrolling s {l = l} gen e k h =
     subst (λ (l : LocalState). IsCall Enrolling s l gen (e ∷ [])) (sym h)
     (record { obeys = (tt, (k, tt)); done = rw k refl })
 
-pub enrols : {L : Type 0} (holds : L → List Val → Type 0) (f g : Founding L) (seed found p : ℕ) (w : View L)
-    (k : Called L) →
-    f.view.terms ≡ Some f.home.terms → Makes holds (given_part f.view) Add Enrol p found w →
+pub enrols : {L : Type 0} {holds : L → List Val → Type 0} (f : Founding L) {g : Founding L} (seed : ℕ) {found p : ℕ}
+    {w : View L}
+    {k : Called L} → f.view.terms ≡ Some f.home.terms → Makes holds (given_part f.view) Add Enrol p found w →
     found < f.home.terms.shape.callers → k ≡ record (unnumbered f seed) { log = w.log; number = found } →
     g ≡ record f { view = kept_part f.view; made = f.made + 1 } → Enrols holds f g seed k
-enrols {L = L} holds f g seed found p w k terms m few is now =
-    subst (λ (k : Called L). Enrols holds f g seed k) (sym is)
-    (record {
+enrols {L = L} {holds = holds} f {g = g} seed {found = found} {p = p} {w = w} {k = k} terms m few is now =
+    subst (λ (k : Called L). Enrols holds f g seed k) (sym is) (record {
       founder = now;
       caller = refl;
       number = few;
@@ -47,7 +46,7 @@ enrols {L = L} holds f g seed found p w k terms m few is now =
       steps = record {
         events = e ∷ [];
         own = m.mine ∙ ap (λ xs. e ∷ xs) (sym none);
-        call = enrolling f.home.terms.shape (local f.home.terms.shape f.view.log found) _ e refl new;
+        call = enrolling f.home.terms.shape _ e refl new;
         answers = refl;
         seen = record { later = e ∷ m.log.0; whole = sym m.log.1 };
         run = subst (λ (o : Option (Terms L)). IfSome o (λ (t : Terms L). IsRunOf holds t w.log)) terms m.run;
@@ -68,13 +67,13 @@ enrols {L = L} holds f g seed found p w k terms m few is now =
         ∙ ap (λ xs. local f.home.terms.shape xs found) none
 
 -- the founder after the split, and the caller, from what they are made of
-pub founder_is : {L : Type 0} (f : Founding L) (h : Home L) (table : TableId) (terms : Terms L) (old new : View L)
-    (made guests : ℕ) →
+pub founder_is : {L : Type 0} {f : Founding L} {h : Home L} (table : TableId) (terms : Terms L) (old : View L)
+    {new : View L} (made guests : ℕ) →
     record { home = record { table = table; terms = terms }; view = old; made = made; guests = guests } ≡ f →
-    f.home ≡ h → (fresh_table : TableId) → fresh_table ≡ h.table → new ≡ kept_part old →
+    f.home ≡ h → {fresh_table : TableId} → fresh_table ≡ h.table → new ≡ kept_part old →
     record { home = record { table = fresh_table; terms = terms }; view = new; made = made + 1; guests = guests }
     ≡ record f { view = kept_part f.view; made = f.made + 1 }
-founder_is {L = L} f h table terms old new made guests is at fresh_table same kept =
+founder_is {L = L} {h = h} table terms old {new = new} made guests is at same kept =
     let was : table ≡ h.table = ap (λ (x : Founding L). x.home.table) is ∙ ap (λ (x : Home L). x.table) at in
     ap (λ t. record { home = record { table = t; terms = terms }; view = new; made = made + 1; guests = guests })
     (same ∙ sym was)
@@ -82,11 +81,11 @@ founder_is {L = L} f h table terms old new made guests is at fresh_table same ke
     kept
     ∙ ap (λ (x : Founding L). record x { view = kept_part x.view; made = x.made + 1 }) is
 
-pub caller_is : {L : Type 0} (f : Founding L) (h : Home L) (seed found : ℕ) (seat : Seat ℕ (View L)) (terms : Terms L)
-    (manager : Manager) (k : Called L) → k ≡ enrolled_as terms seat found (started manager seed) → f.home ≡ h →
+pub caller_is : {L : Type 0} (f : Founding L) {h : Home L} (seed found : ℕ) (seat : Seat ℕ (View L)) {terms : Terms L}
+    {manager : Manager} {k : Called L} → k ≡ enrolled_as terms seat found (started manager seed) → f.home ≡ h →
     seat.table_id ≡ h.table → terms ≡ h.terms → manager ≡ h.terms.shape.manager →
     k ≡ record (unnumbered f seed) { log = seat.me.0.log; number = found }
-caller_is {L = L} f h seed found seat terms manager k is at table told by =
+caller_is {L = L} f {h = h} seed found seat {terms = terms} is at table told by =
     is
     ∙ ap (λ m. enrolled_as terms seat found (started m seed)) by
     ∙ ap (λ t. record (enrolled_as terms seat found (started h.terms.shape.manager seed)) {
@@ -99,13 +98,13 @@ caller_is {L = L} f h seed found seat terms manager k is at table told by =
     (sym at)
 
 -- the founder after a join
-pub keeps_rest : {L : Type 0} (f : Founding L) (h : Home L) (table : TableId) (terms : Terms L) (old new : View L)
+pub keeps_rest : {L : Type 0} {f : Founding L} {h : Home L} (table : TableId) (terms : Terms L) (old new : View L)
     (made guests : ℕ) →
     record { home = record { table = table; terms = terms }; view = old; made = made; guests = guests } ≡ f →
-    f.home ≡ h → (later_table : TableId) → later_table ≡ h.table →
+    f.home ≡ h → {later_table : TableId} → later_table ≡ h.table →
     record { home = record { table = later_table; terms = terms }; view = new; made = made; guests = guests }
     ≡ record f { view = new }
-keeps_rest {L = L} f h table terms old new made guests is at later_table same =
+keeps_rest {L = L} {h = h} table terms old new made guests is at same =
     let was : table ≡ h.table = ap (λ (x : Founding L). x.home.table) is ∙ ap (λ (x : Home L). x.table) at in
     ap (λ t. record { home = record { table = t; terms = terms }; view = new; made = made; guests = guests })
     (same ∙ sym was)

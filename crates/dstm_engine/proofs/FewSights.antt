@@ -185,6 +185,17 @@ beginning_looks s fresh l g (e ∷ es) obeys =
 
 -- ---- what a log counts
 
+-- the kinds of a caller's events, with one more event of the log
+own_counts : (is : Kind → Bool) (c : ℕ) (e : Event) (log : List Event) → (e.caller == c) ≡ true →
+    count_kinds is (events_of c (e ∷ log)) ≡ count_kinds is (e ∷ events_of c log)
+own_counts is c e log own =
+    ap (count_kinds is) (cond-true (e.caller == c) (e ∷ events_of c log) (events_of c log) own)
+
+other_counts : (is : Kind → Bool) (c : ℕ) (e : Event) (log : List Event) → (e.caller == c) ≡ false →
+    count_kinds is (events_of c (e ∷ log)) ≡ count_kinds is (events_of c log)
+other_counts is c e log other =
+    ap (count_kinds is) (cond-false (e.caller == c) (e ∷ events_of c log) (events_of c log) other)
+
 -- a sight is a look at the own status
 pub sights_more : (s : Shape) (c i : ℕ) (later before : List Event) →
     count_of completes_pass s (later ++ before) c i
@@ -212,21 +223,16 @@ sights_more s c i (e ∷ later) before = by (cases_Bool (e.caller == c)) (cases_
         (and_parts (l.begun == i) (completes_pass s l e) passes).1).0 in
         let here : count_of completes_pass s (e ∷ (later ++ before)) c i ≡ was + 1 = rw (own, passes) refl in
         let more : count_kinds is_look_self (events_of c (e ∷ later)) ≡ count_kinds is_look_self (events_of c later) + 1 =
-        ap (count_kinds is_look_self) (cond-true (e.caller == c) (e ∷ events_of c later) (events_of c later) own)
-        ∙ counts_it is_look_self e (events_of c later) look in
+        own_counts is_look_self c e later own ∙ counts_it is_look_self e (events_of c later) look in
         omega arith
     by (inl own) (inr fails) ih =
         let here : count_of completes_pass s (e ∷ (later ++ before)) c i ≡ was = rw (own, fails) refl in
         let more : count_kinds is_look_self (events_of c later) ≤ count_kinds is_look_self (events_of c (e ∷ later)) =
-        subst (λ (es : List Event). count_kinds is_look_self (events_of c later) ≤ count_kinds is_look_self es)
-        (sym (cond-true (e.caller == c) (e ∷ events_of c later) (events_of c later) own))
-        (one_more is_look_self e (events_of c later)) in
+        rw (own_counts is_look_self c e later own) (one_more is_look_self e (events_of c later)) in
         omega arith
     by (inr other) test ih =
         let here : count_of completes_pass s (e ∷ (later ++ before)) c i ≡ was = rw other refl in
-        let same : count_kinds is_look_self (events_of c (e ∷ later)) ≡ count_kinds is_look_self (events_of c later) =
-        ap (count_kinds is_look_self) (cond-false (e.caller == c) (e ∷ events_of c later) (events_of c later) other) in
-        omega arith
+        let same = other_counts is_look_self c e later other in omega arith
 
 begun_since : (s : Shape) (c : ℕ) (later before : List Event) →
     (local s before c).begun ≤ (local s (later ++ before) c).begun
@@ -243,8 +249,7 @@ none_yet test s [] c i few = refl
 none_yet test s (e ∷ log) c i few =
     let more = begun_more s log e c in
     cond_both ((e.caller == c) && (((local s log c).begun == i) && test s (local s log c) e))
-    (count_of test s log c i + 1) (count_of test s log c i) (λ (n : ℕ). n ≡ 0)
-    (λ passes.
+    (count_of test s log c i + 1) (count_of test s log c i) (λ (n : ℕ). n ≡ 0) (λ passes.
     let begun = (and_parts ((local s log c).begun == i) (test s (local s log c) e)
     (and_parts (e.caller == c) (((local s log c).begun == i) && test s (local s log c) e) passes).1).0 in
     absurd (let same = eqb-true (local s log c).begun i begun in omega arith))
@@ -279,18 +284,14 @@ looks_more s c i (e ∷ later) before was now =
         let here : count_of looks_at_object s (e ∷ (later ++ before)) c i ≡ there + 1 =
         rw (own, eq-eqb (local s (later ++ before) c).begun i still, look) refl in
         let more : count_kinds is_look_object (events_of c (e ∷ later)) ≡ count_kinds is_look_object (events_of c later) + 1 =
-        ap (count_kinds is_look_object) (cond-true (e.caller == c) (e ∷ events_of c later) (events_of c later) own)
-        ∙ counts_it is_look_object e (events_of c later) look in
+        own_counts is_look_object c e later own ∙ counts_it is_look_object e (events_of c later) look in
         omega arith
     by (inl own) (inr none) ih =
         let here : count_of looks_at_object s (e ∷ (later ++ before)) c i ≡ there =
         rw (own, eq-eqb (local s (later ++ before) c).begun i still, none) refl in
         let same : count_kinds is_look_object (events_of c (e ∷ later)) ≡ count_kinds is_look_object (events_of c later) =
-        ap (count_kinds is_look_object) (cond-true (e.caller == c) (e ∷ events_of c later) (events_of c later) own)
-        ∙ skips_it is_look_object e (events_of c later) none in
+        own_counts is_look_object c e later own ∙ skips_it is_look_object e (events_of c later) none in
         omega arith
     by (inr other) look ih =
         let here : count_of looks_at_object s (e ∷ (later ++ before)) c i ≡ there = rw other refl in
-        let same : count_kinds is_look_object (events_of c (e ∷ later)) ≡ count_kinds is_look_object (events_of c later) =
-        ap (count_kinds is_look_object) (cond-false (e.caller == c) (e ∷ events_of c later) (events_of c later) other) in
-        omega arith
+        let same = other_counts is_look_object c e later other in omega arith

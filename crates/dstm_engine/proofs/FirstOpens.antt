@@ -38,26 +38,24 @@ module _ {L : Type 0} {holds : L → List Val → Type 0} {c : Inside L} {k : Ca
     unheld = ap (λ (k : Called L). held k o) at.view ∙ none
 
     pub first_unopened : write_of o (now words steps).writes ≡ None
-    first_unopened =
-        ap (λ (l : LocalState). write_of o l.writes) (state_at at) ∙ (unheld_both holds c at.tied on o unheld).0
+    first_unopened = ap (λ (l : LocalState). write_of o l.writes) (state_at at) ∙ (unheld_both at.tied on o unheld).0
 
     pub first_unread : read_of o (now words steps).reads ≡ None
-    first_unread =
-        ap (λ (l : LocalState). read_of o l.reads) (state_at at) ∙ (unheld_both holds c at.tied on o unheld).1
+    first_unread = ap (λ (l : LocalState). read_of o l.reads) (state_at at) ∙ (unheld_both at.tied on o unheld).1
 
     pub first_fresh : read_slot c.opened.reads o ≡ None
-    first_fresh = unheld_slot holds c at.tied on o unheld
+    first_fresh = unheld_slot at.tied on o unheld
 
     pub first_room : o < (shape_of k).objects → length c.opened.reads < c.opened.objects
-    first_room below = room_to_read holds c at.tied on o (exists below) unheld
+    first_room below = room_to_read at.tied on o (exists below) unheld
 
-    module _ (some_reads : (shape_of k).all_write ≡ false) (new : Steps L)
+    module _ (some_reads : (shape_of k).all_write ≡ false) {new : Steps L}
         (done : InTask holds words (Doing (Reading o))
-        (began_as words (Doing (Reading o)) (number_or (view_of steps.seat).number 0) steps) new Done None) (value : Val)
-        (opened : OpenedAs) (e : OpensToRead words steps new c.opened opened o value) (last : Option ℕ)
+        (began_as words (Doing (Reading o)) (number_or (view_of steps.seat).number 0) steps) new Done None) {value : Val}
+        {opened : OpenedAs} (e : OpensToRead words steps new c.opened opened o value) {last : Option ℕ}
         (last_is : last ≡ (now words new).last_pass) where
       u : InTask holds (called c).home (Doing (Reading o)) (began_of (Doing (Reading o)) (called c)) new Done None
-      u = ends_at at (Doing (Reading o)) new None done
+      u = ends_at at done
 
       adds : AddsRead o e.word e.version (state (called c)) (now (called c).home new)
       adds =
@@ -74,19 +72,11 @@ module _ {L : Type 0} {holds : L → List Val → Type 0} {c : Inside L} {k : Ca
       reads = ap (λ (k : Called L). (shape_of k).all_write) at.view ∙ some_reads
 
       pub first_tied : Tied holds (record c { steps = new; last_number = last; opened = opened })
-      first_tied =
-          subst (λ (x : OpenedAs). Tied holds (record c { steps = new; last_number = last; opened = x })) (sym e.listed)
-          (read_tied holds c at.tied on o e.word e.version value new u adds valued last passed unheld reads)
+      first_tied = rw e.listed (read_tied at.tied on value u adds valued passed unheld reads)
 
       pub first_opens :
           Opens holds (Reading o) o k (called (record c { steps = new; last_number = last; opened = opened })) value
-      first_opens =
-          subst (λ (k : Called L).
-          Opens holds (Reading o) o k (called (record c { steps = new; last_number = last; opened = opened })) value) at.view
-          (subst (λ (x : OpenedAs).
-          Opens holds (Reading o) o (called c) (called (record c { steps = new; last_number = last; opened = x })) value)
-          (sym e.listed)
-          (read_opens holds c at.tied on o e.word e.version value new u adds valued last passed unheld reads))
+      first_opens = rw (← at.view, e.listed) (read_opens at.tied on value u adds valued passed unheld reads)
 
   -- ---- for writing
 
@@ -98,21 +88,21 @@ module _ {L : Type 0} {holds : L → List Val → Type 0} {c : Inside L} {k : Ca
     locator_there below =
         subst (λ (h : Home L). (now words steps).installed < h.terms.shape.locators) at.home
         (subst (λ (l : LocalState). l.installed < c.terms.shape.locators) (sym (state_at at))
-        (locator_left holds c at.tied on o (exists below) unopened))
+        (locator_left at.tied on o (exists below) unopened))
 
     pub write_fresh : write_slot c.opened.writes o ≡ None
-    write_fresh = no_slot_of holds c at.tied on o unopened
+    write_fresh = no_slot_of at.tied on o unopened
 
     pub write_room : o < (shape_of k).objects → length c.opened.writes < c.opened.objects
-    write_room below = room_to_write holds c at.tied on o (exists below) unopened
+    write_room below = room_to_write at.tied on o (exists below) unopened
 
-    module _ (new : Steps L)
+    module _ {new : Steps L}
         (done : InTask holds words (Doing (Writing o))
-        (began_as words (Doing (Writing o)) (number_or (view_of steps.seat).number 0) steps) new Done None) (value : Val)
-        (opened : OpenedAs) (e : OpensToWrite words steps new c.opened opened o value) (last : Option ℕ)
+        (began_as words (Doing (Writing o)) (number_or (view_of steps.seat).number 0) steps) new Done None) {value : Val}
+        {opened : OpenedAs} (e : OpensToWrite words steps new c.opened opened o value) {last : Option ℕ}
         (last_is : last ≡ (now words new).last_pass) where
       u_w : InTask holds (called c).home (Doing (Writing o)) (began_of (Doing (Writing o)) (called c)) new Done None
-      u_w = ends_at at (Doing (Writing o)) new None done
+      u_w = ends_at at done
 
       adds_w : AddsWrite o e.version (state (called c)) (now (called c).home new)
       adds_w =
@@ -126,46 +116,36 @@ module _ {L : Type 0} {holds : L → List Val → Type 0} {c : Inside L} {k : Ca
       passed_w = last_is ∙ ap (λ (h : Home L). (now h new).last_pass) (sym at.home)
 
       pub first_write_tied : Tied holds (record c { steps = new; last_number = last; opened = opened })
-      first_write_tied =
-          subst (λ (x : OpenedAs). Tied holds (record c { steps = new; last_number = last; opened = x })) (sym e.listed)
-          (write_tied holds c at.tied on o e.version value new u_w adds_w valued_w last passed_w unopened)
+      first_write_tied = rw e.listed (write_tied at.tied on value u_w adds_w valued_w passed_w unopened)
 
       pub first_write_opens :
           Opens holds (Writing o) o k (called (record c { steps = new; last_number = last; opened = opened })) value
-      first_write_opens =
-          subst (λ (k : Called L).
-          Opens holds (Writing o) o k (called (record c { steps = new; last_number = last; opened = opened })) value) at.view
-          (subst (λ (x : OpenedAs).
-          Opens holds (Writing o) o (called c) (called (record c { steps = new; last_number = last; opened = x })) value)
-          (sym e.listed)
-          (write_opens holds c at.tied on o e.version value new u_w adds_w valued_w last passed_w unopened))
+      first_write_opens = rw (← at.view, e.listed) (write_opens at.tied on value u_w adds_w valued_w passed_w unopened)
 
       pub first_write_marked :
           IsTrue (is_opened (called (record c { steps = new; last_number = last; opened = opened })) o)
       first_write_marked =
           subst (λ (x : OpenedAs).
           IsTrue (is_opened (called (record c { steps = new; last_number = last; opened = x })) o)) (sym e.listed)
-          (write_marked holds c at.tied on o e.version value new u_w adds_w valued_w last passed_w unopened)
+          (write_marked at.tied on value u_w adds_w valued_w passed_w unopened)
 
 -- ---- that has left its attempt
 
 module _ {L : Type 0} {holds : L → List Val → Type 0} {c : Inside L} {k : Called L} {words : Home L} {steps : Steps L}
-    (at : AtCall holds c k words steps) (live : is_live k ≡ true) (work : Work) (is_one : is_open work ≡ true)
-    (new : Steps L) (again : Again)
-    (done : InTask holds words (Doing work)
+    (at : AtCall holds c k words steps) (live : is_live k ≡ true) {work : Work} (is_one : is_open work ≡ true)
+    {new : Steps L} {again : Again} (done : InTask holds words (Doing work)
     (began_as words (Doing work) (number_or (view_of steps.seat).number 0) steps) new Done (Some again))
     (no_reading : (shape_of k).all_write ≡ true → IsNoReading work) (last : Option ℕ) (opened : OpenedAs)
     (rest : (opened.objects ≡ c.opened.objects) × (set_pairs opened.writes ≡ set_pairs c.opened.writes)) where
   left_end : InTask holds (called c).home (Doing work) (began_of (Doing work) (called c)) new Done (Some again)
-  left_end = ends_at at (Doing work) new (Some again) done
+  left_end = ends_at at done
 
   writes : c.terms.shape.all_write ≡ true → IsNoReading work
   writes all = no_reading (ap (λ (k : Called L). (shape_of k).all_write) (sym at.view) ∙ all)
 
   pub first_stopped_tied :
       Tied holds (record c { steps = new; live = false; last_number = last; left = Some again; opened = opened })
-  first_stopped_tied =
-      stopped_tied holds c at.tied (at.live ∙ live) work is_one new again left_end writes last opened rest.0 rest.1
+  first_stopped_tied = stopped_tied at.tied (at.live ∙ live) is_one left_end writes last opened rest.0 rest.1
 
   pub first_stops : Stops holds work k (called (record c {
     steps = new;
@@ -174,12 +154,5 @@ module _ {L : Type 0} {holds : L → List Val → Type 0} {c : Inside L} {k : Ca
     left = Some again;
     opened = opened;
   })) again
-  first_stops =
-      subst (λ (k : Called L). Stops holds work k (called (record c {
-        steps = new;
-        live = false;
-        last_number = last;
-        left = Some again;
-        opened = opened;
-      })) again) at.view
-      (stopped holds c at.tied (at.live ∙ live) work is_one new again left_end writes last opened rest.0 rest.1)
+  first_stops = rw (← at.view)
+      (stopped at.tied (at.live ∙ live) is_one left_end writes last opened rest.0 rest.1)

@@ -42,8 +42,7 @@ read_value [] pairs o r h = absurd (cc)
 read_value (x ∷ rs) pairs o r h = by (read_value rs pairs o r) (cases_Bool (x.object == o))
   where
     by : (read_slot rs o ≡ Some r → value_in (map slot_value rs ++ pairs) o ≡ Some r.value) →
-        (x.object == o ≡ true) ⊎ (x.object == o ≡ false) →
-        value_in (map slot_value (x ∷ rs) ++ pairs) o ≡ Some r.value
+        (x.object == o ≡ true) ⊎ (x.object == o ≡ false) → value_in (map slot_value (x ∷ rs) ++ pairs) o ≡ Some r.value
     by ih (inl q) = let z : Some x ≡ Some r = rw q at h in let y : x ≡ r = cc in
         rw q (ap (λ (s : ReadSlot). Some s.value) y)
     by ih (inr q) = rw q (ih (rw q at h))
@@ -64,8 +63,7 @@ old_value [] o = refl
 old_value (w ∷ ws) o =
     cond_both (w.object == o) (Some w) (write_slot ws o)
     (λ x. (if w.object == o then Some w.old else value_in (map slot_old ws) o)
-    ≡ option_map (λ (w : WriteSlot). w.old) x)
-    (λ q. ap (λ b. if b then Some w.old else value_in (map slot_old ws) o) q)
+    ≡ option_map (λ (w : WriteSlot). w.old) x) (λ q. ap (λ b. if b then Some w.old else value_in (map slot_old ws) o) q)
     (λ q. ap (λ b. if b then Some w.old else value_in (map slot_old ws) o) q ∙ old_value ws o)
 
 -- the value set for an object is that of its slot
@@ -112,7 +110,7 @@ pub record Hands {L : Type 0} (k : Called L) (o : ℕ) (slots : Option Val) : Ty
   pub value : slots ≡ handed k o
   pub held : is_some slots ≡ is_some (held k o)
 
-module _ {L : Type 0} (holds : L → List Val → Type 0) (c : Inside L) (v : Tied holds c) (live : c.live ≡ true)
+module _ {L : Type 0} {holds : L → List Val → Type 0} {c : Inside L} (v : Tied holds c) (live : c.live ≡ true)
     (o : ℕ) where
   holds_slots : held (called c) o ≡ value_in (map slot_value c.opened.reads ++ map slot_old c.opened.writes) o
   holds_slots =
@@ -161,14 +159,14 @@ module _ {L : Type 0} (holds : L → List Val → Type 0) (c : Inside L) (v : Ti
       λ none. let z : is_some (held (called c) o) ≡ false = ap (λ ps. is_some (value_in ps o)) none in cc in
       let sight = v.sighted live reads in
       record {
-        live = sym (live_there holds c v) ∙ live;
+        live = sym (live_there v) ∙ live;
         sight = sight;
         held = record { held = some; kept = λ p h. refl; others = λ p other. refl };
         opened = record { kept = λ p h. h; others = λ p other. refl };
         attempt = refl;
         done = refl;
         narrows = λ map a. a;
-        admits = sighted_admits holds (called c) v.run sight;
+        admits = sighted_admits v.run sight;
       }
 
 -- ---- what an answer says
@@ -191,14 +189,13 @@ pub reading_some : (s : Shape) (o : ℕ) → s.all_write ≡ false → Reading o
 reading_some s o some = rw some refl
 
 -- it finds the object's value, and what is set stays so
-module _ {L : Type 0} (holds : L → List Val → Type 0) (k n : Called L) (r : Result Val Again)
+module _ {L : Type 0} (holds : L → List Val → Type 0) (k : Called L) {n : Called L} (r : Result Val Again)
     (kept : n ≡ record k { log = n.log; generator = n.generator; left = given_back r }) where
   pub finds : (o : ℕ) → o < (shape_of k).objects → IfOk r (λ v. Some v ≡ handed n o) →
       IfOk r (λ v. (map : List Val) → Admits holds n map → value_at (with_set map (written n)) o ≡ v)
   finds o exists value =
       let same = ap (λ (k : Called L). (shape_of k).objects) kept in
-      found_by r (Admits holds n) (held n) (written n) o
-      (λ map admitted.
+      found_by r (Admits holds n) (held n) (written n) o (λ map admitted.
       let size = admitted.length in
       let within : o < length map = omega arith in (within, admitted.agrees)) value
 
@@ -206,7 +203,7 @@ module _ {L : Type 0} (holds : L → List Val → Type 0) (k n : Called L) (r : 
   sets_none = unchanged_by r (written k) (written n) (λ p. ap (λ (k : Called L). written k p) kept)
 
 -- it stays on its attempt, or leaves it
-module _ {L : Type 0} (holds : L → List Val → Type 0) (k : Called L) (o : ℕ) (work : Work)
+module _ {L : Type 0} (holds : L → List Val → Type 0) (k : Called L) (o : ℕ) {work : Work}
     (is : work ≡ reading (shape_of k) o) (r : Result Val Again) (n : Called L) where
   pub read_stays : IfOk r (Opens holds work o k n) → OnOk r (Stays holds (reading (shape_of k) o) k n)
   read_stays opens = subst (λ w. OnOk r (Stays holds w k n)) is (ok_then r _ _ (λ x o. o.stays) opens)
@@ -214,15 +211,15 @@ module _ {L : Type 0} (holds : L → List Val → Type 0) (k : Called L) (o : �
   pub read_leaves : IfErr r (Stops holds work k n) → IfErr r (Leaves holds (reading (shape_of k) o) k n)
   read_leaves stops = subst (λ w. IfErr r (Leaves holds w k n)) is (if_err r _ _ (λ e s. s.leaves) stops)
 
-module _ {L : Type 0} (holds : L → List Val → Type 0) (c : Inside L) (v : Tied holds c) (k : Called L)
+module _ {L : Type 0} {holds : L → List Val → Type 0} {c : Inside L} (v : Tied holds c) {k : Called L}
     (view : called c ≡ k) (live : is_live k ≡ true) (o : ℕ) where
   on : c.live ≡ true
-  on = live_there holds c v ∙ ap is_live view ∙ live
+  on = live_there v ∙ ap is_live view ∙ live
 
   hands : Hands k o (slots_value (write_slot c.opened.writes o) (read_slot c.opened.reads o))
   hands =
       subst (λ (k : Called L). Hands k o (slots_value (write_slot c.opened.writes o) (read_slot c.opened.reads o))) view
-      (slots_hand holds c v on o)
+      (slots_hand v on o)
 
   -- its slots hand out its value
   pub handed_there : slots_value (write_slot c.opened.writes o) (read_slot c.opened.reads o) ≡ handed k o
@@ -239,7 +236,7 @@ module _ {L : Type 0} (holds : L → List Val → Type 0) (c : Inside L) (v : Ti
       is_opened k o ≡ false
   slot_unopened q =
       ap (λ (k : Called L). is_opened k o) (sym view)
-      ∙ ap is_some (unheld_both holds c v on o (ap (λ (k : Called L). held k o) view ∙ slot_none q)).0
+      ∙ ap is_some (unheld_both v on o (ap (λ (k : Called L). held k o) view ∙ slot_none q)).0
 
   -- it has a slot to write where it is open for writing
   pub write_there : is_opened k o ≡ is_some (write_slot c.opened.writes o)
@@ -251,4 +248,4 @@ module _ {L : Type 0} (holds : L → List Val → Type 0) (c : Inside L) (v : Ti
   pub held_continues : is_some (held k o) ≡ true → Continues holds o k k
   held_continues some =
       subst (λ (k : Called L). Continues holds o k k) view
-      (open_already holds c v on o (ap (λ (k : Called L). is_some (held k o)) view ∙ some))
+      (open_already v on o (ap (λ (k : Called L). is_some (held k o)) view ∙ some))

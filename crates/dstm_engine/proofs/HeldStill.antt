@@ -94,16 +94,15 @@ narrows_by holds k n home still map a = record {
     by o (Some v) q = subst (λ (h : Option Val). IfSome h (λ x. value_at map o ≡ x)) (still o v q) (a.agrees o)
 
 -- the value of a version that is held stays as a call goes on
-pub version_goes : {L : Type 0} (holds : L → List Val → Type 0) (home : Home L) (task other : Task) (b : Began)
-    (mid new : Steps L) (d f : Due) (a g : Option Again) (o w : ℕ) → InTask holds home task b mid d a →
+pub version_goes : {L : Type 0} {holds : L → List Val → Type 0} {home : Home L} {task other : Task} {b : Began}
+    {mid new : Steps L} {d f : Due} {a g : Option Again} (o w : ℕ) → InTask holds home task b mid d a →
     InTask holds home other b new f g → IsPastOf (view_of mid.seat).log (view_of new.seat).log →
     (now home mid).phase ≢ Outside → version_held (now home mid) o ≡ Some w →
     version_value home.terms.shape home.terms.start.value.items (view_of new.seat).log o w
     ≡ version_value home.terms.shape home.terms.start.value.items (view_of mid.seat).log o w
-version_goes holds home task other b mid new d f a g o w u x past live is =
+version_goes {home = home} {b = b} {mid = mid} {new = new} o w u x past live is =
     let s = home.terms.shape in
     let here : now home mid ≡ local s (view_of mid.seat).log b.number =
     ap (λ n. state_by s n (view_of mid.seat).log) u.number in
     version_stays s home.terms.start.value.items (view_of mid.seat).log (view_of new.seat).log b.number x.run.run.core past
-    u.caller (subst (λ (l : LocalState). l.phase ≢ Outside) here live) o w
-    (ap (λ l. version_held l o) (sym here) ∙ is)
+    u.caller (subst (λ (l : LocalState). l.phase ≢ Outside) here live) o w (ap (λ l. version_held l o) (sym here) ∙ is)

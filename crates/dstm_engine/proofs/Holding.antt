@@ -48,7 +48,7 @@ pub both_there : (r w n : Bool) → r ≡ true → w ≡ not n → r && not w �
 both_there r w true q h = rw (q, h) refl
 both_there r w false q h = rw (q, h) refl
 
-module _ {L : Type 0} (holds : L → List Val → Type 0) (c : Inside L) (v : Tied holds c) (o : ℕ) where
+module _ {L : Type 0} {holds : L → List Val → Type 0} {c : Inside L} (v : Tied holds c) (o : ℕ) where
   -- what is held and not open for writing is told by the slots
   pub is_read_there : c.live ≡ true →
       is_some (live_held (called c) o) && not (live_opened (called c) o)
@@ -57,7 +57,7 @@ module _ {L : Type 0} (holds : L → List Val → Type 0) (c : Inside L) (v : Ti
       let k = called c in
       let s = c.terms.shape in
       let start = c.terms.start.value.items in
-      ap (λ b. is_some (cond b (held k o) None) && not (b && is_opened k o)) (sym (live_there holds c v) ∙ live)
+      ap (λ b. is_some (cond b (held k o) None) && not (b && is_opened k o)) (sym (live_there v) ∙ live)
       ∙ ap (λ xs. is_some (value_in (xs ++ old_values s start k.log (state k).writes) o) && not (is_opened k o))
       (v.values live)
       ∙ ap (λ ys. is_some (value_in (map slot_value c.opened.reads ++ ys) o) && not (is_opened k o)) (v.olds live)
@@ -69,4 +69,4 @@ module _ {L : Type 0} (holds : L → List Val → Type 0) (c : Inside L) (v : Ti
   pub is_read_dead : c.live ≡ false → is_some (live_held (called c) o) && not (live_opened (called c) o) ≡ false
   is_read_dead dead =
       ap (λ b. is_some (cond b (held (called c) o) None) && not (b && is_opened (called c) o))
-      (sym (live_there holds c v) ∙ dead)
+      (sym (live_there v) ∙ dead)

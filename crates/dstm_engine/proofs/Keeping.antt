@@ -17,7 +17,7 @@ use Rattle.dstm_core.specs.declared.state.Resolution.{Resolution}
 use Rattle.dstm_core.specs.declared.state.Write.{Write}
 use Rattle.dstm_opacity.proofs.Held.{version_by_open, version_held}
 use Rattle.dstm_opacity.proofs.KeptVersions.{install_keeps_version}
-use Rattle.dstm_order.proofs.Rows.{checking_by, checks_by, giving_way_by, pass_by, passed_by, put_by, resolving_by}
+use Rattle.dstm_order.proofs.Rows.{EachStep, giving_way_by, is_step, is_test, resolved_by, resolves, resolves_by, resolving_by, table_by}
 use Rattle.dstm_order.specs.Calls.{Obeys, due_after, effort_of, newest_of, state_after}
 use Rattle.dstm_order.specs.Efforts.{Effort}
 use Rattle.dstm_order.specs.Order.{Due, IsDue, at_first, in_resolving, just, next, next_or_first, when_resolved}
@@ -46,55 +46,6 @@ abbrev Keeps : Due → Type 0
 Keeps (Step k n) = drops k ≡ false
 Keeps Done = Unit {0}
 
-first_keeps : (w : Work) (l : LocalState) → is_open w ≡ true → Keeps (at_first w l)
-first_keeps (Reading o) l h = refl
-first_keeps (Writing o) l h = refl
-first_keeps (Releasing o) l h = absurd (cc)
-first_keeps Rechecking l h = refl
-first_keeps (Committing v) l h = absurd (cc)
-
-resolved_keeps : (w : Work) → Keeps (when_resolved w)
-resolved_keeps (Reading o) = refl
-resolved_keeps (Writing o) = refl
-resolved_keeps (Releasing o) = tt
-resolved_keeps Rechecking = tt
-resolved_keeps (Committing v) = tt
-
-resolving_keeps : (w : Work) (m : Manager) (l : LocalState) (c : Effort) → Keeps (in_resolving m l c (when_resolved w))
-resolving_keeps w m l c =
-    resolving_by Keeps m l c (when_resolved w) (record {
-      owner = refl;
-      status = refl;
-      rank = refl;
-      old = refl;
-      high = refl;
-      new = refl;
-      kill = refl;
-      pause = refl;
-    }) (λ _. giving_way_by Keeps l c refl refl refl) (resolved_keeps w)
-
-row_keeps : (k : Kind) (e : Event) (w : Work) (m : Manager) (l : LocalState) (c : Effort) → is_open w ≡ true →
-    Keeps (next k e w m l c)
-row_keeps LookNumber e w m l c h = pass_by Keeps l refl refl
-row_keeps Check e w m l c h = checks_by Keeps l.phase l refl refl refl
-row_keeps Draw e w m l c h = checking_by Keeps l refl refl
-row_keeps PutOwner e w m l c h = refl
-row_keeps PutOld e w m l c h = refl
-row_keeps Install e w m l c h =
-    cond_both (e.found == e.expected) _ _ Keeps (λ _. refl) (λ _. first_keeps w l h)
-row_keeps LookSelf e w m l c h = passed_by Keeps w m l tt (λ n. refl)
-row_keeps PutHigh e w m l c h = put_by Keeps w l tt refl (λ n. refl) (λ n. refl)
-row_keeps PutNew e w m l c h = put_by Keeps w l tt refl (λ n. refl) (λ n. refl)
-row_keeps ToValidating e w m l c h = refl
-row_keeps Rank e w m l c h = tt
-row_keeps Release e w m l c h = tt
-row_keeps Commit e w m l c h = tt
-row_keeps Quit e w m l c h = tt
-row_keeps Enrol e w m l c h = tt
-row_keeps Stamp e w m l c h = tt
-row_keeps Begin e w m l c h = tt
-row_keeps k e w m l c h = resolving_keeps w m l c
-
 due_keeps : (b q : Bool) (d : Due) → Keeps d → Keeps (if b then Done else if q then just Quit else d)
 due_keeps true q d h = tt
 due_keeps false true d h = refl
@@ -102,8 +53,31 @@ due_keeps false false d h = h
 
 newest_keeps : (o : Option Event) (w : Work) (m : Manager) (l : LocalState) (c : Effort) → is_open w ≡ true →
     Keeps (next_or_first o w m l c)
-newest_keeps None w m l c h = first_keeps w l h
-newest_keeps (Some e) w m l c h = row_keeps e.kind e w m l c h
+newest_keeps o w m l c h = table_by Keeps o w m l c steps
+    (resolving_by Keeps m l c (when_resolved w) (resolves_by Keeps resolving) (λ _. giving_way_by Keeps l c refl refl refl)
+    (resolved_by Keeps w steps)) test
+  where
+    step : (k : Kind) → is_step k ≡ true → drops k ≡ false
+    step Begin q = absurd (cc)
+    step Release q = absurd (cc)
+    step k q = refl
+
+    resolving : (k : Kind) → resolves k ≡ true → drops k ≡ false
+    resolving Begin q = absurd (cc)
+    resolving Release q = absurd (cc)
+    resolving k q = refl
+
+    test : (k : Kind) → is_test k ≡ true → drops k ≡ false
+    test Begin q = absurd (cc)
+    test Release q = absurd (cc)
+    test k q = refl
+
+    steps : EachStep Keeps w
+    steps = record {
+      done = tt;
+      step = λ k n q. step k q;
+      release = λ o z. absurd (let x = ap is_open z in cc);
+    }
 
 kept_kind : (d : Due) (e : Event) → Keeps d → IsDue d e → drops e.kind ≡ false
 kept_kind (Step k n) e h is = ap drops is.0 ∙ h
@@ -159,8 +133,7 @@ write_more o (y ∷ ws) x w h = go (cases_Bool (y.object == o)) (write_more o ws
 
 pub write_apart : (o : ℕ) (ws : List Write) (x : Write) → x.object ≢ o → write_of o (ws ++ x ∷ []) ≡ write_of o ws
 write_apart o [] x other = rw (ne_eqb x.object o other) refl
-write_apart o (y ∷ ws) x other =
-    ap (λ z. if y.object == o then Some y else z) (write_apart o ws x other)
+write_apart o (y ∷ ws) x other = ap (λ z. if y.object == o then Some y else z) (write_apart o ws x other)
 
 pub write_last : (o : ℕ) (ws : List Write) (x : Write) → x.object ≡ o → write_of o ws ≡ None →
     write_of o (ws ++ x ∷ []) ≡ Some x
@@ -252,8 +225,7 @@ goes_on_holding s (e ∷ more) es c o v core none h = go (cases_eq e.caller c) (
   where
     go : (e.caller ≡ c) ⊎ (e.caller ≡ c → ⊥) →
         (DropsNone (events_of c more) → version_held (local s es c) o ≡ Some v →
-        version_held (local s (more ++ es) c) o ≡ Some v) →
-        version_held (local s (e ∷ (more ++ es)) c) o ≡ Some v
+        version_held (local s (more ++ es) c) o ≡ Some v) → version_held (local s (e ∷ (more ++ es)) c) o ≡ Some v
     go (inl q) ih =
         let all : DropsNone (e ∷ events_of c more) = rw (eq-eqb e.caller c q) at none in
         let was : version_held (local s (more ++ es) e.caller) o ≡ Some v =

@@ -25,10 +25,9 @@ named : (s : Shape) (log : List Event) (v : ℕ) → Names s log v → IsVersion
 named s log v (inl z) some = absurd (some z)
 named s log v (inr n) some = n.1.below
 
-module _ (s : Shape) (words : List ℕ) (l : AreLeft s words) where
+module _ {s : Shape} {words : List ℕ} (l : AreLeft s words) where
   object_names : (o : ℕ) → o < s.objects → Names s l.log (slice_index words o)
-  object_names o h =
-      subst (Names s l.log) (sym (l.left o (omega arith))) ((basic s l.log l.core).object o h)
+  object_names o h = subst (Names s l.log) (sym (l.left o (omega arith))) ((basic s l.log l.core).object o h)
 
   -- an object's word stands for a version
   pub object_is : (o : ℕ) → o < s.objects → IsVersion s (slice_index words o)
@@ -62,19 +61,17 @@ module _ (s : Shape) (words : List ℕ) (l : AreLeft s words) where
           (IsVersion s) (λ _. named s l.log v n) (λ _. old_is v n (eqb-false v 0 q)))
 
 -- maps with the current values are the same
-pub same_current : (s : Shape) (start : List Val) (log : List Event) (one other : List Val) →
+pub same_current : {s : Shape} {start : List Val} {log : List Event} {one other : List Val} →
     IsCurrent s start log one → IsCurrent s start log other → one ≡ other
-same_current s start log one other a b =
-    ext_get_or no_value one other (a.objects ∙ sym b.objects)
-    (λ o within.
+same_current {s = s} {one = one} {other = other} a b =
+    ext_get_or no_value one other (a.objects ∙ sym b.objects) (λ o within.
     let h : o < s.objects = let q = a.objects in omega (arith, within) in a.values o h ∙ sym (b.values o h))
 
 -- the values have those of a table, by what the table was told
-told_by : (values : List Val) (s shape : Shape) (start first : List Val) (words : List ℕ) → s ≡ shape →
-    start ≡ first →
-    ((o : ℕ) → o < shape.objects → value_at values o ≡ value_left shape first words o) →
+told_by : (values : List Val) {s shape : Shape} {start first : List Val} (words : List ℕ) → s ≡ shape →
+    start ≡ first → ((o : ℕ) → o < shape.objects → value_at values o ≡ value_left shape first words o) →
     (o : ℕ) → o < s.objects → value_at values o ≡ value_left s start words o
-told_by values s shape start first words is_shape is_start told =
+told_by values {s = s} {shape = shape} {start = start} words is_shape is_start told =
     subst (λ (s : Shape). (o : ℕ) → o < s.objects → value_at values o ≡ value_left s start words o) (sym is_shape)
     (subst (λ xs. (o : ℕ) → o < shape.objects → value_at values o ≡ value_left shape xs words o) (sym is_start) told)
 
@@ -85,7 +82,7 @@ module _ {L : Type 0} (holds : L → List Val → Type 0) (terms : Terms L) (v :
   last_run = subst (IsRunOf holds terms) (l.whole first none_out) l.run
 
 module _ {L : Type 0} (holds : L → List Val → Type 0) (terms : Terms L) (v : View L) (words : List ℕ)
-    (l : LeftBy holds terms v words) (first : v.first ≡ true) (none_out : v.out ≡ 0) (shape : Shape) (start : List Val)
+    (l : LeftBy holds terms v words) (first : v.first ≡ true) (none_out : v.out ≡ 0) {shape : Shape} {start : List Val}
     (is_shape : terms.shape ≡ shape) (is_start : terms.start.value.items ≡ start) (values : List Val)
     (objects : length values ≡ shape.objects)
     (told : (o : ℕ) → o < shape.objects → value_at values o ≡ value_left shape start words o) where
@@ -93,7 +90,7 @@ module _ {L : Type 0} (holds : L → List Val → Type 0) (terms : Terms L) (v :
   in_table = record {
     objects = objects ∙ ap (λ (s : Shape). s.objects) (sym is_shape);
     values = λ o h.
-        told_by values terms.shape shape terms.start.value.items start words is_shape is_start told o h
+        told_by values words is_shape is_start told o h
         ∙ left_is_current terms.shape l.log words l.left terms.start.value.items o l.run.run.core h;
   }
 
@@ -106,6 +103,5 @@ module _ {L : Type 0} (holds : L → List Val → Type 0) (terms : Terms L) (v :
   pub last_state : values ≡ state_after terms.start.value.items (history_of terms.shape terms.start.value.items v.log)
   last_state =
       subst (λ log. values ≡ state_after terms.start.value.items (history_of terms.shape terms.start.value.items log))
-      (l.whole first none_out)
-      (same_current terms.shape terms.start.value.items l.log values _ in_table
+      (l.whole first none_out) (same_current in_table
       (state_is_current terms.shape terms.start.value.items (holds terms.law.value) l.log l.run.run))

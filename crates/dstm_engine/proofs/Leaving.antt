@@ -22,23 +22,20 @@ use Rattle.dstm_engine.specs.Callers.{Called, is_live, seat_view, shape_of, stat
 use Rattle.dstm_engine.specs.Calls.{IsMade, Performs}
 
 -- the own attempt of a caller that is running one
-pub own_below : {L : Type 0} (holds : L → List Val → Type 0) (k : Called L) → IsRunOf holds k.home.terms k.log →
+pub own_below : {L : Type 0} {holds : L → List Val → Type 0} (k : Called L) → IsRunOf holds k.home.terms k.log →
     k.number < (shape_of k).callers → (state k).phase ≡ Running →
     own_attempt (shape_of k) (state k) < (shape_of k).callers * (shape_of k).attempts
-own_below holds k run few ph =
+own_below k run few ph =
     own_in (shape_of k) k.number (state k) (static (shape_of k) k.log run.run.core k.number) few (λ h. cc)
 
-pub quit_allowed : {L : Type 0} (k : Called L) (h : Home L) (v : View L) (p found : ℕ) → k.home ≡ h → v ≡ seat_view k →
+pub quit_allowed : {L : Type 0} (k : Called L) {h : Home L} {v : View L} (p found : ℕ) → k.home ≡ h → v ≡ seat_view k →
     (state k).phase ≡ Running → own_attempt (shape_of k) (state k) < (shape_of k).callers * (shape_of k).attempts →
     p ≡ place h.terms.shape (StatusWord (own_attempt (shape_of k) (state k))) →
     AllowedAs Quit h.terms.shape (caller_state h.terms v) (made v (Exchange 1 5) Quit p found)
-quit_allowed {L = L} k h v p found home view ph below at =
+quit_allowed {L = L} k {h = h} {v = v} p found home view ph below at =
     subst (λ (h : Home L). AllowedAs Quit h.terms.shape (caller_state h.terms v) (made v (Exchange 1 5) Quit p found))
-    home
-    (subst (λ (v : View L). AllowedAs Quit (shape_of k) (caller_state k.home.terms v)
-    (made v (Exchange 1 5) Quit p found))
-    (sym view)
-    (here, (sym (ap given ph), rw ph refl), (λ q. cc), below))
+    home (subst (λ (v : View L). AllowedAs Quit (shape_of k) (caller_state k.home.terms v)
+    (made v (Exchange 1 5) Quit p found)) (sym view) (here, (sym (ap given ph), rw ph refl), (λ q. cc), below))
   where
     here : p ≡ place (shape_of k) (StatusWord (own_attempt (shape_of k) (state k)))
     here =
@@ -68,9 +65,9 @@ none_holds None P h = tt
 none_holds (Some x) P h = absurd (cc)
 
 -- nothing is done where no attempt is live
-pub left_already : {L : Type 0} (holds : L → List Val → Type 0) (k : Called L) → IsRunOf holds k.home.terms k.log →
+pub left_already : {L : Type 0} {holds : L → List Val → Type 0} (k : Called L) → IsRunOf holds k.home.terms k.log →
     (state k).phase ≡ Outside → Performs holds Leaving k k None
-left_already holds k run ph = record {
+left_already k run ph = record {
   events = [];
   own = refl;
   call = stays_out (shape_of k) (state k) k.generator ph;
@@ -81,7 +78,7 @@ left_already holds k run ph = record {
   same = (refl, refl);
 }
 
-module _ {L : Type 0} (holds : L → List Val → Type 0) (k : Called L) (w : View L) (p found : ℕ)
+module _ {L : Type 0} {holds : L → List Val → Type 0} (k : Called L) {w : View L} {p found : ℕ}
     (m : Makes holds (seat_view k) (Exchange 1 5) Quit p found w) where
   -- the state after the Quit, and what the seat then knows
   pub quit_state : state (record k { log = w.log }) ≡ leave (state k)

@@ -69,7 +69,7 @@ stale_or_lost Lost k w = tt
 stale_or_lost Killed k w = absurd (k refl)
 stale_or_lost Waited k w = absurd (w refl)
 
-module _ {L : Type 0} (holds : L → List Val → Type 0) (k n : Called L) (work : Work) (answer : Option Again)
+module _ {L : Type 0} {holds : L → List Val → Type 0} {k n : Called L} {work : Work} {answer : Option Again}
     (p : Performs holds (Doing work) k n answer) where
   pub call_in : IsCallIn (Doing work) (shape_of k) k.number k.generator p.events k.log n.log
   call_in = record { core = p.run.run.core; own = p.own; call = p.call }
@@ -92,27 +92,27 @@ module _ {L : Type 0} (holds : L → List Val → Type 0) (k n : Called L) (work
 
 -- ---- A call that stays on its attempt.
 
-pub stays : {L : Type 0} (holds : L → List Val → Type 0) (k n : Called L) (work : Work) →
+pub stays : {L : Type 0} {holds : L → List Val → Type 0} {k n : Called L} {work : Work} →
     Performs holds (Doing work) k n None → (state n).phase ≢ Outside → Stays holds work k n
-stays holds k n work p live = record {
+stays {k = k} {n = n} {work = work} p live = record {
   steps = p;
   missed =
       (call_stays work (shape_of k) (state k) k.generator p.events p.call
-      (λ out. live (carry holds k n work None p (λ h c. (local h.terms.shape n.log c).phase ≡ Outside)
-      (ap (λ (l : LocalState). l.phase) (state_by holds k n work None p) ∙ out)))).1;
+      (λ out. live (carry p (λ h c. (local h.terms.shape n.log c).phase ≡ Outside)
+      (ap (λ (l : LocalState). l.phase) (state_by p) ∙ out)))).1;
 }
 
 -- ---- A call that has left its attempt.
 
-module _ {L : Type 0} (holds : L → List Val → Type 0) (k n : Called L) (work : Work) (again : Again)
+module _ {L : Type 0} {holds : L → List Val → Type 0} {k n : Called L} {work : Work} {again : Again}
     (p : Performs holds (Doing work) k n (Some again)) (current : IsCurrent (state k)) (told : IsTold k)
     (same_generator : n.began ≡ k.began) (left : n.left ≡ Some again)
     (writes : (shape_of k).all_write ≡ true → IsNoReading work) where
   b : Begun k.number k.log
-  b = begin_of holds k n work (Some again) p current.live
+  b = begin_of p current.live
 
   same_begin : begun_log n.number n.log ≡ begun_log k.number k.log
-  same_begin = doing_keeps holds work k n (Some again) p
+  same_begin = doing_keeps p
 
   -- what the caller has seen since the Begin
   abbrev since : List Event
@@ -144,16 +144,16 @@ module _ {L : Type 0} (holds : L → List Val → Type 0) (k n : Called L) (work
         ∙ sym (append_assoc p.events (all_events told.calls) (events_of k.number (begun_log k.number k.log)))
         ∙ ap (λ xs. (p.events ++ all_events told.calls) ++ events_of k.number xs) b.is);
     made = subst (λ (l : LocalState). AreCalls (shape_of k) l k.began (call ∷ told.calls)) first
-        (more_calls k told holds work n (Some again) p);
+        (more_calls told p);
     live = subst (λ (l : LocalState). (state_after (shape_of k) l (all_events told.calls)).phase ≢ Outside) first
-        (subst (λ (l : LocalState). l.phase ≢ Outside) (sym (told_state k told)) current.live);
+        (subst (λ (l : LocalState). l.phase ≢ Outside) (sym (told_state told)) current.live);
   }
 
   answers : last_answer (shape_of k) (local (shape_of k) (b.begin ∷ b.before) b.begin.caller) k.began call told.calls
       ≡ Some again
   answers =
       ap (λ (l : LocalState). last_answer (shape_of k) l k.began call told.calls) (sym first)
-      ∙ sym (more_answer k told holds work n (Some again) p)
+      ∙ sym (more_answer told p)
 
   other : again ≢ Waited → HasOther k.number (since_begin k.number n.log)
   other w =
@@ -163,31 +163,30 @@ module _ {L : Type 0} (holds : L → List Val → Type 0) (k n : Called L) (work
   -- the attempt has not committed
   pub uncommitted : ((state n).phase ≡ Outside) × ((state n).committed ≡ false)
   uncommitted =
-      carry holds k n work (Some again) p (λ h c. ((local h.terms.shape n.log c).phase ≡ Outside)
+      carry p (λ h c. ((local h.terms.shape n.log c).phase ≡ Outside)
       × ((local h.terms.shape n.log c).committed ≡ false))
-      (subst (λ (l : LocalState). (l.phase ≡ Outside) × (l.committed ≡ false))
-      (sym (state_by holds k n work (Some again) p))
+      (subst (λ (l : LocalState). (l.phase ≡ Outside) × (l.committed ≡ false)) (sym (state_by p))
       (has_left work (newest_of p.events) (state_after (shape_of k) (state k) p.events)
       (effort_of (shape_of k) (state k) k.generator p.events) again (sym p.answers)))
 
   is_left : IsLeft n again
   is_left = record {
     over = ap is_running uncommitted.0;
-    aborted = carry holds k n work (Some again) p (λ h c. StaysAt h.terms.shape n.log c (code_of status.Aborted))
+    aborted = carry p (λ h c. StaysAt h.terms.shape n.log c (code_of status.Aborted))
         (is_aborted work (shape_of k) k.number k.generator p.events k.log n.log again
-        (call_in holds k n work (Some again) p) current.live (sym p.answers)).1;
-    disturbed = carry holds k n work (Some again) p
+        (call_in p) current.live (sym p.answers)).1;
+    disturbed = carry p
         (λ h c. Disturbed h.terms.shape n.log c (local h.terms.shape n.log c).begun)
         (was_disturbed work (shape_of k) k.number k.generator p.events k.log n.log again
-        (call_in holds k n work (Some again) p) current (sym p.answers));
-    callers = carry holds k n work (Some again) p (λ h c. 1 < h.terms.shape.callers)
+        (call_in p) current (sym p.answers));
+    callers = carry p (λ h c. 1 < h.terms.shape.callers)
         (has_another (shape_of k) k.began call told.calls since b.begin b.before again core b.kind made answers);
     other = λ w. subst (λ c. HasOther c (since_begin c n.log)) (sym p.same.1) (other w);
   }
 
   pub told_then : IsTold n
   told_then =
-      told_more k told holds work n (Some again) p current.live same_begin same_generator left writes
+      told_more told p current.live same_begin same_generator left writes
       (let over = kept_over n (ap is_running uncommitted.0) in let none = no_release work p.answers p.call.obeys in
       omega arith)
     where
@@ -227,7 +226,7 @@ module _ {L : Type 0} (holds : L → List Val → Type 0) (k n : Called L) (work
   promises : Promises n again
   promises = record {
     alone = λ alone.
-        let yes = commits n told_then alone (subst (λ s. Core s n.log) shape p.run.run.core) begun_then alone_is_committed
+        let yes = commits told_then alone (subst (λ s. Core s n.log) shape p.run.run.core) begun_then alone_is_committed
         uncommitted.0 in
         let no = uncommitted.1 in cc;
     oldest = λ o. let x = of_oldest o.greedy o.oldest in stale_or_lost again x.not_killed x.not_waited;
@@ -239,7 +238,7 @@ module _ {L : Type 0} (holds : L → List Val → Type 0) (k n : Called L) (work
   leaves = record {
     steps = p;
     cause = again_has_its_cause work (shape_of k) k.number k.generator p.events k.log n.log again
-        (call_in holds k n work (Some again) p) current (sym p.answers);
+        (call_in p) current (sym p.answers);
     left = is_left;
     promises = promises;
   }
@@ -250,15 +249,15 @@ module _ {L : Type 0} (holds : L → List Val → Type 0) (k n : Called L) (work
 abbrev pub left_as : {L : Type 0} → Inside L → Steps L → (last : Option ℕ) → Again → Inside L
 left_as c new last again = record c { steps = new; live = false; last_number = last; left = Some again }
 
-module _ {L : Type 0} (holds : L → List Val → Type 0) (c : Inside L) (v : Tied holds c) (live : c.live ≡ true)
-    (work : Work) (new : Steps L) (answer : Option Again)
+module _ {L : Type 0} {holds : L → List Val → Type 0} {c : Inside L} (v : Tied holds c) (live : c.live ≡ true)
+    {work : Work} {new : Steps L} {answer : Option Again}
     (u : InTask holds (called c).home (Doing work) (began_of (Doing work) (called c)) new Done answer) where
   -- the call, by what stands for it
   pub performed : (n : Called L) → n.log ≡ (view_of new.seat).log → n.generator ≡ new.decider.generator →
       n.home ≡ (called (record c { steps = new })).home → n.number ≡ c.number →
       Performs holds (Doing work) (called c) n answer
   performed n log generator home number =
-      performs holds (called c) (Doing work) new answer n u log generator
+      performs holds (called c) n u log generator
       (home ∙ ap (λ t. record (called c).home { table = t }) u.seat.0) number
 
   call_done : Performs holds (Doing work) (called c) (called (record c { steps = new })) answer
@@ -271,14 +270,14 @@ module _ {L : Type 0} (holds : L → List Val → Type 0) (c : Inside L) (v : Ti
   }
 
   pub told_there : IsTold (called c)
-  told_there = v.told (inl (sym (live_there holds c v) ∙ live))
+  told_there = v.told (inl (sym (live_there v) ∙ live))
 
   pub call_there : IsCallIn (Doing work) c.terms.shape c.number c.steps.decider.generator u.events (called c).log
       (view_of new.seat).log
   call_there = record {
     core = u.run.run.core;
     own = u.own;
-    call = (call_of holds (called c).home (began_of (Doing work) (called c)) new answer u).0;
+    call = (call_of u).0;
   }
 
   pub begun_there : (local c.terms.shape (view_of new.seat).log c.number).begun ≡ (state (called c)).begun
@@ -323,9 +322,7 @@ module _ {L : Type 0} (holds : L → List Val → Type 0) (c : Inside L) (v : Ti
       ∙ ap (λ xs. record (tx_place name table (called c)) {
         began = xs;
         done = done (called (record c { steps = new }));
-      })
-      (doing_keeps holds work (called c) (called (record c { steps = new })) answer
-      (performed (called (record c { steps = new })) refl refl refl refl))
+      }) (doing_keeps (performed (called (record c { steps = new })) refl refl refl refl))
       ∙ ap (λ xs. record (tx_place name table (called c)) { done = xs }) (same_done undone)
 
   -- an attempt that is over, whichever way it ended
@@ -343,7 +340,7 @@ module _ {L : Type 0} (holds : L → List Val → Type 0) (c : Inside L) (v : Ti
     run = u.run;
     number = (v.number.0, number_then);
     shape = u.shape;
-    mirror = mirror_then holds c (Doing work) new answer u;
+    mirror = mirror_then c u;
     begun = begun_there ∙ v.begun;
     phase = out;
     manager = (u.manager, v.manager.1);
@@ -366,7 +363,7 @@ module _ {L : Type 0} (holds : L → List Val → Type 0) (c : Inside L) (v : Ti
   }
 
   -- an attempt that goes on, with what is open then
-  pub on_tied : (last : Option ℕ) (opened : OpenedAs) →
+  pub on_tied : {last : Option ℕ} (opened : OpenedAs) →
       (local c.terms.shape (view_of new.seat).log c.number).phase ≡ Running →
       (local c.terms.shape (view_of new.seat).log c.number).committed ≡ false →
       (local c.terms.shape (view_of new.seat).log c.number).last_pass ≡ last →
@@ -381,12 +378,12 @@ module _ {L : Type 0} (holds : L → List Val → Type 0) (c : Inside L) (v : Ti
       old_values c.terms.shape c.terms.start.value.items (view_of new.seat).log
       (local c.terms.shape (view_of new.seat).log c.number).writes ≡ map slot_old opened.writes →
       opened.objects ≡ c.opened.objects → Tied holds (record c { steps = new; last_number = last; opened = opened })
-  on_tied last opened runs undone passed rest told sighted reads values writes olds objects = record {
+  on_tied {last = last} opened runs undone passed rest told sighted reads values writes olds objects = record {
     seat = (u.view, u.seat.1);
     run = u.run;
     number = (v.number.0, number_then);
     shape = u.shape;
-    mirror = mirror_then holds c (Doing work) new answer u;
+    mirror = mirror_then c u;
     begun = begun_there ∙ v.begun;
     phase = runs ∙ ap phase_by (sym live);
     manager = (u.manager, v.manager.1);
@@ -408,42 +405,33 @@ module _ {L : Type 0} (holds : L → List Val → Type 0) (c : Inside L) (v : Ti
     writes = λ h. writes;
     olds = λ h. olds;
     objects = objects ∙ v.objects;
-    locators = λ h. enough_still c.terms.shape c.number (called c).log (view_of new.seat).log
-        (begin_of holds (called c) (called (record c { steps = new })) work answer call_done current_there.live)
-        (doing_keeps holds work (called c) (called (record c { steps = new })) answer call_done) (v.locators live);
+    locators = λ h. enough_still c.terms.shape (view_of new.seat).log
+        (begin_of call_done current_there.live) (doing_keeps call_done) (v.locators live);
   }
 
-module _ {L : Type 0} (holds : L → List Val → Type 0) (c : Inside L) (v : Tied holds c) (live : c.live ≡ true)
-    (work : Work) (new : Steps L) (again : Again)
+module _ {L : Type 0} {holds : L → List Val → Type 0} {c : Inside L} (v : Tied holds c) (live : c.live ≡ true)
+    {work : Work} {new : Steps L} {again : Again}
     (u : InTask holds (called c).home (Doing work) (began_of (Doing work) (called c)) new Done (Some again))
     (writes : c.terms.shape.all_write ≡ true → IsNoReading work) (last : Option ℕ) where
   left_steps : Performs holds (Doing work) (called c) (called (left_as c new last again)) (Some again)
-  left_steps = performed holds c v live work new (Some again) u (called (left_as c new last again)) refl refl refl refl
+  left_steps = performed v live u (called (left_as c new last again)) refl refl refl refl
 
   pub left_leaves : Leaves holds work (called c) (called (left_as c new last again)) again
-  left_leaves =
-      leaves holds (called c) (called (left_as c new last again)) work again left_steps
-      (current_there holds c v live work new (Some again) u) (told_there holds c v live work new (Some again) u) refl refl
-      writes
+  left_leaves = leaves left_steps (current_there v live u) (told_there v live u) refl refl writes
 
   pub left_uncommitted : ((state (called (left_as c new last again))).phase ≡ Outside)
       × ((state (called (left_as c new last again))).committed ≡ false)
-  left_uncommitted =
-      uncommitted holds (called c) (called (left_as c new last again)) work again left_steps
-      (current_there holds c v live work new (Some again) u) (told_there holds c v live work new (Some again) u) refl refl
-      writes
+  left_uncommitted = uncommitted left_steps (current_there v live u) (told_there v live u) refl refl writes
 
   pub left_tied : Tied holds (left_as c new last again)
   left_tied =
-      over_tied holds c v live work new (Some again) u last c.fresh left_uncommitted.0
-      (λ h. (h, left_uncommitted.1)) (left_leaves.left, left_leaves.promises)
-      (told_then holds (called c) (called (left_as c new last again)) work again left_steps
-      (current_there holds c v live work new (Some again) u) (told_there holds c v live work new (Some again) u) refl refl
-      writes)
+      over_tied v live u last c.fresh left_uncommitted.0
+      (λ h. (h, left_uncommitted.1)) (left_leaves.left, left_leaves.promises) (told_then left_steps
+      (current_there v live u) (told_there v live u) refl refl writes)
 
   -- nothing was committed
   pub left_done : done (called (left_as c new last again)) ≡ done (called c)
-  left_done = same_done holds c v live work new (Some again) u left_uncommitted.1
+  left_done = same_done v live u left_uncommitted.1
 
   pub left_kept : called (left_as c new last again) ≡ record (called c) {
     log = (view_of new.seat).log;
@@ -456,17 +444,16 @@ module _ {L : Type 0} (holds : L → List Val → Type 0) (c : Inside L) (v : Ti
   -- it is the same attempt
   pub left_place : (name : GName) (table : Home L) →
       tx_place name table (called (left_as c new last again)) ≡ tx_place name table (called c)
-  left_place = same_place holds c v live work new (Some again) u left_uncommitted.1
+  left_place = same_place v live u left_uncommitted.1
 
   -- what is known of its end
   pub left_ended : IsEnded (called (left_as c new last again))
   left_ended = record {
-    told = told_then holds (called c) (called (left_as c new last again)) work again left_steps
-        (current_there holds c v live work new (Some again) u) (told_there holds c v live work new (Some again) u) refl refl
-        writes;
+    told = told_then left_steps
+        (current_there v live u) (told_there v live u) refl refl writes;
     left = (left_leaves.left, left_leaves.promises);
     bounded = λ none. absurd (cc);
   }
 
   pub left_attempt : begun_log c.number (view_of new.seat).log ≡ begun_log c.number (called c).log
-  left_attempt = doing_keeps holds work (called c) (called (left_as c new last again)) (Some again) left_steps
+  left_attempt = doing_keeps left_steps

@@ -53,8 +53,7 @@ module _ {L : Type 0} (holds : L → List Val → Type 0) (k n : Called L) where
       IfErr r (Leaves holds (reading (shape_of k) o) k n) → let_go n ≡ let_go k
   read_keeps o r again stays leaves =
       by_open (reading (shape_of k) o) r (is_some (held k o)) again (λ no. stays (none_of (held k o) no)) leaves
-      (let_go n ≡ let_go k) (λ same. ap let_go same)
-      (λ a. lets_none_go (Doing (reading (shape_of k) o)) a
+      (let_go n ≡ let_go k) (λ same. ap let_go same) (λ a. lets_none_go (Doing (reading (shape_of k) o)) a
       (cond_both (shape_of k).all_write (Writing o) (Reading o) (λ (w : Work). KeepsReads (state k) (Doing w)) (λ _. tt)
       (λ _. tt)))
 
@@ -66,5 +65,5 @@ module _ {L : Type 0} (holds : L → List Val → Type 0) (k n : Called L) where
       (λ a. lets_none_go (Doing (Writing o)) a tt)
 
 -- a memory that tells it too is the same
-pub same_both : {A : Type 0} (a b : A) (m n : ℕ) → a ≡ b → m ≡ n → ◌≡◌ {A = A × ℕ} (a, m) (b, n)
-same_both {A = A} a b m n p q = ap (λ (x : A). (x, m)) p ∙ ap (λ (i : ℕ). (b, i)) q
+pub same_both : {A : Type 0} {a b : A} (m n : ℕ) → a ≡ b → m ≡ n → ◌≡◌ {A = A × ℕ} (a, m) (b, n)
+same_both {A = A} {b = b} m n p q = ap (λ (x : A). (x, m)) p ∙ ap (λ (i : ℕ). (b, i)) q

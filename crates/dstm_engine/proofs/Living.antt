@@ -48,8 +48,7 @@ a_life_is_calls holds f g later last seed k n log enrols makes retires known =
     let quit = retires.quit in
     let born : Makes TriesAgain u k = makes_one TriesAgain holds Enrolling u k None tt enrols.steps in
     let gone : Makes TriesAgain n quit = makes_one TriesAgain holds Leaving n quit None tt retires.steps in
-    let life : Makes TriesAgain u quit =
-    makes_both TriesAgain u n quit (makes_both TriesAgain u k n born makes) gone in
+    let life : Makes TriesAgain u quit = makes_both TriesAgain u n quit (makes_both TriesAgain u k n born makes) gone in
     let none : events_of u.number u.log ≡ [] =
     none_before k.number enrols.enrol enrols.log.0 f.view.log (ap (events_of k.number) (sym enrols.log.1) ∙ enrols.own) in
     let one_of : Contains (quit.number ∷ []) quit.number = (0, omega arith, refl) in

@@ -39,9 +39,9 @@ begins_one s before e kind =
     ∙ ap (λ k. (after k s (local s before e.caller) e).begun) kind
 
 -- it has used a locator for each object that it has open for writing
-used : (s : Shape) (c : ℕ) (log : List Event) (b : Begun c log) →
+used : (s : Shape) {c : ℕ} {log : List Event} (b : Begun c log) →
     (local s log c).installed ≡ (local s b.before c).installed + length (local s log c).writes
-used s c log b =
+used s {c = c} {log = log} b =
     let whole : log ≡ since_begin c log ++ b.begin ∷ b.before =
     log_parts is_begin c log ∙ ap (λ xs. since_begin c log ++ xs) b.is in
     let begun : (local s (since_begin c log ++ b.begin ∷ b.before) b.begin.caller).begun
@@ -55,12 +55,12 @@ used s c log b =
     (locators_used s (since_begin c log) b.before b.begin b.kind begun))
 
 -- so what is left for the other objects stays enough as the attempt goes on
-pub enough_still : (s : Shape) (c : ℕ) (old log : List Event) → Begun c old → begun_log c log ≡ begun_log c old →
-    (local s old c).installed + s.objects ≤ s.locators + length (local s old c).writes →
+pub enough_still : (s : Shape) {c : ℕ} {old : List Event} (log : List Event) → Begun c old → begun_log c log
+    ≡ begun_log c old → (local s old c).installed + s.objects ≤ s.locators + length (local s old c).writes →
     (local s log c).installed + s.objects ≤ s.locators + length (local s log c).writes
-enough_still s c old log b same room =
-    let was = used s c old b in
-    let now = used s c log (record {
+enough_still s {c = c} log b same room =
+    let was = used s b in
+    let now = used s {c = c} {log = log} (record {
       begin = b.begin;
       before = b.before;
       is = same ∙ b.is;

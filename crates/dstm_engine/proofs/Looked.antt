@@ -30,8 +30,8 @@ use Rattle.dstm_engine.proofs.FewSights.{beginning_looks, count_kinds, looks_mor
 abbrev pub AddsFew : {L : Type 0} → (k n : Called L) → Type 0
 AddsFew k n = sights n + looks k ≤ looks n + sights k
 
-pub adds_none : {L : Type 0} (k n : Called L) → n ≡ k → AddsFew k n
-adds_none k n same = subst (AddsFew k) (sym same) (omega arith)
+pub adds_none : {L : Type 0} {k n : Called L} → n ≡ k → AddsFew k n
+adds_none {k = k} same = subst (AddsFew k) (sym same) (omega arith)
 
 -- so there are no more since any count
 pub few_still : {L : Type 0} (k n : Called L) → AddsFew k n → (s l : ℕ) → sights k + l ≤ looks k + s →
@@ -103,8 +103,8 @@ module _ {L : Type 0} (k n : Called L) (home : n.home ≡ k.home) (number : n.nu
 
 module _ {L : Type 0} (holds : L → List Val → Type 0) (k n : Called L)
     (attempt : begun_log n.number n.log ≡ begun_log k.number k.log) where
-  opens_few : (w : Work) (a : Option Again) → is_open w ≡ true → Performs holds (Doing w) k n a → AddsFew k n
-  opens_few w a opens p =
+  opens_few : {w : Work} {a : Option Again} → is_open w ≡ true → Performs holds (Doing w) k n a → AddsFew k n
+  opens_few {w = w} opens p =
       few_by k n p.same.0 p.same.1 p.seen attempt p.events p.own
       (open_looks w (shape_of k) (state k) k.generator p.events opens p.call.obeys)
 
@@ -113,20 +113,19 @@ module _ {L : Type 0} (holds : L → List Val → Type 0) (k n : Called L)
       IfErr r (Leaves holds (reading (shape_of k) o) k n) → AddsFew k n
   read_few o r again stays leaves =
       by_open holds k n (reading (shape_of k) o) r (is_some (held k o)) again (λ no. stays (none_of (held k o) no)) leaves
-      (AddsFew k n) (adds_none k n)
-      (λ a. opens_few (reading (shape_of k) o) a
+      (AddsFew k n) (adds_none) (λ a. opens_few
       (cond_both (shape_of k).all_write (Writing o) (Reading o) (λ (w : Work). is_open w ≡ true) (λ _. refl) (λ _. refl)))
 
   pub write_few : (o : ℕ) (r : Result Val Again) → (IsTrue (is_opened k o) → n ≡ k) →
       (is_opened k o ≡ false → OnOk r (Stays holds (Writing o) k n)) → IfErr r (Leaves holds (Writing o) k n) → AddsFew k n
   write_few o r again stays leaves =
-      by_open holds k n (Writing o) r (is_opened k o) again stays leaves (AddsFew k n) (adds_none k n)
-      (λ a. opens_few (Writing o) a refl)
+      by_open holds k n (Writing o) r (is_opened k o) again stays leaves (AddsFew k n) (adds_none) (λ a. opens_few refl)
 
 -- neither does a release, which makes sure of nothing
-pub release_few : {L : Type 0} (holds : L → List Val → Type 0) (k n : Called L) →
-    begun_log n.number n.log ≡ begun_log k.number k.log → (o : ℕ) → Performs holds (Doing (Releasing o)) k n None → AddsFew k n
-release_few holds k n attempt o p =
+pub release_few : {L : Type 0} {holds : L → List Val → Type 0} {k n : Called L} →
+    begun_log n.number n.log ≡ begun_log k.number k.log → {o : ℕ} → Performs holds (Doing (Releasing o)) k n None →
+    AddsFew k n
+release_few {k = k} {n = n} attempt {o = o} p =
     let none = none_looks p.events (no_self o (shape_of k) (state k) k.generator p.events p.call.obeys).0 in
     few_by k n p.same.0 p.same.1 p.seen attempt p.events p.own (omega arith)
 

@@ -2,6 +2,7 @@
 use Rattle.std.proofs.Common.{◌++◌, ◌+◌, ◌==◌, ◌∙◌, ◌∷◌, ◌≡◌, ◌⊎◌, ◌||◌, Bool, List, None, Option, Some, [], ap, arith, false, inl, inr, is_some, length, length-append, ne_eqb, refl, subst, sym, true, ℕ}
 use Rattle.std.specs.Prelude.{is_none}
 use Rattle.std.proofs.lemmas.Bool.{cases_Bool, cond_both, eq-eqb}
+use Rattle.dstm_steps.proofs.FoundValues.{found_kept}
 use Rattle.dstm_steps.specs.Finding.{IsFound, KeepsAttempt}
 use Rattle.dstm_steps.specs.Opening.{Acquired, HeldApart, risen}
 use Rattle.dstm_steps.specs.Under.{IsRunning, passed}
@@ -23,8 +24,7 @@ use Rattle.dstm_engine.specs.Opens.{AddsRead, AddsWrite, GoesOn}
 
 -- a resolved object with no read recorded becomes the last read
 pub recorded_new : (o : Option Resolution) (rs : List Read) → is_some o ≡ true → is_resolved (or_unresolved o) ≡ true →
-    read_of (or_unresolved o).object rs ≡ None →
-    record_resolved o rs ≡ rs ++ record {
+    read_of (or_unresolved o).object rs ≡ None → record_resolved o rs ≡ rs ++ record {
       object = (or_unresolved o).object;
       word = (or_unresolved o).word;
       version = or_zero (version (or_unresolved o));
@@ -66,8 +66,8 @@ record Same (old new : LocalState) : Type 0 where
   agreed : new.stale ≡ false
   not_put : (new.written ≡ 0) × (new.high_put ≡ false)
 
-goes_passed : (number : ℕ) (old l : LocalState) → Same old l → GoesOn old (passed number l)
-goes_passed number old l s = record {
+goes_passed : (number : ℕ) {old l : LocalState} → Same old l → GoesOn old (passed number l)
+goes_passed number {l = l} s = record {
   phase = s.phase;
   committed = s.committed;
   rest = record {
@@ -78,8 +78,8 @@ goes_passed number old l s = record {
   };
 }
 
-goes_risen : (m : Manager) (old l : LocalState) → GoesOn old l → GoesOn old (risen m l)
-goes_risen m old l g =
+goes_risen : (m : Manager) {old l : LocalState} → GoesOn old l → GoesOn old (risen m l)
+goes_risen m {old = old} g =
     cond_both (rises m) _ _ (GoesOn old) (λ _. record {
       phase = g.phase;
       committed = g.committed;
@@ -100,8 +100,7 @@ pub record Kept (old new : LocalState) : Type 0 where
 
 pub kept_risen : (m : Manager) (l : LocalState) → Kept l (risen m l)
 kept_risen m l =
-    cond_both (rises m) _ _ (Kept l)
-    (λ _. record { reads = refl; writes = refl; last_pass = refl; resolution = refl })
+    cond_both (rises m) _ _ (Kept l) (λ _. record { reads = refl; writes = refl; last_pass = refl; resolution = refl })
     (λ _. record { reads = refl; writes = refl; last_pass = refl; resolution = refl })
 
 -- ---- an open for reading
@@ -110,9 +109,9 @@ either_true : (a : Bool) → a || true ≡ true
 either_true true = refl
 either_true false = refl
 
-same_keeps : (old before : LocalState) → IsRunning old → (old.written ≡ 0) × (old.high_put ≡ false) →
+same_keeps : {old : LocalState} (before : LocalState) → IsRunning old → (old.written ≡ 0) × (old.high_put ≡ false) →
     KeepsAttempt old before → Same old before
-same_keeps old before run put keeps = record {
+same_keeps before run put keeps = record {
   phase = ap (λ (l : LocalState). l.phase) keeps ∙ run.phase;
   committed = ap (λ (l : LocalState). l.committed) keeps;
   agreed = ap (λ (l : LocalState). l.stale) keeps ∙ run.agreed;
@@ -122,7 +121,12 @@ same_keeps old before run put keeps = record {
   );
 }
 
-module _ (old before : LocalState) (object : ℕ) (found : Found) (keeps : KeepsAttempt old before)
+-- what is resolved is kept
+kept_whole : (o : Option Resolution) → is_some o ≡ true → is_resolved (or_unresolved o) ≡ true → keep_resolved o ≡ o
+kept_whole None there resolved = refl
+kept_whole (Some r) there resolved = rw resolved refl
+
+module _ (old : LocalState) {before : LocalState} (object : ℕ) {found : Found} (keeps : KeepsAttempt old before)
     (at : (res before).object ≡ object) (is : IsFound before found) (unread : read_of object old.reads ≡ None) where
   -- the read that is recorded
   pub record_read : record_resolved before.resolution before.reads
@@ -155,14 +159,14 @@ module _ (old before : LocalState) (object : ℕ) (found : Found) (keeps : Keeps
       ne_eqb (length (record_resolved before.resolution before.reads)) (length before.reads) (λ z. omega arith) in
       rw other (either_true before.owed)
 
-  module _ (m : Manager) (number : ℕ) (new : LocalState) (run : IsRunning old)
+  module _ (m : Manager) (number : ℕ) {new : LocalState} (run : IsRunning old)
       (put : (old.written ≡ 0) × (old.high_put ≡ false)) (end : new ≡ risen m (passed number before)) where
     pub adds_read : AddsRead object found.word found.version old new
     adds_read =
         let l = passed number before in
         let k = kept_risen m l in
         subst (AddsRead object found.word found.version old) (sym end) (record {
-          goes_on = goes_risen m old l (goes_passed number old before (same_keeps old before run put keeps));
+          goes_on = goes_risen m (goes_passed number (same_keeps before run put keeps));
           reads = k.reads ∙ record_read;
           writes = k.writes ∙ ap (λ (x : LocalState). x.writes) keeps;
         })
@@ -170,46 +174,23 @@ module _ (old before : LocalState) (object : ℕ) (found : Found) (keeps : Keeps
     -- what was found is still known
     pub found_still : IsFound new found
     found_still =
-        subst (λ (x : LocalState). IsFound x found) (sym end) (of_resolution (risen m (passed number before))
-        ((kept_risen m (passed number before)).resolution ∙ resolved_stays))
-      where
-        resolved_stays : keep_resolved before.resolution ≡ before.resolution
-        resolved_stays = by before.resolution is.there is.resolved
-          where
-            by : (o : Option Resolution) → is_some o ≡ true → is_resolved (or_unresolved o) ≡ true →
-                keep_resolved o ≡ o
-            by None there resolved = refl
-            by (Some r) there resolved = rw resolved refl
-
-        of_resolution : (x : LocalState) → x.resolution ≡ before.resolution → IsFound x found
-        of_resolution x q = record {
-          there = ap is_some q ∙ is.there;
-          word = ap (λ o. (or_unresolved o).word) q ∙ is.word;
-          version_is = ap (λ o. version (or_unresolved o)) q ∙ is.version_is;
-          resolved = ap (λ o. is_resolved (or_unresolved o)) q ∙ is.resolved;
-          high_is = λ h. ap (λ o. (or_unresolved o).high) q ∙ is.high_is h;
-          low_is = λ h. ap (λ o. (or_unresolved o).value) q ∙ is.low_is h;
-        }
+        subst (λ (x : LocalState). IsFound x found) (sym end) (found_kept ((kept_risen m (passed number before)).resolution
+        ∙ kept_whole before.resolution is.there is.resolved) is)
 
     pub object_still : (res new).object ≡ object
     object_still =
         ap (λ (x : LocalState). (res x).object) end
-        ∙ ap (λ o. (or_unresolved o).object) (kept_risen m (passed number before)).resolution
-        ∙ by before.resolution is.there is.resolved ∙ at
-      where
-        by : (o : Option Resolution) → is_some o ≡ true → is_resolved (or_unresolved o) ≡ true →
-            (or_unresolved (keep_resolved o)).object ≡ (or_unresolved o).object
-        by None there resolved = refl
-        by (Some r) there resolved = rw resolved refl
+        ∙ ap (λ o. (or_unresolved o).object) ((kept_risen m (passed number before)).resolution
+        ∙ kept_whole before.resolution is.there is.resolved) ∙ at
 
     pub last_read : new.last_pass ≡ Some number
     last_read = ap (λ (x : LocalState). x.last_pass) end ∙ (kept_risen m (passed number before)).last_pass
 
 -- ---- an open for writing
 
-same_installs : (s : Shape) (old before : LocalState) → IsRunning old → (old.written ≡ 0) × (old.high_put ≡ false) →
-    HeldApart old before → Same old (install s before)
-same_installs s old before run put apart = record {
+same_installs : (s : Shape) {old : LocalState} (before : LocalState) → IsRunning old → (old.written ≡ 0)
+    × (old.high_put ≡ false) → HeldApart old before → Same old (install s before)
+same_installs s before run put apart = record {
   phase = ap (λ (l : LocalState). l.phase) apart ∙ run.phase;
   committed = ap (λ (l : LocalState). l.committed) apart;
   agreed = ap (λ (l : LocalState). l.stale) apart ∙ run.agreed;
@@ -219,8 +200,8 @@ same_installs s old before run put apart = record {
   );
 }
 
-module _ (s : Shape) (m : Manager) (number object : ℕ) (found : Found) (old mid new : LocalState) (run : IsRunning old)
-    (put : (old.written ≡ 0) × (old.high_put ≡ false)) (a : Acquired s object old mid found)
+module _ {s : Shape} (m : Manager) (number : ℕ) {object : ℕ} {found : Found} {old mid new : LocalState}
+    (run : IsRunning old) (put : (old.written ≡ 0) × (old.high_put ≡ false)) (a : Acquired s object old mid found)
     (end : new ≡ risen m (passed number mid)) where
   pub adds_write : AddsWrite object found.version old new
   adds_write =
@@ -229,9 +210,7 @@ module _ (s : Shape) (m : Manager) (number object : ℕ) (found : Found) (old mi
       let l = passed number (install s a.before) in
       let k = kept_risen m l in
       subst (AddsWrite object found.version old) (sym end_is) (record {
-        goes_on =
-            goes_risen m old l (goes_passed number old (install s a.before)
-            (same_installs s old a.before run put a.apart));
+        goes_on = goes_risen m (goes_passed number (same_installs s a.before run put a.apart));
         locator = next_locator s a.before;
         reads =
             k.reads ∙ ap (λ o. drop_read o a.before.reads) a.object_is
@@ -259,16 +238,16 @@ module _ (s : Shape) (m : Manager) (number object : ℕ) (found : Found) (old mi
   last_write = ap (λ (x : LocalState). x.last_pass) end ∙ (kept_risen m (passed number mid)).last_pass
 
 -- what is read once the object is open
-pub acquired_reads : (s : Shape) (object : ℕ) (old mid : LocalState) (found : Found) → Acquired s object old mid found →
+pub acquired_reads : {s : Shape} {object : ℕ} {old mid : LocalState} {found : Found} → Acquired s object old mid found →
     record_resolved mid.resolution mid.reads ≡ drop_read object old.reads
-acquired_reads s object old mid found a =
+acquired_reads {object = object} a =
     ap (λ (l : LocalState). record_resolved l.resolution l.reads) a.installed
     ∙ ap (λ o. drop_read o a.before.reads) a.object_is ∙ ap (λ (x : LocalState). drop_read object x.reads) a.apart
 
 -- and the version that was found is held
-pub acquired_held : (s : Shape) (object : ℕ) (old mid : LocalState) (found : Found) → Acquired s object old mid found →
+pub acquired_held : {s : Shape} {object : ℕ} {old mid : LocalState} {found : Found} → Acquired s object old mid found →
     write_of object old.writes ≡ None → version_held mid object ≡ Some found.version
-acquired_held s object old mid found a none =
+acquired_held {s = s} {object = object} {old = old} a none =
     let new : Write = record {
       object = (res a.before).object;
       locator = next_locator s a.before;
@@ -281,7 +260,7 @@ acquired_held s object old mid found a none =
     (write_last object a.before.writes new a.object_is was)
     ∙ ap (λ v. Some (or_zero v)) a.found_is.version_is
 
-pub acquired_runs : (s : Shape) (object : ℕ) (old mid : LocalState) (found : Found) → Acquired s object old mid found →
+pub acquired_runs : {s : Shape} {object : ℕ} {old mid : LocalState} {found : Found} → Acquired s object old mid found →
     IsRunning old → mid.phase ≡ Running
-acquired_runs s object old mid found a run =
+acquired_runs a run =
     ap (λ (l : LocalState). l.phase) a.installed ∙ ap (λ (l : LocalState). l.phase) a.apart ∙ run.phase

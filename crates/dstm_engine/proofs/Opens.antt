@@ -63,26 +63,25 @@ use Rattle.dstm_engine.specs.declared.caller.Caller.TheInside.{Inside}
 
 -- ---- any open
 
-module _ {L : Type 0} (holds : L → List Val → Type 0) (c : Inside L) (v : Tied holds c) (live : c.live ≡ true)
-    (work : Work) (is_one : is_open work ≡ true) (new : Steps L) (answer : Option Again)
+module _ {L : Type 0} {holds : L → List Val → Type 0} {c : Inside L} (v : Tied holds c) (live : c.live ≡ true)
+    {work : Work} (is_one : is_open work ≡ true) {new : Steps L} {answer : Option Again}
     (u : InTask holds (called c).home (Doing work) (began_of (Doing work) (called c)) new Done answer) where
   drops_none : DropsNone u.events
-  drops_none =
-      opens_keep work c.terms.shape (state (called c)) c.steps.decider.generator u.events is_one u.obeys
+  drops_none = opens_keep work c.terms.shape (state (called c)) c.steps.decider.generator u.events is_one u.obeys
 
   -- what was held is held then, whatever the call answers
   pub holds_still : (o : ℕ) (x : Val) → held (called c) o ≡ Some x →
       held (called (record c { steps = new })) o ≡ Some x
   holds_still =
       still_held c.terms.shape c.terms.start.value.items (called c).log (view_of new.seat).log c.number u.run.run.core
-      u.seen v.number.0 (current_there holds c v live work new answer u).live u.events u.own drops_none
+      u.seen v.number.0 (current_there v live u).live u.events u.own drops_none
 
   pub holds_same : (o : ℕ) →
       version_held (local c.terms.shape (view_of new.seat).log c.number) o ≡ version_held (state (called c)) o →
       held (called (record c { steps = new })) o ≡ held (called c) o
   holds_same =
       same_held c.terms.shape c.terms.start.value.items (called c).log (view_of new.seat).log c.number u.run.run.core
-      u.seen v.number.0 (current_there holds c v live work new answer u).live
+      u.seen v.number.0 (current_there v live u).live
 
   -- the caller's home, as a call leaves it
   pub same_home : (called (record c { steps = new })).home ≡ (called c).home
@@ -98,25 +97,23 @@ open_is (Committing value) h = absurd (cc)
 
 -- ---- an open that ends well
 
-module _ {L : Type 0} (holds : L → List Val → Type 0) (c : Inside L) (v : Tied holds c) (live : c.live ≡ true)
-    (work : Work) (is_one : is_open work ≡ true) (new : Steps L)
+module _ {L : Type 0} {holds : L → List Val → Type 0} {c : Inside L} (v : Tied holds c) (live : c.live ≡ true)
+    {work : Work} (is_one : is_open work ≡ true) {new : Steps L}
     (u : InTask holds (called c).home (Doing work) (began_of (Doing work) (called c)) new Done None)
-    (goes : GoesOn (state (called c)) (now (called c).home new)) (last : Option ℕ)
+    (goes : GoesOn (state (called c)) (now (called c).home new)) {last : Option ℕ}
     (last_is : last ≡ (now (called c).home new).last_pass) (opened : OpenedAs)
     (objects : opened.objects ≡ c.opened.objects) (set : set_pairs opened.writes ≡ set_pairs c.opened.writes)
     (words : words_of (now (called c).home new).reads ≡ map slot_word opened.reads)
     (values : read_values c.terms.shape c.terms.start.value.items (view_of new.seat).log (now (called c).home new).reads
-    ≡ map slot_value opened.reads)
-    (writes : AreWrites opened.writes (now (called c).home new).writes)
+    ≡ map slot_value opened.reads) (writes : AreWrites opened.writes (now (called c).home new).writes)
     (olds : old_values c.terms.shape c.terms.start.value.items (view_of new.seat).log (now (called c).home new).writes
-    ≡ map slot_old opened.writes)
-    (no_reading : c.terms.shape.all_write ≡ true → IsNoReading work)
+    ≡ map slot_old opened.writes) (no_reading : c.terms.shape.all_write ≡ true → IsNoReading work)
     (few : length (now (called c).home new).reads ≤ length (state (called c)).reads + 1) where
   abbrev pub opened_as : Inside L
   opened_as = record c { steps = new; last_number = last; opened = opened }
 
   pub opened_state : state (called opened_as) ≡ now (called c).home new
-  opened_state = state_then holds c (Doing work) new None u
+  opened_state = state_then c u
 
   runs : (state (called opened_as)).phase ≡ Running
   runs = ap (λ (l : LocalState). l.phase) opened_state ∙ goes.phase
@@ -125,40 +122,34 @@ module _ {L : Type 0} (holds : L → List Val → Type 0) (c : Inside L) (v : Ti
   uncommitted = ap (λ (l : LocalState). l.committed) opened_state ∙ goes.committed ∙ v.uncommitted live
 
   steps : Performs holds (Doing work) (called c) (called opened_as) None
-  steps = performed holds c v live work new None u (called opened_as) refl refl refl refl
+  steps = performed v live u (called opened_as) refl refl refl refl
 
   pub opened_stays : Stays holds work (called c) (called opened_as)
-  opened_stays = stays holds (called c) (called opened_as) work steps (λ out. let x = runs in cc)
+  opened_stays = stays steps (λ out. let x = runs in cc)
 
   pub opened_sighted : Sighted (called opened_as)
   opened_sighted =
-      sees_all (called opened_as)
-      (open_sees c.terms.shape c.number (view_of new.seat).log (called c).log work c.steps.decider.generator u.events is_one
-      (v.phase ∙ ap phase_by live) (call_of holds (called c).home (began_of (Doing work) (called c)) new None u).0 u.own
-      runs)
+      sees_all (called opened_as) (open_sees c.number (view_of new.seat).log (called c).log is_one
+      (v.phase ∙ ap phase_by live) (call_of u).0 u.own runs)
 
   pub opened_attempt : begun_log c.number (view_of new.seat).log ≡ begun_log c.number (called c).log
-  opened_attempt = doing_keeps holds work (called c) (called opened_as) None steps
+  opened_attempt = doing_keeps steps
 
   told : IsTold (called opened_as)
   told =
-      told_more (called c) (told_there holds c v live work new None u) holds work (called opened_as) None steps
-      (current_there holds c v live work new None u).live
-      opened_attempt refl (v.left live) no_reading
+      told_more (told_there v live u) steps (current_there v live u).live opened_attempt refl (v.left live) no_reading
       (let most = kept_most (called opened_as) in
       let same = ap (λ (l : LocalState). length l.reads) opened_state in
-      let was = kept_live (called c) (sym (live_there holds c v) ∙ live) in
+      let was = kept_live (called c) (sym (live_there v) ∙ live) in
       let one = open_is work is_one in omega arith)
 
   pub opened_tied : Tied holds opened_as
   opened_tied =
-      on_tied holds c v live work new None u last opened runs uncommitted
-      (ap (λ (l : LocalState). l.last_pass) opened_state ∙ sym last_is)
+      on_tied v live u opened runs uncommitted (ap (λ (l : LocalState). l.last_pass) opened_state ∙ sym last_is)
       (subst (λ (l : LocalState). AtRest l) (sym opened_state) goes.rest) told (λ some. opened_sighted)
       (ap (λ (l : LocalState). words_of l.reads) opened_state ∙ words)
       (ap (λ (l : LocalState). read_values c.terms.shape c.terms.start.value.items (view_of new.seat).log l.reads)
-      opened_state ∙ values)
-      (subst (λ (l : LocalState). AreWrites opened.writes l.writes) (sym opened_state) writes)
+      opened_state ∙ values) (subst (λ (l : LocalState). AreWrites opened.writes l.writes) (sym opened_state) writes)
       (ap (λ (l : LocalState). old_values c.terms.shape c.terms.start.value.items (view_of new.seat).log l.writes)
       opened_state ∙ olds) objects
 
@@ -182,29 +173,29 @@ module _ {L : Type 0} (holds : L → List Val → Type 0) (c : Inside L) (v : Ti
       (adds_nothing work c.terms.shape c.terms.start.value.items c.number c.steps.decider.generator u.events u.seen.later
       (called c).log
       (subst (λ xs. IsCallIn (Doing work) c.terms.shape c.number c.steps.decider.generator u.events (called c).log xs)
-      (sym u.seen.whole) (call_there holds c v live work new None u))
+      (sym u.seen.whole) (call_there v live u))
       (subst (λ xs. (local c.terms.shape xs c.number).committed ≡ false) (sym u.seen.whole) uncommitted))
 
   -- the attempt goes on with an object more
-  pub opened_continues : (o : ℕ) → HoldsAlso o (held (called c)) (held (called opened_as)) →
+  pub opened_continues : {o : ℕ} → HoldsAlso o (held (called c)) (held (called opened_as)) →
       MarksAtMost o (is_opened (called c)) (is_opened (called opened_as)) →
       Continues holds o (called c) (called opened_as)
-  opened_continues o also marks = record {
+  opened_continues also marks = record {
     live = ap is_running runs;
     sight = opened_sighted;
     held = also;
     opened = marks;
     attempt = opened_attempt;
     done = opened_done;
-    narrows = narrows_by holds (called c) (called opened_as) (same_home holds c v live work is_one new None u)
-        (holds_still holds c v live work is_one new None u);
-    admits = sighted_admits holds (called opened_as) u.run opened_sighted;
+    narrows = narrows_by holds (called c) (called opened_as) (same_home v live is_one u)
+        (holds_still v live is_one u);
+    admits = sighted_admits u.run opened_sighted;
   }
 
 -- ---- an open that has left its attempt
 
-module _ {L : Type 0} (holds : L → List Val → Type 0) (c : Inside L) (v : Tied holds c) (live : c.live ≡ true)
-    (work : Work) (is_one : is_open work ≡ true) (new : Steps L) (again : Again)
+module _ {L : Type 0} {holds : L → List Val → Type 0} {c : Inside L} (v : Tied holds c) (live : c.live ≡ true)
+    {work : Work} (is_one : is_open work ≡ true) {new : Steps L} {again : Again}
     (u : InTask holds (called c).home (Doing work) (began_of (Doing work) (called c)) new Done (Some again))
     (no_reading : c.terms.shape.all_write ≡ true → IsNoReading work) (last : Option ℕ) (opened : OpenedAs)
     (objects : opened.objects ≡ c.opened.objects) (set : set_pairs opened.writes ≡ set_pairs c.opened.writes) where
@@ -213,7 +204,7 @@ module _ {L : Type 0} (holds : L → List Val → Type 0) (c : Inside L) (v : Ti
 
   pub stopped_tied : Tied holds stopped_as
   stopped_tied =
-      let t = left_tied holds c v live work new again u no_reading last in record {
+      let t = left_tied v live u no_reading last in record {
         seat = t.seat;
         run = t.run;
         number = t.number;
@@ -244,7 +235,7 @@ module _ {L : Type 0} (holds : L → List Val → Type 0) (c : Inside L) (v : Ti
   pub stopped_leaves : Leaves holds work (called c) (called stopped_as) again
   stopped_leaves =
       subst (λ s. Leaves holds work (called c) (record (called (left_as c new last again)) { set = s }) again) (sym set)
-      (left_leaves holds c v live work new again u no_reading last)
+      (left_leaves v live u no_reading last)
 
   pub stopped_kept : called stopped_as ≡ record (called c) {
     log = (view_of new.seat).log;
@@ -262,15 +253,11 @@ module _ {L : Type 0} (holds : L → List Val → Type 0) (c : Inside L) (v : Ti
 
   over : IsOver holds (called c) (called stopped_as)
   over = record {
-    live =
-        ap is_running (left_tied holds c v live work new again u no_reading last).phase;
-    attempt =
-        doing_keeps holds work (called c) (called stopped_as) (Some again)
-        (performed holds c v live work new (Some again) u (called stopped_as) refl refl refl refl);
-    done = left_done holds c v live work new again u no_reading last;
+    live = ap is_running (left_tied v live u no_reading last).phase;
+    attempt = doing_keeps (performed v live u (called stopped_as) refl refl refl refl);
+    done = left_done v live u no_reading last;
     narrows = narrows_by holds (called c) (called stopped_as)
-        (same_home holds c v live work is_one new (Some again) u)
-        (holds_still holds c v live work is_one new (Some again) u);
+        (same_home v live is_one u) (holds_still v live is_one u);
   }
 
   pub stopped : Stops holds work (called c) (called stopped_as) again
@@ -378,7 +365,7 @@ also_held k n o value is still others = record {
     by p None q some = absurd (let z : false ≡ true = some in cc)
     by p (Some x) q some = still p x q ∙ sym q
 
-module _ {L : Type 0} (holds : L → List Val → Type 0) (c : Inside L) (v : Tied holds c) (live : c.live ≡ true) (o : ℕ)
+module _ {L : Type 0} {holds : L → List Val → Type 0} {c : Inside L} (v : Tied holds c) (live : c.live ≡ true) (o : ℕ)
   where
     inside : (state (called c)).phase ≢ Outside
     inside out = let x = v.phase in let y = ap phase_by live in cc
@@ -393,8 +380,7 @@ module _ {L : Type 0} (holds : L → List Val → Type 0) (c : Inside L) (v : Ti
     -- nor has it a slot
     pub unheld_slot : held (called c) o ≡ None → read_slot c.opened.reads o ≡ None
     unheld_slot unheld =
-        no_word (read_slot c.opened.reads o)
-        (sym (ap word_of (unheld_both unheld).1)
+        no_word (read_slot c.opened.reads o) (sym (ap word_of (unheld_both unheld).1)
         ∙ slot_read c.opened.reads (state (called c)).reads o (sym (v.reads live)))
 
     -- so there is room for it
@@ -438,11 +424,11 @@ module _ {L : Type 0} (holds : L → List Val → Type 0) (c : Inside L) (v : Ti
         let room = v.locators live in
         omega arith
 
-module _ {L : Type 0} (holds : L → List Val → Type 0) (c : Inside L) (v : Tied holds c) (live : c.live ≡ true)
-    (o word version : ℕ) (value : Val) (new : Steps L)
+module _ {L : Type 0} {holds : L → List Val → Type 0} {c : Inside L} (v : Tied holds c) (live : c.live ≡ true)
+    {o word version : ℕ} (value : Val) {new : Steps L}
     (u : InTask holds (called c).home (Doing (Reading o)) (began_of (Doing (Reading o)) (called c)) new Done None)
     (adds : AddsRead o word version (state (called c)) (now (called c).home new))
-    (valued : HasVersion (called c).home new o version value) (last : Option ℕ)
+    (valued : HasVersion (called c).home new o version value) {last : Option ℕ}
     (last_is : last ≡ (now (called c).home new).last_pass) (unheld : held (called c) o ≡ None)
     (reads : c.terms.shape.all_write ≡ false) where
   abbrev pub read_opened : OpenedAs
@@ -451,7 +437,7 @@ module _ {L : Type 0} (holds : L → List Val → Type 0) (c : Inside L) (v : Ti
   }
 
   none_open : (write_of o (state (called c)).writes ≡ None) × (read_of o (state (called c)).reads ≡ None)
-  none_open = unheld_both holds c v live o unheld
+  none_open = unheld_both v live o unheld
 
   words : words_of (now (called c).home new).reads ≡ map slot_word read_opened.reads
   words =
@@ -464,7 +450,7 @@ module _ {L : Type 0} (holds : L → List Val → Type 0) (c : Inside L) (v : Ti
       ap (read_values c.terms.shape c.terms.start.value.items (view_of new.seat).log) adds.reads
       ∙ read_values-push c.terms.shape c.terms.start.value.items (view_of new.seat).log (state (called c)).reads _
       ∙ ap (λ xs. xs ++ (o, version_value c.terms.shape c.terms.start.value.items (view_of new.seat).log o version) ∷ [])
-      ((stay holds c v live (Reading o) new None u).0 ∙ v.values live)
+      ((stay v live u).0 ∙ v.values live)
       ∙ ap (λ x. map slot_value c.opened.reads ++ (o, x) ∷ []) valued ∙ sym (slot_values-push c.opened.reads _)
 
   writes : AreWrites c.opened.writes (now (called c).home new).writes
@@ -474,7 +460,7 @@ module _ {L : Type 0} (holds : L → List Val → Type 0) (c : Inside L) (v : Ti
       ≡ map slot_old c.opened.writes
   olds =
       ap (old_values c.terms.shape c.terms.start.value.items (view_of new.seat).log) adds.writes
-      ∙ (stay holds c v live (Reading o) new None u).1 ∙ v.olds live
+      ∙ (stay v live u).1 ∙ v.olds live
 
   no_reading : c.terms.shape.all_write ≡ true → IsNoReading (Reading o)
   no_reading all = absurd (cc)
@@ -489,11 +475,10 @@ module _ {L : Type 0} (holds : L → List Val → Type 0) (c : Inside L) (v : Ti
 
   pub read_tied : Tied holds read_as
   read_tied =
-      opened_tied holds c v live (Reading o) refl new u adds.goes_on last last_is read_opened refl refl words values writes
-      olds no_reading one_more
+      opened_tied v live refl u adds.goes_on last_is read_opened refl refl words values writes olds no_reading one_more
 
   st : state (called read_as) ≡ now (called c).home new
-  st = state_then holds c (Doing (Reading o)) new None u
+  st = state_then c u
 
   pub read_unmarked : (p : ℕ) → is_opened (called read_as) p ≡ is_opened (called c) p
   read_unmarked p = ap (λ (l : LocalState). is_some (write_of p l.writes)) st ∙ ap (λ ws. is_some (write_of p ws)) adds.writes
@@ -515,8 +500,7 @@ module _ {L : Type 0} (holds : L → List Val → Type 0) (c : Inside L) (v : Ti
 
   others : (p : ℕ) → p ≢ o → held (called read_as) p ≡ held (called c) p
   others p other =
-      holds_same holds c v live (Reading o) refl new None u p
-      (ap (λ l. version_held l p) st
+      holds_same v live refl u p (ap (λ l. version_held l p) st
       ∙ ap (λ ws. version_by_open (write_of p ws) (read_of p (now (called c).home new).reads)) adds.writes
       ∙ ap (λ rs. version_by_open (write_of p (state (called c)).writes) (read_of p rs)) adds.reads
       ∙ ap (version_by_open (write_of p (state (called c)).writes))
@@ -524,15 +508,13 @@ module _ {L : Type 0} (holds : L → List Val → Type 0) (c : Inside L) (v : Ti
 
   pub read_opens : Opens holds (Reading o) o (called c) (called read_as) value
   read_opens = record {
-    stays = opened_stays holds c v live (Reading o) refl new u adds.goes_on last last_is read_opened refl refl words values
+    stays = opened_stays v live refl u adds.goes_on last_is read_opened refl refl words values
         writes olds no_reading one_more;
-    kept = opened_kept holds c v live (Reading o) refl new u adds.goes_on last last_is read_opened refl refl words values
+    kept = opened_kept v live refl u adds.goes_on last_is read_opened refl refl words values
         writes olds no_reading one_more;
-    continues = opened_continues holds c v live (Reading o) refl new u adds.goes_on last last_is read_opened refl refl
-        words values writes olds no_reading one_more o
-        (also_held (called c) (called read_as) o value holds_it (holds_still holds c v live (Reading o) refl new None u)
-        others)
-        (record {
+    continues = opened_continues v live refl u adds.goes_on last_is read_opened refl refl
+        words values writes olds no_reading one_more
+        (also_held (called c) (called read_as) o value holds_it (holds_still v live refl u) others) (record {
           kept = λ p marked. subst IsTrue (sym (read_unmarked p)) marked;
           others = λ p other. read_unmarked p;
         });
@@ -595,11 +577,11 @@ still_marked p ws w marked = by (write_of p ws) refl marked
     by None q some = absurd (let z : false ≡ true = some in cc)
     by (Some x) q some = subst (λ y. IsTrue (is_some y)) (sym (write_more p ws w x q)) some
 
-module _ {L : Type 0} (holds : L → List Val → Type 0) (c : Inside L) (v : Tied holds c) (live : c.live ≡ true)
-    (o version : ℕ) (value : Val) (new : Steps L)
+module _ {L : Type 0} {holds : L → List Val → Type 0} {c : Inside L} (v : Tied holds c) (live : c.live ≡ true)
+    {o version : ℕ} (value : Val) {new : Steps L}
     (u : InTask holds (called c).home (Doing (Writing o)) (began_of (Doing (Writing o)) (called c)) new Done None)
     (adds : AddsWrite o version (state (called c)) (now (called c).home new))
-    (valued : HasVersion (called c).home new o version value) (last : Option ℕ)
+    (valued : HasVersion (called c).home new o version value) {last : Option ℕ}
     (last_is : last ≡ (now (called c).home new).last_pass) (unopened : is_opened (called c) o ≡ false) where
   abbrev pub write_opened : OpenedAs
   write_opened = record c.opened {
@@ -611,15 +593,14 @@ module _ {L : Type 0} (holds : L → List Val → Type 0) (c : Inside L) (v : Ti
   unwritten = none_of (write_of o (state (called c)).writes) unopened
 
   words_w : words_of (now (called c).home new).reads ≡ map slot_word write_opened.reads
-  words_w =
-      ap words_of adds.reads ∙ sym (words_without c.opened.reads (state (called c)).reads o (sym (v.reads live)))
+  words_w = ap words_of adds.reads ∙ sym (words_without c.opened.reads (state (called c)).reads o (sym (v.reads live)))
 
   values_w : read_values c.terms.shape c.terms.start.value.items (view_of new.seat).log (now (called c).home new).reads
       ≡ map slot_value write_opened.reads
   values_w =
       ap (read_values c.terms.shape c.terms.start.value.items (view_of new.seat).log) adds.reads
       ∙ values_without c.terms.shape c.terms.start.value.items (view_of new.seat).log (state (called c)).reads
-      c.opened.reads o ((stay holds c v live (Writing o) new None u).0 ∙ v.values live)
+      c.opened.reads o ((stay v live u).0 ∙ v.values live)
 
   writes_w : AreWrites write_opened.writes (now (called c).home new).writes
   writes_w =
@@ -632,7 +613,7 @@ module _ {L : Type 0} (holds : L → List Val → Type 0) (c : Inside L) (v : Ti
       ap (old_values c.terms.shape c.terms.start.value.items (view_of new.seat).log) adds.writes
       ∙ old_values-push c.terms.shape c.terms.start.value.items (view_of new.seat).log (state (called c)).writes _
       ∙ ap (λ xs. xs ++ (o, version_value c.terms.shape c.terms.start.value.items (view_of new.seat).log o version) ∷ [])
-      ((stay holds c v live (Writing o) new None u).1 ∙ v.olds live)
+      ((stay v live u).1 ∙ v.olds live)
       ∙ ap (λ x. map slot_old c.opened.writes ++ (o, x) ∷ []) valued ∙ sym (slot_olds-push c.opened.writes _)
 
   no_more : length (now (called c).home new).reads ≤ length (state (called c)).reads + 1
@@ -648,11 +629,11 @@ module _ {L : Type 0} (holds : L → List Val → Type 0) (c : Inside L) (v : Ti
 
   pub write_tied : Tied holds write_as
   write_tied =
-      opened_tied holds c v live (Writing o) refl new u adds.goes_on last last_is write_opened refl set_w words_w values_w
+      opened_tied v live refl u adds.goes_on last_is write_opened refl set_w words_w values_w
       writes_w olds_w (λ all. tt) no_more
 
   st_w : state (called write_as) ≡ now (called c).home new
-  st_w = state_then holds c (Doing (Writing o)) new None u
+  st_w = state_then c u
 
   marks_w : (p : ℕ) → is_opened (called write_as) p
       ≡ is_some (write_of p ((state (called c)).writes
@@ -676,8 +657,7 @@ module _ {L : Type 0} (holds : L → List Val → Type 0) (c : Inside L) (v : Ti
 
   others_w : (p : ℕ) → p ≢ o → held (called write_as) p ≡ held (called c) p
   others_w p other =
-      holds_same holds c v live (Writing o) refl new None u p
-      (ap (λ l. version_held l p) st_w
+      holds_same v live refl u p (ap (λ l. version_held l p) st_w
       ∙ ap (λ ws. version_by_open (write_of p ws) (read_of p (now (called c).home new).reads)) adds.writes
       ∙ ap (λ w. version_by_open w (read_of p (now (called c).home new).reads))
       (write_apart p (state (called c)).writes _ (λ z. other (sym z)))
@@ -686,15 +666,13 @@ module _ {L : Type 0} (holds : L → List Val → Type 0) (c : Inside L) (v : Ti
 
   pub write_opens : Opens holds (Writing o) o (called c) (called write_as) value
   write_opens = record {
-    stays = opened_stays holds c v live (Writing o) refl new u adds.goes_on last last_is write_opened refl set_w words_w
+    stays = opened_stays v live refl u adds.goes_on last_is write_opened refl set_w words_w
         values_w writes_w olds_w (λ all. tt) no_more;
-    kept = opened_kept holds c v live (Writing o) refl new u adds.goes_on last last_is write_opened refl set_w words_w
+    kept = opened_kept v live refl u adds.goes_on last_is write_opened refl set_w words_w
         values_w writes_w olds_w (λ all. tt) no_more;
-    continues = opened_continues holds c v live (Writing o) refl new u adds.goes_on last last_is write_opened refl set_w
-        words_w values_w writes_w olds_w (λ all. tt) no_more o
-        (also_held (called c) (called write_as) o value holds_w
-        (holds_still holds c v live (Writing o) refl new None u) others_w)
-        (record {
+    continues = opened_continues v live refl u adds.goes_on last_is write_opened refl set_w
+        words_w values_w writes_w olds_w (λ all. tt) no_more (also_held (called c) (called write_as) o value holds_w
+        (holds_still v live refl u) others_w) (record {
           kept = λ p marked. subst IsTrue (sym (marks_w p)) (still_marked p (state (called c)).writes _ marked);
           others = λ p other. marks_w p ∙ ap is_some (write_apart p (state (called c)).writes _ (λ z. other (sym z)));
         });

@@ -138,46 +138,45 @@ pub record SameOpened (old new : LocalState) : Type 0 where
   pub writes : new.writes ≡ old.writes
   pub recorded : record_resolved new.resolution new.reads ≡ new.reads
 
-kept_recorded : (r : Option Resolution) (rs : List Read) → record_resolved r rs ≡ rs →
+kept_recorded : (r : Option Resolution) {rs : List Read} → record_resolved r rs ≡ rs →
     record_resolved (keep_resolved r) rs ≡ rs
-kept_recorded None rs h = refl
-kept_recorded (Some r) rs h =
+kept_recorded None h = refl
+kept_recorded (Some r) {rs = rs} h =
     cond_both (is_resolved r) (Some r) None (λ (x : Option Resolution). record_resolved x rs ≡ rs) (λ _. h) (λ _. refl)
 
-same_phase : (old l m : LocalState) → SameOpened old l → m.reads ≡ l.reads → m.writes ≡ l.writes →
+same_phase : {old l : LocalState} (m : LocalState) → SameOpened old l → m.reads ≡ l.reads → m.writes ≡ l.writes →
     m.resolution ≡ l.resolution → SameOpened old m
-same_phase old l m h r w res = record {
+same_phase {l = l} m h r w res = record {
   reads = r ∙ h.reads;
   writes = w ∙ h.writes;
   recorded = ap (λ x. record_resolved x m.reads) res ∙ ap (record_resolved l.resolution) r ∙ h.recorded ∙ sym r;
 }
 
-plain_opened : (w : Work) (s : Shape) (old l : LocalState) (e : Event) (k : Kind) → is_plain w k ≡ true → SameOpened old l →
-    SameOpened old (after k s l e)
-plain_opened w s old l e LookNumber p h = record {
+plain_opened : (w : Work) (s : Shape) {old l : LocalState} (e : Event) (k : Kind) → is_plain w k ≡ true → SameOpened
+    old l → SameOpened old (after k s l e)
+plain_opened w s {l = l} e LookNumber p h = record {
   reads = h.recorded ∙ h.reads;
   writes = h.writes;
   recorded =
-      ap (record_resolved (keep_resolved l.resolution)) h.recorded ∙ kept_recorded l.resolution l.reads h.recorded
+      ap (record_resolved (keep_resolved l.resolution)) h.recorded ∙ kept_recorded l.resolution h.recorded
       ∙ sym h.recorded;
 }
-plain_opened w s old l e Check p h = same_phase old l _ h refl refl refl
-plain_opened w s old l e LookSelf p h =
-    cond_both (e.found == given l.phase) _ _ (SameOpened old) (λ _. same_phase old l _ h refl refl refl)
-    (λ _. same_phase old l _ h refl refl refl)
-plain_opened (Committing v) s old l e Rank p h = same_phase old l _ h refl refl refl
-plain_opened w s old l e PutHigh p h = same_phase old l _ h refl refl refl
-plain_opened w s old l e PutNew p h = same_phase old l _ h refl refl refl
-plain_opened w s old l e ToValidating p h =
-    cond_both (e.found == 1) _ _ (SameOpened old) (λ _. same_phase old l _ h refl refl refl)
-    (λ _. same_phase old l _ h refl refl refl)
-plain_opened w s old l e Draw p h = same_phase old l _ h refl refl refl
-plain_opened w s old l e Commit p h = same_phase old l _ h refl refl refl
-plain_opened w s old l e Quit p h = same_phase old l _ h refl refl refl
-plain_opened w s old l e k p h = absurd (cc)
+plain_opened w s e Check p h = same_phase _ h refl refl refl
+plain_opened w s {old = old} {l = l} e LookSelf p h =
+    cond_both (e.found == given l.phase) _ _ (SameOpened old) (λ _. same_phase _ h refl refl refl)
+    (λ _. same_phase _ h refl refl refl)
+plain_opened (Committing v) s e Rank p h = same_phase _ h refl refl refl
+plain_opened w s e PutHigh p h = same_phase _ h refl refl refl
+plain_opened w s e PutNew p h = same_phase _ h refl refl refl
+plain_opened w s {old = old} e ToValidating p h =
+    cond_both (e.found == 1) _ _ (SameOpened old) (λ _. same_phase _ h refl refl refl)
+    (λ _. same_phase _ h refl refl refl)
+plain_opened w s e Draw p h = same_phase _ h refl refl refl
+plain_opened w s e Commit p h = same_phase _ h refl refl refl
+plain_opened w s e Quit p h = same_phase _ h refl refl refl
+plain_opened w s e k p h = absurd (cc)
 
 pub same_opened : (w : Work) (s : Shape) (l : LocalState) (es : List Event) → ArePlain w es →
     record_resolved l.resolution l.reads ≡ l.reads → SameOpened l (state_after s l es)
 same_opened w s l [] h r = record { reads = refl; writes = refl; recorded = r }
-same_opened w s l (e ∷ es) h r =
-    plain_opened w s l (state_after s l es) e e.kind h.0 (same_opened w s l es h.1 r)
+same_opened w s l (e ∷ es) h r = plain_opened w s e e.kind h.0 (same_opened w s l es h.1 r)

@@ -93,8 +93,8 @@ record HasPut (k : Kind) (at_place put : ℕ) (es : List Event) : Type 0 where
   place : event.place ≡ at_place
   put_is : event.put ≡ put
 
-put_more : (k : Kind) (p n : ℕ) (e : Event) (es : List Event) → HasPut k p n es → HasPut k p n (e ∷ es)
-put_more k p n e es h = record {
+put_more : {k : Kind} {p n : ℕ} (e : Event) {es : List Event} → HasPut k p n es → HasPut k p n (e ∷ es)
+put_more e h = record {
   later = e ∷ h.later;
   event = h.event;
   before = h.before;
@@ -109,17 +109,17 @@ record IsReady (l : LocalState) : Type 0 where
   few : l.written ≤ length l.writes
   ready : (l.phase ≡ Validating) ⊎ ((l.phase ≡ Drawn) ⊎ (l.committed ≡ true)) → l.written ≡ length l.writes
 
-same_ready : (l m : LocalState) → m.written ≡ l.written → m.writes ≡ l.writes →
+same_ready : {l : LocalState} (m : LocalState) → m.written ≡ l.written → m.writes ≡ l.writes →
     ((m.phase ≡ Validating) ⊎ ((m.phase ≡ Drawn) ⊎ (m.committed ≡ true)) →
     (l.phase ≡ Validating) ⊎ ((l.phase ≡ Drawn) ⊎ (l.committed ≡ true))) → IsReady l → IsReady m
-same_ready l m w ws was r = record {
+same_ready m w ws was r = record {
   few = let x = r.few in let y = ap length ws in omega arith;
   ready = λ z. w ∙ r.ready (was z) ∙ sym (ap length ws);
 }
 
-gone_ready : (l m : LocalState) → m.written ≡ l.written → m.writes ≡ l.writes → m.phase ≢ Validating →
+gone_ready : {l : LocalState} (m : LocalState) → m.written ≡ l.written → m.writes ≡ l.writes → m.phase ≢ Validating →
     m.phase ≢ Drawn → m.committed ≡ l.committed → IsReady l → IsReady m
-gone_ready l m w ws p q c r = same_ready l m w ws was r
+gone_ready {l = l} m w ws p q c r = same_ready m w ws was r
   where
     was : (m.phase ≡ Validating) ⊎ ((m.phase ≡ Drawn) ⊎ (m.committed ≡ true)) →
         (l.phase ≡ Validating) ⊎ ((l.phase ≡ Drawn) ⊎ (l.committed ≡ true))
@@ -133,31 +133,29 @@ validates : (l : LocalState) → l.written ≤ length l.writes →
 validates l few (inl x) = let y = ap length x.1 in omega arith
 validates l few (inr x) = x.1
 
-ready_step : (v : ℕ → Val) (s : Shape) (l : LocalState) (e : Event) (k : Kind) → is_plain (Committing v) k ≡ true →
+ready_step : (v : ℕ → Val) (s : Shape) {l : LocalState} (e : Event) (k : Kind) → is_plain (Committing v) k ≡ true →
     AllowedAs k s l e → IsReady l → IsReady (after k s l e)
-ready_step v s l e LookNumber p a r = same_ready l _ refl refl (λ z. z) r
-ready_step v s l e Check p a r = same_ready l _ refl refl (λ z. z) r
-ready_step v s l e Rank p a r = same_ready l _ refl refl (λ z. z) r
-ready_step v s l e LookSelf p a r =
-    cond_both (e.found == given l.phase) _ _ IsReady (λ _. same_ready l _ refl refl (λ z. z) r)
-    (λ _. gone_ready l _ refl refl (λ z. cc) (λ z. cc) refl r)
-ready_step v s l e PutHigh p a r = gone_ready l _ refl refl (λ z. cc) (λ z. cc) refl r
-ready_step v s l e PutNew p a r = record { few = let x = a.2.2 in omega arith; ready = ready }
+ready_step v s e LookNumber p a r = same_ready _ refl refl (λ z. z) r
+ready_step v s e Check p a r = same_ready _ refl refl (λ z. z) r
+ready_step v s e Rank p a r = same_ready _ refl refl (λ z. z) r
+ready_step v s {l = l} e LookSelf p a r =
+    cond_both (e.found == given l.phase) _ _ IsReady (λ _. same_ready _ refl refl (λ z. z) r)
+    (λ _. gone_ready _ refl refl (λ z. cc) (λ z. cc) refl r)
+ready_step v s e PutHigh p a r = gone_ready _ refl refl (λ z. cc) (λ z. cc) refl r
+ready_step v s {l = l} e PutNew p a r = record { few = let x = a.2.2 in omega arith; ready = ready }
   where
     ready : ((after PutNew s l e).phase ≡ Validating) ⊎ (((after PutNew s l e).phase ≡ Drawn)
-        ⊎ ((after PutNew s l e).committed ≡ true)) →
-        (after PutNew s l e).written ≡ length (after PutNew s l e).writes
+        ⊎ ((after PutNew s l e).committed ≡ true)) → (after PutNew s l e).written ≡ length (after PutNew s l e).writes
     ready (inl x) = absurd (cc)
     ready (inr (inl x)) = absurd (cc)
     ready (inr (inr x)) = absurd (let y = r.ready (inr (inr x)) in let z = a.2.2 in omega arith)
-ready_step v s l e ToValidating p a r =
-    cond_both (e.found == 1) _ _ IsReady
-    (λ _. record { few = r.few; ready = λ z. validates l r.few a.2.0 })
-    (λ _. gone_ready l _ refl refl (λ z. cc) (λ z. cc) refl r)
-ready_step v s l e Draw p a r = record { few = r.few; ready = λ z. r.ready (inl a.2.0) }
-ready_step v s l e Commit p a r = record { few = r.few; ready = λ z. r.ready (inr (inl a.2.0)) }
-ready_step v s l e Quit p a r = gone_ready l _ refl refl (λ z. cc) (λ z. cc) refl r
-ready_step v s l e k p a r = absurd (cc)
+ready_step v s {l = l} e ToValidating p a r =
+    cond_both (e.found == 1) _ _ IsReady (λ _. record { few = r.few; ready = λ z. validates l r.few a.2.0 })
+    (λ _. gone_ready _ refl refl (λ z. cc) (λ z. cc) refl r)
+ready_step v s e Draw p a r = record { few = r.few; ready = λ z. r.ready (inl a.2.0) }
+ready_step v s e Commit p a r = record { few = r.few; ready = λ z. r.ready (inr (inl a.2.0)) }
+ready_step v s e Quit p a r = gone_ready _ refl refl (λ z. cc) (λ z. cc) refl r
+ready_step v s e k p a r = absurd (cc)
 
 abbrev nth : List Write → ℕ → Write
 nth ws j = or_write (slice_get ws j)
@@ -172,13 +170,13 @@ module _ (v : ℕ → Val) (s : Shape) (ws : List Write) where
     same : l.writes ≡ ws
     is_ready : IsReady l
 
-  stay_put : (l m : LocalState) (e : Event) (es : List Event) → m.written ≡ l.written → m.high_put ≡ l.high_put →
+  stay_put : {l m : LocalState} (e : Event) {es : List Event} → m.written ≡ l.written → m.high_put ≡ l.high_put →
       m.writes ≡ l.writes → IsReady m → ArePutBy l es → ArePutBy m (e ∷ es)
-  stay_put l m e es w h q r x = record {
-    low = λ j lt. put_more _ _ _ e es (x.low j (subst (λ n. j < n) w lt));
-    high = λ j lt. put_more _ _ _ e es (x.high j (subst (λ n. j < n) w lt));
+  stay_put e {es = es} w h q r x = record {
+    low = λ j lt. put_more e (x.low j (subst (λ n. j < n) w lt));
+    high = λ j lt. put_more e (x.high j (subst (λ n. j < n) w lt));
     half = λ z. subst (λ n. HasPut PutHigh (place s (HighWord (nth ws n).locator)) (v (nth ws n).object).high (e ∷ es))
-        (sym w) (put_more _ _ _ e es (x.half (sym h ∙ z)));
+        (sym w) (put_more e (x.half (sym h ∙ z)));
     same = q ∙ x.same;
     is_ready = r;
   }
@@ -191,8 +189,8 @@ module _ (v : ℕ → Val) (s : Shape) (ws : List Write) where
       (k ≡ PutHigh → e.put ≡ (v (next_write l).object).high) → (k ≡ PutNew → e.put ≡ (v (next_write l).object).low) →
       ArePutBy l es → ArePutBy (after k s l e) (e ∷ es)
   put_step l e es PutHigh is p a hi lo x = record {
-    low = λ j lt. put_more _ _ _ e es (x.low j lt);
-    high = λ j lt. put_more _ _ _ e es (x.high j lt);
+    low = λ j lt. put_more e (x.low j lt);
+    high = λ j lt. put_more e (x.high j lt);
     half = λ z. record {
       later = [];
       event = e;
@@ -203,19 +201,19 @@ module _ (v : ℕ → Val) (s : Shape) (ws : List Write) where
       put_is = hi refl ∙ ap (λ (w : Write). (v w.object).high) (next_is l x.same);
     };
     same = x.same;
-    is_ready = ready_step v s l e PutHigh p a x.is_ready;
+    is_ready = ready_step v s e PutHigh p a x.is_ready;
   }
   put_step l e es PutNew is p a hi lo x = record {
     low = λ j lt. lows j (cases_lt j l.written) lt;
     high = λ j lt. highs j (cases_lt j l.written) lt;
     half = λ z. absurd (cc);
     same = x.same;
-    is_ready = ready_step v s l e PutNew p a x.is_ready;
+    is_ready = ready_step v s e PutNew p a x.is_ready;
   }
     where
       lows : (j : ℕ) → (j < l.written) ⊎ (l.written ≤ j) → j < l.written + 1 →
           HasPut PutNew (place s (LowWord (nth ws j).locator)) (v (nth ws j).object).low (e ∷ es)
-      lows j (inl lt) up = put_more _ _ _ e es (x.low j lt)
+      lows j (inl lt) up = put_more e (x.low j lt)
       lows j (inr ge) up =
           let at_j : l.written ≡ j = omega arith in
           let w : next_write l ≡ nth ws j = next_is l x.same ∙ ap (nth ws) at_j in
@@ -231,53 +229,39 @@ module _ (v : ℕ → Val) (s : Shape) (ws : List Write) where
 
       highs : (j : ℕ) → (j < l.written) ⊎ (l.written ≤ j) → j < l.written + 1 →
           HasPut PutHigh (place s (HighWord (nth ws j).locator)) (v (nth ws j).object).high (e ∷ es)
-      highs j (inl lt) up = put_more _ _ _ e es (x.high j lt)
+      highs j (inl lt) up = put_more e (x.high j lt)
       highs j (inr ge) up =
           let at_j : l.written ≡ j = omega arith in
           subst (λ n. HasPut PutHigh (place s (HighWord (nth ws n).locator)) (v (nth ws n).object).high (e ∷ es)) at_j
-          (put_more _ _ _ e es (x.half a.2.3))
-  put_step l e es LookNumber is p a hi lo x =
-      stay_put l _ e es refl refl refl (ready_step v s l e LookNumber p a x.is_ready) x
-  put_step l e es Check is p a hi lo x =
-      stay_put l _ e es refl refl refl (ready_step v s l e Check p a x.is_ready) x
-  put_step l e es Rank is p a hi lo x =
-      stay_put l _ e es refl refl refl (ready_step v s l e Rank p a x.is_ready) x
+          (put_more e (x.half a.2.3))
+  put_step l e es LookNumber is p a hi lo x = stay_put e refl refl refl (ready_step v s e LookNumber p a x.is_ready) x
+  put_step l e es Check is p a hi lo x = stay_put e refl refl refl (ready_step v s e Check p a x.is_ready) x
+  put_step l e es Rank is p a hi lo x = stay_put e refl refl refl (ready_step v s e Rank p a x.is_ready) x
   put_step l e es LookSelf is p a hi lo x = by (cases_Bool (e.found == given l.phase))
     where
       by : (e.found == given l.phase ≡ true) ⊎ (e.found == given l.phase ≡ false) →
           ArePutBy (after LookSelf s l e) (e ∷ es)
-      by (inl q) =
-          let r = ready_step v s l e LookSelf p a x.is_ready in
-          stay_put l (after LookSelf s l e) e es (rw q refl) (rw q refl) (rw q refl) r x
-      by (inr q) =
-          let r = ready_step v s l e LookSelf p a x.is_ready in
-          stay_put l (after LookSelf s l e) e es (rw q refl) (rw q refl) (rw q refl) r x
+      by (inl q) = stay_put e (rw q refl) (rw q refl) (rw q refl) (ready_step v s e LookSelf p a x.is_ready) x
+      by (inr q) = stay_put e (rw q refl) (rw q refl) (rw q refl) (ready_step v s e LookSelf p a x.is_ready) x
   put_step l e es ToValidating is p a hi lo x = by (cases_Bool (e.found == 1))
     where
       by : (e.found == 1 ≡ true) ⊎ (e.found == 1 ≡ false) → ArePutBy (after ToValidating s l e) (e ∷ es)
-      by (inl q) =
-          let r = ready_step v s l e ToValidating p a x.is_ready in
-          stay_put l (after ToValidating s l e) e es (rw q refl) (rw q refl) (rw q refl) r x
-      by (inr q) =
-          let r = ready_step v s l e ToValidating p a x.is_ready in
-          stay_put l (after ToValidating s l e) e es (rw q refl) (rw q refl) (rw q refl) r x
-  put_step l e es Draw is p a hi lo x =
-      stay_put l _ e es refl refl refl (ready_step v s l e Draw p a x.is_ready) x
-  put_step l e es Commit is p a hi lo x =
-      stay_put l _ e es refl refl refl (ready_step v s l e Commit p a x.is_ready) x
-  put_step l e es Quit is p a hi lo x =
-      stay_put l _ e es refl refl refl (ready_step v s l e Quit p a x.is_ready) x
+      by (inl q) = stay_put e (rw q refl) (rw q refl) (rw q refl) (ready_step v s e ToValidating p a x.is_ready) x
+      by (inr q) = stay_put e (rw q refl) (rw q refl) (rw q refl) (ready_step v s e ToValidating p a x.is_ready) x
+  put_step l e es Draw is p a hi lo x = stay_put e refl refl refl (ready_step v s e Draw p a x.is_ready) x
+  put_step l e es Commit is p a hi lo x = stay_put e refl refl refl (ready_step v s e Commit p a x.is_ready) x
+  put_step l e es Quit is p a hi lo x = stay_put e refl refl refl (ready_step v s e Quit p a x.is_ready) x
   put_step l e es k is p a hi lo x = absurd (cc)
 
-  put_all : (l : LocalState) (g : Lcg) (es : List Event) → AreAllowed s l es → Obeys (Doing (Committing v)) s l g es →
+  put_all : {l : LocalState} (g : Lcg) (es : List Event) → AreAllowed s l es → Obeys (Doing (Committing v)) s l g es →
       ArePlain (Committing v) es → ArePutBy l [] → ArePutBy (state_after s l es) es
-  put_all l g [] a h p x = x
-  put_all l g (e ∷ es) a h p x =
+  put_all g [] a h p x = x
+  put_all {l = l} g (e ∷ es) a h p x =
       let m = state_after s l es in
       let right = due_right v s (newest_of es) m (effort_of s l g es) (newest_plain (Committing v) es p.1) in
       put_step m e es e.kind refl p.0 a.1
       (λ q. high_right v m (due_after (Doing (Committing v)) s l g es) e right h.1 q)
-      (λ q. low_right v m (due_after (Doing (Committing v)) s l g es) e right h.1 q) (put_all l g es a.0 h.0 p.1 x)
+      (λ q. low_right v m (due_after (Doing (Committing v)) s l g es) e right h.1 q) (put_all g es a.0 h.0 p.1 x)
 
 -- ---- what stands in a log
 
@@ -290,9 +274,9 @@ own_at c log (x ∷ later) before d h =
     (n.later ++ x ∷ r.0, r.1, n.run ∙ ap (λ xs. n.later ++ x ∷ xs) r.2 ∙ sym (append_assoc n.later (x ∷ r.0) (d ∷ r.1)))
 
 -- what was put by a caller's own event stays
-put_stands : (s : Shape) (c : ℕ) (log es rest : List Event) (k : Kind) (p n : ℕ) → Core s log →
-    events_of c log ≡ es ++ rest → (k ≡ PutHigh) ⊎ (k ≡ PutNew) → HasPut k p n es → at log p ≡ n
-put_stands s c log es rest k p n core own kind x =
+put_stands : (s : Shape) (c : ℕ) (log : List Event) {es : List Event} (rest : List Event) {k : Kind} {p n : ℕ} → Core s
+    log → events_of c log ≡ es ++ rest → (k ≡ PutHigh) ⊎ (k ≡ PutNew) → HasPut k p n es → at log p ≡ n
+put_stands s c log rest {k = k} core own kind x =
     let d = x.event in
     let here = own_at c log x.later (x.before ++ rest) d
     (own ∙ ap (λ xs. xs ++ rest) x.whole ∙ append_assoc x.later (d ∷ x.before) rest) in
@@ -327,7 +311,7 @@ pub commit_puts : (s : Shape) (c : ℕ) (v : ℕ → Val) (log old : List Event)
 commit_puts s c v log old g es core own allowed obeys plain runs undone none half committed =
     let l = local s old c in
     let ws = l.writes in
-    let all = put_all v s ws l g es allowed obeys plain (record {
+    let all = put_all v s ws g es allowed obeys plain (record {
       low = λ j lt. absurd (omega arith);
       high = λ j lt. absurd (omega arith);
       half = λ z. absurd (cc);
@@ -339,8 +323,8 @@ commit_puts s c v log old g es core own allowed obeys plain runs undone none hal
     all_values s v log ws (λ j lt.
     let there : j < (state_after s l es).written = omega arith in
     same_val (new_value s log (nth ws j).locator) (v (nth ws j).object)
-    (put_stands s c log es (events_of c old) PutNew _ _ core own (inr refl) (all.low j there))
-    (put_stands s c log es (events_of c old) PutHigh _ _ core own (inl refl) (all.high j there)))
+    (put_stands s c log (events_of c old) core own (inr refl) (all.low j there))
+    (put_stands s c log (events_of c old) core own (inl refl) (all.high j there)))
   where
     before : ((local s old c).phase ≡ Validating) ⊎ (((local s old c).phase ≡ Drawn)
         ⊎ ((local s old c).committed ≡ true)) → ⊥

@@ -73,53 +73,48 @@ plain_cause w s l es (Stale o) h x = tt
 plain_cause w s l es Killed h x = tt
 plain_cause w s l es Lost h x = absurd (let z = plain_misses w es h in cc)
 plain_cause w s l es Waited h x =
-    absurd (never_pauses w x.pause.kind
-    (plain_at w x.looks x.before x.pause
+    absurd (never_pauses w x.pause.kind (plain_at w x.looks x.before x.pause
     (plain_after w x.later (x.looks ++ x.pause ∷ x.before) (subst (ArePlain w) x.whole h))) x.pauses)
 
-pub stale_or_killed : {L : Type 0} (holds : L → List Val → Type 0) (c : Inside L) (v : Tied holds c)
-    (live : c.live ≡ true) (new : Steps L) (again : Again)
+pub stale_or_killed : {L : Type 0} {holds : L → List Val → Type 0} {c : Inside L} (v : Tied holds c)
+    (live : c.live ≡ true) {new : Steps L} {again : Again}
     (u : InTask holds (called c).home (Doing Rechecking) (began_of (Doing Rechecking) (called c)) new Done
     (Some again)) → IsStaleOrKilled again
-stale_or_killed holds c v live new again u =
+stale_or_killed {c = c} v live {new = new} {again = again} u =
     plain_cause Rechecking c.terms.shape (state (called c)) u.events again
     (are_plain Rechecking c.terms.shape (state (called c)) c.steps.decider.generator u.events refl u.obeys)
     (again_has_its_cause Rechecking c.terms.shape c.number c.steps.decider.generator u.events (called c).log
-    (view_of new.seat).log again (call_there holds c v live Rechecking new (Some again) u)
-    (current_there holds c v live Rechecking new (Some again) u)
-    (call_of holds (called c).home (began_of (Doing Rechecking) (called c)) new (Some again) u).1)
+    (view_of new.seat).log again (call_there v live u) (current_there v live u) (call_of u).1)
 
 -- ---- a recheck that has not left its attempt
 
-module _ {L : Type 0} (holds : L → List Val → Type 0) (c : Inside L) (v : Tied holds c) (live : c.live ≡ true)
-    (new : Steps L)
+module _ {L : Type 0} {holds : L → List Val → Type 0} {c : Inside L} (v : Tied holds c) (live : c.live ≡ true)
+    {new : Steps L}
     (u : InTask holds (called c).home (Doing Rechecking) (began_of (Doing Rechecking) (called c)) new Done None)
-    (last : Option ℕ) (number : ℕ) (is : now (called c).home new ≡ passed number (state (called c)))
+    {last : Option ℕ} (number : ℕ) (is : now (called c).home new ≡ passed number (state (called c)))
     (taken : last ≡ Some number) where
   abbrev then : Inside L
   then = record c { steps = new; last_number = last }
 
   then_is : state (called then) ≡ passed number (state (called c))
-  then_is = state_then holds c (Doing Rechecking) new None u ∙ is
+  then_is = state_then c u ∙ is
 
   pub rechecked_runs : (state (called then)).phase ≡ Running
   rechecked_runs = ap (λ (l : LocalState). l.phase) then_is ∙ v.phase ∙ ap phase_by live
 
   steps : Performs holds (Doing Rechecking) (called c) (called then) None
-  steps = performed holds c v live Rechecking new None u (called then) refl refl refl refl
+  steps = performed v live u (called then) refl refl refl refl
 
   pub rechecked_stays : Stays holds Rechecking (called c) (called then)
-  rechecked_stays =
-      stays holds (called c) (called then) Rechecking steps (λ out. let x = rechecked_runs in cc)
+  rechecked_stays = stays steps (λ out. let x = rechecked_runs in cc)
 
   after_events : state_after c.terms.shape (state (called c)) u.events ≡ passed number (state (called c))
-  after_events =
-      sym (after_own c.terms.shape c.number (view_of new.seat).log (called c).log u.events u.own) ∙ then_is
+  after_events = sym (after_own c.terms.shape c.number (view_of new.seat).log (called c).log u.events u.own) ∙ then_is
 
   in_sight : EndsInSight c.terms.shape c.terms.start.value.items c.number (view_of new.seat).log
   in_sight =
       recheck_sights c.terms.shape c.terms.start.value.items c.number (view_of new.seat).log (called c).log
-      c.steps.decider.generator u.events u.obeys (call_there holds c v live Rechecking new None u).call.done u.top u.own
+      c.steps.decider.generator u.events u.obeys (call_there v live u).call.done u.top u.own
       (ap (λ (l : LocalState). l.phase) after_events ∙ v.phase ∙ ap phase_by live)
       (ap (λ (l : LocalState). l.pass) after_events) (ap (λ (l : LocalState). l.checked) after_events)
 
@@ -129,7 +124,8 @@ module _ {L : Type 0} (holds : L → List Val → Type 0) (c : Inside L) (v : Ti
   -- the attempt has had one sight more
   pub rechecked_counts : sights (called then) ≡ sights (called c) + 1
   rechecked_counts =
-      counts u.events u.obeys (call_there holds c v live Rechecking new None u).call.done u.own (λ out. let x = ap (λ (l : LocalState). l.phase) after_events in
+      counts u.events u.obeys (call_there v live u).call.done u.own
+      (λ out. let x = ap (λ (l : LocalState). l.phase) after_events in
       let y = v.phase in let z = ap phase_by live in cc)
       ∙ ap (λ i. count_of completes_pass c.terms.shape (called c).log c.number i + 1)
       (ap (λ (l : LocalState). l.begun) then_is)
@@ -138,32 +134,26 @@ module _ {L : Type 0} (holds : L → List Val → Type 0) (c : Inside L) (v : Ti
           Obeys (Doing Rechecking) c.terms.shape (state (called c)) c.steps.decider.generator es →
           due_after (Doing Rechecking) c.terms.shape (state (called c)) c.steps.decider.generator es ≡ Done →
           events_of c.number (view_of new.seat).log ≡ es ++ events_of c.number (called c).log →
-          (state_after c.terms.shape (state (called c)) es).phase ≢ Outside →
-          sights (called then)
+          (state_after c.terms.shape (state (called c)) es).phase ≢ Outside → sights (called then)
           ≡ count_of completes_pass c.terms.shape (called c).log c.number (state (called then)).begun + 1
       counts [] h done own inside =
           absurd (begins_pass c.terms.shape (state (called c)) c.steps.decider.generator (v.phase ∙ ap phase_by live) done)
       counts (e ∷ es) h done own inside =
-          one_more_sight c.terms.shape c.terms.start.value.items c.number (view_of new.seat).log (called c).log
-          u.seen.later e es in_sight u.seen.whole own
+          one_more_sight (called c).log u.seen.later e es in_sight u.seen.whole own
           (one_self c.terms.shape (state (called c)) c.steps.decider.generator e es h inside)
 
   told : IsTold (called then)
   told =
-      told_more (called c) (told_there holds c v live Rechecking new None u) holds Rechecking (called then) None steps
-      (current_there holds c v live Rechecking new None u).live
-      (doing_keeps holds Rechecking (called c) (called then) None steps) refl (v.left live) (λ _. tt)
-      (let most = kept_most (called then) in
-      let same = ap (λ (rs : List Read). length rs) (same_there holds c v live Rechecking refl new None u).reads in
-      let was = kept_live (called c) (sym (live_there holds c v) ∙ live) in omega arith)
+      told_more (told_there v live u) steps (current_there v live u).live
+      (doing_keeps steps) refl (v.left live) (λ _. tt) (let most = kept_most (called then) in
+      let same = ap (λ (rs : List Read). length rs) (same_there v live refl u).reads in
+      let was = kept_live (called c) (sym (live_there v) ∙ live) in omega arith)
 
   pub rechecked_tied : Tied holds then
   rechecked_tied =
-      let same = same_there holds c v live Rechecking refl new None u in
-      on_tied holds c v live Rechecking new None u last c.opened rechecked_runs
-      (ap (λ (l : LocalState). l.committed) then_is ∙ v.uncommitted live)
-      (ap (λ (l : LocalState). l.last_pass) then_is ∙ sym taken)
-      (record {
+      let same = same_there v live refl u in
+      on_tied v live u c.opened rechecked_runs (ap (λ (l : LocalState). l.committed) then_is ∙ v.uncommitted live)
+      (ap (λ (l : LocalState). l.last_pass) then_is ∙ sym taken) (record {
         agreed = ap (λ (l : LocalState). l.stale) then_is ∙ (v.rest live).agreed;
         no_pass = ap (λ (l : LocalState). l.pass) then_is;
         not_put = (
@@ -171,21 +161,16 @@ module _ {L : Type 0} (holds : L → List Val → Type 0) (c : Inside L) (v : Ti
           ap (λ (l : LocalState). l.high_put) then_is ∙ (v.rest live).not_put.1,
         );
         recorded = same.recorded;
-      }) told (λ _. rechecked_sighted) (ap words_of same.reads ∙ v.reads live)
-      (values_then holds c v live Rechecking refl new None u)
-      (subst (AreWrites c.opened.writes) (sym same.writes) (v.writes live))
-      (olds_then holds c v live Rechecking refl new None u) refl
+      }) told (λ _. rechecked_sighted) (ap words_of same.reads ∙ v.reads live) (values_then v live refl u)
+      (subst (AreWrites c.opened.writes) (sym same.writes) (v.writes live)) (olds_then v live refl u) refl
 
   pub rechecked_kept : called then ≡ record (called c) { log = (view_of new.seat).log; left = None }
   rechecked_kept =
       ap (λ t. record (called then) { home = record { table = t; terms = c.terms } }) u.seat.0
-      ∙ ap (λ g. record (called c) { log = (view_of new.seat).log; generator = g })
-      (same_generator holds c v live Rechecking refl new None u)
+      ∙ ap (λ g. record (called c) { log = (view_of new.seat).log; generator = g }) (same_generator v live refl u)
       ∙ ap (λ left. record (called c) { log = (view_of new.seat).log; left = left }) (v.left live)
 
   -- it is the same attempt
   pub rechecked_place : (name : GName) (table : Home L) →
       tx_place name table (called then) ≡ tx_place name table (called c)
-  rechecked_place =
-      same_place holds c v live Rechecking new None u
-      (ap (λ (l : LocalState). l.committed) then_is ∙ v.uncommitted live)
+  rechecked_place = same_place v live u (ap (λ (l : LocalState). l.committed) then_is ∙ v.uncommitted live)

@@ -114,9 +114,10 @@ pub record EndsInSight (s : Shape) (start : List Val) (c : ℕ) (log : List Even
   pub covers : (entry_of s start log (local s log c)).reads ≡ seen s start log before c
 
 -- a log whose newest event is a LookSelf that found the status given last
-pub ends_in_sight : (s : Shape) (start : List Val) (c : ℕ) (log before : List Event) (e : Event) → log ≡ e ∷ before →
+pub ends_in_sight : (s : Shape) (start : List Val) (c : ℕ) {log : List Event} (before : List Event) (e : Event) → log
+    ≡ e ∷ before →
     e.caller ≡ c → e.kind ≡ LookSelf → e.found ≡ given (local s before c).phase → EndsInSight s start c log
-ends_in_sight s start c log before e is own kind found =
+ends_in_sight s start c {log = log} before e is own kind found =
     let l = local s before e.caller in
     let keeps = sight_keeps s l e e.kind kind in
     let now : local s log c ≡ after e.kind s l e =
@@ -128,8 +129,7 @@ ends_in_sight s start c log before e is own kind found =
       is = is;
       is_one = record { kind = kind; found = found ∙ ap (λ n. given (local s before n).phase) (sym own) };
       caller = own;
-      attempt =
-          sym (ap (λ (m : LocalState). m.begun) now ∙ keeps.2 ∙ ap (λ (m : LocalState). m.begun) was);
+      attempt = sym (ap (λ (m : LocalState). m.begun) now ∙ keeps.2 ∙ ap (λ (m : LocalState). m.begun) was);
       covers =
           ap (λ (m : LocalState). read_values s start log m.reads ++ old_values s start log m.writes) now
           ∙ ap (λ rs. read_values s start log rs ++ old_values s start log (after e.kind s l e).writes) keeps.0
@@ -137,9 +137,9 @@ ends_in_sight s start c log before e is own kind found =
           ∙ ap (λ (m : LocalState). read_values s start log m.reads ++ old_values s start log m.writes) was;
     }
 
-pub head_own : (c : ℕ) (log es before : List Event) (e : Event) → log ≡ e ∷ before → events_of c log ≡ e ∷ es →
-    (e.caller ≡ c) × (events_of c before ≡ es)
-head_own c log es before e is own = by (cases_Bool (e.caller == c))
+pub head_own : (c : ℕ) {log : List Event} (es before : List Event) (e : Event) → log ≡ e ∷ before → events_of c log ≡ e
+    ∷ es → (e.caller ≡ c) × (events_of c before ≡ es)
+head_own c es before e is own = by (cases_Bool (e.caller == c))
   where
     told : events_of c (e ∷ before) ≡ e ∷ es
     told = ap (events_of c) (sym is) ∙ own
@@ -157,8 +157,7 @@ begins_pass s l g run done =
     cond_both (l.stale || (0 == MAX_MISSED)) (just Quit) (just LookNumber) (λ d. d ≡ Done → ⊥) (λ _ q. cc) (λ _ q. cc) z
 
 pub recheck_sights : (s : Shape) (start : List Val) (c : ℕ) (log old : List Event) (g : Lcg) (es : List Event) →
-    Obeys (Doing Rechecking) s (local s old c) g es →
-    due_after (Doing Rechecking) s (local s old c) g es ≡ Done →
+    Obeys (Doing Rechecking) s (local s old c) g es → due_after (Doing Rechecking) s (local s old c) g es ≡ Done →
     IfSome (newest_of es) (λ event. (before : List Event) × (log ≡ event ∷ before)) →
     events_of c log ≡ es ++ events_of c old →
     (state_after s (local s old c) es).phase ≡ Running → (state_after s (local s old c) es).pass ≡ None →
@@ -169,8 +168,8 @@ recheck_sights s start c log old g (e ∷ es) obeys done top own run none zero =
     let l = local s old c in
     let plain = are_plain Rechecking s l g (e ∷ es) refl obeys in
     let at_self = look_self s (state_after s l es) e e.kind plain.0 run none zero in
-    let head = head_own c log (es ++ events_of c old) top.0 e top.1 own in
-    ends_in_sight s start c log top.0 e top.1 head.0 at_self.0
+    let head = head_own c (es ++ events_of c old) top.0 e top.1 own in
+    ends_in_sight s start c top.0 e top.1 head.0 at_self.0
     (at_self.1 ∙ ap (λ (m : LocalState). given m.phase) (sym (after_own s c top.0 old es head.1)))
 
 pub sighted_of : {L : Type 0} (k : Called L) → EndsInSight (shape_of k) (start_of k) k.number k.log → Sighted k
@@ -246,21 +245,19 @@ none_counted s c i (e ∷ later) before h = go (cases_Bool (e.caller == c)) (non
     go (inr q) ih = rw q (ih (rw q at h))
 
 -- a log that goes on with a call of one sight has one more
-pub one_more_sight : (s : Shape) (start : List Val) (c : ℕ) (log before later : List Event) (e : Event)
+pub one_more_sight : {s : Shape} {start : List Val} {c : ℕ} {log : List Event} (before later : List Event) (e : Event)
     (es : List Event) → EndsInSight s start c log → later ++ before ≡ log →
-    events_of c log ≡ (e ∷ es) ++ events_of c before → NoSelf es →
-    count_of completes_pass s log c (local s log c).begun
+    events_of c log ≡ (e ∷ es) ++ events_of c before → NoSelf es → count_of completes_pass s log c (local s log c).begun
     ≡ count_of completes_pass s before c (local s log c).begun + 1
-one_more_sight s start c log before [] e es x whole own none =
+one_more_sight {c = c} before [] e es x whole own none =
     absurd (let n = ap length own in let m = ap (λ xs. length (events_of c xs)) whole in
     let a = length-append (e ∷ es) (events_of c before) in omega arith)
-one_more_sight s start c log before (y ∷ later) e es x whole own none =
+one_more_sight {s = s} {start = start} {c = c} {log = log} before (y ∷ later) e es x whole own none =
     let i = (local s log c).begun in
     let head : y ∷ (later ++ before) ≡ x.sight ∷ x.before = whole ∙ x.is in
     let rest : later ++ before ≡ x.before = cc in
-    let at_head = head_own c log (es ++ events_of c before) x.before x.sight x.is (own_head x.sight x.before x.is) in
-    let own_rest : events_of c later ≡ es =
-    append_cancel_right (events_of c later) es (events_of c before)
+    let at_head = head_own c (es ++ events_of c before) x.before x.sight x.is (own_head x.sight x.before x.is) in
+    let own_rest : events_of c later ≡ es = append_cancel_right (events_of c later) es (events_of c before)
     (sym (filter-append (λ (z : Event). z.caller == c) later before) ∙ ap (events_of c) rest ∙ at_head.1) in
     let count : count_of completes_pass s x.before c i ≡ count_of completes_pass s before c i =
     ap (λ xs. count_of completes_pass s xs c i) (sym rest)

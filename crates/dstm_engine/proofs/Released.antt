@@ -81,8 +81,7 @@ values_drop s start run o (r ∷ rs) = go (cases_Bool (r.object == o)) (values_d
         read_values s start run (drop_read o rs) ≡ without o (read_values s start run rs) →
         read_values s start run (drop_read o (r ∷ rs)) ≡ without o (read_values s start run (r ∷ rs))
     go (inl q) ih = rw q refl
-    go (inr q) ih =
-        rw q (ap (λ xs. (r.object, version_value s start run r.object r.version) ∷ xs) ih)
+    go (inr q) ih = rw q (ap (λ xs. (r.object, version_value s start run r.object r.version) ∷ xs) ih)
 
 slots_drop : {A : Type 0} → (f : ReadSlot → ℕ × A) → ((slot : ReadSlot) → (f slot).0 ≡ slot.object) → (o : ℕ) →
     (slots : List ReadSlot) → map f (without_read o slots) ≡ without o (map f slots)
@@ -133,11 +132,11 @@ self_runs s l e LookSelf q a = a.2.0
 self_runs s l e k q a = absurd (cc)
 
 -- what a sight covers has the same values in a longer log
-sight_stays : (s : Shape) (start : List Val) (later before more : List Event) (sight : Event) →
-    Core s (more ++ (later ++ sight ∷ before)) → sight.caller < s.callers → IsSight s before sight →
+sight_stays : {s : Shape} (start : List Val) (later : List Event) {before : List Event} (more : List Event)
+    {sight : Event} → Core s (more ++ (later ++ sight ∷ before)) → sight.caller < s.callers → IsSight s before sight →
     seen s start (more ++ (later ++ sight ∷ before)) before sight.caller
     ≡ seen s start (later ++ sight ∷ before) before sight.caller
-sight_stays s start later before more sight core few is =
+sight_stays {s = s} start later {before = before} more {sight = sight} core few is =
     let there = core_past s more (later ++ sight ∷ before) core in
     let at_sight = core_past s later (sight ∷ before) there in
     let runs = self_runs s (local s before sight.caller) sight sight.kind is.kind at_sight.1.allowed in
@@ -202,7 +201,7 @@ no_self o s l g (e ∷ es) h =
 
 -- ---- a read is there
 
-module _ {L : Type 0} (holds : L → List Val → Type 0) (c : Inside L) (v : Tied holds c) (o : ℕ)
+module _ {L : Type 0} {holds : L → List Val → Type 0} {c : Inside L} (v : Tied holds c) (o : ℕ)
     (read : is_some (held (called c) o) && not (is_opened (called c) o) ≡ true) where
   pub not_open : is_opened (called c) o ≡ false
   not_open = by (is_opened (called c) o) (and_parts (is_some (held (called c) o)) (not (is_opened (called c) o)) read).1
@@ -236,16 +235,15 @@ one_fewer o (r ∷ rs) some = by (one_fewer o rs) (cases_Bool (r.object == o))
 
 -- ---- the caller then
 
-module _ {L : Type 0} (holds : L → List Val → Type 0) (c : Inside L) (v : Tied holds c) (live : c.live ≡ true) (o : ℕ)
-    (new : Steps L)
+module _ {L : Type 0} {holds : L → List Val → Type 0} {c : Inside L} (v : Tied holds c) (live : c.live ≡ true) {o : ℕ}
+    {new : Steps L}
     (u : InTask holds (called c).home (Doing (Releasing o)) (began_of (Doing (Releasing o)) (called c)) new Done None)
     (is : now (called c).home new ≡ record (state (called c)) {
       reads = drop_read o (state (called c)).reads;
       resolution = None;
       pass = None;
       checked = 0;
-    })
-    (read : is_some (held (called c) o) && not (is_opened (called c) o) ≡ true) where
+    }) (read : is_some (held (called c) o) && not (is_opened (called c) o) ≡ true) where
   abbrev pub released : Inside L
   released = record c { steps = new; opened = record c.opened { reads = without_read o c.opened.reads } }
 
@@ -255,23 +253,23 @@ module _ {L : Type 0} (holds : L → List Val → Type 0) (c : Inside L) (v : Ti
     pass = None;
     checked = 0;
   }
-  then_is = state_then holds c (Doing (Releasing o)) new None u ∙ is
+  then_is = state_then c u ∙ is
 
   steps : Performs holds (Doing (Releasing o)) (called c) (called released) None
-  steps = performed holds c v live (Releasing o) new None u (called released) refl refl refl refl
+  steps = performed v live u (called released) refl refl refl refl
 
   values : read_values c.terms.shape c.terms.start.value.items (view_of new.seat).log (state (called released)).reads
       ≡ without o (read_values c.terms.shape c.terms.start.value.items (called c).log (state (called c)).reads)
   values =
       ap (λ (l : LocalState). read_values c.terms.shape c.terms.start.value.items (view_of new.seat).log l.reads) then_is
       ∙ values_drop c.terms.shape c.terms.start.value.items (view_of new.seat).log o (state (called c)).reads
-      ∙ ap (without o) (stay holds c v live (Releasing o) new None u).0
+      ∙ ap (without o) (stay v live u).0
 
   olds : old_values c.terms.shape c.terms.start.value.items (view_of new.seat).log (state (called released)).writes
       ≡ old_values c.terms.shape c.terms.start.value.items (called c).log (state (called c)).writes
   olds =
       ap (λ (l : LocalState). old_values c.terms.shape c.terms.start.value.items (view_of new.seat).log l.writes) then_is
-      ∙ (stay holds c v live (Releasing o) new None u).1
+      ∙ (stay v live u).1
 
   held_then : (p : ℕ) → held (called released) p
       ≡ value_in (without o (read_values c.terms.shape c.terms.start.value.items (called c).log (state (called c)).reads)
@@ -290,10 +288,9 @@ module _ {L : Type 0} (holds : L → List Val → Type 0) (c : Inside L) (v : Ti
         (old_values c.terms.shape c.terms.start.value.items (called c).log (state (called c)).writes)
         (state (called c)).reads (tidy c.terms.shape (called c).log v.run.run.core c.number).reads
         ∙ ap (λ ws. value_in ws o) (v.olds live)
-        ∙ none_of (value_in (map slot_old c.opened.writes) o)
-        (old_there c.opened.writes o
+        ∙ none_of (value_in (map slot_old c.opened.writes) o) (old_there c.opened.writes o
         ∙ sym (opened_slot c.opened.writes (state (called c)).writes o (v.writes live))
-        ∙ not_open holds c v o read);
+        ∙ not_open v o read);
     others = λ p other. held_then p
         ∙ without_others o p
         (read_values c.terms.shape c.terms.start.value.items (called c).log (state (called c)).reads)
@@ -302,13 +299,11 @@ module _ {L : Type 0} (holds : L → List Val → Type 0) (c : Inside L) (v : Ti
 
   told : IsTold (called released)
   told =
-      told_more (called c) (told_there holds c v live (Releasing o) new None u) holds (Releasing o) (called released) None
-      steps (current_there holds c v live (Releasing o) new None u).live
-      (doing_keeps holds (Releasing o) (called c) (called released) None steps) refl (v.left live) (λ _. tt)
-      (let most = kept_most (called released) in
+      told_more (told_there v live u) steps (current_there v live u).live
+      (doing_keeps steps) refl (v.left live) (λ _. tt) (let most = kept_most (called released) in
       let now = ap (λ (l : LocalState). length l.reads) then_is in
-      let fewer = one_fewer o (state (called c)).reads (read_there holds c v o read) in
-      let was = kept_live (called c) (sym (live_there holds c v) ∙ live) in omega arith)
+      let fewer = one_fewer o (state (called c)).reads (read_there v o read) in
+      let was = kept_live (called c) (sym (live_there v) ∙ live) in omega arith)
 
   -- the call makes no pass
   no_sight : (i : ℕ) → count_of completes_pass c.terms.shape (view_of new.seat).log c.number i
@@ -326,7 +321,7 @@ module _ {L : Type 0} (holds : L → List Val → Type 0) (c : Inside L) (v : Ti
       let z = and_parts (is_some (held (called c) o)) (not (is_opened (called c) o)) read in cc) in
       let log : (view_of new.seat).log ≡ u.seen.later ++ (x.later ++ x.sight ∷ x.before) =
       sym u.seen.whole ∙ ap (λ xs. u.seen.later ++ xs) x.log in
-      let stays = sight_stays c.terms.shape c.terms.start.value.items x.later x.before u.seen.later x.sight
+      let stays = sight_stays c.terms.start.value.items x.later u.seen.later
       (subst (Core c.terms.shape) log u.run.run.core) (subst (λ n. n < c.terms.shape.callers) (sym x.caller) v.number.0)
       x.is_one in
       let same : seen c.terms.shape c.terms.start.value.items (view_of new.seat).log x.before c.number
@@ -362,18 +357,15 @@ module _ {L : Type 0} (holds : L → List Val → Type 0) (c : Inside L) (v : Ti
 
   pub released_tied : Tied holds released
   released_tied =
-      on_tied holds c v live (Releasing o) new None u c.last_number
-      (record c.opened { reads = without_read o c.opened.reads })
+      on_tied v live u (record c.opened { reads = without_read o c.opened.reads })
       (ap (λ (l : LocalState). l.phase) then_is ∙ v.phase ∙ ap phase_by live)
       (ap (λ (l : LocalState). l.committed) then_is ∙ v.uncommitted live)
-      (ap (λ (l : LocalState). l.last_pass) then_is ∙ v.last_number live)
-      (subst AtRest (sym then_is) (record {
+      (ap (λ (l : LocalState). l.last_pass) then_is ∙ v.last_number live) (subst AtRest (sym then_is) (record {
         agreed = (v.rest live).agreed;
         no_pass = refl;
         not_put = (v.rest live).not_put;
         recorded = refl;
-      })) told (λ _. sighted)
-      (ap (λ (l : LocalState). words_of l.reads) then_is ∙ words_drop o (state (called c)).reads
+      })) told (λ _. sighted) (ap (λ (l : LocalState). words_of l.reads) then_is ∙ words_drop o (state (called c)).reads
       ∙ ap (without o) (v.reads live) ∙ sym (slots_drop slot_word (λ slot. refl) o c.opened.reads))
       (values ∙ ap (without o) (v.values live) ∙ sym (slots_drop slot_value (λ slot. refl) o c.opened.reads))
       (subst (AreWrites c.opened.writes) (sym (ap (λ (l : LocalState). l.writes) then_is)) (v.writes live))
@@ -382,16 +374,12 @@ module _ {L : Type 0} (holds : L → List Val → Type 0) (c : Inside L) (v : Ti
   -- it is the same attempt
   pub released_place : (name : GName) (table : Home L) →
       tx_place name table (called released) ≡ tx_place name table (called c)
-  released_place =
-      same_place holds c v live (Releasing o) new None u
-      (ap (λ (l : LocalState). l.committed) then_is ∙ v.uncommitted live)
+  released_place = same_place v live u (ap (λ (l : LocalState). l.committed) then_is ∙ v.uncommitted live)
 
-  pub released_widens : (map : List Val) → Admits holds (called c) map → Admits holds (called released) map
-  released_widens map a = record { length = a.length; lawful = a.lawful; agrees = λ p. by p (cases_eq p o) }
+  pub released_widens : {map : List Val} → Admits holds (called c) map → Admits holds (called released) map
+  released_widens {map = map} a = record { length = a.length; lawful = a.lawful; agrees = λ p. by p (cases_eq p o) }
     where
       by : (p : ℕ) → (p ≡ o) ⊎ (p ≡ o → ⊥) → IfSome (held (called released) p) (λ w. value_at map p ≡ w)
       by p (inl q) =
-          subst (λ h. IfSome h (λ w. value_at map p ≡ w))
-          (sym (ap (held (called released)) q ∙ holds_without.gone)) tt
-      by p (inr q) =
-          subst (λ h. IfSome h (λ w. value_at map p ≡ w)) (sym (holds_without.others p q)) (a.agrees p)
+          subst (λ h. IfSome h (λ w. value_at map p ≡ w)) (sym (ap (held (called released)) q ∙ holds_without.gone)) tt
+      by p (inr q) = subst (λ h. IfSome h (λ w. value_at map p ≡ w)) (sym (holds_without.others p q)) (a.agrees p)

@@ -40,17 +40,16 @@ leaving_none s l gen (e ∷ es) h =
     (quits_none e e.kind (quit_only (is_outside (state_after s l es).phase) e h.1)) (leaving_none s l gen es h.0)
 
 -- an attempt that is quit adds nothing to what its caller has committed
-pub leaving_done : {L : Type 0} (holds : L → List Val → Type 0) (k quit : Called L) →
+pub leaving_done : {L : Type 0} {holds : L → List Val → Type 0} {k quit : Called L} →
     Performs holds Leaving k quit None → done_by (shape_of k) (start_of k) quit.log quit.log k.number ≡ done k
-leaving_done holds k quit steps =
+leaving_done {k = k} steps =
     subst (λ xs. done_by (shape_of k) (start_of k) xs xs k.number ≡ done k) steps.seen.whole
     (call_adds_none (shape_of k) (start_of k) steps.seen.later k.log k.number steps.events
     (subst (Core (shape_of k)) (sym steps.seen.whole) steps.run.run.core)
-    (subst (λ xs. events_of k.number xs ≡ steps.events ++ events_of k.number k.log) (sym steps.seen.whole)
-    steps.own)
+    (subst (λ xs. events_of k.number xs ≡ steps.events ++ events_of k.number k.log) (sym steps.seen.whole) steps.own)
     (leaving_none (shape_of k) (state k) k.generator steps.events steps.call.obeys))
 
-module _ {L : Type 0} (holds : L → List Val → Type 0) (v w : View L) (k quit : Called L)
+module _ {L : Type 0} {holds : L → List Val → Type 0} {v w : View L} {k quit : Called L}
     (steps : Performs holds Leaving k quit None) (joined : Joined holds v (seat_view quit) w) where
   one_of : Contains (quit.number ∷ []) k.number
   one_of = (0, omega arith, steps.same.1)
@@ -67,4 +66,4 @@ module _ {L : Type 0} (holds : L → List Val → Type 0) (v w : View L) (k quit
       (subst (Core (shape_of k)) (sym joined.other_past.whole) run.run.core)
       (subst (λ xs. events_of k.number xs ≡ events_of k.number quit.log) (sym joined.other_past.whole)
       (joined.other_kept k.number one_of)))
-      ∙ leaving_done holds k quit steps
+      ∙ leaving_done steps

@@ -80,8 +80,7 @@ set_others o p v (s ∷ slots) other = by (set_others o p v slots other) (cases_
     by ih (inl q) =
         let apart : s.object == p ≡ false = ne_eqb s.object p (λ z. other (sym z ∙ eqb-true s.object o q)) in
         rw (q, apart) (sym (with_new_apart s.object p s.new (set_pairs slots) apart))
-    by ih (inr q) =
-        rw q (with_new_other s.object p s.new (set_pairs (with_set_slot o v slots)) (set_pairs slots) ih)
+    by ih (inr q) = rw q (with_new_other s.object p s.new (set_pairs (with_set_slot o v slots)) (set_pairs slots) ih)
 
 -- only this object has a new value
 pub sets_only : (o : ℕ) (v : Val) (slots : List WriteSlot) → is_some (write_slot slots o) ≡ true →
@@ -96,13 +95,12 @@ abbrev after_set : {L : Type 0} → Inside L → Bool → List WriteSlot → Cal
 after_set c fresh slots = record (called c) { fresh = fresh; set = set_pairs slots }
 
 -- a caller stays as it was but for its transaction and the values that it sets
-pub stays_tied : {L : Type 0} (holds : L → List Val → Type 0) (c : Inside L) (fresh : Bool) (slots : List WriteSlot) →
+pub stays_tied : {L : Type 0} {holds : L → List Val → Type 0} {c : Inside L} (fresh : Bool) (slots : List WriteSlot) →
     Tied holds c → (fresh ≡ false → c.fresh ≡ false) →
     IfSome c.left (λ again. IsLeft (after_set c fresh slots) again × Promises (after_set c fresh slots) again) →
-    (c.live ≡ true → AreWrites slots (state (called c)).writes) →
-    map slot_old slots ≡ map slot_old c.opened.writes →
+    (c.live ≡ true → AreWrites slots (state (called c)).writes) → map slot_old slots ≡ map slot_old c.opened.writes →
     Tied holds (record c { fresh = fresh; opened = record c.opened { writes = slots } })
-stays_tied holds c fresh slots t still ended writes olds = record {
+stays_tied fresh slots t still ended writes olds = record {
   seat = t.seat;
   run = t.run;
   number = t.number;
@@ -148,11 +146,11 @@ stays_tied holds c fresh slots t still ended writes olds = record {
 }
 
 -- a value that is set
-pub set_tied : {L : Type 0} (holds : L → List Val → Type 0) (c : Inside L) (o : ℕ) (v : Val) → Tied holds c →
+pub set_tied : {L : Type 0} {holds : L → List Val → Type 0} {c : Inside L} (o : ℕ) (v : Val) → Tied holds c →
     c.live ≡ true → Tied holds (record c { opened = record c.opened { writes = with_set_slot o v c.opened.writes } })
-set_tied holds c o v t live =
+set_tied {c = c} o v t live =
     let slots = with_set_slot o v c.opened.writes in
-    stays_tied holds c c.fresh slots t (λ h. h)
+    stays_tied c.fresh slots t (λ h. h)
     (subst (λ left. IfSome left (λ again. IsLeft (after_set c c.fresh slots) again × Promises (after_set c c.fresh slots) again))
     (sym (t.left live)) tt) (λ on. are_writes_set o v c.opened.writes _ (t.writes on)) (olds_set o v c.opened.writes)
 

@@ -49,22 +49,21 @@ pub record Sees (s : Shape) (log : List Event) (c : ℕ) : Type 0 where
   pub writes : (local s log c).writes ≡ (local s before c).writes
 
 -- after a caller's newest event it has none
-none_later : (c : ℕ) (log rest : List Event) (e : Event) → events_of c log ≡ e ∷ rest →
+none_later : {c : ℕ} {log rest : List Event} {e : Event} → events_of c log ≡ e ∷ rest →
     (n : IsNewest c log e rest) → events_of c n.later ≡ []
-none_later c log rest e own n =
+none_later {c = c} {rest = rest} {e = e} own n =
     let mine : e.caller == c ≡ true = eq-eqb e.caller c n.own in
     let here : events_of c (e ∷ n.before) ≡ e ∷ rest = rw mine (ap (λ xs. e ∷ xs) n.rest) in
-    append_cancel_right (events_of c n.later) [] (e ∷ rest)
-    (ap (λ xs. events_of c n.later ++ xs) (sym here)
+    append_cancel_right (events_of c n.later) [] (e ∷ rest) (ap (λ xs. events_of c n.later ++ xs) (sym here)
     ∙ sym (filter-append (λ (x : Event). x.caller == c) n.later (e ∷ n.before))
     ∙ ap (events_of c) (sym n.run) ∙ own)
 
 -- the state of a caller is that after its newest event
-newest_state : (s : Shape) (c : ℕ) (log rest : List Event) (e : Event) (own : events_of c log ≡ e ∷ rest) →
+newest_state : (s : Shape) {c : ℕ} {log rest : List Event} {e : Event} (own : events_of c log ≡ e ∷ rest) →
     (n : IsNewest c log e rest) → local s log c ≡ after e.kind s (local s n.before c) e
-newest_state s c log rest e own n =
+newest_state s {c = c} {e = e} own n =
     ap (λ xs. local s xs c) n.run ∙ own_state s c n.later (e ∷ n.before)
-    ∙ ap (state_after s (local s (e ∷ n.before) c)) (none_later c log rest e own n)
+    ∙ ap (state_after s (local s (e ∷ n.before) c)) (none_later own n)
     ∙ ap (local s (e ∷ n.before)) (sym n.own) ∙ local_own s n.before e
     ∙ ap (λ a. after e.kind s (local s n.before a) e) n.own
 
@@ -83,7 +82,7 @@ look_sees : (s : Shape) (c : ℕ) (log rest : List Event) (e : Event) → events
     (local s log c).phase ≢ Outside → Sees s log c
 look_sees s c log rest e own kind live =
     let n = newest_own c log e rest own in
-    let now = newest_state s c log rest e own n in
+    let now = newest_state s own n in
     let keeps = sight_keeps s (local s n.before c) e e.kind kind in
     record {
       later = n.later;
@@ -93,14 +92,13 @@ look_sees s c log rest e own kind live =
       is_one = record {
         kind = kind;
         found =
-            found_given s (local s n.before c) e e.kind kind
-            (subst (λ (l : LocalState). l.phase ≢ Outside) now live)
+            found_given s (local s n.before c) e e.kind kind (subst (λ (l : LocalState). l.phase ≢ Outside) now live)
             ∙ ap (λ a. given (local s n.before a).phase) (sym n.own);
       };
       caller = n.own;
       attempt = sym (ap (λ (l : LocalState). l.begun) now ∙ keeps.2);
       newest = λ i. ap (λ xs. count_of completes_pass s xs c i) n.run
-          ∙ none_counted s c i n.later (e ∷ n.before) (subst NoSelf (sym (none_later c log rest e own n)) tt);
+          ∙ none_counted s c i n.later (e ∷ n.before) (subst NoSelf (sym (none_later own n)) tt);
       reads = ap (λ (l : LocalState). l.reads) now ∙ keeps.0;
       writes = ap (λ (l : LocalState). l.writes) now ∙ keeps.1;
     }
@@ -119,7 +117,7 @@ rank_sees : (s : Shape) (c : ℕ) (log rest : List Event) (rank e : Event) → e
     rank.kind ≡ Rank → e.kind ≡ LookSelf → (local s log c).phase ≢ Outside → Sees s log c
 rank_sees s c log rest rank e own raised kind live =
     let n = newest_own c log rank (e ∷ rest) own in
-    let now = newest_state s c log (e ∷ rest) rank own n in
+    let now = newest_state s own n in
     let keeps = rank_keeps s (local s n.before c) rank rank.kind raised in
     let x = look_sees s c n.before rest e n.rest kind
     (λ out. live (ap (λ (l : LocalState). l.phase) now ∙ keeps.3 ∙ out)) in
@@ -134,18 +132,17 @@ rank_sees s c log rest rank e own raised kind live =
       caller = x.caller;
       attempt = x.attempt ∙ sym (ap (λ (l : LocalState). l.begun) now ∙ keeps.2);
       newest = λ i. ap (λ xs. count_of completes_pass s xs c i) n.run
-          ∙ none_counted s c i n.later (rank ∷ n.before)
-          (subst NoSelf (sym (none_later c log (e ∷ rest) rank own n)) tt)
+          ∙ none_counted s c i n.later (rank ∷ n.before) (subst NoSelf (sym (none_later own n)) tt)
           ∙ none_counted s c i (rank ∷ []) n.before (rank_only c rank (ap is_look_self raised)) ∙ x.newest i;
       reads = ap (λ (l : LocalState). l.reads) now ∙ keeps.0 ∙ x.reads;
       writes = ap (λ (l : LocalState). l.writes) now ∙ keeps.1 ∙ x.writes;
     }
 
 -- an open that goes on has just made a complete pass
-pub open_sees : (s : Shape) (c : ℕ) (log old : List Event) (w : Work) (g : Lcg) (es : List Event) → is_open w ≡ true →
+pub open_sees : {s : Shape} (c : ℕ) (log old : List Event) {w : Work} {g : Lcg} {es : List Event} → is_open w ≡ true →
     (local s old c).phase ≡ Running → IsCall (Doing w) s (local s old c) g es →
     events_of c log ≡ es ++ events_of c old → (local s log c).phase ≡ Running → Sees s log c
-open_sees s c log old w g es opens run call own runs = by (cases_Bool (rises s.manager))
+open_sees {s = s} c log old {w = w} {g = g} {es = es} opens run call own runs = by (cases_Bool (rises s.manager))
   where
     now : local s log c ≡ state_after s (local s old c) es
     now = after_own s c log old es own
@@ -159,8 +156,7 @@ open_sees s c log old w g es opens run call own runs = by (cases_Bool (rises s.m
         (ap (λ (l : LocalState). is_outside l.phase) (sym now) ∙ ap is_outside runs)
 
     in_pass : EndsInPass s (local s old c) es → Sees s log c
-    in_pass p =
-        look_sees s c log _ p.end (own ∙ ap (λ xs. xs ++ events_of c old) p.are) p.ends live
+    in_pass p = look_sees s c log _ p.end (own ∙ ap (λ xs. xs ++ events_of c old) p.are) p.ends live
 
     in_rank : EndsInRank s (local s old c) es → Sees s log c
     in_rank r =
@@ -191,9 +187,9 @@ sees_all k x = record {
 }
 
 -- so there is a lawful map that agrees with what is held
-pub sighted_admits : {L : Type 0} (holds : L → List Val → Type 0) (k : Called L) → IsRunOf holds k.home.terms k.log →
+pub sighted_admits : {L : Type 0} {holds : L → List Val → Type 0} {k : Called L} → IsRunOf holds k.home.terms k.log →
     Sighted k → (map : List Val) × Admits holds k map
-sighted_admits holds k run x =
+sighted_admits {holds = holds} {k = k} run x =
     let core = subst (CoreRun (shape_of k) (start_of k) (holds (law_of k))) x.log run.run in
     let m = sights_have_maps (shape_of k) (start_of k) (holds (law_of k)) x.later x.before x.sight core x.is_one
     run.lawful in (

@@ -27,8 +27,8 @@ module _ (s : Shape) (fresh : Bool) (l : LocalState) (e : Event) where
   abbrev Same : Due → Type 0
   Same d = IsDue d e → is_begin e.kind ≡ false → (after e.kind s l e).begun ≡ l.begun
 
-  by_kind : (k : Kind) → (after k s l e).begun ≡ l.begun → e.kind ≡ k → (after e.kind s l e).begun ≡ l.begun
-  by_kind k same is = subst (λ k. (after k s l e).begun ≡ l.begun) (sym is) same
+  by_kind : {k : Kind} → (after k s l e).begun ≡ l.begun → e.kind ≡ k → (after e.kind s l e).begun ≡ l.begun
+  by_kind {k = k} same is = subst (λ k. (after k s l e).begun ≡ l.begun) (sym is) same
 
   begin_same : Same (just Begin)
   begin_same h other = absurd (let no_way : true ≡ false = sym (ap is_begin h.0) ∙ other in cc)
@@ -36,11 +36,11 @@ module _ (s : Shape) (fresh : Bool) (l : LocalState) (e : Event) where
   beginning_same : (o : Option Event) → Same (in_beginning s fresh o l)
   beginning_same o =
       cond_both (has_begun o) _ _ Same (λ _ h other. absurd h) (λ _.
-      cond_both (not (is_outside l.phase)) _ _ Same (λ _ h other. by_kind Quit refl h.0) (λ _.
+      cond_both (not (is_outside l.phase)) _ _ Same (λ _ h other. by_kind refl h.0) (λ _.
       cond_both (is_spent s l) _ _ Same (λ _ h other. absurd h) (λ _.
-      cond_both (has_stamps s.manager && fresh && not l.stamped) _ _ Same (λ _ h other. by_kind Stamp refl h.0) (λ _.
+      cond_both (has_stamps s.manager && fresh && not l.stamped) _ _ Same (λ _ h other. by_kind refl h.0) (λ _.
       cond_both (has_ranks s.manager && not l.ranked) (Step Rank (if rises s.manager && fresh then 0 else l.rank)) (just Begin)
-      Same (λ _ h other. by_kind Rank refl h.0) (λ _. begin_same)))))
+      Same (λ _ h other. by_kind refl h.0) (λ _. begin_same)))))
 
 still_begun : (s : Shape) (l : LocalState) (g : Lcg) (fresh : Bool) (es : List Event) → Obeys (Beginning fresh) s l g es →
     has_begun (newest_of es) ≡ false → (state_after s l es).begun ≡ l.begun

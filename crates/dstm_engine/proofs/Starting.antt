@@ -69,9 +69,9 @@ unspent_unused s l h = by (nat_lt l.begun s.attempts) (nat_lt s.locators (l.inst
     by true b q is = grind arith
     by false b q is = absurd (cc)
 
-pub can_begin : (s : Shape) (old new : LocalState) (next : ℕ) → Ended old new → is_some old.number ≡ true →
+pub can_begin : (s : Shape) {old new : LocalState} (next : ℕ) → Ended old new → is_some old.number ≡ true →
     is_spent s old ≡ false → next_attempt s old ≡ next → CanBegin s new next
-can_begin s old new next e number unspent next_is = record {
+can_begin s {old = old} next e number unspent next_is = record {
   outside = e.outside;
   number = rw e.number number;
   unspent = rw (e.begun, e.installed) unspent;
@@ -79,16 +79,16 @@ can_begin s old new next e number unspent next_is = record {
   next_is = rw (e.number, e.begun) next_is;
 }
 
-pub keeps_rank : (s : Shape) (fresh : Bool) (old new : LocalState) → Ended old new → KeepsRank s fresh old →
+pub keeps_rank : {s : Shape} {fresh : Bool} {old new : LocalState} → Ended old new → KeepsRank s fresh old →
     KeepsRank s fresh new
-keeps_rank s fresh old new e k = record {
+keeps_rank e k = record {
   uncommitted = λ h. rw e.committed (k.uncommitted h);
   stands_now = λ greedy h. rw e.stands (k.stands_now greedy (rw e.stamped at h));
 }
 
 -- the attempts of a caller have small numbers
-pub next_small : (s : Shape) (n b : ℕ) → IsValid s → n < s.callers → b ≤ s.attempts → n * s.attempts + b < 2 ^ 32
-next_small s n b valid few begun =
+pub next_small : {s : Shape} (n b : ℕ) → IsValid s → n < s.callers → b ≤ s.attempts → n * s.attempts + b < 2 ^ 32
+next_small {s = s} n b valid few begun =
     let some = valid.some_attempt in let w = valid.words in let a = valid.attempts in
     let x : n * s.attempts + 0 < s.callers * s.attempts = in_table n s.attempts 0 s.callers few (omega arith) in
     omega arith
@@ -102,21 +102,21 @@ IsQuiet event =
     × ((manager : Manager) (state : LocalState) (effort : Effort) →
     effort_after event.kind manager state effort event ≡ effort)
 
-quiet_kind : (e : Event) (k : Kind) → e.kind ≡ k → (k ≡ Quit) ⊎ ((k ≡ Stamp) ⊎ ((k ≡ Rank) ⊎ (k ≡ Begin))) → IsQuiet e
-quiet_kind e k is (inl q) = rw (is, q) (refl, (λ m l f. refl))
-quiet_kind e k is (inr (inl q)) = rw (is, q) (refl, (λ m l f. refl))
-quiet_kind e k is (inr (inr (inl q))) = rw (is, q) (refl, (λ m l f. refl))
-quiet_kind e k is (inr (inr (inr q))) = rw (is, q) (refl, (λ m l f. refl))
+quiet_kind : (e : Event) {k : Kind} → e.kind ≡ k → (k ≡ Quit) ⊎ ((k ≡ Stamp) ⊎ ((k ≡ Rank) ⊎ (k ≡ Begin))) → IsQuiet e
+quiet_kind e is (inl q) = rw (is, q) (refl, (λ m l f. refl))
+quiet_kind e is (inr (inl q)) = rw (is, q) (refl, (λ m l f. refl))
+quiet_kind e is (inr (inr (inl q))) = rw (is, q) (refl, (λ m l f. refl))
+quiet_kind e is (inr (inr (inr q))) = rw (is, q) (refl, (λ m l f. refl))
 
 due_quiet : (a b c d f : Bool) (rank : ℕ) (e : Event) →
     IsDue (if a then Done else if b then just Quit else if c then Done else if d then just Stamp
     else if f then Step Rank rank else just Begin) e → IsQuiet e
 due_quiet true b c d f rank e h = absurd h
-due_quiet false true c d f rank e h = quiet_kind e Quit h.0 (inl refl)
+due_quiet false true c d f rank e h = quiet_kind e h.0 (inl refl)
 due_quiet false false true d f rank e h = absurd h
-due_quiet false false false true f rank e h = quiet_kind e Stamp h.0 (inr (inl refl))
-due_quiet false false false false true rank e h = quiet_kind e Rank h.0 (inr (inr (inl refl)))
-due_quiet false false false false false rank e h = quiet_kind e Begin h.0 (inr (inr (inr refl)))
+due_quiet false false false true f rank e h = quiet_kind e h.0 (inr (inl refl))
+due_quiet false false false false true rank e h = quiet_kind e h.0 (inr (inr (inl refl)))
+due_quiet false false false false false rank e h = quiet_kind e h.0 (inr (inr (inr refl)))
 
 due_is_quiet : (s : Shape) (fresh : Bool) (o : Option Event) (l : LocalState) (e : Event) →
     IsDue (in_beginning s fresh o l) e → IsQuiet e

@@ -23,8 +23,8 @@ use Rattle.dstm_engine.specs.Callers.{held, is_opened, state}
 use Rattle.dstm_engine.specs.Mirror.{Tied, called, slot_old, slot_value}
 use Rattle.dstm_engine.specs.declared.caller.Caller.TheInside.{Inside}
 
-module _ {L : Type 0} (holds : L → List Val → Type 0) (c : Inside L) (v : Tied holds c) (live : c.live ≡ true)
-    (work : Work) (new : Steps L) (answer : Option Again)
+module _ {L : Type 0} {holds : L → List Val → Type 0} {c : Inside L} (v : Tied holds c) (live : c.live ≡ true)
+    {work : Work} {new : Steps L} {answer : Option Again}
     (u : InTask holds (called c).home (Doing work) (began_of (Doing work) (called c)) new Done answer) where
   -- what was held before the call has the same values after it
   pub stay : (read_values c.terms.shape c.terms.start.value.items (view_of new.seat).log (state (called c)).reads
@@ -37,11 +37,10 @@ module _ {L : Type 0} (holds : L → List Val → Type 0) (c : Inside L) (v : Ti
       × (old_values c.terms.shape c.terms.start.value.items xs (state (called c)).writes
       ≡ old_values c.terms.shape c.terms.start.value.items (called c).log (state (called c)).writes)) u.seen.whole
       (held_stay c.terms.shape c.terms.start.value.items u.seen.later (called c).log c.number
-      (subst (Core c.terms.shape) (sym u.seen.whole) u.run.run.core) v.number.0
-      (current_there holds c v live work new answer u).live)
+      (subst (Core c.terms.shape) (sym u.seen.whole) u.run.run.core) v.number.0 (current_there v live u).live)
 
-module _ {L : Type 0} (holds : L → List Val → Type 0) (c : Inside L) (v : Tied holds c) (live : c.live ≡ true)
-    (work : Work) (closed : is_closed work ≡ true) (new : Steps L) (answer : Option Again)
+module _ {L : Type 0} {holds : L → List Val → Type 0} {c : Inside L} (v : Tied holds c) (live : c.live ≡ true)
+    {work : Work} (closed : is_closed work ≡ true) {new : Steps L} {answer : Option Again}
     (u : InTask holds (called c).home (Doing work) (began_of (Doing work) (called c)) new Done answer) where
   plain : ArePlain work u.events
   plain = are_plain work c.terms.shape (state (called c)) c.steps.decider.generator u.events closed u.obeys
@@ -64,13 +63,15 @@ module _ {L : Type 0} (holds : L → List Val → Type 0) (c : Inside L) (v : Ti
   pub values_then : read_values c.terms.shape c.terms.start.value.items (view_of new.seat).log
       (local c.terms.shape (view_of new.seat).log c.number).reads ≡ map slot_value c.opened.reads
   values_then =
-      ap (read_values c.terms.shape c.terms.start.value.items (view_of new.seat).log) same_there.reads ∙ (stay holds c v live work new answer u).0
+      ap (read_values c.terms.shape c.terms.start.value.items (view_of new.seat).log) same_there.reads
+      ∙ (stay v live u).0
       ∙ v.values live
 
   pub olds_then : old_values c.terms.shape c.terms.start.value.items (view_of new.seat).log
       (local c.terms.shape (view_of new.seat).log c.number).writes ≡ map slot_old c.opened.writes
   olds_then =
-      ap (old_values c.terms.shape c.terms.start.value.items (view_of new.seat).log) same_there.writes ∙ (stay holds c v live work new answer u).1
+      ap (old_values c.terms.shape c.terms.start.value.items (view_of new.seat).log) same_there.writes
+      ∙ (stay v live u).1
       ∙ v.olds live
 
   -- so the same is held

@@ -27,12 +27,12 @@ runs_by true = refl
 runs_by false = refl
 
 -- whether the attempt is live
-pub live_there : {L : Type 0} (holds : L → List Val → Type 0) (c : Inside L) → Tied holds c →
+pub live_there : {L : Type 0} {holds : L → List Val → Type 0} {c : Inside L} → Tied holds c →
     c.live ≡ is_live (called c)
-live_there holds c v = sym (ap is_running v.phase ∙ runs_by c.live)
+live_there {c = c} v = sym (ap is_running v.phase ∙ runs_by c.live)
 
-module _ {L : Type 0} (holds : L → List Val → Type 0) (c : Inside L) (v : Tied holds c) (home : Home L)
-    (same : (called c).home ≡ home) (steps : Steps L) (is : steps ≡ renewed c.steps) where
+module _ {L : Type 0} {holds : L → List Val → Type 0} {c : Inside L} (v : Tied holds c) {home : Home L}
+    (same : (called c).home ≡ home) {steps : Steps L} (is : steps ≡ renewed c.steps) where
   pub steps_of : StepsOf holds (called c) steps
   steps_of =
       subst (StepsOf holds (called c)) (sym is) (record {
@@ -49,8 +49,7 @@ module _ {L : Type 0} (holds : L → List Val → Type 0) (c : Inside L) (v : Ti
 
   -- the state that they know
   pub now_there : now home steps ≡ state (called c)
-  now_there =
-      subst (λ (h : Home L). now h steps ≡ state (called c)) same (now_is holds (called c) steps steps_of)
+  now_there = subst (λ (h : Home L). now h steps ≡ state (called c)) same (now_is holds (called c) steps_of)
 
   -- whether it is spent
   pub spent_there : is_spent c.terms.shape (state (called c))
@@ -71,20 +70,20 @@ module _ {L : Type 0} (holds : L → List Val → Type 0) (c : Inside L) (v : Ti
   starts_there task =
       subst (λ (h : Home L). InTask holds h task (began_as h task (number_or (view_of steps.seat).number 0) steps) steps
       (due task h.terms.shape None (now h steps) (effort_by steps))
-      (answer task None (now h steps) (effort_by steps))) same (starts holds (called c) task steps steps_of)
+      (answer task None (now h steps) (effort_by steps))) same (starts holds (called c) task steps_of)
 
   -- and ends
-  pub ends_here : (task : Task) (new : Steps L) (again : Option Again) →
+  pub ends_here : {task : Task} {new : Steps L} {again : Option Again} →
       InTask holds home task (began_as home task (number_or (view_of steps.seat).number 0) steps) new Done again →
       InTask holds (called c).home task (began_of task (called c)) new Done again
-  ends_here task new again u =
-      subst (λ b. InTask holds (called c).home task b new Done again) (began_is holds (called c) task steps steps_of)
+  ends_here {task = task} {new = new} {again = again} u =
+      subst (λ b. InTask holds (called c).home task b new Done again) (began_is holds (called c) task steps_of)
       (subst (λ (h : Home L). InTask holds h task (began_as h task (number_or (view_of steps.seat).number 0) steps)
       new Done again) (sym same) u)
 
 -- the state of the caller after a call
-module _ {L : Type 0} (holds : L → List Val → Type 0) (c : Inside L) (task : Task) (new : Steps L)
-    (again : Option Again) (u : InTask holds (called c).home task (began_of task (called c)) new Done again) where
+module _ {L : Type 0} {holds : L → List Val → Type 0} (c : Inside L) {task : Task} {new : Steps L}
+    {again : Option Again} (u : InTask holds (called c).home task (began_of task (called c)) new Done again) where
   pub state_then : local c.terms.shape (view_of new.seat).log c.number ≡ now (called c).home new
   state_then = sym (ap (caller_state c.terms) u.view)
 

@@ -3,14 +3,12 @@ use Rattle.std.proofs.Common.{◌≡◌, ◌≢◌, ◌⊎◌, ℕ, ◌<◌, ◌
 use Rattle.std.specs.Prelude.{Option, Result, Ok, Err, OnOk}
 use Rattle.std.proofs.lemmas.Bool.{cases_eq}
 use Rattle.std.proofs.lemmas.Bool.Decides.{nat_tests}
-use Rattle.dstm_core.specs.declared.event.Kind.TheVariants.{LookObj, LookRank}
-use Rattle.dstm_core.specs.declared.shape.Shape.{Shape}
+use Rattle.dstm_core.specs.declared.event.Kind.TheVariants.{LookRank}
 use Rattle.dstm_core.specs.declared.state.Phase.TheVariants.{Running}
 use Rattle.dstm_core.specs.declared.state.Read.{Read}
 use Rattle.dstm_core.specs.Rules.{after}
-use Rattle.dstm_core.specs.Runs.{local}
 use Rattle.dstm_core.specs.declared.state.Resolution.{Resolution}
-use Rattle.dstm_core.specs.State.{LocalState, res, is_live, is_other, read_of}
+use Rattle.dstm_core.specs.State.{LocalState, res, is_live, is_other}
 use Rattle.dstm_machines.specs.Traces.Access.{Load}
 use Rattle.dstm_model.specs.declared.value.Val.{Val}
 use Rattle.dstm_order.specs.Calls.{quit_cause}
@@ -19,13 +17,13 @@ use Rattle.dstm_order.specs.declared.again.Again.TheVariants.{Stale}
 use Rattle.dstm_order.specs.Efforts.{Effort}
 use Rattle.dstm_order.specs.Order.{Due, just, has_ranks}
 use Rattle.dstm_order.specs.Tasks.{Task}
-use Rattle.dstm_words.specs.Seats.{Home, view_of, state_by}
+use Rattle.dstm_words.specs.Seats.{Home, view_of}
 use Rattle.dstm_steps.specs.Conflicts.{Encounters, Meets}
 use Rattle.dstm_steps.specs.declared.steps.Steps.{Steps}
 use Rattle.dstm_steps.specs.Finding.{word_of, is_changed}
 use Rattle.dstm_steps.specs.Under.{Began, InTask, Under, Resolving, made_by, now}
 use Rattle.dstm_steps.proofs.Meeting.{version_live}
-use Rattle.dstm_steps.proofs.Stepping.{under_is}
+use Rattle.dstm_steps.proofs.Stepping.{here, under_is}
 use Rattle.dstm_steps.proofs.Undrawn.{running_undrawn}
 
 -- a code that is not live is that of a finished attempt
@@ -37,28 +35,18 @@ code_over code named over = go (cases_eq code 4)
     go (inr q) = inr (grind (arith, nat_tests))
 
 -- an attempt that runs has drawn no number
-pub undrawn : {L : Type 0} {task : Task} (holds : L → List Val → Type 0) (home : Home L) (b : Began) (steps : Steps L)
-    (d : Due) (a : Option Again) → InTask holds home task b steps d a → (now home steps).phase ≡ Running →
+pub undrawn : {L : Type 0} {task : Task} {holds : L → List Val → Type 0} {home : Home L} {b : Began} {steps : Steps L}
+    {d : Due} {a : Option Again} → InTask holds home task b steps d a → (now home steps).phase ≡ Running →
     (now home steps).drawn ≡ None
-undrawn holds home b steps d a u p =
-    let here : now home steps ≡ local home.terms.shape (view_of steps.seat).log b.number =
-    ap (λ o. state_by home.terms.shape o (view_of steps.seat).log) u.number in
-    ap (λ (l : LocalState). l.drawn) here
+undrawn {home = home} {b = b} {steps = steps} u p =
+    ap (λ (l : LocalState). l.drawn) (here u)
     ∙ running_undrawn home.terms.shape (view_of steps.seat).log u.run.run.core b.number
-    (sym (ap (λ (l : LocalState). l.phase) here) ∙ p)
+    (sym (ap (λ (l : LocalState). l.phase) (here u)) ∙ p)
 
 -- the word of a recorded read is another one
 pub other_is : (word : ℕ) (read : Option Read) → is_other word read ≡ is_changed (word_of read) word
 other_is word None = refl
 other_is word (Some read) = refl
-
--- a LookObj finds the read stale where its word is another one
-pub stale_is : (s : Shape) (b : Began) (old new : LocalState) (object word : ℕ) (read : Option ℕ) →
-    new ≡ after LookObj s old (made_by b Load LookObj object word) → word_of (read_of object old.reads) ≡ read →
-    new.stale ≡ is_changed read word
-stale_is s b old new object word read q r =
-    ap (λ (l : LocalState). l.stale) q ∙ other_is word (read_of object old.reads)
-    ∙ ap (λ o. is_changed o word) r
 
 -- a fact of each answer that is no error, from another
 pub on_ok : {T E P Q : Type 0} (r : Result T E) → (P → Q) → OnOk r P → OnOk r Q
@@ -82,26 +70,26 @@ stays_object old new found changed q agreed same =
     )
     (ap (λ b. record old { resolution = found; stale = b; pass = None; checked = 0 }) (same ∙ sym agreed))
 
-module _ {L : Type 0} (holds : L → List Val → Type 0) (home : Home L) (b : Began) where
+module _ {L : Type 0} {holds : L → List Val → Type 0} {home : Home L} {b : Began} {old : Steps L} {word owner code : ℕ}
+    (en : Encounters holds home b old word owner code) where
   -- where there are ranks that of a live owner is looked at
-  pub rank_due : (steps : Steps L) (word owner code : ℕ) → Encounters holds home b steps word owner code →
-      is_live code ≡ true → has_ranks home.terms.shape.manager ≡ true → Under holds home b steps (just LookRank) None
-  rank_due steps word owner code en live ranks =
-      under_is holds home b steps _ _ _ _ en.under
+  pub rank_due : is_live code ≡ true → has_ranks home.terms.shape.manager ≡ true →
+      Under holds home b old (just LookRank) None
+  rank_due live ranks =
+      under_is en.under
       (rw (
         en.running.phase,
         en.owner_is,
         en.status,
-        version_live (res (now home steps)).word code (res (now home steps)).old (rw en.word_is en.some) live,
+        version_live (res (now home old)).word code (res (now home old)).old (rw en.word_is en.some) live,
         live,
         ranks,
         en.rank,
       ) refl) refl
 
   -- under Polite the conflict begins at once
-  pub meets_polite : (steps : Steps L) (word owner code : ℕ) → Encounters holds home b steps word owner code →
-      has_ranks home.terms.shape.manager ≡ false → Meets holds home b Running steps owner code
-  meets_polite steps word owner code en none = record {
+  pub meets_polite : has_ranks home.terms.shape.manager ≡ false → Meets holds home b Running old owner code
+  meets_polite none = record {
     under = en.under;
     in_phase = en.running.phase;
     agreed = en.running.agreed;
@@ -120,11 +108,10 @@ module _ {L : Type 0} (holds : L → List Val → Type 0) (home : Home L) (b : B
   }
 
   -- else once the rank was found
-  pub meets_ranked : (old new : Steps L) (word owner code n : ℕ) → Encounters holds home b old word owner code →
+  pub meets_ranked : {new : Steps L} {n : ℕ} →
       now home new ≡ after LookRank home.terms.shape (now home old) (made_by b Load LookRank 0 n) →
-      Resolving holds home b new → new.left ≡ old.left → new.round ≡ old.round → new.missed ≡ old.missed →
-      Meets holds home b Running new owner code
-  meets_ranked old new word owner code n en state under left round missed = record {
+      Resolving holds home b new → new ≡ record old { seat = new.seat } → Meets holds home b Running new owner code
+  meets_ranked state under rest = record {
     under = under;
     in_phase = ap (λ (l : LocalState). l.phase) state ∙ en.running.phase;
     agreed = ap (λ (l : LocalState). l.stale) state ∙ en.running.agreed;
@@ -137,9 +124,9 @@ module _ {L : Type 0} (holds : L → List Val → Type 0) (home : Home L) (b : B
     high = ap (λ l. (res l).high) state ∙ en.high;
     value = ap (λ l. (res l).value) state ∙ en.value;
     named = en.named;
-    rounds = let r = en.round in omega arith;
-    waiting = λ _ h. let l = en.left in omega arith;
-    tries = let t = en.tries in omega arith;
+    rounds = rw rest (let r = en.round in omega arith);
+    waiting = rw rest (λ _ h. let l = en.left in omega arith);
+    tries = rw rest en.tries;
   }
     where
       no_rank : (b : Bool) → (b && false) ≡ false

@@ -1,20 +1,16 @@
 -- How what is found of an object grows.
 use Rattle.std.proofs.Common.{◌≡◌, ℕ, ◌==◌, ◌∙◌, true, Some, refl, ap, sym, is_some, arith}
 use Rattle.std.proofs.lemmas.Bool.{cond_both}
-use Rattle.dstm_core.specs.declared.event.Kind.TheVariants.{LookOld, LookHigh, LookNew}
-use Rattle.dstm_core.specs.declared.shape.Shape.{Shape}
 use Rattle.dstm_core.specs.declared.state.Resolution.{Resolution}
-use Rattle.dstm_core.specs.Rules.{after, resolving}
+use Rattle.dstm_core.specs.Rules.{resolving}
 use Rattle.dstm_core.specs.State.{LocalState, or_zero, res, version, is_resolved}
-use Rattle.dstm_machines.specs.Traces.Access.{Load}
 use Rattle.dstm_steps.specs.Finding.{StaysAt, IsFound}
-use Rattle.dstm_steps.specs.Under.{Began, made_by}
 
-pub stays_self : (l : LocalState) → StaysAt l l
-stays_self l = record { attempt = refl; object = refl; word = refl }
+pub stays_self : {l : LocalState} → StaysAt l l
+stays_self = record { attempt = refl; object = refl; word = refl }
 
-pub stays_then : (a b c : LocalState) → StaysAt a b → StaysAt b c → StaysAt a c
-stays_then a b c p q = record {
+pub stays_then : {a b c : LocalState} → StaysAt a b → StaysAt b c → StaysAt a c
+stays_then {c = c} p q = record {
   attempt = q.attempt
       ∙ ap (λ (l : LocalState). record l { resolution = c.resolution; pass = c.pass; checked = c.checked }) p.attempt;
   object = q.object ∙ p.object;
@@ -22,9 +18,9 @@ stays_then a b c p q = record {
 }
 
 -- something more was found out of the object
-pub stays_resolving : (old new : LocalState) (r : Resolution) → new ≡ resolving old r → r.object ≡ (res old).object →
+pub stays_resolving : {old new : LocalState} (r : Resolution) → new ≡ resolving old r → r.object ≡ (res old).object →
     r.word ≡ (res old).word → StaysAt old new
-stays_resolving old new r q object word = record {
+stays_resolving {old = old} r q object word = record {
   attempt = q ∙ ap (λ (l : LocalState). record old { resolution = l.resolution; pass = l.pass; checked = l.checked })
       (sym q);
   object = ap (λ l. (res l).object) q ∙ object;
@@ -32,9 +28,9 @@ stays_resolving old new r q object word = record {
 }
 
 -- the first value: nothing is looked at
-pub found_first : (l : LocalState) (word : ℕ) → is_some l.resolution ≡ true → (res l).word ≡ word →
+pub found_first : {l : LocalState} {word : ℕ} → is_some l.resolution ≡ true → (res l).word ≡ word →
     version (res l) ≡ Some 0 → IsFound l (record { word = word; version = 0; low = 0; high = 0 })
-found_first l word there same v = record {
+found_first there same v = record {
   there = there;
   word = same;
   version_is = v;
@@ -43,31 +39,24 @@ found_first l word there same v = record {
   low_is = λ h. absurd (omega arith);
 }
 
--- the value of a version
-pub found_value : (s : Shape) (b : Began) (old mid new : LocalState) (word named high low : ℕ) → (res old).word ≡ word →
-    version (res old) ≡ Some named →
-    mid ≡ after LookHigh s old (made_by b Load LookHigh 0 high) →
-    new ≡ after LookNew s mid (made_by b Load LookNew 0 low) →
-    IsFound new (record { word = word; version = named; low = low; high = high })
-found_value s b old mid new word named high low same v p q = record {
-  there = ap (λ (l : LocalState). is_some l.resolution) q;
-  word = ap (λ l. (res l).word) q ∙ ap (λ l. (res l).word) p ∙ same;
-  version_is = ap (λ l. version (res l)) q ∙ ap (λ l. version (res l)) p ∙ v;
-  resolved = ap (λ l. is_resolved (res l)) q
-      ∙ cond_both (or_zero (version (res mid)) == 0) (is_some (version (res mid))) true (λ x. x ≡ true)
-      (λ _. rw (ap (λ l. version (res l)) p ∙ v) refl) (λ _. refl);
-  high_is = λ _. ap (λ l. (res l).high) q ∙ ap (λ l. (res l).high) p;
-  low_is = λ _. ap (λ l. (res l).value) q;
-}
+-- the value of a version, as its parts are looked at
+module _ (old : LocalState) {mid new : LocalState} {high low : ℕ} (p : mid ≡ resolving old (record (res old) { high = Some high }))
+    (q : new ≡ resolving mid (record (res mid) { value = Some low })) where
+  pub found_value : {word named : ℕ} → (res old).word ≡ word → version (res old) ≡ Some named →
+      IsFound new (record { word = word; version = named; low = low; high = high })
+  found_value same v = record {
+    there = ap (λ (l : LocalState). is_some l.resolution) q;
+    word = ap (λ l. (res l).word) q ∙ ap (λ l. (res l).word) p ∙ same;
+    version_is = ap (λ l. version (res l)) q ∙ ap (λ l. version (res l)) p ∙ v;
+    resolved = ap (λ l. is_resolved (res l)) q
+        ∙ cond_both (or_zero (version (res mid)) == 0) (is_some (version (res mid))) true (λ x. x ≡ true)
+        (λ _. rw (ap (λ l. version (res l)) p ∙ v) refl) (λ _. refl);
+    high_is = λ _. ap (λ l. (res l).high) q ∙ ap (λ l. (res l).high) p;
+    low_is = λ _. ap (λ l. (res l).value) q;
+  }
 
--- what is found out of a value keeps the attempt
-pub stays_value : (s : Shape) (b : Began) (old mid new : LocalState) (high low : ℕ) →
-    mid ≡ after LookHigh s old (made_by b Load LookHigh 0 high) →
-    new ≡ after LookNew s mid (made_by b Load LookNew 0 low) → StaysAt old new
-stays_value s b old mid new high low p q =
-    stays_then old mid new (stays_resolving old mid (record (res old) { high = Some high }) p refl refl)
-    (stays_resolving mid new (record (res mid) { value = Some low }) q refl refl)
-
-pub stays_old : (s : Shape) (b : Began) (old new : LocalState) (n : ℕ) →
-    new ≡ after LookOld s old (made_by b Load LookOld 0 n) → StaysAt old new
-stays_old s b old new n q = stays_resolving old new (record (res old) { old = Some n }) q refl refl
+  -- it keeps the attempt
+  pub stays_value : StaysAt old new
+  stays_value =
+      stays_then (stays_resolving (record (res old) { high = Some high }) p refl refl)
+      (stays_resolving (record (res mid) { value = Some low }) q refl refl)

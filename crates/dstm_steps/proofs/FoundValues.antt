@@ -13,7 +13,8 @@ use Rattle.dstm_opacity.proofs.Resolved.{resolved_stays}
 use Rattle.dstm_order.specs.Order.{Due}
 use Rattle.dstm_order.specs.Tasks.{Task}
 use Rattle.dstm_order.specs.declared.again.Again.{Again}
-use Rattle.dstm_words.specs.Seats.{Home, view_of, state_by}
+use Rattle.dstm_words.specs.Seats.{Home, view_of}
+use Rattle.dstm_steps.proofs.Stepping.{here}
 use Rattle.dstm_steps.specs.Finding.{IsFound}
 use Rattle.dstm_steps.specs.FoundValues.{HasValue, found_value}
 use Rattle.dstm_steps.specs.Under.{Began, InTask, now}
@@ -21,9 +22,9 @@ use Rattle.dstm_steps.specs.declared.resolving.Found.{Found}
 use Rattle.dstm_steps.specs.declared.steps.Steps.{Steps}
 
 -- what is found is told by the resolution alone
-pub found_kept : (old new : LocalState) (found : Found) → new.resolution ≡ old.resolution → IsFound old found →
+pub found_kept : {old new : LocalState} {found : Found} → new.resolution ≡ old.resolution → IsFound old found →
     IsFound new found
-found_kept old new found q is = record {
+found_kept q is = record {
   there = ap is_some q ∙ is.there;
   word = ap (λ o. (or_unresolved o).word) q ∙ is.word;
   version_is = ap (λ o. version (or_unresolved o)) q ∙ is.version_is;
@@ -49,17 +50,15 @@ value_found s start more es c object found core is at = by (cases_Bool (found.ve
         ∙ x ∙ rw q refl
 
 -- it was found, and the log went on
-pub has_value : {L : Type 0} (holds : L → List Val → Type 0) (home : Home L) (task other : Task) (b : Began)
-    (old new : Steps L) (d f : Due) (a g : Option Again) (object : ℕ) (found : Found) →
+pub has_value : {L : Type 0} {holds : L → List Val → Type 0} {home : Home L} {task other : Task} {b : Began}
+    {old new : Steps L} {d f : Due} {a g : Option Again} {object : ℕ} {found : Found} →
     InTask holds home task b old d a → InTask holds home other b new f g →
     IsPastOf (view_of old.seat).log (view_of new.seat).log → IsFound (now home old) found →
     (res (now home old)).object ≡ object → HasValue home new object found
-has_value holds home task other b old new d f a g object found u w past is at =
+has_value {home = home} {b = b} {old = old} {object = object} {found = found} u w past is at =
     let s = home.terms.shape in
-    let here : now home old ≡ local s (view_of old.seat).log b.number =
-    ap (λ o. state_by s o (view_of old.seat).log) u.number in
     subst (λ log. version_value s home.terms.start.value.items log object found.version
     ≡ found_value found (value_at home.terms.start.value.items object)) past.whole
     (value_found s home.terms.start.value.items past.later (view_of old.seat).log b.number object found
-    (subst (Core s) (sym past.whole) w.run.run.core) (subst (λ l. IsFound l found) here is)
-    (ap (λ l. (res l).object) (sym here) ∙ at))
+    (subst (Core s) (sym past.whole) w.run.run.core) (subst (λ l. IsFound l found) (here u) is)
+    (ap (λ l. (res l).object) (sym (here u)) ∙ at))

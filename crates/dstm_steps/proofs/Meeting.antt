@@ -3,15 +3,13 @@ use Rattle.std.proofs.Common.{◌≡◌, ◌≢◌, ◌⊎◌, ℕ, ◌+◌, ◌
 use Rattle.std.specs.Prelude.{Option, if◌then◌else◌}
 use Rattle.std.proofs.lemmas.Bool.{lt-ltb, cond_both, eqb-true}
 use Rattle.std.proofs.lemmas.Bool.Decides.{nat_tests}
-use Rattle.dstm_core.specs.declared.event.Kind.TheVariants.{LookStatus, Resume, Quit}
+use Rattle.dstm_core.specs.declared.event.Kind.TheVariants.{LookStatus}
 use Rattle.dstm_core.specs.declared.shape.Manager.{Manager}
 use Rattle.dstm_core.specs.declared.shape.Manager.TheVariants.{Polite, Karma, Polka, Greedy}
-use Rattle.dstm_core.specs.declared.shape.Shape.{Shape}
 use Rattle.dstm_core.specs.declared.state.Phase.{Phase}
 use Rattle.dstm_core.specs.declared.state.Phase.TheVariants.{Running, Paused}
 use Rattle.dstm_core.specs.declared.status.Status.{Status}
 use Rattle.dstm_core.specs.Rules.{after, MayKill}
-use Rattle.dstm_core.specs.Runs.{local}
 use Rattle.dstm_core.specs.State.{LocalState, res, or_zero, version_by, is_live}
 use Rattle.dstm_core.specs.declared.shape.TheConstants.{MAX_RANK}
 use Rattle.dstm_core.proofs.Begun.{IsCode}
@@ -27,15 +25,15 @@ use Rattle.dstm_order.specs.declared.again.Again.{Again}
 use Rattle.dstm_order.specs.declared.again.Again.TheVariants.{Waited}
 use Rattle.dstm_order.specs.declared.TheConstants.{MAX_MISSED}
 use Rattle.dstm_order.specs.Efforts.{Effort, chosen, status_of}
-use Rattle.dstm_order.specs.Order.{Due, just, has_ranks, rises, in_resolving, in_conflict, when_resolved}
+use Rattle.dstm_order.specs.Order.{Due, just, has_ranks, rises}
 use Rattle.dstm_order.specs.Tasks.{Task}
 use Rattle.dstm_order.proofs.EnemyRanks.{found_is_rank}
-use Rattle.dstm_words.specs.Seats.{Home, view_of, state_by}
+use Rattle.dstm_words.specs.Seats.{Home, view_of}
 use Rattle.dstm_steps.specs.Conflicts.{Keeps, Meets, lets_go, patience_left, rounds_of}
 use Rattle.dstm_steps.specs.declared.steps.Steps.{Steps}
-use Rattle.dstm_steps.specs.Under.{Began, InTask, Under, Resolving, IsRunning, made_by, now, effort_by, work_of}
+use Rattle.dstm_steps.specs.Under.{Began, InTask, Under, Resolving, IsRunning, made_by, now}
 use Rattle.dstm_steps.proofs.FoundCodes.{code_found}
-use Rattle.dstm_steps.proofs.Stepping.{under_is}
+use Rattle.dstm_steps.proofs.Stepping.{here, under_is}
 use Rattle.dstm_core.proofs.Absent.{known_some}
 
 -- while the owner is live no version is known
@@ -48,44 +46,32 @@ version_live word code old h l =
       ne_eqb code 5 (λ q. grind (arith, nat_tests)),
     ) refl
 
--- a status that was found has a code of an attempt that has begun
-pub code_in : {L : Type 0} {task : Task} (holds : L → List Val → Type 0) (home : Home L) (b : Began) (steps : Steps L)
-    (d : Due) (a : Option Again) → InTask holds home task b steps d a → (n : ℕ) →
-    (res (now home steps)).status ≡ Some n → IsCode n
-code_in holds home b steps d a u n q =
-    let here : now home steps ≡ local home.terms.shape (view_of steps.seat).log b.number =
-    ap (λ o. state_by home.terms.shape o (view_of steps.seat).log) u.number in
-    code_found home.terms.shape (view_of steps.seat).log u.run.run.core b.number n
-    (subst (λ (l : LocalState). (res l).status ≡ Some n) here q)
+module _ {L : Type 0} {task : Task} {holds : L → List Val → Type 0} {home : Home L} {b : Began} {steps : Steps L}
+    {d : Due} {a : Option Again} (u : InTask holds home task b steps d a) where
+  -- a status that was found has a code of an attempt that has begun
+  pub code_in : (n : ℕ) → (res (now home steps)).status ≡ Some n → IsCode n
+  code_in n q =
+      code_found home.terms.shape (view_of steps.seat).log u.run.run.core b.number n
+      (subst (λ (l : LocalState). (res l).status ≡ Some n) (here u) q)
 
--- a rank that was found is one that an attempt can have
-pub rank_in : {L : Type 0} {task : Task} (holds : L → List Val → Type 0) (home : Home L) (b : Began) (steps : Steps L)
-    (d : Due) (a : Option Again) → InTask holds home task b steps d a →
-    IsRank home.terms.shape.manager (or_zero (res (now home steps)).rank)
-rank_in holds home b steps d a u =
-    let here : now home steps ≡ local home.terms.shape (view_of steps.seat).log b.number =
-    ap (λ o. state_by home.terms.shape o (view_of steps.seat).log) u.number in
-    subst (λ (l : LocalState). IsRank home.terms.shape.manager (or_zero (res l).rank)) (sym here)
-    (found_is_rank home.terms.shape (view_of steps.seat).log u.run.run.core b.number)
+  -- a rank that was found is one that an attempt can have
+  pub rank_in : IsRank home.terms.shape.manager (or_zero (res (now home steps)).rank)
+  rank_in =
+      subst (λ (l : LocalState). IsRank home.terms.shape.manager (or_zero (res l).rank)) (sym (here u))
+      (found_is_rank home.terms.shape (view_of steps.seat).log u.run.run.core b.number)
 
--- where ranks rise the own one is small
-pub small_rank : {L : Type 0} {task : Task} (holds : L → List Val → Type 0) (home : Home L) (b : Began)
-    (steps : Steps L)
-    (d : Due) (a : Option Again) → InTask holds home task b steps d a → rises home.terms.shape.manager ≡ true →
-    steps.rank ≤ MAX_RANK
-small_rank holds home b steps d a u r =
-    let here : now home steps ≡ local home.terms.shape (view_of steps.seat).log b.number =
-    ap (λ o. state_by home.terms.shape o (view_of steps.seat).log) u.number in
-    let small = (are_small home.terms.shape (view_of steps.seat).log (which home.terms.shape.manager r)
-    u.run.run.core).own
-    b.number in
-    rw (u.mirror.rank, ap (λ (l : LocalState). l.rank) here) small
-  where
-    which : (m : Manager) → rises m ≡ true → (m ≡ Karma) ⊎ (m ≡ Polka)
-    which Karma r = inl refl
-    which Polka r = inr refl
-    which Polite r = absurd (cc)
-    which Greedy r = absurd (cc)
+  -- where ranks rise the own one is small
+  pub small_rank : rises home.terms.shape.manager ≡ true → steps.rank ≤ MAX_RANK
+  small_rank r =
+      let small = (are_small home.terms.shape (view_of steps.seat).log (which home.terms.shape.manager r)
+      u.run.run.core).own b.number in
+      rw (u.mirror.rank, ap (λ (l : LocalState). l.rank) (here u)) small
+    where
+      which : (m : Manager) → rises m ≡ true → (m ≡ Karma) ⊎ (m ≡ Polka)
+      which Karma r = inl refl
+      which Polka r = inr refl
+      which Polite r = absurd (cc)
+      which Greedy r = absurd (cc)
 
 -- an enemy that is still given way to is live
 pub still_live : (code : ℕ) → lets_go code ≡ false → is_live code ≡ true
@@ -105,48 +91,39 @@ rounds_split left round n q h = go (left == 0) refl q
     go true x q = (omega arith, (λ p. let y = ne_eqb left 0 (λ z. omega arith) in absurd (cc)))
     go false x q = (omega arith, (λ p. omega arith))
 
-module _ {L : Type 0} (holds : L → List Val → Type 0) (home : Home L) (b : Began) where
-  module _ (steps : Steps L) (owner code : ℕ) where
-    conflict_due : Meets holds home b Running steps owner code → is_live code ≡ true → (d : Due) →
-        in_resolving home.terms.shape.manager (now home steps) (effort_by steps) d
-        ≡ in_conflict home.terms.shape.manager (now home steps) (effort_by steps)
-    conflict_due met live d =
-        rw (
-          met.in_phase,
-          met.owner_is,
-          met.status,
-          version_live (res (now home steps)).word code (res (now home steps)).old met.word live,
-          live,
-        ) refl
+module _ {L : Type 0} {holds : L → List Val → Type 0} {home : Home L} {b : Began} {steps : Steps L} {owner code : ℕ}
+    (met : Meets holds home b Running steps owner code) where
+  -- while turns are left the status is looked at
+  pub turn_due : is_live code ≡ true → 0 < steps.left → Under holds home b steps (just LookStatus) None
+  turn_due live left = under_is met.under (rw (
+    met.in_phase,
+    met.owner_is,
+    met.status,
+    version_live (res (now home steps)).word code (res (now home steps)).old met.word live,
+    live,
+    met.rank,
+    lt-ltb 0 steps.left left,
+  ) refl) refl
 
-    -- while turns are left the status is looked at
-    pub turn_due : Meets holds home b Running steps owner code → is_live code ≡ true → 0 < steps.left →
-        Under holds home b steps (just LookStatus) None
-    turn_due met live left =
-        under_is holds home b steps _ _ _ _ met.under
-        (conflict_due met live (when_resolved (work_of b.task)) ∙ rw (met.rank, lt-ltb 0 steps.left left) refl) refl
+  pub is_running : IsRunning (now home steps)
+  is_running = record { phase = met.in_phase; agreed = met.agreed; uncommitted = met.uncommitted }
 
-    aside_due : Meets holds home b Paused steps owner code → (d : Due) →
-        in_resolving home.terms.shape.manager (now home steps) (effort_by steps) d
-        ≡ (if lets_go code then just Resume else if steps.left == 0 then just Quit else just LookStatus)
-    aside_due met d = rw (met.in_phase, met.status) refl
+-- an attempt that gives way looks at the status while turns are left
+pub look_aside : {L : Type 0} {holds : L → List Val → Type 0} {home : Home L} {b : Began} {steps : Steps L}
+    {owner code : ℕ} → Meets holds home b Paused steps owner code → lets_go code ≡ false → 0 < steps.left →
+    Under holds home b steps (just LookStatus) None
+look_aside {steps = steps} met waits left =
+    under_is met.under (rw (met.in_phase, met.status, waits, ne_eqb steps.left 0 (λ q. omega arith)) refl) refl
 
-    -- an attempt that gives way looks at the status while turns are left
-    pub look_aside : Meets holds home b Paused steps owner code → lets_go code ≡ false → 0 < steps.left →
-        Under holds home b steps (just LookStatus) None
-    look_aside met waits left =
-        under_is holds home b steps _ _ _ _ met.under
-        (aside_due met (when_resolved (work_of b.task))
-        ∙ rw (waits, ne_eqb steps.left 0 (λ q. omega arith)) refl) refl
-
+module _ {L : Type 0} {holds : L → List Val → Type 0} {home : Home L} {b : Began} {p : Phase} {old new : Steps L}
+    {owner code : ℕ} (met : Meets holds home b p old owner code) (under : Resolving holds home b new) where
   -- after a look at the owner's status
-  pub looked_again : (p : Phase) (old new : Steps L) (owner code n : ℕ) → Meets holds home b p old owner code →
+  looked_again : {n : ℕ} →
       now home new ≡ after LookStatus home.terms.shape (now home old) (made_by b Load LookStatus 0 n) →
-      Resolving holds home b new → new.round ≤ 1024 → (p ≡ Running → 0 < new.left → new.round < 1024) →
-      new.missed < MAX_MISSED → Meets holds home b p new owner n
-  looked_again p old new owner code n met state under rounds waiting tries =
-      let status : (res (now home new)).status ≡ Some n = ap (λ l. (res l).status) state in
-      record {
+      new.round ≤ 1024 → (p ≡ Running → 0 < new.left → new.round < 1024) → new.missed < MAX_MISSED →
+      Meets holds home b p new owner n
+  looked_again {n = n} state rounds waiting tries =
+      let status : (res (now home new)).status ≡ Some n = ap (λ l. (res l).status) state in record {
         under = under;
         in_phase = ap (λ (l : LocalState). l.phase) state ∙ met.in_phase;
         agreed = ap (λ (l : LocalState). l.stale) state ∙ met.agreed;
@@ -158,66 +135,50 @@ module _ {L : Type 0} (holds : L → List Val → Type 0) (home : Home L) (b : B
         old = ap (λ l. (res l).old) state ∙ met.old;
         high = ap (λ l. (res l).high) state ∙ met.high;
         value = ap (λ l. (res l).value) state ∙ met.value;
-        named = code_in holds home b new _ _ under n status;
+        named = code_in under n status;
         rounds = rounds;
         waiting = waiting;
         tries = tries;
       }
 
-  -- after a turn of a wait
-  pub turned : (old new : Steps L) (owner code n : ℕ) → Meets holds home b Running old owner code → 0 < old.left →
+  -- as the first turn of a wait is taken
+  pub began_wait : {n : ℕ} →
       now home new ≡ after LookStatus home.terms.shape (now home old) (made_by b Load LookStatus 0 n) →
-      Resolving holds home b new → rounds_of new ≡ rounds_of old → new.missed ≡ old.missed →
-      Meets holds home b Running new owner n
-  turned old new owner code n met left state under rounds missed =
-      let room = met.waiting refl left in
-      let before : rounds_of old ≡ old.round + 1 = rw (ne_eqb old.left 0 (λ q. omega arith)) refl in
-      let split = rounds_split new.left new.round (old.round + 1) (rounds ∙ before) (omega arith) in
-      looked_again Running old new owner code n met state under split.0 (λ _ h. split.1 h)
-      (let tries = met.tries in omega arith)
+      rounds_of new ≡ old.round + 1 → old.round < 1024 → new.missed ≡ old.missed → Meets holds home b p new owner n
+  began_wait state rounds room missed =
+      let split = rounds_split new.left new.round (old.round + 1) rounds (omega arith) in
+      looked_again state split.0 (λ _ h. split.1 h) (let tries = met.tries in omega arith)
+
+  -- after a turn of a wait
+  pub turned : {n : ℕ} → p ≡ Running → 0 < old.left →
+      now home new ≡ after LookStatus home.terms.shape (now home old) (made_by b Load LookStatus 0 n) →
+      rounds_of new ≡ rounds_of old → new.missed ≡ old.missed → Meets holds home b p new owner n
+  turned running left state rounds missed =
+      began_wait state (rounds ∙ rw (ne_eqb old.left 0 (λ q. omega arith)) refl) (met.waiting running left) missed
 
   -- after a turn of an attempt that gives way
-  pub turned_aside : (old new : Steps L) (owner code n : ℕ) → Meets holds home b Paused old owner code →
+  pub turned_aside : {n : ℕ} → p ≡ Paused →
       now home new ≡ after LookStatus home.terms.shape (now home old) (made_by b Load LookStatus 0 n) →
-      Resolving holds home b new → new.round ≡ old.round → new.missed ≡ old.missed →
-      Meets holds home b Paused new owner n
-  turned_aside old new owner code n met state under round missed =
-      looked_again Paused old new owner code n met state under (let before = met.rounds in omega arith)
-      (λ q _. absurd (cc)) (let tries = met.tries in omega arith)
-
-  -- as the first turn of a wait is taken
-  pub began_wait : (old new : Steps L) (owner code n : ℕ) → Meets holds home b Running old owner code →
-      now home new ≡ after LookStatus home.terms.shape (now home old) (made_by b Load LookStatus 0 n) →
-      Resolving holds home b new → rounds_of new ≡ old.round + 1 → old.round < 1024 → new.missed ≡ old.missed →
-      Meets holds home b Running new owner n
-  began_wait old new owner code n met state under rounds room missed =
-      let split = rounds_split new.left new.round (old.round + 1) rounds (omega arith) in
-      looked_again Running old new owner code n met state under split.0 (λ _ h. split.1 h)
+      new.round ≡ old.round → new.missed ≡ old.missed → Meets holds home b p new owner n
+  turned_aside paused state round missed =
+      looked_again state (let before = met.rounds in omega arith) (λ q _. absurd (cc))
       (let tries = met.tries in omega arith)
 
-  pub is_running : (steps : Steps L) (owner code : ℕ) → Meets holds home b Running steps owner code →
-      IsRunning (now home steps)
-  is_running steps owner code met =
-      record { phase = met.in_phase; agreed = met.agreed; uncommitted = met.uncommitted }
-
-  -- after a Kill
-  pub killed_as : (old new : Steps L) (owner code put : ℕ) → Meets holds home b Running old owner code →
-      now home new ≡ record (now home old) {
-        resolution = Some (record (res (now home old)) { status = Some put });
-        pass = None;
-        checked = 0;
-      } → Resolving holds home b new → old.left ≡ 0 → new.left ≡ old.left → new.round ≡ old.round →
-      new.missed < MAX_MISSED → Meets holds home b Running new owner put
-  killed_as old new owner code put met state under none left round tries =
-      looked_again Running old new owner code put met state under (let before = met.rounds in omega arith)
-      (λ _ h. omega arith) tries
+  -- after a Kill, which tells the status as a look does
+  pub killed_as : {put : ℕ} → now home new ≡ record (now home old) {
+    resolution = Some (record (res (now home old)) { status = Some put });
+    pass = None;
+    checked = 0;
+  } → old.left ≡ 0 → new.left ≡ old.left → new.round ≡ old.round → new.missed < MAX_MISSED →
+      Meets holds home b p new owner put
+  killed_as state none left round tries =
+      looked_again state (let before = met.rounds in omega arith) (λ _ h. omega arith) tries
 
   -- as an attempt begins or ends to give way
-  pub in_other_phase : (p q : Phase) (old new : Steps L) (owner code : ℕ) → Meets holds home b p old owner code →
-      now home new ≡ record (now home old) { phase = q; pass = None; checked = 0 } → Resolving holds home b new →
+  pub in_other_phase : {q : Phase} → now home new ≡ record (now home old) { phase = q; pass = None; checked = 0 } →
       new.round ≡ old.round → (q ≡ Running → new.left ≡ 0) → new.missed < MAX_MISSED →
       Meets holds home b q new owner code
-  in_other_phase p q old new owner code met state under round left tries = record {
+  in_other_phase state round left tries = record {
     under = under;
     in_phase = ap (λ (l : LocalState). l.phase) state;
     agreed = ap (λ (l : LocalState). l.stale) state ∙ met.agreed;
@@ -237,11 +198,11 @@ module _ {L : Type 0} (holds : L → List Val → Type 0) (home : Home L) (b : B
 
 -- ---- what a conflict keeps
 
-pub keeps_self : (l : LocalState) → Keeps l l
-keeps_self l = record { attempt = refl; object = refl; word = refl; rank = refl }
+pub keeps_self : {l : LocalState} → Keeps l l
+keeps_self = record { attempt = refl; object = refl; word = refl; rank = refl }
 
-pub keeps_then : (a b c : LocalState) → Keeps a b → Keeps b c → Keeps a c
-keeps_then a b c p q = record {
+pub keeps_then : {a b c : LocalState} → Keeps a b → Keeps b c → Keeps a c
+keeps_then {c = c} p q = record {
   attempt = q.attempt
       ∙ ap (λ (l : LocalState). record l { resolution = c.resolution; pass = c.pass; checked = c.checked }) p.attempt;
   object = q.object ∙ p.object;
@@ -249,24 +210,13 @@ keeps_then a b c p q = record {
   rank = q.rank ∙ p.rank;
 }
 
--- a look at the status keeps it
-pub keeps_looked : (s : Shape) (b : Began) (old new : LocalState) (n : ℕ) →
-    new ≡ after LookStatus s old (made_by b Load LookStatus 0 n) → Keeps old new
-keeps_looked s b old new n q = record {
-  attempt = q ∙ ap (λ (l : LocalState). record old { resolution = l.resolution; pass = l.pass; checked = l.checked })
-      (sym q);
-  object = ap (λ l. (res l).object) q;
-  word = ap (λ l. (res l).word) q;
-  rank = ap (λ l. (res l).rank) q;
-}
-
--- so does a Kill
-pub keeps_killed : (old new : LocalState) (put : ℕ) → new ≡ record old {
+-- a look at the status keeps it, and so does a Kill
+pub keeps_status : {old new : LocalState} {put : ℕ} → new ≡ record old {
   resolution = Some (record (res old) { status = Some put });
   pass = None;
   checked = 0;
 } → Keeps old new
-keeps_killed old new put q = record {
+keeps_status {old = old} q = record {
   attempt = q ∙ ap (λ (l : LocalState). record old { resolution = l.resolution; pass = l.pass; checked = l.checked })
       (sym q);
   object = ap (λ l. (res l).object) q;
@@ -275,10 +225,10 @@ keeps_killed old new put q = record {
 }
 
 -- and giving way, from its Pause to its Resume
-pub keeps_aside : (a b c d : LocalState) → a.phase ≡ Running →
+pub keeps_aside : {a b c d : LocalState} → a.phase ≡ Running →
     b ≡ record a { phase = Paused; pass = None; checked = 0 } →
     Keeps b c → d ≡ record c { phase = Running; pass = None; checked = 0 } → Keeps a d
-keeps_aside a b c d run p k q = record {
+keeps_aside {a = a} {c = c} {d = d} run p k q = record {
   attempt = attempt;
   object = ap (λ l. (res l).object) q ∙ k.object ∙ ap (λ l. (res l).object) p;
   word = ap (λ l. (res l).word) q ∙ k.word ∙ ap (λ l. (res l).word) p;

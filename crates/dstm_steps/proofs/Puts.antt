@@ -21,30 +21,26 @@ use Rattle.dstm_steps.specs.declared.steps.Steps.{Steps}
 use Rattle.dstm_steps.specs.Under.{Began, Went}
 use Rattle.dstm_steps.specs.Writes.{to_put, puts_of, no_slot, AreWrites, Holds}
 
-module _ {L : Type 0} (holds : L → List Val → Type 0) (home : Home L) (b : Began) where
-  pub past_went : (old new : Steps L) (e : Event) → Went holds home b old new e →
-      IsPastOf (view_of old.seat).log (view_of new.seat).log
-  past_went old new e w = record { later = e ∷ w.log.0; whole = sym w.log.1 }
+-- what is put stays
+pub holds_put : {L : Type 0} {holds : L → List Val → Type 0} {home : Home L} {b : Began} {old new : Steps L} {e : Event}
+    {n : ℕ} (w : Word) → Went holds home b old new e → (e.kind ≡ PutHigh) ⊎ (e.kind ≡ PutNew) →
+    e.place ≡ place home.terms.shape w → e.put ≡ n → Holds home new w n
+holds_put {home = home} {old = old} {e = e} w went kind here put more core =
+    let s : Shape = home.terms.shape in
+    let es : List Event = went.log.0 ++ (view_of old.seat).log in
+    let stays : at (more ++ e ∷ es) e.place ≡ e.put =
+    put_stays s more es e (subst (λ log. Core s (more ++ log)) went.log.1 core) kind in
+    ap (λ log. at (more ++ log) (place s w)) went.log.1 ∙ ap (at (more ++ e ∷ es)) (sym here) ∙ stays ∙ put
 
-  -- what is put stays
-  pub holds_put : (old new : Steps L) (e : Event) (w : Word) (n : ℕ) → Went holds home b old new e →
-      (e.kind ≡ PutHigh) ⊎ (e.kind ≡ PutNew) → e.place ≡ place home.terms.shape w → e.put ≡ n → Holds home new w n
-  holds_put old new e w n went kind here put more core =
-      let s : Shape = home.terms.shape in
-      let es : List Event = went.log.0 ++ (view_of old.seat).log in
-      let stays : at (more ++ e ∷ es) e.place ≡ e.put =
-      put_stays s more es e (subst (λ log. Core s (more ++ log)) went.log.1 core) kind in
-      ap (λ log. at (more ++ log) (place s w)) went.log.1 ∙ ap (at (more ++ e ∷ es)) (sym here) ∙ stays ∙ put
-
-  -- and what stays in every longer run stays in those of a later log
-  pub holds_later : (old new : Steps L) (w : Word) (n : ℕ) → IsPastOf (view_of old.seat).log (view_of new.seat).log →
-      Holds home old w n → Holds home new w n
-  holds_later old new w n past h more core =
-      let s : Shape = home.terms.shape in
-      let log : List Event = (view_of old.seat).log in
-      let whole : more ++ (view_of new.seat).log ≡ (more ++ past.later) ++ log =
-      ap (λ es. more ++ es) (sym past.whole) ∙ sym (append_assoc more past.later log) in
-      ap (λ es. word s es w) whole ∙ h (more ++ past.later) (subst (Core s) whole core)
+-- and what stays in every longer run stays in those of a later log
+pub holds_later : {L : Type 0} (home : Home L) (old new : Steps L) (w : Word) (n : ℕ) →
+    IsPastOf (view_of old.seat).log (view_of new.seat).log → Holds home old w n → Holds home new w n
+holds_later home old new w n past h more core =
+    let s : Shape = home.terms.shape in
+    let log : List Event = (view_of old.seat).log in
+    let whole : more ++ (view_of new.seat).log ≡ (more ++ past.later) ++ log =
+    ap (λ es. more ++ es) (sym past.whole) ∙ sym (append_assoc more past.later log) in
+    ap (λ es. word s es w) whole ∙ h (more ++ past.later) (subst (Core s) whole core)
 
 -- ---- the slots and the writes
 

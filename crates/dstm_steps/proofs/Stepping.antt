@@ -11,7 +11,7 @@ use Rattle.dstm_core.specs.declared.state.Phase.TheVariants.{Running}
 use Rattle.dstm_core.specs.Rules.{is_outside, after, access, target, May, AllowedAs}
 use Rattle.dstm_core.specs.Runs.{local}
 use Rattle.dstm_core.specs.State.{LocalState, given, res, or_zero}
-use Rattle.dstm_core.specs.Traces.{Access, Acts, events_of}
+use Rattle.dstm_core.specs.Traces.{Access, Acts, IsPastOf}
 use Rattle.dstm_machines.specs.Traces.Access.{Load, Store, Exchange, Add}
 use Rattle.dstm_core.specs.declared.shape.Manager.TheVariants.{Polite, Karma, Polka, Greedy}
 use Rattle.dstm_core.specs.declared.status.Status.{Status}
@@ -26,7 +26,7 @@ use Rattle.dstm_seats.proofs.Seats as seats
 use Rattle.dstm_words.specs.Seats.{View, caller_view, event_by, ActsBy, Home, view_of, IsOf, MayMake, IsRunOf, Adds, Makes, number_or, shared, state_by}
 use Rattle.dstm_order.specs.Calls.{answer, IsCall, answer_of}
 use Rattle.dstm_order.specs.declared.again.Again.{Again}
-use Rattle.dstm_order.specs.Efforts.{Effort, effort_after, exchanges, turn, chosen, status_of}
+use Rattle.dstm_order.specs.Efforts.{Effort, effort_after, turn, chosen, status_of}
 use Rattle.dstm_order.specs.Order.{Due, IsDue, HasOperand, due, next, next_or_first, just}
 use Rattle.dstm_order.specs.Order.Due.{Done}
 use Rattle.dstm_order.specs.declared.TheConstants.{MAX_MISSED}
@@ -36,39 +36,15 @@ use Rattle.dstm_steps.specs.declared.steps.Steps.{Steps}
 use Rattle.dstm_steps.specs.Under.{Began, InTask, Under, is_exchange, MayStep, After, Went, WentOn, IsMirror, again_by, operand_of, now, effort_by, made_by, due_next_by, answer_by, work_of}
 
 -- what the rules say of an event that acts in some way does not depend on what it finds
-may_load : (k : Kind) (s : Shape) (l : LocalState) (c p found : ℕ) → MayStep s l k Load (event_by Load c k p 0) →
-    MayStep s l k Load (event_by Load c k p found)
-may_load Rank s l c p found m = let way = m.access in absurd (cc)
-may_load PutHigh s l c p found m = let way = m.access in absurd (cc)
-may_load PutNew s l c p found m = let way = m.access in absurd (cc)
-may_load k s l c p found m = record { place = m.place; access = m.access; may = m.may }
-
-may_store : (k : Kind) (s : Shape) (l : LocalState) (v c p found : ℕ) →
-    MayStep s l k (Store v) (event_by (Store v) c k p 0) → MayStep s l k (Store v) (event_by (Store v) c k p found)
-may_store Rank s l v c p found m = record { place = m.place; access = m.access; may = m.may }
-may_store k s l v c p found m = record { place = m.place; access = m.access; may = m.may }
-
-may_exchange : (k : Kind) (s : Shape) (l : LocalState) (x v c p found : ℕ) →
-    MayStep s l k (Exchange x v) (event_by (Exchange x v) c k p 0) →
-    MayStep s l k (Exchange x v) (event_by (Exchange x v) c k p found)
-may_exchange Rank s l x v c p found m = let way = m.access in absurd (cc)
-may_exchange PutHigh s l x v c p found m = let way = m.access in absurd (cc)
-may_exchange PutNew s l x v c p found m = let way = m.access in absurd (cc)
-may_exchange k s l x v c p found m = record { place = m.place; access = m.access; may = m.may }
-
-may_add : (k : Kind) (s : Shape) (l : LocalState) (c p found : ℕ) → MayStep s l k Add (event_by Add c k p 0) →
-    MayStep s l k Add (event_by Add c k p found)
-may_add Rank s l c p found m = let way = m.access in absurd (cc)
-may_add PutHigh s l c p found m = let way = m.access in absurd (cc)
-may_add PutNew s l c p found m = let way = m.access in absurd (cc)
-may_add k s l c p found m = record { place = m.place; access = m.access; may = m.may }
-
 may_any : (k : Kind) (s : Shape) (l : LocalState) (way : Access) (c p found : ℕ) →
     MayStep s l k way (event_by way c k p 0) → MayStep s l k way (event_by way c k p found)
-may_any k s l Load c p found m = may_load k s l c p found m
-may_any k s l (Store v) c p found m = may_store k s l v c p found m
-may_any k s l (Exchange x v) c p found m = may_exchange k s l x v c p found m
-may_any k s l Add c p found m = may_add k s l c p found m
+may_any Rank s l (Store v) c p found m = record { place = m.place; access = m.access; may = m.may }
+may_any Rank s l way c p found m = let other = m.access in absurd (cc)
+may_any PutHigh s l (Store v) c p found m = record { place = m.place; access = m.access; may = m.may }
+may_any PutHigh s l way c p found m = let other = m.access in absurd (cc)
+may_any PutNew s l (Store v) c p found m = record { place = m.place; access = m.access; may = m.may }
+may_any PutNew s l way c p found m = let other = m.access in absurd (cc)
+may_any k s l way c p found m = record { place = m.place; access = m.access; may = m.may }
 
 -- a load has the operand of its place
 pub load_operand : (k : Kind) (s : Shape) (l : LocalState) (e : Event) → ActsBy k Load →
@@ -143,81 +119,71 @@ acts (Store v) c k p found = (refl, refl)
 acts (Exchange e v) c k p found = (refl, refl)
 acts Add c k p found = (refl, refl)
 
-module _ {L : Type 0} (holds : L → List Val → Type 0) (home : Home L) (b : Began) where
-  -- the event that the seat makes is the caller's
-  pub makes_by : (v w : View L) (way : Access) (k : Kind) (p found : ℕ) → v.number ≡ Some b.number →
-      Makes holds v way k p found w → Adds holds v (made_by b way k p found) w
-  makes_by v w way k p found n m = seats.makes_by (shared holds) b.number v w way k p found n m
+module _ {L : Type 0} {holds : L → List Val → Type 0} {home : Home L} {task : Task} {b : Began} {old : Steps L} {d : Due}
+    {a : Option Again} (u : InTask holds home task b old d a) where
+  -- the state of the caller, by its number
+  pub here : now home old ≡ local home.terms.shape (view_of old.seat).log b.number
+  here = ap (λ o. state_by home.terms.shape o (view_of old.seat).log) u.number
 
-  module _ {task : Task} (old new : Steps L) (e : Event) (d : Due) (a : Option Again)
-      (u : InTask holds home task b old d a) (m : Adds holds (view_of old.seat) e (view_of new.seat))
-      (c : e.caller ≡ b.number) where
-    number_now : (view_of new.seat).number ≡ Some b.number
-    number_now = seats.number_now (shared holds) b.number (view_of old.seat) (view_of new.seat) e u.number m c
+  -- another due event and another answer, which are the same
+  pub under_is : {f : Due} {c : Option Again} → d ≡ f → a ≡ c → InTask holds home task b old f c
+  under_is {f = f} q r = subst (InTask holds home task b old f) r (subst (λ d. InTask holds home task b old d a) q u)
 
-    own_now : events_of b.number (view_of new.seat).log ≡ e ∷ events_of b.number (view_of old.seat).log
-    own_now = seats.own_now (shared holds) b.number (view_of old.seat) (view_of new.seat) e u.number m c
+  -- the call goes on after the event
+  goes_on : (new : Steps L) (e : Event) → Adds holds (view_of old.seat) e (view_of new.seat) → e.caller ≡ b.number →
+      IsOf home new.seat → IsDue d e → After home old new e →
+      InTask holds home task b new (due_next_by home task new e) (answer_by home task new e)
+  goes_on new e m c seat is t =
+      let s : Shape = home.terms.shape in
+      let v : View L = view_of old.seat in
+      let w : View L = view_of new.seat in
+      let state : now home new ≡ after e.kind s (now home old) e =
+      seats.state_now (shared holds) b.number v w e u.number m c s in record {
+        seat = seat;
+        number = seats.number_now (shared holds) b.number v w e u.number m c;
+        view = seats.view_now (shared holds) b.number v w e u.number m c home.terms u.view;
+        caller = u.caller;
+        run = subst (λ o. IfSome o (λ terms. IsRunOf holds terms w.log)) u.seat.2 m.run;
+        seen = past_past _ _ _ u.seen (record { later = e ∷ m.log.0; whole = sym m.log.1 });
+        shape = t.shape ∙ u.shape;
+        manager = t.manager ∙ u.manager;
+        mirror = subst (IsMirror s new) (sym state) t.mirror;
+        events = e ∷ u.events;
+        own = seats.own_now (shared holds) b.number v w e u.number m c ∙ ap (λ es. e ∷ es) u.own;
+        top = (m.log.0 ++ v.log, m.log.1);
+        state = state ∙ ap (λ l. after e.kind s l e) u.state;
+        obeys = (u.obeys, subst (λ d. IsDue d e) (sym (rw (← u.state, u.effort) u.due)) is);
+        effort = rw (← u.state, u.effort) t.effort;
+        due = refl;
+        gives = refl;
+      }
 
-    view_now : view_of new.seat ≡ caller_view home.terms b.number (view_of new.seat).log
-    view_now =
-        seats.view_now (shared holds) b.number (view_of old.seat) (view_of new.seat) e u.number m c home.terms u.view
-
-    -- the state after it
-    pub state_now : now home new ≡ after e.kind home.terms.shape (now home old) e
-    state_now =
-        seats.state_now (shared holds) b.number (view_of old.seat) (view_of new.seat) e u.number m c home.terms.shape
-
-    -- the call goes on
-    pub under_adds : IsOf home new.seat → IsDue d e → After home old new e →
-        InTask holds home task b new (due_next_by home task new e) (answer_by home task new e)
-    under_adds seat is t =
-        let s : Shape = home.terms.shape in record {
-          seat = seat;
-          number = number_now;
-          view = view_now;
-          caller = u.caller;
-          run = subst (λ o. IfSome o (λ terms. IsRunOf holds terms (view_of new.seat).log)) u.seat.2 m.run;
-          seen = past_past _ _ _ u.seen (record { later = e ∷ m.log.0; whole = sym m.log.1 });
-          shape = t.shape ∙ u.shape;
-          manager = t.manager ∙ u.manager;
-          mirror = subst (IsMirror s new) (sym state_now) t.mirror;
-          events = e ∷ u.events;
-          own = own_now ∙ ap (λ es. e ∷ es) u.own;
-          top = (m.log.0 ++ (view_of old.seat).log, m.log.1);
-          state = state_now ∙ ap (λ l. after e.kind s l e) u.state;
-          obeys = (u.obeys, subst (λ d. IsDue d e) (sym (rw (← u.state, u.effort) u.due)) is);
-          effort = rw (← u.state, u.effort) t.effort;
-          due = refl;
-          gives = refl;
-        }
-
-  -- the steps after an event of the caller's
-  pub went_adds : {task : Task} (old new : Steps L) (e : Event) (d : Due) (a : Option Again) →
-      InTask holds home task b old d a → Adds holds (view_of old.seat) e (view_of new.seat) → IsOf home new.seat →
-      e.caller ≡ b.number → IsDue d e → WentOn holds home task b old new e
-  went_adds old new e d a u m seat c is = record {
-    log = m.log;
-    state = state_now old new e d a u m c;
-    goes_on = λ steps same t. under_adds old steps e d a u
-        (subst (λ s. Adds holds (view_of old.seat) e (view_of s)) (sym same) m) c (subst (IsOf home) (sym same) seat)
-        is t;
-  }
+  -- the event that the caller's seat made is the call's
+  pub took : {new : Steps L} {k : Kind} {p found : ℕ} (way : Access) →
+      Makes holds (view_of old.seat) way k p found (view_of new.seat) → IsOf home new.seat →
+      IsDue d (made_by b way k p found) → WentOn holds home task b old new (made_by b way k p found)
+  took {new = new} {k = k} {p = p} {found = found} way makes seat is =
+      let v : View L = view_of old.seat in
+      let e : Event = made_by b way k p found in
+      let m : Adds holds v e (view_of new.seat) =
+      seats.makes_by (shared holds) b.number v (view_of new.seat) way k p found u.number makes in record {
+        log = m.log;
+        state = seats.state_now (shared holds) b.number v (view_of new.seat) e u.number m refl home.terms.shape;
+        goes_on = λ steps same t. goes_on steps e (subst (λ s. Adds holds v e (view_of s)) (sym same) m) refl
+            (subst (IsOf home) (sym same) seat) is t;
+      }
 
   -- the rules let the caller make the event, whatever it finds
-  pub may_make : {task : Task} (steps : Steps L) (d : Due) (a : Option Again) (way : Access) (k : Kind) (p : ℕ) →
-      InTask holds home task b steps d a →
-      (k ≡ LookObj → p < home.terms.shape.objects) →
-      MayStep home.terms.shape (now home steps) k way (made_by b way k p 0) →
-      MayMake home.terms (view_of steps.seat) way k p
-  may_make steps d a way k p u in_shape m found below =
+  pub may_make : (way : Access) (k : Kind) (p : ℕ) → (k ≡ LookObj → p < home.terms.shape.objects) →
+      MayStep home.terms.shape (now home old) k way (made_by b way k p 0) →
+      MayMake home.terms (view_of old.seat) way k p
+  may_make way k p in_shape m found below =
       let s : Shape = home.terms.shape in
-      let l : LocalState = now home steps in
+      let l : LocalState = now home old in
       let e : Event = made_by b way k p found in
-      let v : View L = view_of steps.seat in
       let any : MayStep s l k way e = may_any k s l way b.number p found m in
-      let here : l ≡ local s v.log b.number = ap (λ o. state_by s o v.log) u.number in
       let word =
-      in_range s v.log b.number e k u.run.run.core u.caller
+      in_range s (view_of old.seat).log b.number e k u.run.run.core u.caller
       (λ q. subst (λ n. n < s.objects) (sym (placed way b.number k p found)) (in_shape q))
       (subst (λ l. May k s l e) here any.may) in
       let all : AllowedAs k s l e = (
@@ -231,13 +197,13 @@ module _ {L : Type 0} (holds : L → List Val → Type 0) (home : Home L) (b : B
 -- ---- what a caller remembers after an event
 
 -- It remembers all as before, but for what the call has behind it, and no word of its own has changed.
-pub after_rest : {L : Type 0} (home : Home L) (old new steps : Steps L) (e : Event) →
+pub after_rest : {L : Type 0} {home : Home L} {old new steps : Steps L} {e : Event} →
     new ≡ record old { seat = new.seat } →
     steps ≡ record new { missed = steps.missed; round = steps.round; left = steps.left } →
     IsMirror home.terms.shape old (after e.kind home.terms.shape (now home old) e) →
     effort_after e.kind home.terms.shape.manager (now home old) (effort_by old) e ≡ effort_by steps →
     After home old steps e
-after_rest home old new steps e rest more mirror effort = record {
+after_rest rest more mirror effort = record {
   shape = rw (more, rest) refl;
   manager = rw (more, rest) refl;
   mirror = record { own = rw (more, rest) mirror.own; installed = rw (more, rest) mirror.installed; rank = rw (more, rest) mirror.rank };
@@ -276,12 +242,6 @@ pub due_done : (w : Work) (s : Shape) (newest : Option Event) (l : LocalState) (
     due (Doing w) s newest l c ≡ Done
 due_done w s newest l c left = rw left refl
 
-pub under_is : {L : Type 0} {task : Task} (holds : L → List Val → Type 0) (home : Home L) (b : Began) (steps : Steps L)
-    (d f : Due) (a c : Option Again) → InTask holds home task b steps d a → d ≡ f → a ≡ c →
-    InTask holds home task b steps f c
-under_is {task = task} holds home b steps d f a c u q r =
-    subst (InTask holds home task b steps f) r (subst (λ d. InTask holds home task b steps d a) q u)
-
 pub again_none : (w : Work) (n : Option Event) (l : LocalState) (c : Effort) → is_outside l.phase ≡ false →
     answer (Doing w) n l c ≡ None
 again_none w n l c live = rw live refl
@@ -289,14 +249,14 @@ again_none w n l c live = rw live refl
 pub more_tries : (missed : ℕ) → missed < MAX_MISSED → (missed == MAX_MISSED) ≡ false
 more_tries missed h = ne_eqb missed MAX_MISSED (λ q. omega arith)
 
-module _ {L : Type 0} (holds : L → List Val → Type 0) (home : Home L) (b : Began) (old new steps : Steps L) (e : Event)
+module _ {L : Type 0} {holds : L → List Val → Type 0} {home : Home L} {b : Began} {old new steps : Steps L} {e : Event}
     (w : Went holds home b old new e) (same : steps.seat ≡ new.seat) (t : After home old steps e) where
   -- the attempt goes on after the event
   pub went_on : is_outside (now home steps).phase ≡ false → (now home steps).stale ≡ false → steps.missed < MAX_MISSED →
       Under holds home b steps
       (next e.kind e (work_of b.task) home.terms.shape.manager (now home steps) (effort_by steps)) None
   went_on live agreed tries =
-      under_is holds home b steps _ _ _ _ (w.goes_on steps same t)
+      under_is (w.goes_on steps same t)
       (due_next (work_of b.task) home.terms.shape e (now home steps) (effort_by steps) live agreed
       (more_tries steps.missed tries))
       (again_none (work_of b.task) (Some e) (now home steps) (effort_by steps) live)
@@ -305,7 +265,7 @@ module _ {L : Type 0} (holds : L → List Val → Type 0) (home : Home L) (b : B
   pub went_stale : is_outside (now home steps).phase ≡ false → (now home steps).stale ≡ true →
       Under holds home b steps (just Quit) None
   went_stale live stale =
-      under_is holds home b steps _ _ _ _ (w.goes_on steps same t)
+      under_is (w.goes_on steps same t)
       (due_quit (work_of b.task) home.terms.shape (Some e) (now home steps) (effort_by steps) live stale)
       (again_none (work_of b.task) (Some e) (now home steps) (effort_by steps) live)
 
@@ -313,31 +273,27 @@ module _ {L : Type 0} (holds : L → List Val → Type 0) (home : Home L) (b : B
   pub went_lost : is_outside (now home steps).phase ≡ false → steps.missed ≡ MAX_MISSED →
       Under holds home b steps (just Quit) None
   went_lost live lost =
-      under_is holds home b steps _ _ _ _ (w.goes_on steps same t)
+      under_is (w.goes_on steps same t)
       (due_lost (work_of b.task) home.terms.shape (Some e) (now home steps) (effort_by steps) live lost)
       (again_none (work_of b.task) (Some e) (now home steps) (effort_by steps) live)
 
   -- it was left
-  pub went_out : is_outside (now home steps).phase ≡ true →
-      Under holds home b steps Done (again_by home b steps e)
+  pub went_out : is_outside (now home steps).phase ≡ true → Under holds home b steps Done (again_by home b steps e)
   went_out left =
-      under_is holds home b steps _ _ _ _ (w.goes_on steps same t)
+      under_is (w.goes_on steps same t)
       (due_done (work_of b.task) home.terms.shape (Some e) (now home steps) (effort_by steps) left) refl
 
--- ---- the effort after an exchange and after a turn
+-- what a call has seen before its event
+pub past_went : {L : Type 0} {holds : L → List Val → Type 0} {home : Home L} {task : Task} {b : Began} {old new : Steps L}
+    {e : Event} → WentOn holds home task b old new e → IsPastOf (view_of old.seat).log (view_of new.seat).log
+past_went {e = e} w = record { later = e ∷ w.log.0; whole = sym w.log.1 }
 
-pub exchanged : (c : Effort) (e : Event) → e.found ≡ e.expected → exchanges c e ≡ c
-exchanged c e h = rw (eq-eqb e.found e.expected h) refl
-
-pub exchange_failed : (c : Effort) (e : Event) → e.found ≢ e.expected →
-    exchanges c e ≡ record c { missed = c.missed + 1 }
-exchange_failed c e h = rw (ne_eqb e.found e.expected h) refl
+-- ---- the effort after a turn, whatever the look finds
 
 -- one of the turns that are left
-pub turn_left : (m : Manager) (l : LocalState) (c : Effort) (e : Event) → is_some (res l).status ≡ true →
-    l.phase ≡ Running →
-    0 < c.left → effort_after LookStatus m l c e ≡ turn c.left c
-turn_left m l c e h p left = rw (h, p, ne_eqb c.left 0 (λ q. omega arith)) refl
+pub turn_left : (m : Manager) (l : LocalState) (c : Effort) → is_some (res l).status ≡ true → l.phase ≡ Running →
+    0 < c.left → effort_after LookStatus m l c (event_by Load 0 LookStatus 0 0) ≡ turn c.left c
+turn_left m l c h p left = rw (h, p, ne_eqb c.left 0 (λ q. omega arith)) refl
 
 pub turn_last : (left : ℕ) (c : Effort) → left ≡ 1 → turn left c ≡ record c { left = left - 1; round = c.round + 1 }
 turn_last left c h = rw (eq-eqb left 1 h) refl
@@ -370,23 +326,23 @@ pub give_way_keeps : (d : DeciderState) → decided d decision.GiveWay ≡ d
 give_way_keeps d = rw (takes_none d.manager).1 refl
 
 -- what the table says that the manager chooses is what the caller's decider answers
-pub chosen_is : {L : Type 0} (holds : L → List Val → Type 0) (home : Home L) (b : Began) (steps : Steps L) (d : Due)
-    (a : Option Again) → Under holds home b steps d a → (enemy : ℕ) (status : Status) →
+pub chosen_is : {L : Type 0} {holds : L → List Val → Type 0} {home : Home L} {b : Began} {steps : Steps L} {d : Due}
+    {a : Option Again} {enemy : ℕ} → Under holds home b steps d a → (status : Status) →
     or_zero (res (now home steps)).rank ≡ enemy → (res (now home steps)).status ≡ Some (code_of status) →
     chosen home.terms.shape.manager (now home steps) (effort_by steps)
     ≡ choice steps.decider.manager steps.rank enemy status steps.round (next_word steps.decider)
-chosen_is holds home b steps d a u enemy status rank code =
+chosen_is u status rank code =
     rw (rank, code, status_named status, ← u.mirror.rank, ← u.manager) refl
 
 -- the first turn of a wait
-pub first_turn : (m : Manager) (l : LocalState) (c : Effort) (e : Event) (t : ℕ) → is_some (res l).status ≡ true →
+pub first_turn : (m : Manager) (l : LocalState) (c : Effort) (t : ℕ) → is_some (res l).status ≡ true →
     l.phase ≡ Running → c.left ≡ 0 → chosen m l c ≡ decision.Wait t →
-    effort_after LookStatus m l c e
+    effort_after LookStatus m l c (event_by Load 0 LookStatus 0 0)
     ≡ turn t (record c {
       generator =
           (decided (record { manager = m; generator = c.generator }) (decision.Wait t)).generator;
     })
-first_turn m l c e t h p left wait = rw (h, p, left, wait) refl
+first_turn m l c t h p left wait = rw (h, p, left, wait) refl
 
 pub manager_kept : (d : DeciderState) (turns : ℕ) → (decided d (decision.Wait turns)).manager ≡ d.manager
 manager_kept d turns =
@@ -435,9 +391,9 @@ call_begins holds home task number steps seat view caller run shape manager mirr
 }
 
 -- where nothing more is due the events are a call, which answers what it does
-pub call_of : {L : Type 0} {task : Task} (holds : L → List Val → Type 0) (home : Home L) (b : Began) (steps : Steps L)
-    (a : Option Again) (u : InTask holds home task b steps Done a) →
+pub call_of : {L : Type 0} {task : Task} {holds : L → List Val → Type 0} {home : Home L} {b : Began} {steps : Steps L}
+    {a : Option Again} (u : InTask holds home task b steps Done a) →
     IsCall task home.terms.shape b.state b.generator u.events
     × (answer_of task home.terms.shape b.state b.generator u.events ≡ a)
-call_of holds home b steps a u =
+call_of u =
     (record { obeys = u.obeys; done = rw (← u.state, u.effort) u.due }, rw (← u.state, u.effort) u.gives)

@@ -103,26 +103,21 @@ stands_none n = go (cases_Bool (n == 0))
 stands_more : (n m : ℕ) → stands (stands n + m) ≡ stands (n + m)
 stands_more n m = omega arith
 
-ticked_on_is : (turn kills : Bool) (n : Counted) (begun : ℕ) → Counts_begun n begun →
-    ticked_on turn kills (tally_of n)
-    ≡ tally_of (if begun == 0
-    then n
-    else record {
+-- the counts with one step more, where an attempt has begun
+abbrev one_on : (turn kills : Bool) → Counted → (begun : ℕ) → Counted
+one_on turn kills n begun =
+    if begun == 0 then n else record {
       steps = n.steps + 1;
       turns = n.turns + one_if turn;
       kills = n.kills + one_if kills;
-    })
+    }
+
+ticked_on_is : (turn kills : Bool) (n : Counted) (begun : ℕ) → Counts_begun n begun →
+    ticked_on turn kills (tally_of n) ≡ tally_of (one_on turn kills n begun)
 ticked_on_is turn kills n begun h = go (cases_Bool (begun == 0))
   where
     go : (begun == 0 ≡ true) ⊎ (begun == 0 ≡ false) →
-        ticked_on turn kills (tally_of n)
-        ≡ tally_of (if begun == 0
-        then n
-        else record {
-          steps = n.steps + 1;
-          turns = n.turns + one_if turn;
-          kills = n.kills + one_if kills;
-        })
+        ticked_on turn kills (tally_of n) ≡ tally_of (one_on turn kills n begun)
     go (inl q) = rw (stands_none n.steps ∙ h ∙ q, q) refl
     go (inr q) =
         rw (

@@ -23,12 +23,11 @@ returns-then-spent-clause-under g c =
 pub begin-requires-clause-can : goal.begin-requires-clause-can
 begin-requires-clause-can g c =
     let home = c.args.words.now in
-    can_begin home.terms.shape (now home c.args.steps.now) (now home c.quit_live.new.steps) c.args.next
+    can_begin home.terms.shape c.args.next
     (quit g (goal.at.begin-requires-clause-can g c).After-quit_live) c.requires.number
     (c.requires.spent ∙ c.if-spent.false) c.requires.next
 
 pub begin-requires-clause-ranks : goal.begin-requires-clause-ranks
 begin-requires-clause-ranks g c =
     let home = c.args.words.now in
-    keeps_rank home.terms.shape c.args.fresh (now home c.args.steps.now) (now home c.quit_live.new.steps)
-    (quit g (goal.at.begin-requires-clause-ranks g c).After-quit_live) c.requires.ranks
+    keeps_rank (quit g (goal.at.begin-requires-clause-ranks g c).After-quit_live) c.requires.ranks

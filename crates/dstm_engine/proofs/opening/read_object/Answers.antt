@@ -21,15 +21,14 @@ conclude-requires-clause-slots g c =
     let e = c.in_ok-found.ensures in
     c.reads.ensures ∙ ap (λ (o : OpenedAs). map slot_word o.reads) c.push_read.ensures
     ∙ map-append slot_word c.args.opened.now.reads (_ ∷ []) ∙ ap (λ xs. xs ++ (c.args.object, found.word) ∷ []) c.requires.slots
-    ∙ sym (ap words_of (record_read old before c.args.object found e.attempt e.object e.found c.requires.unread)
+    ∙ sym (ap words_of (record_read old c.args.object e.attempt e.object e.found c.requires.unread)
     ∙ words_push old.reads _)
 
 pub conclude-requires-clause-owed : goal.conclude-requires-clause-owed
 conclude-requires-clause-owed g c =
     let home = c.args.words.now in
     let e = c.in_ok-found.ensures in
-    owed_read (now home c.args.steps.now) (now home c.resolve.new.self) c.args.object c.in_ok-found.found e.attempt
-    e.object e.found c.requires.unread
+    owed_read (now home c.args.steps.now) c.args.object e.attempt e.object e.found c.requires.unread
 
 pub returns-clause-opens : goal.returns-clause-opens
 returns-clause-opens g c =
@@ -44,16 +43,15 @@ returns-clause-opens g c =
     record {
       word = found.word;
       version = found.version;
-      adds = adds_read old before c.args.object found e.attempt e.object e.found c.requires.unread m s.0 new
+      adds = adds_read old c.args.object e.attempt e.object e.found c.requires.unread m s.0
           c.requires.running c.requires.put s.1;
       listed = c.push_read.ensures;
       valued =
-          has_value g.L.Law.holds home (doing g.B.InCall.began) (doing g.B.InCall.began) g.B.InCall.began
-          c.conclude.new.self c.conclude.new.self _ _ _ _ c.args.object found c.in_ok-conclude.ensures.ends_well
-          c.in_ok-conclude.ensures.ends_well (record { later = []; whole = refl })
-          (found_still old before c.args.object found e.attempt e.object e.found c.requires.unread m s.0 new
+          has_value c.in_ok-conclude.ensures.ends_well c.in_ok-conclude.ensures.ends_well
+          (record { later = []; whole = refl })
+          (found_still old c.args.object e.attempt e.object e.found c.requires.unread m s.0
           c.requires.running c.requires.put s.1)
-          (object_still old before c.args.object found e.attempt e.object e.found c.requires.unread m s.0 new
+          (object_still old c.args.object e.attempt e.object e.found c.requires.unread m s.0
           c.requires.running c.requires.put s.1)
           ∙ ap (λ (h : Home _). found_value found (value_at h.terms.start.value.items c.args.object)) (sym c.requires.table)
           ∙ sym c.value_found-value.ensures;
@@ -64,6 +62,5 @@ returns-clause-last g c =
     let home = c.args.words.now in
     let e = c.in_ok-found.ensures in
     let s = c.in_ok-conclude.ensures.state in
-    s.2 ∙ sym (last_read (now home c.args.steps.now) (now home c.resolve.new.self) c.args.object c.in_ok-found.found
-    e.attempt e.object e.found c.requires.unread home.terms.shape.manager s.0 (now home c.conclude.new.self)
-    c.requires.running c.requires.put s.1)
+    s.2 ∙ sym (last_read (now home c.args.steps.now) c.args.object
+    e.attempt e.object e.found c.requires.unread home.terms.shape.manager s.0 c.requires.running c.requires.put s.1)

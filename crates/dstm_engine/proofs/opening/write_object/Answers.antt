@@ -26,8 +26,7 @@ conclude-requires-clause-slots g c =
     c.reads.ensures ∙ ap (λ (o : OpenedAs). map slot_word o.reads) c.push_write.ensures
     ∙ ap (λ (o : OpenedAs). map slot_word o.reads) c.drop_read.ensures
     ∙ words_without c.args.opened.now.reads old.reads c.args.object c.requires.slots
-    ∙ sym (ap words_of (acquired_reads home.terms.shape c.args.object old (now home c.acquire.new.self)
-    c.in_ok-found.found c.in_ok-found.ensures.got))
+    ∙ sym (ap words_of (acquired_reads c.in_ok-found.ensures.got))
 
 pub returns-in_err-conclude-clause-rest : goal.returns-in_err-conclude-clause-rest
 returns-in_err-conclude-clause-rest g c = (
@@ -45,8 +44,7 @@ returns-clause-opens g c =
     let value = c.value_found-old.result in
     record {
       version = found.version;
-      adds = adds_write home.terms.shape home.terms.shape.manager s.0 c.args.object found (now home c.args.steps.now)
-          (now home c.acquire.new.self) (now home c.conclude.new.self) c.requires.running c.requires.put
+      adds = adds_write home.terms.shape.manager s.0 c.requires.running c.requires.put
           c.in_ok-found.ensures.got s.1;
       listed =
           c.push_write.ensures
@@ -54,12 +52,9 @@ returns-clause-opens g c =
             writes = o.writes ++ record { object = c.args.object; old = value; new = None } ∷ [];
           }) c.drop_read.ensures;
       valued =
-          version_goes g.L.Law.holds home (doing g.B.InCall.began) (doing g.B.InCall.began) g.B.InCall.began
-          c.acquire.new.self c.conclude.new.self _ _ _ _ c.args.object found.version c.in_ok-found.ensures.under
+          version_goes c.args.object found.version c.in_ok-found.ensures.under
           c.in_ok-conclude.ensures.ends_well c.in_ok-conclude.ensures.past
-          (λ out. let x = acquired_runs home.terms.shape c.args.object (now home c.args.steps.now)
-          (now home c.acquire.new.self) found c.in_ok-found.ensures.got c.requires.running in cc)
-          (acquired_held home.terms.shape c.args.object (now home c.args.steps.now) (now home c.acquire.new.self) found
+          (λ out. let x = acquired_runs c.in_ok-found.ensures.got c.requires.running in cc) (acquired_held
           c.in_ok-found.ensures.got c.requires.unopened)
           ∙ c.in_ok-found.ensures.value
           ∙ ap (λ (h : Home _). found_value found (value_at h.terms.start.value.items c.args.object)) (sym c.requires.table)
@@ -70,9 +65,7 @@ pub returns-clause-last : goal.returns-clause-last
 returns-clause-last g c =
     let home = c.args.words.now in
     let s = c.in_ok-conclude.ensures.state in
-    s.2 ∙ sym (last_write home.terms.shape home.terms.shape.manager s.0 c.args.object c.in_ok-found.found
-    (now home c.args.steps.now) (now home c.acquire.new.self) (now home c.conclude.new.self) c.requires.running
-    c.requires.put c.in_ok-found.ensures.got s.1)
+    s.2 ∙ sym (last_write home.terms.shape.manager s.0 c.requires.running c.requires.put c.in_ok-found.ensures.got s.1)
 
 pub returns-clause-rest : goal.returns-clause-rest
 returns-clause-rest g c = (

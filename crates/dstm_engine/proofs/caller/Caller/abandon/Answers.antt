@@ -7,15 +7,13 @@ use Rattle.dstm_engine.specs.Outcomes.{IsEnded}
 use Rattle.dstm_engine.proofs.caller.Caller.abandon.Goals as goal
 
 pub returns-clause-attempt : goal.returns-clause-attempt
-returns-clause-attempt g c =
-    leaving_keeps g.L.Law.holds c.args.self.now c.leave.new.self c.leave.ensures.steps
+returns-clause-attempt g c = leaving_keeps c.leave.ensures.steps
 
 pub returns-clause-done : goal.returns-clause-done
 returns-clause-done g c =
     ap done c.leave.ensures.kept
-    ∙ leaving_done g.L.Law.holds c.args.self.now c.leave.new.self c.leave.ensures.steps
+    ∙ leaving_done c.leave.ensures.steps
 
 pub returns-clause-ended : goal.returns-clause-ended
 returns-clause-ended g c = λ way.
-    subst IsEnded c.self.view_is
-    (ended_is_known g.L.Law.holds c.self.inside c.self.invariant (subst IsUnderWay (sym c.self.view_is) way))
+    subst IsEnded c.self.view_is (ended_is_known c.self.invariant (subst IsUnderWay (sym c.self.view_is) way))

@@ -28,49 +28,43 @@ overflow_add-next g c =
     let st = static c.self.inside.terms.shape c.self.inside.steps.seat.me.0.log v.run.run.core c.self.inside.number in
     let few = st.begun in
     let begun = v.begun in
-    let small = next_small c.self.inside.terms.shape c.self.inside.number c.self.inside.begun v.run.valid v.number.0
-    (omega arith) in
+    let small = next_small c.self.inside.number c.self.inside.begun v.run.valid v.number.0 (omega arith) in
     omega arith
 
 begun : (g : Over) (c : After-words g) →
     AtCall g.L.Law.holds c.self.inside c.args.self.now c.words.result.now c.renew.new.steps
-begun g c =
-    at_call g.L.Law.holds c.self.inside c.self.invariant c.args.self.now c.self.view_is c.args.stm.now
-    c.words.result.now c.requires.table c.words.ensures c.renew.new.steps c.renew.ensures
+begun g c = at_call c.self.invariant c.self.view_is c.requires.table c.words.ensures c.renew.ensures
 
 told : (g : Over) (c : After-words g) →
     is_spent c.self.inside.terms.shape (state (called c.self.inside)) ≡ c.is_spent-spent.result
 told g c =
-    spent_there g.L.Law.holds c.self.inside c.self.invariant c.words.result.now (begun g c).home c.renew.new.steps
-    c.renew.ensures
+    spent_there c.self.invariant (begun g c).home c.renew.ensures
     ∙ sym c.is_spent-spent.ensures
 
 pub begin_next-requires-clause-under : goal.begin_next-requires-clause-under
 begin_next-requires-clause-under g c =
-    starts_there g.L.Law.holds c.self.inside c.self.invariant c.words.result.now (begun g c).home c.renew.new.steps
-    c.renew.ensures (Beginning c.self.inside.fresh)
+    starts_there c.self.invariant (begun g c).home c.renew.ensures (Beginning c.self.inside.fresh)
 
 pub invariant_of-self : goal.invariant_of-self
 invariant_of-self g c =
     let before = (goal.at.invariant_of-self g c).After-words in
-    spent_caller (begun g before) c.begin_next.new.steps c.begin_next.ensures.under c.is_spent-spent.result
+    spent_caller (begun g before) c.begin_next.ensures.under c.is_spent-spent.result
     (told g before) c.if-spent.true c.begin_next.ensures.spent c.begin_next.ensures.idle
 
 pub returns-then-spent-clause-spent : goal.returns-then-spent-clause-spent
 returns-then-spent-clause-spent g c =
     let before = (goal.at.returns-then-spent-clause-spent g c).After-words in
-    spends (begun g before) c.begin_next.new.steps c.begin_next.ensures.under c.is_spent-spent.result (told g before)
+    spends (begun g before) c.begin_next.ensures.under c.is_spent-spent.result (told g before)
     c.if-spent.true c.begin_next.ensures.spent c.begin_next.ensures.idle
 
 pub invariant_of-self-2 : goal.invariant_of-self-2
 invariant_of-self-2 g c =
     let before = (goal.at.invariant_of-self-2 g c).After-words in
-    begun_caller (begun g before) c.begin_next.new.steps c.begin_next.ensures.under c.is_spent-spent.result
-    (told g before) c.if-spent.false c.begin_next.ensures.begun c.of-began.result c.of-began.ensures c.clear.new.self
-    c.clear.ensures
+    begun_caller (begun g before) c.begin_next.ensures.under c.is_spent-spent.result
+    (told g before) c.if-spent.false c.begin_next.ensures.begun c.of-began.result c.of-began.ensures c.clear.ensures
 
 pub returns-clause-begins : goal.returns-clause-begins
 returns-clause-begins g c =
     let before = (goal.at.returns-clause-begins g c).After-words in
-    begins (begun g before) c.begin_next.new.steps c.begin_next.ensures.under c.is_spent-spent.result (told g before)
-    c.if-spent.false c.begin_next.ensures.begun c.of-began.result c.of-began.ensures c.clear.new.self c.clear.ensures
+    begins (begun g before) c.begin_next.ensures.under c.is_spent-spent.result (told g before)
+    c.if-spent.false c.begin_next.ensures.begun c.of-began.result c.of-began.ensures c.clear.ensures

@@ -11,7 +11,7 @@ use Rattle.dstm_engine.proofs.caller.Caller.is_read.Goals as goal
 
 pub returns-then-not-self : goal.returns-then-not-self
 returns-then-not-self g c =
-    sym (is_read_dead g.L.Law.holds c.self.inside c.self.invariant c.args.o c.if-not-self.true)
+    sym (is_read_dead c.self.invariant c.args.o c.if-not-self.true)
     ∙ ap (λ (k : Called _). is_some (live_held k c.args.o) && not (live_opened k c.args.o)) c.self.view_is
 
 -- it is read where it has a slot
@@ -25,7 +25,7 @@ returns-then-is_some g c =
     read g (goal.at.returns-then-is_some g c).After-is_some ∙ c.if-is_some.true in
     let write : is_some (write_slot x.opened.writes c.args.o) ≡ not c.is_none.result =
     ap (λ (w : Option WriteSlot). is_some w) (sym c.write.ensures) ∙ c.is_none.ensures in
-    sym (is_read_there g.L.Law.holds x c.self.invariant c.args.o c.if-not-self.false
+    sym (is_read_there c.self.invariant c.args.o c.if-not-self.false
     ∙ both_there _ _ c.is_none.result read write)
     ∙ ap (λ (k : Called _). is_some (live_held k c.args.o) && not (live_opened k c.args.o)) c.self.view_is
 
@@ -35,6 +35,6 @@ returns-else-is_some g c =
     let read : is_some (read_slot x.opened.reads c.args.o) ≡ false =
     read g (goal.at.returns-else-is_some g c).After-is_some ∙ c.if-is_some.false in
     c.if-is_some.false
-    ∙ sym (is_read_there g.L.Law.holds x c.self.invariant c.args.o c.if-not-self.false
+    ∙ sym (is_read_there c.self.invariant c.args.o c.if-not-self.false
     ∙ ap (λ b. b && not (is_some (write_slot x.opened.writes c.args.o))) read)
     ∙ ap (λ (k : Called _). is_some (live_held k c.args.o) && not (live_opened k c.args.o)) c.self.view_is

@@ -19,7 +19,7 @@ pub status-status-requires-clause-below : goal.status-status-requires-clause-bel
 status-status-requires-clause-below g c =
     let v = c.self.invariant in
     let k = called c.self.inside in
-    let below = own_below g.L.Law.holds k v.run v.number.0 (v.phase ∙ ap phase_by c.if-self.true) in
+    let below = own_below k v.run v.number.0 (v.phase ∙ ap phase_by c.if-self.true) in
     subst (λ n. n < c.self.inside.steps.shape.callers * c.self.inside.steps.shape.attempts) (sym v.mirror.own)
     (subst (λ (s : Shape). own_attempt (shape_of k) (state k) < s.callers * s.attempts) (sym v.shape) below)
 
@@ -31,14 +31,12 @@ exchange-found-requires-clause-allowed g c = λ found lt.
     let home : k.home ≡ c.words.result.now =
     ap (λ (k : Called _). k.home) c.self.view_is ∙ c.requires.table ∙ sym c.words.ensures in
     let at : c.status-status.result
-    ≡ place c.words.result.now.terms.shape (StatusWord (own_attempt (shape_of k) (state k))) =
-    c.status-status.ensures
+    ≡ place c.words.result.now.terms.shape (StatusWord (own_attempt (shape_of k) (state k))) = c.status-status.ensures
     ∙ ap (λ (s : Shape). place s (StatusWord c.self.inside.steps.own)) v.shape
     ∙ ap (λ a. place c.self.inside.terms.shape (StatusWord a)) v.mirror.own
     ∙ ap (λ (h : Home _). place h.terms.shape (StatusWord (own_attempt (shape_of k) (state k)))) home in
-    rw (c.code-active.ensures, c.code-aborted.ensures)
-    (quit_allowed k c.words.result.now c.self.inside.steps.seat.me.0 c.status-status.result found home
-    v.seat.0 ph (own_below g.L.Law.holds k v.run v.number.0 ph) at)
+    rw (c.code-active.ensures, c.code-aborted.ensures) (quit_allowed k c.status-status.result found home
+    v.seat.0 ph (own_below k v.run v.number.0 ph) at)
 
 -- its exchange is that of a Quit
 quitted : (g : Over) (c : After-exchange-found g) → Makes g.L.Law.holds (seat_view (called c.self.inside)) (Exchange 1 5) Quit
@@ -60,10 +58,10 @@ invariant_of-self g c =
     let w = c.exchange-found.new.self.me.0 in
     let found = found_in c.exchange-found.result in
     let m = quitted g (goal.at.invariant_of-self g c).After-exchange-found in
-    let st = quit_state g.L.Law.holds k w c.status-status.result found m in
+    let st = quit_state k m in
     record {
-      seat = (quit_view g.L.Law.holds k w c.status-status.result found m, c.exchange-found.ensures.seat.1);
-      run = quit_run g.L.Law.holds k w c.status-status.result found m;
+      seat = (quit_view k m, c.exchange-found.ensures.seat.1);
+      run = quit_run k m;
       number = (v.number.0, ap (λ (l : LocalState). l.number) st ∙ v.number.1);
       shape = v.shape;
       mirror = record {
@@ -114,14 +112,13 @@ returns-then-self-clause-steps g c =
     subst (λ (x : Called _). Performs g.L.Law.holds Leaving x (record k {
       home = record { table = c.exchange-found.new.self.table_id; terms = c.self.inside.terms };
       log = w.log;
-    }) None) c.self.view_is
-    (subst (λ t. Performs g.L.Law.holds Leaving k (record k {
+    }) None) c.self.view_is (subst (λ t. Performs g.L.Law.holds Leaving k (record k {
       home = record { table = t; terms = c.self.inside.terms };
       log = w.log;
-    }) None) (sym table) (quits g.L.Law.holds k w c.status-status.result found m ph))
+    }) None) (sym table) (quits k m ph))
 
 pub returns-else-self-clause-steps : goal.returns-else-self-clause-steps
 returns-else-self-clause-steps g c =
     let v = c.self.invariant in
     subst (λ (k : Called _). Performs g.L.Law.holds Leaving k k None) c.self.view_is
-    (left_already g.L.Law.holds (called c.self.inside) v.run (v.phase ∙ ap phase_by c.if-self.false))
+    (left_already (called c.self.inside) v.run (v.phase ∙ ap phase_by c.if-self.false))

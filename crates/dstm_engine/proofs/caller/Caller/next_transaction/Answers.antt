@@ -8,4 +8,4 @@ pub invariant_of-self : goal.invariant_of-self
 invariant_of-self g c =
     let x = c.self.inside in
     let v = c.self.invariant in
-    stays_tied g.L.Law.holds x true x.opened.writes v (λ h. absurd (cc h)) (fresh_ended (called x) x.left v.ended) v.writes refl
+    stays_tied true x.opened.writes v (λ h. absurd (cc h)) (fresh_ended (called x) x.left v.ended) v.writes refl

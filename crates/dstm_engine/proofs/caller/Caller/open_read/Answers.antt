@@ -11,14 +11,10 @@ use Rattle.dstm_engine.proofs.caller.Caller.open_read.Goals as goal
 
 -- it is held where its slots hand out a value
 is_held : (g : Over) (c : After-value g) (v : Val) → c.value.result ≡ Some v → is_some (held c.args.self.now c.args.o) ≡ true
-is_held g c v some =
-    slot_held g.L.Law.holds c.self.inside c.self.invariant c.args.self.now c.self.view_is c.requires.live c.args.o v
-    (sym c.value.ensures ∙ some)
+is_held g c v some = slot_held c.self.invariant c.self.view_is c.requires.live c.args.o v (sym c.value.ensures ∙ some)
 
 unheld : (g : Over) (c : After-value g) → c.value.result ≡ None → held c.args.self.now c.args.o ≡ None
-unheld g c none =
-    slot_none g.L.Law.holds c.self.inside c.self.invariant c.args.self.now c.self.view_is c.requires.live c.args.o
-    (sym c.value.ensures ∙ none)
+unheld g c none = slot_none c.self.invariant c.self.view_is c.requires.live c.args.o (sym c.value.ensures ∙ none)
 
 not_held : (g : Over) (c : After-value g) → c.value.result ≡ None → IsSome (held c.args.self.now c.args.o) → ⊥
 not_held g c none some =
@@ -43,22 +39,20 @@ returns-in-Some-clause-stays g c =
 
 pub returns-in-Some-clause-continues : goal.returns-in-Some-clause-continues
 returns-in-Some-clause-continues g c =
-    held_continues g.L.Law.holds c.self.inside c.self.invariant c.args.self.now c.self.view_is c.requires.live c.args.o
+    held_continues c.self.invariant c.self.view_is c.requires.live c.args.o
     (is_held g (goal.at.returns-in-Some-clause-continues g c).After-value c.in-Some.value c.in-Some.is)
 
 pub returns-in-Some-clause-value : goal.returns-in-Some-clause-value
 returns-in-Some-clause-value g c =
     sym c.in-Some.is ∙ c.value.ensures
-    ∙ handed_there g.L.Law.holds c.self.inside c.self.invariant c.args.self.now c.self.view_is c.requires.live c.args.o
+    ∙ handed_there c.self.invariant c.self.view_is c.requires.live c.args.o
 
 pub write_out-requires-clause-unopened : goal.write_out-requires-clause-unopened
 write_out-requires-clause-unopened g c =
-    slot_unopened g.L.Law.holds c.self.inside c.self.invariant c.args.self.now c.self.view_is c.requires.live c.args.o
-    (sym c.value.ensures ∙ c.in_default.is)
+    slot_unopened c.self.invariant c.self.view_is c.requires.live c.args.o (sym c.value.ensures ∙ c.in_default.is)
 
 pub read_out-requires-clause-unheld : goal.read_out-requires-clause-unheld
-read_out-requires-clause-unheld g c =
-    unheld g (goal.at.read_out-requires-clause-unheld g c).After-value c.in_default.is
+read_out-requires-clause-unheld g c = unheld g (goal.at.read_out-requires-clause-unheld g c).After-value c.in_default.is
 
 pub returns-then-self-clause-again : goal.returns-then-self-clause-again
 returns-then-self-clause-again g c =
@@ -70,14 +64,13 @@ returns-then-self-clause-answered g c =
 
 pub returns-then-self-clause-stays : goal.returns-then-self-clause-stays
 returns-then-self-clause-stays g c =
-    λ none.
-    read_stays g.L.Law.holds c.args.self.now c.args.o (Writing c.args.o)
+    λ none. read_stays g.L.Law.holds c.args.self.now c.args.o
     (is_writing g (goal.at.returns-then-self-clause-stays g c).After-value c.if-self.true) c.write_out.result c.write_out.new.self
     c.write_out.ensures.opens
 
 pub returns-then-self-clause-leaves : goal.returns-then-self-clause-leaves
 returns-then-self-clause-leaves g c =
-    read_leaves g.L.Law.holds c.args.self.now c.args.o (Writing c.args.o)
+    read_leaves g.L.Law.holds c.args.self.now c.args.o
     (is_writing g (goal.at.returns-then-self-clause-leaves g c).After-value c.if-self.true) c.write_out.result c.write_out.new.self
     c.write_out.ensures.stops
 
@@ -97,13 +90,12 @@ returns-else-self-clause-answered g c =
 
 pub returns-else-self-clause-stays : goal.returns-else-self-clause-stays
 returns-else-self-clause-stays g c =
-    λ none.
-    read_stays g.L.Law.holds c.args.self.now c.args.o (Reading c.args.o)
+    λ none. read_stays g.L.Law.holds c.args.self.now c.args.o
     (is_reading g (goal.at.returns-else-self-clause-stays g c).After-value c.if-self.false) c.read_out.result c.read_out.new.self
     c.read_out.ensures.opens
 
 pub returns-else-self-clause-leaves : goal.returns-else-self-clause-leaves
 returns-else-self-clause-leaves g c =
-    read_leaves g.L.Law.holds c.args.self.now c.args.o (Reading c.args.o)
+    read_leaves g.L.Law.holds c.args.self.now c.args.o
     (is_reading g (goal.at.returns-else-self-clause-leaves g c).After-value c.if-self.false) c.read_out.result c.read_out.new.self
     c.read_out.ensures.stops

@@ -11,7 +11,7 @@ use Rattle.dstm_engine.proofs.caller.Caller.open_write.Goals as goal
 -- it is open for writing where it has a slot
 marked : (g : Over) (c : After-write g) → is_opened c.args.self.now c.args.o ≡ is_some c.write.result
 marked g c =
-    write_there g.L.Law.holds c.self.inside c.self.invariant c.args.self.now c.self.view_is c.requires.live c.args.o
+    write_there c.self.invariant c.self.view_is c.requires.live c.args.o
     ∙ ap is_some (sym c.write.ensures)
 
 pub returns-in-Some-clause-stays : goal.returns-in-Some-clause-stays
@@ -26,9 +26,8 @@ returns-in-Some-clause-opens g c =
 
 pub returns-in-Some-clause-continues : goal.returns-in-Some-clause-continues
 returns-in-Some-clause-continues g c =
-    held_continues g.L.Law.holds c.self.inside c.self.invariant c.args.self.now c.self.view_is c.requires.live c.args.o
-    (slot_held g.L.Law.holds c.self.inside c.self.invariant c.args.self.now c.self.view_is c.requires.live c.args.o
-    (to_put c.in-Some.slot)
+    held_continues c.self.invariant c.self.view_is c.requires.live c.args.o
+    (slot_held c.self.invariant c.self.view_is c.requires.live c.args.o (to_put c.in-Some.slot)
     (ap (λ w. slots_value w (read_slot c.self.inside.opened.reads c.args.o)) (sym c.write.ensures ∙ c.in-Some.is)))
 
 pub returns-in-Some-clause-value : goal.returns-in-Some-clause-value
@@ -37,7 +36,7 @@ returns-in-Some-clause-value g c =
     (read_slot c.self.inside.opened.reads c.args.o) ≡ Some (to_put c.in-Some.slot) =
     ap (λ w. slots_value w (read_slot c.self.inside.opened.reads c.args.o)) (sym c.write.ensures ∙ c.in-Some.is) in
     ap Some c.to_put.ensures ∙ sym slots
-    ∙ handed_there g.L.Law.holds c.self.inside c.self.invariant c.args.self.now c.self.view_is c.requires.live c.args.o
+    ∙ handed_there c.self.invariant c.self.view_is c.requires.live c.args.o
 
 pub write_out-requires-clause-unopened : goal.write_out-requires-clause-unopened
 write_out-requires-clause-unopened g c =
@@ -56,9 +55,7 @@ returns-clause-answered g c =
     marked g (goal.at.returns-clause-answered g c).After-write ∙ ap is_some c.in_default.is in absurd (cc)
 
 pub returns-clause-stays : goal.returns-clause-stays
-returns-clause-stays g c =
-    λ not_open. ok_then c.write_out.result _ _ (λ x o. o.stays) c.write_out.ensures.opens
+returns-clause-stays g c = λ not_open. ok_then c.write_out.result _ _ (λ x o. o.stays) c.write_out.ensures.opens
 
 pub returns-clause-leaves : goal.returns-clause-leaves
-returns-clause-leaves g c =
-    if_err c.write_out.result _ _ (λ e s. s.leaves) c.write_out.ensures.stops
+returns-clause-leaves g c = if_err c.write_out.result _ _ (λ e s. s.leaves) c.write_out.ensures.stops

@@ -9,9 +9,7 @@ use Rattle.dstm_engine.proofs.caller.Caller.read_first.Goals as goal
 
 begun : (g : Over) (c : After-words g) →
     AtCall g.L.Law.holds c.self.inside c.args.self.now c.words.result.now c.renew.new.steps
-begun g c =
-    at_call g.L.Law.holds c.self.inside c.self.invariant c.args.self.now c.self.view_is c.args.stm.now
-    c.words.result.now c.requires.table c.words.ensures c.renew.new.steps c.renew.ensures
+begun g c = at_call c.self.invariant c.self.view_is c.requires.table c.words.ensures c.renew.ensures
 
 pub read_object-requires-clause-unopened : goal.read_object-requires-clause-unopened
 read_object-requires-clause-unopened g c =
@@ -36,25 +34,23 @@ read_object-requires-clause-room g c =
 pub invariant_of-self : goal.invariant_of-self
 invariant_of-self g c =
     first_tied (begun g (goal.at.invariant_of-self g c).After-words) c.requires.live c.args.o c.requires.unheld
-    c.requires.reads c.read_object.new.steps c.in-Ok.ensures.ends_well c.in-Ok.value c.read_object.new.opened
-    c.in-Ok.ensures.opens c.read_object.new.last c.in-Ok.ensures.last
+    c.requires.reads c.in-Ok.ensures.ends_well c.in-Ok.ensures.opens c.in-Ok.ensures.last
 
 pub returns-in-Ok-clause-opens : goal.returns-in-Ok-clause-opens
 returns-in-Ok-clause-opens g c =
     first_opens (begun g (goal.at.returns-in-Ok-clause-opens g c).After-words) c.requires.live c.args.o
-    c.requires.unheld c.requires.reads c.read_object.new.steps c.in-Ok.ensures.ends_well c.in-Ok.value
-    c.read_object.new.opened c.in-Ok.ensures.opens c.read_object.new.last c.in-Ok.ensures.last
+    c.requires.unheld c.requires.reads c.in-Ok.ensures.ends_well c.in-Ok.ensures.opens c.in-Ok.ensures.last
 
 pub invariant_of-self-in-Err : goal.invariant_of-self-in-Err
 invariant_of-self-in-Err g c =
-    first_stopped_tied (begun g (goal.at.invariant_of-self-in-Err g c).After-words) c.requires.live
-    (Reading c.args.o) refl c.read_object.new.steps c.in-Err.again c.in-Err.ensures.ends
+    first_stopped_tied (begun g (goal.at.invariant_of-self-in-Err g c).After-words) c.requires.live refl
+    c.in-Err.ensures.ends
     (λ all. let some = c.requires.reads in absurd (cc)) c.read_object.new.last c.read_object.new.opened
     (c.read_object.ensures.rest.0, ap set_pairs c.read_object.ensures.rest.1)
 
 pub returns-in-Err-clause-stops : goal.returns-in-Err-clause-stops
 returns-in-Err-clause-stops g c =
-    first_stops (begun g (goal.at.returns-in-Err-clause-stops g c).After-words) c.requires.live
-    (Reading c.args.o) refl c.read_object.new.steps c.in-Err.again c.in-Err.ensures.ends
+    first_stops (begun g (goal.at.returns-in-Err-clause-stops g c).After-words) c.requires.live refl
+    c.in-Err.ensures.ends
     (λ all. let some = c.requires.reads in absurd (cc)) c.read_object.new.last c.read_object.new.opened
     (c.read_object.ensures.rest.0, ap set_pairs c.read_object.ensures.rest.1)

@@ -7,24 +7,21 @@ use Rattle.dstm_engine.proofs.caller.Caller.recheck.Goals as goal
 
 begun : (g : Over) (c : After-words g) →
     AtCall g.L.Law.holds c.self.inside c.args.self.now c.words.result.now c.renew.new.steps
-begun g c =
-    at_call g.L.Law.holds c.self.inside c.self.invariant c.args.self.now c.self.view_is c.args.stm.now
-    c.words.result.now c.requires.table c.words.ensures c.renew.new.steps c.renew.ensures
+begun g c = at_call c.self.invariant c.self.view_is c.requires.table c.words.ensures c.renew.ensures
 
 pub invariant_of-self : goal.invariant_of-self
 invariant_of-self g c =
-    recheck_left_tied (begun g (goal.at.invariant_of-self g c).After-words) c.requires.live
-    c.recheck-passed.new.self c.recheck-passed.new.last c.in-Err.again c.in-Err.ensures.ends
+    recheck_left_tied (begun g (goal.at.invariant_of-self g c).After-words) c.requires.live c.recheck-passed.new.last
+    c.in-Err.ensures.ends
 
 pub returns-in-Err : goal.returns-in-Err
 returns-in-Err g c =
     let at = begun g (goal.at.returns-in-Err g c).After-words in
-    let left = recheck_left at c.requires.live c.recheck-passed.new.self c.recheck-passed.new.last c.in-Err.again
-    c.in-Err.ensures.ends in
+    let left = recheck_left at c.requires.live c.recheck-passed.new.last c.in-Err.ensures.ends in
     record {
       stays = search rules;
       leaves = left.leaves;
-      cause = recheck_cause at c.requires.live c.recheck-passed.new.self c.recheck-passed.new.last c.in-Err.again
+      cause = recheck_cause at c.requires.live c.recheck-passed.new.last
           c.in-Err.ensures.ends;
       kept = left.kept;
       sight = search rules;
@@ -38,14 +35,14 @@ returns-in-Err g c =
 pub invariant_of-self-in_default : goal.invariant_of-self-in_default
 invariant_of-self-in_default g c =
     recheck_tied (begun g (goal.at.invariant_of-self-in_default g c).After-words) c.requires.live
-    c.recheck-passed.new.self c.recheck-passed.new.last c.in_default.ensures.ends_well c.in_default.ensures.state.0
+    c.recheck-passed.new.last c.in_default.ensures.ends_well c.in_default.ensures.state.0
     c.in_default.ensures.state.1 c.in_default.ensures.state.2
 
 pub returns-in_default : goal.returns-in_default
 returns-in_default g c =
     let is = c.in_default.is in
-    let on = rechecked (begun g (goal.at.returns-in_default g c).After-words) c.requires.live
-    c.recheck-passed.new.self c.recheck-passed.new.last c.in_default.ensures.ends_well c.in_default.ensures.state.0
+    let on = rechecked (begun g (goal.at.returns-in_default g c).After-words) c.requires.live c.recheck-passed.new.last
+    c.in_default.ensures.ends_well c.in_default.ensures.state.0
     c.in_default.ensures.state.1 c.in_default.ensures.state.2 in
     record {
       stays = rw is on.stays;

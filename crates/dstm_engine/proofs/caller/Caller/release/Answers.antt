@@ -19,9 +19,7 @@ use Rattle.dstm_engine.proofs.caller.Caller.release.Goals as goal
 
 begun : (g : Over) (c : After-words g) →
     AtCall g.L.Law.holds c.self.inside c.args.self.now c.words.result.now c.renew.new.steps
-begun g c =
-    at_call g.L.Law.holds c.self.inside c.self.invariant c.args.self.now c.self.view_is c.args.stm.now
-    c.words.result.now c.requires.table c.words.ensures c.renew.new.steps c.renew.ensures
+begun g c = at_call c.self.invariant c.self.view_is c.requires.table c.words.ensures c.renew.ensures
 
 -- the object is read
 read : (g : Over) (c : After-words g) →
@@ -33,7 +31,7 @@ pub release-requires-clause-read : goal.release-requires-clause-read
 release-requires-clause-read g c =
     let before = (goal.at.release-requires-clause-read g c).After-words in
     ap (λ (l : LocalState). is_some (read_of c.args.o l.reads)) (state_at (begun g before))
-    ∙ read_there g.L.Law.holds c.self.inside c.self.invariant c.args.o (read g before)
+    ∙ read_there c.self.invariant c.args.o (read g before)
 
 -- the read is let go, and nothing else has changed
 dropped : (g : Over) (c : After-release g) →
@@ -59,10 +57,10 @@ invariant_of-self g c =
     let at = begun g before in
     let x = c.self.inside in
     let live : x.live ≡ true = at.live ∙ c.requires.live in
-    let u = ends_at at (Doing (Releasing c.args.o)) c.release.new.self None c.release.ensures.under in
+    let u = ends_at at c.release.ensures.under in
     let is = dropped g (goal.at.invariant_of-self g c).After-release at in
     subst (λ (o : OpenedAs). Tied g.L.Law.holds (record x { steps = c.release.new.self; opened = o }))
-    (sym c.drop_read.ensures) (released_tied g.L.Law.holds x at.tied live c.args.o c.release.new.self u is (read g before))
+    (sym c.drop_read.ensures) (released_tied at.tied live u is (read g before))
 
 pub returns : goal.returns
 returns g c =
@@ -70,7 +68,7 @@ returns g c =
     let at = begun g before in
     let x = c.self.inside in
     let live : x.live ≡ true = at.live ∙ c.requires.live in
-    let u = ends_at at (Doing (Releasing c.args.o)) c.release.new.self None c.release.ensures.under in
+    let u = ends_at at c.release.ensures.under in
     let is = dropped g (goal.at.returns g c).After-release at in
     record {
       steps = search rules;
@@ -80,8 +78,7 @@ returns g c =
           (subst (λ (k : Called _). HoldsWithout c.args.o (held k) (held (called (record x {
             steps = c.release.new.self;
             opened = record x.opened { reads = without_read c.args.o x.opened.reads };
-          })))) c.self.view_is
-          (holds_without g.L.Law.holds x c.self.invariant live c.args.o c.release.new.self u is (read g before)));
+          })))) c.self.view_is (holds_without c.self.invariant live u is (read g before)));
       opened = search rules;
       live = search rules;
       place =
@@ -91,13 +88,12 @@ returns g c =
             steps = c.release.new.self;
             opened = record x.opened { reads = without_read c.args.o x.opened.reads };
           })) ≡ tx_place name table k) c.self.view_is
-          (released_place g.L.Law.holds x c.self.invariant live c.args.o c.release.new.self u is (read g before) name table));
+          (released_place c.self.invariant live u is (read g before) name table));
       widens =
           λ map.
           subst (λ (o : OpenedAs). Admits g.L.Law.holds c.args.self.now map → Admits g.L.Law.holds (called (record x { steps = c.release.new.self; opened = o })) map) (sym c.drop_read.ensures)
           (subst (λ (k : Called _). Admits g.L.Law.holds k map → Admits g.L.Law.holds (called (record x {
             steps = c.release.new.self;
             opened = record x.opened { reads = without_read c.args.o x.opened.reads };
-          })) map) c.self.view_is
-          (released_widens g.L.Law.holds x c.self.invariant live c.args.o c.release.new.self u is (read g before) map));
+          })) map) c.self.view_is (released_widens c.self.invariant live u is (read g before)));
     }

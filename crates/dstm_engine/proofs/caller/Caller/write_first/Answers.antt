@@ -16,10 +16,10 @@ pub overflow_add-next : goal.overflow_add-next
 overflow_add-next g c =
     let x = c.self.inside in
     let v = c.self.invariant in
-    let live : x.live ≡ true = live_there g.L.Law.holds x v ∙ ap is_live c.self.view_is ∙ c.requires.live in
+    let live : x.live ≡ true = live_there v ∙ ap is_live c.self.view_is ∙ c.requires.live in
     let below = subst (λ (k : Called _). c.args.o < (shape_of k).objects) (sym c.self.view_is) c.requires.exists in
     let unopened = ap (λ (k : Called _). is_opened k c.args.o) c.self.view_is ∙ c.requires.unopened in
-    let left = locator_left g.L.Law.holds x v live c.args.o below unopened in
+    let left = locator_left v live c.args.o below unopened in
     let inside : x.number * x.terms.shape.locators + (state (called x)).installed
     < x.terms.shape.callers * x.terms.shape.locators =
     in_table x.number x.terms.shape.locators (state (called x)).installed x.terms.shape.callers v.number.0 left in
@@ -30,9 +30,7 @@ overflow_add-next g c =
 
 begun : (g : Over) (c : After-words g) →
     AtCall g.L.Law.holds c.self.inside c.args.self.now c.words.result.now c.renew.new.steps
-begun g c =
-    at_call g.L.Law.holds c.self.inside c.self.invariant c.args.self.now c.self.view_is c.args.stm.now
-    c.words.result.now c.requires.table c.words.ensures c.renew.new.steps c.renew.ensures
+begun g c = at_call c.self.invariant c.self.view_is c.requires.table c.words.ensures c.renew.ensures
 
 pub write_object-requires-clause-locators : goal.write_object-requires-clause-locators
 write_object-requires-clause-locators g c =
@@ -52,30 +50,25 @@ write_object-requires-clause-room g c =
 pub invariant_of-self : goal.invariant_of-self
 invariant_of-self g c =
     first_write_tied (begun g (goal.at.invariant_of-self g c).After-words) c.requires.live c.args.o
-    c.requires.unopened c.write_object.new.steps c.in-Ok.ensures.ends_well c.in-Ok.old c.write_object.new.opened
-    c.in-Ok.ensures.opens c.write_object.new.last c.in-Ok.ensures.last
+    c.requires.unopened c.in-Ok.ensures.ends_well c.in-Ok.ensures.opens c.in-Ok.ensures.last
 
 pub returns-in-Ok : goal.returns-in-Ok
 returns-in-Ok g c =
     let at = begun g (goal.at.returns-in-Ok g c).After-words in
     record {
-      opens = first_write_opens at c.requires.live c.args.o c.requires.unopened c.write_object.new.steps
-          c.in-Ok.ensures.ends_well c.in-Ok.old c.write_object.new.opened c.in-Ok.ensures.opens c.write_object.new.last
-          c.in-Ok.ensures.last;
-      marked = first_write_marked at c.requires.live c.args.o c.requires.unopened c.write_object.new.steps
-          c.in-Ok.ensures.ends_well c.in-Ok.old c.write_object.new.opened c.in-Ok.ensures.opens c.write_object.new.last
-          c.in-Ok.ensures.last;
+      opens = first_write_opens at c.requires.live c.args.o c.requires.unopened
+          c.in-Ok.ensures.ends_well c.in-Ok.ensures.opens c.in-Ok.ensures.last;
+      marked = first_write_marked at c.requires.live c.args.o c.requires.unopened
+          c.in-Ok.ensures.ends_well c.in-Ok.ensures.opens c.in-Ok.ensures.last;
       stops = search rules;
     }
 
 pub invariant_of-self-in-Err : goal.invariant_of-self-in-Err
 invariant_of-self-in-Err g c =
-    first_stopped_tied (begun g (goal.at.invariant_of-self-in-Err g c).After-words) c.requires.live
-    (Writing c.args.o) refl c.write_object.new.steps c.in-Err.again c.in-Err.ensures.ends (λ all. tt)
-    c.write_object.new.last c.write_object.new.opened c.write_object.ensures.rest
+    first_stopped_tied (begun g (goal.at.invariant_of-self-in-Err g c).After-words) c.requires.live refl
+    c.in-Err.ensures.ends (λ all. tt) c.write_object.new.last c.write_object.new.opened c.write_object.ensures.rest
 
 pub returns-in-Err-clause-stops : goal.returns-in-Err-clause-stops
 returns-in-Err-clause-stops g c =
-    first_stops (begun g (goal.at.returns-in-Err-clause-stops g c).After-words) c.requires.live
-    (Writing c.args.o) refl c.write_object.new.steps c.in-Err.again c.in-Err.ensures.ends (λ all. tt)
-    c.write_object.new.last c.write_object.new.opened c.write_object.ensures.rest
+    first_stops (begun g (goal.at.returns-in-Err-clause-stops g c).After-words) c.requires.live refl
+    c.in-Err.ensures.ends (λ all. tt) c.write_object.new.last c.write_object.new.opened c.write_object.ensures.rest

@@ -7,8 +7,7 @@ pub invariant_of-self : goal.invariant_of-self
 invariant_of-self g c =
     record {
       few =
-          few_still c.args.self.now.tx.now.caller.now c.release.new.self.caller.now
-          (release_few g.L.Law.holds c.args.self.now.tx.now.caller.now c.release.new.self.caller.now
-          (ap (λ (p : TxPlace _). p.began) c.release.ensures.place) c.args.o c.release.ensures.steps)
+          few_still c.args.self.now.tx.now.caller.now c.release.new.self.caller.now (release_few
+          (ap (λ (p : TxPlace _). p.began) c.release.ensures.place) c.release.ensures.steps)
           g.C.Counted.sights g.C.Counted.looks c.args.self.now.few;
     }

@@ -11,8 +11,7 @@ use Rattle.dstm_engine.proofs.opener.OpenerMem.open_read.Goals as goal
 
 pub returns-clause-place : goal.returns-clause-place
 returns-clause-place g c =
-    ap (λ (x : TxPlace _ × ℕ). (x, c.args.self.now.tx.ghost_name))
-    (same_both _ _ _ _ c.open_read.ensures.place
+    ap (λ (x : TxPlace _ × ℕ). (x, c.args.self.now.tx.ghost_name)) (same_both _ _ c.open_read.ensures.place
     (ap g.K.TellsLetGo.told (read_keeps g.L.Law.holds c.args.self.now.tx.now.caller.now c.open_read.new.self.caller.now c.args.o c.open_read.result
     c.open_read.ensures.again c.open_read.ensures.stays c.open_read.ensures.leaves)))
 
@@ -30,12 +29,12 @@ returns-clause-unmarked g c =
 
 pub returns-clause-found : goal.returns-clause-found
 returns-clause-found g c =
-    finds g.L.Law.holds c.args.self.now.tx.now.caller.now c.open_read.new.self.caller.now c.open_read.result c.open_read.ensures.kept
+    finds g.L.Law.holds c.args.self.now.tx.now.caller.now c.open_read.result c.open_read.ensures.kept
     c.args.o c.requires.exists c.open_read.ensures.value
 
 pub returns-clause-unchanged : goal.returns-clause-unchanged
 returns-clause-unchanged g c =
-    sets_none g.L.Law.holds c.args.self.now.tx.now.caller.now c.open_read.new.self.caller.now c.open_read.result c.open_read.ensures.kept
+    sets_none g.L.Law.holds c.args.self.now.tx.now.caller.now c.open_read.result c.open_read.ensures.kept
 
 pub invariant_of-self : goal.invariant_of-self
 invariant_of-self g c =

@@ -7,19 +7,18 @@ use Rattle.dstm_engine.proofs.opener.OpenerMem.open_write.Goals as goal
 
 pub returns-clause-place : goal.returns-clause-place
 returns-clause-place g c =
-    ap (λ (x : TxPlace _ × ℕ). (x, c.args.self.now.tx.ghost_name))
-    (same_both _ _ _ _ c.open_write.ensures.place
+    ap (λ (x : TxPlace _ × ℕ). (x, c.args.self.now.tx.ghost_name)) (same_both _ _ c.open_write.ensures.place
     (ap g.K.TellsLetGo.told (write_keeps g.L.Law.holds c.args.self.now.tx.now.caller.now c.open_write.new.self.caller.now c.args.o
     c.open_write.result c.open_write.ensures.again c.open_write.ensures.stays c.open_write.ensures.leaves)))
 
 pub returns-clause-found : goal.returns-clause-found
 returns-clause-found g c =
-    finds g.L.Law.holds c.args.self.now.tx.now.caller.now c.open_write.new.self.caller.now c.open_write.result c.open_write.ensures.kept
+    finds g.L.Law.holds c.args.self.now.tx.now.caller.now c.open_write.result c.open_write.ensures.kept
     c.args.o c.requires.exists c.open_write.ensures.value
 
 pub returns-clause-unchanged : goal.returns-clause-unchanged
 returns-clause-unchanged g c =
-    sets_none g.L.Law.holds c.args.self.now.tx.now.caller.now c.open_write.new.self.caller.now c.open_write.result c.open_write.ensures.kept
+    sets_none g.L.Law.holds c.args.self.now.tx.now.caller.now c.open_write.result c.open_write.ensures.kept
 
 pub invariant_of-self : goal.invariant_of-self
 invariant_of-self g c =

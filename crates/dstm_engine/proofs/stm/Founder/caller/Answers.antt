@@ -24,14 +24,11 @@ returns-clause-caller g c =
     ap (λ s. s.manager) (sym shape) ∙ ap (λ (x : Home _). x.terms.shape.manager) words in
     let few : found < f.home.terms.shape.callers =
     subst (λ (x : Home _). found < x.terms.shape.callers) (sym at) c.enrol-number.ensures.number in
-    enrols g.L.Law.holds f _ c.args.seed found _ seat.me.0 c.enrolled.result
+    enrols f c.args.seed
     (subst (λ (x : Founding _). x.view.terms ≡ Some x.home.terms) c.self.view_is c.self.invariant.0)
     (subst (λ (v : View _). Makes g.L.Law.holds v Add Enrol (place h.terms.shape CallersWord) found seat.me.0)
-    split c.enrol-number.ensures.enrols)
-    few
-    (caller_is f h c.args.seed found seat c.terms.result c.stm.inside.shape.manager c.enrolled.result
+    split c.enrol-number.ensures.enrols) few (caller_is f c.args.seed found seat
     (c.enrolled.ensures ∙ ap (λ (d : DeciderState). enrolled_as c.terms.result seat found d) c.make-decider.ensures)
     at c.enrol-number.ensures.seat.0 c.terms.ensures manager)
-    (founder_is f h _ c.self.inside.terms c.self.inside.seat.me.0 c.split-seat.new.seat.me.0 c.self.inside.made
-    c.self.inside.guests c.self.view_is at c.split-seat.new.seat.table_id
+    (founder_is _ c.self.inside.terms c.self.inside.seat.me.0 c.self.inside.made c.self.inside.guests c.self.view_is at
     (c.split-seat.ensures.seat.0 ∙ ap (λ (x : Home _). x.table) words) c.split-seat.ensures.kept)

@@ -16,7 +16,7 @@ loop-seed-preserved g c =
     ap length c.push_reserved.ensures.items ∙ length_push callers c.in-Ok.caller in
     record {
       callers = subst (AreNew g.L.Law.holds table) (sym c.push_reserved.ensures.items)
-          (new_push g.L.Law.holds table callers c.in-Ok.caller before.callers
+          (new_push callers before.callers
           (subst (λ n. IsNew g.L.Law.holds table n c.in-Ok.caller) (sym before.count) c.in-Ok.ensures.caller));
       out = record {
         home = c.in-Ok.ensures.out.home ∙ before.out.home;

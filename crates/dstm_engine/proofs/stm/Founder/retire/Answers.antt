@@ -11,8 +11,7 @@ returns g c =
     let words = c.stm.view_is in
     let joined : Joined g.L.Law.holds c.args.self.now.view (seat_view c.leave.new.self) c.join.new.seat.me.0 =
     subst (λ (x : Founding _). Joined g.L.Law.holds x.view (seat_view c.leave.new.self) c.join.new.seat.me.0)
-    c.self.view_is
-    (subst (λ (v : View _). Joined g.L.Law.holds c.self.inside.seat.me.0 v c.join.new.seat.me.0)
+    c.self.view_is (subst (λ (v : View _). Joined g.L.Law.holds c.self.inside.seat.me.0 v c.join.new.seat.me.0)
     c.into_seat.ensures.view c.join.ensures.joined) in
     let terms : c.args.self.now.view.terms ≡ Some c.args.caller.home.terms =
     subst (λ (x : Founding _). x.view.terms ≡ Some x.home.terms) c.self.view_is c.self.invariant.0
@@ -23,12 +22,10 @@ returns g c =
         steps = c.leave.ensures.steps;
         rest = c.leave.ensures.rest;
         joined = joined;
-        done =
-            retired_done g.L.Law.holds c.args.self.now.view c.join.new.seat.me.0 c.args.caller c.leave.new.self
-            c.leave.ensures.steps joined terms;
+        done = retired_done c.leave.ensures.steps joined terms;
         founder =
-            keeps_rest c.args.self.now c.args.stm.now _ c.self.inside.terms c.self.inside.seat.me.0 c.join.new.seat.me.0
-            c.self.inside.made c.self.inside.guests c.self.view_is c.requires.table c.join.new.seat.table_id
+            keeps_rest _ c.self.inside.terms c.self.inside.seat.me.0 c.join.new.seat.me.0
+            c.self.inside.made c.self.inside.guests c.self.view_is c.requires.table
             (c.join.ensures.seat.0 ∙ ap (λ (x : Home _). x.table) words);
       };
     }

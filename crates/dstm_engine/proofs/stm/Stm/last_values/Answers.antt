@@ -13,7 +13,7 @@ returns-clause-values g c =
     subst (λ (h : Home _). c.settle-values.result.items ≡ state_after h.terms.start.value.items
     (history_of h.terms.shape h.terms.start.value.items c.args.seat.me.0.log)) c.self.view_is
     (last_state g.L.Law.holds c.self.inside.words.terms c.args.seat.me.0 c.close_in_place-left.result
-    c.close_in_place-left.ensures c.requires.whole.0 c.requires.whole.1 c.self.inside.shape c.self.inside.start.items v.0
+    c.close_in_place-left.ensures c.requires.whole.0 c.requires.whole.1 v.0
     (ap (λ (x : Vec _ _). x.items) v.1) c.settle-values.result.items c.settle-values.ensures.objects
     c.settle-values.ensures.values)
 
@@ -23,7 +23,7 @@ returns-clause-current g c =
     subst (λ (h : Home _). IsCurrent h.terms.shape h.terms.start.value.items c.args.seat.me.0.log
     c.settle-values.result.items) c.self.view_is
     (last_current g.L.Law.holds c.self.inside.words.terms c.args.seat.me.0 c.close_in_place-left.result
-    c.close_in_place-left.ensures c.requires.whole.0 c.requires.whole.1 c.self.inside.shape c.self.inside.start.items v.0
+    c.close_in_place-left.ensures c.requires.whole.0 c.requires.whole.1 v.0
     (ap (λ (x : Vec _ _). x.items) v.1) c.settle-values.result.items c.settle-values.ensures.objects
     c.settle-values.ensures.values)
 

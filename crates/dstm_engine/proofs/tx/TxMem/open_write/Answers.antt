@@ -3,9 +3,9 @@ use Rattle.dstm_engine.proofs.tx.TxMem.open_write.Goals as goal
 
 pub returns-clause-found : goal.returns-clause-found
 returns-clause-found g c =
-    finds g.L.Law.holds c.args.self.now.caller.now c.open_write.new.self.caller.now c.open_write.result c.open_write.ensures.kept
+    finds g.L.Law.holds c.args.self.now.caller.now c.open_write.result c.open_write.ensures.kept
     c.args.o c.requires.exists c.open_write.ensures.value
 
 pub returns-clause-unchanged : goal.returns-clause-unchanged
 returns-clause-unchanged g c =
-    sets_none g.L.Law.holds c.args.self.now.caller.now c.open_write.new.self.caller.now c.open_write.result c.open_write.ensures.kept
+    sets_none g.L.Law.holds c.args.self.now.caller.now c.open_write.result c.open_write.ensures.kept

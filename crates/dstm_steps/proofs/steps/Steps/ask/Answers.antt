@@ -1,15 +1,11 @@
-use Rattle.std.proofs.Common.{◌≡◌, ℕ, ◌<◌, subst, None, ◌+◌, refl, ap, sym, ◌∙◌, ◌-◌, arith, inl, ne_eqb}
-use Rattle.std.proofs.lemmas.Bool.Decides.{nat_tests}
-use Rattle.dstm_core.specs.Events.{Event}
+use Rattle.std.proofs.Common.{◌≡◌, ℕ, ◌<◌, None, ◌+◌, refl, ap, sym, ◌∙◌, ◌-◌, arith, inl, ne_eqb, subst}
 use Rattle.dstm_core.specs.declared.event.Kind.TheVariants.{LookStatus}
 use Rattle.dstm_machines.specs.Traces.Access.{Load}
-use Rattle.dstm_core.specs.State.{LocalState}
 use Rattle.dstm_steps.specs.declared.steps.Steps.{Steps}
-use Rattle.dstm_order.specs.Order.{just, on_choice}
-use Rattle.dstm_steps.specs.Under.{Under, Went, Began, Resolving, made_by, now, effort_by}
+use Rattle.dstm_order.specs.Order.{on_choice}
+use Rattle.dstm_steps.specs.Under.{Under, Went, Resolving, made_by, now, effort_by}
 use Rattle.dstm_steps.proofs.Meeting.{round_in, rank_in, waits_some}
-use Rattle.dstm_steps.proofs.Ranged.{owner_below}
-use Rattle.dstm_steps.proofs.Stepping.{went_on, under_is, turn_last, turn_more}
+use Rattle.dstm_steps.proofs.Ranged.{live_small, owner_live}
 use Rattle.dstm_core.specs.declared.shape.Manager.{Manager}
 use Rattle.dstm_core.specs.Rules.{after}
 use Rattle.dstm_managers.specs.declared.decider.Choice.{Choice}
@@ -17,22 +13,20 @@ use Rattle.dstm_managers.specs.declared.decider.Choice.TheVariants.{Wait}
 use Rattle.dstm_managers.specs.declared.decider.Choice.TheVariants as decision
 use Rattle.dstm_managers.specs.Choices.{DeciderState, choice, decider_after as decided, next_word}
 use Rattle.dstm_order.specs.Efforts.{Effort, chosen, turn}
-use Rattle.dstm_core.specs.Words.{code_of, place}
+use Rattle.dstm_core.specs.Words.{place}
 use Rattle.dstm_core.specs.Words.Word.{StatusWord}
-use Rattle.dstm_steps.proofs.Stepping.{may_make, makes_by, went_adds, chosen_is, kill_keeps, give_way_keeps, manager_kept, first_turn}
+use Rattle.dstm_steps.proofs.Stepping.{may_make, took, under_is, went_on, chosen_is, kill_keeps, give_way_keeps, manager_kept, first_turn, turn_last, turn_more}
 use Rattle.dstm_steps.proofs.steps.Steps.ask.Given.{Over}
 use Rattle.dstm_steps.proofs.steps.Steps.ask.Goals.{After-decide, After-load-code}
 use Rattle.dstm_steps.proofs.steps.Steps.ask.Goals as goal
 
 pub status-place-requires-clause-below : goal.status-place-requires-clause-below
 status-place-requires-clause-below g c =
-    owner_below g.L.Law.holds c.args.words.now g.B.InCall.began c.args.self.now _ _ c.requires.under c.args.owner
-    (code_of c.args.status) c.requires.running c.requires.owner c.requires.status.0 c.requires.status.1
+    owner_live c.requires.under c.requires.running c.requires.owner c.requires.status
 
 pub load-code-requires-clause-allowed : goal.load-code-requires-clause-allowed
 load-code-requires-clause-allowed g c =
-    may_make g.L.Law.holds c.args.words.now g.B.InCall.began c.args.self.now _ _ Load LookStatus c.status-place.result
-    c.requires.under (λ q. absurd (cc)) (record {
+    may_make c.requires.under Load LookStatus c.status-place.result (λ q. absurd (cc)) (record {
       place = rw c.requires.owner (c.status-place.ensures
           ∙ ap (λ s. place s (StatusWord c.args.owner)) c.requires.under.shape);
       access = refl;
@@ -40,7 +34,7 @@ load-code-requires-clause-allowed g c =
         inl c.requires.running.phase,
         c.requires.running.agreed,
         rw c.requires.owner refl,
-        (let live = c.requires.status.1 in let status = c.requires.status.0 in rw status (grind (arith, nat_tests))),
+        rw c.requires.status.0 (live_small _ c.requires.status.1),
       );
     })
 
@@ -54,15 +48,11 @@ chose : (g : Over) (c : After-decide g) (x : Choice) →
     (on_choice x) None
     × (chosen c.args.words.now.terms.shape.manager (now c.args.words.now c.args.self.now) (effort_by c.args.self.now) ≡ x)
 chose g c x keeps left answer =
-    let old : Steps g.row.L.Denot = c.args.self.now in
-    let same = ap (λ d. record old { decider = d }) (left ∙ keeps) in
-    let here =
-    chosen_is g.L.Law.holds c.args.words.now g.B.InCall.began old _ _ c.requires.under c.args.enemy c.args.status
-    c.requires.enemy c.requires.status.0 ∙ sym answer in (
+    let same = ap (λ d. record c.args.self.now { decider = d }) (left ∙ keeps) in
+    let here = chosen_is c.requires.under c.args.status c.requires.enemy c.requires.status.0 ∙ sym answer in (
       same,
       subst (λ s. Under g.L.Law.holds c.args.words.now g.B.InCall.began s (on_choice x) None) (sym same)
-          (under_is g.L.Law.holds c.args.words.now g.B.InCall.began old _ _ _ _ c.requires.under (ap on_choice here)
-          refl),
+          (under_is c.requires.under (ap on_choice here) refl),
       here,
     )
 
@@ -81,8 +71,7 @@ chose_wait : (g : Over) (c : After-load-code g) →
     chosen c.args.words.now.terms.shape.manager (now c.args.words.now c.args.self.now) (effort_by c.args.self.now)
     ≡ Wait c.in-Wait.turns
 chose_wait g c =
-    chosen_is g.L.Law.holds c.args.words.now g.B.InCall.began c.args.self.now _ _ c.requires.under c.args.enemy
-    c.args.status c.requires.enemy c.requires.status.0 ∙ sym c.in-Wait.ensures.answer
+    chosen_is c.requires.under c.args.status c.requires.enemy c.requires.status.0 ∙ sym c.in-Wait.ensures.answer
 
 -- the caller while it waits, in this round
 abbrev waiting : (g : Over) → After-load-code g → ℕ → Steps g.row.L.Denot
@@ -103,34 +92,27 @@ waits : (g : Over) (c : After-load-code g) (code round : ℕ) → c.load-code.re
     (now c.args.words.now c.args.self.now) (made_by g.B.InCall.began Load LookStatus 0 code))
     × Resolving g.L.Law.holds c.args.words.now g.B.InCall.began (waiting g c round)
 waits g c code round found counts =
-    let b : Began = g.B.InCall.began in
     let old : Steps g.row.L.Denot = c.args.self.now in
-    let new : Steps g.row.L.Denot = waiting g c round in
-    let l : LocalState = now c.args.words.now old in
     let manager : Manager = c.args.words.now.terms.shape.manager in
-    let e : Event = made_by b Load LookStatus c.status-place.result c.load-code.result in
-    let chose = chose_wait g c in
-    let due_wait : Under g.L.Law.holds c.args.words.now b old (just LookStatus) None =
-    under_is g.L.Law.holds c.args.words.now b old _ _ _ _ c.requires.under (ap on_choice chose) refl in
-    let w : Went g.L.Law.holds c.args.words.now b old new e =
-    went_adds g.L.Law.holds c.args.words.now b old new e _ _ due_wait
-    (makes_by g.L.Law.holds c.args.words.now b _ _ Load LookStatus c.status-place.result c.load-code.result
-    c.requires.under.number c.load-code.ensures.event)
-    c.load-code.ensures.seat refl (refl, tt) in
+    let w : Went g.L.Law.holds c.args.words.now g.B.InCall.began old (waiting g c round)
+    (made_by g.B.InCall.began Load LookStatus c.status-place.result c.load-code.result) =
+    took (under_is c.requires.under (ap on_choice (chose_wait g c)) refl) Load c.load-code.ensures.event
+    c.load-code.ensures.seat (refl, tt) in
     let m = c.requires.under.mirror in
     let generator : (decided (record { manager = manager; generator = old.decider.generator })
     (Wait c.in-Wait.turns)).generator ≡ c.decide.new.self.generator =
     rw (← c.requires.under.manager) (ap (λ (d : DeciderState). d.generator) (sym c.in-Wait.ensures.left)) in
     let kept : c.decide.new.self.manager ≡ old.decider.manager =
     rw c.in-Wait.ensures.left (manager_kept old.decider c.in-Wait.turns) in (
-      w.state ∙ ap (λ n. after LookStatus c.args.words.now.terms.shape l (made_by b Load LookStatus 0 n)) found,
-      went_on g.L.Law.holds c.args.words.now b old new new e w refl
+      w.state ∙ ap (λ n. after LookStatus c.args.words.now.terms.shape (now c.args.words.now old)
+          (made_by g.B.InCall.began Load LookStatus 0 n)) found,
+      went_on w refl
           (record {
             shape = refl;
             manager = kept;
             mirror = record { own = m.own; installed = m.installed; rank = m.rank };
-            effort = first_turn manager l (effort_by old) e c.in-Wait.turns (rw c.requires.status.0 refl)
-                c.requires.running.phase c.requires.left chose
+            effort = first_turn manager (now c.args.words.now old) (effort_by old) c.in-Wait.turns
+                (rw c.requires.status.0 refl) c.requires.running.phase c.requires.left (chose_wait g c)
                 ∙ ap (λ n. turn c.in-Wait.turns (record (effort_by old) { generator = n })) generator ∙ counts;
           })
           (rw (w.state, c.requires.running.phase) refl) (rw w.state c.requires.running.agreed) c.requires.tries,
@@ -149,8 +131,7 @@ returns-else-turns-eq1-clause-waits g c code is =
 -- the rounds of a wait are few
 few_rounds : (g : Over) (c : After-load-code g) → c.args.self.now.round < 1024
 few_rounds g c =
-    round_in c.args.words.now.terms.shape.manager _ _ _ _ c.in-Wait.turns _
-    (rank_in g.L.Law.holds c.args.words.now g.B.InCall.began c.args.self.now _ _ c.requires.under) (chose_wait g c)
+    round_in c.args.words.now.terms.shape.manager _ _ _ _ c.in-Wait.turns _ (rank_in c.requires.under) (chose_wait g c)
 
 pub returns-then-turns-eq1-clause-rounds : goal.returns-then-turns-eq1-clause-rounds
 returns-then-turns-eq1-clause-rounds g c code is =

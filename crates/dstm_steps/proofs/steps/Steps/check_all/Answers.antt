@@ -12,53 +12,39 @@ use Rattle.dstm_steps.proofs.steps.Steps.check_all.Goals.{else-read-via-then-rea
 
 pub check_next-requires-clause-read : goal.check_next-requires-clause-read
 check_next-requires-clause-read g c =
-    let n = next_is g.L.Law.holds c.args.words.now g.B.InCall.began in_pass (now c.args.words.now c.args.self.now)
-    c.loop-read.self
-    c.args.reads.now c.loop-read.read-index c.loop-read.invariant.checking c.loop-read-test.true c.if-read.true in
-    (n.1, n.2)
+    next_is c.args.reads.now c.loop-read.read-index c.loop-read.invariant.checking c.loop-read-test.true c.if-read.true
 
 pub loop-read-preserved : goal.loop-read-preserved
-loop-read-preserved g c = record {
-  checking = elim c.else-read.branch [
-    | else-read-via-then-read+else-not-check_next w ↦
-        subst (λ steps. Checking g.L.Law.holds c.args.words.now g.B.InCall.began in_pass
-        (now c.args.words.now c.args.self.now) steps (drop (c.loop-read.read-index + 1) c.args.reads.now))
-        (sym w.self-is)
-        (checked_one g.L.Law.holds c.args.words.now g.B.InCall.began in_pass (now c.args.words.now c.args.self.now)
-        c.loop-read.self w.check_next.new.self c.args.reads.now
-        c.loop-read.read-index c.loop-read.invariant.checking c.loop-read-test.true w.if-read.true
-        (w.check_next.ensures.good w.if-not-check_next.false)
-        (w.check_next.ensures.state w.if-not-check_next.false) w.check_next.ensures.tries)
-    | else-read-via-else-read w ↦
-        subst (λ steps. Checking g.L.Law.holds c.args.words.now g.B.InCall.began in_pass
-        (now c.args.words.now c.args.self.now) steps (drop (c.loop-read.read-index + 1) c.args.reads.now))
-        (sym w.self-is)
-        (checked_none g.L.Law.holds c.args.words.now g.B.InCall.began in_pass (now c.args.words.now c.args.self.now)
-        c.loop-read.self c.args.reads.now
-        c.loop-read.read-index c.loop-read.invariant.checking c.loop-read-test.true w.if-read.false)
-  ];
-  past = elim c.else-read.branch [
-    | else-read-via-then-read+else-not-check_next w ↦
-        subst (λ (steps : Steps _). IsPastOf (view_of c.args.self.now.seat).log (view_of steps.seat).log) (sym w.self-is)
-        (past_past _ _ _ c.loop-read.invariant.past w.check_next.ensures.past)
-    | else-read-via-else-read w ↦
-        subst (λ (steps : Steps _). IsPastOf (view_of c.args.self.now.seat).log (view_of steps.seat).log) (sym w.self-is)
-        c.loop-read.invariant.past
-  ];
-}
+loop-read-preserved g c =
+    let reads = c.args.reads.now in
+    let i = c.loop-read.read-index in
+    let inv = c.loop-read.invariant in
+    let Rest : Steps g.row.L.Denot → Type 0 = λ steps. Checking g.L.Law.holds c.args.words.now g.B.InCall.began in_pass
+    (now c.args.words.now c.args.self.now) steps (drop (i + 1) reads) in
+    let Past : Steps g.row.L.Denot → Type 0 = λ steps. IsPastOf (view_of c.args.self.now.seat).log (view_of steps.seat).log
+    in elim c.else-read.branch [
+      | else-read-via-then-read+else-not-check_next w ↦
+          let good = w.if-not-check_next.false in let next = w.check_next.ensures in record {
+            checking = subst Rest (sym w.self-is) (checked_one reads i inv.checking c.loop-read-test.true w.if-read.true
+                (next.good good) (next.state good) next.tries);
+            past = subst Past (sym w.self-is) (past_past _ _ _ inv.past next.past);
+          }
+      | else-read-via-else-read w ↦ record {
+        checking = subst Rest (sym w.self-is)
+            (checked_none reads i inv.checking c.loop-read-test.true w.if-read.false);
+        past = subst Past (sym w.self-is) inv.past;
+      }
+    ]
 
 pub returns-clause-done : goal.returns-clause-done
 returns-clause-done g c =
-    inl (checked_all g.L.Law.holds c.args.words.now g.B.InCall.began in_pass (now c.args.words.now c.args.self.now)
-    c.loop-read.self c.args.reads.now c.loop-read.read-index c.loop-read.invariant.checking c.loop-read-test.false)
+    inl (checked_all c.args.reads.now c.loop-read.read-index c.loop-read.invariant.checking c.loop-read-test.false)
 
 pub returns-clause-all : goal.returns-clause-all
 returns-clause-all g c =
-    let all = checked_all g.L.Law.holds c.args.words.now g.B.InCall.began in_pass
-    (now c.args.words.now c.args.self.now) c.loop-read.self c.args.reads.now c.loop-read.read-index
-    c.loop-read.invariant.checking c.loop-read-test.false in
-    under_is g.L.Law.holds c.args.words.now g.B.InCall.began c.loop-read.self _ _ _ _ c.loop-read.invariant.checking.under
-    (pass_done (now c.args.words.now c.loop-read.self) all) refl
+    let checking = c.loop-read.invariant.checking in
+    under_is checking.under (pass_done (now c.args.words.now c.loop-read.self)
+    (checked_all c.args.reads.now c.loop-read.read-index checking c.loop-read-test.false)) refl
 
 pub returns-then-skip-clause-done : goal.returns-then-skip-clause-done
 returns-then-skip-clause-done g c = inr (same_is _ _ (c.requires.skip ∙ c.if-skip.true))

@@ -13,11 +13,8 @@ use Rattle.dstm_steps.proofs.steps.Steps.check_drawn.Goals as goal
 
 pub object-place-requires-clause-below : goal.object-place-requires-clause-below
 object-place-requires-clause-below g c =
-    let below =
-    next_in_shape g.L.Law.holds c.args.words.now g.B.InCall.began c.args.self.now _ _ c.requires.under
-    (inr c.requires.phase) c.requires.agreed.0 c.requires.left in
-    let read = c.requires.read.0 in
-    let objects = ap (λ s. s.objects) c.requires.under.shape in omega arith
+    rw c.requires.read.0 at
+    (next_in_shape c.requires.under (inr c.requires.phase) c.requires.agreed.0 c.requires.left)
 
 pub returns-clause-stale : goal.returns-clause-stale
 returns-clause-stale g c wrong =
@@ -31,7 +28,7 @@ returns-clause-stale g c wrong =
     let live : is_outside new.phase ≡ false = rw (state, c.requires.phase) refl in
     let one : old.checked + 1 - 1 ≡ old.checked = omega arith in (
       stale,
-      under_is g.L.Law.holds c.args.words.now b c.load-found.new.self _ _ _ _ c.load-found.ensures.under
+      under_is c.load-found.ensures.under
           (due_quit (work_of b.task) c.args.words.now.terms.shape (Some e) new effort live stale)
           (again_none (work_of b.task) (Some e) new effort live),
       quit_drawn new effort stale (rw state c.requires.drawn) ∙ ap Stale (rw (state, one) c.requires.read.0),

@@ -5,7 +5,7 @@ use Rattle.dstm_steps.proofs.steps.Steps.conclude.Goals as goal
 
 pub rank_up-requires-clause-small : goal.rank_up-requires-clause-small
 rank_up-requires-clause-small g c =
-    small_rank g.L.Law.holds c.args.words.now g.B.InCall.began c.pass.new.self _ _ c.in_ok-pass.ensures.goes_on
+    small_rank c.in_ok-pass.ensures.goes_on
     (rw (c.manager.ensures, c.in_ok-pass.ensures.goes_on.shape) at (sym c.rises.ensures ∙ c.if-rises.true))
 
 pub returns-then-rises-clause-past : goal.returns-then-rises-clause-past

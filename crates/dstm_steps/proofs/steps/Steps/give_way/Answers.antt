@@ -1,6 +1,5 @@
 use Rattle.std.proofs.Common.{refl, ap, sym, ◌∙◌, Some, arith}
 use Rattle.dstm_core.specs.Words.{code_of}
-use Rattle.dstm_core.specs.declared.state.Phase.TheVariants.{Running, Paused}
 use Rattle.dstm_steps.specs.Under.{now, effort_by}
 use Rattle.dstm_steps.proofs.Meeting.{keeps_aside, greedy_rank, in_other_phase, less_waiting, quit_waited}
 use Rattle.dstm_steps.proofs.Stepping.{under_is}
@@ -19,9 +18,8 @@ pause-requires-clause-enemy g c =
 pub returns-then-not-lets_go-clause-ends : goal.returns-then-not-lets_go-clause-ends
 returns-then-not-lets_go-clause-ends g c =
     let met = c.stand_aside-code.ensures.met in
-    under_is g.L.Law.holds c.args.words.now g.B.InCall.began c.quit.new.self _ _ _ _ c.quit.ensures.under refl
-    (ap Some (quit_waited (now c.args.words.now c.stand_aside-code.new.self) (effort_by c.stand_aside-code.new.self)
-    met.agreed met.tries))
+    under_is c.quit.ensures.under refl (ap Some (quit_waited (now c.args.words.now c.stand_aside-code.new.self)
+    (effort_by c.stand_aside-code.new.self) met.agreed met.tries))
 
 pub returns-then-not-resume-clause-ends : goal.returns-then-not-resume-clause-ends
 returns-then-not-resume-clause-ends g c = c.resume.ensures.killed c.if-not-resume.true
@@ -30,10 +28,8 @@ pub returns-clause-met : goal.returns-clause-met
 returns-clause-met g c =
     let met = c.stand_aside-code.ensures.met in
     let resumed = c.resume.ensures in
-    in_other_phase g.L.Law.holds c.args.words.now g.B.InCall.began Paused Running c.stand_aside-code.new.self
-    c.resume.new.self c.args.owner c.stand_aside-code.result met (resumed.state c.if-not-resume.false)
-    (resumed.good c.if-not-resume.false) resumed.left.2 (λ _. resumed.left.0)
-    (let same = resumed.left.1 in let tries = met.tries in omega arith)
+    in_other_phase met (resumed.good c.if-not-resume.false) (resumed.state c.if-not-resume.false) resumed.left.2
+    (λ _. resumed.left.0) (let same = resumed.left.1 in let tries = met.tries in omega arith)
 
 pub returns-clause-less : goal.returns-clause-less
 returns-clause-less g c =
@@ -46,7 +42,5 @@ returns-clause-less g c =
 
 pub returns-clause-keeps : goal.returns-clause-keeps
 returns-clause-keeps g c =
-    keeps_aside (now c.args.words.now c.args.self.now) (now c.args.words.now c.pause.new.self)
-    (now c.args.words.now c.stand_aside-code.new.self) (now c.args.words.now c.resume.new.self)
-    c.requires.met.in_phase (c.pause.ensures.state c.if-not-pause.false) c.stand_aside-code.ensures.keeps
+    keeps_aside c.requires.met.in_phase (c.pause.ensures.state c.if-not-pause.false) c.stand_aside-code.ensures.keeps
     (c.resume.ensures.state c.if-not-resume.false)

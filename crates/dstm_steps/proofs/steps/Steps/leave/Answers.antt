@@ -1,15 +1,12 @@
 use Rattle.std.proofs.Common.{◌≡◌, ◌∙◌, refl, ap, subst}
-use Rattle.dstm_core.specs.Events.{Event}
 use Rattle.dstm_core.specs.declared.event.Kind.TheVariants.{Quit}
 use Rattle.dstm_core.specs.Words.{place}
 use Rattle.dstm_core.specs.Words.Word.{StatusWord}
 use Rattle.dstm_machines.specs.Traces.Access.{Exchange}
-use Rattle.dstm_steps.specs.declared.steps.Steps.{Steps}
-use Rattle.dstm_steps.specs.Under.{Began, WentOn, made_by}
 use Rattle.dstm_words.specs.Seats.{found_in}
-use Rattle.dstm_steps.specs.Under.{InTask, due_next_by, answer_by}
+use Rattle.dstm_steps.specs.Under.{InTask, WentOn, answer_by, due_next_by, made_by}
 use Rattle.dstm_steps.proofs.Checks.{own_in_shape}
-use Rattle.dstm_steps.proofs.Stepping.{makes_by, may_make, went_adds}
+use Rattle.dstm_steps.proofs.Stepping.{may_make, took}
 use Rattle.dstm_order.specs.Tasks.{Task}
 use Rattle.dstm_order.specs.Tasks.Task.{Beginning, Leaving}
 use Rattle.dstm_steps.proofs.steps.Steps.leave.Given.{Over}
@@ -17,16 +14,11 @@ use Rattle.dstm_steps.proofs.steps.Steps.leave.Goals.{After-exchange}
 use Rattle.dstm_steps.proofs.steps.Steps.leave.Goals as goal
 
 pub status-place-requires-clause-below : goal.status-place-requires-clause-below
-status-place-requires-clause-below g c =
-    let own = own_in_shape g.L.Law.holds c.args.words.now g.B.InCall.began c.args.self.now _ _ c.requires.under
-    c.requires.live in
-    let shape = c.requires.under.shape in rw shape own
+status-place-requires-clause-below g c = own_in_shape c.requires.under c.requires.live
 
 pub exchange-requires-clause-allowed : goal.exchange-requires-clause-allowed
 exchange-requires-clause-allowed g c =
-    may_make g.L.Law.holds c.args.words.now g.B.InCall.began c.args.self.now _ _
-    (Exchange c.code.result c.code-2.result)
-    Quit c.status-place.result c.requires.under (λ q. absurd (cc)) (record {
+    may_make c.requires.under (Exchange c.code.result c.code-2.result) Quit c.status-place.result (λ q. absurd (cc)) (record {
       place = rw (← c.requires.under.mirror.own)
           (c.status-place.ensures ∙ ap (λ s. place s (StatusWord c.args.self.now.own)) c.requires.under.shape);
       access = rw (← c.requires.status, c.code.ensures, c.code-2.ensures) refl;
@@ -39,26 +31,21 @@ went : (g : Over) (c : After-exchange g) →
     (made_by g.B.InCall.began (Exchange c.code.result c.code-2.result) Quit c.status-place.result
     (found_in c.exchange.result))
 went g c =
-    let b : Began = g.B.InCall.began in
-    went_adds g.L.Law.holds c.args.words.now b c.args.self.now _ _ _ _ c.requires.under
-    (makes_by g.L.Law.holds c.args.words.now b _ _ (Exchange c.code.result c.code-2.result) Quit c.status-place.result
-    (found_in c.exchange.result) c.requires.under.number c.exchange.ensures.event) c.exchange.ensures.seat refl
-    (refl, tt)
+    took c.requires.under (Exchange c.code.result c.code-2.result) c.exchange.ensures.event c.exchange.ensures.seat (refl, tt)
 
 -- the call goes on, whatever it is
 left : (g : Over) (c : After-exchange g) (task : Task) → g.B.InCall.began.task ≡ task →
-    let new : Steps g.row.L.Denot = record c.args.self.now { seat = c.exchange.new.self } in
-    let e : Event = made_by g.B.InCall.began (Exchange c.code.result c.code-2.result) Quit c.status-place.result
+    let new = record c.args.self.now { seat = c.exchange.new.self } in
+    let e = made_by g.B.InCall.began (Exchange c.code.result c.code-2.result) Quit c.status-place.result
     (found_in c.exchange.result) in
     InTask g.L.Law.holds c.args.words.now task g.B.InCall.began new (due_next_by c.args.words.now task new e)
     (answer_by c.args.words.now task new e)
 left g c task is =
-    let b : Began = g.B.InCall.began in
-    let new : Steps g.row.L.Denot = record c.args.self.now { seat = c.exchange.new.self } in
-    let e : Event = made_by b (Exchange c.code.result c.code-2.result) Quit c.status-place.result
+    let new = record c.args.self.now { seat = c.exchange.new.self } in
+    let e = made_by g.B.InCall.began (Exchange c.code.result c.code-2.result) Quit c.status-place.result
     (found_in c.exchange.result) in
     let m = c.requires.under.mirror in
-    subst (λ t. InTask g.L.Law.holds c.args.words.now t b new (due_next_by c.args.words.now t new e)
+    subst (λ t. InTask g.L.Law.holds c.args.words.now t g.B.InCall.began new (due_next_by c.args.words.now t new e)
     (answer_by c.args.words.now t new e)) is
     ((went g c).goes_on new refl (record {
       shape = refl;

@@ -12,19 +12,16 @@ looked : (g : Over) (c : After-look-word g) →
     (made_by g.B.InCall.began Load LookObj c.object-place.result c.look-word.result)
 looked g c =
     let m = c.requires.under.mirror in
-    after_rest c.args.words.now c.args.self.now c.look-word.new.self _ _ c.look-word.ensures.rest refl
-    (record { own = m.own; installed = m.installed; rank = m.rank }) (rw c.look-word.ensures.rest refl)
+    after_rest c.look-word.ensures.rest refl (record { own = m.own; installed = m.installed; rank = m.rank })
+    (rw c.look-word.ensures.rest refl)
 
 pub returns-clause-agreed : goal.returns-clause-agreed
 returns-clause-agreed g c agreed =
-    let state = c.look-word.ensures.went.state in
-    went_on g.L.Law.holds c.args.words.now g.B.InCall.began c.args.self.now c.look-word.new.self _ _
-    c.look-word.ensures.went refl (looked g (goal.at.returns-clause-agreed g c).After-look-word)
-    (rw (state, c.requires.running.phase) refl) agreed (rw c.look-word.ensures.rest c.requires.tries)
+    went_on c.look-word.ensures.went refl (looked g (goal.at.returns-clause-agreed g c).After-look-word)
+    (rw (c.look-word.ensures.went.state, c.requires.running.phase) refl) agreed
+    (rw c.look-word.ensures.rest c.requires.tries)
 
 pub returns-clause-stale : goal.returns-clause-stale
 returns-clause-stale g c stale =
-    let state = c.look-word.ensures.went.state in
-    went_stale g.L.Law.holds c.args.words.now g.B.InCall.began c.args.self.now c.look-word.new.self _ _
-    c.look-word.ensures.went refl (looked g (goal.at.returns-clause-stale g c).After-look-word)
-    (rw (state, c.requires.running.phase) refl) stale
+    went_stale c.look-word.ensures.went refl (looked g (goal.at.returns-clause-stale g c).After-look-word)
+    (rw (c.look-word.ensures.went.state, c.requires.running.phase) refl) stale

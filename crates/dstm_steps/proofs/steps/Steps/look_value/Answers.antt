@@ -5,22 +5,15 @@ use Rattle.dstm_core.proofs.Static.{has_owner}
 
 pub returns-then-named-eq0-clause-found : goal.returns-then-named-eq0-clause-found
 returns-then-named-eq0-clause-found g c =
-    found_first (now c.args.words.now c.args.self.now) c.args.word
-    (has_owner (now c.args.words.now c.args.self.now).resolution c.requires.owner) c.requires.word
+    found_first (has_owner (now c.args.words.now c.args.self.now).resolution c.requires.owner) c.requires.word
     (rw c.if-named-eq0.true at c.requires.version)
 
 pub returns-then-named-eq0-clause-stays : goal.returns-then-named-eq0-clause-stays
-returns-then-named-eq0-clause-stays g c = stays_self (now c.args.words.now c.args.self.now)
+returns-then-named-eq0-clause-stays g c = stays_self
 
 pub returns-clause-found : goal.returns-clause-found
 returns-clause-found g c =
-    found_value c.args.words.now.terms.shape g.B.InCall.began (now c.args.words.now c.args.self.now)
-    (now c.args.words.now c.look_high-high.new.self) (now c.args.words.now c.look_low-low.new.self) c.args.word
-    c.args.named c.look_high-high.result c.look_low-low.result c.requires.word c.requires.version
-    c.look_high-high.ensures.state c.look_low-low.ensures.state
+    found_value (now c.args.words.now c.args.self.now) c.look_high-high.ensures.state c.look_low-low.ensures.state c.requires.word c.requires.version
 
 pub returns-clause-stays : goal.returns-clause-stays
-returns-clause-stays g c =
-    stays_value c.args.words.now.terms.shape g.B.InCall.began (now c.args.words.now c.args.self.now)
-    (now c.args.words.now c.look_high-high.new.self) (now c.args.words.now c.look_low-low.new.self)
-    c.look_high-high.result c.look_low-low.result c.look_high-high.ensures.state c.look_low-low.ensures.state
+returns-clause-stays g c = stays_value _ c.look_high-high.ensures.state c.look_low-low.ensures.state

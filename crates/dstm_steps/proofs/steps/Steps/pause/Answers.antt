@@ -11,8 +11,7 @@ use Rattle.dstm_steps.proofs.steps.Steps.pause.Goals.{After-exchange-found}
 use Rattle.dstm_steps.proofs.steps.Steps.pause.Goals as goal
 
 pub status-status-requires-clause-below : goal.status-status-requires-clause-below
-status-status-requires-clause-below g c =
-    own_below g.L.Law.holds c.args.words.now g.B.InCall.began c.args.self.now _ _ c.requires.under (rw c.requires.running.phase refl)
+status-status-requires-clause-below g c = own_below c.requires.under (rw c.requires.running.phase refl)
 
 changed : (g : Over) (c : After-exchange-found g) →
     After c.args.words.now c.args.self.now (record c.exchange-found.new.self { left = 4096 })
@@ -21,7 +20,7 @@ changed : (g : Over) (c : After-exchange-found g) →
 changed g c =
     let m = c.requires.under.mirror in
     let rest = c.exchange-found.ensures.rest in
-    after_rest c.args.words.now c.args.self.now c.exchange-found.new.self _ _ rest refl
+    after_rest rest refl
     (cond_both (found_in c.exchange-found.result == 1) _ _ (IsMirror c.args.words.now.terms.shape c.args.self.now)
     (λ _. record { own = m.own; installed = m.installed; rank = m.rank })
     (λ _. record { own = m.own; installed = m.installed; rank = m.rank }))
@@ -29,19 +28,17 @@ changed g c =
 
 pub returns-in-Ok-clause-good : goal.returns-in-Ok-clause-good
 returns-in-Ok-clause-good g c ok =
-    let state = c.exchange-found.ensures.went.state in
+    let went = c.exchange-found.ensures.went in
     let found : (found_in c.exchange-found.result == 1) ≡ true =
     eq-eqb _ 1 (ap found_in c.in-Ok.is ∙ c.in-Ok.ensures.answer ∙ c.code.ensures) in
-    went_on g.L.Law.holds c.args.words.now g.B.InCall.began c.args.self.now c.exchange-found.new.self _ _
-    c.exchange-found.ensures.went refl (changed g (goal.at.returns-in-Ok-clause-good g c).After-exchange-found)
-    (rw (state, found) refl) (rw (state, found) c.requires.running.agreed) (rw c.exchange-found.ensures.rest c.requires.tries)
+    went_on went refl (changed g (goal.at.returns-in-Ok-clause-good g c).After-exchange-found)
+    (rw (went.state, found) refl) (rw (went.state, found) c.requires.running.agreed)
+    (rw c.exchange-found.ensures.rest c.requires.tries)
 
 pub returns-in-Err-clause-killed : goal.returns-in-Err-clause-killed
 returns-in-Err-clause-killed g c failed =
-    let state = c.exchange-found.ensures.went.state in
+    let went = c.exchange-found.ensures.went in
     let found : (found_in c.exchange-found.result == 1) ≡ false =
     ne_eqb _ 1 (λ q. c.in-Err.ensures.answer (sym (ap found_in c.in-Err.is) ∙ q ∙ sym c.code.ensures)) in
-    under_is g.L.Law.holds c.args.words.now g.B.InCall.began (record c.exchange-found.new.self { left = 4096 }) _ _ _ _
-    (went_out g.L.Law.holds c.args.words.now g.B.InCall.began c.args.self.now c.exchange-found.new.self _ _
-    c.exchange-found.ensures.went refl (changed g (goal.at.returns-in-Err-clause-killed g c).After-exchange-found)
-    (rw (state, found) refl)) refl (rw (state, found, c.requires.running.uncommitted) refl)
+    under_is (went_out went refl (changed g (goal.at.returns-in-Err-clause-killed g c).After-exchange-found)
+    (rw (went.state, found) refl)) refl (rw (went.state, found, c.requires.running.uncommitted) refl)

@@ -1,28 +1,21 @@
 use Rattle.std.proofs.Common.{refl, ap, ◌∙◌, inl}
-use Rattle.dstm_core.specs.Events.{Event}
 use Rattle.dstm_core.specs.declared.event.Kind.TheVariants.{PutHigh}
-use Rattle.dstm_machines.specs.Traces.Access.{Store}
 use Rattle.dstm_core.specs.Words.Word.{HighWord}
 use Rattle.dstm_core.specs.Words.{place}
-use Rattle.dstm_steps.specs.Under.{made_by}
-use Rattle.dstm_steps.proofs.Puts.{past_went, holds_put}
+use Rattle.dstm_steps.proofs.Puts.{holds_put}
 use Rattle.dstm_steps.proofs.Ranged.{in_word}
+use Rattle.dstm_steps.proofs.Stepping.{past_went}
 use Rattle.dstm_steps.proofs.steps.Steps.put_high.Goals as goal
 
 pub high_cell-place-requires-clause-below : goal.high_cell-place-requires-clause-below
 high_cell-place-requires-clause-below g c =
-    let e : Event = made_by g.B.InCall.began (Store c.args.high) PutHigh 0 0 in
-    rw c.requires.under.shape (rw c.requires.locator at
-    (in_word g.L.Law.holds c.args.words.now g.B.InCall.began c.args.self.now _ _ c.requires.under PutHigh e
-    (λ q. absurd (cc))
+    rw c.requires.under.shape (rw c.requires.locator at (in_word c.requires.under PutHigh (λ q. absurd (cc))
     (c.requires.live.0, c.requires.live.1, c.requires.next.0, c.requires.next.1)))
 
 pub returns-clause-past : goal.returns-clause-past
-returns-clause-past g c =
-    past_went g.L.Law.holds c.args.words.now g.B.InCall.began c.args.self.now c.store.new.self _ c.store.ensures.went.1
+returns-clause-past g c = past_went c.store.ensures.went.1
 
 pub returns-clause-put : goal.returns-clause-put
 returns-clause-put g c =
-    holds_put g.L.Law.holds c.args.words.now g.B.InCall.began c.args.self.now c.store.new.self _
-    (HighWord c.args.locator) c.args.high c.store.ensures.went.1
-    (inl refl) (c.high_cell-place.ensures ∙ ap (λ s. place s (HighWord c.args.locator)) c.requires.under.shape) refl
+    holds_put (HighWord c.args.locator) c.store.ensures.went.1 (inl refl)
+    (c.high_cell-place.ensures ∙ ap (λ s. place s (HighWord c.args.locator)) c.requires.under.shape) refl

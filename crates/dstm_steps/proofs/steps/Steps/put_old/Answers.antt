@@ -1,19 +1,9 @@
-use Rattle.dstm_core.specs.Events.{Event}
 use Rattle.dstm_core.specs.declared.event.Kind.TheVariants.{PutOld}
-use Rattle.dstm_machines.specs.Traces.Access.{Store}
-use Rattle.dstm_steps.specs.Under.{made_by}
 use Rattle.dstm_steps.proofs.Ranged.{in_word}
 use Rattle.dstm_steps.proofs.steps.Steps.put_old.Goals as goal
 
 pub old_cell-place-requires-clause-below : goal.old_cell-place-requires-clause-below
 old_cell-place-requires-clause-below g c =
-    let e : Event = made_by g.B.InCall.began (Store 0) PutOld 0 0 in
-    rw c.requires.under.shape (rw c.requires.locator at
-    (in_word g.L.Law.holds c.args.words.now g.B.InCall.began c.args.self.now _ _ c.requires.under PutOld e
-    (λ q. absurd (cc)) (
-      c.requires.running.phase,
-      c.requires.running.agreed,
-      c.requires.resolved.0,
-      c.requires.resolved.1,
-      c.requires.held,
-    )))
+    let r = c.requires in
+    rw r.under.shape (rw r.locator at (in_word r.under PutOld (λ q. absurd (cc))
+    (r.running.phase, r.running.agreed, r.resolved.0, r.resolved.1, r.held)))

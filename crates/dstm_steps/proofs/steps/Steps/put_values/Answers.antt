@@ -1,12 +1,9 @@
 use Rattle.std.proofs.Common.{◌≡◌, ◌<◌, ◌+◌, refl, ap, subst, arith, inr, length}
-use Rattle.std.specs.Prelude.{slice_index_or}
-use Rattle.dstm_core.specs.Events.{Event}
 use Rattle.dstm_core.specs.declared.event.Kind.TheVariants.{PutHigh}
 use Rattle.dstm_core.specs.State.{LocalState}
-use Rattle.dstm_machines.specs.Traces.Access.{Store}
-use Rattle.dstm_steps.specs.Under.{made_by}
-use Rattle.dstm_steps.specs.Writes.{ArePut, no_slot}
-use Rattle.dstm_steps.proofs.PutLoop.{NextPut, ready, next_put, numbered, lawful_put, puts_more, puts_all, puts_kept}
+use Rattle.dstm_steps.specs.Under.{now, work_of}
+use Rattle.dstm_steps.specs.Writes.{ArePut, value_in}
+use Rattle.dstm_steps.proofs.PutLoop.{NextPut, ready, next_put, numbered, lawful_put, puts_more, puts_all, value_of}
 use Rattle.dstm_machines.proofs.Pasts.{past_past}
 use Rattle.dstm_steps.proofs.Ranged.{few_locators, in_word}
 use Rattle.dstm_steps.proofs.Stepping.{under_is}
@@ -16,33 +13,29 @@ use Rattle.dstm_steps.proofs.steps.Steps.put_values.Goals as goal
 
 -- the write whose value is put next, before its high part is put and after it
 next_before : (g : Over) (c : In-loop-i g) →
-    NextPut g.L.Law.holds c.args.words.now g.B.InCall.began c.loop-i.self (c.args.first + c.loop-i.i)
-    (slice_index_or c.args.writes.now c.loop-i.i no_slot)
+    NextPut (now c.args.words.now c.loop-i.self) (value_in (work_of g.B.InCall.began.task)) (c.args.first + c.loop-i.i)
+    (value_of c.args.writes.now c.loop-i.i)
 next_before g c =
-    next_put g.L.Law.holds c.args.words.now g.B.InCall.began c.args.self.now c.loop-i.self c.args.first
-    c.args.writes.now c.loop-i.i c.requires.slots
-    (numbered g.L.Law.holds c.args.words.now g.B.InCall.began c.args.self.now _ _ c.requires.under c.args.first
-    c.requires.first) c.requires.values c.loop-i.invariant.writes c.loop-i.invariant.written c.loop-i-test.true
+    next_put _ _ _ c.args.first c.args.writes.now c.loop-i.i c.requires.slots
+    (numbered c.requires.under c.requires.first) c.requires.values c.loop-i.invariant.writes c.loop-i.invariant.written
+    c.loop-i-test.true
 
 next_between : (g : Over) (c : After-put_high g) →
-    NextPut g.L.Law.holds c.args.words.now g.B.InCall.began c.put_high.new.self (c.args.first + c.loop-i.i)
-    (slice_index_or c.args.writes.now c.loop-i.i no_slot)
+    NextPut (now c.args.words.now c.put_high.new.self) (value_in (work_of g.B.InCall.began.task))
+    (c.args.first + c.loop-i.i) (value_of c.args.writes.now c.loop-i.i)
 next_between g c =
-    next_put g.L.Law.holds c.args.words.now g.B.InCall.began c.args.self.now c.put_high.new.self c.args.first
-    c.args.writes.now c.loop-i.i c.requires.slots
-    (numbered g.L.Law.holds c.args.words.now g.B.InCall.began c.args.self.now _ _ c.requires.under c.args.first
-    c.requires.first) c.requires.values (rw c.put_high.ensures.state c.loop-i.invariant.writes)
-    (rw c.put_high.ensures.state c.loop-i.invariant.written) c.loop-i-test.true
+    let state = c.put_high.ensures.state in
+    next_put _ _ _ c.args.first c.args.writes.now c.loop-i.i c.requires.slots
+    (numbered c.requires.under c.requires.first) c.requires.values (rw state c.loop-i.invariant.writes)
+    (rw state c.loop-i.invariant.written) c.loop-i-test.true
 
 -- its locator is a small number
 locator_fits : (g : Over) (c : In-loop-i g) → c.args.first + c.loop-i.i < 4294967296
 locator_fits g c =
     let n = next_before g c in
     let few = few_locators c.args.words.now.terms.shape c.requires.under.run.valid in
-    let e : Event = made_by g.B.InCall.began (Store 0) PutHigh 0 0 in
     let below = rw n.locator_is at
-    (in_word g.L.Law.holds c.args.words.now g.B.InCall.began c.loop-i.self _ _ c.loop-i.invariant.under PutHigh e
-    (λ q. absurd (cc))
+    (in_word c.loop-i.invariant.under PutHigh (λ q. absurd (cc))
     (c.loop-i.invariant.phase, c.loop-i.invariant.agreed, n.left, c.loop-i.invariant.none)) in
     omega arith
 
@@ -55,8 +48,7 @@ overflow_add-locator g c = let fits = locator_fits g (goal.at.overflow_add-locat
 pub put_high-requires-clause-under : goal.put_high-requires-clause-under
 put_high-requires-clause-under g c =
     let n = next_before g (goal.at.put_high-requires-clause-under g c).In-loop-i in
-    under_is g.L.Law.holds c.args.words.now g.B.InCall.began c.loop-i.self _ _ _ _ c.loop-i.invariant.under
-    (rw c.to_put-value.ensures (n.high c.loop-i.invariant.none)) refl
+    under_is c.loop-i.invariant.under (rw c.to_put-value.ensures (n.high c.loop-i.invariant.none)) refl
 
 pub put_high-requires-clause-next : goal.put_high-requires-clause-next
 put_high-requires-clause-next g c =
@@ -69,8 +61,7 @@ put_high-requires-clause-locator g c =
 pub put_low-requires-clause-under : goal.put_low-requires-clause-under
 put_low-requires-clause-under g c =
     let n = next_between g (goal.at.put_low-requires-clause-under g c).After-put_high in
-    under_is g.L.Law.holds c.args.words.now g.B.InCall.began c.put_high.new.self _ _ _ _ c.put_high.ensures.under
-    (rw c.to_put-value.ensures (n.low (rw c.put_high.ensures.state refl))) refl
+    under_is c.put_high.ensures.under (rw c.to_put-value.ensures (n.low (rw c.put_high.ensures.state refl))) refl
 
 pub put_low-requires-clause-next : goal.put_low-requires-clause-next
 put_low-requires-clause-next g c = (
@@ -84,19 +75,11 @@ put_low-requires-clause-locator g c =
 
 pub put_low-requires-clause-lawful : goal.put_low-requires-clause-lawful
 put_low-requires-clause-lawful g c =
-    let state = c.put_high.ensures.state in
-    let inv = c.loop-i.invariant in
+    let high = c.put_high.ensures in
     rw c.to_put-value.ensures
-    (lawful_put g.L.Law.holds c.args.words.now g.B.InCall.began c.args.self.now c.put_high.new.self _ _ _ _
-    c.requires.under c.put_high.ensures.under c.args.first c.args.writes.now c.loop-i.i
-    (λ q. let p = c.requires.running.phase in cc) c.requires.slots
-    (numbered g.L.Law.holds c.args.words.now g.B.InCall.began c.args.self.now _ _ c.requires.under c.args.first
-    c.requires.first)
-    c.requires.lawful (past_past _ _ _ inv.past c.put_high.ensures.past)
-    (rw state inv.reads) (rw state inv.writes) (rw state inv.written)
-    (puts_kept g.L.Law.holds c.args.words.now g.B.InCall.began c.loop-i.self c.put_high.new.self c.args.first
-    c.args.writes.now c.loop-i.i c.put_high.ensures.past inv.put)
-    (rw c.to_put-value.ensures at c.put_high.ensures.put))
+    (lawful_put c.loop-i.invariant c.requires.under high.under (λ q. let p = c.requires.running.phase in cc)
+    c.requires.slots (numbered c.requires.under c.requires.first) c.requires.lawful high.past high.state
+    (rw c.to_put-value.ensures at high.put))
 
 pub loop-i-preserved : goal.loop-i-preserved
 loop-i-preserved g c =
@@ -115,17 +98,15 @@ loop-i-preserved g c =
       written = rw (low.state, high.state) (ap (λ n. n + 1) inv.written);
       none = rw low.state refl;
       past = past_past _ _ _ inv.past (past_past _ _ _ high.past low.past);
-      put = puts_more g.L.Law.holds c.args.words.now g.B.InCall.began c.loop-i.self c.put_high.new.self
-          c.put_low.new.self c.args.first c.args.writes.now c.loop-i.i
-          high.past low.past inv.put (rw c.to_put-value.ensures at high.put) (rw c.to_put-value.ensures at low.put);
+      put = puts_more inv c.put_high.new.self c.put_low.new.self high.past low.past
+          (rw c.to_put-value.ensures at high.put) (rw c.to_put-value.ensures at low.put);
       tries = low.tries;
     }
 
 pub returns-clause-under : goal.returns-clause-under
 returns-clause-under g c =
-    under_is g.L.Law.holds c.args.words.now g.B.InCall.began c.loop-i.self _ _ _ _ c.loop-i.invariant.under
-    (puts_all g.L.Law.holds c.args.words.now g.B.InCall.began c.args.self.now c.loop-i.self c.args.first
-    c.args.writes.now c.loop-i.i c.requires.slots c.loop-i.invariant c.loop-i.auto.i-end c.loop-i-test.false) refl
+    let inv = c.loop-i.invariant in
+    under_is inv.under (puts_all inv c.requires.slots c.loop-i.auto.i-end c.loop-i-test.false) refl
 
 pub returns-clause-put : goal.returns-clause-put
 returns-clause-put g c =
@@ -134,6 +115,4 @@ returns-clause-put g c =
     subst (ArePut c.args.words.now c.loop-i.self c.args.first c.args.writes.now) i c.loop-i.invariant.put
 
 pub returns-clause-ready : goal.returns-clause-ready
-returns-clause-ready g c =
-    ready g.L.Law.holds c.args.words.now g.B.InCall.began c.args.self.now c.loop-i.self c.args.first
-    c.args.writes.now c.loop-i.i c.requires.slots c.loop-i.invariant c.loop-i.auto.i-end c.loop-i-test.false
+returns-clause-ready g c = ready c.loop-i.invariant c.requires.slots c.loop-i.auto.i-end c.loop-i-test.false

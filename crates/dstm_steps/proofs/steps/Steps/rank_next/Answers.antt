@@ -1,13 +1,12 @@
 use Rattle.std.proofs.Common.{◌∙◌, refl, ap, false, None}
 use Rattle.dstm_core.specs.declared.event.Kind.TheVariants.{Rank}
-use Rattle.dstm_core.specs.State.{LocalState}
 use Rattle.dstm_core.specs.Words.{place}
 use Rattle.dstm_core.specs.Words.Word.{RankWord}
 use Rattle.dstm_machines.specs.Traces.Access.{Store}
 use Rattle.dstm_order.specs.Tasks.Task.{Beginning}
-use Rattle.dstm_steps.specs.Under.{Began, WentOn, made_by, now}
+use Rattle.dstm_steps.specs.Under.{WentOn, made_by, now}
 use Rattle.dstm_core.specs.Rules.{is_outside}
-use Rattle.dstm_steps.proofs.Stepping.{makes_by, may_make, went_adds}
+use Rattle.dstm_steps.proofs.Stepping.{may_make, took}
 use Rattle.dstm_steps.proofs.Unused.{next_in_shape}
 use Rattle.dstm_steps.proofs.steps.Steps.rank_next.Given.{Over}
 use Rattle.dstm_steps.proofs.steps.Steps.rank_next.Goals.{After-store}
@@ -15,13 +14,11 @@ use Rattle.dstm_steps.proofs.steps.Steps.rank_next.Goals as goal
 
 pub rank-place-requires-clause-below : goal.rank-place-requires-clause-below
 rank-place-requires-clause-below g c =
-    rw c.requires.under.shape (rw c.requires.next at (next_in_shape g.L.Law.holds c.args.words.now g.B.InCall.began
-    c.args.self.now _ _ c.requires.under c.requires.number c.requires.unused))
+    next_in_shape c.requires.under c.requires.next c.requires.number c.requires.unused
 
 pub store-requires-clause-allowed : goal.store-requires-clause-allowed
 store-requires-clause-allowed g c =
-    may_make g.L.Law.holds c.args.words.now g.B.InCall.began c.args.self.now _ _ (Store c.args.rank) Rank c.rank-place.result
-    c.requires.under (λ q. absurd (cc)) (record {
+    may_make c.requires.under (Store c.args.rank) Rank c.rank-place.result (λ q. absurd (cc)) (record {
       place = rw (c.requires.outside, c.requires.next)
           (c.rank-place.ensures ∙ ap (λ s. place s (RankWord c.args.next)) c.requires.under.shape);
       access = refl;
@@ -32,16 +29,12 @@ went : (g : Over) (c : After-store g) →
     WentOn g.L.Law.holds c.args.words.now (Beginning c.args.fresh) g.B.InCall.began c.args.self.now
     (record c.args.self.now { seat = c.store.new.self; rank = c.args.rank })
     (made_by g.B.InCall.began (Store c.args.rank) Rank c.rank-place.result c.store.ensures.event.0)
-went g c =
-    let b : Began = g.B.InCall.began in
-    went_adds g.L.Law.holds c.args.words.now b c.args.self.now _ _ _ _ c.requires.under
-    (makes_by g.L.Law.holds c.args.words.now b _ _ (Store c.args.rank) Rank c.rank-place.result c.store.ensures.event.0
-    c.requires.under.number c.store.ensures.event.1) c.store.ensures.seat refl (refl, refl)
+went g c = took c.requires.under (Store c.args.rank) c.store.ensures.event.1 c.store.ensures.seat (refl, refl)
 
 pub returns-clause-state : goal.returns-clause-state
 returns-clause-state g c =
-    let state : LocalState = now c.args.words.now c.args.self.now in
-    (went g (goal.at.returns-clause-state g c).After-store).state ∙ ap (λ p. record state {
+    (went g (goal.at.returns-clause-state g c).After-store).state
+    ∙ ap (λ p. record (now c.args.words.now c.args.self.now) {
       rank = c.args.rank;
       ranked = is_outside p;
       owed = false;

@@ -6,8 +6,7 @@ use Rattle.dstm_steps.proofs.steps.Steps.resolve_word.Goals as goal
 
 pub resolve_version-requires-2-clause-over : goal.resolve_version-requires-2-clause-over
 resolve_version-requires-2-clause-over g c =
+    let status = c.look_status-code.ensures in
     code_over c.look_status-code.result
-    (code_in g.L.Law.holds c.args.words.now g.B.InCall.began c.look_status-code.new.self _ _
-    c.look_status-code.ensures.under c.look_status-code.result
-    (ap (λ l. (res l).status) c.look_status-code.ensures.state))
+    (code_in status.under c.look_status-code.result (ap (λ l. (res l).status) status.state))
     (sym c.is_live.ensures ∙ c.if-is_live.false)

@@ -1,6 +1,6 @@
 use Rattle.std.proofs.Common.{◌∙◌, ◌≡◌, ap}
 use Rattle.dstm_core.specs.State.{LocalState, or_unresolved}
-use Rattle.dstm_steps.specs.Under.{doing, now}
+use Rattle.dstm_steps.specs.Under.{now}
 use Rattle.dstm_steps.proofs.FoundValues.{found_kept, has_value}
 use Rattle.dstm_steps.proofs.steps.Steps.try_acquire.Goals as goal
 
@@ -10,9 +10,6 @@ returns-then-install-clause-value g c =
     let same : (now home c.put_old.new.self).resolution ≡ (now home c.resolve.new.self).resolution =
     ap (λ (l : LocalState). l.resolution) c.put_old.ensures.state
     ∙ ap (λ (l : LocalState). l.resolution) c.put_owner.ensures.state in
-    let under = c.install.ensures.under c.if-install.true in
-    has_value g.L.Law.holds home (doing g.B.InCall.began) (doing g.B.InCall.began) g.B.InCall.began c.put_old.new.self
-    c.install.new.self _ _ _ _ c.args.object c.in_ok-found.found c.put_old.ensures.under under c.install.ensures.past
-    (found_kept (now home c.resolve.new.self) (now home c.put_old.new.self) c.in_ok-found.found same
-    c.in_ok-found.ensures.found)
+    has_value c.put_old.ensures.under (c.install.ensures.under c.if-install.true) c.install.ensures.past
+    (found_kept same c.in_ok-found.ensures.found)
     (ap (λ o. (or_unresolved o).object) same ∙ c.in_ok-found.ensures.object)

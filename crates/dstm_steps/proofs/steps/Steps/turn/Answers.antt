@@ -1,13 +1,9 @@
-use Rattle.std.proofs.Common.{◌≡◌, ℕ, ◌+◌, refl, ap, ◌∙◌, ◌-◌, arith}
-use Rattle.std.proofs.lemmas.Bool.Decides.{nat_tests}
-use Rattle.dstm_core.specs.Events.{Event}
-use Rattle.dstm_core.specs.declared.event.Kind.TheVariants.{LookStatus}
-use Rattle.dstm_machines.specs.Traces.Access.{Load}
+use Rattle.std.proofs.Common.{◌≡◌, ℕ, ◌+◌, refl, ap, ◌∙◌, ◌-◌, inl}
 use Rattle.dstm_words.specs.Seats.{caller_state, view_of}
 use Rattle.dstm_steps.specs.declared.steps.Steps.{Steps}
-use Rattle.dstm_steps.specs.Under.{Resolving, effort_by, made_by, now}
+use Rattle.dstm_steps.specs.Under.{Resolving, effort_by, now}
 use Rattle.dstm_order.specs.Efforts.{turn}
-use Rattle.dstm_steps.proofs.Ranged.{owner_in}
+use Rattle.dstm_steps.proofs.Ranged.{live_small, owner_below}
 use Rattle.dstm_steps.proofs.Stepping.{went_on, turn_left, turn_last, turn_more}
 use Rattle.dstm_steps.proofs.steps.Steps.turn.Given.{Over}
 use Rattle.dstm_steps.proofs.steps.Steps.turn.Goals.{After-look-status}
@@ -16,11 +12,8 @@ use Rattle.dstm_steps.proofs.steps.Steps.turn.Goals.{then-self-eq1, else-self-eq
 
 pub status-place-requires-clause-below : goal.status-place-requires-clause-below
 status-place-requires-clause-below g c =
-    rw c.requires.under.shape
-    (rw c.requires.owner at
-    (owner_in g.L.Law.holds c.args.words.now g.B.InCall.began c.args.self.now _ _ c.requires.under
-    c.requires.running (rw c.requires.owner refl)
-    (let live = c.requires.status.1 in grind (arith, nat_tests))))
+    owner_below c.requires.under (inl c.requires.running.phase) c.requires.running.agreed c.requires.owner
+    (live_small _ c.requires.status.1)
 
 -- after a turn of a wait, in this round
 turned : (g : Over) (c : After-look-status g) (looked : Steps g.row.L.Denot) (round : ℕ) →
@@ -33,30 +26,29 @@ turned g c looked round is counts =
     let new : Steps g.row.L.Denot = record looked { left = looked.left - 1 } in
     let rest = c.look-status.ensures.rest in
     let m = c.requires.under.mirror in
-    let state = c.look-status.ensures.went.state in
-    let e : Event = made_by g.B.InCall.began Load LookStatus c.status-place.result c.look-status.result in
+    let went = c.look-status.ensures.went in
     let seat = ap (λ (s : Steps g.row.L.Denot). s.seat) is in
     let here : now c.args.words.now new ≡ now c.args.words.now c.look-status.new.self =
     ap (λ s. caller_state c.args.words.now.terms (view_of s)) seat in
-    went_on g.L.Law.holds c.args.words.now g.B.InCall.began old c.look-status.new.self new e
-    c.look-status.ensures.went seat
+    went_on {steps = new} went seat
     (record {
       shape = rw (is, rest) refl;
       manager = rw (is, rest) refl;
       mirror = record { own = rw (is, rest) m.own; installed = rw (is, rest) m.installed; rank = rw (is, rest) m.rank };
-      effort = turn_left c.args.words.now.terms.shape.manager (now c.args.words.now old) (effort_by old) e
+      effort = turn_left c.args.words.now.terms.shape.manager (now c.args.words.now old) (effort_by old)
           c.requires.status.0 c.requires.running.phase c.requires.left ∙ counts ∙ (rw (is, rest) refl);
     })
-    (rw (here, state, c.requires.running.phase) refl) (rw (here, state) c.requires.running.agreed)
+    (rw (here, went.state, c.requires.running.phase) refl) (rw (here, went.state) c.requires.running.agreed)
     (rw (is, rest) c.requires.tries)
 
 pub returns-clause-under : goal.returns-clause-under
-returns-clause-under g c = let before = (goal.at.returns-clause-under g c).After-look-status in
+returns-clause-under g c =
+    let before = (goal.at.returns-clause-under g c).After-look-status in
+    let old = effort_by c.args.self.now in
+    let rest = c.look-status.ensures.rest in
     elim c.if-self-eq1.branch [
-      | then-self-eq1 w ↦ turned g before _ (c.args.self.now.round + 1) (w.self-is ∙ rw c.look-status.ensures.rest refl)
-          (turn_last c.args.self.now.left (effort_by c.args.self.now)
-          (rw c.look-status.ensures.rest at w.if-self-eq1.true))
-      | else-self-eq1 w ↦ turned g before _ c.args.self.now.round (w.self-is ∙ rw c.look-status.ensures.rest refl)
-          (turn_more c.args.self.now.left (effort_by c.args.self.now)
-          (rw c.look-status.ensures.rest at w.if-self-eq1.false))
+      | then-self-eq1 w ↦ turned g before _ (old.round + 1) (w.self-is ∙ rw rest refl)
+          (turn_last old.left old (rw rest at w.if-self-eq1.true))
+      | else-self-eq1 w ↦ turned g before _ old.round (w.self-is ∙ rw rest refl)
+          (turn_more old.left old (rw rest at w.if-self-eq1.false))
     ]
