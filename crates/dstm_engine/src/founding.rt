@@ -1,6 +1,8 @@
 // All callers of a table at once.
 ghost use Rattle.std.specs.Prelude.{◌≡◌, ◌+◌, ◌<◌, ◌≤◌, All, IfOk, OnErr, length};
-ghost use Rattle.dstm_engine.specs.Companies.{AreNew, AreOut, IsNew, IsOfTable};
+ghost use Rattle.dstm_core.specs.Traces.{IsPastOf};
+ghost use Rattle.dstm_engine.specs.Companies.{AreNew, AreOut, IsNew, IsOfTable, IsSeenIn};
+ghost use Rattle.dstm_engine.specs.Tables.{Retires};
 
 use crate::caller::Caller;
 use crate::error::EnrolError;
@@ -24,6 +26,7 @@ impl<L: Law> Founder<L> {
         ensures count { IfOk result (λ callers. length callers.items ≡ count) }
         ensures out { IfOk result (λ _. AreOut count self.old self.new) }
         ensures none { OnErr result (self.new.view.out ≡ self.old.view.out) }
+        ensures made { OnErr result ((self.old.made ≤ self.new.made) × (self.new.made ≤ self.old.made + count)) }
     {
         let mut callers = Vec::with_capacity(alloc, count as usize)?;
         for seed in 0..count {
@@ -38,14 +41,18 @@ impl<L: Law> Founder<L> {
         Ok(callers)
     }
 
-    /// Retires callers, the last one first.
+    /// Retires callers, the last one first. All that they have seen, and so what they have committed, stands in the
+    /// founder's log.
     pub fn retire_all(&mut self, stm: &Stm<L>, callers: Vec<Caller<L>>)
         requires table { self.old.home ≡ stm.now }
         requires callers { All (IsOfTable stm.now) callers.items }
         requires out { length callers.items ≤ self.old.view.out }
         ensures table { self.new.home ≡ stm.now }
         ensures guests { self.new.guests ≡ self.old.guests }
+        ensures made { self.new.made ≡ self.old.made }
         ensures out { self.new.view.out + length callers.items ≡ self.old.view.out }
+        ensures past { IsPastOf self.old.view.log self.new.view.log }
+        ensures seen { All (IsSeenIn self.new.view.log) callers.items }
     {
         let mut callers = callers;
         while let Some(caller) = callers.pop() {
@@ -76,6 +83,7 @@ impl<L: Law> Founder<L> {
         ensures table { self.new.home ≡ stm.now }
         ensures guests { self.new.guests ≡ self.old.guests }
         ensures out { self.old.view.out ≡ self.new.view.out + 1 }
+        ensures retired { Retires L.holds self.old self.new caller }
     {
         self.retire(stm, caller);
     }
