@@ -1,6 +1,7 @@
 // Attempts by the one caller of a table.
-ghost use Rattle.std.specs.Prelude.{◌≡◌, ◌<◌, All, IsTrue, OnOk};
+ghost use Rattle.std.specs.Prelude.{◌≡◌, ◌<◌, All, IsTrue};
 ghost use Rattle.dstm_engine.specs.Callers.{is_live, shape_of};
+ghost use Rattle.bench_engine.specs.Attempts.{GoesOn};
 ghost use Rattle.bench_engine.specs.Places.{Exist};
 
 use dstm_engine::{Caller, Stm, Tx};
@@ -20,33 +21,43 @@ pub enum Use {
     Write,
 }
 
-// Opens objects for reading.
-fn read_all(tx: &mut Tx<'_, AnyLaw>, places: &[u32]) -> Result<(), Again>
-    requires live { IsTrue (is_live tx.old.caller.now) }
-    requires exist { Exist (shape_of tx.old.caller.now) places.now }
-    ensures live { OnOk result (IsTrue (is_live tx.new.caller.now)) }
-    ensures reference { tx.new.caller.ghost_name ≡ tx.old.caller.ghost_name }
-    ensures table { tx.new.stm.now ≡ tx.old.stm.now }
-    ensures home { tx.new.caller.now.home ≡ tx.old.caller.now.home }
-{
-    for o in places {
-        let _value = tx.open_read(*o)?;
-    }
-    Ok(())
+// How an attempt opens an object.
+trait Opening {
+    fn open(tx: &mut Tx<'_, AnyLaw>, o: u32) -> Result<(), Again>
+        requires live { IsTrue (is_live tx.old.caller.now) }
+        requires exists { o < (shape_of tx.old.caller.now).objects }
+        ensures { GoesOn tx.old tx.new result };
 }
 
-// Opens objects for writing, and sets each to the value that it has.
-fn write_all(tx: &mut Tx<'_, AnyLaw>, places: &[u32]) -> Result<(), Again>
+// It opens it for reading.
+struct Reading;
+
+impl Opening for Reading {
+    fn open(tx: &mut Tx<'_, AnyLaw>, o: u32) -> Result<(), Again> {
+        let _value = tx.open_read(o)?;
+        Ok(())
+    }
+}
+
+// It opens it for writing, and sets the value that it has.
+struct Writing;
+
+impl Opening for Writing {
+    fn open(tx: &mut Tx<'_, AnyLaw>, o: u32) -> Result<(), Again> {
+        let value = tx.open_write(o)?;
+        tx.set(o, value);
+        Ok(())
+    }
+}
+
+// Opens objects one after the other.
+fn open_each<O: Opening>(tx: &mut Tx<'_, AnyLaw>, places: &[u32]) -> Result<(), Again>
     requires live { IsTrue (is_live tx.old.caller.now) }
     requires exist { Exist (shape_of tx.old.caller.now) places.now }
-    ensures live { OnOk result (IsTrue (is_live tx.new.caller.now)) }
-    ensures reference { tx.new.caller.ghost_name ≡ tx.old.caller.ghost_name }
-    ensures table { tx.new.stm.now ≡ tx.old.stm.now }
-    ensures home { tx.new.caller.now.home ≡ tx.old.caller.now.home }
+    ensures { GoesOn tx.old tx.new result }
 {
     for o in places {
-        let value = tx.open_write(*o)?;
-        tx.set(*o, value);
+        O::open(tx, *o)?;
     }
     Ok(())
 }
@@ -55,14 +66,11 @@ fn write_all(tx: &mut Tx<'_, AnyLaw>, places: &[u32]) -> Result<(), Again>
 fn open_all(tx: &mut Tx<'_, AnyLaw>, places: &[u32], usage: Use) -> Result<(), Again>
     requires live { IsTrue (is_live tx.old.caller.now) }
     requires exist { Exist (shape_of tx.old.caller.now) places.now }
-    ensures live { OnOk result (IsTrue (is_live tx.new.caller.now)) }
-    ensures reference { tx.new.caller.ghost_name ≡ tx.old.caller.ghost_name }
-    ensures table { tx.new.stm.now ≡ tx.old.stm.now }
-    ensures home { tx.new.caller.now.home ≡ tx.old.caller.now.home }
+    ensures { GoesOn tx.old tx.new result }
 {
     match usage {
-        Use::Read => read_all(tx, places),
-        Use::Write => write_all(tx, places),
+        Use::Read => open_each::<Reading>(tx, places),
+        Use::Write => open_each::<Writing>(tx, places),
         Use::Quit | Use::Commit => Ok(()),
     }
 }

@@ -61,23 +61,15 @@ pub fn measure(
     requires some { 0 < objects }
     requires few { objects ≤ MAX_OBJECTS }
 {
-    let mut least = measure_once(clock, alloc, manager, objects)?;
-    for _ in 1..TABLES {
-        least = least.min(measure_once(clock, alloc, manager, objects)?);
+    let mut least = Times {
+        quit: f64::INFINITY,
+        commit: f64::INFINITY,
+        read: f64::INFINITY,
+        write: f64::INFINITY,
+    };
+    for _ in 0..TABLES {
+        let mut table = Table::make(alloc, manager, objects)?;
+        least = least.min(Times::of(&mut table, clock)?);
     }
     Ok(least)
-}
-
-// The times on a new table.
-fn measure_once(
-    clock: &impl Clock,
-    alloc: Global,
-    manager: Manager,
-    objects: u32,
-) -> anyhow::Result<Times>
-    requires some { 0 < objects }
-    requires few { objects ≤ MAX_OBJECTS }
-{
-    let mut table = Table::make(alloc, manager, objects)?;
-    Times::of(&mut table, clock)
 }
