@@ -1,8 +1,8 @@
-use Rattle.std.proofs.Common.{◌+◌, ◌-◌, w64, slice_set, rules, arith, sym, ◌∙◌, ap, subst, inl, inr, refl}
+use Rattle.std.proofs.Common.{◌+◌, ◌-◌, w64, slice_set, rules, arith, sym, ◌∙◌, ap, subst, inl, inr}
 use Rattle.std.proofs.Math.Facts.{Fits-of_lt}
 use Rattle.dstm_model.specs.declared.op.Op.TheVariants.{Transfer}
 use Rattle.dstm_model.specs.declared.reply.Reply.{Reply}
-use Rattle.dstm_model.specs.declared.reply.Reply.TheVariants.{Moved, Poor}
+use Rattle.dstm_model.specs.declared.reply.Reply.TheVariants.{Moved}
 use Rattle.dstm_model.specs.Objects.{IsBank, Does, plain}
 use Rattle.dstm_mem.specs.Memory.{with_set}
 use Rattle.dstm_mem.proofs.Operations.{opens_to_set-of_reads}
@@ -39,23 +39,6 @@ returns-then-source-target-clause-applies g c =
     }
 
 -- a source that cannot pay
-pub returns-then-from-amount-clause-applies : goal.returns-then-from-amount-clause-applies
-returns-then-from-amount-clause-applies g c =
-    let layout = c.args.layout.now in
-    let opened = c.in_ok-from.ensures in
-    record {
-      leads = search rules;
-      outside = λ o out. untouched-opened g.M.Mem opened.written opened.held opened.opened o (λ e. out (inl e));
-      marks = λ not_poor. absurd (not_poor refl);
-      quiet = λ itself. absurd (c.if-source-target.false itself);
-      does = λ map admitted.
-          let before = with_set map (g.M.Mem.written c.args.mem.now) in
-          let source = has-opened c.requires.fits.0 (opened.unchanged map) (opened.found map admitted) in
-          subst (λ after. Does (IsBank layout) (Transfer c.args.source c.args.target c.args.amount) before after Poor)
-          (sym (opened.unchanged map))
-          (does-poor c.args.target c.args.amount source c.if-from-amount.true);
-    }
-
 pub overflow_add-more : goal.overflow_add-more
 overflow_add-more g c =
     let one = c.in_ok-from.ensures in

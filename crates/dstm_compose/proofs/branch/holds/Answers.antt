@@ -1,20 +1,10 @@
 use Rattle.std.proofs.Common.{sym, ◌∙◌, ap, subst}
-use Rattle.dstm_model.specs.Layout.{FitsLayout}
-use Rattle.dstm_model.specs.Store.{IsPlain, apply}
+use Rattle.dstm_model.specs.Store.{apply}
 use Rattle.dstm_model.specs.declared.op.Op.{Op}
 use Rattle.dstm_mem.specs.Operates.{IsLook}
-use Rattle.dstm_store.specs.Concerns.{Concerns}
 use Rattle.dstm_compose.specs.Compose.{shows}
-use Rattle.dstm_compose.proofs.Branches.{shows-look, look_fits, look_plain, look_looks}
+use Rattle.dstm_compose.proofs.Branches.{shows-look, look_looks}
 use Rattle.dstm_compose.proofs.branch.holds.Goals as goal
-
-pub run_op-requires-clause-fits : goal.run_op-requires-clause-fits
-run_op-requires-clause-fits g c =
-    subst (FitsLayout c.args.layout.now) (sym c.look_of-op.ensures)
-    (look_fits c.args.layout.now c.args.cond c.requires.fits)
-
-pub run_op-requires-clause-plain : goal.run_op-requires-clause-plain
-run_op-requires-clause-plain g c = subst IsPlain (sym c.look_of-op.ensures) (look_plain c.args.cond)
 
 pub returns-clause-tells : goal.returns-clause-tells
 returns-clause-tells g c map admitted store stands =
@@ -28,8 +18,3 @@ returns-clause-looks g c =
     c.in_ok-reply.ensures.applies.quiet
     (subst (λ (op : Op). IsLook op c.in_ok-reply.reply) (sym c.look_of-op.ensures)
     (look_looks c.args.cond c.in_ok-reply.reply))
-
-pub returns-clause-about : goal.returns-clause-about
-returns-clause-about g c o apart =
-    c.in_ok-reply.ensures.applies.outside o
-    (λ about. apart (subst (λ (op : Op). Concerns c.args.layout.now op o) c.look_of-op.ensures about))

@@ -1,12 +1,7 @@
 use Rattle.std.proofs.Common.{sym, ◌∙◌}
 use Rattle.std.proofs.lemmas.Result.{IfOk-weaker, on_ok_weaker}
-use Rattle.dstm_compose.proofs.Branches.{open-condition, open-free, condition_fits, awaited_of-condition}
+use Rattle.dstm_compose.proofs.Branches.{open-condition, awaited_of-condition}
 use Rattle.dstm_compose.proofs.branch.is_open.Goals as goal
-
-pub holds-requires-clause-fits : goal.holds-requires-clause-fits
-holds-requires-clause-fits g c =
-    condition_fits c.args.layout.now c.args.branch.now c.in-Some.cond c.requires.fits
-    (sym c.in-Some.ensures)
 
 pub returns-in-Some-clause-tells : goal.returns-in-Some-clause-tells
 returns-in-Some-clause-tells g c =
@@ -15,10 +10,6 @@ returns-in-Some-clause-tells g c =
     tells map admitted store stands
     ∙ sym (open-condition store c.args.branch.now c.in-Some.cond (sym c.in-Some.ensures)))
     c.holds.ensures.tells
-
-pub returns-in-None-clause-tells : goal.returns-in-None-clause-tells
-returns-in-None-clause-tells g c map admitted store stands =
-    sym (open-free store c.args.branch.now (sym c.in-None.ensures))
 
 pub returns-in-Some-clause-awaited : goal.returns-in-Some-clause-awaited
 returns-in-Some-clause-awaited g c =

@@ -88,12 +88,6 @@ returns-clause-applies g c =
     (c.requires.ready.found map admitted) (sym c.is_some.ensures ∙ c.if-is_some.false) c.requires.ready.link free
     c.if-number-eq0.false rest))
 
-pub returns-then-is_some-clause-few : goal.returns-then-is_some-clause-few
-returns-then-is_some-clause-few g c = (0, (0, λ p _ _ _. refl))
-
-pub returns-then-number-eq0-clause-few : goal.returns-then-number-eq0-clause-few
-returns-then-number-eq0-clause-few g c = (0, (0, λ p _ _ _. (c.in_ok-number.ensures.looks.quiet tt).sets p))
-
 pub returns-clause-few : goal.returns-clause-few
 returns-clause-few g c =
     let free_is : c.node_object-free.result ≡ free_object (list_begin c.args.layout.now) =

@@ -59,9 +59,6 @@ returns-clause-applies g c =
     (does-remove c.args.key place found c.in_ok-rest.rest c.requires.fits.0 in_map (c.requires.ready.found map admitted)
     c.in-Some.is c.requires.ready.link had))
 
-pub returns-in_default-clause-few : goal.returns-in_default-clause-few
-returns-in_default-clause-few g c = (0, (0, λ p _ _ _. refl))
-
 pub returns-clause-few : goal.returns-clause-few
 returns-clause-few g c =
     let free_is : c.node_object-free.result ≡ free_object (list_begin c.args.layout.now) =

@@ -3,7 +3,7 @@ use Rattle.dstm_model.specs.Objects.{list_begin}
 use Rattle.dstm_list.specs.List.{IsOfList}
 use Rattle.dstm_list.proofs.Steps.{left, node-of_list, next_within, left-less, place-next, place-end}
 use Rattle.dstm_list.proofs.Walked.{walks-by, ready-walked}
-use Rattle.dstm_release_list.proofs.Walking.{Laws, walking-start, walking-on, stepped, stands-held, next-held, at-map}
+use Rattle.dstm_release_list.proofs.Walking.{Laws, walking-on, stepped, stands-held, next-held, at-map}
 use Rattle.dstm_release_list.proofs.Walking.{adds-next, adds-end}
 use Rattle.dstm_release_list.proofs.walk.walk.Given as given
 use Rattle.dstm_release_list.proofs.walk.walk.Goals as goal
@@ -15,12 +15,6 @@ laws g = record {
   exactly = g.met.M.Release.admits_exactly;
   stays = g.met.M.Release.began_stays;
 }
-
-pub loop-last-init : goal.loop-last-init
-loop-last-init g c =
-    let opened = c.in_ok-head.ensures in
-    walking-start g.M.Mem c.args.mem.now c.args.layout.now c.args.key c.in_ok-head.head c.requires.declared
-    opened.visits opened.leads opened.looks
 
 pub visit-requires-in-loop-last-clause-exists : goal.visit-requires-in-loop-last-clause-exists
 visit-requires-in-loop-last-clause-exists g c =

@@ -1,4 +1,4 @@
-use Rattle.std.proofs.Common.{rules, ◌≡◌, ℕ, ◌++◌, length, List, [], ◌∷◌, Option, Some, slice_set, ap, sym, ◌∙◌}
+use Rattle.std.proofs.Common.{rules, ◌≡◌, ℕ, ◌++◌, length, List, [], ◌∷◌, Some, slice_set, ap, sym, ◌∙◌}
 use Rattle.std.proofs.Math.Seq.{set-append_seam}
 use Rattle.std.specs.Option.{option_map}
 use Rattle.dstm_report.specs.declared.report.Row.{Row}
@@ -18,6 +18,3 @@ returns-in-Some c =
     ∙ ap (λ (at : ℕ). slice_set (rows ++ c.blank.result ∷ []) at row) last
     ∙ last_is rows c.blank.result row in
     ap (option_map (λ (more : Row). rows ++ more ∷ [])) c.in-Some.ensures ∙ ap (λ (all : List Row). Some all) (sym put)
-
-pub returns-in-None : goal.returns-in-None
-returns-in-None c = search rules

@@ -73,10 +73,3 @@ returns-clause-does g c map admitted =
     let all : length task.ops ≡ c.loop-op.op-index = omega arith in
     does-all task c.loop-op.op-index _ _ c.loop-op.replies (omega (arith, all))
     (c.loop-op.invariant.done map admitted)
-
-pub returns-clause-audits : goal.returns-clause-audits
-returns-clause-audits g c o audits =
-    let ops = c.args.ops.now in
-    let all : length ops ≡ c.loop-op.op-index = omega arith in
-    let whole = take_all c.loop-op.op-index ops (omega (arith, all)) in
-    c.loop-op.invariant.audits (subst (λ os. Contains os Total) (sym whole) audits.0) o audits.1

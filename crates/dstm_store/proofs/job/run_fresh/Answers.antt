@@ -3,12 +3,8 @@ use Rattle.dstm_model.specs.declared.value.Val.{Val}
 use Rattle.dstm_model.specs.declared.op.Op.{Op}
 use Rattle.dstm_mem.specs.Memory.{with_set}
 use Rattle.dstm_store.specs.Job.{DoesAll}
-use Rattle.dstm_store.proofs.Bodies.{ready-fresh, of-fresh}
+use Rattle.dstm_store.proofs.Bodies.{of-fresh}
 use Rattle.dstm_store.proofs.job.run_fresh.Goals as goal
-
-pub run_all-requires-clause-ready : goal.run_all-requires-clause-ready
-run_all-requires-clause-ready g c =
-    ready-fresh g.M.Mem c.args.layout.now c.args.mem.now g.met.M.Mem.admitted_length c.requires.fresh c.requires.lawful
 
 pub returns-clause-right : goal.returns-clause-right
 returns-clause-right g c map admitted =

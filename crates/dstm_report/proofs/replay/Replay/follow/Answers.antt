@@ -1,28 +1,9 @@
-use Rattle.std.proofs.Common.{◌≡◌, ap, sym, subst, refl}
-use Rattle.std.specs.Prelude.{IsSome}
-use Rattle.std.proofs.lemmas.Bool.{iff_false}
+use Rattle.std.proofs.Common.{◌≡◌, ap}
 use Rattle.dstm_report.specs.declared.replay.Replay.{Replay}
-use Rattle.dstm_report.specs.Lawful.{first_job}
 use Rattle.dstm_report.specs.Turns.{Turning}
 use Rattle.dstm_report.proofs.Following.{OwnAnswer, HasPassed, has_next, next_fits, left_fit, left_small}
-use Rattle.dstm_report.proofs.Following.{not_without_job, not_of_line, not_with_answer, good_row, followed_more}
+use Rattle.dstm_report.proofs.Following.{good_row, followed_more}
 use Rattle.dstm_report.proofs.replay.Replay.follow.Goals as goal
-use Rattle.dstm_report.proofs.replay.Replay.follow.Goals.{then-job-row-via-then-job-row}
-use Rattle.dstm_report.proofs.replay.Replay.follow.Goals.{then-job-row-via-else-job-row+then-not-is_behind}
-
-pub returns-in_default : goal.returns-in_default
-returns-in_default c =
-    not_without_job c.args.workload.now c.args.before.now c.args.row.now c.args.self.now c.requires.followed
-    (sym c.in_default.ensures)
-
-pub returns-then-job-row : goal.returns-then-job-row
-returns-then-job-row c =
-    let h = has_next c.args.row.now c.requires.valid c.requires.followed c.in-Some.ensures in
-    elim c.then-job-row.branch [
-      | then-job-row-via-then-job-row w ↦ not_of_line h w.if-job-row.true
-      | then-job-row-via-else-job-row+then-not-is_behind w ↦
-          λ good. iff_false w.is_behind.ensures w.if-not-is_behind.true good.number
-    ]
 
 pub answers-requires-clause-job : goal.answers-requires-clause-job
 answers-requires-clause-job c =
@@ -35,19 +16,6 @@ answers-requires-clause-left c =
 pub answers-requires-clause-small : goal.answers-requires-clause-small
 answers-requires-clause-small c =
     left_small c.args.workload.now c.args.before.now c.args.self.now c.requires.valid c.requires.followed
-
-pub returns-then-not-branch : goal.returns-then-not-branch
-returns-then-not-branch c =
-    let h = has_next c.args.row.now c.requires.valid c.requires.followed c.in-Some.ensures in
-    not_with_answer h
-    (λ own. iff_false c.in_ok-answers.ensures.answer c.if-not-branch.true
-    (simp c.as_slice.ensures.value own))
-
-pub pass-requires : goal.pass-requires
-pass-requires c =
-    let h = has_next c.args.row.now c.requires.valid c.requires.followed c.in-Some.ensures in
-    subst (λ (t : Turning). IsSome (first_job c.args.row.now.worker t.left)) (sym c.in_ok-answers.ensures.turns)
-    (rw h.first refl)
 
 pub returns : goal.returns
 returns c =
