@@ -1,17 +1,9 @@
-use Rattle.std.proofs.Common.{List, arith, refl, rules, ap, subst, ◌∙◌}
+use Rattle.std.proofs.Common.{List, ap, subst, ◌∙◌}
 use Rattle.dstm_model.specs.declared.value.Val.{Val}
 use Rattle.dstm_tables.specs.Founders.{seen_by}
 use Rattle.dstm_crew.specs.Opened.{IsOpened}
 use Rattle.dstm_crew.proofs.Closes.{adds_alone, can_run, least_came, opened_for}
-use Rattle.dstm_crew.specs.declared.progress.Progress.{Progress}
-use Rattle.dstm_crew.specs.Playing.{WasBrokenOff}
-use Rattle.dstm_crew.proofs.Played.{nothing_played}
 use Rattle.dstm_crew.proofs.alone.play_alone.Goals as goal
-
-pub open_table-requires-clause-few : goal.open_table-requires-clause-few
-open_table-requires-clause-few g c =
-    let most = c.requires.can.begins.valid.workers in
-    omega (arith, c.count_waiting-waiting.ensures.few, most)
 
 pub run_alone-requires-clause-can : goal.run_alone-requires-clause-can
 run_alone-requires-clause-can g c =
@@ -25,31 +17,6 @@ run_alone-requires-clause-can g c =
     (subst (λ (vs : List Val). IsOpened workload options c.count_waiting-waiting.result.count vs c.in_ok-table.table
     c.in_ok-table.founder c.in_ok-table.caller) (ap (λ v. v.items) c.replace-values.ensures.value)
     c.in_ok-table.ensures.opened))
-
-pub returns-in_err-table-clause-broken_off : goal.returns-in_err-table-clause-broken_off
-returns-in_err-table-clause-broken_off g c =
-    let left : Progress = record c.args.progress.now {
-      values = c.replace-values.new.dest;
-      zeros = c.open_table.new.zeros;
-    } in
-    let broken = nothing_played c.args.number c.args.progress.now left refl refl in search (rules, broken)
-
-pub returns-in_err-left-clause-broken_off : goal.returns-in_err-left-clause-broken_off
-returns-in_err-left-clause-broken_off g c =
-    let ran = c.run_alone.ensures.ran in
-    let left : Progress = record c.args.progress.now {
-      values = c.replace-values.new.dest;
-      turns = c.run_alone.new.turns;
-      rows = c.run_alone.new.rows;
-      zeros = c.open_table.new.zeros;
-    } in
-    let broken : WasBrokenOff c.args.number c.args.progress.now left = record {
-      none = refl;
-      unfinished = ran.now;
-      rows_are = ran.goes.rows_are;
-      in_round = ran.goes.in_round;
-    } in
-    search (rules, broken)
 
 pub returns-clause-played : goal.returns-clause-played
 returns-clause-played g c =

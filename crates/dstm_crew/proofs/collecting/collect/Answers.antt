@@ -25,10 +25,6 @@ pub push_row-requires-clause-done : goal.push_row-requires-clause-done
 push_row-requires-clause-done c =
     (turn (goal.at.push_row-requires-clause-done c).After-push_row-arg-1).some
 
-pub push_row-requires-clause-fit : goal.push_row-requires-clause-fit
-push_row-requires-clause-fit c =
-    (turn (goal.at.push_row-requires-clause-fit c).After-push_row-arg-1).fit
-
 pub push_row-requires-clause-room : goal.push_row-requires-clause-room
 push_row-requires-clause-room c =
     let t = turn (goal.at.push_row-requires-clause-room c).After-push_row-arg-1 in

@@ -1,4 +1,4 @@
-use Rattle.std.proofs.Common.{List, length, refl, sym, ap, subst, arith, rules}
+use Rattle.std.proofs.Common.{List, length, sym, ap, subst, arith}
 use Rattle.std.proofs.lemmas.List.{length-map}
 use Rattle.dstm_model.specs.declared.value.Val.{Val}
 use Rattle.dstm_report.specs.Turns.{Turning}
@@ -6,30 +6,11 @@ use Rattle.dstm_crew.specs.declared.progress.Progress.{Progress}
 use Rattle.dstm_crew.specs.declared.share.Share.{Share}
 use Rattle.dstm_crew.specs.Collecting.{AreRunBy, CanCollect, HasCollected}
 use Rattle.dstm_crew.specs.Shares.{WereRun, workers_of}
-use Rattle.dstm_crew.proofs.Played.{nothing_played}
 use Rattle.dstm_crew.proofs.Stood.{can_collect, has_played, run_by}
 use Rattle.dstm_crew.proofs.Workers.{workers_few, workers_some}
 use Rattle.dstm_crew.proofs.playing.play_parallel.Given.{Over}
 use Rattle.dstm_crew.proofs.playing.play_parallel.Goals.{In_ok-shares-2}
 use Rattle.dstm_crew.proofs.playing.play_parallel.Goals as goal
-
-pub returns-in_err-shares-clause-broken_off : goal.returns-in_err-shares-clause-broken_off
-returns-in_err-shares-clause-broken_off g c =
-    let broken = nothing_played c.args.number c.args.progress.now c.args.progress.now refl refl in search (rules, broken)
-
-pub returns-in_err-next-clause-broken_off : goal.returns-in_err-next-clause-broken_off
-returns-in_err-next-clause-broken_off g c =
-    let broken = nothing_played c.args.number c.args.progress.now c.args.progress.now refl refl in search (rules, broken)
-
-pub returns-in_err-shares-2-clause-broken_off : goal.returns-in_err-shares-2-clause-broken_off
-returns-in_err-shares-2-clause-broken_off g c =
-    let left : Progress = record c.args.progress.now {
-      values = c.replace-values.new.dest;
-      rounds = c.run_shares.new.rounds;
-      zeros = c.run_shares.new.zeros;
-    } in
-    let broken = nothing_played c.args.number c.args.progress.now left c.in_err-shares-2.ensures.none refl in
-    search (rules, broken)
 
 pub run_shares-requires-clause-some : goal.run_shares-requires-clause-some
 run_shares-requires-clause-some g c = λ _ _.

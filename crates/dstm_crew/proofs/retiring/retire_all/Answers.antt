@@ -1,21 +1,11 @@
-use Rattle.std.proofs.Common.{◌≡◌, ◌++◌, ◌∷◌, List, [], map, ap, rules, subst, sym, ◌∙◌}
+use Rattle.std.proofs.Common.{◌++◌, ◌∷◌, List, [], map, ap, rules, subst, sym, ◌∙◌}
 use Rattle.std.proofs.lemmas.List.{map_push}
 use Rattle.std.specs.Vec.Iter.{into_iter_items}
 use Rattle.dstm_crew.specs.declared.worker.Worker.{Worker}
 use Rattle.dstm_crew.specs.declared.share.Share.{Share}
 use Rattle.dstm_crew.specs.Seats.{share_of}
-use Rattle.dstm_crew.proofs.Taking.{Takes, takes_at_first, takes_one}
+use Rattle.dstm_crew.proofs.Taking.{Takes, takes_one}
 use Rattle.dstm_crew.proofs.retiring.retire_all.Goals as goal
-
-pub loop-worker-init : goal.loop-worker-init
-loop-worker-init c =
-    let workers = c.args.workers.items in
-    let all : into_iter_items c.into_iter-worker-iterator.result ≡ workers = search rules in (
-      subst (λ (ws : List Worker). Takes c.args.table.now workers [] ws c.args.founder.now) (sym all)
-          (takes_at_first c.args.table.now workers c.args.founder.now c.requires.founder c.requires.rest),
-      search rules,
-      search rules,
-    )
 
 pub loop-worker-preserved : goal.loop-worker-preserved
 loop-worker-preserved c =

@@ -8,7 +8,7 @@ use Rattle.dstm_records.specs.Rounds.{locators_for}
 use Rattle.dstm_records.proofs.Making.{is_made}
 use Rattle.dstm_crew.specs.declared.share.Share.{Share}
 use Rattle.dstm_crew.specs.declared.worker.Worker.{Worker}
-use Rattle.dstm_crew.specs.Seats.{HasBack, HasCome, HasEnded, RestsAt, share_of}
+use Rattle.dstm_crew.specs.Seats.{HasBack, HasEnded, RestsAt, share_of}
 use Rattle.dstm_crew.specs.Shares.{asked_of, most_places}
 use Rattle.dstm_crew.specs.Workers.{IsReady}
 use Rattle.dstm_crew.proofs.Closed.{Closes, was_made, were_run, written_back}
@@ -23,10 +23,6 @@ run_all-requires-clause-ready g c κs within =
     subst (All (IsReady workload table)) (sym c.deref_mut.ensures.value)
     (all_ready table workload c.args.shares.items workers c.in_ok-table.ensures.told.layout
     c.in_ok-workers.ensures.shares c.in_ok-workers.ensures.new c.requires.shares)
-
-pub run_all-requires-clause-come : goal.run_all-requires-clause-come
-run_all-requires-clause-come g c κs within =
-    subst (All (HasCome c.args.play.now.options.now)) (sym c.deref_mut.ensures.value) c.in_ok-workers.ensures.come
 
 pub retire_all-requires-clause-rest : goal.retire_all-requires-clause-rest
 retire_all-requires-clause-rest g c =

@@ -92,15 +92,6 @@ loop-turns-preserved g c =
       λ none. c.give_up.ensures.keeps ∙ (c.sweep.ensures.keeps none ∙ c.loop-turns.invariant.3 none),
     )
 
-pub returns-in-Done-clause-keeps : goal.returns-in-Done-clause-keeps
-returns-in-Done-clause-keeps g c none = c.sweep.ensures.keeps none ∙ c.loop-turns.invariant.3 none
-
-pub returns-in-Spent-clause-keeps : goal.returns-in-Spent-clause-keeps
-returns-in-Spent-clause-keeps g c none = c.sweep.ensures.keeps none ∙ c.loop-turns.invariant.3 none
-
-pub returns-in_default-clause-keeps : goal.returns-in_default-clause-keeps
-returns-in_default-clause-keeps g c none = c.sweep.ensures.keeps none ∙ c.loop-turns.invariant.3 none
-
 pub returns-in_default-give_up-clause-keeps : goal.returns-in_default-give_up-clause-keeps
 returns-in_default-give_up-clause-keeps g c none =
     c.give_up.ensures.keeps ∙ (c.sweep.ensures.keeps none ∙ c.loop-turns.invariant.3 none)

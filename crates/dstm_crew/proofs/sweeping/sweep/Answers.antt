@@ -47,6 +47,3 @@ returns-clause-swept g c first before begun can sweeps =
     workload.workers c.loop-worker.swept c.loop-worker.invariant.4
     (subst (λ n. Sweeps workload c.args.number first c.loop-worker.caller before c.loop-worker.rows.items
     c.loop-worker.turns n (is_done c.loop-worker.swept)) all (c.loop-worker.invariant.3 first before begun can sweeps))
-
-pub returns-in-Spent-clause-keeps : goal.returns-in-Spent-clause-keeps
-returns-in-Spent-clause-keeps g c none = c.try_first.ensures.keeps none ∙ c.loop-worker.invariant.5 none

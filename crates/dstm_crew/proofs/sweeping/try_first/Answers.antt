@@ -5,7 +5,7 @@ use Rattle.dstm_report.specs.Turns.{Turning}
 use Rattle.dstm_report.proofs.Rising.{first_own, length-without_first}
 use Rattle.dstm_tables.specs.Styles.{CanTry}
 use Rattle.dstm_crew.specs.Releases.{releases}
-use Rattle.dstm_crew.proofs.Worked.{can_try, not_loose}
+use Rattle.dstm_crew.proofs.Worked.{can_try}
 use Rattle.dstm_crew.specs.Alone.{MayStep, Sweeps}
 use Rattle.dstm_crew.proofs.Sweeps.{job_is, may_on, step_blocked, step_done, step_none, step_spent, third_of, turns_after}
 use Rattle.dstm_crew.proofs.sweeping.try_first.Given.{Over}
@@ -113,21 +113,3 @@ returns-in-Spent-clause-stepped g c first before begun some can sweeps =
     let turn : first_job c.args.worker c.args.turns.now.left ≡ Some job = search rules in
     step_spent c.args.play.now.workload.now c.args.number c.args.table.now first before begun can c.args.caller.now c.try_alone.new.caller
     c.args.rows.now.items c.args.turns.now c.args.worker some job c.requires.worker turn c.in-Spent.ensures.tried sweeps
-
-pub returns-in-Done-clause-keeps : goal.returns-in-Done-clause-keeps
-returns-in-Done-clause-keeps g c none =
-    c.try_alone.ensures.keeps
-    (not_loose c.args.play.now.options.now c.args.play.now.workload.now.version c.style_for-style.result
-    c.requires.may.valid.newest c.style_for-style.ensures none)
-
-pub returns-in-Blocked-clause-keeps : goal.returns-in-Blocked-clause-keeps
-returns-in-Blocked-clause-keeps g c none =
-    c.try_alone.ensures.keeps
-    (not_loose c.args.play.now.options.now c.args.play.now.workload.now.version c.style_for-style.result
-    c.requires.may.valid.newest c.style_for-style.ensures none)
-
-pub returns-in-Spent-clause-keeps : goal.returns-in-Spent-clause-keeps
-returns-in-Spent-clause-keeps g c none =
-    c.try_alone.ensures.keeps
-    (not_loose c.args.play.now.options.now c.args.play.now.workload.now.version c.style_for-style.result
-    c.requires.may.valid.newest c.style_for-style.ensures none)

@@ -1,9 +1,6 @@
-use Rattle.std.proofs.Common.{◌∙◌, arith, refl, rules}
-use Rattle.dstm_crew.proofs.Retrying.{fewer_left, waited_first, waited_more, waited_done, waited_spent, waited_blocked}
+use Rattle.std.proofs.Common.{◌∙◌, rules}
+use Rattle.dstm_crew.proofs.Retrying.{fewer_left, waited_more, waited_done, waited_spent, waited_blocked}
 use Rattle.dstm_crew.proofs.trying.try_job.Goals as goal
-
-pub loop-finished-init : goal.loop-finished-init
-loop-finished-init c = (omega arith, waited_first c.args.caller.now c.requires.rest, λ _. refl)
 
 pub returns-in-Done-clause-done : goal.returns-in-Done-clause-done
 returns-in-Done-clause-done c =
@@ -32,12 +29,3 @@ loop-finished-preserved c = (
       c.in-Again.ensures.tried,
   λ other. c.attempt_job.ensures.keeps other ∙ c.loop-finished.invariant.2 other,
 )
-
-pub returns-in-Done-clause-keeps : goal.returns-in-Done-clause-keeps
-returns-in-Done-clause-keeps c other = c.attempt_job.ensures.keeps other ∙ c.loop-finished.invariant.2 other
-
-pub returns-in-Spent-clause-keeps : goal.returns-in-Spent-clause-keeps
-returns-in-Spent-clause-keeps c other = c.attempt_job.ensures.keeps other ∙ c.loop-finished.invariant.2 other
-
-pub returns-in-Blocked-clause-keeps : goal.returns-in-Blocked-clause-keeps
-returns-in-Blocked-clause-keeps c other = c.attempt_job.ensures.keeps other ∙ c.loop-finished.invariant.2 other

@@ -86,13 +86,6 @@ returns-in-Err-clause-run g c =
     (subst (λ (s : Style). HasLeft s workload.layout job n m c.in-Err.field-0) c.style_for-style.ensures c.in-Err.ensures.left)
     (next_is workload.jobs places finished job place more at is)
 
-pub returns-in-Err-clause-keeps : goal.returns-in-Err-clause-keeps
-returns-in-Err-clause-keeps g c none =
-    c.try_job.ensures.keeps
-    (not_loose c.args.options.now c.args.workload.now.version c.style_for-style.result c.requires.valid.newest
-    c.style_for-style.ensures none)
-    ∙ c.loop-at.invariant.5 none
-
 pub returns-clause-run : goal.returns-clause-run
 returns-clause-run g c =
     all_done c.args.workload.now c.args.options.now c.args.self.now _ c.requires.ready.none_begun c.style_for-style.result
