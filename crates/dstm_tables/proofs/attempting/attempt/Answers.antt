@@ -1,11 +1,11 @@
-use Rattle.std.proofs.Common.{◌∙◌, None, ap, refl, subst, sym}
+use Rattle.std.proofs.Common.{None, refl, subst, sym}
 use Rattle.dstm_engine.specs.Endings as dstm
 use Rattle.dstm_engine.specs.declared.error.Ended as dstm_error
 use Rattle.dstm_tl2_engine.specs.Endings as tl2
 use Rattle.dstm_tl2_engine.specs.declared.error.TlEnded as tl2_error
 use Rattle.dstm_tables.specs.declared.tables.Caller.{Caller}
 use Rattle.dstm_tables.specs.declared.tables.Caller.TheVariants.{Dstm, Tl2}
-use Rattle.dstm_tables.specs.Callers.{AtRest, let_go}
+use Rattle.dstm_tables.specs.Callers.{AtRest}
 use Rattle.dstm_tables.specs.Law.{keeps}
 use Rattle.dstm_tables.specs.Tries.{Did, IsSpentFrom, WasKept}
 use Rattle.dstm_tables.proofs.ByTl2.{tl2_did, tl2_kept, tl2_spent}
@@ -41,15 +41,6 @@ returns-in-Err-Spent-clause-ended g c =
     subst (λ (k : Caller). AtRest k → IsSpentFrom k (Dstm n)) (sym c.in-Dstm.is)
     (λ rest. is_spent_from k n rest was) c.requires.rest
 
-pub returns-in-Ok-clause-keeps : goal.returns-in-Ok-clause-keeps
-returns-in-Ok-clause-keeps g c = c.attempt.ensures.keeps ∙ ap let_go (sym c.in-Dstm.is)
-
-pub returns-in-Err-Again-clause-keeps : goal.returns-in-Err-Again-clause-keeps
-returns-in-Err-Again-clause-keeps g c = c.attempt.ensures.keeps ∙ ap let_go (sym c.in-Dstm.is)
-
-pub returns-in-Err-Spent-clause-keeps : goal.returns-in-Err-Spent-clause-keeps
-returns-in-Err-Spent-clause-keeps g c = c.attempt.ensures.keeps ∙ ap let_go (sym c.in-Dstm.is)
-
 -- ---- by TL2
 
 pub returns-in-Ok-tl_attempt-clause-done : goal.returns-in-Ok-tl_attempt-clause-done
@@ -77,12 +68,3 @@ returns-in-Err-Spent-tl_attempt-clause-ended g c =
     c.in-Err-Spent-tl_attempt.ensures.ended in
     subst (λ (k : Caller). AtRest k → IsSpentFrom k (Tl2 n)) (sym c.in-Tl2.is)
     (λ rest. tl2_spent k n rest was) c.requires.rest
-
-pub returns-in-Ok-tl_attempt-clause-keeps : goal.returns-in-Ok-tl_attempt-clause-keeps
-returns-in-Ok-tl_attempt-clause-keeps g c = ap let_go (sym c.in-Tl2.is)
-
-pub returns-in-Err-Again-tl_attempt-clause-keeps : goal.returns-in-Err-Again-tl_attempt-clause-keeps
-returns-in-Err-Again-tl_attempt-clause-keeps g c = ap let_go (sym c.in-Tl2.is)
-
-pub returns-in-Err-Spent-tl_attempt-clause-keeps : goal.returns-in-Err-Spent-tl_attempt-clause-keeps
-returns-in-Err-Spent-tl_attempt-clause-keeps g c = ap let_go (sym c.in-Tl2.is)

@@ -30,15 +30,3 @@ pub returns-in-Blocked-clause-tried : goal.returns-in-Blocked-clause-tried
 returns-in-Blocked-clause-tried c =
     stood_alone c.args.style c.args.layout.now c.args.job.now c.args.caller.now c.attempt_job.new.caller c.requires.only
     c.requires.law c.in-Blocked.ensures.tried
-
-pub unreachable-requires : goal.unreachable-requires
-unreachable-requires c = none_kept c.args.caller.now c.attempt_job.new.caller c.requires.only c.in-Again.ensures.tried
-
-pub returns-in-Done-clause-keeps : goal.returns-in-Done-clause-keeps
-returns-in-Done-clause-keeps c = c.attempt_job.ensures.keeps
-
-pub returns-in-Blocked-clause-keeps : goal.returns-in-Blocked-clause-keeps
-returns-in-Blocked-clause-keeps c = c.attempt_job.ensures.keeps
-
-pub returns-in-Spent-clause-keeps : goal.returns-in-Spent-clause-keeps
-returns-in-Spent-clause-keeps c = c.attempt_job.ensures.keeps

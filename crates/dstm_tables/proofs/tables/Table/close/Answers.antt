@@ -1,6 +1,5 @@
-use Rattle.std.proofs.Common.{◌∙◌, ap, subst, sym}
+use Rattle.std.proofs.Common.{◌∙◌, ap, sym}
 use Rattle.dstm_engine.specs.Tables.{Recorded}
-use Rattle.dstm_store.specs.Whole.{IsLawful}
 use Rattle.dstm_tl2_engine.specs.Tables.{TlRecorded}
 use Rattle.dstm_tables.specs.declared.tables.Round.TheVariants as round
 use Rattle.dstm_tables.specs.Tells.{values_of}
@@ -18,15 +17,3 @@ returns-in_ok-values-in-Tl2-founder-2-clause-values c =
     let closed = c.in_ok-values-in-Tl2-founder-2.ensures in
     closed.values ∙ tl2_values (record { terms = c.in-Tl2.stm.terms; log = c.in-Tl2-founder-2.founder.view.log })
     ∙ ap (λ (r : TlRecorded _). values_of (round.Tl2 r)) (sym closed.record)
-
-pub returns-in_ok-values-in-Dstm-founder-clause-lawful : goal.returns-in_ok-values-in-Dstm-founder-clause-lawful
-returns-in_ok-values-in-Dstm-founder-clause-lawful c =
-    let closed = c.in_ok-values-in-Dstm-founder.ensures in
-    subst (λ (r : Recorded _). IsLawful r.terms.law.value.layout c.in_ok-values-in-Dstm-founder.values.items) (sym closed.record)
-    closed.lawful
-
-pub returns-in_ok-values-in-Tl2-founder-2-clause-lawful : goal.returns-in_ok-values-in-Tl2-founder-2-clause-lawful
-returns-in_ok-values-in-Tl2-founder-2-clause-lawful c =
-    let closed = c.in_ok-values-in-Tl2-founder-2.ensures in
-    subst (λ (r : TlRecorded _). IsLawful r.terms.law.value.layout c.in_ok-values-in-Tl2-founder-2.values.items) (sym closed.record)
-    closed.lawful
