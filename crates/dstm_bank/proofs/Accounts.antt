@@ -7,7 +7,7 @@ use Rattle.std.proofs.lemmas.List.Sums.{sum_by_more, sum_by_more_le}
 use Rattle.std.proofs.Math.Nat.{mul-le-mul_left}
 use Rattle.dstm_model.specs.declared.value.Val.{Val}
 use Rattle.dstm_model.specs.declared.layout.Layout.{Layout}
-use Rattle.dstm_model.specs.declared.op.Op.TheVariants.{Transfer, Balance, Total}
+use Rattle.dstm_model.specs.declared.op.Op.TheVariants.{Transfer, Total}
 use Rattle.dstm_model.specs.declared.reply.Reply.TheVariants.{Moved, Poor, Number}
 use Rattle.dstm_model.specs.Layout.{IsValid}
 use Rattle.dstm_model.specs.Map.{value_at, no_value}
@@ -121,10 +121,6 @@ does-moved {layout} {map} {s} {t} {from} {to} x in_map source target other enoug
     rw (← from_is, ← to_is, rich) (refl, after)
 
 -- ---- a balance, and the sum of all
-
-pub does-balance : {layout : Layout} {map : List Val} {a : ℕ} {v : Val} → HasAccount layout map a v →
-    Does (IsBank layout) (Balance a) map map (Number v.low)
-does-balance has store bank = (ap Number (sym (balance_is bank has)), bank)
 
 -- one account more
 pub sum_first-more : {layout : Layout} {map : List Val} {store : Store} {a : ℕ} {v : Val} →

@@ -1,5 +1,5 @@
 -- What a whole parse of a table's options gives, and when it fails.
-use Rattle.std.proofs.Common.{◌≡◌, ◌≢◌, ◌∙◌, ◌||◌, ◌&&◌, not, Bool, true, false, cond, List, [], ◌∷◌, fold, find, map, String, Global, string_bytes, Option, Some, None, is_some, is_ok, option_map, option_and_then, slice_get, Result, IfOk, IfSome, IsErrOf, ok_or, codes, bytes_eq, refl, sym, ap, ap₂, subst, true≢false}
+use Rattle.std.proofs.Common.{◌≡◌, ◌≢◌, ◌∙◌, ◌||◌, ◌&&◌, not, Bool, true, false, cond, List, [], ◌∷◌, fold, find, map, String, Global, string_bytes, Option, Some, None, is_some, is_ok, option_map, option_and_then, slice_get, Result, IfOk, IsErrOf, ok_or, codes, bytes_eq, refl, sym, ap, ap₂, subst, true≢false}
 use Rattle.std.specs.List.{list_any}
 use Rattle.std.specs.Option.{option_or}
 use Rattle.std.proofs.lemmas.Slice.Eq.{bytes_eq-Decides}
@@ -174,9 +174,3 @@ pub answer_usage : {X : Type 0} (r x : Option X) (res : Result X WordsError) →
     IsErrOf res Usage → x ≡ None
 answer_usage None x res is same usage = sym same
 answer_usage (Some v) x res is same usage = absurd (true≢false (ap is_ok (sym is ∙ usage)))
-
--- what holds of the value holds of the answer
-pub answer_holds : {X : Type 0} (P : X → Type 0) (r : Option X) (res : Result X WordsError) → res ≡ ok_or r Usage →
-    IfSome r P → IfOk res P
-answer_holds P (Some v) res is holds = subst (λ res. IfOk res P) (sym is) holds
-answer_holds P None res is holds = subst (λ res. IfOk res P) (sym is) tt

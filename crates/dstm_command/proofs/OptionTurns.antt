@@ -22,10 +22,6 @@ pub first_fails : (a b : Kinds) → fails a ≡ true → fails (or_else a b) ≡
 first_fails [] b e = absurd (true≢false (sym e))
 first_fails (k ∷ ks) b e = refl
 
-pub second_fails : (a b : Kinds) → fails b ≡ true → fails (or_else a b) ≡ true
-second_fails [] b e = e
-second_fails (k ∷ ks) b e = refl
-
 -- an option that is used once more
 abbrev pub repeats : Bool → Kinds
 repeats again = or_else (if again && not false then ArgumentConflict ∷ [] else []) []

@@ -12,10 +12,10 @@ use Rattle.dstm_model.specs.declared.op.Which.{Which}
 use Rattle.dstm_model.specs.declared.op.Cond.{Cond}
 use Rattle.dstm_model.specs.declared.op.Cond.TheVariants as cond
 use Rattle.dstm_model.specs.declared.op.Op.{Op}
-use Rattle.dstm_model.specs.declared.op.Op.TheVariants.{Total, Await}
+use Rattle.dstm_model.specs.declared.op.Op.TheVariants.{Await}
 use Rattle.dstm_model.specs.declared.reply.Reply.{Reply}
-use Rattle.dstm_model.specs.Layout.{FitsLayout, FitsCond}
-use Rattle.dstm_model.specs.Store.{Store, IsPlain, apply, yes_or_no, is_member}
+use Rattle.dstm_model.specs.Layout.{FitsLayout}
+use Rattle.dstm_model.specs.Store.{Store, apply, yes_or_no, is_member}
 use Rattle.dstm_model.specs.Job.{is_open, holds_in}
 use Rattle.dstm_mem.specs.Operates.{IsLook}
 use Rattle.dstm_store.specs.Concerns.{Concerns}
@@ -29,14 +29,6 @@ pub shows-look : (c : Cond) (store : Store) → shows c (apply (look_of c) store
 shows-look (cond.Balance account least) store = refl
 shows-look (cond.Key which key) store = shows-yes which key (is_member which key store)
 
-pub look_fits : (layout : Layout) (c : Cond) → FitsCond layout c → FitsLayout layout (look_of c)
-look_fits layout (cond.Balance account least) fits = fits.0
-look_fits layout (cond.Key which key) fits = fits
-
-pub look_plain : (c : Cond) → IsPlain (look_of c)
-look_plain (cond.Balance account least) = tt
-look_plain (cond.Key which key) = tt
-
 pub look_looks : (c : Cond) (reply : Reply) → IsLook (look_of c) reply
 look_looks (cond.Balance account least) reply = tt
 look_looks (cond.Key which key) reply = tt
@@ -45,17 +37,6 @@ pub open-condition : (store : Store) (branch : List Op) (c : Cond) → condition
     is_open store branch ≡ holds_in c store
 open-condition store (Await d ∷ ops) c is = ap (λ (x : Cond). holds_in x store) cc
 open-condition store ops c is = absurd (cc is)
-
-pub open-free : (store : Store) (branch : List Op) → condition_of branch ≡ None → is_open store branch ≡ true
-open-free store (Await d ∷ ops) is = absurd (cc is)
-open-free store ops is = refl
-
-pub condition_fits : (layout : Layout) (branch : List Op) (c : Cond) → All (FitsLayout layout) branch →
-    condition_of branch ≡ Some c → FitsCond layout c
-condition_fits layout (Await d ∷ ops) c fits is =
-    let same : d ≡ c = cc in
-    subst (FitsCond layout) same (fits 0 Total (omega arith))
-condition_fits layout ops c fits is = absurd (cc is)
 
 -- ---- the branches that are left
 

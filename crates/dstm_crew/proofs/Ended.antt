@@ -45,11 +45,6 @@ module _ (workload : Workload) (options : Options) where
     };
   }
 
-  pub same_asked : (old new : Worker) → HasRun workload options old new → asked_of (share_of new) ≡ asked_of (share_of old)
-  same_asked old new ran =
-      ap (λ (n : ℕ). let asked : ℕ × List ℕ = (n, new.places.items) in asked) ran.number
-      ∙ ap (λ (ps : List ℕ). let asked : ℕ × List ℕ = (old.number, ps) in asked) ran.places
-
   -- ---- as a longer log tells
 
   share_stays : (old new : Round) (share : Share) (c : ℕ) → IsRun new → IsPast old new → SameOwn c old new →

@@ -21,9 +21,6 @@ head_past (s ∷ shares) [] k past = refl
 head_past (s ∷ shares) (n ∷ next) zero past = absurd (omega (arith, past))
 head_past (s ∷ shares) (n ∷ next) (suc k) past = head_past shares next k (omega (arith, past))
 
-pub least_first : (shares : List Share) (next : List ℕ) → IsLeastBefore shares next 0 None
-least_first shares next = λ k within. absurd (omega (arith, within))
-
 nothing_less : (n : ℕ) (o : Option ℕ) → o ≡ None → IfSome o (λ m. n ≤ m)
 nothing_less n None is = tt
 nothing_less n (Some m) is = absurd (none-some m (sym is))

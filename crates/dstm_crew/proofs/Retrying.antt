@@ -1,5 +1,5 @@
 -- Attempts at a job, one after the other.
-use Rattle.std.proofs.Common.{◌≡◌, ◌∙◌, ◌⊎◌, ◌-◌, ◌<◌, ◌≤◌, ◌∷◌, ℕ, List, refl, ap, subst, sym, inl, inr, arith}
+use Rattle.std.proofs.Common.{◌≡◌, ◌∙◌, ◌⊎◌, ◌-◌, ◌<◌, ◌≤◌, ◌∷◌, ℕ, List, ap, subst, sym, inl, inr, arith}
 use Rattle.std.proofs.lemmas.Bool.{cases_eq}
 use Rattle.dstm_model.specs.declared.layout.Layout.{Layout}
 use Rattle.dstm_model.specs.Answers.{Committed}
@@ -12,20 +12,13 @@ use Rattle.dstm_tables.specs.Jobs.{DidJob, StoodAt, WasNotWasted}
 use Rattle.dstm_crew.specs.Tries.{HasDone, HasNoneLeft, NoneWastedSince, StaysBlocked}
 use Rattle.dstm_tables.specs.Tells.{attempts_of}
 use Rattle.dstm_tables.specs.Tries.{GoesOn, IsSpentFrom, OneMore, WasKept}
-use Rattle.dstm_tables.proofs.Staying.{few_begun, goes_nowhere, goes_on, same_attempts, was_later}
+use Rattle.dstm_tables.proofs.Staying.{few_begun, goes_on, same_attempts, was_later}
 
 -- after attempts that others kept from their commit
 pub record Waited (k n : Caller) : Type 0 where
   pub on : GoesOn k n
   pub none_wasted : NoneWastedSince k n (begun n)
   pub same_done : done n ≡ done k
-
-pub waited_first : (k : Caller) → AtRest k → Waited k k
-waited_first k rest = record {
-  on = goes_nowhere k rest;
-  none_wasted = λ i some few. absurd (omega arith);
-  same_done = refl;
-}
 
 -- what was not wasted before another attempt was not
 pub earlier : (k n m : Caller) (most : ℕ) → AtRest n → GoesOn n m → most ≤ (begun n) →

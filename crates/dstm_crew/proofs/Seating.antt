@@ -1,7 +1,7 @@
 -- Workers get their callers from the founder of a new table, one after the other.
-use Rattle.std.proofs.Common.{◌≡◌, ◌∙◌, ◌+◌, ℕ, List, [], ◌∷◌, ◌++◌, length, map, refl, sym, ap, subst, append_assoc, length-append}
+use Rattle.std.proofs.Common.{◌≡◌, ◌∙◌, ◌+◌, ℕ, List, [], ◌∷◌, ◌++◌, length, map, sym, ap, subst, append_assoc, length-append}
 use Rattle.std.specs.Prelude.{All}
-use Rattle.std.proofs.lemmas.List.{append-nil, length-map, map_push}
+use Rattle.std.proofs.lemmas.List.{map_push}
 use Rattle.std.proofs.lemmas.List.Elements.{All-cons, All-head, All-nil, All-push, All-tail}
 use Rattle.dstm_words.specs.Seats.{AreApart}
 use Rattle.dstm_workload.specs.declared.workload.Workload.{Workload}
@@ -9,7 +9,7 @@ use Rattle.dstm_tables.specs.declared.founding.Founder.{Founder}
 use Rattle.dstm_tables.specs.declared.tables.Caller.{Caller}
 use Rattle.dstm_tables.specs.declared.tables.Table.{Table}
 use Rattle.dstm_tables.specs.Callers.{CameByCalls, round_of}
-use Rattle.dstm_tables.specs.Founders.{GivesOut, HasGivenNone, first_of, made_of, seen_by}
+use Rattle.dstm_tables.specs.Founders.{GivesOut, first_of, made_of, seen_by}
 use Rattle.dstm_tables.specs.Tells.{layout_of}
 use Rattle.dstm_tables.proofs.Same.{first_past, layout_is, layout_past}
 use Rattle.dstm_options.specs.declared.options.Options.{Options}
@@ -46,21 +46,6 @@ module _ (table : Table) where
     pub made : made_of f ≡ length workers
     pub back : HasBack table (length workers) [] f
 
-  pub seats_at_first : (shares : List Share) (f : Founder) → HasGivenNone table f → Seats shares [] shares f
-  seats_at_first shares f none = record {
-    are = refl;
-    new = All-nil (λ (worker : Worker). IsNew table worker.caller);
-    made = none.none_made;
-    back = record {
-      home = none.home;
-      guests = none.none_guests;
-      out = none.none_out;
-      numbers = none.none_back;
-      apart = subst AreApart (sym none.none_back) tt;
-      known = All-nil (λ (worker : Worker). IsKnownBy (seen_by f) worker.caller);
-    };
-  }
-
   count_push : (workers : List Worker) (worker : Worker) → length workers + 1 ≡ length (workers ++ worker ∷ [])
   count_push workers worker = sym (length-append workers (worker ∷ []))
 
@@ -86,14 +71,6 @@ module _ (table : Table) where
     by_calls = subst (λ (s : Share). CameByCalls (seed_for options s.worker) worker.caller) (sym is) gives.came;
     none_let_go = gives.none_let_go;
   }
-
-  -- all have theirs
-  pub seats_all : (shares : List Share) (workers : List Worker) (f : Founder) → Seats shares workers [] f →
-      map share_of workers ≡ shares
-  seats_all shares workers f seats = sym (append-nil (map share_of workers)) ∙ seats.are
-
-  pub count_all : (shares : List Share) (workers : List Worker) → map share_of workers ≡ shares → length workers ≡ length shares
-  count_all shares workers are = sym (length-map workers share_of) ∙ ap length are
 
   -- ---- workers with callers that have done nothing are ready
 

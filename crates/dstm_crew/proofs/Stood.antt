@@ -39,9 +39,6 @@ use Rattle.dstm_crew.proofs.Workers.{are_workers, most_of_all, workers_apart_all
 
 -- ---- the shares behind the round are those before it
 
-worker_of : ℕ × List ℕ → ℕ
-worker_of asked = asked.0
-
 map_map : {X Y Z : Type 0} (f : Y → Z) (g : X → Y) (xs : List X) → map f (map g xs) ≡ map (λ x. f (g x)) xs
 map_map f g [] = refl
 map_map f g (x ∷ xs) = ap (λ ys. f (g x) ∷ ys) (map_map f g xs)

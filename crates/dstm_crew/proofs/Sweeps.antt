@@ -56,9 +56,6 @@ use Rattle.dstm_crew.proofs.Asking.{asked_blocked, asked_more, blocked_now, has_
 
 -- ---- how many jobs of a worker were done
 
-counts : ℕ → Row → Bool
-counts worker row = (row.worker == worker) && not (is_given_up row.replies)
-
 count_push : (worker : ℕ) (rows : List Row) (row : Row) →
     count_done worker (rows ++ row ∷ []) ≡ count_done worker rows + count_done worker (row ∷ [])
 count_push worker rows row =

@@ -1,7 +1,7 @@
 -- The founder of a table takes the callers of workers back, one after the other.
 use Rattle.std.proofs.Common.{◌≡◌, ◌∙◌, ◌+◌, ◌-◌, ◌++◌, ◌∷◌, ℕ, List, [], length, map, refl, sym, ap, subst, arith, append_assoc}
 use Rattle.std.specs.Prelude.{All, Contains}
-use Rattle.std.proofs.lemmas.List.{append-nil, map_push}
+use Rattle.std.proofs.lemmas.List.{map_push}
 use Rattle.std.proofs.lemmas.List.Elements.{All-cons, All-head, All-nil, All-push, All-tail, All-weaker, Contains-append_right}
 use Rattle.dstm_tables.specs.declared.founding.Founder.{Founder}
 use Rattle.dstm_tables.specs.declared.tables.Round.{Round}
@@ -73,10 +73,6 @@ module _ (table : Table) where
     pub rest : All (λ (worker : Worker). RestsAt table worker.caller) left
     pub back : HasBack table (length left) now f
 
-  pub takes_at_first : (workers : List Worker) (f : Founder) → HasBack table (length workers) [] f →
-      All (λ (worker : Worker). RestsAt table worker.caller) workers → Takes workers [] workers f
-  takes_at_first workers f back rest = record { are = refl; rest = rest; back = back }
-
   pub takes_one : (workers now left : List Worker) (f g : Founder) (worker : Worker) → Takes workers now (worker ∷ left) f →
       TakesBack f g worker.caller → Takes workers (now ++ worker ∷ []) left g
   takes_one workers now left f g worker takes taken =
@@ -90,7 +86,3 @@ module _ (table : Table) where
     where
       longer : (w : Worker) (ws : List Worker) → length (w ∷ ws) ≡ length ws + 1
       longer w ws = omega arith
-
-  pub takes_all : (workers now : List Worker) (f : Founder) → Takes workers now [] f → HasBack table 0 workers f
-  takes_all workers now f takes =
-      subst (λ (ws : List Worker). HasBack table 0 ws f) (sym (append-nil now) ∙ takes.are) takes.back

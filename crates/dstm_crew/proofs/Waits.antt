@@ -42,16 +42,6 @@ next_is workers left worker below =
     let more : workers - worker ≡ suc (workers - (worker + 1)) = omega (arith, below) in
     ap (λ n. filter (has_job left) (range_with_len worker n)) more
 
-pub none_counted : (workers : ℕ) (left : List Job) → IsCounted workers left workers 0 0
-none_counted workers left =
-    let none : workers - workers ≡ 0 = omega arith in
-    let empty : from_on workers left workers ≡ [] = ap (λ n. filter (has_job left) (range_with_len workers n)) none in
-    record {
-      is = sym (ap length empty);
-      few = omega arith;
-      least = subst (λ (ws : List ℕ). IfSome (slice_get ws 0) (λ w. 0 ≡ w)) (sym empty) tt;
-    }
-
 -- one more, which is the first now
 pub counted : (workers : ℕ) (left : List Job) (worker count first : ℕ) → worker < workers →
     has_job left worker ≡ true → IsCounted workers left (worker + 1) count first →

@@ -22,10 +22,6 @@ use Rattle.dstm_crew.proofs.Jobs.{has_some}
 
 -- ---- parts of a range
 
-range_below : (a n high : ℕ) → a + n ≤ high → AllByRecursion (λ m. m < high) (range_with_len a n)
-range_below a zero high le = tt
-range_below a (suc n) high le = (omega (arith, le), range_below (a + 1) n high (omega (arith, le)))
-
 no_member : (a : ℕ) (xs : List ℕ) → AllByRecursion (λ m. a + 1 ≤ m) xs → Contains xs a → ⊥
 no_member a [] all has = let within = has.1 in omega (arith, within)
 no_member a (x ∷ xs) all has = by (no_member a xs all.1) has.0 has.1 has.2

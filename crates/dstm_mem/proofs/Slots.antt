@@ -295,18 +295,7 @@ module _ {T : Type 0} {sort : Sort T} {slots : List T} {objects : ℕ} {place : 
           find_none _ sort.none counting (λ i within q. none i within (eqb-true _ o q)) in
           let same = find_filter (λ s. sort.object s == o) sort.counts slots in
           absurd (cc)
-
-  -- ---- nothing stands there any more
-
-  -- an object whose slot was forgotten has no place, nor has one that had none
-  pub forgotten : (new : ℕ → ℕ) → ((i : ℕ) → i < length slots → new (sort.object (slot_at sort slots i)) ≡ 0) →
-      ((o : ℕ) → (new o ≡ 0) ⊎ (new o ≡ place o)) → (o : ℕ) → o < objects → new o ≡ 0
-  forgotten new done same o lt = by (same o) (cases_eq (place o) 0)
-    where
-      by : (new o ≡ 0) ⊎ (new o ≡ place o) → (place o ≡ 0) ⊎ (place o ≡ 0 → ⊥) → new o ≡ 0
-      by (inl gone) known = gone
-      by (inr as_before) (inl none) = as_before ∙ none
-      by (inr as_before) (inr some) = let r = p.places o lt some in ap new (sym r.object) ∙ done (place o - 1) r.within
+      -- ---- nothing stands there any more
 
 -- where all count there is room for a slot of an object that has none
 pub room_for : {T : Type 0} {sort : Sort T} {slots : List T} {objects : ℕ} {place : ℕ → ℕ} →
@@ -316,15 +305,6 @@ room_for {sort = sort} {slots = slots} {place = place} p all s below none =
     let more = one_more p s below (all s) none (λ o. cond (o == sort.object s) (length slots + 1) (place o))
     (rw (eq-eqb (sort.object s) (sort.object s) refl) refl) (λ o other. rw (ne_eqb o (sort.object s) other) refl) in
     let few = few_slots more (λ i lt. all _) in let longer = length-append slots (s ∷ []) in omega arith
-
--- no list has slots where no object has a place
-pub none_placed : {T : Type 0} (sort : Sort T) (objects : ℕ) (place : ℕ → ℕ) → ((o : ℕ) → o < objects → place o ≡ 0) →
-    ArePlaced sort [] objects place
-none_placed sort objects place none = record {
-  below = λ i lt. absurd (omega arith);
-  placed = λ o i r. let w = r.within in absurd (omega arith);
-  places = λ o lt some. absurd (some (none o lt));
-}
 
 -- ---- a place that is changed
 

@@ -70,15 +70,6 @@ with_set-set (w ∷ map) old new (suc o) v sets =
     ap (λ x. unwrap_or x w ∷ with_set map (rest new)) (sets.others 0 (λ e. absurd (omega (arith, e))))
     ∙ ap (λ vs. unwrap_or (old 0) w ∷ vs) (with_set-set map (rest old) (rest new) o v sets_rest)
 
--- one more set, of an object and a value that are known otherwise
-pub with_set-again : (map : List Val) (old new : ℕ → Option Val) (o p : ℕ) (v u : Val) (before : List Val) →
-    SetsOnly o v old new → with_set map old ≡ before → o ≡ p → v ≡ u → with_set map new ≡ slice_set before p u
-with_set-again map old new o p v u before sets is object_is value_is =
-    with_set-set map old new o v sets
-    ∙ ap (λ x. slice_set x o v) is
-    ∙ ap (λ q. slice_set before q v) object_is
-    ∙ ap (slice_set before p) value_is
-
 answered : (w h : Option Val) (x v : Val) → IfSome h (λ y. x ≡ y) → Some v ≡ option_or w h → unwrap_or w x ≡ v
 answered None None x v agrees answer = absurd (cc answer)
 answered None (Some y) x v agrees answer = cc

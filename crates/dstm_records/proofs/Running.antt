@@ -4,7 +4,7 @@ use Rattle.std.specs.Prelude.{All, nat_lt}
 use Rattle.std.specs.List.{AllByRecursion}
 use Rattle.std.proofs.lemmas.Bool.{eqb-true, eqb-false, ltb-true, ltb-false, cases_Bool}
 use Rattle.std.proofs.lemmas.List.{append-nil, length-append}
-use Rattle.std.proofs.lemmas.List.Elements.{recursion_from_All, All-from_recursion}
+use Rattle.std.proofs.lemmas.List.Elements.{recursion_from_All}
 use Rattle.dstm_model.specs.declared.value.Val.{Val}
 use Rattle.dstm_workload.specs.declared.workload.Workload.{Workload}
 use Rattle.dstm_workload.specs.Workload.{IsValidWorkload}
@@ -17,7 +17,7 @@ use Rattle.dstm_tables.specs.declared.tables.Round.{Round}
 use Rattle.dstm_records.specs.Records.{IsRoundOf, AreRoundsOf}
 use Rattle.dstm_tables.specs.Tells.{values_of}
 use Rattle.dstm_records.specs.Rounds.{is_parallel, rows_in}
-use Rattle.dstm_records.specs.Running.{count_left, Begins, AddsRound, HasEnded, IsClosed}
+use Rattle.dstm_records.specs.Running.{count_left, Begins, AddsRound, IsClosed}
 use Rattle.dstm_tables.proofs.History.{sights_agree}
 use Rattle.dstm_records.proofs.MoreRounds.{rows_of, rows_of-push, left_after, left_after-push, AreRoundsOf-push}
 
@@ -131,61 +131,11 @@ round_more workload options start old new rows values number more closed now lef
       );
     }
 
--- what a round may count on
-pub begins_now : (workload : Workload) (options : Options) (start : List Val) (old new : List Round) (rows : List Row)
-    (values : List Val) (number : ℕ) → Reached workload options start old new rows values number true → Begins workload number rows values
-begins_now workload options start old new rows values number r = record {
-  valid = r.valid;
-  good = r.good;
-  earlier = All-from_recursion (λ row. row.round < number) rows r.earlier;
-  stands = r.stands;
-  needed = r.needed refl;
-}
-
--- no job is left
-pub has_ended : (workload : Workload) (options : Options) (start : List Val) (old new : List Round) (rows : List Row)
-    (values : List Val) (number : ℕ) → (r : Reached workload options start old new rows values number false) →
-    HasEnded workload options start r.added rows values
-has_ended workload options start old new rows values number r = record {
-  good = r.good;
-  whole = let e = (r.ended refl).0 in let s = r.sum in omega arith;
-  stands = r.stands;
-  some = let e = (r.ended refl).1 in let c = r.count in omega arith;
-  each = r.each;
-  all_rows = subst (λ (n : ℕ). All (λ row. row.round < n) rows) (sym r.count)
-      (All-from_recursion (λ row. row.round < number) rows r.earlier);
-}
-
 -- ---- the run ends: a parallel round is followed by an alone one, which adds a row
 
 abbrev pub rounds_left : Workload → List Row → ℕ → Bool → ℕ
 rounds_left workload rows number more =
     cond more (2 * count_left workload rows + cond (is_parallel number) 2 1) 0
-
-left_falls : (before after now number : ℕ) (more : Bool) → after + now ≡ before → (is_parallel number ≡ false → 0 < now) →
-    (b c : Bool) → b ≡ is_parallel number → c ≡ is_parallel (number + 1) →
-    cond more (2 * after + cond c 2 1) 0 < 2 * before + cond b 2 1
-left_falls before after now number false sum some true c is next = omega arith
-left_falls before after now number false sum some false c is next = omega arith
-left_falls before after now number true sum some true true is next =
-    let one = eqb-true (number % 2) 0 (sym is) in let two = eqb-true ((number + 1) % 2) 0 (sym next) in omega arith
-left_falls before after now number true sum some true false is next = omega (arith, sum)
-left_falls before after now number true sum some false c is next =
-    let one = some (sym is) in
-    elim c as (λ b. 2 * after + cond b 2 1 < 2 * before + 1) [ true ↦ omega (arith, sum) | false ↦ omega (arith, sum) ]
-
-pub rounds_fall : (workload : Workload) (options : Options) (rows : List Row) (values : List Val) (number : ℕ) (closed : Round) (now : List Row) (left : List Val)
-    (more : Bool) → AddsRound workload options number rows values closed now left →
-    rounds_left workload (rows ++ now) (number + 1) more < rounds_left workload rows number true
-rounds_fall workload options rows values number closed now left more adds =
-    left_falls (count_left workload rows) (count_left workload (rows ++ now)) (length now) number
-    more adds.fewer adds.some (is_parallel number) (is_parallel (number + 1)) refl refl
-
--- there are few rounds
-pub few_rounds : (workload : Workload) (options : Options) (start : List Val) (old new : List Round) (rows : List Row)
-    (values : List Val) (number : ℕ) (more : Bool) → Reached workload options start old new rows values number more → number ≤ 40001
-few_rounds workload options start old new rows values number more r =
-    let s = r.sum in let f = r.few in let j = r.valid.few in omega arith
 
 -- every round was closed
 pub each_closed : (workload : Workload) (options : Options) (rows : List Row) (number : ℕ) (before : List Row)

@@ -1,7 +1,7 @@
 -- A walk that lets reads go: what is known where it stands, and after a step.
 use Rattle.std.proofs.Common.{◌≡◌, ◌≢◌, ◌↔◌, ℕ, ◌<◌, ◌≤◌, List, length, IsTrue, false, arith, refl, sym, ◌∙◌, ap}
 use Rattle.std.proofs.Common.{subst, inl, inr}
-use Rattle.std.specs.Prelude.{Option, Some, None, IsSome, IfSome, ◌⊎◌, Ok, Bool, is_some, ◌&&◌, not}
+use Rattle.std.specs.Prelude.{Option, Some, None, IsSome, IfSome, ◌⊎◌, Ok}
 use Rattle.std.proofs.lemmas.Bool.{cases_eq, cases_Bool}
 use Rattle.dstm_model.specs.declared.value.Val.{Val}
 use Rattle.dstm_model.specs.declared.layout.Layout.{Layout}
@@ -496,48 +496,6 @@ module _ {S E : Type 0} (M : Ghosts S E) (start : S) where
         last.object ≡ list_begin layout → behind ≡ None
     older_none memory None last older at_begin = refl
     older_none memory (Some o) last older at_begin = absurd (older.last_inner at_begin)
-
-    read_some : (held : Option Val) (opened : Bool) → IsTrue (is_some held && not opened) → IsSome held
-    read_some None opened read = absurd (let no : ⊥ = cc in no)
-    read_some (Some v) opened read = refl
-
-    -- at the head
-    pub walking-start : {new : S} (key : ℕ) (head : Stop) → 0 < layout.list →
-        Visits M start new (list_begin layout) head → Leads M start new (Ok head) → OnlyReads M start new → Walking M layout key start new head None head
-    walking-start {new} key head declared visits leads looks =
-        let begin = list_begin layout in
-        let head_in = head-of_list layout declared in
-        let other = λ (p : ℕ) (outside : ¬ IsOfList layout p) (e : p ≡ begin).
-        outside (subst (IsOfList layout) (sym e) head_in) in
-        let owes : Owes M start new head = record {
-          own = λ is. ap (M.held start) visits.object ∙ visits.own is;
-          other = λ no. elim (visits.other no) [
-            | inl read ↦
-                inl (subst (λ p. IsSome (M.held start p)) (sym visits.object)
-                (read_some (M.held start begin) (M.is_opened start begin) read))
-            | inr is ↦ inr (subst (λ p. IsTrue (M.is_opened new p)) (sym visits.object) is)
-          ];
-        } in
-        record {
-          way = record {
-            leads = leads;
-            looks = looks;
-            holds = λ p outside. visits.held.others p (other p outside);
-            opens = λ p outside. visits.opened.others p (other p outside);
-          };
-          head_at = visits.object;
-          head_owes = owes;
-          head_seen = λ none. visits.sees;
-          head_next = λ at_begin. refl;
-          last_in = subst (IsOfList layout) (sym visits.object) head_in;
-          last_owes = owes;
-          last_seen = visits.sees;
-          anchored = inl visits.object;
-          older = tt;
-          few = λ p not_last not_begin not_older read.
-              read_some (M.held start p) (M.is_opened start p)
-              (read-same M p (visits.held.others p not_begin) (visits.opened.others p not_begin) read);
-        }
 
     newer : {new : S} (behind : Option Stop) (head last next : Stop) →
         IfSome behind (λ stop. (stop ≡ last) × (last.object ≢ head.object)) →

@@ -1,9 +1,8 @@
 -- Rows are followed one by one.
-use Rattle.std.proofs.Common.{◌≡◌, ◌<◌, eqb, List, [], ◌∷◌, ◌++◌, Option, Some, None, ap, sym, subst, ◌∙◌}
+use Rattle.std.proofs.Common.{◌≡◌, ◌<◌, eqb, List, [], ◌∷◌, ◌++◌, Option, Some, ap, sym, subst, ◌∙◌}
 use Rattle.std.specs.Prelude.{IfSome}
 use Rattle.std.specs.List.{find, All, AllByRecursion}
 use Rattle.std.proofs.lemmas.List.Elements.{recursion_from_All, All-from_recursion}
-use Rattle.std.proofs.lemmas.Option.{none-some, same_Some}
 use Rattle.dstm_model.specs.Layout.{FitsLayout}
 use Rattle.dstm_model.specs.Store.{Store, opening_store}
 use Rattle.dstm_model.specs.Job.{apply_job}
@@ -78,37 +77,10 @@ next_fits {workload} {before} {row} {replay} {job} h =
 
 -- ---- rows that are not good
 
-pub not_without_job : (workload : Workload) (before : List Row) (row : Row) (replay : Replay) →
-    HasFollowed workload before replay → first_job row.worker replay.turns.left ≡ None →
-    ¬ (IsGoodRow workload before row)
-not_without_job workload before row replay followed none good =
-    none-some good.job (sym none ∙ ap (first_job row.worker) followed.turns ∙ good.turn)
-
-same_job : {workload : Workload} {before : List Row} {row : Row} {replay : Replay} {job : Job} →
-    HasNext workload before row replay job →
-    (good : IsGoodRow workload before row) → good.job ≡ job
-same_job {workload} {before} {row} {replay} {job} h good = same_Some good.job job (sym good.turn ∙ turn_is h)
-
-pub not_of_line : {workload : Workload} {before : List Row} {row : Row} {replay : Replay} {job : Job} →
-    HasNext workload before row replay job →
-    (job.line ≡ row.line → ⊥) → ¬ (IsGoodRow workload before row)
-not_of_line h other good = other (ap (λ (j : Job). j.line) (sym (same_job h good)) ∙ sym good.line)
-
 -- the answer that the replay gives
 abbrev pub OwnAnswer : Row → Replay → Job → Type 0
 OwnAnswer row replay job =
     AnswersWhere (AreBlocked replay.turns.left replay.store) (apply_job job.ops replay.store) row.replies
-
-pub not_with_answer : {workload : Workload} {before : List Row} {row : Row} {replay : Replay} {job : Job} →
-    HasNext workload before row replay job →
-    ¬ (OwnAnswer row replay job) → ¬ (IsGoodRow workload before row)
-not_with_answer {workload} {before} {row} {replay} {job} h other good =
-    let Answer : List Job → Store → Job → Type 0 =
-    λ left s j. AnswersWhere (AreBlocked left s) (apply_job j.ops s) row.replies in
-    other (subst (λ (left : List Job). Answer left replay.store job) (sym h.followed.turns)
-    (subst (λ (s : Store). Answer (jobs_left workload.jobs before) s job) (sym h.followed.store)
-    (subst (λ (j : Job). Answer (jobs_left workload.jobs before) (store_after workload before) j) (same_job h good)
-    good.replies)))
 
 -- ---- rows that are good
 

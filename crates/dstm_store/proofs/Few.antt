@@ -1,5 +1,5 @@
 -- What the list's operations touch, where reads are let go.
-use Rattle.std.proofs.Common.{◌≡◌, ◌≢◌, ◌⊎◌, ◌∙◌, ℕ, ◌+◌, ◌≤◌, List, [], ◌∷◌, ◌++◌, false, refl, sym, subst, inl, inr}
+use Rattle.std.proofs.Common.{◌≡◌, ◌≢◌, ◌⊎◌, ◌∙◌, ℕ, ◌+◌, ◌≤◌, List, ◌∷◌, ◌++◌, false, refl, sym, subst, inl, inr}
 use Rattle.std.proofs.Common.{arith, length-append}
 use Rattle.std.specs.Prelude.{IsTrue, Result, Ok, Err, IfOk, OnOk, IsSome, Contains}
 use Rattle.std.proofs.lemmas.Bool.{cases_eq, cases_Bool}
@@ -134,9 +134,6 @@ module _ {S E : Type 0} (M : Ghosts S E) where
   touches-member old new layout key (Err e) adds done off = tt
 
   -- ---- of operations one after the other
-
-  pub touches-none : (old : S) → TouchesAtMost 0 M old old
-  touches-none old = record { objects = []; few = omega arith; each = λ o touched. inl touched }
 
   pub touches-then : {old mid new : S} (a b : ℕ) → TouchesAtMost a M old mid → TouchesAtMost b M mid new →
       TouchesAtMost (a + b) M old new

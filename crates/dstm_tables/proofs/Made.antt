@@ -6,7 +6,7 @@ use Rattle.dstm_model.specs.declared.value.Val.{Val}
 use Rattle.dstm_model.specs.declared.op.Op.{Op}
 use Rattle.dstm_model.specs.Objects.{objects_of}
 use Rattle.dstm_core.specs.Events.{Event}
-use Rattle.dstm_core.specs.Runs.{Core, local}
+use Rattle.dstm_core.specs.Runs.{local}
 use Rattle.dstm_core.specs.State.{LocalState, or_zero}
 use Rattle.dstm_core.specs.Traces.{events_of, word}
 use Rattle.dstm_core.specs.Words.{code_of}
@@ -46,9 +46,6 @@ pub objects_are : (k : Called StoreLaw) → AtRest (Dstm k) → (shape_of k).obj
 objects_are k rest = sym rest.run.run.values ∙ rest.run.lawful.1.objects
 
 -- ---- the caller's number
-
-core_of : (k : Called StoreLaw) → IsRunOf keeps k.home.terms k.log → Core (shape_of k) k.log
-core_of k run = run.run.core
 
 -- a caller that has begun an attempt has its number
 pub numbered : (n : Called StoreLaw) → IsRunOf keeps n.home.terms n.log → 0 < (state n).begun →

@@ -3,7 +3,6 @@ use Rattle.std.proofs.Common.{◌≡◌, ◌∙◌, ◌<◌, ◌+◌, ◌≤◌,
 use Rattle.std.specs.List.{AllByRecursion}
 use Rattle.std.proofs.lemmas.Bool.{eq-eqb, le-ltb, lt-ltb}
 use Rattle.std.proofs.lemmas.List.{append-nil}
-use Rattle.dstm_model.specs.declared.value.Val.{Val}
 use Rattle.dstm_model.specs.Answers.{Committed, by_caller}
 use Rattle.dstm_core.specs.declared.shape.Shape.{Shape}
 use Rattle.dstm_core.specs.Runs as core_runs
@@ -27,12 +26,11 @@ use Rattle.dstm_tables.specs.declared.tables.Round.{Round}
 use Rattle.dstm_tables.specs.declared.tables.Round.TheVariants.{Dstm, Tl2}
 use Rattle.dstm_tables.specs.declared.tables.Table.{Table}
 use Rattle.dstm_tables.specs.Callers.{AtRest, home_of, law_of, number_of, round_of}
-use Rattle.dstm_tables.specs.Founders.{HasShape, IsTold, first_of, home_there, seen_by}
+use Rattle.dstm_tables.specs.Founders.{HasShape, first_of, home_there, seen_by}
 use Rattle.dstm_tables.specs.Tells.{CannotBegin, HasLocators, IsOf, IsPast, IsRun, all_done, attempts_of, begun_of, callers_of, done_of, layout_of, start_of, used_by, writes_all}
 use Rattle.dstm_tables.specs.Tries.{GoesOn}
 use Rattle.dstm_tables.proofs.History.{is_history}
 use Rattle.dstm_tables.proofs.OnlyTries.{tl2_number_below}
-use Rattle.dstm_tables.proofs.Staying.{attempts_past}
 use Rattle.dstm_tables.proofs.StayingByDstm as staying
 
 -- what a table was told stays, under each engine
@@ -74,24 +72,6 @@ of_past engines.Dstm (Tl2 a) b past is = absurd is
 of_past engines.Tl2 (Dstm a) b past is = absurd is
 of_past engine (Dstm a) (Tl2 b) past is = absurd past
 of_past engine (Tl2 a) (Dstm b) past is = absurd past
-
-pub shape_past : (shape : Shape) (a b : Round) → IsPast a b → HasShape shape a → HasShape shape b
-shape_past shape (Dstm a) (Dstm b) past is = ap (λ (t : core_terms.Terms StoreLaw). t.shape) past.0 ∙ is
-shape_past shape (Tl2 a) (Tl2 b) past is = tt
-shape_past shape (Dstm a) (Tl2 b) past is = absurd past
-shape_past shape (Tl2 a) (Dstm b) past is = absurd past
-
--- a table is told the same as long as it is there
-pub told_past : (engine : Engine) (values : List Val) (shape : Shape) (law : StoreLaw) (a b : Round) → IsPast a b →
-    IsTold engine values shape law a → IsTold engine values shape law b
-told_past engine values shape law a b past told = record {
-  of_engine = of_past engine a b past told.of_engine;
-  start = start_past a b past ∙ told.start;
-  layout = layout_past a b past ∙ told.layout;
-  callers = callers_past a b past ∙ told.callers;
-  attempts = attempts_past a b past ∙ told.attempts;
-  of_shape = shape_past shape a b past told.of_shape;
-}
 
 -- of its shape
 pub locators_told : (shape : Shape) (r : Round) → HasShape shape r → shape.objects ≤ shape.locators → HasLocators r

@@ -1,8 +1,8 @@
 -- The locks that an attempt holds, by what it writes.
-use Rattle.std.proofs.Common.{◌+◌, ◌++◌, ◌<◌, ◌≤◌, ◌==◌, ◌∙◌, ◌∷◌, ◌≡◌, List, None, Some, [], add-one, ap, arith, drop, eqb-true, false, inl, inr, length, map, refl, sym, take, true, ℕ, ◌⊎◌}
+use Rattle.std.proofs.Common.{◌+◌, ◌<◌, ◌≤◌, ◌==◌, ◌∙◌, ◌∷◌, ◌≡◌, List, None, Some, [], add-one, ap, arith, drop, eqb-true, false, inl, inr, length, map, refl, sym, take, true, ℕ, ◌⊎◌}
 use Rattle.std.specs.Prelude.{option_map}
 use Rattle.std.proofs.lemmas.Bool.{cases_Bool}
-use Rattle.std.proofs.lemmas.List.{get_or-drop, get_or-take, length-drop, length-take-le, map_more}
+use Rattle.std.proofs.lemmas.List.{get_or-drop, get_or-take, length-drop, length-take-le}
 use Rattle.std.proofs.Math.Seq.{drop-cons}
 use Rattle.dstm_mem.specs.Memory.{value_in}
 use Rattle.dstm_model.specs.declared.value.Val.{Val}
@@ -56,12 +56,6 @@ pub holds_from : (state : LocalState) (writes : List (ℕ × Val)) (i : ℕ) →
 holds_from state writes i lt =
     ap (map (new_hold state)) (drop-cons writes i no_write lt)
     ∙ ap (λ n. new_hold state (write_at writes i) ∷ map (new_hold state) (drop n writes)) (sym (add-one i))
-
--- and one lock more
-pub holds_more : (state : LocalState) (writes : List (ℕ × Val)) (i : ℕ) → i < length writes →
-    map (new_hold state) (take (i + 1) writes)
-    ≡ map (new_hold state) (take i writes) ++ new_hold state (write_at writes i) ∷ []
-holds_more state writes i lt = map_more (new_hold state) writes i no_write lt
 
 -- The first lock of those from a place on is that of the write there, and it is held once.
 pub first_from : (state : LocalState) (writes : List (ℕ × Val)) (i : ℕ) → WritesApart writes → i < length writes →

@@ -1,5 +1,5 @@
 -- What a seat knows after a step: its number, and the state of its caller.
-use Rattle.std.proofs.Common.{◌≡◌, ◌≢◌, ℕ, List, Some}
+use Rattle.std.proofs.Common.{◌≡◌, ◌≢◌, ℕ, List}
 use Rattle.std.specs.Prelude.{Contains}
 use Rattle.dstm_model.specs.declared.value.Val.{Val}
 use Rattle.dstm_machines.specs.Traces.{Access}
@@ -8,13 +8,9 @@ use Rattle.dstm_tl2.specs.declared.kind.Kind.{Kind}
 use Rattle.dstm_tl2.specs.declared.terms.Terms.{Terms}
 use Rattle.dstm_tl2.specs.Rules.{after}
 use Rattle.dstm_tl2.specs.Sharing.{shared, table_of}
-use Rattle.dstm_tl2_words.specs.Seats.{caller_state, made, number_or, Joined, Makes, View}
+use Rattle.dstm_tl2_words.specs.Seats.{caller_state, made, Joined, Makes, View}
 
 module _ {L : Type 0} (holds : L → List Val → Type 0) where
-  pub number_after : (v w : View L) (way : Access) (kind : Kind) (place found : ℕ) →
-      Makes holds v way kind place found w → w.number ≡ Some (number_or v.number found)
-  number_after = seats.number_after (shared holds)
-
   -- the state of the seat's caller after its event
   pub state_after : (terms : Terms L) (v w : View L) (way : Access) (kind : Kind) (place found : ℕ) →
       Makes holds v way kind place found w →

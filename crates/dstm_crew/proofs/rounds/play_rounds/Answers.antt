@@ -1,12 +1,11 @@
-use Rattle.std.proofs.Common.{◌≡◌, true, List, nat_lt, length, refl, rules, sym, subst}
+use Rattle.std.proofs.Common.{◌≡◌, true, List, nat_lt, length, rules, sym, subst}
 use Rattle.dstm_report.specs.declared.report.Row.{Row}
 use Rattle.dstm_records.specs.Running.{turns_behind}
 use Rattle.dstm_records.proofs.Running.{Reached, at_first}
 use Rattle.dstm_crew.specs.declared.progress.Progress.{Progress}
-use Rattle.dstm_crew.specs.Playing.{HasCome, WasBrokenOff}
-use Rattle.dstm_crew.proofs.Played.{Stands, come_so_far, one_round_more, with_room}
+use Rattle.dstm_crew.proofs.Played.{Stands, one_round_more, with_room}
 use Rattle.dstm_crew.proofs.rounds.play_rounds.Given.{Over}
-use Rattle.dstm_crew.proofs.rounds.play_rounds.Goals.{After-reserve-in-loop-more, At-loop-more, In_ok-reserve-2}
+use Rattle.dstm_crew.proofs.rounds.play_rounds.Goals.{After-reserve-in-loop-more, In_ok-reserve-2}
 use Rattle.dstm_crew.proofs.rounds.play_rounds.Goals as goal
 
 pub loop-more-init : goal.loop-more-init
@@ -20,14 +19,6 @@ loop-more-init g c =
       turned = subst (λ (rows : List Row). c.args.progress.now.turns ≡ turns_behind workload rows) (sym c.requires.rows)
           c.requires.turns;
     }
-
--- the records are those of the rounds so far, where this one was broken off
-come : (g : Over) (c : At-loop-more g) (q : Progress) → WasBrokenOff c.loop-more.number c.loop-more.progress q →
-    HasCome c.args.play.now.workload.now c.args.play.now.options.now c.args.progress.now q
-come g c =
-    come_so_far c.args.play.now.workload.now c.args.play.now.options.now c.args.progress.now.values.items
-    c.args.progress.now.rounds.items c.loop-more.progress c.loop-more.number c.loop-more.more c.loop-more.invariant.reached
-    c.args.progress.now refl refl
 
 -- what there is once room is reserved
 abbrev reserved : (g : Over) → After-reserve-in-loop-more g → Progress

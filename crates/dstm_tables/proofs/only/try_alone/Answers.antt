@@ -1,4 +1,4 @@
-use Rattle.std.proofs.Common.{◌≡◌, arith}
+use Rattle.std.proofs.Common.{◌≡◌}
 use Rattle.dstm_model.specs.declared.layout.Layout.{Layout}
 use Rattle.dstm_workload.specs.declared.workload.Job.{Job}
 use Rattle.dstm_tables.specs.declared.style.Style.{Style}
@@ -8,9 +8,7 @@ use Rattle.dstm_tables.specs.Callers.{law_of, round_of}
 use Rattle.dstm_tables.specs.Jobs.{StoodAt}
 use Rattle.dstm_tables.specs.OnlyCallers.{StoodAlone}
 use Rattle.dstm_tables.specs.Tells.{callers_of}
-use Rattle.dstm_tables.specs.Tries.{WasKept}
 use Rattle.dstm_tables.proofs.OnlyTries as by_tl2
-use Rattle.dstm_tables.proofs.Same.{callers_same}
 use Rattle.dstm_tables.proofs.Sole as by_dstm
 use Rattle.dstm_tables.proofs.only.try_alone.Goals as goal
 
@@ -20,11 +18,6 @@ stood_alone style layout job (Dstm k) (Dstm n) one law was = by_dstm.stood_alone
 stood_alone style layout job (Tl2 k) (Tl2 n) one law was = by_tl2.stood_alone style layout job k n one was
 stood_alone style layout job (Dstm k) (Tl2 n) one law was = absurd was.made.on.seen
 stood_alone style layout job (Tl2 k) (Dstm n) one law was = absurd was.made.on.seen
-
--- none kept it: there is no other
-none_kept : (k n : Caller) → callers_of (round_of k) ≡ 1 → WasKept k n → ⊥
-none_kept k n one was =
-    let same = callers_same k n was.made.on in let others = was.others in omega (arith, same, one, others)
 
 pub returns-in-Blocked-clause-tried : goal.returns-in-Blocked-clause-tried
 returns-in-Blocked-clause-tried c =
