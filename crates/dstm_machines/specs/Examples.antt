@@ -3,6 +3,7 @@ use Rattle.std.specs.Prelude.{ℕ, List, [], ◌∷◌}
 use Rattle.dstm_machines.specs.declared.event.Event.{Event}
 use Rattle.dstm_model.specs.declared.value.Val.{Val}
 
+-- a value of these two parts
 abbrev pub val : ℕ → ℕ → Val
 val low high = record { low = low; high = high }
 
