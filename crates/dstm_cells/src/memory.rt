@@ -4,8 +4,9 @@ ghost use Rattle.dstm_cells.specs.Cells.{Adds, Founds, IsFor, ReadsAll, Takes};
 ghost use Rattle.dstm_cells.specs.Runs.{CalledFor, FailsFor, HaveNew, IsCalled, IsFirst, LeavesBy, Ran};
 ghost use Rattle.dstm_cells.specs.declared.error.Failed.TheVariants as failed;
 ghost use Rattle.dstm_core.specs.declared.shape.Manager.TheVariants.{Polka};
-ghost use Rattle.dstm_engine.specs.Tables.{Enrols, founded};
-ghost use Rattle.dstm_model.specs.Map.{value_at};
+ghost use Rattle.dstm_core.specs.Histories.{history_of};
+ghost use Rattle.dstm_engine.specs.Tables.{Enrols, Retires, founded};
+ghost use Rattle.dstm_model.specs.Map.{state_after, value_at};
 
 use crate::cell::{Cell, Word};
 use crate::error::{Failed, GaveUp};
@@ -182,6 +183,36 @@ impl<L: Law + Copy> Memory<L> {
         ensures fails { IfErr result (λ why. (self.new ≡ self.old) × ((why ≡ failed.Memory) ⊎ (why ≡ failed.Unread))) }
     {
         self.values = last.tx.values(self.alloc, self.values.len() as u32)?;
+        Ok(())
+    }
+
+    /// Takes back a thread's part of a table. What it has committed is told by the founder's log.
+    pub fn retire(&self, stm: &Stm<L>, founder: &mut Founder<L>, me: Me<'_, L>)
+        requires table { founder.old.home ≡ stm.now }
+        requires part { me.tx.caller.home ≡ stm.now }
+        ensures table { founder.new.home ≡ stm.now }
+        ensures retired { Retires L.holds founder.old founder.new me.entry.tx.caller }
+    {
+        let Part { tx } = me;
+        let Tx { caller, .. } = tx;
+        founder.retire(stm, caller);
+    }
+
+    /// Takes the values of the cells from a table that was founded for a run, and closes it: all parts are back, and the
+    /// values are those behind all that took effect.
+    pub fn close(&mut self, stm: Stm<L>, founder: Founder<L>) -> Result<(), Failed>
+        requires founds { IsFor self.old.law self.old.values.items stm }
+        requires table { founder.home ≡ stm }
+        requires out { founder.view.out ≡ 0 }
+        ensures manager { self.new.manager ≡ self.old.manager }
+        ensures law { self.new.law ≡ self.old.law }
+        ensures lawful { OnOk result (L.holds self.new.law self.new.values.items) }
+        ensures size { length self.new.values.items ≡ length self.old.values.items }
+        ensures values { OnOk result (self.new.values.items ≡ state_after stm.terms.start.value.items
+            (history_of stm.terms.shape stm.terms.start.value.items founder.view.log)) }
+        ensures fails { IfErr result (λ why. (why ≡ failed.Memory) × (self.new ≡ self.old)) }
+    {
+        self.values = stm.close_plain(self.alloc, founder)?;
         Ok(())
     }
 

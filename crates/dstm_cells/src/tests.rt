@@ -122,3 +122,17 @@ fn a_run_tells_why_it_failed(rt: HostRuntime) -> Result<(), Fail> {
     assert_eq!(rt; memory.run(&rt, 64, |_, _| Ok(())), Err(Failed::Threads));
     Ok(())
 }
+
+#[test]
+fn a_part_is_taken_back_and_a_table_closed(rt: HostRuntime) -> Result<(), Fail> {
+    let mut memory = Memory::new(rt.alloc());
+    let cell = memory.cell(7u64)?;
+    let (stm, mut founder) = memory.found(1)?;
+    let me = memory.part(&stm, &mut founder, 0)?;
+    memory.retire(&stm, &mut founder, me);
+    assert_eq!(rt; founder.out(), 0);
+    let (other, founder) = memory.found(1)?;
+    memory.close(other, founder)?;
+    assert_eq!(rt; memory.get(cell), 7);
+    Ok(())
+}
