@@ -12,6 +12,26 @@ use Rattle.dstm_workload.specs.declared.workload.Job.{Job}
 use Rattle.dstm_report.specs.Lawful.{first_job}
 use Rattle.dstm_report.specs.Turns.{without_first, no_job, job_at, IsFirstFrom, AreLinked, ArePlaces, job_of, left_from}
 
+-- ---- the jobs left
+
+-- what another one's job is nothing to, and whose own jobs up to this place are over, passes over a job
+pub passed_over : {A : Type 0} (f : List Job → A) (next : List ℕ) (worker : ℕ) (job : Job) (jobs : List Job) (from : ℕ)
+    (x : A) → (job.worker ≢ worker → f (job ∷ left_from (from + 1) next jobs) ≡ f (left_from (from + 1) next jobs)) →
+    from < get_or next worker 0 → f (left_from (from + 1) next jobs) ≡ x → f (left_from from next (job ∷ jobs)) ≡ x
+passed_over f next worker job jobs from x others over rest =
+    let more = left_from (from + 1) next jobs in
+    elim (cases_eq job.worker worker) [
+      | inl mine ↦
+          let past : leb (get_or next job.worker 0) from ≡ false =
+          lt-leb _ _ (subst (λ w. from < get_or next w 0) (sym mine) over) in
+          ap (λ (b : Bool). f (cond b (job ∷ more) more)) past ∙ rest
+      | inr other ↦
+          elim (leb (get_or next job.worker 0) from) as (λ b. f (cond b (job ∷ more) more) ≡ x) [
+            | true ↦ others other ∙ rest
+            | false ↦ rest
+          ]
+    ]
+
 -- ---- the first job left of a worker
 
 first_from : (next : List ℕ) (worker : ℕ) (jobs : List Job) (from ahead : ℕ) → get_or next worker 0 ≡ from + ahead →
@@ -24,21 +44,10 @@ first_from next worker (job ∷ jobs) from zero is within own =
     le-leb _ _ (subst (λ w. get_or next w 0 ≤ from) (sym mine) (omega (arith, is))) in
     rw (here, eq-eqb job.worker worker mine) refl
 first_from next worker (job ∷ jobs) from (suc ahead) is within own =
-    let rest = first_from next worker jobs (from + 1) ahead (omega (arith, is)) (omega (arith, within))
-    (λ lt. own (omega (arith, lt))) in
-    elim (cases_eq job.worker worker) [
-      | inl mine ↦
-          let past : leb (get_or next job.worker 0) from ≡ false =
-          lt-leb _ _ (subst (λ w. from < get_or next w 0) (sym mine) (omega (arith, is))) in
-          rw past rest
-      | inr other ↦
-          elim (leb (get_or next job.worker 0) from) as
-          (λ b. first_job worker (cond b (job ∷ left_from (from + 1) next jobs) (left_from (from + 1) next jobs))
-          ≡ slice_get jobs ahead) [
-            | true ↦ rw (ne_eqb job.worker worker other) rest
-            | false ↦ rest
-          ]
-    ]
+    passed_over (first_job worker) next worker job jobs from (slice_get jobs ahead)
+    (λ other. rw (ne_eqb job.worker worker other) refl) (omega (arith, is))
+    (first_from next worker jobs (from + 1) ahead (omega (arith, is)) (omega (arith, within))
+    (λ lt. own (omega (arith, lt))))
 
 first_is : (jobs : List Job) (next followers : List ℕ) (worker : ℕ) → ArePlaces jobs next followers →
     worker < length next → first_job worker (left_from 0 next jobs) ≡ slice_get jobs (get_or next worker 0)

@@ -5,6 +5,7 @@ use Rattle.std.proofs.lemmas.Bool.{cases_eq, cases_lt, eq-eqb, ne_eqb, le-leb, l
 use Rattle.std.proofs.lemmas.List.{drop_more, drop_all, get_or_default, get_or_past, map-append}
 use Rattle.std.proofs.lemmas.List.Elements.{recursion_from_All, All-nil, All-push}
 use Rattle.dstm_workload.specs.declared.workload.Job.{Job}
+use Rattle.dstm_report.proofs.Places.{passed_over}
 use Rattle.dstm_report.specs.Turns.{no_job, job_at, jobs_of, IsFirstFrom, ArePlaces, left_from}
 
 -- some places of a worker's jobs left were found; the next one is this place, or there is none behind
@@ -62,20 +63,9 @@ from_place : (next : List ℕ) (worker : ℕ) (jobs : List Job) (from ahead : �
 from_place next worker jobs from zero is within = all_behind next worker jobs from (omega (arith, is))
 from_place next worker [] from (suc ahead) is within = absurd (omega (arith, within))
 from_place next worker (job ∷ jobs) from (suc ahead) is within =
-    let rest = from_place next worker jobs (from + 1) ahead (omega (arith, is)) (omega (arith, within)) in
-    elim (cases_eq job.worker worker) [
-      | inl mine ↦
-          let past : leb (get_or next job.worker 0) from ≡ false =
-          lt-leb _ _ (subst (λ w. from < get_or next w 0) (sym mine) (omega (arith, is))) in
-          rw past rest
-      | inr other ↦
-          elim (leb (get_or next job.worker 0) from) as
-          (λ b. jobs_of worker (cond b (job ∷ left_from (from + 1) next jobs) (left_from (from + 1) next jobs))
-          ≡ jobs_of worker (drop ahead jobs)) [
-            | true ↦ rw (ne_eqb job.worker worker other) rest
-            | false ↦ rest
-          ]
-    ]
+    passed_over (jobs_of worker) next worker job jobs from (jobs_of worker (drop ahead jobs))
+    (λ other. rw (ne_eqb job.worker worker other) refl) (omega (arith, is))
+    (from_place next worker jobs (from + 1) ahead (omega (arith, is)) (omega (arith, within)))
 
 -- one that is no worker has no jobs left
 none_left : (next : List ℕ) (worker workers from : ℕ) (jobs : List Job) → workers ≤ worker →

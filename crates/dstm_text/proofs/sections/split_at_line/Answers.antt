@@ -5,6 +5,7 @@ use Rattle.std.specs.Str.{bytes_eq}
 use Rattle.memchr.specs.Find.{IsFirstByte, is_byte}
 use Rattle.dstm_text.specs.Lines.{lines_of, line_feed}
 use Rattle.dstm_text.proofs.LineSearch.{Split, searched-none, searched-more, found, found_last, absent_empty, absent_other}
+use Rattle.dstm_text.proofs.sections.split_at_line.Goals.{In-Some, In_default}
 use Rattle.dstm_text.proofs.sections.split_at_line.Goals as goal
 
 pub loop-length-init : goal.loop-length-init
@@ -30,41 +31,48 @@ of_rest : (bytes mark : List ℕ) (start : ℕ) (answer : Bool) →
 of_rest bytes mark start answer is =
     ap (λ (rest : List ℕ). bytes_eq rest mark) (sym (take_rest bytes start)) ∙ sym is
 
+-- a cut, as it is told
+cut : (split : Split) (front : List (List ℕ)) (back : Option (List (List ℕ))) → split ≡ (front, back) →
+    record { before : front ≡ split.0; behind : back ≡ split.1 }
+cut split front back is = record { before = sym (ap (λ (s : Split). s.0) is); behind = sym (ap (λ (s : Split). s.1) is) }
+
+-- no line ends behind the place that the search has come to
+no_more : (c : In_default) → IsFirstByte (is_byte line_feed) (drop c.loop-length.start c.args.bytes.now) None
+no_more c = in_rest c.args.bytes.now c.loop-length.start None c.in_default.ensures
+
+-- where the next line ends
+ends_at : (c : In-Some) →
+    IsFirstByte (is_byte line_feed) (drop c.loop-length.start c.args.bytes.now) (Some c.in-Some.length)
+ends_at c = in_rest c.args.bytes.now c.loop-length.start (Some c.in-Some.length) c.in-Some.ensures
+
 pub loop-length-preserved : goal.loop-length-preserved
 loop-length-preserved c =
-    let bytes = c.args.bytes.now in
-    let mark = c.args.mark.now in
-    let start = c.loop-length.start in
-    let k = c.in-Some.length in
-    searched-more bytes mark start k c.loop-length.invariant
-    (in_rest bytes start (Some k) c.in-Some.ensures) (of_line bytes mark start k false c.if-eq.ensures)
+    searched-more c.args.bytes.now c.args.mark.now c.loop-length.start c.in-Some.length c.loop-length.invariant
+    (ends_at (goal.at.loop-length-preserved c).In-Some)
+    (of_line c.args.bytes.now c.args.mark.now c.loop-length.start c.in-Some.length false c.if-eq.ensures)
 
 pub returns-then-eq : goal.returns-then-eq
 returns-then-eq c =
-    let bytes = c.args.bytes.now in
-    let mark = c.args.mark.now in
     let start = c.loop-length.start in
     let k = c.in-Some.length in
-    let is = found bytes mark start k c.loop-length.invariant
-    (in_rest bytes start (Some k) c.in-Some.ensures) (of_line bytes mark start k true c.if-eq.ensures) in
+    let is = found c.args.bytes.now c.args.mark.now start k c.loop-length.invariant
+    (ends_at (goal.at.returns-then-eq c).In-Some)
+    (of_line c.args.bytes.now c.args.mark.now start k true c.if-eq.ensures) in
     record {
       before = sym (ap (λ (s : Split). s.0) is);
-      behind = ap (λ (rest : List ℕ). Some (lines_of rest)) (take_rest bytes (start + k + 1)) ∙ sym (ap (λ (s : Split). s.1) is);
+      behind = ap (λ (rest : List ℕ). Some (lines_of rest)) (take_rest c.args.bytes.now (start + k + 1))
+          ∙ sym (ap (λ (s : Split). s.1) is);
     }
 
 pub returns-then-is_empty : goal.returns-then-is_empty
 returns-then-is_empty c =
     let bytes = c.args.bytes.now in
-    let mark = c.args.mark.now in
     let start = c.loop-length.start in
-    let rest = take (length bytes - start) (drop start bytes) in
     let empty : length (drop start bytes) ≡ 0 =
-    sym (ap length (take_rest bytes start)) ∙ eqb-true (length rest) 0 (sym c.if-is_empty.ensures) in
-    let is = absent_empty bytes mark start c.loop-length.invariant (in_rest bytes start None c.in_default.ensures) empty in
-    record {
-      before = sym (ap (λ (s : Split). s.0) is);
-      behind = sym (ap (λ (s : Split). s.1) is);
-    }
+    sym (ap length (take_rest bytes start))
+    ∙ eqb-true (length (take (length bytes - start) (drop start bytes))) 0 (sym c.if-is_empty.ensures) in
+    cut _ _ _ (absent_empty bytes c.args.mark.now start c.loop-length.invariant
+    (no_more (goal.at.returns-then-is_empty c).In_default) empty)
 
 -- the rest is not empty
 is_some : (bytes : List ℕ) (start : ℕ) → false ≡ eqb (length (take (length bytes - start) (drop start bytes))) 0 →
@@ -74,24 +82,14 @@ is_some bytes start is =
 
 pub returns-then-eq-2 : goal.returns-then-eq-2
 returns-then-eq-2 c =
-    let bytes = c.args.bytes.now in
-    let mark = c.args.mark.now in
-    let start = c.loop-length.start in
-    let is = found_last bytes mark start c.loop-length.invariant (in_rest bytes start None c.in_default.ensures)
-    (is_some bytes start c.if-is_empty.ensures) (of_rest bytes mark start true c.if-eq-2.ensures) in
-    record {
-      before = sym (ap (λ (s : Split). s.0) is);
-      behind = sym (ap (λ (s : Split). s.1) is);
-    }
+    cut _ _ _ (found_last c.args.bytes.now c.args.mark.now c.loop-length.start c.loop-length.invariant
+    (no_more (goal.at.returns-then-eq-2 c).In_default)
+    (is_some c.args.bytes.now c.loop-length.start c.if-is_empty.ensures)
+    (of_rest c.args.bytes.now c.args.mark.now c.loop-length.start true c.if-eq-2.ensures))
 
 pub returns : goal.returns
 returns c =
-    let bytes = c.args.bytes.now in
-    let mark = c.args.mark.now in
-    let start = c.loop-length.start in
-    let is = absent_other bytes mark start c.loop-length.invariant (in_rest bytes start None c.in_default.ensures)
-    (is_some bytes start c.if-is_empty.ensures) (of_rest bytes mark start false c.if-eq-2.ensures) in
-    record {
-      before = sym (ap (λ (s : Split). s.0) is);
-      behind = sym (ap (λ (s : Split). s.1) is);
-    }
+    cut _ _ _ (absent_other c.args.bytes.now c.args.mark.now c.loop-length.start c.loop-length.invariant
+    (no_more (goal.at.returns c).In_default)
+    (is_some c.args.bytes.now c.loop-length.start c.if-is_empty.ensures)
+    (of_rest c.args.bytes.now c.args.mark.now c.loop-length.start false c.if-eq-2.ensures))
