@@ -18,6 +18,18 @@ fn transfer(source: u32, target: u32, amount: u64) -> Op {
     }
 }
 
+fn insert(which: Which, key: u32) -> Op {
+    Op::Insert { which, key }
+}
+
+fn remove(which: Which, key: u32) -> Op {
+    Op::Remove { which, key }
+}
+
+fn member(which: Which, key: u32) -> Op {
+    Op::Member { which, key }
+}
+
 // The expected jobs come from a program of its own, in Python, that has PCG's generator XSH RR 64/32 and
 // the way in which rand's `seed_from_u64` expands a number by PCG32; its words of seed 0 begin
 // 298703107, 4236525527, 336081875, 1056616254.
@@ -28,13 +40,7 @@ fn jobs_of_two_workers(rt: HostRuntime) -> Result<(), Fail> {
     assert_eq!(rt; workload.workers, 2);
     let jobs = workload.jobs.as_slice();
     assert_eq!(rt; jobs.len(), 3);
-    let first = [
-        Op::Remove {
-            which: Which::List,
-            key: 29,
-        },
-        Op::Total,
-    ];
+    let first = [remove(Which::List, 29), Op::Total];
     expect_job(&rt, &jobs[0], 6, 0, &first);
     expect_job(&rt, &jobs[1], 7, 1, &[Op::Balance { account: 4 }]);
     expect_job(&rt, &jobs[2], 8, 0, &[transfer(0, 4, 186)]);
@@ -49,57 +55,23 @@ fn jobs_of_every_form(rt: HostRuntime) -> Result<(), Fail> {
     let workload = generate(rt.alloc(), 14, 4, 3)?;
     let jobs = workload.jobs.as_slice();
     assert_eq!(rt; jobs.len(), 4);
-    let first = [
-        Op::Insert {
-            which: list,
-            key: 49,
-        },
-        Op::Member {
-            which: tree,
-            key: 810,
-        },
-        transfer(5, 1, 79),
-    ];
+    let first = [insert(list, 49), member(tree, 810), transfer(5, 1, 79)];
     expect_job(&rt, &jobs[0], 6, 0, &first);
     let second = [
-        Op::Insert {
-            which: tree,
-            key: 29,
-        },
+        insert(tree, 29),
         Op::Balance { account: 3 },
-        Op::Remove {
-            which: tree,
-            key: 1952,
-        },
+        remove(tree, 1952),
         Op::Total,
     ];
     expect_job(&rt, &jobs[1], 7, 1, &second);
     let third = [
-        Op::Remove {
-            which: list,
-            key: 125,
-        },
+        remove(list, 125),
         transfer(2, 3, 96),
-        Op::Member {
-            which: tree,
-            key: 1376,
-        },
-        Op::Insert {
-            which: tree,
-            key: 1498,
-        },
+        member(tree, 1376),
+        insert(tree, 1498),
     ];
     expect_job(&rt, &jobs[2], 8, 2, &third);
-    expect_job(
-        &rt,
-        &jobs[3],
-        9,
-        0,
-        &[Op::Member {
-            which: tree,
-            key: 977,
-        }],
-    );
+    expect_job(&rt, &jobs[3], 9, 0, &[member(tree, 977)]);
     Ok(())
 }
 
@@ -116,14 +88,8 @@ fn no_jobs_and_the_most(rt: HostRuntime) -> Result<(), Fail> {
     let jobs = workload.jobs.as_slice();
     assert_eq!(rt; jobs.len(), 20_000);
     let last = [
-        Op::Remove {
-            which: Which::Tree,
-            key: 94,
-        },
-        Op::Member {
-            which: Which::Tree,
-            key: 1840,
-        },
+        remove(Which::Tree, 94),
+        member(Which::Tree, 1840),
         transfer(4, 2, 188),
     ];
     expect_job(&rt, &jobs[19_999], 20_005, 31, &last);
