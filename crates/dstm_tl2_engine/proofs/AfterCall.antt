@@ -23,7 +23,7 @@ use Rattle.dstm_machines.proofs.Own.{own_state}
 use Rattle.dstm_tl2.proofs.Done.{invalid_after, quiet_after, valid_after}
 use Rattle.dstm_tl2_engine.proofs.Left.{is_left}
 
-module _ {L : Type 0} (holds : L → List Val → Type 0) (k n : TlCalled L) (task : Task) (again : Option TlAgain)
+module _ {L : Type 0} {holds : L → List Val → Type 0} {k n : TlCalled L} {task : Task} {again : Option TlAgain}
     (p : Performs holds task k n again) where
   run_then : Run (table_of_caller k) n.log
   run_then = p.run.run.run
@@ -73,8 +73,7 @@ module _ {L : Type 0} (holds : L → List Val → Type 0) (k n : TlCalled L) (ta
   done_invalid none invalid =
       done_of
       ∙ invalid_after (table_of_caller k) k.number k.log n.log p.events p.seen p.own run_then
-      (unsampled task (table_of_caller k) (state k) p.events none p.call.obeys)
-      (ap is_valid (sym state_of) ∙ invalid)
+      (unsampled task (table_of_caller k) (state k) p.events none p.call.obeys) (ap is_valid (sym state_of) ∙ invalid)
 
   -- A CALL THAT HAS COMMITTED: what it has committed is the attempt as the state is in the end.
   pub done_valid : samples_in task ≡ false → is_valid (state k) ≡ false → is_valid (state n) ≡ true →
@@ -97,8 +96,7 @@ module _ {L : Type 0} (holds : L → List Val → Type 0) (k n : TlCalled L) (ta
       ∙ ap (λ xs. (local (table_of_caller k) xs k.number).begun)
       (begun_after is_sample k.number k.log n.log p.events p.seen p.own
       (unsampled task (table_of_caller k) (state k) p.events none p.call.obeys))
-      ∙ sym (begun_count (table_of_caller k) k.number k.log))
-      (sym p.answers ∙ is)))
+      ∙ sym (begun_count (table_of_caller k) k.number k.log)) (sym p.answers ∙ is)))
 
   -- and the events of its attempt answer the same
   caused : (why : TlAgain) → again ≡ Some why → samples_in task ≡ false →
@@ -120,5 +118,4 @@ module _ {L : Type 0} (holds : L → List Val → Type 0) (k n : TlCalled L) (ta
       IsLeft n
   left_after why is left none free over others =
       is_left n (subst (λ t. Run t n.log) (sym table_then) run_then) free over (left ∙ sym (caused why is none))
-      (disturbed why is none)
-      (subst (λ (t : Table). 1 < t.callers) (sym table_then) others)
+      (disturbed why is none) (subst (λ (t : Table). 1 < t.callers) (sym table_then) others)

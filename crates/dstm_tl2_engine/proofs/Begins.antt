@@ -55,9 +55,9 @@ no_value (Some x) h = absurd (h refl)
 
 -- WHERE NOTHING IS LOCKED, and still all that the attempt writes is, it writes nothing: so each map that it admits
 -- stays as it is.
-pub lawful_unlocked : {L : Type 0} (holds : L → List Val → Type 0) (k : TlCalled L) → (state k).holds ≡ [] →
+pub lawful_unlocked : {L : Type 0} (holds : L → List Val → Type 0) {k : TlCalled L} → (state k).holds ≡ [] →
     ((o : ℕ) → IsSome (value_in k.set o) → IsSome (value_in k.writes o)) → HasLocked k → IsLawful holds k
-lawful_unlocked holds k free sets locked map admits =
+lawful_unlocked holds {k = k} free sets locked map admits =
     subst (holds k.home.terms.law.value) (sym (with_set-nothing map (written k) unset)) admits.lawful
   where
     none : k.writes ≡ []
@@ -102,10 +102,8 @@ due_none false false false t holds e d = ap may_commit d
 pub beginning_none : (t : Table) (l : LocalState) (es : List Event) → Obeys Beginning t l es → NoCommits es
 beginning_none t l [] o = All-nil Quiet
 beginning_none t l (e ∷ es) o =
-    All-cons Quiet e es
-    (due_none (has_sampled (newest_of es)) (not (length (state_after t l es).holds == 0))
-    (is_spent t (state_after t l es)) t (state_after t l es).holds e o.1)
-    (beginning_none t l es o.0)
+    All-cons Quiet e es (due_none (has_sampled (newest_of es)) (not (length (state_after t l es).holds == 0))
+    (is_spent t (state_after t l es)) t (state_after t l es).holds e o.1) (beginning_none t l es o.0)
 
 -- ---- what they had to give back
 
@@ -118,8 +116,7 @@ gives_back : (t : Table) (l : LocalState) (holds : List Hold) → l.holds ≡ ho
     IsDue t (in_giving_back holds) e → (after e.kind t l e).gave_back ≡ true
 gives_back t l [] is e d = absurd d
 gives_back t l (h ∷ hs) is e d =
-    let found : hold_of e.place l.holds ≡ Some h =
-    ap (hold_of e.place) is
+    let found : hold_of e.place l.holds ≡ Some h = ap (hold_of e.place) is
     ∙ cond-true (h.object == e.place) (Some h) (hold_of e.place hs) (eq-eqb h.object e.place (sym d.1)) in
     let same : (e.put == (or_hold (hold_of e.place l.holds)).word) ≡ true =
     eq-eqb e.put (or_hold (hold_of e.place l.holds)).word (d.2 ∙ ap (λ x. (or_hold x).word) (sym found)) in
@@ -181,13 +178,13 @@ anew c new = record c {
   opened = record c.opened { reads = []; writes = []; set = [] };
 }
 
-module _ {L : Type 0} (holds : L → List Val → Type 0) (c : Inside L) (v : Tied holds c) (task : Task) (new : Steps L)
+module _ {L : Type 0} {holds : L → List Val → Type 0} {c : Inside L} (v : Tied holds c) (task : Task) {new : Steps L}
     (u : Under holds (called c).home (began_of task (called c)) new Done None) where
   st : local (table_of c.terms) (view_of new.seat).log c.number ≡ now (called c).home new
-  st = state_then holds c v task new Done None u
+  st = state_then v task u
 
   k : Kept holds c new
-  k = kept holds c v task new Done None u
+  k = kept v task u
 
   -- nothing was committed
   pub same_done : NoCommits u.events → done (called (record c { steps = new })) ≡ done (called c)
@@ -271,7 +268,7 @@ module _ {L : Type 0} (holds : L → List Val → Type 0) (c : Inside L) (v : Ti
       locks = is_free;
       may = λ some. absurd (some refl);
       few = omega arith;
-      lawful = lawful_unlocked holds (called (freed c new)) is_free v.sets;
+      lawful = lawful_unlocked holds is_free v.sets;
       left = left_then;
       told = freed_told back;
     }
@@ -308,7 +305,7 @@ module _ {L : Type 0} (holds : L → List Val → Type 0) (c : Inside L) (v : Ti
       locks = is_unlocked;
       may = λ some. absurd (some refl);
       few = omega arith;
-      lawful = lawful_unlocked holds (called (anew c new)) is_unlocked (λ o some. some);
+      lawful = lawful_unlocked holds is_unlocked (λ o some. some);
       left = tt;
       told = λ _. record {
         calls = [];
@@ -347,18 +344,17 @@ since_begin_of b log p found top =
 
 -- ---- a call that was to begin an attempt
 
-module _ {L : Type 0} (holds : L → List Val → Type 0) (c : Inside L) (v : Tied holds c) (new : Steps L)
+module _ {L : Type 0} {holds : L → List Val → Type 0} {c : Inside L} (v : Tied holds c) {new : Steps L}
     (u : Under holds (called c).home (began_of Beginning (called c)) new Done None) where
   done_then : done (called (record c { steps = new })) ≡ done (called c)
-  done_then =
-      same_done holds c v Beginning new u (beginning_none (table_of c.terms) (state (called c)) u.events u.obeys)
+  done_then = same_done v Beginning u (beginning_none (table_of c.terms) (state (called c)) u.events u.obeys)
 
   -- where it gave nothing back, nothing was locked
   pub begun_back : (gave : Bool) →
       now (called c).home new ≡ record (state (called c)) { holds = []; gave_back = gave } → gave ≡ false →
       (state (called c)).holds ≡ []
   begun_back gave is none =
-      let call = (call_of holds (called c).home (began_of Beginning (called c)) new None u).0 in
+      let call = (call_of u).0 in
       begun_nothing (table_of c.terms) (state (called c)) u.events call.obeys call.done
       (ap (λ (l : LocalState). l.gave_back) (sym u.state ∙ is) ∙ none)
       (ap (λ (l : LocalState). l.begun) (sym u.state ∙ is))
@@ -368,10 +364,10 @@ module _ {L : Type 0} (holds : L → List Val → Type 0) (c : Inside L) (v : Ti
       (c.locked ≡ 0 → new ≡ c.steps) → is_spent (table_of c.terms) (state (called c)) ≡ true →
       SpentFrom holds (called c) (called (freed c new))
   spent_from gave is idle spent = record {
-    steps = performs_then holds c Beginning new None u c.opened c.left;
-    caller = freed_kept holds c v Beginning new u gave is idle;
-    free = is_free holds c v Beginning new u gave is idle;
-    begun = same_begun holds c v Beginning new u gave is idle;
+    steps = performs_then c Beginning u c.opened c.left;
+    caller = freed_kept v Beginning u gave is idle;
+    free = is_free v Beginning u gave is idle;
+    begun = same_begun v Beginning u gave is idle;
     same_done = done_then;
     spent = spent;
   }
@@ -381,48 +377,47 @@ module _ {L : Type 0} (holds : L → List Val → Type 0) (c : Inside L) (v : Ti
       × ((view_of new.seat).log ≡ made_by (began_of Beginning (called c)) Load Sample p new.sample ∷ before)) →
       is_spent (table_of c.terms) (state (called c)) ≡ false → BeginsAnew holds (called c) (called (anew c new))
   begins_anew is p top enough = record {
-    steps = performs_then holds c Beginning new None u (record c.opened { reads = []; writes = []; set = [] }) None;
-    caller = anew_caller holds c v Beginning new u is;
+    steps = performs_then c Beginning u (record c.opened { reads = []; writes = []; set = [] }) None;
+    caller = anew_caller v Beginning u is;
     untouched = λ map. with_set-nothing map (λ o. None) (λ o. refl);
-    begun = anew_begun holds c v Beginning new u is;
+    begun = anew_begun v Beginning u is;
     at_begin = at_begin_of (began_of Beginning (called c)) (view_of new.seat).log p new.sample top;
     same_done = done_then;
     enough = enough;
-    admits = (c.terms.start.value.items, anew_admits holds c v Beginning new u is);
+    admits = (c.terms.start.value.items, anew_admits v Beginning u is);
   }
 
 -- ---- a call that was to give back
 
-module _ {L : Type 0} (holds : L → List Val → Type 0) (c : Inside L) (v : Tied holds c) (new : Steps L)
+module _ {L : Type 0} {holds : L → List Val → Type 0} {c : Inside L} (v : Tied holds c) {new : Steps L}
     (u : Under holds (called c).home (began_of Returning (called c)) new Done None) where
   pub returns_done : done (called (freed c new)) ≡ done (called c)
-  returns_done =
-      same_done holds c v Returning new u (returning_none (table_of c.terms) (state (called c)) u.events u.obeys)
+  returns_done = same_done v Returning u (returning_none (table_of c.terms) (state (called c)) u.events u.obeys)
 
   -- where it gave nothing back, nothing was locked
   pub returned_back : (gave : Bool) →
       now (called c).home new ≡ record (state (called c)) { holds = []; gave_back = gave } → gave ≡ false →
       (state (called c)).holds ≡ []
   returned_back gave is none =
-      let call = (call_of holds (called c).home (began_of Returning (called c)) new None u).0 in
+      let call = (call_of u).0 in
       returned_nothing (table_of c.terms) (state (called c)) u.events call.obeys call.done
       (ap (λ (l : LocalState). l.gave_back) (sym u.state ∙ is) ∙ none)
 
 -- ---- the same from what the steps tell of their table
 
-module _ {L : Type 0} (holds : L → List Val → Type 0) (c : Inside L) (v : Tied holds c) (home : Home L)
+module _ {L : Type 0} {holds : L → List Val → Type 0} {c : Inside L} (v : Tied holds c) {home : Home L}
     (same : (called c).home ≡ home) (new : Steps L) where
   pub freed_here : (gave : Bool) → now home new ≡ record (now home c.steps) { holds = []; gave_back = gave } →
       now (called c).home new ≡ record (state (called c)) { holds = []; gave_back = gave }
   freed_here gave is =
       subst (λ (h : Home L). now h new ≡ record (state (called c)) { holds = []; gave_back = gave }) (sym same)
-      (is ∙ ap (λ (l : LocalState). record l { holds = []; gave_back = gave }) (now_there holds c v home same))
+      (is ∙ ap (λ (l : LocalState). record l { holds = []; gave_back = gave }) (now_there v same))
 
   pub begun_here : now home new ≡ begin (now home c.steps) new.sample →
       now (called c).home new ≡ begin (state (called c)) new.sample
   begun_here is =
       subst (λ (h : Home L). now h new ≡ begin (state (called c)) new.sample) (sym same)
-      (is ∙ ap (λ (l : LocalState). begin l new.sample) (now_there holds c v home same))
+      (is ∙ ap (λ (l : LocalState). begin l new.sample) (now_there v same))
 
   pub top_here : (p : ℕ) →
       ((before : List Event)
@@ -432,28 +427,27 @@ module _ {L : Type 0} (holds : L → List Val → Type 0) (c : Inside L) (v : Ti
   top_here p top =
       subst (λ (b : Began). (before : List Event)
       × ((view_of new.seat).log ≡ made_by b Load Sample p new.sample ∷ before))
-      (began_is holds (called c) Beginning c.steps (steps_of holds c v))
-      (subst (λ (h : Home L). (before : List Event)
+      (began_is holds (called c) Beginning (steps_of v)) (subst (λ (h : Home L). (before : List Event)
       × ((view_of new.seat).log ≡ made_by (begun_as h Beginning c.steps) Load Sample p new.sample ∷ before))
       (sym same) top)
 
 -- whether the caller is spent, by what it counts
-pub spent_is : {L : Type 0} (holds : L → List Val → Type 0) (c : Inside L) → Tied holds c →
+pub spent_is : {L : Type 0} {holds : L → List Val → Type 0} {c : Inside L} → Tied holds c →
     is_spent (table_of c.terms) (state (called c)) ≡ not (nat_lt c.begun c.terms.attempts)
-spent_is holds c v = ap (λ n. not (nat_lt n c.terms.attempts)) v.begun
+spent_is {c = c} v = ap (λ n. not (nat_lt n c.terms.attempts)) v.begun
 
 -- the test whether it is
-pub spent_by : {L : Type 0} (holds : L → List Val → Type 0) (c : Inside L) → Tied holds c → c.terms.attempts ≤ c.begun →
+pub spent_by : {L : Type 0} {holds : L → List Val → Type 0} {c : Inside L} → Tied holds c → c.terms.attempts ≤ c.begun →
     (nat_le c.terms.attempts c.begun ≡ true) × (is_spent (table_of c.terms) (state (called c)) ≡ true)
-spent_by holds c v all = (grind (arith, all), spent_is holds c v ∙ ap not (tested c.begun c.terms.attempts all))
+spent_by {c = c} v all = (grind (arith, all), spent_is v ∙ ap not (tested c.begun c.terms.attempts all))
   where
     tested : (n m : ℕ) → m ≤ n → nat_lt n m ≡ false
     tested n m h = grind arith
 
-pub unspent_by : {L : Type 0} (holds : L → List Val → Type 0) (c : Inside L) → Tied holds c →
+pub unspent_by : {L : Type 0} {holds : L → List Val → Type 0} {c : Inside L} → Tied holds c →
     c.begun < c.terms.attempts →
     (nat_le c.terms.attempts c.begun ≡ false) × (is_spent (table_of c.terms) (state (called c)) ≡ false)
-unspent_by holds c v left = (grind (arith, left), spent_is holds c v ∙ ap not (tested c.begun c.terms.attempts left))
+unspent_by {c = c} v left = (grind (arith, left), spent_is v ∙ ap not (tested c.begun c.terms.attempts left))
   where
     tested : (n m : ℕ) → n < m → nat_lt n m ≡ true
     tested n m h = grind arith

@@ -132,8 +132,7 @@ only_locks writes t l (e ∷ es) o sound =
 -- so a commit draws its number then
 draws_then : (writes : List (ℕ × Val)) (t : Table) (l : LocalState) (es : List Event) →
     Obeys (Doing (Locking writes)) t l es → (state_after t l es).failed ≡ false →
-    (state_after t l es).locked ≡ length writes →
-    due_after (Doing (Committing writes)) t l es ≡ Just (draws writes)
+    (state_after t l es).locked ≡ length writes → due_after (Doing (Committing writes)) t l es ≡ Just (draws writes)
 draws_then writes t l es o sound count = by es (only_locks writes t l es o sound) (state_after t l es) sound count
   where
     row : (m : LocalState) → m.locked ≡ length writes → in_locking writes (Committing writes) m ≡ Just (draws writes)
@@ -156,8 +155,7 @@ finishes_more : (writes : List (ℕ × Val)) (t : Table) (l : LocalState) (es fs
     Obeys (Doing (Committing writes)) t l fs → due_after (Doing (Committing writes)) t l fs ≡ Just (draws writes) →
     Obeys (Doing (Finishing writes)) t (state_after t l fs) es → Obeys (Doing (Committing writes)) t l (es ++ fs)
 finishes_more writes t l [] fs o draws_next p = o
-finishes_more writes t l (e ∷ es) fs o draws_next p =
-    (finishes_more writes t l es fs o draws_next p.0, by es p.1)
+finishes_more writes t l (e ∷ es) fs o draws_next p = (finishes_more writes t l es fs o draws_next p.0, by es p.1)
   where
     by : (es : List Event) →
         IsDue t (due_after (Doing (Finishing writes)) t (state_after t l fs) es) e →
@@ -201,23 +199,23 @@ locks_done writes t l (newest ∷ es) again failed answer done =
 
 -- ---- of a caller
 
-module _ {L : Type 0} (holds : L → List Val → Type 0) where
+module _ {L : Type 0} {holds : L → List Val → Type 0} where
   -- the events of a call make the state after it
-  pub state_by : (k n : TlCalled L) (task : Task) (again : Option TlAgain) → (p : Performs holds task k n again) →
+  pub state_by : {k n : TlCalled L} {task : Task} {again : Option TlAgain} → (p : Performs holds task k n again) →
       state n ≡ state_after (table_of_caller k) (state k) p.events
-  state_by k n task again p =
+  state_by {k = k} {n = n} p =
       ap (λ (h : Home L). local (table_of h.terms) n.log n.number) p.same.0
       ∙ ap (local (table_of_caller k) n.log) p.same.1
       ∙ after_own tl2 (table_of_caller k) k.number n.log k.log p.events p.own
 
   -- A COMMIT LOCKS, AND THEN IT FINISHES.
-  pub both : (k m n : TlCalled L) (writes : List (ℕ × Val)) (again : Option TlAgain) →
+  pub both : {k m n : TlCalled L} (writes : List (ℕ × Val)) {again : Option TlAgain} →
       Performs holds (Doing (Locking writes)) k m None → (state m).failed ≡ false →
       (state m).locked ≡ length writes → Performs holds (Doing (Finishing writes)) m n again →
       Performs holds (Doing (Committing writes)) k n again
-  both k m n writes again p sound count q =
+  both {k = k} {m = m} {n = n} writes {again = again} p sound count q =
       let t : Table = table_of_caller k in
-      let is : state m ≡ state_after t (state k) p.events = state_by k m (Doing (Locking writes)) None p in
+      let is : state m ≡ state_after t (state k) p.events = state_by p in
       let call : IsCall (Doing (Finishing writes)) t (state_after t (state k) p.events) q.events =
       subst (λ l. IsCall (Doing (Finishing writes)) t l q.events) is
       (subst (λ (h : Home L). IsCall (Doing (Finishing writes)) (table_of h.terms) (state m) q.events) p.same.0
@@ -232,8 +230,7 @@ module _ {L : Type 0} (holds : L → List Val → Type 0) where
             ∙ sym (append_assoc q.events p.events (events_of k.number k.log));
         call = record {
           obeys = finishes_more writes t (state k) q.events p.events
-              (locks_more writes t (state k) p.events p.call.obeys)
-              (draws_then writes t (state k) p.events p.call.obeys
+              (locks_more writes t (state k) p.events p.call.obeys) (draws_then writes t (state k) p.events p.call.obeys
               (ap (λ (l : LocalState). l.failed) (sym is) ∙ sound)
               (ap (λ (l : LocalState). l.locked) (sym is) ∙ count)) call.obeys;
           done = finishes_done writes t (state k) q.events p.events
@@ -246,10 +243,10 @@ module _ {L : Type 0} (holds : L → List Val → Type 0) where
       }
 
   -- and where a lock has failed it ends.
-  pub ends_locking : (k n : TlCalled L) (writes : List (ℕ × Val)) (again : TlAgain) → (state k).failed ≡ false →
+  pub ends_locking : {k n : TlCalled L} (writes : List (ℕ × Val)) {again : TlAgain} → (state k).failed ≡ false →
       Performs holds (Doing (Locking writes)) k n (Some again) →
       Performs holds (Doing (Committing writes)) k n (Some again)
-  ends_locking k n writes again sound p =
+  ends_locking {k = k} writes {again = again} sound p =
       let t : Table = table_of_caller k in
       let kept = closing_keeps t (state k) p.events
       (are_closing (Locking writes) t (state k) p.events refl p.call.obeys) in
@@ -271,19 +268,17 @@ module _ {L : Type 0} (holds : L → List Val → Type 0) where
   -- ---- what a commit says, from what its two calls say
 
   -- a call that locks keeps the reads
-  pub held_kept : (k m : TlCalled L) (writes : List (ℕ × Val)) (again : Option TlAgain) →
+  pub held_kept : {k m : TlCalled L} (writes : List (ℕ × Val)) {again : Option TlAgain} →
       Performs holds (Doing (Locking writes)) k m again → (o : ℕ) → held m o ≡ held k o
-  held_kept k m writes again p o =
-      ap (λ (l : LocalState). value_in (read_values l.reads) o)
-      (state_by k m (Doing (Locking writes)) again p)
-      ∙ ap (λ rs. value_in (read_values rs) o)
-      (closing_keeps (table_of_caller k) (state k) p.events
+  held_kept {k = k} writes p o =
+      ap (λ (l : LocalState). value_in (read_values l.reads) o) (state_by p)
+      ∙ ap (λ rs. value_in (read_values rs) o) (closing_keeps (table_of_caller k) (state k) p.events
       (are_closing (Locking writes) (table_of_caller k) (state k) p.events refl p.call.obeys)).reads
 
-  pub commit_lost : (k n : TlCalled L) (again : TlAgain) → (state k).failed ≡ false →
+  pub commit_lost : {k n : TlCalled L} {again : TlAgain} → (state k).failed ≡ false →
       Leaves holds (Locking k.writes) k n again → Leaves holds (Committing k.writes) k n again
-  commit_lost k n again sound x =
-      let steps = ends_locking k n k.writes again sound x.steps in
+  commit_lost {k = k} {again = again} sound x =
+      let steps = ends_locking k.writes sound x.steps in
       record {
         steps = steps;
         cause = causes_of (table_of_caller k) (state k) steps.events again (sym steps.answers);
@@ -292,24 +287,24 @@ module _ {L : Type 0} (holds : L → List Val → Type 0) where
         done = x.done;
       }
 
-  module _ (k m : TlCalled L) (kept : m ≡ record k { log = m.log; left = None })
+  module _ {k m : TlCalled L} (kept : m ≡ record k { log = m.log; left = None })
       (locks_stay : Stays holds (Locking k.writes) k m) (locked : HasLocked m) (same_done : done m ≡ done k) where
     same_writes : m.writes ≡ k.writes
     same_writes = ap (λ (x : TlCalled L). x.writes) kept
 
-    commits_by : (n : TlCalled L) (again : Option TlAgain) →
+    commits_by : {n : TlCalled L} {again : Option TlAgain} →
         Performs holds (Doing (Finishing m.writes)) m n again → Performs holds (Doing (Committing k.writes)) k n again
-    commits_by n again p =
-        both k m n k.writes again locks_stay.steps locked.sound.0 (locked.locked ∙ ap length same_writes)
+    commits_by {n = n} {again = again} p =
+        both k.writes locks_stay.steps locked.sound.0 (locked.locked ∙ ap length same_writes)
         (subst (λ ws. Performs holds (Doing (Finishing ws)) m n again) same_writes p)
 
-    pub commit_stays : (n : TlCalled L) → Stays holds (Finishing m.writes) m n → Stays holds (Committing k.writes) k n
-    commit_stays n x = record { steps = commits_by n None x.steps; attempt = x.attempt ∙ locks_stay.attempt }
+    pub commit_stays : {n : TlCalled L} → Stays holds (Finishing m.writes) m n → Stays holds (Committing k.writes) k n
+    commit_stays x = record { steps = commits_by x.steps; attempt = x.attempt ∙ locks_stay.attempt }
 
     pub commit_leaves : (n : TlCalled L) (again : TlAgain) → Leaves holds (Finishing m.writes) m n again →
         Leaves holds (Committing k.writes) k n again
     commit_leaves n again x =
-        let steps = commits_by n (Some again) x.steps in
+        let steps = commits_by x.steps in
         record {
           steps = steps;
           cause = causes_of (table_of_caller k) (state k) steps.events again (sym steps.answers);
@@ -338,7 +333,7 @@ module _ {L : Type 0} (holds : L → List Val → Type 0) where
     }
       where
         same_held : (o : ℕ) → held m o ≡ held k o
-        same_held o = held_kept k m k.writes None locks_stay.steps o
+        same_held o = held_kept k.writes locks_stay.steps o
 
         same_handed : (o : ℕ) → handed m o ≡ handed k o
         same_handed o =

@@ -51,8 +51,7 @@ each_due P task t first more l (e ∷ events) h =
   where
     here : (events : List Event) → All (λ (e : Event). P e.kind) events → Dues P (due_after task t l events)
     here [] all = first l
-    here (x ∷ xs) all =
-        more x (state_after t l (x ∷ xs)) (All-head (λ (e : Event). P e.kind) x xs all)
+    here (x ∷ xs) all = more x (state_after t l (x ∷ xs)) (All-head (λ (e : Event). P e.kind) x xs all)
 
 module _ (P : Kind → Type 0) where
   pub giving_back : P Unlock → (holds : List Hold) → Dues P (in_giving_back holds)
@@ -118,8 +117,7 @@ unsampled_next LookHigh e work l = refl
 unsampled_next LookAgain e work l = tt
 unsampled_next (Lock w) e work l =
     cond_both l.failed (in_giving_back l.holds) (in_locking w.value work l) (Dues Unsampled)
-    (λ _. giving_back Unsampled refl l.holds)
-    (λ _. locking Unsampled w.value work l refl (unsampled_locked work))
+    (λ _. giving_back Unsampled refl l.holds) (λ _. locking Unsampled w.value work l refl (unsampled_locked work))
 unsampled_next (Draw w) e work l = checking Unsampled refl refl refl refl l
 unsampled_next Check e work l =
     cond_both l.failed (in_giving_back l.holds) (in_checking l) (Dues Unsampled)
@@ -128,8 +126,7 @@ unsampled_next WriteLow e work l = writing_back Unsampled refl refl refl (or_zer
 unsampled_next WriteHigh e work l = writing_back Unsampled refl refl refl (or_zero l.drawn) l.holds
 unsampled_next Unlock e work l =
     cond_both l.failed (in_giving_back l.holds) (in_writing_back (or_zero l.drawn) l.holds) (Dues Unsampled)
-    (λ _. giving_back Unsampled refl l.holds)
-    (λ _. writing_back Unsampled refl refl refl (or_zero l.drawn) l.holds)
+    (λ _. giving_back Unsampled refl l.holds) (λ _. writing_back Unsampled refl refl refl (or_zero l.drawn) l.holds)
 
 pub unsampled : (task : Task) (t : Table) (l : LocalState) (events : List Event) → samples_in task ≡ false →
     Obeys task t l events → NoSamples events
@@ -203,8 +200,7 @@ locking_next WriteLow e writes l h = writing_back InLocking refl refl refl (or_z
 locking_next WriteHigh e writes l h = writing_back InLocking refl refl refl (or_zero l.drawn) l.holds
 locking_next Unlock e writes l h =
     cond_both l.failed (in_giving_back l.holds) (in_writing_back (or_zero l.drawn) l.holds) (Dues InLocking)
-    (λ _. giving_back InLocking refl l.holds)
-    (λ _. writing_back InLocking refl refl refl (or_zero l.drawn) l.holds)
+    (λ _. giving_back InLocking refl l.holds) (λ _. writing_back InLocking refl refl refl (or_zero l.drawn) l.holds)
 locking_next k e writes l h = absurd (cc)
 
 -- the events of a call that opens an object are its looks

@@ -32,11 +32,11 @@ module _ {L : Type 0} (holds : L → List Val → Type 0) (k : TlCalled L) where
     pub sample : steps.sample ≡ (state k).sample
 
   -- they know its state
-  pub now_is : (steps : Steps L) → StepsOf steps → now k.home steps ≡ state k
-  now_is steps s = ap (caller_state k.home.terms) s.view
+  pub now_is : {steps : Steps L} → StepsOf steps → now k.home steps ≡ state k
+  now_is s = ap (caller_state k.home.terms) s.view
 
-  pub began_is : (task : Task) (steps : Steps L) → StepsOf steps → begun_as k.home task steps ≡ began_of task k
-  began_is task steps s =
+  pub began_is : (task : Task) {steps : Steps L} → StepsOf steps → begun_as k.home task steps ≡ began_of task k
+  began_is task s =
       ap (λ (v : View L). record {
         task = task;
         number = number_or v.number 0;
@@ -45,29 +45,28 @@ module _ {L : Type 0} (holds : L → List Val → Type 0) (k : TlCalled L) where
       }) s.view
 
   -- a call begins
-  pub starts : (task : Task) (steps : Steps L) → StepsOf steps →
+  pub starts : (task : Task) {steps : Steps L} → StepsOf steps →
       Under holds k.home (begun_as k.home task steps) steps
       (due task (table_of k.home.terms) None (now k.home steps)) None
-  starts task steps s =
+  starts task {steps = steps} s =
       let named : number_or (view_of steps.seat).number 0 ≡ k.number =
       ap (λ (v : View L). number_or v.number 0) s.view in
       let seen : (view_of steps.seat).log ≡ k.log = ap (λ (v : View L). v.log) s.view in
       subst (λ n. Under holds k.home (began_as k.home task n steps) steps
       (due task (table_of k.home.terms) None (now k.home steps)) None) (sym named)
-      (call_begins holds k.home task k.number steps s.seat
+      (call_begins k.home task k.number steps s.seat
       (s.view ∙ ap (caller_view k.home.terms k.number) (sym seen)) s.number
-      (subst (IsRunOf holds k.home.terms) (sym seen) s.run) s.places
-      (s.sample ∙ sym (ap (λ l. l.sample) (now_is steps s))))
+      (subst (IsRunOf holds k.home.terms) (sym seen) s.run) s.places (s.sample ∙ sym (ap (λ l. l.sample) (now_is s))))
 
   -- and is one of the caller's
-  pub performs : (task : Task) (steps : Steps L) (again : Option TlAgain) (n : TlCalled L) →
+  pub performs : (task : Task) {steps : Steps L} {again : Option TlAgain} (n : TlCalled L) →
       Under holds k.home (began_of task k) steps Done again → n.log ≡ (view_of steps.seat).log → n.home ≡ k.home →
       n.number ≡ k.number → Performs holds task k n again
-  performs task steps again n u log home number = record {
+  performs task n u log home number = record {
     events = u.events;
     own = ap (events_of k.number) log ∙ u.own;
-    call = (call_of holds k.home (began_of task k) steps again u).0;
-    answers = (call_of holds k.home (began_of task k) steps again u).1;
+    call = (call_of u).0;
+    answers = (call_of u).1;
     seen = subst (IsPastOf k.log) (sym log) u.seen;
     run = subst (IsRunOf holds k.home.terms) (sym log) u.run;
     same = (home, number);

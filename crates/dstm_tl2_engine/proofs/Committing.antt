@@ -50,8 +50,7 @@ use Rattle.dstm_tl2_engine.proofs.Working.{KeptBy, TellsOnce, are_closing, close
 -- For a map that agrees with what was read the writes are what is set: what was opened and not set has the value read.
 told_as_set : (values : List Val) (reads writes : List (ℕ × Val)) (set : ℕ → Option Val) → Agrees values reads →
     ((o : ℕ) → IfSome (value_in writes o) (λ v. Some v ≡ option_or (set o) (value_in reads o))) →
-    ((o : ℕ) → IsSome (set o) → IsSome (value_in writes o)) →
-    with_writes values writes ≡ with_set values set
+    ((o : ℕ) → IsSome (set o) → IsSome (value_in writes o)) → with_writes values writes ≡ with_set values set
 told_as_set values reads writes set agrees puts sets =
     with_writes-with_set values writes
     ∙ unset_stays values (value_in reads) set (value_in writes) (AgreesWith-of_agrees values reads agrees) puts sets
@@ -83,8 +82,7 @@ module _ {L : Type 0} (holds : L → List Val → Type 0) (c : Inside L) (v : Ti
   keeps_law lawful values size was agrees =
       subst (holds c.terms.law.value)
       (sym (told_as_set values (read_values (state (called c)).reads) c.opened.writes (written (called c)) agrees v.puts
-      v.sets))
-      (lawful values (record {
+      v.sets)) (lawful values (record {
         length = size;
         lawful = was;
         agrees = AgreesWith-of_agrees values (read_values (state (called c)).reads) agrees;
@@ -92,7 +90,7 @@ module _ {L : Type 0} (holds : L → List Val → Type 0) (c : Inside L) (v : Ti
 
   -- ---- after a call that locks or commits
 
-  module _ (work : Work) (is : closes work ≡ true) (new : Steps L) (answer : Option TlAgain)
+  module _ (work : Work) (is : closes work ≡ true) {new : Steps L} {answer : Option TlAgain}
       (u : Under holds (called c).home (began_of (Doing work) (called c)) new Done answer) (locked : ℕ)
       (left : Option TlAgain) where
     abbrev pub closed_as : Inside L
@@ -102,25 +100,23 @@ module _ {L : Type 0} (holds : L → List Val → Type 0) (c : Inside L) (v : Ti
     next = called closed_as
 
     pub then_is : state next ≡ now (called c).home new
-    then_is = state_then holds c v (Doing work) new Done answer u
+    then_is = state_then v (Doing work) u
 
     pub then_keeps : KeptBy (state (called c)) (state next) (is_some answer)
     then_keeps =
         subst (λ a. KeptBy (state (called c)) (state next) (is_some a)) u.gives
         (subst (λ l. KeptBy (state (called c)) l (is_some (answer_of (table_of c.terms) (state (called c)) u.events)))
-        (sym (then_is ∙ u.state))
-        (closing_keeps (table_of c.terms) (state (called c)) u.events
+        (sym (then_is ∙ u.state)) (closing_keeps (table_of c.terms) (state (called c)) u.events
         (are_closing work (table_of c.terms) (state (called c)) u.events is u.obeys)))
 
     held_then : (o : ℕ) → held next o ≡ held (called c) o
     held_then o = ap (λ rs. value_in (read_values rs) o) then_keeps.reads
 
     pub then_steps : Performs holds (Doing work) (called c) next answer
-    then_steps = performs_then holds c (Doing work) new answer u c.opened left
+    then_steps = performs_then c (Doing work) u c.opened left
 
     pub then_kept : next ≡ record (called c) { log = (view_of new.seat).log; left = left }
-    then_kept =
-        ap (λ h. record next { home = h }) (kept holds c v (Doing work) new Done answer u).home
+    then_kept = ap (λ h. record next { home = h }) (kept v (Doing work) u).home
 
     -- the condition of a commit stays
     pub then_lawful : IsLawful holds (called c) → IsLawful holds next
@@ -138,7 +134,7 @@ module _ {L : Type 0} (holds : L → List Val → Type 0) (c : Inside L) (v : Ti
         (HasLocked next → IsLawful holds next) → IfSome left (λ again. IsLeft next) → calls.IsTold next →
         Tied holds closed_as
     closed_tied few locks may lawful is_left told =
-        let k = kept holds c v (Doing work) new Done answer u in record {
+        let k = kept v (Doing work) u in record {
           seat = k.seat;
           run = k.run;
           number = k.number;
@@ -165,18 +161,17 @@ module _ {L : Type 0} (holds : L → List Val → Type 0) (c : Inside L) (v : Ti
     -- it is one of the attempt's calls
     pub closed_told : IsMade (called c) → CanLock (Doing work) (state (called c)) → (answer ≡ None → c.left ≡ None) →
         left ≡ answer → calls.IsTold next
-    closed_told made can live is_answer =
-        told_more holds (called c) next work answer then_steps (v.told made) can live is_answer
+    closed_told made can live is_answer = told_more then_steps (v.told made) can live is_answer
 
     pub closed_stays : answer ≡ None → Stays holds work (called c) next
     closed_stays none = record {
       steps = subst (Performs holds (Doing work) (called c) next) none then_steps;
-      attempt = attempt_kept holds (called c) next (Doing work) answer then_steps refl;
+      attempt = attempt_kept then_steps refl;
     }
 
     -- nothing is committed where the attempt is not valid in the end
     pub closed_done : is_valid (state next) ≡ false → done next ≡ done (called c)
-    closed_done invalid = done_invalid holds (called c) next (Doing work) answer then_steps refl invalid
+    closed_done invalid = done_invalid then_steps refl invalid
 
   -- ---- a call that has left its attempt
 
@@ -188,26 +183,24 @@ module _ {L : Type 0} (holds : L → List Val → Type 0) (c : Inside L) (v : Ti
     pub made : IsMade (called c)
     pub can : CanLock (Doing work) (state (called c))
 
-  module _ (work : Work) (new : Steps L) (again : TlAgain) (by : Left work new again) where
+  module _ {work : Work} {new : Steps L} {again : TlAgain} (by : Left work new again) where
     abbrev pub left_as : Inside L
-    left_as = closed_as work by.closing new (Some again) by.under 0 (Some again)
+    left_as = closed_as work by.closing by.under 0 (Some again)
 
     left_failed : (state (called left_as)).failed ≡ true
-    left_failed =
-        (then_keeps work by.closing new (Some again) by.under 0 (Some again)).failed ∙ or_true (state (called c)).failed
+    left_failed = (then_keeps work by.closing by.under 0 (Some again)).failed ∙ or_true (state (called c)).failed
       where
         or_true : (b : Bool) → (b || true) ≡ true
         or_true true = refl
         or_true false = refl
 
     left_free : (state (called left_as)).holds ≡ []
-    left_free = ap (λ (l : LocalState). l.holds) (then_is work by.closing new (Some again) by.under 0 (Some again)) ∙ by.free
+    left_free = ap (λ (l : LocalState). l.holds) (then_is work by.closing by.under 0 (Some again)) ∙ by.free
 
     others : 1 < c.terms.callers
     others =
         others_of (table_of c.terms) c.number (view_of new.seat).log (called c).log by.under.events again by.under.run.run.run
-        v.number.0 by.under.own by.under.gives
-        (λ event later early is_in.
+        v.number.0 by.under.own by.under.gives (λ event later early is_in.
         (one_is (TellsOnce (objects (table_of c.terms))) later event early
         (subst (All (λ (e : Event). TellsOnce (objects (table_of c.terms)) e.kind)) is_in
         (tell_once (objects (table_of c.terms)) work (table_of c.terms) (state (called c)) by.under.events by.closing by.once
@@ -215,31 +208,27 @@ module _ {L : Type 0} (holds : L → List Val → Type 0) (c : Inside L) (v : Ti
 
     pub left_is : IsLeft (called left_as)
     left_is =
-        left_after holds (called c) (called left_as) (Doing work) (Some again)
-        (then_steps work by.closing new (Some again) by.under 0 (Some again)) again refl refl refl left_free (inl left_failed) others
+        left_after
+        (then_steps work by.closing by.under 0 (Some again)) again refl refl refl left_free (inl left_failed) others
 
     pub left_told : calls.IsTold (called left_as)
-    left_told =
-        closed_told work by.closing new (Some again) by.under 0 (Some again) by.made by.can (λ none. absurd (cc)) refl
+    left_told = closed_told work by.closing by.under 0 (Some again) by.made by.can (λ none. absurd (cc)) refl
 
     pub left_tied : Tied holds left_as
     left_tied =
-        closed_tied work by.closing new (Some again) by.under 0 (Some again) (omega arith) by.free (λ some. absurd (some refl))
+        closed_tied work by.closing by.under 0 (Some again) (omega arith) by.free (λ some. absurd (some refl))
         (λ locked. absurd (let sound = locked.sound.0 in let failed = left_failed in cc)) left_is left_told
 
     pub left_leaves : Leaves holds work (called c) (called left_as) again
     left_leaves = record {
-      steps = then_steps work by.closing new (Some again) by.under 0 (Some again);
+      steps = then_steps work by.closing by.under 0 (Some again);
       cause =
           causes_of (table_of_caller (called c)) (state (called c))
-          (then_steps work by.closing new (Some again) by.under 0 (Some again)).events again
-          (sym (then_steps work by.closing new (Some again) by.under 0 (Some again)).answers);
+          (then_steps work by.closing by.under 0 (Some again)).events again
+          (sym (then_steps work by.closing by.under 0 (Some again)).answers);
       left = left_is;
-      attempt =
-          attempt_kept holds (called c) (called left_as) (Doing work) (Some again)
-          (then_steps work by.closing new (Some again) by.under 0 (Some again)) refl;
-      done =
-          closed_done work by.closing new (Some again) by.under 0 (Some again) (failed_invalid (state (called left_as)) left_failed);
+      attempt = attempt_kept (then_steps work by.closing by.under 0 (Some again)) refl;
+      done = closed_done work by.closing by.under 0 (Some again) (failed_invalid (state (called left_as)) left_failed);
     }
 
   -- ---- a call that has locked
@@ -253,12 +242,12 @@ module _ {L : Type 0} (holds : L → List Val → Type 0) (c : Inside L) (v : Ti
     pub locks : (now (called c).home new).holds
         ≡ map (new_hold (now (called c).home new)) (take (length c.opened.writes) c.opened.writes)
 
-  module _ (new : Steps L) (by : Locked new) where
+  module _ {new : Steps L} (by : Locked new) where
     abbrev pub locked_as : Inside L
-    locked_as = closed_as (Locking c.opened.writes) refl new None by.ends (length c.opened.writes) c.left
+    locked_as = closed_as (Locking c.opened.writes) refl by.ends (length c.opened.writes) c.left
 
     is_then : state (called locked_as) ≡ now (called c).home new
-    is_then = then_is (Locking c.opened.writes) refl new None by.ends (length c.opened.writes) c.left
+    is_then = then_is (Locking c.opened.writes) refl by.ends (length c.opened.writes) c.left
 
     pub locked_undrawn : (now (called c).home new).drawn ≡ None
     locked_undrawn = ap (λ (l : LocalState). l.drawn) by.state_is.same ∙ by.rest.undrawn
@@ -283,28 +272,28 @@ module _ {L : Type 0} (holds : L → List Val → Type 0) (c : Inside L) (v : Ti
 
     pub locked_told : calls.IsTold (called locked_as)
     locked_told =
-        closed_told (Locking c.opened.writes) refl new None by.ends (length c.opened.writes) c.left
-        (rest_made (called c) by.rest) (rest_can (state (called c)) by.rest (length c.opened.writes))
+        closed_told (Locking c.opened.writes) refl by.ends (length c.opened.writes) c.left
+        (rest_made (called c) by.rest) (rest_can by.rest (length c.opened.writes))
         (λ _. no_answer c.left by.live) (no_answer c.left by.live)
 
     pub locked_tied : IsLawful holds (called c) → Tied holds locked_as
     locked_tied lawful =
-        closed_tied (Locking c.opened.writes) refl new None by.ends (length c.opened.writes) c.left (omega arith) by.locks
+        closed_tied (Locking c.opened.writes) refl by.ends (length c.opened.writes) c.left (omega arith) by.locks
         (λ some. locked_undrawn)
-        (λ locked. then_lawful (Locking c.opened.writes) refl new None by.ends (length c.opened.writes) c.left lawful)
+        (λ locked. then_lawful (Locking c.opened.writes) refl by.ends (length c.opened.writes) c.left lawful)
         (subst (λ x. IfSome x (λ again. IsLeft (called locked_as))) (sym (no_answer c.left by.live)) tt) locked_told
 
     pub locked_stays : Stays holds (Locking c.opened.writes) (called c) (called locked_as)
-    locked_stays = closed_stays (Locking c.opened.writes) refl new None by.ends (length c.opened.writes) c.left refl
+    locked_stays = closed_stays (Locking c.opened.writes) refl by.ends (length c.opened.writes) c.left refl
 
     pub locked_kept : called locked_as ≡ record (called c) { log = (view_of new.seat).log; left = None }
     locked_kept =
-        then_kept (Locking c.opened.writes) refl new None by.ends (length c.opened.writes) c.left
+        then_kept (Locking c.opened.writes) refl by.ends (length c.opened.writes) c.left
         ∙ ap (λ x. record (called c) { log = (view_of new.seat).log; left = x }) (no_answer c.left by.live)
 
     pub locked_done : done (called locked_as) ≡ done (called c)
     locked_done =
-        closed_done (Locking c.opened.writes) refl new None by.ends (length c.opened.writes) c.left
+        closed_done (Locking c.opened.writes) refl by.ends (length c.opened.writes) c.left
         (undrawn_invalid (state (called locked_as)) has_locked.undrawn)
 
   -- ---- a call that has finished
@@ -317,28 +306,28 @@ module _ {L : Type 0} (holds : L → List Val → Type 0) (c : Inside L) (v : Ti
     pub told : (now (called c).home new).writes ≡ Some c.opened.writes
     pub free : (now (called c).home new).holds ≡ []
 
-  module _ (new : Steps L) (number : ℕ) (by : Finished new number) where
+  module _ {new : Steps L} {number : ℕ} (by : Finished new number) where
     abbrev pub finished_as : Inside L
-    finished_as = closed_as (Finishing c.opened.writes) refl new None by.ends 0 c.left
+    finished_as = closed_as (Finishing c.opened.writes) refl by.ends 0 c.left
 
     by_then : state (called finished_as) ≡ now (called c).home new
-    by_then = then_is (Finishing c.opened.writes) refl new None by.ends 0 c.left
+    by_then = then_is (Finishing c.opened.writes) refl by.ends 0 c.left
 
     pub finished_told : calls.IsTold (called finished_as)
     finished_told =
-        closed_told (Finishing c.opened.writes) refl new None by.ends 0 c.left (locked_made (called c) by.locked) tt
+        closed_told (Finishing c.opened.writes) refl by.ends 0 c.left (locked_made by.locked) tt
         (λ _. no_answer c.left by.locked.live) (no_answer c.left by.locked.live)
 
     pub finished_tied : Tied holds finished_as
     finished_tied =
-        closed_tied (Finishing c.opened.writes) refl new None by.ends 0 c.left (omega arith) by.free (λ some. absurd (some refl))
+        closed_tied (Finishing c.opened.writes) refl by.ends 0 c.left (omega arith) by.free (λ some. absurd (some refl))
         (λ more. absurd (let none : (now (called c).home new).drawn ≡ None =
         ap (λ (l : LocalState). l.drawn) (sym by_then) ∙ more.undrawn in cc))
         (subst (λ x. IfSome x (λ again. IsLeft (called finished_as))) (sym (no_answer c.left by.locked.live)) tt)
         finished_told
 
     pub finished_stays : Stays holds (Finishing c.opened.writes) (called c) (called finished_as)
-    finished_stays = closed_stays (Finishing c.opened.writes) refl new None by.ends 0 c.left refl
+    finished_stays = closed_stays (Finishing c.opened.writes) refl by.ends 0 c.left refl
 
     pub finished_commits : Commits (called c) (called finished_as) number
     finished_commits = record {
@@ -347,15 +336,14 @@ module _ {L : Type 0} (holds : L → List Val → Type 0) (c : Inside L) (v : Ti
       free = ap (λ (l : LocalState). l.holds) by_then ∙ by.free;
       entry = entry_of (state (called finished_as)) (or_writes (state (called finished_as)).writes);
       done =
-          done_valid holds (called c) (called finished_as) (Doing (Finishing c.opened.writes)) None
-          (then_steps (Finishing c.opened.writes) refl new None by.ends 0 c.left) refl
+          done_valid (then_steps (Finishing c.opened.writes) refl by.ends 0 c.left) refl
           (undrawn_invalid (state (called c)) by.locked.undrawn) (ap is_valid by_then ∙ by.valid)
           ∙ ap (λ n. record {
             caller = c.number;
             number = n;
             entry = entry_of (state (called finished_as)) (or_writes (state (called finished_as)).writes);
           } ∷ done (called c)) (ap (λ (l : LocalState). or_zero l.drawn) by_then ∙ ap or_zero by.drawn);
-      reads = λ o. held_then (Finishing c.opened.writes) refl new None by.ends 0 c.left o;
+      reads = λ o. held_then (Finishing c.opened.writes) refl by.ends 0 c.left o;
       writes = λ o.
           ap (λ (l : LocalState). value_in (or_writes l.writes) o) by_then
           ∙ ap (λ ws. value_in (or_writes ws) o) by.told
@@ -365,17 +353,17 @@ module _ {L : Type 0} (holds : L → List Val → Type 0) (c : Inside L) (v : Ti
 
   -- ---- in the words of a call's caller
 
-  module _ (home : Home L) (same : (called c).home ≡ home) where
+  module _ {home : Home L} (same : (called c).home ≡ home) where
     pub free_here : (new : Steps L) → (now home new).holds ≡ [] → (now (called c).home new).holds ≡ []
     free_here new free = subst (λ (x : Home L). (now x new).holds ≡ []) (sym same) free
 
-    pub left_here : (work : Work) → closes work ≡ true → works_on work ≡ c.opened.writes → (new : Steps L)
-        (again : TlAgain) → Under holds home (begun_as home (Doing work) c.steps) new Done (Some again) →
+    pub left_here : (work : Work) → closes work ≡ true → works_on work ≡ c.opened.writes → {new : Steps L}
+        {again : TlAgain} → Under holds home (begun_as home (Doing work) c.steps) new Done (Some again) →
         (now home new).holds ≡ [] → WritesBelow c.opened.objects c.opened.writes → WritesApart c.opened.writes →
         IsMade (called c) → CanLock (Doing work) (state (called c)) → Left work new again
-    left_here work is on new again u free below apart made can = record {
+    left_here work is on {new = new} u free below apart made can = record {
       closing = is;
-      under = ends_here holds c v home same (Doing work) new Done (Some again) u;
+      under = ends_here v same (Doing work) u;
       once = rw on (subst (λ n. NamesOnce n c.opened.writes) v.objects
           (writes_once c.opened.objects c.opened.writes below apart));
       free = free_here new free;
@@ -383,10 +371,10 @@ module _ {L : Type 0} (holds : L → List Val → Type 0) (c : Inside L) (v : Ti
       can = can;
     }
 
-    pub locks_here : (new : Steps L) (count : ℕ) → Lists home new c.opened count → count ≡ length c.opened.writes →
+    pub locks_here : {new : Steps L} {count : ℕ} → Lists home new c.opened count → count ≡ length c.opened.writes →
         (now (called c).home new).holds
         ≡ map (new_hold (now (called c).home new)) (take (length c.opened.writes) c.opened.writes)
-    locks_here new count lists all =
+    locks_here {new = new} lists all =
         subst (λ (x : Home L). (now x new).holds
         ≡ map (new_hold (now x new)) (take (length c.opened.writes) c.opened.writes)) (sym same)
         (lists.held ∙ ap (λ n. map (new_hold (now home new)) (take n c.opened.writes)) all)
@@ -396,7 +384,7 @@ module _ {L : Type 0} (holds : L → List Val → Type 0) (c : Inside L) (v : Ti
         under.HasLocked (state (called c)) c.opened.writes (length c.opened.writes) (now (called c).home new)
     locked_here new h =
         subst (λ l. under.HasLocked l c.opened.writes (length c.opened.writes) (now (called c).home new))
-        (now_there holds c v (called c).home refl)
+        (now_there v refl)
         (subst (λ (x : Home L). under.HasLocked (now x c.steps) c.opened.writes (length c.opened.writes) (now x new))
         (sym same) h)
 
@@ -407,4 +395,4 @@ module _ {L : Type 0} (holds : L → List Val → Type 0) (c : Inside L) (v : Ti
         subst (λ (x : Home L). KeepsLaw (holds x.terms.law.value) (objects (table_of x.terms))
         (entry_of (now x c.steps) c.opened.writes)) same
         (subst (λ l. KeepsLaw (holds c.terms.law.value) (objects (table_of c.terms)) (entry_of l c.opened.writes))
-        (sym (now_there holds c v (called c).home refl)) (keeps_law lawful))
+        (sym (now_there v refl)) (keeps_law lawful))

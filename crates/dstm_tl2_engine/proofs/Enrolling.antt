@@ -21,20 +21,18 @@ use Rattle.dstm_tl2_order.specs.Tasks.Task.{Enrolling}
 use Rattle.dstm_tl2_engine.specs.Callers.{TlCalled}
 use Rattle.dstm_tl2_engine.specs.Tables.{Enrols, TlFounding, enrolled_as, unnumbered}
 
-enrolling : (t : Table) (l : LocalState) (e : Event) → e.kind ≡ Enrol → l ≡ first → IsCall Enrolling t l (e ∷ [])
-enrolling t l e k h =
-    subst (λ (l : LocalState). IsCall Enrolling t l (e ∷ [])) (sym h)
-    (record { obeys = (tt, k); done = rw k refl })
+enrolling : (t : Table) {l : LocalState} (e : Event) → e.kind ≡ Enrol → l ≡ first → IsCall Enrolling t l (e ∷ [])
+enrolling t {l = l} e k h =
+    subst (λ (l : LocalState). IsCall Enrolling t l (e ∷ [])) (sym h) (record { obeys = (tt, k); done = rw k refl })
 
-pub enrols : {L : Type 0} (holds : L → List Val → Type 0) (f g : TlFounding L) (found p : ℕ) (w : View L)
-    (k : TlCalled L) →
-    f.view.terms ≡ Some f.home.terms → Makes holds (given_part f.view) Add Enrol p found w →
+pub enrols : {L : Type 0} {holds : L → List Val → Type 0} (f : TlFounding L) {g : TlFounding L} {found p : ℕ}
+    {w : View L}
+    {k : TlCalled L} → f.view.terms ≡ Some f.home.terms → Makes holds (given_part f.view) Add Enrol p found w →
     found < f.home.terms.callers → k ≡ record (unnumbered f) { log = w.log; number = found } →
     g ≡ record f { view = kept_part f.view; made = f.made + 1 } →
     local (table_of f.home.terms) w.log found ≡ record first { number = Some found } → Enrols holds f g k
-enrols {L = L} holds f g found p w k terms m few is now there =
-    subst (λ (k : TlCalled L). Enrols holds f g k) (sym is)
-    (record {
+enrols {L = L} {holds = holds} f {g = g} {found = found} {p = p} {w = w} {k = k} terms m few is now there =
+    subst (λ (k : TlCalled L). Enrols holds f g k) (sym is) (record {
       founder = now;
       caller = refl;
       number = few;
@@ -45,7 +43,7 @@ enrols {L = L} holds f g found p w k terms m few is now there =
       steps = record {
         events = e ∷ [];
         own = m.mine ∙ ap (λ xs. e ∷ xs) (sym none);
-        call = enrolling (table_of f.home.terms) (local (table_of f.home.terms) f.view.log found) e refl new;
+        call = enrolling (table_of f.home.terms) e refl new;
         answers = refl;
         seen = record { later = e ∷ m.log.0; whole = sym m.log.1 };
         run = subst (λ (o : Option (Terms L)). IfSome o (λ (t : Terms L). IsRunOf holds t w.log)) terms m.run;
@@ -65,35 +63,34 @@ enrols {L = L} holds f g found p w k terms m few is now there =
         ∙ ap (λ xs. local (table_of f.home.terms) xs found) none
 
 -- the founder after the split, and the caller, from what they are made of
-pub founder_is : {L : Type 0} (f : TlFounding L) (h : Home L) (table : TableId) (terms : Terms L) (old new : View L)
-    (made : ℕ) →
+pub founder_is : {L : Type 0} {f : TlFounding L} {h : Home L} (table : TableId) (terms : Terms L) (old : View L)
+    {new : View L} (made : ℕ) →
     record { home = record { table = table; terms = terms }; view = old; made = made } ≡ f →
-    f.home ≡ h → (fresh_table : TableId) → fresh_table ≡ h.table → new ≡ kept_part old →
+    f.home ≡ h → {fresh_table : TableId} → fresh_table ≡ h.table → new ≡ kept_part old →
     record { home = record { table = fresh_table; terms = terms }; view = new; made = made + 1 }
     ≡ record f { view = kept_part f.view; made = f.made + 1 }
-founder_is {L = L} f h table terms old new made is at fresh_table same kept =
+founder_is {L = L} {h = h} table terms old {new = new} made is at same kept =
     let was : table ≡ h.table = ap (λ (x : TlFounding L). x.home.table) is ∙ ap (λ (x : Home L). x.table) at in
     ap (λ t. record { home = record { table = t; terms = terms }; view = new; made = made + 1 }) (same ∙ sym was)
     ∙ ap (λ v. record { home = record { table = table; terms = terms }; view = v; made = made + 1 }) kept
     ∙ ap (λ (x : TlFounding L). record x { view = kept_part x.view; made = x.made + 1 }) is
 
-pub caller_is : {L : Type 0} (f : TlFounding L) (h : Home L) (found : ℕ) (seat : Seat ℕ (View L)) (terms : Terms L)
-    (k : TlCalled L) → k ≡ enrolled_as terms seat found → f.home ≡ h → seat.table_id ≡ h.table → terms ≡ h.terms →
+pub caller_is : {L : Type 0} (f : TlFounding L) {h : Home L} (found : ℕ) (seat : Seat ℕ (View L)) {terms : Terms L}
+    {k : TlCalled L} → k ≡ enrolled_as terms seat found → f.home ≡ h → seat.table_id ≡ h.table → terms ≡ h.terms →
     k ≡ record (unnumbered f) { log = seat.me.0.log; number = found }
-caller_is {L = L} f h found seat terms k is at table told =
+caller_is {L = L} f {h = h} found seat {terms = terms} is at table told =
     is
     ∙ ap (λ t. record (enrolled_as terms seat found) { home = record { table = t; terms = terms } }) table
     ∙ ap (λ t. record (enrolled_as terms seat found) { home = record { table = h.table; terms = t } }) told
     ∙ ap (λ (x : Home L). record (enrolled_as terms seat found) { home = x }) (sym at)
 
 -- the founder after a join
-pub keeps_rest : {L : Type 0} (f : TlFounding L) (h : Home L) (table : TableId) (terms : Terms L) (old new : View L)
+pub keeps_rest : {L : Type 0} {f : TlFounding L} {h : Home L} (table : TableId) (terms : Terms L) (old new : View L)
     (made : ℕ) →
     record { home = record { table = table; terms = terms }; view = old; made = made } ≡ f →
-    f.home ≡ h → (later_table : TableId) → later_table ≡ h.table →
-    record { home = record { table = later_table; terms = terms }; view = new; made = made }
-    ≡ record f { view = new }
-keeps_rest {L = L} f h table terms old new made is at later_table same =
+    f.home ≡ h → {later_table : TableId} → later_table ≡ h.table →
+    record { home = record { table = later_table; terms = terms }; view = new; made = made } ≡ record f { view = new }
+keeps_rest {L = L} {h = h} table terms old new made is at same =
     let was : table ≡ h.table = ap (λ (x : TlFounding L). x.home.table) is ∙ ap (λ (x : Home L). x.table) at in
     ap (λ t. record { home = record { table = t; terms = terms }; view = new; made = made }) (same ∙ sym was)
     ∙ ap (λ (x : TlFounding L). record x { view = new }) is

@@ -13,9 +13,9 @@ use Rattle.dstm_tl2_engine.specs.Transactions.{Marks}
 
 -- ---- what is open for writing
 
-marks_at_most : {L : Type 0} (o : ℕ) (k n : TlCalled L) (value : Val) → Marks o k n value →
+marks_at_most : {L : Type 0} {o : ℕ} {k n : TlCalled L} {value : Val} → Marks o k n value →
     MarksAtMost o (is_opened k) (is_opened n)
-marks_at_most o k n value m = record {
+marks_at_most {o = o} {k = k} {value = value} m = record {
   kept = λ p some.
       ap (λ ws. is_some (value_in ws p)) m.writes
       ∙ ap is_some (value_in-stays k.writes ((o, value) ∷ []) p some) ∙ some;
@@ -23,9 +23,9 @@ marks_at_most o k n value m = record {
       ap (λ ws. is_some (value_in ws p)) m.writes ∙ ap is_some (value_in-more k.writes o value p other);
 }
 
-marks_now : {L : Type 0} (o : ℕ) (k n : TlCalled L) (value : Val) → is_opened k o ≡ false → Marks o k n value →
+marks_now : {L : Type 0} {o : ℕ} {k n : TlCalled L} {value : Val} → is_opened k o ≡ false → Marks o k n value →
     is_opened n o ≡ true
-marks_now o k n value unopened m =
+marks_now {o = o} {k = k} {value = value} unopened m =
     ap (λ ws. is_some (value_in ws o)) m.writes
     ∙ ap is_some (value_in-last k.writes o value (not_some (value_in k.writes o) unopened))
 
@@ -46,7 +46,7 @@ opens_marked o k n (Ok v) again marks = by (cases_Bool (is_opened k o))
           },
           ap (λ (k : TlCalled _). is_opened k o) same ∙ open_now,
         )
-    by (inr not_yet) = (marks_at_most o k n v (marks not_yet), marks_now o k n v not_yet (marks not_yet))
+    by (inr not_yet) = (marks_at_most (marks not_yet), marks_now not_yet (marks not_yet))
 
 -- a set leaves what is open for writing
 pub set_opened : (o : ℕ) (v : Val) (writes : List (ℕ × Val)) (p : ℕ) → IsSome (value_in writes o) →

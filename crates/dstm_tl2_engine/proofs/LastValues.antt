@@ -31,10 +31,10 @@ use Rattle.dstm_tl2_engine.specs.Tables.{HasReturned}
 -- ---- the loop over the objects
 
 -- the values have those of a table, by what the table was told
-pub told_by : (values start first : List Val) (words : List ℕ) → first ≡ start →
+pub told_by : (values : List Val) {start first : List Val} (words : List ℕ) → first ≡ start →
     ((o : ℕ) → o < length first → value_at values o ≡ value_left (length first) words o) →
     (o : ℕ) → o < length start → value_at values o ≡ value_left (length start) words o
-told_by values start first words is_start told =
+told_by values words is_start told =
     subst (λ xs. (o : ℕ) → o < length xs → value_at values o ≡ value_left (length xs) words o) is_start told
 
 -- ---- numbers that stand once each
@@ -120,8 +120,7 @@ all_below most numbers apart below many n lt = by (has_number n numbers)
 
 -- a value is its two parts
 pub value_is : (v : Val) (low high : ℕ) → low ≡ v.low → high ≡ v.high → record { low = low; high = high } ≡ v
-value_is v low high p q =
-    ap (λ x. record { low = x; high = high }) p ∙ ap (λ x. record { low = v.low; high = x }) q
+value_is v low high p q = ap (λ x. record { low = x; high = high }) p ∙ ap (λ x. record { low = v.low; high = x }) q
 
 -- where no caller holds anything each lock is free
 free_word : (t : Table) (run : List Event) (o : ℕ) → Run t run → o < objects t →
@@ -136,7 +135,7 @@ free_word t run o r b none = by (stands t (will_of t run) run r (told t run run 
     by (waits c h held w) = absurd (let p = nobody c in let q = held.holds in cc)
     by (commits c h n held w) = absurd (let p = nobody c in let q = held.holds in cc)
 
-module _ {L : Type 0} (holds : L → List Val → Type 0) (terms : Terms L) (made : ℕ) (v : View L) (words : List ℕ)
+module _ {L : Type 0} (holds : L → List Val → Type 0) {terms : Terms L} {made : ℕ} {v : View L} (words : List ℕ)
     (l : LeftBy holds terms v words) (back : HasReturned terms made v) (all : terms.callers ≤ made + v.enrolments)
     (first : v.first ≡ true) (none_out : v.out ≡ 0) where
   -- each caller that has enrolled was taken in
@@ -153,8 +152,7 @@ module _ {L : Type 0} (holds : L → List Val → Type 0) (terms : Terms L) (mad
       by : (c < enrolled (shared holds) terms l.log) ⊎ (enrolled (shared holds) terms l.log ≤ c) →
           (local (table_of terms) l.log c).holds ≡ []
       by (inr le) =
-          ap (λ (x : LocalState). x.holds)
-          (sym (local-events_of tl2 (table_of terms) l.log c)
+          ap (λ (x : LocalState). x.holds) (sym (local-events_of tl2 (table_of terms) l.log c)
           ∙ ap (λ xs. local (table_of terms) xs c) (l.fresh c le))
       by (inl lt) =
           subst (λ log. (local (table_of terms) log c).holds ≡ []) (sym (l.whole first none_out))
@@ -185,17 +183,15 @@ module _ {L : Type 0} (holds : L → List Val → Type 0) (terms : Terms L) (mad
     pub last_state : values ≡ state_after terms.start.value.items (history_of (table_of terms) v.log)
     last_state =
         subst (λ log. values ≡ state_after terms.start.value.items (history_of (table_of terms) log))
-        (l.whole first none_out)
-        (ext_get_or no_value values _
+        (l.whole first none_out) (ext_get_or no_value values _
         (same ∙ sym (states_keep_length terms.start.value.items (history_of (table_of terms) l.log)))
         (λ o within. let b : o < objects (table_of terms) = omega (arith, within, same) in settled o b ∙ left_is o b))
 
 -- and they are lawful
 pub last_lawful : {L : Type 0} (holds : L → List Val → Type 0) (terms : Terms L) (v : View L) (words : List ℕ)
-    (l : LeftBy holds terms v words) → v.first ≡ true → v.out ≡ 0 → (values : List Val) →
-    values ≡ state_after terms.start.value.items (history_of (table_of terms) v.log) →
-    holds terms.law.value values
-last_lawful holds terms v words l first none_out values is =
+    (l : LeftBy holds terms v words) → v.first ≡ true → v.out ≡ 0 → {values : List Val} →
+    values ≡ state_after terms.start.value.items (history_of (table_of terms) v.log) → holds terms.law.value values
+last_lawful holds terms v words l first none_out is =
     let run : IsRunOf holds terms v.log = subst (IsRunOf holds terms) (l.whole first none_out) l.run in
     subst (holds terms.law.value) (sym is)
     (prefix_is_lawful (table_of terms) (holds terms.law.value) v.log (history_of (table_of terms) v.log) []

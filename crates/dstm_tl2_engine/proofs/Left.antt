@@ -63,8 +63,7 @@ some_marked f same o p hs h = go (cases_eq p o) (hold_of o hs) refl
     go : (p ≡ o) ⊎ (p ≡ o → ⊥) → (x : Option Hold) → hold_of o hs ≡ x → is_some (hold_of o (marked f p hs)) ≡ true
     go (inr d) x q = ap is_some (marked_other f same o p hs d) ∙ h
     go (inl d) None q = absurd (let y : is_some (hold_of o hs) ≡ false = ap is_some q in cc)
-    go (inl d) (Some k) q =
-        ap (λ n. is_some (hold_of o (marked f n hs))) d ∙ ap is_some (marked_own f same o hs k q)
+    go (inl d) (Some k) q = ap (λ n. is_some (hold_of o (marked f n hs))) d ∙ ap is_some (marked_own f same o hs k q)
 
 -- ---- what was locked
 
@@ -124,10 +123,10 @@ early_unwritten WriteHigh h = absurd (cc)
 early_unwritten k h = refl
 
 -- what was given up stays so by an event elsewhere
-given_away : (t : Table) (o word : ℕ) (g i v w : Bool) (events : List Event) (e : Event) →
+given_away : {t : Table} {o word : ℕ} {g : Bool} (i : Bool) {v : Bool} (w : Bool) {events : List Event} (e : Event) →
     (e.place ≡ o → ⊥) → (g ≡ true → i ≡ true) → (v ≡ true → w ≡ true) → Given t o word g v events →
     Given t o word i w (e ∷ events)
-given_away t o word g i v w events e away gs vs x = record {
+given_away {o = o} {word = word} {g = g} i {v = v} w e away gs vs x = record {
   event = x.event;
   last = rw (ne_eqb e.place o away) x.last;
   unlocks = x.unlocks;
@@ -191,9 +190,9 @@ module _ (t : Table) (l : LocalState) (s : Static t l) (events : List Event) (a 
           cc
 
   -- an event that the attempt makes only while it has given up nothing, and is not valid
-  module _ (k : Kind) (kind : e.kind ≡ k) (v : is_valid l ≡ false) (g : l.gave_back ≡ false) where
-    not_given : (o word : ℕ) → Given t o word l.gave_back (is_valid l) events → ⊥
-    not_given o word x = go x.over
+  module _ {k : Kind} (kind : e.kind ≡ k) (v : is_valid l ≡ false) (g : l.gave_back ≡ false) where
+    not_given : {o word : ℕ} → Given t o word l.gave_back (is_valid l) events → ⊥
+    not_given x = go x.over
       where
         go : (l.gave_back ≡ true) ⊎ (is_valid l ≡ true) → ⊥
         go (inl q) = cc
@@ -202,7 +201,7 @@ module _ (t : Table) (l : LocalState) (s : Static t l) (events : List Event) (a 
     still_held : (o word : ℕ) → (is_some (hold_of o l.holds) ≡ true) ⊎ Given t o word l.gave_back (is_valid l) events →
         is_some (hold_of o l.holds) ≡ true
     still_held o word (inl h) = h
-    still_held o word (inr x) = absurd (not_given o word x)
+    still_held o word (inr x) = absurd (not_given x)
 
     -- it locks nothing
     firm_step : (m : LocalState) → is_write k ≡ false → (m.writes ≡ None → ⊥) →
@@ -216,8 +215,7 @@ module _ (t : Table) (l : LocalState) (s : Static t l) (events : List Event) (a 
       where
         taken : (o : ℕ) (taking : Event) → has_locked o taking ≡ true → (e ≡ taking) ⊎ Contains events taking →
             Taken t o taking m.reads m.holds m.gave_back (is_valid m) (e ∷ events)
-        taken o taking h (inl q) =
-            absurd (unlocked o (ap (has_locked o) q ∙ h))
+        taken o taking h (inl q) = absurd (unlocked o (ap (has_locked o) q ∙ h))
         taken o taking h (inr c) =
             let x = a.locks o taking c h in record {
               expected = x.expected ∙ ap (recorded o) (sym reads);
@@ -239,8 +237,7 @@ module _ (t : Table) (l : LocalState) (s : Static t l) (events : List Event) (a 
     }
       where
         parted : (o : ℕ) (h : Hold) → or_else (hold_of o l.holds) (hold_of o (new ∷ [])) ≡ Some h →
-            h.low_put ≡ true → (x : Option Hold) → hold_of o l.holds ≡ x →
-            (new.object ≡ o) ⊎ (new.object ≡ o → ⊥) → ⊥
+            h.low_put ≡ true → (x : Option Hold) → hold_of o l.holds ≡ x → (new.object ≡ o) ⊎ (new.object ≡ o → ⊥) → ⊥
         parted o h q low (Some k) is n =
             let same : Some k ≡ Some h = ap (λ x. or_else x (hold_of o (new ∷ []))) (sym is) ∙ q in
             let one : k ≡ h = cc in
@@ -248,15 +245,13 @@ module _ (t : Table) (l : LocalState) (s : Static t l) (events : List Event) (a 
             cc
         parted o h q low None is (inl n) =
             let last : hold_of o (new ∷ []) ≡ Some new = rw (eq-eqb new.object o n) refl in
-            let same : Some new ≡ Some h =
-            sym last ∙ ap (λ x. or_else x (hold_of o (new ∷ []))) (sym is) ∙ q in
+            let same : Some new ≡ Some h = sym last ∙ ap (λ x. or_else x (hold_of o (new ∷ []))) (sym is) ∙ q in
             let one : new ≡ h = cc in
             let x : new.low_put ≡ true = ap (λ (h : Hold). h.low_put) one ∙ low in
             cc
         parted o h q low None is (inr n) =
             let last : hold_of o (new ∷ []) ≡ None = rw (ne_eqb new.object o n) refl in
-            let same : None ≡ Some h =
-            sym last ∙ ap (λ x. or_else x (hold_of o (new ∷ []))) (sym is) ∙ q in
+            let same : None ≡ Some h = sym last ∙ ap (λ x. or_else x (hold_of o (new ∷ []))) (sym is) ∙ q in
             cc
 
         taken : (o : ℕ) (taking : Event) → has_locked o taking ≡ true → (e ≡ taking) ⊎ Contains events taking →
@@ -295,14 +290,12 @@ module _ (t : Table) (l : LocalState) (s : Static t l) (events : List Event) (a 
   }
     where
       go : (o : ℕ) → o < objects t → (is_some (hold_of o l.holds) ≡ true)
-          ⊎ Given t o (recorded o l.reads) l.gave_back (is_valid l) events →
-          (is_some (hold_of o m.holds) ≡ true)
+          ⊎ Given t o (recorded o l.reads) l.gave_back (is_valid l) events → (is_some (hold_of o m.holds) ≡ true)
           ⊎ Given t o (recorded o m.reads) m.gave_back (is_valid m) (e ∷ events)
       go o b (inl h) = inl (held o h)
       go o b (inr x) =
           inr (subst (λ rs. Given t o (recorded o rs) m.gave_back (is_valid m) (e ∷ events)) (sym reads)
-          (given_away t o (recorded o l.reads) l.gave_back m.gave_back (is_valid l) (is_valid m) events e
-          (λ q. omega arith) (λ q. gave ∙ q) (λ q. valid ∙ q) x))
+          (given_away m.gave_back (is_valid m) e (λ q. omega arith) (λ q. gave ∙ q) (λ q. valid ∙ q) x))
 
   -- it gives up the lock of an object
   unlock_step : e.kind ≡ Unlock → AllowedAs Unlock t l e → Attempt t (after Unlock t l e) (e ∷ events)
@@ -356,8 +349,7 @@ module _ (t : Table) (l : LocalState) (s : Static t l) (events : List Event) (a 
           })
       go o (inr d) (inl x) = inl (ap is_some (without_other o e.place l.holds d) ∙ x)
       go o (inr d) (inr x) =
-          inr (given_away t o (recorded o l.reads) l.gave_back
-          (l.gave_back || (e.put == (or_hold (hold_of e.place l.holds)).word)) (is_valid l) (is_valid l) events e d
+          inr (given_away (l.gave_back || (e.put == (or_hold (hold_of e.place l.holds)).word)) (is_valid l) e d
           (λ q. or_left l.gave_back (e.put == (or_hold (hold_of e.place l.holds)).word) q) (λ q. q) x)
 
   -- no Check comes once the attempt is valid
@@ -384,33 +376,29 @@ module _ (t : Table) (l : LocalState) (s : Static t l) (events : List Event) (a 
       (λ _. untold_step (record l { look = None }) h.2.0 (ap is_late kind) (s.idle h.2.0))
   attempt_by (Lock w) kind n h =
       cond_both (e.found == e.expected) (lock l w.value)
-      (record l { look = None; writes = Some w.value; failed = true })
-      (λ (m : LocalState). Attempt t m (e ∷ events))
-      (λ _. lock_step (Lock w) kind (undrawn_invalid l h.2.1) h.2.3 (lock l w.value)
+      (record l { look = None; writes = Some w.value; failed = true }) (λ (m : LocalState). Attempt t m (e ∷ events))
+      (λ _. lock_step kind (undrawn_invalid l h.2.1) h.2.3 (lock l w.value)
       (new_hold l (next_write l w.value)) refl (λ q. cc) refl (sym at_next)
-      (h.1.0 ∙ ap (λ n. recorded n l.reads) (sym at_next))
-      (subst (λ n. n < objects t) (sym at_next) h.3) refl refl)
-      (λ f. firm_step (Lock w) kind (undrawn_invalid l h.2.1) h.2.3
+      (h.1.0 ∙ ap (λ n. recorded n l.reads) (sym at_next)) (subst (λ n. n < objects t) (sym at_next) h.3) refl refl)
+      (λ f. firm_step kind (undrawn_invalid l h.2.1) h.2.3
       (record l { look = None; writes = Some w.value; failed = true }) refl (λ q. cc)
       (λ o x. let y = (locked_is o e x).2 in cc) refl refl)
     where
       at_next : e.place ≡ (next_write l w.value).0
       at_next = h.0
   attempt_by (Draw w) kind n h =
-      firm_step (Draw w) kind (undrawn_invalid l h.2.2) h.2.4 (after (Draw w) t l e) refl (λ q. cc)
+      firm_step kind (undrawn_invalid l h.2.2) h.2.4 (after (Draw w) t l e) refl (λ q. cc)
       (λ o x. let y = (locked_is o e x).0 in let z : is_lock e.kind ≡ false = ap is_lock kind in cc) refl refl
   attempt_by Check kind n h =
-      firm_step Check kind (unchecked h) h.2.1 (after Check t l e) refl
+      firm_step kind (unchecked h) h.2.1 (after Check t l e) refl
       (λ q. let x = s.told h.2.0 in let y : is_some l.writes ≡ false = ap is_some q in cc)
       (λ o x. let y = (locked_is o e x).0 in let z : is_lock e.kind ≡ false = ap is_lock kind in cc) refl refl
   attempt_by WriteLow kind n h =
-      beside_step (after WriteLow t l e)
-      (λ q. absurd (let x = untold_invalid t l s q in let y = h.2.0 in cc))
+      beside_step (after WriteLow t l e) (λ q. absurd (let x = untold_invalid t l s q in let y = h.2.0 in cc))
       (λ q. absurd (let y = h.2.0 in cc)) (ap is_lock kind) (let p = h.0 in omega arith) refl refl refl
       (λ o x. some_marked with_low (λ h. refl) o (low_object t e.place) l.holds x) (λ _ _ _ _. h.2.0)
   attempt_by WriteHigh kind n h =
-      beside_step (after WriteHigh t l e)
-      (λ q. absurd (let x = untold_invalid t l s q in let y = h.2.0 in cc))
+      beside_step (after WriteHigh t l e) (λ q. absurd (let x = untold_invalid t l s q in let y = h.2.0 in cc))
       (λ q. absurd (let y = h.2.0 in cc)) (ap is_lock kind) (let p = h.0 in omega arith) refl refl refl
       (λ o x. some_marked with_high (λ h. refl) o (high_object t e.place) l.holds x) (λ _ _ _ _. h.2.0)
   attempt_by Unlock kind n h = unlock_step kind h
@@ -433,8 +421,7 @@ just_sampled t l e k h = absurd (cc)
 attempt : (t : Table) (es : List Event) → Run t es → (c : ℕ) →
     Attempt t (local t es c) (events_of c (since_sample c es))
 attempt t [] run c = none_yet t (local t [] c) refl
-attempt t (e ∷ es) run c =
-    go (cases_Bool (e.caller == c)) (cases_Bool (is_sample e.kind)) (attempt t es run.0 c)
+attempt t (e ∷ es) run c = go (cases_Bool (e.caller == c)) (cases_Bool (is_sample e.kind)) (attempt t es run.0 c)
   where
     go : (e.caller == c ≡ true) ⊎ (e.caller == c ≡ false) → (is_sample e.kind ≡ true) ⊎ (is_sample e.kind ≡ false) →
         Attempt t (local t es c) (events_of c (since_sample c es)) →
@@ -442,8 +429,7 @@ attempt t (e ∷ es) run c =
     go (inl q) (inl r) ih =
         subst (Attempt t (local t (e ∷ es) c))
         (sym (ap (events_of c) (since_at is_sample e es c (and_from (e.caller == c) (is_sample e.kind) q r))))
-        (subst (λ l. Attempt t l []) (sym (local_mine tl2 t es e c q))
-        (just_sampled t (local t es c) e e.kind r))
+        (subst (λ l. Attempt t l []) (sym (local_mine tl2 t es e c q)) (just_sampled t (local t es c) e e.kind r))
     go (inl q) (inr r) ih =
         subst (Attempt t (local t (e ∷ es) c))
         (sym (ap (events_of c) (since_still is_sample e es c (and_right (e.caller == c) (is_sample e.kind) r))
@@ -476,8 +462,7 @@ module _ (t : Table) (es : List Event) (run : Run t es) (c : ℕ) where
       let y = (attempt t es run c).locks o taking x h in given y.expected y.now
     where
       given : taking.expected ≡ recorded o l.reads → (is_some (hold_of o l.holds) ≡ true)
-          ⊎ Given t o (recorded o l.reads) l.gave_back (is_valid l) since →
-          (is_some (hold_of o l.holds) ≡ true)
+          ⊎ Given t o (recorded o l.reads) l.gave_back (is_valid l) since → (is_some (hold_of o l.holds) ≡ true)
           ⊎ ((event : Event) × (last_at o since ≡ Some event) × GivesBack taking event)
       given e (inl q) = inl q
       given e (inr y) = inr (y.event, y.last, record { unlocks = y.unlocks; word = y.word v ∙ sym e })

@@ -40,8 +40,8 @@ module _ {L : Type 0} (May : LocalState → Task → Type 0) where
   }
 
   -- the state that they leave
-  makes_state : (k n : TlCalled L) (m : Makes May k n) → state n ≡ state_by (table_of_caller k) (state k) m.calls
-  makes_state k n m =
+  makes_state : {k n : TlCalled L} (m : Makes May k n) → state n ≡ state_by (table_of_caller k) (state k) m.calls
+  makes_state {k = k} {n = n} m =
       ap (λ h. state (record n { home = h })) m.same.0
       ∙ ap (local (table_of_caller k) n.log) m.same.1
       ∙ after_own tl2 (table_of_caller k) k.number n.log k.log (events_in m.calls)
@@ -52,7 +52,7 @@ module _ {L : Type 0} (May : LocalState → Task → Type 0) where
       let t = table_of_caller k in
       let table : table_of_caller n ≡ t = ap (λ h. table_of_caller (record k { home = h })) a.same.0 in
       let made : AreMade t (state_by t (state k) a.calls) May b.calls =
-      subst (λ (l : LocalState). AreMade t l May b.calls) (makes_state k n a)
+      subst (λ (l : LocalState). AreMade t l May b.calls) (makes_state a)
       (subst (λ (x : Table). AreMade x (state n) May b.calls) table b.made) in
       record {
         calls = b.calls ++ a.calls;
@@ -98,8 +98,7 @@ pub told_makes : {L : Type 0} (began n : TlCalled L) → n.home ≡ began.home �
 told_makes began n home number there told =
     let table : table_of_caller n ≡ table_of_caller began =
     ap (λ h. table_of_caller (record began { home = h })) home in
-    let state_is : begun_state n ≡ state began =
-    ap (λ (t : Table). local t (begun_log n.number n.log) n.number) table
+    let state_is : begun_state n ≡ state began = ap (λ (t : Table). local t (begun_log n.number n.log) n.number) table
     ∙ ap (λ es. local (table_of_caller began) es n.number) (sym there)
     ∙ ap (local (table_of_caller began) began.log) number in
     record {
@@ -126,10 +125,8 @@ answers_are_of_calls holds k n again a = by a.told.calls refl (a.answers ∙ a.t
     by : (cs : List Call) → a.told.calls ≡ cs →
         Some again ≡ newest_answer (table_of_caller n) (begun_state n) a.told.calls →
         (last : Call) × (before : List Call) × (a.told.calls ≡ last ∷ before)
-        × (answer_of (table_of_caller n) (state_by (table_of_caller n) (begun_state n) before) last.events
-        ≡ Some again)
-    by [] is answer =
-        absurd (let none = answer ∙ ap (newest_answer (table_of_caller n) (begun_state n)) is in cc)
+        × (answer_of (table_of_caller n) (state_by (table_of_caller n) (begun_state n) before) last.events ≡ Some again)
+    by [] is answer = absurd (let none = answer ∙ ap (newest_answer (table_of_caller n) (begun_state n)) is in cc)
     by (last ∷ before) is answer =
         (last, before, is, sym (answer ∙ ap (newest_answer (table_of_caller n) (begun_state n)) is))
 
@@ -145,8 +142,7 @@ a_life_is_calls holds f g later last k n log enrols makes retires known =
     makes_both LocksItsWrites u n back (makes_both LocksItsWrites u k n born makes) gone in
     let whole : events_of k.number (enrols.enrol ∷ (enrols.log.0 ++ f.view.log)) ≡ enrols.enrol ∷ [] =
     ap (events_of k.number) (sym enrols.log.1) ∙ enrols.own in
-    let none : events_of u.number u.log ≡ [] =
-    none_before_only k.number enrols.log.0 f.view.log enrols.enrol
+    let none : events_of u.number u.log ≡ [] = none_before_only k.number enrols.log.0 f.view.log enrols.enrol
     (own_stands k.number k.log [] enrols.enrol [] enrols.own).own whole in
     let one_of : Contains (back.number ∷ []) back.number = (0, omega arith, refl) in
     let there : events_of back.number log ≡ events_of back.number back.log =

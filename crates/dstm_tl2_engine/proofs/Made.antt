@@ -27,10 +27,10 @@ use Rattle.dstm_tl2_engine.proofs.Begun.{begun_count}
 use Rattle.dstm_mem.proofs.Settling.{agrees_held, writes_same}
 
 -- a value that is set changes no map that is admitted
-pub set_admits : {L : Type 0} (holds : L → List Val → Type 0) (k n : TlCalled L) →
+pub set_admits : {L : Type 0} (holds : L → List Val → Type 0) (k : TlCalled L) {n : TlCalled L} →
     n ≡ record k { writes = n.writes; set = n.set } →
     (map : List Val) → (Admits holds n map → Admits holds k map) × (Admits holds k map → Admits holds n map)
-set_admits holds k n same map = (
+set_admits holds k {n = n} same map = (
   (λ a. out n.writes n.set (subst (λ m. Admits holds m map) same a)),
   (λ a. subst (λ m. Admits holds m map) (sym same) (back n.writes n.set a)),
 )
@@ -72,8 +72,7 @@ module _ {L : Type 0} (holds : L → List Val → Type 0) (k b t : TlCalled L) (
     begun = counted;
     seen = seen;
     past =
-        past_past k.log b.log n.log begins.steps.seen
-        (record {
+        past_past k.log b.log n.log begins.steps.seen (record {
           later = since_sample n.number n.log;
           whole = ap (λ xs. since_sample n.number n.log ++ xs) there ∙ sym (log_parts is_sample n.number n.log);
         });
@@ -160,18 +159,17 @@ module _ {L : Type 0} (holds : L → List Val → Type 0) (k b t : TlCalled L) (
           let same : n.home ≡ k.home = nh ∙ home in
           let ok : holds (law_of n) (start_of n) =
           subst (λ (x : Home L). holds x.terms.law.value x.terms.start.value.items) (sym nh) run.lawful in
-          right_for (state_after (start_of n) st.before)
-          (states_keep_length (start_of n) st.before
+          right_for (state_after (start_of n) st.before) (states_keep_length (start_of n) st.before
           ∙ ap (λ (x : Home L). length x.terms.start.value.items) same)
           (subst (λ (x : Home L). holds x.terms.law.value (state_after (start_of n) st.before)) same (st.lawful ok))
           st.reads
 
   -- and it is what the run of its body left
   pub runs : (is_right : List Val → List Val → Type 0) (leaves : (ℕ → Option Val) → (ℕ → Bool) → Type 0)
-      (n : TlCalled L) (drawn : ℕ) → Commits t n drawn →
+      {n : TlCalled L} {drawn : ℕ} → Commits t n drawn →
       ((map : List Val) → Admits holds t map → is_right map (with_set map (written t))) → leaves (held t) (is_opened t) →
       Performs holds (Doing (Committing t.writes)) t n None → CommitsRun holds is_right leaves k n drawn
-  runs is_right leaves n drawn commits right left commit = record {
+  runs is_right leaves commits right left commit = record {
     ran = t;
     same = (home, number);
     right = right;

@@ -121,8 +121,7 @@ held_read (r ∷ rs) o = by (held_read rs o) (cases_Bool (r.object == o))
     by ih (inr q) = rw q ih
 
 pub unheld_unread : (rs : List Read) (o : ℕ) → value_in (read_values rs) o ≡ None → read_of o rs ≡ None
-unheld_unread rs o none =
-    map_none (λ (r : Read). r.value) (read_of o rs) (sym (held_read rs o) ∙ none)
+unheld_unread rs o none = map_none (λ (r : Read). r.value) (read_of o rs) (sym (held_read rs o) ∙ none)
 
 pub unread_unheld : (rs : List Read) (o : ℕ) → read_of o rs ≡ None → value_in (read_values rs) o ≡ None
 unread_unheld rs o none = held_read rs o ∙ ap (option_map (λ (r : Read). r.value)) none
@@ -151,7 +150,7 @@ not_left (Some again) h = absurd (cc)
 
 -- ---- what is held, and what an open hands out
 
-module _ {L : Type 0} (holds : L → List Val → Type 0) where
+module _ {L : Type 0} {holds : L → List Val → Type 0} where
   -- a map is admitted that has what is held
   pub narrows_by : (k n : TlCalled L) → n.home ≡ k.home → ((o : ℕ) → IsSome (held k o) → held n o ≡ held k o) →
       (map : List Val) → Admits holds n map → Admits holds k map
@@ -163,8 +162,7 @@ module _ {L : Type 0} (holds : L → List Val → Type 0) where
     where
       by : (o : ℕ) (x : Option Val) → held k o ≡ x → IfSome x (λ v. value_at map o ≡ v)
       by o None q = tt
-      by o (Some x) q =
-          subst (λ y. IfSome y (λ v. value_at map o ≡ v)) (still o (ap is_some q) ∙ q) (admits.agrees o)
+      by o (Some x) q = subst (λ y. IfSome y (λ v. value_at map o ≡ v)) (still o (ap is_some q) ∙ q) (admits.agrees o)
 
   -- A MAP IS ADMITTED: the one that the attempt sees.
   pub seen_admits : (k : TlCalled L) → IsRunOf holds k.home.terms k.log → Seen holds k →
@@ -179,7 +177,7 @@ module _ {L : Type 0} (holds : L → List Val → Type 0) where
     },
   )
 
-module _ {L : Type 0} (holds : L → List Val → Type 0) (c : Inside L) (v : Tied holds c) where
+module _ {L : Type 0} {holds : L → List Val → Type 0} {c : Inside L} (v : Tied holds c) where
   -- the lists have what is held
   pub held_slot : (o : ℕ) →
       held (called c) o ≡ option_map (λ (s : ReadSlot). s.value) (read_slot c.opened.reads o)
@@ -227,8 +225,7 @@ module _ {L : Type 0} (holds : L → List Val → Type 0) (c : Inside L) (v : Ti
       by None q =
           of_slot (read_slot c.opened.reads o) ∙ sym (held_slot o)
           ∙ ap (λ w. option_or w (held (called c) o)) (sym (unset o q))
-      by (Some x) q =
-          subst (λ y. IfSome y (λ v. Some v ≡ handed (called c) o)) q (v.puts o)
+      by (Some x) q = subst (λ y. IfSome y (λ v. Some v ≡ handed (called c) o)) q (v.puts o)
 
 -- ---- a call that opens
 
@@ -245,14 +242,14 @@ one_of P later early event all =
     let long = length-append later (event ∷ early) in
     subst P (get_or-append_seam later event early event) (all (length later) event (omega arith))
 
-module _ {L : Type 0} (holds : L → List Val → Type 0) (k n : TlCalled L) (o : ℕ) (again : Option TlAgain)
+module _ {L : Type 0} {holds : L → List Val → Type 0} {k n : TlCalled L} (o : ℕ) {again : Option TlAgain}
     (p : Performs holds (Doing (Opening o)) k n again) where
   -- it keeps its attempt, and commits nothing
   pub opening_continues : ((p : ℕ) → IsSome (held k p) → held n p ≡ held k p) → Continues holds k n
   opening_continues still = record {
-    attempt = attempt_kept holds k n (Doing (Opening o)) again p refl;
-    done = done_quiet holds k n (Doing (Opening o)) again p refl;
-    narrows = narrows_by holds k n p.same.0 still;
+    attempt = attempt_kept p refl;
+    done = done_quiet p refl;
+    narrows = narrows_by k n p.same.0 still;
   }
 
   pub opening_tells : (event : Event) (later early : List Event) → p.events ≡ later ++ event ∷ early →
@@ -265,8 +262,8 @@ module _ {L : Type 0} (holds : L → List Val → Type 0) (k n : TlCalled L) (o 
 
 -- ---- a read
 
-module _ {L : Type 0} (holds : L → List Val → Type 0) (c : Inside L) (v : Tied holds c)
-    (live : is_live (called c) ≡ true) (rest : AtRest (state (called c))) (o : ℕ) (new : Steps L)
+module _ {L : Type 0} {holds : L → List Val → Type 0} {c : Inside L} (v : Tied holds c)
+    (live : is_live (called c) ≡ true) (rest : AtRest (state (called c))) (o : ℕ) {new : Steps L}
     (unread : held (called c) o ≡ None) (slot : ReadSlot) (is : slot.object ≡ o)
     (u : Under holds (called c).home (began_of (Doing (Opening o)) (called c)) new Done None)
     (adds : now (called c).home new ≡ record (state (called c)) {
@@ -279,7 +276,7 @@ module _ {L : Type 0} (holds : L → List Val → Type 0) (c : Inside L) (v : Ti
     pub read_state : state (called read_as) ≡ record (state (called c)) {
       reads = (state (called c)).reads ++ slot_read slot ∷ [];
     }
-    read_state = state_then holds c v (Doing (Opening o)) new Done None u ∙ adds
+    read_state = state_then v (Doing (Opening o)) u ∙ adds
 
     reads_now : (state (called read_as)).reads ≡ (state (called c)).reads ++ slot_read slot ∷ []
     reads_now = ap (λ (l : LocalState). l.reads) read_state
@@ -314,11 +311,11 @@ module _ {L : Type 0} (holds : L → List Val → Type 0) (c : Inside L) (v : Ti
         })
 
     steps : Performs holds (Doing (Opening o)) (called c) (called read_as) None
-    steps = performs_then holds c (Doing (Opening o)) new None u read_as.opened c.left
+    steps = performs_then c (Doing (Opening o)) u read_as.opened c.left
 
     pub read_tied : Tied holds read_as
     read_tied =
-        let k = kept holds c v (Doing (Opening o)) new Done None u in record {
+        let k = kept v (Doing (Opening o)) u in record {
           seat = k.seat;
           run = k.run;
           number = k.number;
@@ -328,8 +325,7 @@ module _ {L : Type 0} (holds : L → List Val → Type 0) (c : Inside L) (v : Ti
           objects = k.objects;
           reads = map-append slot_read c.opened.reads (slot ∷ []) ∙ ap (λ rs. rs ++ slot_read slot ∷ []) v.reads ∙ sym reads_now;
           writes_read = λ p none. v.writes_read p
-              (unread_before (state (called c)).reads (slot_read slot) p
-              (ap (read_of p) (sym reads_now) ∙ none));
+              (unread_before (state (called c)).reads (slot_read slot) p (ap (read_of p) (sym reads_now) ∙ none));
           puts = λ p. puts_now p (value_in c.opened.writes p) refl (v.puts p);
           sets = v.sets;
           seen = k.seen;
@@ -338,9 +334,9 @@ module _ {L : Type 0} (holds : L → List Val → Type 0) (c : Inside L) (v : Ti
               (sym v.locks ∙ rest.untold.2));
           may = λ some. read_rest.undrawn;
           few = v.few;
-          lawful = lawful_unlocked holds (called read_as) read_rest.untold.2 v.sets;
+          lawful = lawful_unlocked holds read_rest.untold.2 v.sets;
           left = subst (λ x. IfSome x (λ again. IsLeft (called read_as))) (sym (not_left c.left live)) tt;
-          told = λ _. told_more holds (called c) (called read_as) (Opening o) None steps
+          told = λ _. told_more steps
               (v.told (rest_made (called c) rest)) tt (λ _. not_left c.left live) (not_left c.left live);
         }
       where
@@ -348,34 +344,32 @@ module _ {L : Type 0} (holds : L → List Val → Type 0) (c : Inside L) (v : Ti
             IfSome x (λ y. Some y ≡ handed (called c) p) → IfSome x (λ y. Some y ≡ handed (called read_as) p)
         puts_now p None q h = tt
         puts_now p (Some x) q h =
-            h ∙ ap (option_or (value_in c.opened.set p))
-            (sym (read_held.kept p (opened_held holds c v p (ap is_some q))))
+            h ∙ ap (option_or (value_in c.opened.set p)) (sym (read_held.kept p (opened_held v p (ap is_some q))))
 
     pub read_stays : Stays holds (Opening o) (called c) (called read_as)
     read_stays = record {
       steps = steps;
-      attempt = attempt_kept holds (called c) (called read_as) (Doing (Opening o)) None steps refl;
+      attempt = attempt_kept steps refl;
     }
 
     pub read_kept : called read_as ≡ record (called c) { log = (view_of new.seat).log; left = None }
     read_kept =
-        ap (λ h. record (called read_as) { home = h }) (kept holds c v (Doing (Opening o)) new Done None u).home
+        ap (λ h. record (called read_as) { home = h }) (kept v (Doing (Opening o)) u).home
         ∙ ap (λ x. record (called c) { log = (view_of new.seat).log; left = x }) (not_left c.left live)
 
     pub read_seen : Seen holds (called read_as)
-    read_seen = (kept holds c v (Doing (Opening o)) new Done None u).seen
+    read_seen = (kept v (Doing (Opening o)) u).seen
 
     pub read_continues : Continues holds (called c) (called read_as)
-    read_continues =
-        opening_continues holds (called c) (called read_as) o None steps (λ p some. read_held.kept p some)
+    read_continues = opening_continues o steps (λ p some. read_held.kept p some)
 
     pub read_opens : HasOpened holds o (called c) (called read_as)
-    read_opens = record { held = read_held; admits = seen_admits holds (called read_as) u.run read_seen }
+    read_opens = record { held = read_held; admits = seen_admits (called read_as) u.run read_seen }
 
 -- ---- a read that has left its attempt
 
-module _ {L : Type 0} (holds : L → List Val → Type 0) (c : Inside L) (v : Tied holds c)
-    (rest : AtRest (state (called c))) (o : ℕ) (new : Steps L) (again : TlAgain)
+module _ {L : Type 0} {holds : L → List Val → Type 0} {c : Inside L} (v : Tied holds c)
+    (rest : AtRest (state (called c))) (o : ℕ) {new : Steps L} {again : TlAgain}
     (u : Under holds (called c).home (began_of (Doing (Opening o)) (called c)) new Done (Some again))
     (same : now (called c).home new ≡ record (state (called c)) { look = (now (called c).home new).look })
   where
@@ -383,7 +377,7 @@ module _ {L : Type 0} (holds : L → List Val → Type 0) (c : Inside L) (v : Ti
     stopped_as = record c { steps = new; left = Some again }
 
     stopped_state : state (called stopped_as) ≡ record (state (called c)) { look = (now (called c).home new).look }
-    stopped_state = state_then holds c v (Doing (Opening o)) new Done (Some again) u ∙ same
+    stopped_state = state_then v (Doing (Opening o)) u ∙ same
 
     reads_still : (state (called stopped_as)).reads ≡ (state (called c)).reads
     reads_still = ap (λ (l : LocalState). l.reads) stopped_state
@@ -392,20 +386,18 @@ module _ {L : Type 0} (holds : L → List Val → Type 0) (c : Inside L) (v : Ti
     held_still p = ap (λ rs. value_in (read_values rs) p) reads_still
 
     steps_stopped : Performs holds (Doing (Opening o)) (called c) (called stopped_as) (Some again)
-    steps_stopped = performs_then holds c (Doing (Opening o)) new (Some again) u c.opened (Some again)
+    steps_stopped = performs_then c (Doing (Opening o)) u c.opened (Some again)
 
     pub stopped_left : IsLeft (called stopped_as)
     stopped_left =
-        left_after holds (called c) (called stopped_as) (Doing (Opening o)) (Some again) steps_stopped again refl refl refl
-        (ap (λ (l : LocalState). l.holds) stopped_state ∙ rest.untold.2)
+        left_after steps_stopped again refl refl refl (ap (λ (l : LocalState). l.holds) stopped_state ∙ rest.untold.2)
         (inr (ap (λ (l : LocalState). l.drawn) stopped_state ∙ rest.undrawn))
         (others_of (table_of_caller (called c)) c.number (called stopped_as).log (called c).log steps_stopped.events
-        again u.run.run.run v.number.0 steps_stopped.own (sym steps_stopped.answers)
-        (opening_tells holds (called c) (called stopped_as) o (Some again) steps_stopped))
+        again u.run.run.run v.number.0 steps_stopped.own (sym steps_stopped.answers) (opening_tells o steps_stopped))
 
     pub stopped_tied : Tied holds stopped_as
     stopped_tied =
-        let k = kept holds c v (Doing (Opening o)) new Done (Some again) u in record {
+        let k = kept v (Doing (Opening o)) u in record {
           seat = k.seat;
           run = k.run;
           number = k.number;
@@ -424,10 +416,10 @@ module _ {L : Type 0} (holds : L → List Val → Type 0) (c : Inside L) (v : Ti
               (sym v.locks ∙ rest.untold.2));
           may = λ some. ap (λ (l : LocalState). l.drawn) stopped_state ∙ rest.undrawn;
           few = v.few;
-          lawful = lawful_unlocked holds (called stopped_as)
+          lawful = lawful_unlocked holds
               (ap (λ (l : LocalState). l.holds) stopped_state ∙ rest.untold.2) v.sets;
           left = stopped_left;
-          told = λ _. told_more holds (called c) (called stopped_as) (Opening o) (Some again) steps_stopped
+          told = λ _. told_more steps_stopped
               (v.told (rest_made (called c) rest)) tt (λ none. absurd (cc)) refl;
         }
 
@@ -437,25 +429,22 @@ module _ {L : Type 0} (holds : L → List Val → Type 0) (c : Inside L) (v : Ti
       cause = causes_of (table_of_caller (called c)) (state (called c)) steps_stopped.events again
           (sym steps_stopped.answers);
       left = stopped_left;
-      attempt = attempt_kept holds (called c) (called stopped_as) (Doing (Opening o)) (Some again) steps_stopped refl;
-      done = done_quiet holds (called c) (called stopped_as) (Doing (Opening o)) (Some again) steps_stopped refl;
+      attempt = attempt_kept steps_stopped refl;
+      done = done_quiet steps_stopped refl;
     }
 
     pub stopped_kept : called stopped_as ≡ record (called c) { log = (view_of new.seat).log; left = Some again }
-    stopped_kept =
-        ap (λ h. record (called stopped_as) { home = h })
-        (kept holds c v (Doing (Opening o)) new Done (Some again) u).home
+    stopped_kept = ap (λ h. record (called stopped_as) { home = h }) (kept v (Doing (Opening o)) u).home
 
     pub stopped_seen : Seen holds (called stopped_as)
-    stopped_seen = (kept holds c v (Doing (Opening o)) new Done (Some again) u).seen
+    stopped_seen = (kept v (Doing (Opening o)) u).seen
 
     pub stopped_continues : Continues holds (called c) (called stopped_as)
-    stopped_continues =
-        opening_continues holds (called c) (called stopped_as) o (Some again) steps_stopped (λ p some. held_still p)
+    stopped_continues = opening_continues o steps_stopped (λ p some. held_still p)
 
 -- ---- an object that is newly open for writing
 
-module _ {L : Type 0} (holds : L → List Val → Type 0) (c : Inside L) (v : Tied holds c)
+module _ {L : Type 0} {holds : L → List Val → Type 0} {c : Inside L} (v : Tied holds c)
     (live : is_live (called c) ≡ true) (rest : AtRest (state (called c))) (o : ℕ) (value : Val)
     (unopened : value_in c.opened.writes o ≡ None) (read : Some value ≡ held (called c) o)
   where
@@ -490,26 +479,23 @@ module _ {L : Type 0} (holds : L → List Val → Type 0) (c : Inside L) (v : Ti
       where
         apart : (p : ℕ) → read_of p (state (called c)).reads ≡ None → p ≢ o
         apart p none same =
-            none_some (held (called c) o)
-            (unread_unheld (state (called c)).reads o
-            (subst (λ n. read_of n (state (called c)).reads ≡ None) same none))
-            (ap is_some (sym read))
+            none_some (held (called c) o) (unread_unheld (state (called c)).reads o
+            (subst (λ n. read_of n (state (called c)).reads ≡ None) same none)) (ap is_some (sym read))
 
         puts_now : (p : ℕ) → (p ≡ o) ⊎ (p ≡ o → ⊥) →
             IfSome (value_in (c.opened.writes ++ (o, value) ∷ []) p) (λ y. Some y ≡ handed (called c) p)
         puts_now p (inl same) =
             subst (λ n. IfSome (value_in (c.opened.writes ++ (o, value) ∷ []) n) (λ y. Some y ≡ handed (called c) n))
-            (sym same)
-            (subst (λ x. IfSome x (λ y. Some y ≡ handed (called c) o))
+            (sym same) (subst (λ x. IfSome x (λ y. Some y ≡ handed (called c) o))
             (sym (value_in-last c.opened.writes o value unopened))
-            (read ∙ ap (λ w. option_or w (held (called c) o)) (sym (unset holds c v o unopened))))
+            (read ∙ ap (λ w. option_or w (held (called c) o)) (sym (unset v o unopened))))
         puts_now p (inr other) =
             subst (λ x. IfSome x (λ y. Some y ≡ handed (called c) p))
             (sym (value_in-more c.opened.writes o value p other)) (v.puts p)
 
     -- an open hands out the value that was read
     pub marked_value : Some value ≡ handed (called marked_as) o
-    marked_value = read ∙ ap (λ w. option_or w (held (called c) o)) (sym (unset holds c v o unopened))
+    marked_value = read ∙ ap (λ w. option_or w (held (called c) o)) (sym (unset v o unopened))
 
 -- ---- the first read of an object, by what its caller is seen as
 
@@ -545,7 +531,7 @@ module _ {L : Type 0} {holds : L → List Val → Type 0} {c : Inside L} {k : Tl
     (at : Unread holds c k home o)
   where
     here : now home c.steps ≡ state (called c)
-    here = now_there holds c at.tied home at.same
+    here = now_there at.tied at.same
 
     at_rest : AtRest (state (called c))
     at_rest = subst (λ (k : TlCalled L). AtRest (state k)) (sym at.view) at.rest
@@ -554,14 +540,13 @@ module _ {L : Type 0} {holds : L → List Val → Type 0} {c : Inside L} {k : Tl
     unheld = ap (λ (k : TlCalled L). held k o) at.view ∙ at.unread
 
     pub read_under : Under holds home (begun_as home (Doing (Opening o)) c.steps) c.steps (LookAt o) None
-    read_under = starts_there holds c at.tied home at.same (Doing (Opening o))
+    read_under = starts_there at.tied at.same (Doing (Opening o))
 
     pub read_at_rest : AtRest (now home c.steps)
     read_at_rest = subst (λ (l : LocalState). AtRest l) (sym here) at_rest
 
     pub read_unread : read_of o (now home c.steps).reads ≡ None
-    read_unread =
-        ap (λ (l : LocalState). read_of o l.reads) here ∙ unheld_unread (state (called c)).reads o unheld
+    read_unread = ap (λ (l : LocalState). read_of o l.reads) here ∙ unheld_unread (state (called c)).reads o unheld
 
     pub slot_exists : (p : ℕ) → p ≡ o → o < objects_of k → p < c.opened.objects
     slot_exists p q below =
@@ -569,18 +554,18 @@ module _ {L : Type 0} {holds : L → List Val → Type 0} {c : Inside L} {k : Tl
         (subst (λ n. o < n) (sym at.tied.objects) (subst (λ (k : TlCalled L). o < objects_of k) (sym at.view) below))
 
     pub slot_unread : (p : ℕ) → p ≡ o → read_slot c.opened.reads p ≡ None
-    slot_unread p q = ap (read_slot c.opened.reads) q ∙ unheld_slot holds c at.tied o unheld
+    slot_unread p q = ap (read_slot c.opened.reads) q ∙ unheld_slot at.tied o unheld
 
-    module _ (live : is_live k ≡ true) (new : Steps L) (slot : ReadSlot) (is : slot.object ≡ o)
+    module _ (live : is_live k ≡ true) {new : Steps L} (slot : ReadSlot) (is : slot.object ≡ o)
         (u : Under holds home (begun_as home (Doing (Opening o)) c.steps) new Done None)
         (adds : now home new ≡ record (now home c.steps) { reads = (now home c.steps).reads ++ slot_read slot ∷ [] })
-        (opened : OpenedAs) (pushed : opened ≡ record c.opened { reads = c.opened.reads ++ slot ∷ [] })
+        {opened : OpenedAs} (pushed : opened ≡ record c.opened { reads = c.opened.reads ++ slot ∷ [] })
       where
         is_on : is_live (called c) ≡ true
         is_on = ap (λ (k : TlCalled L). is_live k) at.view ∙ live
 
         u_here : Under holds (called c).home (began_of (Doing (Opening o)) (called c)) new Done None
-        u_here = ends_here holds c at.tied home at.same (Doing (Opening o)) new Done None u
+        u_here = ends_here at.tied at.same (Doing (Opening o)) u
 
         adds_here : now (called c).home new ≡ record (state (called c)) {
           reads = (state (called c)).reads ++ slot_read slot ∷ [];
@@ -590,32 +575,25 @@ module _ {L : Type 0} {holds : L → List Val → Type 0} {c : Inside L} {k : Tl
             ∙ ap (λ (l : LocalState). record l { reads = l.reads ++ slot_read slot ∷ [] }) here
 
         pub first_tied : Tied holds (record c { steps = new; opened = opened })
-        first_tied =
-            subst (λ (x : OpenedAs). Tied holds (record c { steps = new; opened = x })) (sym pushed)
-            (read_tied holds c at.tied is_on at_rest o new unheld slot is u_here adds_here)
+        first_tied = rw pushed (read_tied at.tied is_on at_rest o unheld slot is u_here adds_here)
 
         pub first_reads : Reads holds o k (called (record c { steps = new; opened = opened })) slot.value
-        first_reads =
-            subst (λ (k : TlCalled L). Reads holds o k (called (record c { steps = new; opened = opened })) slot.value)
-            at.view
-            (subst (λ (x : OpenedAs).
-            Reads holds o (called c) (called (record c { steps = new; opened = x })) slot.value) (sym pushed)
-            (record {
-              stays = read_stays holds c at.tied is_on at_rest o new unheld slot is u_here adds_here;
-              kept = read_kept holds c at.tied is_on at_rest o new unheld slot is u_here adds_here;
-              continues = read_continues holds c at.tied is_on at_rest o new unheld slot is u_here adds_here;
-              opens = read_opens holds c at.tied is_on at_rest o new unheld slot is u_here adds_here;
-              rest = read_rest holds c at.tied is_on at_rest o new unheld slot is u_here adds_here;
-              seen = read_seen holds c at.tied is_on at_rest o new unheld slot is u_here adds_here;
-              reads = read_value holds c at.tied is_on at_rest o new unheld slot is u_here adds_here;
-            }))
+        first_reads = rw (← at.view, pushed) (record {
+          stays = read_stays at.tied is_on at_rest o unheld slot is u_here adds_here;
+          kept = read_kept at.tied is_on at_rest o unheld slot is u_here adds_here;
+          continues = read_continues at.tied is_on at_rest o unheld slot is u_here adds_here;
+          opens = read_opens at.tied is_on at_rest o unheld slot is u_here adds_here;
+          rest = read_rest at.tied is_on at_rest o unheld slot is u_here adds_here;
+          seen = read_seen at.tied is_on at_rest o unheld slot is u_here adds_here;
+          reads = read_value at.tied is_on at_rest o unheld slot is u_here adds_here;
+        })
 
-    module _ (new : Steps L) (again : TlAgain)
+    module _ {new : Steps L} {again : TlAgain}
         (u : Under holds home (begun_as home (Doing (Opening o)) c.steps) new Done (Some again))
         (same : now home new ≡ record (now home c.steps) { look = (now home new).look })
       where
         u_left : Under holds (called c).home (began_of (Doing (Opening o)) (called c)) new Done (Some again)
-        u_left = ends_here holds c at.tied home at.same (Doing (Opening o)) new Done (Some again) u
+        u_left = ends_here at.tied at.same (Doing (Opening o)) u
 
         same_left : now (called c).home new ≡ record (state (called c)) { look = (now (called c).home new).look }
         same_left =
@@ -624,48 +602,45 @@ module _ {L : Type 0} {holds : L → List Val → Type 0} {c : Inside L} {k : Tl
             ∙ ap (λ h. record (state (called c)) { look = (now h new).look }) (sym at.same)
 
         pub left_tied : Tied holds (record c { steps = new; left = Some again })
-        left_tied = stopped_tied holds c at.tied at_rest o new again u_left same_left
+        left_tied = stopped_tied at.tied at_rest o u_left same_left
 
         pub left_stops : Stops holds o k (called (record c { steps = new; left = Some again })) again
-        left_stops =
-            subst (λ (k : TlCalled L). Stops holds o k (called (record c { steps = new; left = Some again })) again)
-            at.view (record {
-              leaves = stopped_leaves holds c at.tied at_rest o new again u_left same_left;
-              kept = stopped_kept holds c at.tied at_rest o new again u_left same_left;
-              continues = stopped_continues holds c at.tied at_rest o new again u_left same_left;
-              seen = stopped_seen holds c at.tied at_rest o new again u_left same_left;
-            })
+        left_stops = rw (← at.view) (record {
+          leaves = stopped_leaves at.tied at_rest o u_left same_left;
+          kept = stopped_kept at.tied at_rest o u_left same_left;
+          continues = stopped_continues at.tied at_rest o u_left same_left;
+          seen = stopped_seen at.tied at_rest o u_left same_left;
+        })
 
 -- ---- an open of what is open already
 
-module _ {L : Type 0} (holds : L → List Val → Type 0) (c : Inside L) (v : Tied holds c) (k : TlCalled L)
+module _ {L : Type 0} {holds : L → List Val → Type 0} {c : Inside L} (v : Tied holds c) {k : TlCalled L}
     (view : called c ≡ k) (o : ℕ)
   where
     -- what an open hands out is there where a value is held
     held_hands : (h : Option Val) → held (called c) o ≡ h → is_some (handed (called c) o) ≡ is_some h
     held_hands None q =
-        ap (λ w. is_some (option_or w (held (called c) o))) (unset holds c v o (unheld_unopened holds c v o q))
+        ap (λ w. is_some (option_or w (held (called c) o))) (unset v o (unheld_unopened v o q))
         ∙ ap is_some q
-    held_hands (Some x) q =
-        ap (λ h. is_some (option_or (written (called c) o) h)) q ∙ some_else (written (called c) o)
+    held_hands (Some x) q = ap (λ h. is_some (option_or (written (called c) o) h)) q ∙ some_else (written (called c) o)
       where
         some_else : (w : Option Val) → is_some (option_or w (Some x)) ≡ true
         some_else None = refl
         some_else (Some y) = refl
 
     pub hands : slots_value (value_in c.opened.writes o) (read_slot c.opened.reads o) ≡ handed k o
-    hands = slots_hand holds c v o ∙ ap (λ (k : TlCalled L). handed k o) view
+    hands = slots_hand v o ∙ ap (λ (k : TlCalled L). handed k o) view
 
     slots_held : is_some (slots_value (value_in c.opened.writes o) (read_slot c.opened.reads o)) ≡ is_some (held k o)
     slots_held =
-        ap is_some (slots_hand holds c v o) ∙ held_hands (held (called c) o) refl
+        ap is_some (slots_hand v o) ∙ held_hands (held (called c) o) refl
         ∙ ap (λ (k : TlCalled L). is_some (held k o)) view
 
     -- what is not read was not set
     pub unset_unheld : held k o ≡ None → written k o ≡ None
     unset_unheld none =
         ap (λ (k : TlCalled L). written k o) (sym view)
-        ∙ unset holds c v o (unheld_unopened holds c v o (ap (λ (k : TlCalled L). held k o) view ∙ none))
+        ∙ unset v o (unheld_unopened v o (ap (λ (k : TlCalled L). held k o) view ∙ none))
 
     pub handed_held : (x : Val) → slots_value (value_in c.opened.writes o) (read_slot c.opened.reads o) ≡ Some x →
         IsSome (held k o)
@@ -675,10 +650,10 @@ module _ {L : Type 0} (holds : L → List Val → Type 0) (c : Inside L) (v : Ti
     unhanded_unheld q = not_some (held k o) (sym slots_held ∙ ap is_some q)
 
     pub put_held : IsSome (value_in c.opened.writes o) → IsSome (held k o)
-    put_held some = ap (λ (k : TlCalled L). is_some (held k o)) (sym view) ∙ opened_held holds c v o some
+    put_held some = ap (λ (k : TlCalled L). is_some (held k o)) (sym view) ∙ opened_held v o some
 
     pub slot_held : option_map (λ (s : ReadSlot). s.value) (read_slot c.opened.reads o) ≡ held k o
-    slot_held = sym (held_slot holds c v o) ∙ ap (λ (k : TlCalled L). held k o) view
+    slot_held = sym (held_slot v o) ∙ ap (λ (k : TlCalled L). held k o) view
 
     pub no_slot_unheld : read_slot c.opened.reads o ≡ None → held k o ≡ None
     no_slot_unheld none = sym slot_held ∙ ap (option_map (λ (s : ReadSlot). s.value)) none
@@ -687,7 +662,7 @@ module _ {L : Type 0} (holds : L → List Val → Type 0) (c : Inside L) (v : Ti
     held_opened some = record {
       held = record { held = some; kept = λ p some. refl; others = λ p other. refl };
       admits = subst (λ (k : TlCalled L). (map : List Val) × Admits holds k map) view
-          (seen_admits holds (called c) v.run v.seen);
+          (seen_admits (called c) v.run v.seen);
     }
 
 -- ---- an open for writing
@@ -703,14 +678,14 @@ pub record IsRead {L : Type 0} (holds : L → List Val → Type 0) (o : ℕ) (k 
   pub steps : IsSome (held k o) → m.log ≡ k.log
   pub opens : HasOpened holds o k m
 
-pub read_before : {L : Type 0} (holds : L → List Val → Type 0) (c : Inside L) (v : Tied holds c) (k m : TlCalled L)
+pub read_before : {L : Type 0} {holds : L → List Val → Type 0} {c : Inside L} (v : Tied holds c) {k m : TlCalled L}
     (view : called c ≡ k) (o : ℕ) (slot : ReadSlot) (value : Val) → is_live k ≡ true → AtRest (state k) →
     read_slot c.opened.reads o ≡ Some slot → m ≡ k → value ≡ slot.value → IsRead holds o k m value
-read_before holds c v k m view o slot value live rest is same is_value =
+read_before {holds = holds} v {k = k} view o slot value live rest is same is_value =
     subst (λ (n : TlCalled _). IsRead holds o k n value) (sym same) (subst (IsRead holds o k k) (sym is_value) here)
   where
     read : Some slot.value ≡ held k o
-    read = ap (option_map (λ (s : ReadSlot). s.value)) (sym is) ∙ slot_held holds c v k view o
+    read = ap (option_map (λ (s : ReadSlot). s.value)) (sym is) ∙ slot_held v view o
 
     here : IsRead holds o k k slot.value
     here = record {
@@ -721,13 +696,13 @@ read_before holds c v k m view o slot value live rest is same is_value =
       read = read;
       stays = λ none. absurd (none_some (held k o) none (ap is_some (sym read)));
       steps = λ some. refl;
-      opens = held_opened holds c v k view o (ap is_some (sym read));
+      opens = held_opened v view o (ap is_some (sym read));
     }
 
-pub read_by : {L : Type 0} (holds : L → List Val → Type 0) (o : ℕ) (k n m : TlCalled L) (read value : Val) →
+pub read_by : {L : Type 0} {holds : L → List Val → Type 0} {o : ℕ} {k n m : TlCalled L} (read value : Val) →
     held k o ≡ None → Stays holds (Opening o) k n → n ≡ record k { log = n.log; left = None } → HasOpened holds o k n →
     AtRest (state n) → Some read ≡ held n o → m ≡ n → value ≡ read → IsRead holds o k m value
-read_by holds o k n m read value none stays kept opens rest reads same is_value =
+read_by {holds = holds} {o = o} {k = k} {n = n} read value none stays kept opens rest reads same is_value =
     subst (λ (n : TlCalled _). IsRead holds o k n value) (sym same) (subst (IsRead holds o k n) (sym is_value) here)
   where
     here : IsRead holds o k n read
@@ -742,9 +717,9 @@ read_by holds o k n m read value none stays kept opens rest reads same is_value 
       opens = opens;
     }
 
-module _ {L : Type 0} (holds : L → List Val → Type 0) (o : ℕ) (k m : TlCalled L) (value : Val)
-    (r : IsRead holds o k m value) (c : Inside L) (v : Tied holds c) (view : called c ≡ m)
-    (unopened : value_in k.writes o ≡ None) (opened : OpenedAs)
+module _ {L : Type 0} {holds : L → List Val → Type 0} {o : ℕ} {k m : TlCalled L} {value : Val}
+    (r : IsRead holds o k m value) {c : Inside L} (v : Tied holds c) (view : called c ≡ m)
+    (unopened : value_in k.writes o ≡ None) {opened : OpenedAs}
     (pushed : opened ≡ record c.opened { writes = c.opened.writes ++ (o, value) ∷ [] })
   where
     on_there : is_live (called c) ≡ true
@@ -765,7 +740,7 @@ module _ {L : Type 0} (holds : L → List Val → Type 0) (o : ℕ) (k m : TlCal
     pub pushed_tied : Tied holds pushed_as
     pushed_tied =
         subst (λ (x : OpenedAs). Tied holds (record c { opened = x })) (sym pushed)
-        (marked_tied holds c v on_there rest_there o value none_there read_there)
+        (marked_tied v on_there rest_there o value none_there read_there)
 
     -- the caller is as it was, but for what is open
     pushed_is : called pushed_as ≡ record m { writes = k.writes ++ (o, value) ∷ []; set = k.set }
@@ -782,8 +757,7 @@ module _ {L : Type 0} (holds : L → List Val → Type 0) (o : ℕ) (k m : TlCal
 
     pub pushed_stays : held k o ≡ None → Stays holds (Opening o) k (called pushed_as)
     pushed_stays none =
-        subst (λ (n : TlCalled L). Stays holds (Opening o) k n) (sym pushed_is)
-        (let s = r.stays none in record {
+        subst (λ (n : TlCalled L). Stays holds (Opening o) k n) (sym pushed_is) (let s = r.stays none in record {
           steps = record {
             events = s.steps.events;
             own = s.steps.own;
@@ -816,4 +790,4 @@ module _ {L : Type 0} (holds : L → List Val → Type 0) (o : ℕ) (k m : TlCal
     pub pushed_value : Some value ≡ handed (called pushed_as) o
     pushed_value =
         subst (λ (x : OpenedAs). Some value ≡ handed (called (record c { opened = x })) o) (sym pushed)
-        (marked_value holds c v on_there rest_there o value none_there read_there)
+        (marked_value v on_there rest_there o value none_there read_there)

@@ -22,21 +22,18 @@ use Rattle.dstm_machines.proofs.Own.{after_own}
 pub others_of : (t : Table) (c : ℕ) (log before es : List Event) (again : TlAgain) → Run t log → c < t.callers →
     events_of c log ≡ es ++ events_of c before → answer_of t (local t before c) es ≡ Some again →
     ((event : Event) (later early : List Event) → es ≡ later ++ event ∷ early →
-    NamesOnce (objects t) (writes_of event.kind)) →
-    1 < t.callers
+    NamesOnce (objects t) (writes_of event.kind)) → 1 < t.callers
 others_of t c log before es again run inside own gives once =
     let ended = ended_by t (local t before c) es again gives in
     by ended.event ended.later ended.before ended.in_call ended.fails
   where
     by : (event : Event) (later early : List Event) → es ≡ later ++ event ∷ early →
         fails event.kind (state_after t (local t before c) early) event ≡ true → 1 < t.callers
-    by event later early is fail =
-        go (cases_order 1 t.callers)
+    by event later early is fail = go (cases_order 1 t.callers)
       where
         s : StandsAt c log event (early ++ events_of c before)
         s =
-            own_stands c log later event (early ++ events_of c before)
-            (own ∙ ap (λ xs. xs ++ events_of c before) is
+            own_stands c log later event (early ++ events_of c before) (own ∙ ap (λ xs. xs ++ events_of c before) is
             ∙ append_assoc later (event ∷ early) (events_of c before))
 
         one : t.callers ≡ 1 → ⊥

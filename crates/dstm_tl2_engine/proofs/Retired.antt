@@ -18,10 +18,10 @@ use Rattle.dstm_tl2_engine.specs.Calls.{Performs}
 use Rattle.dstm_tl2_engine.specs.Tables.{HasReturned}
 
 -- with a caller more, which holds nothing, those that were taken in are as many as were made
-pub returned_more : {L : Type 0} (holds : L → List Val → Type 0) (terms : Terms L) (made : ℕ) (v w : View L)
+pub returned_more : {L : Type 0} {holds : L → List Val → Type 0} {terms : Terms L} {made : ℕ} {v w : View L}
     (k : TlCalled L) → Joined holds v (seat_view k) w → k.home.terms ≡ terms → (state k).holds ≡ [] →
     HasReturned terms made v → HasReturned terms made w
-returned_more {L = L} holds terms made v w k joined told nothing back = record {
+returned_more {L = L} {terms = terms} {v = v} {w = w} k joined told nothing back = record {
   free = λ n has.
       free n (Contains-append_cases v.numbers (k.number ∷ []) n (subst (λ ns. Contains ns n) numbers has));
   counted =
@@ -48,10 +48,10 @@ returned_more {L = L} holds terms made v w k joined told nothing back = record {
         ∙ nothing
 
 -- what a retired caller has committed is the same in the founder's log
-pub retired_done : {L : Type 0} (holds : L → List Val → Type 0) (v w : View L) (k returned : TlCalled L) →
+pub retired_done : {L : Type 0} {holds : L → List Val → Type 0} {v w : View L} {k returned : TlCalled L} →
     Performs holds Returning k returned None → Joined holds v (seat_view returned) w → done returned ≡ done k →
     done_by (table_of_caller k) w.log k.number ≡ done k
-retired_done {L = L} holds v w k returned steps joined same =
+retired_done {L = L} {w = w} {k = k} {returned = returned} steps joined same =
     same_done_by (table_of_caller k) w.log returned.log k.number
     (joined.other_kept k.number (0, omega arith, steps.same.1))
     ∙ ap (λ (h : Home L). done_by (table_of h.terms) returned.log k.number) (sym steps.same.0)

@@ -37,12 +37,12 @@ new_inside terms seat objects number = record {
   opened = record { objects = objects; reads = []; writes = []; set = [] };
 }
 
-pub enrolled_tied : {L : Type 0} (holds : L → List Val → Type 0) (terms : Terms L) (seat : Seat ℕ (View L))
+pub enrolled_tied : {L : Type 0} {holds : L → List Val → Type 0} {terms : Terms L} (seat : Seat ℕ (View L))
     (objects number : ℕ) → seat.me.0 ≡ seat_view (enrolled_as terms seat number) → seat.me.1 ≡ [] →
     IsRunOf holds terms seat.me.0.log → objects_of (enrolled_as terms seat number) ≡ objects → number < terms.callers →
     state (enrolled_as terms seat number) ≡ record first { number = Some number } →
     Tied holds (new_inside terms seat objects number)
-enrolled_tied holds terms seat objects number view slots run size few fresh = record {
+enrolled_tied {holds = holds} {terms = terms} seat objects number view slots run size few fresh = record {
   seat = (view, slots);
   run = run;
   number = (few, ap (λ (l : LocalState). l.number) fresh);
@@ -54,11 +54,11 @@ enrolled_tied holds terms seat objects number view slots run size few fresh = re
   writes_read = λ o none. refl;
   puts = λ o. tt;
   sets = λ o some. some;
-  seen = seen_now holds (enrolled_as terms seat number) run;
+  seen = seen_now (enrolled_as terms seat number) run;
   locks = ap (λ (l : LocalState). l.holds) fresh;
   may = λ some. absurd (some refl);
   few = omega arith;
-  lawful = lawful_unlocked holds (enrolled_as terms seat number) (ap (λ (l : LocalState). l.holds) fresh)
+  lawful = lawful_unlocked holds (ap (λ (l : LocalState). l.holds) fresh)
       (λ o some. some);
   left = tt;
   told = λ made. absurd (let some = made.0 in let none = ap (λ (l : LocalState). l.begun) fresh in
@@ -72,11 +72,10 @@ live_left None h = refl
 live_left (Some again) h = absurd (cc)
 
 -- the caller stays as it was else
-module _ {L : Type 0} (holds : L → List Val → Type 0) (c : Inside L) (v : Tied holds c) (o : ℕ) (value : Val)
+module _ {L : Type 0} {holds : L → List Val → Type 0} {c : Inside L} (v : Tied holds c) (o : ℕ) (value : Val)
     (new : OpenedAs) (live : is_live (called c) ≡ true) (rest : AtRest (state (called c)))
     (opened : IsSome (value_in c.opened.writes o)) (writes : new.writes ≡ with_value o value c.opened.writes)
-    (others : (p : ℕ) → p ≢ o → value_in new.set p ≡ value_in c.opened.set p)
-    (own : value_in new.set o ≡ Some value)
+    (others : (p : ℕ) → p ≢ o → value_in new.set p ≡ value_in c.opened.set p) (own : value_in new.set o ≡ Some value)
     (same : (new.objects ≡ c.opened.objects) × (new.reads ≡ c.opened.reads)) where
   none : c.locked ≡ 0
   none = none_locked (state (called c)) c.opened.writes c.locked v.few v.locks rest.untold.2
@@ -119,8 +118,7 @@ module _ {L : Type 0} (holds : L → List Val → Type 0) (c : Inside L) (v : Ti
       by (inr q) = rw (written_other p q) (v.sets p (rw (others p q) at some))
 
   locks_then : (state (called c)).holds ≡ map (new_hold (state (called c))) (take c.locked new.writes)
-  locks_then =
-      rest.untold.2 ∙ sym (ap (λ n. map (new_hold (state (called c))) (take n new.writes)) none)
+  locks_then = rest.untold.2 ∙ sym (ap (λ n. map (new_hold (state (called c))) (take n new.writes)) none)
 
   pub set_tied : Tied holds (record c { opened = new })
   set_tied = record {
@@ -139,7 +137,7 @@ module _ {L : Type 0} (holds : L → List Val → Type 0) (c : Inside L) (v : Ti
     locks = locks_then;
     may = λ some. absurd (some none);
     few = omega (arith, none);
-    lawful = lawful_unlocked holds (called (record c { opened = new })) rest.untold.2 sets_then;
+    lawful = lawful_unlocked holds rest.untold.2 sets_then;
     left = subst (λ left. IfSome left (λ again. IsLeft (called (record c { opened = new }))))
         (sym (live_left c.left live)) tt;
     told = λ made. told_opened c new (v.told made);

@@ -30,12 +30,12 @@ use Rattle.dstm_tl2_engine.specs.declared.caller.TlCaller.TheInside.{Inside}
 pub rest_made : {L : Type 0} (k : TlCalled L) → AtRest (state k) → IsMade k
 rest_made k rest = (rest.begun, inr (inr rest.sound.1))
 
-pub locked_made : {L : Type 0} (k : TlCalled L) → HasLocked k → IsMade k
-locked_made k locked = (locked.begun, inr (inr locked.sound.1))
+pub locked_made : {L : Type 0} {k : TlCalled L} → HasLocked k → IsMade k
+locked_made locked = (locked.begun, inr (inr locked.sound.1))
 
 -- one at rest locks no more than it writes
-pub rest_can : (l : LocalState) → AtRest l → (n : _) → l.locked ≤ n
-rest_can l rest n = let none = rest.untold.1 in omega (arith, none)
+pub rest_can : {l : LocalState} → AtRest l → (n : _) → l.locked ≤ n
+rest_can rest n = let none = rest.untold.1 in omega (arith, none)
 
 -- what is open is no part of it
 pub told_opened : {L : Type 0} (c : Inside L) (opened : OpenedAs) → IsTold (called c) →
@@ -51,35 +51,35 @@ own_parts k =
     ∙ own_append k.number (since_sample k.number k.log) (begun_log k.number k.log)
 
 -- the calls make its state
-pub told_state : {L : Type 0} (k : TlCalled L) (t : IsTold k) →
+pub told_state : {L : Type 0} {k : TlCalled L} (t : IsTold k) →
     state k ≡ state_by (table_of_caller k) (begun_state k) t.calls
-told_state k t =
+told_state {k = k} t =
     ap (λ xs. local (table_of_caller k) xs k.number) (log_parts is_sample k.number k.log)
     ∙ own_state tl2 (table_of_caller k) k.number (since_sample k.number k.log) (begun_log k.number k.log)
     ∙ ap (state_after (table_of_caller k) (begun_state k)) t.own
 
 -- A CALL MORE
-module _ {L : Type 0} (holds : L → List Val → Type 0) (k n : TlCalled L) (work : Work) (again : Option TlAgain)
+module _ {L : Type 0} {holds : L → List Val → Type 0} {k n : TlCalled L} {work : Work} {again : Option TlAgain}
     (p : Performs holds (Doing work) k n again) (t : IsTold k) (can : CanLock (Doing work) (state k))
     (live : again ≡ None → k.left ≡ None) (left : n.left ≡ again) where
   began : begun_state n ≡ begun_state k
-  began = began_then holds k n (Doing work) again p refl
+  began = began_then p refl
 
   own_then : own_since n ≡ p.events ++ own_since k
-  own_then = own_since_then holds k n (Doing work) again p refl
+  own_then = own_since_then p refl
 
   -- what is said of them from the attempt's begin on
   made_then : (cs : List Call) → AreMade (table_of_caller k) (begun_state k) IsOnAttempt cs →
       AreMade (table_of_caller n) (begun_state n) IsOnAttempt cs
   made_then cs made =
-      subst (λ (x : Table). AreMade x (begun_state n) IsOnAttempt cs) (sym (table_then holds k n (Doing work) again p))
+      subst (λ (x : Table). AreMade x (begun_state n) IsOnAttempt cs) (sym (table_then p))
       (subst (λ (l : LocalState). AreMade (table_of_caller k) l IsOnAttempt cs) (sym began) made)
 
   answer_then : (cs : List Call) → newest_answer (table_of_caller k) (begun_state k) cs
       ≡ newest_answer (table_of_caller n) (begun_state n) cs
   answer_then cs =
       ap (λ (l : LocalState). newest_answer (table_of_caller k) l cs) (sym began)
-      ∙ ap (λ (x : Table). newest_answer x (begun_state n) cs) (sym (table_then holds k n (Doing work) again p))
+      ∙ ap (λ (x : Table). newest_answer x (begun_state n) cs) (sym (table_then p))
 
   told_with : (es : List Event) → p.events ≡ es → IsTold n
   told_with [] is =
@@ -96,15 +96,15 @@ module _ {L : Type 0} (holds : L → List Val → Type 0) (k n : TlCalled L) (wo
     are_calls =
         made_then (record { task = Doing work; events = p.events } ∷ t.calls) (
           t.are_calls,
-          subst (CanLock (Doing work)) (told_state k t) can,
-          subst (λ (l : LocalState). IsCall (Doing work) (table_of_caller k) l p.events) (told_state k t) p.call,
+          subst (CanLock (Doing work)) (told_state t) can,
+          subst (λ (l : LocalState). IsCall (Doing work) (table_of_caller k) l p.events) (told_state t) p.call,
         );
     each =
         All-cons (λ (call : Call). 0 < length call.events) (record { task = Doing work; events = p.events }) t.calls
         (let size : length p.events ≡ length (e ∷ es) = ap length is in omega (arith, size)) t.each;
     left =
         left ∙ p.answers
-        ∙ ap (λ (l : LocalState). answer_of (table_of_caller k) l p.events) (told_state k t)
+        ∙ ap (λ (l : LocalState). answer_of (table_of_caller k) l p.events) (told_state t)
         ∙ answer_then (record { task = Doing work; events = p.events } ∷ t.calls);
   }
 

@@ -25,7 +25,7 @@ use Rattle.dstm_tl2_engine.specs.declared.caller.TlCaller.TheInside.{Inside}
 
 -- ---- before a call
 
-module _ {L : Type 0} (holds : L → List Val → Type 0) (c : Inside L) (v : Tied holds c) where
+module _ {L : Type 0} {holds : L → List Val → Type 0} {c : Inside L} (v : Tied holds c) where
   pub steps_of : StepsOf holds (called c) c.steps
   steps_of = record {
     seat = (refl, v.seat.1, ap (λ (w : View L). w.terms) v.seat.0);
@@ -36,11 +36,10 @@ module _ {L : Type 0} (holds : L → List Val → Type 0) (c : Inside L) (v : Ti
     sample = sym v.sample;
   }
 
-  module _ (home : Home L) (same : (called c).home ≡ home) where
+  module _ {home : Home L} (same : (called c).home ≡ home) where
     -- the state that they know
     pub now_there : now home c.steps ≡ state (called c)
-    now_there =
-        subst (λ (h : Home L). now h c.steps ≡ state (called c)) same (now_is holds (called c) c.steps steps_of)
+    now_there = subst (λ (h : Home L). now h c.steps ≡ state (called c)) same (now_is holds (called c) steps_of)
 
     -- a call begins
     pub starts_there : (task : Task) →
@@ -48,14 +47,14 @@ module _ {L : Type 0} (holds : L → List Val → Type 0) (c : Inside L) (v : Ti
         (due task (table_of home.terms) None (now home c.steps)) None
     starts_there task =
         subst (λ (h : Home L). Under holds h (begun_as h task c.steps) c.steps
-        (due task (table_of h.terms) None (now h c.steps)) None) same (starts holds (called c) task c.steps steps_of)
+        (due task (table_of h.terms) None (now h c.steps)) None) same (starts holds (called c) task steps_of)
 
     -- and ends
-    pub ends_here : (task : Task) (new : Steps L) (d : Due) (again : Option TlAgain) →
+    pub ends_here : (task : Task) {new : Steps L} {d : Due} {again : Option TlAgain} →
         Under holds home (begun_as home task c.steps) new d again →
         Under holds (called c).home (began_of task (called c)) new d again
-    ends_here task new d again u =
-        subst (λ b. Under holds (called c).home b new d again) (began_is holds (called c) task c.steps steps_of)
+    ends_here task {new = new} {d = d} {again = again} u =
+        subst (λ b. Under holds (called c).home b new d again) (began_is holds (called c) task steps_of)
         (subst (λ (h : Home L). Under holds h (begun_as h task c.steps) new d again) (sym same) u)
 
 -- ---- after it
@@ -75,8 +74,8 @@ pub record Kept {L : Type 0} (holds : L → List Val → Type 0) (c : Inside L) 
   pub seen : Seen holds (called (with_steps c new))
   pub home : (called (with_steps c new)).home ≡ (called c).home
 
-module _ {L : Type 0} (holds : L → List Val → Type 0) (c : Inside L) (v : Tied holds c) (task : Task) (new : Steps L)
-    (d : Due) (again : Option TlAgain) (u : Under holds (called c).home (began_of task (called c)) new d again) where
+module _ {L : Type 0} {holds : L → List Val → Type 0} {c : Inside L} (v : Tied holds c) (task : Task) {new : Steps L}
+    {d : Due} {again : Option TlAgain} (u : Under holds (called c).home (began_of task (called c)) new d again) where
   -- the state of the caller then
   pub state_then : local (table_of c.terms) (view_of new.seat).log c.number ≡ now (called c).home new
   state_then = sym (ap (caller_state c.terms) u.view)
@@ -91,25 +90,25 @@ module _ {L : Type 0} (holds : L → List Val → Type 0) (c : Inside L) (v : Ti
     number = (
       v.number.0,
       ap (λ (l : LocalState). l.number) state_then
-          ∙ number_now holds (called c).home (began_of task (called c)) new d again u (ap is_some v.number.1),
+          ∙ number_now u (ap is_some v.number.1),
     );
     places = u.places;
     sample = ap (λ (l : LocalState). l.sample) state_then ∙ sym u.sample;
     objects = v.objects;
-    seen = seen_now holds (called (with_steps c new)) u.run;
+    seen = seen_now (called (with_steps c new)) u.run;
     home = home_then;
   }
 
 -- the call is one of the caller's, whatever becomes of its lists
-pub performs_then : {L : Type 0} (holds : L → List Val → Type 0) (c : Inside L) (task : Task) (new : Steps L)
-    (again : Option TlAgain) → Under holds (called c).home (began_of task (called c)) new Done again →
+pub performs_then : {L : Type 0} {holds : L → List Val → Type 0} (c : Inside L) (task : Task) {new : Steps L}
+    {again : Option TlAgain} → Under holds (called c).home (began_of task (called c)) new Done again →
     (opened : OpenedAs) (left : Option TlAgain) →
     Performs holds task (called c) (called (record c { steps = new; opened = opened; left = left })) again
-performs_then holds c task new again u opened left =
-    performs holds (called c) task new again (called (record c { steps = new; opened = opened; left = left })) u refl
+performs_then {holds = holds} c task {new = new} u opened left =
+    performs holds (called c) task (called (record c { steps = new; opened = opened; left = left })) u refl
     (ap (λ t. record (called c).home { table = t }) u.seat.0) refl
 
 -- the caller that contracts see is the one that its fields stand for, and the words are those of its table
-pub at_words : {L : Type 0} (c : Inside L) (k : TlCalled L) (stm words : Home L) → called c ≡ k → k.home ≡ stm →
+pub at_words : {L : Type 0} (c : Inside L) {k : TlCalled L} {stm words : Home L} → called c ≡ k → k.home ≡ stm →
     words ≡ stm → (called c).home ≡ words
-at_words c k stm words view table same = ap (λ (k : TlCalled _). k.home) view ∙ table ∙ sym same
+at_words c {k = k} view table same = ap (λ (k : TlCalled _). k.home) view ∙ table ∙ sym same

@@ -157,8 +157,7 @@ works_on (Committing writes) = writes
 
 -- Where what it is to write names each object once, so does what its events tell.
 pub tell_once : (n : ℕ) (work : Work) (table : Table) (l : LocalState) (events : List Event) → closes work ≡ true →
-    NamesOnce n (works_on work) → Obeys (Doing work) table l events →
-    All (λ (e : Event). TellsOnce n e.kind) events
+    NamesOnce n (works_on work) → Obeys (Doing work) table l events → All (λ (e : Event). TellsOnce n e.kind) events
 tell_once n work table l events is once =
     every (TellsOnce n) (plain_tells n) (λ kind p. p.0) (λ writes p. (refl, p.1)) work
     (locked (TellsOnce n) work (λ writes q. (refl, subst (λ w. NamesOnce n (works_on w)) q once)))
@@ -167,8 +166,7 @@ tell_once n work table l events is once =
     first : (work : Work) → closes work ≡ true → NamesOnce n (works_on work) → (l : LocalState) →
         Dues (TellsOnce n) (at_first work l)
     first (Locking writes) is once l = locking (TellsOnce n) writes (Locking writes) l (refl, once) tt
-    first (Committing writes) is once l =
-        locking (TellsOnce n) writes (Committing writes) l (refl, once) (refl, once)
+    first (Committing writes) is once l = locking (TellsOnce n) writes (Committing writes) l (refl, once) (refl, once)
     first (Finishing writes) is once l = (refl, once)
     first (Opening object) is once l = absurd (cc)
 
@@ -193,8 +191,7 @@ pub step_keeps : (kind : Kind) (table : Table) (state : LocalState) (event : Eve
 step_keeps (Lock writes) table state event is = by (event.found == event.expected)
   where
     by : (b : Bool) →
-        KeptBy state
-        (if b then lock state writes.value
+        KeptBy state (if b then lock state writes.value
         else record state { look = None; writes = Some writes.value; failed = true }) (not b)
     by true = record { begun = refl; reads = refl; failed = or_false state.failed }
     by false = record { begun = refl; reads = refl; failed = or_true state.failed }

@@ -34,8 +34,7 @@ numbered t [] run c h = absurd (cc)
 numbered t (e ∷ es) run c h = go (cases_eq e.caller c) (λ h. numbered t es run.0 c h)
   where
     go : (e.caller ≡ c) ⊎ (e.caller ≡ c → ⊥) →
-        (is_some (local t es c).number ≡ true → (local t es c).number ≡ Some c) →
-        (local t (e ∷ es) c).number ≡ Some c
+        (is_some (local t es c).number ≡ true → (local t es c).number ≡ Some c) → (local t (e ∷ es) c).number ≡ Some c
     go (inl q) ih = subst (λ c. (local t (e ∷ es) c).number ≡ Some c) q (named t es e run)
     go (inr q) ih =
         let other : local t (e ∷ es) c ≡ local t es c = local_other tl2 t es e c q in
@@ -50,8 +49,7 @@ number_stays LookAgain t l e h =
     cond_both (e.found == (look_of l).word) (record_read l) (record l { look = None })
     (λ (m : LocalState). is_some m.number ≡ true) (λ _. h) (λ _. h)
 number_stays (Lock w) t l e h =
-    cond_both (e.found == e.expected) (lock l w.value)
-    (record l { look = None; writes = Some w.value; failed = true })
+    cond_both (e.found == e.expected) (lock l w.value) (record l { look = None; writes = Some w.value; failed = true })
     (λ (m : LocalState). is_some m.number ≡ true) (λ _. h) (λ _. h)
 number_stays k t l e h = h
 
@@ -62,13 +60,11 @@ numbers_stay t l (e ∷ es) h = number_stays e.kind t (state_after t l es) e (nu
 
 -- ---- a call under way
 
-module _ {L : Type 0} (holds : L → List Val → Type 0) (home : Home L) (b : Began) (steps : Steps L) (d : Due)
-    (a : Option TlAgain) (u : Under holds home b steps d a) where
+module _ {L : Type 0} {holds : L → List Val → Type 0} {home : Home L} {b : Began} {steps : Steps L} {d : Due}
+    {a : Option TlAgain} (u : Under holds home b steps d a) where
   -- the caller's state is that of a run
   pub now_is : local (table_of home.terms) (view_of steps.seat).log b.number ≡ now home steps
-  now_is =
-      ap (λ o. state_by tl2 (table_of home.terms) o (view_of steps.seat).log)
-      (sym (number_of holds home b steps d a u))
+  now_is = ap (λ o. state_by tl2 (table_of home.terms) o (view_of steps.seat).log) (sym (number_of u))
 
   pub static_now : Static (table_of home.terms) (now home steps)
   static_now =
@@ -83,8 +79,7 @@ module _ {L : Type 0} (holds : L → List Val → Type 0) (home : Home L) (b : B
   clock_below : clock (table_of home.terms) (view_of steps.seat).log < 2 ^ 61
   clock_below =
       let bound = clock_bound (table_of home.terms) (view_of steps.seat).log u.run.run.run in
-      let most : home.terms.callers * home.terms.attempts ≤ 64 * 65536 =
-      mul-le _ _ _ _ u.run.callers u.run.attempts in
+      let most : home.terms.callers * home.terms.attempts ≤ 64 * 65536 = mul-le _ _ _ _ u.run.callers u.run.attempts in
       omega arith
 
   -- A NUMBER DRAWN is far below 2^63, so that twice that number, plus 2, is a word.

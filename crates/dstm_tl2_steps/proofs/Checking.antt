@@ -68,17 +68,17 @@ none_is (Some v) true h = absurd (cc)
 none_is (Some v) false h = refl
 
 -- the look at an object of the list says whether it is written
-pub slot_is : (ws : List (ℕ × Val)) (given slots : List ReadSlot) (i : ℕ) (found : Option Val) (none is : Bool) →
+pub slot_is : (ws : List (ℕ × Val)) {given slots : List ReadSlot} (i : ℕ) {found : Option Val} (none is : Bool) →
     given ≡ slots → found ≡ value_in ws (read_at given i).object → is_some found ≡ not none → none ≡ is →
     is_none (value_in ws (read_at slots i).object) ≡ is
-slot_is ws given slots i found none is same value test q =
+slot_is ws {slots = slots} i {found = found} none is same value test q =
     subst (λ (slots : List ReadSlot). is_none (value_in ws (read_at slots i).object) ≡ is) same
     (ap is_none (sym value) ∙ none_is found none test ∙ q)
 
 -- the slot is that of the read
-pub slot_read_is : (given slots : List ReadSlot) (i : ℕ) (r : Read) → given ≡ slots → r ≡ slot_read (read_at slots i) →
+pub slot_read_is : {given slots : List ReadSlot} (i : ℕ) {r : Read} → given ≡ slots → r ≡ slot_read (read_at slots i) →
     (r.object ≡ (read_at given i).object) × (r.word ≡ (read_at given i).word)
-slot_read_is given slots i r same q =
+slot_read_is {slots = slots} i {r = r} same q =
     subst (λ (slots : List ReadSlot). (r.object ≡ (read_at slots i).object) × (r.word ≡ (read_at slots i).word))
     (sym same) (ap (λ (r : Read). r.object) q, ap (λ (r : Read). r.word) q)
 
@@ -115,61 +115,59 @@ get_below t sample p rs i h below =
     subst (λ (r : Read). r.object < objects t) (sym (ap or_read (slice_get-get_or (filter p rs) i no_read below)))
     (All-get_or (ReadOk t sample) (filter p rs) i no_read below (All-filter p (ReadOk t sample) rs h)).0
 
-pub check_below : {L : Type 0} (holds : L → List Val → Type 0) (home : Home L) (b : Began) (steps : Steps L)
-    (d : Due) (a : Option TlAgain) → Under holds home b steps d a →
+pub check_below : {L : Type 0} {holds : L → List Val → Type 0} {home : Home L} {b : Began} {steps : Steps L}
+    {d : Due} {a : Option TlAgain} → Under holds home b steps d a →
     (now home steps).checked < length (to_check (now home steps)) →
     (next_check (now home steps)).object < objects (table_of home.terms)
-check_below holds home b steps d a u left =
+check_below {home = home} {steps = steps} u left =
     get_below (table_of home.terms) (now home steps).sample
     (λ (r : Read). is_none (write_of r.object (or_writes (now home steps).writes))) (now home steps).reads
-    (now home steps).checked (static_now holds home b steps d a u).read left
+    (now home steps).checked (static_now u).read left
 
 -- ---- after a check
 
-module _ {L : Type 0} (holds : L → List Val → Type 0) (home : Home L) (b : Began) where
+module _ {L : Type 0} {holds : L → List Val → Type 0} {home : Home L} {b : Began} where
   -- the state after a check
-  pub check_state : (old new : Steps L) (a : Option TlAgain) (o found word : ℕ) (bad : Bool) →
+  pub check_state : {old new : Steps L} {a : Option TlAgain} (o found word : ℕ) (bad : Bool) →
       Went holds home b old new a (made_by b Load Check o found) → (now home old).failed ≡ false →
       (next_check (now home old)).word ≡ word → not (found == word) ≡ bad →
       now home new ≡ record (now home old) { checked = (now home old).checked + 1; failed = bad }
-  check_state old new a o found word bad w good is test =
+  check_state {old = old} o found word bad w good is test =
       let failed : ((now home old).failed || not (found == (next_check (now home old)).word)) ≡ bad =
       rw (good, is) test in
       w.state ∙ ap (λ x. record (now home old) { checked = (now home old).checked + 1; failed = x }) failed
 
   -- it was good
-  pub check_good : (old new : Steps L) (o found word : ℕ) → Under holds home b old (Just Check) None →
+  pub check_good : {old new : Steps L} (o found word : ℕ) → Under holds home b old (Just Check) None →
       Went holds home b old new None (made_by b Load Check o found) → (now home old).failed ≡ false →
       (next_check (now home old)).word ≡ word → (found == word) ≡ true →
       Under holds home b new (in_checking (now home new)) None
-  check_good old new o found word u w good is test =
-      let work = is_doing holds home b old _ _ u refl in
+  check_good {old = old} {new = new} o found word u w good is test =
+      let work = is_doing u refl in
       let bad : not (found == word) ≡ false = ap not test in
-      let state = check_state old new None o found word false w good is bad in
+      let state = check_state o found word false w good is bad in
       let failed : (now home new).failed ≡ false = ap (λ (l : LocalState). l.failed) state in
       let fine : (found == (next_check (now home old)).word) ≡ true = rw is test in
-      let on = goes_on holds home b work.0 old new None _ work.1 w in
+      let on = goes_on work.0 work.1 w in
       let answered : answer_by (now home old) (made_by b Load Check o found) None ≡ None = rw fine refl in
-      subst (Under holds home b new (in_checking (now home new))) answered
-      (due_is holds home b new _ _ _ on (rw failed refl))
+      subst (Under holds home b new (in_checking (now home new))) answered (due_is on (rw failed refl))
 
   -- it was not
-  pub check_bad : (old new : Steps L) (o found word : ℕ) → Under holds home b old (Just Check) None →
+  pub check_bad : {old new : Steps L} (o found word : ℕ) → Under holds home b old (Just Check) None →
       Went holds home b old new None (made_by b Load Check o found) → (now home old).failed ≡ false →
       (next_check (now home old)).word ≡ word → (found == word) ≡ false →
       Under holds home b new (in_giving_back (now home new).holds)
       (Some (if is_locked found then Locked o else Changed o))
-  check_bad old new o found word u w good is test =
-      let work = is_doing holds home b old _ _ u refl in
+  check_bad {old = old} {new = new} o found word u w good is test =
+      let work = is_doing u refl in
       let bad : not (found == word) ≡ true = ap not test in
-      let state = check_state old new None o found word true w good is bad in
+      let state = check_state o found word true w good is bad in
       let failed : (now home new).failed ≡ true = ap (λ (l : LocalState). l.failed) state in
       let wrong : (found == (next_check (now home old)).word) ≡ false = rw is test in
-      let on = goes_on holds home b work.0 old new None _ work.1 w in
+      let on = goes_on work.0 work.1 w in
       let answered : answer_by (now home old) (made_by b Load Check o found) None
       ≡ Some (if is_locked found then Locked o else Changed o) = rw wrong refl in
-      subst (Under holds home b new (in_giving_back (now home new).holds)) answered
-      (due_is holds home b new _ _ _ on (rw failed refl))
+      subst (Under holds home b new (in_giving_back (now home new).holds)) answered (due_is on (rw failed refl))
 
 -- ---- the loop
 
@@ -192,28 +190,27 @@ module _ {L : Type 0} (holds : L → List Val → Type 0) (home : Home L) (b : B
     pub left : (now home steps).checked < length (to_check (now home steps))
     pub read : next_check (now home steps) ≡ slot_read slot
 
-  pub next_is : (steps : Steps L) (slots : List ReadSlot) (i : ℕ) → Checking steps (drop i slots) →
-      i < length slots → is_none (value_in writes (read_at slots i).object) ≡ true →
-      NextCheck steps (read_at slots i)
-  next_is steps slots i c h is =
+  pub next_is : {steps : Steps L} (slots : List ReadSlot) (i : ℕ) → Checking steps (drop i slots) →
+      i < length slots → is_none (value_in writes (read_at slots i).object) ≡ true → NextCheck steps (read_at slots i)
+  next_is {steps = steps} slots i c h is =
       let none : is_none (write_of (read_at slots i).object writes) ≡ true =
       ap is_none (write_of-value_in writes (read_at slots i).object) ∙ is in
       let n = slot_next writes slots (to_check (now home start)) i (now home steps).checked c.same h none in
       let all : to_check (now home steps) ≡ to_check (now home start) = ap to_check c.state in
       let left : (now home steps).checked < length (to_check (now home steps)) = rw all n.left in record {
-        due = due_is holds home b steps _ _ None c.under (check_due (now home steps) left);
+        due = due_is c.under (check_due (now home steps) left);
         left = left;
         read = ap (λ rs. or_read (slice_get rs (now home steps).checked)) all ∙ n.read;
       }
 
   -- one read was checked, and it is good
-  pub checked_one : (old new : Steps L) (slots : List ReadSlot) (i : ℕ) → Checking old (drop i slots) →
+  pub checked_one : {old : Steps L} (new : Steps L) (slots : List ReadSlot) (i : ℕ) → Checking old (drop i slots) →
       i < length slots → is_none (value_in writes (read_at slots i).object) ≡ true → (bad : Option TlAgain) →
       is_some bad ≡ false → IfNone bad (Under holds home b new (in_checking (now home new)) None) →
       (now home start).failed ≡ false →
       now home new ≡ record (now home old) { checked = (now home old).checked + 1; failed = is_some bad } →
       Checking new (drop (i + 1) slots)
-  checked_one old new slots i c h is bad fine u good state =
+  checked_one {old = old} new slots i c h is bad fine u good state =
       let none : is_none (write_of (read_at slots i).object writes) ≡ true =
       ap is_none (write_of-value_in writes (read_at slots i).object) ∙ is in
       let n = slot_next writes slots (to_check (now home start)) i (now home old).checked c.same h none in
@@ -229,10 +226,10 @@ module _ {L : Type 0} (holds : L → List Val → Type 0) (home : Home L) (b : B
       }
 
   -- a read of an object that is written is not checked
-  pub checked_none : (steps : Steps L) (slots : List ReadSlot) (i : ℕ) → Checking steps (drop i slots) →
+  pub checked_none : {steps : Steps L} (slots : List ReadSlot) (i : ℕ) → Checking steps (drop i slots) →
       i < length slots → is_none (value_in writes (read_at slots i).object) ≡ false →
       Checking steps (drop (i + 1) slots)
-  checked_none steps slots i c h is =
+  checked_none {steps = steps} slots i c h is =
       let none : is_none (write_of (read_at slots i).object writes) ≡ false =
       ap is_none (write_of-value_in writes (read_at slots i).object) ∙ is in record {
         under = c.under;
@@ -242,10 +239,10 @@ module _ {L : Type 0} (holds : L → List Val → Type 0) (home : Home L) (b : B
       }
 
   -- where no slot is left every read is checked
-  pub checked_all : (steps : Steps L) (slots : List ReadSlot) (i : ℕ) → Checking steps (drop i slots) →
+  pub checked_all : {steps : Steps L} (slots : List ReadSlot) (i : ℕ) → Checking steps (drop i slots) →
       length slots ≤ i → is_some (now home start).drawn ≡ true → (now home start).failed ≡ false →
       is_valid (now home steps) ≡ true
-  checked_all steps slots i c h drawn good =
+  checked_all {steps = steps} slots i c h drawn good =
       let all : (now home steps).checked ≡ length (to_check (now home start)) =
       none_left (to_check (now home start)) (now home steps).checked
       (sym c.same ∙ ap (λ s. unwritten writes (map slot_read s)) (drop_all i slots h)) c.within in

@@ -21,13 +21,13 @@ use Rattle.dstm_tl2_steps.proofs.Going.{goes_on}
 use Rattle.dstm_tl2_steps.proofs.WritingBack.{due_is, is_doing}
 
 -- to give back is what a call on an attempt has to do that frees what it has locked
-pub gives_frees : (task : Task) (work : Work) → task ≡ Doing work → (table : Table) (state : LocalState) →
+pub gives_frees : {task : Task} (work : Work) → task ≡ Doing work → (table : Table) (state : LocalState) →
     in_giving_back state.holds ≡ in_freeing task table state
-gives_frees task work q table state = freed_done state.holds ∙ ap (λ t. in_freeing t table state) (sym q)
+gives_frees work q table state = freed_done state.holds ∙ ap (λ t. in_freeing t table state) (sym q)
 
-pub free_ends : (task : Task) (work : Work) → task ≡ Doing work → (table : Table) (state : LocalState) →
+pub free_ends : {task : Task} (work : Work) → task ≡ Doing work → (table : Table) (state : LocalState) →
     when_free task table state ≡ Done
-free_ends task work q table state = ap (λ t. when_free t table state) q
+free_ends work q table state = ap (λ t. when_free t table state) q
 
 -- the locks of some writes, by the reads
 holds_by : (old new : LocalState) (writes : List (ℕ × Val)) → new.reads ≡ old.reads →
@@ -41,31 +41,30 @@ holds_by old new writes q =
       high_put = false;
     }) writes) (sym q)
 
-module _ {L : Type 0} (holds : L → List Val → Type 0) (home : Home L) (b : Began) where
+module _ {L : Type 0} (holds : L → List Val → Type 0) {home : Home L} (b : Began) where
   -- the lists say as much after events that read, lock and unlock nothing
-  lists_kept : (old new : Steps L) (opened : OpenedAs) (n m : ℕ) → Lists home old opened n → n ≡ m →
+  lists_kept : {old : Steps L} (new : Steps L) {opened : OpenedAs} {n : ℕ} (m : ℕ) → Lists home old opened n → n ≡ m →
       (now home new).reads ≡ (now home old).reads → (now home new).holds ≡ (now home old).holds →
       Lists home new opened m
-  lists_kept old new opened n m lists same reads held = record {
+  lists_kept {old = old} new {opened = opened} m lists same reads held = record {
     objects = lists.objects;
     reads = lists.reads ∙ sym reads;
     held = held ∙ lists.held ∙ ap (λ k. map (new_hold (now home old)) (take k opened.writes)) same
         ∙ holds_by (now home old) (now home new) (take m opened.writes) reads;
   }
 
-  pub lists_checked : (old new : Steps L) (opened : OpenedAs) (n : ℕ) → Lists home old opened n →
+  pub lists_checked : {old : Steps L} (new : Steps L) {opened : OpenedAs} {n : ℕ} → Lists home old opened n →
       now home new ≡ record (now home old) { checked = (now home new).checked; failed = (now home new).failed } →
       Lists home new opened n
-  lists_checked old new opened n lists state =
-      lists_kept old new opened n n lists refl (ap (λ (l : LocalState). l.reads) state)
-      (ap (λ (l : LocalState). l.holds) state)
+  lists_checked new {n = n} lists state =
+      lists_kept new n lists refl (ap (λ (l : LocalState). l.reads) state) (ap (λ (l : LocalState). l.holds) state)
 
-  module _ (start : Steps L) (writes : List (ℕ × Val)) (u : Under holds home b start (Just (draws writes)) None) where
+  module _ {start : Steps L} (writes : List (ℕ × Val)) (u : Under holds home b start (Just (draws writes)) None) where
     pub is_commit : (work : Work) × (b.task ≡ Doing work)
-    is_commit = is_doing holds home b start _ _ u refl
+    is_commit = is_doing u refl
 
     -- the number is drawn
-    drawn_state : (new : Steps L) (told : List (ℕ × Val)) (at number : ℕ) → told ≡ writes →
+    drawn_state : {new : Steps L} {told : List (ℕ × Val)} (at number : ℕ) → told ≡ writes →
         Went holds home b start new None (made_by b Add (draws told) at number) →
         now home new ≡ record (now home start) {
           look = None;
@@ -73,35 +72,30 @@ module _ {L : Type 0} (holds : L → List Val → Type 0) (home : Home L) (b : B
           drawn = Some number;
           checked = 0;
         }
-    drawn_state new told at number same w =
+    drawn_state at number same w =
         w.state
         ∙ ap (λ ws. record (now home start) { look = None; writes = Some ws; drawn = Some number; checked = 0 }) same
 
-    pub drawn_under : (new : Steps L) (told : List (ℕ × Val)) (at number : ℕ) →
+    pub drawn_under : {new : Steps L} (told : List (ℕ × Val)) (at number : ℕ) →
         Went holds home b start new None (made_by b Add (draws told) at number) →
         Under holds home b new (in_checking (now home new)) None
-    drawn_under new told at number w = goes_on holds home b is_commit.0 start new None _ is_commit.1 w
+    drawn_under told at number w = goes_on is_commit.0 is_commit.1 w
 
-    pub drawn_lists : (new : Steps L) (told : List (ℕ × Val)) (at number : ℕ) → told ≡ writes →
-        Went holds home b start new None (made_by b Add (draws told) at number) → (opened : OpenedAs) (n m : ℕ) →
+    pub drawn_lists : {new : Steps L} {told : List (ℕ × Val)} (at number : ℕ) → told ≡ writes →
+        Went holds home b start new None (made_by b Add (draws told) at number) → {opened : OpenedAs} {n : ℕ} (m : ℕ) →
         Lists home start opened n → n ≡ m → Lists home new opened m
-    drawn_lists new told at number same w opened n m lists q =
-        let state = drawn_state new told at number same w in
-        lists_kept start new opened n m lists q (ap (λ (l : LocalState). l.reads) state)
-        (ap (λ (l : LocalState). l.holds) state)
+    drawn_lists {new = new} at number same w m lists q =
+        let state = drawn_state at number same w in
+        lists_kept new m lists q (ap (λ (l : LocalState). l.reads) state) (ap (λ (l : LocalState). l.holds) state)
 
     -- what is locked is to be given back
-    pub bad_under : (steps : Steps L) (a : Option TlAgain) →
+    pub bad_under : {steps : Steps L} {a : Option TlAgain} →
         Under holds home b steps (in_giving_back (now home steps).holds) a →
         Under holds home b steps (in_freeing b.task (table_of home.terms) (now home steps)) a
-    bad_under steps a v =
-        due_is holds home b steps _ _ a v
-        (gives_frees b.task is_commit.0 is_commit.1 (table_of home.terms) (now home steps))
+    bad_under {steps = steps} v = due_is v (gives_frees is_commit.0 is_commit.1 (table_of home.terms) (now home steps))
 
     -- it is
-    pub bad_ends : (steps : Steps L) (a : Option TlAgain) →
+    pub bad_ends : {steps : Steps L} {a : Option TlAgain} →
         Under holds home b steps (when_free b.task (table_of home.terms) (now home steps)) a →
         Under holds home b steps Done a
-    bad_ends steps a v =
-        due_is holds home b steps _ _ a v
-        (free_ends b.task is_commit.0 is_commit.1 (table_of home.terms) (now home steps))
+    bad_ends {steps = steps} v = due_is v (free_ends is_commit.0 is_commit.1 (table_of home.terms) (now home steps))

@@ -42,14 +42,12 @@ after_unlock Enrolling table way caller at found state other failed = absurd (ot
 after_unlock Beginning table way caller at found state other failed = go state.holds
   where
     go : (holds : List Hold) →
-        (if not (length holds == 0) then in_giving_back holds
-        else if is_spent table state then Done else Just Sample)
+        (if not (length holds == 0) then in_giving_back holds else if is_spent table state then Done else Just Sample)
         ≡ freed_first (if is_spent table state then Done else Just Sample) holds
     go [] = refl
     go (hold ∷ holds) = rw (ne_eqb (length (hold ∷ holds)) 0 (λ q. omega arith)) refl
 after_unlock Returning table way caller at found state other failed = freed_done state.holds
-after_unlock (Doing work) table way caller at found state other failed =
-    rw (failed work refl) (freed_done state.holds)
+after_unlock (Doing work) table way caller at found state other failed = rw (failed work refl) (freed_done state.holds)
 
 -- ---- what is still locked
 
@@ -108,7 +106,7 @@ module _ {L : Type 0} (holds : L → List Val → Type 0) (home : Home L) (began
         Under holds home began start (in_freeing began.task (table_of home.terms) (now home start)) again →
         Under holds home began steps (in_freeing began.task (table_of home.terms) (now home steps)) again
 
-  module _ (start old : Steps L) (opened : OpenedAs) (count i : ℕ) (lists : Lists home start opened count)
+  module _ {start old : Steps L} {opened : OpenedAs} {count i : ℕ} (lists : Lists home start opened count)
       (few : count ≤ length opened.writes) (left : i < count) (gives : GivesBack start opened.writes count i old)
       (call : (again : Option TlAgain)
       × Under holds home began start (in_freeing began.task (table_of home.terms) (now home start)) again)
@@ -131,7 +129,7 @@ module _ {L : Type 0} (holds : L → List Val → Type 0) (home : Home L) (began
     pub next_was_read : IsSome (read_slot opened.reads o)
     next_was_read =
         let read : is_some (read_of o (now home old).reads) ≡ true =
-        ((static_now holds home began old _ _ (gives.under call.0 call.1)).locks _ _ held_as).read in
+        ((static_now (gives.under call.0 call.1)).locks _ _ held_as).read in
         slot_there opened.reads o (subst (λ rs. is_some (read_of o rs) ≡ true) (reads ∙ sym lists.reads) read)
 
     -- its recorded word is the one of its slot
@@ -141,11 +139,11 @@ module _ {L : Type 0} (holds : L → List Val → Type 0) (home : Home L) (began
 
     module _ (word : ℕ) (slot : IfSome (read_slot opened.reads o) (λ slot. word ≡ slot.word)) where
       -- to give it back is due
-      pub next_due : (again : Option TlAgain) →
+      pub next_due : {again : Option TlAgain} →
           Under holds home began start (in_freeing began.task (table_of home.terms) (now home start)) again →
           Under holds home began old (FreeAs o word) again
-      next_due again under =
-          under_is holds home began old _ _ _ _ (gives.under again under)
+      next_due {again = again} under =
+          under_is (gives.under again under)
           (ap (freed_first (when_free began.task (table_of home.terms) (now home old))) head
           ∙ ap (λ o. FreeAs o (recorded o (now home start).reads)) at ∙ ap (FreeAs o) (sym (next_word word slot))) refl
 
@@ -165,8 +163,8 @@ module _ {L : Type 0} (holds : L → List Val → Type 0) (home : Home L) (began
           (went : (again : Option TlAgain) → Under holds home began old (FreeAs o word) again →
           (found : ℕ) × Went holds home began old new again (made_by began (Store word) Unlock o found)) where
         here : Went holds home began old new call.0
-            (made_by began (Store word) Unlock o (went call.0 (next_due call.0 call.1)).0)
-        here = (went call.0 (next_due call.0 call.1)).1
+            (made_by began (Store word) Unlock o (went call.0 (next_due call.1)).0)
+        here = (went call.0 (next_due call.1)).1
 
         freed : (now home new).holds ≡ still_held (now home start) opened.writes count (i + 1)
         freed =
@@ -182,9 +180,8 @@ module _ {L : Type 0} (holds : L → List Val → Type 0) (home : Home L) (began
           gave_back = (now home new).gave_back;
         }
         kept =
-            let state : LocalState =
-            after Unlock (table_of home.terms) (now home old)
-            (made_by began (Store word) Unlock o (went call.0 (next_due call.0 call.1)).0) in
+            let state : LocalState = after Unlock (table_of home.terms) (now home old)
+            (made_by began (Store word) Unlock o (went call.0 (next_due call.1)).0) in
             here.state
             ∙ ap (λ (old : LocalState). record old { holds = state.holds; gave_back = state.gave_back }) gives.rest
             ∙ ap (λ (new : LocalState). record (now home start) { holds = new.holds; gave_back = new.gave_back })
@@ -194,9 +191,9 @@ module _ {L : Type 0} (holds : L → List Val → Type 0) (home : Home L) (began
             Under holds home began start (in_freeing began.task (table_of home.terms) (now home start)) again →
             Under holds home began new (in_freeing began.task (table_of home.terms) (now home new)) again
         goes_on again under =
-            let due_here : Under holds home began old (FreeAs o word) again = next_due again under in
+            let due_here : Under holds home began old (FreeAs o word) again = next_due under in
             let step = went again due_here in
-            under_is holds home began new _ _ _ _ step.1.goes_on
+            under_is step.1.goes_on
             (after_unlock began.task (table_of home.terms) (Store word) began.number o step.0 (now home new)
             (frees_in began.task (table_of home.terms) _ (now home old) o word due_here.due)
             (λ work task. ap (λ (state : LocalState). state.failed) kept ∙ failed work task)) refl

@@ -30,8 +30,7 @@ looks_in Enrolling table newest state o q = go (is_some state.number) q
     go : (b : Bool) → (if b then Done else Just Enrol) ≡ LookAt o → (work : Work) × (Enrolling ≡ Doing work)
     go true q = absurd (cc)
     go false q = absurd (cc)
-looks_in Beginning table newest state o q =
-    go (has_sampled newest) (length state.holds == 0) (is_spent table state) q
+looks_in Beginning table newest state o q = go (has_sampled newest) (length state.holds == 0) (is_spent table state) q
   where
     go : (sampled none spent : Bool) →
         (if sampled then Done
@@ -56,11 +55,10 @@ frees_in Beginning table newest state o word q = λ r. cc
 frees_in Returning table newest state o word q = λ r. cc
 frees_in (Doing work) table newest state o word q = λ r. cc
 
-module _ {L : Type 0} (holds : L → List Val → Type 0) (home : Home L) (began : Began) where
+module _ {L : Type 0} {holds : L → List Val → Type 0} {home : Home L} {began : Began} where
   -- a call on an attempt goes on as the order of steps says
-  pub goes_on : (work : Work) (old new : Steps L) (again : Option TlAgain) (event : Event) →
+  pub goes_on : (work : Work) {old new : Steps L} {again : Option TlAgain} {event : Event} →
       began.task ≡ Doing work → Went holds home began old new again event →
       Under holds home began new (next event.kind event work (now home new)) (answer_by (now home old) event again)
-  goes_on work old new again event task went =
-      under_is holds home began new _ _ _ _ went.goes_on
-      (ap (λ task. due task (table_of home.terms) (Some event) (now home new)) task) refl
+  goes_on work {new = new} {event = event} task went =
+      under_is went.goes_on (ap (λ task. due task (table_of home.terms) (Some event) (now home new)) task) refl

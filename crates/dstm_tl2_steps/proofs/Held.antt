@@ -19,8 +19,7 @@ hold_of-writes state [] o = refl
 hold_of-writes state (w ∷ writes) o = by (hold_of-writes state writes o) (cases_Bool (w.0 == o))
   where
     by : hold_of o (map (new_hold state) writes) ≡ option_map (λ v. new_hold state (o, v)) (value_in writes o) →
-        (w.0 == o ≡ true) ⊎ (w.0 == o ≡ false) →
-        hold_of o (map (new_hold state) (w ∷ writes))
+        (w.0 == o ≡ true) ⊎ (w.0 == o ≡ false) → hold_of o (map (new_hold state) (w ∷ writes))
         ≡ option_map (λ v. new_hold state (o, v)) (value_in (w ∷ writes) o)
     by ih (inl q) = rw q (ap (λ n. Some (new_hold state (n, w.1))) (eqb-true w.0 o q))
     by ih (inr q) = rw q ih
@@ -28,8 +27,7 @@ hold_of-writes state (w ∷ writes) o = by (hold_of-writes state writes o) (case
 -- an object that is not written is not locked
 pub unheld : (state : LocalState) (writes : List (ℕ × Val)) (o : ℕ) → value_in writes o ≡ None →
     hold_of o (map (new_hold state) writes) ≡ None
-unheld state writes o none =
-    hold_of-writes state writes o ∙ ap (option_map (λ v. new_hold state (o, v))) none
+unheld state writes o none = hold_of-writes state writes o ∙ ap (option_map (λ v. new_hold state (o, v))) none
 
 -- the first of the writes name no object twice either
 pub apart_take : (writes : List (ℕ × Val)) (n : ℕ) → WritesApart writes → n ≤ length writes → WritesApart (take n writes)

@@ -27,8 +27,8 @@ read_below t sample (r ∷ rs) o h i =
     go (inl q) ih = let b = (All-head (ReadOk t sample) r rs h).0 in omega arith
     go (inr q) ih = ih (rw (ne_eqb r.object o q) at i)
 
-module _ {L : Type 0} (holds : L → List Val → Type 0) (home : Home L) (b : Began) (steps : Steps L) (d : Due)
-    (a : Option TlAgain) (u : Under holds home b steps d a) where
+module _ {L : Type 0} {holds : L → List Val → Type 0} {home : Home L} {b : Began} {steps : Steps L} {d : Due}
+    {a : Option TlAgain} (u : Under holds home b steps d a) where
   -- an object that is locked is one of the table
   pub held_below : (o : ℕ) → IsHeld (now home steps) o → o < objects (table_of home.terms)
   held_below o h = go (hold_of o (now home steps).holds) refl h
@@ -37,17 +37,16 @@ module _ {L : Type 0} (holds : L → List Val → Type 0) (home : Home L) (b : B
           o < objects (table_of home.terms)
       go None q i = absurd (cc)
       go (Some k) q i =
-          read_below (table_of home.terms) (now home steps).sample (now home steps).reads o
-          (static_now holds home b steps d a u).read
-          ((static_now holds home b steps d a u).locks o k q).read
+          read_below (table_of home.terms) (now home steps).sample (now home steps).reads o (static_now u).read
+          ((static_now u).locks o k q).read
 
   -- the new version of a commit is another than the recorded one
   pub new_word : (n o : ℕ) (k : Hold) → (now home steps).drawn ≡ Some n →
       hold_of o (now home steps).holds ≡ Some k → (2 * n + 2 == k.word) ≡ false
   new_word n o k q h =
-      let clock = subst (ClockOk (table_of home.terms) (view_of steps.seat).log) (now_is holds home b steps d a u)
+      let clock = subst (ClockOk (table_of home.terms) (view_of steps.seat).log) (now_is u)
       (clock_ok (table_of home.terms) (view_of steps.seat).log u.run.run.run b.number) in
       ne_eqb (2 * n + 2) k.word (λ same.
-      let r = ((static_now holds home b steps d a u).locks o k h).readable in
+      let r = ((static_now u).locks o k h).readable in
       let v = r.0 in let w = r.1 in let l = r.2 in
       let s = (clock.drawn n q).1 in omega arith)

@@ -36,7 +36,7 @@ module _ {L : Type 0} (holds : L → List Val → Type 0) (home : Home L) (began
     pub under : (work : Work) → began.task ≡ Doing work →
         Under holds home began steps (in_locking writes work (now home steps)) None
 
-  module _ (start old : Steps L) (opened : OpenedAs) (i : ℕ) (lists : Lists home start opened 0)
+  module _ {start old : Steps L} {opened : OpenedAs} {i : ℕ} (lists : Lists home start opened 0)
       (rest : AtRest (now home start)) (so_far : Locks start opened.writes i old) where
     -- the first writes are locked, so many
     pub lists_now : Lists home old opened i
@@ -48,7 +48,7 @@ module _ {L : Type 0} (holds : L → List Val → Type 0) (home : Home L) (began
     }
 
     module _ (left : i < length opened.writes) (work : Work) (task : began.task ≡ Doing work) where
-      module _ (new : Steps L) (o word found : ℕ) (items : List (ℕ × Val)) (same_items : items ≡ opened.writes)
+      module _ {new : Steps L} (o word found : ℕ) {items : List (ℕ × Val)} (same_items : items ≡ opened.writes)
           (went_with : Went holds home began old new None
           (made_by began (Exchange word (word + 1)) (locks items) o found)) where
         went : Went holds home began old new None
@@ -86,26 +86,23 @@ module _ {L : Type 0} (holds : L → List Val → Type 0) (home : Home L) (began
               failed = true;
             }) (sym rest.no_look)
 
-        pub lost_under : (again : TlAgain) → found ≢ word →
+        pub lost_under : {again : TlAgain} → found ≢ word →
             again ≡ (if is_locked found then Locked o else Changed o) →
             Under holds home began new (in_freeing began.task (table_of home.terms) (now home new)) (Some again)
-        lost_under again other is =
-            let failed : (now home new).failed ≡ true =
-            ap (λ (state : LocalState). state.failed) (lost_now other) in
-            under_is holds home began new _ _ _ _ (goes_on holds home began work old new None _ task went)
-            (rw failed (freed_done (now home new).holds
+        lost_under other is =
+            let failed : (now home new).failed ≡ true = ap (λ (state : LocalState). state.failed) (lost_now other) in
+            under_is (goes_on work task went) (rw failed (freed_done (now home new).holds
             ∙ ap (λ task. in_freeing task (table_of home.terms) (now home new)) (sym task)))
             (rw (ne_eqb found word other) (ap Some (sym is)))
 
         -- and ends the call
-        pub lost_ends : (last : Steps L) (again : TlAgain) → found ≢ word →
-            again ≡ (if is_locked found then Locked o else Changed o) →
-            ((again : Option TlAgain) →
+        pub lost_ends : (last : Steps L) {again : TlAgain} → found ≢ word →
+            again ≡ (if is_locked found then Locked o else Changed o) → ((again : Option TlAgain) →
             Under holds home began new (in_freeing began.task (table_of home.terms) (now home new)) again →
             Under holds home began last (when_free began.task (table_of home.terms) (now home last)) again) →
             Under holds home began last Done (Some again)
-        lost_ends last again other is frees =
-            under_is holds home began last _ _ _ _ (frees (Some again) (lost_under again other is))
+        lost_ends last {again = again} other is frees =
+            under_is (frees (Some again) (lost_under other is))
             (ap (λ task. when_free task (table_of home.terms) (now home last)) task) refl
 
         pub lost_lists : found ≢ word → Lists home new opened i
@@ -130,15 +127,14 @@ module _ {L : Type 0} (holds : L → List Val → Type 0) (home : Home L) (began
       reads_now = lists.reads ∙ sym (ap (λ (state : LocalState). state.reads) so_far.has.same)
 
       pub has_slot : IsSome (read_slot opened.reads o)
-      has_slot =
-          slot_there opened.reads o (subst (λ rs. is_some (read_of o rs) ≡ true) (sym reads_now) was_read)
+      has_slot = slot_there opened.reads o (subst (λ rs. is_some (read_of o rs) ≡ true) (sym reads_now) was_read)
 
       pub has_word : (word : ℕ) → IfSome (read_slot opened.reads o) (λ slot. word ≡ slot.word) →
           recorded o (now home old).reads ≡ word
       has_word word is = sym (slot_word opened.reads o word has_slot is ∙ ap (recorded o) reads_now)
 
   -- all are locked
-  module _ (start steps : Steps L) (writes : List (ℕ × Val)) (i : ℕ) (so_far : Locks start writes i steps)
+  module _ {start steps : Steps L} {writes : List (ℕ × Val)} {i : ℕ} (so_far : Locks start writes i steps)
       (all : length writes ≤ i) where
     pub locks_all : (i ≡ length writes) × HasLocked (now home start) writes (length writes) (now home steps)
     locks_all =
@@ -150,5 +146,4 @@ module _ {L : Type 0} (holds : L → List Val → Type 0) (home : Home L) (began
     then_goes_on work task =
         let count : (now home steps).locked ≡ length writes =
         ap (λ (state : LocalState). state.locked) so_far.has.same ∙ locks_all.0 in
-        under_is holds home began steps _ _ _ _ (so_far.under work task)
-        (rw (eq-eqb (now home steps).locked (length writes) count) refl) refl
+        under_is (so_far.under work task) (rw (eq-eqb (now home steps).locked (length writes) count) refl) refl

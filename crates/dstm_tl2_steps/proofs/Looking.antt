@@ -44,16 +44,16 @@ tells_bad false why again q = (refl, (cc))
 
 module _ {L : Type 0} (holds : L → List Val → Type 0) (home : Home L) (began : Began) where
   -- the call that looks at an object is one on an attempt
-  pub on_attempt : (steps : Steps L) (o : ℕ) (again : Option TlAgain) →
+  pub on_attempt : {steps : Steps L} (o : ℕ) {again : Option TlAgain} →
       Under holds home began steps (LookAt o) again → (work : Work) × (began.task ≡ Doing work)
-  on_attempt steps o again under = looks_in _ _ _ _ o under.due
+  on_attempt o under = looks_in _ _ _ _ o under.due
 
   -- the look that is due next, at an object whose word is readable
   pub record Looks (steps : Steps L) (kind : Kind) (again : Option TlAgain) : Type 0 where
     pub due : Under holds home began steps (Just kind) again
     pub good : IsReadable (now home steps).sample (look_of (now home steps)).word
 
-  module _ (old new : Steps L) (again : Option TlAgain) (o word : ℕ) where
+  module _ {old new : Steps L} {again : Option TlAgain} (o word : ℕ) where
     -- the word of the first look stays that of the read under way
     pub word_first : Went holds home began old new again (made_by began Load LookLock o word) →
         (look_of (now home new)).word ≡ word
@@ -71,7 +71,7 @@ module _ {L : Type 0} (holds : L → List Val → Type 0) (home : Home L) (began
         (went : Went holds home began old new again (made_by began Load LookLock o word))
         (rest : new ≡ record old { seat = new.seat }) where
       task : (work : Work) × (began.task ≡ Doing work)
-      task = on_attempt old o again under
+      task = on_attempt o under
 
       sample_now : (now home new).sample ≡ new.sample
       sample_now =
@@ -82,7 +82,7 @@ module _ {L : Type 0} (holds : L → List Val → Type 0) (home : Home L) (began
       pub looked : (if is_readable new.sample word then None else Some why) ≡ None → Looks new LookLow again
       looked test =
           let good : is_readable new.sample word ≡ true = tells_good (is_readable new.sample word) why test in record {
-            due = under_is holds home began new _ _ _ _ (goes_on holds home began task.0 old new again _ task.1 went)
+            due = under_is (goes_on task.0 task.1 went)
                 (rw (sample_now, good) refl)
                 (rw (← under.sample) (rw (ap (λ (steps : Steps L). steps.sample) (sym rest)) (rw good refl)));
             good = subst (IsReadable (now home new).sample) (sym (word_first went))
@@ -95,9 +95,7 @@ module _ {L : Type 0} (holds : L → List Val → Type 0) (home : Home L) (began
           why ≡ (if is_locked word then Locked o else Newer o) → Under holds home began new Done (Some found)
       not_readable found test is =
           let bad = tells_bad (is_readable new.sample word) why found test in
-          under_is holds home began new _ _ _ _ (goes_on holds home began task.0 old new again _ task.1 went)
-          (rw (sample_now, bad.0) refl)
-          (rw (← under.sample)
+          under_is (goes_on task.0 task.1 went) (rw (sample_now, bad.0) refl) (rw (← under.sample)
           (rw (ap (λ (steps : Steps L). steps.sample) (sym rest)) (rw bad.0 (ap Some (sym is ∙ bad.1)))))
 
     module _ (work : Work) (task : began.task ≡ Doing work) where
@@ -105,24 +103,23 @@ module _ {L : Type 0} (holds : L → List Val → Type 0) (home : Home L) (began
       pub looked_low : (at : ℕ) → Went holds home began old new again (made_by began Load LookLow at word) →
           IsReadable (now home old).sample (look_of (now home old)).word → Looks new LookHigh again
       looked_low at went good = record {
-        due = goes_on holds home began work old new again _ task went;
+        due = goes_on work task went;
         good = subst (λ (state : LocalState). IsReadable state.sample (look_of state).word) (sym went.state) good;
       }
 
       pub looked_high : (at : ℕ) → Went holds home began old new again (made_by began Load LookHigh at word) →
           Under holds home began new (Just LookAgain) again
-      looked_high at went = goes_on holds home began work old new again _ task went
+      looked_high at went = goes_on work task went
 
       module _ (went : Went holds home began old new again (made_by began Load LookAgain o word)) where
         -- the last look finds the same word
         pub looked_again : word ≡ (look_of (now home old)).word → Under holds home began new Done again
         looked_again same =
-            under_is holds home began new _ _ _ _ (goes_on holds home began work old new again _ task went)
-            refl (rw (eq-eqb word (look_of (now home old)).word same) refl)
+            under_is (goes_on work task went) refl (rw (eq-eqb word (look_of (now home old)).word same) refl)
 
         -- it finds another one, which ends the call
-        pub found_other : (found : TlAgain) → (word ≡ (look_of (now home old)).word → ⊥) →
+        pub found_other : {found : TlAgain} → (word ≡ (look_of (now home old)).word → ⊥) →
             found ≡ (if is_locked word then Locked o else Changed o) → Under holds home began new Done (Some found)
-        found_other found other is =
-            under_is holds home began new _ _ _ _ (goes_on holds home began work old new again _ task went)
+        found_other other is =
+            under_is (goes_on work task went)
             refl (rw (ne_eqb word (look_of (now home old)).word other) (ap Some (sym is)))

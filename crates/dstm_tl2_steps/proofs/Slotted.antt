@@ -29,8 +29,8 @@ slot_word slots o word there is = go (read_slot slots o) refl there is
     go (Some slot) q there is = is ∙ sym (recorded-slots slots o slot q)
 
 -- the object of a write that was found in the list at its place
-pub object_at : (writes items : List (ℕ × Val)) (i count : ℕ) (write : ℕ × Val) → items ≡ writes →
+pub object_at : {writes items : List (ℕ × Val)} (i count : ℕ) {write : ℕ × Val} → items ≡ writes →
     count ≤ length writes → i < count → write ≡ get_or items i write → (write_at writes i).0 ≡ write.0
-object_at writes items i count write same few left is =
+object_at {writes = writes} i count {write = write} same few left is =
     ap (λ (w : ℕ × Val). w.0)
     (get_or_default writes i no_write write (omega arith) ∙ ap (λ ws. get_or ws i write) (sym same) ∙ sym is)

@@ -31,18 +31,18 @@ is_something (Some x) h = refl
 
 -- ---- where a Draw and a Lock are allowed
 
-pub draw_allowed : (t : Table) (l : LocalState) (k : Kind) (ws : List (ℕ × Val)) (c p found : ℕ) → k ≡ draws ws →
+pub draw_allowed : (t : Table) (l : LocalState) {k : Kind} (ws : List (ℕ × Val)) (c p found : ℕ) → k ≡ draws ws →
     p ≡ place t ClockWord → 0 < l.begun → IsTold l ws → l.drawn ≡ None → l.failed ≡ false → l.gave_back ≡ false →
     l.locked ≡ length ws → AllowedAs k t l (event_by Add c k p found)
-draw_allowed t l k ws c p found same there begun told undrawn sound kept locked =
+draw_allowed t l {k = k} ws c p found same there begun told undrawn sound kept locked =
     subst (λ k. AllowedAs k t l (event_by Add c k p found)) (sym same)
     (there, (refl, refl), (begun, told, undrawn, sound, kept, locked), tt)
 
-pub lock_allowed : (t : Table) (l : LocalState) (k : Kind) (ws : List (ℕ × Val)) (c p o word found : ℕ) →
+pub lock_allowed : (t : Table) (l : LocalState) {k : Kind} (ws : List (ℕ × Val)) (c p o word found : ℕ) →
     k ≡ locks ws → p ≡ o → o < objects t → IsTold l ws → l.drawn ≡ None → l.failed ≡ false → l.gave_back ≡ false →
     l.locked < length ws → (next_write l ws).0 ≡ o → is_some (read_of o l.reads) ≡ true → recorded o l.reads ≡ word →
     AllowedAs k t l (event_by (Exchange word (word + 1)) c k p found)
-lock_allowed t l k ws c p o word found same there exists told undrawn sound kept left next read recorded_word =
+lock_allowed t l {k = k} ws c p o word found same there exists told undrawn sound kept left next read recorded_word =
     subst (λ k. AllowedAs k t l (event_by (Exchange word (word + 1)) c k p found)) (sym same) (
       there ∙ sym next,
       subst (λ n. Acts (Exchange n (n + 1)) (event_by (Exchange word (word + 1)) c (locks ws) p found))
@@ -53,47 +53,44 @@ lock_allowed t l k ws c p o word found same there exists told undrawn sound kept
 
 -- ---- what a step tells
 
--- only a Sample takes another sample
+-- only a Sample takes another sample, and begins an attempt
 pub sample_kept : (k : Kind) (t : Table) (l : LocalState) (e : Event) → is_sample k ≡ false →
-    (after k t l e).sample ≡ l.sample
+    ((after k t l e).sample ≡ l.sample) × ((after k t l e).begun ≡ l.begun)
 sample_kept Sample t l e q = absurd (cc)
 sample_kept LookAgain t l e q =
     cond_both (e.found == (look_of l).word) (record_read l) (record l { look = None })
-    (λ (m : LocalState). m.sample ≡ l.sample) (λ _. refl) (λ _. refl)
+    (λ (m : LocalState). (m.sample ≡ l.sample) × (m.begun ≡ l.begun)) (λ _. (refl, refl)) (λ _. (refl, refl))
 sample_kept (Lock w) t l e q =
-    cond_both (e.found == e.expected) (lock l w.value)
-    (record l { look = None; writes = Some w.value; failed = true })
-    (λ (m : LocalState). m.sample ≡ l.sample) (λ _. refl) (λ _. refl)
-sample_kept k t l e q = refl
+    cond_both (e.found == e.expected) (lock l w.value) (record l { look = None; writes = Some w.value; failed = true })
+    (λ (m : LocalState). (m.sample ≡ l.sample) × (m.begun ≡ l.begun)) (λ _. (refl, refl)) (λ _. (refl, refl))
+sample_kept k t l e q = (refl, refl)
 
-module _ {L : Type 0} (holds : L → List Val → Type 0) (home : Home L) (b : Began) where
+module _ {L : Type 0} {holds : L → List Val → Type 0} {home : Home L} {b : Began} where
   -- the caller's number, by its seat
-  pub number_of : (steps : Steps L) (d : Due) (a : Option TlAgain) → Under holds home b steps d a →
+  pub number_of : {steps : Steps L} {d : Due} {a : Option TlAgain} → Under holds home b steps d a →
       (view_of steps.seat).number ≡ Some b.number
-  number_of steps d a u = ap (λ (v : View L). v.number) u.view
+  number_of u = ap (λ (v : View L). v.number) u.view
 
-  module _ (old new : Steps L) (e : Event) (d : Due) (a : Option TlAgain) (u : Under holds home b old d a)
+  module _ {old : Steps L} (new : Steps L) {e : Event} {d : Due} {a : Option TlAgain} (u : Under holds home b old d a)
       (m : Adds (shared holds) (view_of old.seat) e (view_of new.seat)) (c : e.caller ≡ b.number) where
     own_now : events_of b.number (view_of new.seat).log ≡ e ∷ events_of b.number (view_of old.seat).log
-    own_now =
-        seats.own_now (shared holds) b.number (view_of old.seat) (view_of new.seat) e (number_of old d a u) m c
+    own_now = seats.own_now (shared holds) b.number (view_of old.seat) (view_of new.seat) e (number_of u) m c
 
     view_now : view_of new.seat ≡ caller_view home.terms b.number (view_of new.seat).log
     view_now =
-        seats.view_now (shared holds) b.number (view_of old.seat) (view_of new.seat) e (number_of old d a u) m c
+        seats.view_now (shared holds) b.number (view_of old.seat) (view_of new.seat) e (number_of u) m c
         home.terms u.view
 
     -- the state after it
     state_now : now home new ≡ after e.kind (table_of home.terms) (now home old) e
     state_now =
-        seats.state_now (shared holds) b.number (view_of old.seat) (view_of new.seat) e (number_of old d a u) m c
+        seats.state_now (shared holds) b.number (view_of old.seat) (view_of new.seat) e (number_of u) m c
         (table_of home.terms)
 
     -- the call goes on
     under_adds : IsOf home new.seat → IsDue (table_of home.terms) d e → new.places ≡ old.places →
         new.sample ≡ (after e.kind (table_of home.terms) (now home old) e).sample →
-        Under holds home b new (due b.task (table_of home.terms) (Some e) (now home new))
-        (answer_by (now home old) e a)
+        Under holds home b new (due b.task (table_of home.terms) (Some e) (now home new)) (answer_by (now home old) e a)
     under_adds seat is places sample =
         let t : Table = table_of home.terms in record {
           seat = seat;
@@ -113,54 +110,52 @@ module _ {L : Type 0} (holds : L → List Val → Type 0) (home : Home L) (b : B
         }
 
   -- THE CALL GOES ON with an event that the seat's caller made, of a kind at a place, which were due.
-  pub went_by : (old new : Steps L) (d : Due) (a : Option TlAgain) (way : Access) (told k : Kind) (at p found : ℕ) →
+  pub went_by : {old new : Steps L} {d : Due} {a : Option TlAgain} {told k : Kind} {at p found : ℕ} (way : Access) →
       Under holds home b old d a → Makes holds (view_of old.seat) way told at found (view_of new.seat) →
       told ≡ k → at ≡ p → IsOf home new.seat → IsDue (table_of home.terms) d (made_by b way k p found) →
       new.places ≡ old.places →
       new.sample ≡ (after k (table_of home.terms) (now home old) (made_by b way k p found)).sample →
       Went holds home b old new a (made_by b way k p found)
-  went_by old new d a way told k at p found u makes same there seat is places sample =
+  went_by {old = old} {new = new} {k = k} {at = at} {p = p} {found = found} way u makes same there seat is places sample =
       let e : Event = made_by b way k p found in
       let makes_k : Makes holds (view_of old.seat) way k p found (view_of new.seat) =
       subst (λ p. Makes holds (view_of old.seat) way k p found (view_of new.seat)) there
       (subst (λ k. Makes holds (view_of old.seat) way k at found (view_of new.seat)) same makes) in
       let adds : Adds (shared holds) (view_of old.seat) e (view_of new.seat) =
-      seats.makes_by (shared holds) b.number (view_of old.seat) (view_of new.seat) way k p found (number_of old d a u)
+      seats.makes_by (shared holds) b.number (view_of old.seat) (view_of new.seat) way k p found (number_of u)
       makes_k in
       record {
-        state = state_now old new e d a u adds refl;
-        goes_on = under_adds old new e d a u adds refl seat is places sample;
+        state = state_now new u adds refl;
+        goes_on = under_adds new u adds refl seat is places sample;
       }
 
   -- The same of an event that is no Sample.
-  pub went_on : (old new : Steps L) (d : Due) (a : Option TlAgain) (way : Access) (told k : Kind) (at p found : ℕ) →
+  pub went_on : {old new : Steps L} {d : Due} {a : Option TlAgain} {told k : Kind} {at p found : ℕ} (way : Access) →
       Under holds home b old d a → Makes holds (view_of old.seat) way told at found (view_of new.seat) →
       told ≡ k → at ≡ p → IsOf home new.seat → IsDue (table_of home.terms) d (made_by b way k p found) →
       new.places ≡ old.places → new.sample ≡ old.sample → is_sample k ≡ false →
       Went holds home b old new a (made_by b way k p found)
-  went_on old new d a way told k at p found u makes same there seat is places sample kind =
-      went_by old new d a way told k at p found u makes same there seat is places
-      (sample ∙ u.sample
-      ∙ sym (sample_kept k (table_of home.terms) (now home old) (made_by b way k p found) kind))
+  went_on {old = old} {k = k} {p = p} {found = found} way u makes same there seat is places sample kind =
+      went_by way u makes same there seat is places (sample ∙ u.sample
+      ∙ sym (sample_kept k (table_of home.terms) (now home old) (made_by b way k p found) kind).0)
 
   -- ---- the begin and the end of a call
 
   -- The same due and the same answer, written otherwise.
-  pub under_is : (steps : Steps L) (d f : Due) (a c : Option TlAgain) → Under holds home b steps d a → d ≡ f → a ≡ c →
+  pub under_is : {steps : Steps L} {d f : Due} {a c : Option TlAgain} → Under holds home b steps d a → d ≡ f → a ≡ c →
       Under holds home b steps f c
-  under_is steps d f a c u q r =
+  under_is {steps = steps} {d = d} {f = f} {a = a} u q r =
       subst (Under holds home b steps f) r (subst (λ d. Under holds home b steps d a) q u)
 
   -- A CALL THAT ENDS IS A CALL: each of its events was due, and nothing more is; it answers what its events say.
-  pub call_of : (steps : Steps L) (a : Option TlAgain) (u : Under holds home b steps Done a) →
+  pub call_of : {steps : Steps L} {a : Option TlAgain} (u : Under holds home b steps Done a) →
       IsCall b.task (table_of home.terms) b.state u.events
       × (a ≡ answer_of (table_of home.terms) b.state u.events)
       × (events_of b.number (view_of steps.seat).log ≡ u.events ++ events_of b.number b.log)
       × (now home steps ≡ state_after (table_of home.terms) b.state u.events)
       × IsPastOf b.log (view_of steps.seat).log
       × IsRunOf holds home.terms (view_of steps.seat).log
-  call_of steps a u =
-      (record { obeys = u.obeys; done = rw (← u.state) u.due }, sym u.gives, u.own, u.state, u.seen, u.run)
+  call_of u = (record { obeys = u.obeys; done = rw (← u.state) u.due }, sym u.gives, u.own, u.state, u.seen, u.run)
 
 -- a call with this task begins as the steps are now
 abbrev pub began_as : {L : Type 0} → Home L → Task → (number : ℕ) → Steps L → Began
@@ -172,14 +167,13 @@ began_as home task number steps = record {
 }
 
 -- A CALL BEGINS: its first event is due.
-pub call_begins : {L : Type 0} (holds : L → List Val → Type 0) (home : Home L) (task : Task) (number : ℕ)
+pub call_begins : {L : Type 0} {holds : L → List Val → Type 0} (home : Home L) (task : Task) (number : ℕ)
     (steps : Steps L) → IsOf home steps.seat →
     view_of steps.seat ≡ caller_view home.terms number (view_of steps.seat).log → number < home.terms.callers →
     IsRunOf holds home.terms (view_of steps.seat).log → steps.places ≡ objects (table_of home.terms) →
-    steps.sample ≡ (now home steps).sample →
-    Under holds home (began_as home task number steps) steps
+    steps.sample ≡ (now home steps).sample → Under holds home (began_as home task number steps) steps
     (due task (table_of home.terms) None (now home steps)) None
-call_begins holds home task number steps seat view caller run places sample = record {
+call_begins home task number steps seat view caller run places sample = record {
   seat = seat;
   view = view;
   caller = caller;

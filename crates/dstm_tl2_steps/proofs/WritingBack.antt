@@ -56,17 +56,17 @@ giving_back_not : (hs : List Hold) → is_of_attempt (in_giving_back hs) ≡ fal
 giving_back_not [] = refl
 giving_back_not (h ∷ hs) = refl
 
-pub doing : (task : Task) (t : Table) (newest : Option Event) (l : LocalState) (d : Due) →
+pub doing : (task : Task) (t : Table) (newest : Option Event) (l : LocalState) {d : Due} →
     due task t newest l ≡ d → is_of_attempt d ≡ true → (work : Work) × (task ≡ Doing work)
-doing (Doing work) t newest l d q i = (work, refl)
-doing Enrolling t newest l d q i = absurd (go (is_some l.number) refl)
+doing (Doing work) t newest l q i = (work, refl)
+doing Enrolling t newest l {d = d} q i = absurd (go (is_some l.number) refl)
   where
     go : (x : Bool) → is_some l.number ≡ x → ⊥
     go true e = let z : Done ≡ d = rw e at q in let y = ap is_of_attempt z in cc
     go false e = let z : Just Enrol ≡ d = rw e at q in let y = ap is_of_attempt z in cc
-doing Returning t newest l d q i =
-    absurd (let x = giving_back_not l.holds in let y = ap is_of_attempt q in cc)
-doing Beginning t newest l d q i = absurd (go (has_sampled newest) refl (length l.holds == 0) refl (is_spent t l) refl)
+doing Returning t newest l q i = absurd (let x = giving_back_not l.holds in let y = ap is_of_attempt q in cc)
+doing Beginning t newest l {d = d} q i =
+    absurd (go (has_sampled newest) refl (length l.holds == 0) refl (is_spent t l) refl)
   where
     go : (x : Bool) → has_sampled newest ≡ x → (y : Bool) → (length l.holds == 0) ≡ y →
         (z : Bool) → is_spent t l ≡ z → ⊥
@@ -79,26 +79,25 @@ doing Beginning t newest l d q i = absurd (go (has_sampled newest) refl (length 
 
 -- ---- a call on an attempt goes on
 
-module _ {L : Type 0} (holds : L → List Val → Type 0) (home : Home L) (b : Began) where
-  pub due_is : (steps : Steps L) (d f : Due) (a : Option TlAgain) → Under holds home b steps d a → d ≡ f →
+module _ {L : Type 0} {holds : L → List Val → Type 0} {home : Home L} {b : Began} where
+  pub due_is : {steps : Steps L} {d f : Due} {a : Option TlAgain} → Under holds home b steps d a → d ≡ f →
       Under holds home b steps f a
-  due_is steps d f a u q = subst (λ d. Under holds home b steps d a) q u
+  due_is {steps = steps} {d = d} {a = a} u q = subst (λ d. Under holds home b steps d a) q u
 
   -- the call is on an attempt, since an event of one is due
-  pub is_doing : (steps : Steps L) (d : Due) (a : Option TlAgain) → Under holds home b steps d a →
+  pub is_doing : {steps : Steps L} {d : Due} {a : Option TlAgain} → Under holds home b steps d a →
       is_of_attempt d ≡ true → (work : Work) × (b.task ≡ Doing work)
-  is_doing steps d a u i = doing b.task (table_of home.terms) _ (now home steps) d u.due i
+  is_doing {steps = steps} u i = doing b.task (table_of home.terms) _ (now home steps) u.due i
 
 -- ---- the first object that is locked
 
-pub first_held : (l : LocalState) (w : ℕ × Val) (rest : List Hold) → IsFirst l w rest →
+pub first_held : {l : LocalState} {w : ℕ × Val} {rest : List Hold} → IsFirst l w rest →
     hold_of w.0 l.holds ≡ Some (new_hold l w)
-first_held l w rest f =
-    ap (hold_of w.0) f.held ∙ rw (eq-eqb w.0 w.0 refl) refl
+first_held {w = w} f = ap (hold_of w.0) f.held ∙ rw (eq-eqb w.0 w.0 refl) refl
 
-pub first_is_held : (l : LocalState) (w : ℕ × Val) (rest : List Hold) → IsFirst l w rest →
+pub first_is_held : {l : LocalState} {w : ℕ × Val} {rest : List Hold} → IsFirst l w rest →
     is_some (hold_of w.0 l.holds) ≡ true
-first_is_held l w rest f = ap is_some (first_held l w rest f)
+first_is_held f = ap is_some (first_held f)
 
 pub valid_good : (l : LocalState) → is_valid l ≡ true → l.failed ≡ false
 valid_good l h =
@@ -126,67 +125,62 @@ module _ {L : Type 0} (holds : L → List Val → Type 0) (home : Home L) (b : B
     pub under : Under holds home b steps (FreeAs o (2 * number + 2)) None
 
   -- the object is of the table
-  pub first_below : (d : Due) (a : Option TlAgain) → Under holds home b start d a → o < objects (table_of home.terms)
-  first_below d a u =
-      held_below holds home b start d a u o (first_is_held (now home start) (o, value) rest first)
+  pub first_below : {d : Due} {a : Option TlAgain} → Under holds home b start d a → o < objects (table_of home.terms)
+  first_below u = held_below u o (first_is_held first)
 
   module _ (u : Under holds home b start (in_writing_back number (now home start).holds) None) where
     -- the low part is due first
     low_due : Under holds home b start (PutLow o) None
-    low_due = due_is holds home b start _ _ None u (ap (in_writing_back number) first.held)
+    low_due = due_is u (ap (in_writing_back number) first.held)
 
     work : (work : Work) × (b.task ≡ Doing work)
-    work = is_doing holds home b start _ _ low_due refl
+    work = is_doing low_due refl
 
-    pub low_put : (new : Steps L) (found : ℕ) →
+    pub low_put : {new : Steps L} (found : ℕ) →
         Went holds home b start new None
-        (made_by b (Store value.low) WriteLow (place (table_of home.terms) (LowWord o)) found) →
-        LowPut new
-    low_put new found w =
+        (made_by b (Store value.low) WriteLow (place (table_of home.terms) (LowWord o)) found) → LowPut new
+    low_put {new = new} found w =
         let at : objects (table_of home.terms) + o - objects (table_of home.terms) ≡ o = omega arith in
         let state : now home new ≡ record (now home start) {
           holds = with_low (new_hold (now home start) (o, value)) ∷ rest;
-        } =
-        w.state
+        } = w.state
         ∙ ap (λ n. record (now home start) { holds = marked with_low n (now home start).holds }) at
         ∙ ap (λ hs. record (now home start) { holds = marked with_low o hs }) first.held
         ∙ ap (λ hs. record (now home start) { holds = hs })
         (marked_first with_low o (new_hold (now home start) (o, value)) rest refl first.once) in
         record {
           state = state;
-          under = due_is holds home b new _ _ _ (goes_on holds home b work.0 start new None _ work.1 w)
+          under = due_is (goes_on work.0 work.1 w)
               (ap (λ (l : LocalState). in_writing_back (or_zero l.drawn) l.holds) state);
         }
 
-    pub high_put : (now home start).drawn ≡ Some number → (old new : Steps L) (found : ℕ) → LowPut old →
+    pub high_put : (now home start).drawn ≡ Some number → {old new : Steps L} (found : ℕ) → LowPut old →
         Went holds home b old new None
-        (made_by b (Store value.high) WriteHigh (place (table_of home.terms) (HighWord o)) found) →
-        HighPut new
-    high_put drawn old new found low w =
+        (made_by b (Store value.high) WriteHigh (place (table_of home.terms) (HighWord o)) found) → HighPut new
+    high_put drawn {old = old} {new = new} found low w =
         let at : 2 * objects (table_of home.terms) + o - 2 * objects (table_of home.terms) ≡ o = omega arith in
         let state : now home new ≡ record (now home start) {
           holds = with_high (with_low (new_hold (now home start) (o, value))) ∷ rest;
-        } =
-        w.state
+        } = w.state
         ∙ ap (λ n. record (now home old) { holds = marked with_high n (now home old).holds }) at
         ∙ ap (λ (l : LocalState). record l { holds = marked with_high o l.holds }) low.state
         ∙ ap (λ hs. record (now home start) { holds = hs })
         (marked_first with_high o (with_low (new_hold (now home start) (o, value))) rest refl first.once) in
         record {
           state = state;
-          under = due_is holds home b new _ _ _ (goes_on holds home b work.0 old new None _ work.1 w)
+          under = due_is (goes_on work.0 work.1 w)
               (ap (λ (l : LocalState). in_writing_back (or_zero l.drawn) l.holds) state
               ∙ ap (λ n. FreeAs o (2 * or_zero n + 2)) drawn);
         }
 
-    pub unlocked_state : (now home start).drawn ≡ Some number → (old new : Steps L) (found : ℕ) → HighPut old →
+    pub unlocked_state : (now home start).drawn ≡ Some number → {old new : Steps L} (found : ℕ) → HighPut old →
         Went holds home b old new None (made_by b (Store (2 * number + 2)) Unlock o found) →
         now home new ≡ record (now home start) { holds = rest }
-    unlocked_state drawn old new found high w =
+    unlocked_state drawn found high w =
         let l : LocalState = now home start in
         let k : Hold = with_high (with_low (new_hold l (o, value))) in
         let other : (2 * number + 2 == (new_hold l (o, value)).word) ≡ false =
-        new_word holds home b start _ _ u number o (new_hold l (o, value)) drawn (first_held l (o, value) rest first) in
+        new_word u number o (new_hold l (o, value)) drawn (first_held first) in
         let here : hold_of o (k ∷ rest) ≡ Some k = rw (eq-eqb o o refl) refl in
         let gave : (l.gave_back || (2 * number + 2 == (or_hold (hold_of o (k ∷ rest))).word)) ≡ l.gave_back =
         ap (λ h. l.gave_back || (2 * number + 2 == (or_hold h).word)) here
@@ -200,15 +194,15 @@ module _ {L : Type 0} (holds : L → List Val → Type 0) (home : Home L) (b : B
         ∙ ap (λ hs. record l { holds = hs }) (without_first k rest first.once)
 
     pub unlocked : is_valid (now home start) ≡ true →
-        (now home start).drawn ≡ Some number → (old new : Steps L) (found : ℕ) →
+        (now home start).drawn ≡ Some number → {old new : Steps L} (found : ℕ) →
         Went holds home b old new None (made_by b (Store (2 * number + 2)) Unlock o found) →
         now home new ≡ record (now home start) { holds = rest } →
         Under holds home b new (in_writing_back number (now home new).holds) None
-    unlocked valid drawn old new found w state =
+    unlocked valid drawn {new = new} found w state =
         let good : (now home new).failed ≡ false =
         ap (λ (l : LocalState). l.failed) state ∙ valid_good (now home start) valid in
         let same : (now home new).drawn ≡ Some number = ap (λ (l : LocalState). l.drawn) state ∙ drawn in
-        due_is holds home b new _ _ _ (goes_on holds home b work.0 old new None _ work.1 w) (rw (good, same) refl)
+        due_is (goes_on work.0 work.1 w) (rw (good, same) refl)
 
 -- ---- one write after the other
 
@@ -222,19 +216,19 @@ module _ {L : Type 0} (holds : L → List Val → Type 0) (home : Home L) (b : B
     pub under : Under holds home b steps (in_writing_back number (now home steps).holds) None
 
   -- the object of the next write is the first of those that are locked
-  pub next_is_first : (steps : Steps L) (i : ℕ) → Writing steps i → i < length writes →
+  pub next_is_first : {steps : Steps L} {i : ℕ} → Writing steps i → i < length writes →
       ((i j : ℕ) → i < j → j < length writes → (write_at writes i).0 ≢ (write_at writes j).0) →
       IsFirst (now home steps) (write_at writes i) (map (new_hold (now home start)) (drop (i + 1) writes))
-  next_is_first steps i w h apart =
+  next_is_first {i = i} w h apart =
       subst (λ (l : LocalState). IsFirst l (write_at writes i) (map (new_hold (now home start)) (drop (i + 1) writes)))
       (sym w.state)
       (first_from (record (now home start) { holds = map (new_hold (now home start)) (drop i writes) }) writes i apart h
       refl)
 
-  pub one_written : (old new : Steps L) (i : ℕ) → Writing old i →
+  pub one_written : {old new : Steps L} {i : ℕ} → Writing old i →
       now home new ≡ record (now home old) { holds = map (new_hold (now home start)) (drop (i + 1) writes) } →
       Under holds home b new (in_writing_back number (now home new).holds) None → Writing new (i + 1)
-  one_written old new i w state u = record {
+  one_written {i = i} w state u = record {
     state = state
         ∙ ap (λ (l : LocalState). record l { holds = map (new_hold (now home start)) (drop (i + 1) writes) }) w.state;
     under = u;

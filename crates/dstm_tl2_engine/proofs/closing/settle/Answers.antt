@@ -12,8 +12,7 @@ loop-o-preserved c =
     let o = c.loop-o.o in
     let below : o < length values =
     let same = v.same in let count = c.len-objects.ensures in omega (arith, c.loop-o-test.true) in
-    let is =
-    value_is (value_left c.len-objects.result c.args.words.now o) c.word_at.result c.word_at-in-loop-o.result
+    let is = value_is (value_left c.len-objects.result c.args.words.now o) c.word_at.result c.word_at-in-loop-o.result
     c.word_at.ensures c.word_at-in-loop-o.ensures in
     record {
       same = length-set values o _ ∙ v.same;

@@ -48,7 +48,7 @@ returns-in-Ok-commit-clause-runs g c =
     let leaves = g.B.Body.leaves c.run.new.self in
     let name = same_name g.L.Law.holds k b t _ _ _ _ begins place _ c.in-Ok.ensures.same in
     in_the_end (λ n. CommitsRun g.L.Law.holds right leaves k n c.in-Ok-commit.number) _ _ _ _ (assumption c) name
-    (runs g.L.Law.holds k b t _ _ _ _ begins place right leaves c.commit.new.self.0 c.in-Ok-commit.number
+    (runs g.L.Law.holds k b t _ _ _ _ begins place right leaves
     c.in-Ok-commit.ensures.number c.in-Ok-run.ensures.right c.in-Ok-run.ensures.leaves c.in-Ok-commit.ensures.stays.steps)
 
 pub returns-in-Err-commit-clause-ended : goal.returns-in-Err-commit-clause-ended

@@ -12,5 +12,5 @@ invariant_of-result g c =
       opened = c.args.opened;
     })) (sym c.of.ensures)
     (subst (λ (opened : OpenedAs). Tied g.L.Law.holds (record x { opened = opened })) (sym c.requires.opened)
-    (enrolled_tied g.L.Law.holds c.args.terms c.args.seat c.args.objects c.args.number c.requires.view c.requires.slots
+    (enrolled_tied c.args.seat c.args.objects c.args.number c.requires.view c.requires.slots
     c.requires.run c.requires.objects c.requires.number c.requires.state))

@@ -17,7 +17,7 @@ use Rattle.dstm_tl2_engine.proofs.caller.TlCaller.finish.Goals.{After-words, In-
 use Rattle.dstm_tl2_engine.proofs.caller.TlCaller.finish.Goals as goal
 
 home : (g : Over) (c : After-words g) → (called c.self.inside).home ≡ c.words.result.now
-home g c = at_words c.self.inside c.args.self.now c.args.stm.now _ c.self.view_is c.requires.table c.words.ensures
+home g c = at_words c.self.inside c.self.view_is c.requires.table c.words.ensures
 
 locked : (g : Over) (c : After-words g) → HasLocked (called c.self.inside)
 locked g c = subst HasLocked (sym c.self.view_is) c.requires.locked
@@ -25,22 +25,21 @@ locked g c = subst HasLocked (sym c.self.view_is) c.requires.locked
 pub finish-committed-requires-clause-lawful : goal.finish-committed-requires-clause-lawful
 finish-committed-requires-clause-lawful g c =
     let before = (goal.at.finish-committed-requires-clause-lawful g c).After-words in
-    law_there g.L.Law.holds c.self.inside c.self.invariant c.words.result.now (home g before)
-    (c.self.invariant.lawful (locked g before))
+    law_there g.L.Law.holds c.self.inside c.self.invariant (home g before) (c.self.invariant.lawful (locked g before))
 
 left : (g : Over) (c : In-Err g) → (called c.self.inside).home ≡ c.words.result.now → HasLocked (called c.self.inside) →
     Left g.L.Law.holds c.self.inside c.self.invariant (Finishing c.self.inside.opened.writes)
     c.finish-committed.new.self c.in-Err.again
 left g c same locked =
-    left_here g.L.Law.holds c.self.inside c.self.invariant c.words.result.now same
-    (Finishing c.self.inside.opened.writes) refl refl c.finish-committed.new.self c.in-Err.again c.in-Err.ensures.ends
-    c.in-Err.ensures.free.1 c.writes.ensures.below c.writes.ensures.apart (locked_made (called c.self.inside) locked) tt
+    left_here g.L.Law.holds c.self.inside c.self.invariant same
+    (Finishing c.self.inside.opened.writes) refl refl c.in-Err.ensures.ends
+    c.in-Err.ensures.free.1 c.writes.ensures.below c.writes.ensures.apart (locked_made locked) tt
 
 pub invariant_of-self : goal.invariant_of-self
 invariant_of-self g c =
     let at = goal.at.invariant_of-self g c in
     let by = left g at.In-Err (home g at.After-words) (locked g at.After-words) in
-    rw c.in-Err.ensures.free.0 (left_tied g.L.Law.holds c.self.inside c.self.invariant _ _ _ by)
+    rw c.in-Err.ensures.free.0 (left_tied g.L.Law.holds c.self.inside c.self.invariant by)
 
 pub returns-in-Err : goal.returns-in-Err
 returns-in-Err g c =
@@ -51,11 +50,11 @@ returns-in-Err g c =
       stays = search rules;
       leaves =
           subst (λ (k : TlCalled _). Leaves g.L.Law.holds (Finishing k.writes) k (called x) c.in-Err.again)
-          c.self.view_is (left_leaves g.L.Law.holds c.self.inside c.self.invariant _ _ _ by);
+          c.self.view_is (left_leaves g.L.Law.holds c.self.inside c.self.invariant by);
       number = search rules;
       kept = search rules;
-      told = λ _. left_told g.L.Law.holds c.self.inside c.self.invariant _ _ _ by;
-      seen = (kept g.L.Law.holds c.self.inside c.self.invariant _ _ _ _ by.under).seen;
+      told = λ _. left_told g.L.Law.holds c.self.inside c.self.invariant by;
+      seen = (kept c.self.invariant _ by.under).seen;
     }
 
 finished : (g : Over) (c : In_default g) → (called c.self.inside).home ≡ c.words.result.now →
@@ -65,21 +64,19 @@ finished g c same locked =
     let x = c.self.inside in
     let new = c.finish-committed.new.self in
     let valid = c.in_default.ensures.valid in record {
-      ends = ends_here g.L.Law.holds x c.self.invariant c.words.result.now same (Doing (Finishing x.opened.writes)) new
-          Done None c.in_default.ensures.ends_well;
+      ends = ends_here c.self.invariant same (Doing (Finishing x.opened.writes)) c.in_default.ensures.ends_well;
       locked = locked;
       valid = subst (λ (h : Home _). is_valid (now h new) ≡ true) (sym same) valid.0;
       drawn = subst (λ (h : Home _). (now h new).drawn ≡ Some c.in_default.field-0) (sym same) valid.1;
       told = subst (λ (h : Home _). (now h new).writes ≡ Some x.opened.writes) (sym same) valid.2;
-      free = free_here g.L.Law.holds x c.self.invariant c.words.result.now same new c.in_default.ensures.free.1;
+      free = free_here g.L.Law.holds x c.self.invariant same new c.in_default.ensures.free.1;
     }
 
 pub invariant_of-self-in_default : goal.invariant_of-self-in_default
 invariant_of-self-in_default g c =
     let at = goal.at.invariant_of-self-in_default g c in
     subst (λ n. Tied g.L.Law.holds (record c.self.inside { steps = c.finish-committed.new.self; locked = n }))
-    (sym c.in_default.ensures.free.0)
-    (finished_tied g.L.Law.holds c.self.inside c.self.invariant _ _
+    (sym c.in_default.ensures.free.0) (finished_tied g.L.Law.holds c.self.inside c.self.invariant
     (finished g at.In_default (home g at.After-words) (locked g at.After-words)))
 
 pub returns-in_default : goal.returns-in_default
@@ -91,12 +88,12 @@ returns-in_default g c =
     rw r (record {
       stays =
           subst (λ (k : TlCalled _). Stays g.L.Law.holds (Finishing k.writes) k (called x)) c.self.view_is
-          (finished_stays g.L.Law.holds c.self.inside c.self.invariant _ _ by);
+          (finished_stays g.L.Law.holds c.self.inside c.self.invariant by);
       leaves = search rules;
       number =
           subst (λ (k : TlCalled _). Commits k (called x) c.in_default.field-0) c.self.view_is
-          (finished_commits g.L.Law.holds c.self.inside c.self.invariant _ _ by);
+          (finished_commits g.L.Law.holds c.self.inside c.self.invariant by);
       kept = search rules;
-      told = λ _. finished_told g.L.Law.holds c.self.inside c.self.invariant _ _ by;
-      seen = (kept g.L.Law.holds c.self.inside c.self.invariant _ _ _ _ by.ends).seen;
+      told = λ _. finished_told g.L.Law.holds c.self.inside c.self.invariant by;
+      seen = (kept c.self.invariant _ by.ends).seen;
     })

@@ -15,23 +15,20 @@ ended : (g : Over) (c : After-free_first g) →
     Under g.L.Law.holds (called c.self.inside).home (began_of Returning (called c.self.inside)) c.free_first.new.steps
     Done None
 ended g c =
-    ends_here g.L.Law.holds c.self.inside c.self.invariant c.words.result.now
-    (at_words c.self.inside c.args.self.now c.args.stm.now _ c.self.view_is c.requires.table c.words.ensures) Returning
-    c.free_first.new.steps Done None c.free_first.ensures.under
+    ends_here c.self.invariant
+    (at_words c.self.inside c.self.view_is c.requires.table c.words.ensures) Returning c.free_first.ensures.under
 
 pub invariant_of-self : goal.invariant_of-self
 invariant_of-self g c =
     let new = c.free_first.new.steps in
     let gave = (now c.words.result.now new).gave_back in
     let u = ended g (goal.at.invariant_of-self g c).After-free_first in
-    let is = freed_here g.L.Law.holds c.self.inside c.self.invariant c.words.result.now
-    (at_words c.self.inside c.args.self.now c.args.stm.now _ c.self.view_is c.requires.table c.words.ensures) new gave
-    c.free_first.ensures.state in
+    let is = freed_here c.self.invariant
+    (at_words c.self.inside c.self.view_is c.requires.table c.words.ensures) new gave c.free_first.ensures.state in
     subst (λ n. Tied g.L.Law.holds (record c.self.inside { steps = new; locked = n })) (sym c.free_first.ensures.none)
-    (freed_tied g.L.Law.holds c.self.inside c.self.invariant Returning new u gave is c.free_first.ensures.idle
-    (returned_back g.L.Law.holds c.self.inside c.self.invariant new u gave is))
+    (freed_tied c.self.invariant Returning u gave is c.free_first.ensures.idle
+    (returned_back c.self.invariant u gave is))
 
 pub returns-clause-done : goal.returns-clause-done
 returns-clause-done g c =
-    returns_done g.L.Law.holds c.self.inside c.self.invariant c.free_first.new.steps
-    (ended g (goal.at.returns-clause-done g c).After-free_first) ∙ ap done c.self.view_is
+    returns_done c.self.invariant (ended g (goal.at.returns-clause-done g c).After-free_first) ∙ ap done c.self.view_is

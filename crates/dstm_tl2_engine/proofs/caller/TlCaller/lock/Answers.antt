@@ -21,16 +21,16 @@ left : (g : Over) (c : In-Err g) →
 left g c =
     let rest : AtRest (state (called c.self.inside)) =
     subst (λ (k : TlCalled _). AtRest (state k)) (sym c.self.view_is) c.requires.rest in
-    left_here g.L.Law.holds c.self.inside c.self.invariant c.words.result.now
-    (at_words c.self.inside c.args.self.now c.args.stm.now _ c.self.view_is c.requires.table c.words.ensures)
-    (Locking c.self.inside.opened.writes) refl refl c.lock_all-locked.new.self c.in-Err.again c.in-Err.ensures.ends
+    left_here g.L.Law.holds c.self.inside c.self.invariant
+    (at_words c.self.inside c.self.view_is c.requires.table c.words.ensures)
+    (Locking c.self.inside.opened.writes) refl refl c.in-Err.ensures.ends
     c.in-Err.ensures.free.1 c.writes.ensures.below c.writes.ensures.apart (rest_made (called c.self.inside) rest)
-    (rest_can (state (called c.self.inside)) rest (length c.self.inside.opened.writes))
+    (rest_can rest (length c.self.inside.opened.writes))
 
 pub invariant_of-self : goal.invariant_of-self
 invariant_of-self g c =
     rw c.in-Err.ensures.free.0
-    (left_tied g.L.Law.holds c.self.inside c.self.invariant _ _ _ (left g (goal.at.invariant_of-self g c).In-Err))
+    (left_tied g.L.Law.holds c.self.inside c.self.invariant (left g (goal.at.invariant_of-self g c).In-Err))
 
 pub returns-in-Err : goal.returns-in-Err
 returns-in-Err g c =
@@ -40,12 +40,12 @@ returns-in-Err g c =
       stays = search rules;
       leaves =
           subst (λ (k : TlCalled _). Leaves g.L.Law.holds (Locking k.writes) k (called x) c.in-Err.again)
-          c.self.view_is (left_leaves g.L.Law.holds c.self.inside c.self.invariant _ _ _ by);
+          c.self.view_is (left_leaves g.L.Law.holds c.self.inside c.self.invariant by);
       kept = search rules;
       locked = search rules;
       done = search rules;
-      told = λ _. left_told g.L.Law.holds c.self.inside c.self.invariant _ _ _ by;
-      seen = (kept g.L.Law.holds c.self.inside c.self.invariant _ _ _ _ by.under).seen;
+      told = λ _. left_told g.L.Law.holds c.self.inside c.self.invariant by;
+      seen = (kept c.self.invariant _ by.under).seen;
     }
 
 locked : (g : Over) (c : In_default g) →
@@ -53,21 +53,21 @@ locked : (g : Over) (c : In_default g) →
 locked g c =
     let x = c.self.inside in
     let new = c.lock_all-locked.new.self in
-    let same = at_words x c.args.self.now c.args.stm.now _ c.self.view_is c.requires.table c.words.ensures in record {
-      ends = ends_here g.L.Law.holds x c.self.invariant c.words.result.now same (Doing (Locking x.opened.writes)) new
-          Done None (c.in_default.ensures.goes_on (Locking x.opened.writes) refl);
+    let same = at_words x c.self.view_is c.requires.table c.words.ensures in record {
+      ends =
+          ends_here c.self.invariant same (Doing (Locking x.opened.writes))
+          (c.in_default.ensures.goes_on (Locking x.opened.writes) refl);
       rest = subst (λ (k : TlCalled _). AtRest (state k)) (sym c.self.view_is) c.requires.rest;
       live = ap is_live c.self.view_is ∙ c.requires.live;
-      state_is = locked_here g.L.Law.holds x c.self.invariant c.words.result.now same new c.in_default.ensures.state;
-      locks = locks_here g.L.Law.holds x c.self.invariant c.words.result.now same new c.lock_all-locked.new.locked
+      state_is = locked_here g.L.Law.holds x c.self.invariant same new c.in_default.ensures.state;
+      locks = locks_here g.L.Law.holds x c.self.invariant same
           c.lock_all-locked.ensures.lists c.in_default.ensures.all;
     }
 
 pub invariant_of-self-in_default : goal.invariant_of-self-in_default
 invariant_of-self-in_default g c =
     subst (λ n. Tied g.L.Law.holds (record c.self.inside { steps = c.lock_all-locked.new.self; locked = n }))
-    (sym c.in_default.ensures.all)
-    (locked_tied g.L.Law.holds c.self.inside c.self.invariant _
+    (sym c.in_default.ensures.all) (locked_tied g.L.Law.holds c.self.inside c.self.invariant
     (locked g (goal.at.invariant_of-self-in_default g c).In_default)
     (subst (IsLawful g.L.Law.holds) (sym c.self.view_is) c.requires.lawful))
 
@@ -80,13 +80,13 @@ returns-in_default g c =
     rw r (record {
       stays =
           subst (λ (k : TlCalled _). Stays g.L.Law.holds (Locking k.writes) k (called x)) c.self.view_is
-          (locked_stays g.L.Law.holds c.self.inside c.self.invariant _ by);
+          (locked_stays g.L.Law.holds c.self.inside c.self.invariant by);
       leaves = search rules;
       kept =
           subst (λ (k : TlCalled _). called x ≡ record k { log = (view_of new.seat).log; left = None }) c.self.view_is
-          (locked_kept g.L.Law.holds c.self.inside c.self.invariant _ by);
-      locked = has_locked g.L.Law.holds c.self.inside c.self.invariant _ by;
-      done = locked_done g.L.Law.holds c.self.inside c.self.invariant _ by ∙ ap done c.self.view_is;
-      told = λ _. locked_told g.L.Law.holds c.self.inside c.self.invariant _ by;
-      seen = (kept g.L.Law.holds c.self.inside c.self.invariant _ _ _ _ by.ends).seen;
+          (locked_kept g.L.Law.holds c.self.inside c.self.invariant by);
+      locked = has_locked g.L.Law.holds c.self.inside c.self.invariant by;
+      done = locked_done g.L.Law.holds c.self.inside c.self.invariant by ∙ ap done c.self.view_is;
+      told = λ _. locked_told g.L.Law.holds c.self.inside c.self.invariant by;
+      seen = (kept c.self.invariant _ by.ends).seen;
     })

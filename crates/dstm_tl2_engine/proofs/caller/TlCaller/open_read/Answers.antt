@@ -10,26 +10,21 @@ use Rattle.dstm_tl2_engine.proofs.caller.TlCaller.open_read.Goals as goal
 
 pub returns-in-Some-clause-stays : goal.returns-in-Some-clause-stays
 returns-in-Some-clause-stays g c =
-    λ none.
-    absurd (none_some (held c.args.self.now c.args.o) none
-    (handed_held g.L.Law.holds c.self.inside c.self.invariant c.args.self.now c.self.view_is c.args.o c.in-Some.value
-    (sym c.value.ensures ∙ c.in-Some.is)))
+    λ none. absurd (none_some (held c.args.self.now c.args.o) none
+    (handed_held c.self.invariant c.self.view_is c.args.o c.in-Some.value (sym c.value.ensures ∙ c.in-Some.is)))
 
 pub returns-in-Some-clause-opens : goal.returns-in-Some-clause-opens
 returns-in-Some-clause-opens g c =
-    held_opened g.L.Law.holds c.self.inside c.self.invariant c.args.self.now c.self.view_is c.args.o
-    (handed_held g.L.Law.holds c.self.inside c.self.invariant c.args.self.now c.self.view_is c.args.o c.in-Some.value
-    (sym c.value.ensures ∙ c.in-Some.is))
+    held_opened c.self.invariant c.self.view_is c.args.o
+    (handed_held c.self.invariant c.self.view_is c.args.o c.in-Some.value (sym c.value.ensures ∙ c.in-Some.is))
 
 pub returns-in-Some-clause-value : goal.returns-in-Some-clause-value
 returns-in-Some-clause-value g c =
     sym c.in-Some.is ∙ c.value.ensures
-    ∙ hands g.L.Law.holds c.self.inside c.self.invariant c.args.self.now c.self.view_is c.args.o
+    ∙ hands c.self.invariant c.self.view_is c.args.o
 
 unheld : (g : Over) (c : After-value g) → c.value.result ≡ None → held c.args.self.now c.args.o ≡ None
-unheld g c none =
-    unhanded_unheld g.L.Law.holds c.self.inside c.self.invariant c.args.self.now c.self.view_is c.args.o
-    (sym c.value.ensures ∙ none)
+unheld g c none = unhanded_unheld c.self.invariant c.self.view_is c.args.o (sym c.value.ensures ∙ none)
 
 pub read_first-requires-clause-unread : goal.read_first-requires-clause-unread
 read_first-requires-clause-unread g c =
@@ -52,9 +47,8 @@ returns-in-Some-clause-seen g c = subst (Seen g.L.Law.holds) c.self.view_is c.se
 pub returns-clause-value : goal.returns-clause-value
 returns-clause-value g c =
     let n = c.read_first.new.self in
-    let unset : written n c.args.o ≡ None =
-    ap (λ (k : TlCalled _). written k c.args.o) c.read_first.ensures.kept
-    ∙ unset_unheld g.L.Law.holds c.self.inside c.self.invariant c.args.self.now c.self.view_is c.args.o
+    let unset : written n c.args.o ≡ None = ap (λ (k : TlCalled _). written k c.args.o) c.read_first.ensures.kept
+    ∙ unset_unheld c.self.invariant c.self.view_is c.args.o
     (unheld g (goal.at.returns-clause-value g c).After-value c.in_default.is) in
     IfOk-weaker c.read_first.result (λ v. Some v ≡ held n c.args.o) (λ v. Some v ≡ handed n c.args.o)
     (λ v read. read ∙ ap (λ w. option_or w (held n c.args.o)) (sym unset)) c.read_first.ensures.value

@@ -10,7 +10,7 @@ unread : (g : Over) (c : After-words g) →
 unread g c = record {
   tied = c.self.invariant;
   view = c.self.view_is;
-  same = at_words c.self.inside c.args.self.now c.args.stm.now _ c.self.view_is c.requires.table c.words.ensures;
+  same = at_words c.self.inside c.self.view_is c.requires.table c.words.ensures;
   rest = c.requires.rest;
   unread = c.requires.unread;
 }
@@ -37,19 +37,18 @@ push_read-requires-clause-unread g c =
 pub invariant_of-self : goal.invariant_of-self
 invariant_of-self g c =
     first_tied (unread g (goal.at.invariant_of-self g c).After-words)
-    c.requires.live c.read.new.self c.in-Ok.slot c.in-Ok.ensures.object c.in-Ok.ensures.ends_well c.in-Ok.ensures.reads
-    c.push_read.new.self c.push_read.ensures
+    c.requires.live c.in-Ok.slot c.in-Ok.ensures.object c.in-Ok.ensures.ends_well c.in-Ok.ensures.reads
+    c.push_read.ensures
 
 pub invariant_of-self-in-Err : goal.invariant_of-self-in-Err
 invariant_of-self-in-Err g c =
-    left_tied (unread g (goal.at.invariant_of-self-in-Err g c).After-words)
-    c.read.new.self c.in-Err.again c.in-Err.ensures.ends c.in-Err.ensures.same
+    left_tied (unread g (goal.at.invariant_of-self-in-Err g c).After-words) c.in-Err.ensures.ends c.in-Err.ensures.same
 
 pub returns-in-Ok : goal.returns-in-Ok
 returns-in-Ok g c =
     let read = first_reads (unread g (goal.at.returns-in-Ok g c).After-words)
-    c.requires.live c.read.new.self c.in-Ok.slot c.in-Ok.ensures.object c.in-Ok.ensures.ends_well c.in-Ok.ensures.reads
-    c.push_read.new.self c.push_read.ensures in
+    c.requires.live c.in-Ok.slot c.in-Ok.ensures.object c.in-Ok.ensures.ends_well c.in-Ok.ensures.reads
+    c.push_read.ensures in
     record {
       stays = read.stays;
       leaves = search rules;
@@ -63,8 +62,8 @@ returns-in-Ok g c =
 
 pub returns-in-Err : goal.returns-in-Err
 returns-in-Err g c =
-    let left = left_stops (unread g (goal.at.returns-in-Err g c).After-words)
-    c.read.new.self c.in-Err.again c.in-Err.ensures.ends c.in-Err.ensures.same in
+    let left = left_stops (unread g (goal.at.returns-in-Err g c).After-words) c.in-Err.ensures.ends
+    c.in-Err.ensures.same in
     record {
       stays = search rules;
       leaves = left.leaves;

@@ -6,8 +6,7 @@ use Rattle.dstm_tl2_engine.proofs.caller.TlCaller.set.Goals as goal
 
 pub invariant_of-self : goal.invariant_of-self
 invariant_of-self g c =
-    set_tied g.L.Law.holds c.self.inside c.self.invariant c.args.o c.args.v c.set.new.self
-    (ap is_live c.self.view_is ∙ c.requires.live)
+    set_tied c.self.invariant c.args.o c.args.v c.set.new.self (ap is_live c.self.view_is ∙ c.requires.live)
     (subst (λ (k : TlCalled _). AtRest (state k)) (sym c.self.view_is) c.requires.rest)
     (ap (λ (k : TlCalled _). is_opened k c.args.o) c.self.view_is ∙ c.requires.opened)
     c.set.ensures.writes c.set.ensures.set c.set.ensures.value c.set.ensures.rest

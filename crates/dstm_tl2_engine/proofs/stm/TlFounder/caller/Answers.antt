@@ -22,15 +22,10 @@ returns-clause-caller g c =
     let split = c.split-seat.ensures.given ∙ ap (λ (x : TlFounding _). given_part x.view) c.self.view_is in
     let few : found < f.home.terms.callers =
     subst (λ (x : Home _). found < x.terms.callers) (sym at) c.enrol-number.ensures.number in
-    enrols g.L.Law.holds f _ found _ seat.me.0 c.enrolled.result
-    (subst (λ (x : TlFounding _). x.view.terms ≡ Some x.home.terms) c.self.view_is c.self.invariant.0)
+    enrols f (subst (λ (x : TlFounding _). x.view.terms ≡ Some x.home.terms) c.self.view_is c.self.invariant.0)
     (subst (λ (v : View _). Makes g.L.Law.holds v Add Enrol (place (table_of h.terms) CallersWord) found seat.me.0)
-    split c.enrol-number.ensures.enrols)
-    few
-    (caller_is f h found seat c.terms.result c.enrolled.result c.enrolled.ensures at c.enrol-number.ensures.seat.0
-    c.terms.ensures)
-    (founder_is f h _ c.self.inside.terms c.self.inside.seat.me.0 c.split-seat.new.seat.me.0 c.self.inside.made
-    c.self.view_is at c.split-seat.new.seat.table_id
+    split c.enrol-number.ensures.enrols) few (caller_is f found seat c.enrolled.ensures at c.enrol-number.ensures.seat.0
+    c.terms.ensures) (founder_is _ c.self.inside.terms c.self.inside.seat.me.0 c.self.inside.made c.self.view_is at
     (c.split-seat.ensures.seat.0 ∙ ap (λ (x : Home _). x.table) words) c.split-seat.ensures.kept)
     (subst (λ (x : Home _). local (table_of x.terms) seat.me.0.log found ≡ record first { number = Some found })
     (sym at) c.enrol-number.ensures.state)

@@ -26,7 +26,7 @@ invariant_of-self g c =
       (let was = v.3 in let less = c.saturating_sub-self-inside.ensures in omega arith),
       v.4,
       (let enough = v.5 in omega arith),
-      returned_more g.L.Law.holds c.self.inside.terms c.self.inside.made old new returned joined told
+      returned_more returned joined told
           c.give_back.ensures.free v.6,
     )
 
@@ -35,8 +35,7 @@ returns g c =
     let words = c.stm.view_is in
     let joined : Joined g.L.Law.holds c.args.self.now.view (seat_view c.give_back.new.self) c.join.new.seat.me.0 =
     subst (λ (x : TlFounding _). Joined g.L.Law.holds x.view (seat_view c.give_back.new.self) c.join.new.seat.me.0)
-    c.self.view_is
-    (subst (λ (v : View _). Joined g.L.Law.holds c.self.inside.seat.me.0 v c.join.new.seat.me.0)
+    c.self.view_is (subst (λ (v : View _). Joined g.L.Law.holds c.self.inside.seat.me.0 v c.join.new.seat.me.0)
     c.into_seat.ensures.view c.join.ensures.joined) in
     record {
       retired = record {
@@ -45,12 +44,10 @@ returns g c =
         free = c.give_back.ensures.free;
         rest = c.give_back.ensures.rest;
         joined = joined;
-        done =
-            retired_done g.L.Law.holds c.args.self.now.view c.join.new.seat.me.0 c.args.caller c.give_back.new.self
-            c.give_back.ensures.steps joined c.give_back.ensures.done;
+        done = retired_done c.give_back.ensures.steps joined c.give_back.ensures.done;
         founder =
-            keeps_rest c.args.self.now c.args.stm.now _ c.self.inside.terms c.self.inside.seat.me.0 c.join.new.seat.me.0
-            c.self.inside.made c.self.view_is c.requires.table c.join.new.seat.table_id
+            keeps_rest _ c.self.inside.terms c.self.inside.seat.me.0 c.join.new.seat.me.0
+            c.self.inside.made c.self.view_is c.requires.table
             (c.join.ensures.seat.0 ∙ ap (λ (x : Home _). x.table) words);
       };
     }

@@ -36,12 +36,11 @@ returns-clause-values g c =
     let start : c.self.inside.start.items ≡ h.terms.start.value.items =
     ap (λ (x : Vec _ _). x.items) (sym c.self.invariant.0)
     ∙ ap (λ (x : Home _). x.terms.start.value.items) c.self.view_is in
-    last_state g.L.Law.holds h.terms f.made f.view words (left g before) back all (first g before) c.requires.out values
-    (c.settle-values.ensures.objects ∙ ap length start)
-    (told_by values h.terms.start.value.items c.self.inside.start.items words start c.settle-values.ensures.values)
+    last_state g.L.Law.holds words (left g before) back all (first g before) c.requires.out values
+    (c.settle-values.ensures.objects ∙ ap length start) (told_by values words start c.settle-values.ensures.values)
 
 pub returns-clause-lawful : goal.returns-clause-lawful
 returns-clause-lawful g c =
     let before = (goal.at.returns-clause-lawful g c).After-close_in_place-left in
     last_lawful g.L.Law.holds c.args.self.terms c.args.founder.view c.close_in_place-left.result (left g before)
-    (first g before) c.requires.out c.settle-values.result.items (returns-clause-values g c)
+    (first g before) c.requires.out (returns-clause-values g c)

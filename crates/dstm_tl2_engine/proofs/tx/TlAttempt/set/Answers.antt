@@ -6,6 +6,5 @@ use Rattle.dstm_tl2_engine.proofs.tx.TlAttempt.set.Goals as goal
 
 pub returns-clause-opened : goal.returns-clause-opened
 returns-clause-opened g c =
-    λ p.
-    ap (λ ws. is_some (value_in ws p)) c.set.ensures.writes
+    λ p. ap (λ ws. is_some (value_in ws p)) c.set.ensures.writes
     ∙ set_opened c.args.o c.args.v c.args.self.now.caller.now.writes p c.requires.opened

@@ -13,18 +13,14 @@ use Rattle.dstm_tl2_steps.proofs.steps.Steps.begin.Goals as goal
 pub returns : goal.returns
 returns g c =
     let old : Steps g.row.L.Denot = c.args.self.now in
-    let new : Steps g.row.L.Denot = record old { seat = c.load-self.new.seat; sample = c.load-self.result } in
     record {
-      went = went_by g.L.Law.holds c.args.words.now g.B.InCall.began old new _ _ Load Sample Sample
-          c.clock-clock.result (place (table_of c.args.words.now.terms) ClockWord) c.load-self.result c.requires.under
-          c.load-self.ensures.event refl (c.clock-clock.ensures ∙ ap (λ n. 3 * n + 1) c.requires.under.places)
-          c.load-self.ensures.seat refl refl refl;
+      went = went_by Load c.requires.under c.load-self.ensures.event refl
+          (c.clock-clock.ensures ∙ ap (λ n. 3 * n + 1) c.requires.under.places) c.load-self.ensures.seat refl refl refl;
       top = (
         c.load-self.ensures.event.log.0 ++ (view_of old.seat).log,
         c.load-self.ensures.event.log.1
             ∙ ap (λ number. event_by Load (number_or number c.load-self.result) Sample c.clock-clock.result c.load-self.result
-            ∷ c.load-self.ensures.event.log.0 ++ (view_of old.seat).log)
-            (number_of g.L.Law.holds c.args.words.now g.B.InCall.began old _ _ c.requires.under)
+            ∷ c.load-self.ensures.event.log.0 ++ (view_of old.seat).log) (number_of c.requires.under)
             ∙ ap (λ p. event_by Load g.B.InCall.began.number Sample p c.load-self.result
             ∷ c.load-self.ensures.event.log.0 ++ (view_of old.seat).log)
             (c.clock-clock.ensures ∙ ap (λ n. 3 * n + 1) c.requires.under.places),

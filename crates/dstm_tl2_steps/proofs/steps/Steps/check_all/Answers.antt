@@ -8,13 +8,11 @@ pub check_one-bad-requires-clause-next : goal.check_one-bad-requires-clause-next
 check_one-bad-requires-clause-next g c =
     let within : c.loop-slot.slot-index < length c.args.opened.now.reads =
     rw c.reads-slot-items.ensures.items at c.loop-slot-test.true in
-    slot_read_is c.reads-slot-items.result.now c.args.opened.now.reads c.loop-slot.slot-index _
-    c.reads-slot-items.ensures.items
+    slot_read_is c.loop-slot.slot-index c.reads-slot-items.ensures.items
     (next_is g.L.Law.holds c.args.words.now g.B.InCall.began c.args.self.now c.args.opened.now.writes
-    c.loop-slot.self c.args.opened.now.reads c.loop-slot.slot-index c.loop-slot.invariant within
-    (slot_is c.args.opened.now.writes c.reads-slot-items.result.now c.args.opened.now.reads c.loop-slot.slot-index
-    c.write.result c.is_none.result true c.reads-slot-items.ensures.items c.write.ensures c.is_none.ensures
-    c.if-is_none.true)).read
+    c.args.opened.now.reads c.loop-slot.slot-index c.loop-slot.invariant within
+    (slot_is c.args.opened.now.writes c.loop-slot.slot-index c.is_none.result true c.reads-slot-items.ensures.items
+    c.write.ensures c.is_none.ensures c.if-is_none.true)).read
 
 pub loop-slot-preserved : goal.loop-slot-preserved
 loop-slot-preserved g c =
@@ -25,10 +23,9 @@ loop-slot-preserved g c =
           subst (λ steps. Checking g.L.Law.holds c.args.words.now g.B.InCall.began c.args.self.now
           c.args.opened.now.writes steps (drop (c.loop-slot.slot-index + 1) c.args.opened.now.reads)) (sym w.self-is)
           (checked_one g.L.Law.holds c.args.words.now g.B.InCall.began c.args.self.now c.args.opened.now.writes
-          c.loop-slot.self w.check_one-bad.new.self c.args.opened.now.reads c.loop-slot.slot-index
-          c.loop-slot.invariant within
-          (slot_is c.args.opened.now.writes c.reads-slot-items.result.now c.args.opened.now.reads
-          c.loop-slot.slot-index c.write.result c.is_none.result true c.reads-slot-items.ensures.items
+          w.check_one-bad.new.self c.args.opened.now.reads c.loop-slot.slot-index
+          c.loop-slot.invariant within (slot_is c.args.opened.now.writes
+          c.loop-slot.slot-index c.is_none.result true c.reads-slot-items.ensures.items
           c.write.ensures c.is_none.ensures w.if-is_none.true)
           w.check_one-bad.result (sym w.is_some.ensures ∙ w.if-is_some.false) w.check_one-bad.ensures.good
           c.requires.sound.0 w.check_one-bad.ensures.rest)
@@ -36,9 +33,8 @@ loop-slot-preserved g c =
           subst (λ steps. Checking g.L.Law.holds c.args.words.now g.B.InCall.began c.args.self.now
           c.args.opened.now.writes steps (drop (c.loop-slot.slot-index + 1) c.args.opened.now.reads)) (sym w.self-is)
           (checked_none g.L.Law.holds c.args.words.now g.B.InCall.began c.args.self.now c.args.opened.now.writes
-          c.loop-slot.self c.args.opened.now.reads c.loop-slot.slot-index c.loop-slot.invariant within
-          (slot_is c.args.opened.now.writes c.reads-slot-items.result.now c.args.opened.now.reads
-          c.loop-slot.slot-index c.write.result c.is_none.result false c.reads-slot-items.ensures.items
+          c.args.opened.now.reads c.loop-slot.slot-index c.loop-slot.invariant within (slot_is c.args.opened.now.writes
+          c.loop-slot.slot-index c.is_none.result false c.reads-slot-items.ensures.items
           c.write.ensures c.is_none.ensures w.if-is_none.false))
     ]
 
@@ -47,7 +43,7 @@ returns-clause-good g c =
     let all : length c.args.opened.now.reads ≤ c.loop-slot.slot-index =
     (let n = ap length c.reads-slot-items.ensures.items in let end = c.loop-slot-test.false in omega arith) in (
       checked_all g.L.Law.holds c.args.words.now g.B.InCall.began c.args.self.now c.args.opened.now.writes
-          c.loop-slot.self c.args.opened.now.reads c.loop-slot.slot-index c.loop-slot.invariant all
+          c.args.opened.now.reads c.loop-slot.slot-index c.loop-slot.invariant all
           (some_number (now c.args.words.now c.args.self.now).drawn c.requires.drawn) c.requires.sound.0,
       c.loop-slot.invariant.under,
     )

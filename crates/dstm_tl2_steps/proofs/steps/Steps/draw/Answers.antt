@@ -14,18 +14,12 @@ use Rattle.dstm_tl2_steps.proofs.steps.Steps.draw.Goals as goal
 pub add-requires-clause-allowed : goal.add-requires-clause-allowed
 add-requires-clause-allowed g c = λ found below.
     let told : Draw c.of.result ≡ draws c.args.writes.now.items = ap draws (c.of.ensures ∙ c.of-told.ensures) in
-    draw_allowed (table_of c.args.words.now.terms) (now c.args.words.now c.args.self.now) _ c.args.writes.now.items
-    (number_or (view_of c.args.self.now.seat).number found)
-    c.clock-clock.result found told
+    draw_allowed (table_of c.args.words.now.terms) (now c.args.words.now c.args.self.now) c.args.writes.now.items
+    (number_or (view_of c.args.self.now.seat).number found) c.clock-clock.result found told
     (c.clock-clock.ensures ∙ ap (λ n. 3 * n + 1) c.requires.under.places) c.requires.begun c.requires.told
     c.requires.undrawn c.requires.sound.0 c.requires.sound.1 c.requires.locked
 
 pub returns-clause-went : goal.returns-clause-went
 returns-clause-went g c =
-    let old : Steps g.row.L.Denot = c.args.self.now in
-    let new : Steps g.row.L.Denot = record old { seat = c.add.new.seat } in
-    let told : Draw c.of.result ≡ draws c.args.writes.now.items = ap draws (c.of.ensures ∙ c.of-told.ensures) in
-    went_on g.L.Law.holds c.args.words.now g.B.InCall.began old new _ _ Add (Draw c.of.result)
-    (draws c.args.writes.now.items) c.clock-clock.result (place (table_of c.args.words.now.terms) ClockWord)
-    c.add.result c.requires.under c.add.ensures.event told
+    went_on Add c.requires.under c.add.ensures.event (ap draws (c.of.ensures ∙ c.of-told.ensures))
     (c.clock-clock.ensures ∙ ap (λ n. 3 * n + 1) c.requires.under.places) c.add.ensures.seat refl refl refl refl

@@ -5,38 +5,38 @@ use Rattle.dstm_tl2_steps.proofs.steps.Steps.give_back.Goals as goal
 
 pub word-word-requires-clause-read : goal.word-word-requires-clause-read
 word-word-requires-clause-read g c =
-    next_was_read g.L.Law.holds c.args.words.now g.B.InCall.began c.args.self.now c.loop-i.self c.args.opened.now
-    c.args.locked.now c.loop-i.i c.requires.lists c.requires.few c.loop-i-test.true c.loop-i.invariant c.requires.under
-    _ (object_at _ _ c.loop-i.i c.args.locked.now _ c.writes-writes.ensures.items c.requires.few c.loop-i-test.true
+    next_was_read g.L.Law.holds c.args.words.now g.B.InCall.began c.requires.lists c.requires.few c.loop-i-test.true
+    c.loop-i.invariant c.requires.under
+    _ (object_at c.loop-i.i c.args.locked.now c.writes-writes.ensures.items c.requires.few c.loop-i-test.true
     c.index.ensures)
 
 pub unlock-requires-clause-under : goal.unlock-requires-clause-under
 unlock-requires-clause-under g c = (
   c.requires.under.0,
-  next_due g.L.Law.holds c.args.words.now g.B.InCall.began c.args.self.now c.loop-i.self c.args.opened.now
-      c.args.locked.now c.loop-i.i c.requires.lists c.requires.few c.loop-i-test.true c.loop-i.invariant c.requires.under
-      _ (object_at _ _ c.loop-i.i c.args.locked.now _ c.writes-writes.ensures.items c.requires.few c.loop-i-test.true
-      c.index.ensures) c.word-word.result c.word-word.ensures c.requires.under.0 c.requires.under.1,
+  next_due g.L.Law.holds c.args.words.now g.B.InCall.began c.requires.lists c.requires.few c.loop-i-test.true
+      c.loop-i.invariant c.requires.under
+      _ (object_at c.loop-i.i c.args.locked.now c.writes-writes.ensures.items c.requires.few c.loop-i-test.true
+      c.index.ensures) c.word-word.result c.word-word.ensures c.requires.under.1,
 )
 
 pub unlock-requires-clause-held : goal.unlock-requires-clause-held
 unlock-requires-clause-held g c =
-    next_is_held g.L.Law.holds c.args.words.now g.B.InCall.began c.args.self.now c.loop-i.self c.args.opened.now
-    c.args.locked.now c.loop-i.i c.requires.lists c.requires.few c.loop-i-test.true c.loop-i.invariant c.requires.under
-    _ (object_at _ _ c.loop-i.i c.args.locked.now _ c.writes-writes.ensures.items c.requires.few c.loop-i-test.true
+    next_is_held g.L.Law.holds c.args.words.now g.B.InCall.began c.requires.lists c.requires.few c.loop-i-test.true
+    c.loop-i.invariant c.requires.under
+    _ (object_at c.loop-i.i c.args.locked.now c.writes-writes.ensures.items c.requires.few c.loop-i-test.true
     c.index.ensures)
 
 pub unlock-requires-clause-may : goal.unlock-requires-clause-may
 unlock-requires-clause-may g c =
-    next_may g.L.Law.holds c.args.words.now g.B.InCall.began c.args.self.now c.loop-i.self c.args.opened.now
-    c.args.locked.now c.loop-i.i c.requires.lists c.requires.few c.loop-i-test.true c.loop-i.invariant c.requires.under
-    _ (object_at _ _ c.loop-i.i c.args.locked.now _ c.writes-writes.ensures.items c.requires.few c.loop-i-test.true
+    next_may g.L.Law.holds c.args.words.now g.B.InCall.began c.requires.lists c.requires.few c.loop-i-test.true
+    c.loop-i.invariant c.requires.under
+    _ (object_at c.loop-i.i c.args.locked.now c.writes-writes.ensures.items c.requires.few c.loop-i-test.true
     c.index.ensures) c.word-word.result c.word-word.ensures (c.requires.may (λ q. let left = c.loop-i-test.true in omega arith))
 
 pub loop-i-preserved : goal.loop-i-preserved
 loop-i-preserved g c =
-    gives_one g.L.Law.holds c.args.words.now g.B.InCall.began c.args.self.now c.loop-i.self c.args.opened.now
-    c.args.locked.now c.loop-i.i c.requires.lists c.requires.few c.loop-i-test.true c.loop-i.invariant c.requires.under
-    _ (object_at _ _ c.loop-i.i c.args.locked.now _ c.writes-writes.ensures.items c.requires.few c.loop-i-test.true
+    gives_one g.L.Law.holds c.args.words.now g.B.InCall.began c.requires.lists c.requires.few c.loop-i-test.true
+    c.loop-i.invariant c.requires.under
+    _ (object_at c.loop-i.i c.args.locked.now c.writes-writes.ensures.items c.requires.few c.loop-i-test.true
     c.index.ensures) c.word-word.result c.word-word.ensures c.unlock.new.self c.writes-writes.ensures.apart
     c.requires.failed c.unlock.ensures.went

@@ -14,14 +14,13 @@ use Rattle.dstm_tl2_steps.proofs.steps.Steps.lock.Goals as goal
 pub overflow_add-word : goal.overflow_add-word
 overflow_add-word g c =
     let below : recorded c.args.o (now c.args.words.now c.args.self.now).reads < 2 ^ 62 =
-    recorded_below g.L.Law.holds c.args.words.now g.B.InCall.began c.args.self.now _ _ c.requires.under c.args.o
-    (is_something _ c.requires.read) in
+    recorded_below c.requires.under c.args.o (is_something _ c.requires.read) in
     let word = c.requires.word in omega arith
 
 pub exchange-requires-clause-allowed : goal.exchange-requires-clause-allowed
 exchange-requires-clause-allowed g c = λ found below.
     let told : Lock c.of.result ≡ locks c.args.writes.now.items = ap locks (c.of.ensures ∙ c.of-told.ensures) in
-    lock_allowed (table_of c.args.words.now.terms) (now c.args.words.now c.args.self.now) _ c.args.writes.now.items
+    lock_allowed (table_of c.args.words.now.terms) (now c.args.words.now c.args.self.now) c.args.writes.now.items
     (number_or (view_of c.args.self.now.seat).number found)
     c.lock-lock.result c.args.o c.args.word found told c.lock-lock.ensures c.requires.exists c.requires.told
     c.requires.undrawn c.requires.sound.0 c.requires.sound.1 c.requires.left c.requires.next
@@ -29,9 +28,5 @@ exchange-requires-clause-allowed g c = λ found below.
 
 pub returns-clause-went : goal.returns-clause-went
 returns-clause-went g c =
-    let old : Steps g.row.L.Denot = c.args.self.now in
-    let new : Steps g.row.L.Denot = record old { seat = c.exchange.new.seat } in
-    let told : Lock c.of.result ≡ locks c.args.writes.now.items = ap locks (c.of.ensures ∙ c.of-told.ensures) in
-    went_on g.L.Law.holds c.args.words.now g.B.InCall.began old new _ _ (Exchange c.args.word (c.args.word + 1))
-    (Lock c.of.result) (locks c.args.writes.now.items) c.lock-lock.result c.args.o (found_in c.exchange.result)
-    c.requires.under c.exchange.ensures.event told c.lock-lock.ensures c.exchange.ensures.seat refl refl refl refl
+    went_on (Exchange c.args.word (c.args.word + 1)) c.requires.under c.exchange.ensures.event
+    (ap locks (c.of.ensures ∙ c.of-told.ensures)) c.lock-lock.ensures c.exchange.ensures.seat refl refl refl refl

@@ -7,8 +7,4 @@ use Rattle.dstm_tl2_steps.proofs.steps.Steps.look_again.Goals as goal
 
 pub returns-clause-went : goal.returns-clause-went
 returns-clause-went g c =
-    let old : Steps g.row.L.Denot = c.args.self.now in
-    let new : Steps g.row.L.Denot = record old { seat = c.load.new.seat } in
-    went_on g.L.Law.holds c.args.words.now g.B.InCall.began old new _ _ Load LookAgain LookAgain c.lock-lock.result
-    c.args.o c.load.result c.requires.under c.load.ensures.event refl c.lock-lock.ensures c.load.ensures.seat refl
-    refl refl refl
+    went_on Load c.requires.under c.load.ensures.event refl c.lock-lock.ensures c.load.ensures.seat refl refl refl refl

@@ -9,13 +9,8 @@ use Rattle.dstm_tl2_steps.proofs.Stepping.{went_on}
 use Rattle.dstm_tl2_steps.proofs.steps.Steps.write_high.Goals as goal
 
 pub returns-clause-went : goal.returns-clause-went
-returns-clause-went g c =
-    let old : Steps g.row.L.Denot = c.args.self.now in
-    let new : Steps g.row.L.Denot = record old { seat = c.store.new.seat } in
-    let event = c.store.ensures.event in (
-      event.0,
-      went_on g.L.Law.holds c.args.words.now g.B.InCall.began old new _ _ (Store c.args.high) WriteHigh WriteHigh
-          c.high-place.result (place (table_of c.args.words.now.terms) (HighWord c.args.o)) event.0
-          c.requires.under event.1 refl (c.high-place.ensures ∙ ap (λ n. 2 * n + c.args.o) c.requires.under.places)
-          c.store.ensures.seat (refl, refl) refl refl refl,
-    )
+returns-clause-went g c = (
+  c.store.ensures.event.0,
+  went_on (Store c.args.high) c.requires.under c.store.ensures.event.1 refl
+      (c.high-place.ensures ∙ ap (λ n. 2 * n + c.args.o) c.requires.under.places) c.store.ensures.seat (refl, refl) refl refl refl,
+)
