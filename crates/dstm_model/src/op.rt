@@ -60,6 +60,11 @@ pub enum Op {
 }
 
 impl Default for Op {
+    ghost use Rattle.std.specs.Prelude.{◌≡◌};
+    ghost use Rattle.dstm_model.specs.declared.op.Op.TheVariants.{Total};
+
+    ghost is_default = { λ op. op ≡ Total };
+
     fn default() -> Self {
         Op::Total
     }

@@ -18,6 +18,11 @@ pub enum Reply {
 }
 
 impl Default for Reply {
+    ghost use Rattle.std.specs.Prelude.{◌≡◌};
+    ghost use Rattle.dstm_model.specs.declared.reply.Reply.TheVariants.{No};
+
+    ghost is_default = { λ reply. reply ≡ No };
+
     fn default() -> Self {
         Reply::No
     }
