@@ -1,5 +1,5 @@
 use Rattle.std.proofs.Common.{rules}
-use Rattle.dstm_tl2_engine.proofs.Opens.{Unread, first_reads, first_tied, left_stops, left_tied, read_at_rest, read_under, read_unread, slot_exists, slot_unread}
+use Rattle.dstm_tl2_engine.proofs.Opens.{Unread, first_reads, first_tied, left_stops, left_tied, read_unread, slot_unread}
 use Rattle.dstm_tl2_engine.proofs.Tying.{at_words}
 use Rattle.dstm_tl2_engine.proofs.caller.TlCaller.read_first.Given.{Over}
 use Rattle.dstm_tl2_engine.proofs.caller.TlCaller.read_first.Goals.{After-words}
@@ -15,19 +15,8 @@ unread g c = record {
   unread = c.requires.unread;
 }
 
-pub read-requires-clause-under : goal.read-requires-clause-under
-read-requires-clause-under g c = read_under (unread g (goal.at.read-requires-clause-under g c).After-words)
-
-pub read-requires-clause-rest : goal.read-requires-clause-rest
-read-requires-clause-rest g c = read_at_rest (unread g (goal.at.read-requires-clause-rest g c).After-words)
-
 pub read-requires-clause-unread : goal.read-requires-clause-unread
 read-requires-clause-unread g c = read_unread (unread g (goal.at.read-requires-clause-unread g c).After-words)
-
-pub push_read-requires-clause-exists : goal.push_read-requires-clause-exists
-push_read-requires-clause-exists g c =
-    slot_exists (unread g (goal.at.push_read-requires-clause-exists g c).After-words)
-    c.in-Ok.slot.object c.in-Ok.ensures.object c.requires.exists
 
 pub push_read-requires-clause-unread : goal.push_read-requires-clause-unread
 push_read-requires-clause-unread g c =

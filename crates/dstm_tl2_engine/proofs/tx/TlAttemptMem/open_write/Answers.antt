@@ -1,5 +1,5 @@
 use Rattle.std.proofs.Common.{◌<◌, ap, arith, length}
-use Rattle.dstm_mem.proofs.WithSet.{found_by, unchanged_by}
+use Rattle.dstm_mem.proofs.WithSet.{found_by}
 use Rattle.dstm_tl2_engine.specs.Attempts.{Admits}
 use Rattle.dstm_tl2_engine.specs.Callers.{TlCalled, held, objects_of, written}
 use Rattle.dstm_tl2_engine.proofs.tx.TlAttemptMem.open_write.Goals as goal
@@ -12,8 +12,3 @@ returns-clause-found g c =
     let size = admitted.length in
     let within : c.args.o < length map = omega (arith, size, same, c.requires.exists) in (within, admitted.agrees))
     c.open_write.ensures.value
-
-pub returns-clause-unchanged : goal.returns-clause-unchanged
-returns-clause-unchanged g c =
-    unchanged_by c.open_write.result (written c.args.self.now.caller.now) (written c.open_write.new.self.caller.now)
-    (λ p. ap (λ (k : TlCalled _). written k p) c.open_write.ensures.kept)
