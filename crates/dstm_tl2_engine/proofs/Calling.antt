@@ -1,12 +1,11 @@
 -- A call of a caller, from what its steps know.
 use Rattle.std.proofs.Common.{◌<◌, ◌∙◌, ◌≡◌, List, ap, subst, sym}
-use Rattle.std.specs.Prelude.{None, Option}
+use Rattle.std.specs.Prelude.{Option}
 use Rattle.dstm_model.specs.declared.value.Val.{Val}
 use Rattle.dstm_machines.specs.Traces.{IsPastOf, events_of}
-use Rattle.dstm_tl2.specs.Sharing.{IsRunOf, table_of}
+use Rattle.dstm_tl2.specs.Sharing.{IsRunOf}
 use Rattle.dstm_tl2_words.specs.Seats.{Home, IsOf, View, caller_state, number_or, view_of}
-use Rattle.dstm_tl2_steps.proofs.Stepping.{began_as, call_begins, call_of}
-use Rattle.dstm_tl2_order.specs.Order.{due}
+use Rattle.dstm_tl2_steps.proofs.Stepping.{began_as, call_of}
 use Rattle.dstm_tl2_order.specs.Order.Due.{Done}
 use Rattle.dstm_tl2_order.specs.Tasks.{Task}
 use Rattle.dstm_tl2_steps.specs.Under.{Began, Under, now}
@@ -43,20 +42,6 @@ module _ {L : Type 0} (holds : L → List Val → Type 0) (k : TlCalled L) where
         state = caller_state k.home.terms v;
         log = v.log;
       }) s.view
-
-  -- a call begins
-  pub starts : (task : Task) {steps : Steps L} → StepsOf steps →
-      Under holds k.home (begun_as k.home task steps) steps
-      (due task (table_of k.home.terms) None (now k.home steps)) None
-  starts task {steps = steps} s =
-      let named : number_or (view_of steps.seat).number 0 ≡ k.number =
-      ap (λ (v : View L). number_or v.number 0) s.view in
-      let seen : (view_of steps.seat).log ≡ k.log = ap (λ (v : View L). v.log) s.view in
-      subst (λ n. Under holds k.home (began_as k.home task n steps) steps
-      (due task (table_of k.home.terms) None (now k.home steps)) None) (sym named)
-      (call_begins k.home task k.number steps s.seat
-      (s.view ∙ ap (caller_view k.home.terms k.number) (sym seen)) s.number
-      (subst (IsRunOf holds k.home.terms) (sym seen) s.run) s.places (s.sample ∙ sym (ap (λ l. l.sample) (now_is s))))
 
   -- and is one of the caller's
   pub performs : (task : Task) {steps : Steps L} {again : Option TlAgain} (n : TlCalled L) →

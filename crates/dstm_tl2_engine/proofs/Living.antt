@@ -1,5 +1,5 @@
 -- The calls of a caller add up, from its enrolment on.
-use Rattle.std.proofs.Common.{Bool, true, ◌≡◌, ◌∙◌, ◌++◌, ◌∷◌, List, [], None, Some, ap, append_assoc, append-nil, arith, refl, subst, sym}
+use Rattle.std.proofs.Common.{Bool, true, ◌≡◌, ◌∙◌, ◌++◌, ◌∷◌, List, [], None, ap, append_assoc, append-nil, arith, refl, subst, sym}
 use Rattle.std.specs.Prelude.{Contains, Option}
 use Rattle.dstm_machines.proofs.Own.{after_own, none_before_only, whole_state}
 use Rattle.dstm_machines.specs.Traces.{events_of}
@@ -8,9 +8,9 @@ use Rattle.dstm_tl2.specs.Rules.{Event}
 use Rattle.dstm_tl2.specs.Runs.{local, tl2}
 use Rattle.dstm_tl2.specs.State.{LocalState, first}
 use Rattle.dstm_tl2.specs.Words.{Table}
-use Rattle.dstm_tl2_order.specs.Calls.{answer_of, state_after}
+use Rattle.dstm_tl2_order.specs.Calls.{state_after}
 use Rattle.dstm_tl2_order.specs.Laws.{CanLock}
-use Rattle.dstm_tl2_order.specs.Made.{AreMade, ByCalls, Call, IsOnAttempt, LocksItsWrites, events_in, newest_answer, state_by}
+use Rattle.dstm_tl2_order.specs.Made.{AreMade, ByCalls, IsOnAttempt, LocksItsWrites, events_in, state_by}
 use Rattle.dstm_tl2_order.specs.Tasks.{Task}
 use Rattle.dstm_tl2_order.specs.Tasks.Task.{Beginning, Doing, Enrolling, Returning}
 use Rattle.dstm_tl2_order.specs.declared.again.TlAgain.{TlAgain}
@@ -18,7 +18,7 @@ use Rattle.dstm_tl2_order.proofs.AddingUp.{events_both, made_both, made_where}
 use Rattle.dstm_tl2_order.proofs.Disturbing.{own_stands}
 use Rattle.dstm_tl2_engine.specs.Callers.{TlCalled, begun_log, state, table_of_caller}
 use Rattle.dstm_tl2_engine.specs.Calls.{IsTold, Performs}
-use Rattle.dstm_tl2_engine.specs.Lives.{ALifeIsCalls, AnswersAreOfCalls, AttemptsAreCalls, CallsAddUp}
+use Rattle.dstm_tl2_engine.specs.Lives.{ALifeIsCalls, AttemptsAreCalls, CallsAddUp}
 use Rattle.dstm_tl2_engine.specs.Makes.{Makes}
 use Rattle.dstm_tl2_engine.specs.Outcomes.{begun_state}
 use Rattle.dstm_tl2_engine.specs.Tables.{unnumbered}
@@ -118,17 +118,6 @@ pub attempts_are_calls : {L : Type 0} (holds : L → List Val → Type 0) → At
 attempts_are_calls holds k n again a =
     makes_both LocksItsWrites k a.began n (makes_one LocksItsWrites holds Beginning k a.began None tt a.begins)
     (told_makes a.began n (a.same.0 ∙ sym a.begins.same.0) (a.same.1 ∙ sym a.begins.same.1) a.at_begin a.told)
-
-pub answers_are_of_calls : {L : Type 0} (holds : L → List Val → Type 0) → AnswersAreOfCalls L holds
-answers_are_of_calls holds k n again a = by a.told.calls refl (a.answers ∙ a.told.left)
-  where
-    by : (cs : List Call) → a.told.calls ≡ cs →
-        Some again ≡ newest_answer (table_of_caller n) (begun_state n) a.told.calls →
-        (last : Call) × (before : List Call) × (a.told.calls ≡ last ∷ before)
-        × (answer_of (table_of_caller n) (state_by (table_of_caller n) (begun_state n) before) last.events ≡ Some again)
-    by [] is answer = absurd (let none = answer ∙ ap (newest_answer (table_of_caller n) (begun_state n)) is in cc)
-    by (last ∷ before) is answer =
-        (last, before, is, sym (answer ∙ ap (newest_answer (table_of_caller n) (begun_state n)) is))
 
 -- ---- the life of a caller
 

@@ -1,5 +1,5 @@
 -- A caller after an open.
-use Rattle.std.proofs.Common.{◌++◌, ◌<◌, ◌==◌, ◌∙◌, ◌∷◌, ◌≡◌, ◌≢◌, ◌⊎◌, List, [], Option, None, Some, ap, arith, false, inl, inr, length, length-append, map, refl, subst, sym, take, true, ℕ}
+use Rattle.std.proofs.Common.{◌++◌, ◌==◌, ◌∙◌, ◌∷◌, ◌≡◌, ◌≢◌, ◌⊎◌, List, [], Option, None, Some, ap, arith, false, inl, inr, length, length-append, map, refl, subst, sym, take, true, ℕ}
 use Rattle.std.specs.Option.{option_or}
 use Rattle.std.specs.Prelude.{All, IfSome, IsSome, is_none, is_some, option_map}
 use Rattle.std.proofs.lemmas.Bool.{cases_Bool, cases_eq}
@@ -19,7 +19,7 @@ use Rattle.dstm_tl2.specs.State.{LocalState, Read, read_of}
 use Rattle.dstm_tl2_words.specs.Seats.{Home, view_of}
 use Rattle.dstm_tl2_steps.proofs.Slots.{read_of-slots}
 use Rattle.dstm_tl2_steps.specs.Opened.{OpenedAs, read_slot, slots_value}
-use Rattle.dstm_tl2_order.specs.Order.Due.{Done, LookAt}
+use Rattle.dstm_tl2_order.specs.Order.Due.{Done}
 use Rattle.dstm_tl2_steps.specs.Reads.{AtRest, slot_read}
 use Rattle.dstm_tl2_order.specs.Tasks.Task.{Doing}
 use Rattle.dstm_tl2_order.specs.Tasks.Work.{Opening}
@@ -33,7 +33,7 @@ use Rattle.dstm_tl2_engine.proofs.CallKinds.{is_look, opening_looks}
 use Rattle.dstm_tl2_engine.proofs.Calling.{begun_as}
 use Rattle.dstm_tl2_order.proofs.Causing.{causes_of}
 use Rattle.dstm_tl2_engine.proofs.Others.{others_of}
-use Rattle.dstm_tl2_engine.proofs.Tying.{ends_here, kept, now_there, performs_then, starts_there, state_then}
+use Rattle.dstm_tl2_engine.proofs.Tying.{ends_here, kept, now_there, performs_then, state_then}
 use Rattle.dstm_tl2_engine.specs.Attempts.{Admits, Seen}
 use Rattle.dstm_tl2_engine.specs.Began.{began_of}
 use Rattle.dstm_tl2_engine.specs.Callers.{TlCalled, handed, held, is_live, objects_of, start_of, state, table_of_caller, written}
@@ -539,19 +539,8 @@ module _ {L : Type 0} {holds : L → List Val → Type 0} {c : Inside L} {k : Tl
     unheld : held (called c) o ≡ None
     unheld = ap (λ (k : TlCalled L). held k o) at.view ∙ at.unread
 
-    pub read_under : Under holds home (begun_as home (Doing (Opening o)) c.steps) c.steps (LookAt o) None
-    read_under = starts_there at.tied at.same (Doing (Opening o))
-
-    pub read_at_rest : AtRest (now home c.steps)
-    read_at_rest = subst (λ (l : LocalState). AtRest l) (sym here) at_rest
-
     pub read_unread : read_of o (now home c.steps).reads ≡ None
     read_unread = ap (λ (l : LocalState). read_of o l.reads) here ∙ unheld_unread (state (called c)).reads o unheld
-
-    pub slot_exists : (p : ℕ) → p ≡ o → o < objects_of k → p < c.opened.objects
-    slot_exists p q below =
-        subst (λ n. n < c.opened.objects) (sym q)
-        (subst (λ n. o < n) (sym at.tied.objects) (subst (λ (k : TlCalled L). o < objects_of k) (sym at.view) below))
 
     pub slot_unread : (p : ℕ) → p ≡ o → read_slot c.opened.reads p ≡ None
     slot_unread p q = ap (read_slot c.opened.reads) q ∙ unheld_slot at.tied o unheld

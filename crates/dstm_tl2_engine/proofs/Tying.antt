@@ -1,6 +1,6 @@
 -- A caller whose fields stand for what contracts see of it, before and after a call.
 use Rattle.std.proofs.Common.{◌<◌, ◌∙◌, ◌≡◌, List, [], ap, refl, subst, sym}
-use Rattle.std.specs.Prelude.{None, Option, Some, is_some}
+use Rattle.std.specs.Prelude.{Option, Some, is_some}
 use Rattle.dstm_model.specs.declared.value.Val.{Val}
 use Rattle.dstm_tl2.specs.Runs.{local}
 use Rattle.dstm_tl2.specs.Sharing.{IsRunOf, table_of}
@@ -8,13 +8,13 @@ use Rattle.dstm_tl2.specs.State.{LocalState}
 use Rattle.dstm_tl2_words.specs.Seats.{Home, View, caller_state, view_of}
 use Rattle.dstm_tl2_steps.proofs.Bounds.{number_now}
 use Rattle.dstm_tl2_steps.specs.Opened.{OpenedAs}
-use Rattle.dstm_tl2_order.specs.Order.{Due, due}
+use Rattle.dstm_tl2_order.specs.Order.{Due}
 use Rattle.dstm_tl2_order.specs.Order.Due.{Done}
 use Rattle.dstm_tl2_order.specs.Tasks.{Task}
 use Rattle.dstm_tl2_steps.specs.Under.{Under, now}
 use Rattle.dstm_tl2_order.specs.declared.again.TlAgain.{TlAgain}
 use Rattle.dstm_tl2_steps.specs.declared.steps.Steps.{Steps}
-use Rattle.dstm_tl2_engine.proofs.Calling.{StepsOf, began_is, begun_as, now_is, performs, starts}
+use Rattle.dstm_tl2_engine.proofs.Calling.{StepsOf, began_is, begun_as, now_is, performs}
 use Rattle.dstm_tl2_engine.proofs.Seeing.{seen_now}
 use Rattle.dstm_tl2_engine.specs.Attempts.{Seen}
 use Rattle.dstm_tl2_engine.specs.Began.{began_of}
@@ -40,14 +40,6 @@ module _ {L : Type 0} {holds : L → List Val → Type 0} {c : Inside L} (v : Ti
     -- the state that they know
     pub now_there : now home c.steps ≡ state (called c)
     now_there = subst (λ (h : Home L). now h c.steps ≡ state (called c)) same (now_is holds (called c) steps_of)
-
-    -- a call begins
-    pub starts_there : (task : Task) →
-        Under holds home (begun_as home task c.steps) c.steps
-        (due task (table_of home.terms) None (now home c.steps)) None
-    starts_there task =
-        subst (λ (h : Home L). Under holds h (begun_as h task c.steps) c.steps
-        (due task (table_of h.terms) None (now h c.steps)) None) same (starts holds (called c) task steps_of)
 
     -- and ends
     pub ends_here : (task : Task) {new : Steps L} {d : Due} {again : Option TlAgain} →

@@ -1,5 +1,5 @@
 -- A step of a call that is due goes on with it; how a call begins, and what it is once it has ended.
-use Rattle.std.proofs.Common.{◌≡◌, ◌≢◌, ℕ, ◌+◌, ◌<◌, ◌∙◌, List, [], ◌∷◌, ◌++◌, ◌==◌, true, false, Some, None, is_some, length, refl, sym, ap, subst}
+use Rattle.std.proofs.Common.{◌≡◌, ◌≢◌, ℕ, ◌+◌, ◌<◌, ◌∙◌, List, ◌∷◌, ◌++◌, ◌==◌, true, false, Some, None, is_some, length, refl, sym, ap, subst}
 use Rattle.std.proofs.lemmas.Bool.{cond_both}
 use Rattle.std.specs.Prelude.{Option, IfSome}
 use Rattle.dstm_model.specs.declared.value.Val.{Val}
@@ -164,27 +164,4 @@ began_as home task number steps = record {
   number = number;
   state = now home steps;
   log = (view_of steps.seat).log;
-}
-
--- A CALL BEGINS: its first event is due.
-pub call_begins : {L : Type 0} {holds : L → List Val → Type 0} (home : Home L) (task : Task) (number : ℕ)
-    (steps : Steps L) → IsOf home steps.seat →
-    view_of steps.seat ≡ caller_view home.terms number (view_of steps.seat).log → number < home.terms.callers →
-    IsRunOf holds home.terms (view_of steps.seat).log → steps.places ≡ objects (table_of home.terms) →
-    steps.sample ≡ (now home steps).sample → Under holds home (began_as home task number steps) steps
-    (due task (table_of home.terms) None (now home steps)) None
-call_begins home task number steps seat view caller run places sample = record {
-  seat = seat;
-  view = view;
-  caller = caller;
-  run = run;
-  seen = record { later = []; whole = refl };
-  places = places;
-  sample = sample;
-  events = [];
-  own = refl;
-  state = refl;
-  obeys = tt;
-  due = refl;
-  gives = refl;
 }
