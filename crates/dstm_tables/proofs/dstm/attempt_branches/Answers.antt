@@ -39,20 +39,20 @@ ran : (c : After-caller-in-Ran-1) → Tried keeps c.args.caller.now c.in-Ok.tx.c
     c.commit.new.self.0 c.caller-in-Ran-1.given.0
 ran c =
     tried keeps c.args.caller.now c.in-Ok.tx.caller.now c.run.new.tx.caller.now _ _ _ _ c.in-Ok.ensures.begins
-    c.in-Ok-run.ensures.leads.place _ c.commit.new.self.0 _ c.in-Ok.ensures.same (assumption c)
+    c.in-Ok-run.ensures.leads.place c.commit.new.self.0 _ c.in-Ok.ensures.same (assumption c)
 
 stood : (c : After-caller-in-Blocked-1) → Tried keeps c.args.caller.now c.in-Ok.tx.caller.now
     c.recheck_often-rechecked.new.tx.caller.now c.abandon.new.self.0 c.caller-in-Blocked-1.given.0
 stood c =
     tried keeps c.args.caller.now c.in-Ok.tx.caller.now c.recheck_often-rechecked.new.tx.caller.now _ _ _ _
-    c.in-Ok.ensures.begins (c.recheck_often-rechecked.ensures.place ∙ c.in-Ok-run.ensures.leads.place) _
+    c.in-Ok.ensures.begins (c.recheck_often-rechecked.ensures.place ∙ c.in-Ok-run.ensures.leads.place)
     c.abandon.new.self.0 _ c.in-Ok.ensures.same (assumption c)
 
 dropped : (c : After-caller-in-Err-run-1) → Tried keeps c.args.caller.now c.in-Ok.tx.caller.now
     c.run.new.tx.caller.now c.abandon-in-Err-run.new.self.0 c.caller-in-Err-run-1.given.0
 dropped c =
     tried keeps c.args.caller.now c.in-Ok.tx.caller.now c.run.new.tx.caller.now _ _ _ _ c.in-Ok.ensures.begins
-    c.in-Err-run.ensures.leads.place _ c.abandon-in-Err-run.new.self.0 _ c.in-Ok.ensures.same (assumption c)
+    c.in-Err-run.ensures.leads.place c.abandon-in-Err-run.new.self.0 _ c.in-Ok.ensures.same (assumption c)
 
 -- what the body's outcome is right for
 right : (c : In-Ok-run) (is : Outcome) → c.run.new.body.outcome ≡ is → (map : List Val) →
@@ -167,19 +167,17 @@ returns-in-Err-clause-keeps c =
 
 pub returns-in-Ok-commit-clause-keeps : goal.returns-in-Ok-commit-clause-keeps
 returns-in-Ok-commit-clause-keeps c =
-    keeps_reads keeps (ran (goal.at.returns-in-Ok-commit-clause-keeps c).After-caller-in-Ran-1)
-    (Doing (Committing (new_value c.run.new.tx.caller.now))) None c.in-Ok-run.ensures.kept tt
+    keeps_reads (ran (goal.at.returns-in-Ok-commit-clause-keeps c).After-caller-in-Ran-1) c.in-Ok-run.ensures.kept tt
     c.in-Ok-commit.ensures.stays.steps
 
 pub returns-in-Err-commit-clause-keeps : goal.returns-in-Err-commit-clause-keeps
 returns-in-Err-commit-clause-keeps c =
-    keeps_reads keeps (ran (goal.at.returns-in-Err-commit-clause-keeps c).After-caller-in-Ran-1)
-    (Doing (Committing (new_value c.run.new.tx.caller.now))) (Some c.in-Err-commit.field-0) c.in-Ok-run.ensures.kept tt
+    keeps_reads (ran (goal.at.returns-in-Err-commit-clause-keeps c).After-caller-in-Ran-1) c.in-Ok-run.ensures.kept tt
     c.in-Err-commit.ensures.leaves.steps
 
 stood_keeping : (c : After-caller-in-Blocked-1) → let_go c.caller-in-Blocked-1.given.0 ≡ let_go c.args.caller.now
 stood_keeping c =
-    keeps_reads keeps (stood c) Leaving None (c.recheck_often-rechecked.ensures.kept ∙ c.in-Ok-run.ensures.kept) tt
+    keeps_reads (stood c) (c.recheck_often-rechecked.ensures.kept ∙ c.in-Ok-run.ensures.kept) tt
     c.abandon.ensures.steps
 
 pub returns-in-Ok-rechecked-clause-keeps : goal.returns-in-Ok-rechecked-clause-keeps
@@ -192,5 +190,5 @@ returns-in-Err-rechecked-clause-keeps c =
 
 pub returns-in-Err-run-clause-keeps : goal.returns-in-Err-run-clause-keeps
 returns-in-Err-run-clause-keeps c =
-    keeps_reads keeps (dropped (goal.at.returns-in-Err-run-clause-keeps c).After-caller-in-Err-run-1) Leaving None
+    keeps_reads (dropped (goal.at.returns-in-Err-run-clause-keeps c).After-caller-in-Err-run-1)
     c.in-Err-run.ensures.kept tt c.abandon-in-Err-run.ensures.steps

@@ -28,7 +28,7 @@ ended : (c : After-caller-2-1) → Tried keeps c.args.caller.now c.in-Ok.tx.call
 ended c =
     let r = c.in-Ok.tx.caller.ghost_name in
     let h = c.in-Ok.tx.stm.now in
-    tried keeps c.args.caller.now c.in-Ok.tx.caller.now c.in-Ok.tx.caller.now r r h h c.in-Ok.ensures.begins refl _
+    tried keeps c.args.caller.now c.in-Ok.tx.caller.now c.in-Ok.tx.caller.now r r h h c.in-Ok.ensures.begins refl
     c.commit.new.self.0 _ c.in-Ok.ensures.same (assumption c)
 
 pub returns-clause-given_up : goal.returns-clause-given_up
@@ -47,5 +47,4 @@ returns-in-Err-clause-keeps c =
 
 pub returns-clause-keeps : goal.returns-clause-keeps
 returns-clause-keeps c =
-    keeps_reads keeps (ended (goal.at.returns-clause-keeps c).After-caller-2-1)
-    (Doing (Committing (new_value c.in-Ok.tx.caller.now))) None refl tt c.in-Ok-commit.ensures.stays.steps
+    keeps_reads (ended (goal.at.returns-clause-keeps c).After-caller-2-1) refl tt c.in-Ok-commit.ensures.stays.steps
