@@ -1,17 +1,18 @@
 -- What follows for a run from its seats, and from why it failed.
-use Rattle.std.proofs.Common.{◌≡◌, ◌∙◌, ◌∷◌, [], ◌++◌, ◌<◌, ℕ, List, Ok, Err, ap, arith, drop, length, subst, sym, take, ⊎_elim}
-use Rattle.std.specs.Prelude.{All, IfErr, Result, slice_index_or}
+use Rattle.std.proofs.Common.{◌≡◌, ◌∙◌, ◌∷◌, [], ◌++◌, ◌<◌, ℕ, List, Ok, Err, ap, arith, drop, length, subst, sym, take, inl, inr, ⊎_elim}
+use Rattle.std.specs.Prelude.{◌⊎◌, All, IfErr, Result, slice_index_or}
 use Rattle.std.proofs.lemmas.Bool.{cases_lt}
 use Rattle.std.proofs.lemmas.Grind.{common_steps}
 use Rattle.std.proofs.lemmas.List.{get_or_push, length_push}
 use Rattle.std.proofs.Math.ListN.{get_or-append}
 use Rattle.dstm_cells.specs.declared.error.Failed.{Failed}
+use Rattle.dstm_cells.specs.declared.error.Failed.TheVariants as failed
 use Rattle.dstm_cells.specs.declared.memory.Seat.{Seat}
 use Rattle.dstm_model.specs.declared.value.Val.{Val}
 use Rattle.dstm_words.specs.Seats.{Home}
 use Rattle.dstm_engine.specs.Tables.{Founding}
-use Rattle.dstm_cells.specs.Cells.{Founds, Takes}
-use Rattle.dstm_cells.specs.Runs.{End, FailsFor, IsFirst, LeavesBy, Ran}
+use Rattle.dstm_cells.specs.Cells.{Founds}
+use Rattle.dstm_cells.specs.Runs.{End, FailsFor, IsFirst, LeavesBy, OnItsTable}
 
 -- a vector that was lent as a slice has what was left there, in the same number
 pub lent_back : {X : Type 0} (n count : ℕ) (old new whole : List X) → n ≡ length old → length new ≡ length old →
@@ -56,10 +57,10 @@ module _ {L : Type 0} (seats : List (Seat L)) where
     all_ended well number below = subst (ended number) (well number other (omega (arith, same.1, below))) (at_seat number below)
 
     -- and that is how the first one ended of which they do not
-    pub first_ended : (why : Failed) → IsFirst seats why → FailsFor ended threads why
-    first_ended why it =
+    pub first_ended : (unread : Type 0) (why : Failed) → IsFirst seats why → FailsFor ended unread threads why
+    first_ended unread why it =
         let first = it.first in
-        subst (FailsFor ended threads) (sym it.is) (record {
+        subst (FailsFor ended unread threads) (sym it.is) (record {
           number = first.number;
           below = omega (arith, same.1, first.below);
           ends = subst (ended first.number) (first.ends other) (at_seat first.number (omega (arith, same.1, first.below)));
@@ -68,12 +69,19 @@ module _ {L : Type 0} (seats : List (Seat L)) where
               (at_seat earlier (omega (arith, same.1, less, first.below)));
         })
 
--- what a run has left whose values were taken by a part of its own
-pub has_run : {L : Type 0} (holds : L → List Val → Type 0) (rule : L) (before after : List Val) (home : Home L)
-    (f g : Founding L) → Founds rule before home f → Takes holds f g after → Ran holds rule before after
-has_run holds rule before after home f g founds takes = record {
+-- what has become of the table of a run
+pub on_its_table : {L : Type 0} (holds : L → List Val → Type 0) (rule : L) (before : List Val) (home : Home L)
+    (f g : Founding L) {ended : Founding L → Founding L → Type 0} → Founds rule before home f → ended f g →
+    OnItsTable holds rule before ended
+on_its_table holds rule before home f g {ended} founds ends = record {
   home = home;
   starts = founds.starts;
   left = g;
-  takes = subst (λ (x : Founding _). Takes holds x g after) founds.founder takes;
+  ends = subst (λ new. ended new g) founds.founder ends;
 }
+
+-- why a run failed whose values were not taken
+pub untaken : (ended : ℕ → End → Type 0) (unread : Type 0) (threads : ℕ) (why : Failed) →
+    (why ≡ failed.Memory) ⊎ (why ≡ failed.Unread) → (why ≡ failed.Unread → unread) → FailsFor ended unread threads why
+untaken ended unread threads why (inl memory) shown = subst (FailsFor ended unread threads) (sym memory) tt
+untaken ended unread threads why (inr is) shown = subst (FailsFor ended unread threads) (sym is) (shown is)

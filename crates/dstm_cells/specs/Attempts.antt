@@ -10,12 +10,18 @@ use Rattle.dstm_cells.specs.declared.error.GaveUp.TheVariants.{Idle}
 use Rattle.dstm_cells.specs.declared.error.GaveUp.TheVariants as gave_up
 use Rattle.dstm_cells.specs.declared.error.Stop.{Stop}
 use Rattle.dstm_cells.specs.declared.error.Stop.TheVariants.{Again, Retry, Foreign, Memory}
-use Rattle.dstm_cells.specs.UnderWay.{IsOver, Keeps}
+use Rattle.dstm_cells.specs.UnderWay.{AddsNothing, IsOver, Keeps}
 
 module _ {L : Type 0} where
   -- the caller has no attempt left, or no locator
   abbrev pub IsSpent : Called L → Type 0
   IsSpent k = is_spent (shape_of k) (state k) ≡ true
+
+  -- WHY A CALLER COULD NOT READ ALL OBJECTS TOGETHER: it has no attempt left, or no locator; or it has begun so many attempts
+  -- more, and none of them has committed
+  pub record CouldNotRead (attempts : ℕ) (old new : Called L) : Type 0 where
+    pub nothing : AddsNothing old new
+    pub why : IsSpent new ⊎ ((state new).begun ≡ (state old).begun + attempts)
 
   -- all that the attempt had read was seen to be current so many times
   pub record WaitedInVain (most : ℕ) (old : Called L) : Type 0 where

@@ -5,6 +5,7 @@ use Rattle.dstm_words.specs.Seats.{Home}
 use Rattle.dstm_engine.specs.Attempts.{Settles}
 use Rattle.dstm_engine.specs.Callers.{Called}
 use Rattle.dstm_engine.specs.Tables.{Enrols, Founding, founded}
+use Rattle.dstm_cells.specs.Attempts.{CouldNotRead}
 
 -- a cell was added to the values of those before, and holds this, by what two words stand for
 pub record Adds {T : Type 0} (found : Val → T) (old new : List Val) (cell : ℕ) (value : T) : Type 0 where
@@ -46,3 +47,10 @@ module _ {L : Type 0} (holds : L → List Val → Type 0) where
     pub caller : Called L
     pub enrols : Enrols holds f g 0 caller
     pub reads : ReadsAll caller values
+
+  -- they could not be read by a new caller of a table, in 64 attempts
+  pub record LeavesUnread (f g : Founding L) : Type 0 where
+    pub caller : Called L
+    pub enrols : Enrols holds f g 0 caller
+    pub after : Called L
+    pub unread : CouldNotRead 64 caller after

@@ -12,7 +12,7 @@ use Rattle.dstm_cells.specs.declared.error.GaveUp.{GaveUp}
 use Rattle.dstm_cells.specs.declared.memory.Seat.{Seat}
 use Rattle.dstm_cells.specs.declared.thread.Part.{Part}
 use Rattle.dstm_cells.specs.declared.under_way.Tx.{Tx}
-use Rattle.dstm_cells.specs.Cells.{Starts, Takes}
+use Rattle.dstm_cells.specs.Cells.{LeavesUnread, Starts, Takes}
 
 -- how a thread ended
 abbrev pub End : Type 0
@@ -25,14 +25,14 @@ pub record FirstEnded (ended : ℕ → End → Type 0) (threads : ℕ) (why : Ga
   pub ends : ended number (Err why)
   pub before : (earlier : ℕ) → earlier < number → ended earlier (Ok tt)
 
--- WHY A RUN FAILED: the end of the first thread that did not end well; or it is the memory's own failure, and where it is
--- the number of threads, there are none, or more than 63
-abbrev pub FailsFor : (ended : ℕ → End → Type 0) (threads : ℕ) → Failed → Type 0
-FailsFor ended threads failed.Full = ⊥
-FailsFor ended threads failed.Memory = Unit {0}
-FailsFor ended threads failed.Threads = (threads ≡ 0) ⊎ (63 < threads)
-FailsFor ended threads (failed.GaveUp why) = FirstEnded ended threads why
-FailsFor ended threads failed.Unread = Unit {0}
+-- WHY A RUN FAILED: the end of the first thread that did not end well; or it is the memory's own failure: where it is the
+-- number of threads, there are none, or more than 63, and where the values were not read, that is so
+abbrev pub FailsFor : (ended : ℕ → End → Type 0) (unread : Type 0) (threads : ℕ) → Failed → Type 0
+FailsFor ended unread threads failed.Full = ⊥
+FailsFor ended unread threads failed.Memory = Unit {0}
+FailsFor ended unread threads failed.Threads = (threads ≡ 0) ⊎ (63 < threads)
+FailsFor ended unread threads (failed.GaveUp why) = FirstEnded ended threads why
+FailsFor ended unread threads failed.Unread = unread
 
 -- what a run leaves: the first, but the second where the failure is the memory's own
 abbrev pub LeavesBy : (ran same : Type 0) → Result (Unit {0}) Failed → Type 0
@@ -61,13 +61,21 @@ module _ {L : Type 0} where
         (number : ℕ) (other : Seat L) → number < length seats →
         IsNew holds table number (slice_index_or seats number other).me.tx.caller
 
-    -- WHAT A RUN HAS LEFT: these values, that the objects of its table had together at the place of a last transaction;
-    -- the table was made of the values before
-    pub record Ran (rule : L) (before after : List Val) : Type 0 where
+    -- of a table that was made of these values this holds: of its founder, with nobody on it yet, and of what became of it
+    pub record OnItsTable (rule : L) (before : List Val) (ended : Founding L → Founding L → Type 0) : Type 0 where
       pub home : Home L
       pub starts : Starts rule before home
       pub left : Founding L
-      pub takes : Takes holds (founded home) left after
+      pub ends : ended (founded home) left
+
+    -- WHAT A RUN HAS LEFT: these values, that the objects of its table had together at the place of a last transaction;
+    -- the table was made of the values before
+    abbrev pub Ran : L → (before after : List Val) → Type 0
+    Ran rule before after = OnItsTable rule before (λ new left. Takes holds new left after)
+
+    -- A RUN WAS UNREAD: a last caller of its table, which was made of the values before, could not read all objects
+    abbrev pub WasUnread : L → (before : List Val) → Type 0
+    WasUnread rule before = OnItsTable rule before (LeavesUnread holds)
 
 module _ {S F R : Type 0} (g : Shared F (MutBor S × (ℕ × Unit {0})) (R × (MutBor S × Unit {0}))) (f : F) where
   -- a call of a closure on a thread's part, with its number, answered this, and left that

@@ -1,7 +1,8 @@
 // Cells, and threads that change them.
 ghost use Rattle.std.specs.Prelude.{◌≡◌, ◌⊎◌, ◌↔◌, ◌+◌, ◌<◌, ◌≤◌, ℕ, [], length, All, Ok, Err, IfErr, IfOk, OnOk};
-ghost use Rattle.dstm_cells.specs.Cells.{Adds, Founds, IsFor, ReadsAll, Takes};
-ghost use Rattle.dstm_cells.specs.Runs.{CalledFor, FailsFor, HaveNew, IsCalled, IsFirst, LeavesBy, Ran};
+ghost use Rattle.dstm_cells.specs.Attempts.{CouldNotRead};
+ghost use Rattle.dstm_cells.specs.Cells.{Adds, Founds, IsFor, LeavesUnread, ReadsAll, Takes};
+ghost use Rattle.dstm_cells.specs.Runs.{CalledFor, FailsFor, HaveNew, IsCalled, IsFirst, LeavesBy, Ran, WasUnread};
 ghost use Rattle.dstm_cells.specs.declared.error.Failed.TheVariants as failed;
 ghost use Rattle.dstm_core.specs.declared.shape.Manager.TheVariants.{Polka};
 ghost use Rattle.dstm_core.specs.Histories.{history_of};
@@ -166,6 +167,7 @@ impl<L: Law + Copy> Memory<L> {
         ensures full { result ≡ Err failed.Threads ↔ founder.old.made ≡ founder.old.home.terms.shape.callers }
         ensures fails { IfErr result (λ why. (self.new ≡ self.old)
             × ((why ≡ failed.Threads) ⊎ (why ≡ failed.Memory) ⊎ (why ≡ failed.Unread))) }
+        ensures unread { result ≡ Err failed.Unread → LeavesUnread L.holds founder.old founder.new }
     {
         let mut last = self.part(stm, founder, 0)?;
         self.take_by(&mut last)
@@ -181,6 +183,7 @@ impl<L: Law + Copy> Memory<L> {
         ensures size { length self.new.values.items ≡ length self.old.values.items }
         ensures reads { OnOk result (ReadsAll L.holds last.old.tx.caller self.new.values.items) }
         ensures fails { IfErr result (λ why. (self.new ≡ self.old) × ((why ≡ failed.Memory) ⊎ (why ≡ failed.Unread))) }
+        ensures unread { result ≡ Err failed.Unread → CouldNotRead 64 last.old.tx.caller last.new.tx.caller }
     {
         self.values = last.tx.values(self.alloc, self.values.len() as u32)?;
         Ok(())
@@ -257,7 +260,8 @@ impl<L: Law + Copy + Sync> Memory<L> {
         ensures threads { OnOk result ((1 ≤ threads) × (threads ≤ 63)) }
         ensures refused { (threads ≡ 0) ⊎ (63 < threads) → (result ≡ Err failed.Threads) × (self.new ≡ self.old) }
         ensures ended { OnOk result ((number : ℕ) → number < threads → W.ends work.now number (Ok tt)) }
-        ensures fails { IfErr result (FailsFor (W.ends work.now) threads) }
+        ensures fails { IfErr result (FailsFor (W.ends work.now)
+            (WasUnread L.holds self.old.law self.old.values.items) threads) }
         ensures left { LeavesBy (Ran L.holds self.old.law self.old.values.items self.new.values.items) (self.new ≡ self.old) result }
     {
         let (stm, mut founder) = self.found(threads)?;
@@ -290,7 +294,8 @@ impl Memory {
         ensures called { OnOk result ((number : ℕ) → number < threads
             → CalledFor ⟦<AnyLaw as Law>⟧.holds F.Fn f self.old.law self.old.values.items number (Ok tt)) }
         ensures fails { IfErr result (FailsFor
-            (CalledFor ⟦<AnyLaw as Law>⟧.holds F.Fn f self.old.law self.old.values.items) threads) }
+            (CalledFor ⟦<AnyLaw as Law>⟧.holds F.Fn f self.old.law self.old.values.items)
+            (WasUnread ⟦<AnyLaw as Law>⟧.holds self.old.law self.old.values.items) threads) }
         ensures left { LeavesBy (Ran ⟦<AnyLaw as Law>⟧.holds self.old.law self.old.values.items self.new.values.items)
             (self.new ≡ self.old) result }
     {

@@ -5,7 +5,7 @@ ghost use Rattle.dstm_engine.specs.Callers.{is_live, law_of, shape_of};
 ghost use Rattle.dstm_engine.specs.Transactions.{BeginsAnew};
 ghost use Rattle.dstm_order.specs.Tasks.Work.{Rechecking};
 ghost use Rattle.dstm_cells.specs.Alternatives.{Notes, NotesOnce, OrElse, noting, settings};
-ghost use Rattle.dstm_cells.specs.Attempts.{Follows, WasWoken};
+ghost use Rattle.dstm_cells.specs.Attempts.{CouldNotRead, Follows, WasWoken};
 ghost use Rattle.dstm_cells.specs.Cells.{ReadsAll};
 ghost use Rattle.dstm_cells.specs.Closures.{KeepsOnce};
 ghost use Rattle.dstm_cells.specs.UnderWay.{AddsNothing, Changes, Exchanges, Finds, Gets, IsOver, IsUntouched, Keeps, LeavesLawful, MayBegin, MayNotOpen, Refuses, StopsChange, StopsLook, TakesEffect, seen};
@@ -208,22 +208,23 @@ impl<'a, L: Law> Tx<'a, L> {
         ensures lawful { IfOk result (λ values. L.holds (law_of self.old.caller) values.items) }
         ensures reads { IfOk result (λ values. ReadsAll L.holds self.old.caller values.items) }
         ensures fails { IfErr result (λ why. (why ≡ failed.Memory) ⊎ (why ≡ failed.Unread)) }
+        ensures unread { result ≡ Err failed.Unread → CouldNotRead 64 self.old.caller self.new.caller }
     {
-        for _ in 0..READINGS {
-            if self.begin().is_err() {
+        for _reading in 0..READINGS {
+            let Ok(()) = self.begin() else {
                 return Err(Failed::Unread);
-            }
+            };
             match self.all(alloc, objects) {
                 Ok(values) => {
                     if self.commit() {
                         return Ok(values);
                     }
                 }
-                Err(stop) => match self.leave(stop) {
-                    Ok(()) => {}
-                    Err(GaveUp::Memory) => return Err(Failed::Memory),
-                    Err(_) => return Err(Failed::Unread),
-                },
+                Err(stop) => {
+                    if self.leave(stop).is_err() {
+                        return Err(Failed::Memory);
+                    }
+                }
             }
         }
         Err(Failed::Unread)

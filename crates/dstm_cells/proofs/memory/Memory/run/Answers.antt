@@ -1,4 +1,4 @@
-use Rattle.std.proofs.Common.{◌≡◌, ◌∙◌, ◌<◌, ℕ, List, Ok, ap, arith, length, rules, subst, sym}
+use Rattle.std.proofs.Common.{◌≡◌, ◌∙◌, ◌<◌, ℕ, List, Err, Ok, ap, arith, length, rules, subst, sym}
 use Rattle.std.specs.Prelude.{slice_index_or}
 use denote.Param.Send.{sendable}
 use Rattle.std.proofs.Crossing.{crosses}
@@ -6,9 +6,10 @@ use Rattle.std.proofs.lemmas.Result.{MatchResult-weaker, on_ok_weaker}
 use Rattle.dstm_model.proofs.value.AnyLaw.TheSendSync as AnyLaw
 use Rattle.dstm_model.specs.contracts.value.AnyLawLaw.TheImpl as TheLaw
 use Rattle.dstm_engine.specs.Companies.{IsNew}
-use Rattle.dstm_cells.specs.Runs.{CalledFor, End}
+use Rattle.dstm_cells.specs.Runs.{CalledFor, End, FailsFor}
 use Rattle.dstm_cells.specs.declared.memory.Seat.{Seat}
-use Rattle.dstm_cells.proofs.Running.{all_ended, first_ended, has_run, lent_back, ran_leaves}
+use Rattle.dstm_cells.proofs.Calling.{is_err}
+use Rattle.dstm_cells.proofs.Running.{all_ended, first_ended, lent_back, on_its_table, ran_leaves, untaken}
 use Rattle.dstm_cells.proofs.Sends.{seat_send}
 use Rattle.dstm_cells.proofs.memory.Memory.run.Given.{Over}
 use Rattle.dstm_cells.proofs.memory.Memory.run.Goals.{After-how_all_ended}
@@ -62,14 +63,27 @@ returns-clause-fails g c =
     let other : Seat _ = record { me = c.in_ok-last.last; ended = Ok tt } in
     MatchResult-weaker c.how_all_ended.result c.how_all_ended.ensures.first (λ x t. t)
     (first_ended c.deref.result.now c.for_each_mut.new.s c.args.threads (seats_left g at)
-    (called g at) other (ended g at other))
+    (called g at) other (ended g at other) _)
 
 pub returns-clause-left : goal.returns-clause-left
 returns-clause-left g c =
     ran_leaves c.deref.result.now _ _ c.how_all_ended.result c.how_all_ended.ensures.first
-    (has_run TheLaw.holds-value.it c.args.self.now.law c.args.self.now.values.items c.take_by.new.self.values.items
-    c.in_ok-stm.stm c.in_ok-stm.founder c.part.new.founder c.in_ok-stm.ensures.founds (record {
+    (on_its_table TheLaw.holds-value.it c.args.self.now.law c.args.self.now.values.items c.in_ok-stm.stm
+    c.in_ok-stm.founder c.part.new.founder c.in_ok-stm.ensures.founds (record {
       caller = c.in_ok-last.last.tx.caller;
       enrols = c.in_ok-last.ensures.enrols;
       reads = c.in_ok-take_by.ensures.reads;
     }))
+
+pub returns-in_err-take_by-clause-fails : goal.returns-in_err-take_by-clause-fails
+returns-in_err-take_by-clause-fails g c =
+    let why = c.in_err-take_by.field-0.0 in
+    is_err c.from_residual-in_err-take_by.result why (FailsFor _ _ c.args.threads) c.from_residual-in_err-take_by.ensures.1
+    (untaken _ _ c.args.threads why c.in_err-take_by.ensures.fails.1 (λ unread.
+    on_its_table TheLaw.holds-value.it c.args.self.now.law c.args.self.now.values.items c.in_ok-stm.stm c.in_ok-stm.founder
+    c.part.new.founder c.in_ok-stm.ensures.founds (record {
+      caller = c.in_ok-last.last.tx.caller;
+      enrols = c.in_ok-last.ensures.enrols;
+      after = c.take_by.new.last.tx.caller;
+      unread = c.in_err-take_by.ensures.unread (ap Err unread);
+    })))

@@ -8,3 +8,11 @@ returns-clause-takes g c =
     (λ (reads : ReadsAll g.L.Law.holds c.in_ok-last.last.tx.caller c.take_by.new.self.values.items).
     record { caller = c.in_ok-last.last.tx.caller; enrols = c.in_ok-last.ensures.enrols; reads = reads })
     c.take_by.ensures.reads
+
+pub returns-clause-unread : goal.returns-clause-unread
+returns-clause-unread g c failed = record {
+  caller = c.in_ok-last.last.tx.caller;
+  enrols = c.in_ok-last.ensures.enrols;
+  after = c.take_by.new.last.tx.caller;
+  unread = c.take_by.ensures.unread failed;
+}
