@@ -1,23 +1,10 @@
 -- A table's only caller never finds a word that ends its attempt.
-use Rattle.std.proofs.Common.{◌≡◌, ◌≢◌, ◌==◌, ◌<◌, ◌≤◌, ◌*◌, ◌⊎◌, ◌∷◌, ◌∙◌, ℕ, zero, suc, inl, inr, List, [], refl, ap, arith, sym, subst, true, false, Bool, Option, Some, None, is_some, length, take, slice_get}
+use Rattle.std.proofs.Common.{◌≡◌, ◌≢◌, ◌==◌, ◌<◌, ◌≤◌, ◌*◌, ◌⊎◌, ◌∷◌, ◌∙◌, ℕ, zero, suc, inl, inr, List, [], refl, ap, arith, sym, subst, true, false, Bool, Option, Some, None, is_some, length, take, slice_get, not}
 use Rattle.std.specs.List.{Contains}
-use Rattle.std.specs.Prelude.{is_none, not, slice_index_or}
-use Rattle.std.proofs.lemmas.Bool.{cases_eq, cond_both, eq-eqb, ne_eqb}
-use Rattle.std.proofs.lemmas.Bool.Decides.{nat_tests}
+use Rattle.std.specs.Prelude.{is_none, slice_index_or}
+use Rattle.dstm_tl2.proofs.Base.{AllowedAs, Check, Draw, Event, Fits, Hold, IsTold, IsUnnamed, Kind, LocalState, Lock, LockWord, Look, LookAgain, LookHigh, LookLock, LookLow, NamesOnce, Read, Run, Sample, Table, Unlock, Val, WriteHigh, WriteLow, after, at, cases_eq, cond_both, eq-eqb, fails, first, high_object, hold_of, initial, is_draw, is_readable, local, lock, look_of, low_object, marked, nat_tests, ne_eqb, new_hold, next_check, next_write, no_write, objects, or_look, or_read, or_value, or_writes, read_of, record_read, recorded, tl2, to_check, will_of, with_high, with_low, without, word, write_of, writes_of}
 use Rattle.std.proofs.lemmas.List.Elements.{All-contains, All-contains_itself, All-filter, Contains-append_right, Contains-push_cases, filter_passes}
-use Rattle.dstm_model.specs.declared.value.Val.{Val}
-use Rattle.dstm_model.specs.Map.{IsUnnamed, NamesOnce}
-use Rattle.dstm_machines.specs.Traces.{at}
 use Rattle.dstm_machines.proofs.Runs as runs
-use Rattle.dstm_tl2.specs.declared.kind.Kind.{Kind}
-use Rattle.dstm_tl2.specs.declared.kind.Kind.TheVariants.{Sample, LookLock, LookLow, LookHigh, LookAgain, Lock, Draw, Check, WriteLow, WriteHigh, Unlock}
-use Rattle.dstm_tl2.specs.Failing.{fails, is_readable}
-use Rattle.dstm_tl2.specs.Histories.{is_draw, will_of, writes_of}
-use Rattle.dstm_tl2.specs.Rules.{AllowedAs, Event, IsTold, after, high_object, lock, low_object, new_hold, record_read}
-use Rattle.dstm_tl2.specs.Runs.{Fits, Run, local, tl2, word}
-use Rattle.dstm_tl2.specs.State.{Hold, LocalState, Look, Read, first, hold_of, look_of, marked, next_check, next_write, no_write, or_look, or_read, or_value, or_writes, read_of, recorded, to_check, with_high, with_low, without, write_of}
-use Rattle.dstm_tl2.specs.Words.{Table, initial, objects}
-use Rattle.dstm_tl2.specs.Words.Word.{LockWord}
 use Rattle.dstm_tl2.proofs.Clock.{Draws, NoDraw, Turn, clock, clock_step, turn}
 use Rattle.dstm_tl2.proofs.Clock.Turn.{keeps, samples, drew}
 use Rattle.dstm_tl2.proofs.Foretelling.{told}
@@ -33,8 +20,7 @@ use Rattle.dstm_tl2.proofs.Versions.{version_at, version_below}
 -- ---- the writes told, and the locks
 
 -- a write of a list is one of it
-written_in : (ws : List (ℕ × Val)) (i : ℕ) → i < length ws →
-    write_of (slice_index_or ws i no_write).0 ws ≡ None → ⊥
+written_in : (ws : List (ℕ × Val)) (i : ℕ) → i < length ws → write_of (slice_index_or ws i no_write).0 ws ≡ None → ⊥
 written_in [] i h q = omega arith
 written_in (w ∷ ws) zero h q = let bad : Some w.1 ≡ None = rw (eq-eqb w.0 w.0 refl) at q in cc
 written_in (w ∷ ws) (suc i) h q =
@@ -88,12 +74,10 @@ module _ (t : Table) (l : LocalState) (s : Static t l) (h : Unheld l) where
       cond_both (e.found == (look_of l).word) (record_read l) (record l { look = None }) Unheld (λ _. h) (λ _. h)
   unheld_step e (Lock w) a =
       cond_both (e.found == e.expected) (lock l w.value)
-      (record l { look = None; writes = Some w.value; failed = true }) Unheld
-      (λ _ o q.
+      (record l { look = None; writes = Some w.value; failed = true }) Unheld (λ _ o q.
       hold_of-other o l.holds (new_hold l (next_write l w.value))
       (λ z. written_in w.value l.locked a.2.4 (subst (λ n. write_of n w.value ≡ None) (sym z) q))
-      ∙ told_unheld w.value a.2.0 o q)
-      (λ _ o q. told_unheld w.value a.2.0 o q)
+      ∙ told_unheld w.value a.2.0 o q) (λ _ o q. told_unheld w.value a.2.0 o q)
   unheld_step e (Draw w) a = λ o q. told_unheld w.value a.2.1 o q
   unheld_step e WriteLow a = marked_unheld with_low (λ h. refl) (low_object t e.place) a.2.1
   unheld_step e WriteHigh a = marked_unheld with_high (λ h. refl) (high_object t e.place) a.2.1
@@ -110,8 +94,7 @@ unheld t [] run c = λ o _. refl
 unheld t (e ∷ es) run c =
     runs.callers tl2 t es e (λ c l. Unheld l)
     (unheld_step t (local t es e.caller) (static t es run.0 e.caller) (unheld t es run.0 e.caller) e e.kind
-    run.1.allowed)
-    (λ c _. unheld t es run.0 c) c
+    run.1.allowed) (λ c _. unheld t es run.0 c) c
 
 -- ---- the only caller, the clock and the objects
 
@@ -168,8 +151,7 @@ free_word t will es run foretold one c b o exists none = go (stands t will es ru
 
 -- an event changes a version only by a draw that writes the object
 version_same : (will : ℕ → Bool) (es : List Event) (e : Event) (o : ℕ) →
-    (is_draw e.kind ≡ true → write_of o (writes_of e.kind) ≡ None) →
-    version_at will (e ∷ es) o ≡ version_at will es o
+    (is_draw e.kind ≡ true → write_of o (writes_of e.kind) ≡ None) → version_at will (e ∷ es) o ≡ version_at will es o
 version_same will es e o h = grind (arith, nat_tests)
 
 -- the read under way is of the current version
@@ -188,11 +170,9 @@ record Fresh (will : ℕ → Bool) (es : List Event) (l : LocalState) : Type 0 w
   reads : (r : Read) → Contains l.reads r → (l.drawn ≡ None) ⊎ (write_of r.object (or_writes l.writes) ≡ None) →
       Current will es r
 
-module _ (t : Table) (will : ℕ → Bool) (es : List Event) (e : Event) (fits : Fits t es e) (l : LocalState)
-    (s : Static t l)
-    (at_free : (o : ℕ) → o < objects t → hold_of o l.holds ≡ None →
-    word t es (LockWord o) ≡ 2 * version_at will es o)
-    (f : Fresh will es l) where
+module _ (t : Table) {will : ℕ → Bool} {es : List Event} (e : Event) (fits : Fits t es e) {l : LocalState}
+    (s : Static t l) (at_free : (o : ℕ) → o < objects t → hold_of o l.holds ≡ None →
+    word t es (LockWord o) ≡ 2 * version_at will es o) (f : Fresh will es l) where
   same : is_draw e.kind ≡ false → (o : ℕ) → version_at will (e ∷ es) o ≡ version_at will es o
   same q o = version_same will es e o (λ d. absurd (cc))
 
@@ -209,25 +189,25 @@ module _ (t : Table) (will : ℕ → Bool) (es : List Event) (e : Event) (fits :
       (l.drawn ≡ None) ⊎ (write_of r.object (or_writes l.writes) ≡ None) → Current will (e ∷ es) r
   reads_more q r m n = f.reads r m n ∙ ap (λ n. 2 * n) (sym (same q r.object))
 
-  fresh_by : (k : Kind) → e.kind ≡ k → AllowedAs k t l e → Fresh will (e ∷ es) (after k t l e)
-  fresh_by Sample j a = record {
+  fresh_by : {k : Kind} → e.kind ≡ k → AllowedAs k t l e → Fresh will (e ∷ es) (after k t l e)
+  fresh_by {k = Sample} j a = record {
     look = λ _. tt;
     reads = λ r m. absurd (let h = m.1 in omega arith);
   }
-  fresh_by LookLock j a = record {
+  fresh_by {k = LookLock} j a = record {
     look = λ w. fits.linked ∙ at_free e.place a.3 (ap (hold_of e.place) (s.idle w))
         ∙ ap (λ n. 2 * n) (sym (same (ap is_draw j) e.place));
     reads = reads_more (ap is_draw j);
   }
-  fresh_by LookLow j a = record {
+  fresh_by {k = LookLow} j a = record {
     look = λ w. under_way (ap is_draw j) w a.2.1;
     reads = reads_more (ap is_draw j);
   }
-  fresh_by LookHigh j a = record {
+  fresh_by {k = LookHigh} j a = record {
     look = λ w. under_way (ap is_draw j) w (low_look l.look a.2.1);
     reads = reads_more (ap is_draw j);
   }
-  fresh_by LookAgain j a =
+  fresh_by {k = LookAgain} j a =
       cond_both (e.found == (look_of l).word) (record_read l) (record l { look = None }) (Fresh will (e ∷ es))
       (λ _. record { look = λ _. tt; reads = λ r m n. recent r n (Contains-push_cases l.reads _ r m) })
       (λ _. record { look = λ _. tt; reads = reads_more (ap is_draw j) })
@@ -239,14 +219,13 @@ module _ (t : Table) (will : ℕ → Bool) (es : List Event) (e : Event) (fits :
             value = or_value (look_of l).value;
           } ≡ r) → Current will (e ∷ es) r
       recent r n (inl m) = reads_more (ap is_draw j) r m n
-      recent r n (inr q) =
-          subst (Current will (e ∷ es)) q (under_way (ap is_draw j) a.2.0 (valued_look l.look a.2.1))
-  fresh_by (Lock w) j a =
+      recent r n (inr q) = subst (Current will (e ∷ es)) q (under_way (ap is_draw j) a.2.0 (valued_look l.look a.2.1))
+  fresh_by {k = (Lock w)} j a =
       cond_both (e.found == e.expected) (lock l w.value)
       (record l { look = None; writes = Some w.value; failed = true }) (Fresh will (e ∷ es))
       (λ _. record { look = λ _. tt; reads = λ r m n. reads_more (ap is_draw j) r m (inl a.2.1) })
       (λ _. record { look = λ _. tt; reads = λ r m n. reads_more (ap is_draw j) r m (inl a.2.1) })
-  fresh_by (Draw w) j a = record { look = λ _. tt; reads = λ r m n. old r m n }
+  fresh_by {k = (Draw w)} j a = record { look = λ _. tt; reads = λ r m n. old r m n }
     where
       old : (r : Read) → Contains l.reads r → (Some e.found ≡ None) ⊎ (write_of r.object w.value ≡ None) →
           Current will (e ∷ es) r
@@ -255,7 +234,7 @@ module _ (t : Table) (will : ℕ → Bool) (es : List Event) (e : Event) (fits :
           f.reads r m (inl a.2.2)
           ∙ ap (λ n. 2 * n) (sym (version_same will es e r.object
           (λ _. ap (λ k. write_of r.object (writes_of k)) j ∙ n)))
-  fresh_by k j a = record {
+  fresh_by j a = record {
     look = λ w. look_more (ap is_draw j) l.look (f.look w);
     reads = reads_more (ap is_draw j);
   }
@@ -268,9 +247,8 @@ fresh t will [] run foretold one c = λ b. record {
 }
 fresh t will (e ∷ es) run foretold one c =
     runs.callers tl2 t es e (λ c l. c < t.callers → Fresh will (e ∷ es) l)
-    (λ b. fresh_by t will es e run.1 (local t es e.caller) (static t es run.0 e.caller)
-    (free_word t will es run.0 foretold.0 one e.caller b) (fresh t will es run.0 foretold.0 one e.caller b)
-    e.kind refl run.1.allowed)
+    (λ b. fresh_by t e run.1 (static t es run.0 e.caller)
+    (free_word t will es run.0 foretold.0 one e.caller b) (fresh t will es run.0 foretold.0 one e.caller b) refl run.1.allowed)
     (λ c other b. absurd (let a = run.1.caller in other (omega arith))) c
 
 -- ---- its events
@@ -281,10 +259,10 @@ readable_word sample v w q h = grind (arith, nat_tests)
 same_word : (a b : ℕ) → a ≡ b → not (a == b) ≡ false
 same_word a b q = rw (eq-eqb a b q) refl
 
-undrawn : (d : Option ℕ) (writes : Option (List (ℕ × Val))) → (is_some d ≡ true → is_some writes ≡ true) →
+undrawn : (d : Option ℕ) {writes : Option (List (ℕ × Val))} → (is_some d ≡ true → is_some writes ≡ true) →
     writes ≡ None → d ≡ None
-undrawn None writes h q = refl
-undrawn (Some n) writes h q = absurd (let x = h refl in cc)
+undrawn None h q = refl
+undrawn (Some n) h q = absurd (let x = h refl in cc)
 
 -- the word recorded of an object that was read
 recorded_current : (will : ℕ → Bool) (es : List Event) (o : ℕ) (rs : List Read) →
@@ -292,8 +270,7 @@ recorded_current : (will : ℕ → Bool) (es : List Event) (o : ℕ) (rs : List 
     recorded o rs ≡ 2 * version_at will es o
 recorded_current will es o [] h i = absurd (cc)
 recorded_current will es o (r ∷ rs) h i =
-    go (cases_eq r.object o)
-    (λ j. recorded_current will es o rs (λ x m. h x (Contains-append_right (r ∷ []) rs x m)) j)
+    go (cases_eq r.object o) (λ j. recorded_current will es o rs (λ x m. h x (Contains-append_right (r ∷ []) rs x m)) j)
   where
     go : (r.object ≡ o) ⊎ (r.object ≡ o → ⊥) →
         (is_some (read_of o rs) ≡ true → recorded o rs ≡ 2 * version_at will es o) →
@@ -336,8 +313,7 @@ module _ (t : Table) (es : List Event) (e : Event) (run : Run t (e ∷ es)) (one
 
   fails_by : (k : Kind) → AllowedAs k t l e → NamesOnce (objects t) (writes_of k) → fails k l e ≡ false
   fails_by LookLock a once =
-      let at_sample =
-      clock_is t es run.0 one e.caller run.1.caller (undrawn l.drawn l.writes fixed.told a.2.1) in
+      let at_sample = clock_is t es run.0 one e.caller run.1.caller (undrawn l.drawn fixed.told a.2.1) in
       let below = version_below t will es e.place run.0 a.3 in
       readable_word l.sample (version_at will es e.place) e.found
       (lock_is e.place a.3 refl (ap (hold_of e.place) (fixed.idle a.2.1))) (omega arith)

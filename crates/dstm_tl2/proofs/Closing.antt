@@ -1,18 +1,9 @@
 -- What the laws say, from the lemmas.
-use Rattle.std.proofs.Common.{◌≡◌, ◌<◌, ◌*◌, ◌⊎◌, ◌∷◌, ◌++◌, ◌∙◌, ℕ, inl, inr, List, [], refl, ap, arith, append_assoc, sym, subst, true, Bool, Some}
+use Rattle.std.proofs.Common.{◌≡◌, ◌<◌, ◌*◌, ◌⊎◌, ◌∷◌, ◌++◌, ◌∙◌, ℕ, inl, inr, List, [], refl, ap, arith, append_assoc, sym, subst, true, Bool, Some, reverse}
 use Rattle.std.specs.List.{Contains}
-use Rattle.std.specs.Prelude.{reverse}
-use Rattle.std.proofs.lemmas.Bool.{and_from}
-use Rattle.dstm_model.specs.declared.value.Val.{Val}
-use Rattle.dstm_model.specs.Map.{Agrees, Entry, state_after, value_at}
+use Rattle.dstm_tl2.proofs.Base.{Agrees, Entry, Event, LawfulRun, LockWord, Read, Run, Table, Val, and_from, commits_at, entry_at, entry_of, history, history_of, is_draw, is_valid, local, objects, or_writes, prefix_at, read_values, sample_place, state_after, tl2, value_at, will_of, word, writes_of}
 use Rattle.dstm_machines.proofs.Runs as runs
-use Rattle.dstm_tl2.specs.Histories.{LawfulRun, commits_at, entry_at, entry_of, history, history_of, is_draw, prefix_at, read_values, sample_place, will_of, writes_of}
 use Rattle.dstm_tl2.specs.Laws.{IsSeen, IsSerial, Tells}
-use Rattle.dstm_tl2.specs.Rules.{Event}
-use Rattle.dstm_tl2.specs.Runs.{Run, local, tl2, word}
-use Rattle.dstm_tl2.specs.State.{Read, is_valid, or_writes}
-use Rattle.dstm_tl2.specs.Words.{Table, objects}
-use Rattle.dstm_tl2.specs.Words.Word.{LockWord}
 use Rattle.dstm_tl2.proofs.Clock.{Draws, NoDraw, clock_step}
 use Rattle.dstm_machines.proofs.Gathered.{told_next}
 use Rattle.dstm_tl2.proofs.Commits.{valid_stands}
@@ -39,14 +30,13 @@ sample_agrees t holds later before c is = record {
       (seen_agrees t (will_of t (later ++ before)) (sample_place c before) (local t before c).reads
       (seen_by t (will_of t (later ++ before)) before run tell c).seen);
   lawful = λ h. subst holds (sym here)
-      (lawful_from t holds (later ++ before) is.run is.law h (sample_place c before)
+      (lawful_from t holds is.run is.law h (sample_place c before)
       (later ++ (sample_at t before c run).past.later) (append_assoc later (sample_at t before c run).past.later
       (sample_place c before) ∙ ap (λ es. later ++ es) (sample_at t before c run).past.whole));
   commits = λ between early x place v.
       subst (λ es. Contains (reverse (history t (will_of t (later ++ before)) es))
       (entry_of (local t early x) (or_writes (local t early x).writes))) (sym place)
-      (valid_stands t (later ++ before) early between x is.run
-      (record {
+      (valid_stands t early between x is.run (record {
         later = later ++ (sample_at t before c run).past.later;
         whole = ap (λ es. (later ++ (sample_at t before c run).past.later) ++ es) (sym place)
             ∙ append_assoc later (sample_at t before c run).past.later (sample_place c before)
@@ -109,15 +99,13 @@ serial t run r = record {
 pub commit_stands : (t : Table) (later between before : List Event) (d : Event) →
     Run t (later ++ (between ++ d ∷ before)) → is_draw d.kind ≡ true →
     is_valid (local t (between ++ d ∷ before) d.caller) ≡ true →
-    (local t (between ++ d ∷ before) d.caller).drawn ≡ Some d.found →
-    (rest : List Entry)
+    (local t (between ++ d ∷ before) d.caller).drawn ≡ Some d.found → (rest : List Entry)
     × (history_of t (later ++ (between ++ d ∷ before)) ≡ prefix_at t (later ++ (between ++ d ∷ before)) before
     ++ entry_of (local t before d.caller) (writes_of d.kind) ∷ rest)
 commit_stands t later between before d run k v q =
     subst (λ es. (rest : List Entry)
     × (reverse (history t will es) ≡ reverse (history t will before)
-    ++ entry_of (local t before d.caller) (writes_of d.kind) ∷ rest))
-    (append_assoc later between (d ∷ before))
+    ++ entry_of (local t before d.caller) (writes_of d.kind) ∷ rest)) (append_assoc later between (d ∷ before))
     (told_next (commits_at will) (entry_at t) (later ++ between) d before
     (and_from (is_draw d.kind) (will d.found) k sure))
   where
@@ -129,7 +117,7 @@ commit_stands t later between before d run k v q =
         (valid_will t (between ++ d ∷ before) d.caller d.found q v)
 
 -- a prefix of a run is one
-pub run_past : (t : Table) (holds : List Val → Type 0) (more es : List Event) → LawfulRun t holds (more ++ es) →
+pub run_past : {t : Table} {holds : List Val → Type 0} (more es : List Event) → LawfulRun t holds (more ++ es) →
     LawfulRun t holds es
-run_past t holds more es r =
+run_past {t = t} {holds = holds} more es r =
     record { run = runs.run_past tl2 t more es r.run; law = lawful_past t holds more es r.law }

@@ -1,17 +1,9 @@
 -- The entry of an attempt that is valid stands in the history wherever its draw does.
-use Rattle.std.proofs.Common.{◌≡◌, ◌⊎◌, ◌∷◌, ◌++◌, ◌∙◌, ℕ, inl, inr, List, [], refl, ap, append_assoc, sym, subst, true, Bool, Option, Some, None, is_some}
+use Rattle.std.proofs.Common.{◌≡◌, ◌⊎◌, ◌∷◌, ◌++◌, ◌∙◌, ℕ, inl, inr, List, [], refl, ap, append_assoc, sym, subst, true, Bool, Option, Some, None, is_some, reverse}
 use Rattle.std.specs.List.{Contains}
-use Rattle.std.specs.Prelude.{reverse}
-use Rattle.std.proofs.lemmas.Bool.{and_from, cases_eq}
-use Rattle.dstm_machines.specs.Traces.{IsPastOf}
-use Rattle.dstm_model.specs.Map.{Entry}
+use Rattle.dstm_tl2.proofs.Base.{AllowedAs, Entry, Event, IsPastOf, LocalState, Run, Table, after, and_from, cases_eq, commits_at, entry_at, entry_of, history, is_draw, is_valid, local, or_writes, read_values, tl2, will_of, writes_of}
 use Rattle.dstm_machines.proofs.Runs as runs
 use Rattle.dstm_machines.proofs.Gathered.{told_among}
-use Rattle.dstm_tl2.specs.Histories.{commits_at, entry_at, entry_of, history, is_draw, read_values, will_of, writes_of}
-use Rattle.dstm_tl2.specs.Rules.{AllowedAs, Event, after}
-use Rattle.dstm_tl2.specs.Runs.{Run, local, tl2}
-use Rattle.dstm_tl2.specs.State.{LocalState, is_valid, or_writes}
-use Rattle.dstm_tl2.specs.Words.{Table}
 use Rattle.dstm_tl2.proofs.Clock.{NewDraw, Turn, drawn_how, turn}
 use Rattle.dstm_tl2.proofs.Clock.Turn.{keeps, samples, drew}
 use Rattle.dstm_tl2.proofs.Foretelling.{valid_will, will_more}
@@ -66,8 +58,7 @@ draw_of_step t es e c n run h ih (inl x) (inl y) =
     now : local t (e ∷ es) c ≡ after e.kind t (local t es c) e
     now = subst (λ c. local t (e ∷ es) c ≡ after e.kind t (local t es c) e) y (runs.local_own tl2 t es e)
 
-    same : DrawOf t es (local t es c) n →
-        (after e.kind t (local t es c) e).reads ≡ (local t es c).reads →
+    same : DrawOf t es (local t es c) n → (after e.kind t (local t es c) e).reads ≡ (local t es c).reads →
         (after e.kind t (local t es c) e).writes ≡ (local t es c).writes → DrawOf t (e ∷ es) (local t (e ∷ es) c) n
     same d r w = record {
       before = d.before;
@@ -88,8 +79,7 @@ pub draw_of : (t : Table) (es : List Event) (c n : ℕ) → Run t es → (local 
     DrawOf t es (local t es c) n
 draw_of t [] c n run h = absurd (cc)
 draw_of t (e ∷ es) c n run h =
-    draw_of_step t es e c n run h (λ x. draw_of t es c n run.0 x) (drawn_how t es e run c n h)
-    (cases_eq e.caller c)
+    draw_of_step t es e c n run h (λ x. draw_of t es c n run.0 x) (drawn_how t es e run c n h) (cases_eq e.caller c)
 
 -- the entry of a draw stands in each history that has the draw
 pub entry_stands : (t : Table) (will : ℕ → Bool) (q : List Event) (d : Event) (more : List Event) →
@@ -99,11 +89,10 @@ entry_stands t will q d more k w =
     told_among (commits_at will) (entry_at t) more d q (and_from (is_draw d.kind) (will d.found) k w)
 
 -- so does that of an attempt that is valid before
-pub valid_stands : (t : Table) (run early between : List Event) (c : ℕ) → Run t run → IsPastOf (between ++ early) run →
-    is_valid (local t early c) ≡ true →
-    Contains (reverse (history t (will_of t run) (between ++ early)))
+pub valid_stands : (t : Table) {run : List Event} (early between : List Event) (c : ℕ) → Run t run → IsPastOf (between ++ early) run →
+    is_valid (local t early c) ≡ true → Contains (reverse (history t (will_of t run) (between ++ early)))
     (entry_of (local t early c) (or_writes (local t early c).writes))
-valid_stands t run early between c r p v = go (local t early c).drawn refl (valid_drawn (local t early c) v)
+valid_stands t {run = run} early between c r p v = go (local t early c).drawn refl (valid_drawn (local t early c) v)
   where
     whole : p.later ++ (between ++ early) ≡ run
     whole = p.whole
@@ -118,14 +107,12 @@ valid_stands t run early between c r p v = go (local t early c).drawn refl (vali
     go None q i = absurd (let y = ap is_some q in cc)
     go (Some n) q i =
         let d = draw_of t early c n run_early q in
-        let will : will_of t run n ≡ true =
-        subst (λ run. will_of t run n ≡ true) p.whole
+        let will : will_of t run n ≡ true = subst (λ run. will_of t run n ≡ true) p.whole
         (will_more t p.later (between ++ early) n (will_more t between early n (valid_will t early c n q v))) in
         let stands = entry_stands t (will_of t run) d.before d.draw (between ++ d.past.later) d.kind
         (ap (will_of t run) d.found ∙ will) in
         let same : entry_of (local t d.before d.draw.caller) (writes_of d.draw.kind) ≡ entry_of (local t early c)
-        (or_writes (local t early c).writes) =
-        ap (λ rs. let x : Entry = record {
+        (or_writes (local t early c).writes) = ap (λ rs. let x : Entry = record {
           reads = read_values rs;
           writes = writes_of d.draw.kind;
         } in x) d.reads

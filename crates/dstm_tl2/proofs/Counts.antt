@@ -3,16 +3,9 @@ use Rattle.std.proofs.Common.{List, None, Option, Some, [], ap, arith, inl, inr,
 use Rattle.std.proofs.lemmas.Nat.{mul-le}
 use Rattle.dstm_machines.proofs.Runs as runs
 use Rattle.dstm_machines.proofs.Totals.{total, total-≤, total-<, total-bound}
-use Rattle.dstm_tl2.specs.declared.kind.Kind.{Kind}
-use Rattle.dstm_tl2.specs.declared.kind.Kind.TheVariants.{Enrol, Sample, Draw}
-use Rattle.dstm_tl2.specs.Histories.{is_draw}
-use Rattle.dstm_tl2.specs.Rules.{AllowedAs, Event, after}
-use Rattle.dstm_tl2.specs.Runs.{Fits, Run, local, tl2}
-use Rattle.dstm_tl2.specs.State.{LocalState}
-use Rattle.dstm_tl2.specs.Words.{Table}
+use Rattle.dstm_tl2.proofs.Base.{AllowedAs, Draw, Enrol, Event, Fits, Kind, LocalState, Run, Sample, Table, after, is_draw, local, nat_tests, tl2}
 use Rattle.dstm_tl2.proofs.Clock.{Draws, NoDraw, clock, clock_step}
 use Rattle.dstm_tl2.proofs.Places.{first_clock}
-use Rattle.std.proofs.lemmas.Bool.Decides.{nat_tests}
 
 -- the attempts of a caller that can draw no number any more
 abbrev spent_by : Option ℕ → ℕ → ℕ
@@ -26,8 +19,7 @@ spent_le : (d : Option ℕ) (b : ℕ) → spent_by d b ≤ b
 spent_le None b = omega arith
 spent_le (Some n) b = omega arith
 
-spent_step : (t : Table) (l : LocalState) (e : Event) (k : Kind) → AllowedAs k t l e →
-    spent l ≤ spent (after k t l e)
+spent_step : (t : Table) (l : LocalState) (e : Event) (k : Kind) → AllowedAs k t l e → spent l ≤ spent (after k t l e)
 spent_step t l e Sample a = let x = spent_le l.drawn l.begun in omega arith
 spent_step t l e (Draw w) a = spent_le l.drawn l.begun
 spent_step t l e k a = grind (arith, nat_tests)
@@ -45,8 +37,7 @@ begun_le t (e ∷ es) run c =
     (step (local t es e.caller) e.kind run.1.allowed (begun_le t es run.0 e.caller))
     (λ c _. begun_le t es run.0 c) c
   where
-    step : (l : LocalState) (k : Kind) → AllowedAs k t l e → l.begun ≤ t.attempts →
-        (after k t l e).begun ≤ t.attempts
+    step : (l : LocalState) (k : Kind) → AllowedAs k t l e → l.begun ≤ t.attempts → (after k t l e).begun ≤ t.attempts
     step l Sample a h = let x = a.2.1 in omega arith
     step l k a h = grind (arith, nat_tests)
 

@@ -1,26 +1,14 @@
 -- What a caller has committed is told by its own events, and which of them keep it.
-use Rattle.std.proofs.Common.{◌≡◌, ◌==◌, ◌⊎◌, ◌∷◌, ◌++◌, ◌∙◌, ℕ, inl, inr, List, [], refl, ap, arith, sym, subst, true, false, Bool, Option, Some, None, is_some, length, cond}
+use Rattle.std.proofs.Common.{◌≡◌, ◌==◌, ◌⊎◌, ◌∷◌, ◌++◌, ◌∙◌, ℕ, inl, inr, List, [], refl, ap, arith, sym, subst, true, false, Bool, Option, Some, None, is_some, length, cond, ◌&&◌, not}
 use Rattle.std.specs.List.{All}
-use Rattle.std.specs.Prelude.{◌&&◌, not}
-use Rattle.std.proofs.lemmas.Bool.{and_from, and_left, and_right, cases_Bool, cond_both, eqb-true, not_from_true, or_right}
+use Rattle.dstm_tl2.proofs.Base.{AllowedAs, Check, Committed, Draw, Event, IsPastOf, Kind, LocalState, Lock, LookAgain, Run, Sample, Table, Val, after, and_from, and_left, and_right, attempt_of, cases_Bool, commits, cond_both, done_by, eqb-true, events_of, fails, is_sample, is_valid, local, lock, look_of, next_check, not_from_true, or_right, record_read, tl2, to_check}
 use Rattle.std.proofs.lemmas.List.Elements.{All-head, All-tail}
-use Rattle.dstm_model.specs.declared.value.Val.{Val}
-use Rattle.dstm_machines.specs.Traces.{IsPastOf, events_of}
 use Rattle.dstm_machines.proofs.Gathered.{told_none, told_now, told_still}
 use Rattle.dstm_machines.proofs.Attempts.{NoneBegins}
 use Rattle.dstm_machines.proofs.Own.{local_mine, local_others, own_first, own_later, own_other}
 use Rattle.dstm_machines.proofs.Runs as runs
-use Rattle.dstm_tl2.specs.declared.kind.Kind.{Kind}
-use Rattle.dstm_tl2.specs.declared.kind.Kind.TheVariants.{Sample, LookAgain, Lock, Draw, Check}
-use Rattle.dstm_tl2.specs.Failing.{fails}
-use Rattle.dstm_tl2.specs.Histories.{is_sample}
-use Rattle.dstm_tl2.specs.Rules.{AllowedAs, Event, after, lock, record_read}
-use Rattle.dstm_tl2.specs.Runs.{Run, local, tl2}
-use Rattle.dstm_tl2.specs.State.{LocalState, is_valid, look_of, next_check, to_check}
-use Rattle.dstm_tl2.specs.Words.{Table}
 use Rattle.dstm_tl2.proofs.Foretelling.{valid_parts}
 use Rattle.dstm_tl2.proofs.Static.{Static, static, valid_drawn}
-use Rattle.dstm_tl2.specs.Committed.{Committed, attempt_of, commits, done_by}
 
 -- an own event of a run is allowed in the caller's state
 pub allowed_mine : (t : Table) (es : List Event) (e : Event) (c : ℕ) → Run t (e ∷ es) → (e.caller == c) ≡ true →

@@ -1,22 +1,13 @@
 -- The history is legal, and keeps the law.
 use Rattle.std.proofs.lemmas.List.Elements.{All-head, All-tail}
-use Rattle.std.proofs.Common.{◌≡◌, ◌<◌, ◌*◌, ◌⊎◌, ◌∷◌, ◌++◌, ◌∙◌, ℕ, inl, inr, List, [], refl, ap, arith, append_assoc, sym, subst, true, false, Bool, Option, Some, None, is_some}
-use Rattle.std.specs.Prelude.{is_none, reverse}
-use Rattle.std.proofs.lemmas.Bool.{and_parts, cases_eq, eq-eqb, ne_eqb}
+use Rattle.std.proofs.Common.{◌≡◌, ◌<◌, ◌*◌, ◌⊎◌, ◌∷◌, ◌++◌, ◌∙◌, ℕ, inl, inr, List, [], refl, ap, arith, append_assoc, sym, subst, true, false, Bool, Option, Some, None, is_some, reverse}
+use Rattle.std.specs.Prelude.{is_none}
+use Rattle.dstm_tl2.proofs.Base.{Agrees, AllowedAs, Draw, DrawsLawfully, Event, Hold, IsLegal, Kind, Lawful, LocalState, Read, Run, Table, Val, and_parts, cases_eq, commits_at, entry_at, eq-eqb, history, hold_of, is_draw, local, ne_eqb, objects, read_of, read_values, recorded, sample_place, state_after, tl2, unwritten, value_at, will_of, with_writes, write_of, writes_of}
 use Rattle.dstm_machines.proofs.Histories as histories
 use Rattle.dstm_machines.proofs.Histories.{legal_from}
 use Rattle.dstm_machines.proofs.Orders.{legal_reversed, state_reversed}
-use Rattle.dstm_model.specs.declared.value.Val.{Val}
-use Rattle.dstm_model.specs.Map.{Agrees, IsLegal, state_after, value_at, with_writes}
 use Rattle.dstm_machines.proofs.Runs as runs
 use Rattle.dstm_machines.proofs.Runs.{each_past}
-use Rattle.dstm_tl2.specs.declared.kind.Kind.{Kind}
-use Rattle.dstm_tl2.specs.declared.kind.Kind.TheVariants.{Draw}
-use Rattle.dstm_tl2.specs.Histories.{DrawsLawfully, Lawful, commits_at, entry_at, history, is_draw, read_values, sample_place, will_of, writes_of}
-use Rattle.dstm_tl2.specs.Rules.{AllowedAs, Event}
-use Rattle.dstm_tl2.specs.Runs.{Run, local, tl2}
-use Rattle.dstm_tl2.specs.State.{Hold, LocalState, Read, hold_of, read_of, recorded, unwritten, write_of}
-use Rattle.dstm_tl2.specs.Words.{Table, objects}
 use Rattle.dstm_tl2.proofs.Foretelling.{told}
 use Rattle.dstm_tl2.proofs.Holds.{hold_value}
 use Rattle.dstm_tl2.proofs.Looks.{Seen, sample_at}
@@ -74,15 +65,13 @@ module _ (t : Table) (will : ℕ → Bool) (q : List Event) (d : Event) (run : R
           let seen = seen_recorded t will place l.reads o (seen_by t will q run.0 tell d.caller).seen ok.read in
           omega arith
 
-      go : (h : Hold) → hold_of o l.holds ≡ Some h → Stands t will q o →
-          version_at will q o ≡ version_at will place o
+      go : (h : Hold) → hold_of o l.holds ≡ Some h → Stands t will q o → version_at will q o ≡ version_at will place o
       go h k (free g) = absurd (let n = g.nobody d.caller in cc)
       go h k (waits c j held x) = by (cases_eq d.caller c)
         where
           by : (d.caller ≡ c) ⊎ (d.caller ≡ c → ⊥) → version_at will q o ≡ version_at will place o
           by (inl z) =
-              let same_hold : Some h ≡ Some j =
-              sym k ∙ ap (λ c. hold_of o (local t q c).holds) z ∙ held.holds in
+              let same_hold : Some h ≡ Some j = sym k ∙ ap (λ c. hold_of o (local t q c).holds) z ∙ held.holds in
               same h k (ap (λ (h : Hold). h.word) (let y : h ≡ j = cc in y) ∙ x.version)
           by (inr z) = absurd (let n = held.others d.caller z in cc)
       go h k (commits c j n held x) = absurd (by (cases_eq d.caller c))
@@ -101,7 +90,7 @@ module _ (t : Table) (will : ℕ → Bool) (q : List Event) (d : Event) (run : R
       let s = sample_at t q d.caller run.0 in
       let low = version_below t will place o
       (runs.run_past tl2 t s.past.later place (subst (Run t) (sym s.past.whole) run.0)) b in
-      sym (unchanged t will place q o s.past run.0 b (omega arith)).value
+      sym (unchanged t will o s.past run.0 b (omega arith)).value
 
   agrees_from : (rs : List Read) → Seen t will place rs → ReadsOk t l.sample rs →
       AllCurrent will q (unwritten (writes_of d.kind) rs) → Agrees (state t will q) (read_values rs)
@@ -129,8 +118,7 @@ module _ (t : Table) (will : ℕ → Bool) (q : List Event) (d : Event) (run : R
 
   pub agrees_draw : AllCurrent will q (unwritten (writes_of d.kind) l.reads) →
       Agrees (state t will q) (read_values l.reads)
-  agrees_draw cur =
-      agrees_from l.reads (seen_by t will q run.0 tell d.caller).seen (static t q run.0 d.caller).read cur
+  agrees_draw cur = agrees_from l.reads (seen_by t will q run.0 tell d.caller).seen (static t q run.0 d.caller).read cur
 
 -- an entry of a history agrees with the state before it
 pub entry_agrees : (t : Table) (q : List Event) (d : Event) (more : List Event) → Run t (more ++ d ∷ q) →
@@ -139,8 +127,7 @@ pub entry_agrees : (t : Table) (q : List Event) (d : Event) (more : List Event) 
 entry_agrees t q d more run is w =
     agrees_draw t (will_of t (more ++ d ∷ q)) q d (runs.run_past tl2 t more (d ∷ q) run)
     (told t (more ++ d ∷ q) q (more ++ d ∷ []) run (append_assoc more (d ∷ []) q)) is
-    (draw_current t (will_of t (more ++ d ∷ q)) q d more run (told t (more ++ d ∷ q) (more ++ d ∷ q) [] run refl)
-    is w)
+    (draw_current t (will_of t (more ++ d ∷ q)) q d more run (told t (more ++ d ∷ q) (more ++ d ∷ q) [] run refl) is w)
 
 -- the state after the entries of a history
 pub state_is : (t : Table) (will : ℕ → Bool) (es : List Event) →
@@ -158,8 +145,7 @@ committed_legal t run r =
         Agrees (state t (will_of t run) es) (read_values (local t es d.caller).reads)
     entry d es more q h =
         let two = and_parts (is_draw d.kind) (will_of t run d.found) h in
-        subst
-        (λ run. is_draw d.kind ≡ true → will_of t run d.found ≡ true →
+        subst (λ run. is_draw d.kind ≡ true → will_of t run d.found ≡ true →
         Agrees (state t (will_of t run) es) (read_values (local t es d.caller).reads)) q
         (entry_agrees t es d more (subst (Run t) (sym q) r)) two.0 two.1
 
@@ -170,19 +156,17 @@ pub lawful_past : (t : Table) (holds : List Val → Type 0) (more es : List Even
 lawful_past t holds more es l = each_past (DrawsLawfully t holds) more es l
 
 -- the state after the draws of every past of a run is lawful
-pub lawful_from : (t : Table) (holds : List Val → Type 0) (run : List Event) → Run t run → Lawful t holds run →
+pub lawful_from : (t : Table) (holds : List Val → Type 0) {run : List Event} → Run t run → Lawful t holds run →
     holds t.start → (es more : List Event) → more ++ es ≡ run → holds (state t (will_of t run) es)
-lawful_from t holds run r law h es more q =
+lawful_from t holds {run = run} r law h es more q =
     histories.lawful_from (commits_at (will_of t run)) (entry_at t) t.start run holds keeps h es more q
   where
     keeps : (d : Event) (es more : List Event) → more ++ d ∷ es ≡ run → commits_at (will_of t run) d es ≡ true →
-        holds (state t (will_of t run) es) →
-        holds (with_writes (state t (will_of t run) es) (writes_of d.kind))
+        holds (state t (will_of t run) es) → holds (with_writes (state t (will_of t run) es) (writes_of d.kind))
     keeps d es more q is before =
         let two = and_parts (is_draw d.kind) (will_of t run d.found) is in
         let now : Lawful t holds (d ∷ es) = lawful_past t holds more (d ∷ es) (subst (Lawful t holds) (sym q) law) in
-        now.1 two.0 (state t (will_of t run) es) (state_length t (will_of t run) es) before
-        (subst
+        now.1 two.0 (state t (will_of t run) es) (state_length t (will_of t run) es) before (subst
         (λ run. is_draw d.kind ≡ true → will_of t run d.found ≡ true →
         Agrees (state t (will_of t run) es) (read_values (local t es d.caller).reads)) q
         (entry_agrees t es d more (subst (Run t) (sym q) r)) two.0 two.1)

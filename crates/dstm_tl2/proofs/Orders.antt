@@ -1,14 +1,7 @@
 -- The history in the order of the laws: its entries, its prefixes, and where an entry stands in it.
-use Rattle.std.proofs.Common.{◌≡◌, ◌∷◌, ◌++◌, ℕ, List, true, Bool}
+use Rattle.std.proofs.Common.{◌≡◌, ◌∷◌, ◌++◌, ℕ, List, true, Bool, reverse}
 use Rattle.std.specs.List.{All}
-use Rattle.std.specs.Prelude.{reverse}
-use Rattle.std.proofs.lemmas.Bool.{and_parts}
-use Rattle.dstm_model.specs.declared.value.Val.{Val}
-use Rattle.dstm_model.specs.Map.{Entry, IsEntry, state_after}
-use Rattle.dstm_tl2.specs.Histories.{LawfulRun, commits_at, entry_at, entry_of, history, history_of, is_draw, prefix_at, will_of, writes_of}
-use Rattle.dstm_tl2.specs.Rules.{Event}
-use Rattle.dstm_tl2.specs.Runs.{Run, local}
-use Rattle.dstm_tl2.specs.Words.{Table, objects}
+use Rattle.dstm_tl2.proofs.Base.{Entry, Event, IsEntry, LawfulRun, Run, Table, Val, and_parts, commits_at, entry_at, entry_of, history, history_of, is_draw, local, objects, prefix_at, state_after, will_of, writes_of}
 use Rattle.dstm_machines.proofs.Gathered.{told_all, told_prefix}
 use Rattle.dstm_machines.proofs.Histories as histories
 use Rattle.dstm_tl2.proofs.Legal.{lawful_from}
@@ -20,7 +13,7 @@ pub prefix_is_lawful : (t : Table) (holds : List Val → Type 0) (run : List Eve
     LawfulRun t holds run → history_of t run ≡ prefix ++ rest → holds t.start → holds (state_after t.start prefix)
 prefix_is_lawful t holds run prefix rest r q h =
     histories.prefix_is_lawful (commits_at (will_of t run)) (entry_at t) t.start run holds
-    (λ es more whole. lawful_from t holds run r.run r.law h es more whole) prefix rest q
+    (λ es more whole. lawful_from t holds r.run r.law h es more whole) prefix rest q
 
 -- each entry names an object at most once among its reads, and at most once among its writes
 pub entries_once : (t : Table) (will : ℕ → Bool) (es : List Event) → Run t es → Told t will es →

@@ -1,22 +1,14 @@
 -- Of each caller the history has exactly the attempts that its own events tell.
 use Rattle.std.proofs.Common.{◌&&◌, ◌++◌, ◌==◌, ◌∙◌, ◌∷◌, ◌≡◌, ◌⊎◌, Bool, List, None, Option, Some, [], ap, arith, cond, false, inl, inr, is_some, not, refl, sym, subst, true, ℕ}
-use Rattle.std.proofs.lemmas.Bool.{and_from, and_left, and_right, cases_Bool, cond-false, cond-true, eq-eqb, ne_eqb, not_from_true}
+use Rattle.dstm_tl2.proofs.Base.{AllowedAs, Committed, Event, IsPastOf, Kind, LocalState, Run, Table, after, and_from, and_left, and_right, attempt_of, by_caller, cases_Bool, commits_at, committed, committed_in, cond-false, cond-true, done_by, entry_at, entry_of, eq-eqb, is_draw, is_sample, is_valid, is_validated, local, ne_eqb, not_from_true, or_zero, tl2, will_of, writes_of}
 use Rattle.dstm_machines.proofs.Callers.{parts_are_done}
-use Rattle.dstm_machines.specs.Traces.{IsPastOf}
 use Rattle.dstm_machines.proofs.Pasts.{past_more, past_past, past_self, run_before}
 use Rattle.dstm_machines.proofs.Runs as runs
-use Rattle.dstm_tl2.specs.declared.kind.Kind.{Kind}
-use Rattle.dstm_tl2.specs.Histories.{commits_at, entry_at, entry_of, is_draw, is_sample, is_validated, will_of, writes_of}
-use Rattle.dstm_tl2.specs.Rules.{AllowedAs, Event, after}
-use Rattle.dstm_tl2.specs.Runs.{Run, local, tl2}
-use Rattle.dstm_tl2.specs.State.{LocalState, is_valid, or_zero}
-use Rattle.dstm_tl2.specs.Words.{Table}
 use Rattle.dstm_tl2.proofs.Clock.{NewDraw, Turn, clock_ok, clock_up, drawn_how, turn, unique}
 use Rattle.dstm_tl2.proofs.Clock.Turn.{keeps, samples, drew}
 use Rattle.dstm_tl2.proofs.Foretelling.{Fails, fails_more, or_none, shown, valid_will, will_more}
 use Rattle.dstm_tl2.proofs.SinceDraw.{Checks, Rests, check_by}
 use Rattle.dstm_tl2.proofs.Static.{Static, static}
-use Rattle.dstm_tl2.specs.Committed.{Committed, attempt_of, by_caller, committed, committed_in, done_by}
 use Rattle.dstm_tl2.proofs.Done.{done_mine, done_other, stays_valid, undrawn_invalid}
 
 -- ---- the attempt under way
@@ -114,8 +106,7 @@ drawn_step will c l m ds n p d a stays commits = go (cases_Bool (is_valid l)) (c
         ap (λ xs. xs ++ ds) (valid_pending will c l u ∙ sym (valid_pending will c m (stays u)))
         ∙ ap (λ xs. pending will c m ++ xs) (sym (newly_none c l m ds (inr u)))
     go (inr u) (inl v) =
-        ap (λ xs. xs ++ ds)
-        (one_pending will c l (ap is_some p) u (ap (λ d. will (or_zero d)) p ∙ commits v))
+        ap (λ xs. xs ++ ds) (one_pending will c l (ap is_some p) u (ap (λ d. will (or_zero d)) p ∙ commits v))
         ∙ ap (λ x. x ∷ ds) (sym a)
         ∙ sym (newly_one c l m ds v u)
         ∙ ap (λ xs. xs ++ newly c l m ds) (sym (valid_pending will c m v))
@@ -125,12 +116,12 @@ drawn_step will c l m ds n p d a stays commits = go (cases_Bool (is_valid l)) (c
 
 -- A Draw makes an attempt pending or valid, the last good Check makes it valid, a Sample leaves it, and nothing else
 -- changes this.
-own_step : (t : Table) (will : ℕ → Bool) (c : ℕ) (l : LocalState) (e : Event) (k : Kind) (xs ds : List Committed) →
+own_step : {t : Table} {will : ℕ → Bool} (c : ℕ) {l : LocalState} {e : Event} {k : Kind} {xs : List Committed} (ds : List Committed) →
     Static t l → AllowedAs k t l e → Turn t e k l (after k t l e) → Ends will l (after k t l e) k →
     xs ≡ pending will c l ++ ds →
     cond (is_draw k && will e.found) (record { caller = c; number = e.found; entry = entry_of l (writes_of k) } ∷ xs) xs
     ≡ pending will c (after k t l e) ++ newly c l (after k t l e) ds
-own_step t will c l e k xs ds s a (keeps x) z h =
+own_step {t = t} {will = will} c {l = l} {e = e} {k = k} {xs = xs} ds s a (keeps x) z h =
     cond-false (is_draw k && will e.found)
     (record { caller = c; number = e.found; entry = entry_of l (writes_of k) } ∷ xs) xs
     (and_left (is_draw k) (will e.found) x.no_draw)
@@ -143,21 +134,19 @@ own_step t will c l e k xs ds s a (keeps x) z h =
         drawn_step will c l (after k t l e) ds n q x.drawn (by (check_by t l e k n s a q (x.drawn ∙ q)))
         (λ v. (stays_valid t c l e k s a x.no_sample v).0) (λ v. z.valid n (x.drawn ∙ q) v)
       where
-        by : Rests l (after k t l e) ⊎ Checks t e l (after k t l e) →
-            attempt_of c (after k t l e) ≡ attempt_of c l
+        by : Rests l (after k t l e) ⊎ Checks t e l (after k t l e) → attempt_of c (after k t l e) ≡ attempt_of c l
         by (inl r) = attempt_same c l (after k t l e) x.drawn r.reads r.writes
         by (inr r) = attempt_same c l (after k t l e) x.drawn r.reads r.writes
-own_step t will c l e k xs ds s a (samples x) z h =
+own_step {t = t} {will = will} c {l = l} {e = e} {k = k} {xs = xs} ds s a (samples x) z h =
     cond-false (is_draw k && will e.found)
     (record { caller = c; number = e.found; entry = entry_of l (writes_of k) } ∷ xs) xs
     (and_left (is_draw k) (will e.found) x.no_draw)
     ∙ h
-    ∙ ap (λ ys. ys ++ ds)
-    (none_pending will c l (λ n q v. z.left x.is_sample n q v)
+    ∙ ap (λ ys. ys ++ ds) (none_pending will c l (λ n q v. z.left x.is_sample n q v)
     ∙ sym (undrawn_pending will c (after k t l e) x.drawn))
     ∙ ap (λ ys. pending will c (after k t l e) ++ ys)
     (sym (newly_none c l (after k t l e) ds (inl (undrawn_invalid (after k t l e) x.drawn))))
-own_step t will c l e k xs ds s a (drew x) z h =
+own_step {t = t} {will = will} c {l = l} {e = e} {k = k} {xs = xs} ds s a (drew x) z h =
     ap (λ b. cond (b && will e.found) (drawn ∷ xs) xs) x.is_draw
     ∙ ap (λ ys. cond (will e.found) (drawn ∷ ys) ys) none
     ∙ ap (λ y. cond (will e.found) (y ∷ ds) ds) (sym is)
@@ -177,8 +166,7 @@ own_step t will c l e k xs ds s a (drew x) z h =
         attempt_is m d r w = cc
 
     go : (is_valid (after k t l e) ≡ true) ⊎ (is_valid (after k t l e) ≡ false) →
-        (will e.found ≡ true) ⊎ (will e.found ≡ false) →
-        cond (will e.found) (attempt_of c (after k t l e) ∷ ds) ds
+        (will e.found ≡ true) ⊎ (will e.found ≡ false) → cond (will e.found) (attempt_of c (after k t l e) ∷ ds) ds
         ≡ pending will c (after k t l e) ++ newly c l (after k t l e) ds
     go (inl v) w =
         ap (λ b. cond b (attempt_of c (after k t l e) ∷ ds) ds) (z.valid e.found x.drawn v)
@@ -191,8 +179,7 @@ own_step t will c l e k xs ds s a (drew x) z h =
         ∙ ap (λ ys. pending will c (after k t l e) ++ ys) (sym (newly_none c l (after k t l e) ds (inl v)))
     go (inr v) (inr w) =
         ap (λ b. cond b (attempt_of c (after k t l e) ∷ ds) ds) w
-        ∙ ap (λ ys. ys ++ ds)
-        (sym (dead_pending will c (after k t l e) (ap (λ d. will (or_zero d)) x.drawn ∙ w)))
+        ∙ ap (λ ys. ys ++ ds) (sym (dead_pending will c (after k t l e) (ap (λ d. will (or_zero d)) x.drawn ∙ w)))
         ∙ ap (λ ys. pending will c (after k t l e) ++ ys) (sym (newly_none c l (after k t l e) ds (inl v)))
 
 -- ---- how attempts end
@@ -206,8 +193,8 @@ invalid_not_yet t es c n run d v = go (cases_Bool (will_of t es n))
     go (inl w) = let is = (shown t es n run w).valid c d in absurd (cc)
     go (inr w) = w
 
-not_both : (d : Option ℕ) (n : ℕ) → d ≡ None → d ≡ Some n → ⊥
-not_both d n p q = cc
+not_both : {d : Option ℕ} (n : ℕ) → d ≡ None → d ≡ Some n → ⊥
+not_both n p q = cc
 
 -- an attempt that is left before it is valid never commits
 left_fails : (t : Table) (es : List Event) (e : Event) (n : ℕ) → Run t (e ∷ es) → is_sample e.kind ≡ true →
@@ -215,8 +202,7 @@ left_fails : (t : Table) (es : List Event) (e : Event) (n : ℕ) → Run t (e �
 left_fails t es e n run s d v = record {
   none = or_none (is_validated (local t (e ∷ es) e.caller) n) (will_of t es n)
       (and_left (is_valid (local t (e ∷ es) e.caller)) (or_zero (local t (e ∷ es) e.caller).drawn == n)
-      (undrawn_invalid (local t (e ∷ es) e.caller) now))
-      (invalid_not_yet t es e.caller n run.0 d v);
+      (undrawn_invalid (local t (e ∷ es) e.caller) now)) (invalid_not_yet t es e.caller n run.0 d v);
   old = let a = ((clock_ok t es run.0 e.caller).drawn n d).0 in let b = clock_up t es e run.1 in omega arith;
   bad = λ c q. absurd (gone c q (drawn_how t es e run c n q));
 }
@@ -232,22 +218,20 @@ left_fails t es e n run s d v = record {
 
     gone : (c : ℕ) → (local t (e ∷ es) c).drawn ≡ Some n → ((local t es c).drawn ≡ Some n) ⊎ NewDraw t es e c n → ⊥
     gone c q (inl x) =
-        not_both (local t (e ∷ es) e.caller).drawn n now
-        (subst (λ c. (local t (e ∷ es) c).drawn ≡ Some n) (unique t es run.0 c e.caller n x d) q)
+        not_both n now (subst (λ c. (local t (e ∷ es) c).drawn ≡ Some n) (unique t es run.0 c e.caller n x d) q)
     gone c q (inr x) =
         let a = ((clock_ok t es run.0 e.caller).drawn n d).0 in
         let b = x.number in let f = x.found in absurd (omega arith)
 
-ends : (t : Table) (run es : List Event) (e : Event) → IsPastOf (e ∷ es) run → Run t run →
+ends : (t : Table) {run : List Event} (es : List Event) (e : Event) → IsPastOf (e ∷ es) run → Run t run →
     Ends (will_of t run) (local t es e.caller) (after e.kind t (local t es e.caller) e) e.kind
-ends t run es e p r = record {
+ends t {run = run} es e p r = record {
   valid = λ n d v.
-      subst (λ run. will_of t run n ≡ true) p.whole
-      (will_more t p.later (e ∷ es) n
+      subst (λ run. will_of t run n ≡ true) p.whole (will_more t p.later (e ∷ es) n
       (valid_will t (e ∷ es) e.caller n (ap (λ (l : LocalState). l.drawn) own ∙ d) (ap is_valid own ∙ v)));
   left = λ s n d v.
       subst (λ run. will_of t run n ≡ false) p.whole
-      (fails_more t p.later (e ∷ es) n (subst (Run t) (sym p.whole) r) (left_fails t es e n here s d v)).none;
+      (fails_more p.later (subst (Run t) (sym p.whole) r) (left_fails t es e n here s d v)).none;
 }
   where
     here : Run t (e ∷ es)
@@ -258,9 +242,9 @@ ends t run es e p r = record {
 
 -- ---- all along a run
 
-told : (t : Table) (run es : List Event) → Run t run → IsPastOf es run → (c : ℕ) →
+told : (t : Table) {run es : List Event} → Run t run → IsPastOf es run → (c : ℕ) →
     by_caller c (committed t (will_of t run) es) ≡ pending (will_of t run) c (local t es c) ++ done_by t es c
-told t run es r p c =
+told t {run = run} {es = es} r p c =
     parts_are_done (commits_at (will_of t run)) (entry_at t) tl2 t (pending (will_of t run)) (done_by t)
     (λ es. IsPastOf es run) before (λ c. refl) own (λ e es c h. done_other t es e c (ne_eqb e.caller c h)) es p c
   where
@@ -270,19 +254,16 @@ told t run es r p c =
     own : (e : Event) (es : List Event) → IsPastOf (e ∷ es) run →
         by_caller e.caller (committed t (will_of t run) es)
         ≡ pending (will_of t run) e.caller (local t es e.caller) ++ done_by t es e.caller →
-        cond (is_draw e.kind && will_of t run e.found)
-        (record {
+        cond (is_draw e.kind && will_of t run e.found) (record {
           caller = e.caller;
           number = e.found;
           entry = entry_of (local t es e.caller) (writes_of e.kind);
-        } ∷ by_caller e.caller (committed t (will_of t run) es))
-        (by_caller e.caller (committed t (will_of t run) es))
+        } ∷ by_caller e.caller (committed t (will_of t run) es)) (by_caller e.caller (committed t (will_of t run) es))
         ≡ pending (will_of t run) e.caller (after e.kind t (local t es e.caller) e) ++ done_by t (e ∷ es) e.caller
     own e es p ih =
         let here : Run t (e ∷ es) = run_before tl2 t (e ∷ es) run p r in
-        own_step t (will_of t run) e.caller (local t es e.caller) e e.kind
-        (by_caller e.caller (committed t (will_of t run) es)) (done_by t es e.caller)
-        (static t es here.0 e.caller) here.1.allowed (turn t es e here.1) (ends t run es e p r) ih
+        own_step e.caller (done_by t es e.caller)
+        (static t es here.0 e.caller) here.1.allowed (turn t es e here.1) (ends t es e p r) ih
         ∙ ap (λ ds. pending (will_of t run) e.caller (after e.kind t (local t es e.caller) e) ++ ds)
         (sym (done_mine t es e e.caller (eq-eqb e.caller e.caller refl)))
 
@@ -290,6 +271,6 @@ told t run es r p c =
 pub each_is_told : (t : Table) (run : List Event) → Run t run → (c : ℕ) →
     by_caller c (committed_in t run) ≡ done_by t run c
 each_is_told t run r c =
-    told t run run r (past_self run) c
+    told t r (past_self run) c
     ∙ ap (λ xs. xs ++ done_by t run c)
     (none_pending (will_of t run) c (local t run c) (λ n d v. invalid_not_yet t run c n r d v))

@@ -1,17 +1,9 @@
 -- Versions and values after the draws of the attempts that commit: `will` tells which these are, by their numbers.
 use Rattle.std.proofs.Common.{◌&&◌, ◌≡◌, ◌≢◌, ◌<◌, ◌≤◌, ◌+◌, ◌⊎◌, ◌∷◌, ◌++◌, ◌∙◌, ℕ, inl, inr, List, [], refl, ap, arith, sym, subst, true, false, Bool, Option, Some, None, length, get_or-set_same, get_or-set_other, if◌then◌else◌}
-use Rattle.std.proofs.lemmas.Bool.{and_parts, cases_Bool, cases_eq, cond_both, eq-eqb, ne_eqb}
-use Rattle.dstm_machines.specs.Traces.{IsPastOf}
+use Rattle.dstm_tl2.proofs.Base.{Event, IsPastOf, Run, Table, Val, and_parts, cases_Bool, cases_eq, cond_both, entry_at, eq-eqb, history, is_draw, ne_eqb, objects, value_at, with_writes, write_of, writes_of}
 use Rattle.dstm_model.proofs.Entries.{with_length}
-use Rattle.dstm_model.specs.declared.value.Val.{Val}
-use Rattle.dstm_model.specs.Map.{value_at, with_writes}
 use Rattle.dstm_machines.proofs.Orders as orders
 use Rattle.dstm_machines.proofs.Orders.{map_after}
-use Rattle.dstm_tl2.specs.Histories.{entry_at, history, is_draw, writes_of}
-use Rattle.dstm_tl2.specs.Rules.{Event}
-use Rattle.dstm_tl2.specs.Runs.{Run}
-use Rattle.dstm_tl2.specs.State.{write_of}
-use Rattle.dstm_tl2.specs.Words.{Table, objects}
 use Rattle.dstm_tl2.proofs.Clock.{Draws, NoDraw, clock, clock_step, clock_up}
 
 -- a value where there is none
@@ -28,8 +20,7 @@ abbrev pub version_at : (ℕ → Bool) → List Event → ℕ → ℕ
 version_at will [] o = 0
 version_at will (e ∷ es) o =
     if is_draw e.kind && will e.found
-    then version_or (write_of o (writes_of e.kind)) (e.found + 1) (version_at will es o)
-    else version_at will es o
+    then version_or (write_of o (writes_of e.kind)) (e.found + 1) (version_at will es o) else version_at will es o
 
 -- the map of the values
 abbrev pub state : Table → (ℕ → Bool) → List Event → List Val
@@ -57,8 +48,7 @@ pub record Still (t : Table) (will : ℕ → Bool) (es : List Event) (e : Event)
   pub value : value_at (state t will (e ∷ es)) o ≡ value_at (state t will es) o
 
 pub still : (t : Table) (will : ℕ → Bool) (es : List Event) (e : Event) (o : ℕ) → o < objects t →
-    (is_draw e.kind ≡ true → will e.found ≡ true → write_of o (writes_of e.kind) ≡ None) →
-    Still t will es e o
+    (is_draw e.kind ≡ true → will e.found ≡ true → write_of o (writes_of e.kind) ≡ None) → Still t will es e o
 still t will es e o b h = record {
   version = cond_both (is_draw e.kind && will e.found) _ (version_at will es o)
       (λ n. n ≡ version_at will es o)
@@ -80,8 +70,7 @@ pub record Wrote (t : Table) (will : ℕ → Bool) (es : List Event) (e : Event)
   pub value : value_at (state t will (e ∷ es)) o ≡ v
 
 pub wrote : (t : Table) (will : ℕ → Bool) (es : List Event) (e : Event) (o : ℕ) (v : Val) → o < objects t →
-    is_draw e.kind ≡ true → will e.found ≡ true → write_of o (writes_of e.kind) ≡ Some v →
-    Wrote t will es e o v
+    is_draw e.kind ≡ true → will e.found ≡ true → write_of o (writes_of e.kind) ≡ Some v → Wrote t will es e o v
 wrote t will es e o v b d w q = record {
   version = rw (d, w) (ap (λ x. version_or x (e.found + 1) (version_at will es o)) q);
   value = rw (d, w) (with_value (writes_of e.kind) (state t will es) o long
@@ -154,9 +143,9 @@ unchanged_from t will (e ∷ more) past o run b h =
         record { version = k.version ∙ sym s.version; value = k.value ∙ sym s.value }
     go (inr s) ih = absurd (let c = clock_more t more past run.0 in omega arith)
 
-pub unchanged : (t : Table) (will : ℕ → Bool) (past es : List Event) (o : ℕ) → IsPastOf past es → Run t es →
+pub unchanged : (t : Table) (will : ℕ → Bool) {past es : List Event} (o : ℕ) → IsPastOf past es → Run t es →
     o < objects t → version_at will es o ≤ clock t past → Unchanged t will past es o
-unchanged t will past es o p run b h =
+unchanged t will {past = past} {es = es} o p run b h =
     subst (λ es. Unchanged t will past es o) p.whole
     (unchanged_from t will p.later past o (subst (Run t) (sym p.whole) run) b
     (subst (λ es. version_at will es o ≤ clock t past) (sym p.whole) h))

@@ -1,10 +1,7 @@
 -- Calls that were made one after the other add up.
 use Rattle.std.proofs.Common.{◌≡◌, ◌≤◌, ◌∙◌, ◌++◌, ◌∷◌, List, [], ap, append_assoc, arith, length, length-append, refl, subst, sym}
 use Rattle.dstm_machines.proofs.Own.{state_both}
-use Rattle.dstm_machines.specs.Traces.{events_of}
-use Rattle.dstm_tl2.specs.Runs.{tl2}
-use Rattle.dstm_tl2.specs.State.{LocalState, first}
-use Rattle.dstm_tl2.specs.Words.{Table}
+use Rattle.dstm_tl2.proofs.Base.{LocalState, Table, events_of, first, tl2}
 use Rattle.dstm_tl2_order.specs.Calls.{IsCall, state_after}
 use Rattle.dstm_tl2_order.specs.Lives.{LivesAreBounded}
 use Rattle.dstm_tl2_order.specs.Made.{AreMade, Call, LocksItsWrites, events_in, prices, state_by}

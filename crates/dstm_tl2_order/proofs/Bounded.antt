@@ -1,15 +1,10 @@
 -- Each event of a call takes off what is left of its price.
-use Rattle.std.proofs.Common.{◌≡◌, ◌==◌, ◌+◌, ◌-◌, ◌*◌, ◌≤◌, ◌⊎◌, ◌∷◌, ◌++◌, ℕ, inl, inr, List, [], refl, ap, arith, sym, subst, true, false, Bool, Option, Some, None, is_some, length, length-append}
-use Rattle.std.specs.Prelude.{◌||◌, ◌<◌, is_none, not, if◌then◌else◌}
+use Rattle.std.proofs.Common.{◌≡◌, ◌==◌, ◌+◌, ◌-◌, ◌*◌, ◌≤◌, ◌⊎◌, ◌∷◌, ◌++◌, ℕ, inl, inr, List, [], refl, ap, arith, sym, subst, true, false, Bool, Option, Some, None, is_some, length, length-append, ◌<◌, not, if◌then◌else◌}
+use Rattle.std.specs.Prelude.{◌||◌, is_none}
 use Rattle.std.proofs.lemmas.List.Filters.{length-filter_both}
-use Rattle.std.proofs.lemmas.Bool.{cases_Bool, cond-false, cond-true, cond_both, eq-eqb, eqb-false}
-use Rattle.dstm_model.specs.declared.value.Val.{Val}
+use Rattle.dstm_tl2.proofs.Base.{Event, Hold, LocalState, Read, Table, Val, after, cases_Bool, cond-false, cond-true, cond_both, eq-eqb, eqb-false, high_object, is_readable, lock, low_object, marked, new_hold, next_check, next_write, objects, or_zero, to_check, unwritten, with_high, with_low, without, write_of}
 use Rattle.dstm_tl2.specs.declared.kind.Kind.{Kind}
-use Rattle.dstm_tl2.specs.declared.kind.Kind.TheVariants.{Enrol, Sample, LookLock, LookLow, LookHigh, LookAgain, Lock, Draw, Check, WriteLow, WriteHigh, Unlock}
-use Rattle.dstm_tl2.specs.Failing.{is_readable}
-use Rattle.dstm_tl2.specs.Rules.{Event, after, high_object, lock, low_object, new_hold}
-use Rattle.dstm_tl2.specs.State.{Hold, LocalState, Read, marked, next_check, next_write, or_zero, to_check, unwritten, with_high, with_low, without, write_of}
-use Rattle.dstm_tl2.specs.Words.{Table, objects}
+use Rattle.dstm_tl2.specs.declared.kind.Kind.TheVariants.{Check, Draw, Enrol, Lock, LookAgain, LookHigh, LookLock, LookLow, Sample, Unlock, WriteHigh, WriteLow}
 use Rattle.dstm_tl2_order.specs.Calls.{Obeys, newest_of, state_after}
 use Rattle.dstm_tl2_order.specs.Order.{IsDue, at_first, draws, due, has_sampled, in_beginning, in_checking, in_giving_back, in_locking, in_writing_back, is_spent, locks, next, when_locked}
 use Rattle.dstm_tl2_order.specs.Tasks.{Task, Work}
@@ -88,19 +83,21 @@ writing_snoc : (hs : List Hold) (l : LocalState) (w : ℕ × Val) → writing (h
 writing_snoc [] l w = omega arith
 writing_snoc (h ∷ hs) l w = let ih = writing_snoc hs l w in omega arith
 
+-- to take one out makes them no longer, and cost no more
+without_most : (size : List Hold → ℕ) → ((h : Hold) (hs : List Hold) → size hs ≤ size (h ∷ hs)) →
+    ((h : Hold) (hs ks : List Hold) → size hs ≤ size ks → size (h ∷ hs) ≤ size (h ∷ ks)) → (o : ℕ) (hs : List Hold) →
+    size (without o hs) ≤ size hs
+without_most size less more o [] = omega arith
+without_most size less more o (h ∷ hs) =
+    let ih = without_most size less more o hs in let one = less h hs in
+    cond_both (h.object == o) (without o hs) (h ∷ without o hs) (λ xs. size xs ≤ size (h ∷ hs)) (λ _. omega arith)
+    (λ _. more h (without o hs) hs ih)
+
 without_less : (o : ℕ) (hs : List Hold) → length (without o hs) ≤ length hs
-without_less o [] = omega arith
-without_less o (h ∷ hs) =
-    let ih = without_less o hs in
-    cond_both (h.object == o) (without o hs) (h ∷ without o hs) (λ xs. length xs ≤ length (h ∷ hs)) (λ _. omega arith)
-    (λ _. omega arith)
+without_less o hs = without_most length (λ h hs. omega arith) (λ h hs ks le. omega arith) o hs
 
 without_cheaper : (o : ℕ) (hs : List Hold) → writing (without o hs) ≤ writing hs
-without_cheaper o [] = omega arith
-without_cheaper o (h ∷ hs) =
-    let ih = without_cheaper o hs in
-    cond_both (h.object == o) (without o hs) (h ∷ without o hs) (λ xs. writing xs ≤ writing (h ∷ hs)) (λ _. omega arith)
-    (λ _. omega arith)
+without_cheaper o hs = without_most writing (λ h hs. omega arith) (λ h hs ks le. omega arith) o hs
 
 -- a part that is written makes none of them cost more
 marked_cheaper : (change : Hold → Hold) → ((h : Hold) → hold_cost (change h) ≤ hold_cost h) → (o : ℕ) (hs : List Hold) →
@@ -152,8 +149,8 @@ unwritten_less ws rs =
     (λ (r : Read). not (is_none (write_of r.object ws))) (λ r. refl) rs in omega arith
 
 module _ (t : Table) (w : Work) (l : LocalState) (e : Event) where
-  of_kind : (n : ℕ) (k : Kind) → e.kind ≡ k → Takes t w l e n k → Takes t w l e n e.kind
-  of_kind n k q h = subst (Takes t w l e n) (sym q) h
+  of_kind : (n : ℕ) {k : Kind} → e.kind ≡ k → Takes t w l e n k → Takes t w l e n e.kind
+  of_kind n q h = subst (Takes t w l e n) (sym q) h
 
   -- one that gives back
   takes_given : (n : ℕ) → l.failed ≡ true → IsDue t (in_giving_back l.holds) e → length l.holds ≤ n →
@@ -161,18 +158,18 @@ module _ (t : Table) (w : Work) (l : LocalState) (e : Event) where
   takes_given n failed due enough =
       let given = first_given t l.holds e due in
       let less = given.1 in
-      of_kind n Unlock given.0 (rw failed (omega arith), tt)
+      of_kind n given.0 (rw failed (omega arith), tt)
 
   -- one that writes back
   takes_written : (n d : ℕ) → IsDue t (in_writing_back d l.holds) e → writing l.holds ≤ n → Takes t w l e n e.kind
   takes_written n d due enough = go (first_written t d l.holds e due)
     where
       go : Written t l.holds e → Takes t w l e n e.kind
-      go (puts_low q less) = of_kind n WriteLow q (omega arith, tt)
-      go (puts_high q less) = of_kind n WriteHigh q (omega arith, tt)
+      go (puts_low q less) = of_kind n q (omega arith, tt)
+      go (puts_high q less) = of_kind n q (omega arith, tt)
       go (frees q less) =
           let few = giving_less (without e.place l.holds) in
-          of_kind n Unlock q (
+          of_kind n q (
             cond_both l.failed (length (without e.place l.holds)) (writing (without e.place l.holds)) (λ m. m + 1 ≤ n)
                 (λ _. omega arith) (λ _. omega arith),
             tt,
@@ -191,7 +188,7 @@ module _ (t : Table) (w : Work) (l : LocalState) (e : Event) where
           let other = eqb-false l.checked (length (to_check l)) q in
           let left : l.checked < length (to_check l) = less l.checked (length (to_check l)) counted other in
           let few = giving_less l.holds in
-          of_kind n Check is (
+          of_kind n is (
             cond_both (l.failed || not (e.found == (next_check l).word)) (length l.holds)
                 ((length (to_check l) - (l.checked + 1)) + writing l.holds) (λ m. m + 1 ≤ n) (λ _. omega arith)
                 (λ _. omega arith),
@@ -204,7 +201,7 @@ module _ (t : Table) (w : Work) (l : LocalState) (e : Event) where
   -- the Draw
   takes_drawn : (n : ℕ) (ws : List (ℕ × Val)) → e.kind ≡ draws ws → drawing l ≤ n → Takes t w l e n e.kind
   takes_drawn n ws q enough =
-      let few = unwritten_less ws l.reads in of_kind n (draws ws) q (omega arith, omega arith)
+      let few = unwritten_less ws l.reads in of_kind n q (omega arith, omega arith)
 
   -- a lock, or what comes behind the last one
   takes_locked : (n : ℕ) (ws : List (ℕ × Val)) → l.locked ≤ length ws → IsDue t (in_locking ws w l) e →
@@ -220,8 +217,7 @@ module _ (t : Table) (w : Work) (l : LocalState) (e : Event) where
 
       -- one more lock, and one that fails
       one : (v : Work) → l.locked < length ws → locking ws v l ≤ n →
-          (m : LocalState) →
-          ((m.locked ≡ l.locked + 1) × (m.reads ≡ l.reads) × (length m.holds ≡ length l.holds + 1)
+          (m : LocalState) → ((m.locked ≡ l.locked + 1) × (m.reads ≡ l.reads) × (length m.holds ≡ length l.holds + 1)
           × (writing m.holds ≡ writing l.holds + 3))
           ⊎ ((m.locked ≡ l.locked) × (length m.holds ≡ length l.holds) × (m.failed ≡ true)) →
           ((if m.failed then length m.holds else locking ws v m) + 1 ≤ n) × (m.locked ≤ length ws)
@@ -252,12 +248,10 @@ module _ (t : Table) (w : Work) (l : LocalState) (e : Event) where
       go (inr q) =
           let is : e.kind ≡ locks ws = rw q at due in
           let left = less l.locked (length ws) counted (eqb-false l.locked (length ws) q) in
-          of_kind n (locks ws) is
+          of_kind n is
           (cond_both (e.found == e.expected) (lock l ws) (record l { look = None; writes = Some ws; failed = true })
-          (λ (m : LocalState).
-          ((if m.failed then length m.holds else locking ws w m) + 1 ≤ n) × (m.locked ≤ length ws))
-          (λ _. one w left enough (lock l ws)
-          (inl (
+          (λ (m : LocalState). ((if m.failed then length m.holds else locking ws w m) + 1 ≤ n) × (m.locked ≤ length ws))
+          (λ _. one w left enough (lock l ws) (inl (
             refl,
             refl,
             length-append l.holds (new_hold l (next_write l ws) ∷ []),
@@ -286,8 +280,7 @@ Within task (Some e) l = CountedBy task e.kind l
 -- what is due first of a call on an attempt
 takes_first : (t : Table) (w : Work) (l : LocalState) (e : Event) → CanLock (Doing w) l →
     IsDue t (at_first w l) e → Takes t w l e (left_first w l) e.kind
-takes_first t (Opening o) l e can due =
-    of_kind t (Opening o) l e 4 LookLock due.0 (omega arith, tt)
+takes_first t (Opening o) l e can due = of_kind t (Opening o) l e 4 due.0 (omega arith, tt)
 takes_first t (Locking ws) l e can due =
     takes_locked t (Locking ws) l e (locking ws (Locking ws) l) ws can due (omega arith)
 takes_first t (Finishing ws) l e can due = takes_drawn t (Finishing ws) l e (drawing l) ws due (omega arith)
@@ -301,10 +294,10 @@ takes_next t w l newest e LookLock c due = go (cases_Bool (is_readable l.sample 
   where
     go : (is_readable l.sample newest.found ≡ true) ⊎ (is_readable l.sample newest.found ≡ false) →
         Takes t w l e 3 e.kind
-    go (inl q) = let is : e.kind ≡ LookLow = rw q at due in of_kind t w l e 3 LookLow is (omega arith, tt)
+    go (inl q) = let is : e.kind ≡ LookLow = rw q at due in of_kind t w l e 3 is (omega arith, tt)
     go (inr q) = let none : ⊥ = rw q at due in absurd none
-takes_next t w l newest e LookLow c due = of_kind t w l e 2 LookHigh due (omega arith, tt)
-takes_next t w l newest e LookHigh c due = of_kind t w l e 1 LookAgain due (omega arith, tt)
+takes_next t w l newest e LookLow c due = of_kind t w l e 2 due (omega arith, tt)
+takes_next t w l newest e LookHigh c due = of_kind t w l e 1 due (omega arith, tt)
 takes_next t w l newest e LookAgain c due = absurd due
 takes_next t w l newest e (Lock ws) c due = go (cases_Bool l.failed)
   where
@@ -341,13 +334,11 @@ takes_next t w l newest e Sample c due = absurd due
 
 -- to begin
 takes_begun : (t : Table) (newest : Option Event) (l : LocalState) (e : Event) →
-    IsDue t (in_beginning t newest l) e →
-    left Beginning (Some e) (after e.kind t l e) + 1 ≤ left Beginning newest l
+    IsDue t (in_beginning t newest l) e → left Beginning (Some e) (after e.kind t l e) + 1 ≤ left Beginning newest l
 takes_begun t newest l e due = go (cases_Bool (has_sampled newest)) (cases_Bool (length l.holds == 0)) (cases_Bool (is_spent t l))
   where
     go : (has_sampled newest ≡ true) ⊎ (has_sampled newest ≡ false) →
-        (length l.holds == 0 ≡ true) ⊎ (length l.holds == 0 ≡ false) →
-        (is_spent t l ≡ true) ⊎ (is_spent t l ≡ false) →
+        (length l.holds == 0 ≡ true) ⊎ (length l.holds == 0 ≡ false) → (is_spent t l ≡ true) ⊎ (is_spent t l ≡ false) →
         left Beginning (Some e) (after e.kind t l e) + 1 ≤ left Beginning newest l
     go (inl a) b c = let none : ⊥ = rw a at due in absurd none
     go (inr a) (inr b) c =

@@ -1,13 +1,7 @@
 -- Why a call has left its attempt, from what it answers.
-use Rattle.std.proofs.Common.{◌++◌, ◌∙◌, ◌≡◌, ◌⊎◌, ◌∷◌, List, [], Some, ap, inl, inr, refl, subst, true, false}
-use Rattle.std.specs.Prelude.{Bool, if◌then◌else◌}
-use Rattle.std.proofs.lemmas.Bool.{cases_Bool}
-use Rattle.dstm_tl2.specs.Failing.{fails, is_locked}
+use Rattle.std.proofs.Common.{◌++◌, ◌∙◌, ◌≡◌, ◌⊎◌, ◌∷◌, List, [], Some, ap, inl, inr, refl, subst, true, false, Bool, if◌then◌else◌}
+use Rattle.dstm_tl2.proofs.Base.{Event, LocalState, Table, cases_Bool, fails, is_locked, tl2}
 use Rattle.dstm_machines.proofs.Own.{state_both}
-use Rattle.dstm_tl2.specs.Rules.{Event}
-use Rattle.dstm_tl2.specs.Runs.{tl2}
-use Rattle.dstm_tl2.specs.State.{LocalState}
-use Rattle.dstm_tl2.specs.Words.{Table}
 use Rattle.dstm_tl2_order.specs.Calls.{Causes, Found, answer_of, cause, is_look_lock, state_after}
 use Rattle.dstm_tl2_order.specs.declared.again.TlAgain.{TlAgain}
 use Rattle.dstm_tl2_order.specs.declared.again.TlAgain.TheVariants.{Changed, Locked, Newer}
@@ -50,8 +44,7 @@ cause_stays again t l es e = by again
 pub causes_of : (t : Table) (l : LocalState) (es : List Event) (again : TlAgain) → answer_of t l es ≡ Some again →
     Causes again t l es
 causes_of t l [] again h = absurd (cc)
-causes_of t l (e ∷ es) again h =
-    by (causes_of t l es again) (cases_Bool (fails e.kind (state_after t l es) e))
+causes_of t l (e ∷ es) again h = by (causes_of t l es again) (cases_Bool (fails e.kind (state_after t l es) e))
   where
     by : (answer_of t l es ≡ Some again → Causes again t l es) →
         (fails e.kind (state_after t l es) e ≡ true) ⊎ (fails e.kind (state_after t l es) e ≡ false) →
@@ -87,8 +80,8 @@ pub record Ended (t : Table) (l : LocalState) (es : List Event) : Type 0 where
   pub in_call : es ≡ later ++ event ∷ before
   pub fails : fails event.kind (state_after t l before) event ≡ true
 
-ended_here : (t : Table) (l : LocalState) (es : List Event) (o : _) → Found t l es o → Ended t l es
-ended_here t l es o f = record {
+ended_here : {t : Table} {l : LocalState} {es : List Event} {o : _} → Found t l es o → Ended t l es
+ended_here f = record {
   event = f.event;
   later = f.later;
   before = f.before;
@@ -101,6 +94,6 @@ pub ended_by : (t : Table) (l : LocalState) (es : List Event) (again : TlAgain) 
 ended_by t l es again h = by again (causes_of t l es again h)
   where
     by : (again : TlAgain) → Causes again t l es → Ended t l es
-    by (Locked o) c = ended_here t l es o c.0
-    by (Newer o) c = ended_here t l es o c.0
-    by (Changed o) c = ended_here t l es o c.0
+    by (Locked o) c = ended_here c.0
+    by (Newer o) c = ended_here c.0
+    by (Changed o) c = ended_here c.0

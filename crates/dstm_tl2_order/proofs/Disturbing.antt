@@ -1,16 +1,10 @@
 -- A call that answers why its attempt was left has disturbed it.
-use Rattle.std.proofs.Common.{◌≡◌, ◌+◌, ◌*◌, ◌%◌, ◌<◌, ◌≤◌, ◌⊎◌, ◌∷◌, ◌++◌, ◌∙◌, ℕ, inl, inr, List, [], refl, ap, append_assoc, arith, sym, subst, true, false, Bool, Some, lt-ltb}
-use Rattle.std.specs.Prelude.{◌&&◌, not, nat_le, nat_lt}
-use Rattle.std.proofs.lemmas.Bool.{and_from, cases_Bool, cases_eq, eq-eqb, eqb-false, leb-false, ne_eqb}
-use Rattle.dstm_machines.specs.Traces.{events_of}
-use Rattle.dstm_machines.proofs.Own.{after_own}
+use Rattle.std.proofs.Common.{◌≡◌, ◌+◌, ◌*◌, ◌%◌, ◌<◌, ◌≤◌, ◌⊎◌, ◌∷◌, ◌++◌, ◌∙◌, ℕ, inl, inr, List, [], refl, ap, append_assoc, arith, sym, subst, true, false, Bool, Some, lt-ltb, ◌&&◌, not}
+use Rattle.std.specs.Prelude.{nat_le, nat_lt}
+use Rattle.dstm_tl2.proofs.Base.{Event, LocalState, Table, and_from, cases_Bool, cases_eq, eq-eqb, eqb-false, events_of, fails, is_locked, is_readable, leb-false, local, ne_eqb, tl2}
 use Rattle.dstm_tl2.specs.declared.kind.Kind.{Kind}
-use Rattle.dstm_tl2.specs.declared.kind.Kind.TheVariants.{LookLock, LookAgain, Lock, Check}
-use Rattle.dstm_tl2.specs.Failing.{fails, is_locked, is_readable}
-use Rattle.dstm_tl2.specs.Rules.{Event}
-use Rattle.dstm_tl2.specs.Runs.{local, tl2}
-use Rattle.dstm_tl2.specs.State.{LocalState}
-use Rattle.dstm_tl2.specs.Words.{Table}
+use Rattle.dstm_tl2.specs.declared.kind.Kind.TheVariants.{Check, Lock, LookAgain, LookLock}
+use Rattle.dstm_machines.proofs.Own.{after_own}
 use Rattle.dstm_tl2_order.specs.Calls.{answer_of, state_after}
 use Rattle.dstm_tl2_order.specs.declared.again.TlAgain.{TlAgain}
 use Rattle.dstm_tl2_order.specs.Ended.{Disturbed, finds_changed, finds_locked, finds_newer, is_first_or_lock, is_later_look, is_look_lock}
@@ -36,9 +30,9 @@ unreadable sample word h free =
     over : (a b : ℕ) → nat_le a b ≡ false → b < a
     over a b h = leb-false a b h
 
-ends_by : (l : LocalState) (e : Event) (k : Kind) → e.kind ≡ k → fails k l e ≡ true →
+ends_by : (l : LocalState) (e : Event) {k : Kind} → e.kind ≡ k → fails k l e ≡ true →
     (finds_locked l e ≡ true) ⊎ ((finds_newer l e ≡ true) ⊎ (finds_changed l e ≡ true))
-ends_by l e LookLock is f = by (cases_Bool (is_locked e.found))
+ends_by l e {k = LookLock} is f = by (cases_Bool (is_locked e.found))
   where
     by : (is_locked e.found ≡ true) ⊎ (is_locked e.found ≡ false) →
         (finds_locked l e ≡ true) ⊎ ((finds_newer l e ≡ true) ⊎ (finds_changed l e ≡ true))
@@ -46,13 +40,13 @@ ends_by l e LookLock is f = by (cases_Bool (is_locked e.found))
     by (inr q) =
         inr (inl (and_from (is_look_lock e.kind) (nat_lt (2 * l.sample + 1) e.found) (ap is_look_lock is)
         (unreadable l.sample e.found f q)))
-ends_by l e LookAgain is f =
+ends_by l e {k = LookAgain} is f =
     inr (inr (and_from (is_later_look e.kind) (fails e.kind l e) (ap is_later_look is) (ap (λ k. fails k l e) is ∙ f)))
-ends_by l e (Lock w) is f =
+ends_by l e {k = (Lock w)} is f =
     inr (inr (and_from (is_later_look e.kind) (fails e.kind l e) (ap is_later_look is) (ap (λ k. fails k l e) is ∙ f)))
-ends_by l e Check is f =
+ends_by l e {k = Check} is f =
     inr (inr (and_from (is_later_look e.kind) (fails e.kind l e) (ap is_later_look is) (ap (λ k. fails k l e) is ∙ f)))
-ends_by l e k is f = absurd (cc)
+ends_by l e is f = absurd (cc)
 
 -- ---- where it stands
 
@@ -63,6 +57,17 @@ pub record StandsAt (c : ℕ) (log : List Event) (event : Event) (older : List E
   pub before : List Event
   pub whole : log ≡ later ++ event ∷ before
   pub rest : events_of c before ≡ older
+
+-- and it does after one more event
+stands_later : {c : ℕ} {log rest : List Event} {event : Event} (f : Event) → StandsAt c log event rest →
+    StandsAt c (f ∷ log) event rest
+stands_later f s = record {
+  own = s.own;
+  later = f ∷ s.later;
+  before = s.before;
+  whole = ap (λ (xs : List Event). f ∷ xs) s.whole;
+  rest = s.rest;
+}
 
 pub own_stands : (c : ℕ) (log newer : List Event) (event : Event) (rest : List Event) →
     events_of c log ≡ newer ++ event ∷ rest → StandsAt c log event rest
@@ -84,33 +89,17 @@ own_stands c (f ∷ log) [] event rest h = by (cases_eq f.caller c) (own_stands 
           rest = others;
         }
     by (inr n) ih =
-        let s = ih (rw (ne_eqb f.caller c n) at h) in
-        record {
-          own = s.own;
-          later = f ∷ s.later;
-          before = s.before;
-          whole = ap (λ (xs : List Event). f ∷ xs) s.whole;
-          rest = s.rest;
-        }
+        stands_later f (ih (rw (ne_eqb f.caller c n) at h))
 own_stands c (f ∷ log) (e ∷ newer) event rest h =
     by (cases_eq f.caller c) (own_stands c log (e ∷ newer) event rest) (own_stands c log newer event rest)
   where
-    more : StandsAt c log event rest → StandsAt c (f ∷ log) event rest
-    more s = record {
-      own = s.own;
-      later = f ∷ s.later;
-      before = s.before;
-      whole = ap (λ (xs : List Event). f ∷ xs) s.whole;
-      rest = s.rest;
-    }
-
     by : (f.caller ≡ c) ⊎ (f.caller ≡ c → ⊥) →
         (events_of c log ≡ e ∷ (newer ++ event ∷ rest) → StandsAt c log event rest) →
         (events_of c log ≡ newer ++ event ∷ rest → StandsAt c log event rest) → StandsAt c (f ∷ log) event rest
     by (inl q) later ih =
         let both : f ∷ events_of c log ≡ e ∷ (newer ++ event ∷ rest) = rw (eq-eqb f.caller c q) at h in
-        let others : events_of c log ≡ newer ++ event ∷ rest = cc in more (ih others)
-    by (inr n) later ih = more (later (rw (ne_eqb f.caller c n) at h))
+        let others : events_of c log ≡ newer ++ event ∷ rest = cc in stands_later f (ih others)
+    by (inr n) later ih = stands_later f (later (rw (ne_eqb f.caller c n) at h))
 
 -- A CALL THAT ANSWERS WHY ITS ATTEMPT WAS LEFT HAS DISTURBED IT.
 pub answers_disturb : (t : Table) (c : ℕ) (log before es : List Event) (again : TlAgain) →
@@ -129,8 +118,7 @@ answers_disturb t c log before es again own attempt gives =
     (begun_at s.later ended.event s.before) in
     let here : (local t s.before c).begun ≡ (local t log c).begun =
     omega (arith, low, high, attempt, ap (λ (l : LocalState). l.begun) state) in
-    by s.later ended.event s.before s.whole s.own here
-    (ends_by (local t s.before c) ended.event ended.event.kind refl
+    by s.later ended.event s.before s.whole s.own here (ends_by (local t s.before c) ended.event refl
     (ap (λ (l : LocalState). fails ended.event.kind l ended.event) state ∙ ended.fails))
   where
     begun_at : (later : List Event) (e : Event) (es : List Event) →
@@ -139,13 +127,12 @@ answers_disturb t c log before es again own attempt gives =
         let one = begun_up t c (e ∷ []) es in let more = begun_up t c later (e ∷ es) in omega arith
 
     by : (later : List Event) (e : Event) (es : List Event) → log ≡ later ++ e ∷ es → e.caller ≡ c →
-        (local t es c).begun ≡ (local t log c).begun →
-        (finds_locked (local t es c) e ≡ true)
+        (local t es c).begun ≡ (local t log c).begun → (finds_locked (local t es c) e ≡ true)
         ⊎ ((finds_newer (local t es c) e ≡ true) ⊎ (finds_changed (local t es c) e ≡ true)) →
         Disturbed t log c (local t log c).begun
     by later e es whole own here (inl q) =
-        found_locked (one_there finds_locked t log later e es c (local t log c).begun whole own here q)
+        found_locked (one_there finds_locked t later e es c (local t log c).begun whole own here q)
     by later e es whole own here (inr (inl q)) =
-        found_newer (one_there finds_newer t log later e es c (local t log c).begun whole own here q)
+        found_newer (one_there finds_newer t later e es c (local t log c).begun whole own here q)
     by later e es whole own here (inr (inr q)) =
-        found_changed (one_there finds_changed t log later e es c (local t log c).begun whole own here q)
+        found_changed (one_there finds_changed t later e es c (local t log c).begun whole own here q)

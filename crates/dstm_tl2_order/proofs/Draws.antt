@@ -1,15 +1,9 @@
 -- Whether an attempt has drawn, as its caller's state tells.
-use Rattle.std.proofs.Common.{◌≡◌, ◌==◌, ◌<◌, ◌⊎◌, ◌∷◌, ◌+◌, ◌∙◌, ℕ, inl, inr, List, [], refl, ap, arith, sym, subst, true, false, Bool, Option, None, Some, is_some}
-use Rattle.std.specs.Prelude.{◌&&◌}
-use Rattle.std.proofs.lemmas.Bool.{and_from, and_left, and_parts, and_right, cases_Bool, eq-eqb, eqb-true, ne_eqb}
-use Rattle.dstm_machines.proofs.Own.{local_mine, local_others}
+use Rattle.std.proofs.Common.{◌≡◌, ◌==◌, ◌<◌, ◌⊎◌, ◌∷◌, ◌+◌, ◌∙◌, ℕ, inl, inr, List, [], refl, ap, arith, sym, subst, true, false, Bool, Option, None, Some, is_some, ◌&&◌}
+use Rattle.dstm_tl2.proofs.Base.{Event, LocalState, Run, Table, after, and_from, and_left, and_parts, and_right, cases_Bool, eq-eqb, eqb-true, is_draw, is_valid, local, ne_eqb, tl2, will_of}
 use Rattle.dstm_tl2.specs.declared.kind.Kind.{Kind}
-use Rattle.dstm_tl2.specs.declared.kind.Kind.TheVariants.{Sample, Draw}
-use Rattle.dstm_tl2.specs.Histories.{is_draw, will_of}
-use Rattle.dstm_tl2.specs.Rules.{Event, after}
-use Rattle.dstm_tl2.specs.Runs.{Run, local, tl2}
-use Rattle.dstm_tl2.specs.State.{LocalState, is_valid}
-use Rattle.dstm_tl2.specs.Words.{Table}
+use Rattle.dstm_tl2.specs.declared.kind.Kind.TheVariants.{Draw, Sample}
+use Rattle.dstm_machines.proofs.Own.{local_mine, local_others}
 use Rattle.dstm_tl2.proofs.Foretelling.{valid_will}
 use Rattle.dstm_tl2.proofs.Static.{valid_drawn}
 use Rattle.dstm_tl2_order.specs.Ended.{HasCommitted, HasNoDraw, draws, draws_for, has_one}
@@ -26,11 +20,11 @@ data Drawn (l m : LocalState) (e : Event) (n : ℕ) : Type 0 where
   now : is_draw e.kind ≡ true → e.found ≡ n → m.begun ≡ l.begun → Drawn l m e n
   before : l.drawn ≡ Some n → m.begun ≡ l.begun → Drawn l m e n
 
-drawn_by : (t : Table) (l : LocalState) (e : Event) (n : ℕ) (k : Kind) → e.kind ≡ k →
+drawn_by : (t : Table) (l : LocalState) (e : Event) (n : ℕ) {k : Kind} → e.kind ≡ k →
     (after k t l e).drawn ≡ Some n → Drawn l (after k t l e) e n
-drawn_by t l e n Sample is drawn = absurd (cc)
-drawn_by t l e n (Draw w) is drawn = now (ap is_draw is) (let same : e.found ≡ n = cc in same) refl
-drawn_by t l e n k is drawn =
+drawn_by t l e n {k = Sample} is drawn = absurd (cc)
+drawn_by t l e n {k = (Draw w)} is drawn = now (ap is_draw is) (let same : e.found ≡ n = cc in same) refl
+drawn_by t l e n {k = k} is drawn =
     let r = rests t l e k refl refl in before (sym r.drawn ∙ drawn) r.begun
 
 pub drawn_stands : (t : Table) (es : List Event) (c n : ℕ) → (local t es c).drawn ≡ Some n →
@@ -42,7 +36,7 @@ drawn_stands t (e ∷ es) c n drawn = go (cases_Bool (e.caller == c)) (drawn_sta
         ((local t es c).drawn ≡ Some n → has_one (drew n) t es c (local t es c).begun ≡ true) →
         has_one (drew n) t (e ∷ es) c (local t (e ∷ es) c).begun ≡ true
     go (inl q) ih =
-        by (drawn_by t (local t es c) e n e.kind refl
+        by (drawn_by t (local t es c) e n refl
         (ap (λ (l : LocalState). l.drawn) (sym (local_mine tl2 t es e c q)) ∙ drawn))
       where
         mine : (local t (e ∷ es) c).begun ≡ (after e.kind t (local t es c) e).begun
@@ -88,11 +82,11 @@ data Undrawn (l m : LocalState) (e : Event) : Type 0 where
   begins : m.begun ≡ l.begun + 1 → Undrawn l m e
   rest : is_draw e.kind ≡ false → l.drawn ≡ None → m.begun ≡ l.begun → Undrawn l m e
 
-undrawn_by : (t : Table) (l : LocalState) (e : Event) (k : Kind) → e.kind ≡ k →
+undrawn_by : (t : Table) (l : LocalState) (e : Event) {k : Kind} → e.kind ≡ k →
     (after k t l e).drawn ≡ None → Undrawn l (after k t l e) e
-undrawn_by t l e Sample is none = begins refl
-undrawn_by t l e (Draw w) is none = absurd (cc)
-undrawn_by t l e k is none = let r = rests t l e k refl refl in rest (ap is_draw is) (sym r.drawn ∙ none) r.begun
+undrawn_by t l e {k = Sample} is none = begins refl
+undrawn_by t l e {k = (Draw w)} is none = absurd (cc)
+undrawn_by t l e {k = k} is none = let r = rests t l e k refl refl in rest (ap is_draw is) (sym r.drawn ∙ none) r.begun
 
 pub undrawn_none : (t : Table) (es : List Event) (c : ℕ) → (local t es c).drawn ≡ None →
     HasNoDraw t es c (local t es c).begun
@@ -103,7 +97,7 @@ undrawn_none t (e ∷ es) c none = go (cases_Bool (e.caller == c)) (undrawn_none
         ((local t es c).drawn ≡ None → HasNoDraw t es c (local t es c).begun) →
         HasNoDraw t (e ∷ es) c (local t (e ∷ es) c).begun
     go (inl q) ih =
-        by (undrawn_by t (local t es c) e e.kind refl
+        by (undrawn_by t (local t es c) e refl
         (ap (λ (l : LocalState). l.drawn) (sym (local_mine tl2 t es e c q)) ∙ none))
       where
         mine : (local t (e ∷ es) c).begun ≡ (after e.kind t (local t es c) e).begun

@@ -1,13 +1,8 @@
 -- A read is four looks.
-use Rattle.std.proofs.Common.{◌≡◌, ◌==◌, ◌⊎◌, ◌∷◌, ◌++◌, ◌∙◌, ℕ, inl, inr, List, [], refl, ap, sym, subst, true, false, Some, None}
-use Rattle.std.specs.Prelude.{if◌then◌else◌}
-use Rattle.std.proofs.lemmas.Bool.{cases_Bool, cond_both, eqb-false, eqb-true}
+use Rattle.std.proofs.Common.{◌≡◌, ◌==◌, ◌⊎◌, ◌∷◌, ◌++◌, ◌∙◌, ℕ, inl, inr, List, [], refl, ap, sym, subst, true, false, Some, None, if◌then◌else◌}
+use Rattle.dstm_tl2.proofs.Base.{Event, LocalState, Look, Read, Table, after, cases_Bool, cond_both, eqb-false, eqb-true, fails, is_readable, look_of, or_value, record_read}
 use Rattle.dstm_tl2.specs.declared.kind.Kind.{Kind}
-use Rattle.dstm_tl2.specs.declared.kind.Kind.TheVariants.{LookLock, LookLow, LookHigh, LookAgain}
-use Rattle.dstm_tl2.specs.Failing.{fails, is_readable}
-use Rattle.dstm_tl2.specs.Rules.{Event, after, record_read}
-use Rattle.dstm_tl2.specs.State.{LocalState, Look, Read, look_of, or_value}
-use Rattle.dstm_tl2.specs.Words.{Table}
+use Rattle.dstm_tl2.specs.declared.kind.Kind.TheVariants.{LookAgain, LookHigh, LookLock, LookLow}
 use Rattle.dstm_tl2_order.specs.Calls.{IsCall, Obeys, answer_of, cause, due_after, state_after}
 use Rattle.dstm_tl2_order.specs.Order.{IsDue, next}
 use Rattle.dstm_tl2_order.specs.Order.Due.{Just, Done}
@@ -19,28 +14,25 @@ use Rattle.dstm_tl2_order.specs.Laws.{AreFourLooks}
 data Looks (t : Table) (l : LocalState) (o : ℕ) : List Event → Type 0 where
   none : Looks t l o []
   one : (a : Event) → a.kind ≡ LookLock → a.place ≡ o → Looks t l o (a ∷ [])
-  two :
-      (b a : Event) → b.kind ≡ LookLow → a.kind ≡ LookLock → a.place ≡ o → is_readable l.sample a.found ≡ true →
+  two : (b a : Event) → b.kind ≡ LookLow → a.kind ≡ LookLock → a.place ≡ o → is_readable l.sample a.found ≡ true →
       Looks t l o (b ∷ a ∷ [])
-  three :
-      (c b a : Event) → c.kind ≡ LookHigh → b.kind ≡ LookLow → a.kind ≡ LookLock → a.place ≡ o →
+  three : (c b a : Event) → c.kind ≡ LookHigh → b.kind ≡ LookLow → a.kind ≡ LookLock → a.place ≡ o →
       is_readable l.sample a.found ≡ true → Looks t l o (c ∷ b ∷ a ∷ [])
-  four :
-      (d c b a : Event) → d.kind ≡ LookAgain → c.kind ≡ LookHigh → b.kind ≡ LookLow → a.kind ≡ LookLock →
+  four : (d c b a : Event) → d.kind ≡ LookAgain → c.kind ≡ LookHigh → b.kind ≡ LookLow → a.kind ≡ LookLock →
       a.place ≡ o → is_readable l.sample a.found ≡ true → Looks t l o (d ∷ c ∷ b ∷ a ∷ [])
 
 -- what is due after a look
-behind : (t : Table) (o : ℕ) (l m : LocalState) (a e : Event) (k : Kind) → a.kind ≡ k →
+behind : (t : Table) (o : ℕ) (l m : LocalState) (a e : Event) {k : Kind} → a.kind ≡ k →
     IsDue t (next a.kind a (Opening o) m) e → IsDue t (next k a (Opening o) m) e
-behind t o l m a e k q d = subst (λ k. IsDue t (next k a (Opening o) m) e) q d
+behind t o l m a e {k = k} q d = subst (λ k. IsDue t (next k a (Opening o) m) e) q d
 
-one_more : (t : Table) (l : LocalState) (o : ℕ) (es : List Event) (e : Event) → Looks t l o es →
+one_more : {t : Table} {l : LocalState} {o : ℕ} {es : List Event} (e : Event) → Looks t l o es →
     IsDue t (due_after (Doing (Opening o)) t l es) e → Looks t l o (e ∷ es)
-one_more t l o _ e none d = one e d.0 d.1
-one_more t l o _ e (one a k p) d = go (cases_Bool (is_readable l.sample a.found))
+one_more e none d = one e d.0 d.1
+one_more {t = t} {l = l} {o = o} e (one a k p) d = go (cases_Bool (is_readable l.sample a.found))
   where
     due : IsDue t (if is_readable (after a.kind t l a).sample a.found then Just LookLow else Done) e
-    due = behind t o l (after a.kind t l a) a e LookLock k d
+    due = behind t o l (after a.kind t l a) a e k d
 
     same : (after a.kind t l a).sample ≡ l.sample
     same = ap (λ k. (after k t l a).sample) k
@@ -48,21 +40,20 @@ one_more t l o _ e (one a k p) d = go (cases_Bool (is_readable l.sample a.found)
     go : (is_readable l.sample a.found ≡ true) ⊎ (is_readable l.sample a.found ≡ false) → Looks t l o (e ∷ a ∷ [])
     go (inl q) = let is : e.kind ≡ LookLow = rw (same, q) at due in two e a is k p q
     go (inr q) = let no : ⊥ = rw (same, q) at due in absurd no
-one_more t l o _ e (two b a kb k p q) d =
-    three e b a (behind t o l (state_after t l (b ∷ a ∷ [])) b e LookLow kb d) kb k p q
-one_more t l o _ e (three c b a kc kb k p q) d =
-    four e c b a (behind t o l (state_after t l (c ∷ b ∷ a ∷ [])) c e LookHigh kc d) kc kb k p q
-one_more t l o _ e (four x c b a kx kc kb k p q) d =
-    absurd (behind t o l (state_after t l (x ∷ c ∷ b ∷ a ∷ [])) x e LookAgain kx d)
+one_more {t = t} {l = l} {o = o} e (two b a kb k p q) d =
+    three e b a (behind t o l (state_after t l (b ∷ a ∷ [])) b e kb d) kb k p q
+one_more {t = t} {l = l} {o = o} e (three c b a kc kb k p q) d =
+    four e c b a (behind t o l (state_after t l (c ∷ b ∷ a ∷ [])) c e kc d) kc kb k p q
+one_more {t = t} {l = l} {o = o} e (four x c b a kx kc kb k p q) d =
+    absurd (behind t o l (state_after t l (x ∷ c ∷ b ∷ a ∷ [])) x e kx d)
 
 looks : (t : Table) (l : LocalState) (o : ℕ) (es : List Event) → Obeys (Doing (Opening o)) t l es → Looks t l o es
 looks t l o [] obeys = none
-looks t l o (e ∷ es) obeys = one_more t l o es e (looks t l o es obeys.0) obeys.1
+looks t l o (e ∷ es) obeys = one_more e (looks t l o es obeys.0) obeys.1
 
 -- the word that was found first, and the value
 looked : (t : Table) (l : LocalState) (c b a : Event) → c.kind ≡ LookHigh → b.kind ≡ LookLow → a.kind ≡ LookLock →
-    look_of (after c.kind t (after b.kind t (after a.kind t l a) b) c)
-    ≡ record {
+    look_of (after c.kind t (after b.kind t (after a.kind t l a) b) c) ≡ record {
       object = a.place;
       word = a.found;
       low = Some b.found;
@@ -97,10 +88,10 @@ no_failure t l e es answer = go (cases_Bool (fails e.kind (state_after t l es) e
     go (inr q) = q
 
 -- a call that has ended, and goes on
-ended : (t : Table) (l : LocalState) (o : ℕ) (es : List Event) → Looks t l o es →
+ended : {t : Table} {l : LocalState} {o : ℕ} {es : List Event} → Looks t l o es →
     due_after (Doing (Opening o)) t l es ≡ Done → answer_of t l es ≡ None → AreFourLooks t l o es
-ended t l o _ none done answer = absurd (cc)
-ended t l o _ (one a k p) done answer = go (cases_Bool (is_readable l.sample a.found))
+ended none done answer = absurd (cc)
+ended {t = t} {l = l} {o = o} (one a k p) done answer = go (cases_Bool (is_readable l.sample a.found))
   where
     due : (if is_readable (after a.kind t l a).sample a.found then Just LookLow else Done) ≡ Done
     due = subst (λ k. next k a (Opening o) (after a.kind t l a) ≡ Done) k done
@@ -108,17 +99,16 @@ ended t l o _ (one a k p) done answer = go (cases_Bool (is_readable l.sample a.f
     good : fails LookLock l a ≡ false
     good = subst (λ k. fails k l a ≡ false) k (no_failure t l a [] answer)
 
-    go : (is_readable l.sample a.found ≡ true) ⊎ (is_readable l.sample a.found ≡ false) →
-        AreFourLooks t l o (a ∷ [])
+    go : (is_readable l.sample a.found ≡ true) ⊎ (is_readable l.sample a.found ≡ false) → AreFourLooks t l o (a ∷ [])
     go (inl q) = absurd (let no : Just LookLow ≡ Done = rw (ap (λ k. (after k t l a).sample) k, q) at due in cc)
     go (inr q) = absurd (let no : true ≡ false = rw q at good in cc)
-ended t l o _ (two b a kb k p q) done answer =
+ended {t = t} {l = l} {o = o} (two b a kb k p q) done answer =
     absurd (let no : next LookLow b (Opening o) (state_after t l (b ∷ a ∷ [])) ≡ Done =
     subst (λ k. next k b (Opening o) (state_after t l (b ∷ a ∷ [])) ≡ Done) kb done in cc)
-ended t l o _ (three c b a kc kb k p q) done answer =
+ended {t = t} {l = l} {o = o} (three c b a kc kb k p q) done answer =
     absurd (let no : next LookHigh c (Opening o) (state_after t l (c ∷ b ∷ a ∷ [])) ≡ Done =
     subst (λ k. next k c (Opening o) (state_after t l (c ∷ b ∷ a ∷ [])) ≡ Done) kc done in cc)
-ended t l o _ (four d c b a kd kc kb k p q) done answer = record {
+ended {t = t} {l = l} {o = o} (four d c b a kd kc kb k p q) done answer = record {
   again = d;
   high = c;
   low = b;
@@ -155,6 +145,6 @@ ended t l o _ (four d c b a kd kc kb k p q) done answer = record {
         go (inl r) = eqb-true d.found (look_of before).word r ∙ word
         go (inr r) = absurd (let no : true ≡ false = rw r at good in cc)
 
-pub four_looks : (o : ℕ) (t : Table) (l : LocalState) (es : List Event) → IsCall (Doing (Opening o)) t l es →
+pub four_looks : (o : ℕ) {t : Table} {l : LocalState} {es : List Event} → IsCall (Doing (Opening o)) t l es →
     answer_of t l es ≡ None → AreFourLooks t l o es
-four_looks o t l es call answer = ended t l o es (looks t l o es call.obeys) call.done answer
+four_looks o {t = t} {l = l} {es = es} call answer = ended (looks t l o es call.obeys) call.done answer

@@ -1,15 +1,9 @@
 -- Events of an attempt that pass a test.
-use Rattle.std.proofs.Common.{◌≡◌, ◌==◌, ◌<◌, ◌⊎◌, ◌∷◌, ◌++◌, ◌∙◌, ℕ, inl, inr, List, [], refl, ap, arith, sym, subst, true, false, Bool}
-use Rattle.std.specs.Prelude.{◌&&◌, ◌||◌}
-use Rattle.std.proofs.lemmas.Bool.{and_from, and_left, and_parts, and_right, cases_Bool, eq-eqb, eqb-true, ne_eqb, or_left, or_right}
-use Rattle.dstm_machines.specs.Traces.{events_of}
+use Rattle.std.proofs.Common.{◌≡◌, ◌==◌, ◌<◌, ◌⊎◌, ◌∷◌, ◌++◌, ◌∙◌, ℕ, inl, inr, List, [], refl, ap, arith, sym, subst, true, false, Bool, ◌&&◌}
+use Rattle.std.specs.Prelude.{◌||◌}
+use Rattle.dstm_tl2.proofs.Base.{Event, LocalState, Table, and_from, and_left, and_parts, and_right, cases_Bool, eq-eqb, eqb-true, events_of, is_draw, local, ne_eqb, or_left, or_right, tl2, will_of}
 use Rattle.dstm_machines.proofs.Own.{own_first, own_other}
 use Rattle.dstm_machines.proofs.Runs.{local-events_of}
-use Rattle.dstm_tl2.specs.Histories.{is_draw, will_of}
-use Rattle.dstm_tl2.specs.Rules.{Event}
-use Rattle.dstm_tl2.specs.Runs.{local, tl2}
-use Rattle.dstm_tl2.specs.State.{LocalState}
-use Rattle.dstm_tl2.specs.Words.{Table}
 use Rattle.dstm_tl2.proofs.Foretelling.{will_more}
 use Rattle.dstm_tl2_order.specs.Ended.{Disturbed, HasCommitted, draws_for, finds_changed, finds_locked, finds_newer, has_one}
 use Rattle.dstm_tl2_order.specs.Ended.Disturbed.{found_locked, found_newer, found_changed}
@@ -32,10 +26,10 @@ one_more test t [] es c i is = is
 one_more test t (e ∷ more) es c i is = or_right _ (has_one test t (more ++ es) c i) (one_more test t more es c i is)
 
 -- an event that stands somewhere in a log
-pub one_there : (test : Test) (t : Table) (log later : List Event) (e : Event) (es : List Event) (c i : ℕ) →
+pub one_there : (test : Test) (t : Table) {log : List Event} (later : List Event) (e : Event) (es : List Event) (c i : ℕ) →
     log ≡ later ++ e ∷ es → e.caller ≡ c → (local t es c).begun ≡ i → test (local t es c) e ≡ true →
     has_one test t log c i ≡ true
-one_there test t log later e es c i whole own at is =
+one_there test t later e es c i whole own at is =
     subst (λ (l : List Event). has_one test t l c i ≡ true) (sym whole)
     (one_more test t later (e ∷ es) c i (one_here test t e es c i (eq-eqb e.caller c own) at is))
 

@@ -1,14 +1,9 @@
 -- What an event does to the number of attempts that its caller has begun, and to what it has drawn.
 use Rattle.std.proofs.Common.{◌≡◌, ◌==◌, ◌≤◌, ◌⊎◌, ◌∷◌, ◌++◌, ℕ, inl, inr, List, [], refl, ap, arith, true, false, None, Some}
-use Rattle.std.proofs.lemmas.Bool.{cases_Bool, cond_both}
-use Rattle.dstm_machines.proofs.Own.{local_mine, local_others}
+use Rattle.dstm_tl2.proofs.Base.{Event, LocalState, Table, after, cases_Bool, cond_both, is_draw, is_sample, local, lock, look_of, record_read, tl2}
 use Rattle.dstm_tl2.specs.declared.kind.Kind.{Kind}
-use Rattle.dstm_tl2.specs.declared.kind.Kind.TheVariants.{Sample, LookAgain, Lock, Draw}
-use Rattle.dstm_tl2.specs.Histories.{is_draw, is_sample}
-use Rattle.dstm_tl2.specs.Rules.{Event, after, lock, record_read}
-use Rattle.dstm_tl2.specs.Runs.{local, tl2}
-use Rattle.dstm_tl2.specs.State.{LocalState, look_of}
-use Rattle.dstm_tl2.specs.Words.{Table}
+use Rattle.dstm_tl2.specs.declared.kind.Kind.TheVariants.{Draw, Lock, LookAgain, Sample}
+use Rattle.dstm_machines.proofs.Own.{local_mine, local_others}
 use Rattle.dstm_tl2_order.specs.Calls.{state_after}
 
 -- no event lowers it

@@ -1,16 +1,10 @@
 -- What was checked before anything is written.
-use Rattle.std.proofs.Common.{◌≡◌, ◌==◌, ◌⊎◌, ◌∷◌, ◌++◌, ◌∙◌, ℕ, inl, inr, List, [], add-one, refl, ap, sym, subst, true, false, Bool, length}
-use Rattle.std.specs.Prelude.{◌||◌, ◌+◌, not, slice_get}
-use Rattle.std.proofs.lemmas.Bool.{cases_Bool, eqb-true, or_right}
-use Rattle.std.proofs.lemmas.List.Elements.{All-cons, All-nil}
-use Rattle.dstm_model.specs.declared.value.Val.{Val}
+use Rattle.std.proofs.Common.{◌≡◌, ◌==◌, ◌⊎◌, ◌∷◌, ◌++◌, ◌∙◌, ℕ, inl, inr, List, [], add-one, refl, ap, sym, subst, true, false, Bool, length, ◌+◌, not, slice_get}
+use Rattle.std.specs.Prelude.{◌||◌}
+use Rattle.dstm_tl2.proofs.Base.{Event, LocalState, Read, Table, Val, after, cases_Bool, eqb-true, is_draw, is_readable, next_check, or_read, or_right, or_zero, to_check}
 use Rattle.dstm_tl2.specs.declared.kind.Kind.{Kind}
-use Rattle.dstm_tl2.specs.declared.kind.Kind.TheVariants.{Enrol, Sample, LookLock, LookLow, LookHigh, LookAgain, Lock, Draw, Check, WriteLow, WriteHigh, Unlock}
-use Rattle.dstm_tl2.specs.Failing.{is_readable}
-use Rattle.dstm_tl2.specs.Histories.{is_draw}
-use Rattle.dstm_tl2.specs.Rules.{Event, after}
-use Rattle.dstm_tl2.specs.State.{LocalState, Read, next_check, or_read, or_zero, to_check}
-use Rattle.dstm_tl2.specs.Words.{Table}
+use Rattle.dstm_tl2.specs.declared.kind.Kind.TheVariants.{Check, Draw, Enrol, Lock, LookAgain, LookHigh, LookLock, LookLow, Sample, Unlock, WriteHigh, WriteLow}
+use Rattle.std.proofs.lemmas.List.Elements.{All-cons, All-nil}
 use Rattle.dstm_tl2_order.specs.Calls.{Obeys, state_after}
 use Rattle.dstm_tl2_order.specs.Order.{IsDue, at_first, draws, in_checking, in_giving_back, in_locking, in_writing_back, locks, next, when_locked}
 use Rattle.dstm_tl2_order.specs.Tasks.{Work}
@@ -54,14 +48,14 @@ module _ (t : Table) (l : LocalState) where
   abbrev Goes : List Event → Event → Type 0
   Goes es e = Known e.kind (e ∷ es) × (writes e.kind ≡ true → IsValidated t l es)
 
-  of_kind : (es : List Event) (e : Event) (k : Kind) → e.kind ≡ k → Known k (e ∷ es) →
+  of_kind : (es : List Event) (e : Event) {k : Kind} → e.kind ≡ k → Known k (e ∷ es) →
       (writes k ≡ true → IsValidated t l es) → Goes es e
-  of_kind es e k q known valid =
+  of_kind es e {k = k} q known valid =
       (subst (λ k. Known k (e ∷ es)) (sym q) known, λ is. valid (sym (ap writes q) ∙ is))
 
   -- one event more that writes back
-  longer : (es : List Event) (e : Event) → writes_back e.kind ≡ true → IsValidated t l es → IsValidated t l (e ∷ es)
-  longer es e back v = record {
+  longer : {es : List Event} (e : Event) → writes_back e.kind ≡ true → IsValidated t l es → IsValidated t l (e ∷ es)
+  longer e back v = record {
     later = e ∷ v.later;
     checks = v.checks;
     draw = v.draw;
@@ -73,28 +67,26 @@ module _ (t : Table) (l : LocalState) where
     all = v.all;
   }
 
-  behind_write : (es : List Event) (e : Event) (n : ℕ) → IsValidated t l es →
+  behind_write : {es : List Event} (e : Event) (n : ℕ) → IsValidated t l es →
       IsDue t (in_writing_back n (now es).holds) e → Goes es e
-  behind_write es e n v due = go (first_written t n (now es).holds e due)
+  behind_write {es = es} e n v due = go (first_written t n (now es).holds e due)
     where
       go : Written t (now es).holds e → Goes es e
-      go (puts_low q less) = of_kind es e WriteLow q (longer es e (ap writes_back q) v) (λ _. v)
-      go (puts_high q less) = of_kind es e WriteHigh q (longer es e (ap writes_back q) v) (λ _. v)
-      go (frees q less) = of_kind es e Unlock q (λ _. longer es e (ap writes_back q) v) (λ _. v)
+      go (puts_low q less) = of_kind es e q (longer e (ap writes_back q) v) (λ _. v)
+      go (puts_high q less) = of_kind es e q (longer e (ap writes_back q) v) (λ _. v)
+      go (frees q less) = of_kind es e q (λ _. longer e (ap writes_back q) v) (λ _. v)
 
   given_back : (es : List Event) (e : Event) → (now es).failed ≡ true → IsDue t (in_giving_back (now es).holds) e →
       Goes es e
   given_back es e failed due =
       let q = (first_given t (now es).holds e due).0 in
-      of_kind es e Unlock q
+      of_kind es e q
       (λ sound. absurd (let no : true ≡ false =
-      sym failed ∙ sym (ap (λ k. (after k t (now es) e).failed) q) ∙ sound in cc))
-      (λ is. absurd (cc))
+      sym failed ∙ sym (ap (λ k. (after k t (now es) e).failed) q) ∙ sound in cc)) (λ is. absurd (cc))
 
   behind_draw : (es : List Event) (e : Event) (ws : List (ℕ × Val)) → e.kind ≡ draws ws → Goes es e
   behind_draw es e ws q =
-      of_kind es e (draws ws) q
-      (record {
+      of_kind es e q (record {
         checks = [];
         draw = e;
         before = es;
@@ -103,11 +95,10 @@ module _ (t : Table) (l : LocalState) where
         checked = tt;
         count = ap (λ k. (after k t (now es) e).checked) q;
         same = refl;
-      })
-      (λ is. absurd (cc))
+      }) (λ is. absurd (cc))
 
-  behind_check : (es : List Event) (e : Event) → Counting t l es → IsDue t (in_checking (now es)) e → Goes es e
-  behind_check es e c due = go (cases_Bool ((now es).checked == length (to_check (now es))))
+  behind_check : {es : List Event} (e : Event) → Counting t l es → IsDue t (in_checking (now es)) e → Goes es e
+  behind_check {es = es} e c due = go (cases_Bool ((now es).checked == length (to_check (now es))))
     where
       one : e.kind ≡ Check → (now (e ∷ es)).failed ≡ false → Counting t l (e ∷ es)
       one q sound = record {
@@ -117,8 +108,7 @@ module _ (t : Table) (l : LocalState) where
         are = ap (λ xs. e ∷ xs) c.are;
         draws = c.draws;
         checked = (c.checked, q, found ∙ ap (λ (r : Read). r.word) place);
-        count =
-            ap (λ k. (after k t (now es) e).checked) q ∙ ap (λ n. n + 1) c.count ∙ add-one (length c.checks);
+        count = ap (λ k. (after k t (now es) e).checked) q ∙ ap (λ n. n + 1) c.count ∙ add-one (length c.checks);
         same = ap (λ k. to_check (after k t (now es) e)) q ∙ c.same;
       }
         where
@@ -143,8 +133,7 @@ module _ (t : Table) (l : LocalState) where
       go : ((now es).checked == length (to_check (now es)) ≡ true)
           ⊎ ((now es).checked == length (to_check (now es)) ≡ false) → Goes es e
       go (inl q) =
-          behind_write es e (or_zero (now es).drawn)
-          (record {
+          behind_write e (or_zero (now es).drawn) (record {
             later = [];
             checks = c.checks;
             draw = c.draw;
@@ -153,12 +142,10 @@ module _ (t : Table) (l : LocalState) where
             back = All-nil (λ (e : Event). writes_back e.kind ≡ true);
             draws = c.draws;
             checked = c.checked;
-            all =
-                sym c.count ∙ eqb-true (now es).checked (length (to_check (now es))) q ∙ ap length c.same;
-          })
-          (rw q at due)
+            all = sym c.count ∙ eqb-true (now es).checked (length (to_check (now es))) q ∙ ap length c.same;
+          }) (rw q at due)
       go (inr q) =
-          let is : e.kind ≡ Check = rw q at due in of_kind es e Check is (one is) (λ no. absurd (cc))
+          let is : e.kind ≡ Check = rw q at due in of_kind es e is (one is) (λ no. absurd (cc))
 
   behind_lock : (es : List Event) (e : Event) (ws : List (ℕ × Val)) (w : Work) → IsDue t (in_locking ws w (now es)) e →
       Goes es e
@@ -170,10 +157,10 @@ module _ (t : Table) (l : LocalState) where
 
       go : ((now es).locked == length ws ≡ true) ⊎ ((now es).locked == length ws ≡ false) → Goes es e
       go (inl q) = rest w (rw q at due)
-      go (inr q) = let is : e.kind ≡ locks ws = rw q at due in of_kind es e (locks ws) is tt (λ no. absurd (cc))
+      go (inr q) = let is : e.kind ≡ locks ws = rw q at due in of_kind es e is tt (λ no. absurd (cc))
 
   first : (w : Work) (e : Event) → IsDue t (at_first w l) e → Goes [] e
-  first (Opening o) e due = of_kind [] e LookLock due.0 tt (λ no. absurd (cc))
+  first (Opening o) e due = of_kind [] e due.0 tt (λ no. absurd (cc))
   first (Locking ws) e due = behind_lock [] e ws (Locking ws) due
   first (Finishing ws) e due = behind_draw [] e ws due
   first (Committing ws) e due = behind_lock [] e ws (Committing ws) due
@@ -183,29 +170,29 @@ module _ (t : Table) (l : LocalState) where
   behind w es n e LookLock known due = go (cases_Bool (is_readable (now es).sample n.found))
     where
       go : (is_readable (now es).sample n.found ≡ true) ⊎ (is_readable (now es).sample n.found ≡ false) → Goes es e
-      go (inl q) = let is : e.kind ≡ LookLow = rw q at due in of_kind es e LookLow is tt (λ no. absurd (cc))
+      go (inl q) = let is : e.kind ≡ LookLow = rw q at due in of_kind es e is tt (λ no. absurd (cc))
       go (inr q) = let no : ⊥ = rw q at due in absurd no
-  behind w es n e LookLow known due = of_kind es e LookHigh due tt (λ no. absurd (cc))
-  behind w es n e LookHigh known due = of_kind es e LookAgain due tt (λ no. absurd (cc))
+  behind w es n e LookLow known due = of_kind es e due tt (λ no. absurd (cc))
+  behind w es n e LookHigh known due = of_kind es e due tt (λ no. absurd (cc))
   behind w es n e LookAgain known due = absurd due
   behind w es n e (Lock ws) known due = go (cases_Bool (now es).failed)
     where
       go : ((now es).failed ≡ true) ⊎ ((now es).failed ≡ false) → Goes es e
       go (inl q) = given_back es e q (rw q at due)
       go (inr q) = behind_lock es e ws.value w (rw q at due)
-  behind w es n e (Draw ws) known due = behind_check es e known due
+  behind w es n e (Draw ws) known due = behind_check e known due
   behind w es n e Check known due = go (cases_Bool (now es).failed)
     where
       go : ((now es).failed ≡ true) ⊎ ((now es).failed ≡ false) → Goes es e
       go (inl q) = given_back es e q (rw q at due)
-      go (inr q) = behind_check es e (known q) (rw q at due)
-  behind w es n e WriteLow known due = behind_write es e (or_zero (now es).drawn) known due
-  behind w es n e WriteHigh known due = behind_write es e (or_zero (now es).drawn) known due
+      go (inr q) = behind_check e (known q) (rw q at due)
+  behind w es n e WriteLow known due = behind_write e (or_zero (now es).drawn) known due
+  behind w es n e WriteHigh known due = behind_write e (or_zero (now es).drawn) known due
   behind w es n e Unlock known due = go (cases_Bool (now es).failed)
     where
       go : ((now es).failed ≡ true) ⊎ ((now es).failed ≡ false) → Goes es e
       go (inl q) = given_back es e q (rw q at due)
-      go (inr q) = behind_write es e (or_zero (now es).drawn) (known q) (rw q at due)
+      go (inr q) = behind_write e (or_zero (now es).drawn) (known q) (rw q at due)
   behind w es n e Enrol known due = absurd due
   behind w es n e Sample known due = absurd due
 

@@ -1,16 +1,8 @@
 -- What an attempt has read, as its caller's own events tell.
-use Rattle.std.proofs.Common.{◌≡◌, ◌==◌, ◌<◌, ◌⊎◌, ◌∷◌, ◌∙◌, ℕ, inl, inr, List, [], refl, ap, arith, sym, subst, true, false, Bool}
-use Rattle.std.specs.Prelude.{◌&&◌, if◌then◌else◌}
-use Rattle.std.proofs.lemmas.Bool.{and_from, and_left, cases_Bool, cond-false, cond-true, eq-eqb}
-use Rattle.dstm_model.specs.declared.value.Val.{Val}
-use Rattle.dstm_machines.specs.Traces.{events_of}
+use Rattle.std.proofs.Common.{◌≡◌, ◌==◌, ◌<◌, ◌⊎◌, ◌∷◌, ◌∙◌, ℕ, inl, inr, List, [], refl, ap, arith, sym, subst, true, false, Bool, ◌&&◌, if◌then◌else◌}
+use Rattle.dstm_tl2.proofs.Base.{Event, LocalState, Table, Val, and_from, and_left, cases_Bool, cond-false, cond-true, eq-eqb, events_of, local, read_values, tl2}
 use Rattle.dstm_machines.proofs.Own.{local_others, own_first, own_other}
 use Rattle.dstm_machines.proofs.Runs.{local-events_of}
-use Rattle.dstm_tl2.specs.Histories.{read_values}
-use Rattle.dstm_tl2.specs.Rules.{Event}
-use Rattle.dstm_tl2.specs.Runs.{local, tl2}
-use Rattle.dstm_tl2.specs.State.{LocalState}
-use Rattle.dstm_tl2.specs.Words.{Table}
 use Rattle.dstm_tl2_order.specs.Ended.{reads_of}
 
 reads_skip : (t : Table) (e : Event) (es : List Event) (c i : ℕ) → (e.caller == c) ≡ false →
