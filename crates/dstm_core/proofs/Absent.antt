@@ -1,7 +1,6 @@
 -- Numbers that may be absent.
-use Rattle.std.proofs.Common.{◌≡◌, ℕ, true, false, Option, Some, None, is_some, refl}
-use Rattle.std.specs.Prelude.{is_none}
-use Rattle.dstm_core.specs.State.{or_zero}
+use Rattle.std.proofs.Common.{◌≡◌, ℕ, true, false, Option, Some, None, is_some, refl, is_none}
+use Rattle.dstm_core.proofs.Base.{or_zero}
 
 pub some_zero : (o : Option ℕ) → is_some o ≡ true → o ≡ Some (or_zero o)
 some_zero None h = absurd (cc)

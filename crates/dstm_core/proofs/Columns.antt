@@ -2,20 +2,7 @@
 use Rattle.std.proofs.Common.{◌≡◌, ◌≢◌, ◌+◌, ◌-◌, ◌*◌, ◌/◌, ◌%◌, ◌<◌, ◌==◌, ◌⊎◌, ◌∷◌, ◌∙◌, ℕ, inl, inr, List, [], refl, ap, arith, sym, cond, Some, length, subst}
 use Rattle.std.proofs.Math.Nat.{mul-add-div_right, div-eq_of_lt}
 use Rattle.std.proofs.lemmas.Nat.{mod-mul-add, mul-add-lt}
-use Rattle.std.proofs.lemmas.Bool.Decides.{nat_tests}
-use Rattle.std.proofs.lemmas.Bool.{cases_eq}
-use Rattle.dstm_core.specs.declared.event.Kind.TheVariants.{Enrol, Begin, PutOwner, PutOld, Install, PutNew, Draw, Commit, Kill, Quit, Stamp, Rank, Pause, Resume, PutHigh, Validating as ToValidating}
-use Rattle.dstm_core.specs.declared.state.Phase.TheVariants.{Outside, Running, Paused, Putting, Drawn}
-use Rattle.dstm_core.specs.declared.state.Phase.{Phase}
-use Rattle.dstm_core.specs.Words.Word.{CallersWord, StampsWord, ObjectWord, StatusWord, RankWord, OwnerWord, OldWord, LowWord, HighWord, NumbersWord}
-use Rattle.dstm_core.specs.declared.shape.Shape.{Shape}
-use Rattle.dstm_core.specs.Events.{Event}
-use Rattle.dstm_core.specs.declared.event.Kind.{Kind}
-use Rattle.dstm_core.specs.State.{LocalState, or_zero, next_attempt, own_attempt, next_locator, given, res, next_write}
-use Rattle.dstm_core.specs.Rules.{rank_of, target, AllowedAs}
-use Rattle.dstm_core.specs.Traces.{at, word}
-use Rattle.dstm_core.specs.Runs.{local, Core, Fits}
-use Rattle.dstm_core.specs.Words.{Word, place, HasWord}
+use Rattle.dstm_core.proofs.Base.{AllowedAs, Begin, CallersWord, Commit, Core, Draw, Enrol, Event, Fits, HasWord, HighWord, Install, Kill, Kind, LocalState, LowWord, NumbersWord, ObjectWord, OldWord, Outside, OwnerWord, Pause, Phase, PutHigh, PutNew, PutOld, PutOwner, Putting, Quit, Rank, RankWord, Resume, Running, Shape, Stamp, StampsWord, StatusWord, ToValidating, Word, at, cases_eq, given, local, nat_tests, next_attempt, next_locator, next_write, or_zero, own_attempt, place, rank_of, res, target, word}
 use Rattle.dstm_core.proofs.Places.{same_place, kept, put_at}
 use Rattle.dstm_core.proofs.Static.{static, Static, running, begun_more, installed_more}
 
@@ -40,14 +27,14 @@ pub record Begun (s : Shape) (es : List Event) (a : ℕ) : Type 0 where
   pub below : a < s.callers * s.attempts
   pub begun : a % s.attempts < (local s es (a / s.attempts)).begun
 
-pub used_more : (s : Shape) (es : List Event) (e : Event) (m : ℕ) → Used s es m → Used s (e ∷ es) m
-used_more s es e m u = record {
+pub used_more : {s : Shape} {es : List Event} (e : Event) {m : ℕ} → Used s es m → Used s (e ∷ es) m
+used_more {s = s} {es = es} e {m = m} u = record {
   below = u.below;
   used = let before = u.used in let more = installed_more s es e (m / s.locators) in omega arith;
 }
 
-pub begun_still : (s : Shape) (es : List Event) (e : Event) (m : ℕ) → Begun s es m → Begun s (e ∷ es) m
-begun_still s es e m u = record {
+pub begun_still : {s : Shape} {es : List Event} (e : Event) {m : ℕ} → Begun s es m → Begun s (e ∷ es) m
+begun_still {s = s} {es = es} e {m = m} u = record {
   below = u.below;
   begun = let before = u.begun in let more = begun_more s es e (m / s.attempts) in omega arith;
 }
@@ -153,52 +140,50 @@ told f (inl x) = inl x
 told f (inr y) = inr (f y)
 
 -- an attempt moves its status out of a phase
-moved : (s : Shape) (l : LocalState) (e : Event) (p : Phase) (value : ℕ) → l.phase ≡ p → p ≢ Outside →
+moved : (s : Shape) (l : LocalState) (e : Event) {p : Phase} (value : ℕ) → l.phase ≡ p → p ≢ Outside →
     e.put ≡ cond (e.found == given p) value e.found →
     (e.put ≡ value → MovedTo e) → (e.put ≡ e.found) ⊎ StatusMove s l e (own_attempt s l)
-moved s l e p value q out h how =
+moved s l e {p = p} value q out h how =
     told (λ x. moves (record {
       attempt = refl;
       inside = λ z. out (sym q ∙ z);
       found = x.0 ∙ ap given (sym q);
       how = how x.1;
-    }))
-    (exchanged e.found (given p) value e.put h)
+    })) (exchanged e.found (given p) value e.put h)
 
 -- an event leaves what it found, or changes the word that it aims at in this way
-change_of : (s : Shape) (l : LocalState) (e : Event) (k : Kind) → e.kind ≡ k → AllowedAs k s l e →
+change_of : (s : Shape) (l : LocalState) (e : Event) {k : Kind} → e.kind ≡ k → AllowedAs k s l e →
     (e.put ≡ e.found) ⊎ ChangeOf (target k s l e) s l e
-change_of s l e Enrol q a = inr (q, a.1.1)
-change_of s l e Stamp q a = inr (q, a.1.1)
-change_of s l e Draw q a = inr (q, a.1.1)
-change_of s l e Rank q a = inr (record { kind = q; number = refl })
-change_of s l e PutOwner q a = inr (record { kind = q; number = refl })
-change_of s l e PutOld q a = inr (record { kind = q; number = refl })
-change_of s l e PutHigh q a = inr (record { kind = q; number = refl })
-change_of s l e PutNew q a = inr (record { kind = q; number = refl })
-change_of s l e Install q a =
+change_of s l e {k = Enrol} q a = inr (q, a.1.1)
+change_of s l e {k = Stamp} q a = inr (q, a.1.1)
+change_of s l e {k = Draw} q a = inr (q, a.1.1)
+change_of s l e {k = Rank} q a = inr (record { kind = q; number = refl })
+change_of s l e {k = PutOwner} q a = inr (record { kind = q; number = refl })
+change_of s l e {k = PutOld} q a = inr (record { kind = q; number = refl })
+change_of s l e {k = PutHigh} q a = inr (record { kind = q; number = refl })
+change_of s l e {k = PutNew} q a = inr (record { kind = q; number = refl })
+change_of s l e {k = Install} q a =
     told (λ x. record { kind = q; object = refl; found = x.0; expected = a.1.0; put = x.1 })
     (exchanged e.found (res l).word (next_locator s l + 1) e.put a.1.1)
-change_of s l e Begin q a = inr (begins (record { kind = q; attempt = refl; put = a.1.1 }))
-change_of s l e ToValidating q a = go a.2.0
+change_of s l e {k = Begin} q a = inr (begins (record { kind = q; attempt = refl; put = a.1.1 }))
+change_of s l e {k = ToValidating} q a = go a.2.0
   where
     go : ((l.phase ≡ Running) × (l.writes ≡ [])) ⊎ ((l.phase ≡ Putting) × (l.written ≡ length l.writes)) →
         (e.put ≡ e.found) ⊎ StatusMove s l e (own_attempt s l)
-    go (inl y) = moved s l e Running 3 y.0 (λ z. cc) a.1.1 (λ v. inl (q, v))
-    go (inr y) = moved s l e Putting 3 y.0 (λ z. cc) a.1.1 (λ v. inl (q, v))
-change_of s l e Commit q a = moved s l e Drawn 4 a.2.0 (λ z. cc) a.1.1 (λ v. inr (inl (q, v)))
-change_of s l e Quit q a = moved s l e l.phase 5 refl a.2 a.1.1 (λ v. inr (inr (inl (q, v))))
-change_of s l e Pause q a = moved s l e Running 2 a.2.0 (λ z. cc) a.1.1 (λ v. inr (inr (inr (inl (q, v)))))
-change_of s l e Resume q a = moved s l e Paused 1 a.2.0 (λ z. cc) a.1.1 (λ v. inr (inr (inr (inr (q, v)))))
-change_of s l e Kill q a =
+    go (inl y) = moved s l e 3 y.0 (λ z. cc) a.1.1 (λ v. inl (q, v))
+    go (inr y) = moved s l e 3 y.0 (λ z. cc) a.1.1 (λ v. inl (q, v))
+change_of s l e {k = Commit} q a = moved s l e 4 a.2.0 (λ z. cc) a.1.1 (λ v. inr (inl (q, v)))
+change_of s l e {k = Quit} q a = moved s l e 5 refl a.2 a.1.1 (λ v. inr (inr (inl (q, v))))
+change_of s l e {k = Pause} q a = moved s l e 2 a.2.0 (λ z. cc) a.1.1 (λ v. inr (inr (inr (inl (q, v)))))
+change_of s l e {k = Resume} q a = moved s l e 1 a.2.0 (λ z. cc) a.1.1 (λ v. inr (inr (inr (inr (q, v)))))
+change_of s l e {k = Kill} q a =
     told (λ x. kills (record {
       kind = q;
       attempt = refl;
       found = let y = a.2.3 in grind (arith, nat_tests);
       put = x.1;
-    }))
-    (exchanged e.found (or_zero (res l).status) 5 e.put a.1.1)
-change_of s l e k q a = inl a.1.1
+    })) (exchanged e.found (or_zero (res l).status) 5 e.put a.1.1)
+change_of s l e q a = inl a.1.1
 
 -- the event changes a word
 pub record Changed (s : Shape) (es : List Event) (e : Event) (w : Word) : Type 0 where
@@ -206,10 +191,10 @@ pub record Changed (s : Shape) (es : List Event) (e : Event) (w : Word) : Type 0
   pub now : word s (e ∷ es) w ≡ e.put
   pub was : word s es w ≡ e.found
 
-pub change : (s : Shape) (es : List Event) (e : Event) (w : Word) → Step s es e → HasWord s w →
+pub change : {s : Shape} {es : List Event} {e : Event} (w : Word) → Step s es e → HasWord s w →
     Same s es e w ⊎ Changed s es e w
-change s es e w p h =
-    go (cases_eq e.place (place s w)) (change_of s (local s es e.caller) e e.kind refl p.fits.allowed)
+change {s = s} {es = es} {e = e} w p h =
+    go (cases_eq e.place (place s w)) (change_of s (local s es e.caller) e refl p.fits.allowed)
   where
     go : (e.place ≡ place s w) ⊎ (e.place ≡ place s w → ⊥) →
         (e.put ≡ e.found) ⊎ ChangeOf (target e.kind s (local s es e.caller) e) s (local s es e.caller) e →
@@ -224,9 +209,9 @@ change s es e w p h =
     })
 
 -- a word stays at an event that is none of those that change it
-pub stays : (s : Shape) (es : List Event) (e : Event) (w : Word) → Step s es e → HasWord s w →
+pub stays : {s : Shape} {es : List Event} {e : Event} (w : Word) → Step s es e → HasWord s w →
     (ChangeOf w s (local s es e.caller) e → ⊥) → Same s es e w
-stays s es e w p h not = go (change s es e w p h)
+stays {s = s} {es = es} {e = e} w p h not = go (change w p h)
   where
     go : Same s es e w ⊎ Changed s es e w → Same s es e w
     go (inl x) = x
@@ -239,27 +224,26 @@ pub record Installed (s : Shape) (es : List Event) (e : Event) (o : ℕ) : Type 
   pub now : at (e ∷ es) o ≡ next_locator s (local s es e.caller) + 1
   pub was : at es o ≡ (res (local s es e.caller)).word
 
-pub objects : (s : Shape) (es : List Event) (e : Event) (o : ℕ) → Step s es e → o < s.objects →
+pub objects : {s : Shape} {es : List Event} {e : Event} (o : ℕ) → Step s es e → o < s.objects →
     (at (e ∷ es) o ≡ at es o) ⊎ Installed s es e o
-objects s es e o p h =
-    told (λ x. record { how = x.how; now = x.now ∙ x.how.put; was = x.was ∙ x.how.found })
-    (change s es e (ObjectWord o) p h)
+objects o p h =
+    told (λ x. record { how = x.how; now = x.now ∙ x.how.put; was = x.was ∙ x.how.found }) (change (ObjectWord o) p h)
 
 -- a count rises by 1 at the events of its kind, and stays at every other event
-counted : (s : Shape) (es : List Event) (e : Event) (w : Word) (k : Kind) → Step s es e → HasWord s w →
+counted : {s : Shape} {es : List Event} {e : Event} (w : Word) (k : Kind) → Step s es e → HasWord s w →
     (ChangeOf w s (local s es e.caller) e → Counts e k) →
     Same s es e w ⊎ ((e.kind ≡ k) × (word s (e ∷ es) w ≡ word s es w + 1))
-counted s es e w k p h counts =
-    told (λ x. let y = counts x.how in (y.0, x.now ∙ y.1 ∙ ap (λ n. n + 1) (sym x.was))) (change s es e w p h)
+counted w k p h counts =
+    told (λ x. let y = counts x.how in (y.0, x.now ∙ y.1 ∙ ap (λ n. n + 1) (sym x.was))) (change w p h)
 
-pub numbers : (s : Shape) (es : List Event) (e : Event) → Step s es e →
+pub numbers : {s : Shape} {es : List Event} {e : Event} → Step s es e →
     Same s es e NumbersWord ⊎ ((e.kind ≡ Draw) × (word s (e ∷ es) NumbersWord ≡ word s es NumbersWord + 1))
-numbers s es e p = counted s es e NumbersWord Draw p tt (λ h. h)
+numbers p = counted NumbersWord Draw p tt (λ h. h)
 
-pub stamps : (s : Shape) (es : List Event) (e : Event) → Step s es e →
+pub stamps : {s : Shape} {es : List Event} {e : Event} → Step s es e →
     Same s es e StampsWord ⊎ ((e.kind ≡ Stamp) × (word s (e ∷ es) StampsWord ≡ word s es StampsWord + 1))
-stamps s es e p = counted s es e StampsWord Stamp p tt (λ h. h)
+stamps p = counted StampsWord Stamp p tt (λ h. h)
 
-pub enrolled : (s : Shape) (es : List Event) (e : Event) → Step s es e →
+pub enrolled : {s : Shape} {es : List Event} {e : Event} → Step s es e →
     Same s es e CallersWord ⊎ ((e.kind ≡ Enrol) × (word s (e ∷ es) CallersWord ≡ word s es CallersWord + 1))
-enrolled s es e p = counted s es e CallersWord Enrol p tt (λ h. h)
+enrolled p = counted CallersWord Enrol p tt (λ h. h)

@@ -1,17 +1,9 @@
 -- A caller's own events count the attempts that it has begun and the locators that it has installed.
 use Rattle.std.proofs.Common.{Bool, ◌+◌, ◌==◌, ◌∙◌, ◌∷◌, ◌≡◌, ◌≢◌, ◌⊎◌, List, [], arith, cond, false, inl, inr, refl, true, ℕ}
 use Rattle.std.specs.Prelude.{count_by}
-use Rattle.std.proofs.lemmas.Bool.{cases_Bool}
+use Rattle.dstm_core.proofs.Base.{Begin, Event, Kind, LocalState, Shape, after, cases_Bool, events_of, local}
 use Rattle.std.proofs.lemmas.List.Sums.{sum_by-cons}
 use Rattle.dstm_core.specs.Counts.{begin_count, is_begin}
-use Rattle.dstm_core.specs.Events.{Event}
-use Rattle.dstm_core.specs.Rules.{after}
-use Rattle.dstm_core.specs.Runs.{local}
-use Rattle.dstm_core.specs.State.{LocalState}
-use Rattle.dstm_core.specs.Traces.{events_of}
-use Rattle.dstm_core.specs.declared.event.Kind.{Kind}
-use Rattle.dstm_core.specs.declared.event.Kind.TheVariants.{Begin}
-use Rattle.dstm_core.specs.declared.shape.Shape.{Shape}
 use Rattle.dstm_core.proofs.Begun.{begun_how}
 
 one_more : (b : Bool) (m n k : ℕ) → m ≡ cond b (n + 1) n → k ≡ n → cond b 1 0 + k ≡ m
@@ -38,8 +30,7 @@ begun_counts : (s : Shape) (l : LocalState) (e : Event) (k : Kind) →
 begun_counts s l e Begin = refl
 begun_counts s l e k = stays (begun_how s l e k)
   where
-    stays : ((k ≡ Begin) × ((after k s l e).begun ≡ l.begun + 1))
-        ⊎ ((k ≢ Begin) × ((after k s l e).begun ≡ l.begun)) →
+    stays : ((k ≡ Begin) × ((after k s l e).begun ≡ l.begun + 1)) ⊎ ((k ≢ Begin) × ((after k s l e).begun ≡ l.begun)) →
         (after k s l e).begun ≡ l.begun
     stays (inl x) = absurd (let q = x.0 in cc)
     stays (inr x) = x.1

@@ -1,25 +1,11 @@
 -- How far the counting words rise, and that no add on them wraps.
 use Rattle.std.proofs.Common.{◌≡◌, ◌≢◌, ◌+◌, ◌-◌, ◌*◌, ◌^◌, ◌<◌, ◌≤◌, ◌==◌, ◌⊎◌, ◌∷◌, ◌∙◌, ℕ, inl, inr, List, [], refl, ap, arith, sym, Bool, true, false}
-use Rattle.std.proofs.lemmas.Bool.{cond_both}
-use Rattle.dstm_core.specs.Events.{Event}
-use Rattle.dstm_core.specs.declared.event.Kind.{Kind}
-use Rattle.dstm_core.specs.declared.event.Kind.TheVariants.{Enrol, Stamp, Begin, Install, LookSelf, PutHigh, PutNew, Validating as ToValidating, Draw, Commit, Quit, Pause, Resume}
-use Rattle.dstm_core.specs.declared.shape.Shape.{Shape}
-use Rattle.dstm_core.specs.declared.state.Phase.{Phase}
-use Rattle.dstm_core.specs.declared.state.Phase.TheVariants.{Outside, Drawn}
-use Rattle.dstm_core.specs.Rules.{access, after, AllowedAs}
-use Rattle.dstm_core.specs.Runs.{local, Core, Fits}
-use Rattle.dstm_core.specs.State.{LocalState, given}
-use Rattle.dstm_core.specs.Traces.{at, word}
+use Rattle.dstm_core.proofs.Base.{AllowedAs, Begin, CallersWord, Commit, Core, Draw, Drawn, Enrol, Event, Fits, Install, IsValid, Kind, LocalState, LookSelf, MAX_ATTEMPTS, MAX_CALLERS, NumbersWord, Outside, Pause, Phase, PutHigh, PutNew, Quit, Resume, Shape, Stamp, StampsWord, ToValidating, Word, access, after, at, cond_both, given, local, nat_tests, place, word}
 use Rattle.dstm_machines.specs.Traces.Access.{Add}
-use Rattle.dstm_core.specs.Words.{Word, place, IsValid}
-use Rattle.dstm_core.specs.declared.shape.TheConstants.{MAX_CALLERS, MAX_ATTEMPTS}
 use Rattle.std.proofs.lemmas.Nat.{mul-le}
-use Rattle.dstm_core.specs.Words.Word.{CallersWord, NumbersWord, StampsWord}
 use Rattle.dstm_core.proofs.Static.{Static, static, running, callers, local_own}
 use Rattle.dstm_core.proofs.Columns.{step, Same, enrolled, numbers, stamps}
 use Rattle.dstm_machines.proofs.Totals.{total, total-≤, total-<, total-bound}
-use Rattle.std.proofs.lemmas.Bool.Decides.{nat_tests}
 
 -- the attempts of a caller that can draw no number any more
 abbrev pub spent_by : Phase → ℕ → ℕ
@@ -44,8 +30,7 @@ spent_step : (s : Shape) (c : ℕ) (l : LocalState) (e : Event) (k : Kind) → S
     spent l ≤ spent (after k s l e)
 spent_step s c l e Begin t a = let x = spent_le l.phase l.begun in omega arith
 spent_step s c l e Install t a =
-    cond_both (e.found == e.expected) _ _ (λ (m : LocalState). spent l ≤ spent m) (λ _. omega arith)
-    (λ _. omega arith)
+    cond_both (e.found == e.expected) _ _ (λ (m : LocalState). spent l ≤ spent m) (λ _. omega arith) (λ _. omega arith)
 spent_step s c l e LookSelf t a =
     cond_both (e.found == given l.phase) _ _ (λ (m : LocalState). spent l ≤ spent m) (λ _. omega arith)
     (λ _. spent_le l.phase l.begun)
@@ -56,28 +41,24 @@ spent_step s c l e PutNew t a =
     let x = spent_before l.phase l.begun (λ z. let i = a.2.0 in cc) (λ z. let i = a.2.0 in cc) in omega arith
 spent_step s c l e ToValidating t a = cond_both (e.found == 1) _ _ (λ (m : LocalState). spent l ≤ spent m)
     (λ _. let x = spent_before l.phase l.begun (λ z. let i = a.2.0 in grind arith)
-    (λ z. let i = a.2.0 in grind arith) in omega arith)
-    (λ _. spent_le l.phase l.begun)
+    (λ z. let i = a.2.0 in grind arith) in omega arith) (λ _. spent_le l.phase l.begun)
 spent_step s c l e Draw t a = spent_le l.phase l.begun
 spent_step s c l e Commit t a = spent_le l.phase l.begun
 spent_step s c l e Quit t a = spent_le l.phase l.begun
 spent_step s c l e Pause t a = cond_both (e.found == 1) _ _ (λ (m : LocalState). spent l ≤ spent m)
     (λ _. let x = spent_before l.phase l.begun (λ z. let i = a.2.0 in cc) (λ z. let i = a.2.0 in cc) in
-    omega arith)
-    (λ _. spent_le l.phase l.begun)
+    omega arith) (λ _. spent_le l.phase l.begun)
 spent_step s c l e Resume t a = cond_both (e.found == 2) _ _ (λ (m : LocalState). spent l ≤ spent m)
     (λ _. let x = spent_before l.phase l.begun (λ z. let i = a.2.0 in cc) (λ z. let i = a.2.0 in cc) in
-    omega arith)
-    (λ _. spent_le l.phase l.begun)
+    omega arith) (λ _. spent_le l.phase l.begun)
 spent_step s c l e k t a = omega arith
 
-spent_draw : (s : Shape) (c : ℕ) (l : LocalState) (e : Event) (k : Kind) → k ≡ Draw → Static s c l →
-    AllowedAs k s l e →
-    spent l < spent (after k s l e)
-spent_draw s c l e Draw q t a =
+spent_draw : (s : Shape) (c : ℕ) (l : LocalState) (e : Event) {k : Kind} → k ≡ Draw → Static s c l →
+    AllowedAs k s l e → spent l < spent (after k s l e)
+spent_draw s c l e {k = Draw} q t a =
     let x = spent_before l.phase l.begun (λ z. let i = a.2.0 in cc) (λ z. let i = a.2.0 in cc) in
     let y = (running s c l t (λ z. let i = a.2.0 in cc)).1 in omega arith
-spent_draw s c l e k q t a = absurd (cc)
+spent_draw s c l e q t a = absurd (cc)
 
 -- the stamps that a caller can have drawn
 abbrev pub stamped_by : Bool → ℕ → ℕ
@@ -96,11 +77,11 @@ stamped_step s l e Stamp = (stamped_le l.stamped l.begun).1
 stamped_step s l e Begin = (stamped_le l.stamped l.begun).1
 stamped_step s l e k = grind (arith, nat_tests)
 
-stamped_stamp : (s : Shape) (l : LocalState) (e : Event) (k : Kind) → k ≡ Stamp → AllowedAs k s l e →
+stamped_stamp : (s : Shape) (l : LocalState) (e : Event) {k : Kind} → k ≡ Stamp → AllowedAs k s l e →
     stamped l < stamped (after k s l e)
-stamped_stamp s l e Stamp q a = let x : stamped l ≡ l.begun = ap (λ b. stamped_by b l.begun) a.2.3 in
+stamped_stamp s l e {k = Stamp} q a = let x : stamped l ≡ l.begun = ap (λ b. stamped_by b l.begun) a.2.3 in
     omega arith
-stamped_stamp s l e k q a = absurd (cc)
+stamped_stamp s l e q a = absurd (cc)
 
 -- a count of each caller's state that never falls, summed over the callers, never falls
 abbrev pub sum_of : Shape → (LocalState → ℕ) → List Event → ℕ
@@ -113,8 +94,7 @@ grows s es e f h c = callers s es e (λ c l. f (local s es c) ≤ f l) h (λ c _
 
 -- a word that rises by 1 only where such a count does is at most their sum
 counted : (s : Shape) (es : List Event) (e : Event) (f : LocalState → ℕ) (n m : ℕ) → e.caller < s.callers →
-    f (local s es e.caller) ≤ f (after e.kind s (local s es e.caller) e) →
-    n ≤ sum_of s f es →
+    f (local s es e.caller) ≤ f (after e.kind s (local s es e.caller) e) → n ≤ sum_of s f es →
     (m ≡ n) ⊎ ((m ≡ n + 1) × (f (local s es e.caller) < f (after e.kind s (local s es e.caller) e))) →
     m ≤ sum_of s f (e ∷ es)
 counted s es e f n m b h ih (inl q) =
@@ -131,8 +111,7 @@ numbers_spent : (s : Shape) (es : List Event) → Core s es → word s es Number
 numbers_spent s [] core = omega arith
 numbers_spent s (e ∷ es) core =
     counted s es e spent (word s es NumbersWord) (word s (e ∷ es) NumbersWord) core.1.caller
-    (spent_step s e.caller l e e.kind t core.1.allowed) (numbers_spent s es core.0)
-    (go (numbers s es e (step s es e core)))
+    (spent_step s e.caller l e e.kind t core.1.allowed) (numbers_spent s es core.0) (go (numbers (step s es e core)))
   where
     l : LocalState
     l = local s es e.caller
@@ -145,20 +124,19 @@ numbers_spent s (e ∷ es) core =
         Same s es e NumbersWord ⊎ ((word s (e ∷ es) NumbersWord ≡ word s es NumbersWord + 1)
         × (spent (local s es e.caller) < spent (after e.kind s (local s es e.caller) e)))
     go (inl x) = inl x
-    go (inr x) = inr (x.1, spent_draw s e.caller (local s es e.caller) e e.kind x.0 t core.1.allowed)
+    go (inr x) = inr (x.1, spent_draw s e.caller (local s es e.caller) e x.0 t core.1.allowed)
 
 stamps_spent : (s : Shape) (es : List Event) → Core s es → word s es StampsWord ≤ sum_of s stamped es
 stamps_spent s [] core = omega arith
 stamps_spent s (e ∷ es) core =
     counted s es e stamped (word s es StampsWord) (word s (e ∷ es) StampsWord) core.1.caller
-    (stamped_step s (local s es e.caller) e e.kind) (stamps_spent s es core.0)
-    (go (stamps s es e (step s es e core)))
+    (stamped_step s (local s es e.caller) e e.kind) (stamps_spent s es core.0) (go (stamps (step s es e core)))
   where
     go : Same s es e StampsWord ⊎ ((e.kind ≡ Stamp) × (word s (e ∷ es) StampsWord ≡ word s es StampsWord + 1)) →
         Same s es e StampsWord ⊎ ((word s (e ∷ es) StampsWord ≡ word s es StampsWord + 1)
         × (stamped (local s es e.caller) < stamped (after e.kind s (local s es e.caller) e)))
     go (inl x) = inl x
-    go (inr x) = inr (x.1, stamped_stamp s (local s es e.caller) e e.kind x.0 core.1.allowed)
+    go (inr x) = inr (x.1, stamped_stamp s (local s es e.caller) e x.0 core.1.allowed)
 
 -- no more numbers are drawn than there are attempts
 pub numbers_few : (s : Shape) (es : List Event) → Core s es → word s es NumbersWord ≤ s.callers * s.attempts
@@ -180,24 +158,23 @@ stamps_few s es core =
     bound c = let x = (stamped_le (local s es c).stamped (local s es c).begun).1 in
         let y = (static s es core c).begun in omega arith
 
-enrol_found : (k : Kind) (s : Shape) (l : LocalState) (e : Event) → k ≡ Enrol → AllowedAs k s l e →
+enrol_found : {k : Kind} (s : Shape) (l : LocalState) (e : Event) → k ≡ Enrol → AllowedAs k s l e →
     (e.place ≡ place s CallersWord) × (e.put ≡ e.found + 1)
-enrol_found Enrol s l e q a = (a.0, a.1.1)
-enrol_found k s l e q a = absurd (cc)
+enrol_found {k = Enrol} s l e q a = (a.0, a.1.1)
+enrol_found s l e q a = absurd (cc)
 
 -- no more callers enrol than there are
 pub callers_few : (s : Shape) (es : List Event) → Core s es → word s es CallersWord ≤ s.callers
 callers_few s [] core = omega arith
-callers_few s (e ∷ es) core = go (enrolled s es e (step s es e core)) (callers_few s es core.0)
+callers_few s (e ∷ es) core = go (enrolled (step s es e core)) (callers_few s es core.0)
   where
-    go : Same s es e CallersWord
-        ⊎ ((e.kind ≡ Enrol) × (word s (e ∷ es) CallersWord ≡ word s es CallersWord + 1)) →
+    go : Same s es e CallersWord ⊎ ((e.kind ≡ Enrol) × (word s (e ∷ es) CallersWord ≡ word s es CallersWord + 1)) →
         word s es CallersWord ≤ s.callers → word s (e ∷ es) CallersWord ≤ s.callers
     go (inl x) ih = omega arith
     go (inr x) ih =
         let found = core.1.enrolled x.0 in
         let here : word s es CallersWord ≡ e.found =
-        ap (at es) (sym (enrol_found e.kind s (local s es e.caller) e x.0 core.1.allowed).0)
+        ap (at es) (sym (enrol_found s (local s es e.caller) e x.0 core.1.allowed).0)
         ∙ sym core.1.linked in
         let below = core.1.caller in omega arith
 
@@ -207,8 +184,8 @@ pub record CountsFit (s : Shape) (es : List Event) : Type 0 where
   pub numbers : word s es NumbersWord + 1 < 2 ^ 64
   pub stamps : word s es StampsWord + 1 < 2 ^ 64
 
-pub counts_fit : (s : Shape) (es : List Event) → IsValid s → Core s es → CountsFit s es
-counts_fit s es v core =
+pub counts_fit : {s : Shape} (es : List Event) → IsValid s → Core s es → CountsFit s es
+counts_fit {s = s} es v core =
     let callers = v.callers in
     let attempts = v.attempts in
     let product = mul-le s.callers (s.attempts + 1) MAX_CALLERS (MAX_ATTEMPTS + 1) callers (omega arith) in
@@ -224,7 +201,7 @@ pub add_fits : (s : Shape) (es : List Event) (e : Event) → IsValid s → Core 
 add_fits s es e v core f h = go e.kind f.allowed h
   where
     fit : CountsFit s es
-    fit = counts_fit s es v core
+    fit = counts_fit es v core
 
     at_word : (w : Word) → e.place ≡ place s w → word s es w + 1 < 2 ^ 64 → e.found + 1 < 2 ^ 64
     at_word w q h = let same : e.found ≡ word s es w = f.linked ∙ ap (at es) q in omega arith

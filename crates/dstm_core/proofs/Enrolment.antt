@@ -1,19 +1,8 @@
 -- Who has a number: a caller enrols first, and makes no other event on the word that counts the callers.
 use Rattle.std.proofs.Common.{◌+◌, ◌∙◌, ◌≡◌, ◌≢◌, ◌⊎◌, ℕ, inl, inr, refl, ap, arith, sym, true, false, is_some}
-use Rattle.std.proofs.lemmas.Bool.{cases_Bool}
-use Rattle.dstm_core.specs.Events.{Event}
-use Rattle.dstm_core.specs.declared.event.Kind.{Kind}
-use Rattle.dstm_core.specs.declared.event.Kind.TheVariants.{Enrol, Rank}
-use Rattle.dstm_core.specs.declared.state.Phase.{Phase}
-use Rattle.dstm_core.specs.declared.state.Phase.TheVariants.{Outside}
-use Rattle.dstm_core.specs.declared.shape.Shape.{Shape}
-use Rattle.dstm_core.specs.Rules.{MayRank, after, target, AllowedAs}
-use Rattle.dstm_core.specs.State.{LocalState, first}
-use Rattle.dstm_core.specs.Words.{place}
-use Rattle.dstm_core.specs.Words.Word.{CallersWord}
+use Rattle.dstm_core.proofs.Base.{AllowedAs, CallersWord, Enrol, Event, Kind, LocalState, MayRank, Outside, Phase, Rank, Shape, after, cases_Bool, first, nat_tests, place, target}
 use Rattle.dstm_core.proofs.Places.{same_place}
 use Rattle.dstm_core.proofs.Static.{Static, Inside}
-use Rattle.std.proofs.lemmas.Bool.Decides.{nat_tests}
 
 -- a caller's first event is an Enrol
 pub enrols : (s : Shape) (e : Event) (k : Kind) → AllowedAs k s first e →
@@ -28,12 +17,10 @@ not_callers s l e k n q = cc
 -- an event of another kind lies elsewhere
 pub lies_elsewhere : (s : Shape) (l : LocalState) (e : Event) (k : Kind) → k ≢ Enrol → AllowedAs k s l e →
     e.place ≢ place s CallersWord
-lies_elsewhere s l e k n a q =
-    not_callers s l e k n (same_place s (target k s l e) CallersWord a.3 tt (sym a.0 ∙ q))
+lies_elsewhere s l e k n a q = not_callers s l e k n (same_place s (target k s l e) CallersWord a.3 tt (sym a.0 ∙ q))
 
 -- a number once found is kept
-pub number_kept : (s : Shape) (l : LocalState) (e : Event) (k : Kind) → k ≢ Enrol →
-    (after k s l e).number ≡ l.number
+pub number_kept : (s : Shape) (l : LocalState) (e : Event) (k : Kind) → k ≢ Enrol → (after k s l e).number ≡ l.number
 number_kept s l e Enrol n = absurd (n refl)
 number_kept s l e k n = grind (arith, nat_tests)
 
@@ -45,16 +32,16 @@ outside s c l t q = go t.active
     go (inl x) = x
     go (inr x) = let some = x.0 in absurd (cc)
 
-rank_outside : (p : Phase) (s : Shape) (l : LocalState) (n : ℕ) → p ≡ Outside → MayRank p s l n →
+rank_outside : {p : Phase} (s : Shape) (l : LocalState) (n : ℕ) → p ≡ Outside → MayRank p s l n →
     is_some l.number ≡ true
-rank_outside Outside s l n q m = m.0
-rank_outside p s l n q m = absurd (cc)
+rank_outside {p = Outside} s l n q m = m.0
+rank_outside s l n q m = absurd (cc)
 
 without : (s : Shape) (c : ℕ) (l : LocalState) (e : Event) (k : Kind) → k ≢ Enrol → Static s c l →
     is_some l.number ≡ false → AllowedAs k s l e → ⊥
 without s c l e Enrol n t q a = n refl
 without s c l e Rank n t q a = let out = outside s c l t q in
-    (let may = rank_outside l.phase s l e.put out a.2 in cc)
+    (let may = rank_outside s l e.put out a.2 in cc)
 without s c l e k n t q a = let out = outside s c l t q in grind arith
 
 numbered : (s : Shape) (c : ℕ) (l : LocalState) (e : Event) (k : Kind) → k ≢ Enrol → Static s c l →

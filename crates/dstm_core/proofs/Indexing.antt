@@ -1,6 +1,6 @@
 -- What the index of the reads tells of them, and that it stands after each change.
 use Rattle.std.proofs.Common.{◌≡◌, ◌≢◌, ◌==◌, ◌+◌, ◌<◌, ◌≤◌, ◌||◌, ◌++◌, ◌⊎◌, ◌∙◌, ℕ, List, [], ◌∷◌, Bool, true, false, not, cond, length, ltb, Option, Some, None, is_some, IsTrue, Ok, Err, Result, ◌↔◌, get_or, inl, inr, suc, zero, refl, ap, sym, subst, arith}
-use Rattle.std.proofs.lemmas.Bool.Decides.{nat_tests}
+use Rattle.dstm_core.proofs.Base.{IsIndexed, Read, count_before, is_among, nat_tests, or_read, place_of, read_at, read_of, reads_at}
 use Rattle.std.proofs.lemmas.Grind.{common_steps}
 use Rattle.std.specs.BTreeMap.{is_at}
 use Rattle.std.specs.BTreeSet.{insert_key}
@@ -11,26 +11,23 @@ use Rattle.std.specs.Set.{remove_key}
 use Rattle.std.proofs.lemmas.List.{length-map}
 use Rattle.std.proofs.lemmas.List.Sums.{count_by-le-length}
 use Rattle.std.proofs.lemmas.Option.{slice_get_within, slice_get_read, get_or_from_slice_get}
-use Rattle.dstm_core.specs.declared.state.Read.{Read}
-use Rattle.dstm_core.specs.Indexed.{IsIndexed, is_among, count_before, read_at, reads_at, place_of}
-use Rattle.dstm_core.specs.State.{read_of, or_read}
 use Rattle.dstm_core.specs.Reads.{Checklist}
 use Rattle.dstm_core.proofs.Reading.{same_or_not, OneOf, NoneOf, insert_last, remove_last, one_found, among-push, read_at_old, read_at_last}
 
 -- two lists of reads of which as many are checked
-pub same_list : (rs ts : List Read) (m n : ℕ) → rs ≡ ts → m ≡ n →
+pub same_list : {rs ts : List Read} (m n : ℕ) → rs ≡ ts → m ≡ n →
     let a : Checklist = record { reads = rs; checked = m } in
     let b : Checklist = record { reads = ts; checked = n } in a ≡ b
-same_list rs ts m n e f = cc
+same_list m n e f = cc
 
 pub count_zero : (ks : List ℕ) → count_before 0 ks ≡ 0
 count_zero [] = refl
 count_zero (k ∷ ks) = let rest = count_zero ks in grind (arith, nat_tests, common_steps)
 
 -- an object with a place has one read, which stands there
-pub of_one : (rs : List Read) (ks : List ℕ) (es : List (ℕ × ℕ)) (c o p : ℕ) → IsIndexed rs ks es c →
+pub of_one : {rs : List Read} {ks : List ℕ} {es : List (ℕ × ℕ)} {c : ℕ} (o p : ℕ) → IsIndexed rs ks es c →
     place_of o es ≡ Some p → OneOf o rs ks p
-of_one rs ks es c o p x h = record {
+of_one {es = es} o p x h = record {
   among = (x.placed o p h).0;
   object = (x.placed o p h).1;
   alone = λ q a e.
@@ -38,37 +35,36 @@ of_one rs ks es c o p x h = record {
 }
 
 -- and one without a place has none
-pub of_none : (rs : List Read) (ks : List ℕ) (es : List (ℕ × ℕ)) (c o : ℕ) → IsIndexed rs ks es c →
+pub of_none : {rs : List Read} {ks : List ℕ} {es : List (ℕ × ℕ)} {c : ℕ} (o : ℕ) → IsIndexed rs ks es c →
     place_of o es ≡ None → NoneOf o rs ks
-of_none rs ks es c o x h = λ q a e.
+of_none {es = es} o x h = λ q a e.
     let there : place_of o es ≡ Some q = subst (λ (n : ℕ). place_of n es ≡ Some q) e (x.found q a) in cc
 
 cases : (o : Option ℕ) → (o ≡ None) ⊎ ((p : ℕ) × (o ≡ Some p))
 cases None = inl refl
 cases (Some p) = inr (p, refl)
 
-pub free : (rs : List Read) (ks : List ℕ) (es : List (ℕ × ℕ)) (c o : ℕ) → IsIndexed rs ks es c →
+pub free : {rs : List Read} {ks : List ℕ} {es : List (ℕ × ℕ)} {c : ℕ} (o : ℕ) → IsIndexed rs ks es c →
     read_of o (reads_at rs ks) ≡ None → place_of o es ≡ None
-free rs ks es c o x h = go (cases (place_of o es))
+free {es = es} o x h = go (cases (place_of o es))
   where
     go : (place_of o es ≡ None) ⊎ ((p : ℕ) × (place_of o es ≡ Some p)) → place_of o es ≡ None
     go (inl e) = e
-    go (inr (p, e)) = let there = one_found o rs ks p (of_one rs ks es c o p x e) in absurd (cc)
+    go (inr (p, e)) = let there = one_found (of_one o p x e) in absurd (cc)
 
 longer : (rs : List Read) (r : Read) → length (rs ++ r ∷ []) ≡ length rs + 1
 longer rs r = grind (arith, common_steps)
 
 -- one read more that is recorded, and at none of the places
-pub indexed_more : (rs : List Read) (ks : List ℕ) (es : List (ℕ × ℕ)) (c : ℕ) (r : Read) →
+pub indexed_more : {rs : List Read} {ks : List ℕ} {es : List (ℕ × ℕ)} {c : ℕ} (r : Read) →
     IsIndexed rs ks es c → IsIndexed (rs ++ r ∷ []) ks es c
-indexed_more rs ks es c r x = record {
+indexed_more {rs = rs} {es = es} r x = record {
   within = λ p a. let old = x.within p a in omega (arith, longer rs r);
   placed = λ o p h.
       let old = x.placed o p h in
       (old.0, ap (λ (q : Read). q.object) (read_at_old rs r p (x.within p old.0)) ∙ old.1);
   found = λ p a.
-      subst (λ (q : Read). place_of q.object es ≡ Some p) (sym (read_at_old rs r p (x.within p a)))
-      (x.found p a);
+      subst (λ (q : Read). place_of q.object es ≡ Some p) (sym (read_at_old rs r p (x.within p a))) (x.found p a);
   begins = let old = x.begins in omega (arith, longer rs r);
 }
 
@@ -95,11 +91,10 @@ gives_other : (o : ℕ) (place : Option ℕ) (old new : List (ℕ × ℕ)) (q : 
 gives_other o place old new q g h = let test = at_no o q h in rw test at (g q)
 
 -- one read more, at its place
-pub indexed_push : (rs : List Read) (ks : List ℕ) (es new : List (ℕ × ℕ)) (c : ℕ) (r : Read) →
-    IsIndexed rs ks es c
-    → place_of r.object es ≡ None → Gives r.object (Some (length rs)) es new
+pub indexed_push : {rs : List Read} {ks : List ℕ} {es : List (ℕ × ℕ)} (new : List (ℕ × ℕ)) {c : ℕ} (r : Read) →
+    IsIndexed rs ks es c → place_of r.object es ≡ None → Gives r.object (Some (length rs)) es new
     → IsIndexed (rs ++ r ∷ []) (ks ++ length rs ∷ []) new c
-indexed_push rs ks es new c r x none g = record {
+indexed_push {rs = rs} {ks = ks} {es = es} new r x none g = record {
   within = λ p a. within p (split _ _ (sym (among-push p (length rs) ks) ∙ a));
   placed = λ o p h. placed o p (same_or_not r.object o) h;
   found = λ p a. found p (split _ _ (sym (among-push p (length rs) ks) ∙ a));
@@ -145,12 +140,10 @@ indexed_push rs ks es new c r x none g = record {
         ∙ gives_here r.object (Some (length rs)) es new r.object g refl ∙ ap Some (sym e)
 
 -- without the place of an object's read
-pub indexed_less : (rs : List Read) (ks less : List ℕ) (es new : List (ℕ × ℕ)) (c o p : ℕ) →
-    IsIndexed rs ks es c
-    → place_of o es ≡ Some p → Gives o None es new
-    → ((q : ℕ) → is_among q less ≡ cond (is_at (nat_cmp p) q) false (is_among q ks))
-    → IsIndexed rs less new 0
-indexed_less rs ks less es new c o p x here g gone = record {
+pub indexed_less : {rs : List Read} {ks : List ℕ} (less : List ℕ) {es : List (ℕ × ℕ)} (new : List (ℕ × ℕ)) {c : ℕ} (o p : ℕ) →
+    IsIndexed rs ks es c → place_of o es ≡ Some p → Gives o None es new
+    → ((q : ℕ) → is_among q less ≡ cond (is_at (nat_cmp p) q) false (is_among q ks)) → IsIndexed rs less new 0
+indexed_less {rs = rs} {ks = ks} less {es = es} new o p x here g gone = record {
   within = λ q a. x.within q (was q a);
   placed = λ n q h. placed n q (same_or_not o n) h;
   found = λ q a. found q (same_or_not p q) a;
@@ -171,8 +164,7 @@ indexed_less rs ks less es new c o p x here g gone = record {
     placed n q (inl e) h = let none = gives_here o None es new n g e in absurd (cc)
     placed n q (inr m) h =
         let old = x.placed n q (sym (gives_other o None es new n g m) ∙ h) in
-        let other : p ≢ q =
-        λ e. m (sym (x.placed o p here).1 ∙ ap (λ (k : ℕ). (read_at rs k).object) e ∙ old.1) in
+        let other : p ≢ q = λ e. m (sym (x.placed o p here).1 ∙ ap (λ (k : ℕ). (read_at rs k).object) e ∙ old.1) in
         let test = at_no p q other in
         let same : is_among q less ≡ is_among q ks = rw test at (gone q) in
         (same ∙ old.0, old.1)
@@ -186,17 +178,17 @@ indexed_less rs ks less es new c o p x here g gone = record {
         gives_other o None es new (read_at rs q).object g other ∙ old
 
 -- the same places and entries, and nothing checked
-pub indexed_restart : (rs : List Read) (ks : List ℕ) (es new : List (ℕ × ℕ)) (c : ℕ) → IsIndexed rs ks es c →
+pub indexed_restart : {rs : List Read} {ks : List ℕ} {es new : List (ℕ × ℕ)} {c : ℕ} → IsIndexed rs ks es c →
     new ≡ es → IsIndexed rs ks new 0
-indexed_restart rs ks es new c x e =
+indexed_restart {rs = rs} {ks = ks} {es = es} x e =
     let old : IsIndexed rs ks es 0 =
     record { within = x.within; placed = x.placed; found = x.found; begins = omega arith } in
     subst (λ (m : List (ℕ × ℕ)). IsIndexed rs ks m 0) (sym e) old
 
 -- ---- what the code found
 
-pub read_is : (rs : List Read) (p : ℕ) (r : Read) → p < length rs → r ≡ get_or rs p r → r ≡ read_at rs p
-read_is rs p r h e =
+pub read_is : (rs : List Read) (p : ℕ) {r : Read} → p < length rs → r ≡ get_or rs p r → r ≡ read_at rs p
+read_is rs p {r = r} h e =
     sym (get_or_from_slice_get rs p r (or_read None) (slice_get_read rs (length rs) p r refl h e))
 
 past : (xs : List ℕ) (i : ℕ) → slice_get xs i ≡ None → length xs ≤ i
@@ -204,17 +196,16 @@ past [] i h = omega arith
 past (x ∷ xs) zero h = absurd (cc)
 past (x ∷ xs) (suc i) h = let rest = past xs i h in grind (arith, common_steps)
 
-pub all_checked : (rs : List Read) (ks : List ℕ) (c : ℕ) (o : Option ℕ) (b : Bool) →
-    o ≡ slice_get ks (count_before c ks)
-    → is_some o ≡ not b → IsTrue b ↔ (count_before c ks ≡ length (reads_at rs ks))
-all_checked rs ks c None true e t = (
+pub all_checked : (rs : List Read) (ks : List ℕ) (c : ℕ) {o : Option ℕ} (b : Bool) →
+    o ≡ slice_get ks (count_before c ks) → is_some o ≡ not b → IsTrue b ↔ (count_before c ks ≡ length (reads_at rs ks))
+all_checked rs ks c {o = None} true e t = (
   (λ _. let few = count_by-le-length (λ (q : ℕ). ltb q c) ks in
       let many = past ks (count_before c ks) (sym e) in omega (arith, length-map ks (read_at rs))),
   (λ _. refl),
 )
-all_checked rs ks c None false e t = absurd (cc)
-all_checked rs ks c (Some p) true e t = absurd (cc)
-all_checked rs ks c (Some p) false e t = (
+all_checked rs ks c {o = None} false e t = absurd (cc)
+all_checked rs ks c {o = (Some p)} true e t = absurd (cc)
+all_checked rs ks c {o = (Some p)} false e t = (
   (λ h. absurd (cc)),
   (λ h. let within = slice_get_within ks (count_before c ks) p (sym e) in
       absurd (omega (arith, length-map ks (read_at rs), h))),
@@ -222,17 +213,15 @@ all_checked rs ks c (Some p) false e t = (
 
 -- ---- a place inserted, and removed again
 
-pub put_last : (rs : List Read) (ks put : List ℕ) (es : List (ℕ × ℕ)) (c n : ℕ) → IsIndexed rs ks es c →
-    n ≡ length rs
-    → put ≡ insert_key nat_cmp ks n → put ≡ ks ++ length rs ∷ []
-put_last rs ks put es c n x e h = h ∙ ap (insert_key nat_cmp ks) e ∙ insert_last (length rs) ks x.within
+pub put_last : {rs : List Read} {ks put : List ℕ} {es : List (ℕ × ℕ)} {c : ℕ} (n : ℕ) → IsIndexed rs ks es c →
+    n ≡ length rs → put ≡ insert_key nat_cmp ks n → put ≡ ks ++ length rs ∷ []
+put_last {rs = rs} {ks = ks} n x e h = h ∙ ap (insert_key nat_cmp ks) e ∙ insert_last (length rs) ks x.within
 
-pub put_back : (rs : List Read) (ks put back : List ℕ) (es : List (ℕ × ℕ)) (c n : ℕ) → IsIndexed rs ks es c →
-    n ≡ length rs
-    → put ≡ insert_key nat_cmp ks n → back ≡ remove_key (is_at (nat_cmp n)) put → back ≡ ks
-put_back rs ks put back es c n x e h g =
+pub put_back : {rs : List Read} {ks put back : List ℕ} {es : List (ℕ × ℕ)} {c : ℕ} (n : ℕ) → IsIndexed rs ks es c →
+    n ≡ length rs → put ≡ insert_key nat_cmp ks n → back ≡ remove_key (is_at (nat_cmp n)) put → back ≡ ks
+put_back {rs = rs} {ks = ks} {put = put} n x e h g =
     g ∙ ap (λ (m : ℕ). remove_key (is_at (nat_cmp m)) put) e
-    ∙ ap (remove_key (is_at (nat_cmp (length rs)))) (put_last rs ks put es c n x e h)
+    ∙ ap (remove_key (is_at (nat_cmp (length rs)))) (put_last n x e h)
     ∙ remove_last (length rs) ks x.within
 
 pub err_any : {T E : Type 0} (r : Result T E) (P : Type 0) → P → OnErr r P

@@ -1,6 +1,6 @@
 -- Places in order: which is the next, what is left without one, and with one more.
 use Rattle.std.proofs.Common.{◌≡◌, ◌+◌, ◌<◌, ◌≤◌, ◌⊎◌, ◌∙◌, ℕ, List, [], ◌∷◌, Option, Some, None, Bor, inl, inr, suc, zero, refl, ap, sym, arith}
-use Rattle.std.proofs.lemmas.Bool.Decides.{nat_tests}
+use Rattle.dstm_core.proofs.Base.{count_before, nat_tests}
 use Rattle.std.proofs.lemmas.Grind.{common_steps}
 use Rattle.std.proofs.lemmas.Map.Keys.{sorted_head, sorted_tail}
 use Rattle.std.specs.BTreeMap.Range.{range_contains}
@@ -10,7 +10,6 @@ use Rattle.std.specs.List.{AllByRecursion, filter, slice_get}
 use Rattle.std.specs.List.Sorted.{IsStrictlySortedBy}
 use Rattle.std.specs.Option.{IfSome, MatchOption, option_copied}
 use Rattle.std.specs.Ordering.{nat_cmp}
-use Rattle.dstm_core.specs.Indexed.{count_before}
 
 -- ---- rising places
 above : (k y : ℕ) → nat_cmp k y ≡ Less → k < y
@@ -56,16 +55,14 @@ next_is c (k ∷ ks) s = go (below_or k c) (next_is c ks (sorted_tail nat_cmp k 
         ∙ none_before c ks k (omega arith) (sorted_head nat_cmp k ks s) in
         rw (none, from_yes c k ks h) refl
 
-later : (k p : ℕ) (ks : List ℕ) (i : ℕ) → AllByRecursion (λ y. nat_cmp k y ≡ Less) ks →
-    slice_get ks i ≡ Some p → k < p
+later : (k p : ℕ) (ks : List ℕ) (i : ℕ) → AllByRecursion (λ y. nat_cmp k y ≡ Less) ks → slice_get ks i ≡ Some p → k < p
 later k p [] i a e = absurd (cc)
 later k p (y ∷ ks) zero a e = let up = above k y a.0 in let same : y ≡ p = cc in omega arith
 later k p (y ∷ ks) (suc i) a e = later k p ks i a.1 e
 
 -- once the next place is passed, one place more stands before
 pub next_count : (c p : ℕ) (ks : List ℕ) → IsStrictlySortedBy nat_cmp ks →
-    slice_get ks (count_before c ks) ≡ Some p
-    → count_before (p + 1) ks ≡ count_before c ks + 1
+    slice_get ks (count_before c ks) ≡ Some p → count_before (p + 1) ks ≡ count_before c ks + 1
 next_count c p [] s e = absurd (cc)
 next_count c p (k ∷ ks) s e = go (below_or k c) (next_count c p ks (sorted_tail nat_cmp k ks s))
   where
@@ -88,11 +85,10 @@ next_count c p (k ∷ ks) s e = go (below_or k c) (next_count c p ks (sorted_tai
         let rest = none_before (p + 1) ks k (omega arith) (sorted_head nat_cmp k ks s) in
         omega arith
 
-pub next_counts : (c : ℕ) (ks : List ℕ) (o : Option ℕ) → IsStrictlySortedBy nat_cmp ks →
-    o ≡ slice_get ks (count_before c ks)
-    → IfSome o (λ p. count_before (p + 1) ks ≡ count_before c ks + 1)
-next_counts c ks None s e = tt
-next_counts c ks (Some p) s e = next_count c p ks s (sym e)
+pub next_counts : (c : ℕ) (ks : List ℕ) {o : Option ℕ} → IsStrictlySortedBy nat_cmp ks →
+    o ≡ slice_get ks (count_before c ks) → IfSome o (λ p. count_before (p + 1) ks ≡ count_before c ks + 1)
+next_counts c ks {o = None} s e = tt
+next_counts c ks {o = (Some p)} s e = next_count c p ks s (sym e)
 
 -- the first of some places, as an iterator over them gives it
 pub first_given : (ks : List ℕ) (o : Option (Bor ℕ)) (rest : List ℕ)

@@ -1,16 +1,8 @@
 -- The words that a table leaves tell the current values.
 use Rattle.std.proofs.Common.{◌-◌, ◌<◌, ◌==◌, ◌∙◌, ◌≡◌, ◌≢◌, List, ap, arith, inl, inr, refl, ℕ}
 use Rattle.std.specs.Prelude.{slice_index}
-use Rattle.std.proofs.lemmas.Bool.{cond_both, eqb-false}
-use Rattle.dstm_model.specs.declared.value.Val.{Val}
-use Rattle.dstm_core.specs.Events.{Event}
-use Rattle.dstm_core.specs.Histories.{current_value, current_version, version_value}
+use Rattle.dstm_core.proofs.Base.{CallersWord, Core, Event, HasWord, HighWord, LowWord, NumbersWord, ObjectWord, OldWord, OwnerWord, RankWord, Shape, StampsWord, StatusWord, Val, Word, at, cond_both, current_value, current_version, eqb-false, place, version_value, word, word_count}
 use Rattle.dstm_core.specs.Left.{value_left, version_left, version_value_left, word_left}
-use Rattle.dstm_core.specs.Runs.{Core}
-use Rattle.dstm_core.specs.Traces.{at, word}
-use Rattle.dstm_core.specs.Words.{HasWord, Word, place, word_count}
-use Rattle.dstm_core.specs.Words.Word.{CallersWord, HighWord, LowWord, NumbersWord, ObjectWord, OldWord, OwnerWord, RankWord, StampsWord, StatusWord}
-use Rattle.dstm_core.specs.declared.shape.Shape.{Shape}
 use Rattle.dstm_core.proofs.Basic.{Names, basic}
 use Rattle.dstm_core.proofs.Ranges.{old_names}
 

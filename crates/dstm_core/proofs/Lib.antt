@@ -1,5 +1,6 @@
 -- Lemmas on core runs. In them s is a shape, es what stands before an event e (the newest first), c a caller,
 -- l a caller's state, k a kind, o an object, a an attempt and m a locator.
+pub mod Base
 pub mod Places
 pub mod Pasts
 pub mod Static

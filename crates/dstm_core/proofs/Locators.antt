@@ -1,11 +1,6 @@
 -- Locators are installed once, and stay as they were installed.
 use Rattle.std.proofs.Common.{◌≡◌, ◌≢◌, ◌+◌, ◌-◌, ◌*◌, ◌<◌, ◌⊎◌, ◌∷◌, ◌++◌, ◌∙◌, ℕ, inl, inr, List, [], refl, ap, arith, sym, is_some, subst}
-use Rattle.dstm_core.specs.declared.event.Kind.TheVariants.{Install}
-use Rattle.dstm_core.specs.Words.Word.{OwnerWord, OldWord}
-use Rattle.dstm_core.specs.declared.shape.Shape.{Shape}
-use Rattle.dstm_core.specs.Events.{Event}
-use Rattle.dstm_core.specs.Traces.{at, word}
-use Rattle.dstm_core.specs.Runs.{local, Core}
+use Rattle.dstm_core.proofs.Base.{Core, Event, Install, OldWord, OwnerWord, Shape, at, local, word}
 use Rattle.dstm_core.proofs.Columns.{step, Used, used_more, Installed, objects}
 use Rattle.dstm_core.proofs.Basic.{Names, names_more, fresh, own_number, install_may, owner_stays, old_stays, used_new, install_put}
 use Rattle.dstm_core.proofs.Pasts.{core_past}
@@ -16,19 +11,19 @@ pub install_fresh : (s : Shape) (es : List Event) (e : Event) → Core s (e ∷ 
     (e.put ≡ e.caller * s.locators + (local s es e.caller).installed + 1) × Used s (e ∷ es) (e.put - 1)
     × (Used s es (e.put - 1) → ⊥)
 install_fresh s es e core k h = let p = step s es e core in
-    let may = install_may s (local s es e.caller) e e.kind k p.fits.allowed in
-    let num = own_number s es e p (λ q. let i = may.0 in cc) in
+    let may = install_may s (local s es e.caller) e k p.fits.allowed in
+    let num = own_number p (λ q. let i = may.0 in cc) in
     let put : e.put ≡ e.caller * s.locators + (local s es e.caller).installed + 1 =
-    install_put s (local s es e.caller) e e.kind k h p.fits.allowed ∙ ap (λ n. n + 1) num in
+    install_put s (local s es e.caller) e k h p.fits.allowed ∙ ap (λ n. n + 1) num in
     let less : e.put - 1 ≡ e.caller * s.locators + (local s es e.caller).installed = omega arith in (
       put,
-      subst (Used s (e ∷ es)) (sym less) (used_new s es e p k h),
-      (λ u. fresh s es e.caller (p.own.held (ap is_some may.1)) (subst (Used s es) less u)),
+      subst (Used s (e ∷ es)) (sym less) (used_new p k h),
+      (λ u. fresh e.caller (p.own.held (ap is_some may.1)) (subst (Used s es) less u)),
     )
 
-pub used_later : (s : Shape) (more es : List Event) (m : ℕ) → Used s es m → Used s (more ++ es) m
-used_later s [] es m u = u
-used_later s (e ∷ more) es m u = used_more s (more ++ es) e m (used_later s more es m u)
+pub used_later : {s : Shape} (more : List Event) {es : List Event} {m : ℕ} → Used s es m → Used s (more ++ es) m
+used_later [] u = u
+used_later {s = s} (e ∷ more) {es = es} {m = m} u = used_more e (used_later more u)
 
 -- no word is installed twice
 pub no_locator_twice : (s : Shape) (more es : List Event) (e f : Event) → Core s (e ∷ (more ++ f ∷ es)) →
@@ -36,7 +31,7 @@ pub no_locator_twice : (s : Shape) (more es : List Event) (e f : Event) → Core
 no_locator_twice s more es e f core k h j i q =
     let first = install_fresh s es f (core_past s more (f ∷ es) core.0) j i in
     let second = install_fresh s (more ++ f ∷ es) e core k h in
-    second.2 (rw q (used_later s more (f ∷ es) (f.put - 1) first.1))
+    second.2 (rw q (used_later more first.1))
 
 pub names_later : (s : Shape) (more es : List Event) (x : ℕ) → Names s es x → Names s (more ++ es) x
 names_later s [] es m u = u
@@ -45,7 +40,7 @@ names_later s (e ∷ more) es m u = names_more s (more ++ es) e m (names_later s
 -- a word that an object had stays away once it is gone
 no_return_step : (s : Shape) (es : List Event) (e : Event) (o x : ℕ) → Core s (e ∷ es) → o < s.objects →
     Names s es x → at (e ∷ es) o ≡ x → at es o ≡ x
-no_return_step s es e o x core h n q = go (objects s es e o (step s es e core) h)
+no_return_step s es e o x core h n q = go (objects o (step s es e core) h)
   where
     installed : Installed s es e o → Names s es x → ⊥
     installed i (inl z) = let w = i.now in omega arith
@@ -60,8 +55,7 @@ pub no_return : (s : Shape) (more es : List Event) (o x : ℕ) → Core s (more 
     Names s es x → at (more ++ es) o ≡ x → at es o ≡ x
 no_return s [] es o x core h n q = q
 no_return s (e ∷ more) es o x core h n q =
-    no_return s more es o x core.0 h n
-    (no_return_step s (more ++ es) e o x core h (names_later s more es x n) q)
+    no_return s more es o x core.0 h n (no_return_step s (more ++ es) e o x core h (names_later s more es x n) q)
 
 -- the owner and the old word of a locator that was installed stay
 pub installed_stays : (s : Shape) (more es : List Event) (e : Event) → Core s (more ++ e ∷ es) →
@@ -78,7 +72,7 @@ installed_stays s more es e core k h = go more core
         × (word s (more ++ e ∷ es) (OldWord (e.put - 1)) ≡ word s (e ∷ es) (OldWord (e.put - 1)))
     go [] core = (refl, refl)
     go (f ∷ more) core =
-        let u = used_later s more (e ∷ es) (e.put - 1) (used (core_past s more (e ∷ es) core.0)) in
+        let u = used_later more (used (core_past s more (e ∷ es) core.0)) in
         let p = step s (more ++ e ∷ es) f core in let ih = go more core.0 in (
           owner_stays s (more ++ e ∷ es) f (e.put - 1) p u ∙ ih.0,
           old_stays s (more ++ e ∷ es) f (e.put - 1) p u ∙ ih.1,

@@ -1,7 +1,6 @@
 -- The objects opened for writing.
 use Rattle.std.proofs.Common.{◌≡◌, ◌==◌, ◌||◌, ◌++◌, ℕ, List, [], ◌∷◌, Bool, true, false, cond, is_some, Some, None, refl}
-use Rattle.dstm_core.specs.declared.state.Write.{Write}
-use Rattle.dstm_core.specs.State.{write_of}
+use Rattle.dstm_core.proofs.Base.{Write, write_of}
 
 -- one write more, and its object is open
 pub is_open-push : (o : ℕ) (ws : List Write) (w : Write) →

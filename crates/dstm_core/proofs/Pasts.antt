@@ -2,10 +2,8 @@
 use Rattle.std.proofs.Common.{◌++◌, List}
 use Rattle.dstm_machines.proofs.Pasts.{run_before}
 use Rattle.dstm_machines.proofs.Runs as runs
-use Rattle.dstm_core.specs.declared.shape.Shape.{Shape}
-use Rattle.dstm_core.specs.Events.{Event}
-use Rattle.dstm_core.specs.Runs.{Core, core as machine}
-use Rattle.dstm_core.specs.Traces.{IsPastOf}
+use Rattle.dstm_core.proofs.Base.{Core, Event, IsPastOf, Shape}
+use Rattle.dstm_core.specs.Runs.{core as machine}
 
 -- by the events that follow
 pub core_past : (s : Shape) (more es : List Event) → Core s (more ++ es) → Core s es

@@ -1,11 +1,7 @@
 -- Two words of a shape lie at two places.
 use Rattle.std.proofs.Common.{◌≡◌, ◌∷◌, ℕ, List, refl, ap, arith}
 use Rattle.dstm_machines.proofs.Runs as runs
-use Rattle.dstm_core.specs.Words.Word.{ObjectWord, StatusWord, RankWord, OwnerWord, OldWord, LowWord, HighWord, CallersWord, NumbersWord, StampsWord}
-use Rattle.dstm_core.specs.declared.shape.Shape.{Shape}
-use Rattle.dstm_core.specs.Events.{Event}
-use Rattle.dstm_core.specs.Traces.{at}
-use Rattle.dstm_core.specs.Words.{Word, place, HasWord}
+use Rattle.dstm_core.proofs.Base.{CallersWord, Event, HasWord, HighWord, LowWord, NumbersWord, ObjectWord, OldWord, OwnerWord, RankWord, Shape, StampsWord, StatusWord, Word, at, place}
 
 pub same_place : (s : Shape) (w v : Word) → HasWord s w → HasWord s v → place s w ≡ place s v → w ≡ v
 same_place s (ObjectWord o) (ObjectWord p) g h e = ap ObjectWord e

@@ -1,22 +1,7 @@
 -- In a core run an event that may come is always aimed at a word that the shape has, so that those who keep to the
 -- rules need not test it: all but the object that a LookObj names, which is theirs to choose.
 use Rattle.std.proofs.Common.{◌≡◌, ◌+◌, ◌-◌, ◌*◌, ◌<◌, ◌==◌, ◌⊎◌, ◌∷◌, ◌++◌, ◌∙◌, ℕ, inl, inr, List, [], refl, ap, arith, sym, subst, true, Option, Some, None, is_some, length, zero, suc, slice_get, ◌&&◌, is_none}
-use Rattle.std.proofs.lemmas.Bool.{cond_both, cases_eq}
-use Rattle.std.proofs.lemmas.Bool.Decides.{nat_tests}
-use Rattle.dstm_core.specs.Events.{Event}
-use Rattle.dstm_core.specs.declared.event.Kind.{Kind}
-use Rattle.dstm_core.specs.declared.event.Kind.TheVariants.{Enrol, Stamp, Rank, Begin, LookObj, LookOwner, LookStatus, LookRank, LookOld, LookHigh, LookNew, PutOwner, PutOld, Install, LookNumber, Check, LookSelf, Release, PutHigh, PutNew, Validating as ToValidating, Draw, Commit, Kill, Quit, Pause, Resume}
-use Rattle.dstm_core.specs.declared.shape.Shape.{Shape}
-use Rattle.dstm_core.specs.declared.state.Phase.{Phase}
-use Rattle.dstm_core.specs.declared.state.Phase.TheVariants.{Outside, Running}
-use Rattle.dstm_core.specs.declared.state.Read.{Read}
-use Rattle.dstm_core.specs.declared.state.Resolution.{Resolution}
-use Rattle.dstm_core.specs.Rules.{rank_of, target, MayRank, May, AllowedAs, after}
-use Rattle.dstm_core.specs.Runs.{local, Core}
-use Rattle.dstm_core.specs.State.{LocalState, or_zero, next_attempt, read_of, drop_read, or_read, next_write, or_unresolved, res, version, version_by, is_resolved, record_resolved}
-use Rattle.dstm_core.specs.Traces.{at, word}
-use Rattle.dstm_core.specs.Words.{place, HasWord}
-use Rattle.dstm_core.specs.Words.Word.{OldWord, OwnerWord}
+use Rattle.dstm_core.proofs.Base.{AllowedAs, Begin, Check, Commit, Core, Draw, Enrol, Event, HasWord, Install, Kill, Kind, LocalState, LookHigh, LookNew, LookNumber, LookObj, LookOld, LookOwner, LookRank, LookSelf, LookStatus, May, MayRank, OldWord, Outside, OwnerWord, Pause, Phase, PutHigh, PutNew, PutOld, PutOwner, Quit, Rank, Read, Release, Resolution, Resume, Running, Shape, Stamp, ToValidating, after, at, cases_eq, cond_both, drop_read, is_resolved, local, nat_tests, next_attempt, next_write, or_read, or_unresolved, or_zero, place, rank_of, read_of, record_resolved, res, target, version, version_by, word}
 use Rattle.dstm_core.proofs.Places.{put_at}
 use Rattle.dstm_core.proofs.Static.{InShape, Static, static, res-in_shape, numbered-get, callers}
 use Rattle.dstm_core.proofs.Columns.{in_table, own_in, next_locator_in, step, Changed, Same, change}
@@ -78,8 +63,7 @@ abbrev pub ReadsIn : Shape → List Read → Type 0
 ReadsIn s [] = Unit {0}
 ReadsIn s (r ∷ rs) = (r.object < s.objects) × ReadsIn s rs
 
-reads_snoc : (s : Shape) (rs : List Read) (r : Read) → ReadsIn s rs → r.object < s.objects →
-    ReadsIn s (rs ++ r ∷ [])
+reads_snoc : (s : Shape) (rs : List Read) (r : Read) → ReadsIn s rs → r.object < s.objects → ReadsIn s (rs ++ r ∷ [])
 reads_snoc s [] r h b = (b, tt)
 reads_snoc s (x ∷ rs) r h b = (h.0, reads_snoc s rs r h.1 b)
 
@@ -106,8 +90,7 @@ reads_recorded : (s : Shape) (r : Option Resolution) (rs : List Read) → InShap
     ReadsIn s (record_resolved r rs)
 reads_recorded s None rs b h = h
 reads_recorded s (Some r) rs b h = cond_both (is_resolved r && is_none (read_of r.object rs)) _ _ (ReadsIn s)
-    (λ _. reads_snoc s rs (record { object = r.object; word = r.word; version = or_zero (version r) }) h b)
-    (λ _. h)
+    (λ _. reads_snoc s rs (record { object = r.object; word = r.word; version = or_zero (version r) }) h b) (λ _. h)
 
 reads_step : (s : Shape) (l : LocalState) (e : Event) (k : Kind) → InShape s l.resolution → ReadsIn s l.reads →
     ReadsIn s (after k s l e).reads
@@ -121,8 +104,7 @@ reads_step s l e k b h = unrecorded (ReadsIn s) s l e k refl h
 pub reads_in : (s : Shape) (es : List Event) → Core s es → (c : ℕ) → ReadsIn s (local s es c).reads
 reads_in s [] core c = tt
 reads_in s (e ∷ es) core c = callers s es e (λ c l. ReadsIn s l.reads)
-    (reads_step s (local s es e.caller) e e.kind (static s es core.0 e.caller).object
-    (reads_in s es core.0 e.caller))
+    (reads_step s (local s es e.caller) e e.kind (static s es core.0 e.caller).object (reads_in s es core.0 e.caller))
     (λ c d. reads_in s es core.0 c) c
 
 -- ---- of the words
@@ -144,26 +126,23 @@ old_res s es (Some r) h = h
 names_version : (s : Shape) (es : List Event) (word : ℕ) (status old : Option ℕ) → Names s es word →
     Names s es (or_zero old) → Names s es (or_zero (version_by word status old))
 names_version s es word status old w o = cond_both (word == 0) _ _ named
-    (λ _. inl refl)
-    (λ _. cond_both (or_zero status == 4) _ _ named
-    (λ _. w)
+    (λ _. inl refl) (λ _. cond_both (or_zero status == 4) _ _ named (λ _. w)
     (λ _. cond_both (or_zero status == 5) _ _ named (λ _. o) (λ _. inl refl)))
   where
     named : Option ℕ → Type 0
     named v = Names s es (or_zero v)
 
 -- the version of a caller's resolution is 0 or names a used locator
-pub version_names : (s : Shape) (es : List Event) → Basic s es → Olds s es → (c : ℕ) →
+pub version_names : {s : Shape} {es : List Event} → Basic s es → Olds s es → (c : ℕ) →
     Names s es (or_zero (version (res (local s es c))))
-version_names s es b o c =
+version_names {s = s} {es = es} b o c =
     names_version s es (res (local s es c)).word (res (local s es c)).status (res (local s es c)).old
     (res_known s es (local s es c).resolution (b.res c)).0 (old_res s es (local s es c).resolution (o.res c))
 
-put_old_puts : (s : Shape) (l : LocalState) (e : Event) (k : Kind) → k ≡ PutOld → AllowedAs k s l e →
-    (e.place ≡ place s (target k s l e)) × (e.put ≡ or_zero (version (res l)))
-    × (target k s l e ≡ target PutOld s l e)
-put_old_puts s l e PutOld q a = (a.0, a.1.1, refl)
-put_old_puts s l e k q a = absurd (cc)
+put_old_puts : (s : Shape) (l : LocalState) (e : Event) {k : Kind} → k ≡ PutOld → AllowedAs k s l e →
+    (e.place ≡ place s (target k s l e)) × (e.put ≡ or_zero (version (res l))) × (target k s l e ≡ target PutOld s l e)
+put_old_puts s l e {k = PutOld} q a = (a.0, a.1.1, refl)
+put_old_puts s l e q a = absurd (cc)
 
 old_names_more : (s : Shape) (es : List Event) (e : Event) (r : Option Resolution) → OldNames s es r →
     OldNames s (e ∷ es) r
@@ -185,25 +164,24 @@ old_own s es e l LookNew a q w h = old_res s (e ∷ es) l.resolution h
 old_own s es e l Kill a q w h = old_res s (e ∷ es) l.resolution h
 old_own s es e l k a q w h = unlooked (OldNames s (e ∷ es)) s l e k refl tt h
 
-old_words : (s : Shape) (es : List Event) (e : Event) → Core s (e ∷ es) → Olds s es → (m : ℕ) →
+old_words : {s : Shape} {es : List Event} (e : Event) → Core s (e ∷ es) → Olds s es → (m : ℕ) →
     m < s.callers * s.locators → Names s (e ∷ es) (word s (e ∷ es) (OldWord m))
-old_words s es e core o m b = go (change s es e (OldWord m) (step s es e core) b)
+old_words {s = s} {es = es} e core o m b = go (change (OldWord m) (step s es e core) b)
   where
     go : Same s es e (OldWord m) ⊎ Changed s es e (OldWord m) → Names s (e ∷ es) (word s (e ∷ es) (OldWord m))
     go (inl x) = subst (Names s (e ∷ es)) (sym x) (names_more s es e (word s es (OldWord m)) (o.word m b))
     go (inr x) =
-        let puts = put_old_puts s (local s es e.caller) e e.kind x.how.kind core.1.allowed in
+        let puts = put_old_puts s (local s es e.caller) e x.how.kind core.1.allowed in
         let here : e.place ≡ place s (OldWord m) =
         puts.0 ∙ ap (place s) puts.2 ∙ ap (λ m. place s (OldWord m)) (sym x.how.number) in
         let now : word s (e ∷ es) (OldWord m) ≡ or_zero (version (res (local s es e.caller))) =
         put_at es e (place s (OldWord m)) here ∙ puts.1 in
-        subst (Names s (e ∷ es)) (sym now)
-        (names_more s es e _ (version_names s es (basic s es core.0) o e.caller))
+        subst (Names s (e ∷ es)) (sym now) (names_more s es e _ (version_names (basic s es core.0) o e.caller))
 
 pub old_names : (s : Shape) (es : List Event) → Core s es → Olds s es
 old_names s [] core = record { word = λ m b. inl refl; res = λ c. tt }
 old_names s (e ∷ es) core = let o = old_names s es core.0 in record {
-  word = old_words s es e core o;
+  word = old_words e core o;
   res = callers s es e (λ c l. OldNames s (e ∷ es) l.resolution)
       (old_own s es e (local s es e.caller) e.kind core.1.allowed core.1.linked o.word
       (old_names_more s es e (local s es e.caller).resolution (o.res e.caller)))
@@ -212,15 +190,14 @@ old_names s (e ∷ es) core = let o = old_names s es core.0 in record {
 
 -- ---- the word of an event that may come
 
-owner_in : (s : Shape) (es : List Event) → Basic s es → (r : Option Resolution) → ResBasic s es r →
+owner_in : {s : Shape} {es : List Event} → Basic s es → (r : Option Resolution) → ResBasic s es r →
     is_some (or_unresolved r).owner ≡ true → or_zero (or_unresolved r).owner < s.callers * s.attempts
-owner_in s es b r h i = at_owner (or_unresolved r).word (or_unresolved r).owner known.0 known.1 i
+owner_in {s = s} {es = es} b r h i = at_owner (or_unresolved r).word (or_unresolved r).owner known.0 known.1 i
   where
     known : Names s es (or_unresolved r).word × OwnerIs s es (or_unresolved r).word (or_unresolved r).owner
     known = res_known s es r h
 
-    named : (x a : ℕ) → Names s es x → (0 < x) × (a ≡ word s es (OwnerWord (x - 1))) →
-        a < s.callers * s.attempts
+    named : (x a : ℕ) → Names s es x → (0 < x) × (a ≡ word s es (OwnerWord (x - 1))) → a < s.callers * s.attempts
     named x a (inl n) o = absurd (omega arith)
     named x a (inr n) o = rw o.1 ((b.owner (x - 1) n.1).begun.below)
 
@@ -282,49 +259,49 @@ record At (s : Shape) (es : List Event) (c : ℕ) (l : LocalState) : Type 0 wher
   pub version : Names s es (or_zero (version (res l)))
   pub owner : is_some (res l).owner ≡ true → or_zero (res l).owner < s.callers * s.attempts
 
-ranged : (s : Shape) (es : List Event) (c : ℕ) (l : LocalState) (e : Event) (k : Kind) → At s es c l →
+ranged : {s : Shape} {es : List Event} {c : ℕ} {l : LocalState} (e : Event) (k : Kind) → At s es c l →
     (k ≡ LookObj → e.place < s.objects) → May k s l e → HasWord s (target k s l e)
-ranged s es c l e Enrol t o m = tt
-ranged s es c l e Stamp t o m = tt
-ranged s es c l e Rank t o m = rank_in s c l e.put t.own t.caller m
-ranged s es c l e Begin t o m = next_in s c l t.own t.caller m.1 m.2
-ranged s es c l e LookObj t o m = o refl
-ranged s es c l e LookOwner t o m = names_in s es (res l).word t.word m.2
-ranged s es c l e LookStatus t o m = t.owner m.2
-ranged s es c l e LookRank t o m = t.owner m.2
-ranged s es c l e LookOld t o m =
+ranged e Enrol t o m = tt
+ranged e Stamp t o m = tt
+ranged {s = s} {c = c} {l = l} e Rank t o m = rank_in s c l e.put t.own t.caller m
+ranged {s = s} {c = c} {l = l} e Begin t o m = next_in s c l t.own t.caller m.1 m.2
+ranged e LookObj t o m = o refl
+ranged {s = s} {es = es} {l = l} e LookOwner t o m = names_in s es (res l).word t.word m.2
+ranged e LookStatus t o m = t.owner m.2
+ranged e LookRank t o m = t.owner m.2
+ranged {s = s} {es = es} {l = l} e LookOld t o m =
     names_in s es (res l).word t.word (t.known.status (some_status (res l).status 4 m.2))
-ranged s es c l e LookHigh t o m = names_in s es (or_zero (version (res l))) t.version m.2
-ranged s es c l e LookNew t o m =
+ranged {s = s} {es = es} {l = l} e LookHigh t o m = names_in s es (or_zero (version (res l))) t.version m.2
+ranged {s = s} {es = es} {l = l} e LookNew t o m =
     version_in s es (res l).word (or_zero (version (res l))) t.word (t.known.high m.2) t.version
-ranged s es c l e PutOwner t o m = next_locator_in s c l t.own t.caller (λ h. cc) m.2
-ranged s es c l e PutOld t o m = next_locator_in s c l t.own t.caller (λ h. cc) (t.own.held (ap is_some m.4))
-ranged s es c l e Install t o m = res-in_shape s l t.own.object m.2
-ranged s es c l e LookNumber t o m = tt
-ranged s es c l e Check t o m = reads_get s l.reads l.checked t.reads m.2
-ranged s es c l e LookSelf t o m = own_in s c l t.own t.caller (λ h. cc)
-ranged s es c l e Release t o m = read_found s e.place l.reads t.reads m.2
-ranged s es c l e PutHigh t o m = write_in s c l t.own t.caller m.2
-ranged s es c l e PutNew t o m = write_in s c l t.own t.caller m.2
-ranged s es c l e ToValidating t o m = own_in s c l t.own t.caller (λ h. grind arith)
-ranged s es c l e Draw t o m = tt
-ranged s es c l e Commit t o m = own_in s c l t.own t.caller (λ h. cc)
-ranged s es c l e Kill t o m = t.owner m.2
-ranged s es c l e Quit t o m = own_in s c l t.own t.caller m
-ranged s es c l e Pause t o m = own_in s c l t.own t.caller (λ h. cc)
-ranged s es c l e Resume t o m = own_in s c l t.own t.caller (λ h. cc)
+ranged {s = s} {c = c} {l = l} e PutOwner t o m = next_locator_in s c l t.own t.caller (λ h. cc) m.2
+ranged {s = s} {c = c} {l = l} e PutOld t o m = next_locator_in s c l t.own t.caller (λ h. cc) (t.own.held (ap is_some m.4))
+ranged {s = s} {l = l} e Install t o m = res-in_shape s l t.own.object m.2
+ranged e LookNumber t o m = tt
+ranged {s = s} {l = l} e Check t o m = reads_get s l.reads l.checked t.reads m.2
+ranged {s = s} {c = c} {l = l} e LookSelf t o m = own_in s c l t.own t.caller (λ h. cc)
+ranged {s = s} {l = l} e Release t o m = read_found s e.place l.reads t.reads m.2
+ranged {s = s} {c = c} {l = l} e PutHigh t o m = write_in s c l t.own t.caller m.2
+ranged {s = s} {c = c} {l = l} e PutNew t o m = write_in s c l t.own t.caller m.2
+ranged {s = s} {c = c} {l = l} e ToValidating t o m = own_in s c l t.own t.caller (λ h. grind arith)
+ranged e Draw t o m = tt
+ranged {s = s} {c = c} {l = l} e Commit t o m = own_in s c l t.own t.caller (λ h. cc)
+ranged e Kill t o m = t.owner m.2
+ranged {s = s} {c = c} {l = l} e Quit t o m = own_in s c l t.own t.caller m
+ranged {s = s} {c = c} {l = l} e Pause t o m = own_in s c l t.own t.caller (λ h. cc)
+ranged {s = s} {c = c} {l = l} e Resume t o m = own_in s c l t.own t.caller (λ h. cc)
 
 -- in a core run: the word that an event of this kind is aimed at, if it may come next, is one of the shape's
 pub in_range : (s : Shape) (es : List Event) (c : ℕ) (e : Event) (k : Kind) → Core s es → c < s.callers →
     (k ≡ LookObj → e.place < s.objects) → May k s (local s es c) e → HasWord s (target k s (local s es c) e)
 in_range s es c e k core b o may =
     let basic = basic s es core in
-    ranged s es c (local s es c) e k (record {
+    ranged e k (record {
       caller = b;
       own = static s es core c;
       known = known_res (local s es c).resolution (known s es core c);
       reads = reads_in s es core c;
       word = (res_known s es (local s es c).resolution (basic.res c)).0;
-      version = version_names s es basic (old_names s es core) c;
-      owner = owner_in s es basic (local s es c).resolution (basic.res c);
+      version = version_names basic (old_names s es core) c;
+      owner = owner_in basic (local s es c).resolution (basic.res c);
     }) o may

@@ -1,6 +1,6 @@
 -- The reads at some places: with one more, without one, and the one of an object.
 use Rattle.std.proofs.Common.{◌≡◌, ◌≢◌, ◌==◌, ◌<◌, ◌≤◌, ◌||◌, ◌++◌, ◌⊎◌, ◌∙◌, ℕ, List, [], ◌∷◌, true, false, length, Some, None, inl, inr, refl, ap, sym, arith}
-use Rattle.std.proofs.lemmas.Bool.Decides.{nat_tests}
+use Rattle.dstm_core.proofs.Base.{Read, count_before, drop_read, is_among, nat_tests, or_read, read_at, read_of, reads_at}
 use Rattle.std.proofs.lemmas.Grind.{common_steps}
 use Rattle.std.proofs.Math.ListN.{get_or-append}
 use Rattle.std.proofs.Math.Seq.{get_or-append_seam}
@@ -8,9 +8,6 @@ use Rattle.std.specs.BTreeMap.{is_at}
 use Rattle.std.specs.BTreeSet.{insert_key}
 use Rattle.std.specs.Ordering.{nat_cmp}
 use Rattle.std.specs.Set.{remove_key}
-use Rattle.dstm_core.specs.declared.state.Read.{Read}
-use Rattle.dstm_core.specs.Indexed.{is_among, count_before, read_at, reads_at}
-use Rattle.dstm_core.specs.State.{read_of, drop_read, or_read}
 
 -- ---- places
 
@@ -67,8 +64,7 @@ read_at_old rs r p h = get_or-append rs (r ∷ []) (or_read None) p h
 pub read_at_last : (rs : List Read) (r : Read) → read_at (rs ++ r ∷ []) (length rs) ≡ r
 read_at_last rs r = get_or-append_seam rs r [] (or_read None)
 
-reads-push : (rs : List Read) (ks : List ℕ) (n : ℕ) →
-    reads_at rs (ks ++ n ∷ []) ≡ reads_at rs ks ++ read_at rs n ∷ []
+reads-push : (rs : List Read) (ks : List ℕ) (n : ℕ) → reads_at rs (ks ++ n ∷ []) ≡ reads_at rs ks ++ read_at rs n ∷ []
 reads-push rs [] n = refl
 reads-push rs (k ∷ ks) n = ap (λ (xs : List Read). read_at rs k ∷ xs) (reads-push rs ks n)
 
@@ -78,8 +74,7 @@ pub reads_old : (rs : List Read) (r : Read) (ks : List ℕ) → Before ks (lengt
 reads_old rs r [] h = refl
 reads_old rs r (k ∷ ks) h =
     let here : read_at (rs ++ r ∷ []) k ≡ read_at rs k = read_at_old rs r k (h k (among_head k ks)) in
-    let rest : reads_at (rs ++ r ∷ []) ks ≡ reads_at rs ks =
-    reads_old rs r ks (before_tail k (length rs) ks h) in
+    let rest : reads_at (rs ++ r ∷ []) ks ≡ reads_at rs ks = reads_old rs r ks (before_tail k (length rs) ks h) in
     cc
 
 -- at its own place it is the last one
@@ -122,21 +117,20 @@ pub none_dropped : (o : ℕ) (rs : List Read) (ks : List ℕ) → NoneOf o rs ks
 none_dropped o rs [] h = refl
 none_dropped o rs (k ∷ ks) h =
     let here = test_no (read_at rs k).object o (h k (among_head k ks)) in
-    rw here (ap (λ (xs : List Read). read_at rs k ∷ xs)
-    (none_dropped o rs ks (λ q a. h q (among_tail q k ks a))))
+    rw here (ap (λ (xs : List Read). read_at rs k ∷ xs) (none_dropped o rs ks (λ q a. h q (among_tail q k ks a))))
 
-one_tail : (o : ℕ) (rs : List Read) (k : ℕ) (ks : List ℕ) (p : ℕ) → OneOf o rs (k ∷ ks) p →
+one_tail : {o : ℕ} {rs : List Read} (k : ℕ) (ks : List ℕ) {p : ℕ} → OneOf o rs (k ∷ ks) p →
     (read_at rs k).object ≢ o → OneOf o rs ks p
-one_tail o rs k ks p h n = record {
+one_tail {rs = rs} k ks {p = p} h n = record {
   among = among_other p k ks h.among (λ e. n (ap (λ (q : ℕ). (read_at rs q).object) (sym e) ∙ h.object));
   object = h.object;
   alone = λ q a. h.alone q (among_tail q k ks a);
 }
 
-pub one_found : (o : ℕ) (rs : List Read) (ks : List ℕ) (p : ℕ) → OneOf o rs ks p →
+pub one_found : {o : ℕ} {rs : List Read} {ks : List ℕ} {p : ℕ} → OneOf o rs ks p →
     read_of o (reads_at rs ks) ≡ Some (read_at rs p)
-one_found o rs [] p h = absurd (let a = h.among in cc)
-one_found o rs (k ∷ ks) p h = go (same_or_not (read_at rs k).object o) (one_found o rs ks p)
+one_found {ks = []} h = absurd (let a = h.among in cc)
+one_found {o = o} {rs = rs} {ks = (k ∷ ks)} {p = p} h = go (same_or_not (read_at rs k).object o) (one_found)
   where
     go : ((read_at rs k).object ≡ o) ⊎ ((read_at rs k).object ≢ o) →
         (OneOf o rs ks p → read_of o (reads_at rs ks) ≡ Some (read_at rs p))
@@ -144,7 +138,7 @@ one_found o rs (k ∷ ks) p h = go (same_or_not (read_at rs k).object o) (one_fo
     go (inl e) f =
         let here = test_yes (read_at rs k).object o e in
         rw here (ap (λ (q : ℕ). Some (read_at rs q)) (h.alone k (among_head k ks) e))
-    go (inr n) f = let here = test_no (read_at rs k).object o n in rw here (f (one_tail o rs k ks p h n))
+    go (inr n) f = let here = test_no (read_at rs k).object o n in rw here (f (one_tail k ks h n))
 
 remove_here : (p k : ℕ) (ks : List ℕ) → k ≡ p → remove_key (is_at (nat_cmp p)) (k ∷ ks) ≡ ks
 remove_here p k ks h = grind (arith, nat_tests)
@@ -154,10 +148,10 @@ remove_other : (p k : ℕ) (ks : List ℕ) → p ≢ k →
 remove_other p k ks h = grind (arith, nat_tests)
 
 -- without the place of an object's read, that read is dropped
-pub one_dropped : (o : ℕ) (rs : List Read) (ks : List ℕ) (p : ℕ) → OneOf o rs ks p
+pub one_dropped : {o : ℕ} {rs : List Read} {ks : List ℕ} {p : ℕ} → OneOf o rs ks p
     → reads_at rs (remove_key (is_at (nat_cmp p)) ks) ≡ drop_read o (reads_at rs ks)
-one_dropped o rs [] p h = absurd (let a = h.among in cc)
-one_dropped o rs (k ∷ ks) p h = go (same_or_not (read_at rs k).object o) (one_dropped o rs ks p)
+one_dropped {ks = []} h = absurd (let a = h.among in cc)
+one_dropped {o = o} {rs = rs} {ks = (k ∷ ks)} {p = p} h = go (same_or_not (read_at rs k).object o) (one_dropped)
   where
     go : ((read_at rs k).object ≡ o) ⊎ ((read_at rs k).object ≢ o)
         → (OneOf o rs ks p → reads_at rs (remove_key (is_at (nat_cmp p)) ks) ≡ drop_read o (reads_at rs ks))
@@ -169,5 +163,4 @@ one_dropped o rs (k ∷ ks) p h = go (same_or_not (read_at rs k).object o) (one_
     go (inr n) f =
         let here = test_no (read_at rs k).object o n in
         let other : p ≢ k = λ e. n (ap (λ (q : ℕ). (read_at rs q).object) (sym e) ∙ h.object) in
-        rw (here, remove_other p k ks other)
-        (ap (λ (xs : List Read). read_at rs k ∷ xs) (f (one_tail o rs k ks p h n)))
+        rw (here, remove_other p k ks other) (ap (λ (xs : List Read). read_at rs k ∷ xs) (f (one_tail k ks h n)))

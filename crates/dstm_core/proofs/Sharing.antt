@@ -1,14 +1,6 @@
 -- What sharing the words of the machine stands on, beside how callers enrol.
 use Rattle.std.proofs.Common.{◌≡◌, ◌≢◌, ◌⊎◌, ℕ, ◌<◌, true, List, ◌∷◌, Some, None, is_some, ap, ◌∙◌, subst, arith, inl, inr}
-use Rattle.dstm_core.specs.Events.{Event}
-use Rattle.dstm_core.specs.declared.event.Kind.{Kind}
-use Rattle.dstm_core.specs.declared.event.Kind.TheVariants.{Enrol}
-use Rattle.dstm_core.specs.declared.shape.Shape.{Shape}
-use Rattle.dstm_core.specs.Rules.{target, AllowedAs}
-use Rattle.dstm_core.specs.Runs.{local, Core}
-use Rattle.dstm_core.specs.State.{LocalState}
-use Rattle.dstm_core.specs.Words.{place, word_count}
-use Rattle.dstm_core.specs.Words.Word.{CallersWord}
+use Rattle.dstm_core.proofs.Base.{AllowedAs, CallersWord, Core, Enrol, Event, Kind, LocalState, Shape, local, place, target, word_count}
 use Rattle.dstm_core.proofs.Enrolment.{has_number, lies_elsewhere}
 use Rattle.dstm_core.proofs.LeftWords.{place_in}
 use Rattle.dstm_core.proofs.Static.{static, local_own}

@@ -1,19 +1,6 @@
 -- Ranks are small under the managers where they rise.
 use Rattle.std.proofs.Common.{◌*◌, ◌<◌, ◌∙◌, ◌∷◌, ◌≡◌, ◌≤◌, ◌⊎◌, List, Option, None, Some, [], ap, arith, refl, false, inl, inr, true, ℕ}
-use Rattle.dstm_core.specs.Events.{Event}
-use Rattle.dstm_core.specs.Rules.{AllowedAs, MayRank, Rises, after}
-use Rattle.dstm_core.specs.Runs.{Core, local}
-use Rattle.dstm_core.specs.State.{LocalState, or_unresolved, or_zero, res}
-use Rattle.dstm_core.specs.Traces.{at, word}
-use Rattle.dstm_core.specs.Words.Word.{RankWord}
-use Rattle.dstm_core.specs.declared.event.Kind.{Kind}
-use Rattle.dstm_core.specs.declared.event.Kind.TheVariants.{Kill, LookHigh, LookNew, LookObj, LookOld, LookOwner, LookRank, LookStatus, Rank}
-use Rattle.dstm_core.specs.declared.shape.Manager.TheVariants.{Greedy}
-use Rattle.dstm_core.specs.declared.shape.Shape.{Shape}
-use Rattle.dstm_core.specs.declared.shape.TheConstants.{MAX_RANK}
-use Rattle.dstm_core.specs.declared.state.Phase.{Phase}
-use Rattle.dstm_core.specs.declared.state.Phase.TheVariants.{Outside, Running}
-use Rattle.dstm_core.specs.declared.state.Resolution.{Resolution}
+use Rattle.dstm_core.proofs.Base.{AllowedAs, Core, Event, Greedy, Kill, Kind, LocalState, LookHigh, LookNew, LookObj, LookOld, LookOwner, LookRank, LookStatus, MAX_RANK, MayRank, Outside, Phase, Rank, RankWord, Resolution, Rises, Running, Shape, after, at, local, or_unresolved, or_zero, res, word}
 use Rattle.dstm_core.proofs.Columns.{Changed, Same, change, step}
 use Rattle.dstm_core.proofs.Stamps.{StampHow, at_begin, at_enrol, at_other, at_rank, at_stamp, stamp_greedy, stamp_how}
 use Rattle.dstm_core.proofs.Static.{callers}
@@ -50,18 +37,18 @@ rank_put s l e Outside g h a = go a.2
 rank_put s l e Running g h a = let x = a.3 in omega arith
 rank_put s l e p g h a = absurd a
 
-rank_stored : (s : Shape) (l : LocalState) (e : Event) (k : Kind) → k ≡ Rank → Rises s.manager →
+rank_stored : (s : Shape) (l : LocalState) (e : Event) {k : Kind} → k ≡ Rank → Rises s.manager →
     l.rank ≤ MAX_RANK → AllowedAs k s l e → e.put ≤ MAX_RANK
-rank_stored s l e Rank q g h a = rank_put s l e l.phase g h a.2
-rank_stored s l e k q g h a = absurd (cc)
+rank_stored s l e {k = Rank} q g h a = rank_put s l e l.phase g h a.2
+rank_stored s l e q g h a = absurd (cc)
 
-own_small : (s : Shape) (l : LocalState) (e : Event) (k : Kind) → Rises s.manager → AllowedAs k s l e →
+own_small : {s : Shape} {l : LocalState} {e : Event} {k : Kind} → Rises s.manager → AllowedAs k s l e →
     l.rank ≤ MAX_RANK → StampHow s l e k → (after k s l e).rank ≤ MAX_RANK
-own_small s l e k g a h (at_enrol q n rd st rk ph) = rw rk h
-own_small s l e k g a h (at_stamp q rd st rk ph) = absurd (greedy_not s g (stamp_greedy s l e k q a))
-own_small s l e k g a h (at_rank q rd st rk ph n b) = rw rk (rank_stored s l e k q g h a)
-own_small s l e k g a h (at_begin q r rd st rk) = rw rk h
-own_small s l e k g a h (at_other b r t rd rk n be st inside out) = rw rk h
+own_small g a h (at_enrol q n rd st rk ph) = rw rk h
+own_small {s = s} {l = l} {e = e} g a h (at_stamp q rd st rk ph) = absurd (greedy_not s g (stamp_greedy s l e q a))
+own_small {s = s} {l = l} {e = e} g a h (at_rank q rd st rk ph n b) = rw rk (rank_stored s l e q g h a)
+own_small g a h (at_begin q r rd st rk) = rw rk h
+own_small g a h (at_other b r t rd rk n be st inside out) = rw rk h
 
 small_res : (r : Option Resolution) → FoundSmall r → or_zero (or_unresolved r).rank ≤ MAX_RANK
 small_res None h = omega arith
@@ -88,13 +75,12 @@ are_small s (e ∷ es) g core = next (are_small s es g core.0)
   where
     next : AreSmall s es → AreSmall s (e ∷ es)
     next h = record {
-      words = λ a b. words a b (change s es e (RankWord a) (step s es e core) b);
+      words = λ a b. words a b (change (RankWord a) (step s es e core) b);
       own = callers s es e (λ c l. l.rank ≤ MAX_RANK)
-          (own_small s (local s es e.caller) e e.kind g core.1.allowed (h.own e.caller)
+          (own_small g core.1.allowed (h.own e.caller)
           (stamp_how s (local s es e.caller) e e.kind core.1.allowed)) (λ c _. h.own c);
       found = callers s es e (λ c l. FoundSmall l.resolution)
-          (found_small s es (local s es e.caller) e e.kind core.1.allowed core.1.linked h.words
-          (h.found e.caller))
+          (found_small s es (local s es e.caller) e e.kind core.1.allowed core.1.linked h.words (h.found e.caller))
           (λ c _. h.found c);
     }
       where
@@ -102,7 +88,7 @@ are_small s (e ∷ es) g core = next (are_small s es g core.0)
             word s (e ∷ es) (RankWord a) ≤ MAX_RANK
         words a b (inl x) = let y = h.words a b in omega arith
         words a b (inr x) =
-            let y = rank_stored s (local s es e.caller) e e.kind x.how.kind g (h.own e.caller) core.1.allowed in
+            let y = rank_stored s (local s es e.caller) e x.how.kind g (h.own e.caller) core.1.allowed in
             let z = x.now in omega arith
 
 -- a rank that a caller has found is small

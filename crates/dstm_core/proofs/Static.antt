@@ -1,18 +1,7 @@
 -- What holds of a caller's state, whatever the others do.
 use Rattle.std.proofs.Common.{Bool, ◌≡◌, ◌≢◌, ◌+◌, ◌-◌, ◌*◌, ◌<◌, ◌≤◌, ◌==◌, ◌⊎◌, ◌∷◌, ◌++◌, ℕ, inl, inr, List, [], refl, ap, arith, true, Option, Some, None, is_some, suc, zero, length, subst, length-append, slice_get}
-use Rattle.std.proofs.lemmas.Bool.Decides.{nat_tests}
-use Rattle.std.proofs.lemmas.Bool.{cond_both, eqb-true, eq-eqb}
-use Rattle.dstm_core.specs.declared.event.Kind.TheVariants.{Enrol, Begin, LookObj, LookOwner, LookStatus, LookOld, LookNew, PutOwner, PutOld, Install, LookNumber, LookSelf, PutNew, Draw, Commit, Kill, Quit, LookRank, Pause, Resume, LookHigh, PutHigh, Release, Validating as ToValidating}
-use Rattle.dstm_core.specs.declared.state.Phase.TheVariants.{Outside, Running, Paused, Validating, Drawn}
-use Rattle.dstm_core.specs.declared.state.Phase.{Phase}
-use Rattle.dstm_core.specs.declared.shape.Shape.{Shape}
-use Rattle.dstm_core.specs.Events.{Event}
-use Rattle.dstm_core.specs.declared.state.Resolution.{Resolution}
-use Rattle.dstm_core.specs.declared.event.Kind.{Kind}
-use Rattle.dstm_core.specs.declared.state.Write.{Write}
-use Rattle.dstm_core.specs.State.{LocalState, or_zero, next_locator, given, version, or_unresolved, res, or_write}
-use Rattle.dstm_core.specs.Rules.{leave, install, after, AllowedAs}
-use Rattle.dstm_core.specs.Runs.{local, Core, core as machine}
+use Rattle.dstm_core.proofs.Base.{AllowedAs, Begin, Commit, Core, Draw, Drawn, Enrol, Event, Install, Kill, Kind, LocalState, LookHigh, LookNew, LookNumber, LookObj, LookOld, LookOwner, LookRank, LookSelf, LookStatus, Outside, Pause, Paused, Phase, PutHigh, PutNew, PutOld, PutOwner, Quit, Release, Resolution, Resume, Running, Shape, ToValidating, Validating, Write, after, cond_both, eq-eqb, eqb-true, given, install, leave, local, nat_tests, next_locator, or_unresolved, or_write, or_zero, res, version}
+use Rattle.dstm_core.specs.Runs.{core as machine}
 use Rattle.dstm_machines.proofs.Runs as runs
 use Rattle.dstm_core.proofs.Untouched.{unlooked}
 
@@ -108,8 +97,7 @@ pub has_version : (r : Option Resolution) → 0 < or_zero (version (or_unresolve
 has_version None h = absurd (omega arith)
 has_version (Some r) h = refl
 
-pub running : (s : Shape) (c : ℕ) (l : LocalState) → Static s c l → l.phase ≢ Outside →
-    Inside c l.number l.begun
+pub running : (s : Shape) (c : ℕ) (l : LocalState) → Static s c l → l.phase ≢ Outside → Inside c l.number l.begun
 running s c l t h = go t.active
   where
     go : (l.phase ≡ Outside) ⊎ Inside c l.number l.begun → Inside c l.number l.begun
@@ -207,8 +195,7 @@ static_step s c l e Install t n a =
     cond_both (e.found == e.expected) _ _ (Static s c) (λ _. installs s c l e t a)
     (λ _. with_resolution s c l None t tt)
 static_step s c l e LookNumber t n a = with_resolution s c l _ t (unlooked (InShape s) s l e LookNumber refl tt t.object)
-static_step s c l e LookSelf t n a =
-    cond_both (e.found == given l.phase) _ _ (Static s c) (λ _. t) (λ _. left s c l t)
+static_step s c l e LookSelf t n a = cond_both (e.found == given l.phase) _ _ (Static s c) (λ _. t) (λ _. left s c l t)
 static_step s c l e Release t n a = with_resolution s c l None t tt
 static_step s c l e PutHigh t n a = record {
   who = record { number = t.number; active = inr (running s c l t (λ h. grind arith)); begun = t.begun };
@@ -245,19 +232,16 @@ static s (e ∷ es) core c = cond_both (e.caller == c) _ _ (Static s c)
     (λ same. let P : ℕ → Type 0 = λ n. Static s n (after e.kind s (local s es n) e) in
     subst P (eqb-true e.caller c same)
     (static_step s e.caller (local s es e.caller) e e.kind (static s es core.0 e.caller)
-    core.1.enrolled core.1.allowed))
-    (λ _. static s es core.0 c)
+    core.1.enrolled core.1.allowed)) (λ _. static s es core.0 c)
 
 -- attempts and locators are only ever added
 pub begun_step : (s : Shape) (l : LocalState) (e : Event) (k : Kind) → l.begun ≤ (after k s l e).begun
 begun_step s l e k = grind (arith, nat_tests)
 
-pub installed_step : (s : Shape) (l : LocalState) (e : Event) (k : Kind) →
-    l.installed ≤ (after k s l e).installed
+pub installed_step : (s : Shape) (l : LocalState) (e : Event) (k : Kind) → l.installed ≤ (after k s l e).installed
 installed_step s l e k = grind (arith, nat_tests)
 
-pub begun_more : (s : Shape) (es : List Event) (e : Event) (c : ℕ) →
-    (local s es c).begun ≤ (local s (e ∷ es) c).begun
+pub begun_more : (s : Shape) (es : List Event) (e : Event) (c : ℕ) → (local s es c).begun ≤ (local s (e ∷ es) c).begun
 begun_more s es e c =
     cond_both (e.caller == c) _ _ (λ (m : LocalState). (local s es c).begun ≤ m.begun)
     (λ _. begun_step s (local s es c) e e.kind) (λ _. omega arith)
@@ -273,8 +257,7 @@ pub local_own : (s : Shape) (es : List Event) (e : Event) →
     local s (e ∷ es) e.caller ≡ after e.kind s (local s es e.caller) e
 local_own = runs.local_own machine
 
-pub local_other : (s : Shape) (es : List Event) (e : Event) (c : ℕ) → e.caller ≢ c →
-    local s (e ∷ es) c ≡ local s es c
+pub local_other : (s : Shape) (es : List Event) (e : Event) (c : ℕ) → e.caller ≢ c → local s (e ∷ es) c ≡ local s es c
 local_other = runs.local_other machine
 
 -- a fact of each caller's state, from that of the caller that steps and those of the others
@@ -304,7 +287,7 @@ pub held_old_how : (s : Shape) (l : LocalState) (e : Event) (k : Kind) (a : ℕ)
 held_old_how s l e PutOld a q = (refl, inl (refl, cc))
 held_old_how s l e k a q = (grind (arith, nat_tests), inr ((λ z. cc), grind (arith, nat_tests)))
 
-pub installed_up : (s : Shape) (l : LocalState) (e : Event) (k : Kind) → k ≡ Install → e.found ≡ e.expected →
+pub installed_up : (s : Shape) (l : LocalState) (e : Event) {k : Kind} → k ≡ Install → e.found ≡ e.expected →
     (after k s l e).installed ≡ l.installed + 1
-installed_up s l e Install q h = rw (eq-eqb e.found e.expected h)
-installed_up s l e k q h = absurd (cc)
+installed_up s l e {k = Install} q h = rw (eq-eqb e.found e.expected h)
+installed_up s l e q h = absurd (cc)

@@ -1,21 +1,9 @@
 -- How statuses change.
 use Rattle.std.proofs.Common.{◌≡◌, ◌≢◌, ◌+◌, ◌*◌, ◌/◌, ◌%◌, ◌<◌, ◌≤◌, ◌==◌, ◌⊎◌, ◌∷◌, ◌++◌, ◌∙◌, ℕ, inl, inr, List, [], refl, ap, arith, sym, true, false, Some, None, is_some, subst}
-use Rattle.std.proofs.lemmas.Bool.{cond_both, cases_Bool}
-use Rattle.dstm_core.specs.declared.event.Kind.TheVariants.{Enrol, Begin, Install, LookSelf, PutNew, Draw, Commit, Quit, Pause, Resume, PutHigh, Validating as ToValidating}
-use Rattle.dstm_core.specs.declared.state.Phase.TheVariants.{Outside, Running, Paused, Putting, Validating, Drawn}
-use Rattle.dstm_core.specs.Words.Word.{StatusWord}
-use Rattle.dstm_core.specs.declared.shape.Shape.{Shape}
-use Rattle.dstm_core.specs.Events.{Event}
-use Rattle.dstm_core.specs.declared.event.Kind.{Kind}
-use Rattle.dstm_core.specs.declared.state.Phase.{Phase}
-use Rattle.dstm_core.specs.State.{LocalState, or_zero, next_attempt, own_attempt, given}
-use Rattle.dstm_core.specs.Rules.{after, AllowedAs}
-use Rattle.dstm_core.specs.Runs.{local, Core}
-use Rattle.dstm_core.specs.Words.{place}
+use Rattle.dstm_core.proofs.Base.{AllowedAs, Begin, Commit, Core, Draw, Drawn, Enrol, Event, Install, Kind, LocalState, LookSelf, Outside, Pause, Paused, Phase, PutHigh, PutNew, Putting, Quit, Resume, Running, Shape, StatusWord, ToValidating, Validating, after, cases_Bool, cond_both, given, local, next_attempt, or_zero, own_attempt, place, word}
 use Rattle.dstm_core.proofs.Places.{put_at}
 use Rattle.dstm_core.proofs.Static.{Static, static, begun_more, local_own, callers}
 use Rattle.dstm_core.proofs.Columns.{Begins, Changed, StatusMove, Step, begins, caller_of, change, in_table, index_of, kills, moves, own_in, step}
-use Rattle.dstm_core.specs.Traces.{word}
 use Rattle.dstm_core.proofs.Basic.{own_place}
 
 pub given_live : (p : Phase) → p ≢ Outside → (0 < given p) × (given p < 4)
@@ -26,14 +14,14 @@ given_live Putting h = (omega arith, omega arith)
 given_live Validating h = (omega arith, omega arith)
 given_live Drawn h = (omega arith, omega arith)
 
-pub begin_may : (s : Shape) (l : LocalState) (e : Event) (k : Kind) → k ≡ Begin → AllowedAs k s l e →
+pub begin_may : (s : Shape) (l : LocalState) (e : Event) {k : Kind} → k ≡ Begin → AllowedAs k s l e →
     (l.phase ≡ Outside) × (is_some l.number ≡ true) × (l.begun < s.attempts)
-begin_may s l e Begin q a = (a.2.0, a.2.1, a.2.2)
-begin_may s l e k q a = absurd (cc)
+begin_may s l e {k = Begin} q a = (a.2.0, a.2.1, a.2.2)
+begin_may s l e q a = absurd (cc)
 
-pub begun_up : (s : Shape) (l : LocalState) (e : Event) (k : Kind) → k ≡ Begin → (after k s l e).begun ≡ l.begun + 1
-begun_up s l e Begin q = refl
-begun_up s l e k q = absurd (cc)
+pub begun_up : (s : Shape) (l : LocalState) (e : Event) {k : Kind} → k ≡ Begin → (after k s l e).begun ≡ l.begun + 1
+begun_up s l e {k = Begin} q = refl
+begun_up s l e q = absurd (cc)
 
 pub next_number : (s : Shape) (c : ℕ) (l : LocalState) → Static s c l → is_some l.number ≡ true →
     next_attempt s l ≡ c * s.attempts + l.begun
@@ -43,14 +31,14 @@ next_number s c l t h = go t.number
     go (inl q) = absurd (cc)
     go (inr q) = ap (λ n. or_zero n * s.attempts + l.begun) q
 
-unbegun_step : (s : Shape) (es : List Event) (e : Event) → Step s es e → (c i : ℕ) → c < s.callers →
+unbegun_step : {s : Shape} {es : List Event} {e : Event} → Step s es e → (c i : ℕ) → c < s.callers →
     i < s.attempts → (local s (e ∷ es) c).begun ≤ i → word s es (StatusWord (c * s.attempts + i)) ≡ 0 →
     word s (e ∷ es) (StatusWord (c * s.attempts + i)) ≡ 0
-unbegun_step s es e st c i p q h before =
-    go (change s es e (StatusWord (c * s.attempts + i)) st (in_table c s.attempts i s.callers p q))
+unbegun_step {s = s} {es = es} {e = e} st c i p q h before =
+    go (change (StatusWord (c * s.attempts + i)) st (in_table c s.attempts i s.callers p q))
   where
     beginning : Begins s (local s es e.caller) e (c * s.attempts + i) → ⊥
-    beginning b = let may = begin_may s (local s es e.caller) e e.kind b.kind st.fits.allowed in
+    beginning b = let may = begin_may s (local s es e.caller) e b.kind st.fits.allowed in
         let eq : c * s.attempts + i ≡ e.caller * s.attempts + (local s es e.caller).begun = b.attempt
         ∙ next_number s e.caller (local s es e.caller) st.own may.1 in
         let same : c ≡ e.caller = sym (caller_of c s.attempts i q) ∙ ap (λ n. n / s.attempts) eq
@@ -59,13 +47,12 @@ unbegun_step s es e st c i p q h before =
         ∙ ap (λ n. n % s.attempts) eq ∙ index_of e.caller s.attempts (local s es e.caller).begun may.2 in
         let up : (local s (e ∷ es) e.caller).begun ≡ (local s es e.caller).begun + 1 =
         ap (λ (l : LocalState). l.begun) (local_own s es e)
-        ∙ begun_up s (local s es e.caller) e e.kind b.kind in
+        ∙ begun_up s (local s es e.caller) e b.kind in
         let h' : (local s (e ∷ es) e.caller).begun ≤ i = subst (λ n. (local s (e ∷ es) n).begun ≤ i) same h in
         omega arith
 
     moved : StatusMove s (local s es e.caller) e (c * s.attempts + i) →
-        word s es (StatusWord (c * s.attempts + i)) ≡ e.found →
-        word s (e ∷ es) (StatusWord (c * s.attempts + i)) ≡ 0
+        word s es (StatusWord (c * s.attempts + i)) ≡ e.found → word s (e ∷ es) (StatusWord (c * s.attempts + i)) ≡ 0
     moved (begins b) w = absurd (beginning b)
     moved (moves m) w = let g = given_live (local s es e.caller).phase m.inside in let f = m.found in
         let b = before in absurd (omega arith)
@@ -81,19 +68,18 @@ pub unbegun : (s : Shape) (es : List Event) → Core s es → (c i : ℕ) → c 
     (local s es c).begun ≤ i → word s es (StatusWord (c * s.attempts + i)) ≡ 0
 unbegun s [] core c i p q h = refl
 unbegun s (e ∷ es) core c i p q h = let m = begun_more s es e c in
-    unbegun_step s es e (step s es e core) c i p q h (unbegun s es core.0 c i p q (omega arith))
+    unbegun_step (step s es e core) c i p q h (unbegun s es core.0 c i p q (omega arith))
 
 -- a status that is finished stays
-pub finished_step : (s : Shape) (es : List Event) (e : Event) (a : ℕ) → Core s (e ∷ es) →
-    a < s.callers * s.attempts → 4 ≤ word s es (StatusWord a) →
-    word s (e ∷ es) (StatusWord a) ≡ word s es (StatusWord a)
-finished_step s es e a core h f = go (change s es e (StatusWord a) st h)
+pub finished_step : (s : Shape) (es : List Event) (e : Event) (a : ℕ) → Core s (e ∷ es) → a < s.callers * s.attempts →
+    4 ≤ word s es (StatusWord a) → word s (e ∷ es) (StatusWord a) ≡ word s es (StatusWord a)
+finished_step s es e a core h f = go (change (StatusWord a) st h)
   where
     st : Step s es e
     st = step s es e core
 
     moved : StatusMove s (local s es e.caller) e a → word s es (StatusWord a) ≡ e.found → ⊥
-    moved (begins b) w = let may = begin_may s (local s es e.caller) e e.kind b.kind st.fits.allowed in
+    moved (begins b) w = let may = begin_may s (local s es e.caller) e b.kind st.fits.allowed in
         let eq : a ≡ e.caller * s.attempts + (local s es e.caller).begun = b.attempt
         ∙ next_number s e.caller (local s es e.caller) st.own may.1 in
         let idle : word s es (StatusWord a) ≡ 0 = ap (λ n. word s es (StatusWord n)) eq
@@ -108,9 +94,8 @@ finished_step s es e a core h f = go (change s es e (StatusWord a) st h)
     go (inl x) = x
     go (inr x) = absurd (moved x.how x.was)
 
-pub finished_stays : (s : Shape) (more es : List Event) (a : ℕ) → Core s (more ++ es) →
-    a < s.callers * s.attempts → 4 ≤ word s es (StatusWord a) →
-    word s (more ++ es) (StatusWord a) ≡ word s es (StatusWord a)
+pub finished_stays : (s : Shape) (more es : List Event) (a : ℕ) → Core s (more ++ es) → a < s.callers * s.attempts →
+    4 ≤ word s es (StatusWord a) → word s (more ++ es) (StatusWord a) ≡ word s es (StatusWord a)
 finished_stays s [] es a core h f = refl
 finished_stays s (e ∷ more) es a core h f = let ih = finished_stays s more es a core.0 h f in
     finished_step s (more ++ es) e a core h (rw ih f) ∙ ih
@@ -133,8 +118,7 @@ phase_how s c l e Enrol t a h = absurd (let x = t.active in grind arith)
 phase_how s c l e Begin t a h = at_begin refl
 phase_how s c l e Install t a h =
     at_none (λ q. let i = a.2.0 in cc)
-    (cond_both (e.found == e.expected) _ _ (λ (m : LocalState). given m.phase ≡ given l.phase) (λ _. refl)
-    (λ _. refl))
+    (cond_both (e.found == e.expected) _ _ (λ (m : LocalState). given m.phase ≡ given l.phase) (λ _. refl) (λ _. refl))
     (cond_both (e.found == e.expected) _ _ (λ (m : LocalState). own_attempt s m ≡ own_attempt s l) (λ _. refl)
     (λ _. refl)) ((λ q. cc), (λ q. cc), (λ q. cc), (λ q. cc), (λ q. cc))
 phase_how s c l e LookSelf t a h = go (cases_Bool (e.found == given l.phase))
@@ -190,7 +174,7 @@ pub own_status_step : (s : Shape) (es : List Event) (e : Event) → Core s (e �
     (word s (e ∷ es) (StatusWord (own_attempt s (local s es c))) ≡ given (local s es c).phase)
     ⊎ (word s (e ∷ es) (StatusWord (own_attempt s (local s es c))) ≡ 5)
 own_status_step s es e core c lt out quiet before =
-    go (change s es e (StatusWord (own_attempt s (local s es c))) st (own_in s c (local s es c) t lt out))
+    go (change (StatusWord (own_attempt s (local s es c))) st (own_in s c (local s es c) t lt out))
   where
     st : Step s es e
     st = step s es e core
@@ -212,7 +196,7 @@ own_status_step s es e core c lt out quiet before =
         word s (e ∷ es) (StatusWord (own_attempt s (local s es c))) ≡ e.put →
         (word s (e ∷ es) (StatusWord (own_attempt s (local s es c))) ≡ given (local s es c).phase)
         ⊎ (word s (e ∷ es) (StatusWord (own_attempt s (local s es c))) ≡ 5)
-    moved (begins b) w = let may = begin_may s (local s es e.caller) e e.kind b.kind st.fits.allowed in
+    moved (begins b) w = let may = begin_may s (local s es e.caller) e b.kind st.fits.allowed in
         let eq : own_attempt s (local s es c) ≡ e.caller * s.attempts + (local s es e.caller).begun = b.attempt
         ∙ next_number s e.caller (local s es e.caller) st.own may.1 in
         let same : c ≡ e.caller = sym (own_place s c (local s es c) t lt out).1 ∙ ap (λ n. n / s.attempts) eq
@@ -232,20 +216,20 @@ own_status_step s es e core c lt out quiet before =
     go (inl x) = rw x before
     go (inr x) = moved x.how x.now
 
-pub begin_put : (s : Shape) (l : LocalState) (e : Event) (k : Kind) → k ≡ Begin → AllowedAs k s l e →
+pub begin_put : (s : Shape) (l : LocalState) (e : Event) {k : Kind} → k ≡ Begin → AllowedAs k s l e →
     (e.place ≡ place s (StatusWord (next_attempt s l))) × (e.put ≡ 1) × ((after k s l e).phase ≡ Running)
     × (own_attempt s (after k s l e) ≡ next_attempt s l)
-begin_put s l e Begin q a = (a.0, a.1.1, refl, ap (λ n. or_zero l.number * s.attempts + n) (omega arith))
-begin_put s l e k q a = absurd (cc)
+begin_put s l e {k = Begin} q a = (a.0, a.1.1, refl, ap (λ n. or_zero l.number * s.attempts + n) (omega arith))
+begin_put s l e q a = absurd (cc)
 
-at_own : (s : Shape) (es : List Event) (e : Event) → Core s (e ∷ es) →
+at_own : {s : Shape} (es : List Event) {e : Event} → Core s (e ∷ es) →
     (e.caller < s.callers → (local s es e.caller).phase ≢ Outside → OwnStatus s es (local s es e.caller)) →
     PhaseHow s (local s es e.caller) e e.kind → OwnStatus s (e ∷ es) (after e.kind s (local s es e.caller) e)
-at_own s es e core ih (at_begin k) = let p = begin_put s (local s es e.caller) e e.kind k core.1.allowed in
+at_own {s = s} es {e = e} core ih (at_begin k) = let p = begin_put s (local s es e.caller) e k core.1.allowed in
     inl (ap (λ n. word s (e ∷ es) (StatusWord n)) p.3 ∙ put_at es e _ p.0 ∙ p.1 ∙ sym (ap given p.2))
-at_own s es e core ih (at_move n out pl put o) =
+at_own {s = s} es {e = e} core ih (at_move n out pl put o) =
     inl (ap (λ n. word s (e ∷ es) (StatusWord n)) o ∙ put_at es e _ pl ∙ put)
-at_own s es e core ih (at_none out g o n) =
+at_own {s = s} es {e = e} core ih (at_none out g o n) =
     rw (o, g) (own_status_step s es e core e.caller core.1.caller out (λ _. n) (ih core.1.caller out))
 
 pub own_status : (s : Shape) (es : List Event) → Core s es → (c : ℕ) → c < s.callers →
@@ -253,7 +237,6 @@ pub own_status : (s : Shape) (es : List Event) → Core s es → (c : ℕ) → c
 own_status s [] core c lt out = absurd (out refl)
 own_status s (e ∷ es) core c lt out =
     callers s es e (λ c l. c < s.callers → l.phase ≢ Outside → OwnStatus s (e ∷ es) l)
-    (λ lt out. at_own s es e core (own_status s es core.0 e.caller)
+    (λ lt out. at_own es core (own_status s es core.0 e.caller)
     (phase_how s e.caller (local s es e.caller) e e.kind (static s es core.0 e.caller) core.1.allowed out))
-    (λ c d lt out. own_status_step s es e core c lt out (λ q. absurd (d q))
-    (own_status s es core.0 c lt out)) c lt out
+    (λ c d lt out. own_status_step s es e core c lt out (λ q. absurd (d q)) (own_status s es core.0 c lt out)) c lt out

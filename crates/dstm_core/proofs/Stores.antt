@@ -1,20 +1,6 @@
 -- Each new word of a locator is stored at most once.
 use Rattle.std.proofs.Common.{not, ◌&&◌, ◌≡◌, ◌≢◌, ◌+◌, ◌-◌, ◌*◌, ◌/◌, ◌%◌, ◌<◌, ◌≤◌, ◌==◌, ◌⊎◌, ◌∷◌, ◌++◌, ◌∙◌, ℕ, inl, inr, List, [], refl, ap, arith, sym, Bool, true, false, length, length-append, subst}
-use Rattle.std.proofs.lemmas.Bool.{cases_Bool, and_parts, eqb-true}
-use Rattle.dstm_core.specs.Laws.{is_load, put_count}
-use Rattle.dstm_core.specs.Words.{Word}
-use Rattle.dstm_core.specs.declared.event.Kind.TheVariants.{Begin, Install, LookSelf, PutNew, Draw, Commit, Quit, Pause, Resume, PutHigh, Validating as ToValidating}
-use Rattle.dstm_core.specs.declared.state.Phase.TheVariants.{Outside}
-use Rattle.dstm_core.specs.Words.Word.{LowWord, HighWord}
-use Rattle.dstm_core.specs.declared.shape.Shape.{Shape}
-use Rattle.dstm_core.specs.Events.{Event}
-use Rattle.dstm_core.specs.declared.event.Kind.{Kind}
-use Rattle.dstm_core.specs.declared.state.Phase.{Phase}
-use Rattle.dstm_core.specs.declared.state.Write.{Write}
-use Rattle.dstm_core.specs.State.{LocalState, or_zero, next_locator, given, version, res}
-use Rattle.dstm_core.specs.Rules.{after, AllowedAs, access, target}
-use Rattle.dstm_core.specs.Runs.{local, Core}
-use Rattle.dstm_core.specs.Words.{place}
+use Rattle.dstm_core.proofs.Base.{AllowedAs, Begin, Commit, Core, Draw, Event, HighWord, Install, Kind, LocalState, LookSelf, LowWord, Outside, Pause, Phase, PutHigh, PutNew, Quit, Resume, Shape, ToValidating, Word, Write, access, after, and_parts, cases_Bool, eqb-true, given, is_load, local, next_locator, or_zero, place, put_count, res, target, version}
 use Rattle.dstm_core.proofs.Static.{numbered-get, Static, static, local_own, callers}
 use Rattle.dstm_core.proofs.Columns.{aimed, caller_of, index_of}
 use Rattle.dstm_core.proofs.Pasts.{core_past}
@@ -109,8 +95,7 @@ module _ (extra : Bool → ℕ) (small : (b : Bool) → extra b ≤ one_if b) wh
       go (inr q) = count_out s c l (after LookSelf s l e) t (rw q refl) (rw q refl)
   count_step s c l e ToValidating t a = go (cases_Bool (e.found == 1))
     where
-      go : (e.found == 1 ≡ true) ⊎ (e.found == 1 ≡ false) →
-          counted extra l ≤ counted extra (after ToValidating s l e)
+      go : (e.found == 1 ≡ true) ⊎ (e.found == 1 ≡ false) → counted extra l ≤ counted extra (after ToValidating s l e)
       go (inl q) =
           count_on l (after ToValidating s l e) (λ z. let i = a.2.0 in grind arith) (rw q (λ z. cc)) (rw q refl)
           (rw q refl) (rw q refl) (rw q refl)
@@ -133,8 +118,7 @@ module _ (extra : Bool → ℕ) (small : (b : Bool) → extra b ≤ one_if b) wh
       let y = small l.high_put in let z : one_if l.high_put ≡ 1 = ap one_if a.2.3 in omega arith
   count_step s c l e PutHigh t a = let x = in_attempt l.phase l (λ z. let i = a.2.0 in grind arith) in
       let y = small l.high_put in let z : one_if l.high_put ≡ 0 = ap one_if a.2.3 in omega arith
-  count_step s c l e Draw t a =
-      count_on l (after Draw s l e) (λ z. let i = a.2.0 in cc) (λ z. cc) refl refl refl refl
+  count_step s c l e Draw t a = count_on l (after Draw s l e) (λ z. let i = a.2.0 in cc) (λ z. cc) refl refl refl refl
   count_step s c l e Commit t a = count_out s c l (after Commit s l e) t refl refl
   count_step s c l e Quit t a = count_out s c l (after Quit s l e) t refl refl
   count_step s c l e k t a = count_same l (after k s l e) refl refl refl refl refl
@@ -147,10 +131,10 @@ module _ (extra : Bool → ℕ) (small : (b : Bool) → extra b ≤ one_if b) wh
       (count_step s e.caller (local s (more ++ es) e.caller) e e.kind
       (static s (more ++ es) core.0 e.caller) core.1.allowed) (λ c _. omega arith) c in omega arith
 
-  put_apart : (s : Shape) (more es : List Event) (e d : Event) (w : ℕ → Word) →
+  put_apart : {s : Shape} (more : List Event) {es : List Event} {e d : Event} {w : ℕ → Word} →
       ((m n : ℕ) → place s (w m) ≡ place s (w n) → m ≡ n) → Core s (more ++ d ∷ es) →
       Puts s (more ++ d ∷ es) e (counted extra) w → Puts s es d (counted extra) w → e.place ≢ d.place
-  put_apart s more es e d w same core y x q =
+  put_apart {s = s} more {es = es} {e = e} {d = d} same core y x q =
       let m : e.caller * s.locators + counted extra (local s (more ++ d ∷ es) e.caller)
       ≡ d.caller * s.locators + counted extra (local s es d.caller) =
       same (e.caller * s.locators + counted extra (local s (more ++ d ∷ es) e.caller))
@@ -164,8 +148,7 @@ module _ (extra : Bool → ℕ) (small : (b : Bool) → extra b ≤ one_if b) wh
       let own : counted extra (local s (d ∷ es) d.caller) ≡ counted extra (after d.kind s (local s es d.caller) d) =
       ap (counted extra) (local_own s es d) in
       let at : counted extra (local s (more ++ d ∷ es) e.caller)
-      ≡ counted extra (local s (more ++ d ∷ es) d.caller) =
-      ap (λ n. counted extra (local s (more ++ d ∷ es) n)) c in
+      ≡ counted extra (local s (more ++ d ∷ es) d.caller) = ap (λ n. counted extra (local s (more ++ d ∷ es) n)) c in
       let one = x.up in omega arith
 
 -- ---- the low and the high new words
@@ -180,8 +163,7 @@ record Part (extra : Bool → ℕ) (puts : Kind) (w : ℕ → Word) : Type 0 whe
       (e.place ≡ place s (w (c * s.locators + counted extra l)))
       × (counted extra (after puts s l e) ≡ counted extra l + 1) × (counted extra l < s.locators)
   -- no other kind puts it
-  pub only :
-      (s : Shape) (l : LocalState) (e : Event) (m : ℕ) (k : Kind) → target k s l e ≡ w m →
+  pub only : (s : Shape) (l : LocalState) (e : Event) (m : ℕ) (k : Kind) → target k s l e ≡ w m →
       not (is_load (access k s l e)) ≡ true → k ≡ puts
 
 -- a high part that was put does not count for the low one
@@ -232,7 +214,7 @@ module _ {extra : Bool → ℕ} {k : Kind} {w : ℕ → Word} (part : Part extra
   part_word_once : (more es : List Event) (e d : Event) → Core s (e ∷ (more ++ d ∷ es)) → e.kind ≡ k → d.kind ≡ k →
       e.place ≢ d.place
   part_word_once more es e d core is was =
-      put_apart extra part.small s more es e d w (part.same s) core.0 (part_puts (more ++ d ∷ es) e core is)
+      put_apart extra part.small more (part.same s) core.0 (part_puts (more ++ d ∷ es) e core is)
       (part_puts es d (core_past s more (d ∷ es) core.0) was)
 
 -- a locator's low new word is stored at most once
@@ -261,12 +243,10 @@ pub record Once (s : Shape) (es : List Event) (f : LocalState → ℕ) (w : ℕ 
   pub once : put_count s es (w m) ≤ 1
   pub not_yet : f (local s es (m / s.locators)) ≤ m % s.locators → put_count s es (w m) ≡ 0
 
-once_step : (s : Shape) (es : List Event) (e : Event) (f : LocalState → ℕ) (w : ℕ → Word) (m : ℕ) →
-    ((m n : ℕ) → place s (w m) ≡ place s (w n) → m ≡ n) →
-    ((c : ℕ) → f (local s es c) ≤ f (local s (e ∷ es) c)) →
-    (is_put s es e (w m) ≡ true → Puts s es e f w) →
-    Once s es f w m → Once s (e ∷ es) f w m
-once_step s es e f w m same grows puts ih = go (cases_Bool (is_put s es e (w m)))
+once_step : {s : Shape} {es : List Event} (e : Event) {f : LocalState → ℕ} {w : ℕ → Word} {m : ℕ} →
+    ((m n : ℕ) → place s (w m) ≡ place s (w n) → m ≡ n) → ((c : ℕ) → f (local s es c) ≤ f (local s (e ∷ es) c)) →
+    (is_put s es e (w m) ≡ true → Puts s es e f w) → Once s es f w m → Once s (e ∷ es) f w m
+once_step {s = s} {es = es} e {f = f} {w = w} {m = m} same grows puts ih = go (cases_Bool (is_put s es e (w m)))
   where
     put : is_put s es e (w m) ≡ true → Puts s es e f w → Once s (e ∷ es) f w m
     put q p =
@@ -277,8 +257,7 @@ once_step s es e f w m same grows puts ih = go (cases_Bool (is_put s es e (w m))
         ap (λ n. n / s.locators) number ∙ caller_of e.caller s.locators (f (local s es e.caller)) p.below in
         let index : m % s.locators ≡ f (local s es e.caller) =
         ap (λ n. n % s.locators) number ∙ index_of e.caller s.locators (f (local s es e.caller)) p.below in
-        let before : f (local s es (m / s.locators)) ≡ f (local s es e.caller) =
-        ap (λ c. f (local s es c)) caller in
+        let before : f (local s es (m / s.locators)) ≡ f (local s es e.caller) = ap (λ c. f (local s es c)) caller in
         let none : put_count s es (w m) ≡ 0 = ih.not_yet (omega arith) in
         let after : f (local s (e ∷ es) (m / s.locators)) ≡ f (local s es e.caller) + 1 =
         ap (λ c. f (local s (e ∷ es) c)) caller ∙ ap f (local_own s es e) ∙ p.up in
@@ -299,8 +278,8 @@ part_once : {extra : Bool → ℕ} {k : Kind} {w : ℕ → Word} → Part extra 
     ((l : LocalState) (e : Event) → AllowedAs e.kind s l e → e.place ≡ place s (w m) → target e.kind s l e ≡ w m) →
     Core s es → Once s es (counted extra) w m
 part_once part s [] m aims core = record { once = omega arith; not_yet = λ _. refl }
-part_once {extra = extra} {k = k} {w = w} part s (e ∷ es) m aims core =
-    once_step s es e (counted extra) w m (part.same s) (λ c. count_later extra part.small s (e ∷ []) es c core) puts
+part_once {extra = extra} {w = w} part s (e ∷ es) m aims core =
+    once_step e (part.same s) (λ c. count_later extra part.small s (e ∷ []) es c core) puts
     (part_once part s es m aims core.0)
   where
     puts : is_put s es e (w m) ≡ true → Puts s es e (counted extra) w

@@ -1,22 +1,9 @@
 -- Attempts under way: each attempt that has begun is finished, or its caller has it under way; and what an event does
 -- to an attempt under way.
 use Rattle.std.proofs.Common.{◌%◌, ◌*◌, ◌+◌, ◌-◌, ◌/◌, ◌<◌, ◌==◌, ◌∙◌, ◌∷◌, ◌≡◌, ◌≢◌, ◌≤◌, ◌⊎◌, List, [], ap, arith, cond, false, inl, inr, length, refl, subst, sym, true, ℕ}
-use Rattle.std.proofs.lemmas.Bool.{cases_Bool, cases_eq, cases_lt, cond_both, eq-eqb}
+use Rattle.dstm_core.proofs.Base.{AllowedAs, Begin, Commit, Core, Draw, Event, Install, Kind, LocalState, LookSelf, Outside, Pause, Paused, Phase, PutHigh, PutNew, Putting, Quit, Resume, Running, Shape, StatusWord, ToValidating, Validating, after, at, cases_Bool, cases_eq, cases_lt, cond_both, eq-eqb, given, local, nat_tests, own_attempt, place, word}
 use Rattle.std.proofs.lemmas.Nat.{mul-le}
 use Rattle.std.proofs.Math.Nat.{div-add-mod}
-use Rattle.std.proofs.lemmas.Bool.Decides.{nat_tests}
-use Rattle.dstm_core.specs.Events.{Event}
-use Rattle.dstm_core.specs.Rules.{AllowedAs, after}
-use Rattle.dstm_core.specs.Runs.{Core, local}
-use Rattle.dstm_core.specs.State.{LocalState, given, own_attempt}
-use Rattle.dstm_core.specs.Traces.{at, word}
-use Rattle.dstm_core.specs.Words.{place}
-use Rattle.dstm_core.specs.Words.Word.{StatusWord}
-use Rattle.dstm_core.specs.declared.event.Kind.{Kind}
-use Rattle.dstm_core.specs.declared.event.Kind.TheVariants.{Begin, Commit, Install, LookSelf, Pause, PutHigh, PutNew, Draw, Quit, Resume, Validating as ToValidating}
-use Rattle.dstm_core.specs.declared.shape.Shape.{Shape}
-use Rattle.dstm_core.specs.declared.state.Phase.{Phase}
-use Rattle.dstm_core.specs.declared.state.Phase.TheVariants.{Outside, Running, Paused, Putting, Validating}
 use Rattle.dstm_core.proofs.Basic.{own_place}
 use Rattle.dstm_core.proofs.Begun.{begun_how}
 use Rattle.dstm_core.proofs.Columns.{Begun, Changed, Kills, Moves, StatusMove, Step, begins, change, in_table, kills, moves, own_in, step}
@@ -47,14 +34,12 @@ pub leaves : (s : Shape) (l : LocalState) (e : Event) (k : Kind) → AllowedAs k
     (e.place ≡ place s (StatusWord (own_attempt s l))) × (4 ≤ e.put)
 leaves s l e Begin a h out f = absurd (cc)
 leaves s l e Install a h out f = absurd (h
-    (cond_both (e.found == e.expected) _ _ (λ (m : LocalState). m.phase ≡ Outside →
-    l.phase ≡ Outside) (λ _ q. q)
+    (cond_both (e.found == e.expected) _ _ (λ (m : LocalState). m.phase ≡ Outside → l.phase ≡ Outside) (λ _ q. q)
     (λ _ q. q) out))
 leaves s l e LookSelf a h out f = go (cases_Bool (e.found == given l.phase)) f
   where
     go : (e.found == given l.phase ≡ true) ⊎ (e.found == given l.phase ≡ false) →
-        (e.found ≡ given l.phase) ⊎ (e.found ≡ 5) → (e.place ≡ place s (StatusWord (own_attempt s l)))
-        × (4 ≤ e.put)
+        (e.found ≡ given l.phase) ⊎ (e.found ≡ 5) → (e.place ≡ place s (StatusWord (own_attempt s l))) × (4 ≤ e.put)
     go (inl q) f = absurd (h (rw q at out))
     go (inr q) (inl x) = absurd (let y = eq-eqb e.found (given l.phase) x in cc)
     go (inr q) (inr x) = (a.0, let p = a.1.1 in omega arith)
@@ -94,8 +79,7 @@ left_at : (s : Shape) (l : LocalState) (e : Event) (k : Kind) → AllowedAs k s 
     (after k s l e).phase ≡ Outside → e.place ≡ place s (StatusWord (own_attempt s l))
 left_at s l e Begin a h out = absurd (cc)
 left_at s l e Install a h out = absurd (h
-    (cond_both (e.found == e.expected) _ _ (λ (m : LocalState). m.phase ≡ Outside →
-    l.phase ≡ Outside) (λ _ q. q)
+    (cond_both (e.found == e.expected) _ _ (λ (m : LocalState). m.phase ≡ Outside → l.phase ≡ Outside) (λ _ q. q)
     (λ _ q. q) out))
 left_at s l e LookSelf a h out = a.0
 left_at s l e PutHigh a h out = absurd (cc)
@@ -142,14 +126,12 @@ is_outside_now p = inr (λ q. cc)
 pub finished_or_under_way : (s : Shape) (es : List Event) → Core s es → (c i : ℕ) → c < s.callers →
     i < (local s es c).begun → (4 ≤ word s es (StatusWord (c * s.attempts + i))) ⊎ IsUnderWay s es c i
 finished_or_under_way s [] core c i b lt = absurd (omega arith)
-finished_or_under_way s (e ∷ es) core c i b lt =
-    go (cases_eq e.caller c) (finished_or_under_way s es core.0 c i b)
+finished_or_under_way s (e ∷ es) core c i b lt = go (cases_eq e.caller c) (finished_or_under_way s es core.0 c i b)
   where
     below : i < (local s (e ∷ es) c).begun → c * s.attempts + i < s.callers * s.attempts
     below lt = let x = (static s (e ∷ es) core c).begun in in_table c s.attempts i s.callers b (omega arith)
 
-    stays : 4 ≤ word s es (StatusWord (c * s.attempts + i)) →
-        4 ≤ word s (e ∷ es) (StatusWord (c * s.attempts + i))
+    stays : 4 ≤ word s es (StatusWord (c * s.attempts + i)) → 4 ≤ word s (e ∷ es) (StatusWord (c * s.attempts + i))
     stays f = rw (finished_step s es e (c * s.attempts + i) core (below lt) f) f
 
     own : e.caller ≡ c → (i < (local s es c).begun →
@@ -170,8 +152,7 @@ finished_or_under_way s (e ∷ es) core c i b lt =
         goes n u (inl y) =
             let out : (local s es e.caller).phase ≢ Outside =
             λ z. u.inside (ap (λ (l : LocalState). l.phase) (sym was) ∙ z) in
-            let f = left_finished s es e core out (subst (λ d. (local s (e ∷ es) d).phase ≡ Outside)
-            (sym q) y) in
+            let f = left_finished s es e core out (subst (λ d. (local s (e ∷ es) d).phase ≡ Outside) (sym q) y) in
             let place = (own_place s e.caller (local s es e.caller)
             (static s es core.0 e.caller) core.1.caller out).0 in
             let index : (local s es e.caller).begun - 1 ≡ i = let u' = u.last in
@@ -196,18 +177,17 @@ finished_or_under_way s (e ∷ es) core c i b lt =
                 (4 ≤ word s (e ∷ es) (StatusWord (c * s.attempts + i))) ⊎ IsUnderWay s (e ∷ es) c i
             before (inl f) = inl (stays f)
             before (inr u) =
-                let may = begin_may s (local s es e.caller) e e.kind k core.1.allowed in
+                let may = begin_may s (local s es e.caller) e k core.1.allowed in
                 absurd (u.inside (ap (λ (l : LocalState). l.phase) (sym was) ∙ may.0))
         new k n (inr x) = inr (record {
           inside = λ z. let r : (local s (e ∷ es) c).phase ≡ Running = ap (λ (l : LocalState). l.phase) now
-              ∙ (begin_put s (local s es e.caller) e e.kind k core.1.allowed).2 in cc;
+              ∙ (begin_put s (local s es e.caller) e k core.1.allowed).2 in cc;
           last = let y = lt in omega arith;
         })
 
         at_kind : ((e.kind ≡ Begin) × ((after e.kind s (local s es e.caller) e).begun ≡
             (local s es e.caller).begun + 1))
-            ⊎ ((e.kind ≢ Begin) × ((after e.kind s (local s es e.caller) e).begun ≡
-            (local s es e.caller).begun)) →
+            ⊎ ((e.kind ≢ Begin) × ((after e.kind s (local s es e.caller) e).begun ≡ (local s es e.caller).begun)) →
             (4 ≤ word s (e ∷ es) (StatusWord (c * s.attempts + i))) ⊎ IsUnderWay s (e ∷ es) c i
         at_kind (inl x) = new x.0
             (ap (λ (l : LocalState). l.begun) now ∙ x.1 ∙ ap (λ (l : LocalState). l.begun + 1) was)
@@ -232,11 +212,11 @@ finished_or_under_way s (e ∷ es) core c i b lt =
         })
 
 -- where the status of an attempt that began is live, its caller has it under way
-pub live_under_way : (s : Shape) (es : List Event) → Core s es → (a : ℕ) → Begun s es a →
+pub live_under_way : {s : Shape} {es : List Event} → Core s es → {a : ℕ} → Begun s es a →
     word s es (StatusWord a) < 4 →
     ((local s es (a / s.attempts)).phase ≢ Outside) × (own_attempt s (local s es (a / s.attempts)) ≡ a)
     × (a / s.attempts < s.callers)
-live_under_way s es core a b live =
+live_under_way {s = s} {es = es} core {a = a} b live =
     go (finished_or_under_way s es core (a / s.attempts) (a % s.attempts) below b.begun)
   where
     parts : a / s.attempts * s.attempts + a % s.attempts ≡ a
@@ -268,20 +248,19 @@ live_under_way s es core a b live =
 -- ---- an attempt under way
 
 -- an attempt goes on, but at a Begin
-pub goes_on : (s : Shape) (l : LocalState) (e : Event) (k : Kind) → AllowedAs k s l e → k ≢ Begin →
+pub goes_on : {s : Shape} {l : LocalState} {e : Event} {k : Kind} → AllowedAs k s l e → k ≢ Begin →
     PhaseHow s l e k → (l.phase ≢ Outside) × (own_attempt s (after k s l e) ≡ own_attempt s l)
-goes_on s l e k a n (at_begin q) = absurd (n q)
-goes_on s l e k a n (at_move m out pl put o) = (out, o)
-goes_on s l e k a n (at_none out g o m) = (out, o)
+goes_on a n (at_begin q) = absurd (n q)
+goes_on a n (at_move m out pl put o) = (out, o)
+goes_on a n (at_none out g o m) = (out, o)
 
-quit_leaves : (s : Shape) (l : LocalState) (e : Event) (k : Kind) → k ≡ Quit → (after k s l e).phase ≡ Outside
-quit_leaves s l e Quit q = refl
-quit_leaves s l e k q = absurd (cc)
+quit_leaves : (s : Shape) (l : LocalState) (e : Event) {k : Kind} → k ≡ Quit → (after k s l e).phase ≡ Outside
+quit_leaves s l e {k = Quit} q = refl
+quit_leaves s l e q = absurd (cc)
 
 pub not_begin : (s : Shape) (es : List Event) (e : Event) → Core s (e ∷ es) →
-    (local s es e.caller).phase ≢ Outside →
-    e.kind ≢ Begin
-not_begin s es e core h k = h (begin_may s (local s es e.caller) e e.kind k core.1.allowed).0
+    (local s es e.caller).phase ≢ Outside → e.kind ≢ Begin
+not_begin s es e core h k = h (begin_may s (local s es e.caller) e k core.1.allowed).0
 
 -- an attempt under way has the same number after an event
 pub own_same : (s : Shape) (es : List Event) (e : Event) (c : ℕ) → Core s (e ∷ es) → c < s.callers →
@@ -289,8 +268,7 @@ pub own_same : (s : Shape) (es : List Event) (e : Event) (c : ℕ) → Core s (e
     own_attempt s (local s (e ∷ es) c) ≡ own_attempt s (local s es c)
 own_same s es e c core b h i = callers s es e
     (λ c l. c < s.callers → (local s es c).phase ≢ Outside → l.phase ≢ Outside →
-    own_attempt s l ≡ own_attempt s (local s es c))
-    (λ b h i. (goes_on s (local s es e.caller) e e.kind core.1.allowed (not_begin s es e core h)
+    own_attempt s l ≡ own_attempt s (local s es c)) (λ b h i. (goes_on core.1.allowed (not_begin s es e core h)
     (phase_how s e.caller (local s es e.caller) e e.kind (static s es core.0 e.caller) core.1.allowed i)).1)
     (λ c d b h i. refl) c b h i
 
@@ -311,12 +289,10 @@ status_or_killed s es e c core b h i before = go (own_status s (e ∷ es) core c
 
     quits : Moves s (local s es e.caller) e (own_attempt s (local s es c)) → e.kind ≡ Quit → ⊥
     quits m k =
-        let same : e.caller ≡ c =
-        own_differs s e.caller c (local s es e.caller) (local s es c) st.own
-        (static s es core.0 c) st.fits.caller b
-        m.inside h (sym m.attempt) in
+        let same : e.caller ≡ c = own_differs s e.caller c (local s es e.caller) (local s es c) st.own
+        (static s es core.0 c) st.fits.caller b m.inside h (sym m.attempt) in
         i (ap (λ n. (local s (e ∷ es) n).phase) (sym same) ∙ ap (λ (l : LocalState). l.phase) (local_own s es e)
-        ∙ quit_leaves s (local s es e.caller) e e.kind k)
+        ∙ quit_leaves s (local s es e.caller) e k)
 
     moved : Moves s (local s es e.caller) e (own_attempt s (local s es c)) → e.put ≡ 5 →
         ((e.kind ≡ ToValidating) × (e.put ≡ 3)) ⊎ ((e.kind ≡ Commit) × (e.put ≡ 4))
@@ -349,6 +325,5 @@ status_or_killed s es e c core b h i before = go (own_status s (e ∷ es) core c
         × (word s es (StatusWord (own_attempt s (local s es c))) ≡ e.found))
     go (inl x) = inl x
     go (inr x) = inr (at_word (ap (λ n. word s (e ∷ es) (StatusWord n)) (sym (own_same s es e c core b h i))
-        ∙ x)
-        (change s es e (StatusWord (own_attempt s (local s es c))) st (own_in s c (local s es c)
+        ∙ x) (change (StatusWord (own_attempt s (local s es c))) st (own_in s c (local s es c)
         (static s es core.0 c) b h)))

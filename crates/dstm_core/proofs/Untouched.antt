@@ -1,16 +1,6 @@
 -- Which parts of a caller's state an event leaves as they were.
 use Rattle.std.proofs.Common.{Bool, ◌≡◌, ◌⊎◌, List, [], ◌∷◌, None, Option, Some, arith, false, inl, inr, refl, subst, sym}
-use Rattle.std.proofs.lemmas.Bool.Decides.{nat_tests}
-use Rattle.std.proofs.lemmas.Bool.{cond_both}
-use Rattle.dstm_core.specs.Events.{Event}
-use Rattle.dstm_core.specs.Kinds.{is_one_of}
-use Rattle.dstm_core.specs.Rules.{after}
-use Rattle.dstm_core.specs.State.{LocalState, is_resolved, keep_resolved}
-use Rattle.dstm_core.specs.declared.event.Kind.TheVariants.{Begin, Install, Kill, LookHigh, LookNew, LookNumber, LookObj, LookOld, LookOwner, LookRank, LookStatus, Release}
-use Rattle.dstm_core.specs.declared.event.Kind.{Kind}
-use Rattle.dstm_core.specs.declared.shape.Shape.{Shape}
-use Rattle.dstm_core.specs.declared.state.Read.{Read}
-use Rattle.dstm_core.specs.declared.state.Resolution.{Resolution}
+use Rattle.dstm_core.proofs.Base.{Begin, Event, Install, Kill, Kind, LocalState, LookHigh, LookNew, LookNumber, LookObj, LookOld, LookOwner, LookRank, LookStatus, Read, Release, Resolution, Shape, after, cond_both, is_one_of, is_resolved, keep_resolved, nat_tests}
 
 -- kinds that find something out of the object that is being resolved
 abbrev pub is_look : Kind → Bool

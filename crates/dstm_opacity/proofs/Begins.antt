@@ -1,16 +1,8 @@
 -- A pass lies in one attempt, and what stands before the attempt's Begin stands before the pass.
 use Rattle.std.proofs.Common.{◌++◌, ◌+◌, ◌<◌, ◌∙◌, ◌∷◌, ◌≡◌, ◌≤◌, ◌⊎◌, List, Some, [], ap, arith, false, inl, inr, refl, subst, sym, true, ℕ}
-use Rattle.dstm_core.specs.Histories.{is_look_number, pass_place}
-use Rattle.dstm_core.specs.Rules.{after}
-use Rattle.dstm_core.specs.Runs.{Core, local}
-use Rattle.dstm_core.specs.State.{LocalState}
-use Rattle.dstm_core.specs.Events.{Event}
-use Rattle.dstm_core.specs.declared.event.Kind.{Kind}
-use Rattle.dstm_core.specs.declared.event.Kind.TheVariants.{Check, LookNumber}
-use Rattle.dstm_core.specs.declared.shape.Shape.{Shape}
-use Rattle.dstm_core.specs.declared.state.Phase.TheVariants.{Running}
+use Rattle.dstm_core.proofs.Base.{Core, Event, IsPastOf, LocalState, after, is_look_number, local, pass_place}
+use Rattle.dstm_opacity.proofs.Base.{Check, Kind, LookNumber, Running, Shape}
 use Rattle.dstm_core.proofs.Static.{begun_more, callers, local_own, static}
-use Rattle.dstm_core.specs.Traces.{IsPastOf}
 use Rattle.dstm_core.proofs.Statuses.{begun_up}
 use Rattle.dstm_opacity.proofs.Passes.{PassHow, by_check, by_look, pass_how, place_keeps, place_new, place_other}
 use Rattle.dstm_opacity.specs.Laws.{IsBeginOf}
@@ -25,8 +17,7 @@ pasts p q es a b = go a.later b.later (a.whole ∙ sym b.whole)
     go (x ∷ xs) (y ∷ ys) h = go xs ys (let k : xs ++ p ≡ ys ++ q = cc in k)
 
 -- attempts begun stay begun
-pub begun_later : (s : Shape) (more es : List Event) (c : ℕ) →
-    (local s es c).begun ≤ (local s (more ++ es) c).begun
+pub begun_later : (s : Shape) (more es : List Event) (c : ℕ) → (local s es c).begun ≤ (local s (more ++ es) c).begun
 begun_later s [] es c = omega arith
 begun_later s (e ∷ more) es c = let a = begun_later s more es c in let b = begun_more s (more ++ es) e c in
     omega arith
@@ -43,15 +34,15 @@ before_attempt s es q b c p r less = go (pasts b q es r p)
         absurd (omega arith)
 
 -- before a Begin of a caller fewer attempts of it had begun
-pub begun_before : (s : Shape) (since between b : List Event) (e : Event) (c : ℕ) → IsBeginOf c e →
+pub begun_before : (s : Shape) (since between b : List Event) {e : Event} {c : ℕ} → IsBeginOf c e →
     (local s b c).begun < (local s (since ++ e ∷ (between ++ b)) c).begun
-begun_before s since between b e c k =
+begun_before s since between b {e = e} {c = c} k =
     let early = begun_later s between b c in
     let late = begun_later s since (e ∷ (between ++ b)) c in
     let here : (local s (e ∷ (between ++ b)) c).begun ≡ (local s (between ++ b) c).begun + 1 =
     subst (λ n. (local s (e ∷ (between ++ b)) n).begun ≡ (local s (between ++ b) n).begun + 1) k.own
     (ap (λ (l : LocalState). l.begun) (local_own s (between ++ b) e)
-    ∙ begun_up s (local s (between ++ b) e.caller) e e.kind k.kind) in
+    ∙ begun_up s (local s (between ++ b) e.caller) e k.kind) in
     omega arith
 
 -- a pass lies in one attempt
@@ -59,8 +50,7 @@ pub pass_begun : (s : Shape) (es : List Event) → Core s es → (c n : ℕ) →
     (local s es c).pass ≡ Some n → (local s (pass_place c es) c).begun ≡ (local s es c).begun
 pass_begun s [] core c n r p = absurd (cc)
 pass_begun s (e ∷ es) core c n r p =
-    callers s es e
-    (λ c l. l.phase ≡ Running → l.pass ≡ Some n → (local s (pass_place c (e ∷ es)) c).begun ≡ l.begun)
+    callers s es e (λ c l. l.phase ≡ Running → l.pass ≡ Some n → (local s (pass_place c (e ∷ es)) c).begun ≡ l.begun)
     (λ r p. at_own
     (pass_how s e.caller (local s es e.caller) e e.kind n (static s es core.0 e.caller) core.1.allowed r p)
     (pass_begun s es core.0 e.caller n))

@@ -1,13 +1,7 @@
 -- The state of the whole history has the current values.
 use Rattle.std.proofs.Common.{◌*◌, ◌-◌, ◌<◌, ◌==◌, ◌∙◌, ◌≡◌, ◌⊎◌, List, ap, arith, false, inl, inr, length, refl, true, ℕ}
-use Rattle.std.proofs.lemmas.Bool.{cases_Bool, eqb-true, ne_eqb}
-use Rattle.dstm_model.specs.Map.{value_at}
-use Rattle.dstm_model.specs.declared.value.Val.{Val}
-use Rattle.dstm_core.specs.Histories.{current_value, current_version, history, version_value, will_of}
-use Rattle.dstm_core.specs.Runs.{Core}
-use Rattle.dstm_core.specs.Traces.{at}
-use Rattle.dstm_core.specs.Events.{Event}
-use Rattle.dstm_core.specs.declared.shape.Shape.{Shape}
+use Rattle.dstm_core.proofs.Base.{Core, Event, Val, at, cases_Bool, current_value, current_version, eqb-true, history, ne_eqb, value_at, version_value, will_of}
+use Rattle.dstm_opacity.proofs.Base.{Shape}
 use Rattle.dstm_core.proofs.Basic.{Names, basic}
 use Rattle.dstm_opacity.proofs.Current.{current}
 use Rattle.dstm_opacity.proofs.Draws.{committed_drawn}
@@ -17,13 +11,11 @@ use Rattle.dstm_opacity.proofs.States.{state_value}
 use Rattle.dstm_opacity.proofs.Versions.{meant, owner_of}
 
 -- the state of the whole history has the current value of each object
-pub closing : (s : Shape) (start : List Val) (run : List Event) (o : ℕ) → length start ≡ s.objects →
-    Core s run → o < s.objects →
-    value_at (map_after start (history s start (will_of s run) run run)) o ≡ current_value s start run o
+pub closing : (s : Shape) (start : List Val) (run : List Event) (o : ℕ) → length start ≡ s.objects → Core s run →
+    o < s.objects → value_at (map_after start (history s start (will_of s run) run run)) o ≡ current_value s start run o
 closing s start run o long core lt =
     state_value s start (will_of s run) run run o (omega arith)
-    ∙ ap (version_value s start run o)
-    (current s (will_of s run) run core (foretold s run) o lt ∙ same ((basic s run core).object o lt))
+    ∙ ap (version_value s start run o) (current core (foretold s run) o lt ∙ same ((basic s run core).object o lt))
   where
     same : Names s run (at run o) → meant s (will_of s run) run (at run o) ≡ current_version s run (at run o)
     same (inl z) = rw z refl
@@ -34,9 +26,7 @@ closing s start run o long core lt =
         pos = ne_eqb (at run o) 0 (λ q. let p = z.0 in omega arith)
 
         go : (will_of s run (owner_of s run (at run o)) ≡ true)
-            ⊎ (will_of s run (owner_of s run (at run o)) ≡ false) →
-            owner_of s run (at run o) < s.callers * s.attempts →
+            ⊎ (will_of s run (owner_of s run (at run o)) ≡ false) → owner_of s run (at run o) < s.callers * s.attempts →
             meant s (will_of s run) run (at run o) ≡ current_version s run (at run o)
-        go (inl w) b =
-            rw (pos, w, committed_drawn s run core (owner_of s run (at run o)) b (eqb-true _ 4 w)) refl
+        go (inl w) b = rw (pos, w, committed_drawn s run core (owner_of s run (at run o)) b (eqb-true _ 4 w)) refl
         go (inr w) b = rw (pos, w) refl

@@ -1,15 +1,8 @@
 -- The contest is a core run.
 use Rattle.std.proofs.Common.{◌≡◌, ◌∷◌, Bool, List, [], ap, arith, drop, false, cond, inl, inr, length, refl, take, true, ◌⊎◌}
-use Rattle.std.proofs.lemmas.Bool.{cases_Bool}
+use Rattle.dstm_core.proofs.Base.{Core, Event, Lawful, Val, cases_Bool, continued, core, with_writes}
+use Rattle.dstm_opacity.proofs.Base.{Kind, PutNew}
 use Rattle.dstm_machines.specs.Examples.{event, val}
-use Rattle.dstm_machines.specs.Traces.{continued}
-use Rattle.dstm_model.specs.declared.value.Val.{Val}
-use Rattle.dstm_model.specs.Map.{with_writes}
-use Rattle.dstm_core.specs.Events.{Event}
-use Rattle.dstm_core.specs.declared.event.Kind.{Kind}
-use Rattle.dstm_core.specs.declared.event.Kind.TheVariants.{PutNew}
-use Rattle.dstm_core.specs.Histories.{Lawful}
-use Rattle.dstm_core.specs.Runs.{Core, core}
 use Rattle.dstm_machines.proofs.Fitting.{run_then}
 use Rattle.dstm_opacity.specs.Contest.{SomeContest, before_release, lawful, release, rival_commits, rival_kills, rival_reads, run, shape, start, writer_leaves, writer_opens}
 

@@ -1,18 +1,8 @@
 -- The version that is current after the draws of the attempts that commit is the one that the word stands
 -- for.
 use Rattle.std.proofs.Common.{◌&&◌, ◌*◌, ◌+◌, ◌-◌, ◌<◌, ◌==◌, ◌∙◌, ◌∷◌, ◌≡◌, ◌≢◌, ◌⊎◌, Bool, List, None, Option, Some, [], ap, arith, false, if◌then◌else◌, inl, inr, refl, sym, true, ℕ}
-use Rattle.std.proofs.lemmas.Bool.{and_parts, cases_Bool, cond_both, ne_eqb}
-use Rattle.dstm_core.specs.Histories.{drawn, is_draw}
-use Rattle.dstm_core.specs.Runs.{Core, local}
-use Rattle.dstm_core.specs.State.{next_locator, own_attempt, res, write_of}
-use Rattle.dstm_core.specs.Traces.{at, word}
-use Rattle.dstm_core.specs.Words.Word.{OldWord, OwnerWord, StatusWord}
-use Rattle.dstm_core.specs.Events.{Event}
-use Rattle.dstm_core.specs.declared.event.Kind.{Kind}
-use Rattle.dstm_core.specs.declared.event.Kind.TheVariants.{Install}
-use Rattle.dstm_core.specs.declared.shape.Shape.{Shape}
-use Rattle.dstm_core.specs.declared.state.Phase.TheVariants.{Outside}
-use Rattle.dstm_core.specs.declared.state.Write.{Write}
+use Rattle.dstm_core.proofs.Base.{Core, Event, OldWord, OwnerWord, StatusWord, and_parts, at, cases_Bool, cond_both, drawn, is_draw, local, ne_eqb, next_locator, own_attempt, res, word, write_of}
+use Rattle.dstm_opacity.proofs.Base.{Install, Kind, Outside, Shape, Write}
 use Rattle.dstm_core.proofs.Basic.{Names, basic, install_may, old_stays, owner_stays}
 use Rattle.dstm_core.proofs.Columns.{Installed, objects, own_in, step}
 use Rattle.dstm_core.proofs.Static.{static}
@@ -29,18 +19,18 @@ pub record Foretells (s : Shape) (will : ℕ → Bool) (es : List Event) : Type 
   pub none : (a : ℕ) → a < s.callers * s.attempts → word s es (StatusWord a) ≡ 5 → will a ≡ false
 
 -- what foretells a run foretells its pasts
-pub foretells_past : (s : Shape) (will : ℕ → Bool) (es : List Event) (e : Event) → Core s (e ∷ es) →
+pub foretells_past : {s : Shape} {will : ℕ → Bool} (es : List Event) (e : Event) → Core s (e ∷ es) →
     Foretells s will (e ∷ es) → Foretells s will es
-foretells_past s will es e core f = record {
+foretells_past {s = s} es e core f = record {
   yes = λ a lt h. f.yes a lt (finished_step s es e a core lt (omega arith) ∙ h);
   none = λ a lt h. f.none a lt (finished_step s es e a core lt (omega arith) ∙ h);
 }
 
 -- a version that a word names for good is the one that the word stands for
-pub named_meant : (s : Shape) (will : ℕ → Bool) (es : List Event) (x v : ℕ) → Core s es → Foretells s will es →
+pub named_meant : {s : Shape} {will : ℕ → Bool} {es : List Event} {x v : ℕ} → Core s es → Foretells s will es →
     Named s es x v → meant s will es x ≡ v
-named_meant s will es x v core f (by_zero p q) = rw (p, q) refl
-named_meant s will es x v core f (by_commit p u st q) =
+named_meant core f (by_zero p q) = rw (p, q) refl
+named_meant {s = s} {es = es} {x = x} core f (by_commit p u st q) =
     let b = ((basic s es core).owner (x - 1) u).begun.below in
     rw (
       ne_eqb x 0 (λ z. omega arith),
@@ -48,16 +38,14 @@ named_meant s will es x v core f (by_commit p u st q) =
       committed_drawn s es core (owner_of s es x) b st,
       q,
     ) refl
-named_meant s will es x v core f (by_abort p u st q) =
+named_meant {s = s} {es = es} {x = x} core f (by_abort p u st q) =
     let b = ((basic s es core).owner (x - 1) u).begun.below in
     rw (ne_eqb x 0 (λ z. omega arith), f.none (owner_of s es x) b st, q) refl
 
 -- the same at two moments, where nothing that it reads has changed
 pub meant_same : (s : Shape) (will : ℕ → Bool) (es : List Event) (e : Event) (x : ℕ) → Core s (e ∷ es) →
-    Names s es x →
-    (0 < x → will (owner_of s es x) ≡ true →
-    drawn s (e ∷ es) (owner_of s es x) ≡ drawn s es (owner_of s es x)) →
-    meant s will (e ∷ es) x ≡ meant s will es x
+    Names s es x → (0 < x → will (owner_of s es x) ≡ true →
+    drawn s (e ∷ es) (owner_of s es x) ≡ drawn s es (owner_of s es x)) → meant s will (e ∷ es) x ≡ meant s will es x
 meant_same s will es e x core (inl n) h = rw n refl
 meant_same s will es e x core (inr n) h = let o = owner_stays s es e (x - 1) (step s es e core) n.1 in
     let d = old_stays s es e (x - 1) (step s es e core) n.1 in
@@ -65,8 +53,7 @@ meant_same s will es e x core (inr n) h = let o = owner_stays s es e (x - 1) (st
     ∙ drawn_part (will (owner_of s es x)) (word s (e ∷ es) (OldWord (x - 1))) (h n.0)
     ∙ ap (λ m. meant_by x (will (owner_of s es x)) (drawn s es (owner_of s es x)) m) d
   where
-    drawn_part : (w : Bool) (m : ℕ) →
-        (w ≡ true → drawn s (e ∷ es) (owner_of s es x) ≡ drawn s es (owner_of s es x)) →
+    drawn_part : (w : Bool) (m : ℕ) → (w ≡ true → drawn s (e ∷ es) (owner_of s es x) ≡ drawn s es (owner_of s es x)) →
         meant_by x w (drawn s (e ∷ es) (owner_of s es x)) m ≡ meant_by x w (drawn s es (owner_of s es x)) m
     drawn_part true m k = ap (λ b. meant_by x true b m) (k refl)
     drawn_part false m k = refl
@@ -107,21 +94,20 @@ version_quiet s will es e o h =
 -- after the draw of an attempt that commits its writes are current
 pub version_drawn : (s : Shape) (will : ℕ → Bool) (es : List Event) (e : Event) (o : ℕ) →
     is_draw e.kind ≡ true → will (own_attempt s (local s es e.caller)) ≡ true →
-    version_at s will (e ∷ es) o ≡ new_version (write_of o (local s es e.caller).writes)
-    (version_at s will es o)
+    version_at s will (e ∷ es) o ≡ new_version (write_of o (local s es e.caller).writes) (version_at s will es o)
 version_drawn s will es e o d w = rw (d, w) refl
 
-draw_not_install : (k : Kind) → is_draw k ≡ true → k ≡ Install → ⊥
-draw_not_install Install d q = absurd (cc)
-draw_not_install k d q = absurd (cc)
+draw_not_install : {k : Kind} → is_draw k ≡ true → k ≡ Install → ⊥
+draw_not_install {k = Install} d q = absurd (cc)
+draw_not_install d q = absurd (cc)
 
-current_step : (s : Shape) (will : ℕ → Bool) (es : List Event) (e : Event) → Core s (e ∷ es) →
+current_step : {s : Shape} {will : ℕ → Bool} {es : List Event} (e : Event) → Core s (e ∷ es) →
     Foretells s will (e ∷ es) → (o : ℕ) → o < s.objects → Foretells s will es →
     version_at s will es o ≡ meant s will es (at es o) →
     version_at s will (e ∷ es) o ≡ meant s will (e ∷ es) (at (e ∷ es) o)
 unfolding is_drawn
-current_step s will es e core f o lt past ih =
-    go (objects s es e o (step s es e core) lt) (cases_Bool (is_draw e.kind))
+current_step {s = s} {will = will} {es = es} e core f o lt past ih =
+    go (objects o (step s es e core) lt) (cases_Bool (is_draw e.kind))
     (cases_Bool (will (own_attempt s (local s es e.caller))))
   where
     -- the word stays, and no attempt that commits draws
@@ -139,24 +125,21 @@ current_step s will es e core f o lt past ih =
     put i = let ok = i.how.found ∙ sym i.how.expected in
         let r = replaces s es e core i.how.kind ok in
         let w = write_new s es e core i.how.kind ok in
-        let may = install_may s (local s es e.caller) e e.kind i.how.kind core.1.allowed in
+        let may = install_may s (local s es e.caller) e i.how.kind core.1.allowed in
         let out : (local s es e.caller).phase ≢ Outside = λ z. let j = may.0 in cc in
         let none : drawn s (e ∷ es)
-        (word s (e ∷ es) (OwnerWord (next_locator s (local s es e.caller)))) ≡ false =
-        ap (drawn s (e ∷ es)) w.owner
-        ∙ drawn_same s es e (own_attempt s (local s es e.caller))
-        (λ d q. draw_not_install e.kind d i.how.kind)
+        (word s (e ∷ es) (OwnerWord (next_locator s (local s es e.caller)))) ≡ false = ap (drawn s (e ∷ es)) w.owner
+        ∙ drawn_same s es e (own_attempt s (local s es e.caller)) (λ d q. draw_not_install d i.how.kind)
         ∙ drawn_phase s es core.0 e.caller core.1.caller out ∙ ap is_drawn may.0 in
         let v : meant s will es (res (local s es e.caller)).word ≡ word s es (OldWord (e.put - 1)) =
-        named_meant s will es _ _ core.0 past r.named in
-        version_quiet s will es e o (λ d z. draw_not_install e.kind d i.how.kind) ∙ ih
+        named_meant core.0 past r.named in
+        version_quiet s will es e o (λ d z. draw_not_install d i.how.kind) ∙ ih
         ∙ ap (meant s will es) i.was ∙ v ∙ r.old ∙ sym w.old
         ∙ sym (meant_undrawn s will (e ∷ es) (next_locator s (local s es e.caller)) none)
         ∙ ap (meant s will (e ∷ es)) (sym i.now)
 
     -- an attempt that commits draws
-    draws : (at (e ∷ es) o ≡ at es o) → is_draw e.kind ≡ true →
-        will (own_attempt s (local s es e.caller)) ≡ true →
+    draws : (at (e ∷ es) o ≡ at es o) → is_draw e.kind ≡ true → will (own_attempt s (local s es e.caller)) ≡ true →
         version_at s will (e ∷ es) o ≡ meant s will (e ∷ es) (at (e ∷ es) o)
     draws x d w = by_write (write_of o (local s es e.caller).writes) refl
       where
@@ -183,19 +166,16 @@ current_step s will es e core f o lt past ih =
         by_write None q =
             version_drawn s will es e o d w ∙ ap (λ m. new_version m (version_at s will es o)) q ∙ ih
             ∙ sym (meant_same s will es e (at es o) core ((basic s es core.0).object o lt)
-            (λ p y. drawn_same s es e (owner_of s es (at es o))
-            (λ _ z. let i = meant_mine s es (local s es e.caller) o
+            (λ p y. drawn_same s es e (owner_of s es (at es o)) (λ _ z. let i = meant_mine s es (local s es e.caller) o
             (mine s es core.0 e.caller core.1.caller out) lt p (sym z) in cc)))
             ∙ ap (meant s will (e ∷ es)) (sym x)
         by_write (Some v) q =
-            let k = write_of-ok s es (own_attempt s (local s es e.caller)) o
-            (local s es e.caller).writes v ok q in
+            let k = write_of-ok s es (own_attempt s (local s es e.caller)) o (local s es e.caller).writes v ok q in
             version_drawn s will es e o d w ∙ ap (λ m. new_version m (version_at s will es o)) q
             ∙ at_word v (write_of-object o (local s es e.caller).writes v q) k k.here
 
     go : (at (e ∷ es) o ≡ at es o) ⊎ Installed s es e o → (is_draw e.kind ≡ true) ⊎ (is_draw e.kind ≡ false) →
-        (will (own_attempt s (local s es e.caller)) ≡ true)
-        ⊎ (will (own_attempt s (local s es e.caller)) ≡ false) →
+        (will (own_attempt s (local s es e.caller)) ≡ true) ⊎ (will (own_attempt s (local s es e.caller)) ≡ false) →
         version_at s will (e ∷ es) o ≡ meant s will (e ∷ es) (at (e ∷ es) o)
     go (inr i) d w = put i
     go (inl x) (inl d) (inl w) = draws x d w
@@ -203,9 +183,8 @@ current_step s will es e core f o lt past ih =
     go (inl x) (inr d) w = still x (λ z _. cc)
 
 -- a word of an object stands for the version that is current
-pub current : (s : Shape) (will : ℕ → Bool) (es : List Event) → Core s es → Foretells s will es → (o : ℕ) →
+pub current : {s : Shape} {will : ℕ → Bool} {es : List Event} → Core s es → Foretells s will es → (o : ℕ) →
     o < s.objects → version_at s will es o ≡ meant s will es (at es o)
-current s will [] core f o lt = refl
-current s will (e ∷ es) core f o lt =
-    current_step s will es e core f o lt (foretells_past s will es e core f)
-    (current s will es core.0 (foretells_past s will es e core f) o lt)
+current {es = []} core f o lt = refl
+current {es = (e ∷ es)} core f o lt =
+    current_step e core f o lt (foretells_past es e core f) (current core.0 (foretells_past es e core f) o lt)

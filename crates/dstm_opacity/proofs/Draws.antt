@@ -1,18 +1,7 @@
 -- Which attempts have drawn their number.
 use Rattle.std.proofs.Common.{◌%◌, ◌&&◌, ◌*◌, ◌/◌, ◌<◌, ◌==◌, ◌∙◌, ◌∷◌, ◌≡◌, ◌≢◌, ◌⊎◌, Bool, List, [], ap, arith, false, inl, inr, length, refl, subst, sym, true, ℕ}
-use Rattle.std.proofs.lemmas.Bool.{and_parts, cases_Bool, cond_both, eq-eqb, eqb-true}
-use Rattle.dstm_core.specs.Histories.{drawn, is_draw}
-use Rattle.dstm_core.specs.Rules.{AllowedAs, after}
-use Rattle.dstm_core.specs.Runs.{Core, local}
-use Rattle.dstm_core.specs.State.{LocalState, given, next_attempt, own_attempt}
-use Rattle.dstm_core.specs.Traces.{word}
-use Rattle.dstm_core.specs.Words.Word.{StatusWord}
-use Rattle.dstm_core.specs.Events.{Event}
-use Rattle.dstm_core.specs.declared.event.Kind.{Kind}
-use Rattle.dstm_core.specs.declared.event.Kind.TheVariants.{Begin, Commit, Draw, Install, LookSelf, Pause, PutHigh, PutNew, Quit, Resume, Validating as ToValidating}
-use Rattle.dstm_core.specs.declared.shape.Shape.{Shape}
-use Rattle.dstm_core.specs.declared.state.Phase.{Phase}
-use Rattle.dstm_core.specs.declared.state.Phase.TheVariants.{Drawn, Outside, Putting, Running, Validating}
+use Rattle.dstm_core.proofs.Base.{AllowedAs, Core, Event, LocalState, StatusWord, after, and_parts, cases_Bool, cond_both, drawn, eq-eqb, eqb-true, given, is_draw, local, next_attempt, own_attempt, word}
+use Rattle.dstm_opacity.proofs.Base.{Begin, Commit, Draw, Drawn, Install, Kind, LookSelf, Outside, Pause, Phase, PutHigh, PutNew, Putting, Quit, Resume, Running, Shape, ToValidating, Validating}
 use Rattle.dstm_core.proofs.Basic.{own_begun}
 use Rattle.dstm_core.proofs.Columns.{Begun, Changed, Moves, StatusMove, begins, begun_still, caller_of, change, index_of, kills, moves, step}
 use Rattle.dstm_core.proofs.Static.{callers, static}
@@ -43,8 +32,7 @@ drawn_now s es e a h = go (cases_Bool (is_draw e.kind && (own_attempt s (local s
     go (inr q) = inl (rw q at h)
 
 -- an attempt that has drawn stays so
-pub drawn_more : (s : Shape) (es : List Event) (e : Event) (a : ℕ) → drawn s es a ≡ true →
-    drawn s (e ∷ es) a ≡ true
+pub drawn_more : (s : Shape) (es : List Event) (e : Event) (a : ℕ) → drawn s es a ≡ true → drawn s (e ∷ es) a ≡ true
 drawn_more s es e a h =
     cond_both (is_draw e.kind && (own_attempt s (local s es e.caller) == a)) true (drawn s es a) (λ b. b ≡ true)
     (λ _. refl) (λ _. h)
@@ -56,18 +44,16 @@ drawn_begun s (e ∷ es) core a h = go (drawn_now s es e a h) (drawn_begun s es 
   where
     go : (drawn s es a ≡ true) ⊎ ((is_draw e.kind ≡ true) × (own_attempt s (local s es e.caller) ≡ a)) →
         (drawn s es a ≡ true → Begun s es a) → Begun s (e ∷ es) a
-    go (inl q) ih = begun_still s es e a (ih q)
+    go (inl q) ih = begun_still e (ih q)
     go (inr q) ih = let v = draw_may s (local s es e.caller) e e.kind q.0 core.1.allowed in
-        begun_still s es e a
-        (subst (Begun s es) q.1
+        begun_still e (subst (Begun s es) q.1
         (own_begun s es e.caller (static s es core.0 e.caller) core.1.caller (λ z. cc)))
 
 -- other events than draws
 pub drawn_same : (s : Shape) (es : List Event) (e : Event) (a : ℕ) →
     (is_draw e.kind ≡ true → own_attempt s (local s es e.caller) ≢ a) → drawn s (e ∷ es) a ≡ drawn s es a
 drawn_same s es e a h =
-    cond_both (is_draw e.kind && (own_attempt s (local s es e.caller) == a)) true (drawn s es a)
-    (λ b. b ≡ drawn s es a)
+    cond_both (is_draw e.kind && (own_attempt s (local s es e.caller) == a)) true (drawn s es a) (λ b. b ≡ drawn s es a)
     (λ q. let two = and_parts (is_draw e.kind) (own_attempt s (local s es e.caller) == a) q in
     absurd (h two.0 (eqb-true (own_attempt s (local s es e.caller)) a two.1))) (λ _. refl)
 
@@ -81,8 +67,7 @@ drawn_yes s es e h =
 data PhaseDrawn (s : Shape) (l : LocalState) (e : Event) (k : Kind) : Type 0 where
   pd_begin : k ≡ Begin → PhaseDrawn s l e k
   pd_draw : is_draw k ≡ true → k ≢ Begin → is_drawn (after k s l e).phase ≡ true → PhaseDrawn s l e k
-  pd_same : is_draw k ≡ false → k ≢ Begin → is_drawn (after k s l e).phase ≡ is_drawn l.phase →
-      PhaseDrawn s l e k
+  pd_same : is_draw k ≡ false → k ≢ Begin → is_drawn (after k s l e).phase ≡ is_drawn l.phase → PhaseDrawn s l e k
 
 phase_drawn : (s : Shape) (l : LocalState) (e : Event) (k : Kind) → AllowedAs k s l e →
     (after k s l e).phase ≢ Outside → PhaseDrawn s l e k
@@ -130,17 +115,16 @@ pub false_or : (b : Bool) → (b ≡ true → ⊥) → b ≡ false
 false_or true h = absurd (h refl)
 false_or false h = refl
 
-drawn_own : (s : Shape) (es : List Event) (e : Event) → Core s (e ∷ es) →
+drawn_own : {s : Shape} (es : List Event) {e : Event} → Core s (e ∷ es) →
     PhaseDrawn s (local s es e.caller) e e.kind → PhaseHow s (local s es e.caller) e e.kind →
     ((local s es e.caller).phase ≢ Outside →
     drawn s es (own_attempt s (local s es e.caller)) ≡ is_drawn (local s es e.caller).phase) →
     drawn s (e ∷ es) (own_attempt s (after e.kind s (local s es e.caller) e)) ≡ is_drawn
     (after e.kind s (local s es e.caller) e).phase
 unfolding is_drawn
-drawn_own s es e core (pd_begin k) ph ih =
-    let p = begin_put s (local s es e.caller) e e.kind k core.1.allowed in
-    rw (p.3, p.2)
-    (drawn_same s es e _ (λ q. absurd (not_draw e.kind k q))
+drawn_own {s = s} es {e = e} core (pd_begin k) ph ih =
+    let p = begin_put s (local s es e.caller) e k core.1.allowed in
+    rw (p.3, p.2) (drawn_same s es e _ (λ q. absurd (not_draw e.kind k q))
     ∙ false_or _ (λ d. unused (drawn_begun s es core.0 (next_attempt s (local s es e.caller)) d)))
   where
     not_draw : (k : Kind) → k ≡ Begin → is_draw k ≡ true → ⊥
@@ -148,7 +132,7 @@ drawn_own s es e core (pd_begin k) ph ih =
     not_draw k q h = cc
 
     unused : Begun s es (next_attempt s (local s es e.caller)) → ⊥
-    unused b = let may = begin_may s (local s es e.caller) e e.kind k core.1.allowed in
+    unused b = let may = begin_may s (local s es e.caller) e k core.1.allowed in
         let n = next_number s e.caller (local s es e.caller) (static s es core.0 e.caller) may.1 in
         let c : next_attempt s (local s es e.caller) / s.attempts ≡ e.caller = ap (λ m. m / s.attempts) n
         ∙ caller_of e.caller s.attempts (local s es e.caller).begun may.2 in
@@ -157,11 +141,11 @@ drawn_own s es e core (pd_begin k) ph ih =
         let lt : next_attempt s (local s es e.caller) % s.attempts < (local s es e.caller).begun =
         subst (λ m. next_attempt s (local s es e.caller) % s.attempts < (local s es m).begun) c b.begun in
         omega arith
-drawn_own s es e core (pd_draw d n p) ph ih =
-    let on = goes_on s (local s es e.caller) e e.kind core.1.allowed n ph in
+drawn_own {s = s} es {e = e} core (pd_draw d n p) ph ih =
+    let on = goes_on core.1.allowed n ph in
     rw (on.1, p) (drawn_yes s es e d)
-drawn_own s es e core (pd_same d n p) ph ih =
-    let on = goes_on s (local s es e.caller) e e.kind core.1.allowed n ph in
+drawn_own {s = s} es {e = e} core (pd_same d n p) ph ih =
+    let on = goes_on core.1.allowed n ph in
     rw (on.1, p) (drawn_same s es e _ (λ q. cc) ∙ ih on.0)
 
 -- an attempt under way has drawn exactly where its phase says so
@@ -169,22 +153,19 @@ pub drawn_phase : (s : Shape) (es : List Event) → Core s es → (c : ℕ) → 
     (local s es c).phase ≢ Outside → drawn s es (own_attempt s (local s es c)) ≡ is_drawn (local s es c).phase
 drawn_phase s [] core c lt out = absurd (out refl)
 drawn_phase s (e ∷ es) core c lt out =
-    callers s es e
-    (λ c l. c < s.callers → l.phase ≢ Outside → drawn s (e ∷ es) (own_attempt s l) ≡ is_drawn l.phase)
-    (λ lt out. drawn_own s es e core (phase_drawn s (local s es e.caller) e e.kind core.1.allowed out)
+    callers s es e (λ c l. c < s.callers → l.phase ≢ Outside → drawn s (e ∷ es) (own_attempt s l) ≡ is_drawn l.phase)
+    (λ lt out. drawn_own es core (phase_drawn s (local s es e.caller) e e.kind core.1.allowed out)
     (phase_how s e.caller (local s es e.caller) e e.kind (static s es core.0 e.caller) core.1.allowed out)
-    (drawn_phase s es core.0 e.caller lt))
-    (λ c d lt out. drawn_same s es e _
+    (drawn_phase s es core.0 e.caller lt)) (λ c d lt out. drawn_same s es e _
     (λ q z. let v = draw_may s (local s es e.caller) e e.kind q core.1.allowed in
     d (own_differs s e.caller c (local s es e.caller) (local s es c) (static s es core.0 e.caller)
     (static s es core.0 c) core.1.caller lt (λ y. cc) out z))
     ∙ drawn_phase s es core.0 c lt out) c lt out
 
 -- where a Commit is allowed
-pub commit_may : (s : Shape) (l : LocalState) (e : Event) (k : Kind) → k ≡ Commit → AllowedAs k s l e →
-    l.phase ≡ Drawn
-commit_may s l e Commit q a = a.2.0
-commit_may s l e k q a = absurd (cc)
+pub commit_may : (s : Shape) (l : LocalState) (e : Event) {k : Kind} → k ≡ Commit → AllowedAs k s l e → l.phase ≡ Drawn
+commit_may s l e {k = Commit} q a = a.2.0
+commit_may s l e q a = absurd (cc)
 
 -- an attempt that has committed had drawn
 pub committed_drawn : (s : Shape) (es : List Event) → Core s es → (a : ℕ) → a < s.callers * s.attempts →
@@ -192,21 +173,20 @@ pub committed_drawn : (s : Shape) (es : List Event) → Core s es → (a : ℕ) 
 unfolding is_drawn
 committed_drawn s [] core a lt h = absurd (omega arith)
 committed_drawn s (e ∷ es) core a lt h =
-    go (change s es e (StatusWord a) (step s es e core) lt) (committed_drawn s es core.0 a lt)
+    go (change (StatusWord a) (step s es e core) lt) (committed_drawn s es core.0 a lt)
   where
     by_move : Moves s (local s es e.caller) e a →
         ((e.kind ≡ ToValidating) × (e.put ≡ 3)) ⊎ ((e.kind ≡ Commit) × (e.put ≡ 4))
         ⊎ ((e.kind ≡ Quit) × (e.put ≡ 5)) ⊎ ((e.kind ≡ Pause) × (e.put ≡ 2))
         ⊎ ((e.kind ≡ Resume) × (e.put ≡ 1)) → word s (e ∷ es) (StatusWord a) ≡ e.put → drawn s es a ≡ true
     by_move m (inl x) w = let p = x.1 in absurd (omega arith)
-    by_move m (inr (inl x)) w = let ph = commit_may s (local s es e.caller) e e.kind x.0 core.1.allowed in
+    by_move m (inr (inl x)) w = let ph = commit_may s (local s es e.caller) e x.0 core.1.allowed in
         rw m.attempt (drawn_phase s es core.0 e.caller core.1.caller m.inside ∙ ap is_drawn ph)
     by_move m (inr (inr (inl x))) w = let p = x.1 in absurd (omega arith)
     by_move m (inr (inr (inr (inl x)))) w = let p = x.1 in absurd (omega arith)
     by_move m (inr (inr (inr (inr x)))) w = let p = x.1 in absurd (omega arith)
 
-    moved : StatusMove s (local s es e.caller) e a → word s (e ∷ es) (StatusWord a) ≡ e.put →
-        drawn s es a ≡ true
+    moved : StatusMove s (local s es e.caller) e a → word s (e ∷ es) (StatusWord a) ≡ e.put → drawn s es a ≡ true
     moved (begins b) w = let p = b.put in absurd (omega arith)
     moved (moves m) w = by_move m m.how w
     moved (kills k) w = let p = k.put in absurd (omega arith)

@@ -1,31 +1,17 @@
 -- Each entry of a history names objects of the shape, and each at most once.
-use Rattle.std.proofs.Common.{◌++◌, ◌<◌, ◌==◌, ◌∷◌, ◌≡◌, ◌≢◌, ◌⊎◌, Bool, List, None, Some, [], false, inl, inr, true, ℕ}
-use Rattle.std.proofs.lemmas.Bool.{and_parts, cases_Bool, eqb-false}
+use Rattle.std.proofs.Common.{◌++◌, ◌<◌, ◌==◌, ◌∷◌, ◌≡◌, ◌≢◌, Bool, List, None, [], true, ℕ, reverse}
+use Rattle.dstm_core.proofs.Base.{Core, Event, IsEntry, IsUnnamed, NamesOnce, Val, and_parts, commits_at, entry_at, entry_of, eqb-false, history, is_draw, local, new_values, old_values, own_attempt, read_of, read_values, write_of}
+use Rattle.dstm_opacity.proofs.Base.{Outside, Read, Shape, Write}
 use Rattle.std.specs.List.{All}
-use Rattle.std.specs.Prelude.{reverse}
-use Rattle.dstm_model.specs.Map.{IsEntry, IsUnnamed, NamesOnce}
-use Rattle.dstm_model.specs.declared.value.Val.{Val}
-use Rattle.dstm_core.specs.Histories.{commits_at, entry_at, entry_of, history, is_draw, new_values, old_values, read_values}
-use Rattle.dstm_core.specs.Runs.{Core, local}
-use Rattle.dstm_core.specs.State.{own_attempt, read_of, write_of}
-use Rattle.dstm_core.specs.Events.{Event}
-use Rattle.dstm_core.specs.declared.shape.Shape.{Shape}
-use Rattle.dstm_core.specs.declared.state.Phase.TheVariants.{Outside}
-use Rattle.dstm_core.specs.declared.state.Read.{Read}
-use Rattle.dstm_core.specs.declared.state.Write.{Write}
 use Rattle.dstm_opacity.proofs.Draws.{draw_may}
 use Rattle.dstm_machines.proofs.Gathered.{told_all}
 use Rattle.dstm_opacity.proofs.Recorded.{ReadsNamed, reads}
-use Rattle.dstm_opacity.proofs.Tidy.{Apart, ReadsOnce, WritesOnce, read_apart, tidy}
+use Rattle.dstm_opacity.proofs.Tidy.{Apart, neither, ReadsOnce, WritesOnce, read_apart, tidy}
 use Rattle.dstm_opacity.proofs.Written.{WritesOk, written}
 
 write_apart : (o : ℕ) (w : Write) (ws : List Write) → write_of o (w ∷ ws) ≡ None →
     (w.object ≢ o) × (write_of o ws ≡ None)
-write_apart o w ws h = go (cases_Bool (w.object == o))
-  where
-    go : (w.object == o ≡ true) ⊎ (w.object == o ≡ false) → (w.object ≢ o) × (write_of o ws ≡ None)
-    go (inl q) = let z : Some w ≡ None = rw q at h in absurd (cc)
-    go (inr q) = (eqb-false w.object o q, rw q at h)
+write_apart o w ws h = let x = neither (w.object == o) w (write_of o ws) h in (eqb-false w.object o x.0, x.1)
 
 unnamed_reads : (s : Shape) (start : List Val) (run : List Event) (o : ℕ) (rs : List Read) →
     read_of o rs ≡ None → IsUnnamed o (read_values s start run rs)

@@ -1,11 +1,7 @@
 -- The example is a core run.
 use Rattle.std.proofs.Common.{◌∷◌, List, [], refl, arith}
-use Rattle.dstm_machines.specs.Traces.{continued}
-use Rattle.dstm_model.specs.declared.value.Val.{Val}
-use Rattle.dstm_core.specs.Events.{Event}
-use Rattle.dstm_core.specs.declared.shape.Shape.{Shape}
-use Rattle.dstm_core.specs.Histories.{Lawful}
-use Rattle.dstm_core.specs.Runs.{Core, core}
+use Rattle.dstm_core.proofs.Base.{Core, Event, Lawful, Val, continued, core}
+use Rattle.dstm_opacity.proofs.Base.{Shape}
 use Rattle.dstm_machines.proofs.Fitting.{run_then}
 use Rattle.dstm_opacity.specs.Example.{SomeRun, before_commit, before_sight, reader_checks, reader_commit, reader_draws, run, shape, sight, start, writer_again, writer_commits}
 

@@ -1,20 +1,7 @@
 -- The values that are found of versions, and those that are put, stay.
 use Rattle.std.proofs.Common.{◌++◌, ◌-◌, ◌<◌, ◌==◌, ◌∙◌, ◌∷◌, ◌≡◌, ◌⊎◌, List, None, Option, Some, [], ap, arith, false, inl, inr, is_some, refl, sym, true, ℕ}
-use Rattle.std.proofs.lemmas.Bool.{cases_Bool, eq-eqb, ne_eqb}
-use Rattle.std.proofs.lemmas.Bool.Decides.{nat_tests}
-use Rattle.dstm_model.specs.declared.value.Val.{Val}
-use Rattle.dstm_core.specs.Histories.{new_value, version_value}
-use Rattle.dstm_core.specs.Rules.{AllowedAs, after}
-use Rattle.dstm_core.specs.Runs.{Core, local}
-use Rattle.dstm_core.specs.State.{LocalState, is_live, or_unresolved, or_zero, res, version, version_by}
-use Rattle.dstm_core.specs.Traces.{at, word}
-use Rattle.dstm_core.specs.Words.{place}
-use Rattle.dstm_core.specs.Words.Word.{HighWord, LowWord}
-use Rattle.dstm_core.specs.Events.{Event}
-use Rattle.dstm_core.specs.declared.event.Kind.{Kind}
-use Rattle.dstm_core.specs.declared.event.Kind.TheVariants.{Kill, LookHigh, LookNew, LookObj, LookOld, LookOwner, LookRank, LookStatus}
-use Rattle.dstm_core.specs.declared.shape.Shape.{Shape}
-use Rattle.dstm_core.specs.declared.state.Resolution.{Resolution}
+use Rattle.dstm_core.proofs.Base.{AllowedAs, Core, Event, HighWord, LocalState, LowWord, Val, after, at, cases_Bool, eq-eqb, is_live, local, nat_tests, ne_eqb, new_value, or_unresolved, or_zero, place, res, version, version_by, version_value, word}
+use Rattle.dstm_opacity.proofs.Base.{Kill, Kind, LookHigh, LookNew, LookObj, LookOld, LookOwner, LookRank, LookStatus, Resolution, Shape}
 use Rattle.dstm_core.proofs.Basic.{basic}
 use Rattle.dstm_core.proofs.Places.{put_at}
 use Rattle.dstm_core.proofs.Static.{callers}
@@ -76,8 +63,7 @@ high_own s es e core LookRank a h = λ i. high_of (local s es e.caller).resoluti
 high_own s es e core LookOld a h = λ i. again (high_of (local s es e.caller).resolution h i)
   where
     again : 0 < or_zero (version (res (local s es e.caller))) →
-        0 < or_zero
-        (version_by (res (local s es e.caller)).word (res (local s es e.caller)).status (Some e.found))
+        0 < or_zero (version_by (res (local s es e.caller)).word (res (local s es e.caller)).status (Some e.found))
     again p =
         let l = local s es e.caller in
         let x = version_aborted (res l).word (res l).status (res l).old a.2.2 p in
@@ -99,37 +85,32 @@ pub high_fits : (s : Shape) (es : List Event) → Core s es → (c : ℕ) → Hi
 high_fits s [] core c = tt
 high_fits s (e ∷ es) core c =
     callers s es e (λ c l. HighFits l.resolution)
-    (high_own s es e core e.kind core.1.allowed (high_fits s es core.0 e.caller))
-    (λ c d. high_fits s es core.0 c) c
+    (high_own s es e core e.kind core.1.allowed (high_fits s es core.0 e.caller)) (λ c d. high_fits s es core.0 c) c
 
 -- the value of a settled version is the same in every later run
 pub value_later : (s : Shape) (start : List Val) (more q : List Event) (o v : ℕ) → Core s (more ++ q) →
-    Settled s q v →
-    (version_value s start (more ++ q) o v ≡ version_value s start q o v) × Settled s (more ++ q) v
+    Settled s q v → (version_value s start (more ++ q) o v ≡ version_value s start q o v) × Settled s (more ++ q) v
 value_later s start [] q o v core h = (refl, h)
 value_later s start (e ∷ more) q o v core h =
     let ih = value_later s start more q o v core.0 h in
     (value_stays s start (more ++ q) e o v core ih.1 ∙ ih.0, settled_more s (more ++ q) e v core ih.1)
 
 -- what a look at a part of a new value aims at and finds
-look_high_may : (s : Shape) (l : LocalState) (e : Event) (k : Kind) → k ≡ LookHigh → AllowedAs k s l e →
-    (e.place ≡ place s (HighWord (or_zero (version (res l)) - 1))) × (e.put ≡ e.found)
-    × (0 < or_zero (version (res l)))
-look_high_may s l e LookHigh q a = (a.0, a.1.1, a.2.2)
-look_high_may s l e k q a = absurd (cc)
+look_high_may : (s : Shape) (l : LocalState) (e : Event) {k : Kind} → k ≡ LookHigh → AllowedAs k s l e →
+    (e.place ≡ place s (HighWord (or_zero (version (res l)) - 1))) × (e.put ≡ e.found) × (0 < or_zero (version (res l)))
+look_high_may s l e {k = LookHigh} q a = (a.0, a.1.1, a.2.2)
+look_high_may s l e q a = absurd (cc)
 
-look_new_may : (s : Shape) (l : LocalState) (e : Event) (k : Kind) → k ≡ LookNew → AllowedAs k s l e →
-    (e.place ≡ place s (LowWord (or_zero (version (res l)) - 1))) × (e.put ≡ e.found)
-    × (is_some (res l).high ≡ true)
-look_new_may s l e LookNew q a = (a.0, a.1.1, a.2.2)
-look_new_may s l e k q a = absurd (cc)
+look_new_may : (s : Shape) (l : LocalState) (e : Event) {k : Kind} → k ≡ LookNew → AllowedAs k s l e →
+    (e.place ≡ place s (LowWord (or_zero (version (res l)) - 1))) × (e.put ≡ e.found) × (is_some (res l).high ≡ true)
+look_new_may s l e {k = LookNew} q a = (a.0, a.1.1, a.2.2)
+look_new_may s l e q a = absurd (cc)
 
 -- the version that a caller looks at, where a locator has it, is settled
 pub look_settled : (s : Shape) (es : List Event) (c : ℕ) → Core s es → 0 < or_zero (version (res (local s es c))) →
     Settled s es (or_zero (version (res (local s es c))))
 look_settled s es c core p =
-    named_settled s es (res (local s es c)).word (or_zero (version (res (local s es c))))
-    (old_settled s es core)
+    named_settled (old_settled s es core)
     (res_named s es (local s es c).resolution (or_zero (version (res (local s es c)))) ((basic s es core).res c)
     (res_seen s es core c) (some_of (version (res (local s es c))) p))
 
@@ -138,10 +119,10 @@ pub found_stays : (s : Shape) (start : List Val) (more es : List Event) (e : Eve
     IsFound (looked_at s start (more ++ e ∷ es) es e) e
 found_stays s start more es e core = record {
   high = λ k.
-      let x = look_high_may s (local s es e.caller) e e.kind k core_e.1.allowed in
+      let x = look_high_may s (local s es e.caller) e k core_e.1.allowed in
       ap (λ (v : Val). v.high) (later x.2) ∙ put_at es e _ x.0 ∙ x.1;
   low = λ k.
-      let x = look_new_may s (local s es e.caller) e e.kind k core_e.1.allowed in
+      let x = look_new_may s (local s es e.caller) e k core_e.1.allowed in
       let known = high_of (local s es e.caller).resolution (high_fits s es core_e.0 e.caller) x.2 in
       ap (λ (v : Val). v.low) (later known) ∙ put_at es e _ x.0 ∙ x.1;
 }

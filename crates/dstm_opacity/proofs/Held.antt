@@ -1,16 +1,9 @@
 -- What an attempt has seen, as a value for each object that it holds.
 use Rattle.std.proofs.Common.{◌++◌, ◌==◌, ◌∙◌, ◌∷◌, ◌≡◌, ◌⊎◌, List, Option, None, Some, [], ap, false, inl, inr, refl, sym, true, ℕ}
-use Rattle.std.proofs.lemmas.Bool.{cases_Bool, cond_both, eqb-true}
+use Rattle.dstm_core.proofs.Base.{Core, Event, LocalState, Val, cases_Bool, cond_both, eqb-true, local, old_values, read_of, read_values, seen, version_value, write_of}
+use Rattle.dstm_opacity.proofs.Base.{Read, Shape, Write}
 use Rattle.std.specs.Map.{lookup}
 use Rattle.std.specs.Prelude.{option_map}
-use Rattle.dstm_model.specs.declared.value.Val.{Val}
-use Rattle.dstm_core.specs.Histories.{old_values, read_values, seen, version_value}
-use Rattle.dstm_core.specs.Runs.{Core, local}
-use Rattle.dstm_core.specs.State.{LocalState, read_of, write_of}
-use Rattle.dstm_core.specs.Events.{Event}
-use Rattle.dstm_core.specs.declared.shape.Shape.{Shape}
-use Rattle.dstm_core.specs.declared.state.Read.{Read}
-use Rattle.dstm_core.specs.declared.state.Write.{Write}
 use Rattle.dstm_opacity.proofs.Tidy.{Apart, tidy}
 
 -- the version that is held of an object that is opened for writing, or read
@@ -43,8 +36,7 @@ module _ (s : Shape) (start : List Val) (run : List Event) (o : ℕ) where
       go (inr q) ih = rw q ih
 
   -- an object that is opened for writing is not read
-  unread : (ws : List Write) (rs : List Read) → Apart ws rs → (w : Write) → write_of o ws ≡ Some w →
-      read_of o rs ≡ None
+  unread : (ws : List Write) (rs : List Read) → Apart ws rs → (w : Write) → write_of o ws ≡ Some w → read_of o rs ≡ None
   unread ws [] h w q = refl
   unread ws (r ∷ rs) h w q =
       cond_both (r.object == o) (Some r) (read_of o rs) (λ (x : Option Read). x ≡ None)

@@ -1,18 +1,7 @@
 -- What an attempt has put and seen stays in every later run.
 use Rattle.std.proofs.Common.{◌*◌, ◌++◌, ◌<◌, ◌∙◌, ◌∷◌, ◌≡◌, ◌≢◌, ◌⊎◌, List, [], ap, inl, inr, refl, subst, sym, true, ℕ}
-use Rattle.dstm_model.specs.declared.value.Val.{Val}
-use Rattle.dstm_core.specs.Histories.{entry_of, is_draw, old_values, read_values, seen}
-use Rattle.dstm_core.specs.Rules.{AllowedAs}
-use Rattle.dstm_core.specs.Runs.{Core, local}
-use Rattle.dstm_core.specs.State.{LocalState, next_write, own_attempt}
-use Rattle.dstm_core.specs.Traces.{at}
-use Rattle.dstm_core.specs.Words.{HasWord, Word, place}
-use Rattle.dstm_core.specs.Words.Word.{HighWord, LowWord}
-use Rattle.dstm_core.specs.Events.{Event}
-use Rattle.dstm_core.specs.declared.event.Kind.{Kind}
-use Rattle.dstm_core.specs.declared.event.Kind.TheVariants.{Draw, PutHigh, PutNew}
-use Rattle.dstm_core.specs.declared.shape.Shape.{Shape}
-use Rattle.dstm_core.specs.declared.state.Phase.TheVariants.{Outside}
+use Rattle.dstm_core.proofs.Base.{HighWord, LowWord, AllowedAs, Core, Event, HasWord, LocalState, Val, Word, at, entry_of, is_draw, local, next_write, old_values, own_attempt, place, read_values, seen}
+use Rattle.dstm_opacity.proofs.Base.{Draw, Kind, Outside, PutHigh, PutNew, Shape}
 use Rattle.dstm_core.proofs.Columns.{Aims, ChangeOf, stays, step}
 use Rattle.dstm_core.proofs.Places.{put_at}
 use Rattle.dstm_core.proofs.Pasts.{core_past}
@@ -32,22 +21,20 @@ record PutsPart (s : Shape) (w : ℕ → Word) (k : Kind) : Type 0 where
       e.place ≢ d.place
 
 -- so what was put stays
-part_stays : (s : Shape) (w : ℕ → Word) (k : Kind) → PutsPart s w k → (more es : List Event) (d : Event) →
+part_stays : {s : Shape} {w : ℕ → Word} {k : Kind} → PutsPart s w k → (more es : List Event) (d : Event) →
     Core s (more ++ d ∷ es) → d.kind ≡ k → at (more ++ d ∷ es) d.place ≡ d.put
-part_stays s w k part [] es d core q = put_at es d d.place refl
-part_stays s w k part (e ∷ more) es d core q =
+part_stays part [] es d core q = put_at es d d.place refl
+part_stays {s = s} {w = w} {k = k} part (e ∷ more) es d core q =
     ap (at (e ∷ (more ++ d ∷ es))) (aim es d q (core_past s more (d ∷ es) core.0).1.allowed).0
-    ∙ stays s (more ++ d ∷ es) e (w (next_write (local s es d.caller)).locator)
-    (step s (more ++ d ∷ es) e core)
+    ∙ stays (w (next_write (local s es d.caller)).locator) (step s (more ++ d ∷ es) e core)
     (part.has _ (aim es d q (core_past s more (d ∷ es) core.0).1.allowed).1) apart
     ∙ ap (at (more ++ d ∷ es)) (sym (aim es d q (core_past s more (d ∷ es) core.0).1.allowed).0)
-    ∙ part_stays s w k part more es d core.0 q
+    ∙ part_stays part more es d core.0 q
   where
     aim : (es : List Event) (d : Event) → d.kind ≡ k → AllowedAs d.kind s (local s es d.caller) d →
         (d.place ≡ place s (w (next_write (local s es d.caller)).locator))
         × ((next_write (local s es d.caller)).locator < s.callers * s.locators)
-    aim es d q a =
-        part.aim (local s es d.caller) d (subst (λ (k : Kind). AllowedAs k s (local s es d.caller) d) q a)
+    aim es d q a = part.aim (local s es d.caller) d (subst (λ (k : Kind). AllowedAs k s (local s es d.caller) d) q a)
 
     apart : ChangeOf (w (next_write (local s es d.caller)).locator) s (local s (more ++ d ∷ es) e.caller) e → ⊥
     apart h = let x = part.change (local s (more ++ d ∷ es) e.caller) e _ h in
@@ -58,18 +45,12 @@ part_stays s w k part (e ∷ more) es d core q =
 -- of either part
 pub put_stays : (s : Shape) (more es : List Event) (d : Event) → Core s (more ++ d ∷ es) →
     (d.kind ≡ PutHigh) ⊎ (d.kind ≡ PutNew) → at (more ++ d ∷ es) d.place ≡ d.put
-put_stays s more es d core (inl k) = part_stays s HighWord PutHigh (record {
-  has = λ m b. b;
-  change = λ l e m h. h;
-  aim = λ l e a. (a.0, a.3);
-  once = high_word_once s;
-}) more es d core k
-put_stays s more es d core (inr k) = part_stays s LowWord PutNew (record {
-  has = λ m b. b;
-  change = λ l e m h. h;
-  aim = λ l e a. (a.0, a.3);
-  once = new_word_once s;
-}) more es d core k
+put_stays s more es d core (inl k) = part_stays {s = s} {w = HighWord} {k = PutHigh}
+    (record { has = λ m b. b; change = λ l e m h. h; aim = λ l e a. (a.0, a.3); once = high_word_once s })
+    more es d core k
+put_stays s more es d core (inr k) = part_stays {s = s} {w = LowWord} {k = PutNew}
+    (record { has = λ m b. b; change = λ l e m h. h; aim = λ l e a. (a.0, a.3); once = new_word_once s })
+    more es d core k
 
 -- the values of what was read and replaced
 seen_later : (s : Shape) (start : List Val) (more q : List Event) (own : ℕ) (l : LocalState) →
@@ -102,8 +83,7 @@ pub drawn_entry_stays : (s : Shape) (start : List Val) (more es : List Event) (d
     entry_of s start (more ++ d ∷ es) (local s es d.caller) ≡ entry_of s start (d ∷ es) (local s es d.caller)
 drawn_entry_stays s start more es d core k =
     (entry_later s start (d ∷ es) more (own_attempt s (local s es d.caller)) (local s es d.caller) core
-    (drawn_yes s es d draws)
-    (reads_more s es d (local s es d.caller).reads core_d (reads s es core_d.0 d.caller))
+    (drawn_yes s es d draws) (reads_more s es d (local s es d.caller).reads core_d (reads s es core_d.0 d.caller))
     (kept_more s es d (own_attempt s (local s es d.caller)) (local s es d.caller).writes core_d
     (kept_from s es (own_attempt s (local s es d.caller)) (local s es d.caller).writes
     (written s es core_d.0 d.caller core_d.1.caller out)))).0

@@ -1,18 +1,7 @@
 -- An attempt that has put all its values keeps the law.
 use Rattle.std.proofs.Common.{◌+◌, ◌<◌, ◌==◌, ◌∙◌, ◌∷◌, ◌≡◌, ◌≢◌, ◌⊎◌, List, Some, [], arith, false, inl, inr, is_some, length, refl, subst, sym, true, ℕ}
-use Rattle.std.proofs.lemmas.Bool.{cases_Bool, cond_both}
-use Rattle.dstm_model.specs.Map.{KeepsLaw}
-use Rattle.dstm_model.specs.declared.value.Val.{Val}
-use Rattle.dstm_core.specs.Histories.{Lawful, entry_of}
-use Rattle.dstm_core.specs.Rules.{AllowedAs, MayRank, after}
-use Rattle.dstm_core.specs.Runs.{Core, local}
-use Rattle.dstm_core.specs.State.{LocalState, given, own_attempt}
-use Rattle.dstm_core.specs.Events.{Event}
-use Rattle.dstm_core.specs.declared.event.Kind.{Kind}
-use Rattle.dstm_core.specs.declared.event.Kind.TheVariants.{Begin, Check, Commit, Draw, Enrol, Install, LookSelf, LookStatus, Pause, PutHigh, PutNew, Quit, Rank, Resume, Stamp, Validating as ToValidating}
-use Rattle.dstm_core.specs.declared.shape.Shape.{Shape}
-use Rattle.dstm_core.specs.declared.state.Phase.{Phase}
-use Rattle.dstm_core.specs.declared.state.Phase.TheVariants.{Drawn, Outside, Paused, Putting, Running, Validating}
+use Rattle.dstm_core.proofs.Base.{AllowedAs, Core, Event, KeepsLaw, Lawful, LocalState, MayRank, Val, after, cases_Bool, cond_both, entry_of, given, local, own_attempt}
+use Rattle.dstm_opacity.proofs.Base.{Begin, Check, Commit, Draw, Drawn, Enrol, Install, Kind, LookSelf, LookStatus, Outside, Pause, Paused, Phase, PutHigh, PutNew, Putting, Quit, Rank, Resume, Running, Shape, Stamp, ToValidating, Validating}
 use Rattle.dstm_core.proofs.Static.{Static, callers, static}
 use Rattle.dstm_core.proofs.Statuses.{own_differs}
 use Rattle.dstm_opacity.proofs.Recorded.{reads}
@@ -32,8 +21,7 @@ data LawHow (s : Shape) (l : LocalState) (e : Event) (k : Kind) : Type 0 where
       (after k s l e).writes ≡ l.writes → LawHow s l e k
   at_no_write : (after k s l e).writes ≡ [] → LawHow s l e k
   at_later : AllPut l → (after k s l e).reads ≡ l.reads → (after k s l e).writes ≡ l.writes →
-      puts_value k ≡ false →
-      LawHow s l e k
+      puts_value k ≡ false → LawHow s l e k
 
 all_put_out : (l : LocalState) → AllPut l → l.phase ≢ Outside
 all_put_out l (inl x) = λ z. let y = x.0 in cc
@@ -124,17 +112,15 @@ pub entry_same : (s : Shape) (start : List Val) (es : List Event) (l m : LocalSt
     m.writes ≡ l.writes → entry_of s start es m ≡ entry_of s start es l
 entry_same s start es l m r w = rw (r, w) refl
 
-law_own : (s : Shape) (start : List Val) (holds : List Val → Type 0) (es : List Event) (e : Event) →
+law_own : {s : Shape} (start : List Val) (holds : List Val → Type 0) (es : List Event) {e : Event} →
     Core s (e ∷ es) → Lawful s start holds (e ∷ es) → LawOk s start holds es (local s es e.caller) →
-    LawHow s (local s es e.caller) e e.kind →
-    ((after e.kind s (local s es e.caller) e).writes ≡ [])
+    LawHow s (local s es e.caller) e e.kind → ((after e.kind s (local s es e.caller) e).writes ≡ [])
     ⊎ KeepsLaw holds s.objects (entry_of s start (e ∷ es) (after e.kind s (local s es e.caller) e))
-law_own s start holds es e core law ih (at_last k w r q) =
+law_own {s = s} start holds es {e = e} core law ih (at_last k w r q) =
     inr (subst (KeepsLaw holds s.objects)
-    (sym (entry_same s start (e ∷ es) (local s es e.caller) (after e.kind s (local s es e.caller) e) r q))
-    (law.1 k w))
-law_own s start holds es e core law ih (at_no_write q) = inl q
-law_own s start holds es e core law ih (at_later p r q n) = go (ih p)
+    (sym (entry_same s start (e ∷ es) (local s es e.caller) (after e.kind s (local s es e.caller) e) r q)) (law.1 k w))
+law_own start holds es core law ih (at_no_write q) = inl q
+law_own {s = s} start holds es {e = e} core law ih (at_later p r q n) = go (ih p)
   where
     out : (local s es e.caller).phase ≢ Outside
     out = all_put_out (local s es e.caller) p
@@ -148,8 +134,7 @@ law_own s start holds es e core law ih (at_later p r q n) = go (ih p)
         inr (subst (KeepsLaw holds s.objects)
         (sym (entry_same s start (e ∷ es) (local s es e.caller) (after e.kind s (local s es e.caller) e) r q
         ∙ entry_stays s start es e (own_attempt s (local s es e.caller)) (local s es e.caller) core
-        (reads s es core.0 e.caller)
-        (kept_from s es (own_attempt s (local s es e.caller)) (local s es e.caller).writes
+        (reads s es core.0 e.caller) (kept_from s es (own_attempt s (local s es e.caller)) (local s es e.caller).writes
         (written s es core.0 e.caller core.1.caller out)) (λ k. absurd (cc)))) x)
 
 -- each attempt of a lawful run does
@@ -159,7 +144,7 @@ law_ok s start holds [] core law c lt p = inl refl
 law_ok s start holds (e ∷ es) core law c lt p =
     callers s es e
     (λ c l. c < s.callers → AllPut l → (l.writes ≡ []) ⊎ KeepsLaw holds s.objects (entry_of s start (e ∷ es) l))
-    (λ lt p. law_own s start holds es e core law (law_ok s start holds es core.0 law.0 e.caller lt)
+    (λ lt p. law_own start holds es core law (law_ok s start holds es core.0 law.0 e.caller lt)
     (law_how s e.caller (local s es e.caller) e e.kind (static s es core.0 e.caller) core.1.allowed p))
     (λ c d lt p. other c d lt p (law_ok s start holds es core.0 law.0 c lt p)) c lt p
   where
@@ -169,9 +154,7 @@ law_ok s start holds (e ∷ es) core law c lt p =
     other c d lt p (inl x) = inl x
     other c d lt p (inr x) = let out = all_put_out (local s es c) p in
         inr (subst (KeepsLaw holds s.objects)
-        (sym (entry_stays s start es e (own_attempt s (local s es c)) (local s es c) core
-        (reads s es core.0 c)
-        (kept_from s es (own_attempt s (local s es c)) (local s es c).writes (written s es core.0 c lt out))
-        (λ k z. d
+        (sym (entry_stays s start es e (own_attempt s (local s es c)) (local s es c) core (reads s es core.0 c)
+        (kept_from s es (own_attempt s (local s es c)) (local s es c).writes (written s es core.0 c lt out)) (λ k z. d
         (own_differs s e.caller c (local s es e.caller) (local s es c) (static s es core.0 e.caller)
         (static s es core.0 c) core.1.caller lt (put_new_owner s es e core k).0 out z)))) x)

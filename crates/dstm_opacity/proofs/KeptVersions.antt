@@ -1,17 +1,7 @@
 -- An object that is read and then opened for writing keeps its version.
-use Rattle.std.proofs.Common.{◌&&◌, ◌++◌, ◌==◌, ◌∙◌, ◌∷◌, ◌≡◌, ◌⊎◌, Bool, List, Option, None, Some, [], ap, arith, false, inl, inr, is_some, not, refl, subst, sym, true, ℕ}
-use Rattle.std.proofs.lemmas.Bool.{and_parts, cases_Bool, cond_both, eq-eqb, eqb-true}
-use Rattle.std.specs.Prelude.{is_none}
-use Rattle.dstm_core.specs.Laws.{Installs}
-use Rattle.dstm_core.specs.Rules.{AllowedAs, after}
-use Rattle.dstm_core.specs.Runs.{Core, local}
-use Rattle.dstm_core.specs.State.{LocalState, given, is_other, is_resolved, keep_resolved, or_unresolved, or_zero, read_of, record_resolved, res, version}
-use Rattle.dstm_core.specs.Events.{Event}
-use Rattle.dstm_core.specs.declared.event.Kind.{Kind}
-use Rattle.dstm_core.specs.declared.event.Kind.TheVariants.{Begin, Check, Install, Kill, LookHigh, LookNew, LookNumber, LookObj, LookOld, LookOwner, LookRank, LookSelf, LookStatus, Pause, Release, Resume, Validating as ToValidating}
-use Rattle.dstm_core.specs.declared.shape.Shape.{Shape}
-use Rattle.dstm_core.specs.declared.state.Read.{Read}
-use Rattle.dstm_core.specs.declared.state.Resolution.{Resolution}
+use Rattle.std.proofs.Common.{◌&&◌, ◌++◌, ◌==◌, ◌∙◌, ◌∷◌, ◌≡◌, ◌⊎◌, Bool, List, Option, None, Some, [], ap, arith, false, inl, inr, is_some, not, refl, subst, sym, true, ℕ, is_none}
+use Rattle.dstm_core.proofs.Base.{AllowedAs, Core, Event, Installs, LocalState, after, and_parts, cases_Bool, cond_both, eq-eqb, eqb-true, given, is_other, is_resolved, keep_resolved, local, or_unresolved, or_zero, read_of, record_resolved, res, version}
+use Rattle.dstm_opacity.proofs.Base.{Begin, Check, Install, Kill, Kind, LookHigh, LookNew, LookNumber, LookObj, LookOld, LookOwner, LookRank, LookSelf, LookStatus, Pause, Read, Release, Resolution, Resume, Shape, ToValidating}
 use Rattle.dstm_core.proofs.Basic.{basic, install_may}
 use Rattle.dstm_core.proofs.Static.{callers, has_high, has_owner, has_status, has_version, has_word}
 use Rattle.dstm_opacity.proofs.LastPass.{none_from}
@@ -27,9 +17,9 @@ WordsAgreeBy stale reads o =
 abbrev pub WordsAgree : LocalState → Type 0
 WordsAgree l = WordsAgreeBy l.stale l.reads l.resolution
 
-same_word : (found : ℕ) (o : Option Read) (r : Read) → is_other found o ≡ false → o ≡ Some r → r.word ≡ found
-same_word found None r s q = absurd (cc)
-same_word found (Some x) r s q = go (cases_Bool (x.word == found)) s
+same_word : (found : ℕ) {o : Option Read} (r : Read) → is_other found o ≡ false → o ≡ Some r → r.word ≡ found
+same_word found {o = None} r s q = absurd (cc)
+same_word found {o = (Some x)} r s q = go (cases_Bool (x.word == found)) s
   where
     go : (x.word == found ≡ true) ⊎ (x.word == found ≡ false) → not (x.word == found) ≡ false → r.word ≡ found
     go (inl y) s = let z : x ≡ r = cc in ap (λ (y : Read). y.word) (sym z) ∙ eqb-true x.word found y
@@ -54,19 +44,17 @@ recorded (Some x) rs h r s i q = go (cases_Bool (is_resolved x && is_none (read_
         ⊎ (is_resolved x && is_none (read_of x.object rs) ≡ false) → r.word ≡ x.word
     go (inl z) =
         let two = and_parts (is_resolved x) (is_none (read_of x.object rs)) z in
-        ap (λ (y : Read). y.word)
-        (read_of-new x.object rs _ r refl (none_from (read_of x.object rs) two.1) (rw z at q))
+        ap (λ (y : Read). y.word) (read_of-new x.object rs _ r refl (none_from (read_of x.object rs) two.1) (rw z at q))
     go (inr z) = h r refl refl (rw z at q)
 
 kept : (o : Option Resolution) (rs : List Read) → WordsAgreeBy false rs o → WordsAgreeBy false rs (keep_resolved o)
 kept None rs h = h
-kept (Some x) rs h =
-    cond_both (is_resolved x) (Some x) None (WordsAgreeBy false rs) (λ _. h) (λ _ r s i q. absurd (cc))
+kept (Some x) rs h = cond_both (is_resolved x) (Some x) None (WordsAgreeBy false rs) (λ _. h) (λ _ r s i q. absurd (cc))
 
 words_step : (s : Shape) (l : LocalState) (e : Event) (k : Kind) → AllowedAs k s l e → WordsAgree l →
     WordsAgree (after k s l e)
 words_step s l e Begin a h = λ r st i q. absurd (cc)
-words_step s l e LookObj a h = λ r st i q. same_word e.found (read_of e.place l.reads) r st q
+words_step s l e LookObj a h = λ r st i q. same_word e.found r st q
 words_step s l e LookOwner a h = λ r st i q. h r st (has_word l.resolution a.2.2) q
 words_step s l e LookStatus a h = λ r st i q. h r st (has_owner l.resolution a.2.2) q
 words_step s l e LookRank a h = λ r st i q. h r st (has_owner l.resolution a.2.2) q
@@ -112,21 +100,20 @@ read_named s es o (x ∷ rs) r h q = go (cases_Bool (x.object == o)) (read_named
     go (inr z) ih = ih (rw z at q)
 
 -- a word names one version
-pub named_one : (s : Shape) (es : List Event) (x v w : ℕ) → Named s es x v → Named s es x w → v ≡ w
-named_one s es x v w (by_zero p q) (by_zero r t) = q ∙ sym t
-named_one s es x v w (by_zero p q) (by_commit r u st t) = absurd (omega arith)
-named_one s es x v w (by_zero p q) (by_abort r u st t) = absurd (omega arith)
-named_one s es x v w (by_commit p u st q) (by_zero r t) = absurd (omega arith)
-named_one s es x v w (by_commit p u st q) (by_commit r u' st' t) = q ∙ sym t
-named_one s es x v w (by_commit p u st q) (by_abort r u' st' t) = absurd (omega arith)
-named_one s es x v w (by_abort p u st q) (by_zero r t) = absurd (omega arith)
-named_one s es x v w (by_abort p u st q) (by_commit r u' st' t) = absurd (omega arith)
-named_one s es x v w (by_abort p u st q) (by_abort r u' st' t) = q ∙ sym t
+pub named_one : {s : Shape} {es : List Event} {x v w : ℕ} → Named s es x v → Named s es x w → v ≡ w
+named_one (by_zero p q) (by_zero r t) = q ∙ sym t
+named_one (by_zero p q) (by_commit r u st t) = absurd (omega arith)
+named_one (by_zero p q) (by_abort r u st t) = absurd (omega arith)
+named_one (by_commit p u st q) (by_zero r t) = absurd (omega arith)
+named_one (by_commit p u st q) (by_commit r u' st' t) = q ∙ sym t
+named_one (by_commit p u st q) (by_abort r u' st' t) = absurd (omega arith)
+named_one (by_abort p u st q) (by_zero r t) = absurd (omega arith)
+named_one (by_abort p u st q) (by_commit r u' st' t) = absurd (omega arith)
+named_one (by_abort p u st q) (by_abort r u' st' t) = q ∙ sym t
 
-install_fits : (s : Shape) (l : LocalState) (e : Event) (k : Kind) → k ≡ Install → AllowedAs k s l e →
-    l.stale ≡ false
-install_fits s l e Install q a = a.2.1
-install_fits s l e k q a = absurd (cc)
+install_fits : (s : Shape) (l : LocalState) (e : Event) {k : Kind} → k ≡ Install → AllowedAs k s l e → l.stale ≡ false
+install_fits s l e {k = Install} q a = a.2.1
+install_fits s l e q a = absurd (cc)
 
 -- the version replaced is the one that was read
 pub install_keeps_version : (s : Shape) (es : List Event) (e : Event) (r : Read) → Core s (e ∷ es) → Installs e →
@@ -134,11 +121,10 @@ pub install_keeps_version : (s : Shape) (es : List Event) (e : Event) (r : Read)
     r.version ≡ or_zero (version (res (local s es e.caller)))
 install_keeps_version s es e r core i q =
     let l = local s es e.caller in
-    let may = install_may s l e e.kind i.kind core.1.allowed in
-    let fresh = install_fits s l e e.kind i.kind core.1.allowed in
+    let may = install_may s l e i.kind core.1.allowed in
+    let fresh = install_fits s l e i.kind core.1.allowed in
     let word = words_agree s es core.0 e.caller r fresh may.3 q in
     let named = read_named s es (res l).object l.reads r (reads s es core.0 e.caller) q in
-    named_one s es (res l).word r.version (or_zero (version (res l)))
-    (subst (λ x. Named s es x r.version) word named)
+    named_one (subst (λ x. Named s es x r.version) word named)
     (res_named s es l.resolution (or_zero (version (res l))) ((basic s es core.0).res e.caller)
     (res_seen s es core.0 e.caller) (resolved_version (res l) may.4))

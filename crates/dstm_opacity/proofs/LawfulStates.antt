@@ -1,16 +1,7 @@
 -- The state after every prefix of a history is lawful.
 use Rattle.std.proofs.Common.{◌++◌, ◌∙◌, ◌∷◌, ◌≡◌, ◌⊎◌, List, [], inl, inr, length, subst, sym, true}
-use Rattle.std.proofs.lemmas.Bool.{and_parts}
-use Rattle.dstm_model.specs.Map.{with_writes, KeepsLaw}
-use Rattle.dstm_model.specs.declared.value.Val.{Val}
-use Rattle.dstm_core.specs.Histories.{Lawful, commits_at, entry_at, entry_of, history, is_draw, will_of}
-use Rattle.dstm_core.specs.Runs.{Core, local}
-use Rattle.dstm_core.specs.State.{own_attempt}
-use Rattle.dstm_core.specs.Events.{Event}
-use Rattle.dstm_core.specs.declared.event.Kind.{Kind}
-use Rattle.dstm_core.specs.declared.event.Kind.TheVariants.{PutHigh, PutNew}
-use Rattle.dstm_core.specs.declared.shape.Shape.{Shape}
-use Rattle.dstm_core.specs.declared.state.Phase.TheVariants.{Validating}
+use Rattle.dstm_core.proofs.Base.{Core, Event, KeepsLaw, Lawful, Val, and_parts, commits_at, entry_at, entry_of, history, is_draw, local, own_attempt, will_of, with_writes}
+use Rattle.dstm_opacity.proofs.Base.{Kind, PutHigh, PutNew, Shape, Validating}
 use Rattle.dstm_core.proofs.Pasts.{core_past}
 use Rattle.dstm_core.proofs.Prefixes.{lawful_past}
 use Rattle.dstm_machines.proofs.Histories as histories
@@ -53,11 +44,9 @@ law_entry s start holds es d more long core law k w h =
     now = entry_stays s start es d (own_attempt s (local s es d.caller)) (local s es d.caller) core_d
         (reads s es core_d.0 d.caller) kept (λ z. absurd (not_put k z))
 
-    later : entry_of s start (more ++ d ∷ es) (local s es d.caller) ≡ entry_of s start (d ∷ es)
-        (local s es d.caller)
+    later : entry_of s start (more ++ d ∷ es) (local s es d.caller) ≡ entry_of s start (d ∷ es) (local s es d.caller)
     later = (entry_later s start (d ∷ es) more (own_attempt s (local s es d.caller)) (local s es d.caller) core
-        (drawn_yes s es d k)
-        (reads_more s es d (local s es d.caller).reads core_d (reads s es core_d.0 d.caller))
+        (drawn_yes s es d k) (reads_more s es d (local s es d.caller).reads core_d (reads s es core_d.0 d.caller))
         (kept_more s es d (own_attempt s (local s es d.caller)) (local s es d.caller).writes core_d kept)).0
 
     go : ((local s es d.caller).writes ≡ [])
@@ -72,10 +61,10 @@ law_entry s start holds es d more long core law k w h =
         (legal_entry s start es d more long core k w)
 
 -- the state after the entries of each past is lawful
-pub lawful_from : (s : Shape) (start : List Val) (holds : List Val → Type 0) (run : List Event) →
+pub lawful_from : (s : Shape) (start : List Val) (holds : List Val → Type 0) {run : List Event} →
     length start ≡ s.objects → Core s run → Lawful s start holds run → holds start → (es more : List Event) →
     more ++ es ≡ run → holds (map_after start (history s start (will_of s run) run es))
-lawful_from s start holds run long core law h es more q =
+lawful_from s start holds {run = run} long core law h es more q =
     histories.lawful_from (commits_at s (will_of s run)) (entry_at s start run) start run holds entry h es more q
   where
     entry : (d : Event) (es more : List Event) → more ++ d ∷ es ≡ run → commits_at s (will_of s run) d es ≡ true →
@@ -86,8 +75,7 @@ lawful_from s start holds run long core law h es more q =
         let two = and_parts (is_draw d.kind) (will_of s run (own_attempt s (local s es d.caller))) is in
         let keeps : Lawful s start holds es =
         (lawful_past s start holds more (d ∷ es) (subst (Lawful s start holds) (sym q) law)).0 in
-        subst
-        (λ r. is_draw d.kind ≡ true → will_of s r (own_attempt s (local s es d.caller)) ≡ true →
+        subst (λ r. is_draw d.kind ≡ true → will_of s r (own_attempt s (local s es d.caller)) ≡ true →
         holds (map_after start (history s start (will_of s r) r es)) →
         holds (with_writes (map_after start (history s start (will_of s r) r es))
         (entry_of s start r (local s es d.caller)).writes)) q

@@ -1,16 +1,7 @@
 -- The history of a core run is legal.
 use Rattle.std.proofs.Common.{◌++◌, ◌∙◌, ◌∷◌, ◌≡◌, ◌≢◌, List, [], ap, append_assoc, false, length, refl, subst, sym, true}
-use Rattle.std.proofs.lemmas.Bool.{and_parts}
-use Rattle.dstm_model.specs.Map.{Agrees}
-use Rattle.dstm_model.specs.declared.value.Val.{Val}
-use Rattle.dstm_core.specs.Histories.{commits_at, drawn, entry_at, entry_of, history, is_draw, will_of}
-use Rattle.dstm_core.specs.Runs.{Core, local}
-use Rattle.dstm_core.specs.State.{own_attempt}
-use Rattle.dstm_core.specs.Traces.{IsPastOf, word}
-use Rattle.dstm_core.specs.Words.Word.{StatusWord}
-use Rattle.dstm_core.specs.Events.{Event}
-use Rattle.dstm_core.specs.declared.shape.Shape.{Shape}
-use Rattle.dstm_core.specs.declared.state.Phase.TheVariants.{Outside, Validating}
+use Rattle.dstm_core.proofs.Base.{Agrees, Core, Event, IsPastOf, StatusWord, Val, and_parts, commits_at, drawn, entry_at, entry_of, history, is_draw, local, own_attempt, will_of, word}
+use Rattle.dstm_opacity.proofs.Base.{Outside, Shape, Validating}
 use Rattle.dstm_core.proofs.Columns.{own_in}
 use Rattle.dstm_core.proofs.Static.{static}
 use Rattle.dstm_core.proofs.Pasts.{core_past}
@@ -41,8 +32,7 @@ unfolding is_drawn
 legal_entry s start es d more long core k w =
     agrees_state s start (will_of s (more ++ d ∷ es)) (more ++ d ∷ es) es es
     (own_attempt s (local s es d.caller)) (local s es d.caller) long (reads s es core_d.0 d.caller) ok
-    (draw_agreed s es d more core k w)
-    (old_current s (will_of s (more ++ d ∷ es)) es (own_attempt s (local s es d.caller))
+    (draw_agreed s es d more core k w) (old_current (own_attempt s (local s es d.caller))
     (local s es d.caller).writes core_d.0 told undrawn live ok)
   where
     core_d : Core s (d ∷ es)
@@ -64,7 +54,7 @@ legal_entry s start es d more long core k w =
     past = record { later = more ++ d ∷ []; whole = append_assoc more (d ∷ []) es }
 
     told : Foretells s (will_of s (more ++ d ∷ es)) es
-    told = foretells_before s (will_of s (more ++ d ∷ es)) es (more ++ d ∷ es) past core
+    told = foretells_before es past core
         (foretold s (more ++ d ∷ es))
 
     live : word s es (StatusWord (own_attempt s (local s es d.caller))) ≡ 5 → ⊥
@@ -82,8 +72,7 @@ committed_legal s start run long core =
         (entry_of s start run (local s es d.caller)).reads
     entry d es more q h =
         let two = and_parts (is_draw d.kind) (will_of s run (own_attempt s (local s es d.caller))) h in
-        subst
-        (λ r. is_draw d.kind ≡ true → will_of s r (own_attempt s (local s es d.caller)) ≡ true →
+        subst (λ r. is_draw d.kind ≡ true → will_of s r (own_attempt s (local s es d.caller)) ≡ true →
         Agrees (map_after start (history s start (will_of s r) r es))
         (entry_of s start r (local s es d.caller)).reads) q
         (legal_entry s start es d more long (subst (Core s) (sym q) core)) two.0 two.1

@@ -1,6 +1,7 @@
 -- Lemmas on what core runs leave, up to the laws of this crate. In them s is a shape, es what stands before
 -- an event e (the newest first), c a caller, l a caller's state, k a kind, o an object, a an attempt, m a
 -- locator and q a place.
+pub mod Base
 pub mod Versions
 pub mod Recorded
 pub mod Written

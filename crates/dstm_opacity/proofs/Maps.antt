@@ -1,11 +1,7 @@
 -- Maps, entries and the sights of a live attempt.
 use Rattle.std.proofs.Common.{◌++◌, ◌+◌, ◌==◌, ◌∙◌, ◌∷◌, ◌≡◌, ◌≤◌, List, [], arith, length, subst, suc, zero, ℕ, if◌then◌else◌}
-use Rattle.std.proofs.lemmas.Bool.{cond_both, eqb-false, eqb-true}
-use Rattle.dstm_model.specs.Map.{Agrees, Entry, IsUnnamed, NamesOnce, state_after}
-use Rattle.dstm_model.specs.declared.value.Val.{Val}
-use Rattle.dstm_core.specs.Histories.{CoreRun, IsSight, pass_place, prefix_at, seen}
-use Rattle.dstm_core.specs.Events.{Event}
-use Rattle.dstm_core.specs.declared.shape.Shape.{Shape}
+use Rattle.dstm_core.proofs.Base.{Agrees, CoreRun, Entry, Event, IsSight, IsUnnamed, NamesOnce, Val, cond_both, eqb-false, eqb-true, pass_place, prefix_at, seen, state_after}
+use Rattle.dstm_opacity.proofs.Base.{Shape}
 use Rattle.dstm_opacity.proofs.Opacity.{sight_is_seen}
 use Rattle.dstm_model.proofs.Entries.{states_keep_length}
 

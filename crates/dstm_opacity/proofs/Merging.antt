@@ -1,20 +1,9 @@
 -- Committed attempts in the order of their numbers.
 use Rattle.std.proofs.Common.{◌+◌, ◌<◌, ◌∙◌, ◌∷◌, ◌≡◌, List, ap, arith, true}
-use Rattle.std.proofs.lemmas.Bool.{and_parts}
-use Rattle.dstm_model.specs.declared.value.Val.{Val}
+use Rattle.dstm_core.proofs.Base.{AllowedAs, Core, Event, LocalState, NumbersWord, Val, and_parts, at, commits_at, entry_at, is_draw, local, own_attempt, place, will_of, word}
+use Rattle.dstm_opacity.proofs.Base.{Draw, Kind, Shape}
 pub use Rattle.dstm_model.proofs.Merging.{tell_all}
 use Rattle.dstm_machines.proofs.Callers.{falls}
-use Rattle.dstm_core.specs.Histories.{commits_at, entry_at, is_draw, will_of}
-use Rattle.dstm_core.specs.Rules.{AllowedAs}
-use Rattle.dstm_core.specs.Runs.{Core, local}
-use Rattle.dstm_core.specs.State.{LocalState, own_attempt}
-use Rattle.dstm_core.specs.Traces.{at, word}
-use Rattle.dstm_core.specs.Words.{place}
-use Rattle.dstm_core.specs.Words.Word.{NumbersWord}
-use Rattle.dstm_core.specs.Events.{Event}
-use Rattle.dstm_core.specs.declared.event.Kind.{Kind}
-use Rattle.dstm_core.specs.declared.event.Kind.TheVariants.{Draw}
-use Rattle.dstm_core.specs.declared.shape.Shape.{Shape}
 use Rattle.dstm_core.proofs.Places.{put_at}
 use Rattle.dstm_opacity.specs.Committed.{committed_in}
 use Rattle.dstm_opacity.specs.Telling.{NumbersFall}

@@ -1,16 +1,7 @@
 -- An object whose word names a locator of an attempt under way is among the attempt's writes.
 use Rattle.std.proofs.Common.{◌%◌, ◌++◌, ◌-◌, ◌/◌, ◌<◌, ◌==◌, ◌∙◌, ◌∷◌, ◌≡◌, ◌≢◌, ◌⊎◌, List, Option, Some, [], ap, arith, false, inl, inr, is_some, refl, subst, sym, true, ℕ}
-use Rattle.std.proofs.lemmas.Bool.{cases_Bool, cond_both, eq-eqb, eqb-true}
-use Rattle.dstm_core.specs.Rules.{after}
-use Rattle.dstm_core.specs.Runs.{Core, local}
-use Rattle.dstm_core.specs.State.{LocalState, next_attempt, next_locator, own_attempt, res, write_of}
-use Rattle.dstm_core.specs.Traces.{at, word}
-use Rattle.dstm_core.specs.Words.Word.{OwnerWord}
-use Rattle.dstm_core.specs.Events.{Event}
-use Rattle.dstm_core.specs.declared.event.Kind.TheVariants.{Install}
-use Rattle.dstm_core.specs.declared.shape.Shape.{Shape}
-use Rattle.dstm_core.specs.declared.state.Phase.TheVariants.{Outside}
-use Rattle.dstm_core.specs.declared.state.Write.{Write}
+use Rattle.dstm_core.proofs.Base.{Core, Event, LocalState, OwnerWord, after, at, cases_Bool, cond_both, eq-eqb, eqb-true, local, next_attempt, next_locator, own_attempt, res, word, write_of}
+use Rattle.dstm_opacity.proofs.Base.{Install, Outside, Shape, Write}
 use Rattle.dstm_core.proofs.Basic.{basic, install_may, owner_stays}
 use Rattle.dstm_core.proofs.Columns.{Begun, Installed, Used, caller_of, index_of, objects, step}
 use Rattle.dstm_core.proofs.Static.{callers, static}
@@ -43,8 +34,7 @@ pub write_of-object : (o : ℕ) (ws : List Write) (w : Write) → write_of o ws 
 write_of-object o [] w h = absurd (cc)
 write_of-object o (v ∷ ws) w h = go (cases_Bool (v.object == o)) (λ k. write_of-object o ws w k)
   where
-    go : (v.object == o ≡ true) ⊎ (v.object == o ≡ false) → (write_of o ws ≡ Some w → w.object ≡ o) →
-        w.object ≡ o
+    go : (v.object == o ≡ true) ⊎ (v.object == o ≡ false) → (write_of o ws ≡ Some w → w.object ≡ o) → w.object ≡ o
     go (inl q) ih = let k : Some v ≡ Some w = rw q at h in let z : v ≡ w = cc in
         ap (λ (x : Write). x.object) (sym z) ∙ eqb-true v.object o q
     go (inr q) ih = ih (rw q at h)
@@ -69,7 +59,7 @@ Back s es e o a =
 
 mine_back : (s : Shape) (es : List Event) (e : Event) (o a : ℕ) → Core s (e ∷ es) → o < s.objects →
     0 < at (e ∷ es) o → owner_of s (e ∷ es) (at (e ∷ es) o) ≡ a → Back s es e o a
-mine_back s es e o a core h pos q = go (objects s es e o (step s es e core) h)
+mine_back s es e o a core h pos q = go (objects o (step s es e core) h)
   where
     keep : (at (e ∷ es) o ≡ at es o) → (at es o ≡ 0) ⊎ ((0 < at es o) × Used s es (at es o - 1)) →
         (at (e ∷ es) o ≡ at es o) × (0 < at es o) × Used s es (at es o - 1) × (owner_of s es (at es o) ≡ a)
@@ -88,18 +78,17 @@ mine_back s es e o a core h pos q = go (objects s es e o (step s es e core) h)
         let less : at (e ∷ es) o - 1 ≡ next_locator s (local s es e.caller) = let n = i.now in omega arith in
         inr (i.how.kind, ok, i.how.object, sym q ∙ ap (λ m. word s (e ∷ es) (OwnerWord m)) less ∙ w.owner)
 
-mine_own : (s : Shape) (es : List Event) (e : Event) → Core s (e ∷ es) →
+mine_own : {s : Shape} (es : List Event) {e : Event} → Core s (e ∷ es) →
     WritesHow s (local s es e.caller) e e.kind → PhaseHow s (local s es e.caller) e e.kind →
     ((local s es e.caller).phase ≢ Outside → Mine s es (local s es e.caller)) →
     Mine s (e ∷ es) (after e.kind s (local s es e.caller) e)
 unfolding Mine
-mine_own s es e core (cleared k w) ph ih o h pos q =
-    absurd (go
-    (mine_back s es e o (next_attempt s (local s es e.caller)) core h pos
-    (q ∙ (begin_put s (local s es e.caller) e e.kind k core.1.allowed).3)))
+mine_own {s = s} es {e = e} core (cleared k w) ph ih o h pos q =
+    absurd (go (mine_back s es e o (next_attempt s (local s es e.caller)) core h pos
+    (q ∙ (begin_put s (local s es e.caller) e k core.1.allowed).3)))
   where
     unused : (a : ℕ) → a ≡ next_attempt s (local s es e.caller) → Begun s es a → ⊥
-    unused a q b = let may = begin_may s (local s es e.caller) e e.kind k core.1.allowed in
+    unused a q b = let may = begin_may s (local s es e.caller) e k core.1.allowed in
         let n = q ∙ next_number s e.caller (local s es e.caller) (static s es core.0 e.caller) may.1 in
         let c : a / s.attempts ≡ e.caller = ap (λ m. m / s.attempts) n
         ∙ caller_of e.caller s.attempts (local s es e.caller).begun may.2 in
@@ -112,16 +101,16 @@ mine_own s es e core (cleared k w) ph ih o h pos q =
     go : Back s es e o (next_attempt s (local s es e.caller)) → ⊥
     go (inl x) = unused (owner_of s es (at es o)) x.3 ((basic s es core.0).owner (at es o - 1) x.2).begun
     go (inr x) = let i = x.0 in absurd (cc)
-mine_own s es e core (unchanged n w i) ph ih o h pos q =
-    let on = goes_on s (local s es e.caller) e e.kind core.1.allowed n ph in
+mine_own {s = s} es {e = e} core (unchanged n w i) ph ih o h pos q =
+    let on = goes_on core.1.allowed n ph in
     go on.0 (mine_back s es e o (own_attempt s (local s es e.caller)) core h pos (q ∙ on.1))
   where
     go : (local s es e.caller).phase ≢ Outside → Back s es e o (own_attempt s (local s es e.caller)) →
         is_some (write_of o (after e.kind s (local s es e.caller) e).writes) ≡ true
     go out (inl x) = rw w (ih out o h x.1 x.3)
     go out (inr x) = absurd (i x.0 x.1)
-mine_own s es e core (added k f w) ph ih o h pos q =
-    let on = goes_on s (local s es e.caller) e e.kind core.1.allowed (λ q. cc) ph in
+mine_own {s = s} es {e = e} core (added k f w) ph ih o h pos q =
+    let on = goes_on core.1.allowed (λ q. cc) ph in
     go on.0 (mine_back s es e o (own_attempt s (local s es e.caller)) core h pos (q ∙ on.1))
   where
     go : (local s es e.caller).phase ≢ Outside → Back s es e o (own_attempt s (local s es e.caller)) →
@@ -132,8 +121,7 @@ mine_own s es e core (added k f w) ph ih o h pos q =
 mine_other : (s : Shape) (es : List Event) (e : Event) → Core s (e ∷ es) → (c : ℕ) → c < s.callers →
     e.caller ≢ c → (local s es c).phase ≢ Outside → Mine s es (local s es c) → Mine s (e ∷ es) (local s es c)
 unfolding Mine
-mine_other s es e core c lt d out ih o h pos q =
-    go (mine_back s es e o (own_attempt s (local s es c)) core h pos q)
+mine_other s es e core c lt d out ih o h pos q = go (mine_back s es e o (own_attempt s (local s es c)) core h pos q)
   where
     go : ((at (e ∷ es) o ≡ at es o) × (0 < at es o) × Used s es (at es o - 1)
         × (owner_of s es (at es o) ≡ own_attempt s (local s es c)))
@@ -141,9 +129,8 @@ mine_other s es e core c lt d out ih o h pos q =
         × (own_attempt s (local s es c) ≡ own_attempt s (local s es e.caller))) →
         is_some (write_of o (local s es c).writes) ≡ true
     go (inl x) = ih o h x.1 x.3
-    go (inr x) = let may = install_may s (local s es e.caller) e e.kind x.0 core.1.allowed in
-        absurd (d
-        (sym (own_differs s c e.caller (local s es c) (local s es e.caller) (static s es core.0 c)
+    go (inr x) = let may = install_may s (local s es e.caller) e x.0 core.1.allowed in
+        absurd (d (sym (own_differs s c e.caller (local s es c) (local s es e.caller) (static s es core.0 c)
         (static s es core.0 e.caller) lt core.1.caller out (λ q. let i = may.0 in cc) x.3)))
 
 -- so it is of every attempt under way
@@ -151,7 +138,7 @@ pub mine : (s : Shape) (es : List Event) → Core s es → (c : ℕ) → c < s.c
     (local s es c).phase ≢ Outside → Mine s es (local s es c)
 mine s [] core c lt out = absurd (out refl)
 mine s (e ∷ es) core c lt out = callers s es e (λ c l. c < s.callers → l.phase ≢ Outside → Mine s (e ∷ es) l)
-    (λ lt out. mine_own s es e core (writes_how s (local s es e.caller) e e.kind)
+    (λ lt out. mine_own es core (writes_how s (local s es e.caller) e e.kind)
     (phase_how s e.caller (local s es e.caller) e e.kind (static s es core.0 e.caller) core.1.allowed out)
     (mine s es core.0 e.caller lt))
     (λ c d lt out. mine_other s es e core c lt d out (mine s es core.0 c lt out)) c lt out

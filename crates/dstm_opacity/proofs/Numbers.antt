@@ -1,16 +1,7 @@
 -- Between two moments at which the counter of numbers is the same no attempt draws.
 use Rattle.std.proofs.Common.{◌&&◌, ◌++◌, ◌+◌, ◌<◌, ◌==◌, ◌∙◌, ◌∷◌, ◌≡◌, ◌≤◌, ◌⊎◌, Bool, List, [], ap, arith, inl, inr, refl, subst, sym, true, ℕ}
-use Rattle.std.proofs.lemmas.Bool.{cond_both}
-use Rattle.dstm_core.specs.Histories.{is_draw, is_look_number, pass_place}
-use Rattle.dstm_core.specs.Rules.{AllowedAs}
-use Rattle.dstm_core.specs.Runs.{Core, local}
-use Rattle.dstm_core.specs.Traces.{IsPastOf, at, word}
-use Rattle.dstm_core.specs.Words.Word.{NumbersWord}
-use Rattle.dstm_core.specs.Events.{Event}
-use Rattle.dstm_core.specs.declared.event.Kind.{Kind}
-use Rattle.dstm_core.specs.declared.event.Kind.TheVariants.{Draw}
-use Rattle.dstm_core.specs.declared.shape.Shape.{Shape}
-use Rattle.dstm_core.specs.declared.state.Read.{Read}
+use Rattle.dstm_core.proofs.Base.{AllowedAs, Core, Event, IsPastOf, NumbersWord, at, cond_both, is_draw, is_look_number, local, pass_place, word}
+use Rattle.dstm_opacity.proofs.Base.{Draw, Kind, Read, Shape}
 use Rattle.dstm_core.proofs.Basic.{Names}
 use Rattle.dstm_core.proofs.Columns.{numbers, step}
 use Rattle.dstm_core.proofs.Locators.{no_return}
@@ -29,14 +20,14 @@ pass_past c (e ∷ es) =
     (λ _. record { later = e ∷ []; whole = refl }) (λ _. past_more (pass_place c es) es e (pass_past c es))
 
 -- what a run foretells its pasts foretell
-pub foretells_before : (s : Shape) (will : ℕ → Bool) (q es : List Event) → IsPastOf q es → Core s es →
+pub foretells_before : {s : Shape} {will : ℕ → Bool} (q : List Event) {es : List Event} → IsPastOf q es → Core s es →
     Foretells s will es → Foretells s will q
-foretells_before s will q es p core f =
+foretells_before {s = s} {will = will} q p core f =
     go p.later (subst (Core s) (sym p.whole) core) (subst (Foretells s will) (sym p.whole) f)
   where
     go : (more : List Event) → Core s (more ++ q) → Foretells s will (more ++ q) → Foretells s will q
     go [] core f = f
-    go (e ∷ more) core f = go more core.0 (foretells_past s will (more ++ q) e core f)
+    go (e ∷ more) core f = go more core.0 (foretells_past (more ++ q) e core f)
 
 -- a word that an object had at a past, and has now, it had all the while
 pub no_return_past : (s : Shape) (q es : List Event) (o x : ℕ) → IsPastOf q es → Core s es → o < s.objects →
@@ -57,7 +48,7 @@ draw_up s es e core d = go e.kind d core.1.allowed
 -- the counter never falls
 pub numbers_up : (s : Shape) (es : List Event) (e : Event) → Core s (e ∷ es) →
     word s es NumbersWord ≤ word s (e ∷ es) NumbersWord
-numbers_up s es e core = go (numbers s es e (step s es e core))
+numbers_up s es e core = go (numbers (step s es e core))
   where
     go : (word s (e ∷ es) NumbersWord ≡ word s es NumbersWord)
         ⊎ ((e.kind ≡ Draw) × (word s (e ∷ es) NumbersWord ≡ word s es NumbersWord + 1)) →
@@ -98,8 +89,7 @@ no_draw s es e n core b q =
 
 -- where the counter has stayed, each object's current version is the same
 pub version_same : (s : Shape) (will : ℕ → Bool) (more q : List Event) (o : ℕ) → Core s (more ++ q) →
-    word s q NumbersWord ≡ word s (more ++ q) NumbersWord →
-    version_at s will (more ++ q) o ≡ version_at s will q o
+    word s q NumbersWord ≡ word s (more ++ q) NumbersWord → version_at s will (more ++ q) o ≡ version_at s will q o
 version_same s will [] q o core n = refl
 version_same s will (e ∷ more) q o core n =
     let d = no_draw s (more ++ q) e (word s q NumbersWord) core (numbers_later s more q core.0) n in

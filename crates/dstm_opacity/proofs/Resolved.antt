@@ -1,17 +1,7 @@
 -- Both parts found of a resolution's version are its value in every later run.
 use Rattle.std.proofs.Common.{◌++◌, ◌<◌, ◌∙◌, ◌∷◌, ◌≡◌, List, Some, [], ap, arith, is_some, refl, sym, ℕ}
-use Rattle.std.proofs.lemmas.Bool.{ne_eqb}
-use Rattle.dstm_model.specs.declared.value.Val.{Val}
-use Rattle.dstm_core.specs.Histories.{version_value}
-use Rattle.dstm_core.specs.Rules.{AllowedAs, after}
-use Rattle.dstm_core.specs.Runs.{Core, local}
-use Rattle.dstm_core.specs.State.{or_unresolved, or_zero, res, unresolved, version, version_by}
-use Rattle.dstm_core.specs.Traces.{at}
-use Rattle.dstm_core.specs.Events.{Event}
-use Rattle.dstm_core.specs.declared.event.Kind.{Kind}
-use Rattle.dstm_core.specs.declared.event.Kind.TheVariants.{Begin, Kill, LookHigh, LookNew, LookObj, LookOld, LookOwner, LookRank, LookStatus}
-use Rattle.dstm_core.specs.declared.shape.Shape.{Shape}
-use Rattle.dstm_core.specs.declared.state.Resolution.{Resolution}
+use Rattle.dstm_core.proofs.Base.{AllowedAs, Core, Event, Val, after, at, local, ne_eqb, or_unresolved, or_zero, res, unresolved, version, version_by, version_value}
+use Rattle.dstm_opacity.proofs.Base.{Begin, Kill, Kind, LookHigh, LookNew, LookObj, LookOld, LookOwner, LookRank, LookStatus, Resolution, Shape}
 use Rattle.dstm_core.proofs.Pasts.{core_past}
 use Rattle.dstm_core.proofs.Places.{put_at}
 use Rattle.dstm_core.proofs.Static.{callers}
@@ -30,9 +20,9 @@ nothing : (s : Shape) (start : List Val) (es : List Event) → FoundParts s star
 nothing s start es = record { high = λ n q. absurd (cc); low = λ n q. absurd (cc) }
 
 -- what a caller has found stays so at an event
-parts_more : (s : Shape) (start : List Val) (es : List Event) (e : Event) (c : ℕ) → Core s (e ∷ es) →
+parts_more : {s : Shape} {start : List Val} {es : List Event} (e : Event) (c : ℕ) → Core s (e ∷ es) →
     FoundParts s start es (res (local s es c)) → FoundParts s start (e ∷ es) (res (local s es c))
-parts_more s start es e c core h = record {
+parts_more {s = s} {start = start} {es = es} e c core h = record {
   high = λ n q.
       let some = high_of (local s es c).resolution (high_fits s es core.0 c) (ap is_some q) in
       ap (λ (v : Val). v.high) (stays some) ∙ h.high n q;
@@ -47,29 +37,29 @@ parts_more s start es e c core h = record {
         (look_settled s es c core.0 p)
 
 -- no part was found where no version is known
-none_found : (s : Shape) (start : List Val) (es : List Event) (c : ℕ) (r : Resolution) → Core s es →
+none_found : {s : Shape} {start : List Val} {es : List Event} (c : ℕ) (r : Resolution) → Core s es →
     or_zero (version (res (local s es c))) ≡ 0 → FoundParts s start es (res (local s es c)) →
     r.high ≡ (res (local s es c)).high → r.value ≡ (res (local s es c)).value →
     (new : List Event) → FoundParts s start new r
-none_found s start es c r core none h high low new = record {
+none_found {s = s} {es = es} c r core none h high low new = record {
   high = λ n q.
       let known = high_of (local s es c).resolution (high_fits s es core c) (ap is_some (sym high ∙ q)) in
       absurd (omega arith);
   low = λ n q. let known = (h.low n (sym low ∙ q)).0 in absurd (omega arith);
 }
 
-parts_own : (s : Shape) (start : List Val) (es : List Event) (e : Event) → Core s (e ∷ es) → (k : Kind) →
+parts_own : {s : Shape} {start : List Val} {es : List Event} (e : Event) → Core s (e ∷ es) → (k : Kind) →
     AllowedAs k s (local s es e.caller) e → FoundParts s start es (res (local s es e.caller)) →
     FoundParts s start (e ∷ es) (res (local s es e.caller)) →
     FoundParts s start (e ∷ es) (or_unresolved (after k s (local s es e.caller) e).resolution)
-parts_own s start es e core Begin a b h = nothing s start (e ∷ es)
-parts_own s start es e core LookObj a b h = record { high = λ n q. absurd (cc); low = λ n q. absurd (cc) }
-parts_own s start es e core LookOwner a b h = record { high = h.high; low = h.low }
-parts_own s start es e core LookStatus a b h =
+parts_own {s = s} {start = start} {es = es} e core Begin a b h = nothing s start (e ∷ es)
+parts_own e core LookObj a b h = record { high = λ n q. absurd (cc); low = λ n q. absurd (cc) }
+parts_own e core LookOwner a b h = record { high = h.high; low = h.low }
+parts_own {s = s} {es = es} e core LookStatus a b h =
     let r = res (local s es e.caller) in
-    none_found s start es e.caller _ core.0 (version_unknown r.word r.status r.old a.2.3) b refl refl (e ∷ es)
-parts_own s start es e core LookRank a b h = record { high = h.high; low = h.low }
-parts_own s start es e core LookOld a b h = record {
+    none_found e.caller _ core.0 (version_unknown r.word r.status r.old a.2.3) b refl refl (e ∷ es)
+parts_own e core LookRank a b h = record { high = h.high; low = h.low }
+parts_own {s = s} {start = start} {es = es} e core LookOld a b h = record {
   high = λ n q.
       let known = high_of (local s es e.caller).resolution (high_fits s es core.0 e.caller) (ap is_some q) in
       ap (λ v. (version_value s start (e ∷ es) (res (local s es e.caller)).object (or_zero v)).high) (same known)
@@ -93,13 +83,13 @@ parts_own s start es e core LookOld a b h = record {
         let found : e.found ≡ or_zero (res l).old = core.1.linked ∙ ap (at es) a.0 ∙ sym old.1 in
         version_old (res l).word (res l).status (Some e.found) a.2.2 x.0 ∙ ap Some found ∙ sym was
         ∙ sym (version_old (res l).word (res l).status (res l).old a.2.2 x.0)
-parts_own s start es e core LookHigh a b h = record {
+parts_own {s = s} {es = es} e core LookHigh a b h = record {
   high = λ n q.
       rw (ne_eqb (or_zero (version (res (local s es e.caller)))) 0 (λ z. let p = a.2.2 in omega arith))
       (put_at es e _ a.0 ∙ a.1.1 ∙ cc);
   low = h.low;
 }
-parts_own s start es e core LookNew a b h = record {
+parts_own {s = s} {es = es} e core LookNew a b h = record {
   high = h.high;
   low = λ n q.
       let known = high_of (local s es e.caller).resolution (high_fits s es core.0 e.caller) a.2.2 in (
@@ -108,11 +98,11 @@ parts_own s start es e core LookNew a b h = record {
             (put_at es e _ a.0 ∙ a.1.1 ∙ cc),
       );
 }
-parts_own s start es e core Kill a b h =
+parts_own {s = s} {es = es} e core Kill a b h =
     let r = res (local s es e.caller) in
-    none_found s start es e.caller _ core.0
+    none_found e.caller _ core.0
     (version_unknown r.word r.status r.old (live_below (or_zero r.status) a.2.3)) b refl refl (e ∷ es)
-parts_own s start es e core k a b h =
+parts_own {s = s} {start = start} {es = es} e core k a b h =
     unlooked (λ o. FoundParts s start (e ∷ es) (or_unresolved o)) s (local s es e.caller) e k refl
     (nothing s start (e ∷ es)) h
 
@@ -123,8 +113,8 @@ found_parts s start [] core c = nothing s start []
 found_parts s start (e ∷ es) core c =
     callers s es e (λ c l. FoundParts s start (e ∷ es) (or_unresolved l.resolution))
     (let b = found_parts s start es core.0 e.caller in
-    parts_own s start es e core e.kind core.1.allowed b (parts_more s start es e e.caller core b))
-    (λ c _. parts_more s start es e c core (found_parts s start es core.0 c)) c
+    parts_own e core e.kind core.1.allowed b (parts_more e e.caller core b))
+    (λ c _. parts_more e c core (found_parts s start es core.0 c)) c
 
 by_parts : (v : Val) (low high : ℕ) → v.low ≡ low → v.high ≡ high → v ≡ record { low = low; high = high }
 by_parts v low high p q =

@@ -1,14 +1,7 @@
 -- An attempt has room: for as many reads and writes as there are objects, and for a locator for each write.
 use Rattle.std.proofs.Common.{◌<◌, ◌∷◌, ◌≡◌, ◌≢◌, List, None, [], arith, length, refl, ℕ}
-use Rattle.dstm_model.specs.Map.{no_value}
-use Rattle.dstm_model.specs.declared.value.Val.{Val}
-use Rattle.dstm_core.specs.Histories.{old_values}
-use Rattle.dstm_core.specs.Runs.{Core, local}
-use Rattle.dstm_core.specs.State.{own_attempt, write_of}
-use Rattle.dstm_core.specs.Events.{Event}
-use Rattle.dstm_core.specs.declared.shape.Shape.{Shape}
-use Rattle.dstm_core.specs.declared.state.Phase.TheVariants.{Outside}
-use Rattle.dstm_core.specs.declared.state.Write.{Write}
+use Rattle.dstm_core.proofs.Base.{Core, Event, Val, local, no_value, old_values, own_attempt, write_of}
+use Rattle.dstm_opacity.proofs.Base.{Outside, Shape, Write}
 use Rattle.dstm_opacity.proofs.Entries.{old_once, unnamed_old}
 use Rattle.dstm_opacity.proofs.Maps.{few_are_named}
 use Rattle.dstm_opacity.proofs.Tidy.{tidy}

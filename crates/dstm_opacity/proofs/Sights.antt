@@ -1,18 +1,7 @@
 -- A sight agrees with the prefix of the history at its place.
 use Rattle.std.proofs.Common.{◌++◌, ◌∙◌, ◌∷◌, ◌≡◌, ◌≢◌, ◌⊎◌, List, None, Option, Some, [], ap, append_assoc, arith, false, is_some, length, refl, subst, sym, true, ℕ}
-use Rattle.std.proofs.lemmas.Bool.{eq-eqb, eqb-true, ne_eqb}
-use Rattle.dstm_model.specs.Map.{Agrees}
-use Rattle.dstm_model.specs.declared.value.Val.{Val}
-use Rattle.dstm_core.specs.Histories.{entry_of, history, pass_place, will_of}
-use Rattle.dstm_core.specs.Runs.{Core, local}
-use Rattle.dstm_core.specs.State.{given, own_attempt}
-use Rattle.dstm_core.specs.Traces.{at, word}
-use Rattle.dstm_core.specs.Words.{place}
-use Rattle.dstm_core.specs.Words.Word.{StatusWord}
-use Rattle.dstm_core.specs.Events.{Event}
-use Rattle.dstm_core.specs.declared.event.Kind.TheVariants.{LookSelf}
-use Rattle.dstm_core.specs.declared.shape.Shape.{Shape}
-use Rattle.dstm_core.specs.declared.state.Phase.TheVariants.{Outside, Running}
+use Rattle.dstm_core.proofs.Base.{Agrees, Core, Event, StatusWord, Val, at, entry_of, eq-eqb, eqb-true, given, history, local, ne_eqb, own_attempt, pass_place, place, will_of, word}
+use Rattle.dstm_opacity.proofs.Base.{LookSelf, Outside, Running, Shape}
 use Rattle.dstm_core.proofs.Columns.{own_in}
 use Rattle.dstm_core.proofs.Static.{static}
 use Rattle.dstm_core.proofs.Pasts.{core_before, core_past}
@@ -39,8 +28,7 @@ will_is s run a h = eqb-true (word s run (StatusWord a)) 4 h
 
 -- the state after the prefix at a sight's place has every value that the sight covers
 pub pass_agrees : (s : Shape) (start : List Val) (more es : List Event) (e : Event) → length start ≡ s.objects →
-    Core s (more ++ e ∷ es) → e.kind ≡ LookSelf → e.found ≡ given (local s es e.caller).phase →
-    Agrees (map_after start
+    Core s (more ++ e ∷ es) → e.kind ≡ LookSelf → e.found ≡ given (local s es e.caller).phase → Agrees (map_after start
     (history s start (will_of s (more ++ e ∷ es)) (more ++ e ∷ es) (pass_place e.caller es)))
     (entry_of s start (more ++ e ∷ es) (local s es e.caller)).reads
 pass_agrees s start more es e long core k w = go (local s es e.caller).pass refl
@@ -52,9 +40,8 @@ pass_agrees s start more es e long core k w = go (local s es e.caller).pass refl
     core_e = core_past s more (e ∷ es) core
 
     f_es : Foretells s (will_of s (more ++ e ∷ es)) es
-    f_es = foretells_before s (will_of s (more ++ e ∷ es)) es (more ++ e ∷ es)
-        (record { later = more ++ e ∷ []; whole = append_assoc more (e ∷ []) es }) core
-        (foretold s (more ++ e ∷ es))
+    f_es = foretells_before es
+        (record { later = more ++ e ∷ []; whole = append_assoc more (e ∷ []) es }) core (foretold s (more ++ e ∷ es))
 
     may : ((local s es e.caller).phase ≡ Running) × ((local s es e.caller).stale ≡ false)
         × (is_some (local s es e.caller).pass ≡ true)
@@ -71,10 +58,8 @@ pass_agrees s start more es e long core k w = go (local s es e.caller).pass refl
 
     live : word s (pass_place e.caller es) (StatusWord (own_attempt s (local s es e.caller))) ≡ 5 → ⊥
     live z = let p = pass_past e.caller es in
-        let a_in =
-        own_in s e.caller (local s es e.caller) (static s es core_e.0 e.caller) core_e.1.caller out in
-        let same =
-        finished_stays s p.later (pass_place e.caller es) (own_attempt s (local s es e.caller))
+        let a_in = own_in s e.caller (local s es e.caller) (static s es core_e.0 e.caller) core_e.1.caller out in
+        let same = finished_stays s p.later (pass_place e.caller es) (own_attempt s (local s es e.caller))
         (subst (Core s) (sym p.whole) core_e.0) a_in (omega arith) in
         let now : word s es (StatusWord (own_attempt s (local s es e.caller))) ≡ 5 =
         subst (λ xs. word s xs (StatusWord (own_attempt s (local s es e.caller))) ≡ 5) p.whole (same ∙ z) in
@@ -86,13 +71,9 @@ pass_agrees s start more es e long core k w = go (local s es e.caller).pass refl
         (history s start (will_of s (more ++ e ∷ es)) (more ++ e ∷ es) (pass_place e.caller es)))
         (entry_of s start (more ++ e ∷ es) (local s es e.caller)).reads
     go None q = let y = may.2 in absurd (cc)
-    go (Some n) q = let has = (passes s (will_of s (more ++ e ∷ es)) es core_e.0 f_es e.caller).1 n may.0 q in
+    go (Some n) q = let has = (passes core_e.0 f_es e.caller).1 n may.0 q in
         agrees_state s start (will_of s (more ++ e ∷ es)) (more ++ e ∷ es) (pass_place e.caller es)
-        (pass_place e.caller es) (own_attempt s (local s es e.caller))
-        (local s es e.caller) long has.named has.writes
-        (pass_agreed s (will_of s (more ++ e ∷ es)) (pass_place e.caller es)
-        (local s es e.caller) n has q may.1 may.3)
-        (old_current s (will_of s (more ++ e ∷ es)) (pass_place e.caller es)
+        (pass_place e.caller es) (own_attempt s (local s es e.caller)) (local s es e.caller) long has.named has.writes
+        (pass_agreed has q may.1 may.3) (old_current
         (own_attempt s (local s es e.caller)) (local s es e.caller).writes core_q
-        (foretells_before s (will_of s (more ++ e ∷ es)) (pass_place e.caller es) es
-        (pass_past e.caller es) core_e.0 f_es) has.undrawn live has.writes)
+        (foretells_before (pass_place e.caller es) (pass_past e.caller es) core_e.0 f_es) has.undrawn live has.writes)

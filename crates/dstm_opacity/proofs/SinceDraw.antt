@@ -1,18 +1,7 @@
 -- What an attempt has shown since its draw: where it commits, all that it read was current at the draw.
 use Rattle.std.proofs.Common.{◌*◌, ◌++◌, ◌<◌, ◌∙◌, ◌∷◌, ◌≡◌, ◌⊎◌, Bool, List, Some, [], ap, append_assoc, arith, false, inl, inr, length, refl, slice_get, subst, sym, true, ℕ}
-use Rattle.std.proofs.lemmas.Bool.{cases_eq, eq-eqb}
-use Rattle.dstm_core.specs.Histories.{is_draw, will_of}
-use Rattle.dstm_core.specs.Rules.{AllowedAs, MayRank, after}
-use Rattle.dstm_core.specs.Runs.{Core, local}
-use Rattle.dstm_core.specs.State.{LocalState, given, or_read, own_attempt}
-use Rattle.dstm_core.specs.Traces.{IsPastOf, at, word}
-use Rattle.dstm_core.specs.Words.{place}
-use Rattle.dstm_core.specs.Words.Word.{NumbersWord, StatusWord}
-use Rattle.dstm_core.specs.Events.{Event}
-use Rattle.dstm_core.specs.declared.event.Kind.{Kind}
-use Rattle.dstm_core.specs.declared.event.Kind.TheVariants.{Check, Commit, Draw, Enrol, LookStatus, PutHigh, Quit, Rank, Stamp, Validating as ToValidating}
-use Rattle.dstm_core.specs.declared.shape.Shape.{Shape}
-use Rattle.dstm_core.specs.declared.state.Phase.TheVariants.{Drawn}
+use Rattle.dstm_core.proofs.Base.{AllowedAs, Core, Event, IsPastOf, LocalState, MayRank, NumbersWord, StatusWord, after, at, cases_eq, eq-eqb, given, is_draw, local, or_read, own_attempt, place, will_of, word}
+use Rattle.dstm_opacity.proofs.Base.{Check, Commit, Draw, Drawn, Enrol, Kind, LookStatus, PutHigh, Quit, Rank, Shape, Stamp, ToValidating}
 use Rattle.dstm_core.proofs.Columns.{exchanged, own_in}
 use Rattle.dstm_core.proofs.Places.{put_at}
 use Rattle.dstm_core.proofs.Static.{Static, local_other, local_own, static}
@@ -53,20 +42,20 @@ drawn_may s c l e Stamp t p a = absurd (let y = a.2.0 in cc)
 drawn_may s c l e ToValidating t p a = absurd (grind arith)
 drawn_may s c l e k t p a = absurd (cc)
 
-commit_needs : (s : Shape) (l : LocalState) (e : Event) (k : Kind) → k ≡ Commit → AllowedAs k s l e →
+commit_needs : (s : Shape) (l : LocalState) (e : Event) {k : Kind} → k ≡ Commit → AllowedAs k s l e →
     (l.stale ≡ false) × ((l.checked ≡ length l.reads) ⊎ (l.last_pass ≡ l.drawn))
-commit_needs s l e Commit q a = (a.2.1, a.2.2)
-commit_needs s l e k q a = absurd (cc)
+commit_needs s l e {k = Commit} q a = (a.2.1, a.2.2)
+commit_needs s l e q a = absurd (cc)
 
-check_needs : (s : Shape) (l : LocalState) (e : Event) (k : Kind) → k ≡ Check → AllowedAs k s l e →
+check_needs : (s : Shape) (l : LocalState) (e : Event) {k : Kind} → k ≡ Check → AllowedAs k s l e →
     (l.stale ≡ false) × (l.checked < length l.reads)
-check_needs s l e Check q a = (a.2.1, a.2.2)
-check_needs s l e k q a = absurd (cc)
+check_needs s l e {k = Check} q a = (a.2.1, a.2.2)
+check_needs s l e q a = absurd (cc)
 
-quit_puts : (s : Shape) (l : LocalState) (e : Event) (k : Kind) → k ≡ Quit → AllowedAs k s l e →
+quit_puts : (s : Shape) (l : LocalState) (e : Event) {k : Kind} → k ≡ Quit → AllowedAs k s l e →
     (e.place ≡ place s (StatusWord (own_attempt s l))) × (e.found ≡ given l.phase → e.put ≡ 5)
     × ((e.put ≡ 5) ⊎ (e.put ≡ e.found))
-quit_puts s l e Quit q a = (
+quit_puts s l e {k = Quit} q a = (
   a.0,
   (λ h. a.1.1 ∙ rw (eq-eqb e.found (given l.phase) h) refl),
   go (exchanged e.found (given l.phase) 5 e.put a.1.1),
@@ -75,7 +64,7 @@ quit_puts s l e Quit q a = (
     go : (e.put ≡ e.found) ⊎ ((e.found ≡ given l.phase) × (e.put ≡ 5)) → (e.put ≡ 5) ⊎ (e.put ≡ e.found)
     go (inl x) = inr x
     go (inr x) = inl x.1
-quit_puts s l e k q a = absurd (cc)
+quit_puts s l e q a = absurd (cc)
 
 draw_after : (s : Shape) (l : LocalState) (e : Event) (k : Kind) → is_draw k ≡ true → AllowedAs k s l e →
     ((after k s l e).phase ≡ Drawn) × (own_attempt s (after k s l e) ≡ own_attempt s l)
@@ -85,40 +74,38 @@ draw_after : (s : Shape) (l : LocalState) (e : Event) (k : Kind) → is_draw k �
 draw_after s l e Draw q a = (refl, refl, refl, refl, refl, refl, a.0)
 draw_after s l e k q a = absurd (cc)
 
-draw_begins : (s : Shape) (will : ℕ → Bool) (q : List Event) (d : Event) → Core s (d ∷ q) → Foretells s will q →
+draw_begins : {s : Shape} {will : ℕ → Bool} {q : List Event} (d : Event) → Core s (d ∷ q) → Foretells s will q →
     is_draw d.kind ≡ true → SinceDraw s will q d.caller (after d.kind s (local s q d.caller) d)
-draw_begins s will q d core f k = let x = draw_after s (local s q d.caller) d d.kind k core.1.allowed in
+draw_begins {s = s} {q = q} d core f k = let x = draw_after s (local s q d.caller) d d.kind k core.1.allowed in
     record {
       phase = x.0;
       own = x.1;
       reads = x.2;
       checked = λ _ i lt. absurd (let y = x.3 in omega arith);
-      same = λ z. (passes s will q core.0 f d.caller).0.reads (word s q NumbersWord)
+      same = λ z. (passes core.0 f d.caller).0.reads (word s q NumbersWord)
           (sym x.4 ∙ z ∙ x.5 ∙ ap Some (core.1.linked ∙ ap (at q) x.6)) refl;
     }
 
-draw_own : (s : Shape) (will : ℕ → Bool) (q es : List Event) (e : Event) → IsPastOf q es → Core s (e ∷ es) →
+draw_own : {s : Shape} {will : ℕ → Bool} {q : List Event} (es : List Event) (e : Event) → IsPastOf q es → Core s (e ∷ es) →
     Foretells s will (e ∷ es) → own_attempt s (local s q e.caller) < s.callers * s.attempts →
     ReadsNamed s q (local s q e.caller).reads → SinceDraw s will q e.caller (local s es e.caller) →
     (e.kind ≡ Check) ⊎ ((e.kind ≡ Commit) ⊎ (e.kind ≡ Quit)) → DrawState s will q e.caller (e ∷ es)
-draw_own s will q es e p core f inn named d (inr (inl k)) =
-    shown (rw (← d.reads) (go (commit_needs s (local s es e.caller) e e.kind k core.1.allowed)))
+draw_own {s = s} {will = will} {q = q} es e p core f inn named d (inr (inl k)) =
+    shown (rw (← d.reads) (go (commit_needs s (local s es e.caller) e k core.1.allowed)))
   where
     go : ((local s es e.caller).stale ≡ false)
         × (((local s es e.caller).checked ≡ length (local s es e.caller).reads)
-        ⊎ ((local s es e.caller).last_pass ≡ (local s es e.caller).drawn)) →
-        Agreed s will q (local s es e.caller).reads
+        ⊎ ((local s es e.caller).last_pass ≡ (local s es e.caller).drawn)) → Agreed s will q (local s es e.caller).reads
     go x = how x.0 x.1
       where
         how : (local s es e.caller).stale ≡ false →
             ((local s es e.caller).checked ≡ length (local s es e.caller).reads)
             ⊎ ((local s es e.caller).last_pass ≡ (local s es e.caller).drawn) →
             Agreed s will q (local s es e.caller).reads
-        how st (inl y) =
-            agreed_by_index s will q (local s es e.caller).reads (λ i lt. d.checked st i (omega arith))
+        how st (inl y) = agreed_by_index s will q (local s es e.caller).reads (λ i lt. d.checked st i (omega arith))
         how st (inr y) = rw d.reads (d.same y)
-draw_own s will q es e p core f inn named d (inr (inr k)) =
-    dead (go (quit_puts s (local s es e.caller) e e.kind k core.1.allowed))
+draw_own {s = s} {q = q} es e p core f inn named d (inr (inr k)) =
+    dead (go (quit_puts s (local s es e.caller) e k core.1.allowed))
   where
     status_now : e.place ≡ place s (StatusWord (own_attempt s (local s es e.caller))) →
         word s (e ∷ es) (StatusWord (own_attempt s (local s q e.caller))) ≡ e.put
@@ -138,8 +125,8 @@ draw_own s will q es e p core f inn named d (inr (inr k)) =
         how (inl y) z = y
         how (inr y) (inr z) = y ∙ was ∙ z
         how (inr y) (inl z) = x.1 (was ∙ z)
-draw_own s will q es e p core f inn named d (inl k) =
-    since (rw (local_own s es e) (go (check_after s (local s es e.caller) e e.kind k core.1.allowed)))
+draw_own {s = s} {will = will} {q = q} es e p core f inn named d (inl k) =
+    since (rw (local_own s es e) (go (check_after s (local s es e.caller) e k core.1.allowed)))
   where
     go : AfterCheck s (local s es e.caller) e e.kind →
         SinceDraw s will q e.caller (after e.kind s (local s es e.caller) e)
@@ -148,62 +135,54 @@ draw_own s will q es e p core f inn named d (inl k) =
       own = x.6 ∙ d.own;
       reads = x.2 ∙ d.reads;
       checked = λ ns i y. rw x.2
-          (check_more s will q es e p core f (local s es e.caller) named_now st.1 (d.checked st.0) x.3 (sym x.1 ∙ ns) i
+          (check_more q es e p core f (local s es e.caller) named_now st.1 (d.checked st.0) x.3 (sym x.1 ∙ ns) i
           (rw x.0 at y));
       same = λ z. d.same (sym x.7 ∙ z ∙ x.11);
     }
       where
         st : ((local s es e.caller).stale ≡ false)
             × ((local s es e.caller).checked < length (local s es e.caller).reads)
-        st = check_needs s (local s es e.caller) e e.kind k core.1.allowed
+        st = check_needs s (local s es e.caller) e k core.1.allowed
 
         named_now : ReadsNamed s q (local s es e.caller).reads
         named_now = rw d.reads named
 
-draw_step : (s : Shape) (will : ℕ → Bool) (q : List Event) (c : ℕ) (es : List Event) (e : Event) → IsPastOf q es →
-    Core s (e ∷ es) → Foretells s will (e ∷ es) → c < s.callers →
-    own_attempt s (local s q c) < s.callers * s.attempts → ReadsNamed s q (local s q c).reads →
-    DrawState s will q c es → DrawState s will q c (e ∷ es)
-draw_step s will q c es e p core f lt inn named (shown a) = shown a
-draw_step s will q c es e p core f lt inn named (dead z) =
+draw_step : {s : Shape} {will : ℕ → Bool} {q : List Event} {c : ℕ} {es : List Event} (e : Event) → IsPastOf q es →
+    Core s (e ∷ es) → Foretells s will (e ∷ es) → c < s.callers → own_attempt s (local s q c) < s.callers * s.attempts →
+    ReadsNamed s q (local s q c).reads → DrawState s will q c es → DrawState s will q c (e ∷ es)
+draw_step e p core f lt inn named (shown a) = shown a
+draw_step {s = s} {q = q} {c = c} {es = es} e p core f lt inn named (dead z) =
     dead (finished_step s es e (own_attempt s (local s q c)) core inn (omega arith) ∙ z)
-draw_step s will q c es e p core f lt inn named (since d) = go (cases_eq e.caller c)
+draw_step {s = s} {will = will} {q = q} {c = c} {es = es} e p core f lt inn named (since d) = go (cases_eq e.caller c)
   where
     by_kind : e.caller ≡ c → (e.kind ≡ Check) ⊎ ((e.kind ≡ Commit) ⊎ (e.kind ≡ Quit)) →
         SinceDraw s will q e.caller (local s es e.caller) → DrawState s will q e.caller (e ∷ es)
     by_kind same k d =
-        draw_own s will q es e p core f
-        (subst (λ n. own_attempt s (local s q n) < s.callers * s.attempts) (sym same) inn)
+        draw_own es e p core f (subst (λ n. own_attempt s (local s q n) < s.callers * s.attempts) (sym same) inn)
         (subst (λ n. ReadsNamed s q (local s q n).reads) (sym same) named) d k
 
     go : (e.caller ≡ c) ⊎ (e.caller ≡ c → ⊥) → DrawState s will q c (e ∷ es)
     go (inl h) =
-        subst (λ n. DrawState s will q n (e ∷ es)) h
-        (by_kind h
+        subst (λ n. DrawState s will q n (e ∷ es)) h (by_kind h
         (drawn_may s e.caller (local s es e.caller) e e.kind (static s es core.0 e.caller)
         (subst (λ n. (local s es n).phase ≡ Drawn) (sym h) d.phase) core.1.allowed)
         (subst (λ n. SinceDraw s will q n (local s es n)) (sym h) d))
     go (inr h) = since (rw (local_other s es e c h) d)
 
-draw_later : (s : Shape) (will : ℕ → Bool) (q : List Event) (d : Event) (more : List Event) →
-    Core s (more ++ d ∷ q) → Foretells s will (more ++ d ∷ q) → is_draw d.kind ≡ true →
-    DrawState s will q d.caller (more ++ d ∷ q)
-draw_later s will q d [] core f k =
-    since (rw (local_own s q d) (draw_begins s will q d core (foretells_past s will q d core f) k))
-draw_later s will q d (e ∷ more) core f k = let core_d = core_past s more (d ∷ q) core.0 in
+draw_later : {s : Shape} {will : ℕ → Bool} (q : List Event) (d : Event) (more : List Event) → Core s (more ++ d ∷ q) →
+    Foretells s will (more ++ d ∷ q) → is_draw d.kind ≡ true → DrawState s will q d.caller (more ++ d ∷ q)
+draw_later {s = s} q d [] core f k = since (rw (local_own s q d) (draw_begins d core (foretells_past q d core f) k))
+draw_later {s = s} q d (e ∷ more) core f k = let core_d = core_past s more (d ∷ q) core.0 in
     let v = draw_may s (local s q d.caller) d d.kind k core_d.1.allowed in
-    draw_step s will q d.caller (more ++ d ∷ q) e
-    (record { later = more ++ d ∷ []; whole = append_assoc more (d ∷ []) q }) core f core_d.1.caller
+    draw_step e (record { later = more ++ d ∷ []; whole = append_assoc more (d ∷ []) q }) core f core_d.1.caller
     (own_in s d.caller (local s q d.caller) (static s q core_d.0 d.caller) core_d.1.caller (λ z. cc))
-    (reads s q core_d.0 d.caller)
-    (draw_later s will q d more core.0 (foretells_past s will (more ++ d ∷ q) e core f) k)
+    (reads s q core_d.0 d.caller) (draw_later q d more core.0 (foretells_past (more ++ d ∷ q) e core f) k)
 
 -- an attempt that commits has read what was current at its draw
 pub draw_agreed : (s : Shape) (q : List Event) (d : Event) (more : List Event) → Core s (more ++ d ∷ q) →
     is_draw d.kind ≡ true → will_of s (more ++ d ∷ q) (own_attempt s (local s q d.caller)) ≡ true →
     Agreed s (will_of s (more ++ d ∷ q)) q (local s q d.caller).reads
-draw_agreed s q d more core k w =
-    go (draw_later s (will_of s (more ++ d ∷ q)) q d more core (foretold s (more ++ d ∷ q)) k)
+draw_agreed s q d more core k w = go (draw_later q d more core (foretold s (more ++ d ∷ q)) k)
   where
     done : word s (more ++ d ∷ q) (StatusWord (own_attempt s (local s q d.caller))) ≡ 4
     done = will_is s (more ++ d ∷ q) (own_attempt s (local s q d.caller)) w
@@ -220,6 +199,5 @@ draw_agreed s q d more core k w =
     go (shown a) = a
     go (dead z) = let e' = done in absurd (omega arith)
     go (since x) =
-        absurd (open_end x
-        (own_status s (more ++ d ∷ q) core d.caller (core_past s more (d ∷ q) core).1.caller
+        absurd (open_end x (own_status s (more ++ d ∷ q) core d.caller (core_past s more (d ∷ q) core).1.caller
         (λ z. let y = x.phase in cc)))

@@ -1,13 +1,9 @@
 -- What a caller has committed stands in the history.
 use Rattle.std.proofs.Common.{◌++◌, List, refl, subst, sym, ℕ}
-use Rattle.dstm_model.specs.declared.value.Val.{Val}
+use Rattle.dstm_core.proofs.Base.{CoreRun, Event, IsPastOf, Val, commits_at, entry_at, history_of, local, will_of}
+use Rattle.dstm_opacity.proofs.Base.{Shape}
 use Rattle.dstm_machines.proofs.Callers.{part_stands, stands_later}
 use Rattle.dstm_machines.proofs.Pasts.{past_self}
-use Rattle.dstm_core.specs.Histories.{CoreRun, commits_at, entry_at, history_of, will_of}
-use Rattle.dstm_core.specs.Runs.{local}
-use Rattle.dstm_core.specs.Traces.{IsPastOf}
-use Rattle.dstm_core.specs.Events.{Event}
-use Rattle.dstm_core.specs.declared.shape.Shape.{Shape}
 use Rattle.dstm_core.proofs.Pasts.{core_before}
 use Rattle.dstm_opacity.proofs.Opacity.{history_is_serial, prefix_is_lawful}
 use Rattle.dstm_opacity.specs.Committed.{Committed, attempt_of, commits_by, done_by}

@@ -1,18 +1,8 @@
 -- The state after the entries of a history has the values of the current versions.
 use Rattle.std.proofs.Common.{◌&&◌, ◌++◌, ◌+◌, ◌<◌, ◌==◌, ◌∙◌, ◌∷◌, ◌≡◌, ◌≢◌, ◌⊎◌, Bool, List, None, Option, Some, [], ap, arith, false, get_or-set_other, get_or-set_same, inl, inr, length, refl, slice_get, suc, sym, true, ℕ}
-use Rattle.std.proofs.lemmas.Bool.{cases_Bool, cases_eq, cond_both, eq-eqb, ne_eqb}
+use Rattle.dstm_core.proofs.Base.{Agrees, Core, Event, LocalState, StatusWord, Val, at, cases_Bool, cases_eq, cond_both, drawn, drop_read, entry_of, eq-eqb, history, is_draw, local, ne_eqb, new_value, new_values, old_values, or_read, own_attempt, read_values, value_at, version_value, with_writes, word, write_of}
+use Rattle.dstm_opacity.proofs.Base.{Read, Shape, Write}
 use Rattle.dstm_model.proofs.Entries.{with_length}
-use Rattle.dstm_model.specs.Map.{Agrees, value_at, with_writes}
-use Rattle.dstm_model.specs.declared.value.Val.{Val}
-use Rattle.dstm_core.specs.Histories.{drawn, entry_of, history, is_draw, new_value, new_values, old_values, read_values, version_value}
-use Rattle.dstm_core.specs.Runs.{Core, local}
-use Rattle.dstm_core.specs.State.{LocalState, drop_read, or_read, own_attempt, write_of}
-use Rattle.dstm_core.specs.Traces.{at, word}
-use Rattle.dstm_core.specs.Words.Word.{StatusWord}
-use Rattle.dstm_core.specs.Events.{Event}
-use Rattle.dstm_core.specs.declared.shape.Shape.{Shape}
-use Rattle.dstm_core.specs.declared.state.Read.{Read}
-use Rattle.dstm_core.specs.declared.state.Write.{Write}
 use Rattle.dstm_machines.proofs.Orders.{map_after, state_length}
 use Rattle.dstm_opacity.proofs.Current.{Foretells, current, meant_undrawn}
 use Rattle.dstm_opacity.proofs.Recorded.{ReadsNamed}
@@ -40,10 +30,8 @@ with_index s run (w ∷ ws) m o h = go (cases_eq w.object o) (with_index s run w
     go (inr q) ih = let apart : o ≢ w.object = λ z. q (sym z) in rw (ne_eqb w.object o q, get_or-set_other) ih
 
 -- the value of the current version is that of the state
-pub state_value : (s : Shape) (start : List Val) (will : ℕ → Bool) (run es : List Event) (o : ℕ) →
-    o < length start →
-    value_at (map_after start (history s start will run es)) o ≡ version_value s start run o
-    (version_at s will es o)
+pub state_value : (s : Shape) (start : List Val) (will : ℕ → Bool) (run es : List Event) (o : ℕ) → o < length start →
+    value_at (map_after start (history s start will run es)) o ≡ version_value s start run o (version_at s will es o)
 unfolding written_value
 state_value s start will run [] o h = refl
 state_value s start will run (e ∷ es) o h =
@@ -63,8 +51,7 @@ state_value s start will run (e ∷ es) o h =
         rw q (with_index s run (local s es e.caller).writes
         (map_after start (history s start will run es)) o long ∙ rw w ih)
     go (inl q) ih (Some v) w =
-        rw q (with_index s run (local s es e.caller).writes
-        (map_after start (history s start will run es)) o long
+        rw q (with_index s run (local s es e.caller).writes (map_after start (history s start will run es)) o long
         ∙ rw w (rw (ne_eqb (v.locator + 1) 0 (λ z. omega arith)) (ap (new_value s run) (omega arith))))
     go (inr q) ih m w = rw q ih
 
@@ -79,8 +66,7 @@ Agreed s will es (r ∷ rs) = Cur s will es r × Agreed s will es rs
 
 -- current reads without one of them
 pub agreed_drop : (s : Shape) (will : ℕ → Bool) (es : List Event) (o : ℕ) (rs : List Read) →
-    Agreed s will es rs →
-    Agreed s will es (drop_read o rs)
+    Agreed s will es rs → Agreed s will es (drop_read o rs)
 agreed_drop s will es o [] h = tt
 agreed_drop s will es o (r ∷ rs) h =
     cond_both (r.object == o) rs (r ∷ drop_read o rs) (Agreed s will es) (λ _. h.1)
@@ -127,25 +113,23 @@ agrees_old s start will run es q own (w ∷ ws) l n h = let b = n.0.object in (
 )
 
 -- what is read agrees with the state, where each version is the current one
-pub agrees_state : (s : Shape) (start : List Val) (will : ℕ → Bool) (run es q : List Event) (own : ℕ)
-    (l : LocalState) → length start ≡ s.objects → ReadsNamed s q l.reads → WritesOk s q own l.writes →
-    Agreed s will es l.reads → AgreedOld s will es l.writes →
-    Agrees (map_after start (history s start will run es)) (entry_of s start run l).reads
+pub agrees_state : (s : Shape) (start : List Val) (will : ℕ → Bool) (run es q : List Event) (own : ℕ) (l : LocalState) →
+    length start ≡ s.objects → ReadsNamed s q l.reads → WritesOk s q own l.writes → Agreed s will es l.reads →
+    AgreedOld s will es l.writes → Agrees (map_after start (history s start will run es)) (entry_of s start run l).reads
 agrees_state s start will run es q own l n r w a b =
     agrees-append _ _ _ (agrees_reads s start will run es q l.reads n r a)
     (agrees_old s start will run es q own l.writes n w b)
 
 -- the old versions of the objects written are current until the draw
-pub old_current : (s : Shape) (will : ℕ → Bool) (es : List Event) (own : ℕ) (ws : List Write) → Core s es →
+pub old_current : {s : Shape} {will : ℕ → Bool} {es : List Event} (own : ℕ) (ws : List Write) → Core s es →
     Foretells s will es → drawn s es own ≡ false → (word s es (StatusWord own) ≡ 5 → ⊥) → WritesOk s es own ws →
     AgreedOld s will es ws
-old_current s will es own [] core f d live k = tt
-old_current s will es own (w ∷ ws) core f d live k =
-    (go k.0.here, old_current s will es own ws core f d live k.1)
+old_current own [] core f d live k = tt
+old_current {s = s} {will = will} {es = es} own (w ∷ ws) core f d live k =
+    (go k.0.here, old_current own ws core f d live k.1)
   where
-    go : (word s es (StatusWord own) ≡ 5) ⊎ (at es w.object ≡ w.locator + 1) →
-        version_at s will es w.object ≡ w.old
+    go : (word s es (StatusWord own) ≡ 5) ⊎ (at es w.object ≡ w.locator + 1) → version_at s will es w.object ≡ w.old
     go (inl x) = absurd (live x)
     go (inr x) =
-        current s will es core f w.object k.0.object ∙ ap (meant s will es) x
+        current core f w.object k.0.object ∙ ap (meant s will es) x
         ∙ meant_undrawn s will es w.locator (ap (drawn s es) k.0.owner ∙ d) ∙ k.0.old

@@ -1,19 +1,11 @@
 -- What a caller has committed stays, and is told by its own events alone.
 use Rattle.std.proofs.Common.{◌&&◌, ◌++◌, ◌==◌, ◌∙◌, ◌∷◌, ◌≡◌, ◌⊎◌, List, [], ap, false, inl, inr, map, refl, reverse, subst, sym, true, ℕ}
-use Rattle.std.proofs.lemmas.Bool.{and_left, and_parts, and_right, cases_Bool, eqb-true}
+use Rattle.dstm_core.proofs.Base.{Core, Event, IsPastOf, Val, and_left, and_parts, and_right, cases_Bool, commits_at, entry_at, entry_of, eqb-true, events_of, history_of, is_draw, local, or_zero, will_of}
+use Rattle.dstm_opacity.proofs.Base.{Commit, Draw, Kind, Shape}
 use Rattle.std.proofs.lemmas.List.Elements.{All-nil}
 use Rattle.std.specs.List.{All}
-use Rattle.dstm_model.specs.declared.value.Val.{Val}
 use Rattle.dstm_machines.proofs.Callers as histories
 use Rattle.dstm_machines.proofs.Gathered.{told_none}
-use Rattle.dstm_core.specs.Histories.{commits_at, entry_at, entry_of, is_draw, history_of, will_of}
-use Rattle.dstm_core.specs.Runs.{Core, local}
-use Rattle.dstm_core.specs.State.{or_zero}
-use Rattle.dstm_core.specs.Traces.{IsPastOf, events_of}
-use Rattle.dstm_core.specs.Events.{Event}
-use Rattle.dstm_core.specs.declared.event.Kind.{Kind}
-use Rattle.dstm_core.specs.declared.event.Kind.TheVariants.{Commit, Draw}
-use Rattle.dstm_core.specs.declared.shape.Shape.{Shape}
 use Rattle.dstm_opacity.proofs.Commits.{DrawOf, draw_of}
 use Rattle.dstm_opacity.proofs.Draws.{commit_may}
 use Rattle.dstm_opacity.proofs.Kept.{drawn_entry_stays}
@@ -38,11 +30,10 @@ draws Draw h = refl
 draws k h = absurd (cc)
 
 -- the entry of an attempt that commits is that of its Draw, in each run
-entry_stays : (s : Shape) (start : List Val) (run es : List Event) (e : Event) → IsPastOf (e ∷ es) run → Core s run →
-    (d : DrawOf s es (local s es e.caller)) →
-    entry_of s start run (local s es e.caller)
+entry_stays : {s : Shape} (start : List Val) (run : List Event) {es : List Event} (e : Event) → IsPastOf (e ∷ es) run → Core s run →
+    (d : DrawOf s es (local s es e.caller)) → entry_of s start run (local s es e.caller)
     ≡ entry_of s start (d.draw ∷ d.before) (local s d.before d.draw.caller)
-entry_stays s start run es e p core d =
+entry_stays {s = s} start run {es = es} e p core d =
     sym (entry_same s start run (local s es e.caller) (local s d.before d.draw.caller) d.reads d.writes)
     ∙ subst (λ xs. entry_of s start xs (local s d.before d.draw.caller)
     ≡ entry_of s start (d.draw ∷ d.before) (local s d.before d.draw.caller)) here.whole
@@ -58,8 +49,7 @@ pub same_told : (s : Shape) (start : List Val) (run one es : List Event) → Cor
     IsPastOf es one → (c : ℕ) → done_by s start run es c ≡ done_by s start one es c
 same_told s start run one [] core other p q c = refl
 same_told s start run one (e ∷ es) core other p q c =
-    go
-    (same_told s start run one es core other (past_past es (e ∷ es) run (record { later = e ∷ []; whole = refl }) p)
+    go (same_told s start run one es core other (past_past es (e ∷ es) run (record { later = e ∷ []; whole = refl }) p)
     (past_past es (e ∷ es) one (record { later = e ∷ []; whole = refl }) q) c)
     (cases_Bool ((e.caller == c) && has_committed e))
   where
@@ -67,11 +57,10 @@ same_told s start run one (e ∷ es) core other p q c =
         attempt_of s start run c (local s es c) ≡ attempt_of s start one c (local s es c)
     entry h k =
         let here : Core s (e ∷ es) = core_before s (e ∷ es) run p core in
-        let d = draw_of s es here.0 e.caller
-        (commit_may s (local s es e.caller) e e.kind (is_kind e.kind k) here.1.allowed) in
+        let d = draw_of s es here.0 e.caller (commit_may s (local s es e.caller) e (is_kind e.kind k) here.1.allowed) in
         subst (λ n. attempt_of s start run n (local s es n) ≡ attempt_of s start one n (local s es n)) h
         (ap (λ x. record { caller = e.caller; number = or_zero (local s es e.caller).drawn; entry = x })
-        (entry_stays s start run es e p core d ∙ sym (entry_stays s start one es e q other d)))
+        (entry_stays start run e p core d ∙ sym (entry_stays start one e q other d)))
 
     go : done_by s start run es c ≡ done_by s start one es c →
         ((e.caller == c) && has_committed e ≡ true) ⊎ ((e.caller == c) && has_committed e ≡ false) →

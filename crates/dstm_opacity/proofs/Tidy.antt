@@ -1,16 +1,7 @@
 -- No object is twice among a caller's reads and writes.
-use Rattle.std.proofs.Common.{◌&&◌, ◌++◌, ◌==◌, ◌∙◌, ◌∷◌, ◌≡◌, ◌≢◌, ◌⊎◌, List, None, Option, Some, [], ap, false, inl, inr, is_none, is_some, refl, subst, sym, true, ℕ}
-use Rattle.std.proofs.lemmas.Bool.{and_parts, cases_Bool, cond_both, eqb-false, eqb-true, ne_eqb}
-use Rattle.dstm_core.specs.Rules.{AllowedAs, after, install}
-use Rattle.dstm_core.specs.Runs.{Core, local}
-use Rattle.dstm_core.specs.State.{LocalState, drop_read, given, is_resolved, or_unresolved, read_of, record_resolved, res, write_of}
-use Rattle.dstm_core.specs.Events.{Event}
-use Rattle.dstm_core.specs.declared.event.Kind.{Kind}
-use Rattle.dstm_core.specs.declared.event.Kind.TheVariants.{Begin, Install, Kill, LookHigh, LookNew, LookNumber, LookObj, LookOld, LookOwner, LookRank, LookSelf, LookStatus, Pause, Release, Resume, Validating as ToValidating}
-use Rattle.dstm_core.specs.declared.shape.Shape.{Shape}
-use Rattle.dstm_core.specs.declared.state.Read.{Read}
-use Rattle.dstm_core.specs.declared.state.Resolution.{Resolution}
-use Rattle.dstm_core.specs.declared.state.Write.{Write}
+use Rattle.std.proofs.Common.{◌&&◌, Bool, if◌then◌else◌, ◌++◌, ◌==◌, ◌∙◌, ◌∷◌, ◌≡◌, ◌≢◌, ◌⊎◌, List, None, Option, Some, [], ap, false, inl, inr, is_none, is_some, refl, subst, sym, true, ℕ}
+use Rattle.dstm_core.proofs.Base.{AllowedAs, Core, Event, LocalState, after, and_parts, cases_Bool, cond_both, drop_read, eqb-false, eqb-true, given, install, is_resolved, local, ne_eqb, or_unresolved, read_of, record_resolved, res, write_of}
+use Rattle.dstm_opacity.proofs.Base.{Begin, Install, Kill, Kind, LookHigh, LookNew, LookNumber, LookObj, LookOld, LookOwner, LookRank, LookSelf, LookStatus, Pause, Read, Release, Resolution, Resume, Shape, ToValidating, Write}
 use Rattle.dstm_core.proofs.Static.{callers, has_high, has_owner, has_status, has_version, has_word}
 use Rattle.dstm_opacity.proofs.LastPass.{none_from}
 use Rattle.dstm_core.proofs.Untouched.{unlooked}
@@ -46,17 +37,17 @@ pub record TidyBy (rs : List Read) (ws : List Write) (r : Option Resolution) : T
 abbrev pub Tidy : LocalState → Type 0
 Tidy l = TidyBy l.reads l.writes l.resolution
 
--- no read of an object: neither the first nor the others
+-- none is found: it is not the first, and the others have none
+pub neither : {A : Type 0} (is : Bool) (first : A) (others : Option A) → (if is then Some first else others) ≡ None →
+    (is ≡ false) × (others ≡ None)
+neither true first others h = absurd (cc)
+neither false first others h = (refl, h)
+
 pub read_apart : (o : ℕ) (r : Read) (rs : List Read) → read_of o (r ∷ rs) ≡ None →
     (r.object ≢ o) × (read_of o rs ≡ None)
-read_apart o r rs h = go (cases_Bool (r.object == o))
-  where
-    go : (r.object == o ≡ true) ⊎ (r.object == o ≡ false) → (r.object ≢ o) × (read_of o rs ≡ None)
-    go (inl q) = let z : Some r ≡ None = rw q at h in absurd (cc)
-    go (inr q) = (eqb-false r.object o q, rw q at h)
+read_apart o r rs h = let x = neither (r.object == o) r (read_of o rs) h in (eqb-false r.object o x.0, x.1)
 
-pub read_of-none : (o : ℕ) (r : Read) (rs : List Read) → r.object ≢ o → read_of o rs ≡ None →
-    read_of o (r ∷ rs) ≡ None
+pub read_of-none : (o : ℕ) (r : Read) (rs : List Read) → r.object ≢ o → read_of o rs ≡ None → read_of o (r ∷ rs) ≡ None
 read_of-none o r rs d h = rw (ne_eqb r.object o d) h
 
 write_of-none : (o : ℕ) (ws : List Write) (w : Write) → w.object ≢ o → write_of o ws ≡ None →
@@ -107,11 +98,9 @@ writes_more_once (v ∷ ws) w h n = go (cases_Bool (v.object == w.object)) (λ k
     go : (v.object == w.object ≡ true) ⊎ (v.object == w.object ≡ false) →
         (write_of w.object ws ≡ None → WritesOnce (ws ++ w ∷ [])) → WritesOnce (v ∷ (ws ++ w ∷ []))
     go (inl q) ih = let z : Some v ≡ None = rw q at n in absurd (cc)
-    go (inr q) ih =
-        (write_of-none v.object ws w (λ z. eqb-false v.object w.object q (sym z)) h.0, ih (rw q at n))
+    go (inr q) ih = (write_of-none v.object ws w (λ z. eqb-false v.object w.object q (sym z)) h.0, ih (rw q at n))
 
-reads_more_once : (rs : List Read) (r : Read) → ReadsOnce rs → read_of r.object rs ≡ None →
-    ReadsOnce (rs ++ r ∷ [])
+reads_more_once : (rs : List Read) (r : Read) → ReadsOnce rs → read_of r.object rs ≡ None → ReadsOnce (rs ++ r ∷ [])
 reads_more_once [] r h n = (refl, tt)
 reads_more_once (q ∷ rs) r h n = let k = read_apart r.object q rs n in
     (end_none q.object rs r (λ z. k.0 (sym z)) h.0, reads_more_once rs r h.1 k.1)
@@ -150,8 +139,8 @@ looked l r t i q = record {
   res = ap (λ o. write_of o l.writes) q ∙ res_apart l.writes l.resolution i t.res;
 }
 
-dropped : (rs : List Read) (ws : List Write) (r : Option Resolution) → TidyBy rs ws r → TidyBy rs ws None
-dropped rs ws r t = record { reads = t.reads; writes = t.writes; apart = t.apart; res = tt }
+dropped : {rs : List Read} {ws : List Write} {r : Option Resolution} → TidyBy rs ws r → TidyBy rs ws None
+dropped t = record { reads = t.reads; writes = t.writes; apart = t.apart; res = tt }
 
 installed : (s : Shape) (l : LocalState) → Tidy l → is_some l.resolution ≡ true → Tidy (install s l)
 installed s l t i = record {
@@ -162,8 +151,7 @@ installed s l t i = record {
   res = tt;
 }
 
-tidy_step : (s : Shape) (l : LocalState) (e : Event) (k : Kind) → Tidy l → AllowedAs k s l e →
-    Tidy (after k s l e)
+tidy_step : (s : Shape) (l : LocalState) (e : Event) (k : Kind) → Tidy l → AllowedAs k s l e → Tidy (after k s l e)
 tidy_step s l e Begin t a = record { reads = tt; writes = tt; apart = tt; res = tt }
 tidy_step s l e LookObj t a = record { reads = t.reads; writes = t.writes; apart = t.apart; res = a.2.2 }
 tidy_step s l e LookOwner t a = looked l _ t (has_word l.resolution a.2.2) refl
@@ -173,9 +161,7 @@ tidy_step s l e LookOld t a = looked l _ t (has_status l.resolution 4 a.2.2) ref
 tidy_step s l e LookHigh t a = looked l _ t (has_version l.resolution a.2.2) refl
 tidy_step s l e LookNew t a = looked l _ t (has_high l.resolution a.2.2) refl
 tidy_step s l e Kill t a = looked l _ t (has_owner l.resolution a.2.2) refl
-tidy_step s l e Install t a =
-    cond_both (e.found == e.expected) _ _ Tidy (λ _. installed s l t a.2.2)
-    (λ _. dropped l.reads l.writes l.resolution t)
+tidy_step s l e Install t a = cond_both (e.found == e.expected) _ _ Tidy (λ _. installed s l t a.2.2) (λ _. dropped t)
 tidy_step s l e LookNumber t a =
     let r = record_once l.resolution l.writes l.reads t.reads t.apart t.res in record {
       reads = r.0;

@@ -1,22 +1,10 @@
 -- Of each caller the history has exactly the attempts that its own Commits tell.
 use Rattle.std.proofs.Common.{◌&&◌, ◌*◌, ◌++◌, ◌<◌, ◌==◌, ◌∙◌, ◌∷◌, ◌≡◌, ◌≢◌, ◌≤◌, ◌⊎◌, Bool, List, [], ap, arith, cond, false, inl, inr, refl, subst, sym, true, ℕ}
-use Rattle.std.proofs.lemmas.Bool.{and_left, cases_Bool, cond_both, eq-eqb, eqb-false, ne_eqb}
+use Rattle.dstm_core.proofs.Base.{AllowedAs, Core, Event, IsPastOf, LocalState, StatusWord, Val, after, and_left, at, cases_Bool, commits_at, cond_both, entry_at, entry_of, eq-eqb, eqb-false, given, is_draw, local, ne_eqb, own_attempt, place, will_of, word}
+use Rattle.dstm_opacity.proofs.Base.{Check, Commit, Draw, Drawn, Kind, Outside, Phase, Quit, Shape}
 use Rattle.dstm_machines.proofs.Callers.{parts_are_done}
 use Rattle.dstm_machines.proofs.Gathered.{told_still}
-use Rattle.dstm_model.specs.declared.value.Val.{Val}
-use Rattle.dstm_core.specs.Histories.{commits_at, entry_at, entry_of, is_draw, will_of}
-use Rattle.dstm_core.specs.Rules.{AllowedAs, after}
-use Rattle.dstm_core.specs.Runs.{Core, core as dstm, local}
-use Rattle.dstm_core.specs.State.{LocalState, given, own_attempt}
-use Rattle.dstm_core.specs.Traces.{IsPastOf, at, word}
-use Rattle.dstm_core.specs.Words.{place}
-use Rattle.dstm_core.specs.Words.Word.{StatusWord}
-use Rattle.dstm_core.specs.Events.{Event}
-use Rattle.dstm_core.specs.declared.event.Kind.{Kind}
-use Rattle.dstm_core.specs.declared.event.Kind.TheVariants.{Check, Commit, Draw, Quit}
-use Rattle.dstm_core.specs.declared.shape.Shape.{Shape}
-use Rattle.dstm_core.specs.declared.state.Phase.{Phase}
-use Rattle.dstm_core.specs.declared.state.Phase.TheVariants.{Drawn, Outside}
+use Rattle.dstm_core.specs.Runs.{core as dstm}
 use Rattle.dstm_core.proofs.Columns.{own_in}
 use Rattle.dstm_core.proofs.Places.{put_at}
 use Rattle.dstm_core.proofs.Static.{Static, callers, static}
@@ -42,8 +30,7 @@ not_drawn p h = refl
 
 -- the attempt under way that has drawn and will commit, if there is one
 abbrev pub pending : Shape → List Val → List Event → (ℕ → Bool) → ℕ → LocalState → List Committed
-pending s start run will c l =
-    cond (at_drawn l.phase && will (own_attempt s l)) (attempt_of s start run c l ∷ []) []
+pending s start run will c l = cond (at_drawn l.phase && will (own_attempt s l)) (attempt_of s start run c l ∷ []) []
 
 both_true : (b : Bool) (x : List Committed) → b ≡ true → cond (b && true) x [] ≡ x
 both_true true x h = refl
@@ -78,14 +65,13 @@ record Ends (s : Shape) (will : ℕ → Bool) (l : LocalState) (e : Event) (k : 
   quits : k ≡ Quit → l.phase ≡ Drawn → will (own_attempt s l) ≡ false
 
 -- a Draw makes an attempt pending, its end takes it off, and nothing else changes this
-own_step : (s : Shape) (start : List Val) (run : List Event) (will : ℕ → Bool) (c : ℕ) (l : LocalState) (e : Event)
-    (k : Kind) (xs ds : List Committed) → e.caller ≡ c → Static s c l → AllowedAs k s l e → Ends s will l e k →
-    xs ≡ pending s start run will c l ++ ds →
-    cond (is_draw k && will (own_attempt s l))
+own_step : {s : Shape} (start : List Val) (run : List Event) {will : ℕ → Bool} (c : ℕ) {l : LocalState} {e : Event}
+    {k : Kind} {xs : List Committed} (ds : List Committed) → e.caller ≡ c → Static s c l → AllowedAs k s l e → Ends s will l e k →
+    xs ≡ pending s start run will c l ++ ds → cond (is_draw k && will (own_attempt s l))
     (record { caller = e.caller; number = e.found; entry = entry_of s start run l } ∷ xs) xs
     ≡ pending s start run will c (after k s l e)
     ++ cond (is_commit k && (e.found == 3)) (attempt_of s start run c l ∷ ds) ds
-own_step s start run will c l e Draw xs ds own t a z h = go (cases_Bool (will (own_attempt s l)))
+own_step {s = s} start run {will = will} c {l = l} {e = e} {k = Draw} {xs = xs} ds own t a z h = go (cases_Bool (will (own_attempt s l)))
   where
     before : xs ≡ ds
     before = h ∙ ap (λ ys. ys ++ ds) (none_pending s start run will c l (ap at_drawn a.2.0))
@@ -96,7 +82,7 @@ own_step s start run will c l e Draw xs ds own t a z h = go (cases_Bool (will (o
         ≡ pending s start run will c (after Draw s l e) ++ ds
     go (inl w) = rw (w, own, before) refl
     go (inr w) = rw (w, before) refl
-own_step s start run will c l e Commit xs ds own t a z h = go (cases_Bool (e.found == 3))
+own_step {s = s} start run {will = will} c {l = l} {e = e} {k = Commit} {xs = xs} ds own t a z h = go (cases_Bool (e.found == 3))
   where
     go : (e.found == 3 ≡ true) ⊎ (e.found == 3 ≡ false) →
         xs ≡ pending s start run will c (after Commit s l e) ++ cond (e.found == 3) (attempt_of s start run c l ∷ ds) ds
@@ -106,16 +92,14 @@ own_step s start run will c l e Commit xs ds own t a z h = go (cases_Bool (e.fou
     go (inr q) =
         h ∙ ap (λ ys. ys ++ ds) (dead_pending s start run will c l (z.fails refl q))
         ∙ ap (λ b. cond b (attempt_of s start run c l ∷ ds) ds) (sym q)
-own_step s start run will c l e Quit xs ds own t a z h = go (cases_Bool (at_drawn l.phase))
+own_step {s = s} start run {will = will} c {l = l} {k = Quit} {xs = xs} ds own t a z h = go (cases_Bool (at_drawn l.phase))
   where
     go : (at_drawn l.phase ≡ true) ⊎ (at_drawn l.phase ≡ false) → xs ≡ ds
-    go (inl q) =
-        h ∙ ap (λ ys. ys ++ ds) (dead_pending s start run will c l (z.quits refl (at_drawn_is l.phase q)))
+    go (inl q) = h ∙ ap (λ ys. ys ++ ds) (dead_pending s start run will c l (z.quits refl (at_drawn_is l.phase q)))
     go (inr q) = h ∙ ap (λ ys. ys ++ ds) (none_pending s start run will c l q)
-own_step s start run will c l e Check xs ds own t a z h = h
-own_step s start run will c l e k xs ds own t a z h =
-    h ∙ ap (λ ys. ys ++ ds)
-    (none_pending s start run will c l (not_drawn l.phase before)
+own_step start run c {k = Check} ds own t a z h = h
+own_step {s = s} start run {will = will} c {l = l} {e = e} {k = k} ds own t a z h =
+    h ∙ ap (λ ys. ys ++ ds) (none_pending s start run will c l (not_drawn l.phase before)
     ∙ sym (none_pending s start run will c (after k s l e) (not_drawn (after k s l e).phase now)))
   where
     before : l.phase ≡ Drawn → ⊥
@@ -142,23 +126,21 @@ aims s l e Quit q a = a.0
 aims s l e k (inl q) a = absurd (cc)
 aims s l e k (inr q) a = absurd (cc)
 
-commit_puts : (s : Shape) (l : LocalState) (e : Event) (k : Kind) → k ≡ Commit → AllowedAs k s l e →
+commit_puts : (s : Shape) (l : LocalState) (e : Event) {k : Kind} → k ≡ Commit → AllowedAs k s l e →
     (l.phase ≡ Drawn) × (e.put ≡ cond (e.found == 3) 4 e.found)
-commit_puts s l e Commit q a = (a.2.0, a.1.1)
-commit_puts s l e k q a = absurd (cc)
+commit_puts s l e {k = Commit} q a = (a.2.0, a.1.1)
+commit_puts s l e q a = absurd (cc)
 
-quit_puts : (s : Shape) (l : LocalState) (e : Event) (k : Kind) → k ≡ Quit → AllowedAs k s l e →
+quit_puts : (s : Shape) (l : LocalState) (e : Event) {k : Kind} → k ≡ Quit → AllowedAs k s l e →
     e.put ≡ cond (e.found == given l.phase) 5 e.found
-quit_puts s l e Quit q a = a.1.1
-quit_puts s l e k q a = absurd (cc)
+quit_puts s l e {k = Quit} q a = a.1.1
+quit_puts s l e q a = absurd (cc)
 
 -- a status that is finished after an event is so in the run
 later_is : (s : Shape) (run es : List Event) (e : Event) (a n : ℕ) → IsPastOf (e ∷ es) run → Core s run →
-    a < s.callers * s.attempts → 4 ≤ n → word s (e ∷ es) (StatusWord a) ≡ n →
-    will_of s run a ≡ (n == 4)
+    a < s.callers * s.attempts → 4 ≤ n → word s (e ∷ es) (StatusWord a) ≡ n → will_of s run a ≡ (n == 4)
 later_is s run es e a n p core lt big h =
-    ap (λ m. m == 4)
-    (subst (λ xs. word s xs (StatusWord a) ≡ n) p.whole
+    ap (λ m. m == 4) (subst (λ xs. word s xs (StatusWord a) ≡ n) p.whole
     (finished_stays s p.later (e ∷ es) a (subst (Core s) (sym p.whole) core) lt (let y = h in omega arith) ∙ h))
 
 -- a caller's own attempt, at one of its events that are aimed at its status
@@ -191,7 +173,7 @@ ends s run es e p core = record { commits = commits; fails = fails; quits = quit
 
     commits : e.kind ≡ Commit → e.found == 3 ≡ true → will_of s run (own_attempt s (local s es e.caller)) ≡ true
     commits k q =
-        let puts = commit_puts s (local s es e.caller) e e.kind k here.1.allowed in
+        let puts = commit_puts s (local s es e.caller) e k here.1.allowed in
         let x = at_own s es e here (λ y. let z = puts.0 in cc)
         (aims s (local s es e.caller) e e.kind (inl k) here.1.allowed) in
         later_is s run es e (own_attempt s (local s es e.caller)) 4 p core x.below (omega arith)
@@ -201,7 +183,7 @@ ends s run es e p core = record { commits = commits; fails = fails; quits = quit
     fails k q = go x.found
       where
         puts : ((local s es e.caller).phase ≡ Drawn) × (e.put ≡ cond (e.found == 3) 4 e.found)
-        puts = commit_puts s (local s es e.caller) e e.kind k here.1.allowed
+        puts = commit_puts s (local s es e.caller) e k here.1.allowed
 
         x : AtOwn s es e
         x = at_own s es e here (λ y. let z = puts.0 in cc)
@@ -220,7 +202,7 @@ ends s run es e p core = record { commits = commits; fails = fails; quits = quit
         later_is s run es e (own_attempt s (local s es e.caller)) 5 p core x.below (omega arith) (x.now ∙ go x.found)
       where
         puts : e.put ≡ cond (e.found == given (local s es e.caller).phase) 5 e.found
-        puts = quit_puts s (local s es e.caller) e e.kind k here.1.allowed
+        puts = quit_puts s (local s es e.caller) e k here.1.allowed
 
         x : AtOwn s es e
         x = at_own s es e here (λ y. cc) (aims s (local s es e.caller) e e.kind (inr k) here.1.allowed)
@@ -254,8 +236,7 @@ told s start run es core past c =
         ++ done_by s start run (e ∷ es) e.caller
     own e es p ih =
         let here : Core s (e ∷ es) = core_before s (e ∷ es) run p core in
-        own_step s start run (will_of s run) e.caller (local s es e.caller) e e.kind
-        (by_caller e.caller (committed s start (will_of s run) run es)) (done_by s start run es e.caller) refl
+        own_step start run e.caller (done_by s start run es e.caller) refl
         (static s es here.0 e.caller) here.1.allowed (ends s run es e p core) ih
         ∙ ap (λ b. pending s start run (will_of s run) e.caller (after e.kind s (local s es e.caller) e)
         ++ cond (b && (is_commit e.kind && (e.found == 3)))

@@ -1,21 +1,7 @@
 -- The values of settled versions stay, and with them the entries of attempts that have drawn.
 use Rattle.std.proofs.Common.{◌++◌, ◌-◌, ◌<◌, ◌==◌, ◌∙◌, ◌∷◌, ◌≡◌, ◌≢◌, ◌⊎◌, Bool, List, [], ap, arith, false, inl, inr, length, refl, slice_get, subst, suc, sym, true, zero, ℕ}
-use Rattle.std.proofs.lemmas.Bool.{cases_Bool, eqb-false}
-use Rattle.dstm_model.specs.declared.value.Val.{Val}
-use Rattle.dstm_core.specs.Histories.{drawn, entry_of, new_value, new_values, old_values, read_values, version_value}
-use Rattle.dstm_core.specs.Rules.{AllowedAs}
-use Rattle.dstm_core.specs.Runs.{Core, local}
-use Rattle.dstm_core.specs.State.{LocalState, given, next_write, or_write, own_attempt}
-use Rattle.dstm_core.specs.Traces.{word}
-use Rattle.dstm_core.specs.Words.Word.{HighWord, LowWord, OldWord, OwnerWord, StatusWord}
-use Rattle.dstm_core.specs.Events.{Event}
-use Rattle.dstm_core.specs.declared.event.Kind.{Kind}
-use Rattle.dstm_core.specs.declared.event.Kind.TheVariants.{PutHigh, PutNew}
-use Rattle.dstm_core.specs.declared.shape.Shape.{Shape}
-use Rattle.dstm_core.specs.declared.state.Phase.{Phase}
-use Rattle.dstm_core.specs.declared.state.Phase.TheVariants.{Outside, Putting, Running}
-use Rattle.dstm_core.specs.declared.state.Read.{Read}
-use Rattle.dstm_core.specs.declared.state.Write.{Write}
+use Rattle.dstm_core.proofs.Base.{AllowedAs, Core, Event, HighWord, LocalState, LowWord, OldWord, OwnerWord, StatusWord, Val, cases_Bool, drawn, entry_of, eqb-false, given, local, new_value, new_values, next_write, old_values, or_write, own_attempt, read_values, version_value, word}
+use Rattle.dstm_opacity.proofs.Base.{Kind, Outside, Phase, PutHigh, PutNew, Putting, Read, Running, Shape, Write}
 use Rattle.dstm_core.proofs.Basic.{old_stays, owner_stays}
 use Rattle.dstm_core.proofs.Columns.{Used, stays, step, used_more}
 use Rattle.dstm_core.proofs.Statuses.{own_status}
@@ -31,18 +17,17 @@ puts_value PutHigh = true
 puts_value k = false
 
 -- the new words of a locator whose owner has committed stay
-low_stays : (s : Shape) (es : List Event) (e : Event) (m : ℕ) → Core s (e ∷ es) → Used s es m →
+low_stays : {s : Shape} {es : List Event} (e : Event) {m : ℕ} → Core s (e ∷ es) → Used s es m →
     (puts_value e.kind ≡ true → m ≡ (next_write (local s es e.caller)).locator → ⊥) →
     new_value s (e ∷ es) m ≡ new_value s es m
 unfolding puts_value
-low_stays s es e m core u h =
-    let a = stays s es e (LowWord m) (step s es e core) u.below (λ x. h (ap puts_value x.kind) x.number) in
-    let b = stays s es e (HighWord m) (step s es e core) u.below (λ x. h (ap puts_value x.kind) x.number) in cc
+low_stays {s = s} {es = es} e {m = m} core u h =
+    let a = stays (LowWord m) (step s es e core) u.below (λ x. h (ap puts_value x.kind) x.number) in
+    let b = stays (HighWord m) (step s es e core) u.below (λ x. h (ap puts_value x.kind) x.number) in cc
 
 -- where a part of a new value may be put
 pub put_new_may : (s : Shape) (l : LocalState) (e : Event) (k : Kind) → puts_value k ≡ true →
-    AllowedAs k s l e →
-    ((l.phase ≡ Running) ⊎ (l.phase ≡ Putting)) × (l.written < length l.writes)
+    AllowedAs k s l e → ((l.phase ≡ Running) ⊎ (l.phase ≡ Putting)) × (l.written < length l.writes)
 unfolding puts_value
 put_new_may s l e PutNew q a = (inr a.2.0, a.2.2)
 put_new_may s l e PutHigh q a = (a.2.0, a.2.2)
@@ -74,8 +59,7 @@ put_new_owner s es e core k = let may = put_new_may s (local s es e.caller) e e.
 committed_low : (s : Shape) (es : List Event) (e : Event) (v : ℕ) → Core s (e ∷ es) → Settled s es v → 0 < v →
     new_value s (e ∷ es) (v - 1) ≡ new_value s es (v - 1)
 committed_low s es e v core (inl z) p = absurd (omega arith)
-committed_low s es e v core (inr z) p =
-    low_stays s es e (v - 1) core z.1 (λ k q. go k (put_new_owner s es e core k) q)
+committed_low s es e v core (inr z) p = low_stays e core z.1 (λ k q. go k (put_new_owner s es e core k) q)
   where
     go : puts_value e.kind ≡ true →
         ((local s es e.caller).phase ≢ Outside) × (given (local s es e.caller).phase ≡ 1)
@@ -106,8 +90,7 @@ pub read_values_stay : (s : Shape) (start : List Val) (es : List Event) (e : Eve
 read_values_stay s start es e [] core h = refl
 read_values_stay s start es e (r ∷ rs) core h =
     let v = value_stays s start es e r.object r.version core
-    (named_settled s es r.word r.version (old_settled s es core.0) h.1) in let t =
-    read_values_stay s start es e rs core h.2 in cc
+    (named_settled (old_settled s es core.0) h.1) in let t = read_values_stay s start es e rs core h.2 in cc
 
 -- what stays of a write for good
 pub record WriteKept (s : Shape) (es : List Event) (own : ℕ) (w : Write) : Type 0 where
@@ -133,11 +116,10 @@ pub kept_more : (s : Shape) (es : List Event) (e : Event) (own : ℕ) (ws : List
 kept_more s es e own [] core h = tt
 kept_more s es e own (w ∷ ws) core h = (
   record {
-    used = used_more s es e w.locator h.0.used;
+    used = used_more e h.0.used;
     owner = owner_stays s es e w.locator
         (step s es e core) h.0.used ∙ h.0.owner;
-    old =
-        old_stays s es e w.locator (step s es e core) h.0.used ∙ h.0.old;
+    old = old_stays s es e w.locator (step s es e core) h.0.used ∙ h.0.old;
   },
   kept_more s es e own ws core h.1,
 )
@@ -155,8 +137,7 @@ new_values_stay : (s : Shape) (es : List Event) (e : Event) (own : ℕ) (ws : Li
     new_values s (e ∷ es) ws ≡ new_values s es ws
 new_values_stay s es e own [] core h d = refl
 new_values_stay s es e own (w ∷ ws) core h d =
-    let v = low_stays s es e w.locator core h.0.used
-    (λ k q. d k
+    let v = low_stays e core h.0.used (λ k q. d k
     (sym (put_new_owner s es e core k).2 ∙ ap (λ m. word s es (OwnerWord m)) (sym q) ∙ h.0.owner)) in
     let t = new_values_stay s es e own ws core h.1 d in cc
 

@@ -1,24 +1,7 @@
 -- Commits: what stands before the Commit.
 use Rattle.std.proofs.Common.{◌≡◌, ◌⊎◌, ℕ, ◌∙◌, Bool, true, List, [], ◌∷◌, Some, None, refl, ap, sym, subst, inl, inr}
-use Rattle.dstm_core.specs.Events.{Event}
-use Rattle.dstm_core.specs.Kinds.{is_one_of}
-use Rattle.dstm_core.specs.declared.event.Kind.{Kind}
-use Rattle.dstm_core.specs.declared.event.Kind.TheVariants.{Rank, LookNumber, Check, LookSelf, PutHigh, PutNew, Validating as ToValidating, Draw, Commit, Quit}
-use Rattle.dstm_core.specs.declared.shape.Manager.{Manager}
-use Rattle.dstm_core.specs.declared.shape.Shape.{Shape}
-use Rattle.dstm_core.specs.declared.state.Phase.{Phase}
-use Rattle.dstm_core.specs.declared.state.Phase.TheVariants.{Drawn}
-use Rattle.dstm_core.specs.Rules.{after}
-use Rattle.dstm_core.specs.State.{LocalState}
-use Rattle.dstm_model.specs.declared.value.Val.{Val}
-use Rattle.rand_pcg.specs.Lcg.{Lcg}
-use Rattle.dstm_order.specs.Calls.{Obeys, state_after, effort_of, newest_of, due_after}
-use Rattle.dstm_order.specs.Efforts.{Effort}
-use Rattle.dstm_order.specs.Order.{Due, next, in_putting, in_pass, in_checks}
-use Rattle.dstm_order.specs.Order.Due.{Step}
-use Rattle.dstm_order.specs.Passes.{EveryCommitIsValidated}
-use Rattle.dstm_order.specs.Tasks.Task.{Doing}
-use Rattle.dstm_order.specs.Tasks.Work.{Committing}
+use Rattle.dstm_core.proofs.Base.{Event, LocalState, Val, after, is_one_of}
+use Rattle.dstm_order.proofs.Base.{Check, Commit, Committing, Doing, Draw, Drawn, Due, Effort, EveryCommitIsValidated, Kind, Lcg, LookNumber, LookSelf, Manager, Obeys, Phase, PutHigh, PutNew, Quit, Rank, Shape, Step, ToValidating, due_after, effort_of, in_checks, in_pass, in_putting, newest_of, next, state_after}
 use Rattle.dstm_order.proofs.Rows.{doing_by, is_due_of, is_test, kind_of_due, pass_by, checking_by, checks_by, putting_by, put_by, passed_by}
 use Rattle.dstm_order.proofs.Validations.{Chain, GoesOn, goes_on, due_kind, NoTest, no_test, row_tests, first_no, test_goes, chain_none, chain_more, chain_ends, commit_is}
 
@@ -26,8 +9,7 @@ use Rattle.dstm_order.proofs.Validations.{Chain, GoesOn, goes_on, due_kind, NoTe
 
 -- the kinds of event that a commit may make
 abbrev in_commit : Kind → Bool
-in_commit =
-    is_one_of (PutHigh ∷ PutNew ∷ ToValidating ∷ Draw ∷ Check ∷ LookSelf ∷ Rank ∷ Commit ∷ Quit ∷ [])
+in_commit = is_one_of (PutHigh ∷ PutNew ∷ ToValidating ∷ Draw ∷ Check ∷ LookSelf ∷ Rank ∷ Commit ∷ Quit ∷ [])
 
 abbrev InCommit : Due → Type 0
 InCommit d = is_due_of in_commit d ≡ true
@@ -86,8 +68,8 @@ module _ (v : ℕ → Val) where
       InDrawn k (state_after s l es).phase → DrawChain s l g es
   draw_back s l g [] k n obeys was here =
       let t = drawn_test k l.phase here in
-      let on = goes_on (Committing v) s None l (effort_of s l g []) (Step k n) was (test_goes k n t) in
-      absurd (no_test k (in_putting v l) n t on.table (first_no (Committing v) l))
+      let on = goes_on (Committing v) s None l (effort_of s l g []) was (test_goes k n t) in
+      absurd (no_test k n t on.table (first_no (Committing v) l))
   draw_back s l g (e ∷ es) k n obeys was here =
       go (λ m o d p. draw_back s l g es Check m o d p)
       (row_tests e.kind e (Committing v) s.manager new (effort_of s l g (e ∷ es)))
@@ -102,7 +84,7 @@ module _ (v : ℕ → Val) where
       t = drawn_test k new.phase here
 
       on : GoesOn (Committing v) s (Some e) new (effort_of s l g (e ∷ es)) (Step k n)
-      on = goes_on (Committing v) s (Some e) new (effort_of s l g (e ∷ es)) (Step k n) was (test_goes k n t)
+      on = goes_on (Committing v) s (Some e) new (effort_of s l g (e ∷ es)) was (test_goes k n t)
 
       row_at : (j : Kind) → e.kind ≡ j → next e.kind e (Committing v) s.manager new (effort_of s l g (e ∷ es))
           ≡ next j e (Committing v) s.manager new (effort_of s l g (e ∷ es))
@@ -122,24 +104,19 @@ module _ (v : ℕ → Val) where
           let is : new ≡ after Check s old e = ap (λ k. after k s old e) q in
           let phase : new.phase ≡ old.phase = ap (λ (l : LocalState). l.phase) is in
           let drawn : new.phase ≡ Drawn = is_drawn k new.phase new n here (sym (row_at Check q) ∙ on.table) in
-          let due_then = due_kind (due_after (Doing (Committing v)) s l g es) e Check obeys.1 q in
+          let due_then = due_kind (due_after (Doing (Committing v)) s l g es) e obeys.1 q in
           let before = back due_then.0 obeys.0 due_then.1 (inr (refl, sym phase ∙ drawn)) in
-          let was_on =
-          goes_on (Committing v) s (newest_of es) old (effort_of s l g es) (Step Check due_then.0) due_then.1 refl in
-          chain_more Draw Commit (λ (l : LocalState). l.drawn) s l (Committing v) g e es due_then.0 commit_is before q
-          was_on.table on.agreed (ap (λ (l : LocalState). l.drawn) is)
+          let was_on = goes_on (Committing v) s (newest_of es) old (effort_of s l g es) due_then.1 refl in
+          chain_more e due_then.0 commit_is before q was_on.table on.agreed (ap (λ (l : LocalState). l.drawn) is)
           (row_at Check q ∙ ap (λ p. in_checks p new) drawn)
       go back (inr (inr (inl q))) =
           let is : new ≡ after Draw s old e = ap (λ k. after k s old e) q in
-          chain_none Draw Commit (λ (l : LocalState). l.drawn) s l (Committing v) g e es q
+          chain_none Commit (λ (l : LocalState). l.drawn) s l (Committing v) g e es q
           (ap (λ (l : LocalState). l.checked) is) (ap (λ (l : LocalState). l.drawn) is) (row_at Draw q)
-      go back (inr (inr (inr none))) = absurd (no_test k _ n t on.table none)
+      go back (inr (inr (inr none))) = absurd (no_test k n t on.table none)
 
 pub every_commit : EveryCommitIsValidated
 every_commit v s l g e es obeys q =
-    let due_then = due_kind (due_after (Doing (Committing v)) s l g es) e Commit obeys.1 q in
-    let on =
-    goes_on (Committing v) s (newest_of es) (state_after s l es) (effort_of s l g es) (Step Commit due_then.0)
-    due_then.1 refl in
-    chain_ends Draw Commit (λ (l : LocalState). l.drawn) s l (Committing v) g e es due_then.0 commit_is
-    (draw_back v s l g es Commit due_then.0 obeys.0 due_then.1 (inl refl)) q on.table
+    let due_then = due_kind (due_after (Doing (Committing v)) s l g es) e obeys.1 q in
+    let on = goes_on (Committing v) s (newest_of es) (state_after s l es) (effort_of s l g es) due_then.1 refl in
+    chain_ends e due_then.0 commit_is (draw_back v s l g es Commit due_then.0 obeys.0 due_then.1 (inl refl)) q on.table

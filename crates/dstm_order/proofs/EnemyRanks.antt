@@ -1,13 +1,8 @@
 -- The ranks of enemies.
 use Rattle.std.proofs.Common.{◌≡◌, List, inl, inr, refl, sym, ℕ}
-use Rattle.dstm_core.specs.Events.{Event}
-use Rattle.dstm_core.specs.Runs.{Core, local}
-use Rattle.dstm_core.specs.State.{or_zero, res}
-use Rattle.dstm_core.specs.declared.shape.Manager.{Manager}
-use Rattle.dstm_core.specs.declared.shape.Manager.TheVariants.{Greedy, Karma, Polka, Polite}
-use Rattle.dstm_core.specs.declared.shape.Shape.{Shape}
+use Rattle.dstm_core.proofs.Base.{Core, Event, local, or_zero, res}
 use Rattle.dstm_core.proofs.SmallRanks.{found_small_rank}
-use Rattle.dstm_managers.specs.Meetings.{IsRank}
+use Rattle.dstm_order.proofs.Base.{Greedy, IsRank, Karma, Manager, Polite, Polka, Shape}
 
 -- a rank that was found is one that an attempt can have
 pub found_is_rank : (s : Shape) (es : List Event) → Core s es → (c : ℕ) →

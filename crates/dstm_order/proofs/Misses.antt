@@ -1,17 +1,7 @@
 -- A call counts its exchanges that failed, those on the own status aside.
-use Rattle.std.proofs.Common.{◌≡◌, ◌+◌, ◌==◌, ◌∙◌, Bool, true, false, not, [], ◌∷◌, refl, ap}
-use Rattle.std.specs.Prelude.{if◌then◌else◌}
-use Rattle.std.proofs.lemmas.Bool.{cond_both}
-use Rattle.dstm_core.specs.Events.{Event}
-use Rattle.dstm_core.specs.declared.event.Kind.{Kind}
-use Rattle.dstm_core.specs.declared.event.Kind.TheVariants.{LookStatus, Install, Kill}
-use Rattle.dstm_core.specs.declared.shape.Manager.{Manager}
-use Rattle.dstm_core.specs.declared.state.Phase.{Phase}
-use Rattle.dstm_core.specs.declared.state.Phase.TheVariants.{Paused}
-use Rattle.dstm_core.specs.State.{LocalState}
-use Rattle.dstm_order.specs.Calls.{state_after, effort_of}
-use Rattle.dstm_order.specs.Passes.{is_miss, EveryMissCounts}
-use Rattle.dstm_order.specs.Efforts.{Effort, effort_after, is_turn, turn_in, turn, turns_of, chosen, when_asked}
+use Rattle.std.proofs.Common.{◌≡◌, ◌+◌, ◌==◌, ◌∙◌, Bool, true, false, not, [], ◌∷◌, refl, ap, if◌then◌else◌}
+use Rattle.dstm_core.proofs.Base.{Event, LocalState, cond_both}
+use Rattle.dstm_order.proofs.Base.{Effort, EveryMissCounts, Install, Kill, Kind, LookStatus, Manager, Paused, Phase, chosen, effort_after, effort_of, is_miss, is_turn, state_after, turn, turn_in, turns_of, when_asked}
 
 exchange_missed : (c : Effort) (e : Event) →
     (if e.found == e.expected then c else record c { missed = c.missed + 1 }).missed

@@ -1,27 +1,7 @@
 -- Opens: how a call that opens an object ends.
-use Rattle.std.proofs.Common.{◌≡◌, ◌⊎◌, ℕ, ◌+◌, ◌==◌, ◌||◌, ◌∙◌, Bool, true, false, not, List, [], ◌∷◌, Some, None, refl, ap, sym, subst, inl, inr, min}
-use Rattle.std.specs.Prelude.{Option, if◌then◌else◌}
-use Rattle.std.proofs.lemmas.Bool.{cond_both}
-use Rattle.dstm_core.specs.Events.{Event}
-use Rattle.dstm_core.specs.Kinds.{is_one_of}
-use Rattle.dstm_core.specs.declared.event.Kind.{Kind}
-use Rattle.dstm_core.specs.declared.event.Kind.TheVariants.{Enrol, Stamp, Rank, Begin, PutOwner, PutOld, Install, LookNumber, Check, LookSelf, Release, PutHigh, PutNew, Validating as ToValidating, Draw, Commit, Quit, Pause, Resume}
-use Rattle.dstm_core.specs.declared.shape.Manager.{Manager}
-use Rattle.dstm_core.specs.declared.shape.Shape.{Shape}
-use Rattle.dstm_core.specs.declared.shape.TheConstants.{MAX_RANK}
-use Rattle.dstm_core.specs.declared.state.Phase.{Phase}
-use Rattle.dstm_core.specs.declared.state.Phase.TheVariants.{Outside, Running, Paused, Drawn}
-use Rattle.dstm_core.specs.Rules.{after, is_outside}
-use Rattle.dstm_core.specs.State.{LocalState, given}
-use Rattle.rand_pcg.specs.Lcg.{Lcg}
-use Rattle.dstm_order.specs.Calls.{Obeys, state_after, effort_of, due_after}
-use Rattle.dstm_order.specs.Efforts.{Effort, most_missed}
-use Rattle.dstm_order.specs.Order.{Due, IsDue, just, due, next, next_or_first, at_first, when_resolved, when_passed, in_resolving, in_checks, rises}
-use Rattle.dstm_order.specs.Order.Due.{Step, Done}
-use Rattle.dstm_order.specs.Passes.{is_open, EndsInPass, EndsInRank, EveryOpenEndsInPass}
-use Rattle.dstm_order.specs.Tasks.{Work}
-use Rattle.dstm_order.specs.Tasks.Task.{Doing}
-use Rattle.dstm_order.specs.Tasks.Work.{Reading, Writing}
+use Rattle.std.proofs.Common.{◌≡◌, ◌⊎◌, ℕ, ◌+◌, ◌==◌, ◌||◌, ◌∙◌, Bool, true, false, not, List, [], ◌∷◌, Some, None, refl, ap, sym, subst, inl, inr, min, Option, if◌then◌else◌}
+use Rattle.dstm_core.proofs.Base.{Event, LocalState, after, cond_both, given, is_one_of, is_outside}
+use Rattle.dstm_order.proofs.Base.{Begin, Check, Commit, Doing, Done, Draw, Drawn, Due, Effort, EndsInPass, EndsInRank, Enrol, EveryOpenEndsInPass, Install, IsDue, Kind, Lcg, LookNumber, LookSelf, MAX_RANK, Manager, Obeys, Outside, Pause, Paused, Phase, PutHigh, PutNew, PutOld, PutOwner, Quit, Rank, Reading, Release, Resume, Running, Shape, Stamp, Step, ToValidating, Work, Writing, at_first, due, due_after, effort_of, in_checks, in_resolving, is_open, just, most_missed, next, next_or_first, rises, state_after, when_passed, when_resolved}
 use Rattle.dstm_order.proofs.Rows.{doing_by, is_due_of, kind_of_due, resolves, resolves_by, resolving_by, giving_way_by, pass_by, passed_by}
 use Rattle.dstm_order.proofs.Validations.{GoesOn, goes_on, due_kind, every_pass}
 
@@ -29,8 +9,7 @@ use Rattle.dstm_order.proofs.Validations.{GoesOn, goes_on, due_kind, every_pass}
 
 -- the kinds of event that an open may make: those that resolve, install and pass, a Quit, and a Rank
 abbrev in_open : Kind → Bool
-in_open k =
-    not (is_one_of (Enrol ∷ Stamp ∷ Begin ∷ Release ∷ PutHigh ∷ PutNew ∷ ToValidating ∷ Draw ∷ Commit ∷ []) k)
+in_open k = not (is_one_of (Enrol ∷ Stamp ∷ Begin ∷ Release ∷ PutHigh ∷ PutNew ∷ ToValidating ∷ Draw ∷ Commit ∷ []) k)
 
 abbrev IsOpen : Due → Type 0
 IsOpen d = is_due_of in_open d ≡ true
@@ -82,8 +61,7 @@ resolving_early w m l c h =
 
 -- in an open a step follows that is early, unless its newest event is a LookSelf, a Rank or a Quit
 next_early : (k : Kind) (e : Event) (w : Work) (m : Manager) (l : LocalState) (c : Effort) → is_open w ≡ true →
-    in_open k ≡ true → open_phase l.phase ≡ true →
-    (k ≡ LookSelf) ⊎ (k ≡ Rank) ⊎ (k ≡ Quit) ⊎ IsEarly (next k e w m l c)
+    in_open k ≡ true → open_phase l.phase ≡ true → (k ≡ LookSelf) ⊎ (k ≡ Rank) ⊎ (k ≡ Quit) ⊎ IsEarly (next k e w m l c)
 next_early LookSelf e w m l c h i p = inl refl
 next_early Rank e w m l c h i p = inr (inl refl)
 next_early Quit e w m l c h i p = inr (inr (inl refl))
@@ -175,8 +153,7 @@ ends_table : (w : Work) (s : Shape) (newest : Option Event) (l : LocalState) (c 
     due (Doing w) s newest l c ≡ Done → is_outside l.phase ≡ false → next_or_first newest w s.manager l c ≡ Done
 ends_table w s newest l c q live =
     cond_both (is_outside l.phase) Done (if l.stale || c.missed == most_missed then just Quit else table)
-    (λ d. d ≡ Done → table ≡ Done)
-    (λ x _. absurd (cc))
+    (λ d. d ≡ Done → table ≡ Done) (λ x _. absurd (cc))
     (λ _. cond_both (l.stale || c.missed == most_missed) (just Quit) table (λ d. d ≡ Done → table ≡ Done)
     (λ _ p. absurd (cc)) (λ _ p. p)) q
   where
@@ -216,8 +193,8 @@ ends_by_rank : (w : Work) (s : Shape) (l : LocalState) (g : Lcg) (e : Event) (es
     l.phase ≡ Running → Obeys (Doing w) s l g (e ∷ es) → e.kind ≡ Rank → Ends s l (e ∷ es)
 unfolding Ends
 ends_by_rank w s l g e [] h p obeys q =
-    let due_then = due_kind (due_after (Doing w) s l g []) e Rank obeys.1 q in
-    let on = goes_on w s None l (effort_of s l g []) (Step Rank due_then.0) due_then.1 refl in
+    let due_then = due_kind (due_after (Doing w) s l g []) e obeys.1 q in
+    let on = goes_on w s None l (effort_of s l g []) due_then.1 refl in
     let early = first_early w l h in let x = ap is_early on.table in absurd (cc)
 ends_by_rank w s l g e (f ∷ fs) h p obeys q =
     go (next_early f.kind f w s.manager old (effort_of s l g (f ∷ fs)) h
@@ -228,10 +205,10 @@ ends_by_rank w s l g e (f ∷ fs) h p obeys q =
     old = state_after s l (f ∷ fs)
 
     due_then : (n : ℕ) × (due_after (Doing w) s l g (f ∷ fs) ≡ Step Rank n)
-    due_then = due_kind (due_after (Doing w) s l g (f ∷ fs)) e Rank obeys.1 q
+    due_then = due_kind (due_after (Doing w) s l g (f ∷ fs)) e obeys.1 q
 
     on : GoesOn w s (Some f) old (effort_of s l g (f ∷ fs)) (Step Rank due_then.0)
-    on = goes_on w s (Some f) old (effort_of s l g (f ∷ fs)) (Step Rank due_then.0) due_then.1 refl
+    on = goes_on w s (Some f) old (effort_of s l g (f ∷ fs)) due_then.1 refl
 
     put : e.put ≡ due_then.0
     put = (subst (λ d. IsDue d e) due_then.1 obeys.1).1
@@ -263,8 +240,7 @@ ends_by_rank w s l g e (f ∷ fs) h p obeys q =
     go : (f.kind ≡ LookSelf) ⊎ (f.kind ≡ Rank) ⊎ (f.kind ≡ Quit)
         ⊎ IsEarly (next f.kind f w s.manager old (effort_of s l g (f ∷ fs))) → Ends s l (e ∷ f ∷ fs)
     go (inl look) =
-        ends (rises s.manager) refl look
-        (sym (passed_is w s.manager old h)
+        ends (rises s.manager) refl look (sym (passed_is w s.manager old h)
         ∙ sym (ap (λ k. next k f w s.manager old (effort_of s l g (f ∷ fs))) look) ∙ on.table)
     go (inr (inl q)) = absurd (over Rank q refl)
     go (inr (inr (inl q))) = absurd (over Quit q refl)

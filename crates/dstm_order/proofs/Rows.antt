@@ -1,26 +1,9 @@
 -- A fact of what is due, from the same fact of each event that a row of the table of steps names.
-use Rattle.std.proofs.Common.{◌&&◌, ◌==◌, ◌||◌, ◌≡◌, ◌∷◌, [], Bool, Option, Some, None, is_none, length, nat_lt, not, refl, true, ℕ}
-use Rattle.std.proofs.lemmas.Bool.{cond_both}
-use Rattle.dstm_core.specs.State.{LocalState, is_live, is_resolved, next_write, res, version}
+use Rattle.std.proofs.Common.{◌&&◌, ◌==◌, ◌||◌, ◌≡◌, ◌∷◌, [], Bool, Option, Some, None, is_none, length, nat_lt, not, refl, true, ℕ, false, if◌then◌else◌}
+use Rattle.dstm_core.proofs.Base.{Event, LocalState, Val, cond_both, is_live, is_one_of, is_outside, is_resolved, next_write, res, version}
 use Rattle.dstm_core.proofs.Untouched.{is_look}
-use Rattle.dstm_core.specs.Events.{Event}
-use Rattle.dstm_core.specs.Kinds.{is_one_of}
-use Rattle.dstm_core.specs.declared.event.Kind.{Kind}
-use Rattle.dstm_core.specs.declared.event.Kind.TheVariants.{Begin, Check, Commit, Draw, Enrol, Install, Kill, LookHigh, LookNew, LookNumber, LookObj, LookOld, LookOwner, LookRank, LookSelf, LookStatus, Pause, PutHigh, PutNew, PutOld, PutOwner, Quit, Rank, Release, Resume, Stamp, Validating as ToValidating}
-use Rattle.dstm_core.specs.declared.shape.Manager.{Manager}
-use Rattle.dstm_core.specs.declared.shape.Shape.{Shape}
-use Rattle.dstm_core.specs.Rules.{is_outside}
-use Rattle.dstm_core.specs.declared.state.Phase.{Phase}
-use Rattle.dstm_core.specs.declared.state.Phase.TheVariants.{Drawn, Paused}
-use Rattle.dstm_managers.specs.declared.decider.Choice.{Choice}
+use Rattle.dstm_order.proofs.Base.{Begin, Check, Choice, Commit, Committing, Doing, Done, Draw, Drawn, Due, Effort, Enrol, Install, IsDue, Kill, Kind, LookHigh, LookNew, LookNumber, LookObj, LookOld, LookOwner, LookRank, LookSelf, LookStatus, Manager, Pause, Paused, Phase, PutHigh, PutNew, PutOld, PutOwner, Quit, Rank, Reading, Rechecking, Release, Releasing, Resume, Shape, Stamp, Step, ToValidating, Work, Writing, at_first, chosen, due, enemy_code, has_begun, has_ranks, has_stamps, in_beginning, in_checking, in_checks, in_conflict, in_giving_way, in_pass, in_putting, in_resolving, is_paused, is_same, is_spent, just, most_missed, next, next_or_first, on_choice, rises, when_passed, when_put, when_resolved}
 use Rattle.dstm_managers.specs.declared.decider.Choice.TheVariants as decision
-use Rattle.dstm_model.specs.declared.value.Val.{Val}
-use Rattle.dstm_order.specs.Efforts.{Effort, chosen, most_missed}
-use Rattle.dstm_order.specs.Order.{Due, IsDue, at_first, due, enemy_code, has_ranks, in_checking, in_checks, in_conflict, in_giving_way, in_pass, in_putting, in_resolving, is_paused, is_same, just, next, next_or_first, on_choice, rises, when_passed, when_put, when_resolved}
-use Rattle.dstm_order.specs.Order.Due.{Done, Step}
-use Rattle.dstm_order.specs.Tasks.{Work}
-use Rattle.dstm_order.specs.Tasks.Task.{Doing}
-use Rattle.dstm_order.specs.Tasks.Work.{Reading, Writing, Releasing, Rechecking, Committing}
 
 -- the fact of each event by which an object is resolved
 pub record Resolves (P : Due → Type 0) : Type 0 where
@@ -35,8 +18,7 @@ pub record Resolves (P : Due → Type 0) : Type 0 where
 
 -- the kinds of these events
 abbrev pub resolves : Kind → Bool
-resolves =
-    is_one_of (LookOwner ∷ LookStatus ∷ LookRank ∷ LookOld ∷ LookHigh ∷ LookNew ∷ Kill ∷ Pause ∷ [])
+resolves = is_one_of (LookOwner ∷ LookStatus ∷ LookRank ∷ LookOld ∷ LookHigh ∷ LookNew ∷ Kill ∷ Pause ∷ [])
 
 -- where it is a fact of each event of such a kind
 pub resolves_by : (P : Due → Type 0) → ((k : Kind) → resolves k ≡ true → P (just k)) → Resolves P
@@ -51,15 +33,15 @@ resolves_by P each = record {
   pause = each Pause refl;
 }
 
-pub choice_by : (P : Due → Type 0) (c : Choice) → Resolves P → P (on_choice c)
-choice_by P decision.Kill h = h.kill
-choice_by P (decision.Wait t) h = h.status
-choice_by P decision.GiveWay h = h.pause
+pub choice_by : {P : Due → Type 0} (c : Choice) → Resolves P → P (on_choice c)
+choice_by decision.Kill h = h.kill
+choice_by (decision.Wait t) h = h.status
+choice_by decision.GiveWay h = h.pause
 
-pub conflict_by : (P : Due → Type 0) (m : Manager) (l : LocalState) (f : Effort) → Resolves P → P (in_conflict m l f)
-conflict_by P m l f h =
+pub conflict_by : {P : Due → Type 0} (m : Manager) (l : LocalState) (f : Effort) → Resolves P → P (in_conflict m l f)
+conflict_by {P = P} m l f h =
     cond_both (has_ranks m && is_none (res l).rank) _ _ P (λ _. h.rank) (λ _.
-    cond_both (nat_lt 0 f.left) _ _ P (λ _. h.status) (λ _. choice_by P (chosen m l f) h))
+    cond_both (nat_lt 0 f.left) _ _ P (λ _. h.status) (λ _. choice_by (chosen m l f) h))
 
 pub giving_way_by : (P : Due → Type 0) (l : LocalState) (f : Effort) → P (just Resume) → P (just Quit) →
     P (just LookStatus) → P (in_giving_way l f)
@@ -71,6 +53,17 @@ paused_is : (p : Phase) → is_paused p ≡ true → p ≡ Paused
 paused_is Paused h = refl
 paused_is p h = absurd (cc)
 
+-- of what is due in a call that begins an attempt
+pub beginning_by : (P : Due → Type 0) (s : Shape) (fresh : Bool) (o : Option Event) (l : LocalState) → P Done →
+    P (just Quit) → (is_spent s l ≡ false → has_stamps s.manager && fresh && not l.stamped ≡ true → P (just Stamp)) →
+    (is_spent s l ≡ false → P (Step Rank (if rises s.manager && fresh then 0 else l.rank))) → P (just Begin) →
+    P (in_beginning s fresh o l)
+beginning_by P s fresh o l done quit stamp rank begin =
+    cond_both (has_begun o) _ _ P (λ _. done) (λ _. cond_both (not (is_outside l.phase)) _ _ P (λ _. quit) (λ _.
+    cond_both (is_spent s l) _ _ P (λ _. done) (λ free.
+    cond_both (has_stamps s.manager && fresh && not l.stamped) _ _ P (stamp free) (λ _.
+    cond_both (has_ranks s.manager && not l.ranked) _ _ P (λ _. rank free) (λ _. begin)))))
+
 pub resolving_by : (P : Due → Type 0) (m : Manager) (l : LocalState) (f : Effort) (d : Due) → Resolves P →
     (l.phase ≡ Paused → P (in_giving_way l f)) → P d → P (in_resolving m l f d)
 resolving_by P m l f d h way resolved =
@@ -78,7 +71,7 @@ resolving_by P m l f d h way resolved =
     cond_both (is_resolved (res l)) _ _ P (λ _. resolved) (λ _.
     cond_both (is_none (res l).owner) _ _ P (λ _. h.owner) (λ _.
     cond_both (is_none (res l).status) _ _ P (λ _. h.status) (λ _.
-    cond_both (is_live (enemy_code l)) _ _ P (λ _. conflict_by P m l f h) (λ _.
+    cond_both (is_live (enemy_code l)) _ _ P (λ _. conflict_by m l f h) (λ _.
     cond_both (is_none (version (res l))) _ _ P (λ _. h.old) (λ _.
     cond_both (is_none (res l).high) _ _ P (λ _. h.high) (λ _. h.new)))))))
 
@@ -159,16 +152,16 @@ pub record EachStep (P : Due → Type 0) (w : Work) : Type 0 where
   pub step : (k : Kind) (n : ℕ) → is_step k ≡ true → P (Step k n)
   pub release : (o : ℕ) → w ≡ Releasing o → P (Step Release o)
 
-steps_put : (P : Due → Type 0) (w : Work) (l : LocalState) → EachStep P w → P (when_put w l)
-steps_put P w l h =
+steps_put : {P : Due → Type 0} {w : Work} (l : LocalState) → EachStep P w → P (when_put w l)
+steps_put {P = P} {w = w} l h =
     put_by P w l h.done (h.step ToValidating 0 refl) (λ n. h.step PutHigh n refl) (λ n. h.step PutNew n refl)
 
-pub first_by : (P : Due → Type 0) (w : Work) (l : LocalState) → EachStep P w → P (at_first w l)
-first_by P (Reading o) l h = h.step LookObj o refl
-first_by P (Writing o) l h = h.step LookObj o refl
-first_by P (Releasing o) l h = h.release o refl
-first_by P Rechecking l h = h.step LookNumber 0 refl
-first_by P (Committing v) l h = steps_put P (Committing v) l h
+pub first_by : {P : Due → Type 0} {w : Work} (l : LocalState) → EachStep P w → P (at_first w l)
+first_by {w = (Reading o)} l h = h.step LookObj o refl
+first_by {w = (Writing o)} l h = h.step LookObj o refl
+first_by {w = (Releasing o)} l h = h.release o refl
+first_by {w = Rechecking} l h = h.step LookNumber 0 refl
+first_by {w = (Committing v)} l h = steps_put l h
 
 pub resolved_by : (P : Due → Type 0) (w : Work) → EachStep P w → P (when_resolved w)
 resolved_by P (Reading o) h = h.step LookNumber 0 refl
@@ -176,35 +169,35 @@ resolved_by P (Writing o) h = h.step PutOwner 0 refl
 resolved_by P w h = h.done
 
 -- so it is one of what is due after an event, where it is one of the row that resolves an object, and of the tests
-pub next_by : (P : Due → Type 0) (k : Kind) (e : Event) (w : Work) (m : Manager) (l : LocalState) (f : Effort) →
+pub next_by : {P : Due → Type 0} (k : Kind) (e : Event) {w : Work} (m : Manager) (l : LocalState) (f : Effort) →
     EachStep P w → P (in_resolving m l f (when_resolved w)) →
     ((j : Kind) → is_tested k ≡ true → is_test j ≡ true → P (just j)) → P (next k e w m l f)
-next_by P LookNumber e w m l f h resolving test = pass_by P l (test LookSelf refl refl) (test Check refl refl)
-next_by P Check e w m l f h resolving test =
+next_by {P = P} LookNumber e m l f h resolving test = pass_by P l (test LookSelf refl refl) (test Check refl refl)
+next_by {P = P} Check e m l f h resolving test =
     checks_by P l.phase l (test LookSelf refl refl) (test Commit refl refl) (test Check refl refl)
-next_by P Draw e w m l f h resolving test = checking_by P l (test Commit refl refl) (test Check refl refl)
-next_by P PutOwner e w m l f h resolving test = h.step PutOld 0 refl
-next_by P PutOld e w m l f h resolving test = h.step Install 0 refl
-next_by P Install e w m l f h resolving test =
-    cond_both (e.found == e.expected) _ _ P (λ _. h.step LookNumber 0 refl) (λ _. first_by P w l h)
-next_by P LookSelf e w m l f h resolving test = passed_by P w m l h.done (λ n. h.step Rank n refl)
-next_by P PutHigh e w m l f h resolving test = steps_put P w l h
-next_by P PutNew e w m l f h resolving test = steps_put P w l h
-next_by P ToValidating e w m l f h resolving test = h.step Draw 0 refl
-next_by P Rank e w m l f h resolving test = h.done
-next_by P Release e w m l f h resolving test = h.done
-next_by P Commit e w m l f h resolving test = h.done
-next_by P Quit e w m l f h resolving test = h.done
-next_by P Enrol e w m l f h resolving test = h.done
-next_by P Stamp e w m l f h resolving test = h.done
-next_by P Begin e w m l f h resolving test = h.done
-next_by P k e w m l f h resolving test = resolving
+next_by {P = P} Draw e m l f h resolving test = checking_by P l (test Commit refl refl) (test Check refl refl)
+next_by PutOwner e m l f h resolving test = h.step PutOld 0 refl
+next_by PutOld e m l f h resolving test = h.step Install 0 refl
+next_by {P = P} Install e m l f h resolving test =
+    cond_both (e.found == e.expected) _ _ P (λ _. h.step LookNumber 0 refl) (λ _. first_by l h)
+next_by {P = P} LookSelf e {w = w} m l f h resolving test = passed_by P w m l h.done (λ n. h.step Rank n refl)
+next_by PutHigh e m l f h resolving test = steps_put l h
+next_by PutNew e m l f h resolving test = steps_put l h
+next_by ToValidating e m l f h resolving test = h.step Draw 0 refl
+next_by Rank e m l f h resolving test = h.done
+next_by Release e m l f h resolving test = h.done
+next_by Commit e m l f h resolving test = h.done
+next_by Quit e m l f h resolving test = h.done
+next_by Enrol e m l f h resolving test = h.done
+next_by Stamp e m l f h resolving test = h.done
+next_by Begin e m l f h resolving test = h.done
+next_by k e m l f h resolving test = resolving
 
 pub table_by : (P : Due → Type 0) (o : Option Event) (w : Work) (m : Manager) (l : LocalState) (f : Effort) →
     EachStep P w → P (in_resolving m l f (when_resolved w)) →
     ((j : Kind) → is_test j ≡ true → P (just j)) → P (next_or_first o w m l f)
-table_by P None w m l f h resolving test = first_by P w l h
-table_by P (Some e) w m l f h resolving test = next_by P e.kind e w m l f h resolving (λ j _ q. test j q)
+table_by P None w m l f h resolving test = first_by l h
+table_by P (Some e) w m l f h resolving test = next_by e.kind e m l f h resolving (λ j _ q. test j q)
 
 pub next_resolving : (k : Kind) (e : Event) (w : Work) (m : Manager) (l : LocalState) (f : Effort) →
     is_resolving k ≡ true → next k e w m l f ≡ in_resolving m l f (when_resolved w)

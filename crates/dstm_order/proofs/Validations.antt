@@ -1,24 +1,7 @@
 -- Passes and last validations: what stands before the event that ends one.
-use Rattle.std.proofs.Common.{◌≡◌, ◌≢◌, ◌⊎◌, ℕ, ◌+◌, ◌<◌, ◌==◌, ◌||◌, ◌∙◌, Bool, true, false, not, List, [], ◌∷◌, ◌++◌, length, Some, None, refl, ap, sym, subst, inl, inr, arith, add-one}
-use Rattle.std.specs.Prelude.{Option, if◌then◌else◌, slice_get}
-use Rattle.std.proofs.lemmas.Bool.{cond_both, eqb-true, or_parts}
-use Rattle.dstm_core.specs.Events.{Event}
-use Rattle.dstm_core.specs.declared.event.Kind.{Kind}
-use Rattle.dstm_core.specs.declared.event.Kind.TheVariants.{LookNumber, Check, LookSelf, Draw, Commit, Quit}
-use Rattle.dstm_core.specs.declared.shape.Manager.{Manager}
-use Rattle.dstm_core.specs.declared.shape.Shape.{Shape}
-use Rattle.dstm_core.specs.declared.state.Phase.{Phase}
-use Rattle.dstm_core.specs.declared.state.Phase.TheVariants.{Drawn}
-use Rattle.dstm_core.specs.Rules.{after, is_outside}
-use Rattle.dstm_core.specs.State.{LocalState, next_read, or_read}
-use Rattle.rand_pcg.specs.Lcg.{Lcg}
-use Rattle.dstm_order.specs.Calls.{Obeys, state_after, effort_of, newest_of, due_after}
-use Rattle.dstm_order.specs.Efforts.{Effort, most_missed}
-use Rattle.dstm_order.specs.Order.{Due, IsDue, just, due, next, next_or_first, at_first, when_resolved, in_resolving, in_pass, in_checking, in_checks, is_same}
-use Rattle.dstm_order.specs.Order.Due.{Step, Done}
-use Rattle.dstm_order.specs.Passes.{AreChecks, checks_needed, Validates, EveryPassIsComplete}
-use Rattle.dstm_order.specs.Tasks.{Work}
-use Rattle.dstm_order.specs.Tasks.Task.{Doing}
+use Rattle.std.proofs.Common.{◌≡◌, ◌≢◌, ◌⊎◌, ℕ, ◌+◌, ◌<◌, ◌==◌, ◌||◌, ◌∙◌, Bool, true, false, not, List, [], ◌∷◌, ◌++◌, length, Some, None, refl, ap, sym, subst, inl, inr, arith, add-one, Option, if◌then◌else◌, slice_get}
+use Rattle.dstm_core.proofs.Base.{Event, LocalState, after, cond_both, eqb-true, is_outside, next_read, or_parts, or_read}
+use Rattle.dstm_order.proofs.Base.{AreChecks, Check, Commit, Doing, Done, Draw, Drawn, Due, Effort, EveryPassIsComplete, IsDue, Kind, Lcg, LookNumber, LookSelf, Manager, Obeys, Phase, Quit, Shape, Step, Validates, Work, at_first, checks_needed, due, due_after, effort_of, in_checking, in_checks, in_pass, in_resolving, is_same, just, most_missed, newest_of, next, next_or_first, state_after, when_resolved}
 use Rattle.dstm_order.proofs.Rows.{EachStep, is_step, is_test, resolves, resolves_by, first_by, resolved_by, next_by, giving_way_by, resolving_by, checking_by}
 
 -- ---- the rows in which a check, or the end of some checks, is due
@@ -47,7 +30,7 @@ resolving_no w m l c =
     no k q = cc
 
 pub first_no : (w : Work) (l : LocalState) → NoTest (at_first w l)
-first_no w l = first_by NoTest w l (steps_no w)
+first_no w l = first_by l (steps_no w)
 
 -- such a row is that of a LookNumber, a Check or a Draw
 pub row_tests : (k : Kind) (e : Event) (w : Work) (m : Manager) (l : LocalState) (c : Effort) →
@@ -56,7 +39,7 @@ row_tests LookNumber e w m l c = inl refl
 row_tests Check e w m l c = inr (inl refl)
 row_tests Draw e w m l c = inr (inr (inl refl))
 row_tests k e w m l c =
-    inr (inr (inr (next_by NoTest k e w m l c (steps_no w) (resolving_no w m l c) (λ j tested q. absurd (cc)))))
+    inr (inr (inr (next_by k e m l c (steps_no w) (resolving_no w m l c) (λ j tested q. absurd (cc)))))
 
 -- ---- a call on a live attempt that goes on
 
@@ -70,9 +53,9 @@ goes Done = false
 goes (Step Quit n) = false
 goes (Step k n) = true
 
-pub goes_on : (w : Work) (s : Shape) (newest : Option Event) (l : LocalState) (c : Effort) (d : Due) →
+pub goes_on : (w : Work) (s : Shape) (newest : Option Event) (l : LocalState) (c : Effort) {d : Due} →
     due (Doing w) s newest l c ≡ d → goes d ≡ true → GoesOn w s newest l c d
-goes_on w s newest l c d q h =
+goes_on w s newest l c {d = d} q h =
     cond_both (is_outside l.phase) Done (if l.stale || c.missed == most_missed then just Quit else table) Goal
     (λ _ p. let x = ap goes p in absurd (cc))
     (λ _. cond_both (l.stale || c.missed == most_missed) (just Quit) table Goal
@@ -86,24 +69,22 @@ goes_on w s newest l c d q h =
     Goal x = x ≡ d → GoesOn w s newest l c d
 
 -- an event that was due is of the kind that was
-pub due_kind : (d : Due) (e : Event) (k : Kind) → IsDue d e → e.kind ≡ k → (n : ℕ) × (d ≡ Step k n)
-due_kind (Step j n) e k is q = (n, ap (λ x. Step x n) (sym is.0 ∙ q))
-due_kind Done e k is q = absurd is
+pub due_kind : (d : Due) (e : Event) {k : Kind} → IsDue d e → e.kind ≡ k → (n : ℕ) × (d ≡ Step k n)
+due_kind (Step j n) e is q = (n, ap (λ x. Step x n) (sym is.0 ∙ q))
+due_kind Done e is q = absurd is
 
 -- ---- the checks after an event that finds a number
 
 -- what is due in them
 abbrev row_by : (LocalState → Option ℕ) → Kind → LocalState → Due
-row_by number last l =
-    if l.checked == length l.reads || is_same l.last_pass (number l) then just last else just Check
+row_by number last l = if l.checked == length l.reads || is_same l.last_pass (number l) then just last else just Check
 
 -- where a check is due there, the number is not that of the last pass; where the end is, enough is checked
 check_needed : (number : LocalState → Option ℕ) (last : Kind) (l : LocalState) (n : ℕ) →
     (last ≡ Check → ⊥) → row_by number last l ≡ Step Check n → is_same l.last_pass (number l) ≡ false
 check_needed number last l n other q =
     cond_both (l.checked == length l.reads || is_same l.last_pass (number l)) (just last) (just Check)
-    (λ d. d ≡ Step Check n → is_same l.last_pass (number l) ≡ false)
-    (λ _ p. absurd (other (cc)))
+    (λ d. d ≡ Step Check n → is_same l.last_pass (number l) ≡ false) (λ _ p. absurd (other (cc)))
     (λ r _. (or_parts (l.checked == length l.reads) (is_same l.last_pass (number l)) r).1) q
 
 -- what stands at the end: an event that finds a number, and the checks made since
@@ -124,12 +105,12 @@ pub record Chain (first last : Kind) (number : LocalState → Option ℕ) (s : S
       ≡ row_by number last (state_after s l es)
 
 -- the first of them
-pub chain_none : (first last : Kind) (number : LocalState → Option ℕ) (s : Shape) (l : LocalState) (w : Work) (g : Lcg)
+pub chain_none : {first : Kind} (last : Kind) (number : LocalState → Option ℕ) (s : Shape) (l : LocalState) (w : Work) (g : Lcg)
     (e : Event) (es : List Event) → e.kind ≡ first → (state_after s l (e ∷ es)).checked ≡ 0 →
     number (state_after s l (e ∷ es)) ≡ Some e.found →
     next e.kind e w s.manager (state_after s l (e ∷ es)) (effort_of s l g (e ∷ es))
     ≡ row_by number last (state_after s l (e ∷ es)) → Chain first last number s l w g (e ∷ es)
-chain_none first last number s l w g e es q none found r = record {
+chain_none last number s l w g e es q none found r = record {
   checks = [];
   begin = e;
   before = es;
@@ -145,14 +126,13 @@ chain_none first last number s l w g e es q none found r = record {
 }
 
 -- one check more, which was due and found the word recorded
-pub chain_more : (first last : Kind) (number : LocalState → Option ℕ) (s : Shape) (l : LocalState) (w : Work) (g : Lcg)
-    (e : Event) (es : List Event) (n : ℕ) → (last ≡ Check → ⊥) → Chain first last number s l w g es → e.kind ≡ Check →
+pub chain_more : {first last : Kind} {number : LocalState → Option ℕ} {s : Shape} {l : LocalState} {w : Work} {g : Lcg}
+    (e : Event) {es : List Event} (n : ℕ) → (last ≡ Check → ⊥) → Chain first last number s l w g es → e.kind ≡ Check →
     next_or_first (newest_of es) w s.manager (state_after s l es) (effort_of s l g es) ≡ Step Check n →
-    (state_after s l (e ∷ es)).stale ≡ false →
-    number (state_after s l (e ∷ es)) ≡ number (state_after s l es) →
+    (state_after s l (e ∷ es)).stale ≡ false → number (state_after s l (e ∷ es)) ≡ number (state_after s l es) →
     next e.kind e w s.manager (state_after s l (e ∷ es)) (effort_of s l g (e ∷ es))
     ≡ row_by number last (state_after s l (e ∷ es)) → Chain first last number s l w g (e ∷ es)
-chain_more first last number s l w g e es n other c q was agreed kept r =
+chain_more {last = last} {number = number} {s = s} {l = l} e {es = es} n other c q was agreed kept r =
     let old : LocalState = state_after s l es in
     let new : after e.kind s old e ≡ after Check s old e = ap (λ k. after k s old e) q in
     let stale : not (e.found == (next_read old).word) ≡ false = sym (ap (λ (l : LocalState). l.stale) new) ∙ agreed in
@@ -181,11 +161,11 @@ chain_more first last number s l w g e es n other c q was agreed kept r =
     word = rw (← c.reads, ← c.count) refl
 
 -- once the end is due they are all that are needed
-pub chain_ends : (first last : Kind) (number : LocalState → Option ℕ) (s : Shape) (l : LocalState) (w : Work) (g : Lcg)
-    (e : Event) (es : List Event) (n : ℕ) → (last ≡ Check → ⊥) → Chain first last number s l w g es → e.kind ≡ last →
+pub chain_ends : {first last : Kind} {number : LocalState → Option ℕ} {s : Shape} {l : LocalState} {w : Work} {g : Lcg}
+    (e : Event) {es : List Event} (n : ℕ) → (last ≡ Check → ⊥) → Chain first last number s l w g es → e.kind ≡ last →
     next_or_first (newest_of es) w s.manager (state_after s l es) (effort_of s l g es) ≡ Step last n →
     Validates first last s l (e ∷ es)
-chain_ends first last number s l w g e es n other c q was = record {
+chain_ends {last = last} {number = number} {s = s} {l = l} e {es = es} n other c q was = record {
   end = e;
   checks = c.checks;
   begin = c.begin;
@@ -237,8 +217,8 @@ InPass k p = (k ≡ LookSelf) ⊎ ((k ≡ Check) × (p ≢ Drawn))
 abbrev PassChain : Shape → LocalState → Work → Lcg → List Event → Type 0
 PassChain s l w g es = Chain LookNumber LookSelf (λ (l : LocalState). l.pass) s l w g es
 
-pub no_test : (k : Kind) (d : Due) (n : ℕ) → is_test k ≡ true → d ≡ Step k n → NoTest d → ⊥
-no_test k d n t q none = let x = ap tests q in cc
+pub no_test : (k : Kind) {d : Due} (n : ℕ) → is_test k ≡ true → d ≡ Step k n → NoTest d → ⊥
+no_test k n t q none = let x = ap tests q in cc
 
 in_pass_test : (k : Kind) (p : Phase) → InPass k p → is_test k ≡ true
 in_pass_test k p (inl q) = rw q refl
@@ -266,11 +246,10 @@ pass_back : (w : Work) (s : Shape) (l : LocalState) (g : Lcg) (es : List Event) 
     PassChain s l w g es
 pass_back w s l g [] k n obeys was in_pass =
     let t = in_pass_test k l.phase in_pass in
-    let on = goes_on w s None l (effort_of s l g []) (Step k n) was (test_goes k n t) in
-    absurd (no_test k (at_first w l) n t on.table (first_no w l))
+    let on = goes_on w s None l (effort_of s l g []) was (test_goes k n t) in
+    absurd (no_test k n t on.table (first_no w l))
 pass_back w s l g (e ∷ es) k n obeys was here =
-    go (λ m o d p. pass_back w s l g es Check m o d p)
-    (row_tests e.kind e w s.manager new (effort_of s l g (e ∷ es)))
+    go (λ m o d p. pass_back w s l g es Check m o d p) (row_tests e.kind e w s.manager new (effort_of s l g (e ∷ es)))
   where
     old : LocalState
     old = state_after s l es
@@ -282,7 +261,7 @@ pass_back w s l g (e ∷ es) k n obeys was here =
     t = in_pass_test k new.phase here
 
     on : GoesOn w s (Some e) new (effort_of s l g (e ∷ es)) (Step k n)
-    on = goes_on w s (Some e) new (effort_of s l g (e ∷ es)) (Step k n) was (test_goes k n t)
+    on = goes_on w s (Some e) new (effort_of s l g (e ∷ es)) was (test_goes k n t)
 
     row_at : (j : Kind) → e.kind ≡ j →
         next e.kind e w s.manager new (effort_of s l g (e ∷ es)) ≡ next j e w s.manager new (effort_of s l g (e ∷ es))
@@ -296,18 +275,16 @@ pass_back w s l g (e ∷ es) k n obeys was here =
         ⊎ NoTest (next e.kind e w s.manager new (effort_of s l g (e ∷ es))) → PassChain s l w g (e ∷ es)
     go back (inl q) =
         let is : new ≡ after LookNumber s old e = ap (λ k. after k s old e) q in
-        chain_none LookNumber LookSelf (λ (l : LocalState). l.pass) s l w g e es q
-        (ap (λ (l : LocalState). l.checked) is)
+        chain_none LookSelf (λ (l : LocalState). l.pass) s l w g e es q (ap (λ (l : LocalState). l.checked) is)
         (ap (λ (l : LocalState). l.pass) is) (row_at LookNumber q)
     go back (inr (inl q)) =
         let is : new ≡ after Check s old e = ap (λ k. after k s old e) q in
         let phase : new.phase ≡ old.phase = ap (λ (l : LocalState). l.phase) is in
         let apart : new.phase ≢ Drawn = not_drawn k new.phase new n here (sym (row_at Check q) ∙ on.table) in
-        let due_then = due_kind (due_after (Doing w) s l g es) e Check obeys.1 q in
+        let due_then = due_kind (due_after (Doing w) s l g es) e obeys.1 q in
         let before = back due_then.0 obeys.0 due_then.1 (inr (refl, (λ p. apart (phase ∙ p)))) in
-        let was_on = goes_on w s (newest_of es) old (effort_of s l g es) (Step Check due_then.0) due_then.1 refl in
-        chain_more LookNumber LookSelf (λ (l : LocalState). l.pass) s l w g e es due_then.0 look_is before q
-        was_on.table
+        let was_on = goes_on w s (newest_of es) old (effort_of s l g es) due_then.1 refl in
+        chain_more e due_then.0 look_is before q was_on.table
         on.agreed (ap (λ (l : LocalState). l.pass) is) (row_at Check q ∙ checks_not_drawn new.phase new apart)
     go back (inr (inr (inl q))) =
         let row : in_checking new ≡ Step k n = sym (row_at Draw q) ∙ on.table in
@@ -317,12 +294,10 @@ pass_back w s l g (e ∷ es) k n obeys was here =
         draws : InPass k new.phase → in_checking new ≡ Step k n → new.phase ≡ Drawn → ⊥
         draws (inl x) r d = checking_by (λ d. d ≡ Step k n → ⊥) new (λ y. cc) (λ y. cc) r
         draws (inr x) r d = x.1 d
-    go back (inr (inr (inr none))) = absurd (no_test k _ n t on.table none)
+    go back (inr (inr (inr none))) = absurd (no_test k n t on.table none)
 
 pub every_pass : EveryPassIsComplete
 every_pass w s l g e es obeys q =
-    let due_then = due_kind (due_after (Doing w) s l g es) e LookSelf obeys.1 q in
-    let on = goes_on w s (newest_of es) (state_after s l es) (effort_of s l g es) (Step LookSelf due_then.0)
-    due_then.1 refl in
-    chain_ends LookNumber LookSelf (λ (l : LocalState). l.pass) s l w g e es due_then.0 look_is
-    (pass_back w s l g es LookSelf due_then.0 obeys.0 due_then.1 (inl refl)) q on.table
+    let due_then = due_kind (due_after (Doing w) s l g es) e obeys.1 q in
+    let on = goes_on w s (newest_of es) (state_after s l es) (effort_of s l g es) due_then.1 refl in
+    chain_ends e due_then.0 look_is (pass_back w s l g es LookSelf due_then.0 obeys.0 due_then.1 (inl refl)) q on.table

@@ -1,11 +1,7 @@
 -- Calls of tasks that may come are calls of tasks of which less is said.
 use Rattle.std.proofs.Common.{List, [], ◌∷◌, ℕ}
-use Rattle.rand_pcg.specs.Lcg.{Lcg}
-use Rattle.dstm_core.specs.Events.{Event}
-use Rattle.dstm_core.specs.State.{LocalState, first}
-use Rattle.dstm_core.specs.declared.shape.Shape.{Shape}
-use Rattle.dstm_order.specs.Made.{AreMade, ByCalls, Call, state_by}
-use Rattle.dstm_order.specs.Tasks.{Task}
+use Rattle.dstm_order.proofs.Base.{AreMade, ByCalls, Call, Lcg, Shape, Task, state_by}
+use Rattle.dstm_core.proofs.Base.{Event, LocalState, first}
 
 module _ (May Will : LocalState → Task → Type 0) (implies : (l : LocalState) (t : Task) → May l t → Will l t) where
   pub made_weaker : (s : Shape) (l : LocalState) (g : Lcg) (cs : List Call) → AreMade s l g May cs → AreMade s l g Will cs

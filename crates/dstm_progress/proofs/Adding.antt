@@ -1,31 +1,17 @@
 -- What a call on an attempt adds to what its caller has committed.
 use Rattle.std.proofs.Common.{◌&&◌, ◌++◌, ◌+◌, ◌==◌, ◌∙◌, ◌∷◌, ◌≡◌, ◌≢◌, ◌⊎◌, List, [], add-one, ap, append_assoc, arith, false, inl, inr, length, length-append, refl, subst, sym, true, ℕ}
-use Rattle.std.proofs.lemmas.Bool.{and_parts, cases_Bool, eq-eqb}
+use Rattle.dstm_core.proofs.Base.{Core, Event, IsPastOf, LocalState, Val, after, and_parts, cases_Bool, eq-eqb, events_of, local, nat_tests}
 use Rattle.std.proofs.lemmas.List.Elements.{All-cons, All-nil, filter-append}
 use Rattle.dstm_machines.proofs.Own.{own_first}
 use Rattle.dstm_opacity.specs.Committed.{attempt_of, done_by, has_committed, is_commit}
 use Rattle.dstm_opacity.proofs.Stays.{NoneCommits, call_adds_none, same_told, told_stays}
-use Rattle.dstm_core.specs.Events.{Event}
-use Rattle.dstm_core.specs.Rules.{after}
-use Rattle.dstm_core.specs.Runs.{Core, local}
-use Rattle.dstm_core.specs.State.{LocalState}
-use Rattle.dstm_core.specs.Traces.{IsPastOf, events_of}
-use Rattle.dstm_core.specs.declared.event.Kind.{Kind}
-use Rattle.dstm_core.specs.declared.event.Kind.TheVariants.{Commit}
-use Rattle.dstm_core.specs.declared.shape.Shape.{Shape}
-use Rattle.dstm_core.specs.declared.state.Phase.TheVariants.{Outside}
 use Rattle.dstm_core.proofs.Pasts.{core_past}
-use Rattle.dstm_model.specs.declared.value.Val.{Val}
-use Rattle.dstm_order.specs.Calls.{Obeys, effort_of, newest_of, state_after}
-use Rattle.dstm_order.specs.Tasks.{Work}
-use Rattle.dstm_order.specs.Tasks.Task.{Doing}
+use Rattle.dstm_order.proofs.Base.{Commit, Doing, Kind, Lcg, Obeys, Outside, Shape, Work, effort_of, newest_of, state_after}
 use Rattle.dstm_progress.proofs.Calls.{nothing_due}
 use Rattle.dstm_progress.proofs.Own.{AreAllowed, IsNewest, newest_own}
-use Rattle.rand_pcg.specs.Lcg.{Lcg}
 use Rattle.dstm_progress.specs.Calls.{EveryCommitIsAdded, EveryOtherCallAddsNothing}
 use Rattle.dstm_progress.proofs.OwnEvents.{after_own, allowed_own}
 use Rattle.dstm_progress.proofs.Sound.{Sound, sound_after, sound_before}
-use Rattle.std.proofs.lemmas.Bool.Decides.{nat_tests}
 
 -- ---- a call that does not commit
 

@@ -1,27 +1,10 @@
 -- What calls on an attempt that began as the oldest answer.
 use Rattle.std.proofs.Common.{◌++◌, ◌==◌, ◌&&◌, ◌||◌, ◌∙◌, ◌∷◌, ◌≡◌, ◌≢◌, ◌⊎◌, List, Option, None, Some, [], ap, false, if◌then◌else◌, inl, inr, not, refl, subst, sym, true, ℕ}
-use Rattle.std.proofs.lemmas.Bool.{cases_Bool, or_cases}
-use Rattle.dstm_core.specs.Rules.{AllowedAs, after, is_outside}
-use Rattle.dstm_core.specs.Runs.{Core, local}
-use Rattle.dstm_core.specs.State.{LocalState, given, own_attempt}
-use Rattle.dstm_core.specs.Traces.{at, events_of}
-use Rattle.dstm_core.specs.Words.{place}
-use Rattle.dstm_core.specs.Words.Word.{StatusWord}
-use Rattle.dstm_core.specs.Events.{Event}
-use Rattle.dstm_core.specs.declared.event.Kind.{Kind}
-use Rattle.dstm_core.specs.declared.event.Kind.TheVariants.{Begin, Quit}
-use Rattle.dstm_core.specs.declared.shape.Manager.TheVariants.{Greedy}
-use Rattle.dstm_core.specs.declared.shape.Shape.{Shape}
-use Rattle.dstm_core.specs.declared.state.Phase.TheVariants.{Outside, Paused}
+use Rattle.dstm_core.proofs.Base.{AllowedAs, Core, Event, LocalState, StatusWord, after, at, cases_Bool, events_of, given, is_outside, local, or_cases, own_attempt, place}
 use Rattle.dstm_core.proofs.Pasts.{core_past}
-use Rattle.dstm_order.specs.Calls.{IsCall, answer, answer_of, cause, effort_of, has_quit, is_quit, newest_of, stale_object, state_after}
-use Rattle.dstm_order.specs.Efforts.{Effort, effort_after, no_effort}
-use Rattle.dstm_order.specs.Order.{IsDue, due, next_or_first}
-use Rattle.dstm_order.specs.Tasks.{Work}
-use Rattle.dstm_order.specs.Tasks.Task.{Doing}
+use Rattle.dstm_order.proofs.Base.{Begin, Doing, Effort, Greedy, IsCall, IsDue, Kind, Lcg, Outside, Paused, Quit, Shape, Work, answer, answer_of, cause, due, effort_after, effort_of, has_quit, is_quit, newest_of, next_or_first, no_effort, stale_object, state_after}
 use Rattle.dstm_order.specs.declared.again.Again.{Again}
 use Rattle.dstm_order.specs.declared.again.Again.TheVariants.{Killed, Lost, Stale, Waited}
-use Rattle.rand_pcg.specs.Lcg.{Lcg}
 use Rattle.dstm_progress.specs.Alone.{AreCalls, Made, all_events, generator_after}
 use Rattle.dstm_progress.specs.Oldest.{IsOldest, OldestAnswers}
 use Rattle.dstm_progress.proofs.Calls.{append_assoc_events, inside_phase, left_by, newest_no_quit, nothing_due, quit_not_due}
@@ -38,8 +21,7 @@ pub none_inside : (w : Work) (n : Option Event) (l : LocalState) (f : Effort) (a
 none_inside w n l f a i q = let x : None ≡ Some a = rw (inside_phase l.phase i) at q in cc
 
 pub none_committed : (w : Work) (n : Option Event) (l : LocalState) (f : Effort) (a : Again) →
-    l.committed ≡ true →
-    answer (Doing w) n l f ≡ Some a → ⊥
+    l.committed ≡ true → answer (Doing w) n l f ≡ Some a → ⊥
 none_committed w n l f a c q = go (cases_Bool (is_outside l.phase))
   where
     go : (is_outside l.phase ≡ true) ⊎ (is_outside l.phase ≡ false) → ⊥
@@ -55,39 +37,35 @@ some_cause w n l f a q = go (cases_Bool (is_outside l.phase && not l.committed))
     go (inl o) = let x : Some (cause n l f) ≡ Some a = rw o at q in cc
     go (inr o) = absurd (let x : None ≡ Some a = rw o at q in cc)
 
-pub quit_is : (k : Kind) → k ≡ Quit → is_quit k ≡ true
-quit_is Quit h = refl
-quit_is k h = absurd (cc)
+pub quit_is : {k : Kind} → k ≡ Quit → is_quit k ≡ true
+quit_is {k = Quit} h = refl
+quit_is h = absurd (cc)
 
 -- an attempt that quit, where a read was found stale or too many exchanges failed
-quit_cause : (e : Event) (l : LocalState) (f : Effort) (a : Again) → e.kind ≡ Quit →
+quit_cause : (e : Event) (l : LocalState) (f : Effort) {a : Again} → e.kind ≡ Quit →
     (l.stale ≡ true) ⊎ (f.missed == 64 ≡ true) → cause (Some e) l f ≡ a → (a ≢ Killed) × (a ≢ Waited)
-quit_cause e l f a k h q = go (cases_Bool l.stale) h
+quit_cause e l f {a = a} k h q = go (cases_Bool l.stale) h
   where
     now : (if l.stale then Stale (stale_object l) else if f.missed == 64 then Lost else Waited) ≡ a
-    now = rw (quit_is e.kind k) at q
+    now = rw (quit_is k) at q
 
-    go : (l.stale ≡ true) ⊎ (l.stale ≡ false) → (l.stale ≡ true) ⊎ (f.missed == 64 ≡ true) →
-        (a ≢ Killed) × (a ≢ Waited)
+    go : (l.stale ≡ true) ⊎ (l.stale ≡ false) → (l.stale ≡ true) ⊎ (f.missed == 64 ≡ true) → (a ≢ Killed) × (a ≢ Waited)
     go (inl y) h = let x : Stale (stale_object l) ≡ a = rw y at now in ((λ z. cc), (λ z. cc))
     go (inr y) (inl z) = absurd (cc)
     go (inr y) (inr z) = let x : Lost ≡ a = rw (y, z) at now in ((λ z. cc), (λ z. cc))
 
-pub quit_keeps : (s : Shape) (l : LocalState) (e : Event) (k : Kind) → k ≡ Quit →
-    (after k s l e).stale ≡ l.stale
-quit_keeps s l e Quit q = refl
-quit_keeps s l e k q = absurd (cc)
+pub quit_keeps : (s : Shape) (l : LocalState) (e : Event) {k : Kind} → k ≡ Quit → (after k s l e).stale ≡ l.stale
+quit_keeps s l e {k = Quit} q = refl
+quit_keeps s l e q = absurd (cc)
 
-pub quit_effort : (s : Shape) (l : LocalState) (f : Effort) (e : Event) (k : Kind) → k ≡ Quit →
+pub quit_effort : (s : Shape) (l : LocalState) (f : Effort) (e : Event) {k : Kind} → k ≡ Quit →
     effort_after k s.manager l f e ≡ f
-quit_effort s l f e Quit q = refl
-quit_effort s l f e k q = absurd (cc)
+quit_effort s l f e {k = Quit} q = refl
+quit_effort s l f e q = absurd (cc)
 
 -- why a Quit is due
-quit_why : (s : Shape) (w : Work) (n : Option Event) (l : LocalState) (f : Effort) (e : Event) →
-    l.phase ≢ Outside →
-    l.phase ≢ Paused → IsDue (due (Doing w) s n l f) e → e.kind ≡ Quit → (l.stale ≡ true)
-    ⊎ (f.missed == 64 ≡ true)
+quit_why : (s : Shape) (w : Work) (n : Option Event) (l : LocalState) (f : Effort) (e : Event) → l.phase ≢ Outside →
+    l.phase ≢ Paused → IsDue (due (Doing w) s n l f) e → e.kind ≡ Quit → (l.stale ≡ true) ⊎ (f.missed == 64 ≡ true)
 quit_why s w n l f e i np d k = go (cases_Bool (l.stale || (f.missed == 64)))
   where
     go : (l.stale || (f.missed == 64) ≡ true) ⊎ (l.stale || (f.missed == 64) ≡ false) →
@@ -98,10 +76,8 @@ quit_why s w n l f e i np d k = go (cases_Bool (l.stale || (f.missed == 64)))
 
 -- a call's newest event, where the attempt is untouched before it
 newest_answer : (s : Shape) (w : Work) (n : Option Event) (l : LocalState) (f : Effort) (e : Event)
-    (a : Again) →
-    AllowedAs e.kind s l e → l.phase ≢ Outside → l.phase ≢ Paused →
-    (e.place ≡ place s (StatusWord (own_attempt s l)) → e.found ≡ given l.phase) →
-    IsDue (due (Doing w) s n l f) e →
+    (a : Again) → AllowedAs e.kind s l e → l.phase ≢ Outside → l.phase ≢ Paused →
+    (e.place ≡ place s (StatusWord (own_attempt s l)) → e.found ≡ given l.phase) → IsDue (due (Doing w) s n l f) e →
     answer (Doing w) (Some e) (after e.kind s l e) (effort_after e.kind s.manager l f e) ≡ Some a →
     (a ≢ Killed) × (a ≢ Waited)
 newest_answer s w n l f e a al i np own d q = go (is_outside_now (after e.kind s l e).phase)
@@ -113,35 +89,31 @@ newest_answer s w n l f e a al i np own d q = go (is_outside_now (after e.kind s
     h = effort_after e.kind s.manager l f e
 
     quits : e.kind ≡ Quit → (l.stale ≡ true) ⊎ (f.missed == 64 ≡ true) → (a ≢ Killed) × (a ≢ Waited)
-    quits k (inl x) = quit_cause e m h a k (inl (quit_keeps s l e e.kind k ∙ x)) (some_cause w (Some e) m h a q)
-    quits k (inr x) = quit_cause e m h a k
-        (inr (ap (λ (f : Effort). f.missed == 64) (quit_effort s l f e e.kind k)
+    quits k (inl x) = quit_cause e m h k (inl (quit_keeps s l e k ∙ x)) (some_cause w (Some e) m h a q)
+    quits k (inr x) = quit_cause e m h k
+        (inr (ap (λ (f : Effort). f.missed == 64) (quit_effort s l f e k)
         ∙ x)) (some_cause w (Some e) m h a q)
 
     left : (e.kind ≡ Quit) ⊎ ((after e.kind s l e).committed ≡ true) → (a ≢ Killed) × (a ≢ Waited)
     left (inl k) = quits k (quit_why s w n l f e i np d k)
     left (inr c) = absurd (none_committed w (Some e) m h a c q)
 
-    go : ((after e.kind s l e).phase ≡ Outside) ⊎ ((after e.kind s l e).phase ≢ Outside) →
-        (a ≢ Killed) × (a ≢ Waited)
+    go : ((after e.kind s l e).phase ≡ Outside) ⊎ ((after e.kind s l e).phase ≢ Outside) → (a ≢ Killed) × (a ≢ Waited)
     go (inl o) = left (left_by s l e e.kind al own i o)
     go (inr x) = absurd (none_inside w (Some e) m h a x q)
 
 -- ---- a call on an attempt that began as the oldest
 
-oldest_newest : (s : Shape) (w : Work) (n : Option Event) (f : Effort) (e : Event) (a : Again) (c : ℕ)
-    (es : List Event) →
-    e.caller ≡ c → Core s (e ∷ es) → (local s es c).phase ≢ Outside → Safe s es c →
+oldest_newest : {s : Shape} (w : Work) (n : Option Event) (f : Effort) (e : Event) (a : Again) {c : ℕ}
+    {es : List Event} → e.caller ≡ c → Core s (e ∷ es) → (local s es c).phase ≢ Outside → Safe s es c →
     IsDue (due (Doing w) s n (local s es c) f) e →
     answer (Doing w) (Some e) (after e.kind s (local s es c) e) (effort_after e.kind s.manager
-    (local s es c) f e) ≡ Some a →
-    (a ≢ Killed) × (a ≢ Waited)
-oldest_newest s w n f e a c es q core i safe d z =
+    (local s es c) f e) ≡ Some a → (a ≢ Killed) × (a ≢ Waited)
+oldest_newest {s = s} w n f e a {c = c} {es = es} q core i safe d z =
     newest_answer s w n (local s es c) f e a (subst (λ c. AllowedAs e.kind s
-    (local s es c) e) q core.1.allowed) i safe.awake
-    (λ p. core.1.linked ∙ ap (at es) p ∙ safe.status) d z
+    (local s es c) e) q core.1.allowed) i safe.awake (λ p. core.1.linked ∙ ap (at es) p ∙ safe.status) d z
 
-oldest_events : (s : Shape) (g : Lcg) (w : Work) (events : List Event) (calls : List Made) (later : List Event)
+oldest_events : {s : Shape} (g : Lcg) {w : Work} {events : List Event} (calls : List Made) (later : List Event)
     (begin : Event) (before : List Event) (a : Again) → Core s (later ++ begin ∷ before) → s.manager ≡ Greedy →
     begin.kind ≡ Begin → IsOldest s (begin ∷ before) begin.caller →
     events_of begin.caller later ≡ events ++ all_events calls →
@@ -150,12 +122,11 @@ oldest_events : (s : Shape) (g : Lcg) (w : Work) (events : List Event) (calls : 
     (generator_after s (local s (begin ∷ before) begin.caller) g calls) events →
     (state_after s (local s (begin ∷ before) begin.caller) (all_events calls)).phase ≢ Outside →
     answer_of (Doing w) s (state_after s (local s (begin ∷ before) begin.caller) (all_events calls))
-    (generator_after s (local s (begin ∷ before) begin.caller) g calls) events ≡ Some a →
-    (a ≢ Killed) × (a ≢ Waited)
-oldest_events s g w [] calls later begin before a core gm k o own made call live q =
+    (generator_after s (local s (begin ∷ before) begin.caller) g calls) events ≡ Some a → (a ≢ Killed) × (a ≢ Waited)
+oldest_events {s = s} g {w = w} {events = []} calls later begin before a core gm k o own made call live q =
     absurd (none_inside w None (state_after s (local s (begin ∷ before) begin.caller) (all_events calls))
     (no_effort (generator_after s (local s (begin ∷ before) begin.caller) g calls)) a live q)
-oldest_events s g w (e ∷ rest) calls later begin before a core gm k o own made call live q =
+oldest_events {s = s} g {w = w} {events = (e ∷ rest)} calls later begin before a core gm k o own made call live q =
     let c = begin.caller in
     let first = local s (begin ∷ before) c in
     let st = state_after s first (all_events calls) in
@@ -175,26 +146,23 @@ oldest_events s g w (e ∷ rest) calls later begin before a core gm k o own made
     (subst (AreAllowed s first) n.rest (own_allowed s c n.before (begin ∷ before) core'.0)) in
     let begun : (local s es c).begun ≡ first.begun = ap (λ (l : LocalState). l.begun) same
     ∙ call_begun s w st g' rest allowed.0 call.obeys.0 ∙ calls_begun s first g calls allowed.1 made in
-    oldest_newest s w (newest_of rest) f e a c es n.own core' i
-    (stays_safe s n.before begin before gm core'.0 k o begun i) d
+    oldest_newest w (newest_of rest) f e a n.own core' i (stays_safe n.before begin before gm core'.0 k o begun i) d
     (subst (λ m. answer (Doing w) (Some e) (after e.kind s m e) (effort_after e.kind s.manager m f e) ≡ Some a)
     (sym same) q)
 
 -- a call of an attempt that is not stale answers no Stale
-stale_cause : (n : Option Event) (l : LocalState) (f : Effort) (a : Again) → l.stale ≡ false → cause n l f ≡ a →
+stale_cause : (n : Option Event) (l : LocalState) (f : Effort) {a : Again} → l.stale ≡ false → cause n l f ≡ a →
     a ≢ Killed → a ≢ Waited → a ≡ Lost
-stale_cause n l f a st q nk nw = go (cases_Bool (has_quit n)) (cases_Bool (f.missed == 64))
+stale_cause n l f {a = a} st q nk nw = go (cases_Bool (has_quit n)) (cases_Bool (f.missed == 64))
   where
-    go : (has_quit n ≡ true) ⊎ (has_quit n ≡ false) → (f.missed == 64 ≡ true) ⊎ (f.missed == 64 ≡ false) →
-        a ≡ Lost
+    go : (has_quit n ≡ true) ⊎ (has_quit n ≡ false) → (f.missed == 64 ≡ true) ⊎ (f.missed == 64 ≡ false) → a ≡ Lost
     go (inr x) y = absurd (let z : Killed ≡ a = rw x at q in nk (sym z))
     go (inl x) (inl y) = let z : Lost ≡ a = rw (x, st, y) at q in sym z
     go (inl x) (inr y) = absurd (let z : Waited ≡ a = rw (x, st, y) at q in nw (sym z))
 
 pub oldest_answers : OldestAnswers
 oldest_answers = λ s g call calls later begin before a core gm k o m q.
-    let x = oldest_events s g call.work call.events calls later begin before a core gm k o m.own m.made.0
-    m.made.1 m.live q in
+    let x = oldest_events g calls later begin before a core gm k o m.own m.made.0 m.made.1 m.live q in
     let first = local s (begin ∷ before) begin.caller in
     let st = state_after s first (all_events calls) in
     let g' = generator_after s first g calls in
@@ -202,10 +170,9 @@ oldest_answers = λ s g call calls later begin before a core gm k o m q.
       not_killed = x.0;
       not_waited = x.1;
       writing = λ h. stale_cause (newest_of call.events) (state_after s st call.events)
-          (effort_of s st g' call.events) a
+          (effort_of s st g' call.events)
           (ap (λ (l : LocalState). l.stale) (sym (state_both s first call.events (all_events calls)))
           ∙ never_stale s g (call ∷ calls) later begin before core k m.own m.made h)
           (some_cause call.work (newest_of call.events) (state_after s st call.events)
-          (effort_of s st g' call.events) a q)
-          x.0 x.1;
+          (effort_of s st g' call.events) a q) x.0 x.1;
     }

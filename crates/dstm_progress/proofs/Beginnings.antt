@@ -1,23 +1,11 @@
 -- Calls that begin an attempt, and calls that end one.
-use Rattle.std.proofs.Common.{◌&&◌, ◌+◌, ◌∙◌, ◌∷◌, ◌≡◌, ◌≢◌, ◌⊎◌, Bool, List, Option, [], ap, false, inl, inr, not, refl, subst, sym, true}
-use Rattle.std.specs.Prelude.{if◌then◌else◌}
-use Rattle.std.proofs.lemmas.Bool.{cases_Bool, cond_both}
-use Rattle.dstm_core.specs.Events.{Event}
-use Rattle.dstm_core.specs.Rules.{is_outside}
-use Rattle.dstm_core.specs.Runs.{local}
-use Rattle.dstm_core.specs.State.{LocalState}
-use Rattle.dstm_core.specs.declared.event.Kind.{Kind}
-use Rattle.dstm_core.specs.declared.event.Kind.TheVariants.{Begin, Quit, Rank, Stamp}
-use Rattle.dstm_core.specs.declared.shape.Shape.{Shape}
-use Rattle.dstm_core.specs.declared.state.Phase.TheVariants.{Outside}
+use Rattle.std.proofs.Common.{◌&&◌, ◌+◌, ◌∙◌, ◌∷◌, ◌≡◌, ◌≢◌, ◌⊎◌, Bool, List, Option, [], ap, false, inl, inr, not, refl, subst, sym, true, if◌then◌else◌}
+use Rattle.dstm_core.proofs.Base.{Event, LocalState, cases_Bool, cond_both, is_outside, local}
 use Rattle.dstm_core.proofs.Statuses.{begun_up}
 use Rattle.dstm_core.proofs.Underway.{is_outside_now}
-use Rattle.dstm_order.specs.Calls.{IsCall, Obeys, newest_of, state_after}
-use Rattle.dstm_order.specs.Order.{Due, IsDue, has_begun, has_ranks, has_stamps, in_beginning, is_begin, is_spent, just, rises}
-use Rattle.dstm_order.specs.Order.Due.{Done, Step}
-use Rattle.dstm_order.specs.Tasks.Task.{Beginning, Leaving}
+use Rattle.dstm_order.proofs.Beginnings.{none_after}
+use Rattle.dstm_order.proofs.Base.{Begin, Beginning, Done, Due, IsCall, IsDue, Kind, Lcg, Leaving, Obeys, Outside, Quit, Rank, Shape, Stamp, Step, has_begun, has_ranks, has_stamps, in_beginning, is_begin, is_spent, just, newest_of, rises, state_after}
 use Rattle.dstm_progress.proofs.Calls.{fresh_begin, inside_phase}
-use Rattle.rand_pcg.specs.Lcg.{Lcg}
 use Rattle.dstm_progress.specs.Ends.{Begins, BeginsNone}
 use Rattle.dstm_progress.specs.Calls.{EveryBeginning, EveryLeaving}
 use Rattle.dstm_progress.proofs.Ends.{no_begin}
@@ -27,27 +15,18 @@ pub begin_kind : (k : Kind) → is_begin k ≡ true → k ≡ Begin
 begin_kind Begin h = refl
 begin_kind k h = absurd (cc)
 
-begin_is : (k : Kind) → k ≡ Begin → is_begin k ≡ true
-begin_is Begin h = refl
-begin_is k h = absurd (cc)
+begin_is : {k : Kind} → k ≡ Begin → is_begin k ≡ true
+begin_is {k = Begin} h = refl
+begin_is h = absurd (cc)
 
 -- ---- to begin
-
--- a Begin is the last event of its call
-pub begins_last : (fresh : Bool) (s : Shape) (n : Option Event) (l : LocalState) (e : Event) →
-    IsDue (in_beginning s fresh n l) e → has_begun n ≡ false
-begins_last fresh s n l e d = go (cases_Bool (has_begun n))
-  where
-    go : (has_begun n ≡ true) ⊎ (has_begun n ≡ false) → has_begun n ≡ false
-    go (inl q) = absurd (let x : IsDue Done e = rw q at d in x)
-    go (inr q) = q
 
 none_begun : (fresh : Bool) (s : Shape) (l : LocalState) (g : Lcg) (es : List Event) →
     Obeys (Beginning fresh) s l g es → has_begun (newest_of es) ≡ false → (state_after s l es).begun ≡ l.begun
 none_begun fresh s l g [] o h = refl
 none_begun fresh s l g (e ∷ es) o h =
-    no_begin s (state_after s l es) e e.kind (λ q. let x = begin_is e.kind q in cc)
-    ∙ none_begun fresh s l g es o.0 (begins_last fresh s (newest_of es) (state_after s l es) e o.1)
+    no_begin s (state_after s l es) e e.kind (λ q. let x = begin_is q in cc)
+    ∙ none_begun fresh s l g es o.0 (none_after (newest_of es) s fresh (state_after s l es) e o.1)
 
 begins_one : (fresh : Bool) (s : Shape) (l : LocalState) (g : Lcg) (es : List Event) →
     Obeys (Beginning fresh) s l g es → has_begun (newest_of es) ≡ true → Begins l (state_after s l es)
@@ -55,10 +34,10 @@ begins_one fresh s l g [] o h = absurd (cc)
 begins_one fresh s l g (e ∷ es) o h =
     let old = state_after s l es in
     let k = begin_kind e.kind h in
-    let new = fresh_begin s old e e.kind k in
-    let none = none_begun fresh s l g es o.0 (begins_last fresh s (newest_of es) old e o.1) in
+    let new = fresh_begin s old e k in
+    let none = none_begun fresh s l g es o.0 (none_after (newest_of es) s fresh old e o.1) in
     record {
-      begun = begun_up s old e e.kind k ∙ ap (λ n. n + 1) none;
+      begun = begun_up s old e k ∙ ap (λ n. n + 1) none;
       phase = new.phase;
       agreed = new.agreed;
     }
@@ -73,10 +52,8 @@ spent_at fresh s n l h q = go (is_outside_now l.phase) (cases_Bool (is_spent s l
 
     goes : Due
     goes =
-        if has_stamps s.manager && fresh && not l.stamped then just Stamp
-        else if has_ranks s.manager && not l.ranked
-        then Step Rank (if rises s.manager && fresh then 0 else l.rank)
-        else just Begin
+        if has_stamps s.manager && fresh && not l.stamped then just Stamp else if has_ranks s.manager && not l.ranked
+        then Step Rank (if rises s.manager && fresh then 0 else l.rank) else just Begin
 
     more : goes ≡ Done → ⊥
     more =
@@ -89,9 +66,9 @@ spent_at fresh s n l h q = go (is_outside_now l.phase) (cases_Bool (is_spent s l
     go (inl o) (inl x) = (o, x)
     go (inl o) (inr x) = absurd (more (rw (h, ap is_outside o, x) at q))
 
-begins_none : (fresh : Bool) (s : Shape) (l : LocalState) (g : Lcg) (es : List Event) →
+begins_none : {fresh : Bool} {s : Shape} {l : LocalState} {g : Lcg} {es : List Event} →
     IsCall (Beginning fresh) s l g es → has_begun (newest_of es) ≡ false → BeginsNone s l (state_after s l es)
-begins_none fresh s l g es h q =
+begins_none {fresh = fresh} {s = s} {l = l} {g = g} {es = es} h q =
     let two = spent_at fresh s (newest_of es) (state_after s l es) q h.done in
     record { begun = none_begun fresh s l g es h.obeys q; phase = two.0; spent = two.1 }
 
@@ -100,7 +77,7 @@ beginning = λ fresh s c g events before run h.
     let l = local s before c in
     let now = sym (after_own s c run before events h.own) in (
       λ q. subst (Begins l) now (begins_one fresh s l g events h.call.obeys q),
-      λ q. subst (BeginsNone s l) now (begins_none fresh s l g events h.call q),
+      λ q. subst (BeginsNone s l) now (begins_none h.call q),
     )
 
 -- ---- to end
@@ -109,8 +86,7 @@ none_left : (s : Shape) (l : LocalState) (g : Lcg) (es : List Event) → Obeys L
     (state_after s l es).begun ≡ l.begun
 none_left s l g [] o = refl
 none_left s l g (e ∷ es) o =
-    no_begin s (state_after s l es) e e.kind
-    (λ q. quit_due (is_outside (state_after s l es).phase) o.1 q)
+    no_begin s (state_after s l es) e e.kind (λ q. quit_due (is_outside (state_after s l es).phase) o.1 q)
     ∙ none_left s l g es o.0
   where
     quit_due : (b : Bool) → IsDue (if b then Done else just Quit) e → e.kind ≡ Begin → ⊥

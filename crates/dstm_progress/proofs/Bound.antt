@@ -1,24 +1,9 @@
 -- The steps of an attempt that is alone are at most the prices of its calls, and four.
 use Rattle.std.proofs.Common.{◌++◌, ◌+◌, ◌∙◌, ◌∷◌, ◌≡◌, ◌≢◌, ◌≤◌, ◌⊎◌, List, Option, None, Some, [], ap, arith, false, inl, inr, is_some, length, length-append, refl, subst, sym, true, ℕ}
-use Rattle.dstm_core.specs.Rules.{after}
-use Rattle.dstm_core.specs.Runs.{Core, local}
-use Rattle.dstm_core.specs.State.{LocalState}
-use Rattle.dstm_core.specs.Events.{Event}
-use Rattle.dstm_core.specs.declared.shape.Manager.{Manager}
-use Rattle.dstm_core.specs.declared.shape.Shape.{Shape}
-use Rattle.dstm_core.specs.declared.state.Phase.TheVariants.{Outside, Running, Paused}
+use Rattle.dstm_core.proofs.Base.{Core, Event, LocalState, Val, after, local}
 use Rattle.dstm_core.proofs.Static.{local_own, static}
 use Rattle.dstm_core.proofs.Pasts.{core_past}
-use Rattle.dstm_model.specs.declared.value.Val.{Val}
-use Rattle.dstm_order.specs.Calls.{IsCall, Obeys, due_after, effort_of, newest_of, state_after}
-use Rattle.dstm_order.specs.Efforts.{Effort, effort_after, no_effort}
-use Rattle.dstm_order.specs.Order.{Due, IsDue, at_first, due, in_resolving, next_or_first, when_passed, when_resolved}
-use Rattle.dstm_order.specs.Order.Due.{Done}
-use Rattle.dstm_order.specs.Passes.{is_open}
-use Rattle.dstm_order.specs.Tasks.{Work}
-use Rattle.dstm_order.specs.Tasks.Task.{Doing}
-use Rattle.dstm_order.specs.Tasks.Work.{Reading, Writing, Releasing, Rechecking, Committing}
-use Rattle.rand_pcg.specs.Lcg.{Lcg}
+use Rattle.dstm_order.proofs.Base.{Committing, Doing, Done, Due, Effort, IsCall, IsDue, Lcg, Manager, Obeys, Outside, Paused, Reading, Rechecking, Releasing, Running, Shape, Work, Writing, at_first, due, due_after, effort_after, effort_of, in_resolving, is_open, newest_of, next_or_first, no_effort, state_after, when_passed, when_resolved}
 use Rattle.dstm_progress.specs.Alone.{AloneBound, AloneEnds, AreCalls, AreOf, IsUnmet, Made, all_events, generator_after, price, prices}
 use Rattle.dstm_progress.proofs.Alone.{Undisturbed, install_succeeds, kill_succeeds}
 use Rattle.dstm_progress.proofs.Calls.{GoesOn, IsFresh, append_assoc_events, are_of_split, begins_awake, begins_undisturbed, calls_go, due_next, fresh_begin, goes_on_step, local_after, missed_after, no_pause_due, no_quit_due, nothing_due, own_status_found, unmet_more}
@@ -39,13 +24,13 @@ abbrev pub cost : Manager → Work → ℕ
 cost m (Committing value) = 3
 cost m w = price m w
 
-first_stage : (s : Shape) (w : Work) (l : LocalState) (f : Effort) → AtRest l →
+first_stage : (s : Shape) (w : Work) {l : LocalState} (f : Effort) → AtRest l →
     Stage s w l f (at_first w l) (cost s.manager w)
-first_stage s (Reading o) l f r = opening refl o refl r.still (λ q. (r.blank q).0) (omega arith)
-first_stage s (Writing o) l f r = opening refl o refl r.still (λ q. (r.blank q).0) (omega arith)
-first_stage s (Releasing o) l f r = releasing refl o refl r.still r.blank (omega arith)
-first_stage s Rechecking l f r = numbering refl refl r.still r.blank (omega arith)
-first_stage s (Committing v) l f r = putting refl v refl refl (λ q. (r.blank q).0) (omega arith)
+first_stage s (Reading o) f r = opening refl o refl r.still (λ q. (r.blank q).0) (omega arith)
+first_stage s (Writing o) f r = opening refl o refl r.still (λ q. (r.blank q).0) (omega arith)
+first_stage s (Releasing o) f r = releasing refl o refl r.still r.blank (omega arith)
+first_stage s Rechecking f r = numbering refl refl r.still r.blank (omega arith)
+first_stage s (Committing v) f r = putting refl v refl refl (λ q. (r.blank q).0) (omega arith)
 
 -- an event is due
 abbrev pub IsStep : Due → Type 0
@@ -63,28 +48,26 @@ resolving_due : (m : Manager) (w : Work) (l : LocalState) (f : Effort) → is_op
 resolving_due m w l f op ph =
     resolving_by IsStep m l f (when_resolved w) (resolves_by IsStep (λ k _ q. cc)) (λ q. absurd (cc)) (resolved_due w op)
 
-some_not_none : (o : Option ℕ) → is_some o ≡ true → o ≡ None → ⊥
-some_not_none None h q = cc
-some_not_none (Some n) h q = cc
+some_not_none : {o : Option ℕ} → is_some o ≡ true → o ≡ None → ⊥
+some_not_none {o = None} h q = cc
+some_not_none {o = (Some n)} h q = cc
 
-stage_done : (s : Shape) (w : Work) (l : LocalState) (f : Effort) (d : Due) (n : ℕ) → Stage s w l f d n →
-    d ≡ Done →
-    AtRest l × (closes w ≡ false)
-stage_done s w l f d n (opening op o h st un rm) z = absurd (cc)
-stage_done s w l f d n (resolving op h st un rm) z = absurd (resolving_due s.manager w l f op st.phase (sym h
+stage_done : {s : Shape} {w : Work} {l : LocalState} {f : Effort} {d : Due} {n : ℕ} → Stage s w l f d n →
+    d ≡ Done → AtRest l × (closes w ≡ false)
+stage_done (opening op o h st un rm) z = absurd (cc)
+stage_done {s = s} {w = w} {l = l} {f = f} (resolving op h st un rm) z = absurd (resolving_due s.manager w l f op st.phase (sym h
     ∙ z))
-stage_done s w l f d n (owning op h st un rm) z = absurd (cc)
-stage_done s w l f d n (installing op h st un rm) z = absurd (cc)
-stage_done s w l f d n (numbering cl h st bl rm) z = absurd (cc)
-stage_done s w l f d n (passing cl h st ps rm) z = absurd (pass_by IsStep l (λ q. cc) (λ q. cc) (sym h ∙ z))
-stage_done s w l f d n (passed cl h st lp rm) z =
-    (record { still = st; blank = λ q. absurd (some_not_none l.last_pass lp q) }, cl)
-stage_done s w l f d n (releasing cl o h st bl rm) z = absurd (cc)
-stage_done s w l f d n (ended cl h st bl) z = (record { still = st; blank = bl }, cl)
-stage_done s w l f d n (putting cl v wv h un rm) z =
+stage_done (owning op h st un rm) z = absurd (cc)
+stage_done (installing op h st un rm) z = absurd (cc)
+stage_done (numbering cl h st bl rm) z = absurd (cc)
+stage_done {l = l} (passing cl h st ps rm) z = absurd (pass_by IsStep l (λ q. cc) (λ q. cc) (sym h ∙ z))
+stage_done (passed cl h st lp rm) z = (record { still = st; blank = λ q. absurd (some_not_none lp q) }, cl)
+stage_done (releasing cl o h st bl rm) z = absurd (cc)
+stage_done (ended cl h st bl) z = (record { still = st; blank = bl }, cl)
+stage_done {l = l} {n = n} (putting cl v wv h un rm) z =
     absurd (putting_by IsStep v l (λ q. cc) (λ n q. cc) (λ n q. cc) (sym h ∙ z))
-stage_done s w l f d n (validating cl h un rm) z = absurd (cc)
-stage_done s w l f d n (drawing cl h un ck ph rm) z = absurd (checking_by IsStep l (λ q. cc) (λ q. cc) (sym h ∙ z))
+stage_done (validating cl h un rm) z = absurd (cc)
+stage_done {l = l} (drawing cl h un ck ph rm) z = absurd (checking_by IsStep l (λ q. cc) (λ q. cc) (sym h ∙ z))
 
 -- a stage at which an event is due has room for it
 passed_some : (w : Work) (m : Manager) (l : LocalState) (e : Event) → IsDue (when_passed w m l) e → 1 ≤ tail w
@@ -101,25 +84,24 @@ opens_base (Releasing o) h = absurd (cc)
 opens_base Rechecking h = absurd (cc)
 opens_base (Committing v) h = absurd (cc)
 
-done_due : (d : Due) (e : Event) → d ≡ Done → IsDue d e → ⊥
-done_due d e h i = let x : IsDue Done e = subst (λ d. IsDue d e) h i in x
+done_due : {d : Due} (e : Event) → d ≡ Done → IsDue d e → ⊥
+done_due {d = d} e h i = let x : IsDue Done e = subst (λ d. IsDue d e) h i in x
 
-stage_some : (s : Shape) (w : Work) (l : LocalState) (f : Effort) (d : Due) (n : ℕ) (e : Event) →
-    Stage s w l f d n →
-    IsDue d e → 1 ≤ n
-stage_some s w l f d n e (opening op o h st un rm) i = omega arith
-stage_some s w l f d n e (resolving op h st un rm) i = let x = opens_base w op in omega arith
-stage_some s w l f d n e (owning op h st un rm) i = omega arith
-stage_some s w l f d n e (installing op h st un rm) i = omega arith
-stage_some s w l f d n e (numbering cl h st bl rm) i = omega arith
-stage_some s w l f d n e (passing cl h st ps rm) i = omega arith
-stage_some s w l f d n e (passed cl h st lp rm) i =
+stage_some : {s : Shape} {w : Work} {l : LocalState} {f : Effort} {d : Due} {n : ℕ} (e : Event) →
+    Stage s w l f d n → IsDue d e → 1 ≤ n
+stage_some e (opening op o h st un rm) i = omega arith
+stage_some {w = w} e (resolving op h st un rm) i = let x = opens_base w op in omega arith
+stage_some e (owning op h st un rm) i = omega arith
+stage_some e (installing op h st un rm) i = omega arith
+stage_some e (numbering cl h st bl rm) i = omega arith
+stage_some e (passing cl h st ps rm) i = omega arith
+stage_some {s = s} {w = w} {l = l} {d = d} e (passed cl h st lp rm) i =
     let x = passed_some w s.manager l e (subst (λ d. IsDue d e) h i) in omega arith
-stage_some s w l f d n e (releasing cl o h st bl rm) i = omega arith
-stage_some s w l f d n e (ended cl h st bl) i = absurd (done_due d e h i)
-stage_some s w l f d n e (putting cl v wv h un rm) i = omega arith
-stage_some s w l f d n e (validating cl h un rm) i = omega arith
-stage_some s w l f d n e (drawing cl h un ck ph rm) i = omega arith
+stage_some e (releasing cl o h st bl rm) i = omega arith
+stage_some e (ended cl h st bl) i = absurd (done_due e h i)
+stage_some e (putting cl v wv h un rm) i = omega arith
+stage_some e (validating cl h un rm) i = omega arith
+stage_some e (drawing cl h un ck ph rm) i = omega arith
 
 -- ---- the steps of a call
 
@@ -130,47 +112,43 @@ pub record Spends (s : Shape) (w : Work) (l : LocalState) (f : Effort) (newest :
   pub stage : Stage s w l f (next_or_first newest w s.manager l f) room
   pub enough : room + made + puts_left l ≤ most
 
-facts : (s : Shape) (es : List Event) (e : Event) → Core s (e ∷ es) → IsUnmet s e.caller es →
+facts : {s : Shape} {es : List Event} (e : Event) → Core s (e ∷ es) → IsUnmet s e.caller es →
     Undisturbed s es e.caller → Undisturbed s (e ∷ es) e.caller → Facts s (local s es e.caller) e
-facts s es e core un u v = record {
+facts {s = s} {es = es} e core un u v = record {
   allowed = core.1.allowed;
   inside = λ q. v.inside (ap (λ (l : LocalState). l.phase) (local_own s es e) ∙ q);
-  awake = no_pause_due s es e core un u;
-  installs = install_succeeds s es e core u;
-  kills = kill_succeeds s es e core u;
-  own = own_status_found s es e core u;
+  awake = no_pause_due e core un u;
+  installs = install_succeeds e core u;
+  kills = kill_succeeds e core u;
+  own = own_status_found e core u;
   pass = λ n m p q r. u.numbers.last n p q ∙ sym (u.numbers.pass m p r);
   drawn = u.numbers.drawn;
   rank = found_is_rank s es core.0 e.caller;
   written = (static s es core.0 e.caller).written;
 }
 
-spend_step : (s : Shape) (es : List Event) (e : Event) (w : Work) (n : Option Event) (f : Effort)
-    (most made : ℕ) →
-    Core s (e ∷ es) → IsUnmet s e.caller es → IsDue (due (Doing w) s n (local s es e.caller) f) e →
+spend_step : {s : Shape} {es : List Event} (e : Event) {w : Work} {n : Option Event} {f : Effort}
+    {most made : ℕ} → Core s (e ∷ es) → IsUnmet s e.caller es → IsDue (due (Doing w) s n (local s es e.caller) f) e →
     Undisturbed s es e.caller → f.missed ≡ 0 → Spends s w (local s es e.caller) f n most made →
     Undisturbed s (e ∷ es) e.caller →
     Spends s w (local s (e ∷ es) e.caller) (effort_after e.kind s.manager (local s es e.caller) f e)
     (Some e) most (made + 1)
-spend_step s es e w n f most made core un i u m sp v =
+spend_step {s = s} {es = es} e {w = w} {n = n} {f = f} {most = most} {made = made} core un i u m sp v =
     let l = local s es e.caller in
     let j = subst (λ d. IsDue d e) (due_next w s n l f u.inside u.agreed m) i in
-    let x = stage_step s w l f (next_or_first n w s.manager l f) sp.room e
-    (facts s es e core un u v) sp.stage j in
+    let x = stage_step (facts e core un u v) sp.stage j in
     let y : Spends s w (after e.kind s l e) (effort_after e.kind s.manager l f e) (Some e) most (made + 1) =
     record { room = x.room; stage = x.stage; enough = let a = x.falls in let b = sp.enough in omega arith } in
-    subst (λ m. Spends s w m (effort_after e.kind s.manager l f e) (Some e) most (made + 1)) (sym
-    (local_own s es e)) y
+    subst (λ m. Spends s w m (effort_after e.kind s.manager l f e) (Some e) most (made + 1)) (sym (local_own s es e)) y
 
 -- the last step of all
-last_step : (s : Shape) (es : List Event) (e : Event) (w : Work) (n : Option Event) (f : Effort)
-    (most made : ℕ) →
-    IsDue (due (Doing w) s n (local s es e.caller) f) e → Undisturbed s es e.caller → f.missed ≡ 0 →
+last_step : {s : Shape} {es : List Event} (e : Event) {w : Work} {n : Option Event} {f : Effort}
+    {most made : ℕ} → IsDue (due (Doing w) s n (local s es e.caller) f) e → Undisturbed s es e.caller → f.missed ≡ 0 →
     Spends s w (local s es e.caller) f n most made → made + 1 ≤ most
-last_step s es e w n f most made i u m sp =
+last_step {s = s} {es = es} e {w = w} {n = n} {f = f} i u m sp =
     let l = local s es e.caller in
     let j = subst (λ d. IsDue d e) (due_next w s n l f u.inside u.agreed m) i in
-    let x = stage_some s w l f (next_or_first n w s.manager l f) sp.room e sp.stage j in
+    let x = stage_some e sp.stage j in
     let y = sp.enough in omega arith
 
 -- a call so far: its attempt is under way, or it has committed
@@ -184,57 +162,53 @@ call_spend_step : (s : Shape) (es : List Event) (e : Event) (c : ℕ) (w : Work)
     (most made : ℕ) → e.caller ≡ c → Core s (e ∷ es) → IsUnmet s c es →
     IsDue (due (Doing w) s n (local s es c) f) e → CallSpends s es c w n f most made →
     CallSpends s (e ∷ es) c w (Some e) (effort_after e.kind s.manager (local s es c) f e) most (made + 1)
-call_spend_step s es e c w n f most made q core un i (inr x) =
-    absurd (nothing_due w s n (local s es c) f e x.0 i)
+call_spend_step s es e c w n f most made q core un i (inr x) = absurd (nothing_due w s n (local s es c) f e x.0 i)
 call_spend_step s es e c w n f most made q core un i (inl x) =
     subst (λ c. IsUnmet s c es → IsDue (due (Doing w) s n (local s es c) f) e → Undisturbed s es c →
     Spends s w (local s es c) f n most made → (local s es c).phase ≢ Paused →
     CallSpends s (e ∷ es) c w (Some e) (effort_after e.kind s.manager (local s es c) f e) most (made + 1)) q
-    (λ un i u sp aw. go un i u sp (goes_on_step s es e core un u aw
+    (λ un i u sp aw. go un i u sp (goes_on_step e core un u aw
     (no_quit_due w s n (local s es e.caller) f e u.inside aw u.agreed x.1 i))) un i x.0 x.2 x.3
   where
     go : IsUnmet s e.caller es → IsDue (due (Doing w) s n (local s es e.caller) f) e →
-        Undisturbed s es e.caller →
-        Spends s w (local s es e.caller) f n most made → GoesOn s (e ∷ es) e.caller →
+        Undisturbed s es e.caller → Spends s w (local s es e.caller) f n most made → GoesOn s (e ∷ es) e.caller →
         CallSpends s (e ∷ es) e.caller w (Some e) (effort_after e.kind s.manager (local s es e.caller) f e) most
         (made + 1)
     go un i u sp (inl v) = inl (
       v.0,
-      missed_after e.kind s.manager (local s es e.caller) f e (install_succeeds s es e core u)
-          (kill_succeeds s es e core u) ∙ x.1,
-      spend_step s es e w n f most made core un i u x.1 sp v.0,
+      missed_after e.kind s.manager (local s es e.caller) f e (install_succeeds e core u)
+          (kill_succeeds e core u) ∙ x.1,
+      spend_step e core un i u x.1 sp v.0,
       v.1,
     )
-    go un i u sp (inr y) = inr (y.0, y.1, last_step s es e w n f most made i u x.1 sp)
+    go un i u sp (inr y) = inr (y.0, y.1, last_step e i u x.1 sp)
 
-call_spends : (s : Shape) (c : ℕ) (w : Work) (g : Lcg) (events es : List Event) → AreOf c events →
+call_spends : {s : Shape} {c : ℕ} (w : Work) (g : Lcg) (events : List Event) {es : List Event} → AreOf c events →
     Core s (events ++ es) → IsUnmet s c es → Obeys (Doing w) s (local s es c) g events → Undisturbed s es c →
     AtRest (local s es c) → (local s es c).phase ≢ Paused →
     CallSpends s (events ++ es) c w (newest_of events) (effort_of s (local s es c) g events)
     (cost s.manager w + puts_left (local s es c)) (length events)
-call_spends s c w g [] es h core un o u r aw = inl (
+call_spends {s = s} w g [] h core un o u r aw = inl (
   u,
   refl,
   record {
     room = cost s.manager w;
-    stage = first_stage s w (local s es c) (no_effort g) r;
-    enough =
-        omega arith;
+    stage = first_stage s w (no_effort g) r;
+    enough = omega arith;
   },
   aw,
 )
-call_spends s c w g (e ∷ events) es h core un o u r aw =
+call_spends {s = s} {c = c} w g (e ∷ events) {es = es} h core un o u r aw =
     let l = local_after s c events es h.1 in
     let f = effort_of s (local s es c) g events in
     let most = cost s.manager w + puts_left (local s es c) in
-    let before = call_spends s c w g events es h.1 core.0 un o.0 u r aw in
+    let before = call_spends w g events h.1 core.0 un o.0 u r aw in
     let x = call_spend_step s (events ++ es) e c w (newest_of events) f most (length events) h.0 core
     (unmet_more s c events es h.1 un) (subst (λ m. IsDue (due (Doing w) s (newest_of events) m f) e)
     (sym l) o.1) before in
     let one : length events + 1 ≡ length (e ∷ events) = omega arith in
     subst (λ k. CallSpends s (e ∷ (events ++ es)) c w (Some e) (effort_after e.kind s.manager (state_after s
-    (local s es c) events) f e) most k)
-    one
+    (local s es c) events) f e) most k) one
     (subst (λ m. CallSpends s (e ∷ (events ++ es)) c w (Some e) (effort_after e.kind s.manager m f e) most
     (length events + 1)) l x)
 
@@ -272,34 +246,32 @@ AllSpend s es c most made =
     (Undisturbed s es c × AtRest (local s es c) × (made + puts_left (local s es c) ≤ most))
     ⊎ (((local s es c).phase ≡ Outside) × (made ≤ most + 3))
 
+-- behind a call nothing is due
+call_done : {s : Shape} (c : ℕ) {w : Work} {g : Lcg} {events : List Event} (es : List Event) → AreOf c events →
+    IsCall (Doing w) s (local s es c) g events →
+    due (Doing w) s (newest_of events) (local s (events ++ es) c) (effort_of s (local s es c) g events) ≡ Done
+call_done {s = s} c {w = w} {g = g} {events = events} es h call =
+    ap (λ m. due (Doing w) s (newest_of events) m (effort_of s (local s es c) g events)) (local_after s c events es h)
+    ∙ call.done
+
 -- one call more
-more_spend : (s : Shape) (c : ℕ) (w : Work) (g : Lcg) (events es : List Event) (most : ℕ) (made : List Event) →
+more_spend : {s : Shape} (c : ℕ) {w : Work} {g : Lcg} {events : List Event} (es : List Event) (most : ℕ) (made : List Event) →
     AreOf c events → Core s (events ++ es) → IsUnmet s c es → IsCall (Doing w) s (local s es c) g events →
     AllSpend s es c most (length made) → (all : ℕ) → all ≡ price s.manager w + most →
     AllSpend s (events ++ es) c all (length (events ++ made))
-more_spend s c w g events es most made h core un call (inl x) all q =
-    go (call_spends s c w g events es h core un call.obeys x.0 x.1 (λ q. let y = x.1.still.phase in cc))
+more_spend {s = s} c {w = w} {g = g} {events = events} es most made h core un call (inl x) all q =
+    go (call_spends w g events h core un call.obeys x.0 x.1 (λ q. let y = x.1.still.phase in cc))
   where
-    f : Effort
-    f = effort_of s (local s es c) g events
-
     both : length (events ++ made) ≡ length events + length made
     both = length_both events made
-
-    done : due (Doing w) s (newest_of events) (local s (events ++ es) c) f ≡ Done
-    done = ap (λ m. due (Doing w) s (newest_of events) m (effort_of s (local s es c) g events))
-        (local_after s c events es h)
-        ∙ call.done
 
     go : CallSpends s (events ++ es) c w (newest_of events) (effort_of s (local s es c) g events)
         (cost s.manager w + puts_left (local s es c)) (length events) →
         AllSpend s (events ++ es) c all (length (events ++ made))
     go (inl y) =
-        let z = sym (due_next w s (newest_of events) (local s (events ++ es) c) f y.0.inside y.0.agreed y.1)
-        ∙ done in
-        let end = stage_done s w (local s (events ++ es) c) f (next_or_first (newest_of events) w s.manager
-        (local s (events ++ es) c) f)
-        y.2.room y.2.stage z in
+        let z = sym (due_next w s (newest_of events) (local s (events ++ es) c) (effort_of s (local s es c) g events)
+        y.0.inside y.0.agreed y.1) ∙ call_done c es h call in
+        let end = stage_done y.2.stage z in
         let price = cost_open s.manager w end.1 in
         let a = y.2.enough in let b = x.2 in let d = both in
         inl (y.0, end.0, omega arith)
@@ -307,19 +279,19 @@ more_spend s c w g events es most made h core un call (inl x) all q =
         let price = cost_price s.manager w in
         let a = y.2 in let b = x.2 in let d = both in
         inr (y.0, omega arith)
-more_spend s c w g events es most made h core un call (inr x) all q =
+more_spend {s = s} c {w = w} {g = g} {events = events} es most made h core un call (inr x) all q =
     let none = outside_empty s w (local s es c) g events x.0 call.obeys in
     let b = x.1 in
     let d : length (events ++ made) ≡ length made = ap (λ xs. length (xs ++ made)) none in
     inr (ap (λ xs. (local s (xs ++ es) c).phase) none ∙ x.0, omega arith)
 
-all_spend : (s : Shape) (c : ℕ) (g : Lcg) (calls : List Made) (es : List Event) → AreOf c (all_events calls) →
+all_spend : {s : Shape} {c : ℕ} (g : Lcg) (calls : List Made) {es : List Event} → AreOf c (all_events calls) →
     Core s (all_events calls ++ es) → IsUnmet s c es → AreCalls s (local s es c) g calls → Undisturbed s es c →
     AtRest (local s es c) →
     AllSpend s (all_events calls ++ es) c (prices s.manager calls + puts_left (local s es c)) (length
     (all_events calls))
-all_spend s c g [] es h core un o u r = inl (u, r, omega arith)
-all_spend s c g (x ∷ calls) es h core un o u r =
+all_spend g [] h core un o u r = inl (u, r, omega arith)
+all_spend {s = s} {c = c} g (x ∷ calls) {es = es} h core un o u r =
     let parts = are_of_split c x.events (all_events calls) h in
     let whole : (x.events ++ all_events calls) ++ es ≡ x.events ++ (all_events calls ++ es) =
     append_assoc_events x.events (all_events calls) es in
@@ -328,16 +300,15 @@ all_spend s c g (x ∷ calls) es h core un o u r =
     let g' = generator_after s (local s es c) g calls in
     subst (λ xs. AllSpend s xs c (price s.manager x.work + prices s.manager calls + puts_left (local s es c))
     (length (x.events ++ all_events calls))) (sym whole)
-    (more_spend s c x.work g' x.events (all_events calls ++ es) (prices s.manager calls + puts_left
-    (local s es c))
+    (more_spend c (all_events calls ++ es) (prices s.manager calls + puts_left (local s es c))
     (all_events calls) parts.0 core' (unmet_more s c (all_events calls) es parts.1 un)
     (subst (λ m. IsCall (Doing x.work) s m g' x.events) (sym here) o.1)
-    (all_spend s c g calls es parts.1 (core_past s x.events (all_events calls ++ es) core') un o.0 u r)
+    (all_spend g calls parts.1 (core_past s x.events (all_events calls ++ es) core') un o.0 u r)
     (price s.manager x.work + prices s.manager calls + puts_left (local s es c)) (omega arith))
 
 -- the state after a Begin is at rest, and has nothing to put
-begins_at_rest : (l : LocalState) → IsFresh l → AtRest l × (puts_left l ≡ 0)
-begins_at_rest l f = (
+begins_at_rest : {l : LocalState} → IsFresh l → AtRest l × (puts_left l ≡ 0)
+begins_at_rest f = (
   record {
     still = record { phase = f.phase; written = f.written.0; high = f.written.1 };
     blank = λ q. (f.reads, f.resolution);
@@ -349,11 +320,10 @@ pub alone_is_bounded : AloneBound
 alone_is_bounded = λ s g calls begin before h un.
     let es = begin ∷ before in
     let core = core_past s (all_events calls) es h.core in
-    let fresh : IsFresh (local s es begin.caller) =
-    subst IsFresh (sym (local_own s before begin))
-    (fresh_begin s (local s before begin.caller) begin begin.kind h.begins) in
-    let rest = begins_at_rest (local s es begin.caller) fresh in
-    let x = all_spend s begin.caller g calls es h.alone h.core (unmet s begin before un) h.made
+    let fresh : IsFresh (local s es begin.caller) = subst IsFresh (sym (local_own s before begin))
+    (fresh_begin s (local s before begin.caller) begin h.begins) in
+    let rest = begins_at_rest fresh in
+    let x = all_spend g calls h.alone h.core (unmet s begin before un) h.made
     (begins_undisturbed s before begin core h.begins) rest.0 in
     go s calls begin before rest.1 x
   where
@@ -365,38 +335,28 @@ alone_is_bounded = λ s g calls begin before h un.
     go : (s : Shape) (calls : List Made) (begin : Event) (before : List Event) →
         puts_left (local s (begin ∷ before) begin.caller) ≡ 0 →
         AllSpend s (all_events calls ++ begin ∷ before) begin.caller
-        (prices s.manager calls + puts_left (local s (begin ∷ before) begin.caller)) (length
-        (all_events calls)) →
+        (prices s.manager calls + puts_left (local s (begin ∷ before) begin.caller)) (length (all_events calls)) →
         1 + length (all_events calls) ≤ prices s.manager calls + 4
     go s calls begin before z (inl x) = let y = x.2 in omega arith
     go s calls begin before z (inr x) = let y = x.1 in omega arith
 
 -- ---- a commit ends an attempt that is alone
 
-closes_commit : (w : Work) (v : ℕ → Val) → w ≡ Committing v → closes w ≡ false → ⊥
-closes_commit w v q h = let x : closes (Committing v) ≡ false = subst (λ w. closes w ≡ false) q h in cc
+closes_commit : {w : Work} (v : ℕ → Val) → w ≡ Committing v → closes w ≡ false → ⊥
+closes_commit {w = w} v q h = let x : closes (Committing v) ≡ false = subst (λ w. closes w ≡ false) q h in cc
 
-commit_ends : (s : Shape) (c : ℕ) (w : Work) (v : ℕ → Val) (g : Lcg) (events es : List Event) → w ≡ Committing v →
+commit_ends : {s : Shape} {c : ℕ} {w : Work} (v : ℕ → Val) {g : Lcg} {events es : List Event} → w ≡ Committing v →
     AreOf c events → Core s (events ++ es) → IsUnmet s c es → IsCall (Doing w) s (local s es c) g events →
     Undisturbed s es c → AtRest (local s es c) → (local s (events ++ es) c).committed ≡ true
-commit_ends s c w v g events es wv h core un call u r =
-    go (call_spends s c w g events es h core un call.obeys u r (λ q. let y = r.still.phase in cc))
+commit_ends {s = s} {c = c} {w = w} v {g = g} {events = events} {es = es} wv h core un call u r =
+    go (call_spends w g events h core un call.obeys u r (λ q. let y = r.still.phase in cc))
   where
-    f : Effort
-    f = effort_of s (local s es c) g events
-
-    done : due (Doing w) s (newest_of events) (local s (events ++ es) c) f ≡ Done
-    done = ap (λ m. due (Doing w) s (newest_of events) m (effort_of s (local s es c) g events))
-        (local_after s c events es h) ∙ call.done
-
     go : CallSpends s (events ++ es) c w (newest_of events) (effort_of s (local s es c) g events)
-        (cost s.manager w + puts_left (local s es c)) (length events) →
-        (local s (events ++ es) c).committed ≡ true
+        (cost s.manager w + puts_left (local s es c)) (length events) → (local s (events ++ es) c).committed ≡ true
     go (inl y) =
-        let z = sym (due_next w s (newest_of events) (local s (events ++ es) c) f y.0.inside y.0.agreed y.1)
-        ∙ done in
-        absurd (closes_commit w v wv (stage_done s w (local s (events ++ es) c) f
-        (next_or_first (newest_of events) w s.manager (local s (events ++ es) c) f) y.2.room y.2.stage z).1)
+        let z = sym (due_next w s (newest_of events) (local s (events ++ es) c) (effort_of s (local s es c) g events)
+        y.0.inside y.0.agreed y.1) ∙ call_done c es h call in
+        absurd (closes_commit v wv (stage_done y.2.stage z).1)
     go (inr y) = y.1
 
 pub alone_ends : AloneEnds
@@ -413,15 +373,14 @@ alone_ends = λ s g call calls begin before v h un wv.
     let here = local_after s c (all_events calls) es parts.1 in
     let g' = generator_after s (local s es c) g calls in
     let fresh : IsFresh (local s es c) =
-    subst IsFresh (sym (local_own s before begin)) (fresh_begin s (local s before c) begin begin.kind h.begins) in
-    let rest = begins_at_rest (local s es c) fresh in
+    subst IsFresh (sym (local_own s before begin)) (fresh_begin s (local s before c) begin h.begins) in
+    let rest = begins_at_rest fresh in
     let begins = begins_undisturbed s before begin first h.begins in
     let made = subst (λ m. IsCall (Doing call.work) s m g' call.events) (sym here) h.made.1 in
     subst (λ xs. (local s xs c).committed ≡ true) (sym whole)
-    (go s c call.work v g' call.events log wv parts.0 core' (unmet_more s c
-    (all_events calls) es parts.1 un') made
+    (go s c call.work v g' call.events log wv parts.0 core' (unmet_more s c (all_events calls) es parts.1 un') made
     (calls_go s c g calls es parts.1 core un' h.made.0 (inl (begins, begins_awake s before begin h.begins)))
-    (all_spend s c g calls es parts.1 core un' h.made.0 begins rest.0))
+    (all_spend g calls parts.1 core un' h.made.0 begins rest.0))
   where
     unmet : (s : Shape) (begin : Event) (before : List Event) → IsUnmet s begin.caller before →
         IsUnmet s begin.caller (begin ∷ before)
@@ -431,8 +390,7 @@ alone_ends = λ s g call calls begin before v h un wv.
     go : (s : Shape) (c : ℕ) (w : Work) (v : ℕ → Val) (g : Lcg) (events es : List Event) → w ≡ Committing v →
         AreOf c events → Core s (events ++ es) → IsUnmet s c es → IsCall (Doing w) s (local s es c) g events →
         GoesOn s es c → {most made : ℕ} → AllSpend s es c most made → (local s (events ++ es) c).committed ≡ true
-    go s c w v g events es wv h core un call (inl x) (inl y) =
-        commit_ends s c w v g events es wv h core un call y.0 y.1
+    go s c w v g events es wv h core un call (inl x) (inl y) = commit_ends v wv h core un call y.0 y.1
     go s c w v g events es wv h core un call (inl x) (inr y) = absurd (x.0.inside y.0)
     go s c w v g events es wv h core un call (inr x) y =
         ap (λ xs. (local s (xs ++ es) c).committed) (outside_empty s w (local s es c) g events x.0 call.obeys)

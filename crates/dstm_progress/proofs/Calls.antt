@@ -1,33 +1,13 @@
 -- A call on an attempt that is alone leaves it only by its commit.
 use Rattle.std.proofs.Common.{◌++◌, ◌-◌, ◌/◌, ◌<◌, ◌==◌, ◌∙◌, ◌∷◌, ◌≡◌, ◌≢◌, ◌⊎◌, List, Option, None, Some, [], ap, arith, false, inl, inr, is_some, length, refl, subst, sym, true, ℕ}
-use Rattle.std.proofs.lemmas.Bool.{cond_both, eq-eqb}
-use Rattle.dstm_core.specs.Rules.{AllowedAs, after, is_outside}
-use Rattle.dstm_core.specs.Runs.{Core, local}
-use Rattle.dstm_core.specs.State.{LocalState, given, is_live, or_unresolved, or_zero, own_attempt, res}
-use Rattle.dstm_core.specs.Traces.{at, word}
-use Rattle.dstm_core.specs.Words.{place}
-use Rattle.dstm_core.specs.Words.Word.{StatusWord}
-use Rattle.dstm_core.specs.Events.{Event}
-use Rattle.dstm_core.specs.declared.event.Kind.{Kind}
-use Rattle.dstm_core.specs.declared.event.Kind.TheVariants.{Begin, Commit, Draw, Install, Kill, LookObj, LookSelf, LookStatus, Pause, PutHigh, PutNew, Quit, Resume, Validating as ToValidating}
-use Rattle.dstm_core.specs.declared.shape.Manager.{Manager}
-use Rattle.dstm_core.specs.declared.shape.Manager.TheVariants.{Greedy}
-use Rattle.dstm_core.specs.declared.shape.Shape.{Shape}
-use Rattle.dstm_core.specs.declared.state.Phase.{Phase}
-use Rattle.dstm_core.specs.declared.state.Phase.TheVariants.{Outside, Running, Paused, Putting, Validating}
+use Rattle.dstm_core.proofs.Base.{AllowedAs, Core, Event, LocalState, StatusWord, after, at, cond_both, eq-eqb, given, is_live, is_outside, local, or_unresolved, or_zero, own_attempt, place, res, word}
 use Rattle.dstm_core.proofs.Basic.{Names, OwnerIs, basic, res_known}
 use Rattle.dstm_core.proofs.Places.{put_at}
 use Rattle.dstm_core.proofs.Static.{has_owner, local_own, local_other}
 use Rattle.dstm_core.proofs.Pasts.{core_past}
 use Rattle.dstm_core.proofs.Statuses.{begin_put}
 use Rattle.dstm_opacity.proofs.Versions.{owner_of, status_of}
-use Rattle.dstm_order.specs.Calls.{Obeys, effort_of, newest_of, state_after}
-use Rattle.dstm_order.specs.Efforts.{Effort, effort_after}
-use Rattle.dstm_order.specs.Order.{Due, IsDue, due, is_paused, next_or_first, when_resolved}
-use Rattle.dstm_order.specs.Order.Due.{Done, Step}
-use Rattle.dstm_order.specs.Tasks.{Work}
-use Rattle.dstm_order.specs.Tasks.Task.{Doing}
-use Rattle.rand_pcg.specs.Lcg.{Lcg}
+use Rattle.dstm_order.proofs.Base.{Begin, Commit, Doing, Done, Draw, Due, Effort, Greedy, Install, IsDue, Kill, Kind, Lcg, LookObj, LookSelf, LookStatus, Manager, Obeys, Outside, Pause, Paused, Phase, PutHigh, PutNew, Putting, Quit, Resume, Running, Shape, Step, ToValidating, Validating, Work, due, effort_after, effort_of, is_paused, newest_of, next_or_first, state_after, when_resolved}
 use Rattle.dstm_progress.specs.Alone.{AloneCommits, AreCalls, AreOf, IsAlone, IsUnmet, Made, all_events, generator_after}
 use Rattle.dstm_progress.proofs.Alone.{ResNow, Undisturbed, awake_step, install_succeeds, kill_succeeds, now_res, undisturbed_step}
 use Rattle.dstm_order.proofs.Rows.{EachStep, is_step, is_test, resolved_by, resolves, resolves_by, resolving_by, table_by}
@@ -51,12 +31,10 @@ not_paused Paused h = absurd (h refl)
 not_paused p h = refl
 
 pub newest_no_quit : (e : Option Event) (w : Work) (m : Manager) (l : LocalState) (c : Effort) →
-    l.phase ≢ Paused →
-    NoQuit (next_or_first e w m l c)
+    l.phase ≢ Paused → NoQuit (next_or_first e w m l c)
 newest_no_quit e w m l c np = table_by NoQuit e w m l c steps
     (resolving_by NoQuit m l c (when_resolved w) (resolves_by NoQuit (λ k q z. let x = ap resolves z in cc)) (λ q. absurd (np q))
-    (resolved_by NoQuit w steps))
-    (λ k q z. let x = ap is_test z in cc)
+    (resolved_by NoQuit w steps)) (λ k q z. let x = ap is_test z in cc)
   where
     steps : EachStep NoQuit w
     steps = record { done = tt; step = λ k n q z. let x = ap is_step z in cc; release = λ o q z. cc }
@@ -88,15 +66,13 @@ pub left_by : (s : Shape) (l : LocalState) (e : Event) (k : Kind) → AllowedAs 
     (e.place ≡ place s (StatusWord (own_attempt s l)) → e.found ≡ given l.phase) → l.phase ≢ Outside →
     (after k s l e).phase ≡ Outside → (k ≡ Quit) ⊎ ((after k s l e).committed ≡ true)
 left_by s l e Quit a f i o = inl refl
-left_by s l e Commit a f i o =
-    inr (eq-eqb e.found 3 (f a.0 ∙ ap given a.2.0))
+left_by s l e Commit a f i o = inr (eq-eqb e.found 3 (f a.0 ∙ ap given a.2.0))
 left_by s l e Begin a f i o = absurd (cc)
 left_by s l e PutHigh a f i o = absurd (cc)
 left_by s l e PutNew a f i o = absurd (cc)
 left_by s l e Draw a f i o = absurd (cc)
 left_by s l e Install a f i o = absurd (i
-    (cond_both (e.found == e.expected) _ _ (λ (m : LocalState). m.phase ≡ Outside →
-    l.phase ≡ Outside) (λ _ q. q)
+    (cond_both (e.found == e.expected) _ _ (λ (m : LocalState). m.phase ≡ Outside → l.phase ≡ Outside) (λ _ q. q)
     (λ _ q. q) o))
 left_by s l e LookSelf a f i o = absurd (i (rw (eq-eqb e.found (given l.phase) (f a.0)) at o))
 left_by s l e ToValidating a f i o = absurd (go a.2.0)
@@ -117,8 +93,7 @@ pub missed_after : (k : Kind) (m : Manager) (l : LocalState) (c : Effort) (e : E
     (effort_after k m l c e).missed ≡ c.missed
 missed_after LookObj m l c e f g = refl
 missed_after LookStatus m l c e f g =
-    cond_both (is_some (res l).status) _ _ (λ (x : Effort). x.missed ≡ c.missed)
-    (λ _. turn_missed l.phase m l c)
+    cond_both (is_some (res l).status) _ _ (λ (x : Effort). x.missed ≡ c.missed) (λ _. turn_missed l.phase m l c)
     (λ _. refl)
 missed_after Install m l c e f g = rw (eq-eqb e.found e.expected (f refl)) refl
 missed_after Kill m l c e f g = rw (eq-eqb e.found e.expected (g refl)) refl
@@ -128,10 +103,10 @@ missed_after k m l c e f g = refl
 
 -- ---- it has no enemy to which it would give way
 
-pause_of : (s : Shape) (l : LocalState) (e : Event) (k : Kind) → k ≡ Pause → AllowedAs k s l e →
+pause_of : (s : Shape) (l : LocalState) (e : Event) {k : Kind} → k ≡ Pause → AllowedAs k s l e →
     (s.manager ≡ Greedy) × (is_some (res l).owner ≡ true) × (is_live (or_zero (res l).status) ≡ true)
-pause_of s l e Pause q a = (a.2.2, a.2.3, a.2.6)
-pause_of s l e k q a = absurd (cc)
+pause_of s l e {k = Pause} q a = (a.2.2, a.2.3, a.2.6)
+pause_of s l e q a = absurd (cc)
 
 -- a caller without events is outside
 no_events : (s : Shape) (es : List Event) (c d : ℕ) → AreOf c es → c ≢ d → (local s es d).phase ≡ Outside
@@ -143,20 +118,19 @@ status_some : (o : Option ℕ) → is_live (or_zero o) ≡ true → o ≡ Some (
 status_some None h = absurd (cc)
 status_some (Some n) h = refl
 
-pub no_pause_due : (s : Shape) (es : List Event) (e : Event) → Core s (e ∷ es) → IsUnmet s e.caller es →
+pub no_pause_due : {s : Shape} {es : List Event} (e : Event) → Core s (e ∷ es) → IsUnmet s e.caller es →
     Undisturbed s es e.caller → e.kind ≢ Pause
-no_pause_due s es e core (inl g) u k = g (pause_of s (local s es e.caller) e e.kind k core.1.allowed).0
-no_pause_due s es e core (inr h) u k = go may now r.0
+no_pause_due {s = s} {es = es} e core (inl g) u k = g (pause_of s (local s es e.caller) e k core.1.allowed).0
+no_pause_due {s = s} {es = es} e core (inr h) u k = go may now r.0
   where
     l : LocalState
     l = local s es e.caller
 
     may : (s.manager ≡ Greedy) × (is_some (res (local s es e.caller)).owner ≡ true)
         × (is_live (or_zero (res (local s es e.caller)).status) ≡ true)
-    may = pause_of s (local s es e.caller) e e.kind k core.1.allowed
+    may = pause_of s (local s es e.caller) e k core.1.allowed
 
-    now : ResNow s es (own_attempt s (local s es e.caller)) (Some (or_unresolved
-        (local s es e.caller).resolution))
+    now : ResNow s es (own_attempt s (local s es e.caller)) (Some (or_unresolved (local s es e.caller).resolution))
     now = now_res s es (own_attempt s (local s es e.caller)) (local s es e.caller).resolution
         (has_owner (local s es e.caller).resolution may.1) u.resolution
 
@@ -166,8 +140,7 @@ no_pause_due s es e core (inr h) u k = go may now r.0
 
     go : (s.manager ≡ Greedy) × (is_some (res (local s es e.caller)).owner ≡ true)
         × (is_live (or_zero (res (local s es e.caller)).status) ≡ true) →
-        ResNow s es (own_attempt s (local s es e.caller)) (Some (or_unresolved
-        (local s es e.caller).resolution)) →
+        ResNow s es (own_attempt s (local s es e.caller)) (Some (or_unresolved (local s es e.caller).resolution)) →
         Names s es (res (local s es e.caller)).word → ⊥
     go may now n = at_name st n
       where
@@ -185,7 +158,7 @@ no_pause_due s es e core (inr h) u k = go may now r.0
             let owner = (basic s es core.0).owner (x - 1) z.1 in
             let less = live_below (or_zero (res (local s es e.caller)).status) may.2 in
             let live : status_of s es x < 4 = let y = st.1 in omega arith in
-            let way = live_under_way s es core.0 (owner_of s es x) owner.begun live in
+            let way = live_under_way core.0 owner.begun live in
             way.0 (no_events s es e.caller (owner_of s es x / s.attempts) h
             (λ q. now.1 st.0 (sym way.1 ∙ ap (λ c. own_attempt s (local s es c)) (sym q))))
 
@@ -197,15 +170,13 @@ GoesOn s es c =
     (Undisturbed s es c × ((local s es c).phase ≢ Paused))
     ⊎ (((local s es c).phase ≡ Outside) × ((local s es c).committed ≡ true))
 
-pub own_status_found : (s : Shape) (es : List Event) (e : Event) → Core s (e ∷ es) → Undisturbed s es e.caller →
-    e.place ≡ place s (StatusWord (own_attempt s (local s es e.caller))) →
-    e.found ≡ given (local s es e.caller).phase
-own_status_found s es e core u q = core.1.linked ∙ ap (at es) q ∙ u.status
+pub own_status_found : {s : Shape} {es : List Event} (e : Event) → Core s (e ∷ es) → Undisturbed s es e.caller →
+    e.place ≡ place s (StatusWord (own_attempt s (local s es e.caller))) → e.found ≡ given (local s es e.caller).phase
+own_status_found {es = es} e core u q = core.1.linked ∙ ap (at es) q ∙ u.status
 
-pub goes_on_step : (s : Shape) (es : List Event) (e : Event) → Core s (e ∷ es) → IsUnmet s e.caller es →
-    Undisturbed s es e.caller → (local s es e.caller).phase ≢ Paused → e.kind ≢ Quit →
-    GoesOn s (e ∷ es) e.caller
-goes_on_step s es e core un u aw nq = go (is_outside_now (local s (e ∷ es) e.caller).phase)
+pub goes_on_step : {s : Shape} {es : List Event} (e : Event) → Core s (e ∷ es) → IsUnmet s e.caller es →
+    Undisturbed s es e.caller → (local s es e.caller).phase ≢ Paused → e.kind ≢ Quit → GoesOn s (e ∷ es) e.caller
+goes_on_step {s = s} {es = es} e core un u aw nq = go (is_outside_now (local s (e ∷ es) e.caller).phase)
   where
     now : local s (e ∷ es) e.caller ≡ after e.kind s (local s es e.caller) e
     now = local_own s es e
@@ -219,13 +190,13 @@ goes_on_step s es e core un u aw nq = go (is_outside_now (local s (e ∷ es) e.c
         GoesOn s (e ∷ es) e.caller
     go (inl o) = inr (
       o,
-      left (left_by s (local s es e.caller) e e.kind core.1.allowed (own_status_found s es e core u)
+      left (left_by s (local s es e.caller) e e.kind core.1.allowed (own_status_found e core u)
           u.inside (ap (λ (l : LocalState). l.phase) (sym now) ∙ o)),
     )
     go (inr i) = inl (
-      undisturbed_step s es e core i u,
+      undisturbed_step e core i u,
       awake_step s es e core
-          (no_pause_due s es e core un u) aw,
+          (no_pause_due e core un u) aw,
     )
 
 -- ---- a call
@@ -255,22 +226,21 @@ GoesSoFar s es c effort =
     ⊎ (((local s es c).phase ≡ Outside) × ((local s es c).committed ≡ true))
 
 call_step : (s : Shape) (es : List Event) (e : Event) (c : ℕ) (w : Work) (n : Option Event) (f : Effort) →
-    e.caller ≡ c →
-    Core s (e ∷ es) → IsUnmet s c es → IsDue (due (Doing w) s n (local s es c) f) e → GoesSoFar s es c f →
-    GoesSoFar s (e ∷ es) c (effort_after e.kind s.manager (local s es c) f e)
+    e.caller ≡ c → Core s (e ∷ es) → IsUnmet s c es → IsDue (due (Doing w) s n (local s es c) f) e →
+    GoesSoFar s es c f → GoesSoFar s (e ∷ es) c (effort_after e.kind s.manager (local s es c) f e)
 call_step s es e c w n f q core un d (inr x) = absurd (nothing_due w s n (local s es c) f e x.0 d)
 call_step s es e c w n f q core un d (inl x) =
     subst (λ c. IsUnmet s c es → IsDue (due (Doing w) s n (local s es c) f) e → Undisturbed s es c →
     (local s es c).phase ≢ Paused → GoesSoFar s (e ∷ es) c (effort_after e.kind s.manager (local s es c) f e)) q
-    (λ un d u aw. go u (goes_on_step s es e core un u aw
+    (λ un d u aw. go u (goes_on_step e core un u aw
     (no_quit_due w s n (local s es e.caller) f e u.inside aw u.agreed x.1 d))) un d x.0 x.2
   where
     go : Undisturbed s es e.caller → GoesOn s (e ∷ es) e.caller →
         GoesSoFar s (e ∷ es) e.caller (effort_after e.kind s.manager (local s es e.caller) f e)
     go u (inl y) = inl (
       y.0,
-      missed_after e.kind s.manager (local s es e.caller) f e (install_succeeds s es e core u)
-          (kill_succeeds s es e core u) ∙ x.1,
+      missed_after e.kind s.manager (local s es e.caller) f e (install_succeeds e core u)
+          (kill_succeeds e core u) ∙ x.1,
       y.1,
     )
     go u (inr y) = inr y
@@ -313,8 +283,8 @@ pub record IsFresh (l : LocalState) : Type 0 where
   pub last : l.last_pass ≡ None
   pub pass : l.pass ≡ None
 
-pub fresh_begin : (s : Shape) (l : LocalState) (e : Event) (k : Kind) → k ≡ Begin → IsFresh (after k s l e)
-fresh_begin s l e Begin q = record {
+pub fresh_begin : (s : Shape) (l : LocalState) (e : Event) {k : Kind} → k ≡ Begin → IsFresh (after k s l e)
+fresh_begin s l e {k = Begin} q = record {
   phase = refl;
   agreed = refl;
   reads = refl;
@@ -324,15 +294,15 @@ fresh_begin s l e Begin q = record {
   last = refl;
   pass = refl;
 }
-fresh_begin s l e k q = absurd (cc)
+fresh_begin s l e q = absurd (cc)
 
 -- the attempt as it begins
 pub begins_undisturbed : (s : Shape) (es : List Event) (e : Event) → Core s (e ∷ es) → e.kind ≡ Begin →
     Undisturbed s (e ∷ es) e.caller
 begins_undisturbed s es e core k =
     let now = local_own s es e in
-    let new = fresh_begin s (local s es e.caller) e e.kind k in
-    let put = begin_put s (local s es e.caller) e e.kind k core.1.allowed in
+    let new = fresh_begin s (local s es e.caller) e k in
+    let put = begin_put s (local s es e.caller) e k core.1.allowed in
     let here : (local s (e ∷ es) e.caller).phase ≡ Running = ap (λ (m : LocalState). m.phase) now ∙ new.phase in
     record {
       inside = λ q. let x = here in cc;
@@ -351,8 +321,7 @@ begins_undisturbed s es e core k =
       };
     }
 
-pub calls_go : (s : Shape) (c : ℕ) (g : Lcg) (calls : List Made) (es : List Event) →
-    AreOf c (all_events calls) →
+pub calls_go : (s : Shape) (c : ℕ) (g : Lcg) (calls : List Made) (es : List Event) → AreOf c (all_events calls) →
     Core s (all_events calls ++ es) → IsUnmet s c es → AreCalls s (local s es c) g calls → GoesOn s es c →
     GoesOn s (all_events calls ++ es) c
 calls_go s c g [] es h core un o u = u
@@ -361,32 +330,28 @@ calls_go s c g (x ∷ calls) es h core un o u =
     let whole : (x.events ++ all_events calls) ++ es ≡ x.events ++ (all_events calls ++ es) =
     append_assoc_events x.events (all_events calls) es in
     let core' = subst (Core s) whole core in
-    let before = calls_go s c g calls es parts.1 (core_past s x.events (all_events calls ++ es) core')
-    un o.0 u in
+    let before = calls_go s c g calls es parts.1 (core_past s x.events (all_events calls ++ es) core') un o.0 u in
     let here = local_after s c (all_events calls) es parts.1 in
     let g' = generator_after s (local s es c) g calls in
-    subst (λ xs. GoesOn s xs c) (sym whole)
-    (so_far s (x.events ++ (all_events calls ++ es)) c (effort_of s (local s
+    subst (λ xs. GoesOn s xs c) (sym whole) (so_far s (x.events ++ (all_events calls ++ es)) c (effort_of s (local s
     (all_events calls ++ es) c) g' x.events)
     (call_goes s c x.work g' x.events (all_events calls ++ es) parts.0 core' (unmet_more s c
-    (all_events calls) es parts.1 un)
-    (subst (λ m. Obeys (Doing x.work) s m g' x.events) (sym here) o.1.obeys) before))
+    (all_events calls) es parts.1 un) (subst (λ m. Obeys (Doing x.work) s m g' x.events) (sym here) o.1.obeys) before))
 
 -- it does not wait as it begins
 pub begins_awake : (s : Shape) (es : List Event) (e : Event) → e.kind ≡ Begin →
     (local s (e ∷ es) e.caller).phase ≢ Paused
 begins_awake s es e k q =
     let x = ap (λ (m : LocalState). m.phase) (local_own s es e)
-    ∙ (fresh_begin s (local s es e.caller) e e.kind k).phase in
+    ∙ (fresh_begin s (local s es e.caller) e k).phase in
     cc
 
 -- an attempt that is alone goes on undisturbed, or has committed
-pub alone_goes : (s : Shape) (g : Lcg) (calls : List Made) (begin : Event) (before : List Event) →
+pub alone_goes : {s : Shape} {g : Lcg} {calls : List Made} {begin : Event} {before : List Event} →
     IsAlone s g calls begin before → IsUnmet s begin.caller before →
     GoesOn s (all_events calls ++ begin ∷ before) begin.caller
-alone_goes s g calls begin before h un =
-    calls_go s begin.caller g calls (begin ∷ before) h.alone h.core (unmet un) h.made
-    (inl (
+alone_goes {s = s} {g = g} {calls = calls} {begin = begin} {before = before} h un =
+    calls_go s begin.caller g calls (begin ∷ before) h.alone h.core (unmet un) h.made (inl (
       begins_undisturbed s before begin (core_past s (all_events calls) (begin ∷ before) h.core) h.begins,
       begins_awake s before begin h.begins,
     ))
@@ -397,7 +362,7 @@ alone_goes s g calls begin before h un =
 
 pub alone_is_committed : AloneCommits
 alone_is_committed = λ s g calls begin before h un o. go s calls begin before o
-    (alone_goes s g calls begin before h un)
+    (alone_goes h un)
   where
     go : (s : Shape) (calls : List Made) (begin : Event) (before : List Event) →
         (local s (all_events calls ++ begin ∷ before) begin.caller).phase ≡ Outside →

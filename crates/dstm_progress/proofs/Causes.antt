@@ -1,26 +1,9 @@
 -- What a call answers that leaves its attempt has its cause in the call's events.
 use Rattle.std.proofs.Common.{◌++◌, ◌==◌, ◌∙◌, ◌∷◌, ◌≡◌, ◌≢◌, ◌⊎◌, List, None, Option, Some, [], ap, arith, false, inl, inr, is_some, refl, subst, sym, true, ℕ}
-use Rattle.std.proofs.lemmas.Bool.{cases_Bool, eq-eqb, eqb-true}
-use Rattle.dstm_core.specs.Events.{Event}
-use Rattle.dstm_core.specs.Rules.{after}
-use Rattle.dstm_core.specs.Runs.{Core, local}
-use Rattle.dstm_core.specs.State.{LocalState, own_attempt}
-use Rattle.dstm_core.specs.Traces.{events_of}
-use Rattle.dstm_core.specs.Words.{place}
-use Rattle.dstm_core.specs.Words.Word.{StatusWord}
-use Rattle.dstm_core.specs.declared.event.Kind.{Kind}
-use Rattle.dstm_core.specs.declared.event.Kind.TheVariants.{LookStatus, Quit}
-use Rattle.dstm_core.specs.declared.shape.Shape.{Shape}
-use Rattle.dstm_core.specs.declared.state.Phase.{Phase}
-use Rattle.dstm_core.specs.declared.state.Phase.TheVariants.{Outside, Paused}
+use Rattle.dstm_core.proofs.Base.{Core, Event, LocalState, StatusWord, after, cases_Bool, eq-eqb, eqb-true, events_of, local, own_attempt, place}
 use Rattle.dstm_core.proofs.Pasts.{core_past}
 use Rattle.dstm_core.proofs.Underway.{is_outside_now}
-use Rattle.dstm_order.specs.Calls.{Obeys, answer, answer_of, cause, due_after, effort_of, is_quit, newest_of, quit_cause, state_after}
-use Rattle.dstm_order.specs.Efforts.{Effort, most_missed}
-use Rattle.dstm_order.specs.Order.{IsDue, just, next_or_first}
-use Rattle.dstm_order.specs.Order.Due.{Step}
-use Rattle.dstm_order.specs.Tasks.{Work}
-use Rattle.dstm_order.specs.Tasks.Task.{Doing}
+use Rattle.dstm_order.proofs.Base.{Doing, Effort, IsDue, Kind, Lcg, LookStatus, Obeys, Outside, Paused, Phase, Quit, Shape, Step, Work, answer, answer_of, cause, due_after, effort_of, is_quit, just, most_missed, newest_of, next_or_first, quit_cause, state_after}
 use Rattle.dstm_order.specs.declared.again.Again.{Again}
 use Rattle.dstm_order.specs.declared.again.Again.TheVariants.{Killed}
 use Rattle.dstm_order.proofs.Misses.{missed_is}
@@ -28,7 +11,6 @@ use Rattle.dstm_order.proofs.Validations.{due_kind}
 use Rattle.dstm_progress.proofs.Answers.{none_committed, none_inside, quit_effort, quit_is, quit_keeps, some_cause}
 use Rattle.dstm_progress.proofs.Calls.{newest_no_quit, nothing_due, quit_not_due}
 use Rattle.dstm_progress.proofs.Own.{AreAllowed, call_begun, newest_own}
-use Rattle.rand_pcg.specs.Lcg.{Lcg}
 use Rattle.dstm_progress.specs.Causes.{Causes, Has, WaitsOut, finds_aborted, finds_stale}
 use Rattle.dstm_progress.specs.Ends.{IsCurrent}
 use Rattle.dstm_progress.specs.Calls.{EveryAgainHasItsCause}
@@ -77,18 +59,17 @@ waited w s l g e es o a h k i st m = go (is_paused_now old.phase)
     f = effort_of s l g es
 
     quit_due : (n : ℕ) × (due_after (Doing w) s l g es ≡ Step Quit n)
-    quit_due = due_kind (due_after (Doing w) s l g es) e Quit o.1 k
+    quit_due = due_kind (due_after (Doing w) s l g es) e o.1 k
 
     table : next_or_first (newest_of es) w s.manager old f ≡ Step Quit quit_due.0
-    table = table_says w s (newest_of es) old f (Step Quit quit_due.0) i st m quit_due.1
+    table = table_says w s (newest_of es) old f i st m quit_due.1
 
     go : (old.phase ≡ Paused) ⊎ (old.phase ≢ Paused) → WaitsOut s l (e ∷ es)
     go (inr p) = absurd (quit_not_due (next_or_first (newest_of es) w s.manager old f) e
-        (newest_no_quit (newest_of es) w s.manager old f p)
-        (subst (λ d. IsDue d e) (quit_due.1 ∙ sym table) o.1) k)
+        (newest_no_quit (newest_of es) w s.manager old f p) (subst (λ d. IsDue d e) (quit_due.1 ∙ sym table) o.1) k)
     go (inl p) =
-        let r = way_back w s l g es (Step Quit quit_due.0) o.0 a h p table refl in
-        let row = row_of old f (Step Quit quit_due.0) (sym r.row ∙ table) refl in
+        let r = way_back w s l g es o.0 a h p table refl in
+        let row = row_of old f (sym r.row ∙ table) refl in
         record {
           later = e ∷ [];
           looks = r.looks;
@@ -111,11 +92,11 @@ waited w s l g e es o a h k i st m = go (is_paused_now old.phase)
 
 -- ---- a call that ends with a Quit
 
-quits : (w : Work) (s : Shape) (l : LocalState) (g : Lcg) (e : Event) (es : List Event) (again : Again) →
+quits : (w : Work) (s : Shape) (l : LocalState) (g : Lcg) (e : Event) (es : List Event) {again : Again} →
     Obeys (Doing w) s l g (e ∷ es) → AreAllowed s l es → Sound l → l.stale ≡ false → e.kind ≡ Quit →
     (state_after s l es).phase ≢ Outside →
     quit_cause (state_after s l (e ∷ es)) (effort_of s l g (e ∷ es)) ≡ again → Causes again s l (e ∷ es)
-quits w s l g e es again o a h was k i q =
+quits w s l g e es o a h was k i q =
     subst (λ a. Causes a s l (e ∷ es)) q
     (go (cases_Bool new.stale) (cases_Bool ((effort_of s l g (e ∷ es)).missed == most_missed)))
   where
@@ -129,15 +110,14 @@ quits w s l g e es again o a h was k i q =
     f = effort_of s l g (e ∷ es)
 
     same : new.stale ≡ old.stale
-    same = quit_keeps s old e e.kind k
+    same = quit_keeps s old e k
 
     effort : f ≡ effort_of s l g es
-    effort = quit_effort s old (effort_of s l g es) e e.kind k
+    effort = quit_effort s old (effort_of s l g es) e k
 
     go : (new.stale ≡ true) ⊎ (new.stale ≡ false) →
-        (f.missed == most_missed ≡ true) ⊎ (f.missed == most_missed ≡ false) →
-        Causes (quit_cause new f) s l (e ∷ es)
-    go (inl y) z = rw y (subst (λ p. Has finds_stale p s l (e ∷ es)) (sym (quit_object s old e e.kind k))
+        (f.missed == most_missed ≡ true) ⊎ (f.missed == most_missed ≡ false) → Causes (quit_cause new f) s l (e ∷ es)
+    go (inl y) z = rw y (subst (λ p. Has finds_stale p s l (e ∷ es)) (sym (quit_object s old e k))
         (stale_now w s l g e es o.0 a h was i (sym same ∙ y)))
     go (inr y) (inl z) = rw (y, z) (sym (missed_is s l g (e ∷ es)) ∙ eqb-true f.missed most_missed z)
     go (inr y) (inr z) =
@@ -148,18 +128,15 @@ quits w s l g e es again o a h was k i q =
 
 -- the newest event of a caller is found in a run
 left_at : (s : Shape) (es : List Event) (e : Event) (c : ℕ) → e.caller ≡ c → Core s (e ∷ es) →
-    (local s es c).phase ≢ Outside → (after e.kind s (local s es c) e).phase ≡ Outside →
-    Left s (local s es c) e e.kind
+    (local s es c).phase ≢ Outside → (after e.kind s (local s es c) e).phase ≡ Outside → Left s (local s es c) e e.kind
 left_at s es e c q core i o =
     subst (λ c. (local s es c).phase ≢ Outside → (after e.kind s (local s es c) e).phase ≡ Outside →
     Left s (local s es c) e e.kind) q (left_in s es e core) i o
 
 -- how a call left its attempt
 pub left_call : (s : Shape) (c : ℕ) (e : Event) (es before run : List Event) → Core s run →
-    events_of c run ≡ (e ∷ es) ++ events_of c before →
-    (state_after s (local s before c) es).phase ≢ Outside →
-    (state_after s (local s before c) (e ∷ es)).phase ≡ Outside →
-    Left s (state_after s (local s before c) es) e e.kind
+    events_of c run ≡ (e ∷ es) ++ events_of c before → (state_after s (local s before c) es).phase ≢ Outside →
+    (state_after s (local s before c) (e ∷ es)).phase ≡ Outside → Left s (state_after s (local s before c) es) e e.kind
 left_call s c e es before run core own i out =
     let n = newest_own c run e (es ++ events_of c before) own in
     let core' = core_past s n.later (e ∷ n.before) (subst (Core s) n.run core) in
@@ -220,14 +197,14 @@ cause_in w s c g (e ∷ es) before run again core own o h now q = go (cases_Bool
 
     go : (is_quit e.kind ≡ true) ⊎ (is_quit e.kind ≡ false) → Causes again s (local s before c) (e ∷ es)
     go (inl k) =
-        quits w s l g e es again o (allowed_own s c run before (e ∷ es) core own).0 h now.agreed (quit_kind e.kind k)
+        quits w s l g e es o (allowed_own s c run before (e ∷ es) core own).0 h now.agreed (quit_kind e.kind k)
         inside (rw k at why)
     go (inr k) =
         let left = has_left w (Some e) new f again q in
         let is : Killed ≡ again = rw k at why in
         subst (λ a. Causes a s (local s before c) (e ∷ es)) is
         (killed w s c g e es before run core own o (h.number (h.begun now.live)) inside left.0 left.1
-        (λ z. let x = quit_is e.kind z in cc))
+        (λ z. let x = quit_is z in cc))
 
 pub again_has_its_cause : EveryAgainHasItsCause
 again_has_its_cause = λ w s c g events before run again h now q.

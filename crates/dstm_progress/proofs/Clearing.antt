@@ -1,41 +1,29 @@
 -- Between calls no stamp and no rank is left.
-use Rattle.std.proofs.Common.{Bool, List, Option, [], ap, arith, false, inl, inr, not, refl, subst, sym, true, ◌&&◌, ◌∙◌, ◌∷◌, ◌≡◌, ◌≢◌, ◌⊎◌}
-use Rattle.std.proofs.lemmas.Bool.{cases_Bool, cond_both}
-use Rattle.rand_pcg.specs.Lcg.{Lcg}
-use Rattle.dstm_core.specs.Events.{Event}
-use Rattle.dstm_core.specs.Rules.{AllowedAs, after, is_outside}
-use Rattle.dstm_core.specs.Runs.{local}
-use Rattle.dstm_core.specs.State.{LocalState}
-use Rattle.dstm_core.specs.declared.event.Kind.{Kind}
-use Rattle.dstm_core.specs.declared.event.Kind.TheVariants.{Begin, Enrol, Quit, Rank, Stamp}
-use Rattle.dstm_core.specs.declared.shape.Shape.{Shape}
-use Rattle.dstm_core.specs.declared.state.Phase.TheVariants.{Outside}
+use Rattle.std.proofs.Common.{Bool, List, Option, [], ap, arith, false, inl, inr, refl, subst, sym, true, ◌∙◌, ◌∷◌, ◌≡◌, ◌≢◌, ◌⊎◌}
+use Rattle.dstm_core.proofs.Base.{AllowedAs, Event, LocalState, after, cases_Bool, cond_both, is_outside, nat_tests}
+use Rattle.dstm_order.proofs.Base.{Begin, Beginning, Doing, Done, Due, Enrol, Enrolling, IsCall, IsDue, Kind, Lcg, Leaving, Obeys, Outside, Quit, Rank, Shape, Stamp, Task, Work, effort_of, has_begun, in_beginning, is_begin, is_spent, just, newest_of, state_after}
+use Rattle.dstm_order.proofs.Beginnings.{none_after}
+use Rattle.dstm_order.proofs.Rows.{beginning_by}
 use Rattle.dstm_order.specs.Beginnings.{IsClear}
-use Rattle.dstm_order.specs.Calls.{IsCall, Obeys, effort_of, newest_of, state_after}
-use Rattle.dstm_order.specs.Order.{Due, IsDue, has_begun, has_ranks, has_stamps, in_beginning, is_begin, is_spent, just}
-use Rattle.dstm_order.specs.Order.Due.{Done}
-use Rattle.dstm_order.specs.Tasks.{Task, Work}
-use Rattle.dstm_order.specs.Tasks.Task.{Beginning, Doing, Enrolling, Leaving}
 use Rattle.dstm_progress.specs.Calls.{EveryCallLeavesNothing, NothingAtFirst}
-use Rattle.dstm_progress.proofs.Beginnings.{begin_kind, begins_last, spent_at}
+use Rattle.dstm_progress.proofs.Beginnings.{begin_kind, spent_at}
 use Rattle.dstm_progress.proofs.Calls.{inside_phase, nothing_due}
 use Rattle.dstm_progress.proofs.Own.{AreAllowed}
 use Rattle.dstm_progress.proofs.OwnEvents.{after_own, allowed_own}
-use Rattle.std.proofs.lemmas.Bool.Decides.{nat_tests}
 
 -- ---- one event
 
 -- an event of an attempt under way leaves nothing
-clear_inside : (s : Shape) (l : LocalState) (e : Event) (k : Kind) → AllowedAs k s l e → l.phase ≢ Outside →
+clear_inside : (s : Shape) {l : LocalState} (e : Event) (k : Kind) → AllowedAs k s l e → l.phase ≢ Outside →
     IsClear l → IsClear (after k s l e)
-clear_inside s l e Stamp a i h = absurd (i a.2.0)
-clear_inside s l e Rank a i h = record { no_stamp = h.no_stamp; no_rank = inside_phase l.phase i }
-clear_inside s l e Begin a i h = record { no_stamp = refl; no_rank = refl }
-clear_inside s l e k a i h = record { no_stamp = grind (arith, nat_tests, h.no_stamp); no_rank = grind (arith, nat_tests, h.no_rank) }
+clear_inside s e Stamp a i h = absurd (i a.2.0)
+clear_inside s {l = l} e Rank a i h = record { no_stamp = h.no_stamp; no_rank = inside_phase l.phase i }
+clear_inside s e Begin a i h = record { no_stamp = refl; no_rank = refl }
+clear_inside s e k a i h = record { no_stamp = grind (arith, nat_tests, h.no_stamp); no_rank = grind (arith, nat_tests, h.no_rank) }
 
-clear_at : (s : Shape) (l : LocalState) (e : Event) (k : Kind) → e.kind ≡ k → IsClear (after k s l e) →
+clear_at : (s : Shape) (l : LocalState) (e : Event) {k : Kind} → e.kind ≡ k → IsClear (after k s l e) →
     IsClear (after e.kind s l e)
-clear_at s l e k is h = subst (λ k. IsClear (after k s l e)) (sym is) h
+clear_at s l e {k = k} is h = subst (λ k. IsClear (after k s l e)) (sym is) h
 
 -- ---- to begin: either nothing is left so far, or the caller is not spent, so that the call goes on to its Begin
 module _ (s : Shape) (fresh : Bool) (l : LocalState) (e : Event) where
@@ -45,39 +33,35 @@ module _ (s : Shape) (fresh : Bool) (l : LocalState) (e : Event) where
   abbrev On : Due → Type 0
   On d = IsDue d e → is_begin e.kind ≡ false → Goes (after e.kind s l e)
 
-  at_kind : (k : Kind) → e.kind ≡ k → Goes (after k s l e) → Goes (after e.kind s l e)
-  at_kind k is h = subst (λ k. Goes (after k s l e)) (sym is) h
+  at_kind : {k : Kind} → e.kind ≡ k → Goes (after k s l e) → Goes (after e.kind s l e)
+  at_kind {k = k} is h = subst (λ k. Goes (after k s l e)) (sym is) h
 
   quits : Goes l → Goes (after Quit s l e)
   quits (inl h) = inl (record { no_stamp = h.no_stamp; no_rank = h.no_rank })
   quits (inr h) = inr h
 
   goes_on : (o : Option Event) → Goes l → On (in_beginning s fresh o l)
-  goes_on o h =
-      cond_both (has_begun o) _ _ On (λ _ x n. absurd x) (λ _.
-      cond_both (not (is_outside l.phase)) _ _ On (λ _ x n. at_kind Quit x.0 (quits h)) (λ _.
-      cond_both (is_spent s l) _ _ On (λ _ x n. absurd x) (λ free.
-      cond_both (has_stamps s.manager && fresh && not l.stamped) _ _ On (λ _ x n. at_kind Stamp x.0 (inr free)) (λ _.
-      cond_both (has_ranks s.manager && not l.ranked) _ _ On (λ _ x n. at_kind Rank x.0 (inr free)) (λ _ x n.
-      absurd (let no_way : true ≡ false = sym (ap is_begin x.0) ∙ n in cc))))))
+  goes_on o h = beginning_by On s fresh o l (λ x n. absurd x) (λ x n. at_kind x.0 (quits h))
+      (λ free _ x n. at_kind x.0 (inr free)) (λ free x n. at_kind x.0 (inr free))
+      (λ x n. absurd (let no_way : true ≡ false = sym (ap is_begin x.0) ∙ n in cc))
 
 -- ---- a call
 
-module _ (s : Shape) (l : LocalState) (g : Lcg) (clear : IsClear l) where
+module _ (s : Shape) {l : LocalState} (g : Lcg) (clear : IsClear l) where
   goes_so_far : (fresh : Bool) (es : List Event) → Obeys (Beginning fresh) s l g es → has_begun (newest_of es) ≡ false →
       IsClear (state_after s l es) ⊎ (is_spent s (state_after s l es) ≡ false)
   goes_so_far fresh [] h n = inl clear
   goes_so_far fresh (e ∷ es) h n =
       goes_on s fresh (state_after s l es) e (newest_of es)
-      (goes_so_far fresh es h.0 (begins_last fresh s (newest_of es) (state_after s l es) e h.1)) h.1 n
+      (goes_so_far fresh es h.0 (none_after (newest_of es) s fresh (state_after s l es) e h.1)) h.1 n
 
-  begin_clears : (fresh : Bool) (es : List Event) → IsCall (Beginning fresh) s l g es → IsClear (state_after s l es)
-  begin_clears fresh es h = by es h (cases_Bool (has_begun (newest_of es)))
+  begin_clears : {fresh : Bool} {es : List Event} → IsCall (Beginning fresh) s l g es → IsClear (state_after s l es)
+  begin_clears {fresh = fresh} {es = es} h = by es h (cases_Bool (has_begun (newest_of es)))
     where
       begun : (es : List Event) → has_begun (newest_of es) ≡ true → IsClear (state_after s l es)
       begun [] q = absurd (cc)
       begun (e ∷ es) q =
-          clear_at s (state_after s l es) e Begin (begin_kind e.kind q) (record { no_stamp = refl; no_rank = refl })
+          clear_at s (state_after s l es) e (begin_kind e.kind q) (record { no_stamp = refl; no_rank = refl })
 
       none : (es : List Event) → IsClear (state_after s l es) ⊎ (is_spent s (state_after s l es) ≡ false) →
           is_spent s (state_after s l es) ≡ true → IsClear (state_after s l es)
@@ -93,7 +77,7 @@ module _ (s : Shape) (l : LocalState) (g : Lcg) (clear : IsClear l) where
   does_clear : (w : Work) (es : List Event) → AreAllowed s l es → Obeys (Doing w) s l g es → IsClear (state_after s l es)
   does_clear w [] a h = clear
   does_clear w (e ∷ es) a h =
-      clear_inside s (state_after s l es) e e.kind a.1
+      clear_inside s e e.kind a.1
       (λ out. nothing_due w s (newest_of es) (state_after s l es) (effort_of s l g es) e out h.1)
       (does_clear w es a.0 h.0)
 
@@ -101,24 +85,23 @@ module _ (s : Shape) (l : LocalState) (g : Lcg) (clear : IsClear l) where
   leave_clears [] a h = clear
   leave_clears (e ∷ es) a h =
       let old = leave_clears es a.0 h.0 in
-      clear_at s (state_after s l es) e Quit
+      clear_at s (state_after s l es) e
       (cond_both (is_outside (state_after s l es).phase) Done (just Quit) (λ d. IsDue d e → e.kind ≡ Quit)
-      (λ _ x. absurd x) (λ _ x. x.0) h.1)
-      (record { no_stamp = old.no_stamp; no_rank = old.no_rank })
+      (λ _ x. absurd x) (λ _ x. x.0) h.1) (record { no_stamp = old.no_stamp; no_rank = old.no_rank })
 
   enrol_clears : (es : List Event) → Obeys Enrolling s l g es → IsClear (state_after s l es)
   enrol_clears [] h = clear
   enrol_clears (e ∷ es) h =
       let old = enrol_clears es h.0 in
-      clear_at s (state_after s l es) e Enrol
+      clear_at s (state_after s l es) e
       (cond_both _ Done (just Enrol) (λ d. IsDue d e → e.kind ≡ Enrol) (λ _ x. absurd x) (λ _ x. x.0) h.1)
       (record { no_stamp = old.no_stamp; no_rank = old.no_rank })
 
-  call_clears : (t : Task) (es : List Event) → AreAllowed s l es → IsCall t s l g es → IsClear (state_after s l es)
-  call_clears Enrolling es a h = enrol_clears es h.obeys
-  call_clears (Beginning fresh) es a h = begin_clears fresh es h
-  call_clears Leaving es a h = leave_clears es a h.obeys
-  call_clears (Doing w) es a h = does_clear w es a h.obeys
+  call_clears : {t : Task} {es : List Event} → AreAllowed s l es → IsCall t s l g es → IsClear (state_after s l es)
+  call_clears {t = Enrolling} {es = es} a h = enrol_clears es h.obeys
+  call_clears {t = (Beginning fresh)} a h = begin_clears h
+  call_clears {t = Leaving} {es = es} a h = leave_clears es a h.obeys
+  call_clears {t = (Doing w)} {es = es} a h = does_clear w es a h.obeys
 
 -- ---- in a run
 
@@ -128,4 +111,4 @@ nothing_first = record { no_stamp = refl; no_rank = refl }
 pub leaves_nothing : EveryCallLeavesNothing
 leaves_nothing = λ t s c g events before run h clear.
     subst IsClear (sym (after_own s c run before events h.own))
-    (call_clears s (local s before c) g clear t events (allowed_own s c run before events h.core h.own) h.call)
+    (call_clears s g clear (allowed_own s c run before events h.core h.own) h.call)

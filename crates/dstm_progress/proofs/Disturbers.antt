@@ -1,22 +1,11 @@
 -- Who disturbs an attempt: another caller, since its Begin or, where it gives way, before it.
 use Rattle.std.proofs.Common.{◌&&◌, ◌++◌, ◌+◌, ◌<◌, ◌==◌, ◌∙◌, ◌∷◌, ◌≡◌, ◌≢◌, ◌≤◌, ◌⊎◌, Bool, List, [], ap, append-nil, arith, false, inl, inr, not, refl, subst, sym, true, ℕ}
-use Rattle.std.proofs.lemmas.Bool.{cases_Bool, cases_lt, eq-eqb, ne_eqb}
-use Rattle.dstm_core.specs.Events.{Event}
-use Rattle.dstm_core.specs.Rules.{AllowedAs, after}
-use Rattle.dstm_core.specs.Runs.{Core, local}
-use Rattle.dstm_core.specs.State.{LocalState, given, own_attempt}
-use Rattle.dstm_core.specs.Words.{place}
-use Rattle.dstm_core.specs.Words.Word.{StatusWord}
-use Rattle.dstm_core.specs.declared.event.Kind.{Kind}
-use Rattle.dstm_core.specs.declared.event.Kind.TheVariants.{Begin, Commit, Enrol, Install, Kill, LookSelf, Pause, Quit, Rank, Resume, Stamp, Validating as ToValidating}
-use Rattle.dstm_core.specs.declared.shape.Shape.{Shape}
-use Rattle.dstm_core.specs.declared.state.Phase.{Phase}
-use Rattle.dstm_core.specs.declared.state.Phase.TheVariants.{Drawn, Outside, Paused, Putting, Running, Validating}
+use Rattle.dstm_core.proofs.Base.{AllowedAs, Core, Event, LocalState, StatusWord, after, cases_Bool, cases_lt, eq-eqb, given, local, ne_eqb, own_attempt, place}
 use Rattle.dstm_core.proofs.Pasts.{core_past}
 use Rattle.dstm_core.proofs.Static.{begun_more, local_own}
 use Rattle.dstm_core.proofs.Statuses.{begun_up}
 use Rattle.dstm_core.proofs.Underway.{is_outside_now}
-use Rattle.dstm_order.specs.Passes.{is_miss}
+use Rattle.dstm_order.proofs.Base.{Begin, Commit, Drawn, Enrol, Install, Kill, Kind, LookSelf, Outside, Pause, Paused, Phase, Putting, Quit, Rank, Resume, Running, Shape, Stamp, ToValidating, Validating, is_miss}
 use Rattle.dstm_progress.specs.Alone.{AreOf}
 use Rattle.dstm_progress.specs.Causes.{finds_aborted, finds_stale, gives_way, is_at_own}
 use Rattle.dstm_progress.specs.Disturbed.{Disturbed, HasOther, count_of, fails}
@@ -96,13 +85,12 @@ module _ (s : Shape) (es : List Event) (e : Event) (core : Core s (e ∷ es)) wh
   fine_aborted (inr u) = by (cases_Bool (is_at_own e.kind))
     where
       by : (is_at_own e.kind ≡ true) ⊎ (is_at_own e.kind ≡ false) → finds_aborted s l e ≡ false
-      by (inl q) =
-          rw (q, own_status_found s es e core u (at_own_place s l e e.kind core.1.allowed q)) (given_live l.phase)
+      by (inl q) = rw (q, own_status_found e core u (at_own_place s l e e.kind core.1.allowed q)) (given_live l.phase)
       by (inr q) = rw q refl
 
   fine_hits : Fine s es e.caller → fails s l e ≡ false
   fine_hits (inl o) = early_hits e.kind e (early s l e e.kind core.1.allowed o)
-  fine_hits (inr u) = hits e.kind e (install_succeeds s es e core u) (kill_succeeds s es e core u)
+  fine_hits (inr u) = hits e.kind e (install_succeeds e core u) (kill_succeeds e core u)
 
   fine_step : Fine s es e.caller → Fine s (e ∷ es) e.caller
   fine_step h = by h (is_outside_now (local s (e ∷ es) e.caller).phase)
@@ -111,7 +99,7 @@ module _ (s : Shape) (es : List Event) (e : Event) (core : Core s (e ∷ es)) wh
           ((local s (e ∷ es) e.caller).phase ≡ Outside) ⊎ ((local s (e ∷ es) e.caller).phase ≢ Outside) →
           Fine s (e ∷ es) e.caller
       by h (inl out) = inl out
-      by (inr u) (inr i) = inr (undisturbed_step s es e core i u)
+      by (inr u) (inr i) = inr (undisturbed_step e core i u)
       by (inl o) (inr i) =
           inr (begins_undisturbed s es e core (early_out s l e e.kind (early s l e e.kind core.1.allowed o) o
           (λ q. i (ap (λ (m : LocalState). m.phase) (local_own s es e) ∙ q))))
@@ -120,7 +108,7 @@ module _ (s : Shape) (es : List Event) (e : Event) (core : Core s (e ∷ es)) wh
   no_pause (inl o) own k =
       let x : is_early Pause ≡ true = subst (λ k. is_early k ≡ true) k (early s l e e.kind core.1.allowed o) in
       absurd (cc)
-  no_pause (inr u) own k = no_pause_due s es e core (inr own) u k
+  no_pause (inr u) own k = no_pause_due e core (inr own) u k
 
 -- ---- what is counted
 
@@ -158,8 +146,7 @@ none_before : (test : Test) (s : Shape) (es : List Event) (c i : ℕ) → (local
 none_before test s [] c i h = refl
 none_before test s (e ∷ es) c i h =
     let more = begun_more s es e c in
-    same_count test s es e c i
-    (no_second (e.caller == c) ((local s es c).begun == i) (test s (local s es c) e)
+    same_count test s es e c i (no_second (e.caller == c) ((local s es c).begun == i) (test s (local s es c) e)
     (ne_eqb (local s es c).begun i (λ q. omega arith)))
     ∙ none_before test s es c i (omega arith)
 
@@ -170,9 +157,8 @@ none_at_begin test s e es k =
     let c = e.caller in
     let i = (local s (e ∷ es) c).begun in
     let up : i ≡ (local s es c).begun + 1 =
-    ap (λ (m : LocalState). m.begun) (local_own s es e) ∙ begun_up s (local s es c) e e.kind k in
-    same_count test s es e c i
-    (no_second (e.caller == c) ((local s es c).begun == i) (test s (local s es c) e)
+    ap (λ (m : LocalState). m.begun) (local_own s es e) ∙ begun_up s (local s es c) e k in
+    same_count test s es e c i (no_second (e.caller == c) ((local s es c).begun == i) (test s (local s es c) e)
     (ne_eqb (local s es c).begun i (λ q. omega arith)))
     ∙ none_before test s es c i (omega arith)
 
@@ -182,8 +168,7 @@ none_of_strangers : (test : Test) (s : Shape) (es : List Event) (c i : ℕ) → 
 none_of_strangers test s [] c i core h = refl
 none_of_strangers test s (e ∷ es) c i core h =
     let b = core.1.caller in
-    same_count test s es e c i
-    (no_first (e.caller == c) (((local s es c).begun == i) && test s (local s es c) e)
+    same_count test s es e c i (no_first (e.caller == c) (((local s es c).begun == i) && test s (local s es c) e)
     (ne_eqb e.caller c (λ q. omega arith)))
     ∙ none_of_strangers test s es c i core.0 h
 
@@ -196,9 +181,9 @@ record Quiet (s : Shape) (c i : ℕ) (log before : List Event) : Type 0 where
   pub aborted : count_of finds_aborted s log c i ≡ count_of finds_aborted s before c i
   pub failed : count_of fails s log c i ≡ count_of fails s before c i
 
-quiet_step : (s : Shape) (i : ℕ) (e : Event) (log before : List Event) → Core s (e ∷ log) →
+quiet_step : {s : Shape} {i : ℕ} (e : Event) {log before : List Event} → Core s (e ∷ log) →
     Quiet s e.caller i log before → Quiet s e.caller i (e ∷ log) before
-quiet_step s i e log before core h = record {
+quiet_step {s = s} {i = i} e {log = log} core h = record {
   fine = fine_step s log e core h.fine;
   stale = none_counts finds_stale s log e i (fine_stale s log e core h.fine) ∙ h.stale;
   aborted = none_counts finds_aborted s log e i (fine_aborted s log e core h.fine) ∙ h.aborted;
@@ -210,7 +195,7 @@ quiet : (s : Shape) (c i : ℕ) (later before : List Event) → Core s (later ++
 quiet s c i [] before core own fine = record { fine = fine; stale = refl; aborted = refl; failed = refl }
 quiet s c i (e ∷ later) before core own fine =
     subst (λ c. Quiet s c i (later ++ before) before → Quiet s c i (e ∷ (later ++ before)) before) own.0
-    (quiet_step s i e (later ++ before) before core) (quiet s c i later before core.0 own.1 fine)
+    (quiet_step e core) (quiet s c i later before core.0 own.1 fine)
 
 -- where all events are its own it does not give way either
 record Alone (s : Shape) (c i : ℕ) (log : List Event) : Type 0 where
@@ -218,9 +203,9 @@ record Alone (s : Shape) (c i : ℕ) (log : List Event) : Type 0 where
   pub awake : (local s log c).phase ≢ Paused
   pub none : count_of gives_way s log c i ≡ 0
 
-alone_step : (s : Shape) (i : ℕ) (e : Event) (log : List Event) → Core s (e ∷ log) → AreOf e.caller log →
+alone_step : {s : Shape} {i : ℕ} (e : Event) {log : List Event} → Core s (e ∷ log) → AreOf e.caller log →
     Alone s e.caller i log → Alone s e.caller i (e ∷ log)
-alone_step s i e log core own h = record {
+alone_step {s = s} {i = i} e {log = log} core own h = record {
   fine = fine_step s log e core h.fine;
   awake = awake_step s log e core (no_pause s log e core h.fine own) h.awake;
   none = none_counts gives_way s log e i (rw (not_paused (local s log e.caller).phase h.awake) refl) ∙ h.none;
@@ -229,7 +214,7 @@ alone_step s i e log core own h = record {
 alone : (s : Shape) (c i : ℕ) (log : List Event) → Core s log → AreOf c log → Alone s c i log
 alone s c i [] core own = record { fine = inl refl; awake = λ q. cc; none = refl }
 alone s c i (e ∷ log) core own =
-    subst (λ c. AreOf c log → Alone s c i log → Alone s c i (e ∷ log)) own.0 (alone_step s i e log core) own.1
+    subst (λ c. AreOf c log → Alone s c i log → Alone s c i (e ∷ log)) own.0 (alone_step e core) own.1
     (alone s c i log core.0 own.1)
 
 -- ---- disturbances
@@ -254,8 +239,8 @@ by_another s later begin before core k few h = by (own_or_other begin.caller lat
         found q (missed x) = let n = none_at_begin fails s begin before k in let a = q.failed in omega arith
         found q (gave_way g x) = let y = few g in omega arith
 
-alone_is_not : (s : Shape) (log : List Event) (c i : ℕ) → Core s log → AreOf c log → Disturbed s log c i → ⊥
-alone_is_not s log c i core own h = found (subst (λ xs. Quiet s c i xs []) (append-nil log) now) h
+alone_is_not : {s : Shape} {log : List Event} {c i : ℕ} → Core s log → AreOf c log → Disturbed s log c i → ⊥
+alone_is_not {s = s} {log = log} {c = c} {i = i} core own h = found (subst (λ xs. Quiet s c i xs []) (append-nil log) now) h
   where
     now : Quiet s c i (log ++ []) []
     now = quiet s c i log [] (subst (Core s) (sym (append-nil log)) core) own (inl refl)
@@ -271,15 +256,15 @@ beside_another s log c i core h = by (own_or_other c log)
   where
     by : AreOf c log ⊎ HasOther c log → HasOther c log
     by (inr x) = x
-    by (inl own) = absurd (alone_is_not s log c i core own h)
+    by (inl own) = absurd (alone_is_not core own h)
 
-stranger_is_not : (s : Shape) (log : List Event) (c i : ℕ) → Core s log → s.callers ≤ c → Disturbed s log c i → ⊥
-stranger_is_not s log c i core b (became_stale x) =
+stranger_is_not : {s : Shape} {log : List Event} {c i : ℕ} → Core s log → s.callers ≤ c → Disturbed s log c i → ⊥
+stranger_is_not {s = s} {log = log} {c = c} {i = i} core b (became_stale x) =
     let a = none_of_strangers finds_stale s log c i core b in omega arith
-stranger_is_not s log c i core b (was_aborted x) =
+stranger_is_not {s = s} {log = log} {c = c} {i = i} core b (was_aborted x) =
     let a = none_of_strangers finds_aborted s log c i core b in omega arith
-stranger_is_not s log c i core b (missed x) = let a = none_of_strangers fails s log c i core b in omega arith
-stranger_is_not s log c i core b (gave_way g x) =
+stranger_is_not {s = s} {log = log} {c = c} {i = i} core b (missed x) = let a = none_of_strangers fails s log c i core b in omega arith
+stranger_is_not {s = s} {log = log} {c = c} {i = i} core b (gave_way g x) =
     let a = none_of_strangers gives_way s log c i core b in omega arith
 
 pub none_alone : NoneIsDisturbedAlone
@@ -287,5 +272,5 @@ none_alone s log c i core h = by (cases_lt 1 s.callers) (cases_lt c s.callers)
   where
     by : (1 < s.callers) ⊎ (s.callers ≤ 1) → (c < s.callers) ⊎ (s.callers ≤ c) → 1 < s.callers
     by (inl x) y = x
-    by (inr few) (inl b) = absurd (alone_is_not s log c i core (one_alone s log c core b few) h)
-    by (inr few) (inr b) = absurd (stranger_is_not s log c i core b h)
+    by (inr few) (inl b) = absurd (alone_is_not core (one_alone s log c core b few) h)
+    by (inr few) (inr b) = absurd (stranger_is_not core b h)

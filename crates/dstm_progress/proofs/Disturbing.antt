@@ -1,15 +1,8 @@
 -- A cause in the events of a call is a disturbance of its attempt in the log.
-use Rattle.std.proofs.Common.{◌&&◌, ◌++◌, ◌+◌, ◌==◌, ◌∙◌, ◌∷◌, ◌≡◌, ◌≤◌, ◌⊎◌, Bool, List, [], ap, arith, cond, false, inl, inr, length, refl, subst, sym, true, ℕ}
-use Rattle.std.specs.Prelude.{if◌then◌else◌}
-use Rattle.std.proofs.lemmas.Bool.{cases_Bool, cond_both, eq-eqb}
-use Rattle.dstm_core.specs.Events.{Event}
-use Rattle.dstm_core.specs.Runs.{local}
-use Rattle.dstm_core.specs.State.{LocalState, first}
-use Rattle.dstm_core.specs.Traces.{events_of}
-use Rattle.dstm_core.specs.declared.shape.Shape.{Shape}
+use Rattle.std.proofs.Common.{◌&&◌, ◌++◌, ◌+◌, ◌==◌, ◌∙◌, ◌∷◌, ◌≡◌, ◌≤◌, ◌⊎◌, Bool, List, [], ap, arith, cond, false, inl, inr, length, refl, subst, sym, true, ℕ, if◌then◌else◌}
+use Rattle.dstm_core.proofs.Base.{Event, LocalState, cases_Bool, cond_both, eq-eqb, events_of, first, local}
 use Rattle.dstm_core.proofs.Static.{begun_step}
-use Rattle.dstm_order.specs.Calls.{state_after}
-use Rattle.dstm_order.specs.Passes.{is_miss, misses}
+use Rattle.dstm_order.proofs.Base.{Shape, is_miss, misses, state_after}
 use Rattle.dstm_order.specs.declared.again.Again.{Again}
 use Rattle.dstm_order.specs.declared.again.Again.TheVariants.{Killed, Lost, Stale, Waited}
 use Rattle.dstm_progress.proofs.Own.{state_both}
@@ -40,9 +33,9 @@ more_counts test s l (e ∷ later) es = let ih = more_counts test s l later es i
     cond_both (test s (state_after s l (later ++ es)) e) (count_in test s l (later ++ es) + 1)
     (count_in test s l (later ++ es)) (λ n. count_in test s l es ≤ n) (λ _. omega arith) (λ _. ih)
 
-has_counts : (test : Test) (p : ℕ) (s : Shape) (l : LocalState) (es : List Event) → Has test p s l es →
+has_counts : {test : Test} {p : ℕ} {s : Shape} {l : LocalState} {es : List Event} → Has test p s l es →
     1 ≤ count_in test s l es
-has_counts test p s l es h =
+has_counts {test = test} {s = s} {l = l} h =
     let more = more_counts test s l h.later (h.event ∷ h.before) in
     let one = count_one test s l h.event h.before h.passes in
     subst (λ xs. 1 ≤ count_in test s l xs) (sym h.whole) (omega arith)
@@ -64,15 +57,13 @@ misses_count s l (e ∷ es) = ap (λ n. if is_miss e.kind e then n + 1 else n) (
 abbrev count_at : Test → Shape → LocalState → List Event → ℕ → ℕ
 count_at test s l [] i = 0
 count_at test s l (e ∷ es) i =
-    if ((state_after s l es).begun == i) && test s (state_after s l es) e
-    then count_at test s l es i + 1
+    if ((state_after s l es).begun == i) && test s (state_after s l es) e then count_at test s l es i + 1
     else count_at test s l es i
 
 log_count : (test : Test) (s : Shape) (log : List Event) (c i : ℕ) →
     count_of test s log c i ≡ count_at test s first (events_of c log) i
 log_count test s [] c i = refl
-log_count test s (e ∷ log) c i =
-    go (log_count test s log c i) (whole_state s c log) (cases_Bool (e.caller == c))
+log_count test s (e ∷ log) c i = go (log_count test s log c i) (whole_state s c log) (cases_Bool (e.caller == c))
   where
     go : count_of test s log c i ≡ count_at test s first (events_of c log) i →
         local s log c ≡ state_after s first (events_of c log) → (e.caller == c ≡ true) ⊎ (e.caller == c ≡ false) →
@@ -132,10 +123,10 @@ disturbs : (again : Again) (s : Shape) (c i : ℕ) (es before run : List Event) 
     events_of c run ≡ es ++ events_of c before → (local s before c).begun ≡ i → (local s run c).begun ≡ i →
     Causes again s (local s before c) es → Disturbed s run c i
 disturbs (Stale o) s c i es before run own old new h =
-    became_stale (let a = has_counts finds_stale o s (local s before c) es h in
+    became_stale (let a = has_counts h in
     let b = log_counts finds_stale s c i es before run own old new in omega arith)
 disturbs Killed s c i es before run own old new h =
-    was_aborted (let a = has_counts finds_aborted _ s (local s before c) es h in
+    was_aborted (let a = has_counts h in
     let b = log_counts finds_aborted s c i es before run own old new in omega arith)
 disturbs Lost s c i es before run own old new h =
     missed (let a = misses_count s (local s before c) es in
@@ -167,7 +158,6 @@ disturbed_stays s later before c i (became_stale h) =
     became_stale (let a = later_counts finds_stale s later before c i in omega arith)
 disturbed_stays s later before c i (was_aborted h) =
     was_aborted (let a = later_counts finds_aborted s later before c i in omega arith)
-disturbed_stays s later before c i (missed h) =
-    missed (let a = later_counts fails s later before c i in omega arith)
+disturbed_stays s later before c i (missed h) = missed (let a = later_counts fails s later before c i in omega arith)
 disturbed_stays s later before c i (gave_way g h) =
     gave_way g (let a = later_counts gives_way s later before c i in omega arith)

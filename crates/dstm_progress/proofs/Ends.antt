@@ -1,16 +1,7 @@
 -- What stands of an attempt that has ended.
 use Rattle.std.proofs.Common.{◌*◌, ◌+◌, ◌-◌, ◌<◌, ◌∙◌, ◌∷◌, ◌≡◌, ◌≢◌, ◌≤◌, ◌⊎◌, Bool, List, None, Some, [], ap, arith, false, inl, inr, is_some, subst, sym, true, ℕ, nat_lt, not}
-use Rattle.std.proofs.lemmas.Bool.{cases_eq, ltb-false, ltb-true, not-true, or_cases}
-use Rattle.dstm_core.specs.Events.{Event}
-use Rattle.dstm_core.specs.Rules.{after}
-use Rattle.dstm_core.specs.Runs.{Core, local}
-use Rattle.dstm_core.specs.State.{LocalState, or_zero, own_attempt}
-use Rattle.dstm_core.specs.Traces.{at, word}
-use Rattle.dstm_core.specs.Words.Word.{StatusWord}
-use Rattle.dstm_core.specs.declared.event.Kind.{Kind}
-use Rattle.dstm_core.specs.declared.event.Kind.TheVariants.{Begin}
-use Rattle.dstm_core.specs.declared.shape.Shape.{Shape}
-use Rattle.dstm_core.specs.declared.state.Phase.TheVariants.{Outside}
+use Rattle.dstm_core.proofs.Base.{Core, Event, LocalState, StatusWord, after, at, cases_eq, local, ltb-false, ltb-true, not-true, or_cases, or_zero, own_attempt, word}
+use Rattle.dstm_order.proofs.Base.{Begin, Kind, Outside, Shape}
 use Rattle.dstm_core.proofs.Begun.{begun_how}
 use Rattle.dstm_core.proofs.Columns.{in_table}
 use Rattle.dstm_core.proofs.Pasts.{core_past}
@@ -27,13 +18,11 @@ use Rattle.dstm_progress.proofs.Sound.{sound}
 
 -- ---- who has made a step is a caller of the table
 
-pub below : (s : Shape) (es : List Event) → Core s es → (c : ℕ) → is_some (local s es c).number ≡ true →
-    c < s.callers
+pub below : (s : Shape) (es : List Event) → Core s es → (c : ℕ) → is_some (local s es c).number ≡ true → c < s.callers
 below s [] core c h = absurd (cc)
 below s (e ∷ es) core c h = go (cases_eq e.caller c) (below s es core.0 c)
   where
-    go : (e.caller ≡ c) ⊎ (e.caller ≡ c → ⊥) → (is_some (local s es c).number ≡ true → c < s.callers) →
-        c < s.callers
+    go : (e.caller ≡ c) ⊎ (e.caller ≡ c → ⊥) → (is_some (local s es c).number ≡ true → c < s.callers) → c < s.callers
     go (inl q) ih = subst (λ c. c < s.callers) q core.1.caller
     go (inr n) ih = ih (subst (λ (l : LocalState). is_some l.number ≡ true) (local_other s es e c n) h)
 
@@ -51,8 +40,7 @@ callers_in_range = λ s run c core.
 
 pub spent_used_up : TheSpentAreUsedUp
 spent_used_up = λ s run c core h.
-    used_up s (local s run c) (static s run core c).begun
-    (or_cases (not (nat_lt (local s run c).begun s.attempts))
+    used_up s (local s run c) (static s run core c).begun (or_cases (not (nat_lt (local s run c).begun s.attempts))
     (nat_lt s.locators ((local s run c).installed + s.objects)) h)
   where
     used_up : (s : Shape) (l : LocalState) → l.begun ≤ s.attempts → (not (nat_lt l.begun s.attempts) ≡ true)
@@ -78,11 +66,11 @@ ended_finished true = omega arith
 ended_finished false = omega arith
 
 -- how an attempt was left tells its status
-left_word : (s : Shape) (l : LocalState) (e : Event) (k : Kind) → LeftHow s l e k →
+left_word : {s : Shape} {l : LocalState} {e : Event} {k : Kind} → LeftHow s l e k →
     e.put ≡ ended_as (after k s l e).committed
-left_word s l e k (by_commit c p) = rw c p
-left_word s l e k (by_quit q c p) = rw c p
-left_word s l e k (by_other q f c p) = rw c p
+left_word (by_commit c p) = rw c p
+left_word (by_quit q c p) = rw c p
+left_word (by_other q f c p) = rw c p
 
 -- an event that is no Begin begins no attempt, as none does after which no attempt is under way
 pub no_begin : (s : Shape) (l : LocalState) (e : Event) (k : Kind) → k ≢ Begin → (after k s l e).begun ≡ l.begun
@@ -121,7 +109,7 @@ ended_own s es e core ih o b = go (is_outside_now (local s es e.caller).phase)
         Ended s (e ∷ es) (after e.kind s (local s es e.caller) e)
     go (inr i) = let h = left_in s es e core i o in
         ap (λ a. word s (e ∷ es) (StatusWord a)) h.same ∙ put_at es e _ h.at
-        ∙ left_word s (local s es e.caller) e e.kind h.how
+        ∙ left_word h.how
     go (inl p) =
         let keeps = outside_keeps s (local s es e.caller) e e.kind core.1.allowed
         ((sound s es core.0 e.caller).number old) p o in
@@ -143,8 +131,7 @@ ended s (e ∷ es) core c o b = go (cases_eq e.caller c) (λ d. ended s es core.
         0 < (local s (e ∷ es) e.caller).begun → Ended s (e ∷ es) (local s (e ∷ es) e.caller)
     own ih o b =
         let now = local_own s es e in
-        subst (Ended s (e ∷ es)) (sym now)
-        (ended_own s es e core ih
+        subst (Ended s (e ∷ es)) (sym now) (ended_own s es e core ih
         (subst (λ (l : LocalState). l.phase ≡ Outside) now o) (subst (λ (l : LocalState). 0 < l.begun) now b))
 
     other : Before c → e.caller ≢ c → (local s (e ∷ es) c).phase ≡ Outside → 0 < (local s (e ∷ es) c).begun →

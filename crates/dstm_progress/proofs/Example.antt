@@ -1,12 +1,8 @@
 -- The examples are core runs.
 use Rattle.std.proofs.Common.{◌∷◌, ◌≡◌, ◌≢◌, ◌<◌, List, [], ℕ, suc, zero, true, drop, inl, inr, refl, arith}
-use Rattle.dstm_core.specs.Runs.{Core, core, local}
-use Rattle.dstm_core.specs.Events.{Event}
-use Rattle.dstm_core.specs.declared.shape.Manager.TheVariants.{Greedy, Karma}
+use Rattle.dstm_core.proofs.Base.{Core, Event, core, local}
 use Rattle.dstm_order.specs.Drive.{nine, small, zeros}
-use Rattle.dstm_order.specs.Calls.{IsCall}
-use Rattle.dstm_order.specs.Tasks.Task.{Doing}
-use Rattle.dstm_order.specs.Tasks.Work.{Committing, Writing}
+use Rattle.dstm_order.proofs.Base.{Committing, Doing, Greedy, IsCall, Karma, Writing}
 use Rattle.dstm_progress.specs.Alone.{IsAlone}
 use Rattle.dstm_progress.specs.Example.{SomeAttempts, before, begun, begun_oldest, committed, newest, opened, or_event, the_calls}
 use Rattle.dstm_progress.specs.Oldest.{IsOldest}
@@ -75,8 +71,7 @@ core_committed = (
 opens : IsCall (Doing (Writing 0)) (small Karma) (local (small Karma) begun 1) zeros (newest 16 opened)
 opens = record { obeys = grind arith; done = refl }
 
-commits : IsCall (Doing (Committing nine)) (small Karma) (local (small Karma) opened 1) zeros
-    (newest 5 committed)
+commits : IsCall (Doing (Committing nine)) (small Karma) (local (small Karma) opened 1) zeros (newest 5 committed)
 commits = record { obeys = grind arith; done = refl }
 
 alone : IsAlone (small Karma) zeros the_calls (or_event begun) before

@@ -1,31 +1,12 @@
 -- Giving way: where a look at the enemy is due, or the Quit after the last one, all looks since the Pause found the
 -- enemy live and not waiting.
 use Rattle.std.proofs.Common.{⊎_elim, ◌+◌, ◌++◌, ◌-◌, ◌==◌, ◌&&◌, ◌||◌, ◌∙◌, ◌∷◌, ◌≡◌, ◌≢◌, ◌≤◌, ◌⊎◌, Bool, List, Some, [], add-one, ap, arith, false, inl, inr, is_some, length, not, refl, subst, sym, true, ℕ}
-use Rattle.std.proofs.lemmas.Bool.{cases_Bool, cond_both, eqb-false, not-false, or_parts}
-use Rattle.dstm_core.specs.Events.{Event}
-use Rattle.dstm_core.specs.Rules.{AllowedAs, after}
-use Rattle.dstm_core.specs.State.{LocalState, is_live, or_zero, res}
-use Rattle.dstm_core.specs.Words.{place}
-use Rattle.dstm_core.specs.Words.Word.{StatusWord}
-use Rattle.dstm_core.specs.declared.event.Kind.{Kind}
-use Rattle.dstm_core.specs.declared.event.Kind.TheVariants.{Check, Enrol, LookStatus, Pause, PutHigh, Quit, Rank, Resume, Validating as ToValidating}
-use Rattle.dstm_core.specs.declared.shape.Manager.{Manager}
-use Rattle.dstm_core.specs.declared.shape.Manager.TheVariants.{Greedy}
-use Rattle.dstm_core.specs.declared.shape.Shape.{Shape}
-use Rattle.dstm_core.specs.declared.state.Phase.TheVariants.{Drawn, Outside, Paused, Putting, Running}
-use Rattle.dstm_core.specs.declared.state.Resolution.{Resolution}
-use Rattle.dstm_order.specs.Calls.{Obeys, effort_of, newest_of, state_after}
-use Rattle.dstm_order.specs.Efforts.{Effort, effort_after, most_patience}
-use Rattle.dstm_order.specs.Order.{Due, at_first, enemy_code, in_giving_way, in_resolving, is_paused, just, next, next_or_first, when_resolved}
-use Rattle.dstm_order.specs.Order.Due.{Step}
-use Rattle.dstm_order.specs.Tasks.{Work}
-use Rattle.dstm_order.specs.Tasks.Task.{Doing}
-use Rattle.dstm_order.specs.Tasks.Work.{Reading, Writing, Releasing, Rechecking, Committing}
+use Rattle.dstm_core.proofs.Base.{AllowedAs, Event, LocalState, StatusWord, after, cases_Bool, cond_both, eqb-false, is_live, not-false, or_parts, or_zero, place, res}
+use Rattle.dstm_order.proofs.Base.{Check, Committing, Doing, Drawn, Due, Effort, Enrol, Greedy, Kind, Lcg, LookStatus, Manager, Obeys, Outside, Pause, Paused, PutHigh, Putting, Quit, Rank, Reading, Rechecking, Releasing, Resolution, Resume, Running, Shape, Step, ToValidating, Work, Writing, at_first, effort_after, effort_of, enemy_code, in_giving_way, in_resolving, is_paused, just, most_patience, newest_of, next, next_or_first, state_after, when_resolved}
 use Rattle.dstm_order.proofs.Rows.{putting_by}
 use Rattle.dstm_progress.proofs.Alone.{live_some}
 use Rattle.dstm_progress.proofs.Oldest.{paused_how}
 use Rattle.dstm_progress.proofs.Own.{AreAllowed}
-use Rattle.rand_pcg.specs.Lcg.{Lcg}
 use Rattle.dstm_progress.specs.Causes.{AllAt, AllPass, gives_way, is_look_status}
 use Rattle.dstm_progress.proofs.Sound.{Sound, sound_after}
 use Rattle.dstm_progress.proofs.StaleReads.{went}
@@ -55,8 +36,8 @@ pub record Row (l : LocalState) (f : Effort) (d : Due) : Type 0 where
   pub awake : (enemy_code l == 2) ≡ false
   pub turns : ((f.left == 0 ≡ true) × (just Quit ≡ d)) ⊎ ((f.left == 0 ≡ false) × (just LookStatus ≡ d))
 
-pub row_of : (l : LocalState) (f : Effort) (d : Due) → in_giving_way l f ≡ d → waits d ≡ true → Row l f d
-row_of l f d q h =
+pub row_of : (l : LocalState) (f : Effort) {d : Due} → in_giving_way l f ≡ d → waits d ≡ true → Row l f d
+row_of l f {d = d} q h =
     go (cases_Bool (not (is_live (enemy_code l)) || (enemy_code l == 2))) (cases_Bool (f.left == 0))
   where
     go : (not (is_live (enemy_code l)) || (enemy_code l == 2) ≡ true)
@@ -81,18 +62,18 @@ pub record Pauses (s : Shape) (l : LocalState) : Type 0 where
   pub older : or_zero (res l).rank ≤ l.rank
   pub live : is_live (or_zero (res l).status) ≡ true
 
-pause_may : (s : Shape) (l : LocalState) (e : Event) (k : Kind) → k ≡ Pause → AllowedAs k s l e → Pauses s l
-pause_may s l e Pause q a = record { greedy = a.2.2; older = a.2.5; live = a.2.6 }
-pause_may s l e k q a = absurd (cc)
+pause_may : (s : Shape) (l : LocalState) (e : Event) {k : Kind} → k ≡ Pause → AllowedAs k s l e → Pauses s l
+pause_may s l e {k = Pause} q a = record { greedy = a.2.2; older = a.2.5; live = a.2.6 }
+pause_may s l e q a = absurd (cc)
 
-pause_res : (s : Shape) (l : LocalState) (e : Event) (k : Kind) → k ≡ Pause → res (after k s l e) ≡ res l
-pause_res s l e Pause q = cond_both (e.found == 1) _ _ (λ (m : LocalState). res m ≡ res l) (λ _. refl) (λ _. refl)
-pause_res s l e k q = absurd (cc)
+pause_res : (s : Shape) (l : LocalState) (e : Event) {k : Kind} → k ≡ Pause → res (after k s l e) ≡ res l
+pause_res s l e {k = Pause} q = cond_both (e.found == 1) _ _ (λ (m : LocalState). res m ≡ res l) (λ _. refl) (λ _. refl)
+pause_res s l e q = absurd (cc)
 
-pause_left : (m : Manager) (l : LocalState) (f : Effort) (e : Event) (k : Kind) → k ≡ Pause →
+pause_left : (m : Manager) (l : LocalState) (f : Effort) (e : Event) {k : Kind} → k ≡ Pause →
     (effort_after k m l f e).left ≡ most_patience
-pause_left m l f e Pause q = refl
-pause_left m l f e k q = absurd (cc)
+pause_left m l f e {k = Pause} q = refl
+pause_left m l f e q = absurd (cc)
 
 -- while it gives way an attempt only looks at its enemy
 look_only : (s : Shape) (l : LocalState) (e : Event) (k : Kind) → AllowedAs k s l e → is_some l.number ≡ true →
@@ -117,14 +98,14 @@ pub record Looks (s : Shape) (l : LocalState) (e : Event) (k : Kind) : Type 0 wh
   pub owner : (res (after k s l e)).owner ≡ (res l).owner
   pub status : (res (after k s l e)).status ≡ Some e.found
 
-look_how : (s : Shape) (l : LocalState) (e : Event) (k : Kind) → k ≡ LookStatus → AllowedAs k s l e → Looks s l e k
-look_how s l e LookStatus q a = record { at = a.0; owner = refl; status = refl }
-look_how s l e k q a = absurd (cc)
+look_how : (s : Shape) (l : LocalState) (e : Event) {k : Kind} → k ≡ LookStatus → AllowedAs k s l e → Looks s l e k
+look_how s l e {k = LookStatus} q a = record { at = a.0; owner = refl; status = refl }
+look_how s l e q a = absurd (cc)
 
-look_left : (m : Manager) (l : LocalState) (f : Effort) (e : Event) (k : Kind) → k ≡ LookStatus →
+look_left : (m : Manager) (l : LocalState) (f : Effort) (e : Event) {k : Kind} → k ≡ LookStatus →
     l.phase ≡ Paused → is_some (res l).status ≡ true → (effort_after k m l f e).left ≡ f.left - 1
-look_left m l f e LookStatus q p h = rw (h, p) refl
-look_left m l f e k q p h = absurd (cc)
+look_left m l f e {k = LookStatus} q p h = rw (h, p) refl
+look_left m l f e q p h = absurd (cc)
 
 -- ---- back to the Pause
 
@@ -145,14 +126,13 @@ pub record GaveWay (w : Work) (s : Shape) (l : LocalState) (g : Lcg) (es : List 
 
 -- the Pause itself
 gave_first : (w : Work) (s : Shape) (l : LocalState) (g : Lcg) (e : Event) (es : List Event) → e.kind ≡ Pause →
-    AllowedAs e.kind s (state_after s l es) e → (state_after s l (e ∷ es)).phase ≡ Paused →
-    GaveWay w s l g (e ∷ es)
+    AllowedAs e.kind s (state_after s l es) e → (state_after s l (e ∷ es)).phase ≡ Paused → GaveWay w s l g (e ∷ es)
 gave_first w s l g e es q a p =
     let old = state_after s l es in
     let new = state_after s l (e ∷ es) in
     let f = effort_of s l g (e ∷ es) in
-    let why = pause_may s old e e.kind q a in
-    let same = pause_res s old e e.kind q in
+    let why = pause_may s old e q a in
+    let same = pause_res s old e q in
     record {
       looks = [];
       pause = e;
@@ -164,7 +144,7 @@ gave_first w s l g e es q a p =
       owner = ap (λ (r : Resolution). r.owner) same;
       status = ap (λ (r : Resolution). is_some r.status) same ∙ ap is_some (live_some (res old).status why.live);
       places = tt;
-      count = let x = pause_left s.manager old (effort_of s l g es) e e.kind q in omega arith;
+      count = let x = pause_left s.manager old (effort_of s l g es) e q in omega arith;
       all = tt;
     }
 
@@ -172,16 +152,16 @@ all_four : (a b c d : Bool) → a ≡ true → b ≡ true → c ≡ true → d �
 all_four a b c d p q r t = rw (p, q, r, t) refl
 
 -- one look more, after which the wait goes on
-gave_more : (w : Work) (s : Shape) (l : LocalState) (g : Lcg) (e : Event) (es : List Event) → GaveWay w s l g es →
+gave_more : {w : Work} {s : Shape} {l : LocalState} {g : Lcg} (e : Event) {es : List Event} → GaveWay w s l g es →
     e.kind ≡ LookStatus → AllowedAs e.kind s (state_after s l es) e → (state_after s l es).phase ≡ Paused →
     (state_after s l (e ∷ es)).phase ≡ Paused → (effort_of s l g es).left ≢ 0 →
     is_live (enemy_code (state_after s l (e ∷ es))) ≡ true →
     (enemy_code (state_after s l (e ∷ es)) == 2) ≡ false → GaveWay w s l g (e ∷ es)
-gave_more w s l g e es r q a was now more live awake =
+gave_more {w = w} {s = s} {l = l} {g = g} e {es = es} r q a was now more live awake =
     let old = state_after s l es in
     let new = state_after s l (e ∷ es) in
     let f = effort_of s l g (e ∷ es) in
-    let h = look_how s old e e.kind q a in
+    let h = look_how s old e q a in
     let code : enemy_code new ≡ e.found = ap or_zero h.status in
     let gives : gives_way s old e ≡ true =
     all_four (is_paused old.phase) (is_look_status e.kind) (is_live e.found) (e.found == 2) (ap is_paused was)
@@ -198,7 +178,7 @@ gave_more w s l g e es r q a was now more live awake =
       status = ap is_some h.status;
       places = (h.at ∙ ap (λ o. place s (StatusWord (or_zero o))) r.owner, r.places);
       count =
-          let x = look_left s.manager old (effort_of s l g es) e e.kind q was r.status in
+          let x = look_left s.manager old (effort_of s l g es) e q was r.status in
           let y = add-one (length r.looks) in let z = r.count in omega arith;
       all = (r.all, subst (λ xs. gives_way s (state_after s l xs) e ≡ true) r.whole gives);
     }
@@ -210,13 +190,13 @@ turns_left : (f : Effort) (n : ℕ) →
 turns_left f n (inl x) = absurd (let y = x.1 in cc)
 turns_left f n (inr x) = eqb-false f.left 0 x.0
 
-pub way_back : (w : Work) (s : Shape) (l : LocalState) (g : Lcg) (es : List Event) (d : Due) →
+pub way_back : (w : Work) (s : Shape) (l : LocalState) (g : Lcg) (es : List Event) {d : Due} →
     Obeys (Doing w) s l g es → AreAllowed s l es → Sound l → (state_after s l es).phase ≡ Paused →
     next_or_first (newest_of es) w s.manager (state_after s l es) (effort_of s l g es) ≡ d → waits d ≡ true →
     GaveWay w s l g es
-way_back w s l g [] d o a h p q v = absurd (let x = first_waits w l in let y = ap waits q in cc)
-way_back w s l g (e ∷ es) d o a h p q v =
-    go (λ d was. way_back w s l g es d o.0 a.0 h was) (paused_how s old e e.kind a.1 p)
+way_back w s l g [] o a h p q v = absurd (let x = first_waits w l in let y = ap waits q in cc)
+way_back w s l g (e ∷ es) {d = d} o a h p q v =
+    go (λ d was. way_back w s l g es o.0 a.0 h was) (paused_how s old e e.kind a.1 p)
   where
     old : LocalState
     old = state_after s l es
@@ -237,12 +217,12 @@ way_back w s l g (e ∷ es) d o a h p q v =
         let on = went w s l g e es o (λ z. let x : Paused ≡ Outside = sym p ∙ z in cc) in
         let table = on.1.table ∙ ap (λ k. Step k on.0) k in
         let r = back (Step LookStatus on.0) was table refl in
-        let row = row_of old (effort_of s l g es) (Step LookStatus on.0) (sym r.row ∙ table) refl in
+        let row = row_of old (effort_of s l g es) (sym r.row ∙ table) refl in
         let here : in_giving_way new (effort_of s l g (e ∷ es)) ≡ d =
         sym (ap (λ k. next k e w s.manager new (effort_of s l g (e ∷ es))) k
         ∙ row_paused s.manager new (effort_of s l g (e ∷ es)) (when_resolved w) p) ∙ q in
-        let last = row_of new (effort_of s l g (e ∷ es)) d here v in
-        gave_more w s l g e es r k a.1 was p (turns_left (effort_of s l g es) on.0 row.turns) last.live last.awake
+        let last = row_of new (effort_of s l g (e ∷ es)) here v in
+        gave_more e r k a.1 was p (turns_left (effort_of s l g es) on.0 row.turns) last.live last.awake
 
     go : Back → (e.kind ≡ Pause) ⊎ ((state_after s l es).phase ≡ Paused) → GaveWay w s l g (e ∷ es)
     go back (inl k) = gave_first w s l g e es k a.1 p

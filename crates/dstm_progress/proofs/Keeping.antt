@@ -1,29 +1,13 @@
 -- Retries keep their rank.
-use Rattle.std.proofs.Common.{◌≡◌, ◌≢◌, ◌⊎◌, ◌∙◌, ◌++◌, ◌∷◌, ◌==◌, ◌&&◌, Bool, List, [], true, false, ap, inl, inr, refl, subst, sym, not, ℕ}
-use Rattle.std.specs.Prelude.{Option, if◌then◌else◌}
-use Rattle.std.proofs.lemmas.Bool.{and_parts, cases_Bool, cond_both, eq-eqb}
-use Rattle.rand_pcg.specs.Lcg.{Lcg}
-use Rattle.dstm_core.specs.Events.{Event}
-use Rattle.dstm_core.specs.Rules.{AllowedAs, after, is_outside}
-use Rattle.dstm_core.specs.Runs.{local}
-use Rattle.dstm_core.specs.State.{LocalState, first}
-use Rattle.dstm_core.specs.Traces.{events_of}
-use Rattle.dstm_core.specs.declared.event.Kind.{Kind}
-use Rattle.dstm_core.specs.declared.event.Kind.TheVariants.{Begin, Enrol, Quit, Rank, Stamp}
-use Rattle.dstm_core.specs.declared.shape.Shape.{Shape}
-use Rattle.dstm_core.specs.declared.state.Phase.TheVariants.{Outside}
-use Rattle.dstm_machines.specs.Traces.{Each}
+use Rattle.std.proofs.Common.{◌≡◌, ◌≢◌, ◌⊎◌, ◌∙◌, ◌++◌, ◌∷◌, ◌==◌, ◌&&◌, Bool, List, [], true, false, ap, inl, inr, refl, subst, sym, not, ℕ, Option, if◌then◌else◌}
+use Rattle.dstm_core.proofs.Base.{AllowedAs, Each, Event, LocalState, after, and_parts, cases_Bool, cond_both, eq-eqb, events_of, first, is_outside, local}
+use Rattle.dstm_order.proofs.Base.{AreMade, Begin, Beginning, Call, Doing, Done, Due, Enrol, Enrolling, IsDue, KeepsRank, Kind, Lcg, Leaving, Obeys, Outside, Quit, Rank, Shape, Stamp, Step, Task, TriesAgain, Work, effort_of, events_in, generator_by, has_begun, has_stamps, in_beginning, is_begin, is_new, just, newest_of, rises, state_after, state_by}
+use Rattle.dstm_order.proofs.Beginnings.{none_after}
+use Rattle.dstm_order.proofs.Rows.{beginning_by}
 use Rattle.dstm_machines.proofs.Own.{own_first, own_other}
 use Rattle.dstm_progress.proofs.OwnEvents.{whole_allowed, whole_state}
 use Rattle.dstm_progress.proofs.Own.{AreAllowed, allowed_split, state_both}
 use Rattle.dstm_progress.proofs.Calls.{nothing_due}
-use Rattle.dstm_order.specs.Calls.{Obeys, effort_of, newest_of, state_after}
-use Rattle.dstm_order.specs.Order.{Due, IsDue, has_begun, has_ranks, has_stamps, in_beginning, is_begin, is_spent, just, rises}
-use Rattle.dstm_order.specs.Order.Due.{Done, Step}
-use Rattle.dstm_order.specs.Tasks.{Task, Work}
-use Rattle.dstm_order.specs.Tasks.Task.{Beginning, Doing, Enrolling, Leaving}
-use Rattle.dstm_order.specs.Made.{AreMade, Call, events_in, generator_by, state_by}
-use Rattle.dstm_order.specs.Retries.{KeepsRank, TriesAgain, is_new}
 use Rattle.dstm_progress.specs.Lives.{RetriesKeep}
 
 -- each of some own events keeps the rank
@@ -38,8 +22,8 @@ keep_both s l (x ∷ xs) ys new old =
     (keep_both s l xs ys new.0 old, subst (λ m. KeepsRank m x) (sym (state_both s l xs ys)) new.1)
 
 -- an event of another kind
-other_kind : (k : Kind) (l : LocalState) (e : Event) → e.kind ≡ k → k ≢ Stamp → k ≢ Rank → KeepsRank l e
-other_kind k l e is stamp rank = record {
+other_kind : {k : Kind} (l : LocalState) (e : Event) → e.kind ≡ k → k ≢ Stamp → k ≢ Rank → KeepsRank l e
+other_kind l e is stamp rank = record {
   stamp = λ q. absurd (stamp (sym is ∙ q));
   rank = λ q out again. absurd (rank (sym is ∙ q));
 }
@@ -61,10 +45,10 @@ module _ (s : Shape) (fresh : Bool) (l : LocalState) (e : Event) (is : fresh ≡
   done_kept h = absurd h
 
   quit_kept : Kept (just Quit)
-  quit_kept h = other_kind Quit l e h.0 (λ q. absurd (cc)) (λ q. absurd (cc))
+  quit_kept h = other_kind l e h.0 (λ q. absurd (cc)) (λ q. absurd (cc))
 
   begin_kept : Kept (just Begin)
-  begin_kept h = other_kind Begin l e h.0 (λ q. absurd (cc)) (λ q. absurd (cc))
+  begin_kept h = other_kind l e h.0 (λ q. absurd (cc)) (λ q. absurd (cc))
 
   stamp_kept : (has_stamps s.manager && fresh && not l.stamped) ≡ true → Kept (just Stamp)
   stamp_kept q h = record {
@@ -79,12 +63,7 @@ module _ (s : Shape) (fresh : Bool) (l : LocalState) (e : Event) (is : fresh ≡
   }
 
   beginning_kept : (o : Option Event) → Kept (in_beginning s fresh o l)
-  beginning_kept o =
-      cond_both (has_begun o) _ _ Kept (λ _. done_kept) (λ _.
-      cond_both (not (is_outside l.phase)) _ _ Kept (λ _. quit_kept) (λ _.
-      cond_both (is_spent s l) _ _ Kept (λ _. done_kept) (λ _.
-      cond_both (has_stamps s.manager && fresh && not l.stamped) _ _ Kept stamp_kept (λ _.
-      cond_both (has_ranks s.manager && not l.ranked) _ _ Kept (λ _. rank_kept) (λ _. begin_kept)))))
+  beginning_kept o = beginning_by Kept s fresh o l done_kept quit_kept (λ _. stamp_kept) (λ _. rank_kept) begin_kept
 
 -- no event of it but the Begin changes whether the transaction is new
 module _ (s : Shape) (fresh : Bool) (l : LocalState) (e : Event) where
@@ -104,24 +83,13 @@ module _ (s : Shape) (fresh : Bool) (l : LocalState) (e : Event) where
   begin_same h not_yet = absurd (let no_way : true ≡ false = sym (ap is_begin h.0) ∙ not_yet in cc)
 
   beginning_same : (o : Option Event) → Same (in_beginning s fresh o l)
-  beginning_same o =
-      cond_both (has_begun o) _ _ Same (λ _ h not_yet. absurd h) (λ _.
-      cond_both (not (is_outside l.phase)) _ _ Same (λ _. quit_same) (λ _.
-      cond_both (is_spent s l) _ _ Same (λ _ h not_yet. absurd h) (λ _.
-      cond_both (has_stamps s.manager && fresh && not l.stamped) _ _ Same (λ _. stamp_same) (λ _.
-      cond_both (has_ranks s.manager && not l.ranked) _ _ Same (λ _. rank_same _) (λ _. begin_same)))))
+  beginning_same o = beginning_by Same s fresh o l (λ h not_yet. absurd h) quit_same (λ _ _. stamp_same)
+      (λ _. rank_same _) begin_same
 
-  -- behind the Begin nothing is due
-  ends_begun : (o : Option Event) → has_begun o ≡ true → IsDue (in_beginning s fresh o l) e → ⊥
-  ends_begun o q h = let x : IsDue Done e = rw q at h in x
-
+-- behind the Begin nothing is due
 pub not_begun : (o : Option Event) (s : Shape) (fresh : Bool) (l : LocalState) (e : Event) →
     IsDue (in_beginning s fresh o l) e → has_begun o ≡ false
-not_begun o s fresh l e h = by (cases_Bool (has_begun o))
-  where
-    by : (has_begun o ≡ true) ⊎ (has_begun o ≡ false) → has_begun o ≡ false
-    by (inl q) = absurd (ends_begun s fresh l e o q h)
-    by (inr q) = q
+not_begun = none_after
 
 -- ---- the calls
 
@@ -163,7 +131,7 @@ module _ (s : Shape) (l : LocalState) (g : Lcg) where
     leave_keeps es h.0,
     cond_both (is_outside (state_after s l es).phase) Done (just Quit)
         (λ d. IsDue d e → KeepsRank (state_after s l es) e) (λ _ x. absurd x)
-        (λ _ x. other_kind Quit (state_after s l es) e x.0 (λ q. absurd (cc)) (λ q. absurd (cc))) h.1,
+        (λ _ x. other_kind (state_after s l es) e x.0 (λ q. absurd (cc)) (λ q. absurd (cc))) h.1,
   )
 
   enrol_keeps : (es : List Event) → Obeys Enrolling s l g es → AllKeep s l es
@@ -172,7 +140,7 @@ module _ (s : Shape) (l : LocalState) (g : Lcg) where
     enrol_keeps es h.0,
     cond_both _ Done (just Enrol)
         (λ d. IsDue d e → KeepsRank (state_after s l es) e) (λ _ x. absurd x)
-        (λ _ x. other_kind Enrol (state_after s l es) e x.0 (λ q. absurd (cc)) (λ q. absurd (cc))) h.1,
+        (λ _ x. other_kind (state_after s l es) e x.0 (λ q. absurd (cc)) (λ q. absurd (cc))) h.1,
   )
 
   call_keeps : (t : Task) (es : List Event) → TriesAgain l t → AreAllowed s l es → Obeys t s l g es → AllKeep s l es
@@ -195,8 +163,7 @@ calls_keep s l g (c ∷ cs) m a =
 abbrev KeepsAll : Shape → ℕ → List Event → Type 0
 KeepsAll s c log = Each (λ (event : Event) before. event.caller ≡ c → KeepsRank (local s before c) event) log
 
-log_keeps : (s : Shape) (c : ℕ) (log : List Event) → AllKeep s first (events_of c log) →
-    KeepsAll s c log
+log_keeps : (s : Shape) (c : ℕ) (log : List Event) → AllKeep s first (events_of c log) → KeepsAll s c log
 log_keeps s c [] h = tt
 log_keeps s c (e ∷ es) h = by (λ own. log_keeps s c es own) (cases_Bool (e.caller == c))
   where

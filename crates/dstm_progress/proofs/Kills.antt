@@ -1,23 +1,9 @@
 -- A Kill is chosen by the manager.
-use Rattle.std.proofs.Common.{◌≡◌, ◌≢◌, ◌∙◌, ◌&&◌, ◌==◌, ◌||◌, Bool, true, false, ap, refl, subst, sym, nat_lt, is_none, ℕ}
-use Rattle.std.specs.Prelude.{Option}
-use Rattle.std.proofs.lemmas.Bool.{cond_both}
-use Rattle.dstm_core.specs.Events.{Event}
-use Rattle.dstm_core.specs.Rules.{is_outside}
-use Rattle.dstm_core.specs.State.{LocalState, is_live, is_resolved, res, version}
-use Rattle.dstm_core.specs.declared.event.Kind.{Kind}
-use Rattle.dstm_core.specs.declared.event.Kind.TheVariants.{Kill, LookHigh, LookNew, LookOld, LookOwner, LookRank, LookStatus, Quit, Release, Resume}
-use Rattle.dstm_core.specs.declared.shape.Manager.{Manager}
-use Rattle.dstm_core.specs.declared.shape.Shape.{Shape}
-use Rattle.dstm_managers.specs.declared.decider.Choice.{Choice}
+use Rattle.std.proofs.Common.{◌≡◌, ◌≢◌, ◌∙◌, ◌&&◌, Bool, true, false, ap, refl, subst, sym, nat_lt, is_none, ℕ, Option}
+use Rattle.dstm_core.proofs.Base.{Event, LocalState, cond_both, is_live, is_resolved, res, version}
+use Rattle.dstm_order.proofs.Base.{Choice, Doing, Done, Due, Effort, IsDue, Kill, Kind, LookHigh, LookNew, LookOld, LookOwner, LookRank, LookStatus, Manager, Quit, Release, Resume, Shape, Step, Work, chosen, due, effort_of, enemy_code, has_ranks, in_conflict, in_resolving, is_paused, just, newest_of, next_or_first, on_choice, state_after, when_resolved}
 use Rattle.dstm_managers.specs.declared.decider.Choice.TheVariants as decision
-use Rattle.dstm_order.specs.Calls.{effort_of, newest_of, state_after}
-use Rattle.dstm_order.specs.Efforts.{Effort, chosen, most_missed}
-use Rattle.dstm_order.specs.Order.{Due, IsDue, due, enemy_code, has_ranks, in_conflict, in_resolving, is_paused, just, next_or_first, on_choice, when_resolved}
-use Rattle.dstm_order.specs.Order.Due.{Done, Step}
-use Rattle.dstm_order.specs.Tasks.{Work}
-use Rattle.dstm_order.specs.Tasks.Task.{Doing}
-use Rattle.dstm_order.proofs.Rows.{EachStep, giving_way_by, is_step, is_test, resolved_by, table_by}
+use Rattle.dstm_order.proofs.Rows.{EachStep, giving_way_by, is_step, is_test, resolved_by, table_by, doing_by}
 use Rattle.dstm_progress.specs.Lives.{KillsAreChosen}
 
 abbrev kills : Due → Bool
@@ -77,11 +63,8 @@ module _ (m : Manager) (l : LocalState) (f : Effort) where
 
 due_row : (w : Work) (s : Shape) (o : Option Event) (l : LocalState) (f : Effort) →
     Chosen (chosen s.manager l f) (due (Doing w) s o l f)
-due_row w s o l f =
-    let C : Due → Type 0 = Chosen (chosen s.manager l f) in
-    cond_both (is_outside l.phase) _ _ C (λ _. never (chosen s.manager l f) Done refl) (λ _.
-    cond_both (l.stale || f.missed == most_missed) _ _ C (λ _. never (chosen s.manager l f) (just Quit) refl) (λ _.
-    table_row s.manager l f o w))
+due_row w s o l f = doing_by (Chosen (chosen s.manager l f)) w s o l f (never (chosen s.manager l f) Done refl)
+    (never (chosen s.manager l f) (just Quit) refl) (table_row s.manager l f o w)
 
 due_kills : (d : Due) (e : Event) → IsDue d e → e.kind ≡ Kill → kills d ≡ true
 due_kills (Step k n) e is q = subst (λ j. kills (Step j n) ≡ true) (sym q ∙ is.0) refl

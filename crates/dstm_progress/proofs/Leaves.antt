@@ -1,15 +1,7 @@
 -- How an attempt is left: by an event at its own status, which it finds or makes finished.
 use Rattle.std.proofs.Common.{◌==◌, ◌∙◌, ◌≡◌, ◌≢◌, ◌⊎◌, [], ap, cond, false, inl, inr, length, refl, subst, true, ℕ}
-use Rattle.std.proofs.lemmas.Bool.{cases_Bool, cond_both, eq-eqb}
-use Rattle.dstm_core.specs.Events.{Event}
-use Rattle.dstm_core.specs.Rules.{AllowedAs, after}
-use Rattle.dstm_core.specs.State.{LocalState, given, own_attempt}
-use Rattle.dstm_core.specs.Words.{place}
-use Rattle.dstm_core.specs.Words.Word.{StatusWord}
-use Rattle.dstm_core.specs.declared.event.Kind.{Kind}
-use Rattle.dstm_core.specs.declared.event.Kind.TheVariants.{Begin, Commit, Draw, Install, LookSelf, Pause, PutHigh, PutNew, Quit, Resume, Validating as ToValidating}
-use Rattle.dstm_core.specs.declared.shape.Shape.{Shape}
-use Rattle.dstm_core.specs.declared.state.Phase.TheVariants.{Outside, Paused, Putting, Running, Validating}
+use Rattle.dstm_core.proofs.Base.{AllowedAs, Event, LocalState, StatusWord, after, cases_Bool, cond_both, eq-eqb, given, own_attempt, place}
+use Rattle.dstm_order.proofs.Base.{Begin, Commit, Draw, Install, Kind, LookSelf, Outside, Pause, Paused, PutHigh, PutNew, Putting, Quit, Resume, Running, Shape, ToValidating, Validating}
 use Rattle.dstm_progress.specs.Causes.{is_at_own}
 
 -- it commits, or it is aborted: it quits, or finds that another has aborted it

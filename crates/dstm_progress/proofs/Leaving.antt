@@ -1,9 +1,7 @@
 -- What a call leaves behind that has left its attempt.
 use Rattle.std.proofs.Common.{◌∙◌, ◌≡◌, ap, arith, refl, sym}
-use Rattle.dstm_core.specs.Runs.{local}
-use Rattle.dstm_core.specs.State.{LocalState}
-use Rattle.dstm_core.specs.declared.state.Phase.TheVariants.{Outside}
-use Rattle.dstm_order.specs.Calls.{effort_of, newest_of, state_after}
+use Rattle.dstm_core.proofs.Base.{LocalState, local}
+use Rattle.dstm_order.proofs.Base.{Outside, effort_of, newest_of, state_after}
 use Rattle.dstm_progress.proofs.Own.{call_begun}
 use Rattle.dstm_progress.specs.Ends.{ended_as}
 use Rattle.dstm_progress.specs.Calls.{EveryAgainIsAborted, EveryAgainWasDisturbed, EveryCallKeepsItsAttempt}

@@ -1,30 +1,20 @@
 -- What an Again shows of other callers.
 use Rattle.std.proofs.Common.{◌++◌, ◌∙◌, ◌∷◌, ◌≡◌, ◌≢◌, ◌⊎◌, List, Some, [], ap, arith, inl, inr, refl, subst, sym, ℕ}
-use Rattle.std.proofs.lemmas.Bool.{cases_eq, eq-eqb}
-use Rattle.dstm_core.specs.Events.{Event}
-use Rattle.dstm_core.specs.Runs.{Core, local}
-use Rattle.dstm_core.specs.State.{LocalState}
-use Rattle.dstm_core.specs.Traces.{events_of}
-use Rattle.dstm_core.specs.declared.event.Kind.TheVariants.{Begin}
-use Rattle.dstm_core.specs.declared.shape.Shape.{Shape}
-use Rattle.dstm_order.specs.Calls.{effort_of, newest_of, state_after}
+use Rattle.dstm_core.proofs.Base.{Core, Event, LocalState, cases_eq, cases_lt, eq-eqb, events_of, local}
+use Rattle.dstm_order.proofs.Base.{Begin, Lcg, Shape, effort_of, newest_of, state_after}
 use Rattle.dstm_order.specs.declared.again.Again.{Again}
 use Rattle.dstm_order.specs.declared.again.Again.TheVariants.{Waited}
 use Rattle.dstm_progress.specs.Alone.{AreOf, Made, all_events, last_answer}
 use Rattle.dstm_progress.specs.Oldest.{AreMade}
 use Rattle.dstm_progress.proofs.Left.{alone_answers}
-use Rattle.rand_pcg.specs.Lcg.{Lcg}
 use Rattle.dstm_progress.specs.Disturbed.{HasOther}
 use Rattle.dstm_progress.specs.Calls.{EveryAgainHasAnother, EveryOtherAgainShowsAnother}
 use Rattle.dstm_progress.proofs.Causes.{has_left}
 use Rattle.std.proofs.Common.{◌<◌, ◌≤◌}
-use Rattle.std.proofs.lemmas.Bool.{cases_lt}
 use Rattle.dstm_core.proofs.Pasts.{core_past}
-use Rattle.dstm_order.specs.Calls.{effort_of, newest_of, state_after}
 use Rattle.dstm_progress.specs.Alone.{generator_after}
 use Rattle.dstm_progress.proofs.Calls.{alone_is_committed, are_of_split, local_after}
 use Rattle.dstm_progress.proofs.Own.{state_both}
-use Rattle.dstm_core.specs.State.{LocalState}
 use Rattle.dstm_progress.proofs.Causes.{has_left}
 
 -- all events are the caller's own, or one is not

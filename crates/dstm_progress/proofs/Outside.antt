@@ -1,13 +1,7 @@
 -- What may come while a caller has no attempt under way: what begins one.
 use Rattle.std.proofs.Common.{◌≡◌, ◌≢◌, ◌∷◌, ⊎_elim, Bool, [], ap, is_some, length, refl, true}
-use Rattle.dstm_core.specs.Events.{Event}
-use Rattle.dstm_core.specs.Kinds.{is_one_of}
-use Rattle.dstm_core.specs.Rules.{AllowedAs, after}
-use Rattle.dstm_core.specs.State.{LocalState, own_attempt}
-use Rattle.dstm_core.specs.declared.event.Kind.{Kind}
-use Rattle.dstm_core.specs.declared.event.Kind.TheVariants.{Begin, Check, Enrol, LookStatus, PutHigh, Quit, Rank, Stamp, Validating as ToValidating}
-use Rattle.dstm_core.specs.declared.shape.Shape.{Shape}
-use Rattle.dstm_core.specs.declared.state.Phase.TheVariants.{Drawn, Outside, Paused, Putting, Running}
+use Rattle.dstm_core.proofs.Base.{AllowedAs, Event, LocalState, after, is_one_of, own_attempt}
+use Rattle.dstm_order.proofs.Base.{Begin, Check, Drawn, Enrol, Kind, LookStatus, Outside, Paused, PutHigh, Putting, Quit, Rank, Running, Shape, Stamp, ToValidating}
 
 -- kinds of event that come before a Begin, and Begin
 abbrev pub is_early : Kind → Bool

@@ -1,6 +1,6 @@
 -- The example is a core run.
 use Rattle.std.proofs.Common.{[], arith, refl}
-use Rattle.dstm_core.specs.Runs.{core}
+use Rattle.dstm_core.proofs.Base.{core}
 use Rattle.dstm_order.specs.Drive.{two}
 use Rattle.dstm_machines.proofs.Fitting.{run_then}
 use Rattle.dstm_progress.specs.Overtaken.{SomeAgain, installed, installs, opens}

@@ -1,19 +1,9 @@
 -- A caller's own events in a run of several callers.
 use Rattle.std.proofs.Common.{◌++◌, ◌+◌, ◌∙◌, ◌∷◌, ◌≡◌, ◌≢◌, ◌⊎◌, List, [], ap, inl, inr, refl, subst, sym, ℕ}
-use Rattle.std.proofs.lemmas.Bool.{cases_eq}
-use Rattle.dstm_core.specs.Rules.{AllowedAs, after}
-use Rattle.dstm_core.specs.Runs.{Core, core, local}
-use Rattle.dstm_core.specs.State.{LocalState}
-use Rattle.dstm_core.specs.Traces.{events_of}
-use Rattle.dstm_core.specs.Events.{Event}
-use Rattle.dstm_core.specs.declared.event.Kind.TheVariants.{Begin}
-use Rattle.dstm_core.specs.declared.shape.Shape.{Shape}
+use Rattle.dstm_core.proofs.Base.{AllowedAs, Core, Event, LocalState, after, cases_eq, core, events_of, local}
 use Rattle.dstm_machines.proofs.Own as runs
 use Rattle.dstm_core.proofs.Statuses.{begin_may}
-use Rattle.dstm_order.specs.Calls.{Obeys, effort_of, newest_of, state_after}
-use Rattle.dstm_order.specs.Tasks.{Work}
-use Rattle.dstm_order.specs.Tasks.Task.{Doing}
-use Rattle.rand_pcg.specs.Lcg.{Lcg}
+use Rattle.dstm_order.proofs.Base.{Begin, Doing, Lcg, Obeys, Shape, Work, effort_of, newest_of, state_after}
 use Rattle.dstm_progress.specs.Alone.{AreCalls, Made, all_events, generator_after}
 use Rattle.dstm_progress.proofs.Calls.{nothing_due}
 use Rattle.dstm_core.proofs.Begun.{begun_how}
@@ -96,28 +86,24 @@ newest_own c (x ∷ run) e rest h = go (cases_eq x.caller c) (newest_own c run e
 
 -- no call begins an attempt
 pub call_begun : (s : Shape) (w : Work) (l : LocalState) (g : Lcg) (events : List Event) →
-    AreAllowed s l events →
-    Obeys (Doing w) s l g events → (state_after s l events).begun ≡ l.begun
+    AreAllowed s l events → Obeys (Doing w) s l g events → (state_after s l events).begun ≡ l.begun
 call_begun s w l g [] a o = refl
 call_begun s w l g (e ∷ events) a o =
     go (begun_how s (state_after s l events) e e.kind) ∙ call_begun s w l g events a.0 o.0
   where
     go : ((e.kind ≡ Begin) × ((after e.kind s (state_after s l events) e).begun ≡
         (state_after s l events).begun + 1))
-        ⊎ ((e.kind ≢ Begin) × ((after e.kind s (state_after s l events) e).begun ≡
-        (state_after s l events).begun)) →
+        ⊎ ((e.kind ≢ Begin) × ((after e.kind s (state_after s l events) e).begun ≡ (state_after s l events).begun)) →
         (after e.kind s (state_after s l events) e).begun ≡ (state_after s l events).begun
     go (inl x) = absurd (nothing_due w s (newest_of events) (state_after s l events) (effort_of s l g events) e
-        (begin_may s (state_after s l events) e e.kind x.0 a.1).0 o.1)
+        (begin_may s (state_after s l events) e x.0 a.1).0 o.1)
     go (inr x) = x.1
 
 pub calls_begun : (s : Shape) (l : LocalState) (g : Lcg) (calls : List Made) →
-    AreAllowed s l (all_events calls) →
-    AreCalls s l g calls → (state_after s l (all_events calls)).begun ≡ l.begun
+    AreAllowed s l (all_events calls) → AreCalls s l g calls → (state_after s l (all_events calls)).begun ≡ l.begun
 calls_begun s l g [] a o = refl
 calls_begun s l g (x ∷ calls) a o =
     let parts = allowed_split s l x.events (all_events calls) a in
     ap (λ (m : LocalState). m.begun) (state_both s l x.events (all_events calls))
-    ∙ call_begun s x.work (state_after s l (all_events calls))
-    (generator_after s l g calls) x.events parts.0 o.1.obeys
+    ∙ call_begun s x.work (state_after s l (all_events calls)) (generator_after s l g calls) x.events parts.0 o.1.obeys
     ∙ calls_begun s l g calls parts.1 o.0

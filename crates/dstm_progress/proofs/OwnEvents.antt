@@ -1,12 +1,8 @@
 -- A caller's own events since some log.
 use Rattle.std.proofs.Common.{◌++◌, ◌≡◌, List, [], append-nil, subst, sym, ℕ}
 use Rattle.dstm_machines.proofs.Own as runs
-use Rattle.dstm_core.specs.Events.{Event}
-use Rattle.dstm_core.specs.Runs.{Core, core, local}
-use Rattle.dstm_core.specs.State.{first}
-use Rattle.dstm_core.specs.Traces.{events_of}
-use Rattle.dstm_core.specs.declared.shape.Shape.{Shape}
-use Rattle.dstm_order.specs.Calls.{state_after}
+use Rattle.dstm_core.proofs.Base.{Core, Event, core, events_of, first, local}
+use Rattle.dstm_order.proofs.Base.{Shape, state_after}
 use Rattle.dstm_progress.proofs.Own.{AreAllowed, allowed_split, own_allowed}
 
 -- its state is that after all its own events
@@ -16,8 +12,7 @@ whole_state s c run = runs.whole_state core s c run
 pub whole_allowed : (s : Shape) (c : ℕ) (run : List Event) → Core s run → AreAllowed s first (events_of c run)
 whole_allowed s c run core = own_allowed s c run [] (subst (Core s) (sym (append-nil run)) core)
 
-pub after_own : (s : Shape) (c : ℕ) (run before events : List Event) →
-    events_of c run ≡ events ++ events_of c before →
+pub after_own : (s : Shape) (c : ℕ) (run before events : List Event) → events_of c run ≡ events ++ events_of c before →
     local s run c ≡ state_after s (local s before c) events
 after_own s = runs.after_own core s
 

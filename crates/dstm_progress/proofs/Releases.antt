@@ -1,28 +1,9 @@
 -- No Release without a call that lets a read go.
-use Rattle.std.proofs.Common.{◌&&◌, ◌≡◌, ◌≢◌, ◌⊎◌, ◌∙◌, ◌++◌, ◌∷◌, ◌==◌, ◌||◌, List, [], true, false, ap, inl, inr, refl, subst, sym, not, ℕ}
-use Rattle.std.specs.Prelude.{Option, if◌then◌else◌, is_some}
-use Rattle.std.proofs.lemmas.Bool.{cases_Bool, cond_both, eq-eqb}
-use Rattle.rand_pcg.specs.Lcg.{Lcg}
-use Rattle.dstm_core.specs.Events.{Event}
-use Rattle.dstm_core.specs.Rules.{is_outside}
-use Rattle.dstm_core.specs.State.{LocalState, first}
-use Rattle.dstm_core.specs.Traces.{events_of}
-use Rattle.dstm_core.specs.declared.event.Kind.{Kind}
-use Rattle.dstm_core.specs.declared.event.Kind.TheVariants.{Begin, Rank, Release, Stamp}
-use Rattle.dstm_core.specs.declared.shape.Manager.{Manager}
-use Rattle.dstm_core.specs.declared.shape.Shape.{Shape}
-use Rattle.dstm_machines.specs.Traces.{Each}
+use Rattle.std.proofs.Common.{◌≡◌, ◌≢◌, ◌⊎◌, ◌∙◌, ◌++◌, ◌∷◌, ◌==◌, List, [], true, false, ap, inl, inr, refl, subst, sym, ℕ, Option, is_some}
+use Rattle.dstm_core.proofs.Base.{Each, Event, LocalState, cases_Bool, cond_both, eq-eqb, events_of, first, is_outside}
+use Rattle.dstm_order.proofs.Base.{AreMade, Beginning, Call, Doing, Done, Due, Effort, Enrolling, IsDue, KeepsReads, Kind, Lcg, Leaving, Manager, Obeys, Release, Releasing, Shape, Step, Task, Work, due, effort_of, events_in, generator_by, newest_of, next_or_first, state_after, state_by, when_resolved}
 use Rattle.dstm_machines.proofs.Own.{own_first, own_other}
-use Rattle.dstm_order.specs.Calls.{Obeys, effort_of, newest_of, state_after}
-use Rattle.dstm_order.specs.Efforts.{Effort, most_missed}
-use Rattle.dstm_order.specs.Order.{Due, IsDue, due, has_begun, has_ranks, has_stamps, is_spent, just, next_or_first, rises, when_resolved}
-use Rattle.dstm_order.specs.Order.Due.{Done, Step}
-use Rattle.dstm_order.specs.Tasks.{Task, Work}
-use Rattle.dstm_order.specs.Tasks.Task.{Beginning, Doing, Enrolling, Leaving}
-use Rattle.dstm_order.specs.Tasks.Work.{Releasing}
-use Rattle.dstm_order.proofs.Rows.{EachStep, giving_way_by, is_step, is_test, resolves, resolved_by, resolves_by, resolving_by, table_by}
-use Rattle.dstm_order.specs.Made.{AreMade, Call, events_in, generator_by, state_by}
-use Rattle.dstm_order.specs.Retries.{KeepsReads}
+use Rattle.dstm_order.proofs.Rows.{EachStep, giving_way_by, is_step, is_test, resolves, resolved_by, resolves_by, resolving_by, table_by, beginning_by, doing_by}
 use Rattle.dstm_progress.specs.Lives.{NoReleases, lets_go}
 
 abbrev NoRelease : Due → Type 0
@@ -47,20 +28,10 @@ table_no o w m l f held = table_by NoRelease o w m l f steps
 
 due_no : (t : Task) (s : Shape) (o : Option Event) (l m : LocalState) (f : Effort) → KeepsReads m t → NoRelease (due t s o l f)
 due_no Enrolling s o l m f h = cond_both (is_some l.number) _ _ NoRelease (λ _. tt) (λ _. refl)
-due_no (Beginning fresh) s o l m f h =
-    cond_both (has_begun o) _ _ NoRelease (λ _. tt) (λ _.
-    cond_both (not (is_outside l.phase)) _ _ NoRelease (λ _. refl) (λ _.
-    cond_both (is_spent s l) _ _ NoRelease (λ _. tt) (λ _.
-    cond_both (has_stamps s.manager && fresh && not l.stamped) (just Stamp)
-    (if has_ranks s.manager && not l.ranked then Step Rank (if rises s.manager && fresh then 0 else l.rank) else just Begin)
-    NoRelease (λ _. refl) (λ _.
-    cond_both (has_ranks s.manager && not l.ranked) (Step Rank (if rises s.manager && fresh then 0 else l.rank)) (just Begin)
-    NoRelease (λ _. refl) (λ _. refl)))))
+due_no (Beginning fresh) s o l m f h = beginning_by NoRelease s fresh o l tt refl (λ _ _. refl) (λ _. refl) refl
 due_no Leaving s o l m f h = cond_both (is_outside l.phase) _ _ NoRelease (λ _. tt) (λ _. refl)
 due_no (Doing w) s o l m f h =
-    cond_both (is_outside l.phase) _ _ NoRelease (λ _. tt) (λ _.
-    cond_both (l.stale || f.missed == most_missed) _ _ NoRelease (λ _. refl) (λ _.
-    table_no o w s.manager l f (held w h)))
+    doing_by NoRelease w s o l f tt refl (table_no o w s.manager l f (held w h))
   where
     held : (w : Work) → KeepsReads m (Doing w) → (o : ℕ) → w ≡ Releasing o → NoRelease (Step Release o)
     held (Releasing p) h o q = absurd h

@@ -1,31 +1,12 @@
 -- How many steps a call on an attempt that is alone has left, and that each step takes one of them.
 use Rattle.std.proofs.Common.{◌*◌, ◌+◌, ◌-◌, ◌<◌, ◌==◌, ◌&&◌, ◌∙◌, ◌≡◌, ◌≤◌, ◌⊎◌, Bool, None, [], ap, arith, false, if◌then◌else◌, inl, inr, is_none, is_some, length, refl, subst, sym, true, ℕ}
-use Rattle.std.proofs.lemmas.Bool.{cases_Bool, cond_both, eq-eqb, eqb-true, ne_eqb}
-use Rattle.std.proofs.lemmas.Bool.Decides.{nat_tests}
+use Rattle.dstm_core.proofs.Base.{Event, LocalState, Val, after, cases_Bool, cond_both, eq-eqb, eqb-true, is_live, is_resolved, nat_tests, ne_eqb, or_zero, res, version, word}
 use Rattle.std.proofs.lemmas.Grind.{common_steps}
-use Rattle.dstm_core.specs.Rules.{after}
-use Rattle.dstm_core.specs.State.{LocalState, is_live, is_resolved, or_zero, res, version}
-use Rattle.dstm_core.specs.Traces.{word}
-use Rattle.dstm_core.specs.Events.{Event}
-use Rattle.dstm_core.specs.declared.event.Kind.{Kind}
-use Rattle.dstm_core.specs.declared.event.Kind.TheVariants.{Draw, Install, LookNumber, LookObj, PutOld, Release}
-use Rattle.dstm_core.specs.declared.shape.Manager.{Manager}
-use Rattle.dstm_core.specs.declared.shape.Manager.TheVariants.{Greedy, Karma, Polka, Polite}
-use Rattle.dstm_core.specs.declared.shape.Shape.{Shape}
-use Rattle.dstm_core.specs.declared.state.Phase.TheVariants.{Running, Drawn}
-use Rattle.dstm_core.specs.declared.state.Resolution.{Resolution}
 use Rattle.dstm_core.specs.declared.status.Status.{Status}
-use Rattle.dstm_model.specs.declared.value.Val.{Val}
 use Rattle.dstm_managers.specs.Choices.{choice, next_word}
-use Rattle.dstm_managers.specs.Meetings.{IsRank, most_rounds, most_turns}
+use Rattle.dstm_order.proofs.Base.{Committing, Done, Draw, Drawn, Due, Effort, Greedy, Install, IsRank, Karma, Kind, LookNumber, LookObj, Manager, Polite, Polka, PutOld, Reading, Rechecking, Release, Resolution, Running, Shape, Step, Work, Writing, chosen, decider_of, effort_after, has_ranks, in_checking, in_pass, in_putting, in_resolving, is_open, just, most_rounds, most_turns, next, status_of, turn, turn_of_conflict, turns_of, when_asked, when_passed, when_resolved}
 use Rattle.dstm_managers.specs.declared.decider.Choice.TheVariants.{Wait}
 use Rattle.dstm_managers.proofs.MeetingLemmas.{mark, mark-last, mark-next, round-left, turns-bounded}
-use Rattle.dstm_order.specs.Efforts.{Effort, chosen, decider_of, effort_after, status_of, turn, turn_of_conflict, turns_of, when_asked}
-use Rattle.dstm_order.specs.Order.{Due, has_ranks, in_checking, in_pass, in_putting, in_resolving, just, next, when_passed, when_resolved}
-use Rattle.dstm_order.specs.Order.Due.{Done, Step}
-use Rattle.dstm_order.specs.Passes.{is_open}
-use Rattle.dstm_order.specs.Tasks.{Work}
-use Rattle.dstm_order.specs.Tasks.Work.{Reading, Writing, Rechecking, Committing}
 
 -- ---- the turns that are left of a conflict
 
@@ -43,8 +24,7 @@ turns_whole Karma = refl
 turns_whole Polka = refl
 turns_whole Greedy = refl
 
-left_none : (m : Manager) (round left : ℕ) → left ≡ 0 →
-    turns_left m round left ≡ mark m (most_rounds m) - mark m round
+left_none : (m : Manager) (round left : ℕ) → left ≡ 0 → turns_left m round left ≡ mark m (most_rounds m) - mark m round
 left_none m round left h = rw (eq-eqb left 0 h) refl
 
 left_some : (m : Manager) (round left : ℕ) → 0 < left →
@@ -133,64 +113,50 @@ looking m r t =
     else if is_none r.high then 2
     else 1
 
+-- it is at most what each step that may come next leaves
+looking_most : (m : Manager) (r : Resolution) (t most : ℕ) → 1 ≤ most → (is_none r.owner ≡ true → t + 7 ≤ most) →
+    (is_none r.status ≡ true → t + 6 ≤ most) →
+    (is_live (or_zero r.status) ≡ true → has_ranks m && is_none r.rank ≡ true → t + 5 ≤ most) →
+    (is_live (or_zero r.status) ≡ true → t + 4 ≤ most) → (is_none (version r) ≡ true → 3 ≤ most) →
+    (is_none r.high ≡ true → 2 ≤ most) → looking m r t ≤ most
+looking_most m r t most one owner status rank live three two =
+    cond_both (is_resolved r) _ _ (λ n. n ≤ most) (λ _. omega arith) (λ _.
+    cond_both (is_none r.owner) _ _ (λ n. n ≤ most) owner (λ _. cond_both (is_none r.status) _ _ (λ n. n ≤ most) status (λ _.
+    cond_both (is_live (or_zero r.status)) _ _ (λ n. n ≤ most)
+    (λ l. cond_both (has_ranks m && is_none r.rank) _ _ (λ n. n ≤ most) (rank l) (λ _. live l)) (λ _.
+    cond_both (is_none (version r)) _ _ (λ n. n ≤ most) three (λ _.
+    cond_both (is_none r.high) _ _ (λ n. n ≤ most) two (λ _. one))))))
+
 pub looking_new : (m : Manager) (r : Resolution) (t : ℕ) → looking m r t ≤ t + 7
-looking_new m r t =
-    cond_both (is_resolved r) _ _ (λ n. n ≤ t + 7) (λ _. omega arith) (λ _.
-    cond_both (is_none r.owner) _ _ (λ n. n ≤ t + 7) (λ _. omega arith) (λ _.
-    cond_both (is_none r.status) _ _ (λ n. n ≤ t + 7) (λ _. omega arith) (λ _.
-    cond_both (is_live (or_zero r.status)) _ _ (λ n. n ≤ t + 7)
-    (λ _. cond_both (has_ranks m && is_none r.rank) _ _ (λ n. n ≤ t + 7) (λ _. omega arith) (λ _. omega arith))
-    (λ _.
-    cond_both (is_none (version r)) _ _ (λ n. n ≤ t + 7) (λ _. omega arith) (λ _.
-    cond_both (is_none r.high) _ _ (λ n. n ≤ t + 7) (λ _. omega arith) (λ _. omega arith))))))
+looking_new m r t = looking_most m r t (t + 7) (omega arith) (λ _. omega arith) (λ _. omega arith) (λ _ _. omega arith)
+    (λ _. omega arith) (λ _. omega arith) (λ _. omega arith)
 
 pub looking_owned : (m : Manager) (r : Resolution) (t : ℕ) → is_none r.owner ≡ false → looking m r t ≤ t + 6
-looking_owned m r t o = rw o
-    (cond_both (is_resolved r) _ _ (λ n. n ≤ t + 6) (λ _. omega arith) (λ _.
-    cond_both (is_none r.status) _ _ (λ n. n ≤ t + 6) (λ _. omega arith) (λ _.
-    cond_both (is_live (or_zero r.status)) _ _ (λ n. n ≤ t + 6)
-    (λ _. cond_both (has_ranks m && is_none r.rank) _ _ (λ n. n ≤ t + 6) (λ _. omega arith) (λ _. omega arith))
-    (λ _.
-    cond_both (is_none (version r)) _ _ (λ n. n ≤ t + 6) (λ _. omega arith) (λ _.
-    cond_both (is_none r.high) _ _ (λ n. n ≤ t + 6) (λ _. omega arith) (λ _. omega arith))))))
+looking_owned m r t o = looking_most m r t (t + 6) (omega arith) (λ q. absurd (cc)) (λ _. omega arith)
+    (λ _ _. omega arith) (λ _. omega arith) (λ _. omega arith) (λ _. omega arith)
 
 pub looking_seen : (m : Manager) (r : Resolution) (t : ℕ) → is_none r.owner ≡ false → is_none r.status ≡ false →
     looking m r t ≤ t + 5
-looking_seen m r t o st = rw (o, st)
-    (cond_both (is_resolved r) _ _ (λ n. n ≤ t + 5) (λ _. omega arith) (λ _.
-    cond_both (is_live (or_zero r.status)) _ _ (λ n. n ≤ t + 5)
-    (λ _. cond_both (has_ranks m && is_none r.rank) _ _ (λ n. n ≤ t + 5) (λ _. omega arith) (λ _. omega arith))
-    (λ _.
-    cond_both (is_none (version r)) _ _ (λ n. n ≤ t + 5) (λ _. omega arith) (λ _.
-    cond_both (is_none r.high) _ _ (λ n. n ≤ t + 5) (λ _. omega arith) (λ _. omega arith)))))
+looking_seen m r t o st = looking_most m r t (t + 5) (omega arith) (λ q. absurd (cc)) (λ q. absurd (cc))
+    (λ _ _. omega arith) (λ _. omega arith) (λ _. omega arith) (λ _. omega arith)
 
-pub looking_ranked : (m : Manager) (r : Resolution) (t : ℕ) → is_none r.owner ≡ false →
-    is_none r.status ≡ false →
+pub looking_ranked : (m : Manager) (r : Resolution) (t : ℕ) → is_none r.owner ≡ false → is_none r.status ≡ false →
     has_ranks m && is_none r.rank ≡ false → looking m r t ≤ t + 4
-looking_ranked m r t o st rk = rw (o, st, rk)
-    (cond_both (is_resolved r) _ _ (λ n. n ≤ t + 4) (λ _. omega arith) (λ _.
-    cond_both (is_live (or_zero r.status)) _ _ (λ n. n ≤ t + 4) (λ _. omega arith) (λ _.
-    cond_both (is_none (version r)) _ _ (λ n. n ≤ t + 4) (λ _. omega arith) (λ _.
-    cond_both (is_none r.high) _ _ (λ n. n ≤ t + 4) (λ _. omega arith) (λ _. omega arith)))))
+looking_ranked m r t o st rk = looking_most m r t (t + 4) (omega arith) (λ q. absurd (cc)) (λ q. absurd (cc))
+    (λ l q. absurd (cc)) (λ _. omega arith) (λ _. omega arith) (λ _. omega arith)
 
-pub looking_finished : (m : Manager) (r : Resolution) (t : ℕ) → is_none r.owner ≡ false →
-    is_none r.status ≡ false →
+pub looking_finished : (m : Manager) (r : Resolution) (t : ℕ) → is_none r.owner ≡ false → is_none r.status ≡ false →
     is_live (or_zero r.status) ≡ false → looking m r t ≤ 3
-looking_finished m r t o st lv = rw (o, st, lv)
-    (cond_both (is_resolved r) _ _ (λ n. n ≤ 3) (λ _. omega arith) (λ _.
-    cond_both (is_none (version r)) _ _ (λ n. n ≤ 3) (λ _. omega arith) (λ _.
-    cond_both (is_none r.high) _ _ (λ n. n ≤ 3) (λ _. omega arith) (λ _. omega arith))))
+looking_finished m r t o st lv = looking_most m r t 3 (omega arith) (λ q. absurd (cc)) (λ q. absurd (cc))
+    (λ l q. absurd (cc)) (λ q. absurd (cc)) (λ _. omega arith) (λ _. omega arith)
 
-pub looking_versioned : (m : Manager) (r : Resolution) (t : ℕ) → is_none r.owner ≡ false →
-    is_none r.status ≡ false →
+pub looking_versioned : (m : Manager) (r : Resolution) (t : ℕ) → is_none r.owner ≡ false → is_none r.status ≡ false →
     is_live (or_zero r.status) ≡ false → is_none (version r) ≡ false → looking m r t ≤ 2
-looking_versioned m r t o st lv v = rw (o, st, lv, v)
-    (cond_both (is_resolved r) _ _ (λ n. n ≤ 2) (λ _. omega arith) (λ _.
-    cond_both (is_none r.high) _ _ (λ n. n ≤ 2) (λ _. omega arith) (λ _. omega arith)))
+looking_versioned m r t o st lv v = looking_most m r t 2 (omega arith) (λ q. absurd (cc)) (λ q. absurd (cc))
+    (λ l q. absurd (cc)) (λ q. absurd (cc)) (λ q. absurd (cc)) (λ _. omega arith)
 
 pub looking_high : (m : Manager) (r : Resolution) (t : ℕ) → is_none r.owner ≡ false → is_none r.status ≡ false →
-    is_live (or_zero r.status) ≡ false → is_none (version r) ≡ false → is_none r.high ≡ false →
-    looking m r t ≤ 1
+    is_live (or_zero r.status) ≡ false → is_none (version r) ≡ false → is_none r.high ≡ false → looking m r t ≤ 1
 looking_high m r t o st lv v h = rw (o, st, lv, v, h)
     (cond_both (is_resolved r) _ _ (λ n. n ≤ 1) (λ _. omega arith) (λ _. omega arith))
 
@@ -250,16 +216,14 @@ pub data Stage (s : Shape) (w : Work) (l : LocalState) (f : Effort) (d : Due) (n
   numbering : closes w ≡ false → d ≡ just LookNumber → Still l → Blank l → 2 + tail w ≤ n → Stage s w l f d n
   passing : closes w ≡ false → d ≡ in_pass l → Still l → is_some l.pass ≡ true → 1 + tail w + unchecked l ≤ n →
       Stage s w l f d n
-  passed : closes w ≡ false → d ≡ when_passed w s.manager l → Still l → is_some l.last_pass ≡ true →
-      tail w ≤ n →
+  passed : closes w ≡ false → d ≡ when_passed w s.manager l → Still l → is_some l.last_pass ≡ true → tail w ≤ n →
       Stage s w l f d n
   releasing : closes w ≡ false → (o : ℕ) → d ≡ Step Release o → Still l → Blank l → 1 ≤ n → Stage s w l f d n
   ended : closes w ≡ false → d ≡ Done → Still l → Blank l → Stage s w l f d n
   putting : closes w ≡ true → (v : ℕ → Val) → w ≡ Committing v → d ≡ in_putting v l → Unread l → 3 ≤ n →
       Stage s w l f d n
   validating : closes w ≡ true → d ≡ just Draw → Unread l → 2 ≤ n → Stage s w l f d n
-  drawing : closes w ≡ true → d ≡ in_checking l → Unread l → l.checked ≡ 0 → l.phase ≡ Drawn → 1 ≤ n →
-      Stage s w l f d n
+  drawing : closes w ≡ true → d ≡ in_checking l → Unread l → l.checked ≡ 0 → l.phase ≡ Drawn → 1 ≤ n → Stage s w l f d n
 
 -- the stage after an event of kind k
 pub record NextStage (s : Shape) (w : Work) (e : Event) (l : LocalState) (f : Effort) (n : ℕ)

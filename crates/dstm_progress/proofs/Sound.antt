@@ -1,17 +1,7 @@
 -- What holds of a caller's state at every moment: where its attempt has drawn, and that it has not committed.
 use Rattle.std.proofs.Common.{◌<◌, ◌==◌, ◌∙◌, ◌≡◌, ◌≢◌, ◌⊎◌, Bool, List, Option, None, [], ◌++◌, ◌∷◌, ap, arith, false, inl, inr, is_some, length, refl, subst, sym, true, ℕ}
-use Rattle.std.proofs.lemmas.Bool.{cond_both}
-use Rattle.dstm_core.specs.Events.{Event}
-use Rattle.dstm_core.specs.Rules.{AllowedAs, after, leave}
-use Rattle.dstm_core.specs.Runs.{Core, local}
-use Rattle.dstm_core.specs.State.{LocalState, first, given}
-use Rattle.dstm_core.specs.Traces.{events_of}
-use Rattle.dstm_core.specs.declared.event.Kind.{Kind}
-use Rattle.dstm_core.specs.declared.event.Kind.TheVariants.{Begin, Commit, Draw, Enrol, Install, LookSelf, Pause, PutHigh, PutNew, Quit, Resume, Validating as ToValidating}
-use Rattle.dstm_core.specs.declared.shape.Shape.{Shape}
-use Rattle.dstm_core.specs.declared.state.Phase.{Phase}
-use Rattle.dstm_core.specs.declared.state.Phase.TheVariants.{Drawn, Outside, Paused, Putting, Running, Validating}
-use Rattle.dstm_order.specs.Calls.{state_after}
+use Rattle.dstm_core.proofs.Base.{AllowedAs, Core, Event, LocalState, after, cond_both, events_of, first, given, leave, local}
+use Rattle.dstm_order.proofs.Base.{Begin, Commit, Draw, Drawn, Enrol, Install, Kind, LookSelf, Outside, Pause, Paused, Phase, PutHigh, PutNew, Putting, Quit, Resume, Running, Shape, ToValidating, Validating, state_after}
 use Rattle.dstm_progress.proofs.Own.{AreAllowed}
 use Rattle.dstm_progress.proofs.OwnEvents.{allowed_before, whole_allowed, whole_state}
 use Rattle.dstm_core.proofs.Enrolment.{number_kept}
@@ -40,9 +30,9 @@ left l h = record {
 }
 
 -- the phase changes within an attempt
-entered : (l : LocalState) (p q : Phase) → Sound l → l.phase ≡ q → q ≢ Outside → DrawnIn p l.drawn →
+entered : (l : LocalState) (p : Phase) {q : Phase} → Sound l → l.phase ≡ q → q ≢ Outside → DrawnIn p l.drawn →
     SoundBy p l.number l.begun l.drawn l.committed
-entered l p q h is i d = record {
+entered l p h is i d = record {
   drawn = d;
   goes = λ _. h.goes (λ z. i (sym is ∙ z));
   number = h.number;
@@ -50,11 +40,10 @@ entered l p q h is i d = record {
 }
 
 -- the number drawn, in this phase
-pub drawn_in : (l : LocalState) (q : Phase) → Sound l → l.phase ≡ q → DrawnIn q l.drawn
-drawn_in l q h is = subst (λ p. DrawnIn p l.drawn) is h.drawn
+pub drawn_in : (l : LocalState) {q : Phase} → Sound l → l.phase ≡ q → DrawnIn q l.drawn
+drawn_in l h is = subst (λ p. DrawnIn p l.drawn) is h.drawn
 
-sound_step : (s : Shape) (l : LocalState) (e : Event) (k : Kind) → AllowedAs k s l e → Sound l →
-    Sound (after k s l e)
+sound_step : (s : Shape) (l : LocalState) (e : Event) (k : Kind) → AllowedAs k s l e → Sound l → Sound (after k s l e)
 sound_step s l e Enrol a h =
     record { drawn = h.drawn; goes = h.goes; number = λ _. refl; begun = h.begun }
 sound_step s l e Begin a h =
@@ -64,15 +53,15 @@ sound_step s l e LookSelf a h = cond_both (e.found == given l.phase) _ _ Sound (
 sound_step s l e PutHigh a h = go a.2.0
   where
     go : (l.phase ≡ Running) ⊎ (l.phase ≡ Putting) → SoundBy Putting l.number l.begun l.drawn l.committed
-    go (inl q) = entered l Putting Running h q (λ z. cc) (drawn_in l Running h q)
-    go (inr q) = entered l Putting Putting h q (λ z. cc) (drawn_in l Putting h q)
-sound_step s l e PutNew a h = entered l Putting Putting h a.2.0 (λ z. cc) (drawn_in l Putting h a.2.0)
+    go (inl q) = entered l Putting h q (λ z. cc) (drawn_in l h q)
+    go (inr q) = entered l Putting h q (λ z. cc) (drawn_in l h q)
+sound_step s l e PutNew a h = entered l Putting h a.2.0 (λ z. cc) (drawn_in l h a.2.0)
 sound_step s l e ToValidating a h = cond_both (e.found == 1) _ _ Sound (λ _. go a.2.0) (λ _. left l h)
   where
     go : ((l.phase ≡ Running) × (l.writes ≡ [])) ⊎ ((l.phase ≡ Putting) × (l.written ≡ length l.writes)) →
         SoundBy Validating l.number l.begun l.drawn l.committed
-    go (inl q) = entered l Validating Running h q.0 (λ z. cc) (drawn_in l Running h q.0)
-    go (inr q) = entered l Validating Putting h q.0 (λ z. cc) (drawn_in l Putting h q.0)
+    go (inl q) = entered l Validating h q.0 (λ z. cc) (drawn_in l h q.0)
+    go (inr q) = entered l Validating h q.0 (λ z. cc) (drawn_in l h q.0)
 sound_step s l e Draw a h = record {
   drawn = refl;
   goes = λ _. h.goes (λ z. let x = a.2.0 in cc);
@@ -87,11 +76,9 @@ sound_step s l e Commit a h = record {
 }
 sound_step s l e Quit a h = left l h
 sound_step s l e Pause a h =
-    cond_both (e.found == 1) _ _ Sound
-    (λ _. entered l Paused Running h a.2.0 (λ z. cc) (drawn_in l Running h a.2.0)) (λ _. left l h)
+    cond_both (e.found == 1) _ _ Sound (λ _. entered l Paused h a.2.0 (λ z. cc) (drawn_in l h a.2.0)) (λ _. left l h)
 sound_step s l e Resume a h =
-    cond_both (e.found == 2) _ _ Sound
-    (λ _. entered l Running Paused h a.2.0 (λ z. cc) (drawn_in l Paused h a.2.0)) (λ _. left l h)
+    cond_both (e.found == 2) _ _ Sound (λ _. entered l Running h a.2.0 (λ z. cc) (drawn_in l h a.2.0)) (λ _. left l h)
 sound_step s l e k a h = h
 
 pub sound_after : (s : Shape) (l : LocalState) (es : List Event) → AreAllowed s l es → Sound l →

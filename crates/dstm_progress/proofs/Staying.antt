@@ -1,46 +1,33 @@
 -- What a call leaves behind that has not left its attempt.
 use Rattle.std.proofs.Common.{◌+◌, ◌==◌, ◌||◌, ◌∙◌, ◌∷◌, ◌≡◌, ◌≢◌, ◌≤◌, ◌⊎◌, List, Option, [], ap, arith, false, inl, inr, refl, subst, sym, true}
-use Rattle.std.proofs.lemmas.Bool.{cases_Bool, cond_both, eqb-false, or_parts}
-use Rattle.dstm_core.specs.Events.{Event}
+use Rattle.dstm_core.proofs.Base.{Event, LocalState, cases_Bool, cond_both, eqb-false, local, or_parts}
 use Rattle.dstm_core.proofs.Static.{local_own}
-use Rattle.dstm_core.specs.Runs.{local}
-use Rattle.dstm_core.specs.State.{LocalState}
-use Rattle.dstm_core.specs.declared.event.Kind.TheVariants.{Quit}
-use Rattle.dstm_core.specs.declared.shape.Shape.{Shape}
-use Rattle.dstm_core.specs.declared.state.Phase.TheVariants.{Outside}
-use Rattle.dstm_order.specs.Calls.{Obeys, due_after, effort_of, newest_of, state_after}
-use Rattle.dstm_order.specs.Efforts.{Effort, most_missed}
-use Rattle.dstm_order.specs.Order.{Due, due, just, next_or_first}
-use Rattle.dstm_order.specs.Order.Due.{Done, Step}
-use Rattle.dstm_order.specs.Passes.{is_miss, misses}
-use Rattle.dstm_order.specs.Tasks.{Work}
-use Rattle.dstm_order.specs.Tasks.Task.{Doing}
+use Rattle.dstm_order.proofs.Base.{Doing, Due, Effort, Lcg, Obeys, Outside, Quit, Shape, Work, due, due_after, effort_of, is_miss, just, misses, most_missed, newest_of, next_or_first, state_after}
 use Rattle.dstm_order.proofs.Misses.{missed_is}
 use Rattle.dstm_order.proofs.Validations.{due_kind}
 use Rattle.dstm_progress.specs.Alone.{AreCalls, Made, all_events, generator_after}
 use Rattle.dstm_progress.proofs.Calls.{fresh_begin, inside_phase, nothing_due}
 use Rattle.dstm_progress.proofs.Own.{state_both}
-use Rattle.rand_pcg.specs.Lcg.{Lcg}
 use Rattle.dstm_progress.specs.Ends.{IsCurrent}
 use Rattle.dstm_progress.specs.Calls.{AttemptsStayCurrent, EveryCallThatStays}
 use Rattle.dstm_progress.proofs.OwnEvents.{after_own}
 use Rattle.dstm_progress.proofs.StaleReads.{not_quit}
 
 -- what the table says of a live attempt that is not stale, where too few exchanges have failed
-pub table_says : (w : Work) (s : Shape) (n : Option Event) (l : LocalState) (f : Effort) (d : Due) →
+pub table_says : (w : Work) (s : Shape) (n : Option Event) (l : LocalState) (f : Effort) {d : Due} →
     l.phase ≢ Outside → l.stale ≡ false → (f.missed == most_missed) ≡ false → due (Doing w) s n l f ≡ d →
     next_or_first n w s.manager l f ≡ d
-table_says w s n l f d i st m q = sym (same w s n l f i st m) ∙ q
+table_says w s n l f i st m q = sym (same w s n l f i st m) ∙ q
   where
     same : (w : Work) (s : Shape) (n : Option Event) (l : LocalState) (f : Effort) → l.phase ≢ Outside →
         l.stale ≡ false → (f.missed == most_missed) ≡ false → due (Doing w) s n l f ≡ next_or_first n w s.manager l f
     same w s n l f i st m = rw (inside_phase l.phase i, st, m) refl
 
 -- where something other than a Quit is due on a live attempt, it is not stale and too few exchanges have failed
-pub unless_quit : (w : Work) (s : Shape) (n : Option Event) (l : LocalState) (f : Effort) (d : Due) →
+pub unless_quit : (w : Work) (s : Shape) (n : Option Event) (l : LocalState) (f : Effort) {d : Due} →
     l.phase ≢ Outside → due (Doing w) s n l f ≡ d → just Quit ≢ d →
     (l.stale ≡ false) × ((f.missed == most_missed) ≡ false)
-unless_quit w s n l f d i q h = go (cases_Bool (l.stale || (f.missed == most_missed)))
+unless_quit w s n l f i q h = go (cases_Bool (l.stale || (f.missed == most_missed)))
   where
     go : (l.stale || (f.missed == most_missed) ≡ true) ⊎ (l.stale || (f.missed == most_missed) ≡ false) →
         (l.stale ≡ false) × ((f.missed == most_missed) ≡ false)
@@ -63,8 +50,8 @@ not_too_many w s l g (e ∷ es) o i =
     let old = state_after s l es in
     let f = effort_of s l g es in
     let inside : old.phase ≢ Outside = λ z. nothing_due w s (newest_of es) old f e z o.1 in
-    let was = due_kind (due_after (Doing w) s l g es) e e.kind o.1 refl in
-    let h = unless_quit w s (newest_of es) old f (Step e.kind was.0) inside was.1
+    let was = due_kind (due_after (Doing w) s l g es) e o.1 refl in
+    let h = unless_quit w s (newest_of es) old f inside was.1
     (λ z. not_quit s old e e.kind i (let x : Quit ≡ e.kind = cc in sym x)) in
     let n = fewer s l g es h.1 in
     let ih = not_too_many w s l g es o.0 inside in
@@ -72,7 +59,7 @@ not_too_many w s l g (e ∷ es) o i =
 
 pub call_stays : EveryCallThatStays
 call_stays = λ w s l g es h i.
-    let two = unless_quit w s (newest_of es) (state_after s l es) (effort_of s l g es) Done i h.done (λ z. cc) in
+    let two = unless_quit w s (newest_of es) (state_after s l es) (effort_of s l g es) i h.done (λ z. cc) in
     let n = fewer s l g es two.1 in
     let most = not_too_many w s l g es h.obeys i in
     (record { live = i; agreed = two.0 }, omega arith)
@@ -92,7 +79,7 @@ attempts_stay = λ s g calls begin before run k own h i.
     let c = begin.caller in
     let first = local s (begin ∷ before) c in
     let now = after_own s c run (begin ∷ before) (all_events calls) own in
-    let fresh = fresh_begin s (local s before c) begin begin.kind k in
+    let fresh = fresh_begin s (local s before c) begin k in
     subst IsCurrent (sym now)
     (calls_stay s first g calls h (ap (λ (l : LocalState). l.stale) (local_own s before begin) ∙ fresh.agreed)
     (subst (λ (l : LocalState). l.phase ≢ Outside) now i))

@@ -1,27 +1,8 @@
 -- What an attempt was handed is validated at once.
-use Rattle.std.proofs.Common.{◌≡◌, ◌⊎◌, ◌∙◌, ◌++◌, ◌∷◌, ◌==◌, ◌&&◌, ◌||◌, Bool, List, [], Some, None, true, false, ap, inl, inr, refl, subst, sym, not}
-use Rattle.std.specs.Prelude.{Option, if◌then◌else◌, is_some}
-use Rattle.std.proofs.lemmas.Bool.{cases_Bool, cond_both}
-use Rattle.rand_pcg.specs.Lcg.{Lcg}
-use Rattle.dstm_core.specs.Events.{Event}
-use Rattle.dstm_core.specs.Kinds.{is_one_of}
-use Rattle.dstm_core.specs.Rules.{AllowedAs, after, is_outside}
-use Rattle.dstm_core.specs.State.{LocalState, first}
-use Rattle.dstm_core.specs.declared.event.Kind.{Kind}
-use Rattle.dstm_core.specs.declared.event.Kind.TheVariants.{Begin, Check, Install, LookNumber, LookSelf, Quit, Rank, Stamp}
-use Rattle.dstm_core.specs.declared.shape.Manager.{Manager}
-use Rattle.dstm_core.specs.declared.shape.Shape.{Shape}
-use Rattle.dstm_core.specs.declared.state.Phase.TheVariants.{Running}
-use Rattle.dstm_machines.specs.Traces.{Each}
-use Rattle.dstm_order.specs.Calls.{IsCall, Obeys, effort_of, newest_of, state_after}
-use Rattle.dstm_order.specs.Efforts.{Effort, most_missed}
-use Rattle.dstm_order.specs.Made.{AreMade, Call, events_in, generator_by, state_by}
-use Rattle.dstm_order.specs.Order.{Due, IsDue, due, has_begun, has_ranks, has_stamps, in_checks, is_spent, at_first, just, next, next_or_first, rises}
-use Rattle.dstm_order.specs.Order.Due.{Done, Step}
-use Rattle.dstm_order.specs.Retries.{AnyTask}
-use Rattle.dstm_order.specs.Tasks.{Task, Work}
-use Rattle.dstm_order.specs.Tasks.Task.{Beginning, Doing, Enrolling, Leaving}
-use Rattle.dstm_order.proofs.Rows.{pass_by}
+use Rattle.std.proofs.Common.{◌≡◌, ◌⊎◌, ◌∙◌, ◌++◌, ◌∷◌, ◌==◌, ◌||◌, Bool, List, [], Some, None, true, false, ap, inl, inr, refl, subst, sym, Option, if◌then◌else◌, is_some}
+use Rattle.dstm_core.proofs.Base.{AllowedAs, Each, Event, LocalState, after, cases_Bool, cond_both, first, is_one_of, is_outside}
+use Rattle.dstm_order.proofs.Base.{AnyTask, AreMade, Begin, Beginning, Call, Check, Doing, Done, Due, Effort, Enrolling, Install, IsCall, IsDue, Kind, Lcg, Leaving, LookNumber, LookSelf, Manager, Obeys, Quit, Running, Shape, Step, Task, Work, at_first, due, effort_of, events_in, generator_by, in_checks, just, most_missed, newest_of, next, next_or_first, state_after, state_by}
+use Rattle.dstm_order.proofs.Rows.{pass_by, beginning_by}
 use Rattle.dstm_progress.specs.Lives.{EveryValueIsValidated, IsOfPass, awaits_after, awaits_sight}
 use Rattle.dstm_progress.proofs.Own.{AreAllowed, allowed_split}
 use Rattle.dstm_progress.proofs.OwnEvents.{whole_allowed}
@@ -59,10 +40,8 @@ quit_of = inr (inr (inr refl))
 next_of : (k : Kind) (e : Event) (w : Work) (m : Manager) (l : LocalState) (f : Effort) → l.phase ≡ Running →
     Passes k e → OfPass (next k e w m l f)
 next_of LookNumber e w m l f r h = pass_by OfPass l self_of check_of
-next_of Check e w m l f r h =
-    subst (λ p. OfPass (in_checks p l)) (sym r) (pass_by OfPass l self_of check_of)
-next_of Install e w m l f r h =
-    subst (λ b. OfPass (if b then just LookNumber else at_first w l)) (sym h) number_of
+next_of Check e w m l f r h = subst (λ p. OfPass (in_checks p l)) (sym r) (pass_by OfPass l self_of check_of)
+next_of Install e w m l f r h = subst (λ b. OfPass (if b then just LookNumber else at_first w l)) (sym h) number_of
 next_of k e w m l f r h = absurd h
 
 table_of : (o : Option Event) (w : Work) (m : Manager) (l : LocalState) (f : Effort) → l.phase ≡ Running → HasPass o →
@@ -142,14 +121,7 @@ leaving_idle s o l f = cond_both (is_outside l.phase) _ _ Idle (λ _. tt) (λ _ 
 beginning_idle : (fresh : Bool) (s : Shape) (o : Option Event) (l : LocalState) (f : Effort) →
     Idle (due (Beginning fresh) s o l f)
 beginning_idle fresh s o l f =
-    cond_both (has_begun o) _ _ Idle (λ _. tt) (λ _.
-    cond_both (not (is_outside l.phase)) _ _ Idle (λ _ e. refl) (λ _.
-    cond_both (is_spent s l) _ _ Idle (λ _. tt) (λ _.
-    cond_both (has_stamps s.manager && fresh && not l.stamped) (just Stamp)
-    (if has_ranks s.manager && not l.ranked then Step Rank (if rises s.manager && fresh then 0 else l.rank) else just Begin)
-    Idle (λ _ e. refl) (λ _.
-    cond_both (has_ranks s.manager && not l.ranked) (Step Rank (if rises s.manager && fresh then 0 else l.rank)) (just Begin)
-    Idle (λ _ e. refl) (λ _ e. refl)))))
+    beginning_by Idle s fresh o l tt (λ e. refl) (λ _ _ e. refl) (λ _ e. refl) (λ e. refl)
 
 idle_at : (d : Due) (e : Event) (b : Bool) → Idle d → IsDue d e → b ≡ false → awaits_after e.kind e b ≡ false
 idle_at (Step k n) e b h is none = rw none (subst (λ k. awaits_after k e false ≡ false) (sym is.0) (h e))
@@ -176,9 +148,9 @@ module _ (s : Shape) (l : LocalState) (g : Lcg) (before : List Event) (valid : I
     pub covered : Each IsCovered (es ++ before)
     pub waits : Waits (awaits_sight (es ++ before)) (newest_of es) (At es)
 
-  advances : (w : Work) (e : Event) (es : List Event) → Waiting es → AllowedAs e.kind s (At es) e →
+  advances : (w : Work) (e : Event) {es : List Event} → Waiting es → AllowedAs e.kind s (At es) e →
       IsDue (due (Doing w) s (newest_of es) (At es) (effort_of s l g es)) e → Waiting (e ∷ es)
-  advances w e es so_far allowed is = record {
+  advances w e {es = es} so_far allowed is = record {
     covered = (so_far.covered, λ q. (of_pass q).0);
     waits = goes s (At es) e e.kind (awaits_sight (es ++ before)) allowed of_pass;
   }
@@ -196,10 +168,10 @@ module _ (s : Shape) (l : LocalState) (g : Lcg) (before : List Event) (valid : I
     covered = valid.0;
     waits = λ q. absurd (not_both (awaits_sight before) valid.1 q);
   }
-  waiting w (e ∷ es) a h = advances w e es (waiting w es a.0 h.0) a.1 h.1
+  waiting w (e ∷ es) a h = advances w e (waiting w es a.0 h.0) a.1 h.1
 
-  doing_valid : (w : Work) (es : List Event) → AreAllowed s l es → IsCall (Doing w) s l g es → IsValid (es ++ before)
-  doing_valid w es a call = (so_far.covered, none (cases_Bool (awaits_sight (es ++ before))))
+  doing_valid : {w : Work} {es : List Event} → AreAllowed s l es → IsCall (Doing w) s l g es → IsValid (es ++ before)
+  doing_valid {w = w} {es = es} a call = (so_far.covered, none (cases_Bool (awaits_sight (es ++ before))))
     where
       so_far : Waiting es
       so_far = waiting w es a call.obeys
@@ -210,11 +182,11 @@ module _ (s : Shape) (l : LocalState) (g : Lcg) (before : List Event) (valid : I
           (due_of w s (newest_of es) (At es) (effort_of s l g es) (so_far.waits q).1 (so_far.waits q).0))
       none (inr q) = q
 
-  call_valid : (t : Task) (es : List Event) → AreAllowed s l es → IsCall t s l g es → IsValid (es ++ before)
-  call_valid Enrolling es a call = idle_valid Enrolling (enrolling_idle s) es call.obeys
-  call_valid (Beginning fresh) es a call = idle_valid (Beginning fresh) (beginning_idle fresh s) es call.obeys
-  call_valid Leaving es a call = idle_valid Leaving (leaving_idle s) es call.obeys
-  call_valid (Doing w) es a call = doing_valid w es a call
+  call_valid : {t : Task} {es : List Event} → AreAllowed s l es → IsCall t s l g es → IsValid (es ++ before)
+  call_valid {t = Enrolling} {es = es} a call = idle_valid Enrolling (enrolling_idle s) es call.obeys
+  call_valid {t = (Beginning fresh)} {es = es} a call = idle_valid (Beginning fresh) (beginning_idle fresh s) es call.obeys
+  call_valid {t = Leaving} {es = es} a call = idle_valid Leaving (leaving_idle s) es call.obeys
+  call_valid {t = (Doing w)} a call = doing_valid a call
 
 -- ---- in a run
 
@@ -223,8 +195,7 @@ calls_valid : (s : Shape) (l : LocalState) (g : Lcg) (cs : List Call) → AreAll
 calls_valid s l g [] a m = (tt, refl)
 calls_valid s l g (c ∷ cs) a m =
     let parts = allowed_split s l c.events (events_in cs) a in
-    call_valid s (state_by s l g cs) (generator_by s l g cs) (events_in cs) (calls_valid s l g cs parts.1 m.0) c.task
-    c.events parts.0 m.2
+    call_valid s (state_by s l g cs) (generator_by s l g cs) (events_in cs) (calls_valid s l g cs parts.1 m.0) parts.0 m.2
 
 pub every_value : EveryValueIsValidated
 every_value s g log c core by =

@@ -1,45 +1,23 @@
 -- An attempt on which no object is opened for reading reads nothing, so it never becomes stale.
 use Rattle.std.proofs.Common.{◌++◌, ◌==◌, ◌||◌, ◌∙◌, ◌∷◌, ◌≡◌, ◌≢◌, ◌⊎◌, Bool, List, Option, None, Some, [], ap, arith, false, inl, inr, is_some, length, refl, subst, sym, true, ℕ}
-use Rattle.std.proofs.lemmas.Bool.{cases_Bool, cond_both, or_right}
-use Rattle.dstm_core.specs.Rules.{AllowedAs, after}
-use Rattle.dstm_core.specs.Runs.{Core, local}
-use Rattle.dstm_core.specs.State.{LocalState, drop_read, keep_resolved, res}
-use Rattle.dstm_core.specs.Traces.{events_of}
-use Rattle.dstm_core.specs.Events.{Event}
-use Rattle.dstm_core.specs.Kinds.{is_one_of}
-use Rattle.dstm_core.specs.declared.event.Kind.{Kind}
-use Rattle.dstm_core.specs.declared.event.Kind.TheVariants.{Begin, Check, Commit, Draw, Enrol, Install, LookNumber, LookObj, LookSelf, PutHigh, PutNew, PutOld, PutOwner, Quit, Rank, Release, Stamp, Validating as ToValidating}
-use Rattle.dstm_core.specs.declared.shape.Manager.{Manager}
-use Rattle.dstm_core.specs.declared.shape.Shape.{Shape}
-use Rattle.dstm_core.specs.declared.state.Phase.TheVariants.{Outside}
+use Rattle.dstm_core.proofs.Base.{AllowedAs, Core, Event, LocalState, Val, after, cases_Bool, cond_both, drop_read, events_of, is_one_of, keep_resolved, local, nat_tests, or_right, res}
 use Rattle.dstm_core.proofs.Static.{local_own}
 use Rattle.dstm_core.proofs.Pasts.{core_past}
-use Rattle.dstm_model.specs.declared.value.Val.{Val}
-use Rattle.dstm_order.specs.Calls.{IsCall, Obeys, effort_of, newest_of, state_after}
-use Rattle.dstm_order.specs.Efforts.{Effort}
-use Rattle.dstm_order.specs.Order.{Due, IsDue, at_first, due, in_putting, in_resolving, just, next, next_or_first, when_resolved}
-use Rattle.dstm_order.specs.Order.Due.{Done, Step}
-use Rattle.dstm_order.specs.Passes.{is_open}
-use Rattle.dstm_order.specs.Tasks.{Work}
-use Rattle.dstm_order.specs.Tasks.Task.{Doing}
-use Rattle.dstm_order.specs.Tasks.Work.{Reading, Writing, Releasing, Rechecking, Committing}
-use Rattle.rand_pcg.specs.Lcg.{Lcg}
-use Rattle.dstm_progress.specs.Alone.{AreCalls, Made, all_events, generator_after}
+use Rattle.dstm_order.proofs.Base.{Begin, Check, Commit, Committing, Doing, Done, Draw, Due, Effort, Enrol, Install, IsCall, IsDue, Kind, Lcg, LookNumber, LookObj, LookSelf, Manager, Obeys, Outside, PutHigh, PutNew, PutOld, PutOwner, Quit, Rank, Reading, Rechecking, Release, Releasing, Shape, Stamp, Step, ToValidating, Work, Writing, at_first, due, effort_of, in_putting, in_resolving, is_open, just, newest_of, next, next_or_first, state_after, when_resolved}
+use Rattle.dstm_progress.specs.Alone.{AreCalls, Made, all_events}
 use Rattle.dstm_progress.specs.Oldest.{IsNoReading, OpensToWrite}
 use Rattle.dstm_progress.proofs.Bound.{IsStep}
 use Rattle.dstm_progress.proofs.Calls.{inside_phase, nothing_due}
 use Rattle.dstm_progress.proofs.Own.{AreAllowed, allowed_split, own_allowed, state_both}
 use Rattle.dstm_order.proofs.Rows.{is_resolving, next_resolving, resolves, resolves_by, checking_by, checks_by, giving_way_by, pass_by, passed_by, put_by, putting_by, resolving_by}
 use Rattle.dstm_core.proofs.Untouched.{reads_stay, unlooked}
-use Rattle.std.proofs.lemmas.Bool.Decides.{nat_tests}
 use Rattle.dstm_core.proofs.Enrolment.{number_kept}
 
 -- ---- which events are due while an object is resolved
 
 -- events before which the resolution is dropped, where nothing is read
 abbrev pub is_calm : Kind → Bool
-is_calm =
-    is_one_of (LookNumber ∷ LookSelf ∷ Rank ∷ PutHigh ∷ PutNew ∷ ToValidating ∷ Draw ∷ Commit ∷ [])
+is_calm = is_one_of (LookNumber ∷ LookSelf ∷ Rank ∷ PutHigh ∷ PutNew ∷ ToValidating ∷ Draw ∷ Commit ∷ [])
 
 abbrev pub NotCalm : Due → Type 0
 NotCalm (Step k o) = is_calm k ≡ false
@@ -60,8 +38,7 @@ resolved_busy (Releasing o) h = tt
 resolved_busy Rechecking h = tt
 resolved_busy (Committing v) h = tt
 
-resolving_busy : (m : Manager) (l : LocalState) (f : Effort) (d : Due) → NotCalm d →
-    NotCalm (in_resolving m l f d)
+resolving_busy : (m : Manager) (l : LocalState) (f : Effort) (d : Due) → NotCalm d → NotCalm (in_resolving m l f d)
 resolving_busy m l f d h =
     resolving_by NotCalm m l f d (resolves_by NotCalm resolves_busy) (λ _. giving_way_by NotCalm l f refl refl refl) h
 
@@ -70,8 +47,7 @@ abbrev pub is_busy : Kind → Bool
 is_busy k = is_resolving k || is_one_of (PutOwner ∷ PutOld ∷ []) k
 
 busy_next : (k : Kind) (e : Event) (w : Work) (m : Manager) (l : LocalState) (f : Effort) → ((o : ℕ) →
-    w ≢ Reading o) →
-    is_busy k ≡ true → NotCalm (next k e w m l f)
+    w ≢ Reading o) → is_busy k ≡ true → NotCalm (next k e w m l f)
 busy_next PutOwner e w m l f h q = refl
 busy_next PutOld e w m l f h q = refl
 busy_next k e w m l f h q =
@@ -87,8 +63,7 @@ abbrev pub OpensBusy : Work → Due → Type 0
 OpensBusy w (Step k o) = is_busy k ≡ true → is_open w ≡ true
 OpensBusy w Done = Unit {0}
 
-opens_busy : (w : Work) (d : Due) (e : Event) → OpensBusy w d → IsDue d e → is_busy e.kind ≡ true →
-    is_open w ≡ true
+opens_busy : (w : Work) (d : Due) (e : Event) → OpensBusy w d → IsDue d e → is_busy e.kind ≡ true → is_open w ≡ true
 opens_busy w (Step k o) e h i q = h (ap is_busy (sym i.0) ∙ q)
 opens_busy w Done e h i q = absurd i
 
@@ -108,13 +83,10 @@ calm_next : (k : Kind) (e : Event) (w : Work) (m : Manager) (l : LocalState) (f 
 calm_next Install e w m l f h =
     cond_both (e.found == e.expected) _ _ (OpensBusy w) (λ _ q. absurd (cc)) (λ _. first_busy w l)
 calm_next LookNumber e w m l f h = pass_by (OpensBusy w) l (λ q. absurd (cc)) (λ q. absurd (cc))
-calm_next Check e w m l f h =
-    checks_by (OpensBusy w) l.phase l (λ q. absurd (cc)) (λ q. absurd (cc)) (λ q. absurd (cc))
+calm_next Check e w m l f h = checks_by (OpensBusy w) l.phase l (λ q. absurd (cc)) (λ q. absurd (cc)) (λ q. absurd (cc))
 calm_next LookSelf e w m l f h = passed_by (OpensBusy w) w m l tt (λ n q. absurd (cc))
-calm_next PutHigh e w m l f h =
-    put_by (OpensBusy w) w l tt (λ q. absurd (cc)) (λ n q. absurd (cc)) (λ n q. absurd (cc))
-calm_next PutNew e w m l f h =
-    put_by (OpensBusy w) w l tt (λ q. absurd (cc)) (λ n q. absurd (cc)) (λ n q. absurd (cc))
+calm_next PutHigh e w m l f h = put_by (OpensBusy w) w l tt (λ q. absurd (cc)) (λ n q. absurd (cc)) (λ n q. absurd (cc))
+calm_next PutNew e w m l f h = put_by (OpensBusy w) w l tt (λ q. absurd (cc)) (λ n q. absurd (cc)) (λ n q. absurd (cc))
 calm_next ToValidating e w m l f h = λ q. absurd (cc)
 calm_next Draw e w m l f h = checking_by (OpensBusy w) l (λ q. absurd (cc)) (λ q. absurd (cc))
 calm_next Rank e w m l f h = tt
@@ -145,10 +117,8 @@ due_quit : (w : Work) (s : Shape) (n : Option Event) (l : LocalState) (f : Effor
 due_quit w s n l f i q = rw (inside_phase l.phase i, or_right l.stale (f.missed == 64) q) refl
 
 -- what is due next, where nothing is stale: a Quit, or what the table says
-due_or_quit : (s : Shape) (w : Work) (n : Option Event) (l : LocalState) (f : Effort) (e : Event) →
-    l.phase ≢ Outside →
-    l.stale ≡ false → IsDue (due (Doing w) s n l f) e →
-    (e.kind ≡ Quit) ⊎ IsDue (next_or_first n w s.manager l f) e
+due_or_quit : (s : Shape) (w : Work) (n : Option Event) (l : LocalState) (f : Effort) (e : Event) → l.phase ≢ Outside →
+    l.stale ≡ false → IsDue (due (Doing w) s n l f) e → (e.kind ≡ Quit) ⊎ IsDue (next_or_first n w s.manager l f) e
 due_or_quit s w n l f e i st d = go (cases_Bool (f.missed == 64))
   where
     go : (f.missed == 64 ≡ true) ⊎ (f.missed == 64 ≡ false) →
@@ -157,33 +127,33 @@ due_or_quit s w n l f e i st d = go (cases_Bool (f.missed == 64))
     go (inr q) = inr (subst (λ d. IsDue d e) (due_table w s n l f i st q) d)
 
 -- a calm event is due only where nothing is resolved
-calm_clear : (w : Work) (n : Option Event) (m : Manager) (l : LocalState) (f : Effort) (e : Event) →
+calm_clear : {w : Work} {n : Option Event} (m : Manager) {l : LocalState} (f : Effort) (e : Event) →
     ((o : ℕ) → w ≢ Reading o) → l.phase ≢ Outside → ReadsNothing w n l →
     IsDue (next_or_first n w m l f) e → is_calm e.kind ≡ true → l.resolution ≡ None
-calm_clear w None m l f e h i r d q = r.clear refl i
-calm_clear w (Some x) m l f e h i r d q = go (cases_Bool (is_busy x.kind))
+calm_clear {n = None} m f e h i r d q = r.clear refl i
+calm_clear {w = w} {n = (Some x)} m {l = l} f e h i r d q = go (cases_Bool (is_busy x.kind))
   where
     go : (is_busy x.kind ≡ true) ⊎ (is_busy x.kind ≡ false) → l.resolution ≡ None
     go (inl b) = absurd (not_calm (next x.kind x w m l f) e (busy_next x.kind x w m l f h b) d q)
     go (inr b) = r.clear b i
 
 -- an object is resolved in an open alone
-busy_opens : (w : Work) (n : Option Event) (m : Manager) (l : LocalState) (f : Effort) (e : Event) →
+busy_opens : {w : Work} {n : Option Event} (m : Manager) {l : LocalState} (f : Effort) (e : Event) →
     ReadsNothing w n l → IsDue (next_or_first n w m l f) e → is_busy e.kind ≡ true → is_open w ≡ true
-busy_opens w None m l f e r d q = opens_busy w (at_first w l) e (first_busy w l) d q
-busy_opens w (Some x) m l f e r d q = go (cases_Bool (is_busy x.kind))
+busy_opens {w = w} {n = None} m {l = l} f e r d q = opens_busy w (at_first w l) e (first_busy w l) d q
+busy_opens {w = w} {n = (Some x)} m {l = l} f e r d q = go (cases_Bool (is_busy x.kind))
   where
     go : (is_busy x.kind ≡ true) ⊎ (is_busy x.kind ≡ false) → is_open w ≡ true
     go (inl b) = r.opening b
     go (inr b) = opens_busy w (next x.kind x w m l f) e (calm_next x.kind x w m l f b) d q
 
-calm_not_quit : (k : Kind) → k ≡ Quit → is_calm k ≡ true → ⊥
-calm_not_quit Quit q h = cc
-calm_not_quit k q h = cc
+calm_not_quit : {k : Kind} → k ≡ Quit → is_calm k ≡ true → ⊥
+calm_not_quit {k = Quit} q h = cc
+calm_not_quit q h = cc
 
-busy_not_quit : (k : Kind) → k ≡ Quit → is_busy k ≡ true → ⊥
-busy_not_quit Quit q h = cc
-busy_not_quit k q h = cc
+busy_not_quit : {k : Kind} → k ≡ Quit → is_busy k ≡ true → ⊥
+busy_not_quit {k = Quit} q h = cc
+busy_not_quit q h = cc
 
 reads_after : (s : Shape) (l : LocalState) (e : Event) (k : Kind) → (is_calm k ≡ true → l.resolution ≡ None) →
     l.reads ≡ [] → (after k s l e).reads ≡ []
@@ -227,10 +197,10 @@ clear_after s l e Draw a r n c b i = c refl
 clear_after s l e Commit a r n c b i = absurd (i refl)
 clear_after s l e k a r n c b i = absurd (cc)
 
-reads_step : (s : Shape) (w : Work) (n : Option Event) (l : LocalState) (f : Effort) (e : Event) →
+reads_step : (s : Shape) {w : Work} {n : Option Event} {l : LocalState} (f : Effort) (e : Event) →
     ((o : ℕ) → w ≢ Reading o) → AllowedAs e.kind s l e → ReadsNothing w n l →
     IsDue (due (Doing w) s n l f) e → ReadsNothing w (Some e) (after e.kind s l e)
-reads_step s w n l f e h a r d = go (due_or_quit s w n l f e i r.agreed d)
+reads_step s {w = w} {n = n} {l = l} f e h a r d = go (due_or_quit s w n l f e i r.agreed d)
   where
     i : l.phase ≢ Outside
     i = λ z. nothing_due w s n l f e z d
@@ -245,19 +215,16 @@ reads_step s w n l f e h a r d = go (due_or_quit s w n l f e i r.agreed d)
       opening = b;
     }
 
-    go : (e.kind ≡ Quit) ⊎ IsDue (next_or_first n w s.manager l f) e →
-        ReadsNothing w (Some e) (after e.kind s l e)
-    go (inl q) = by (λ c. absurd (calm_not_quit e.kind q c)) (λ b. absurd (busy_not_quit e.kind q b))
-    go (inr x) = by (calm_clear w n s.manager l f e h i r x) (busy_opens w n s.manager l f e r x)
+    go : (e.kind ≡ Quit) ⊎ IsDue (next_or_first n w s.manager l f) e → ReadsNothing w (Some e) (after e.kind s l e)
+    go (inl q) = by (λ c. absurd (calm_not_quit q c)) (λ b. absurd (busy_not_quit q b))
+    go (inr x) = by (calm_clear s.manager f e h i r x) (busy_opens s.manager f e r x)
 
-call_reads : (s : Shape) (w : Work) (l : LocalState) (g : Lcg) (events : List Event) → ((o : ℕ) →
-    w ≢ Reading o) →
-    AreAllowed s l events → Obeys (Doing w) s l g events → ReadsNothing w None l →
+call_reads : (s : Shape) {w : Work} {l : LocalState} (g : Lcg) (events : List Event) → ((o : ℕ) →
+    w ≢ Reading o) → AreAllowed s l events → Obeys (Doing w) s l g events → ReadsNothing w None l →
     ReadsNothing w (newest_of events) (state_after s l events)
-call_reads s w l g [] h a o r = r
-call_reads s w l g (e ∷ events) h a o r =
-    reads_step s w (newest_of events) (state_after s l events) (effort_of s l g events) e h a.1
-    (call_reads s w l g events h a.0 o.0 r) o.1
+call_reads s g [] h a o r = r
+call_reads s {l = l} g (e ∷ events) h a o r =
+    reads_step s (effort_of s l g events) e h a.1 (call_reads s g events h a.0 o.0 r) o.1
 
 -- ---- a call ends with nothing resolved
 
@@ -281,11 +248,10 @@ busy_due k e w m l f h q =
     (resolving_due m l f (when_resolved w) (λ z. let x = sym h ∙ z in cc))
 
 -- at its end no object is being resolved
-end_clear : (s : Shape) (w : Work) (n : Option Event) (l : LocalState) (f : Effort) → ((o : ℕ) →
-    w ≢ Reading o) →
-    ReadsNothing w n l → due (Doing w) s n l f ≡ Done → l.phase ≢ Outside → l.resolution ≡ None
-end_clear s w None l f h r d i = r.clear refl i
-end_clear s w (Some e) l f h r d i = go (cases_Bool (is_busy e.kind))
+end_clear : (s : Shape) {w : Work} {n : Option Event} {l : LocalState} (f : Effort) → ((o : ℕ) →
+    w ≢ Reading o) → ReadsNothing w n l → due (Doing w) s n l f ≡ Done → l.phase ≢ Outside → l.resolution ≡ None
+end_clear s {n = None} f h r d i = r.clear refl i
+end_clear s {w = w} {n = (Some e)} {l = l} f h r d i = go (cases_Bool (is_busy e.kind))
   where
     table : (f.missed == 64 ≡ true) ⊎ (f.missed == 64 ≡ false) → next e.kind e w s.manager l f ≡ Done
     table (inl q) = absurd (let x : just Quit ≡ Done = sym (due_quit w s (Some e) l f i q) ∙ d in cc)
@@ -310,10 +276,10 @@ pub record Nothing (l : LocalState) : Type 0 where
   pub number : is_some l.number ≡ true
   pub clear : l.phase ≢ Outside → l.resolution ≡ None
 
-call_nothing : (s : Shape) (w : Work) (l : LocalState) (g : Lcg) (events : List Event) → IsNoReading w →
+call_nothing : {s : Shape} {w : Work} {l : LocalState} {g : Lcg} {events : List Event} → IsNoReading w →
     AreAllowed s l events → IsCall (Doing w) s l g events → Nothing l → Nothing (state_after s l events)
-call_nothing s w l g events h a call n =
-    let r = call_reads s w l g events (no_reading w h) a call.obeys (record {
+call_nothing {s = s} {w = w} {l = l} {g = g} {events = events} h a call n =
+    let r = call_reads s g events (no_reading w h) a call.obeys (record {
       reads = n.reads;
       agreed = n.agreed;
       number = n.number;
@@ -324,38 +290,30 @@ call_nothing s w l g events h a call n =
       reads = r.reads;
       agreed = r.agreed;
       number = r.number;
-      clear = end_clear s w (newest_of events) (state_after s l events) (effort_of s l g events)
+      clear = end_clear s (effort_of s l g events)
           (no_reading w h) r call.done;
     }
 
-pub calls_nothing : (s : Shape) (l : LocalState) (g : Lcg) (calls : List Made) → OpensToWrite calls →
-    AreAllowed s l (all_events calls) → AreCalls s l g calls → Nothing l →
-    Nothing (state_after s l (all_events calls))
-calls_nothing s l g [] h a o n = n
-calls_nothing s l g (x ∷ calls) h a o n =
+pub calls_nothing : (s : Shape) {l : LocalState} (g : Lcg) (calls : List Made) → OpensToWrite calls →
+    AreAllowed s l (all_events calls) → AreCalls s l g calls → Nothing l → Nothing (state_after s l (all_events calls))
+calls_nothing s g [] h a o n = n
+calls_nothing s {l = l} g (x ∷ calls) h a o n =
     let parts = allowed_split s l x.events (all_events calls) a in
-    subst Nothing (sym (state_both s l x.events (all_events calls)))
-    (call_nothing s x.work (state_after s l (all_events calls))
-    (generator_after s l g calls) x.events h.0 parts.0 o.1
-    (calls_nothing s l g calls h.1 parts.1 o.0 n))
+    subst Nothing (sym (state_both s l x.events (all_events calls))) (call_nothing h.0 parts.0 o.1
+    (calls_nothing s g calls h.1 parts.1 o.0 n))
 
-pub begins_nothing : (s : Shape) (l : LocalState) (e : Event) (k : Kind) → k ≡ Begin → AllowedAs k s l e →
+pub begins_nothing : (s : Shape) (l : LocalState) (e : Event) {k : Kind} → k ≡ Begin → AllowedAs k s l e →
     Nothing (after k s l e)
-begins_nothing s l e Begin q a = record { reads = refl; agreed = refl; number = a.2.1; clear = λ _. refl }
-begins_nothing s l e k q a = absurd (cc)
+begins_nothing s l e {k = Begin} q a = record { reads = refl; agreed = refl; number = a.2.1; clear = λ _. refl }
+begins_nothing s l e q a = absurd (cc)
 
 -- an attempt on which no object is opened for reading never becomes stale
 pub never_stale : (s : Shape) (g : Lcg) (calls : List Made) (later : List Event) (begin : Event)
-    (before : List Event) →
-    Core s (later ++ begin ∷ before) → begin.kind ≡ Begin →
-    events_of begin.caller later ≡ all_events calls →
-    AreCalls s (local s (begin ∷ before) begin.caller) g calls →
-    OpensToWrite calls → (state_after s (local s (begin ∷ before) begin.caller)
-    (all_events calls)).stale ≡ false
+    (before : List Event) → Core s (later ++ begin ∷ before) → begin.kind ≡ Begin →
+    events_of begin.caller later ≡ all_events calls → AreCalls s (local s (begin ∷ before) begin.caller) g calls →
+    OpensToWrite calls → (state_after s (local s (begin ∷ before) begin.caller) (all_events calls)).stale ≡ false
 never_stale s g calls later begin before core k own made h =
-    (calls_nothing s (local s (begin ∷ before) begin.caller) g calls h
-    (subst (AreAllowed s (local s (begin ∷ before) begin.caller)) own
-    (own_allowed s begin.caller later (begin ∷ before) core)) made
-    (subst Nothing (sym (local_own s before begin))
-    (begins_nothing s (local s before begin.caller) begin begin.kind k
+    (calls_nothing s g calls h (subst (AreAllowed s (local s (begin ∷ before) begin.caller)) own
+    (own_allowed s begin.caller later (begin ∷ before) core)) made (subst Nothing (sym (local_own s before begin))
+    (begins_nothing s (local s before begin.caller) begin k
     (core_past s later (begin ∷ before) core).1.allowed))).agreed

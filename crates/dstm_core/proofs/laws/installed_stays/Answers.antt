@@ -3,4 +3,4 @@ use Rattle.dstm_core.proofs.laws.installed_stays.Goals as goal
 
 pub returns : goal.returns
 returns g c = λ law shape start later before event run installs.
-    installed_kept shape later before event run.core installs
+    installed_kept shape later before run.core installs

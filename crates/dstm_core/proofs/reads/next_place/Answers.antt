@@ -11,8 +11,7 @@ returns-clause-place c =
 
 pub returns-clause-count : goal.returns-clause-count
 returns-clause-count c =
-    next_counts c.args.cursor c.args.live.now.keys c.copied.result c.range.ensures.ordered
-    (c.copied.ensures
+    next_counts c.args.cursor c.args.live.now.keys c.range.ensures.ordered (c.copied.ensures
     ∙ first_given _ _ _ c.next.ensures.steps
     ∙ ap (λ ks. slice_get ks 0) (c.range.ensures.between tt)
     ∙ sym (next_is c.args.cursor c.args.live.now.keys c.range.ensures.ordered))

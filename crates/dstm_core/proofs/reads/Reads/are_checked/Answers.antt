@@ -4,5 +4,4 @@ use Rattle.dstm_core.proofs.reads.Reads.are_checked.Goals as goal
 pub returns : goal.returns
 returns c =
     rw (← c.self.view_is)
-    (all_checked c.self.inside.recorded.items c.self.inside.live.keys c.self.inside.cursor
-    c.next_place.result c.is_none.result c.next_place.ensures.place c.is_none.ensures)
+    (all_checked c.self.inside.recorded.items c.self.inside.live.keys c.self.inside.cursor c.is_none.result c.next_place.ensures.place c.is_none.ensures)

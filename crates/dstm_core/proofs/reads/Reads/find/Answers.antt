@@ -18,7 +18,7 @@ returns-in-None c =
     let ks = c.self.inside.live.keys in
     let es = c.self.inside.places.entries in
     let nowhere : place_of c.args.object es ≡ None = sym c.in-None.ensures.value in
-    let none = of_none rs ks es c.self.inside.cursor c.args.object c.self.invariant nowhere in
+    let none = of_none c.args.object c.self.invariant nowhere in
     rw (← c.self.view_is) (sym (none_found c.args.object rs ks none))
 
 pub returns-in-Some : goal.returns-in-Some
@@ -28,7 +28,6 @@ returns-in-Some c =
     let es = c.self.inside.places.entries in
     let p = c.in-Some.place.now in
     let there : place_of c.args.object es ≡ Some p = sym c.in-Some.ensures.value in
-    let one = of_one rs ks es c.self.inside.cursor c.args.object p c.self.invariant there in
-    rw (← c.self.view_is)
-    (ap Some (read_is rs p c.index.result.now (c.self.invariant.within p one.among) c.index.ensures)
-    ∙ sym (one_found c.args.object rs ks p one))
+    let one = of_one c.args.object p c.self.invariant there in
+    rw (← c.self.view_is) (ap Some (read_is rs p (c.self.invariant.within p one.among) c.index.ensures)
+    ∙ sym (one_found one))

@@ -5,9 +5,7 @@ use Rattle.dstm_core.proofs.Reading.{one_dropped, none_dropped}
 use Rattle.dstm_core.proofs.reads.Reads.remove.Goals as goal
 
 pub invariant_of-self : goal.invariant_of-self
-invariant_of-self c =
-    indexed_restart c.self.inside.recorded.items c.self.inside.live.keys c.self.inside.places.entries
-    c.remove.new.self.entries c.self.inside.cursor c.self.invariant c.in_default.ensures.unchanged
+invariant_of-self c = indexed_restart c.self.invariant c.in_default.ensures.unchanged
 
 pub returns-in_default : goal.returns-in_default
 returns-in_default c =
@@ -15,9 +13,8 @@ returns-in_default c =
     let ks = c.self.inside.live.keys in
     let es = c.self.inside.places.entries in
     let nowhere : place_of c.args.object es ≡ None = sym c.in_default.ensures.value in
-    let none = of_none rs ks es c.self.inside.cursor c.args.object c.self.invariant nowhere in
-    rw (← c.self.view_is)
-    (same_list _ _ _ _ (sym (none_dropped c.args.object rs ks none)) (count_zero ks))
+    let none = of_none c.args.object c.self.invariant nowhere in
+    rw (← c.self.view_is) (same_list _ _ (sym (none_dropped c.args.object rs ks none)) (count_zero ks))
 
 pub invariant_of-self-2 : goal.invariant_of-self-2
 invariant_of-self-2 c =
@@ -25,7 +22,7 @@ invariant_of-self-2 c =
     let ks = c.self.inside.live.keys in
     let es = c.self.inside.places.entries in
     let there : place_of c.args.object es ≡ Some c.in-Some.place = sym c.in-Some.ensures.value in
-    indexed_less rs ks c.remove-2.new.self.keys es c.remove.new.self.entries c.self.inside.cursor c.args.object
+    indexed_less c.remove-2.new.self.keys c.remove.new.self.entries c.args.object
     c.in-Some.place c.self.invariant there c.remove.ensures.updates.0 c.remove-2.ensures.updates.0
 
 pub returns : goal.returns
@@ -34,8 +31,6 @@ returns c =
     let ks = c.self.inside.live.keys in
     let es = c.self.inside.places.entries in
     let there : place_of c.args.object es ≡ Some c.in-Some.place = sym c.in-Some.ensures.value in
-    let one = of_one rs ks es c.self.inside.cursor c.args.object c.in-Some.place c.self.invariant there in
-    rw (← c.self.view_is)
-    (same_list _ _ _ _
-    (ap (reads_at rs) c.remove-2.ensures.keys ∙ one_dropped c.args.object rs ks c.in-Some.place one)
+    let one = of_one c.args.object c.in-Some.place c.self.invariant there in
+    rw (← c.self.view_is) (same_list _ _ (ap (reads_at rs) c.remove-2.ensures.keys ∙ one_dropped one)
     (count_zero c.remove-2.new.self.keys))
