@@ -1,18 +1,14 @@
 -- An attempt that was alone in a record is left by its commit only, and takes few steps.
 use Rattle.std.proofs.Common.{◌≡◌, ◌≢◌, ◌∙◌, ◌∷◌, ◌++◌, List, [], ℕ, true, refl, sym, subst, ap, inl, arith, length, append_assoc}
 use Rattle.rand_pcg.specs.Lcg.{Lcg}
-use Rattle.dstm_machines.specs.Traces.{events_of}
+use Rattle.dstm_records.proofs.Base.{AreMade, Call, Core, Greedy, Outside, Shape, TriesAgain, events_in, events_of, first, generator_by, state_by}
 use Rattle.dstm_machines.proofs.Own.{own_event}
 use Rattle.dstm_core.specs.Events.{Event}
-use Rattle.dstm_core.specs.Runs.{Core, local}
-use Rattle.dstm_core.specs.State.{LocalState, first}
-use Rattle.dstm_core.specs.declared.shape.Manager.TheVariants.{Greedy}
-use Rattle.dstm_core.specs.declared.shape.Shape.{Shape}
-use Rattle.dstm_core.specs.declared.state.Phase.TheVariants.{Outside}
+use Rattle.dstm_core.specs.Runs.{local}
+use Rattle.dstm_core.specs.State.{LocalState}
 use Rattle.dstm_core.proofs.Pasts.{core_past}
 use Rattle.dstm_order.specs.Calls.{IsCall, effort_of, state_after}
-use Rattle.dstm_order.specs.Made.{AreMade, ByCalls, Call, events_in, generator_by, state_by}
-use Rattle.dstm_order.specs.Retries.{TriesAgain}
+use Rattle.dstm_order.specs.Made.{ByCalls}
 use Rattle.dstm_order.specs.Tasks.{Task, Work}
 use Rattle.dstm_order.specs.Tasks.Task.{Doing}
 use Rattle.dstm_progress.specs.Alone.{AreCalls, AreOf, IsAlone, Made, all_events, generator_after}
@@ -31,11 +27,11 @@ module _ (s : Shape) (l : LocalState) (g : Lcg) where
     pub events : all_events kept ≡ all_events all
     pub generator : generator_after s l g kept ≡ generator_after s l g all
 
-  call_kept : (w : Work) (es : List Event) (all kept : List Made) → Kept all kept →
+  call_kept : {w : Work} {es : List Event} {all kept : List Made} → Kept all kept →
       IsCall (Doing w) s (state_after s l (all_events all)) (generator_after s l g all) es →
       Kept (record { work = w; events = es } ∷ all) (with_step es (record { work = w; events = es }) kept)
-  call_kept w [] all kept k call = record { made = k.made; events = k.events; generator = k.generator }
-  call_kept w (e ∷ es) all kept k call = record {
+  call_kept {es = []} k call = record { made = k.made; events = k.events; generator = k.generator }
+  call_kept {w = w} {es = (e ∷ es)} {all = all} {kept = kept} k call = record {
     made = (
       k.made,
       subst (λ (xs : List Event). IsCall (Doing w) s (state_after s l xs) (generator_after s l g kept) (e ∷ es))
@@ -50,7 +46,7 @@ module _ (s : Shape) (l : LocalState) (g : Lcg) where
 
   calls_kept : (on : List Made) → AreCalls s l g on → Kept on (stepping on)
   calls_kept [] made = record { made = tt; events = refl; generator = refl }
-  calls_kept (x ∷ on) made = call_kept x.work x.events on (stepping on) (calls_kept on made.0) made.1
+  calls_kept (x ∷ on) made = call_kept (calls_kept on made.0) made.1
 
 -- ---- the calls on an attempt, among those of its caller
 
@@ -67,8 +63,7 @@ module _ (May : LocalState → Task → Type 0) (s : Shape) (g : Lcg) where
 
     state_on : (on : List Made) →
         state_by s first g (as_calls on ++ cs) ≡ state_after s (state_by s first g cs) (all_events on)
-    state_on on =
-        ap (state_after s first) (events_on on) ∙ state_both s first (all_events on) (events_in cs)
+    state_on on = ap (state_after s first) (events_on on) ∙ state_both s first (all_events on) (events_in cs)
 
     generator_on : (on : List Made) →
         generator_by s first g (as_calls on ++ cs) ≡ generator_after s (state_by s first g cs) (generator_by s first g cs) on
@@ -91,16 +86,15 @@ module _ (May : LocalState → Task → Type 0) (s : Shape) (g : Lcg) where
 
 -- ---- in a record
 
-module _ (s : Shape) (g : Lcg) (log : List Event) (c : ℕ) (core : Core s log) (by : ByCalls TriesAgain s g log c)
-    (on : List Made) (was : WasAlone s log c by.calls on) where
+module _ {s : Shape} {g : Lcg} {log : List Event} {c : ℕ} (core : Core s log) (by : ByCalls TriesAgain s g log c)
+    {on : List Made} (was : WasAlone s log c by.calls on) where
   abbrev calls : List Call
   calls = was.beginning ∷ was.earlier
 
   begun_by : local s (was.begin ∷ was.before) was.begin.caller ≡ state_by s first g calls
   begun_by =
       whole_state s was.begin.caller (was.begin ∷ was.before)
-      ∙ ap (state_after s first)
-      (own_event was.begin was.before
+      ∙ ap (state_after s first) (own_event was.begin was.before
       ∙ ap (λ (es : List Event). was.begin ∷ es) (ap (λ (d : ℕ). events_of d was.before) was.caller ∙ was.own)
       ∙ ap (λ (es : List Event). es ++ events_in was.earlier) (sym was.newest))
 

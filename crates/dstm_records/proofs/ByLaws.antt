@@ -2,12 +2,10 @@
 use Rattle.std.proofs.Common.{ℕ}
 use Rattle.dstm_managers.specs.Choices.{started}
 use Rattle.dstm_progress.proofs.Keeping.{retries_keep}
-use Rattle.dstm_tl2.specs.Sharing.{table_of}
 use Rattle.dstm_tables.specs.Law.{keeps}
 use Rattle.dstm_tables.specs.Tells.{ByCalls}
 use Rattle.dstm_tables.specs.Tells as known
-use Rattle.dstm_tables.specs.declared.tables.Round.{Round}
-use Rattle.dstm_tables.specs.declared.tables.Round.TheVariants.{Dstm, Tl2}
+use Rattle.dstm_records.proofs.Base.{Dstm, Round, Tl2}
 use Rattle.dstm_records.specs.Laws.{EachIsBoundedWhenAlone, EachIsSafeWhenOldest, EachKeepsItsRank, EachKillsAsChosen, EachWasHandedRightly, IsBoundedWhenAlone, IsSafeWhenOldest, KeepsItsRank, KillsAsChosen, WasHandedRightly}
 use Rattle.dstm_records.proofs.AloneAttempts.{bounded_alone}
 use Rattle.dstm_records.proofs.Callers.{of_each}
@@ -17,14 +15,11 @@ use Rattle.dstm_records.proofs.OldestAttempts.{safe_when_oldest}
 use Rattle.dstm_records.proofs.Patience.{all_chosen}
 
 handed : (seed : ℕ) (round : Round) (c : ℕ) → known.IsRun round → ByCalls seed round c → WasHandedRightly round c
-handed seed (Dstm r) c run by =
-    dstm_handed r.terms.shape r.terms.start.value.items (keeps r.terms.law.value) r.log
-    (started r.terms.shape.manager seed).generator c run.run by
-handed seed (Tl2 r) c run by = tl2_handed (table_of r.terms) (keeps r.terms.law.value) r.log c run.run
+handed seed (Dstm r) c run by = dstm_handed r.terms.shape r.terms.start.value.items (keeps r.terms.law.value) run.run by
+handed seed (Tl2 r) c run by = tl2_handed c run.run
 
 kills : (seed : ℕ) (round : Round) (c : ℕ) → known.IsRun round → ByCalls seed round c → KillsAsChosen seed round c
-kills seed (Dstm r) c run by =
-    all_chosen r.terms.shape (started r.terms.shape.manager seed).generator r.log c by
+kills seed (Dstm r) c run by = all_chosen r.terms.shape (started r.terms.shape.manager seed).generator by
 kills seed (Tl2 r) c run by = tt
 
 ranks : (seed : ℕ) (round : Round) (c : ℕ) → known.IsRun round → ByCalls seed round c → KeepsItsRank round c
@@ -34,11 +29,11 @@ ranks seed (Tl2 r) c run by = tt
 
 alone : (seed : ℕ) (round : Round) (c : ℕ) → known.IsRun round → ByCalls seed round c → IsBoundedWhenAlone seed round c
 alone seed (Dstm r) c run calls = λ by on was waits.
-    bounded_alone r.terms.shape (started r.terms.shape.manager seed).generator r.log c run.run.core by on was waits
+    bounded_alone run.run.core by was waits
 alone seed (Tl2 r) c run calls = tt
 
 safe : (seed : ℕ) (round : Round) (c : ℕ) → known.IsRun round → ByCalls seed round c → IsSafeWhenOldest round c
-safe seed (Dstm r) c run by = λ greedy was. safe_when_oldest r.terms.shape r.log c run.run.core greedy was
+safe seed (Dstm r) c run by = λ greedy was. safe_when_oldest run.run.core greedy was
 safe seed (Tl2 r) c run by = tt
 
 pub each_was_handed : EachWasHandedRightly

@@ -2,23 +2,15 @@
 use Rattle.std.proofs.Common.{◌≡◌, ◌==◌, ◌⊎◌, ℕ, suc, zero, ◌+◌, ◌<◌, ◌≤◌, Bool, true, false, cond, eqb, List, [], ◌∷◌, ◌++◌, length, map, refl, sym, subst, ◌∙◌, inl, inr, arith, true≢false}
 use Rattle.std.specs.Prelude.{IfSome}
 use Rattle.std.specs.List.{AllByRecursion, Contains, IsDistinct, filter, list_any, range_with_len, slice_get}
-use Rattle.std.proofs.lemmas.Bool.{cases_Bool, cases_eq, eq-eqb, ne_eqb}
+use Rattle.dstm_records.proofs.Base.{AreRoundsOf, IsParallel, IsRoundOf, IsValidWorkload, Options, Round, Row, RowsAreGood, Val, Workload, callers_of, cases_Bool, cases_eq, eq-eqb, has_job, is_parallel, left_by, ne_eqb, rows_in, seed_for, values_of, workers_in, workers_left}
 use Rattle.std.proofs.lemmas.List.{length-map}
 use Rattle.std.proofs.lemmas.Map.Steps.{length-le_from_distinct_below}
-use Rattle.dstm_model.specs.declared.value.Val.{Val}
 use Rattle.std.proofs.lemmas.List.Elements.{All-contains, All-from_recursion}
 use Rattle.dstm_store.specs.Opening.{opening_values}
-use Rattle.dstm_workload.specs.Workload.{IsValidWorkload}
-use Rattle.dstm_workload.specs.declared.workload.Workload.{Workload}
-use Rattle.dstm_report.specs.declared.report.Row.{Row}
-use Rattle.dstm_report.specs.Lawful.{RowsAreGood}
-use Rattle.dstm_options.specs.declared.options.Options.{Options}
-use Rattle.dstm_tables.specs.declared.tables.Round.{Round}
-use Rattle.dstm_tables.specs.Tells.{ByCalls, callers_of, values_of}
+use Rattle.dstm_tables.specs.Tells.{ByCalls}
 use Rattle.dstm_tables.specs.Tells as known
 use Rattle.dstm_records.specs.Laws.{EachIsByCalls, OfEachCaller}
-use Rattle.dstm_records.specs.Records.{AreRoundsOf, IsAlone, IsParallel, IsRoundOf, seed_for}
-use Rattle.dstm_records.specs.Rounds.{has_job, is_parallel, left_by, rows_in, workers_in, workers_left}
+use Rattle.dstm_records.specs.Records.{IsAlone}
 use Rattle.dstm_records.proofs.WorkersLeft.{AreEarlier, earlier_more, earlier_none, some_left}
 
 -- ---- the workers of a round differ
@@ -29,8 +21,7 @@ range_above low a (suc n) le = (le, range_above low (a + 1) n (omega (arith, le)
 
 unlike : (a : ℕ) (xs : List ℕ) → AllByRecursion (λ m. a + 1 ≤ m) xs → AllByRecursion (λ m. eqb a m ≡ false) xs
 unlike a [] above = tt
-unlike a (x ∷ xs) above =
-    (ne_eqb a x (λ same. let h = above.0 in omega (arith, h, same)), unlike a xs above.1)
+unlike a (x ∷ xs) above = (ne_eqb a x (λ same. let h = above.0 in omega (arith, h, same)), unlike a xs above.1)
 
 distinct_range : (a n : ℕ) → IsDistinct eqb (range_with_len a n)
 unfolding IsDistinct
@@ -189,10 +180,10 @@ module _ (Says : (seed : ℕ) → Round → ℕ → Type 0)
   SaysOfEach round =
       (c : ℕ) → c < callers_of round → (worker : ℕ) × (worker < workload.workers) × Says (seed_for options worker) round c
 
-  of_round : (number : ℕ) (before rows : List Row) (values : List Val) (round : Round) →
+  of_round : {number : ℕ} {before rows : List Row} {values : List Val} {round : Round} →
       IsRoundOf workload options number before rows values round →
       (is_parallel number ≡ false → 0 < length (workers_left workload before)) → SaysOfEach round
-  of_round number before rows values round is some c within =
+  of_round {number = number} {before = before} {rows = rows} {round = round} is some c within =
       let by = has_calls (cases_Bool (is_parallel number)) in (by.0, by.1, holds (seed_for options by.0) round c is.run.run by.2)
     where
       has_calls : (is_parallel number ≡ true) ⊎ (is_parallel number ≡ false) → HasCalls workload options number before rows round c
@@ -204,8 +195,8 @@ module _ (Says : (seed : ℕ) → Round → ℕ → Type 0)
         AreRoundsOf workload options rows number before values rounds → AllByRecursion SaysOfEach rounds
     of_rounds [] number before values are each = tt
     of_rounds (round ∷ rounds) number before values are each = (
-      of_round number before (rows_in number rows) values round each.0
-          (λ alone. some_left workload rows number before valid good are (each.0.alone alone).some_row),
+      of_round each.0
+          (λ alone. some_left rows number before valid good are (each.0.alone alone).some_row),
       of_rounds rounds (number + 1) (before ++ rows_in number rows) (values_of round)
           (earlier_more rows number before are) each.1,
     )

@@ -1,7 +1,7 @@
 -- A caller that was taken back has begun as many attempts as the record of its table tells.
 use Rattle.std.proofs.Common.{◌≡◌, ℕ, sym, ap, subst}
 use Rattle.dstm_machines.proofs.Own.{same_local}
-use Rattle.dstm_core.specs.Runs.{core}
+use Rattle.dstm_records.proofs.Base.{Dstm, IsPast, Round, SameOwn, Tl2, begun_of, core}
 use Rattle.dstm_core.specs.State as core_state
 use Rattle.dstm_words.specs.declared.terms.Terms as core_terms
 use Rattle.dstm_tl2.specs.Runs.{tl2}
@@ -9,9 +9,6 @@ use Rattle.dstm_tl2.specs.Sharing.{table_of}
 use Rattle.dstm_tl2.specs.State as tl2_state
 use Rattle.dstm_tl2.specs.declared.terms.Terms as tl2_terms
 use Rattle.dstm_store.specs.declared.law.StoreLaw.{StoreLaw}
-use Rattle.dstm_tables.specs.declared.tables.Round.{Round}
-use Rattle.dstm_tables.specs.declared.tables.Round.TheVariants.{Dstm, Tl2}
-use Rattle.dstm_tables.specs.Tells.{IsPast, SameOwn, begun_of}
 
 pub begun_at_close : (a b : Round) (c : ℕ) → IsPast a b → SameOwn c a b → begun_of b c ≡ begun_of a c
 begun_at_close (Dstm a) (Dstm b) c past own =

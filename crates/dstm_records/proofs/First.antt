@@ -2,13 +2,8 @@
 use Rattle.std.proofs.Common.{◌<◌, List, []}
 use Rattle.std.specs.Prelude.{All}
 use Rattle.std.proofs.lemmas.List.Elements.{All-from_recursion}
-use Rattle.dstm_workload.specs.declared.workload.Workload.{Workload}
-use Rattle.dstm_report.specs.declared.report.Row.{Row}
-use Rattle.dstm_options.specs.declared.options.Options.{Options}
+use Rattle.dstm_records.proofs.Base.{AreFirstRounds, IsClosed, Options, Round, Row, Workload}
 use Rattle.dstm_store.specs.Opening.{opening_values}
-use Rattle.dstm_tables.specs.declared.tables.Round.{Round}
-use Rattle.dstm_records.specs.Records.{AreFirstRounds}
-use Rattle.dstm_records.specs.Running.{IsClosed}
 use Rattle.dstm_records.proofs.Running.{each_closed}
 
 -- no round was played

@@ -3,19 +3,10 @@
 use Rattle.std.proofs.Common.{◌≡◌, false, eqb, List, [], ◌∷◌, ◌++◌, Option, Some, None, refl, ap, sym, subst, ◌∙◌, true≢false, append_assoc}
 use Rattle.std.specs.Prelude.{IsSomeAnd, IfSome, find}
 use Rattle.std.proofs.lemmas.List.{append-nil}
-use Rattle.dstm_model.specs.declared.value.Val.{Val}
+use Rattle.dstm_records.proofs.Base.{Agrees, AllBlocked, AnswersWhere, Committed, Entry, GivesReplies, IsAnsweredBy, IsBefore, IsGoodRow, IsLegal, Job, JobOutcome, Row, StandsFor, TellOf, TellsOf, Val, Workload, after_job, after_rows, apply_job, entries_of, first_job, is_given_up, job_of, jobs_left, last_row, store_after, store_left, with_writes}
 use Rattle.dstm_model.specs.declared.reply.Reply.{Reply}
-use Rattle.dstm_model.specs.Job.{JobOutcome, apply_job}
-use Rattle.dstm_model.specs.Map.{Entry, Agrees, IsLegal, with_writes, state_after}
+use Rattle.dstm_model.specs.Map.{state_after}
 use Rattle.dstm_model.specs.Store.{Store, opening_store}
-use Rattle.dstm_model.specs.Answers.{Committed}
-use Rattle.dstm_store.specs.Whole.{StandsFor}
-use Rattle.dstm_workload.specs.declared.workload.Job.{Job}
-use Rattle.dstm_workload.specs.declared.workload.Workload.{Workload}
-use Rattle.dstm_report.specs.declared.report.Row.{Row}
-use Rattle.dstm_report.specs.Lawful.{after_rows, after_job, store_left, store_after, first_job, jobs_left, last_row, IsBefore, AllBlocked, AnswersWhere, IsGoodRow}
-use Rattle.dstm_tables.specs.Answers.{IsAnsweredBy, entries_of}
-use Rattle.dstm_records.specs.Records.{is_given_up, job_of, GivesReplies, TellsOf, TellOf}
 
 -- ---- the store after one row more
 
@@ -48,12 +39,11 @@ weaker P Q None each some = absurd some
 weaker P Q (Some outcome) each some = each outcome some
 
 -- a transaction that began at the map that those before it left, and its row
-pub tells : (workload : Workload) (before : List Row) (row : Row) (map : List Val) (done : Committed) (job : Job) →
+pub tells : (workload : Workload) (before : List Row) (row : Row) {map : List Val} (done : Committed) (job : Job) →
     StandsFor workload.layout map (store_after workload before) → Agrees map done.entry.reads →
     row.number ≡ done.number → job_of workload row ≡ Some job → is_given_up row.replies ≡ false →
-    IsAnsweredBy workload.layout job.ops row.replies done.entry →
-    TellsOf workload before row map done
-tells workload before row map done job stands agrees number is kept answered =
+    IsAnsweredBy workload.layout job.ops row.replies done.entry → TellsOf workload before row map done
+tells workload before row {map = map} done job stands agrees number is kept answered =
     let there = store_after workload before in
     let layout = workload.layout in
     let leaves : StandsFor layout (with_writes map done.entry.writes) (store_left (apply_job job.ops there) there) =
@@ -81,17 +71,17 @@ answers_there workload before replies map entry job stands agrees answered =
 -- ---- rows behind rows
 
 -- one more row, and one more transaction
-pub TellOf-push : (workload : Workload) (before rows : List Row) (row : Row) (map : List Val) (done : List Committed) (next : Committed) →
+pub TellOf-push : {workload : Workload} (before rows : List Row) {row : Row} (map : List Val) (done : List Committed) {next : Committed} →
     TellOf workload before rows map done →
     TellsOf workload (before ++ rows) row (state_after map (entries_of done)) next →
     TellOf workload before (rows ++ row ∷ []) map (done ++ next ∷ [])
-TellOf-push workload before [] row map [] next told tell =
+TellOf-push {workload = workload} before [] {row = row} map [] {next = next} told tell =
     (subst (λ (b : List Row). TellsOf workload b row map next) (append-nil before) tell, tt)
-TellOf-push workload before [] row map (done ∷ more) next told tell = absurd told
-TellOf-push workload before (first ∷ rows) row map [] next told tell = absurd told
-TellOf-push workload before (first ∷ rows) row map (done ∷ more) next told tell = (
+TellOf-push before [] map (done ∷ more) told tell = absurd told
+TellOf-push before (first ∷ rows) map [] told tell = absurd told
+TellOf-push {workload = workload} before (first ∷ rows) {row = row} map (done ∷ more) {next = next} told tell = (
   told.0,
-  TellOf-push workload (before ++ first ∷ []) rows row (with_writes map done.entry.writes) more next told.1
+  TellOf-push (before ++ first ∷ []) rows (with_writes map done.entry.writes) more told.1
       (subst (λ (b : List Row). TellsOf workload b row (state_after map (entries_of (done ∷ more))) next)
       (sym (append_assoc before (first ∷ []) rows)) tell),
 )
@@ -110,13 +100,12 @@ answer_of Stuck None replies some = absurd some
 answer_of Stuck (Some outcome) replies some = some
 
 -- the row of a transaction that answered its job stands rightly behind the rows before it
-pub good_row : (workload : Workload) (before : List Row) (row : Row) (map : List Val) (entry : Entry) (job : Job) →
+pub good_row : (workload : Workload) (before : List Row) (row : Row) {map : List Val} (entry : Entry) (job : Job) →
     StandsFor workload.layout map (store_after workload before) → Agrees map entry.reads →
     first_job row.worker (jobs_left workload.jobs before) ≡ Some job → row.line ≡ job.line →
     IfSome (last_row before) (λ previous. IsBefore previous row) →
-    IsAnsweredBy workload.layout job.ops row.replies entry →
-    IsGoodRow workload before row
-good_row workload before row map entry job stands agrees turn line number answered = record {
+    IsAnsweredBy workload.layout job.ops row.replies entry → IsGoodRow workload before row
+good_row workload before row {map = map} entry job stands agrees turn line number answered = record {
   job = job;
   turn = turn;
   line = line;

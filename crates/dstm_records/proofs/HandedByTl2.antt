@@ -1,8 +1,6 @@
 -- What attempts of TL2 were handed.
 use Rattle.std.proofs.Common.{◌≡◌, ◌==◌, ◌⊎◌, ◌∙◌, ◌∷◌, ◌++◌, ◌<◌, List, ℕ, true, false, refl, sym, subst, ap, inl, inr, arith, length, append_assoc, reverse}
-use Rattle.std.proofs.lemmas.Bool.{cases_Bool, cond_both, eqb-true}
-use Rattle.dstm_model.specs.Map.{Entry}
-use Rattle.dstm_model.specs.declared.value.Val.{Val}
+use Rattle.dstm_records.proofs.Base.{Entry, StoodTogether, Tl2Handed, Val, cases_Bool, cond_both, eqb-true}
 use Rattle.dstm_machines.proofs.Own.{local_mine, local_others}
 use Rattle.dstm_machines.proofs.Runs.{run_past}
 use Rattle.dstm_tl2.specs.Committed.{committed_in}
@@ -17,7 +15,6 @@ use Rattle.dstm_tl2.proofs.Closing.{sample_agrees}
 use Rattle.dstm_tl2.proofs.Looks.{sample_at}
 use Rattle.dstm_tl2.proofs.Orders.{place_prefix}
 use Rattle.dstm_tl2.proofs.Standing.{entries_are_history}
-use Rattle.dstm_records.specs.Handed.{StoodTogether, Tl2Handed}
 use Rattle.dstm_records.proofs.Together.{stood_together}
 
 -- ---- reads come with looks that find their lock words again
@@ -65,12 +62,12 @@ module _ (t : Table) (holds : List Val → Type 0) (c : ℕ) where
       append_assoc later sampled.later place ∙ ap (λ (es : List Event). later ++ es) sampled.whole in
       let known = subst (λ (es : List Event). (rest : List Entry) × (history_of t es ≡ prefix_at t es place ++ rest)) whole
       (place_prefix t (later ++ sampled.later) place) in
-      stood_together t.start (committed_in t (later ++ before)) (history_of t (later ++ before))
+      stood_together t.start (committed_in t (later ++ before))
       (prefix_at t (later ++ before) place) known.0 (read_values (local t before c).reads)
       (entries_are_history t (later ++ before)) known.1 (sample_agrees t holds later before c run).values
 
-pub tl2_handed : (t : Table) (holds : List Val → Type 0) (log : List Event) (c : ℕ) → LawfulRun t holds log → Tl2Handed t log c
-tl2_handed t holds log c run = record {
+pub tl2_handed : {t : Table} {holds : List Val → Type 0} {log : List Event} (c : ℕ) → LawfulRun t holds log → Tl2Handed t log c
+tl2_handed {t = t} {holds = holds} c run = record {
   validated = λ later before event is more. looks_again t before event c more;
   stood = λ later before is.
       subst (λ (es : List Event). Stood t holds c es before) (sym is)

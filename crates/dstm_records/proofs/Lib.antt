@@ -1,3 +1,4 @@
+pub mod Base
 pub mod First
 pub mod Follows
 pub mod Closing

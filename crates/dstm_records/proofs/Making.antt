@@ -1,18 +1,11 @@
 -- Tables that are as the options and the jobs want them.
-use Rattle.std.proofs.Common.{◌≡◌, ◌∙◌, ℕ, true, sym, ap, subst}
-use Rattle.std.specs.Prelude.{not}
-use Rattle.dstm_core.specs.declared.shape.Shape.{Shape}
+use Rattle.std.proofs.Common.{◌≡◌, ◌∙◌, ℕ, true, sym, ap, subst, not}
+use Rattle.dstm_records.proofs.Base.{Dstm, IsDstmMade, IsMade, IsOf, IsPast, IsReleasing, Options, Round, Shape, Tl2, attempts_of, is_parallel, lets_go}
 use Rattle.dstm_words.specs.declared.terms.Terms as core_terms
 use Rattle.dstm_tl2.specs.declared.terms.Terms as tl2_terms
 use Rattle.dstm_store.specs.declared.law.StoreLaw.{StoreLaw}
 use Rattle.dstm_options.specs.declared.options.Engine.{Engine}
-use Rattle.dstm_options.specs.declared.options.Options.{Options}
-use Rattle.dstm_tables.specs.declared.tables.Round.{Round}
-use Rattle.dstm_tables.specs.declared.tables.Round.TheVariants.{Dstm, Tl2}
 use Rattle.dstm_tables.specs.Founders.{HasShape}
-use Rattle.dstm_tables.specs.Tells.{IsOf, IsPast, attempts_of, lets_go}
-use Rattle.dstm_records.specs.Records.{IsDstmMade, IsMade, IsReleasing}
-use Rattle.dstm_records.specs.Rounds.{is_parallel}
 
 module _ (options : Options) (version number jobs : ℕ) where
   -- a table of such a shape

@@ -1,17 +1,9 @@
 -- One round more: the rows of each round are as before, and the rows that are added are those of the new one.
 use Rattle.std.proofs.Common.{◌≡◌, ◌≢◌, ℕ, ◌+◌, ◌<◌, eqb, List, [], ◌∷◌, ◌++◌, length, refl, ap, sym, subst, ◌∙◌, arith}
 use Rattle.std.specs.List.{AllByRecursion}
-use Rattle.std.proofs.lemmas.Bool.{eq-eqb, ne_eqb}
+use Rattle.dstm_records.proofs.Base.{AreRoundsOf, IsRoundOf, Options, Round, Row, Val, Workload, eq-eqb, ne_eqb, rows_in, values_of}
 use Rattle.std.proofs.lemmas.List.{append-nil}
 use Rattle.std.proofs.lemmas.List.Elements.{filter-append}
-use Rattle.dstm_model.specs.declared.value.Val.{Val}
-use Rattle.dstm_workload.specs.declared.workload.Workload.{Workload}
-use Rattle.dstm_report.specs.declared.report.Row.{Row}
-use Rattle.dstm_options.specs.declared.options.Options.{Options}
-use Rattle.dstm_tables.specs.declared.tables.Round.{Round}
-use Rattle.dstm_records.specs.Records.{IsRoundOf, AreRoundsOf}
-use Rattle.dstm_tables.specs.Tells.{values_of}
-use Rattle.dstm_records.specs.Rounds.{rows_in}
 
 -- all rows of a round are in it
 pub rows_in-all : (number : ℕ) (rows : List Row) → AllByRecursion (λ row. row.round ≡ number) rows → rows_in number rows ≡ rows
@@ -63,14 +55,14 @@ left_after-push values [] round = refl
 left_after-push values (first ∷ rounds) round = left_after-push (values_of first) rounds round
 
 -- one round more, with its rows
-pub AreRoundsOf-push : (workload : Workload) (options : Options) (rows more : List Row) (number : ℕ) (before : List Row)
-    (values : List Val) (rounds : List Round) (round : Round) →
+pub AreRoundsOf-push : {workload : Workload} {options : Options} (rows : List Row) {more : List Row} (number : ℕ) (before : List Row)
+    (values : List Val) (rounds : List Round) {round : Round} →
     AllByRecursion (λ row. row.round < number + length rounds) rows →
     AllByRecursion (λ row. row.round ≡ number + length rounds) more →
     AreRoundsOf workload options rows number before values rounds →
     IsRoundOf workload options (number + length rounds) (rows_of rows number before rounds) more (left_after values rounds) round →
     AreRoundsOf workload options (rows ++ more) number before values (rounds ++ round ∷ [])
-AreRoundsOf-push workload options rows more number before values [] round old new are next =
+AreRoundsOf-push {workload = workload} {options = options} rows {more = more} number before values [] {round = round} old new are next =
     let here : number + 0 ≡ number = omega arith in
     let is : rows_in number (rows ++ more) ≡ more =
     rows_in-new number rows more (each_row _ (λ row. row.round ≢ number) (λ row below e. omega arith) rows old)
@@ -79,17 +71,16 @@ AreRoundsOf-push workload options rows more number before values [] round old ne
           (subst (λ (n : ℕ). IsRoundOf workload options n before more values round) here next),
       tt,
     )
-AreRoundsOf-push workload options rows more number before values (first ∷ rounds) round old new are next =
+AreRoundsOf-push {workload = workload} {options = options} rows {more = more} number before values (first ∷ rounds) {round = round} old new are next =
     let count : number + length (first ∷ rounds) ≡ (number + 1) + length rounds = omega arith in
     let is : rows_in number (rows ++ more) ≡ rows_in number rows =
     rows_in-kept number rows more (each_row _ (λ row. row.round ≢ number) (λ row same e. omega (arith, count)) more new) in
     let behind = before ++ rows_in number rows in (
       subst (λ (now : List Row). IsRoundOf workload options number before now values first) (sym is) are.0,
       subst (λ (now : List Row). AreRoundsOf workload options (rows ++ more) (number + 1) (before ++ now) (values_of first) (rounds ++ round ∷ [])) (sym is)
-          (AreRoundsOf-push workload options rows more (number + 1) behind (values_of first) rounds round
+          (AreRoundsOf-push rows (number + 1) behind (values_of first) rounds
           (subst (λ (n : ℕ). AllByRecursion (λ row. row.round < n) rows) count old)
-          (subst (λ (n : ℕ). AllByRecursion (λ row. row.round ≡ n) more) count new)
-          are.1
+          (subst (λ (n : ℕ). AllByRecursion (λ row. row.round ≡ n) more) count new) are.1
           (subst (λ (n : ℕ). IsRoundOf workload options n (rows_of rows (number + 1) behind rounds) more (left_after (values_of first) rounds) round) count next)),
     )
 

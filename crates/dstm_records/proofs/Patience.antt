@@ -1,28 +1,23 @@
 -- Kills are chosen by the manager, in every record of calls.
-use Rattle.std.proofs.Common.{◌≡◌, ◌≤◌, ◌+◌, ◌==◌, ◌&&◌, ◌⊎◌, ◌∙◌, ◌∷◌, ◌++◌, Bool, List, [], ℕ, true, false, refl, sym, subst, inl, inr, arith, not, is_some}
-use Rattle.std.specs.Prelude.{Option, if◌then◌else◌}
-use Rattle.std.proofs.lemmas.Bool.{cases_Bool, cond_both, le-leb, leb-true, lt-ltb, ltb-true}
+use Rattle.std.proofs.Common.{◌≡◌, ◌≤◌, ◌+◌, ◌==◌, ◌&&◌, ◌⊎◌, ◌∙◌, ◌∷◌, ◌++◌, Bool, List, [], ℕ, true, false, refl, sym, subst, inl, inr, arith, not, is_some, Option}
+use Rattle.std.specs.Prelude.{if◌then◌else◌}
+use Rattle.dstm_records.proofs.Base.{AreMade, Call, Each, Greedy, Karma, Paused, Polite, Polka, Shape, TriesAgain, cases_Bool, cond_both, events_in, events_of, first, generator_by, le-leb, leb-true, lt-ltb, ltb-true, or_zero, res, state_by}
 use Rattle.rand_pcg.specs.Lcg.{Lcg}
-use Rattle.dstm_machines.specs.Traces.{Each, events_of}
 use Rattle.dstm_core.specs.Events.{Event}
 use Rattle.dstm_core.specs.Rules.{is_outside}
-use Rattle.dstm_core.specs.State.{LocalState, first, or_zero, res}
+use Rattle.dstm_core.specs.State.{LocalState}
 use Rattle.dstm_core.specs.declared.event.Kind.{Kind}
 use Rattle.dstm_core.specs.declared.event.Kind.TheVariants.{Begin, Install, Kill, LookObj, LookStatus, Rank, Stamp}
 use Rattle.dstm_core.specs.declared.shape.Manager.{Manager}
-use Rattle.dstm_core.specs.declared.shape.Manager.TheVariants.{Greedy, Karma, Polite, Polka}
-use Rattle.dstm_core.specs.declared.shape.Shape.{Shape}
 use Rattle.dstm_core.specs.declared.state.Phase.{Phase}
-use Rattle.dstm_core.specs.declared.state.Phase.TheVariants.{Paused}
 use Rattle.dstm_core.specs.declared.status.Status.{Status}
 use Rattle.dstm_managers.specs.Choices.{choice, kills, patience}
 use Rattle.dstm_managers.specs.declared.decider.Choice.TheVariants as decision
 use Rattle.dstm_order.specs.Calls.{Obeys, effort_of, newest_of, state_after}
 use Rattle.dstm_order.specs.Efforts.{Effort, chosen, effort_after, exchanges, is_turn, status_of, turn, turn_in, turn_of_conflict, turns_of, when_asked}
-use Rattle.dstm_order.specs.Made.{AreMade, ByCalls, Call, events_in, generator_by, state_by}
+use Rattle.dstm_order.specs.Made.{ByCalls}
 use Rattle.dstm_order.specs.Order.{Due, IsDue, due, has_begun, has_ranks, has_stamps, is_spent, just, rises}
 use Rattle.dstm_order.specs.Order.Due.{Done, Step}
-use Rattle.dstm_order.specs.Retries.{TriesAgain}
 use Rattle.dstm_order.specs.Tasks.{Task, Work}
 use Rattle.dstm_order.specs.Tasks.Task.{Beginning, Doing, Enrolling, Leaving}
 use Rattle.dstm_progress.proofs.Kills.{kills_are_chosen}
@@ -191,5 +186,5 @@ module _ (s : Shape) (g : Lcg) where
   calls_chosen [] made = tt
   calls_chosen (c ∷ cs) made = call_chosen cs made.0 (calls_chosen cs made.0) c.task c.events made.2.obeys
 
-  pub all_chosen : (log : List Event) (c : ℕ) → ByCalls TriesAgain s g log c → AreChosen (events_of c log)
-  all_chosen log c by = subst AreChosen (sym by.own) (calls_chosen by.calls by.made)
+  pub all_chosen : {log : List Event} {c : ℕ} → ByCalls TriesAgain s g log c → AreChosen (events_of c log)
+  all_chosen by = subst AreChosen (sym by.own) (calls_chosen by.calls by.made)

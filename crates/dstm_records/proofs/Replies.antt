@@ -1,14 +1,13 @@
 -- No job that is done answers `never`.
-use Rattle.std.proofs.Common.{◌≡◌, ℕ, Bool, true, false, cond, List, [], ◌∷◌, Option, None, Some, refl, ◌∙◌, ap}
-use Rattle.std.specs.Prelude.{IsSomeAnd, is_some, nat_lt, ◌==◌, length}
+use Rattle.std.proofs.Common.{◌≡◌, ℕ, Bool, true, false, cond, List, [], ◌∷◌, Option, None, Some, refl, ◌∙◌, ap, is_some, nat_lt, ◌==◌, length}
+use Rattle.std.specs.Prelude.{IsSomeAnd}
 use Rattle.dstm_model.specs.declared.op.Op.{Op}
 use Rattle.dstm_model.specs.declared.op.Op.TheVariants.{Transfer, Balance, Total, Insert, Remove, Member, Put, Get, Await, OrElse}
 use Rattle.dstm_model.specs.declared.op.Which.TheVariants as which
 use Rattle.dstm_model.specs.declared.reply.Reply.{Reply}
 use Rattle.dstm_model.specs.declared.reply.Reply.TheVariants.{Moved, Poor, Number, Yes, No, Full, Absent, Never}
-use Rattle.dstm_model.specs.Job.{apply_all, apply_job, open_branch, run_branch}
+use Rattle.dstm_records.proofs.Base.{apply_all, apply_job, is_given_up, open_branch, run_branch}
 use Rattle.dstm_model.specs.Store.{Outcome, Store, apply, balance_of, has_key, value_of, value_reply, yes_or_no}
-use Rattle.dstm_records.specs.Records.{is_given_up}
 
 abbrev never : Reply → Bool
 never Never = true

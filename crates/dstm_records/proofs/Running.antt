@@ -1,23 +1,11 @@
 -- A run, round by round: where it stands when a round begins, and that it ends.
-use Rattle.std.proofs.Common.{◌≡◌, ◌⊎◌, ℕ, ◌+◌, ◌*◌, ◌%◌, ◌<◌, ◌≤◌, Bool, true, false, cond, List, [], ◌∷◌, ◌++◌, length, refl, ap, sym, subst, ◌∙◌, inl, inr, arith, append_assoc}
-use Rattle.std.specs.Prelude.{All, nat_lt}
+use Rattle.std.proofs.Common.{◌≡◌, ◌⊎◌, ℕ, ◌+◌, ◌*◌, ◌%◌, ◌<◌, ◌≤◌, Bool, true, false, cond, List, [], ◌∷◌, ◌++◌, length, refl, ap, sym, subst, ◌∙◌, inl, inr, arith, append_assoc, nat_lt}
+use Rattle.std.specs.Prelude.{All}
 use Rattle.std.specs.List.{AllByRecursion}
-use Rattle.std.proofs.lemmas.Bool.{eqb-true, eqb-false, ltb-true, ltb-false, cases_Bool}
+use Rattle.dstm_records.proofs.Base.{AddsRound, AreRoundsOf, Begins, IsClosed, IsRoundOf, IsValidWorkload, Options, Round, Row, RowsAreGood, StandsFor, Val, Workload, cases_Bool, count_left, eqb-false, eqb-true, is_parallel, ltb-false, ltb-true, rows_in, store_after, values_of}
 use Rattle.std.proofs.lemmas.List.{append-nil, length-append}
 use Rattle.std.proofs.lemmas.List.Elements.{recursion_from_All}
-use Rattle.dstm_model.specs.declared.value.Val.{Val}
-use Rattle.dstm_workload.specs.declared.workload.Workload.{Workload}
-use Rattle.dstm_workload.specs.Workload.{IsValidWorkload}
-use Rattle.dstm_report.specs.declared.report.Row.{Row}
-use Rattle.dstm_report.specs.Lawful.{RowsAreGood, store_after}
 use Rattle.dstm_report.proofs.Rising.{jobs_left-none}
-use Rattle.dstm_store.specs.Whole.{StandsFor}
-use Rattle.dstm_options.specs.declared.options.Options.{Options}
-use Rattle.dstm_tables.specs.declared.tables.Round.{Round}
-use Rattle.dstm_records.specs.Records.{IsRoundOf, AreRoundsOf}
-use Rattle.dstm_tables.specs.Tells.{values_of}
-use Rattle.dstm_records.specs.Rounds.{is_parallel, rows_in}
-use Rattle.dstm_records.specs.Running.{count_left, Begins, AddsRound, IsClosed}
 use Rattle.dstm_tables.proofs.History.{sights_agree}
 use Rattle.dstm_records.proofs.MoreRounds.{rows_of, rows_of-push, left_after, left_after-push, AreRoundsOf-push}
 
@@ -114,7 +102,7 @@ round_more workload options start old new rows values number more closed now lef
       earlier = all_append _ rows now
           (all_weaker _ (λ row. row.round < number + 1) (λ row below. omega (arith, below)) rows r.earlier)
           (all_weaker _ (λ row. row.round < number + 1) (λ row is. omega (arith, is, at)) now all_in);
-      each = AreRoundsOf-push workload options rows now 0 [] start r.added closed earlier all_in r.each next;
+      each = AreRoundsOf-push rows 0 [] start r.added earlier all_in r.each next;
       all_rows = rows_of-push rows now 0 [] r.added closed earlier all_in ∙ ap (λ (b : List Row). b ++ now) r.all_rows;
       left = left_after-push start r.added closed ∙ sym adds.values_are;
       stands = adds.stands;
@@ -134,8 +122,7 @@ round_more workload options start old new rows values number more closed now lef
 -- ---- the run ends: a parallel round is followed by an alone one, which adds a row
 
 abbrev pub rounds_left : Workload → List Row → ℕ → Bool → ℕ
-rounds_left workload rows number more =
-    cond more (2 * count_left workload rows + cond (is_parallel number) 2 1) 0
+rounds_left workload rows number more = cond more (2 * count_left workload rows + cond (is_parallel number) 2 1) 0
 
 -- every round was closed
 pub each_closed : (workload : Workload) (options : Options) (rows : List Row) (number : ℕ) (before : List Row)

@@ -1,10 +1,7 @@
 -- Values of the state after a prefix of a history stood together.
 use Rattle.std.proofs.Common.{◌≡◌, ◌∙◌, List, [], ◌∷◌, ◌++◌, ℕ, refl, sym, subst, ap, reverse}
-use Rattle.dstm_model.specs.Answers.{Committed}
-use Rattle.dstm_model.specs.Map.{Agrees, Entry, state_after}
-use Rattle.dstm_model.specs.declared.value.Val.{Val}
-use Rattle.dstm_tables.specs.Answers.{entries_of}
-use Rattle.dstm_records.specs.Handed.{StoodTogether}
+use Rattle.dstm_records.proofs.Base.{Agrees, Committed, Entry, StoodTogether, Val, entries_of}
+use Rattle.dstm_model.specs.Map.{state_after}
 use Rattle.dstm_tables.proofs.Entries.{entries_reverse}
 
 -- transactions whose entries are in two parts
@@ -28,10 +25,10 @@ split (x ∷ xs) (e ∷ front) back is =
     }
 
 -- the history is that of these transactions, the newest first, and has this prefix
-pub stood_together : (start : List Val) (done : List Committed) (history front back : List Entry) (values : List (ℕ × Val)) →
+pub stood_together : (start : List Val) (done : List Committed) {history : List Entry} (front back : List Entry) (values : List (ℕ × Val)) →
     history ≡ reverse (entries_of done) → history ≡ front ++ back → Agrees (state_after start front) values →
     StoodTogether start (reverse done) values
-stood_together start done history front back values told split_as agrees =
+stood_together start done front back values told split_as agrees =
     let parts = split (reverse done) front back (entries_reverse done ∙ sym told ∙ split_as) in record {
       first = parts.first;
       rest = parts.rest;

@@ -4,23 +4,11 @@ use Rattle.std.proofs.Common.{◌≡◌, ◌⊎◌, ℕ, eqb, ◌+◌, ◌<◌, 
 use Rattle.std.specs.Prelude.{IfSome}
 use Rattle.std.specs.List.{AllByRecursion, find}
 use Rattle.std.proofs.lemmas.List.{append-nil}
-use Rattle.dstm_model.specs.declared.value.Val.{Val}
-use Rattle.dstm_model.specs.Map.{Agrees, state_after}
-use Rattle.dstm_model.specs.Answers.{AreBelow, Committed, NumbersFall}
+use Rattle.dstm_records.proofs.Base.{Agrees, AreBelow, Committed, IsBefore, IsRun, IsValidWorkload, Job, NumbersFall, Round, Row, StandsFor, Val, Workload, all_done, committed_of, count_left, entries_of, first_job, job_of, jobs_left, last_row, start_of, store_after}
+use Rattle.dstm_model.specs.Map.{state_after}
 use mathlib.Core.List.{reverse-cons}
-use Rattle.dstm_store.specs.Whole.{StandsFor}
-use Rattle.dstm_workload.specs.declared.workload.Job.{Job}
-use Rattle.dstm_workload.specs.declared.workload.Workload.{Workload}
-use Rattle.dstm_workload.specs.Workload.{IsValidWorkload}
-use Rattle.dstm_report.specs.declared.report.Row.{Row}
-use Rattle.dstm_report.specs.Lawful.{IsBefore, first_job, jobs_left, last_row, store_after}
 use Rattle.dstm_report.proofs.Rising.{find_line, length-without_first, rise_all, turn_ends}
-use Rattle.dstm_tables.specs.declared.tables.Round.{Round}
-use Rattle.dstm_tables.specs.Tells.{IsRun, all_done, committed_of, start_of}
 use Rattle.dstm_tables.proofs.History.{is_history}
-use Rattle.dstm_records.specs.Records.{job_of}
-use Rattle.dstm_tables.specs.Answers.{entries_of}
-use Rattle.dstm_records.specs.Running.{count_left}
 use Rattle.dstm_records.specs.Told.{AreTold, IsTold}
 use Rattle.dstm_records.proofs.Collecting.{Collected, at_start, row_more, row_given_up}
 use Rattle.dstm_records.proofs.Follows.{agrees_next, answers_there}
@@ -59,38 +47,36 @@ turn_names workload before row job valid turn line =
     (find_line _ _ 0 workload.jobs job (rise_all workload.jobs valid.rising) turn)
 
 -- one row more
-told_more : (workload : Workload) (before rows : List Row) (start : List Val) (done left : List Committed) (next : Committed)
-    (row : Row) (round least : ℕ) → IsValidWorkload workload → Collected workload before rows start done (next ∷ left) →
+told_more : {workload : Workload} {before rows : List Row} {start : List Val} {done : List Committed} (left : List Committed) {next : Committed}
+    {row : Row} (round least : ℕ) → IsValidWorkload workload → Collected workload before rows start done (next ∷ left) →
     IsTold workload (before ++ rows) row next → row.round ≡ round → least ≤ next.number →
-    MayFollow round least (before ++ rows) →
-    Collected workload before (rows ++ row ∷ []) start (done ++ next ∷ []) left
-told_more workload before rows start done left next row round least valid c told is enough may =
+    MayFollow round least (before ++ rows) → Collected workload before (rows ++ row ∷ []) start (done ++ next ∷ []) left
+told_more {workload = workload} {before = before} {rows = rows} {start = start} {done = done} left {next = next} {row = row} round least valid c told is enough may =
     let map = state_after start (entries_of done) in
     let named = turn_names workload (before ++ rows) row told.job valid told.turn told.line in
     let behind = follows (last_row (before ++ rows)) round least row is (omega (arith, enough, told.number)) may in
     elim told.answer [
       | inl answered ↦
           let agrees : Agrees map next.entry.reads = agrees_next start (entries_of done) next.entry (entries_of left) c.legal in
-          row_more workload before rows start done left next row told.job c told.turn told.line named told.number behind
+          row_more left next row told.job c told.turn told.line named told.number behind
           (not_given_up told.job.ops (store_after workload (before ++ rows)) row.replies
           (answers_there workload (before ++ rows) row.replies map next.entry told.job c.stands agrees answered))
           answered
-      | inr given_up ↦ row_given_up workload before rows start done left next row told.job c told.turn told.line named told.number behind given_up
+      | inr given_up ↦ row_given_up left told.job c told.turn told.line named told.number behind given_up
     ]
 
 -- all rows: at the end no transaction is left
-pub all_told : (workload : Workload) (before rows more : List Row) (start : List Val) (done left : List Committed)
+pub all_told : {workload : Workload} {before rows : List Row} (more : List Row) {start : List Val} {done left : List Committed}
     (round least : ℕ) → IsValidWorkload workload → Collected workload before rows start done left →
     AreTold workload (before ++ rows) more left → AllByRecursion (λ row. row.round ≡ round) more → Rise least left →
-    MayFollow round least (before ++ rows) →
-    Collected workload before (rows ++ more) start (done ++ left) []
-all_told workload before rows [] start done [] round least valid c told in_round rise may =
+    MayFollow round least (before ++ rows) → Collected workload before (rows ++ more) start (done ++ left) []
+all_told {workload = workload} {before = before} {rows = rows} [] {start = start} {done = done} {left = []} round least valid c told in_round rise may =
     subst (λ (rs : List Row). Collected workload before rs start (done ++ []) []) (sym (append-nil rows))
     (subst (λ (ds : List Committed). Collected workload before rows start ds []) (sym (append-nil done)) c)
-all_told workload before rows [] start done (next ∷ left) round least valid c told in_round rise may = absurd told
-all_told workload before rows (row ∷ more) start done [] round least valid c told in_round rise may = absurd told
-all_told workload before rows (row ∷ more) start done (next ∷ left) round least valid c told in_round rise may =
-    let here = told_more workload before rows start done left next row round least valid c told.0 in_round.0 rise.0 may in
+all_told [] {left = (next ∷ left)} round least valid c told in_round rise may = absurd told
+all_told (row ∷ more) {left = []} round least valid c told in_round rise may = absurd told
+all_told {workload = workload} {before = before} {rows = rows} (row ∷ more) {start = start} {done = done} {left = (next ∷ left)} round least valid c told in_round rise may =
+    let here = told_more left round least valid c told.0 in_round.0 rise.0 may in
     let assoc : (before ++ rows) ++ row ∷ [] ≡ before ++ (rows ++ row ∷ []) = append_assoc before rows (row ∷ []) in
     let following : MayFollow round (next.number + 1) (before ++ (rows ++ row ∷ [])) =
     subst (MayFollow round (next.number + 1)) assoc
@@ -99,8 +85,7 @@ all_told workload before rows (row ∷ more) start done (next ∷ left) round le
     (inr (in_round.0, omega (arith, told.0.number)))) in
     subst (λ (rs : List Row). Collected workload before rs start (done ++ next ∷ left) []) (append_assoc rows (row ∷ []) more)
     (subst (λ (ds : List Committed). Collected workload before ((rows ++ row ∷ []) ++ more) start ds [])
-    (append_assoc done (next ∷ []) left)
-    (all_told workload before (rows ++ row ∷ []) more start (done ++ next ∷ []) left round (next.number + 1) valid here
+    (append_assoc done (next ∷ []) left) (all_told more round (next.number + 1) valid here
     (subst (λ (b : List Row). AreTold workload b more left) assoc told.1) in_round.1 rise.1 following))
 
 -- one row more, behind those that are told
@@ -119,8 +104,7 @@ AreTold-push workload before (first ∷ rows) row (e ∷ ds) d told next = (
 
 -- each row takes one of the jobs that are left
 pub fewer_left : (workload : Workload) (before rows : List Row) (done : List Committed) → IsValidWorkload workload →
-    AreTold workload before rows done →
-    count_left workload (before ++ rows) + length rows ≡ count_left workload before
+    AreTold workload before rows done → count_left workload (before ++ rows) + length rows ≡ count_left workload before
 fewer_left workload before [] [] valid told = let same = ap (count_left workload) (append-nil before) in omega (arith, same)
 fewer_left workload before [] (next ∷ done) valid told = absurd told
 fewer_left workload before (row ∷ rows) [] valid told = absurd told
@@ -172,8 +156,6 @@ pub rows_told : (workload : Workload) (before rows : List Row) (r : Round) (numb
 rows_told workload before rows r number valid run earlier stands told in_round =
     let history = is_history r run in
     let none : before ++ [] ≡ before = append-nil before in
-    all_told workload before [] rows (start_of r) [] (committed_of r) number 0 valid
-    (at_start workload before (start_of r) (committed_of r) stands history.legal)
+    all_told rows number 0 valid (at_start workload before (committed_of r) stands history.legal)
     (subst (λ (b : List Row). AreTold workload b rows (committed_of r)) (sym none) told) in_round
-    (rise_of (all_done r) history.falls)
-    (subst (MayFollow number 0) (sym none) (may_begin number before earlier))
+    (rise_of (all_done r) history.falls) (subst (MayFollow number 0) (sym none) (may_begin number before earlier))

@@ -2,16 +2,10 @@
 use Rattle.std.proofs.Common.{◌≡◌, ◌==◌, ◌||◌, ◌⊎◌, ℕ, suc, zero, ◌+◌, ◌<◌, ◌≤◌, Bool, true, false, cond, not, List, [], ◌∷◌, ◌++◌, length, Option, Some, refl, ap, sym, subst, ◌∙◌, inl, inr, arith, true≢false, nat_lt}
 use Rattle.std.specs.Prelude.{IfSome}
 use Rattle.std.specs.List.{AllByRecursion, filter, find, list_any, range_with_len}
-use Rattle.std.proofs.lemmas.Bool.{cases_Bool, cases_eq, eqb-true, lt-ltb, ltb-true, ne_eqb, not_from_false}
+use Rattle.dstm_records.proofs.Base.{IsBefore, IsGoodRow, IsJob, IsValidWorkload, Job, Row, RowsAreGood, Workload, cases_Bool, cases_eq, eqb-true, has_job, is_named, jobs_left, last_row, left_by, lt-ltb, ltb-true, ne_eqb, not_from_false, rows_in, workers_left}
 use Rattle.std.proofs.lemmas.List.Elements.{recursion_from_All}
 use Rattle.std.proofs.lemmas.Option.{none-some}
-use Rattle.dstm_workload.specs.Workload.{IsJob, IsValidWorkload}
-use Rattle.dstm_workload.specs.declared.workload.Job.{Job}
-use Rattle.dstm_workload.specs.declared.workload.Workload.{Workload}
-use Rattle.dstm_report.specs.Lawful.{IsBefore, IsGoodRow, RowsAreGood, is_named, jobs_left, last_row}
-use Rattle.dstm_report.specs.declared.report.Row.{Row}
 use Rattle.dstm_report.proofs.Rising.{each-filter, first_own, found_holds}
-use Rattle.dstm_records.specs.Rounds.{has_job, left_by, rows_in, workers_left}
 use Rattle.dstm_records.proofs.Told.{last_push}
 
 -- ---- some of a list passes a test
@@ -60,8 +54,7 @@ module _ {X : Type 0} (p : X → Bool) where
   any_more : (q r : X → Bool) → ((x : X) → q x ≡ true → r x ≡ true) → (xs : List X) → list_any p (filter q xs) ≡ true →
       list_any p (filter r xs) ≡ true
   any_more q r implies [] some = some
-  any_more q r implies (x ∷ xs) some =
-      by (any_more q r implies xs) (cases_Bool (q x))
+  any_more q r implies (x ∷ xs) some = by (any_more q r implies xs) (cases_Bool (q x))
     where
       by : (list_any p (filter q xs) ≡ true → list_any p (filter r xs) ≡ true) → (q x ≡ true) ⊎ (q x ≡ false) →
           list_any p (filter r (x ∷ xs)) ≡ true
@@ -189,8 +182,7 @@ filter_some p a (suc n) w low high is =
     by rest (inl here) =
         subst (λ b. 0 < length (cond b (a ∷ filter p (range_with_len (a + 1) n)) (filter p (range_with_len (a + 1) n))))
         (sym (ap p here ∙ is)) (omega arith)
-    by rest (inr other) =
-        longer (p a) (filter p (range_with_len (a + 1) n)) (rest (omega (arith, low, other)))
+    by rest (inr other) = longer (p a) (filter p (range_with_len (a + 1) n)) (rest (omega (arith, low, other)))
 
 -- rows name no more than those of earlier rounds
 abbrev pub AreEarlier : List Row → ℕ → List Row → Type 0
@@ -216,10 +208,10 @@ each_within : (workload : Workload) (jobs : List Job) → AllByRecursion (IsJob 
 each_within workload [] all = tt
 each_within workload (job ∷ jobs) all = (all.0.worker, each_within workload jobs all.1)
 
-pub some_left : (workload : Workload) (rows : List Row) (round : ℕ) (before : List Row) → IsValidWorkload workload →
+pub some_left : {workload : Workload} (rows : List Row) (round : ℕ) (before : List Row) → IsValidWorkload workload →
     RowsAreGood workload [] rows → AreEarlier rows round before → 0 < length (rows_in round rows) →
     0 < length (workers_left workload before)
-some_left workload rows round before valid good are some =
+some_left {workload = workload} rows round before valid good are some =
     filter_some (has_job (left_by workload before)) 0 workload.workers t.row.worker (omega arith) within has
   where
     t : Turn workload round [] rows
