@@ -32,7 +32,7 @@ use Rattle.dstm_tl2_order.specs.declared.again.TlAgain.{TlAgain}
 use Rattle.dstm_tl2_steps.specs.declared.steps.Steps.{Steps}
 use Rattle.dstm_tl2_engine.proofs.Calling.{began_is, begun_as}
 use Rattle.dstm_tl2.proofs.Done.{NoCommits, may_commit, quiet_after, undrawn_invalid}
-use Rattle.dstm_tl2_engine.proofs.Tying.{Kept, kept, now_there, performs_then, state_then, steps_of}
+use Rattle.dstm_tl2_engine.proofs.Tying.{EndsHere, Kept, at_home, kept, performs_then, state_then, steps_of}
 use Rattle.dstm_tl2_engine.specs.Attempts.{Admits, done}
 use Rattle.dstm_tl2_engine.specs.Began.{began_of}
 use Rattle.dstm_tl2_engine.specs.Callers.{TlCalled, begun_log, held, since_sample, state, written}
@@ -154,13 +154,11 @@ begun_nothing t l [] o done kept same = by l.holds (is_spent t l) done
         absurd (let some : (length (h ∷ hs) == 0) ≡ false = ne_eqb (length (h ∷ hs)) 0 (λ z. omega arith) in
         let first : FreeAs h.object h.word ≡ Done = rw some at q in cc)
 begun_nothing t l (e ∷ es) o done kept same =
-    absurd (by (due_gives (has_sampled (newest_of es)) (not (length (state_after t l es).holds == 0))
-    (is_spent t (state_after t l es)) t (state_after t l es) e o.1))
-  where
-    by : ((state_after t l (e ∷ es)).gave_back ≡ true)
-        ⊎ ((state_after t l (e ∷ es)).begun ≡ (state_after t l es).begun + 1) → ⊥
-    by (inl gave) = cc
-    by (inr one) = let up = state_up t l es in omega (arith, up, one, same)
+    absurd (elim (due_gives (has_sampled (newest_of es)) (not (length (state_after t l es).holds == 0))
+    (is_spent t (state_after t l es)) t (state_after t l es) e o.1) [
+      | inl gave ↦ cc
+      | inr one ↦ let up = state_up t l es in omega (arith, up, one, same)
+    ])
 
 -- ---- the caller then
 
@@ -179,7 +177,7 @@ anew c new = record c {
 }
 
 module _ {L : Type 0} {holds : L → List Val → Type 0} {c : Inside L} (v : Tied holds c) (task : Task) {new : Steps L}
-    (u : Under holds (called c).home (began_of task (called c)) new Done None) where
+    (u : EndsHere holds c task new None) where
   st : local (table_of c.terms) (view_of new.seat).log c.number ≡ now (called c).home new
   st = state_then v task u
 
@@ -224,7 +222,11 @@ module _ {L : Type 0} {holds : L → List Val → Type 0} {c : Inside L} (v : Ti
     -- a call that gives back leaves an attempt that was made as it is
     module _ (back : gave ≡ false → (state (called c)).holds ≡ []) where
       idle_made : IsMade (called (freed c new)) → new ≡ c.steps
-      idle_made made = by made.1
+      idle_made made = elim made.1 [
+        | inl some ↦ still (left_free c.left some v.left)
+        | inr (inl valid) ↦ idle (unlocked valid (cases_eq c.locked 0))
+        | inr (inr kept) ↦ still (back (sym (ap (λ (l : LocalState). l.gave_back) now_free) ∙ kept))
+      ]
         where
           left_free : (left : Option TlAgain) → IsSome left → IfSome left (λ again. IsLeft (called c)) →
               (state (called c)).holds ≡ []
@@ -236,12 +238,6 @@ module _ {L : Type 0} {holds : L → List Val → Type 0} {c : Inside L} (v : Ti
           unlocked valid (inr some) =
               absurd (let invalid = undrawn_invalid (state (called (freed c new)))
               (ap (λ (l : LocalState). l.drawn) now_free ∙ v.may some) in cc)
-
-          by : IsSome c.left ⊎ ((is_valid (state (called (freed c new))) ≡ true)
-              ⊎ ((state (called (freed c new))).gave_back ≡ false)) → new ≡ c.steps
-          by (inl some) = still (left_free c.left some v.left)
-          by (inr (inl valid)) = idle (unlocked valid (cases_eq c.locked 0))
-          by (inr (inr kept)) = still (back (sym (ap (λ (l : LocalState). l.gave_back) now_free) ∙ kept))
 
       freed_told : IsMade (called (freed c new)) → IsTold (called (freed c new))
       freed_told made =
@@ -345,7 +341,7 @@ since_begin_of b log p found top =
 -- ---- a call that was to begin an attempt
 
 module _ {L : Type 0} {holds : L → List Val → Type 0} {c : Inside L} (v : Tied holds c) {new : Steps L}
-    (u : Under holds (called c).home (began_of Beginning (called c)) new Done None) where
+    (u : EndsHere holds c Beginning new None) where
   done_then : done (called (record c { steps = new })) ≡ done (called c)
   done_then = same_done v Beginning u (beginning_none (table_of c.terms) (state (called c)) u.events u.obeys)
 
@@ -390,7 +386,7 @@ module _ {L : Type 0} {holds : L → List Val → Type 0} {c : Inside L} (v : Ti
 -- ---- a call that was to give back
 
 module _ {L : Type 0} {holds : L → List Val → Type 0} {c : Inside L} (v : Tied holds c) {new : Steps L}
-    (u : Under holds (called c).home (began_of Returning (called c)) new Done None) where
+    (u : EndsHere holds c Returning new None) where
   pub returns_done : done (called (freed c new)) ≡ done (called c)
   returns_done = same_done v Returning u (returning_none (table_of c.terms) (state (called c)) u.events u.obeys)
 
@@ -409,15 +405,11 @@ module _ {L : Type 0} {holds : L → List Val → Type 0} {c : Inside L} (v : Ti
     (same : (called c).home ≡ home) (new : Steps L) where
   pub freed_here : (gave : Bool) → now home new ≡ record (now home c.steps) { holds = []; gave_back = gave } →
       now (called c).home new ≡ record (state (called c)) { holds = []; gave_back = gave }
-  freed_here gave is =
-      subst (λ (h : Home L). now h new ≡ record (state (called c)) { holds = []; gave_back = gave }) (sym same)
-      (is ∙ ap (λ (l : LocalState). record l { holds = []; gave_back = gave }) (now_there v same))
+  freed_here gave = at_home v same (λ h l. now h new ≡ record l { holds = []; gave_back = gave })
 
   pub begun_here : now home new ≡ begin (now home c.steps) new.sample →
       now (called c).home new ≡ begin (state (called c)) new.sample
-  begun_here is =
-      subst (λ (h : Home L). now h new ≡ begin (state (called c)) new.sample) (sym same)
-      (is ∙ ap (λ (l : LocalState). begin l new.sample) (now_there v same))
+  begun_here = at_home v same (λ h l. now h new ≡ begin l new.sample)
 
   pub top_here : (p : ℕ) →
       ((before : List Event)

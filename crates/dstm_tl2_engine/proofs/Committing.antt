@@ -42,7 +42,7 @@ use Rattle.dstm_tl2_engine.proofs.AfterCall.{attempt_kept, done_invalid, done_va
 use Rattle.dstm_tl2_order.proofs.Causing.{causes_of}
 use Rattle.dstm_tl2.proofs.Done.{failed_invalid, undrawn_invalid}
 use Rattle.dstm_tl2_engine.proofs.Others.{others_of}
-use Rattle.dstm_tl2_engine.proofs.Tying.{ends_here, kept, now_there, performs_then, state_then}
+use Rattle.dstm_tl2_engine.proofs.Tying.{EndsHere, at_home, ends_here, from_home, kept, performs_then, state_then}
 use Rattle.dstm_tl2_engine.proofs.Working.{KeptBy, TellsOnce, are_closing, closes, closing_keeps, one_is, tell_once, works_on}
 
 -- ---- what is written, and what is set
@@ -91,8 +91,7 @@ module _ {L : Type 0} (holds : L → List Val → Type 0) (c : Inside L) (v : Ti
   -- ---- after a call that locks or commits
 
   module _ (work : Work) (is : closes work ≡ true) {new : Steps L} {answer : Option TlAgain}
-      (u : Under holds (called c).home (began_of (Doing work) (called c)) new Done answer) (locked : ℕ)
-      (left : Option TlAgain) where
+      (u : EndsHere holds c (Doing work) new answer) (locked : ℕ) (left : Option TlAgain) where
     abbrev pub closed_as : Inside L
     closed_as = record c { steps = new; locked = locked; left = left }
 
@@ -177,7 +176,7 @@ module _ {L : Type 0} (holds : L → List Val → Type 0) (c : Inside L) (v : Ti
 
   pub record Left (work : Work) (new : Steps L) (again : TlAgain) : Type 0 where
     pub closing : closes work ≡ true
-    pub under : Under holds (called c).home (began_of (Doing work) (called c)) new Done (Some again)
+    pub under : EndsHere holds c (Doing work) new (Some again)
     pub once : NamesOnce (objects (table_of c.terms)) (works_on work)
     pub free : (now (called c).home new).holds ≡ []
     pub made : IsMade (called c)
@@ -234,7 +233,7 @@ module _ {L : Type 0} (holds : L → List Val → Type 0) (c : Inside L) (v : Ti
   -- ---- a call that has locked
 
   pub record Locked (new : Steps L) : Type 0 where
-    pub ends : Under holds (called c).home (began_of (Doing (Locking c.opened.writes)) (called c)) new Done None
+    pub ends : EndsHere holds c (Doing (Locking c.opened.writes)) new None
     pub rest : AtRest (state (called c))
     pub live : is_live (called c) ≡ true
     pub state_is : under.HasLocked (state (called c)) c.opened.writes (length c.opened.writes)
@@ -299,7 +298,7 @@ module _ {L : Type 0} (holds : L → List Val → Type 0) (c : Inside L) (v : Ti
   -- ---- a call that has finished
 
   pub record Finished (new : Steps L) (number : ℕ) : Type 0 where
-    pub ends : Under holds (called c).home (began_of (Doing (Finishing c.opened.writes)) (called c)) new Done None
+    pub ends : EndsHere holds c (Doing (Finishing c.opened.writes)) new None
     pub locked : HasLocked (called c)
     pub valid : is_valid (now (called c).home new) ≡ true
     pub drawn : (now (called c).home new).drawn ≡ Some number
@@ -355,7 +354,7 @@ module _ {L : Type 0} (holds : L → List Val → Type 0) (c : Inside L) (v : Ti
 
   module _ {home : Home L} (same : (called c).home ≡ home) where
     pub free_here : (new : Steps L) → (now home new).holds ≡ [] → (now (called c).home new).holds ≡ []
-    free_here new free = subst (λ (x : Home L). (now x new).holds ≡ []) (sym same) free
+    free_here new = at_home v same (λ h _. (now h new).holds ≡ [])
 
     pub left_here : (work : Work) → closes work ≡ true → works_on work ≡ c.opened.writes → {new : Steps L}
         {again : TlAgain} → Under holds home (begun_as home (Doing work) c.steps) new Done (Some again) →
@@ -375,24 +374,18 @@ module _ {L : Type 0} (holds : L → List Val → Type 0) (c : Inside L) (v : Ti
         (now (called c).home new).holds
         ≡ map (new_hold (now (called c).home new)) (take (length c.opened.writes) c.opened.writes)
     locks_here {new = new} lists all =
-        subst (λ (x : Home L). (now x new).holds
-        ≡ map (new_hold (now x new)) (take (length c.opened.writes) c.opened.writes)) (sym same)
+        at_home v same (λ h _. (now h new).holds
+        ≡ map (new_hold (now h new)) (take (length c.opened.writes) c.opened.writes))
         (lists.held ∙ ap (λ n. map (new_hold (now home new)) (take n c.opened.writes)) all)
 
     pub locked_here : (new : Steps L) →
         under.HasLocked (now home c.steps) c.opened.writes (length c.opened.writes) (now home new) →
         under.HasLocked (state (called c)) c.opened.writes (length c.opened.writes) (now (called c).home new)
-    locked_here new h =
-        subst (λ l. under.HasLocked l c.opened.writes (length c.opened.writes) (now (called c).home new))
-        (now_there v refl)
-        (subst (λ (x : Home L). under.HasLocked (now x c.steps) c.opened.writes (length c.opened.writes) (now x new))
-        (sym same) h)
+    locked_here new = at_home v same (λ h l. under.HasLocked l c.opened.writes (length c.opened.writes) (now h new))
 
     pub law_there : IsLawful holds (called c) →
         KeepsLaw (holds home.terms.law.value) (objects (table_of home.terms))
         (entry_of (now home c.steps) c.opened.writes)
     law_there lawful =
-        subst (λ (x : Home L). KeepsLaw (holds x.terms.law.value) (objects (table_of x.terms))
-        (entry_of (now x c.steps) c.opened.writes)) same
-        (subst (λ l. KeepsLaw (holds c.terms.law.value) (objects (table_of c.terms)) (entry_of l c.opened.writes))
-        (sym (now_there v refl)) (keeps_law lawful))
+        from_home v same (λ h l. KeepsLaw (holds h.terms.law.value) (objects (table_of h.terms))
+        (entry_of l c.opened.writes)) (keeps_law lawful)

@@ -34,27 +34,24 @@ pub opens_marked : {L : Type 0} (o : ℕ) (k n : TlCalled L) (r : Result Val TlA
     (is_opened k o ≡ true → n ≡ k) → (is_opened k o ≡ false → IfOk r (λ v. Marks o k n v)) →
     OnOk r (MarksAtMost o (is_opened k) (is_opened n)) × OnOk r (is_opened n o ≡ true)
 opens_marked o k n (Err e) again marks = (tt, tt)
-opens_marked o k n (Ok v) again marks = by (cases_Bool (is_opened k o))
-  where
-    by : (is_opened k o ≡ true) ⊎ (is_opened k o ≡ false) →
-        MarksAtMost o (is_opened k) (is_opened n) × (is_opened n o ≡ true)
-    by (inl open_now) =
-        let same : n ≡ k = again open_now in (
-          record {
-            kept = λ p some. ap (λ (k : TlCalled _). is_opened k p) same ∙ some;
-            others = λ p other. ap (λ (k : TlCalled _). is_opened k p) same;
-          },
-          ap (λ (k : TlCalled _). is_opened k o) same ∙ open_now,
-        )
-    by (inr not_yet) = (marks_at_most (marks not_yet), marks_now not_yet (marks not_yet))
+opens_marked o k n (Ok v) again marks = elim (cases_Bool (is_opened k o)) [
+  | inl open_now ↦
+      let same : n ≡ k = again open_now in (
+        record {
+          kept = λ p some. ap (λ (k : TlCalled _). is_opened k p) same ∙ some;
+          others = λ p other. ap (λ (k : TlCalled _). is_opened k p) same;
+        },
+        ap (λ (k : TlCalled _). is_opened k o) same ∙ open_now,
+      )
+  | inr not_yet ↦ (marks_at_most (marks not_yet), marks_now not_yet (marks not_yet))
+]
 
 -- a set leaves what is open for writing
 pub set_opened : (o : ℕ) (v : Val) (writes : List (ℕ × Val)) (p : ℕ) → IsSome (value_in writes o) →
     is_some (value_in (with_value o v writes) p) ≡ is_some (value_in writes p)
-set_opened o v writes p some = by (cases_eq p o)
-  where
-    by : (p ≡ o) ⊎ (p ≡ o → ⊥) → is_some (value_in (with_value o v writes) p) ≡ is_some (value_in writes p)
-    by (inl same) =
-        subst (λ n. is_some (value_in (with_value o v writes) n) ≡ is_some (value_in writes n)) (sym same)
-        (ap is_some (value_in-with_value o v writes some) ∙ sym some)
-    by (inr other) = ap is_some (value_in-with_other o v writes p other)
+set_opened o v writes p some = elim (cases_eq p o) [
+  | inl same ↦
+      subst (λ n. is_some (value_in (with_value o v writes) n) ≡ is_some (value_in writes n)) (sym same)
+      (ap is_some (value_in-with_value o v writes some) ∙ sym some)
+  | inr other ↦ ap is_some (value_in-with_other o v writes p other)
+]

@@ -90,31 +90,31 @@ few_below (suc most) numbers apart below =
 -- a number is one of some numbers or not
 has_number : (n : ℕ) (numbers : List ℕ) → Contains numbers n ⊎ (Contains numbers n → ⊥)
 has_number n [] = inr (λ has. let k = has.1 in omega arith)
-has_number n (x ∷ xs) = by (cases_eq x n) (has_number n xs)
-  where
-    by : (x ≡ n) ⊎ (x ≡ n → ⊥) → Contains xs n ⊎ (Contains xs n → ⊥) →
-        Contains (x ∷ xs) n ⊎ (Contains (x ∷ xs) n → ⊥)
-    by (inl same) rest = inl (0, omega arith, same)
-    by (inr differs) (inl has) = inl (Contains-append_right (x ∷ []) xs n has)
-    by (inr differs) (inr none) = inr (λ has. elim (first_or_other x xs n has) [
-      | inl first ↦ differs first
-      | inr later ↦ none later
-    ])
+has_number n (x ∷ xs) = elim (cases_eq x n) [
+  | inl same ↦ inl (0, omega arith, same)
+  | inr differs ↦ elim (has_number n xs) [
+    | inl has ↦ inl (Contains-append_right (x ∷ []) xs n has)
+    | inr none ↦
+        inr (λ has. elim (first_or_other x xs n has) [
+          | inl first ↦ differs first
+          | inr later ↦ none later
+        ])
+  ]
+]
 
 -- where they are as many as the bound, they are all numbers below it
 pub all_below : (most : ℕ) (numbers : List ℕ) → AreApart numbers → ((n : ℕ) → Contains numbers n → n < most) →
     most ≤ length numbers → (n : ℕ) → n < most → Contains numbers n
-all_below most numbers apart below many n lt = by (has_number n numbers)
-  where
-    by : Contains numbers n ⊎ (Contains numbers n → ⊥) → Contains numbers n
-    by (inl has) = has
-    by (inr none) =
-        let few : length (n ∷ numbers) ≤ most = few_below most (n ∷ numbers) (none, apart) (λ k has.
-        elim (first_or_other n numbers k has) [
-          | inl first ↦ subst (λ m. m < most) first lt
-          | inr later ↦ below k later
-        ]) in
-        absurd (omega arith)
+all_below most numbers apart below many n lt = elim (has_number n numbers) [
+  | inl has ↦ has
+  | inr none ↦
+      let few : length (n ∷ numbers) ≤ most = few_below most (n ∷ numbers) (none, apart) (λ k has.
+      elim (first_or_other n numbers k has) [
+        | inl first ↦ subst (λ m. m < most) first lt
+        | inr later ↦ below k later
+      ]) in
+      absurd (omega arith)
+]
 
 -- ---- the words in the end
 
@@ -147,16 +147,14 @@ module _ {L : Type 0} (holds : L → List Val → Type 0) {terms : Terms L} {mad
 
   -- so nothing is locked
   nothing_held : (c : ℕ) → (local (table_of terms) l.log c).holds ≡ []
-  nothing_held c = by (cases_lt c (enrolled (shared holds) terms l.log))
-    where
-      by : (c < enrolled (shared holds) terms l.log) ⊎ (enrolled (shared holds) terms l.log ≤ c) →
-          (local (table_of terms) l.log c).holds ≡ []
-      by (inr le) =
-          ap (λ (x : LocalState). x.holds) (sym (local-events_of tl2 (table_of terms) l.log c)
-          ∙ ap (λ xs. local (table_of terms) xs c) (l.fresh c le))
-      by (inl lt) =
-          subst (λ log. (local (table_of terms) log c).holds ≡ []) (sym (l.whole first none_out))
-          (back.free c (was_taken c lt))
+  nothing_held c = elim (cases_lt c (enrolled (shared holds) terms l.log)) [
+    | inr le ↦
+        ap (λ (x : LocalState). x.holds) (sym (local-events_of tl2 (table_of terms) l.log c)
+        ∙ ap (λ xs. local (table_of terms) xs c) (l.fresh c le))
+    | inl lt ↦
+        subst (λ log. (local (table_of terms) log c).holds ≡ []) (sym (l.whole first none_out))
+        (back.free c (was_taken c lt))
+  ]
 
   run_there : Run (table_of terms) l.log
   run_there = l.run.run.run

@@ -28,15 +28,14 @@ use Rattle.dstm_tl2.proofs.Done.{allowed_mine, failed_invalid, undrawn_invalid, 
 
 -- an element of a list is its first one, or one of the rest
 contains_cases : (y : Event) (xs : List Event) (x : Event) → Contains (y ∷ xs) x → (y ≡ x) ⊎ Contains xs x
-contains_cases y xs x m = go (Contains-append_cases (y ∷ []) xs x m)
+contains_cases y xs x m = elim (Contains-append_cases (y ∷ []) xs x m) [
+  | inl n ↦ one (Contains-push_cases [] y x n)
+  | inr n ↦ inr n
+]
   where
     one : Contains [] x ⊎ (y ≡ x) → (y ≡ x) ⊎ Contains xs x
     one (inl n) = absurd (let b = n.1 in omega arith)
     one (inr q) = inl q
-
-    go : Contains (y ∷ []) x ⊎ Contains xs x → (y ≡ x) ⊎ Contains xs x
-    go (inl n) = one (Contains-push_cases [] y x n)
-    go (inr n) = inr n
 
 -- a lock that is held stays held behind another one, and where it is changed
 some_append : (o : ℕ) (hs ks : List Hold) → is_some (hold_of o hs) ≡ true → is_some (hold_of o (hs ++ ks)) ≡ true
@@ -158,13 +157,11 @@ module _ (t : Table) (l : LocalState) (s : Static t l) (events : List Event) (a 
       Taken t o taking m.reads m.holds m.gave_back (is_valid m) (e ∷ events)) →
       (o : ℕ) (taking : Event) → Contains (e ∷ events) taking → has_locked o taking ≡ true →
       Taken t o taking m.reads m.holds m.gave_back (is_valid m) (e ∷ events)
-  no_lock m plain more o taking c h = go (contains_cases e events taking c)
-    where
-      go : (e ≡ taking) ⊎ Contains events taking →
-          Taken t o taking m.reads m.holds m.gave_back (is_valid m) (e ∷ events)
-      go (inl q) =
-          absurd (let x : is_lock e.kind ≡ true = ap (λ (e : Event). is_lock e.kind) q ∙ (locked_is o taking h).0 in cc)
-      go (inr c) = more o taking c (a.locks o taking c h)
+  no_lock m plain more o taking c h = elim (contains_cases e events taking c) [
+    | inl q ↦
+        absurd (let x : is_lock e.kind ≡ true = ap (λ (e : Event). is_lock e.kind) q ∙ (locked_is o taking h).0 in cc)
+    | inr c ↦ more o taking c (a.locks o taking c h)
+  ]
 
   -- while nothing is told, nothing was locked
   no_locks : l.writes ≡ None → (o : ℕ) (taking : Event) → Contains events taking → has_locked o taking ≡ true → ⊥
@@ -192,11 +189,10 @@ module _ (t : Table) (l : LocalState) (s : Static t l) (events : List Event) (a 
   -- an event that the attempt makes only while it has given up nothing, and is not valid
   module _ {k : Kind} (kind : e.kind ≡ k) (v : is_valid l ≡ false) (g : l.gave_back ≡ false) where
     not_given : {o word : ℕ} → Given t o word l.gave_back (is_valid l) events → ⊥
-    not_given x = go x.over
-      where
-        go : (l.gave_back ≡ true) ⊎ (is_valid l ≡ true) → ⊥
-        go (inl q) = cc
-        go (inr q) = cc
+    not_given x = elim x.over [
+      | inl q ↦ cc
+      | inr q ↦ cc
+    ]
 
     still_held : (o word : ℕ) → (is_some (hold_of o l.holds) ≡ true) ⊎ Given t o word l.gave_back (is_valid l) events →
         is_some (hold_of o l.holds) ≡ true
@@ -354,11 +350,10 @@ module _ (t : Table) (l : LocalState) (s : Static t l) (events : List Event) (a 
 
   -- no Check comes once the attempt is valid
   unchecked : AllowedAs Check t l e → is_valid l ≡ false
-  unchecked h = go (cases_Bool (is_valid l))
-    where
-      go : (is_valid l ≡ true) ⊎ (is_valid l ≡ false) → is_valid l ≡ false
-      go (inl v) = absurd (let x = (valid_parts l v).1 in let y = h.2.2 in omega arith)
-      go (inr v) = v
+  unchecked h = elim (cases_Bool (is_valid l)) [
+    | inl v ↦ absurd (let x = (valid_parts l v).1 in let y = h.2.2 in omega arith)
+    | inr v ↦ v
+  ]
 
   attempt_by : (k : Kind) → e.kind ≡ k → is_sample k ≡ false → AllowedAs k t l e →
       Attempt t (after k t l e) (e ∷ events)
@@ -421,27 +416,28 @@ just_sampled t l e k h = absurd (cc)
 attempt : (t : Table) (es : List Event) → Run t es → (c : ℕ) →
     Attempt t (local t es c) (events_of c (since_sample c es))
 attempt t [] run c = none_yet t (local t [] c) refl
-attempt t (e ∷ es) run c = go (cases_Bool (e.caller == c)) (cases_Bool (is_sample e.kind)) (attempt t es run.0 c)
-  where
-    go : (e.caller == c ≡ true) ⊎ (e.caller == c ≡ false) → (is_sample e.kind ≡ true) ⊎ (is_sample e.kind ≡ false) →
-        Attempt t (local t es c) (events_of c (since_sample c es)) →
-        Attempt t (local t (e ∷ es) c) (events_of c (since_sample c (e ∷ es)))
-    go (inl q) (inl r) ih =
-        subst (Attempt t (local t (e ∷ es) c))
-        (sym (ap (events_of c) (since_at is_sample e es c (and_from (e.caller == c) (is_sample e.kind) q r))))
-        (subst (λ l. Attempt t l []) (sym (local_mine tl2 t es e c q)) (just_sampled t (local t es c) e e.kind r))
-    go (inl q) (inr r) ih =
-        subst (Attempt t (local t (e ∷ es) c))
-        (sym (ap (events_of c) (since_still is_sample e es c (and_right (e.caller == c) (is_sample e.kind) r))
-        ∙ own_first e (since_sample c es) c q))
-        (subst (λ l. Attempt t l (e ∷ events_of c (since_sample c es))) (sym (local_mine tl2 t es e c q))
-        (attempt_by t (local t es c) (static t es run.0 c) (events_of c (since_sample c es)) ih e e.kind refl r
-        (allowed_mine t es e c run q)))
-    go (inr q) r ih =
-        subst (Attempt t (local t (e ∷ es) c))
-        (sym (ap (events_of c) (since_still is_sample e es c (and_left (e.caller == c) (is_sample e.kind) q))
-        ∙ own_other e (since_sample c es) c q))
-        (subst (λ l. Attempt t l (events_of c (since_sample c es))) (sym (local_others tl2 t es e c q)) ih)
+attempt t (e ∷ es) run c =
+    let ih = attempt t es run.0 c in
+    elim (cases_Bool (e.caller == c)) [
+      | inl q ↦ elim (cases_Bool (is_sample e.kind)) [
+        | inl r ↦
+            subst (Attempt t (local t (e ∷ es) c))
+            (sym (ap (events_of c) (since_at is_sample e es c (and_from (e.caller == c) (is_sample e.kind) q r))))
+            (subst (λ l. Attempt t l []) (sym (local_mine tl2 t es e c q)) (just_sampled t (local t es c) e e.kind r))
+        | inr r ↦
+            subst (Attempt t (local t (e ∷ es) c))
+            (sym (ap (events_of c) (since_still is_sample e es c (and_right (e.caller == c) (is_sample e.kind) r))
+            ∙ own_first e (since_sample c es) c q))
+            (subst (λ l. Attempt t l (e ∷ events_of c (since_sample c es))) (sym (local_mine tl2 t es e c q))
+            (attempt_by t (local t es c) (static t es run.0 c) (events_of c (since_sample c es)) ih e e.kind refl r
+            (allowed_mine t es e c run q)))
+      ]
+      | inr q ↦
+          subst (Attempt t (local t (e ∷ es) c))
+          (sym (ap (events_of c) (since_still is_sample e es c (and_left (e.caller == c) (is_sample e.kind) q))
+          ∙ own_other e (since_sample c es) c q))
+          (subst (λ l. Attempt t l (events_of c (since_sample c es))) (sym (local_others tl2 t es e c q)) ih)
+    ]
 
 module _ (t : Table) (es : List Event) (run : Run t es) (c : ℕ) where
   abbrev l : LocalState
@@ -459,13 +455,12 @@ module _ (t : Table) (es : List Event) (run : Run t es) (c : ℕ) where
       has_locked o taking ≡ true → (is_some (hold_of o l.holds) ≡ true)
       ⊎ ((event : Event) × (last_at o since ≡ Some event) × GivesBack taking event)
   held_or_given v o taking x h =
-      let y = (attempt t es run c).locks o taking x h in given y.expected y.now
-    where
-      given : taking.expected ≡ recorded o l.reads → (is_some (hold_of o l.holds) ≡ true)
-          ⊎ Given t o (recorded o l.reads) l.gave_back (is_valid l) since → (is_some (hold_of o l.holds) ≡ true)
-          ⊎ ((event : Event) × (last_at o since ≡ Some event) × GivesBack taking event)
-      given e (inl q) = inl q
-      given e (inr y) = inr (y.event, y.last, record { unlocks = y.unlocks; word = y.word v ∙ sym e })
+      let y = (attempt t es run c).locks o taking x h in
+      let e = y.expected in
+      elim y.now [
+        | inl q ↦ inl q
+        | inr y ↦ inr (y.event, y.last, record { unlocks = y.unlocks; word = y.word v ∙ sym e })
+      ]
 
 -- a state that failed, or that has drawn nothing, is not valid
 pub left_invalid : (l : LocalState) → (l.failed ≡ true) ⊎ (l.drawn ≡ None) → is_valid l ≡ false

@@ -33,7 +33,7 @@ use Rattle.dstm_tl2_engine.proofs.CallKinds.{is_look, opening_looks}
 use Rattle.dstm_tl2_engine.proofs.Calling.{begun_as}
 use Rattle.dstm_tl2_order.proofs.Causing.{causes_of}
 use Rattle.dstm_tl2_engine.proofs.Others.{others_of}
-use Rattle.dstm_tl2_engine.proofs.Tying.{ends_here, kept, now_there, performs_then, state_then}
+use Rattle.dstm_tl2_engine.proofs.Tying.{EndsHere, at_home, ends_here, kept, now_there, performs_then, state_then}
 use Rattle.dstm_tl2_engine.specs.Attempts.{Admits, Seen}
 use Rattle.dstm_tl2_engine.specs.Began.{began_of}
 use Rattle.dstm_tl2_engine.specs.Callers.{TlCalled, handed, held, is_live, objects_of, start_of, state, table_of_caller, written}
@@ -68,33 +68,27 @@ map_none f (Some x) h = absurd (cc)
 pub value_in-last : (ps : List (ℕ × Val)) (o : ℕ) (x : Val) → value_in ps o ≡ None →
     value_in (ps ++ (o, x) ∷ []) o ≡ Some x
 value_in-last [] o x none = value_in-same (o, x) [] o refl
-value_in-last (p ∷ ps) o x none = by (cases_eq p.0 o) (value_in-last ps o x)
-  where
-    by : (p.0 ≡ o) ⊎ (p.0 ≡ o → ⊥) → (value_in ps o ≡ None → value_in (ps ++ (o, x) ∷ []) o ≡ Some x) →
-        value_in (p ∷ (ps ++ (o, x) ∷ [])) o ≡ Some x
-    by (inl q) ih = absurd (let z : Some p.1 ≡ None = sym (value_in-same p ps o q) ∙ none in cc)
-    by (inr n) ih = value_in-other p (ps ++ (o, x) ∷ []) o n ∙ ih (sym (value_in-other p ps o n) ∙ none)
+value_in-last (p ∷ ps) o x none = elim (cases_eq p.0 o) [
+  | inl q ↦ absurd (let z : Some p.1 ≡ None = sym (value_in-same p ps o q) ∙ none in cc)
+  | inr n ↦ value_in-other p (ps ++ (o, x) ∷ []) o n ∙ value_in-last ps o x (sym (value_in-other p ps o n) ∙ none)
+]
 
 pub value_in-more : (ps : List (ℕ × Val)) (o : ℕ) (x : Val) (p : ℕ) → p ≢ o →
     value_in (ps ++ (o, x) ∷ []) p ≡ value_in ps p
 value_in-more [] o x p other = value_in-other (o, x) [] p (λ q. other (sym q))
-value_in-more (y ∷ ps) o x p other = by (cases_eq y.0 p) (value_in-more ps o x p other)
-  where
-    by : (y.0 ≡ p) ⊎ (y.0 ≡ p → ⊥) → value_in (ps ++ (o, x) ∷ []) p ≡ value_in ps p →
-        value_in (y ∷ (ps ++ (o, x) ∷ [])) p ≡ value_in (y ∷ ps) p
-    by (inl q) ih = value_in-same y (ps ++ (o, x) ∷ []) p q ∙ sym (value_in-same y ps p q)
-    by (inr n) ih = value_in-other y (ps ++ (o, x) ∷ []) p n ∙ ih ∙ sym (value_in-other y ps p n)
+value_in-more (y ∷ ps) o x p other = elim (cases_eq y.0 p) [
+  | inl q ↦ value_in-same y (ps ++ (o, x) ∷ []) p q ∙ sym (value_in-same y ps p q)
+  | inr n ↦ value_in-other y (ps ++ (o, x) ∷ []) p n ∙ value_in-more ps o x p other ∙ sym (value_in-other y ps p n)
+]
 
 pub value_in-stays : (ps qs : List (ℕ × Val)) (p : ℕ) → IsSome (value_in ps p) → value_in (ps ++ qs) p ≡ value_in ps p
 value_in-stays [] qs p some = absurd (let z : false ≡ true = some in cc)
-value_in-stays (y ∷ ps) qs p some = by (cases_eq y.0 p) (value_in-stays ps qs p)
-  where
-    by : (y.0 ≡ p) ⊎ (y.0 ≡ p → ⊥) → (IsSome (value_in ps p) → value_in (ps ++ qs) p ≡ value_in ps p) →
-        value_in (y ∷ (ps ++ qs)) p ≡ value_in (y ∷ ps) p
-    by (inl q) ih = value_in-same y (ps ++ qs) p q ∙ sym (value_in-same y ps p q)
-    by (inr n) ih =
-        value_in-other y (ps ++ qs) p n ∙ ih (ap is_some (sym (value_in-other y ps p n)) ∙ some)
-        ∙ sym (value_in-other y ps p n)
+value_in-stays (y ∷ ps) qs p some = elim (cases_eq y.0 p) [
+  | inl q ↦ value_in-same y (ps ++ qs) p q ∙ sym (value_in-same y ps p q)
+  | inr n ↦
+      value_in-other y (ps ++ qs) p n ∙ value_in-stays ps qs p (ap is_some (sym (value_in-other y ps p n)) ∙ some)
+      ∙ sym (value_in-other y ps p n)
+]
 
 -- an object that is newly paired is the only change
 pub holds_also : (ps : List (ℕ × Val)) (o : ℕ) (x : Val) → value_in ps o ≡ None →
@@ -112,13 +106,10 @@ holds_also ps o x none = record {
 pub held_read : (rs : List Read) (o : ℕ) →
     value_in (read_values rs) o ≡ option_map (λ (r : Read). r.value) (read_of o rs)
 held_read [] o = refl
-held_read (r ∷ rs) o = by (held_read rs o) (cases_Bool (r.object == o))
-  where
-    by : value_in (read_values rs) o ≡ option_map (λ (r : Read). r.value) (read_of o rs) →
-        (r.object == o ≡ true) ⊎ (r.object == o ≡ false) →
-        value_in (read_values (r ∷ rs)) o ≡ option_map (λ (r : Read). r.value) (read_of o (r ∷ rs))
-    by ih (inl q) = rw q refl
-    by ih (inr q) = rw q ih
+held_read (r ∷ rs) o = elim (cases_Bool (r.object == o)) [
+  | inl q ↦ rw q refl
+  | inr q ↦ rw q (held_read rs o)
+]
 
 pub unheld_unread : (rs : List Read) (o : ℕ) → value_in (read_values rs) o ≡ None → read_of o rs ≡ None
 unheld_unread rs o none = map_none (λ (r : Read). r.value) (read_of o rs) (sym (held_read rs o) ∙ none)
@@ -132,12 +123,10 @@ values_push rs r = map-append (λ (r : Read). (r.object, r.value)) rs (r ∷ [])
 
 unread_before : (rs : List Read) (r : Read) (o : ℕ) → read_of o (rs ++ r ∷ []) ≡ None → read_of o rs ≡ None
 unread_before [] r o none = refl
-unread_before (x ∷ rs) r o none = by (cases_Bool (x.object == o)) (unread_before rs r o)
-  where
-    by : (x.object == o ≡ true) ⊎ (x.object == o ≡ false) → (read_of o (rs ++ r ∷ []) ≡ None → read_of o rs ≡ None) →
-        read_of o (x ∷ rs) ≡ None
-    by (inl q) ih = absurd (let z : Some x ≡ None = rw q at none in cc)
-    by (inr q) ih = rw q (ih (rw q at none))
+unread_before (x ∷ rs) r o none = elim (cases_Bool (x.object == o)) [
+  | inl q ↦ absurd (let z : Some x ≡ None = rw q at none in cc)
+  | inr q ↦ rw q (unread_before rs r o (rw q at none))
+]
 
 -- where nothing is locked, nothing is locked by another state either
 pub no_holds : (l m : LocalState) (ws : List (ℕ × Val)) → map (new_hold l) ws ≡ [] → map (new_hold m) ws ≡ []
@@ -205,12 +194,10 @@ module _ {L : Type 0} {holds : L → List Val → Type 0} {c : Inside L} (v : Ti
 
   -- so what is open for writing is read
   pub opened_held : (o : ℕ) → IsSome (value_in c.opened.writes o) → IsSome (held (called c) o)
-  opened_held o some = by (cases_Bool (is_some (held (called c) o)))
-    where
-      by : (is_some (held (called c) o) ≡ true) ⊎ (is_some (held (called c) o) ≡ false) → IsSome (held (called c) o)
-      by (inl q) = q
-      by (inr q) =
-          absurd (none_some (value_in c.opened.writes o) (unheld_unopened o (not_some (held (called c) o) q)) some)
+  opened_held o some = elim (cases_Bool (is_some (held (called c) o))) [
+    | inl q ↦ q
+    | inr q ↦ absurd (none_some (value_in c.opened.writes o) (unheld_unopened o (not_some (held (called c) o) q)) some)
+  ]
 
   -- the value that an open hands out, by the lists
   pub slots_hand : (o : ℕ) → slots_value (value_in c.opened.writes o) (read_slot c.opened.reads o) ≡ handed (called c) o
@@ -262,11 +249,28 @@ module _ {L : Type 0} {holds : L → List Val → Type 0} {k n : TlCalled L} (o 
 
 -- ---- a read
 
+-- the caller has opened an object, and hands out this value
+pub record Reads {L : Type 0} (holds : L → List Val → Type 0) (o : ℕ) (k n : TlCalled L) (value : Val) : Type 0 where
+  pub stays : Stays holds (Opening o) k n
+  pub kept : n ≡ record k { log = n.log; left = None }
+  pub continues : Continues holds k n
+  pub opens : HasOpened holds o k n
+  pub rest : AtRest (state n)
+  pub seen : Seen holds n
+  pub reads : Some value ≡ held n o
+
+-- the caller has left its attempt
+pub record Stops {L : Type 0} (holds : L → List Val → Type 0) (o : ℕ) (k n : TlCalled L) (again : TlAgain) :
+    Type 0 where
+  pub leaves : Leaves holds (Opening o) k n again
+  pub kept : n ≡ record k { log = n.log; left = Some again }
+  pub continues : Continues holds k n
+  pub seen : Seen holds n
+
 module _ {L : Type 0} {holds : L → List Val → Type 0} {c : Inside L} (v : Tied holds c)
     (live : is_live (called c) ≡ true) (rest : AtRest (state (called c))) (o : ℕ) {new : Steps L}
     (unread : held (called c) o ≡ None) (slot : ReadSlot) (is : slot.object ≡ o)
-    (u : Under holds (called c).home (began_of (Doing (Opening o)) (called c)) new Done None)
-    (adds : now (called c).home new ≡ record (state (called c)) {
+    (u : EndsHere holds c (Doing (Opening o)) new None) (adds : now (called c).home new ≡ record (state (called c)) {
       reads = (state (called c)).reads ++ slot_read slot ∷ [];
     })
   where
@@ -296,9 +300,6 @@ module _ {L : Type 0} {holds : L → List Val → Type 0} {c : Inside L} (v : Ti
           kept = λ p some. held_now p ∙ h.kept p some;
           others = λ p other. held_now p ∙ h.others p other;
         }
-
-    pub read_value : Some slot.value ≡ held (called read_as) o
-    read_value = sym (held_now o ∙ value_in-last (read_values (state (called c)).reads) o slot.value unread)
 
     pub read_rest : AtRest (state (called read_as))
     read_rest =
@@ -346,31 +347,25 @@ module _ {L : Type 0} {holds : L → List Val → Type 0} {c : Inside L} (v : Ti
         puts_now p (Some x) q h =
             h ∙ ap (option_or (value_in c.opened.set p)) (sym (read_held.kept p (opened_held v p (ap is_some q))))
 
-    pub read_stays : Stays holds (Opening o) (called c) (called read_as)
-    read_stays = record {
-      steps = steps;
-      attempt = attempt_kept steps refl;
-    }
-
-    pub read_kept : called read_as ≡ record (called c) { log = (view_of new.seat).log; left = None }
-    read_kept =
-        ap (λ h. record (called read_as) { home = h }) (kept v (Doing (Opening o)) u).home
-        ∙ ap (λ x. record (called c) { log = (view_of new.seat).log; left = x }) (not_left c.left live)
-
-    pub read_seen : Seen holds (called read_as)
-    read_seen = (kept v (Doing (Opening o)) u).seen
-
-    pub read_continues : Continues holds (called c) (called read_as)
-    read_continues = opening_continues o steps (λ p some. read_held.kept p some)
-
-    pub read_opens : HasOpened holds o (called c) (called read_as)
-    read_opens = record { held = read_held; admits = seen_admits (called read_as) u.run read_seen }
+    pub reads : Reads holds o (called c) (called read_as) slot.value
+    reads =
+        let k = kept v (Doing (Opening o)) u in record {
+          stays = record { steps = steps; attempt = attempt_kept steps refl };
+          kept =
+              ap (λ h. record (called read_as) { home = h }) k.home
+              ∙ ap (λ x. record (called c) { log = (view_of new.seat).log; left = x }) (not_left c.left live);
+          continues = opening_continues o steps (λ p some. read_held.kept p some);
+          opens = record { held = read_held; admits = seen_admits (called read_as) u.run k.seen };
+          rest = read_rest;
+          seen = k.seen;
+          reads = sym (held_now o ∙ value_in-last (read_values (state (called c)).reads) o slot.value unread);
+        }
 
 -- ---- a read that has left its attempt
 
 module _ {L : Type 0} {holds : L → List Val → Type 0} {c : Inside L} (v : Tied holds c)
     (rest : AtRest (state (called c))) (o : ℕ) {new : Steps L} {again : TlAgain}
-    (u : Under holds (called c).home (began_of (Doing (Opening o)) (called c)) new Done (Some again))
+    (u : EndsHere holds c (Doing (Opening o)) new (Some again))
     (same : now (called c).home new ≡ record (state (called c)) { look = (now (called c).home new).look })
   where
     abbrev pub stopped_as : Inside L
@@ -423,24 +418,20 @@ module _ {L : Type 0} {holds : L → List Val → Type 0} {c : Inside L} (v : Ti
               (v.told (rest_made (called c) rest)) tt (λ none. absurd (cc)) refl;
         }
 
-    pub stopped_leaves : Leaves holds (Opening o) (called c) (called stopped_as) again
-    stopped_leaves = record {
-      steps = steps_stopped;
-      cause = causes_of (table_of_caller (called c)) (state (called c)) steps_stopped.events again
-          (sym steps_stopped.answers);
-      left = stopped_left;
-      attempt = attempt_kept steps_stopped refl;
-      done = done_quiet steps_stopped refl;
+    pub stops : Stops holds o (called c) (called stopped_as) again
+    stops = record {
+      leaves = record {
+        steps = steps_stopped;
+        cause = causes_of (table_of_caller (called c)) (state (called c)) steps_stopped.events again
+            (sym steps_stopped.answers);
+        left = stopped_left;
+        attempt = attempt_kept steps_stopped refl;
+        done = done_quiet steps_stopped refl;
+      };
+      kept = ap (λ h. record (called stopped_as) { home = h }) (kept v (Doing (Opening o)) u).home;
+      continues = opening_continues o steps_stopped (λ p some. held_still p);
+      seen = (kept v (Doing (Opening o)) u).seen;
     }
-
-    pub stopped_kept : called stopped_as ≡ record (called c) { log = (view_of new.seat).log; left = Some again }
-    stopped_kept = ap (λ h. record (called stopped_as) { home = h }) (kept v (Doing (Opening o)) u).home
-
-    pub stopped_seen : Seen holds (called stopped_as)
-    stopped_seen = (kept v (Doing (Opening o)) u).seen
-
-    pub stopped_continues : Continues holds (called c) (called stopped_as)
-    stopped_continues = opening_continues o steps_stopped (λ p some. held_still p)
 
 -- ---- an object that is newly open for writing
 
@@ -499,24 +490,6 @@ module _ {L : Type 0} {holds : L → List Val → Type 0} {c : Inside L} (v : Ti
 
 -- ---- the first read of an object, by what its caller is seen as
 
--- the caller has opened an object, and hands out this value
-pub record Reads {L : Type 0} (holds : L → List Val → Type 0) (o : ℕ) (k n : TlCalled L) (value : Val) : Type 0 where
-  pub stays : Stays holds (Opening o) k n
-  pub kept : n ≡ record k { log = n.log; left = None }
-  pub continues : Continues holds k n
-  pub opens : HasOpened holds o k n
-  pub rest : AtRest (state n)
-  pub seen : Seen holds n
-  pub reads : Some value ≡ held n o
-
--- the caller has left its attempt
-pub record Stops {L : Type 0} (holds : L → List Val → Type 0) (o : ℕ) (k n : TlCalled L) (again : TlAgain) :
-    Type 0 where
-  pub leaves : Leaves holds (Opening o) k n again
-  pub kept : n ≡ record k { log = n.log; left = Some again }
-  pub continues : Continues holds k n
-  pub seen : Seen holds n
-
 -- An object is to be read that is not held. The caller that contracts see is the one that its fields stand for, and the
 -- words are those of its table.
 pub record Unread {L : Type 0} (holds : L → List Val → Type 0) (c : Inside L) (k : TlCalled L) (home : Home L) (o : ℕ) :
@@ -553,53 +526,31 @@ module _ {L : Type 0} {holds : L → List Val → Type 0} {c : Inside L} {k : Tl
         is_on : is_live (called c) ≡ true
         is_on = ap (λ (k : TlCalled L). is_live k) at.view ∙ live
 
-        u_here : Under holds (called c).home (began_of (Doing (Opening o)) (called c)) new Done None
-        u_here = ends_here at.tied at.same (Doing (Opening o)) u
-
         adds_here : now (called c).home new ≡ record (state (called c)) {
           reads = (state (called c)).reads ++ slot_read slot ∷ [];
         }
-        adds_here =
-            ap (λ h. now h new) at.same ∙ adds
-            ∙ ap (λ (l : LocalState). record l { reads = l.reads ++ slot_read slot ∷ [] }) here
+        adds_here = at_home at.tied at.same (λ h l. now h new ≡ record l { reads = l.reads ++ slot_read slot ∷ [] }) adds
 
         pub first_tied : Tied holds (record c { steps = new; opened = opened })
-        first_tied = rw pushed (read_tied at.tied is_on at_rest o unheld slot is u_here adds_here)
+        first_tied =
+            rw pushed (read_tied at.tied is_on at_rest o unheld slot is (ends_here at.tied at.same _ u) adds_here)
 
         pub first_reads : Reads holds o k (called (record c { steps = new; opened = opened })) slot.value
-        first_reads = rw (← at.view, pushed) (record {
-          stays = read_stays at.tied is_on at_rest o unheld slot is u_here adds_here;
-          kept = read_kept at.tied is_on at_rest o unheld slot is u_here adds_here;
-          continues = read_continues at.tied is_on at_rest o unheld slot is u_here adds_here;
-          opens = read_opens at.tied is_on at_rest o unheld slot is u_here adds_here;
-          rest = read_rest at.tied is_on at_rest o unheld slot is u_here adds_here;
-          seen = read_seen at.tied is_on at_rest o unheld slot is u_here adds_here;
-          reads = read_value at.tied is_on at_rest o unheld slot is u_here adds_here;
-        })
+        first_reads =
+            rw (← at.view, pushed) (reads at.tied is_on at_rest o unheld slot is (ends_here at.tied at.same _ u) adds_here)
 
     module _ {new : Steps L} {again : TlAgain}
         (u : Under holds home (begun_as home (Doing (Opening o)) c.steps) new Done (Some again))
         (same : now home new ≡ record (now home c.steps) { look = (now home new).look })
       where
-        u_left : Under holds (called c).home (began_of (Doing (Opening o)) (called c)) new Done (Some again)
-        u_left = ends_here at.tied at.same (Doing (Opening o)) u
-
         same_left : now (called c).home new ≡ record (state (called c)) { look = (now (called c).home new).look }
-        same_left =
-            ap (λ h. now h new) at.same ∙ same
-            ∙ ap (λ (l : LocalState). record l { look = (now home new).look }) here
-            ∙ ap (λ h. record (state (called c)) { look = (now h new).look }) (sym at.same)
+        same_left = at_home at.tied at.same (λ h l. now h new ≡ record l { look = (now h new).look }) same
 
         pub left_tied : Tied holds (record c { steps = new; left = Some again })
-        left_tied = stopped_tied at.tied at_rest o u_left same_left
+        left_tied = stopped_tied at.tied at_rest o (ends_here at.tied at.same _ u) same_left
 
         pub left_stops : Stops holds o k (called (record c { steps = new; left = Some again })) again
-        left_stops = rw (← at.view) (record {
-          leaves = stopped_leaves at.tied at_rest o u_left same_left;
-          kept = stopped_kept at.tied at_rest o u_left same_left;
-          continues = stopped_continues at.tied at_rest o u_left same_left;
-          seen = stopped_seen at.tied at_rest o u_left same_left;
-        })
+        left_stops = rw (← at.view) (stops at.tied at_rest o (ends_here at.tied at.same _ u) same_left)
 
 -- ---- an open of what is open already
 

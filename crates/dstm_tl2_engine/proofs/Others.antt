@@ -29,7 +29,11 @@ others_of t c log before es again run inside own gives once =
   where
     by : (event : Event) (later early : List Event) → es ≡ later ++ event ∷ early →
         fails event.kind (state_after t (local t before c) early) event ≡ true → 1 < t.callers
-    by event later early is fail = go (cases_order 1 t.callers)
+    by event later early is fail = elim (cases_order 1 t.callers) [
+      | inl q ↦ absurd (one (sym q))
+      | inr (inl q) ↦ q
+      | inr (inr q) ↦ absurd (omega arith)
+    ]
       where
         s : StandsAt c log event (early ++ events_of c before)
         s =
@@ -45,8 +49,3 @@ others_of t c log before es again run inside own gives once =
             ap (local t s.before) s.own ∙ after_own tl2 t c s.before before early s.rest in
             let no : fails event.kind (state_after t (local t before c) early) event ≡ false =
             ap (λ (l : LocalState). fails event.kind l event) (sym state) ∙ never in cc
-
-        go : (1 ≡ t.callers) ⊎ ((1 < t.callers) ⊎ (t.callers < 1)) → 1 < t.callers
-        go (inl q) = absurd (one (sym q))
-        go (inr (inl q)) = q
-        go (inr (inr q)) = absurd (omega arith)

@@ -87,35 +87,31 @@ module _ {L : Type 0} {holds : L → List Val → Type 0} {c : Inside L} (v : Ti
   written_other p other = ap (λ ws. value_in ws p) writes ∙ value_in-with_other o value c.opened.writes p other
 
   still_read : (p : ℕ) → value_in c.opened.writes p ≡ None → value_in new.writes p ≡ None
-  still_read p unwritten = by (cases_eq p o)
-    where
-      by : (p ≡ o) ⊎ (p ≡ o → ⊥) → value_in new.writes p ≡ None
-      by (inl q) =
-          let some : IsSome (value_in c.opened.writes p) =
-          subst (λ p. IsSome (value_in c.opened.writes p)) (sym q) opened in
-          absurd (let bad : IsSome {T = Val} None = rw unwritten at some in cc)
-      by (inr q) = written_other p q ∙ unwritten
+  still_read p unwritten = elim (cases_eq p o) [
+    | inl q ↦
+        let some : IsSome (value_in c.opened.writes p) =
+        subst (λ p. IsSome (value_in c.opened.writes p)) (sym q) opened in
+        absurd (let bad : IsSome {T = Val} None = rw unwritten at some in cc)
+    | inr q ↦ written_other p q ∙ unwritten
+  ]
 
   puts_then : (p : ℕ) → IfSome (value_in new.writes p)
       (λ w. Some w ≡ option_or (value_in new.set p) (held (called c) p))
-  puts_then p = by (cases_eq p o)
+  puts_then p = elim (cases_eq p o) [
+    | inl q ↦
+        subst (λ p. IfSome (value_in new.writes p)
+        (λ w. Some w ≡ option_or (value_in new.set p) (held (called c) p))) (sym q) here
+    | inr q ↦ rw (written_other p q, others p q) (v.puts p)
+  ]
     where
       here : IfSome (value_in new.writes o) (λ w. Some w ≡ option_or (value_in new.set o) (held (called c) o))
       here = rw (written_own, own) refl
 
-      by : (p ≡ o) ⊎ (p ≡ o → ⊥) →
-          IfSome (value_in new.writes p) (λ w. Some w ≡ option_or (value_in new.set p) (held (called c) p))
-      by (inl q) =
-          subst (λ p. IfSome (value_in new.writes p)
-          (λ w. Some w ≡ option_or (value_in new.set p) (held (called c) p))) (sym q) here
-      by (inr q) = rw (written_other p q, others p q) (v.puts p)
-
   sets_then : (p : ℕ) → IsSome (value_in new.set p) → IsSome (value_in new.writes p)
-  sets_then p some = by (cases_eq p o)
-    where
-      by : (p ≡ o) ⊎ (p ≡ o → ⊥) → IsSome (value_in new.writes p)
-      by (inl q) = subst (λ p. IsSome (value_in new.writes p)) (sym q) (rw written_own refl)
-      by (inr q) = rw (written_other p q) (v.sets p (rw (others p q) at some))
+  sets_then p some = elim (cases_eq p o) [
+    | inl q ↦ subst (λ p. IsSome (value_in new.writes p)) (sym q) (rw written_own refl)
+    | inr q ↦ rw (written_other p q) (v.sets p (rw (others p q) at some))
+  ]
 
   locks_then : (state (called c)).holds ≡ map (new_hold (state (called c))) (take c.locked new.writes)
   locks_then = rest.untold.2 ∙ sym (ap (λ n. map (new_hold (state (called c))) (take n new.writes)) none)

@@ -23,6 +23,10 @@ use Rattle.dstm_tl2_engine.specs.Calls.{Performs}
 use Rattle.dstm_tl2_engine.specs.Mirror.{Tied, called}
 use Rattle.dstm_tl2_engine.specs.declared.caller.TlCaller.TheInside.{Inside}
 
+-- a call of a caller has ended and answers this
+abbrev pub EndsHere : {L : Type 0} → (L → List Val → Type 0) → Inside L → Task → Steps L → Option TlAgain → Type 0
+EndsHere holds c task new again = Under holds (called c).home (began_of task (called c)) new Done again
+
 -- ---- before a call
 
 module _ {L : Type 0} {holds : L → List Val → Type 0} {c : Inside L} (v : Tied holds c) where
@@ -40,6 +44,13 @@ module _ {L : Type 0} {holds : L → List Val → Type 0} {c : Inside L} (v : Ti
     -- the state that they know
     pub now_there : now home c.steps ≡ state (called c)
     now_there = subst (λ (h : Home L). now h c.steps ≡ state (called c)) same (now_is holds (called c) steps_of)
+
+    -- what holds of the words' table and of the state that its steps know holds of the caller's, and the other way round
+    pub at_home : (P : Home L → LocalState → Type 0) → P home (now home c.steps) → P (called c).home (state (called c))
+    at_home P x = subst (λ h. P h (state (called c))) (sym same) (subst (P home) now_there x)
+
+    pub from_home : (P : Home L → LocalState → Type 0) → P (called c).home (state (called c)) → P home (now home c.steps)
+    from_home P x = subst (P home) (sym now_there) (subst (λ h. P h (state (called c))) same x)
 
     -- and ends
     pub ends_here : (task : Task) {new : Steps L} {d : Due} {again : Option TlAgain} →
@@ -93,8 +104,7 @@ module _ {L : Type 0} {holds : L → List Val → Type 0} {c : Inside L} (v : Ti
 
 -- the call is one of the caller's, whatever becomes of its lists
 pub performs_then : {L : Type 0} {holds : L → List Val → Type 0} (c : Inside L) (task : Task) {new : Steps L}
-    {again : Option TlAgain} → Under holds (called c).home (began_of task (called c)) new Done again →
-    (opened : OpenedAs) (left : Option TlAgain) →
+    {again : Option TlAgain} → EndsHere holds c task new again → (opened : OpenedAs) (left : Option TlAgain) →
     Performs holds task (called c) (called (record c { steps = new; opened = opened; left = left })) again
 performs_then {holds = holds} c task {new = new} u opened left =
     performs holds (called c) task (called (record c { steps = new; opened = opened; left = left })) u refl
