@@ -216,8 +216,7 @@ module _ {L : Type 0} {holds : L → List Val → Type 0} {c : Inside L} (v : Ti
         by : (left : Option TlAgain) → IfSome left (λ again. IsLeft (called c)) →
             IfSome left (λ again. IsLeft (called (freed c new)))
         by None h = tt
-        by (Some again) h =
-            subst (λ (x : Steps L). IsLeft (called (record c { steps = x }))) (sym (still h.given_back.free)) h
+        by (Some again) h = rw (still h.given_back.free) h
 
     -- a call that gives back leaves an attempt that was made as it is
     module _ (back : gave ≡ false → (state (called c)).holds ≡ []) where
@@ -329,14 +328,12 @@ module _ {L : Type 0} {holds : L → List Val → Type 0} {c : Inside L} (v : Ti
 -- where the newest event of the log is the caller's Sample, its attempt begins there
 pub at_begin_of : (b : Began) (log : List Event) (p found : ℕ) →
     ((before : List Event) × (log ≡ made_by b Load Sample p found ∷ before)) → log ≡ begun_log b.number log
-at_begin_of b log p found top =
-    subst (λ log. log ≡ begun_log b.number log) (sym top.1) (rw (eq-eqb b.number b.number refl) refl)
+at_begin_of b log p found top = rw (top.1, eq-eqb b.number b.number refl) refl
 
 -- and nothing has come since
 pub since_begin_of : (b : Began) (log : List Event) (p found : ℕ) →
     ((before : List Event) × (log ≡ made_by b Load Sample p found ∷ before)) → since_sample b.number log ≡ []
-since_begin_of b log p found top =
-    subst (λ log. since_sample b.number log ≡ []) (sym top.1) (rw (eq-eqb b.number b.number refl) refl)
+since_begin_of b log p found top = rw (top.1, eq-eqb b.number b.number refl) refl
 
 -- ---- a call that was to begin an attempt
 

@@ -103,10 +103,9 @@ module _ {L : Type 0} (holds : L → List Val → Type 0) (c : Inside L) (v : Ti
 
     pub then_keeps : KeptBy (state (called c)) (state next) (is_some answer)
     then_keeps =
-        subst (λ a. KeptBy (state (called c)) (state next) (is_some a)) u.gives
-        (subst (λ l. KeptBy (state (called c)) l (is_some (answer_of (table_of c.terms) (state (called c)) u.events)))
-        (sym (then_is ∙ u.state)) (closing_keeps (table_of c.terms) (state (called c)) u.events
-        (are_closing work (table_of c.terms) (state (called c)) u.events is u.obeys)))
+        rw (← u.gives, then_is ∙ u.state)
+        (closing_keeps (table_of c.terms) (state (called c)) u.events
+        (are_closing work (table_of c.terms) (state (called c)) u.events is u.obeys))
 
     held_then : (o : ℕ) → held next o ≡ held (called c) o
     held_then o = ap (λ rs. value_in (read_values rs) o) then_keeps.reads

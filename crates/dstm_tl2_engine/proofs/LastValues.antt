@@ -34,8 +34,7 @@ use Rattle.dstm_tl2_engine.specs.Tables.{HasReturned}
 pub told_by : (values : List Val) {start first : List Val} (words : List ℕ) → first ≡ start →
     ((o : ℕ) → o < length first → value_at values o ≡ value_left (length first) words o) →
     (o : ℕ) → o < length start → value_at values o ≡ value_left (length start) words o
-told_by values words is_start told =
-    subst (λ xs. (o : ℕ) → o < length xs → value_at values o ≡ value_left (length xs) words o) is_start told
+told_by values words is_start told = rw (← is_start) told
 
 -- ---- numbers that stand once each
 

@@ -476,13 +476,9 @@ module _ {L : Type 0} {holds : L → List Val → Type 0} {c : Inside L} (v : Ti
         puts_now : (p : ℕ) → (p ≡ o) ⊎ (p ≡ o → ⊥) →
             IfSome (value_in (c.opened.writes ++ (o, value) ∷ []) p) (λ y. Some y ≡ handed (called c) p)
         puts_now p (inl same) =
-            subst (λ n. IfSome (value_in (c.opened.writes ++ (o, value) ∷ []) n) (λ y. Some y ≡ handed (called c) n))
-            (sym same) (subst (λ x. IfSome x (λ y. Some y ≡ handed (called c) o))
-            (sym (value_in-last c.opened.writes o value unopened))
-            (read ∙ ap (λ w. option_or w (held (called c) o)) (sym (unset v o unopened))))
-        puts_now p (inr other) =
-            subst (λ x. IfSome x (λ y. Some y ≡ handed (called c) p))
-            (sym (value_in-more c.opened.writes o value p other)) (v.puts p)
+            rw (same, value_in-last c.opened.writes o value unopened)
+            (read ∙ ap (λ w. option_or w (held (called c) o)) (sym (unset v o unopened)))
+        puts_now p (inr other) = rw (value_in-more c.opened.writes o value p other) (v.puts p)
 
     -- an open hands out the value that was read
     pub marked_value : Some value ≡ handed (called marked_as) o
@@ -678,9 +674,7 @@ module _ {L : Type 0} {holds : L → List Val → Type 0} {o : ℕ} {k m : TlCal
     pushed_as = record c { opened = opened }
 
     pub pushed_tied : Tied holds pushed_as
-    pushed_tied =
-        subst (λ (x : OpenedAs). Tied holds (record c { opened = x })) (sym pushed)
-        (marked_tied v on_there rest_there o value none_there read_there)
+    pushed_tied = rw pushed (marked_tied v on_there rest_there o value none_there read_there)
 
     -- the caller is as it was, but for what is open
     pushed_is : called pushed_as ≡ record m { writes = k.writes ++ (o, value) ∷ []; set = k.set }
@@ -728,6 +722,4 @@ module _ {L : Type 0} {holds : L → List Val → Type 0} {o : ℕ} {k m : TlCal
         })
 
     pub pushed_value : Some value ≡ handed (called pushed_as) o
-    pushed_value =
-        subst (λ (x : OpenedAs). Some value ≡ handed (called (record c { opened = x })) o) (sym pushed)
-        (marked_value v on_there rest_there o value none_there read_there)
+    pushed_value = rw pushed (marked_value v on_there rest_there o value none_there read_there)

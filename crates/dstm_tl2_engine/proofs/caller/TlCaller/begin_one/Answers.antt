@@ -1,19 +1,17 @@
-use Rattle.std.proofs.Common.{◌≡◌, ◌<◌, ◌≤◌, [], None, subst, sym}
+use Rattle.std.proofs.Common.{◌≡◌, ◌<◌, ◌≤◌, [], None}
 use Rattle.dstm_tl2.specs.Rules.{begin}
 use Rattle.dstm_tl2.specs.Sharing.{table_of}
 use Rattle.dstm_tl2.specs.Words.{place}
 use Rattle.dstm_tl2.specs.Words.Word.{ClockWord}
-use Rattle.dstm_tl2_steps.specs.Opened.{OpenedAs}
 use Rattle.dstm_tl2_order.specs.Order.Due.{Done}
 use Rattle.dstm_tl2_order.specs.Tasks.Task.{Beginning}
 use Rattle.dstm_tl2_steps.specs.Under.{Under, now}
-use Rattle.dstm_tl2_engine.proofs.Begins.{anew, anew_tied, begins_anew, begun_back, begun_here, freed_here, freed_tied, since_begin_of, spent_by, spent_from, top_here, unspent_by}
+use Rattle.dstm_tl2_engine.proofs.Begins.{anew_tied, begins_anew, begun_back, begun_here, freed_here, freed_tied, since_begin_of, spent_by, spent_from, top_here, unspent_by}
 use Rattle.dstm_tl2_engine.proofs.Tying.{at_words, ends_here}
 use Rattle.dstm_tl2_words.specs.Seats.{view_of}
 use Rattle.dstm_tl2_engine.specs.Began.{began_of}
-use Rattle.dstm_tl2_engine.specs.Callers.{TlCalled, state}
-use Rattle.dstm_tl2_engine.specs.Mirror.{Tied, called}
-use Rattle.dstm_tl2_engine.specs.Transactions.{BeginsAnew, SpentFrom}
+use Rattle.dstm_tl2_engine.specs.Callers.{state}
+use Rattle.dstm_tl2_engine.specs.Mirror.{called}
 use Rattle.dstm_tl2_engine.proofs.caller.TlCaller.begin_one.Given.{Over}
 use Rattle.dstm_tl2_engine.proofs.caller.TlCaller.begin_one.Goals.{After-begin_next}
 use Rattle.dstm_tl2_engine.proofs.caller.TlCaller.begin_one.Goals as goal
@@ -49,17 +47,14 @@ invariant_of-self g c =
     let before = (goal.at.invariant_of-self g c).After-begin_next in
     let u = ended g before in
     let is = freed g before c.if-spent.true in
-    subst (λ n. Tied g.L.Law.holds (record c.self.inside { steps = c.begin_next.new.steps; locked = n }))
-    (sym c.begin_next.ensures.none) (freed_tied c.self.invariant Beginning u _ is
+    rw c.begin_next.ensures.none (freed_tied c.self.invariant Beginning u _ is
     (c.begin_next.ensures.idle (spent_by c.self.invariant c.if-spent.true).0) (begun_back c.self.invariant u _ is))
 
 pub returns-then-spent-clause-spent : goal.returns-then-spent-clause-spent
 returns-then-spent-clause-spent g c =
     let before = (goal.at.returns-then-spent-clause-spent g c).After-begin_next in
     let spent = spent_by c.self.invariant c.if-spent.true in
-    subst (λ (k : TlCalled _). SpentFrom g.L.Law.holds k (called (record c.self.inside {
-      steps = c.begin_next.new.steps;
-    }))) c.self.view_is (spent_from c.self.invariant (ended g before) _ (freed g before c.if-spent.true)
+    rw (← c.self.view_is) (spent_from c.self.invariant (ended g before) _ (freed g before c.if-spent.true)
     (c.begin_next.ensures.idle spent.0) spent.1)
 
 pub invariant_of-self-2 : goal.invariant_of-self-2
@@ -69,12 +64,10 @@ invariant_of-self-2 g c =
     let new = c.begin_next.new.steps in
     let clock = place (table_of c.words.result.now.terms) ClockWord in
     let top = c.begin_next.ensures.top (unspent_by c.self.invariant c.if-spent.false).0 in
-    subst (λ n. Tied g.L.Law.holds (record (anew x new) { locked = n; opened = c.clear.new.self }))
-    (sym c.begin_next.ensures.none)
-    (subst (λ (o : OpenedAs). Tied g.L.Law.holds (record (anew x new) { opened = o })) (sym c.clear.ensures)
+    rw (c.begin_next.ensures.none, c.clear.ensures)
     (anew_tied c.self.invariant Beginning (ended g before) (begun g before c.if-spent.false)
     (since_begin_of (began_of Beginning (called x)) (view_of new.seat).log clock new.sample
-    (top_here c.self.invariant (home g before) new clock top))))
+    (top_here c.self.invariant (home g before) new clock top)))
 
 pub returns-clause-begins : goal.returns-clause-begins
 returns-clause-begins g c =
@@ -82,7 +75,5 @@ returns-clause-begins g c =
     let new = c.begin_next.new.steps in
     let some = unspent_by c.self.invariant c.if-spent.false in
     let before = (goal.at.returns-clause-begins g c).After-begin_next in
-    rw (← c.self.view_is)
-    (subst (λ (o : OpenedAs). BeginsAnew g.L.Law.holds (called x) (called (record (anew x new) { opened = o })))
-    (sym c.clear.ensures) (begins_anew c.self.invariant (ended g before) (begun g before c.if-spent.false) _
-    (top_here c.self.invariant (home g before) new _ (c.begin_next.ensures.top some.0)) some.1))
+    rw (← c.self.view_is, c.clear.ensures) (begins_anew c.self.invariant (ended g before) (begun g before c.if-spent.false) _
+    (top_here c.self.invariant (home g before) new _ (c.begin_next.ensures.top some.0)) some.1)

@@ -1,17 +1,14 @@
-use Rattle.std.proofs.Common.{rules, ◌≡◌, None, Some, refl, subst, sym, true}
+use Rattle.std.proofs.Common.{rules, ◌≡◌, Some, refl, subst, sym, true}
 use Rattle.dstm_tl2.specs.State.{is_valid}
 use Rattle.dstm_tl2_words.specs.Seats.{Home}
-use Rattle.dstm_tl2_order.specs.Order.Due.{Done}
 use Rattle.dstm_tl2_order.specs.Tasks.Task.{Doing}
 use Rattle.dstm_tl2_order.specs.Tasks.Work.{Finishing}
 use Rattle.dstm_tl2_steps.specs.Under.{now}
 use Rattle.dstm_tl2_engine.proofs.Committing.{Finished, Left, finished_commits, finished_stays, finished_tied, finished_told, free_here, law_there, left_here, left_leaves, left_tied, left_told}
 use Rattle.dstm_tl2_engine.proofs.Told.{locked_made}
 use Rattle.dstm_tl2_engine.proofs.Tying.{at_words, ends_here, kept}
-use Rattle.dstm_tl2_engine.specs.Attempts.{Commits}
-use Rattle.dstm_tl2_engine.specs.Callers.{TlCalled}
-use Rattle.dstm_tl2_engine.specs.Mirror.{Tied, called}
-use Rattle.dstm_tl2_engine.specs.Transactions.{HasLocked, Leaves, Stays}
+use Rattle.dstm_tl2_engine.specs.Mirror.{called}
+use Rattle.dstm_tl2_engine.specs.Transactions.{HasLocked}
 use Rattle.dstm_tl2_engine.proofs.caller.TlCaller.finish.Given.{Over}
 use Rattle.dstm_tl2_engine.proofs.caller.TlCaller.finish.Goals.{After-words, In-Err, In_default}
 use Rattle.dstm_tl2_engine.proofs.caller.TlCaller.finish.Goals as goal
@@ -48,9 +45,7 @@ returns-in-Err g c =
     let x = record c.self.inside { steps = c.finish-committed.new.self; left = Some c.in-Err.again } in
     record {
       stays = search rules;
-      leaves =
-          subst (λ (k : TlCalled _). Leaves g.L.Law.holds (Finishing k.writes) k (called x) c.in-Err.again)
-          c.self.view_is (left_leaves g.L.Law.holds c.self.inside c.self.invariant by);
+      leaves = rw (← c.self.view_is) (left_leaves g.L.Law.holds c.self.inside c.self.invariant by);
       number = search rules;
       kept = search rules;
       told = λ _. left_told g.L.Law.holds c.self.inside c.self.invariant by;
@@ -75,8 +70,7 @@ finished g c same locked =
 pub invariant_of-self-in_default : goal.invariant_of-self-in_default
 invariant_of-self-in_default g c =
     let at = goal.at.invariant_of-self-in_default g c in
-    subst (λ n. Tied g.L.Law.holds (record c.self.inside { steps = c.finish-committed.new.self; locked = n }))
-    (sym c.in_default.ensures.free.0) (finished_tied g.L.Law.holds c.self.inside c.self.invariant
+    rw c.in_default.ensures.free.0 (finished_tied g.L.Law.holds c.self.inside c.self.invariant
     (finished g at.In_default (home g at.After-words) (locked g at.After-words)))
 
 pub returns-in_default : goal.returns-in_default
@@ -86,13 +80,9 @@ returns-in_default g c =
     let x = record c.self.inside { steps = c.finish-committed.new.self } in
     let r = c.in_default.is in
     rw r (record {
-      stays =
-          subst (λ (k : TlCalled _). Stays g.L.Law.holds (Finishing k.writes) k (called x)) c.self.view_is
-          (finished_stays g.L.Law.holds c.self.inside c.self.invariant by);
+      stays = rw (← c.self.view_is) (finished_stays g.L.Law.holds c.self.inside c.self.invariant by);
       leaves = search rules;
-      number =
-          subst (λ (k : TlCalled _). Commits k (called x) c.in_default.field-0) c.self.view_is
-          (finished_commits g.L.Law.holds c.self.inside c.self.invariant by);
+      number = rw (← c.self.view_is) (finished_commits g.L.Law.holds c.self.inside c.self.invariant by);
       kept = search rules;
       told = λ _. finished_told g.L.Law.holds c.self.inside c.self.invariant by;
       seen = (kept c.self.invariant _ by.ends).seen;

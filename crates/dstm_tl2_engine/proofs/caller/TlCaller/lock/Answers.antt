@@ -1,6 +1,5 @@
 use Rattle.std.proofs.Common.{rules, ◌∙◌, ◌≡◌, None, Some, ap, length, refl, subst, sym}
 use Rattle.dstm_tl2_words.specs.Seats.{view_of}
-use Rattle.dstm_tl2_order.specs.Order.Due.{Done}
 use Rattle.dstm_tl2_steps.specs.Reads.{AtRest}
 use Rattle.dstm_tl2_order.specs.Tasks.Task.{Doing}
 use Rattle.dstm_tl2_order.specs.Tasks.Work.{Locking}
@@ -9,8 +8,8 @@ use Rattle.dstm_tl2_engine.proofs.Told.{rest_can, rest_made}
 use Rattle.dstm_tl2_engine.proofs.Tying.{at_words, ends_here, kept}
 use Rattle.dstm_tl2_engine.specs.Attempts.{done}
 use Rattle.dstm_tl2_engine.specs.Callers.{TlCalled, is_live, state}
-use Rattle.dstm_tl2_engine.specs.Mirror.{Tied, called}
-use Rattle.dstm_tl2_engine.specs.Transactions.{IsLawful, Leaves, Stays}
+use Rattle.dstm_tl2_engine.specs.Mirror.{called}
+use Rattle.dstm_tl2_engine.specs.Transactions.{IsLawful}
 use Rattle.dstm_tl2_engine.proofs.caller.TlCaller.lock.Given.{Over}
 use Rattle.dstm_tl2_engine.proofs.caller.TlCaller.lock.Goals.{In-Err, In_default}
 use Rattle.dstm_tl2_engine.proofs.caller.TlCaller.lock.Goals as goal
@@ -38,9 +37,7 @@ returns-in-Err g c =
     let x = record c.self.inside { steps = c.lock_all-locked.new.self; left = Some c.in-Err.again } in
     record {
       stays = search rules;
-      leaves =
-          subst (λ (k : TlCalled _). Leaves g.L.Law.holds (Locking k.writes) k (called x) c.in-Err.again)
-          c.self.view_is (left_leaves g.L.Law.holds c.self.inside c.self.invariant by);
+      leaves = rw (← c.self.view_is) (left_leaves g.L.Law.holds c.self.inside c.self.invariant by);
       kept = search rules;
       locked = search rules;
       done = search rules;
@@ -66,8 +63,7 @@ locked g c =
 
 pub invariant_of-self-in_default : goal.invariant_of-self-in_default
 invariant_of-self-in_default g c =
-    subst (λ n. Tied g.L.Law.holds (record c.self.inside { steps = c.lock_all-locked.new.self; locked = n }))
-    (sym c.in_default.ensures.all) (locked_tied g.L.Law.holds c.self.inside c.self.invariant
+    rw c.in_default.ensures.all (locked_tied g.L.Law.holds c.self.inside c.self.invariant
     (locked g (goal.at.invariant_of-self-in_default g c).In_default)
     (subst (IsLawful g.L.Law.holds) (sym c.self.view_is) c.requires.lawful))
 
@@ -78,9 +74,7 @@ returns-in_default g c =
     let x = record c.self.inside { steps = new } in
     let r = c.in_default.is in
     rw r (record {
-      stays =
-          subst (λ (k : TlCalled _). Stays g.L.Law.holds (Locking k.writes) k (called x)) c.self.view_is
-          (locked_stays g.L.Law.holds c.self.inside c.self.invariant by);
+      stays = rw (← c.self.view_is) (locked_stays g.L.Law.holds c.self.inside c.self.invariant by);
       leaves = search rules;
       kept =
           subst (λ (k : TlCalled _). called x ≡ record k { log = (view_of new.seat).log; left = None }) c.self.view_is

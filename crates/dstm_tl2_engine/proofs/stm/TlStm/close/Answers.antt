@@ -10,11 +10,7 @@ use Rattle.dstm_tl2_engine.proofs.stm.TlStm.close.Goals as goal
 -- the words that were left are those that the founder's seat tells of
 left : (g : Over) (c : After-close_in_place-left g) →
     LeftBy g.L.Law.holds c.args.self.terms c.args.founder.view c.close_in_place-left.result
-left g c =
-    subst (λ (x : Home _). LeftBy g.L.Law.holds x.terms c.args.founder.view c.close_in_place-left.result) c.self.view_is
-    (subst (λ (x : TlFounding _).
-    LeftBy g.L.Law.holds c.self.inside.words.terms x.view c.close_in_place-left.result) c.founder.view_is
-    c.close_in_place-left.ensures)
+left g c = rw (← c.self.view_is, ← c.founder.view_is) c.close_in_place-left.ensures
 
 first : (g : Over) (c : After-close_in_place-left g) → c.args.founder.view.first ≡ true
 first g c = ap (λ (x : TlFounding _). x.view.first) (sym c.founder.view_is) ∙ c.founder.invariant.2
