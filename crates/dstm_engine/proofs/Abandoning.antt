@@ -1,5 +1,5 @@
 -- An attempt that is given up, and what is known of it.
-use Rattle.std.proofs.Common.{◌||◌, ◌+◌, ◌==◌, ◌∙◌, ◌∷◌, ◌<◌, ◌≡◌, ◌⊎◌, Bool, List, None, Option, Some, [], ap, arith, cond, false, inl, inr, refl, subst, true, ℕ}
+use Rattle.std.proofs.Common.{◌||◌, ◌+◌, ◌==◌, ◌∙◌, ◌∷◌, ◌<◌, ◌≡◌, Bool, List, None, Option, Some, [], ap, arith, cond, false, inl, inr, refl, subst, true, ℕ}
 use Rattle.std.specs.Prelude.{IfSome, count_by, if◌then◌else◌, is_some}
 use Rattle.std.proofs.lemmas.Bool.{cases_Bool}
 use Rattle.std.proofs.lemmas.List.Elements.{All-cons, All-nil}
@@ -83,20 +83,22 @@ none_more false n m h q z = omega arith
 
 none_begun : (c : ℕ) (log : List Event) → begun_log c log ≡ [] → begin_count c log ≡ 0
 none_begun c [] h = refl
-none_begun c (e ∷ log) h = by (none_begun c log) (cases_Bool (e.caller == c)) (cases_Bool (is_begin e.kind))
+none_begun c (e ∷ log) h =
+    let ih = none_begun c log in
+    elim (cases_Bool (e.caller == c)) [
+      | inl q ↦ elim (cases_Bool (is_begin e.kind)) [
+        | inl b ↦ let z : e ∷ log ≡ [] = rw (q, b) at h in absurd (cc)
+        | inr b ↦
+            let z : begun_log c log ≡ [] = rw (q, b) at h in
+            none_more (is_begin e.kind) (begin_count c log) (begin_count c (e ∷ log))
+            (ap (λ xs. count_by (λ (x : Event). is_begin x.kind) xs) (own q)
+            ∙ sum_by-cons (λ (x : Event). cond (is_begin x.kind) 1 0) e (events_of c log)) b (ih z)
+      ]
+      | inr q ↦ let z : begun_log c log ≡ [] = rw q at h in rw q (ih z)
+    ]
   where
     own : (e.caller == c ≡ true) → events_of c (e ∷ log) ≡ e ∷ events_of c log
     own q = rw q refl
-
-    by : (begun_log c log ≡ [] → begin_count c log ≡ 0) → (e.caller == c ≡ true) ⊎ (e.caller == c ≡ false) →
-        (is_begin e.kind ≡ true) ⊎ (is_begin e.kind ≡ false) → begin_count c (e ∷ log) ≡ 0
-    by ih (inl q) (inl b) = let z : e ∷ log ≡ [] = rw (q, b) at h in absurd (cc)
-    by ih (inl q) (inr b) =
-        let z : begun_log c log ≡ [] = rw (q, b) at h in
-        none_more (is_begin e.kind) (begin_count c log) (begin_count c (e ∷ log))
-        (ap (λ xs. count_by (λ (x : Event). is_begin x.kind) xs) (own q)
-        ∙ sum_by-cons (λ (x : Event). cond (is_begin x.kind) 1 0) e (events_of c log)) b (ih z)
-    by ih (inr q) b = let z : begun_log c log ≡ [] = rw q at h in rw q (ih z)
 
 -- a caller that has begun an attempt has its Begin in its log
 pub has_begin : {L : Type 0} (k : Called L) → 0 < (state k).begun → Begun k.number k.log
@@ -112,23 +114,22 @@ begun_of k run live =
 
 pub ended_is_known : {L : Type 0} {holds : L → List Val → Type 0} {c : Inside L} → Tied holds c →
     IsUnderWay (called c) → IsEnded (called c)
-ended_is_known {c = c} v way = by (cases_Bool (is_live (called c)))
-  where
-    by : (is_live (called c) ≡ true) ⊎ (is_live (called c) ≡ false) → IsEnded (called c)
-    by (inl live) = record {
-      told = v.told (inl live);
-      left = v.ended;
-      bounded = λ none.
-          bounded (v.told (inl live)) v.run.run.core
-          (has_begin (called c) (begun_of (called c) v.run live)) alone_is_bounded prices_by_count;
-    }
-    by (inr dead) =
-        let left : is_some c.left ≡ true = subst (λ b. b || is_some c.left ≡ true) dead way in
-        record {
-          told = v.told (inr (inl left));
-          left = v.ended;
-          bounded = λ none. absurd (cc);
-        }
+ended_is_known {c = c} v way = elim (cases_Bool (is_live (called c))) [
+  | inl live ↦ record {
+    told = v.told (inl live);
+    left = v.ended;
+    bounded = λ none.
+        bounded (v.told (inl live)) v.run.run.core
+        (has_begin (called c) (begun_of (called c) v.run live)) alone_is_bounded prices_by_count;
+  }
+  | inr dead ↦
+      let left : is_some c.left ≡ true = subst (λ b. b || is_some c.left ≡ true) dead way in
+      record {
+        told = v.told (inr (inl left));
+        left = v.ended;
+        bounded = λ none. absurd (cc);
+      }
+]
 
 -- an attempt that was given an answer was under way
 pub under_way : {L : Type 0} (k : Called L) (again : Again) → k.left ≡ Some again → IsUnderWay k

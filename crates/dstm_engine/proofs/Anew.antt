@@ -38,23 +38,20 @@ one_end false true q = absurd (omega (arith, q))
 -- the status of an attempt that has ended tells whether it has committed
 told_there : (s : Shape) (log : List Event) (c : ℕ) → Core s log → 1 ≤ (local s log c).begun → (b : Bool) →
     word s log (StatusWord (own_attempt s (local s log c))) ≡ ended_as b → (local s log c).committed ≡ b
-told_there s log c core some b is = by (is_outside_now (local s log c).phase)
+told_there s log c core some b is = elim (is_outside_now (local s log c).phase) [
+  | inl out ↦ one_end (local s log c).committed b (sym (end_stays s log c out some [] core) ∙ is)
+  | inr live ↦ inside b is live
+]
   where
     inside : (b : Bool) → word s log (StatusWord (own_attempt s (local s log c))) ≡ ended_as b →
         (local s log c).phase ≢ Outside → (local s log c).committed ≡ b
     inside false is live = (sound s log core c).goes live
     inside true is live =
-        absurd (either (own_status s log core c
-        ((callers_in_range s log c core).1 ((sound s log core c).number some)).0 live))
-      where
-        either : (word s log (StatusWord (own_attempt s (local s log c))) ≡ given (local s log c).phase)
-            ⊎ (word s log (StatusWord (own_attempt s (local s log c))) ≡ 5) → ⊥
-        either (inl g) = let less = below_4 (local s log c).phase in omega (arith, is, g, less)
-        either (inr g) = omega (arith, is, g)
-
-    by : ((local s log c).phase ≡ Outside) ⊎ ((local s log c).phase ≢ Outside) → (local s log c).committed ≡ b
-    by (inl out) = one_end (local s log c).committed b (sym (end_stays s log c out some [] core) ∙ is)
-    by (inr live) = inside b is live
+        absurd (elim (own_status s log core c ((callers_in_range s log c core).1 ((sound s log core c).number some)).0
+        live) [
+          | inl g ↦ let less = below_4 (local s log c).phase in omega (arith, is, g, less)
+          | inr g ↦ omega (arith, is, g)
+        ])
 
 -- the next attempt is of a new transaction once one has committed, and of the same one once it was aborted
 pub new_committed : {L : Type 0} (n : Called L) → Core (shape_of n) n.log → StaysAt (shape_of n) n.log n.number 4 →

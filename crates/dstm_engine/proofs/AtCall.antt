@@ -1,15 +1,13 @@
 -- A call of a caller as its answers see it.
-use Rattle.std.proofs.Common.{◌∙◌, ◌≡◌, List, Option, ap, sym}
-use Rattle.dstm_steps.proofs.Stepping.{began_as}
-use Rattle.dstm_steps.specs.Under.{InTask, now}
+use Rattle.std.proofs.Common.{◌∙◌, ◌≡◌, List, Option, ap, subst, sym}
+use Rattle.dstm_steps.specs.Under.{now}
 use Rattle.dstm_steps.specs.declared.steps.Steps.{Steps}
+use Rattle.dstm_core.specs.State.{LocalState}
 use Rattle.dstm_model.specs.declared.value.Val.{Val}
-use Rattle.dstm_order.specs.Order.Due.{Done}
 use Rattle.dstm_order.specs.Tasks.{Task}
 use Rattle.dstm_order.specs.declared.again.Again.{Again}
-use Rattle.dstm_words.specs.Seats.{Home, number_or, view_of}
-use Rattle.dstm_engine.proofs.Tying.{ends_here, live_there, now_there, renewed}
-use Rattle.dstm_engine.specs.Began.{began_of}
+use Rattle.dstm_words.specs.Seats.{Home}
+use Rattle.dstm_engine.proofs.Tying.{EndsAt, EndsHere, ends_here, live_there, now_there, renewed}
 use Rattle.dstm_engine.specs.Callers.{Called, is_live, state}
 use Rattle.dstm_engine.specs.Mirror.{Tied, called}
 use Rattle.dstm_engine.specs.declared.caller.Caller.TheInside.{Inside}
@@ -41,8 +39,11 @@ module _ {L : Type 0} {holds : L → List Val → Type 0} {c : Inside L} {k : Ca
   pub state_at : now words steps ≡ state (called c)
   state_at = now_there at.tied at.home at.begun
 
+  -- what holds of the words' table and of the state that its steps know holds of the caller's
+  pub at_home : (P : Home L → LocalState → Type 0) → P words (now words steps) → P (called c).home (state (called c))
+  at_home P x = subst (λ h. P h (state (called c))) (sym at.home) (subst (P words) state_at x)
+
   -- the end of the call
   pub ends_at : {task : Task} {new : Steps L} {again : Option Again} →
-      InTask holds words task (began_as words task (number_or (view_of steps.seat).number 0) steps) new Done again →
-      InTask holds (called c).home task (began_of task (called c)) new Done again
+      EndsAt holds words steps task new again → EndsHere holds c task new again
   ends_at u = ends_here at.tied at.home at.begun u

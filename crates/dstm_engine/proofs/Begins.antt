@@ -1,21 +1,20 @@
 -- A caller after it was to begin an attempt.
-use Rattle.std.proofs.Common.{◌++◌, ◌+◌, ◌<◌, ◌==◌, ◌≤◌, ◌∙◌, ◌∷◌, ◌≡◌, ◌⊎◌, Bool, List, None, [], ap, arith, false, inl, inr, length, not, refl, subst, sym, true, ℕ}
+use Rattle.std.proofs.Common.{◌++◌, ◌+◌, ◌<◌, ◌==◌, ◌≤◌, ◌∙◌, ◌∷◌, ◌≡◌, Bool, List, None, [], ap, arith, false, inl, inr, length, not, refl, subst, sym, true, ℕ}
 use Rattle.std.specs.Prelude.{IfSome, is_some}
 use Rattle.std.specs.declared.snapshot.Snapshot.{Snapshot}
 use Rattle.std.proofs.lemmas.Bool.{cases_Bool, eq-eqb}
 use Rattle.std.proofs.lemmas.List.Elements.{All-nil}
 use Rattle.dstm_opacity.proofs.Stays.{call_adds_none}
 use Rattle.dstm_opacity.specs.Committed.{done_by}
-use Rattle.dstm_steps.proofs.Stepping.{began_as}
 use Rattle.dstm_steps.specs.Reads.{words_of}
-use Rattle.dstm_steps.specs.Under.{InTask, now}
+use Rattle.dstm_steps.specs.Under.{now}
 use Rattle.dstm_steps.specs.Writes.{AreWrites}
 use Rattle.dstm_steps.specs.declared.steps.Steps.{Steps}
 use Rattle.dstm_core.proofs.Stamps.{standing}
 use Rattle.dstm_core.specs.Events.{Event}
 use Rattle.dstm_core.specs.Rules.{begin}
-use Rattle.dstm_core.specs.Runs.{Core, local}
-use Rattle.dstm_core.specs.Histories.{entry_of, old_values, read_values}
+use Rattle.dstm_core.specs.Runs.{Core}
+use Rattle.dstm_core.specs.Histories.{entry_of}
 use Rattle.dstm_core.specs.State.{LocalState, write_of}
 use Rattle.dstm_core.specs.Traces.{events_of}
 use Rattle.dstm_core.specs.declared.state.Phase.TheVariants.{Running}
@@ -27,20 +26,18 @@ use Rattle.dstm_model.specs.declared.value.Val.{Val}
 use Rattle.dstm_order.specs.Calls.{newest_of}
 use Rattle.dstm_order.specs.Efforts.{Effort}
 use Rattle.dstm_order.specs.Order.{has_begun, is_spent}
-use Rattle.dstm_order.specs.Order.Due.{Done}
 use Rattle.dstm_order.specs.Tasks.Task.{Beginning}
 use Rattle.dstm_progress.proofs.Own.{newest_own}
 use Rattle.dstm_progress.specs.Alone.{Made}
-use Rattle.dstm_words.specs.Seats.{Home, number_or, view_of}
-use Rattle.dstm_engine.proofs.AtCall.{AtCall, ends_at, state_at}
+use Rattle.dstm_words.specs.Seats.{Home, view_of}
+use Rattle.dstm_engine.proofs.AtCall.{AtCall, at_home, ends_at}
 use Rattle.dstm_engine.proofs.Calling.{performs}
 use Rattle.dstm_engine.proofs.Continuing.{kept_most}
 use Rattle.dstm_engine.proofs.Leaving.{not_made}
 use Rattle.dstm_engine.proofs.Locators.{unspent_enough}
 use Rattle.dstm_engine.proofs.Starting.{Ended, beginning_none, beginning_still, ended_is, ends_with_begin}
-use Rattle.dstm_engine.proofs.Tying.{mirror_then, renewed, state_then}
+use Rattle.dstm_engine.proofs.Tying.{EndsAt, EndsHere, mirror_then, olds_in, reads_in, renewed, state_logged, state_then}
 use Rattle.dstm_engine.specs.Attempts.{done}
-use Rattle.dstm_engine.specs.Began.{began_of}
 use Rattle.dstm_engine.specs.Beginnings.{ended}
 use Rattle.dstm_engine.specs.Callers.{Called, begun_log, held, is_running, state}
 use Rattle.dstm_engine.specs.Calls.{IsMade, IsTold}
@@ -60,8 +57,8 @@ at_begin_of c log (e ∷ es) rest begins top own =
     subst (λ xs. xs ≡ begun_log c xs) (sym top.1) (rw (mine, begins) refl)
 
 module _ {L : Type 0} {holds : L → List Val → Type 0} {c : Inside L} (v : Tied holds c) {new : Steps L}
-    (u : InTask holds (called c).home (Beginning c.fresh) (began_of (Beginning c.fresh) (called c)) new Done None) where
-  st : local c.terms.shape (view_of new.seat).log c.number ≡ now (called c).home new
+    (u : EndsHere holds c (Beginning c.fresh) new None) where
+  st : state_logged c new ≡ now (called c).home new
   st = state_then c u
 
   e : Ended (state (called c)) (ended c.live (state (called c)))
@@ -88,35 +85,30 @@ module _ {L : Type 0} {holds : L → List Val → Type 0} {c : Inside L} (v : Ti
 
   module _ (is : now (called c).home new ≡ ended c.live (state (called c)))
       (idle : c.live ≡ false → new ≡ renewed c.steps) where
-    ends : Ended (state (called c)) (local c.terms.shape (view_of new.seat).log c.number)
+    ends : Ended (state (called c)) (state_logged c new)
     ends = subst (Ended (state (called c))) (sym (st ∙ is)) e
 
     told_then : IsMade (called (record c { steps = new; live = false })) →
         IsTold (called (record c { steps = new; live = false }))
-    told_then = by (cases_Bool c.live)
-      where
-        by : (c.live ≡ true) ⊎ (c.live ≡ false) → IsMade (called (record c { steps = new; live = false })) →
-            IsTold (called (record c { steps = new; live = false }))
-        by (inl live) made =
-            absurd (not_made (called (record c { steps = new; live = false })) (ap is_running ends.outside) (v.left live)
-            (ends.committed ∙ v.uncommitted live) made)
-        by (inr dead) made =
-            (subst (λ (x : Steps L). IsMade (called (record c { steps = x })) → IsTold (called (record c { steps = x })))
-            (sym (idle dead)) v.told) made
+    told_then made = elim (cases_Bool c.live) [
+      | inl live ↦
+          absurd (not_made (called (record c { steps = new; live = false })) (ap is_running ends.outside) (v.left live)
+          (ends.committed ∙ v.uncommitted live) made)
+      | inr dead ↦
+          (subst (λ (x : Steps L). IsMade (called (record c { steps = x })) → IsTold (called (record c { steps = x })))
+          (sym (idle dead)) v.told) made
+    ]
 
     ended_then : IfSome c.left (λ again. IsLeft (called (record c { steps = new; live = false })) again
         × Promises (called (record c { steps = new; live = false })) again)
-    ended_then = by (cases_Bool c.live)
-      where
-        by : (c.live ≡ true) ⊎ (c.live ≡ false) →
-            IfSome c.left (λ again. IsLeft (called (record c { steps = new; live = false })) again
-            × Promises (called (record c { steps = new; live = false })) again)
-        by (inl live) =
-            subst (λ left. IfSome left (λ again. IsLeft (record (called (record c { steps = new })) { left = left }) again
-            × Promises (record (called (record c { steps = new })) { left = left }) again)) (sym (v.left live)) tt
-        by (inr dead) =
-            subst (λ (x : Steps L). IfSome c.left (λ again. IsLeft (called (record c { steps = x })) again
-            × Promises (called (record c { steps = x })) again)) (sym (idle dead)) v.ended
+    ended_then = elim (cases_Bool c.live) [
+      | inl live ↦
+          subst (λ left. IfSome left (λ again. IsLeft (record (called (record c { steps = new })) { left = left }) again
+          × Promises (record (called (record c { steps = new })) { left = left }) again)) (sym (v.left live)) tt
+      | inr dead ↦
+          subst (λ (x : Steps L). IfSome c.left (λ again. IsLeft (called (record c { steps = x })) again
+          × Promises (called (record c { steps = x })) again)) (sym (idle dead)) v.ended
+    ]
 
     pub spent_tied : Tied holds (record c { steps = new; live = false })
     spent_tied = record {
@@ -237,10 +229,10 @@ module _ {L : Type 0} {holds : L → List Val → Type 0} {c : Inside L} (v : Ti
           (ap (λ (l : LocalState). (entry_of c.terms.shape c.terms.start.value.items (view_of new.seat).log l).reads)
           is_begun));
       reads = λ h. ap (λ (l : LocalState). words_of l.reads) is_begun;
-      values = λ h. ap (λ (l : LocalState). read_values c.terms.shape c.terms.start.value.items (view_of new.seat).log
+      values = λ h. ap (λ (l : LocalState). reads_in c (view_of new.seat).log
           l.reads) is_begun;
       writes = λ h. subst (λ (l : LocalState). AreWrites [] l.writes) (sym is_begun) tt;
-      olds = λ h. ap (λ (l : LocalState). old_values c.terms.shape c.terms.start.value.items (view_of new.seat).log
+      olds = λ h. ap (λ (l : LocalState). olds_in c (view_of new.seat).log
           l.writes) is_begun;
       objects = v.objects;
       locators = λ h. subst (λ (l : LocalState). l.installed + c.terms.shape.objects
@@ -300,31 +292,24 @@ begun_with c new began live opened = record c {
 }
 
 module _ {L : Type 0} {holds : L → List Val → Type 0} {c : Inside L} {k : Called L} {words : Home L} {steps : Steps L}
-    (at : AtCall holds c k words steps) {new : Steps L} (over : InTask holds words (Beginning c.fresh)
-    (began_as words (Beginning c.fresh) (number_or (view_of steps.seat).number 0) steps) new Done None) (spent : Bool)
+    (at : AtCall holds c k words steps) {new : Steps L} (over : EndsAt holds words steps (Beginning c.fresh) new None) (spent : Bool)
     (told : is_spent c.terms.shape (state (called c)) ≡ spent) where
-  done_there : InTask holds (called c).home (Beginning c.fresh) (began_of (Beginning c.fresh) (called c)) new Done None
+  done_there : EndsHere holds c (Beginning c.fresh) new None
   done_there = ends_at at over
 
   module _ (yes : spent ≡ true) (is : spent ≡ true → now words new ≡ ended c.live (now words steps))
       (idle : c.live ≡ false → spent ≡ true → new ≡ steps) where
     quit : now (called c).home new ≡ ended c.live (state (called c))
-    quit =
-        subst (λ (h : Home L). now h new ≡ ended c.live (state (called c))) (sym at.home)
-        (is yes ∙ ap (ended c.live) (state_at at))
+    quit = at_home at (λ h l. now h new ≡ ended c.live l) (is yes)
 
     still : c.live ≡ false → new ≡ renewed c.steps
     still dead = idle dead yes ∙ at.begun
 
     pub spent_caller : Tied holds (record c { steps = new; live = not spent })
-    spent_caller =
-        subst (λ b. Tied holds (record c { steps = new; live = not b })) (sym yes)
-        (spent_tied at.tied done_there quit still)
+    spent_caller = rw yes (spent_tied at.tied done_there quit still)
 
     pub spends : SpentFrom holds k (called (record c { steps = new; live = false }))
-    spends =
-        subst (λ (k : Called L). SpentFrom holds k (called (record c { steps = new; live = false }))) at.view
-        (spent_from at.tied done_there quit still (told ∙ yes))
+    spends = rw (← at.view) (spent_from at.tied done_there quit still (told ∙ yes))
 
   module _ (no : spent ≡ false) (is : spent ≡ false → now words new ≡ begin (record (ended c.live (now words steps)) {
     rank = new.rank;
@@ -336,25 +321,16 @@ module _ {L : Type 0} {holds : L → List Val → Type 0} {c : Inside L} {k : Ca
       stands = (now (called c).home new).stands;
     })
     next =
-        subst (λ (h : Home L). now h new ≡ begin (record (ended c.live (state (called c))) {
+        at_home at (λ h l. now h new ≡ begin (record (ended c.live l) {
           rank = new.rank;
           stands = (now h new).stands;
-        })) (sym at.home) (is no ∙ ap (λ (l : LocalState). begin (record (ended c.live l) {
-          rank = new.rank;
-          stands = (now words new).stands;
-        })) (state_at at))
+        })) (is no)
 
     same : began.value ≡ c.steps.decider
     same = took ∙ ap (λ (s : Steps L). s.decider) at.begun
 
     pub begun_caller : Tied holds (begun_with c new began (not spent) opened)
-    begun_caller =
-        subst (λ b. Tied holds (begun_with c new began (not b) opened)) (sym no)
-        (subst (λ (o : OpenedAs). Tied holds (begun_with c new began true o)) (sym cleared)
-        (anew_tied at.tied done_there began same next (told ∙ no)))
+    begun_caller = rw (no, cleared) (anew_tied at.tied done_there began same next (told ∙ no))
 
     pub begins : BeginsAnew holds k (called (begun_with c new began true opened))
-    begins =
-        subst (λ (k : Called L). BeginsAnew holds k (called (begun_with c new began true opened))) at.view
-        (subst (λ (o : OpenedAs). BeginsAnew holds (called c) (called (begun_with c new began true o))) (sym cleared)
-        (begins_anew at.tied done_there began same next (told ∙ no)))
+    begins = rw (← at.view, cleared) (begins_anew at.tied done_there began same next (told ∙ no))

@@ -21,27 +21,28 @@ is_one k is q = cc
 pub begun_there : (s : Shape) (c : ℕ) (log : List Event) →
     (local s log c).begun ≡ (local s (begun_log c log) c).begun
 begun_there s c [] = refl
-begun_there s c (e ∷ log) = by (cases_eq e.caller c) (cases_Bool (is_begin e.kind)) (begun_there s c log)
-  where
-    by : (e.caller ≡ c) ⊎ (e.caller ≡ c → ⊥) → (is_begin e.kind ≡ true) ⊎ (is_begin e.kind ≡ false) →
-        (local s log c).begun ≡ (local s (begun_log c log) c).begun →
-        (local s (e ∷ log) c).begun ≡ (local s (begun_log c (e ∷ log)) c).begun
-    by (inl own) (inl begins) ih =
-        ap (λ (l : List Event). (local s l c).begun)
-        (sym (cond-true ((e.caller == c) && is_begin e.kind) (e ∷ log) (begun_log c log)
-        (rw (eq-eqb e.caller c own, begins) refl)))
-    by (inl own) (inr other) ih =
-        ap (λ (l : LocalState). l.begun) (ap (local s (e ∷ log)) (sym own) ∙ local_own s log e)
-        ∙ no_begin s (local s log e.caller) e e.kind (is_one e.kind other)
-        ∙ ap (λ (n : ℕ). (local s log n).begun) own ∙ ih
-        ∙ ap (λ (l : List Event). (local s l c).begun)
-        (sym (cond-false ((e.caller == c) && is_begin e.kind) (e ∷ log) (begun_log c log)
-        (rw (eq-eqb e.caller c own, other) refl)))
-    by (inr another) kind ih =
-        ap (λ (l : LocalState). l.begun) (local_other s log e c another) ∙ ih
-        ∙ ap (λ (l : List Event). (local s l c).begun)
-        (sym (cond-false ((e.caller == c) && is_begin e.kind) (e ∷ log) (begun_log c log)
-        (rw (ne_eqb e.caller c another) refl)))
+begun_there s c (e ∷ log) =
+    let ih = begun_there s c log in
+    elim (cases_eq e.caller c) [
+      | inl own ↦ elim (cases_Bool (is_begin e.kind)) [
+        | inl begins ↦
+            ap (λ (l : List Event). (local s l c).begun)
+            (sym (cond-true ((e.caller == c) && is_begin e.kind) (e ∷ log) (begun_log c log)
+            (rw (eq-eqb e.caller c own, begins) refl)))
+        | inr other ↦
+            ap (λ (l : LocalState). l.begun) (ap (local s (e ∷ log)) (sym own) ∙ local_own s log e)
+            ∙ no_begin s (local s log e.caller) e e.kind (is_one e.kind other)
+            ∙ ap (λ (n : ℕ). (local s log n).begun) own ∙ ih
+            ∙ ap (λ (l : List Event). (local s l c).begun)
+            (sym (cond-false ((e.caller == c) && is_begin e.kind) (e ∷ log) (begun_log c log)
+            (rw (eq-eqb e.caller c own, other) refl)))
+      ]
+      | inr another ↦
+          ap (λ (l : LocalState). l.begun) (local_other s log e c another) ∙ ih
+          ∙ ap (λ (l : List Event). (local s l c).begun)
+          (sym (cond-false ((e.caller == c) && is_begin e.kind) (e ∷ log) (begun_log c log)
+          (rw (ne_eqb e.caller c another) refl)))
+    ]
 
 -- what was counted of an attempt stays in a longer log
 pub count_later : (test : Shape → LocalState → Event → Bool) (s : Shape) (later before : List Event) (c i : ℕ) →

@@ -3,7 +3,7 @@ use Rattle.std.proofs.Common.{◌<◌, ◌∙◌, ◌∷◌, ◌≡◌, List, No
 use Rattle.std.specs.Prelude.{Bool, IfSome}
 use Rattle.dstm_opacity.specs.Committed.{attempt_of, done_by}
 use Rattle.dstm_steps.proofs.Stepping.{call_of}
-use Rattle.dstm_steps.specs.Under.{InTask, now}
+use Rattle.dstm_steps.specs.Under.{now}
 use Rattle.dstm_steps.specs.declared.steps.Steps.{Steps}
 use Rattle.dstm_progress.proofs.Adding.{is_added}
 use Rattle.dstm_progress.proofs.Committing.{commit_ends}
@@ -17,7 +17,6 @@ use Rattle.dstm_core.specs.State.{LocalState, or_zero}
 use Rattle.dstm_core.specs.declared.state.Phase.TheVariants.{Outside}
 use Rattle.dstm_mem.specs.Memory.{value_in}
 use Rattle.dstm_model.specs.declared.value.Val.{Val}
-use Rattle.dstm_order.specs.Order.Due.{Done}
 use Rattle.dstm_order.specs.Tasks.{Work}
 use Rattle.dstm_order.specs.Tasks.Task.{Doing}
 use Rattle.dstm_order.specs.Tasks.Work.{Committing}
@@ -34,9 +33,8 @@ use Rattle.dstm_engine.proofs.Plain.{are_plain, is_closed}
 use Rattle.dstm_engine.proofs.PutValues.{commit_puts, given_in, given_values}
 use Rattle.dstm_engine.proofs.Rechecked.{plain_misses}
 use Rattle.dstm_engine.proofs.Steady.{held_same, same_generator, same_there}
-use Rattle.dstm_engine.proofs.Tying.{live_there, state_then}
+use Rattle.dstm_engine.proofs.Tying.{EndsHere, live_there, state_then}
 use Rattle.dstm_engine.specs.Attempts.{Commits, done}
-use Rattle.dstm_engine.specs.Began.{began_of}
 use Rattle.dstm_engine.specs.Callers.{Called, begun_log, handed, is_opened, is_running, new_value, shape_of, state}
 use Rattle.dstm_engine.specs.Calls.{IsTold, Performs}
 use Rattle.dstm_engine.specs.Mirror.{Tied, called, phase_by}
@@ -55,9 +53,16 @@ closed_stays {k = k} {work = work} closed p = record {
       omega arith;
 }
 
+-- the attempt has committed
+pub record IsCommitted {L : Type 0} (holds : L → List Val → Type 0) (k n : Called L) (number : ℕ) : Type 0 where
+  pub stays : Stays holds (Committing (new_value k)) k n
+  pub committed : Commits k n number
+  pub kept : n ≡ record k { log = n.log; left = None; fresh = true }
+  pub attempt : begun_log n.number n.log ≡ begun_log k.number k.log
+  pub ended : IsEnded n
+
 module _ {L : Type 0} {holds : L → List Val → Type 0} {c : Inside L} (v : Tied holds c) (live : c.live ≡ true)
-    {new : Steps L} (u : InTask holds (called c).home (Doing (Committing (new_value (called c))))
-    (began_of (Doing (Committing (new_value (called c)))) (called c)) new Done None) where
+    {new : Steps L} (u : EndsHere holds c (Doing (Committing (new_value (called c)))) new None) where
   abbrev pub committed_as : Inside L
   committed_as = record c { steps = new; live = false; fresh = true }
 
@@ -66,20 +71,6 @@ module _ {L : Type 0} {holds : L → List Val → Type 0} {c : Inside L} (v : Ti
 
   steps : Performs holds (Doing (Committing (new_value (called c)))) (called c) (called committed_as) None
   steps = performed v live u (called committed_as) refl refl refl refl
-
-  pub committed_stays : Stays holds (Committing (new_value (called c))) (called c) (called committed_as)
-  committed_stays = closed_stays refl steps
-
-  pub committed_attempt : begun_log c.number (view_of new.seat).log ≡ begun_log c.number (called c).log
-  committed_attempt = doing_keeps steps
-
-  pub committed_kept : called committed_as
-      ≡ record (called c) { log = (view_of new.seat).log; left = None; fresh = true }
-  committed_kept =
-      ap (λ t. record (called committed_as) { home = record { table = t; terms = c.terms } }) u.seat.0
-      ∙ ap (λ g. record (called c) { log = (view_of new.seat).log; generator = g; fresh = true })
-      (same_generator v live refl u)
-      ∙ ap (λ left. record (called c) { log = (view_of new.seat).log; left = left; fresh = true }) (v.left live)
 
   ends : ((state (called committed_as)).phase ≡ Outside) × ((state (called committed_as)).committed ≡ true)
       × StaysAt c.terms.shape (view_of new.seat).log c.number (code_of status.Committed)
@@ -91,25 +82,13 @@ module _ {L : Type 0} {holds : L → List Val → Type 0} {c : Inside L} (v : Ti
   told {left = left} none =
       told_more (told_there v live u) (performed v live u
       (record (called committed_as) { left = left }) refl refl refl refl) (current_there v live u).live
-      committed_attempt refl none (λ _. tt)
+      (doing_keeps steps) refl none (λ _. tt)
       (let over = kept_over (record (called committed_as) { left = left }) (ap is_running ends.0) in omega arith)
 
   pub committed_tied : Tied holds committed_as
   committed_tied =
       subst (λ left. Tied holds (record committed_as { left = left })) (sym (v.left live))
-      (over_tied v live u c.last_number true ends.0 (λ h. absurd (cc h)) tt (told refl))
-
-  pub committed_ended : IsEnded (called committed_as)
-  committed_ended = record {
-    told = told (v.left live);
-    left =
-        subst (λ left. IfSome left (λ again. IsLeft (record (called committed_as) { left = left }) again
-        × Promises (record (called committed_as) { left = left }) again)) (sym (v.left live)) tt;
-    bounded = λ none.
-        bounded (told (v.left live)) u.run.run.core (has_begin (called committed_as)
-        (subst (λ n. 0 < n) (sym (begun_there v live u))
-        (begun_of (called c) v.run (sym (live_there v) ∙ live)))) alone_is_bounded prices_by_count;
-  }
+      (over_tied v live u c.last_number true c.opened refl ends.0 (λ h. absurd (cc h)) tt (told refl))
 
   -- the new values are those last set, or the old ones
   new_are : new_values c.terms.shape (view_of new.seat).log (state (called committed_as)).writes
@@ -135,11 +114,11 @@ module _ {L : Type 0} {holds : L → List Val → Type 0} {c : Inside L} (v : Ti
       by true q = handed_value v live o q
       by false q = refl
 
-  pub commits : (number : ℕ) → (now (called c).home new).drawn ≡ Some number →
+  commits : (number : ℕ) → (now (called c).home new).drawn ≡ Some number →
       Commits (called c) (called committed_as) number
   commits number drawn = record {
     seen = u.seen;
-    attempt = committed_attempt;
+    attempt = doing_keeps steps;
     over = ap is_running ends.0;
     status = ends.2;
     entry = entry_of c.terms.shape c.terms.start.value.items (view_of new.seat).log (state (called committed_as));
@@ -160,4 +139,27 @@ module _ {L : Type 0} {holds : L → List Val → Type 0} {c : Inside L} (v : Ti
     reads = λ o. held_same v live refl u o;
     writes = written_then;
     only = λ o. unwritten v live o;
+  }
+
+  pub is_committed : (number : ℕ) → (now (called c).home new).drawn ≡ Some number →
+      IsCommitted holds (called c) (called committed_as) number
+  is_committed number drawn = record {
+    stays = closed_stays refl steps;
+    committed = commits number drawn;
+    kept =
+        ap (λ t. record (called committed_as) { home = record { table = t; terms = c.terms } }) u.seat.0
+        ∙ ap (λ g. record (called c) { log = (view_of new.seat).log; generator = g; fresh = true })
+        (same_generator v live refl u)
+        ∙ ap (λ left. record (called c) { log = (view_of new.seat).log; left = left; fresh = true }) (v.left live);
+    attempt = doing_keeps steps;
+    ended = record {
+      told = told (v.left live);
+      left =
+          subst (λ left. IfSome left (λ again. IsLeft (record (called committed_as) { left = left }) again
+          × Promises (record (called committed_as) { left = left }) again)) (sym (v.left live)) tt;
+      bounded = λ none.
+          bounded (told (v.left live)) u.run.run.core (has_begin (called committed_as)
+          (subst (λ n. 0 < n) (sym (begun_there v live u))
+          (begun_of (called c) v.run (sym (live_there v) ∙ live)))) alone_is_bounded prices_by_count;
+    };
   }

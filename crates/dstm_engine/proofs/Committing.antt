@@ -1,5 +1,5 @@
 -- What a caller commits.
-use Rattle.std.proofs.Common.{◌*◌, ◌+◌, ◌++◌, ◌-◌, ◌<◌, ◌==◌, ◌^◌, ◌∙◌, ◌∷◌, ◌≡◌, ◌≢◌, ◌≤◌, ◌⊎◌, Bool, List, None, Option, Some, [], ap, arith, cond, false, inl, inr, length, map, ne_eqb, refl, subst, suc, sym, true, zero, ℕ}
+use Rattle.std.proofs.Common.{◌*◌, ◌+◌, ◌++◌, ◌-◌, ◌<◌, ◌==◌, ◌^◌, ◌∙◌, ◌∷◌, ◌≡◌, ◌≢◌, ◌≤◌, Bool, List, None, Option, Some, [], ap, arith, cond, false, inl, inr, length, map, ne_eqb, refl, subst, suc, sym, true, zero, ℕ}
 use Rattle.std.specs.Option.{option_or}
 use Rattle.std.specs.Prelude.{All, is_some, slice_index_or, unwrap_or}
 use Rattle.std.proofs.lemmas.Bool.{cases_Bool, eq-eqb, eqb-true}
@@ -12,7 +12,7 @@ use Rattle.dstm_steps.specs.declared.slots.WriteSlot.{WriteSlot}
 use Rattle.dstm_steps.specs.declared.steps.Steps.{Steps}
 use Rattle.dstm_core.proofs.Static.{static}
 use Rattle.dstm_core.specs.Events.{Event}
-use Rattle.dstm_core.specs.Histories.{entry_of, old_values, read_values, seen}
+use Rattle.dstm_core.specs.Histories.{entry_of, read_values, seen}
 use Rattle.dstm_core.specs.Rules.{is_outside}
 use Rattle.dstm_core.specs.State.{LocalState, write_of}
 use Rattle.dstm_core.specs.declared.shape.Shape.{Shape}
@@ -31,7 +31,7 @@ use Rattle.dstm_engine.proofs.Holding.{old_there}
 use Rattle.dstm_engine.proofs.Opens.{none_of, unset, writes_length}
 use Rattle.dstm_engine.proofs.Setting.{opened_slot, with_new_apart}
 use Rattle.dstm_mem.proofs.Settling.{agrees_held, writes_same}
-use Rattle.dstm_engine.proofs.Tying.{now_there, renewed, starts_there}
+use Rattle.dstm_engine.proofs.Tying.{now_there, olds_in, renewed, starts_there}
 use Rattle.dstm_engine.specs.Attempts.{Admits}
 use Rattle.dstm_engine.specs.Callers.{handed, held, is_opened, law_of, new_value, state, written}
 use Rattle.dstm_engine.specs.Mirror.{Tied, called, phase_by, set_pairs, slot_old, with_new}
@@ -64,33 +64,28 @@ slots_once (w ∷ ws) [] h o = absurd h
 
 slot_apart : (w : WriteSlot) (ws : List WriteSlot) (o : ℕ) → write_slot (w ∷ ws) o ≡ None →
     (w.object == o ≡ false) × (write_slot ws o ≡ None)
-slot_apart w ws o h = go (cases_Bool (w.object == o))
-  where
-    go : (w.object == o ≡ true) ⊎ (w.object == o ≡ false) → (w.object == o ≡ false) × (write_slot ws o ≡ None)
-    go (inl q) = absurd (let z : Some w ≡ None = rw q at h in cc)
-    go (inr q) = (q, rw q at h)
+slot_apart w ws o h = elim (cases_Bool (w.object == o)) [
+  | inl q ↦ absurd (let z : Some w ≡ None = rw q at h in cc)
+  | inr q ↦ (q, rw q at h)
+]
 
 -- what is put into an object is what is set for it, or its old value
 puts_in : (ws : List WriteSlot) (o : ℕ) → SlotsOnce ws →
     value_in (puts_of ws) o
     ≡ cond (is_some (write_slot ws o)) (option_or (value_in (set_pairs ws) o) (value_in (map slot_old ws) o)) None
 puts_in [] o h = refl
-puts_in (w ∷ ws) o h = go (cases_Bool (w.object == o)) (puts_in ws o h.1)
+puts_in (w ∷ ws) o h = elim (cases_Bool (w.object == o)) [
+  | inl q ↦ rw q (head w.new q (ap (write_slot ws) (sym (eqb-true w.object o q)) ∙ h.0))
+  | inr q ↦
+      rw q (puts_in ws o h.1 ∙ ap
+      (λ x. cond (is_some (write_slot ws o)) (option_or x (value_in (map slot_old ws) o)) None)
+      (sym (with_new_apart w.object o w.new (set_pairs ws) q)))
+]
   where
     head : (new : Option Val) → w.object == o ≡ true → write_slot ws o ≡ None →
         Some (or_old new w.old) ≡ option_or (value_in (with_new w.object new (set_pairs ws)) o) (Some w.old)
     head None q none = rw (unset ws o none) refl
     head (Some x) q none = rw q refl
-
-    go : (w.object == o ≡ true) ⊎ (w.object == o ≡ false) →
-        value_in (puts_of ws) o
-        ≡ cond (is_some (write_slot ws o)) (option_or (value_in (set_pairs ws) o) (value_in (map slot_old ws) o)) None →
-        value_in (puts_of (w ∷ ws)) o ≡ cond (is_some (write_slot (w ∷ ws) o))
-        (option_or (value_in (set_pairs (w ∷ ws)) o) (value_in (map slot_old (w ∷ ws)) o)) None
-    go (inl q) ih = rw q (head w.new q (ap (write_slot ws) (sym (eqb-true w.object o q)) ∙ h.0))
-    go (inr q) ih =
-        rw q (ih ∙ ap (λ x. cond (is_some (write_slot ws o)) (option_or x (value_in (map slot_old ws) o)) None)
-        (sym (with_new_apart w.object o w.new (set_pairs ws) q)))
 
 -- the slot at a place is the first of its object
 slot_other : (ws : List WriteSlot) (o k : ℕ) (d : WriteSlot) → write_slot ws o ≡ None → k < length ws →
@@ -113,15 +108,10 @@ apart_values : (s : Shape) (start : List Val) (run : List Event) (ws : List Writ
     (o : ℕ) → Apart ws rs → is_some (write_of o ws) ≡ true →
     value_in (read_values s start run rs ++ ys) o ≡ value_in ys o
 apart_values s start run ws [] ys o h some = refl
-apart_values s start run ws (r ∷ rs) ys o h some =
-    go (cases_Bool (r.object == o)) (apart_values s start run ws rs ys o h.1 some)
-  where
-    go : (r.object == o ≡ true) ⊎ (r.object == o ≡ false) →
-        value_in (read_values s start run rs ++ ys) o ≡ value_in ys o →
-        value_in (read_values s start run (r ∷ rs) ++ ys) o ≡ value_in ys o
-    go (inl q) ih =
-        absurd (let z = ap (λ n. is_some (write_of n ws)) (eqb-true r.object o q) in let y = ap is_some h.0 in cc)
-    go (inr q) ih = rw q ih
+apart_values s start run ws (r ∷ rs) ys o h some = elim (cases_Bool (r.object == o)) [
+  | inl q ↦ absurd (let z = ap (λ n. is_some (write_of n ws)) (eqb-true r.object o q) in let y = ap is_some h.0 in cc)
+  | inr q ↦ rw q (apart_values s start run ws rs ys o h.1 some)
+]
 
 unwrap_some : (x : Option Val) → is_some x ≡ true → Some (unwrap_or x no_value) ≡ x
 unwrap_some None h = absurd (cc)
@@ -141,8 +131,7 @@ module _ {L : Type 0} {holds : L → List Val → Type 0} {c : Inside L} (v : Ti
   held_old : (o : ℕ) → is_opened (called c) o ≡ true → held (called c) o ≡ value_in (map slot_old c.opened.writes) o
   held_old o opens =
       apart_values c.terms.shape c.terms.start.value.items (called c).log (state (called c)).writes
-      (state (called c)).reads
-      (old_values c.terms.shape c.terms.start.value.items (called c).log (state (called c)).writes) o
+      (state (called c)).reads (olds_in c (called c).log (state (called c)).writes) o
       (tidy c.terms.shape (called c).log v.run.run.core c.number).apart opens
       ∙ ap (λ ws. value_in ws o) (v.olds live)
 

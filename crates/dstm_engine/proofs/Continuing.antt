@@ -61,21 +61,16 @@ makes_step work s l g (e ∷ es) live call = omega arith
 
 module _ (o : ℕ) (s : Shape) (l : LocalState) (g : Lcg) (live : l.phase ≢ Outside) (agreed : l.stale ≡ false) where
   inside : is_outside l.phase ≡ false
-  inside = by (cases_Bool (is_outside l.phase))
-    where
-      by : (is_outside l.phase ≡ true) ⊎ (is_outside l.phase ≡ false) → is_outside l.phase ≡ false
-      by (inl q) = absurd (live (outside_is l.phase q))
-      by (inr q) = q
+  inside = elim (cases_Bool (is_outside l.phase)) [
+    | inl q ↦ absurd (live (outside_is l.phase q))
+    | inr q ↦ q
+  ]
 
   release_due : due_after (Doing (Releasing o)) s l g [] ≡ Step Release o
   release_due = rw (inside, agreed) refl
 
   nothing_then : (e : Event) → e.kind ≡ Release → due_after (Doing (Releasing o)) s l g (e ∷ []) ≡ Done
-  nothing_then e is =
-      subst (λ (k : Kind). (if is_outside (after k s l e).phase then Done
-      else if (after k s l e).stale || ((effort_after k s.manager l (no_effort g) e).missed == MAX_MISSED) then just Quit
-      else next k e (Releasing o) s.manager (after k s l e) (effort_after k s.manager l (no_effort g) e)) ≡ Done) (sym is)
-      (rw (inside, agreed) refl)
+  nothing_then e is = rw is (rw (inside, agreed) refl)
 
   one_release : (e : Event) (es : List Event) → Obeys (Doing (Releasing o)) s l g (e ∷ es) →
       (es ≡ []) × (e.kind ≡ Release)
@@ -191,7 +186,13 @@ doing_more : (s : Shape) (work : Work) (gen : Lcg) (c : ℕ) (later before : Lis
     Obeys (Doing work) s (local s before c) gen (events_of c later) → begun_log c (later ++ before) ≡ begun_log c before
 doing_more s work gen c [] before run h = refl
 doing_more s work gen c (e ∷ later) before run h =
-    by (doing_more s work gen c later before run.0) (cases_Bool (e.caller == c))
+    let ih = doing_more s work gen c later before run.0 in
+    elim (cases_Bool (e.caller == c)) [
+      | inl q ↦
+          let none : is_begin e.kind ≡ false = is_not_begin e.kind (not_begin s (later ++ before) e run (under q)) in
+          rw (q, none) (ih (own q).0)
+      | inr q ↦ rw q (ih (subst (λ b. Told (if b then e ∷ events_of c later else events_of c later)) q h))
+    ]
   where
     Told : List Event → Type 0
     Told es = Obeys (Doing work) s (local s before c) gen es
@@ -205,13 +206,6 @@ doing_more s work gen c (e ∷ later) before run h =
         (effort_of s (local s before c) gen (events_of c later)) e
         (ap (λ (l : LocalState). l.phase) (sym (own_state s c later before)
         ∙ ap (local s (later ++ before)) (sym (eqb-true e.caller c q))) ∙ out) (own q).1
-
-    by : (Told (events_of c later) → begun_log c (later ++ before) ≡ begun_log c before) →
-        (e.caller == c ≡ true) ⊎ (e.caller == c ≡ false) → begun_log c (e ∷ (later ++ before)) ≡ begun_log c before
-    by ih (inl q) =
-        let none : is_begin e.kind ≡ false = is_not_begin e.kind (not_begin s (later ++ before) e run (under q)) in
-        rw (q, none) (ih (own q).0)
-    by ih (inr q) = rw q (ih (subst (λ b. Told (if b then e ∷ events_of c later else events_of c later)) q h))
 
 -- so the last Begin stays
 pub doing_keeps : {L : Type 0} {holds : L → List Val → Type 0} {work : Work} {k n : Called L} {again : Option Again} →

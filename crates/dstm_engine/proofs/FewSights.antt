@@ -125,7 +125,12 @@ stage : (w : Work) (s : Shape) (l : LocalState) (g : Lcg) (es : List Event) → 
     Stage es
 stage w s l g [] opens obeys = tt
 stage w s l g (e ∷ []) opens obeys = first_stage w s l (effort_of s l g []) e opens obeys.1
-stage w s l g (e ∷ x ∷ es) opens obeys = by (stage w s l g (x ∷ es) opens obeys.0)
+stage w s l g (e ∷ x ∷ es) opens obeys = elim (stage w s l g (x ∷ es) opens obeys.0) [
+  | inl looked ↦ here (cases_Bool (is_look_self e.kind)) looked.0 looked.1
+  | inr ended ↦
+      quits_it e (x ∷ es)
+      (last_stage w s x (state_after s l (x ∷ es)) (effort_of s l g (x ∷ es)) e opens ended.0 obeys.1) ended.1
+]
   where
     here : (is_look_self e.kind ≡ true) ⊎ (is_look_self e.kind ≡ false) → count_kinds is_look_self (x ∷ es) ≡ 0 →
         1 ≤ count_kinds is_look_object (x ∷ es) → Stage (e ∷ x ∷ es)
@@ -144,21 +149,14 @@ stage w s l g (e ∷ x ∷ es) opens obeys = by (stage w s l g (x ∷ es) opens 
           omega (arith, some, one_more is_look_object e (x ∷ es)),
         )
 
-    by : Stage (x ∷ es) → Stage (e ∷ x ∷ es)
-    by (inl looked) = here (cases_Bool (is_look_self e.kind)) looked.0 looked.1
-    by (inr ended) =
-        quits_it e (x ∷ es)
-        (last_stage w s x (state_after s l (x ∷ es)) (effort_of s l g (x ∷ es)) e opens ended.0 obeys.1) ended.1
-
 -- it looks at its own status at most as often as at an object
 pub open_looks : (w : Work) (s : Shape) (l : LocalState) (g : Lcg) (es : List Event) → is_open w ≡ true →
     Obeys (Doing w) s l g es → count_kinds is_look_self es ≤ count_kinds is_look_object es
 open_looks w s l g [] opens obeys = omega arith
-open_looks w s l g (e ∷ es) opens obeys = by (stage w s l g (e ∷ es) opens obeys)
-  where
-    by : Stage (e ∷ es) → count_kinds is_look_self (e ∷ es) ≤ count_kinds is_look_object (e ∷ es)
-    by (inl looked) = let none = looked.0 in omega arith
-    by (inr ended) = ended.1
+open_looks w s l g (e ∷ es) opens obeys = elim (stage w s l g (e ∷ es) opens obeys) [
+  | inl looked ↦ let none = looked.0 in omega arith
+  | inr ended ↦ ended.1
+]
 
 -- ---- the events by which an attempt begins
 
@@ -201,7 +199,27 @@ pub sights_more : (s : Shape) (c i : ℕ) (later before : List Event) →
     count_of completes_pass s (later ++ before) c i
     ≤ count_of completes_pass s before c i + count_kinds is_look_self (events_of c later)
 sights_more s c i [] before = omega arith
-sights_more s c i (e ∷ later) before = by (cases_Bool (e.caller == c)) (cases_Bool test) (sights_more s c i later before)
+sights_more s c i (e ∷ later) before =
+    let ih = sights_more s c i later before in
+    elim (cases_Bool (e.caller == c)) [
+      | inl own ↦ elim (cases_Bool test) [
+        | inl passes ↦
+            let look = (and_parts (is_look_self e.kind) (e.found == given l.phase)
+            (and_parts (l.begun == i) (completes_pass s l e) passes).1).0 in
+            let here : count_of completes_pass s (e ∷ (later ++ before)) c i ≡ was + 1 = rw (own, passes) refl in
+            let more : count_kinds is_look_self (events_of c (e ∷ later)) ≡ count_kinds is_look_self (events_of c later) + 1 =
+            own_counts is_look_self c e later own ∙ counts_it is_look_self e (events_of c later) look in
+            omega arith
+        | inr fails ↦
+            let here : count_of completes_pass s (e ∷ (later ++ before)) c i ≡ was = rw (own, fails) refl in
+            let more : count_kinds is_look_self (events_of c later) ≤ count_kinds is_look_self (events_of c (e ∷ later)) =
+            rw (own_counts is_look_self c e later own) (one_more is_look_self e (events_of c later)) in
+            omega arith
+      ]
+      | inr other ↦
+          let here : count_of completes_pass s (e ∷ (later ++ before)) c i ≡ was = rw other refl in
+          let same = other_counts is_look_self c e later other in omega arith
+    ]
   where
     l : LocalState
     l = local s (later ++ before) c
@@ -211,28 +229,6 @@ sights_more s c i (e ∷ later) before = by (cases_Bool (e.caller == c)) (cases_
 
     was : ℕ
     was = count_of completes_pass s (later ++ before) c i
-
-    most : ℕ → Type 0
-    most n = count_of completes_pass s (e ∷ (later ++ before)) c i ≤ count_of completes_pass s before c i + n
-
-    by : (e.caller == c ≡ true) ⊎ (e.caller == c ≡ false) → (test ≡ true) ⊎ (test ≡ false) →
-        was ≤ count_of completes_pass s before c i + count_kinds is_look_self (events_of c later) →
-        most (count_kinds is_look_self (events_of c (e ∷ later)))
-    by (inl own) (inl passes) ih =
-        let look = (and_parts (is_look_self e.kind) (e.found == given l.phase)
-        (and_parts (l.begun == i) (completes_pass s l e) passes).1).0 in
-        let here : count_of completes_pass s (e ∷ (later ++ before)) c i ≡ was + 1 = rw (own, passes) refl in
-        let more : count_kinds is_look_self (events_of c (e ∷ later)) ≡ count_kinds is_look_self (events_of c later) + 1 =
-        own_counts is_look_self c e later own ∙ counts_it is_look_self e (events_of c later) look in
-        omega arith
-    by (inl own) (inr fails) ih =
-        let here : count_of completes_pass s (e ∷ (later ++ before)) c i ≡ was = rw (own, fails) refl in
-        let more : count_kinds is_look_self (events_of c later) ≤ count_kinds is_look_self (events_of c (e ∷ later)) =
-        rw (own_counts is_look_self c e later own) (one_more is_look_self e (events_of c later)) in
-        omega arith
-    by (inr other) test ih =
-        let here : count_of completes_pass s (e ∷ (later ++ before)) c i ≡ was = rw other refl in
-        let same = other_counts is_look_self c e later other in omega arith
 
 begun_since : (s : Shape) (c : ℕ) (later before : List Event) →
     (local s before c).begun ≤ (local s (later ++ before) c).begun
@@ -262,7 +258,26 @@ pub looks_more : (s : Shape) (c i : ℕ) (later before : List Event) → (local 
     ≤ count_of looks_at_object s (later ++ before) c i
 looks_more s c i [] before was now = omega arith
 looks_more s c i (e ∷ later) before was now =
-    by (cases_Bool (e.caller == c)) (cases_Bool (is_look_object e.kind)) (looks_more s c i later before was still)
+    let ih = looks_more s c i later before was still in
+    elim (cases_Bool (e.caller == c)) [
+      | inl own ↦ elim (cases_Bool (is_look_object e.kind)) [
+        | inl look ↦
+            let here : count_of looks_at_object s (e ∷ (later ++ before)) c i ≡ there + 1 =
+            rw (own, eq-eqb (local s (later ++ before) c).begun i still, look) refl in
+            let more : count_kinds is_look_object (events_of c (e ∷ later)) ≡ count_kinds is_look_object (events_of c later) + 1 =
+            own_counts is_look_object c e later own ∙ counts_it is_look_object e (events_of c later) look in
+            omega arith
+        | inr none ↦
+            let here : count_of looks_at_object s (e ∷ (later ++ before)) c i ≡ there =
+            rw (own, eq-eqb (local s (later ++ before) c).begun i still, none) refl in
+            let same : count_kinds is_look_object (events_of c (e ∷ later)) ≡ count_kinds is_look_object (events_of c later) =
+            own_counts is_look_object c e later own ∙ skips_it is_look_object e (events_of c later) none in
+            omega arith
+      ]
+      | inr other ↦
+          let here : count_of looks_at_object s (e ∷ (later ++ before)) c i ≡ there = rw other refl in
+          let same = other_counts is_look_object c e later other in omega arith
+    ]
   where
     still : (local s (later ++ before) c).begun ≡ i
     still =
@@ -272,26 +287,3 @@ looks_more s c i (e ∷ later) before was now =
 
     there : ℕ
     there = count_of looks_at_object s (later ++ before) c i
-
-    old : ℕ
-    old = count_of looks_at_object s before c i
-
-    by : (e.caller == c ≡ true) ⊎ (e.caller == c ≡ false) →
-        (is_look_object e.kind ≡ true) ⊎ (is_look_object e.kind ≡ false) →
-        old + count_kinds is_look_object (events_of c later) ≤ there →
-        old + count_kinds is_look_object (events_of c (e ∷ later)) ≤ count_of looks_at_object s (e ∷ (later ++ before)) c i
-    by (inl own) (inl look) ih =
-        let here : count_of looks_at_object s (e ∷ (later ++ before)) c i ≡ there + 1 =
-        rw (own, eq-eqb (local s (later ++ before) c).begun i still, look) refl in
-        let more : count_kinds is_look_object (events_of c (e ∷ later)) ≡ count_kinds is_look_object (events_of c later) + 1 =
-        own_counts is_look_object c e later own ∙ counts_it is_look_object e (events_of c later) look in
-        omega arith
-    by (inl own) (inr none) ih =
-        let here : count_of looks_at_object s (e ∷ (later ++ before)) c i ≡ there =
-        rw (own, eq-eqb (local s (later ++ before) c).begun i still, none) refl in
-        let same : count_kinds is_look_object (events_of c (e ∷ later)) ≡ count_kinds is_look_object (events_of c later) =
-        own_counts is_look_object c e later own ∙ skips_it is_look_object e (events_of c later) none in
-        omega arith
-    by (inr other) look ih =
-        let here : count_of looks_at_object s (e ∷ (later ++ before)) c i ≡ there = rw other refl in
-        let same = other_counts is_look_object c e later other in omega arith

@@ -1,22 +1,21 @@
 -- An open of an object that is not open yet, as its answers see it.
 use Rattle.std.proofs.Common.{◌<◌, ◌∙◌, ◌≡◌, List, None, Option, Some, ap, false, length, subst, sym, true, ℕ}
 use Rattle.std.specs.Prelude.{IsTrue}
-use Rattle.dstm_steps.proofs.Stepping.{began_as}
-use Rattle.dstm_steps.specs.Under.{InTask, now}
+use Rattle.dstm_steps.specs.Under.{now}
 use Rattle.dstm_steps.specs.declared.steps.Steps.{Steps}
 use Rattle.dstm_core.specs.State.{LocalState, read_of, write_of}
 use Rattle.dstm_model.specs.declared.value.Val.{Val}
-use Rattle.dstm_order.specs.Order.Due.{Done}
 use Rattle.dstm_order.specs.Passes.{is_open}
 use Rattle.dstm_order.specs.Tasks.{Work}
 use Rattle.dstm_order.specs.Tasks.Task.{Doing}
 use Rattle.dstm_order.specs.Tasks.Work.{Reading, Writing}
 use Rattle.dstm_order.specs.declared.again.Again.{Again}
 use Rattle.dstm_progress.specs.Oldest.{IsNoReading}
-use Rattle.dstm_words.specs.Seats.{Home, number_or, view_of}
-use Rattle.dstm_engine.proofs.AtCall.{AtCall, ends_at, state_at}
-use Rattle.dstm_engine.proofs.Opens.{locator_left, no_slot_of, read_opens, read_tied, room_to_read, room_to_write, stopped, stopped_tied, unheld_both, unheld_slot, write_marked, write_opens, write_tied}
-use Rattle.dstm_engine.specs.Began.{began_of}
+use Rattle.dstm_words.specs.Seats.{Home}
+use Rattle.dstm_engine.proofs.AtCall.{AtCall, at_home, ends_at, state_at}
+use Rattle.dstm_engine.proofs.Left.{left_as, left_tied}
+use Rattle.dstm_engine.proofs.Opens.{locator_left, no_slot_of, read_opens, read_tied, room_to_read, room_to_write, stopped, unheld_both, unheld_slot, write_marked, write_opens, write_tied}
+use Rattle.dstm_engine.proofs.Tying.{EndsAt}
 use Rattle.dstm_engine.specs.Callers.{Called, held, is_live, is_opened, shape_of, state}
 use Rattle.dstm_engine.specs.Mirror.{Tied, called, set_pairs}
 use Rattle.dstm_engine.specs.Opened.{OpenedAs, read_slot, write_slot}
@@ -50,33 +49,27 @@ module _ {L : Type 0} {holds : L → List Val → Type 0} {c : Inside L} {k : Ca
     first_room below = room_to_read at.tied on o (exists below) unheld
 
     module _ (some_reads : (shape_of k).all_write ≡ false) {new : Steps L}
-        (done : InTask holds words (Doing (Reading o))
-        (began_as words (Doing (Reading o)) (number_or (view_of steps.seat).number 0) steps) new Done None) {value : Val}
+        (done : EndsAt holds words steps (Doing (Reading o)) new None) {value : Val}
         {opened : OpenedAs} (e : OpensToRead words steps new c.opened opened o value) {last : Option ℕ}
         (last_is : last ≡ (now words new).last_pass) where
-      u : InTask holds (called c).home (Doing (Reading o)) (began_of (Doing (Reading o)) (called c)) new Done None
-      u = ends_at at done
-
       adds : AddsRead o e.word e.version (state (called c)) (now (called c).home new)
-      adds =
-          subst (λ (h : Home L). AddsRead o e.word e.version (state (called c)) (now h new)) (sym at.home)
-          (subst (λ (l : LocalState). AddsRead o e.word e.version l (now words new)) (state_at at) e.adds)
+      adds = at_home at (λ h l. AddsRead o e.word e.version l (now h new)) e.adds
 
       valued : HasVersion (called c).home new o e.version value
-      valued = subst (λ (h : Home L). HasVersion h new o e.version value) (sym at.home) e.valued
+      valued = at_home at (λ h _. HasVersion h new o e.version value) e.valued
 
       passed : last ≡ (now (called c).home new).last_pass
-      passed = last_is ∙ ap (λ (h : Home L). (now h new).last_pass) (sym at.home)
+      passed = at_home at (λ h _. last ≡ (now h new).last_pass) last_is
 
       reads : c.terms.shape.all_write ≡ false
       reads = ap (λ (k : Called L). (shape_of k).all_write) at.view ∙ some_reads
 
       pub first_tied : Tied holds (record c { steps = new; last_number = last; opened = opened })
-      first_tied = rw e.listed (read_tied at.tied on value u adds valued passed unheld reads)
+      first_tied = rw e.listed (read_tied at.tied on value (ends_at at done) adds valued passed unheld reads)
 
       pub first_opens :
           Opens holds (Reading o) o k (called (record c { steps = new; last_number = last; opened = opened })) value
-      first_opens = rw (← at.view, e.listed) (read_opens at.tied on value u adds valued passed unheld reads)
+      first_opens = rw (← at.view, e.listed) (read_opens at.tied on value (ends_at at done) adds valued passed unheld reads)
 
   -- ---- for writing
 
@@ -85,10 +78,7 @@ module _ {L : Type 0} {holds : L → List Val → Type 0} {c : Inside L} {k : Ca
     unopened = ap (λ (k : Called L). is_opened k o) at.view ∙ shut
 
     pub locator_there : o < (shape_of k).objects → (now words steps).installed < words.terms.shape.locators
-    locator_there below =
-        subst (λ (h : Home L). (now words steps).installed < h.terms.shape.locators) at.home
-        (subst (λ (l : LocalState). l.installed < c.terms.shape.locators) (sym (state_at at))
-        (locator_left at.tied on o (exists below) unopened))
+    locator_there below = rw (state_at at, ← at.home) (locator_left at.tied on o (exists below) unopened)
 
     pub write_fresh : write_slot c.opened.writes o ≡ None
     write_fresh = no_slot_of at.tied on o unopened
@@ -97,62 +87,44 @@ module _ {L : Type 0} {holds : L → List Val → Type 0} {c : Inside L} {k : Ca
     write_room below = room_to_write at.tied on o (exists below) unopened
 
     module _ {new : Steps L}
-        (done : InTask holds words (Doing (Writing o))
-        (began_as words (Doing (Writing o)) (number_or (view_of steps.seat).number 0) steps) new Done None) {value : Val}
+        (done : EndsAt holds words steps (Doing (Writing o)) new None) {value : Val}
         {opened : OpenedAs} (e : OpensToWrite words steps new c.opened opened o value) {last : Option ℕ}
         (last_is : last ≡ (now words new).last_pass) where
-      u_w : InTask holds (called c).home (Doing (Writing o)) (began_of (Doing (Writing o)) (called c)) new Done None
-      u_w = ends_at at done
-
       adds_w : AddsWrite o e.version (state (called c)) (now (called c).home new)
-      adds_w =
-          subst (λ (h : Home L). AddsWrite o e.version (state (called c)) (now h new)) (sym at.home)
-          (subst (λ (l : LocalState). AddsWrite o e.version l (now words new)) (state_at at) e.adds)
+      adds_w = at_home at (λ h l. AddsWrite o e.version l (now h new)) e.adds
 
       valued_w : HasVersion (called c).home new o e.version value
-      valued_w = subst (λ (h : Home L). HasVersion h new o e.version value) (sym at.home) e.valued
+      valued_w = at_home at (λ h _. HasVersion h new o e.version value) e.valued
 
       passed_w : last ≡ (now (called c).home new).last_pass
-      passed_w = last_is ∙ ap (λ (h : Home L). (now h new).last_pass) (sym at.home)
+      passed_w = at_home at (λ h _. last ≡ (now h new).last_pass) last_is
 
       pub first_write_tied : Tied holds (record c { steps = new; last_number = last; opened = opened })
-      first_write_tied = rw e.listed (write_tied at.tied on value u_w adds_w valued_w passed_w unopened)
+      first_write_tied = rw e.listed (write_tied at.tied on value (ends_at at done) adds_w valued_w passed_w unopened)
 
       pub first_write_opens :
           Opens holds (Writing o) o k (called (record c { steps = new; last_number = last; opened = opened })) value
-      first_write_opens = rw (← at.view, e.listed) (write_opens at.tied on value u_w adds_w valued_w passed_w unopened)
+      first_write_opens = rw (← at.view, e.listed) (write_opens at.tied on value (ends_at at done) adds_w valued_w passed_w unopened)
 
       pub first_write_marked :
           IsTrue (is_opened (called (record c { steps = new; last_number = last; opened = opened })) o)
       first_write_marked =
           subst (λ (x : OpenedAs).
           IsTrue (is_opened (called (record c { steps = new; last_number = last; opened = x })) o)) (sym e.listed)
-          (write_marked at.tied on value u_w adds_w valued_w passed_w unopened)
+          (write_marked at.tied on value (ends_at at done) adds_w valued_w passed_w unopened)
 
 -- ---- that has left its attempt
 
 module _ {L : Type 0} {holds : L → List Val → Type 0} {c : Inside L} {k : Called L} {words : Home L} {steps : Steps L}
     (at : AtCall holds c k words steps) (live : is_live k ≡ true) {work : Work} (is_one : is_open work ≡ true)
-    {new : Steps L} {again : Again} (done : InTask holds words (Doing work)
-    (began_as words (Doing work) (number_or (view_of steps.seat).number 0) steps) new Done (Some again))
+    {new : Steps L} {again : Again} (done : EndsAt holds words steps (Doing work) new (Some again))
     (no_reading : (shape_of k).all_write ≡ true → IsNoReading work) (last : Option ℕ) (opened : OpenedAs)
     (rest : (opened.objects ≡ c.opened.objects) × (set_pairs opened.writes ≡ set_pairs c.opened.writes)) where
-  left_end : InTask holds (called c).home (Doing work) (began_of (Doing work) (called c)) new Done (Some again)
-  left_end = ends_at at done
-
   writes : c.terms.shape.all_write ≡ true → IsNoReading work
   writes all = no_reading (ap (λ (k : Called L). (shape_of k).all_write) (sym at.view) ∙ all)
 
-  pub first_stopped_tied :
-      Tied holds (record c { steps = new; live = false; last_number = last; left = Some again; opened = opened })
-  first_stopped_tied = stopped_tied at.tied (at.live ∙ live) is_one left_end writes last opened rest.0 rest.1
+  pub first_stopped_tied : Tied holds (left_as c new last again opened)
+  first_stopped_tied = left_tied at.tied (at.live ∙ live) (ends_at at done) writes last opened rest.0
 
-  pub first_stops : Stops holds work k (called (record c {
-    steps = new;
-    live = false;
-    last_number = last;
-    left = Some again;
-    opened = opened;
-  })) again
-  first_stops = rw (← at.view)
-      (stopped at.tied (at.live ∙ live) is_one left_end writes last opened rest.0 rest.1)
+  pub first_stops : Stops holds work k (called (left_as c new last again opened)) again
+  first_stops = rw (← at.view) (stopped at.tied (at.live ∙ live) is_one (ends_at at done) writes last opened rest.1)

@@ -1,5 +1,5 @@
 -- What an open of an object hands out that is open already, and what an open answers.
-use Rattle.std.proofs.Common.{◌++◌, ◌<◌, ◌==◌, ◌∙◌, ◌∷◌, ◌≡◌, ◌≢◌, ◌⊎◌, List, None, Option, Some, [], ap, arith, false, inl, inr, length, map, refl, subst, sym, true, ℕ}
+use Rattle.std.proofs.Common.{◌++◌, ◌<◌, ◌==◌, ◌∙◌, ◌∷◌, ◌≡◌, ◌≢◌, List, None, Option, Some, [], ap, arith, false, inl, inr, length, map, refl, subst, sym, true, ℕ}
 use Rattle.std.specs.Prelude.{Err, IfErr, IfOk, Ok, OnOk, Result, if◌then◌else◌, is_some, option_map}
 use Rattle.std.specs.Option.{option_or}
 use Rattle.std.proofs.lemmas.Bool.{cases_Bool, cond_both, eqb-true}
@@ -7,7 +7,6 @@ use Rattle.dstm_steps.specs.Finding.{word_of}
 use Rattle.dstm_steps.specs.Writes.{AreWrites, or_old}
 use Rattle.dstm_steps.specs.declared.slots.ReadSlot.{ReadSlot}
 use Rattle.dstm_steps.specs.declared.slots.WriteSlot.{WriteSlot}
-use Rattle.dstm_core.specs.Histories.{old_values}
 use Rattle.dstm_core.specs.State.{read_of, write_of}
 use Rattle.dstm_core.specs.declared.shape.Shape.{Shape}
 use Rattle.dstm_core.specs.declared.state.Read.{Read}
@@ -24,7 +23,7 @@ use Rattle.dstm_engine.proofs.Opens.{no_slot, no_word, none_of, unheld_both, uns
 use Rattle.dstm_engine.proofs.Setting.{opened_slot, with_new_apart}
 use Rattle.dstm_engine.proofs.Sights.{sighted_admits}
 use Rattle.dstm_engine.proofs.Slots.{slot_read}
-use Rattle.dstm_engine.proofs.Tying.{live_there}
+use Rattle.dstm_engine.proofs.Tying.{live_there, olds_in}
 use Rattle.dstm_engine.specs.Attempts.{Admits}
 use Rattle.dstm_engine.specs.Callers.{Called, entry, handed, held, is_live, is_opened, shape_of, state, written}
 use Rattle.dstm_engine.specs.Calls.{reading}
@@ -39,24 +38,20 @@ use Rattle.dstm_engine.specs.declared.caller.Caller.TheInside.{Inside}
 read_value : (rs : List ReadSlot) (pairs : List (ℕ × Val)) (o : ℕ) (r : ReadSlot) → read_slot rs o ≡ Some r →
     value_in (map slot_value rs ++ pairs) o ≡ Some r.value
 read_value [] pairs o r h = absurd (cc)
-read_value (x ∷ rs) pairs o r h = by (read_value rs pairs o r) (cases_Bool (x.object == o))
-  where
-    by : (read_slot rs o ≡ Some r → value_in (map slot_value rs ++ pairs) o ≡ Some r.value) →
-        (x.object == o ≡ true) ⊎ (x.object == o ≡ false) → value_in (map slot_value (x ∷ rs) ++ pairs) o ≡ Some r.value
-    by ih (inl q) = let z : Some x ≡ Some r = rw q at h in let y : x ≡ r = cc in
-        rw q (ap (λ (s : ReadSlot). Some s.value) y)
-    by ih (inr q) = rw q (ih (rw q at h))
+read_value (x ∷ rs) pairs o r h = elim (cases_Bool (x.object == o)) [
+  | inl q ↦
+      let z : Some x ≡ Some r = rw q at h in let y : x ≡ r = cc in
+      rw q (ap (λ (s : ReadSlot). Some s.value) y)
+  | inr q ↦ rw q (read_value rs pairs o r (rw q at h))
+]
 
 no_read_value : (rs : List ReadSlot) (pairs : List (ℕ × Val)) (o : ℕ) → read_slot rs o ≡ None →
     value_in (map slot_value rs ++ pairs) o ≡ value_in pairs o
 no_read_value [] pairs o h = refl
-no_read_value (x ∷ rs) pairs o h = by (no_read_value rs pairs o) (cases_Bool (x.object == o))
-  where
-    by : (read_slot rs o ≡ None → value_in (map slot_value rs ++ pairs) o ≡ value_in pairs o) →
-        (x.object == o ≡ true) ⊎ (x.object == o ≡ false) →
-        value_in (map slot_value (x ∷ rs) ++ pairs) o ≡ value_in pairs o
-    by ih (inl q) = absurd (let z : Some x ≡ None = rw q at h in cc)
-    by ih (inr q) = rw q (ih (rw q at h))
+no_read_value (x ∷ rs) pairs o h = elim (cases_Bool (x.object == o)) [
+  | inl q ↦ absurd (let z : Some x ≡ None = rw q at h in cc)
+  | inr q ↦ rw q (no_read_value rs pairs o (rw q at h))
+]
 
 old_value : (ws : List WriteSlot) (o : ℕ) → value_in (map slot_old ws) o ≡ option_map (λ (w : WriteSlot). w.old) (write_slot ws o)
 old_value [] o = refl
@@ -71,35 +66,32 @@ set_value_of : (slots : List WriteSlot) (ws : List Write) (o : ℕ) (w : WriteSl
     write_slot slots o ≡ Some w → value_in (set_pairs slots) o ≡ w.new
 set_value_of [] ws o w are once h = absurd (cc)
 set_value_of (s ∷ slots) [] o w are once h = absurd are
-set_value_of (s ∷ slots) (x ∷ ws) o w are once h =
-    by (set_value_of slots ws o w are.1 once.1) (cases_Bool (s.object == o))
+set_value_of (s ∷ slots) (x ∷ ws) o w are once h = elim (cases_Bool (s.object == o)) [
+  | inl q ↦
+      let z : Some s ≡ Some w = rw q at h in
+      let y : s ≡ w = cc in
+      let none : write_slot slots o ≡ None =
+      no_slot slots ws o are.1 (ap (λ n. write_of n ws) (sym (are.0 ∙ eqb-true s.object o q)) ∙ once.0) in
+      here q s.new (unset slots o none) ∙ ap (λ (t : WriteSlot). t.new) y
+  | inr q ↦ with_new_apart s.object o s.new (set_pairs slots) q ∙ set_value_of slots ws o w are.1 once.1 (rw q at h)
+]
   where
     here : s.object == o ≡ true → (new : Option Val) → value_in (set_pairs slots) o ≡ None →
         value_in (with_new s.object new (set_pairs slots)) o ≡ new
     here q None none = none
     here q (Some v) none = rw q refl
 
-    by : (write_slot slots o ≡ Some w → value_in (set_pairs slots) o ≡ w.new) →
-        (s.object == o ≡ true) ⊎ (s.object == o ≡ false) → value_in (set_pairs (s ∷ slots)) o ≡ w.new
-    by ih (inl q) =
-        let z : Some s ≡ Some w = rw q at h in
-        let y : s ≡ w = cc in
-        let none : write_slot slots o ≡ None =
-        no_slot slots ws o are.1 (ap (λ n. write_of n ws) (sym (are.0 ∙ eqb-true s.object o q)) ∙ once.0) in
-        here q s.new (unset slots o none) ∙ ap (λ (t : WriteSlot). t.new) y
-    by ih (inr q) = with_new_apart s.object o s.new (set_pairs slots) q ∙ ih (rw q at h)
-
 -- an object that is open for writing is not read
 apart_unread : (ws : List Write) (rs : List Read) (o : ℕ) → Apart ws rs → is_some (write_of o ws) ≡ true →
     read_of o rs ≡ None
 apart_unread ws [] o h some = refl
-apart_unread ws (r ∷ rs) o h some = by (apart_unread ws rs o h.1 some) (cases_Bool (r.object == o))
-  where
-    by : read_of o rs ≡ None → (r.object == o ≡ true) ⊎ (r.object == o ≡ false) → read_of o (r ∷ rs) ≡ None
-    by ih (inl q) =
-        absurd (let z : is_some (write_of o ws) ≡ false = ap is_some (ap (λ n. write_of n ws) (sym (eqb-true r.object o q))
-        ∙ h.0) in cc)
-    by ih (inr q) = rw q ih
+apart_unread ws (r ∷ rs) o h some = elim (cases_Bool (r.object == o)) [
+  | inl q ↦
+      absurd (let z : is_some (write_of o ws) ≡ false = ap is_some
+      (ap (λ n. write_of n ws) (sym (eqb-true r.object o q))
+      ∙ h.0) in cc)
+  | inr q ↦ rw q (apart_unread ws rs o h.1 some)
+]
 
 or_old_is : (new : Option Val) (old : Val) → Some (or_old new old) ≡ option_or new (Some old)
 or_old_is None old = refl
@@ -114,8 +106,7 @@ module _ {L : Type 0} {holds : L → List Val → Type 0} {c : Inside L} (v : Ti
     (o : ℕ) where
   holds_slots : held (called c) o ≡ value_in (map slot_value c.opened.reads ++ map slot_old c.opened.writes) o
   holds_slots =
-      ap (λ xs. value_in (xs ++ old_values c.terms.shape c.terms.start.value.items (called c).log (state (called c)).writes)
-      o) (v.values live)
+      ap (λ xs. value_in (xs ++ olds_in c (called c).log (state (called c)).writes) o) (v.values live)
       ∙ ap (λ ys. value_in (map slot_value c.opened.reads ++ ys) o) (v.olds live)
 
   pub slots_hand : Hands (called c) o (slots_value (write_slot c.opened.writes o) (read_slot c.opened.reads o))
@@ -143,8 +134,7 @@ module _ {L : Type 0} {holds : L → List Val → Type 0} {c : Inside L} (v : Ti
           let t = tidy c.terms.shape (called c).log v.run.run.core c.number in
           let marked : is_some (write_of o (state (called c)).writes) ≡ true =
           opened_slot c.opened.writes (state (called c)).writes o are ∙ ap is_some qw in
-          let unread : read_slot c.opened.reads o ≡ None =
-          no_word (read_slot c.opened.reads o)
+          let unread : read_slot c.opened.reads o ≡ None = no_word (read_slot c.opened.reads o)
           (sym (ap word_of (apart_unread (state (called c)).writes (state (called c)).reads o t.apart marked))
           ∙ slot_read c.opened.reads (state (called c)).reads o (sym (v.reads live))) in
           hands (Some w) r w.new (Some w.old)
@@ -217,9 +207,7 @@ module _ {L : Type 0} {holds : L → List Val → Type 0} {c : Inside L} (v : Ti
   on = live_there v ∙ ap is_live view ∙ live
 
   hands : Hands k o (slots_value (write_slot c.opened.writes o) (read_slot c.opened.reads o))
-  hands =
-      subst (λ (k : Called L). Hands k o (slots_value (write_slot c.opened.writes o) (read_slot c.opened.reads o))) view
-      (slots_hand v on o)
+  hands = rw (← view) (slots_hand v on o)
 
   -- its slots hand out its value
   pub handed_there : slots_value (write_slot c.opened.writes o) (read_slot c.opened.reads o) ≡ handed k o
@@ -246,6 +234,4 @@ module _ {L : Type 0} {holds : L → List Val → Type 0} {c : Inside L} (v : Ti
 
   -- what is held stays open as it is
   pub held_continues : is_some (held k o) ≡ true → Continues holds o k k
-  held_continues some =
-      subst (λ (k : Called L). Continues holds o k k) view
-      (open_already v on o (ap (λ (k : Called L). is_some (held k o)) view ∙ some))
+  held_continues some = rw (← view) (open_already v on o (ap (λ (k : Called L). is_some (held k o)) view ∙ some))

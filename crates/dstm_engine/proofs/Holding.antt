@@ -21,28 +21,20 @@ never_both false = refl
 -- an object that is open for writing has an old value
 pub old_there : (ws : List WriteSlot) (o : ℕ) → is_some (value_in (map slot_old ws) o) ≡ is_some (write_slot ws o)
 old_there [] o = refl
-old_there (w ∷ ws) o = by (old_there ws o) (cases_Bool (w.object == o))
-  where
-    by : is_some (value_in (map slot_old ws) o) ≡ is_some (write_slot ws o) →
-        (w.object == o ≡ true) ⊎ (w.object == o ≡ false) →
-        is_some (value_in (map slot_old (w ∷ ws)) o) ≡ is_some (write_slot (w ∷ ws) o)
-    by ih (inl q) = rw q refl
-    by ih (inr q) = rw q ih
+old_there (w ∷ ws) o = elim (cases_Bool (w.object == o)) [
+  | inl q ↦ rw q refl
+  | inr q ↦ rw q (old_there ws o)
+]
 
 -- an object is held, and not open for writing, where it has a read slot and no other
 pub held_there : (rs : List ReadSlot) (ws : List WriteSlot) (o : ℕ) →
     is_some (value_in (map slot_value rs ++ map slot_old ws) o) && not (is_some (write_slot ws o))
     ≡ is_some (read_slot rs o) && not (is_some (write_slot ws o))
 held_there [] ws o = rw (old_there ws o) (never_both (is_some (write_slot ws o)))
-held_there (r ∷ rs) ws o = by (held_there rs ws o) (cases_Bool (r.object == o))
-  where
-    by : is_some (value_in (map slot_value rs ++ map slot_old ws) o) && not (is_some (write_slot ws o))
-        ≡ is_some (read_slot rs o) && not (is_some (write_slot ws o)) →
-        (r.object == o ≡ true) ⊎ (r.object == o ≡ false) →
-        is_some (value_in (map slot_value (r ∷ rs) ++ map slot_old ws) o) && not (is_some (write_slot ws o))
-        ≡ is_some (read_slot (r ∷ rs) o) && not (is_some (write_slot ws o))
-    by ih (inl q) = rw q refl
-    by ih (inr q) = rw q ih
+held_there (r ∷ rs) ws o = elim (cases_Bool (r.object == o)) [
+  | inl q ↦ rw q refl
+  | inr q ↦ rw q (held_there rs ws o)
+]
 
 pub both_there : (r w n : Bool) → r ≡ true → w ≡ not n → r && not w ≡ n
 both_there r w true q h = rw (q, h) refl

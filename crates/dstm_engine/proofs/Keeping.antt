@@ -99,12 +99,10 @@ opens_keep w s l g (e ∷ es) h o = (
 
 read_more : (o : ℕ) (rs : List Read) (x r : Read) → read_of o rs ≡ Some r → read_of o (rs ++ x ∷ []) ≡ Some r
 read_more o [] x r h = absurd (cc)
-read_more o (y ∷ rs) x r h = go (cases_Bool (y.object == o)) (read_more o rs x r)
-  where
-    go : (y.object == o ≡ true) ⊎ (y.object == o ≡ false) →
-        (read_of o rs ≡ Some r → read_of o (rs ++ x ∷ []) ≡ Some r) → read_of o (y ∷ (rs ++ x ∷ [])) ≡ Some r
-    go (inl q) ih = let z : Some y ≡ Some r = rw q at h in rw q z
-    go (inr q) ih = rw q (ih (rw q at h))
+read_more o (y ∷ rs) x r h = elim (cases_Bool (y.object == o)) [
+  | inl q ↦ let z : Some y ≡ Some r = rw q at h in rw q z
+  | inr q ↦ rw q (read_more o rs x r (rw q at h))
+]
 
 read_recorded : (o : ℕ) (x : Option Resolution) (rs : List Read) (r : Read) → read_of o rs ≡ Some r →
     read_of o (record_resolved x rs) ≡ Some r
@@ -115,21 +113,17 @@ read_recorded o (Some x) rs r h =
 
 pub read_apart : (o p : ℕ) (rs : List Read) → p ≢ o → read_of p (drop_read o rs) ≡ read_of p rs
 read_apart o p [] other = refl
-read_apart o p (r ∷ rs) other = go (cases_Bool (r.object == o)) (read_apart o p rs other)
-  where
-    go : (r.object == o ≡ true) ⊎ (r.object == o ≡ false) → read_of p (drop_read o rs) ≡ read_of p rs →
-        read_of p (drop_read o (r ∷ rs)) ≡ read_of p (r ∷ rs)
-    go (inl q) ih = rw (q, ne_eqb r.object p (λ z. other (sym z ∙ eqb-true r.object o q))) refl
-    go (inr q) ih = rw q (ap (λ x. if r.object == p then Some r else x) ih)
+read_apart o p (r ∷ rs) other = elim (cases_Bool (r.object == o)) [
+  | inl q ↦ rw (q, ne_eqb r.object p (λ z. other (sym z ∙ eqb-true r.object o q))) refl
+  | inr q ↦ rw q (ap (λ x. if r.object == p then Some r else x) (read_apart o p rs other))
+]
 
 pub write_more : (o : ℕ) (ws : List Write) (x w : Write) → write_of o ws ≡ Some w → write_of o (ws ++ x ∷ []) ≡ Some w
 write_more o [] x w h = absurd (cc)
-write_more o (y ∷ ws) x w h = go (cases_Bool (y.object == o)) (write_more o ws x w)
-  where
-    go : (y.object == o ≡ true) ⊎ (y.object == o ≡ false) →
-        (write_of o ws ≡ Some w → write_of o (ws ++ x ∷ []) ≡ Some w) → write_of o (y ∷ (ws ++ x ∷ [])) ≡ Some w
-    go (inl q) ih = let z : Some y ≡ Some w = rw q at h in rw q z
-    go (inr q) ih = rw q (ih (rw q at h))
+write_more o (y ∷ ws) x w h = elim (cases_Bool (y.object == o)) [
+  | inl q ↦ let z : Some y ≡ Some w = rw q at h in rw q z
+  | inr q ↦ rw q (write_more o ws x w (rw q at h))
+]
 
 pub write_apart : (o : ℕ) (ws : List Write) (x : Write) → x.object ≢ o → write_of o (ws ++ x ∷ []) ≡ write_of o ws
 write_apart o [] x other = rw (ne_eqb x.object o other) refl
@@ -138,12 +132,10 @@ write_apart o (y ∷ ws) x other = ap (λ z. if y.object == o then Some y else z
 pub write_last : (o : ℕ) (ws : List Write) (x : Write) → x.object ≡ o → write_of o ws ≡ None →
     write_of o (ws ++ x ∷ []) ≡ Some x
 write_last o [] x q none = rw (eq-eqb x.object o q) refl
-write_last o (y ∷ ws) x q none = go (cases_Bool (y.object == o)) (write_last o ws x q)
-  where
-    go : (y.object == o ≡ true) ⊎ (y.object == o ≡ false) →
-        (write_of o ws ≡ None → write_of o (ws ++ x ∷ []) ≡ Some x) → write_of o (y ∷ (ws ++ x ∷ [])) ≡ Some x
-    go (inl z) ih = absurd (let w : Some y ≡ None = rw z at none in cc)
-    go (inr z) ih = rw z (ih (rw z at none))
+write_last o (y ∷ ws) x q none = elim (cases_Bool (y.object == o)) [
+  | inl z ↦ absurd (let w : Some y ≡ None = rw z at none in cc)
+  | inr z ↦ rw z (write_last o ws x q (rw z at none))
+]
 
 holds_more : (o : ℕ) (l m : LocalState) (v : ℕ) → m.writes ≡ l.writes →
     ((r : Read) → read_of o l.reads ≡ Some r → read_of o m.reads ≡ Some r) → version_held l o ≡ Some v →
@@ -161,7 +153,16 @@ holds_more o l m v writes reads h =
 module _ (s : Shape) (es : List Event) (e : Event) (core : Core s (e ∷ es)) (o v : ℕ) where
   installed : e.kind ≡ Install → e.found ≡ e.expected → version_held (local s es e.caller) o ≡ Some v →
       version_held (install s (local s es e.caller)) o ≡ Some v
-  installed kind found h = by (cases_eq (res (local s es e.caller)).object o)
+  installed kind found h = elim (cases_eq (res (local s es e.caller)).object o) [
+    | inl q ↦ here q (write_of o (local s es e.caller).writes) (read_of o (local s es e.caller).reads) refl refl h
+    | inr other ↦
+        ap (λ w. version_by_open w
+        (read_of o (drop_read (res (local s es e.caller)).object (local s es e.caller).reads)))
+        (write_apart o (local s es e.caller).writes _ other)
+        ∙ ap (version_by_open (write_of o (local s es e.caller).writes))
+        (read_apart (res (local s es e.caller)).object o (local s es e.caller).reads (λ z. other (sym z)))
+        ∙ h
+  ]
     where
       here : (res (local s es e.caller)).object ≡ o → (w : Option Write) (r : Option Read) →
           write_of o (local s es e.caller).writes ≡ w → read_of o (local s es e.caller).reads ≡ r →
@@ -183,16 +184,6 @@ module _ (s : Shape) (es : List Event) (e : Event) (core : Core s (e ∷ es)) (o
           }) q is) (ap Some (sym same) ∙ k)
       here q None None is read k = absurd (cc)
 
-      by : ((res (local s es e.caller)).object ≡ o) ⊎ ((res (local s es e.caller)).object ≡ o → ⊥) →
-          version_held (install s (local s es e.caller)) o ≡ Some v
-      by (inl q) = here q (write_of o (local s es e.caller).writes) (read_of o (local s es e.caller).reads) refl refl h
-      by (inr other) =
-          ap (λ w. version_by_open w (read_of o (drop_read (res (local s es e.caller)).object (local s es e.caller).reads)))
-          (write_apart o (local s es e.caller).writes _ other)
-          ∙ ap (version_by_open (write_of o (local s es e.caller).writes))
-          (read_apart (res (local s es e.caller)).object o (local s es e.caller).reads (λ z. other (sym z)))
-          ∙ h
-
   own_keeps : (k : Kind) → e.kind ≡ k → drops k ≡ false → version_held (local s es e.caller) o ≡ Some v →
       version_held (after k s (local s es e.caller) e) o ≡ Some v
   own_keeps Begin is d h = absurd (cc)
@@ -200,12 +191,10 @@ module _ (s : Shape) (es : List Event) (e : Event) (core : Core s (e ∷ es)) (o
   own_keeps LookNumber is d h =
       holds_more o (local s es e.caller) (after LookNumber s (local s es e.caller) e) v refl
       (λ r q. read_recorded o (local s es e.caller).resolution (local s es e.caller).reads r q) h
-  own_keeps Install is d h = by (cases_Bool (e.found == e.expected))
-    where
-      by : (e.found == e.expected ≡ true) ⊎ (e.found == e.expected ≡ false) →
-          version_held (after Install s (local s es e.caller) e) o ≡ Some v
-      by (inl q) = rw q (installed is (eqb-true e.found e.expected q) h)
-      by (inr q) = rw q h
+  own_keeps Install is d h = elim (cases_Bool (e.found == e.expected)) [
+    | inl q ↦ rw q (installed is (eqb-true e.found e.expected q) h)
+    | inr q ↦ rw q h
+  ]
   own_keeps LookSelf is d h =
       cond_both (e.found == given (local s es e.caller).phase) _ _ (λ (m : LocalState). version_held m o ≡ Some v)
       (λ _. h) (λ _. h)
@@ -221,18 +210,17 @@ pub goes_on_holding : (s : Shape) (more es : List Event) (c o v : ℕ) → Core 
     DropsNone (events_of c more) → version_held (local s es c) o ≡ Some v →
     version_held (local s (more ++ es) c) o ≡ Some v
 goes_on_holding s [] es c o v core none h = h
-goes_on_holding s (e ∷ more) es c o v core none h = go (cases_eq e.caller c) (goes_on_holding s more es c o v core.0)
-  where
-    go : (e.caller ≡ c) ⊎ (e.caller ≡ c → ⊥) →
-        (DropsNone (events_of c more) → version_held (local s es c) o ≡ Some v →
-        version_held (local s (more ++ es) c) o ≡ Some v) → version_held (local s (e ∷ (more ++ es)) c) o ≡ Some v
-    go (inl q) ih =
-        let all : DropsNone (e ∷ events_of c more) = rw (eq-eqb e.caller c q) at none in
-        let was : version_held (local s (more ++ es) e.caller) o ≡ Some v =
-        ap (λ n. version_held (local s (more ++ es) n) o) q ∙ ih all.1 h in
-        ap (λ n. version_held (local s (e ∷ (more ++ es)) n) o) (sym q)
-        ∙ ap (λ l. version_held l o) (local_own s (more ++ es) e)
-        ∙ own_keeps s (more ++ es) e core o v e.kind refl all.0 was
-    go (inr n) ih =
-        ap (λ l. version_held l o) (local_other s (more ++ es) e c n)
-        ∙ ih (rw (ne_eqb e.caller c n) at none) h
+goes_on_holding s (e ∷ more) es c o v core none h =
+    let ih = goes_on_holding s more es c o v core.0 in
+    elim (cases_eq e.caller c) [
+      | inl q ↦
+          let all : DropsNone (e ∷ events_of c more) = rw (eq-eqb e.caller c q) at none in
+          let was : version_held (local s (more ++ es) e.caller) o ≡ Some v =
+          ap (λ n. version_held (local s (more ++ es) n) o) q ∙ ih all.1 h in
+          ap (λ n. version_held (local s (e ∷ (more ++ es)) n) o) (sym q)
+          ∙ ap (λ l. version_held l o) (local_own s (more ++ es) e)
+          ∙ own_keeps s (more ++ es) e core o v e.kind refl all.0 was
+      | inr n ↦
+          ap (λ l. version_held l o) (local_other s (more ++ es) e c n)
+          ∙ ih (rw (ne_eqb e.caller c n) at none) h
+    ]

@@ -36,8 +36,7 @@ module _ {s : Shape} {words : List ℕ} (l : AreLeft s words) where
   owner_is : (v : ℕ) → Names s l.log v → IsOwned s words v
   owner_is v (inl z) some = absurd (some z)
   owner_is v (inr n) some =
-      subst (λ a. a < s.callers * s.attempts)
-      (sym (l.left (place s (OwnerWord (v - 1))) (place_in s (OwnerWord (v - 1)) n.1.below)))
+      rw (l.left (place s (OwnerWord (v - 1))) (place_in s (OwnerWord (v - 1)) n.1.below))
       ((basic s l.log l.core).owner (v - 1) n.1).begun.below
 
   -- and its locator has an owner
@@ -71,9 +70,7 @@ same_current {s = s} {one = one} {other = other} a b =
 told_by : (values : List Val) {s shape : Shape} {start first : List Val} (words : List ℕ) → s ≡ shape →
     start ≡ first → ((o : ℕ) → o < shape.objects → value_at values o ≡ value_left shape first words o) →
     (o : ℕ) → o < s.objects → value_at values o ≡ value_left s start words o
-told_by values {s = s} {shape = shape} {start = start} words is_shape is_start told =
-    subst (λ (s : Shape). (o : ℕ) → o < s.objects → value_at values o ≡ value_left s start words o) (sym is_shape)
-    (subst (λ xs. (o : ℕ) → o < shape.objects → value_at values o ≡ value_left shape xs words o) (sym is_start) told)
+told_by values {s = s} {shape = shape} {start = start} words is_shape is_start told = rw (is_shape, is_start) told
 
 module _ {L : Type 0} (holds : L → List Val → Type 0) (terms : Terms L) (v : View L) (words : List ℕ)
     (l : LeftBy holds terms v words) (first : v.first ≡ true) (none_out : v.out ≡ 0) where
@@ -96,8 +93,7 @@ module _ {L : Type 0} (holds : L → List Val → Type 0) (terms : Terms L) (v :
 
   -- the values that the words of a closed table tell, where no seat is out, are the current ones
   pub last_current : IsCurrent terms.shape terms.start.value.items v.log values
-  last_current =
-      subst (λ log. IsCurrent terms.shape terms.start.value.items log values) (l.whole first none_out) in_table
+  last_current = rw (← (l.whole first none_out)) in_table
 
   -- and those of the state after the history
   pub last_state : values ≡ state_after terms.start.value.items (history_of terms.shape terms.start.value.items v.log)

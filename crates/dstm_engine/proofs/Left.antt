@@ -9,7 +9,6 @@ use Rattle.dstm_machines.proofs.Attempts.{log_parts}
 use Rattle.dstm_progress.proofs.Causes.{again_has_its_cause, has_left}
 use Rattle.dstm_opacity.specs.Committed.{done_by}
 use Rattle.dstm_steps.proofs.Stepping.{call_of}
-use Rattle.dstm_steps.specs.Under.{InTask}
 use Rattle.dstm_steps.specs.declared.steps.Steps.{Steps}
 use Rattle.dstm_progress.proofs.Adding.{adds_nothing}
 use Rattle.dstm_progress.proofs.Leaving.{is_aborted, keeps_its_attempt, was_disturbed}
@@ -41,18 +40,15 @@ use Rattle.dstm_progress.proofs.Answers.{oldest_answers}
 use Rattle.dstm_progress.proofs.Calls.{alone_is_committed}
 use Rattle.dstm_progress.specs.Alone.{AreCalls, Made, all_events, is_release, last_answer}
 use Rattle.dstm_progress.specs.Oldest.{AreMade, IsNoReading, IsOfOldest, IsOldest}
-use Rattle.dstm_order.specs.Order.Due.{Done}
 use Rattle.dstm_words.specs.Seats.{Home, view_of}
 use Rattle.dstm_engine.proofs.Calling.{performs}
 use Rattle.dstm_engine.proofs.Lasting.{Lasts, call_lasts}
-use Rattle.dstm_engine.proofs.Tying.{live_there, mirror_then}
+use Rattle.dstm_engine.proofs.Tying.{EndsHere, live_there, mirror_then, olds_in, reads_in, state_logged}
 use Rattle.dstm_steps.specs.Reads.{words_of}
 use Rattle.dstm_steps.specs.Writes.{AreWrites}
-use Rattle.dstm_core.specs.Histories.{old_values, read_values}
 use Rattle.dstm_engine.specs.Attempts.{Sighted, done}
 use Rattle.dstm_engine.specs.Opened.{OpenedAs}
-use Rattle.dstm_engine.specs.Began.{began_of}
-use Rattle.dstm_engine.specs.Mirror.{AtRest, Tied, called, phase_by, slot_old, slot_value, slot_word}
+use Rattle.dstm_engine.specs.Mirror.{AtRest, Tied, called, phase_by, set_pairs, slot_old, slot_value, slot_word}
 use Rattle.dstm_engine.specs.declared.caller.Caller.TheInside.{Inside}
 use Rattle.dstm_engine.proofs.Abandoning.{has_begin}
 use Rattle.dstm_engine.proofs.Alone.{Begun, commits}
@@ -245,13 +241,16 @@ module _ {L : Type 0} {holds : L → List Val → Type 0} {k n : Called L} {work
 
 -- ---- of a caller's insides
 
--- what it is after a call that has left its attempt
-abbrev pub left_as : {L : Type 0} → Inside L → Steps L → (last : Option ℕ) → Again → Inside L
-left_as c new last again = record c { steps = new; live = false; last_number = last; left = Some again }
+-- what it is after a call that ended its attempt, and after one that has left it
+abbrev pub over_as : {L : Type 0} → Inside L → Steps L → Option ℕ → Option Again → Bool → OpenedAs → Inside L
+over_as c new last left fresh opened =
+    record c { steps = new; live = false; last_number = last; left = left; fresh = fresh; opened = opened }
+
+abbrev pub left_as : {L : Type 0} → Inside L → Steps L → Option ℕ → Again → OpenedAs → Inside L
+left_as c new last again opened = over_as c new last (Some again) c.fresh opened
 
 module _ {L : Type 0} {holds : L → List Val → Type 0} {c : Inside L} (v : Tied holds c) (live : c.live ≡ true)
-    {work : Work} {new : Steps L} {answer : Option Again}
-    (u : InTask holds (called c).home (Doing work) (began_of (Doing work) (called c)) new Done answer) where
+    {work : Work} {new : Steps L} {answer : Option Again} (u : EndsHere holds c (Doing work) new answer) where
   -- the call, by what stands for it
   pub performed : (n : Called L) → n.log ≡ (view_of new.seat).log → n.generator ≡ new.decider.generator →
       n.home ≡ (called (record c { steps = new })).home → n.number ≡ c.number →
@@ -280,12 +279,12 @@ module _ {L : Type 0} {holds : L → List Val → Type 0} {c : Inside L} (v : Ti
     call = (call_of u).0;
   }
 
-  pub begun_there : (local c.terms.shape (view_of new.seat).log c.number).begun ≡ (state (called c)).begun
+  pub begun_there : (state_logged c new).begun ≡ (state (called c)).begun
   begun_there =
       keeps_its_attempt work c.terms.shape c.number c.steps.decider.generator u.events (called c).log
       (view_of new.seat).log call_there
 
-  pub lasts_then : Lasts (state (called c)) (local c.terms.shape (view_of new.seat).log c.number)
+  pub lasts_then : Lasts (state (called c)) (state_logged c new)
   lasts_then =
       subst (Lasts (state (called c)))
       (sym (after_own c.terms.shape c.number (view_of new.seat).log (called c).log u.events u.own))
@@ -293,7 +292,7 @@ module _ {L : Type 0} {holds : L → List Val → Type 0} {c : Inside L} (v : Ti
       (allowed_own c.terms.shape c.number (view_of new.seat).log (called c).log u.events u.run.run.core u.own) u.obeys
       v.unused.0 v.unused.1)
 
-  pub number_then : (local c.terms.shape (view_of new.seat).log c.number).number ≡ Some c.number
+  pub number_then : (state_logged c new).number ≡ Some c.number
   number_then =
       ap (λ (l : LocalState). l.number)
       (after_own c.terms.shape c.number (view_of new.seat).log (called c).log u.events u.own)
@@ -303,7 +302,7 @@ module _ {L : Type 0} {holds : L → List Val → Type 0} {c : Inside L} (v : Ti
       ∙ v.number.1
 
   -- where the attempt has not committed nothing was, and it is the same attempt
-  pub same_done : (local c.terms.shape (view_of new.seat).log c.number).committed ≡ false →
+  pub same_done : (state_logged c new).committed ≡ false →
       done (called (record c { steps = new })) ≡ done (called c)
   same_done undone =
       subst (λ xs. done_by c.terms.shape c.terms.start.value.items xs xs c.number ≡ done (called c)) u.seen.whole
@@ -313,7 +312,7 @@ module _ {L : Type 0} {holds : L → List Val → Type 0} {c : Inside L} (v : Ti
       (sym u.seen.whole) call_there)
       (subst (λ xs. (local c.terms.shape xs c.number).committed ≡ false) (sym u.seen.whole) undone))
 
-  pub same_place : (local c.terms.shape (view_of new.seat).log c.number).committed ≡ false → (name : GName) →
+  pub same_place : (state_logged c new).committed ≡ false → (name : GName) →
       (table : Home L) → tx_place name table (called (record c { steps = new })) ≡ tx_place name table (called c)
   same_place undone name table =
       ap (λ t. record (tx_place name table (called (record c { steps = new }))) {
@@ -326,16 +325,13 @@ module _ {L : Type 0} {holds : L → List Val → Type 0} {c : Inside L} (v : Ti
       ∙ ap (λ xs. record (tx_place name table (called c)) { done = xs }) (same_done undone)
 
   -- an attempt that is over, whichever way it ended
-  pub over_tied : (last : Option ℕ) (fresh : Bool) →
-      (local c.terms.shape (view_of new.seat).log c.number).phase ≡ Outside →
-      (fresh ≡ false → (c.fresh ≡ false) × ((local c.terms.shape (view_of new.seat).log c.number).committed ≡ false)) →
-      IfSome answer (λ again.
-      IsLeft (called (record c { steps = new; live = false; last_number = last; left = answer; fresh = fresh })) again
-      × Promises (called (record c { steps = new; live = false; last_number = last; left = answer; fresh = fresh }))
-      again) →
-      IsTold (called (record c { steps = new; live = false; last_number = last; left = answer; fresh = fresh })) →
-      Tied holds (record c { steps = new; live = false; last_number = last; left = answer; fresh = fresh })
-  over_tied last fresh out same ended told = record {
+  pub over_tied : (last : Option ℕ) (fresh : Bool) (opened : OpenedAs) → opened.objects ≡ c.opened.objects →
+      (state_logged c new).phase ≡ Outside →
+      (fresh ≡ false → (c.fresh ≡ false) × ((state_logged c new).committed ≡ false)) →
+      IfSome answer (λ again. IsLeft (called (over_as c new last answer fresh opened)) again
+      × Promises (called (over_as c new last answer fresh opened)) again) →
+      IsTold (called (over_as c new last answer fresh opened)) → Tied holds (over_as c new last answer fresh opened)
+  over_tied last fresh opened objects out same ended told = record {
     seat = (u.view, u.seat.1);
     run = u.run;
     number = (v.number.0, number_then);
@@ -358,25 +354,20 @@ module _ {L : Type 0} {holds : L → List Val → Type 0} {c : Inside L} (v : Ti
     values = λ h. absurd (cc h);
     writes = λ h. absurd (cc h);
     olds = λ h. absurd (cc h);
-    objects = v.objects;
+    objects = objects ∙ v.objects;
     locators = λ h. absurd (cc h);
   }
 
   -- an attempt that goes on, with what is open then
   pub on_tied : {last : Option ℕ} (opened : OpenedAs) →
-      (local c.terms.shape (view_of new.seat).log c.number).phase ≡ Running →
-      (local c.terms.shape (view_of new.seat).log c.number).committed ≡ false →
-      (local c.terms.shape (view_of new.seat).log c.number).last_pass ≡ last →
-      AtRest (local c.terms.shape (view_of new.seat).log c.number) →
+      (state_logged c new).phase ≡ Running → (state_logged c new).committed ≡ false →
+      (state_logged c new).last_pass ≡ last → AtRest (state_logged c new) →
       IsTold (called (record c { steps = new; last_number = last; opened = opened })) →
       ((entry (called (record c { steps = new; last_number = last; opened = opened }))).reads ≢ [] →
       Sighted (called (record c { steps = new; last_number = last; opened = opened }))) →
-      words_of (local c.terms.shape (view_of new.seat).log c.number).reads ≡ map slot_word opened.reads →
-      read_values c.terms.shape c.terms.start.value.items (view_of new.seat).log
-      (local c.terms.shape (view_of new.seat).log c.number).reads ≡ map slot_value opened.reads →
-      AreWrites opened.writes (local c.terms.shape (view_of new.seat).log c.number).writes →
-      old_values c.terms.shape c.terms.start.value.items (view_of new.seat).log
-      (local c.terms.shape (view_of new.seat).log c.number).writes ≡ map slot_old opened.writes →
+      words_of (state_logged c new).reads ≡ map slot_word opened.reads → reads_in c (view_of new.seat).log
+      (state_logged c new).reads ≡ map slot_value opened.reads → AreWrites opened.writes (state_logged c new).writes →
+      olds_in c (view_of new.seat).log (state_logged c new).writes ≡ map slot_old opened.writes →
       opened.objects ≡ c.opened.objects → Tied holds (record c { steps = new; last_number = last; opened = opened })
   on_tied {last = last} opened runs undone passed rest told sighted reads values writes olds objects = record {
     seat = (u.view, u.seat.1);
@@ -410,47 +401,46 @@ module _ {L : Type 0} {holds : L → List Val → Type 0} {c : Inside L} (v : Ti
   }
 
 module _ {L : Type 0} {holds : L → List Val → Type 0} {c : Inside L} (v : Tied holds c) (live : c.live ≡ true)
-    {work : Work} {new : Steps L} {again : Again}
-    (u : InTask holds (called c).home (Doing work) (began_of (Doing work) (called c)) new Done (Some again))
-    (writes : c.terms.shape.all_write ≡ true → IsNoReading work) (last : Option ℕ) where
-  left_steps : Performs holds (Doing work) (called c) (called (left_as c new last again)) (Some again)
-  left_steps = performed v live u (called (left_as c new last again)) refl refl refl refl
+    {work : Work} {new : Steps L} {again : Again} (u : EndsHere holds c (Doing work) new (Some again))
+    (writes : c.terms.shape.all_write ≡ true → IsNoReading work) (last : Option ℕ) (opened : OpenedAs) where
+  abbrev after : Inside L
+  after = left_as c new last again opened
 
-  pub left_leaves : Leaves holds work (called c) (called (left_as c new last again)) again
+  left_steps : Performs holds (Doing work) (called c) (called after) (Some again)
+  left_steps = performed v live u (called after) refl refl refl refl
+
+  pub left_leaves : Leaves holds work (called c) (called after) again
   left_leaves = leaves left_steps (current_there v live u) (told_there v live u) refl refl writes
 
-  pub left_uncommitted : ((state (called (left_as c new last again))).phase ≡ Outside)
-      × ((state (called (left_as c new last again))).committed ≡ false)
+  pub left_uncommitted : ((state (called after)).phase ≡ Outside) × ((state (called after)).committed ≡ false)
   left_uncommitted = uncommitted left_steps (current_there v live u) (told_there v live u) refl refl writes
 
-  pub left_tied : Tied holds (left_as c new last again)
-  left_tied =
-      over_tied v live u last c.fresh left_uncommitted.0
-      (λ h. (h, left_uncommitted.1)) (left_leaves.left, left_leaves.promises) (told_then left_steps
-      (current_there v live u) (told_there v live u) refl refl writes)
+  left_told : IsTold (called after)
+  left_told = told_then left_steps (current_there v live u) (told_there v live u) refl refl writes
+
+  pub left_tied : opened.objects ≡ c.opened.objects → Tied holds after
+  left_tied objects =
+      over_tied v live u last c.fresh opened objects left_uncommitted.0 (λ h. (h, left_uncommitted.1))
+      (left_leaves.left, left_leaves.promises) left_told
 
   -- nothing was committed
-  pub left_done : done (called (left_as c new last again)) ≡ done (called c)
+  pub left_done : done (called after) ≡ done (called c)
   left_done = same_done v live u left_uncommitted.1
 
-  pub left_kept : called (left_as c new last again) ≡ record (called c) {
-    log = (view_of new.seat).log;
-    generator = new.decider.generator;
-    left = Some again;
-  }
-  left_kept =
-      ap (λ t. record (called (left_as c new last again)) { home = record { table = t; terms = c.terms } }) u.seat.0
+  pub left_kept : set_pairs opened.writes ≡ set_pairs c.opened.writes → called after
+      ≡ record (called c) { log = (view_of new.seat).log; generator = new.decider.generator; left = Some again }
+  left_kept set =
+      ap (λ t. record (called after) { home = record { table = t; terms = c.terms } }) u.seat.0
+      ∙ ap (λ s. record (called after) { home = (called c).home; set = s }) set
 
   -- it is the same attempt
-  pub left_place : (name : GName) (table : Home L) →
-      tx_place name table (called (left_as c new last again)) ≡ tx_place name table (called c)
+  pub left_place : (name : GName) (table : Home L) → tx_place name table (called after) ≡ tx_place name table (called c)
   left_place = same_place v live u left_uncommitted.1
 
   -- what is known of its end
-  pub left_ended : IsEnded (called (left_as c new last again))
+  pub left_ended : IsEnded (called after)
   left_ended = record {
-    told = told_then left_steps
-        (current_there v live u) (told_there v live u) refl refl writes;
+    told = left_told;
     left = (left_leaves.left, left_leaves.promises);
     bounded = λ none. absurd (cc);
   }

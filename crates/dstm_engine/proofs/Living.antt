@@ -20,14 +20,12 @@ use Rattle.dstm_engine.proofs.AddingUp.{makes_all, makes_both, makes_one}
 -- an own event is one of the caller
 own_is : (c : ℕ) (es : List Event) (e : Event) (rest : List Event) → events_of c es ≡ e ∷ rest → (e.caller == c) ≡ true
 own_is c [] e rest q = absurd (cc)
-own_is c (x ∷ es) e rest q = by (own_is c es e rest) (cases_Bool (x.caller == c))
-  where
-    by : (events_of c es ≡ e ∷ rest → (e.caller == c) ≡ true) →
-        (x.caller == c ≡ true) ⊎ (x.caller == c ≡ false) → (e.caller == c) ≡ true
-    by ih (inl own) =
-        let same : x ≡ e = let all = sym (own_first x es c own) ∙ q in cc in
-        subst (λ (y : Event). (y.caller == c) ≡ true) same own
-    by ih (inr other) = ih (sym (own_other x es c other) ∙ q)
+own_is c (x ∷ es) e rest q = elim (cases_Bool (x.caller == c)) [
+  | inl own ↦
+      let same : x ≡ e = let all = sym (own_first x es c own) ∙ q in cc in
+      subst (λ (y : Event). (y.caller == c) ≡ true) same own
+  | inr other ↦ own_is c es e rest (sym (own_other x es c other) ∙ q)
+]
 
 empty_right : (xs ys : List Event) → xs ++ ys ≡ [] → ys ≡ []
 empty_right [] ys q = q

@@ -21,12 +21,10 @@ use Rattle.dstm_engine.specs.Callers.{begun_log, since_begin}
 -- only a Begin changes how many attempts a caller has begun
 same_begun : (s : Shape) (l : LocalState) (e : Event) → is_begin e.kind ≡ false →
     (after e.kind s l e).begun ≡ l.begun
-same_begun s l e q = go (begun_how s l e e.kind)
-  where
-    go : ((e.kind ≡ Begin) × ((after e.kind s l e).begun ≡ l.begun + 1))
-        ⊎ ((e.kind ≢ Begin) × ((after e.kind s l e).begun ≡ l.begun)) → (after e.kind s l e).begun ≡ l.begun
-    go (inl x) = absurd (let z : true ≡ false = rw x.0 at q in cc)
-    go (inr x) = x.1
+same_begun s l e q = elim (begun_how s l e e.kind) [
+  | inl x ↦ absurd (let z : true ≡ false = rw x.0 at q in cc)
+  | inr x ↦ x.1
+]
 
 -- so it is as it was at its last one
 begun_since : (s : Shape) (c : ℕ) (log : List Event) → (local s log c).begun ≡ (local s (begun_log c log) c).begun

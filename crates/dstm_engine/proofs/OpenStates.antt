@@ -1,16 +1,17 @@
 -- The state in which an open ends.
-use Rattle.std.proofs.Common.{◌++◌, ◌+◌, ◌==◌, ◌∙◌, ◌∷◌, ◌≡◌, ◌⊎◌, ◌||◌, Bool, List, None, Option, Some, [], ap, arith, false, inl, inr, is_some, length, length-append, ne_eqb, refl, subst, sym, true, ℕ}
+use Rattle.std.proofs.Common.{◌++◌, ◌+◌, ◌==◌, ◌∙◌, ◌∷◌, ◌≡◌, ◌||◌, Bool, List, None, Option, Some, [], ap, arith, false, inl, inr, is_some, length, length-append, ne_eqb, refl, subst, sym, true, ℕ}
 use Rattle.std.specs.Prelude.{is_none}
 use Rattle.std.proofs.lemmas.Bool.{cases_Bool, cond_both, eq-eqb}
 use Rattle.dstm_steps.proofs.FoundValues.{found_kept}
 use Rattle.dstm_steps.specs.Finding.{IsFound, KeepsAttempt}
-use Rattle.dstm_steps.specs.Opening.{Acquired, HeldApart, risen}
+use Rattle.dstm_steps.specs.Opening.{Acquired, risen}
 use Rattle.dstm_steps.specs.Under.{IsRunning, passed}
 use Rattle.dstm_steps.specs.declared.resolving.Found.{Found}
 use Rattle.dstm_core.specs.Rules.{install}
 use Rattle.dstm_core.specs.State.{LocalState, drop_read, is_resolved, keep_resolved, next_locator, or_unresolved, or_zero, read_of, record_resolved, res, version, write_of}
 use Rattle.dstm_core.specs.declared.shape.Manager.{Manager}
 use Rattle.dstm_core.specs.declared.shape.Shape.{Shape}
+use Rattle.dstm_core.specs.declared.state.Phase.{Phase}
 use Rattle.dstm_core.specs.declared.state.Phase.TheVariants.{Running}
 use Rattle.dstm_core.specs.declared.state.Read.{Read}
 use Rattle.dstm_core.specs.declared.state.Resolution.{Resolution}
@@ -42,20 +43,19 @@ read_last o (x ∷ rs) r q =
 recorded_again : (o : Option Resolution) (rs : List Read) →
     record_resolved (keep_resolved o) (record_resolved o rs) ≡ record_resolved o rs
 recorded_again None rs = refl
-recorded_again (Some r) rs = by (cases_Bool (is_resolved r)) (cases_Bool (is_none (read_of r.object rs)))
-  where
-    by : (is_resolved r ≡ true) ⊎ (is_resolved r ≡ false) →
-        (is_none (read_of r.object rs) ≡ true) ⊎ (is_none (read_of r.object rs) ≡ false) →
-        record_resolved (keep_resolved (Some r)) (record_resolved (Some r) rs) ≡ record_resolved (Some r) rs
-    by (inr unknown) n = rw unknown refl
-    by (inl known) (inr there) = rw (known, there, known, there) refl
-    by (inl known) (inl none) =
+recorded_again (Some r) rs = elim (cases_Bool (is_resolved r)) [
+  | inr unknown ↦ rw unknown refl
+  | inl known ↦ elim (cases_Bool (is_none (read_of r.object rs))) [
+    | inr there ↦ rw (known, there, known, there) refl
+    | inl none ↦
         let last : is_none (read_of r.object (rs ++ record {
           object = r.object;
           word = r.word;
           version = or_zero (version r);
         } ∷ [])) ≡ false = read_last r.object rs _ refl in
         rw (known, none, known, last) refl
+  ]
+]
 
 -- ---- the state after the pass, and after the rank was raised
 
@@ -109,16 +109,17 @@ either_true : (a : Bool) → a || true ≡ true
 either_true true = refl
 either_true false = refl
 
-same_keeps : {old : LocalState} (before : LocalState) → IsRunning old → (old.written ≡ 0) × (old.high_put ≡ false) →
-    KeepsAttempt old before → Same old before
-same_keeps before run put keeps = record {
-  phase = ap (λ (l : LocalState). l.phase) keeps ∙ run.phase;
-  committed = ap (λ (l : LocalState). l.committed) keeps;
-  agreed = ap (λ (l : LocalState). l.stale) keeps ∙ run.agreed;
-  not_put = (
-    ap (λ (l : LocalState). l.written) keeps ∙ put.0,
-    ap (λ (l : LocalState). l.high_put) keeps ∙ put.1,
-  );
+-- what a state tells of its attempt
+abbrev attempt_of : LocalState → Phase × Bool × Bool × ℕ × Bool
+attempt_of l = (l.phase, l.committed, l.stale, l.written, l.high_put)
+
+same_attempt : {old : LocalState} (new : LocalState) → attempt_of new ≡ attempt_of old → IsRunning old →
+    (old.written ≡ 0) × (old.high_put ≡ false) → Same old new
+same_attempt new is run put = record {
+  phase = ap (λ a. a.0) is ∙ run.phase;
+  committed = ap (λ a. a.1) is;
+  agreed = ap (λ a. a.2) is ∙ run.agreed;
+  not_put = (ap (λ a. a.3) is ∙ put.0, ap (λ a. a.4) is ∙ put.1);
 }
 
 -- what is resolved is kept
@@ -134,19 +135,13 @@ module _ (old : LocalState) {before : LocalState} (object : ℕ) {found : Found}
   record_read =
       recorded_new before.resolution before.reads is.there is.resolved
       (ap (λ o. read_of o before.reads) at ∙ ap (λ (l : LocalState). read_of object l.reads) keeps ∙ unread)
-      ∙ ap (λ (l : LocalState). l.reads ++ record {
-        object = (res before).object;
-        word = (res before).word;
-        version = or_zero (version (res before));
-      } ∷ []) keeps
-      ∙ ap (λ o. old.reads ++ record {
+      ∙ rw (ap (λ (l : LocalState). l.reads) keeps) (ap (λ o. old.reads ++ record {
         object = o;
         word = (res before).word;
         version = or_zero (version (res before));
       } ∷ []) at
       ∙ ap (λ w. old.reads ++ record { object = object; word = w; version = or_zero (version (res before)) } ∷ [])
-      is.word
-      ∙ ap (λ v. old.reads ++ record { object = object; word = found.word; version = or_zero v } ∷ []) is.version_is
+      is.word ∙ ap (λ v. old.reads ++ record { object = object; word = found.word; version = or_zero v } ∷ []) is.version_is)
 
   -- so the rank is owed
   pub owed_read : (passed 0 before).owed ≡ true
@@ -166,7 +161,7 @@ module _ (old : LocalState) {before : LocalState} (object : ℕ) {found : Found}
         let l = passed number before in
         let k = kept_risen m l in
         subst (AddsRead object found.word found.version old) (sym end) (record {
-          goes_on = goes_risen m (goes_passed number (same_keeps before run put keeps));
+          goes_on = goes_risen m (goes_passed number (same_attempt before (ap attempt_of keeps) run put));
           reads = k.reads ∙ record_read;
           writes = k.writes ∙ ap (λ (x : LocalState). x.writes) keeps;
         })
@@ -188,18 +183,6 @@ module _ (old : LocalState) {before : LocalState} (object : ℕ) {found : Found}
 
 -- ---- an open for writing
 
-same_installs : (s : Shape) {old : LocalState} (before : LocalState) → IsRunning old → (old.written ≡ 0)
-    × (old.high_put ≡ false) → HeldApart old before → Same old (install s before)
-same_installs s before run put apart = record {
-  phase = ap (λ (l : LocalState). l.phase) apart ∙ run.phase;
-  committed = ap (λ (l : LocalState). l.committed) apart;
-  agreed = ap (λ (l : LocalState). l.stale) apart ∙ run.agreed;
-  not_put = (
-    ap (λ (l : LocalState). l.written) apart ∙ put.0,
-    ap (λ (l : LocalState). l.high_put) apart ∙ put.1,
-  );
-}
-
 module _ {s : Shape} (m : Manager) (number : ℕ) {object : ℕ} {found : Found} {old mid new : LocalState}
     (run : IsRunning old) (put : (old.written ≡ 0) × (old.high_put ≡ false)) (a : Acquired s object old mid found)
     (end : new ≡ risen m (passed number mid)) where
@@ -210,28 +193,16 @@ module _ {s : Shape} (m : Manager) (number : ℕ) {object : ℕ} {found : Found}
       let l = passed number (install s a.before) in
       let k = kept_risen m l in
       subst (AddsWrite object found.version old) (sym end_is) (record {
-        goes_on = goes_risen m (goes_passed number (same_installs s a.before run put a.apart));
+        goes_on = goes_risen m (goes_passed number (same_attempt (install s a.before) (ap attempt_of a.apart) run put));
         locator = next_locator s a.before;
         reads =
             k.reads ∙ ap (λ o. drop_read o a.before.reads) a.object_is
             ∙ ap (λ (x : LocalState). drop_read object x.reads) a.apart;
         writes =
             k.writes
-            ∙ ap (λ (x : LocalState). x.writes ++ record {
-              object = (res a.before).object;
-              locator = next_locator s a.before;
-              old = or_zero (version (res a.before));
-            } ∷ []) a.apart
-            ∙ ap (λ o. old.writes ++ record {
-              object = o;
-              locator = next_locator s a.before;
-              old = or_zero (version (res a.before));
-            } ∷ []) a.object_is
-            ∙ ap (λ v. old.writes ++ record {
-              object = object;
-              locator = next_locator s a.before;
-              old = or_zero v;
-            } ∷ []) a.found_is.version_is;
+            ∙ rw (ap (λ (x : LocalState). x.writes) a.apart, a.object_is)
+            (ap (λ v. old.writes ++ record { object = object; locator = next_locator s a.before; old = or_zero v } ∷ [])
+            a.found_is.version_is);
       })
 
   pub last_write : new.last_pass ≡ Some number

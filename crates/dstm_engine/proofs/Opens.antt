@@ -1,19 +1,16 @@
 -- A caller after an open.
-use Rattle.std.proofs.Common.{◌++◌, ◌+◌, ◌<◌, ◌≤◌, ◌==◌, ◌∙◌, ◌∷◌, ◌≡◌, ◌≢◌, ◌⊎◌, List, None, Option, Some, [], ap, arith, false, inl, inr, length, length-append, map, refl, subst, sym, true, ℕ}
+use Rattle.std.proofs.Common.{◌++◌, ◌+◌, ◌<◌, ◌≤◌, ◌==◌, ◌∙◌, ◌∷◌, ◌≡◌, ◌≢◌, List, None, Option, Some, [], ap, arith, false, inl, inr, length, length-append, map, refl, subst, sym, true, ℕ}
 use Rattle.std.specs.Prelude.{IsSome, IsTrue, if◌then◌else◌, is_some, option_map}
 use Rattle.std.specs.Option.{option_or}
 use Rattle.std.proofs.lemmas.Bool.{cases_Bool, cases_eq, cond_both, eq-eqb, ne_eqb}
 use Rattle.std.proofs.lemmas.List.{length-map, map-append}
 use Rattle.dstm_steps.proofs.Stepping.{call_of}
 use Rattle.dstm_steps.specs.Reads.{words_of}
-use Rattle.dstm_steps.specs.Under.{InTask, now}
+use Rattle.dstm_steps.specs.Under.{now}
 use Rattle.dstm_steps.specs.Writes.{AreWrites}
 use Rattle.dstm_steps.specs.declared.slots.ReadSlot.{ReadSlot}
 use Rattle.dstm_steps.specs.declared.slots.WriteSlot.{WriteSlot}
 use Rattle.dstm_steps.specs.declared.steps.Steps.{Steps}
-use Rattle.dstm_opacity.specs.Committed.{done_by}
-use Rattle.dstm_progress.proofs.Adding.{adds_nothing}
-use Rattle.dstm_progress.specs.Ends.{IsCallIn}
 use Rattle.dstm_mem.proofs.Pairs.{value_in-other, value_in-same}
 use Rattle.dstm_model.specs.Map.{IsUnnamed, no_value}
 use Rattle.dstm_opacity.proofs.Entries.{entry_once}
@@ -22,7 +19,6 @@ use Rattle.dstm_opacity.proofs.Room.{one_more_write}
 use Rattle.dstm_steps.specs.Finding.{word_of}
 use Rattle.dstm_core.specs.Events.{Event}
 use Rattle.dstm_core.specs.Histories.{old_values, read_values, version_value}
-use Rattle.dstm_core.specs.Runs.{local}
 use Rattle.dstm_core.specs.State.{LocalState, drop_read, read_of, write_of}
 use Rattle.dstm_core.specs.declared.shape.Shape.{Shape}
 use Rattle.dstm_core.specs.declared.state.Phase.TheVariants.{Outside, Running}
@@ -31,7 +27,6 @@ use Rattle.dstm_core.specs.declared.state.Write.{Write}
 use Rattle.dstm_mem.specs.Memory.{HoldsAlso, MarksAtMost, value_in}
 use Rattle.dstm_model.specs.declared.value.Val.{Val}
 use Rattle.dstm_opacity.proofs.Held.{version_by_open, version_held}
-use Rattle.dstm_order.specs.Order.Due.{Done}
 use Rattle.dstm_order.specs.Passes.{is_open}
 use Rattle.dstm_order.specs.Tasks.{Work}
 use Rattle.dstm_order.specs.Tasks.Task.{Doing}
@@ -44,28 +39,25 @@ use Rattle.dstm_words.specs.Seats.{view_of}
 use Rattle.dstm_engine.proofs.Continuing.{doing_keeps, kept_live, kept_most, told_more}
 use Rattle.dstm_engine.proofs.HeldStill.{by_version, narrows_by, same_held, still_held}
 use Rattle.dstm_engine.proofs.Keeping.{DropsNone, opens_keep, read_apart, write_apart, write_last, write_more}
-use Rattle.dstm_engine.proofs.Left.{call_there, current_there, left_as, left_done, left_leaves, left_tied, on_tied, performed, stays, told_there}
+use Rattle.dstm_engine.proofs.Left.{current_there, left_as, left_attempt, left_done, left_kept, left_leaves, left_uncommitted, on_tied, performed, same_done, stays, told_there}
 use Rattle.dstm_engine.proofs.Steady.{stay}
 use Rattle.dstm_engine.proofs.Setting.{opened_slot, set_pairs_push}
 use Rattle.dstm_engine.proofs.Sights.{open_sees, sees_all, sighted_admits}
 use Rattle.dstm_engine.proofs.Slots.{slot_read, words_push, words_without}
-use Rattle.dstm_engine.proofs.Tying.{live_there, state_then}
+use Rattle.dstm_engine.proofs.Tying.{EndsHere, live_there, olds_in, reads_in, state_logged, state_then}
 use Rattle.dstm_engine.specs.Attempts.{Sighted, done}
-use Rattle.dstm_engine.specs.Began.{began_of}
-use Rattle.dstm_engine.specs.Callers.{Called, begun_log, entry, held, is_opened, is_running, state}
-use Rattle.dstm_engine.specs.Calls.{IsMade, IsTold, Performs}
+use Rattle.dstm_engine.specs.Callers.{Called, entry, handed, held, is_opened, is_running, state}
+use Rattle.dstm_engine.specs.Calls.{IsTold, Performs}
 use Rattle.dstm_engine.specs.Mirror.{AtRest, Tied, called, phase_by, set_pairs, slot_old, slot_value, slot_word, with_new}
 use Rattle.dstm_engine.specs.Opened.{OpenedAs, read_slot, without_read, write_slot}
-use Rattle.dstm_engine.specs.Opens.{AddsRead, AddsWrite, Continues, GoesOn, HasVersion, IsOver, Opens, Stops}
-use Rattle.dstm_engine.specs.Outcomes.{IsLeft, Promises}
-use Rattle.dstm_engine.specs.Transactions.{Leaves, Stays}
+use Rattle.dstm_engine.specs.Opens.{AddsRead, AddsWrite, GoesOn, HasVersion, Opens, Stops}
 use Rattle.dstm_engine.specs.declared.caller.Caller.TheInside.{Inside}
 
 -- ---- any open
 
 module _ {L : Type 0} {holds : L → List Val → Type 0} {c : Inside L} (v : Tied holds c) (live : c.live ≡ true)
     {work : Work} (is_one : is_open work ≡ true) {new : Steps L} {answer : Option Again}
-    (u : InTask holds (called c).home (Doing work) (began_of (Doing work) (called c)) new Done answer) where
+    (u : EndsHere holds c (Doing work) new answer) where
   drops_none : DropsNone u.events
   drops_none = opens_keep work c.terms.shape (state (called c)) c.steps.decider.generator u.events is_one u.obeys
 
@@ -77,7 +69,7 @@ module _ {L : Type 0} {holds : L → List Val → Type 0} {c : Inside L} (v : Ti
       u.seen v.number.0 (current_there v live u).live u.events u.own drops_none
 
   pub holds_same : (o : ℕ) →
-      version_held (local c.terms.shape (view_of new.seat).log c.number) o ≡ version_held (state (called c)) o →
+      version_held (state_logged c new) o ≡ version_held (state (called c)) o →
       held (called (record c { steps = new })) o ≡ held (called c) o
   holds_same =
       same_held c.terms.shape c.terms.start.value.items (called c).log (view_of new.seat).log c.number u.run.run.core
@@ -98,15 +90,14 @@ open_is (Committing value) h = absurd (cc)
 -- ---- an open that ends well
 
 module _ {L : Type 0} {holds : L → List Val → Type 0} {c : Inside L} (v : Tied holds c) (live : c.live ≡ true)
-    {work : Work} (is_one : is_open work ≡ true) {new : Steps L}
-    (u : InTask holds (called c).home (Doing work) (began_of (Doing work) (called c)) new Done None)
+    {work : Work} (is_one : is_open work ≡ true) {new : Steps L} (u : EndsHere holds c (Doing work) new None)
     (goes : GoesOn (state (called c)) (now (called c).home new)) {last : Option ℕ}
     (last_is : last ≡ (now (called c).home new).last_pass) (opened : OpenedAs)
     (objects : opened.objects ≡ c.opened.objects) (set : set_pairs opened.writes ≡ set_pairs c.opened.writes)
     (words : words_of (now (called c).home new).reads ≡ map slot_word opened.reads)
-    (values : read_values c.terms.shape c.terms.start.value.items (view_of new.seat).log (now (called c).home new).reads
+    (values : reads_in c (view_of new.seat).log (now (called c).home new).reads
     ≡ map slot_value opened.reads) (writes : AreWrites opened.writes (now (called c).home new).writes)
-    (olds : old_values c.terms.shape c.terms.start.value.items (view_of new.seat).log (now (called c).home new).writes
+    (olds : olds_in c (view_of new.seat).log (now (called c).home new).writes
     ≡ map slot_old opened.writes) (no_reading : c.terms.shape.all_write ≡ true → IsNoReading work)
     (few : length (now (called c).home new).reads ≤ length (state (called c)).reads + 1) where
   abbrev pub opened_as : Inside L
@@ -124,20 +115,14 @@ module _ {L : Type 0} {holds : L → List Val → Type 0} {c : Inside L} (v : Ti
   steps : Performs holds (Doing work) (called c) (called opened_as) None
   steps = performed v live u (called opened_as) refl refl refl refl
 
-  pub opened_stays : Stays holds work (called c) (called opened_as)
-  opened_stays = stays steps (λ out. let x = runs in cc)
-
   pub opened_sighted : Sighted (called opened_as)
   opened_sighted =
       sees_all (called opened_as) (open_sees c.number (view_of new.seat).log (called c).log is_one
       (v.phase ∙ ap phase_by live) (call_of u).0 u.own runs)
 
-  pub opened_attempt : begun_log c.number (view_of new.seat).log ≡ begun_log c.number (called c).log
-  opened_attempt = doing_keeps steps
-
   told : IsTold (called opened_as)
   told =
-      told_more (told_there v live u) steps (current_there v live u).live opened_attempt refl (v.left live) no_reading
+      told_more (told_there v live u) steps (current_there v live u).live (doing_keeps steps) refl (v.left live) no_reading
       (let most = kept_most (called opened_as) in
       let same = ap (λ (l : LocalState). length l.reads) opened_state in
       let was = kept_live (called c) (sym (live_there v) ∙ live) in
@@ -148,132 +133,67 @@ module _ {L : Type 0} {holds : L → List Val → Type 0} {c : Inside L} (v : Ti
       on_tied v live u opened runs uncommitted (ap (λ (l : LocalState). l.last_pass) opened_state ∙ sym last_is)
       (subst (λ (l : LocalState). AtRest l) (sym opened_state) goes.rest) told (λ some. opened_sighted)
       (ap (λ (l : LocalState). words_of l.reads) opened_state ∙ words)
-      (ap (λ (l : LocalState). read_values c.terms.shape c.terms.start.value.items (view_of new.seat).log l.reads)
+      (ap (λ (l : LocalState). reads_in c (view_of new.seat).log l.reads)
       opened_state ∙ values) (subst (λ (l : LocalState). AreWrites opened.writes l.writes) (sym opened_state) writes)
-      (ap (λ (l : LocalState). old_values c.terms.shape c.terms.start.value.items (view_of new.seat).log l.writes)
-      opened_state ∙ olds) objects
-
-  pub opened_kept : called opened_as ≡ record (called c) {
-    log = (view_of new.seat).log;
-    generator = new.decider.generator;
-    left = None;
-  }
-  opened_kept =
-      ap (λ t. record (called opened_as) { home = record { table = t; terms = c.terms } }) u.seat.0
-      ∙ ap (λ s. record (called c) { log = (view_of new.seat).log; generator = new.decider.generator; set = s }) set
-      ∙ ap (λ left. record (called c) {
-        log = (view_of new.seat).log;
-        generator = new.decider.generator;
-        left = left;
-      }) (v.left live)
-
-  pub opened_done : done (called opened_as) ≡ done (called c)
-  opened_done =
-      subst (λ xs. done_by c.terms.shape c.terms.start.value.items xs xs c.number ≡ done (called c)) u.seen.whole
-      (adds_nothing work c.terms.shape c.terms.start.value.items c.number c.steps.decider.generator u.events u.seen.later
-      (called c).log
-      (subst (λ xs. IsCallIn (Doing work) c.terms.shape c.number c.steps.decider.generator u.events (called c).log xs)
-      (sym u.seen.whole) (call_there v live u))
-      (subst (λ xs. (local c.terms.shape xs c.number).committed ≡ false) (sym u.seen.whole) uncommitted))
+      (ap (λ (l : LocalState). olds_in c (view_of new.seat).log l.writes) opened_state ∙ olds) objects
 
   -- the attempt goes on with an object more
-  pub opened_continues : {o : ℕ} → HoldsAlso o (held (called c)) (held (called opened_as)) →
-      MarksAtMost o (is_opened (called c)) (is_opened (called opened_as)) →
-      Continues holds o (called c) (called opened_as)
-  opened_continues also marks = record {
-    live = ap is_running runs;
-    sight = opened_sighted;
-    held = also;
-    opened = marks;
-    attempt = opened_attempt;
-    done = opened_done;
-    narrows = narrows_by holds (called c) (called opened_as) (same_home v live is_one u)
-        (holds_still v live is_one u);
-    admits = sighted_admits u.run opened_sighted;
+  pub opens_with : {o : ℕ} {value : Val} → HoldsAlso o (held (called c)) (held (called opened_as)) →
+      MarksAtMost o (is_opened (called c)) (is_opened (called opened_as)) → Some value ≡ handed (called opened_as) o →
+      Opens holds work o (called c) (called opened_as) value
+  opens_with also marks hands = record {
+    stays = stays steps (λ out. let x = runs in cc);
+    kept =
+        ap (λ t. record (called opened_as) { home = record { table = t; terms = c.terms } }) u.seat.0
+        ∙ ap (λ s. record (called opened_as) { home = (called c).home; set = s }) set
+        ∙ ap (λ left. record (called c) {
+          log = (view_of new.seat).log;
+          generator = new.decider.generator;
+          left = left;
+        }) (v.left live);
+    continues = record {
+      live = ap is_running runs;
+      sight = opened_sighted;
+      held = also;
+      opened = marks;
+      attempt = doing_keeps steps;
+      done = same_done v live u uncommitted;
+      narrows = narrows_by holds (called c) (called opened_as) (same_home v live is_one u)
+          (holds_still v live is_one u);
+      admits = sighted_admits u.run opened_sighted;
+    };
+    hands = hands;
   }
 
 -- ---- an open that has left its attempt
 
 module _ {L : Type 0} {holds : L → List Val → Type 0} {c : Inside L} (v : Tied holds c) (live : c.live ≡ true)
     {work : Work} (is_one : is_open work ≡ true) {new : Steps L} {again : Again}
-    (u : InTask holds (called c).home (Doing work) (began_of (Doing work) (called c)) new Done (Some again))
+    (u : EndsHere holds c (Doing work) new (Some again))
     (no_reading : c.terms.shape.all_write ≡ true → IsNoReading work) (last : Option ℕ) (opened : OpenedAs)
-    (objects : opened.objects ≡ c.opened.objects) (set : set_pairs opened.writes ≡ set_pairs c.opened.writes) where
-  abbrev pub stopped_as : Inside L
-  stopped_as = record c { steps = new; live = false; last_number = last; left = Some again; opened = opened }
-
-  pub stopped_tied : Tied holds stopped_as
-  stopped_tied =
-      let t = left_tied v live u no_reading last in record {
-        seat = t.seat;
-        run = t.run;
-        number = t.number;
-        shape = t.shape;
-        mirror = t.mirror;
-        begun = t.begun;
-        phase = t.phase;
-        manager = t.manager;
-        fresh = t.fresh;
-        unused = t.unused;
-        last_number = λ h. absurd (cc h);
-        rest = λ h. absurd (cc h);
-        left = λ h. absurd (cc h);
-        ended = subst (λ s. IsLeft (record (called (left_as c new last again)) { set = s }) again
-            × Promises (record (called (left_as c new last again)) { set = s }) again) (sym set) t.ended;
-        uncommitted = λ h. absurd (cc h);
-        told = subst (λ s. IsMade (record (called (left_as c new last again)) { set = s }) →
-            IsTold (record (called (left_as c new last again)) { set = s })) (sym set) t.told;
-        sighted = λ h. absurd (cc h);
-        reads = λ h. absurd (cc h);
-        values = λ h. absurd (cc h);
-        writes = λ h. absurd (cc h);
-        olds = λ h. absurd (cc h);
-        objects = objects ∙ t.objects;
-        locators = λ h. absurd (cc h);
-      }
-
-  pub stopped_leaves : Leaves holds work (called c) (called stopped_as) again
-  stopped_leaves =
-      subst (λ s. Leaves holds work (called c) (record (called (left_as c new last again)) { set = s }) again) (sym set)
-      (left_leaves v live u no_reading last)
-
-  pub stopped_kept : called stopped_as ≡ record (called c) {
-    log = (view_of new.seat).log;
-    generator = new.decider.generator;
-    left = Some again;
+    (set : set_pairs opened.writes ≡ set_pairs c.opened.writes) where
+  pub stopped : Stops holds work (called c) (called (left_as c new last again opened)) again
+  stopped = record {
+    leaves = left_leaves v live u no_reading last opened;
+    kept = left_kept v live u no_reading last opened set;
+    over = record {
+      live = ap is_running (left_uncommitted v live u no_reading last opened).0;
+      attempt = left_attempt v live u no_reading last opened;
+      done = left_done v live u no_reading last opened;
+      narrows = narrows_by holds (called c) (called (left_as c new last again opened)) (same_home v live is_one u)
+          (holds_still v live is_one u);
+    };
   }
-  stopped_kept =
-      ap (λ t. record (called stopped_as) { home = record { table = t; terms = c.terms } }) u.seat.0
-      ∙ ap (λ s. record (called c) {
-        log = (view_of new.seat).log;
-        generator = new.decider.generator;
-        left = Some again;
-        set = s;
-      }) set
-
-  over : IsOver holds (called c) (called stopped_as)
-  over = record {
-    live = ap is_running (left_tied v live u no_reading last).phase;
-    attempt = doing_keeps (performed v live u (called stopped_as) refl refl refl refl);
-    done = left_done v live u no_reading last;
-    narrows = narrows_by holds (called c) (called stopped_as)
-        (same_home v live is_one u) (holds_still v live is_one u);
-  }
-
-  pub stopped : Stops holds work (called c) (called stopped_as) again
-  stopped = record { leaves = stopped_leaves; kept = stopped_kept; over = over }
 
 -- ---- an open for reading
 
 read_last : (o : ℕ) (rs : List Read) (r : Read) → r.object ≡ o → read_of o rs ≡ None →
     read_of o (rs ++ r ∷ []) ≡ Some r
 read_last o [] r q none = rw (eq-eqb r.object o q) refl
-read_last o (x ∷ rs) r q none = by (cases_Bool (x.object == o)) (read_last o rs r q)
-  where
-    by : (x.object == o ≡ true) ⊎ (x.object == o ≡ false) → (read_of o rs ≡ None → read_of o (rs ++ r ∷ []) ≡ Some r) →
-        read_of o (x ∷ (rs ++ r ∷ [])) ≡ Some r
-    by (inl z) ih = absurd (let w : Some x ≡ None = rw z at none in cc)
-    by (inr z) ih = rw z (ih (rw z at none))
+read_last o (x ∷ rs) r q none = elim (cases_Bool (x.object == o)) [
+  | inl z ↦ absurd (let w : Some x ≡ None = rw z at none in cc)
+  | inr z ↦ rw z (read_last o rs r q (rw z at none))
+]
 
 read_other : (o : ℕ) (rs : List Read) (r : Read) → r.object ≢ o → read_of o (rs ++ r ∷ []) ≡ read_of o rs
 read_other o [] r other = rw (ne_eqb r.object o other) refl
@@ -311,17 +231,15 @@ slot_olds-push (x ∷ ws) w = ap (λ xs. slot_old x ∷ xs) (slot_olds-push ws w
 -- an object that has no slot has no value set
 pub unset : (slots : List WriteSlot) (o : ℕ) → write_slot slots o ≡ None → value_in (set_pairs slots) o ≡ None
 unset [] o none = refl
-unset (s ∷ slots) o none = by (cases_Bool (s.object == o)) (unset slots o)
+unset (s ∷ slots) o none = elim (cases_Bool (s.object == o)) [
+  | inl q ↦ absurd (let z : Some s ≡ None = rw q at none in cc)
+  | inr q ↦ other q s.new (unset slots o (rw q at none))
+]
   where
     other : s.object == o ≡ false → (new : Option Val) → value_in (set_pairs slots) o ≡ None →
         value_in (with_new s.object new (set_pairs slots)) o ≡ None
     other q None h = h
     other q (Some x) h = rw q h
-
-    by : (s.object == o ≡ true) ⊎ (s.object == o ≡ false) →
-        (write_slot slots o ≡ None → value_in (set_pairs slots) o ≡ None) → value_in (set_pairs (s ∷ slots)) o ≡ None
-    by (inl q) ih = absurd (let z : Some s ≡ None = rw q at none in cc)
-    by (inr q) ih = other q s.new (ih (rw q at none))
 
 pub none_of : {A : Type 0} (o : Option A) → is_some o ≡ false → o ≡ None
 none_of None h = refl
@@ -338,11 +256,10 @@ no_word (Some s) h = absurd (cc)
 
 unnamed_of : (ps : List (ℕ × Val)) (o : ℕ) → value_in ps o ≡ None → IsUnnamed o ps
 unnamed_of [] o h = tt
-unnamed_of (p ∷ ps) o h = by (cases_eq p.0 o) (unnamed_of ps o)
-  where
-    by : (p.0 ≡ o) ⊎ (p.0 ≡ o → ⊥) → (value_in ps o ≡ None → IsUnnamed o ps) → IsUnnamed o (p ∷ ps)
-    by (inl q) ih = absurd (let z : None ≡ Some p.1 = sym h ∙ value_in-same p ps o q in cc)
-    by (inr n) ih = (n, ih (sym (value_in-other p ps o n) ∙ h))
+unnamed_of (p ∷ ps) o h = elim (cases_eq p.0 o) [
+  | inl q ↦ absurd (let z : None ≡ Some p.1 = sym h ∙ value_in-same p ps o q in cc)
+  | inr n ↦ (n, unnamed_of ps o (sym (value_in-other p ps o n) ∙ h))
+]
 
 -- there are as many slots as objects open for writing
 pub writes_length : (slots : List WriteSlot) (ws : List Write) → AreWrites slots ws → length slots ≡ length ws
@@ -393,8 +310,7 @@ module _ {L : Type 0} {holds : L → List Val → Type 0} {c : Inside L} (v : Ti
           (entry_once c.terms.shape c.terms.start.value.items (called c).log (called c).log c.number v.run.run.core
               v.number.0 inside).reads,
         ) in
-        let longer = length-append (read_values c.terms.shape c.terms.start.value.items (called c).log
-        (state (called c)).reads) (old_values c.terms.shape c.terms.start.value.items (called c).log
+        let longer = length-append (reads_in c (called c).log (state (called c)).reads) (olds_in c (called c).log
         (state (called c)).writes) in
         let same = ap (λ xs. length xs) (v.values live) in
         let slots = length-map c.opened.reads slot_value in
@@ -425,8 +341,7 @@ module _ {L : Type 0} {holds : L → List Val → Type 0} {c : Inside L} (v : Ti
         omega arith
 
 module _ {L : Type 0} {holds : L → List Val → Type 0} {c : Inside L} (v : Tied holds c) (live : c.live ≡ true)
-    {o word version : ℕ} (value : Val) {new : Steps L}
-    (u : InTask holds (called c).home (Doing (Reading o)) (began_of (Doing (Reading o)) (called c)) new Done None)
+    {o word version : ℕ} (value : Val) {new : Steps L} (u : EndsHere holds c (Doing (Reading o)) new None)
     (adds : AddsRead o word version (state (called c)) (now (called c).home new))
     (valued : HasVersion (called c).home new o version value) {last : Option ℕ}
     (last_is : last ≡ (now (called c).home new).last_pass) (unheld : held (called c) o ≡ None)
@@ -436,6 +351,9 @@ module _ {L : Type 0} {holds : L → List Val → Type 0} {c : Inside L} (v : Ti
     reads = c.opened.reads ++ record { object = o; word = word; value = value; kept = true } ∷ [];
   }
 
+  abbrev new_read : Read
+  new_read = record { object = o; word = word; version = version }
+
   none_open : (write_of o (state (called c)).writes ≡ None) × (read_of o (state (called c)).reads ≡ None)
   none_open = unheld_both v live o unheld
 
@@ -444,10 +362,10 @@ module _ {L : Type 0} {holds : L → List Val → Type 0} {c : Inside L} (v : Ti
       ap words_of adds.reads ∙ words_push (state (called c)).reads _ ∙ ap (λ xs. xs ++ (o, word) ∷ []) (v.reads live)
       ∙ sym (map-append slot_word c.opened.reads (_ ∷ []))
 
-  values : read_values c.terms.shape c.terms.start.value.items (view_of new.seat).log (now (called c).home new).reads
+  values : reads_in c (view_of new.seat).log (now (called c).home new).reads
       ≡ map slot_value read_opened.reads
   values =
-      ap (read_values c.terms.shape c.terms.start.value.items (view_of new.seat).log) adds.reads
+      ap (reads_in c (view_of new.seat).log) adds.reads
       ∙ read_values-push c.terms.shape c.terms.start.value.items (view_of new.seat).log (state (called c)).reads _
       ∙ ap (λ xs. xs ++ (o, version_value c.terms.shape c.terms.start.value.items (view_of new.seat).log o version) ∷ [])
       ((stay v live u).0 ∙ v.values live)
@@ -456,10 +374,10 @@ module _ {L : Type 0} {holds : L → List Val → Type 0} {c : Inside L} (v : Ti
   writes : AreWrites c.opened.writes (now (called c).home new).writes
   writes = subst (AreWrites c.opened.writes) (sym adds.writes) (v.writes live)
 
-  olds : old_values c.terms.shape c.terms.start.value.items (view_of new.seat).log (now (called c).home new).writes
+  olds : olds_in c (view_of new.seat).log (now (called c).home new).writes
       ≡ map slot_old c.opened.writes
   olds =
-      ap (old_values c.terms.shape c.terms.start.value.items (view_of new.seat).log) adds.writes
+      ap (olds_in c (view_of new.seat).log) adds.writes
       ∙ (stay v live u).1 ∙ v.olds live
 
   no_reading : c.terms.shape.all_write ≡ true → IsNoReading (Reading o)
@@ -467,7 +385,7 @@ module _ {L : Type 0} {holds : L → List Val → Type 0} {c : Inside L} (v : Ti
 
   one_more : length (now (called c).home new).reads ≤ length (state (called c)).reads + 1
   one_more =
-      let more = length-append (state (called c)).reads (record { object = o; word = word; version = version } ∷ []) in
+      let more = length-append (state (called c)).reads (new_read ∷ []) in
       let same = ap (λ (rs : List Read). length rs) adds.reads in omega arith
 
   abbrev pub read_as : Inside L
@@ -486,42 +404,27 @@ module _ {L : Type 0} {holds : L → List Val → Type 0} {c : Inside L} (v : Ti
   holds_it : held (called read_as) o ≡ Some value
   holds_it =
       by_version c.terms.shape c.terms.start.value.items (view_of new.seat).log c.number o u.run.run.core
-      ∙ ap (λ l. option_map (version_value c.terms.shape c.terms.start.value.items (view_of new.seat).log o)
-      (version_held l o)) st
-      ∙ ap (λ ws. option_map (version_value c.terms.shape c.terms.start.value.items (view_of new.seat).log o)
-      (version_by_open (write_of o ws) (read_of o (now (called c).home new).reads))) adds.writes
-      ∙ ap (λ w. option_map (version_value c.terms.shape c.terms.start.value.items (view_of new.seat).log o)
-      (version_by_open w (read_of o (now (called c).home new).reads))) none_open.0
-      ∙ ap (λ rs. option_map (version_value c.terms.shape c.terms.start.value.items (view_of new.seat).log o)
-      (version_by_open None (read_of o rs))) adds.reads
-      ∙ ap (λ r. option_map (version_value c.terms.shape c.terms.start.value.items (view_of new.seat).log o)
-      (version_by_open None r)) (read_last o (state (called c)).reads _ refl none_open.1)
-      ∙ ap Some valued
+      ∙ rw (st, adds.writes, none_open.0, adds.reads, read_last o (state (called c)).reads new_read refl none_open.1)
+      (ap Some valued)
 
   others : (p : ℕ) → p ≢ o → held (called read_as) p ≡ held (called c) p
   others p other =
-      holds_same v live refl u p (ap (λ l. version_held l p) st
-      ∙ ap (λ ws. version_by_open (write_of p ws) (read_of p (now (called c).home new).reads)) adds.writes
-      ∙ ap (λ rs. version_by_open (write_of p (state (called c)).writes) (read_of p rs)) adds.reads
-      ∙ ap (version_by_open (write_of p (state (called c)).writes))
-      (read_other p (state (called c)).reads _ (λ z. other (sym z))))
+      holds_same v live refl u p (rw (
+        st,
+        adds.writes,
+        adds.reads,
+        read_other p (state (called c)).reads new_read (λ z. other (sym z)),
+      ) refl)
 
   pub read_opens : Opens holds (Reading o) o (called c) (called read_as) value
-  read_opens = record {
-    stays = opened_stays v live refl u adds.goes_on last_is read_opened refl refl words values
-        writes olds no_reading one_more;
-    kept = opened_kept v live refl u adds.goes_on last_is read_opened refl refl words values
-        writes olds no_reading one_more;
-    continues = opened_continues v live refl u adds.goes_on last_is read_opened refl refl
-        words values writes olds no_reading one_more
-        (also_held (called c) (called read_as) o value holds_it (holds_still v live refl u) others) (record {
-          kept = λ p marked. subst IsTrue (sym (read_unmarked p)) marked;
-          others = λ p other. read_unmarked p;
-        });
-    hands = sym (ap (λ w. option_or w (held (called read_as) o))
-        (unset c.opened.writes o (no_slot c.opened.writes (state (called c)).writes o (v.writes live) none_open.0))
-        ∙ holds_it);
-  }
+  read_opens =
+      opens_with v live refl u adds.goes_on last_is read_opened refl refl words values writes olds no_reading one_more
+      (also_held (called c) (called read_as) o value holds_it (holds_still v live refl u) others) (record {
+        kept = λ p marked. subst IsTrue (sym (read_unmarked p)) marked;
+        others = λ p other. read_unmarked p;
+      }) (sym (ap (λ w. option_or w (held (called read_as) o))
+      (unset c.opened.writes o (no_slot c.opened.writes (state (called c)).writes o (v.writes live) none_open.0))
+      ∙ holds_it))
 
 -- ---- an open for writing
 
@@ -540,27 +443,15 @@ values_without s start run [] [] o h = refl
 values_without s start run [] (x ∷ slots) o h = absurd (cc)
 values_without s start run (r ∷ rs) [] o h = absurd (cc)
 values_without s start run (r ∷ rs) (x ∷ slots) o h =
-    by (values_without s start run rs slots o rest) (cases_Bool (x.object == o))
-  where
-    rest : read_values s start run rs ≡ map slot_value slots
-    rest = cc
-
-    head : slot_value x ≡ (r.object, version_value s start run r.object r.version)
-    head = cc
-
-    object : r.object ≡ x.object
-    object = ap (λ (p : ℕ × Val). p.0) (sym head)
-
-    by : read_values s start run (drop_read o rs) ≡ map slot_value (without_read o slots) →
-        (x.object == o ≡ true) ⊎ (x.object == o ≡ false) →
-        read_values s start run (drop_read o (r ∷ rs)) ≡ map slot_value (without_read o (x ∷ slots))
-    by ih (inl q) =
-        ap (λ b. read_values s start run (if b then rs else r ∷ drop_read o rs)) (ap (λ n. n == o) object ∙ q) ∙ rest
-        ∙ sym (ap (λ b. map slot_value (if b then slots else x ∷ without_read o slots)) q)
-    by ih (inr q) =
-        ap (λ b. read_values s start run (if b then rs else r ∷ drop_read o rs)) (ap (λ n. n == o) object ∙ q)
-        ∙ ap (λ p. p ∷ read_values s start run (drop_read o rs)) (sym head) ∙ ap (λ xs. slot_value x ∷ xs) ih
-        ∙ sym (ap (λ b. map slot_value (if b then slots else x ∷ without_read o slots)) q)
+    let rest : read_values s start run rs ≡ map slot_value slots = cc in
+    let head : slot_value x ≡ (r.object, version_value s start run r.object r.version) = cc in
+    let object : r.object ≡ x.object = ap (λ (p : ℕ × Val). p.0) (sym head) in
+    elim (cases_Bool (x.object == o)) [
+      | inl q ↦ rw (ap (λ n. n == o) object ∙ q, q) rest
+      | inr q ↦
+          rw (ap (λ n. n == o) object ∙ q, q) (ap (λ p. p ∷ read_values s start run (drop_read o rs)) (sym head)
+          ∙ ap (λ xs. slot_value x ∷ xs) (values_without s start run rs slots o rest))
+    ]
 
 are_writes-push : (slots : List WriteSlot) (ws : List Write) (x : WriteSlot) (w : Write) → AreWrites slots ws →
     w.object ≡ x.object → AreWrites (slots ++ x ∷ []) (ws ++ w ∷ [])
@@ -578,8 +469,7 @@ still_marked p ws w marked = by (write_of p ws) refl marked
     by (Some x) q some = subst (λ y. IsTrue (is_some y)) (sym (write_more p ws w x q)) some
 
 module _ {L : Type 0} {holds : L → List Val → Type 0} {c : Inside L} (v : Tied holds c) (live : c.live ≡ true)
-    {o version : ℕ} (value : Val) {new : Steps L}
-    (u : InTask holds (called c).home (Doing (Writing o)) (began_of (Doing (Writing o)) (called c)) new Done None)
+    {o version : ℕ} (value : Val) {new : Steps L} (u : EndsHere holds c (Doing (Writing o)) new None)
     (adds : AddsWrite o version (state (called c)) (now (called c).home new))
     (valued : HasVersion (called c).home new o version value) {last : Option ℕ}
     (last_is : last ≡ (now (called c).home new).last_pass) (unopened : is_opened (called c) o ≡ false) where
@@ -589,16 +479,19 @@ module _ {L : Type 0} {holds : L → List Val → Type 0} {c : Inside L} (v : Ti
     writes = c.opened.writes ++ record { object = o; old = value; new = None } ∷ [];
   }
 
+  abbrev new_write : Write
+  new_write = record { object = o; locator = adds.locator; old = version }
+
   unwritten : write_of o (state (called c)).writes ≡ None
   unwritten = none_of (write_of o (state (called c)).writes) unopened
 
   words_w : words_of (now (called c).home new).reads ≡ map slot_word write_opened.reads
   words_w = ap words_of adds.reads ∙ sym (words_without c.opened.reads (state (called c)).reads o (sym (v.reads live)))
 
-  values_w : read_values c.terms.shape c.terms.start.value.items (view_of new.seat).log (now (called c).home new).reads
+  values_w : reads_in c (view_of new.seat).log (now (called c).home new).reads
       ≡ map slot_value write_opened.reads
   values_w =
-      ap (read_values c.terms.shape c.terms.start.value.items (view_of new.seat).log) adds.reads
+      ap (reads_in c (view_of new.seat).log) adds.reads
       ∙ values_without c.terms.shape c.terms.start.value.items (view_of new.seat).log (state (called c)).reads
       c.opened.reads o ((stay v live u).0 ∙ v.values live)
 
@@ -607,10 +500,10 @@ module _ {L : Type 0} {holds : L → List Val → Type 0} {c : Inside L} (v : Ti
       subst (AreWrites write_opened.writes) (sym adds.writes)
       (are_writes-push c.opened.writes (state (called c)).writes _ _ (v.writes live) refl)
 
-  olds_w : old_values c.terms.shape c.terms.start.value.items (view_of new.seat).log (now (called c).home new).writes
+  olds_w : olds_in c (view_of new.seat).log (now (called c).home new).writes
       ≡ map slot_old write_opened.writes
   olds_w =
-      ap (old_values c.terms.shape c.terms.start.value.items (view_of new.seat).log) adds.writes
+      ap (olds_in c (view_of new.seat).log) adds.writes
       ∙ old_values-push c.terms.shape c.terms.start.value.items (view_of new.seat).log (state (called c)).writes _
       ∙ ap (λ xs. xs ++ (o, version_value c.terms.shape c.terms.start.value.items (view_of new.seat).log o version) ∷ [])
       ((stay v live u).1 ∙ v.olds live)
@@ -635,9 +528,7 @@ module _ {L : Type 0} {holds : L → List Val → Type 0} {c : Inside L} (v : Ti
   st_w : state (called write_as) ≡ now (called c).home new
   st_w = state_then c u
 
-  marks_w : (p : ℕ) → is_opened (called write_as) p
-      ≡ is_some (write_of p ((state (called c)).writes
-      ++ record { object = o; locator = adds.locator; old = version } ∷ []))
+  marks_w : (p : ℕ) → is_opened (called write_as) p ≡ is_some (write_of p ((state (called c)).writes ++ new_write ∷ []))
   marks_w p = ap (λ (l : LocalState). is_some (write_of p l.writes)) st_w ∙ ap (λ ws. is_some (write_of p ws)) adds.writes
 
   pub write_marked : IsTrue (is_opened (called write_as) o)
@@ -646,38 +537,24 @@ module _ {L : Type 0} {holds : L → List Val → Type 0} {c : Inside L} (v : Ti
   holds_w : held (called write_as) o ≡ Some value
   holds_w =
       by_version c.terms.shape c.terms.start.value.items (view_of new.seat).log c.number o u.run.run.core
-      ∙ ap (λ l. option_map (version_value c.terms.shape c.terms.start.value.items (view_of new.seat).log o)
-      (version_held l o)) st_w
-      ∙ ap (λ ws. option_map (version_value c.terms.shape c.terms.start.value.items (view_of new.seat).log o)
-      (version_by_open (write_of o ws) (read_of o (now (called c).home new).reads))) adds.writes
-      ∙ ap (λ w. option_map (version_value c.terms.shape c.terms.start.value.items (view_of new.seat).log o)
-      (version_by_open w (read_of o (now (called c).home new).reads)))
-      (write_last o (state (called c)).writes _ refl unwritten)
-      ∙ ap Some valued
+      ∙ rw (st_w, adds.writes, write_last o (state (called c)).writes new_write refl unwritten) (ap Some valued)
 
   others_w : (p : ℕ) → p ≢ o → held (called write_as) p ≡ held (called c) p
   others_w p other =
-      holds_same v live refl u p (ap (λ l. version_held l p) st_w
-      ∙ ap (λ ws. version_by_open (write_of p ws) (read_of p (now (called c).home new).reads)) adds.writes
-      ∙ ap (λ w. version_by_open w (read_of p (now (called c).home new).reads))
-      (write_apart p (state (called c)).writes _ (λ z. other (sym z)))
-      ∙ ap (λ rs. version_by_open (write_of p (state (called c)).writes) (read_of p rs)) adds.reads
-      ∙ ap (version_by_open (write_of p (state (called c)).writes)) (read_apart o p (state (called c)).reads other))
+      holds_same v live refl u p (rw (
+        st_w,
+        adds.writes,
+        write_apart p (state (called c)).writes new_write (λ z. other (sym z)),
+        adds.reads,
+        read_apart o p (state (called c)).reads other,
+      ) refl)
 
   pub write_opens : Opens holds (Writing o) o (called c) (called write_as) value
-  write_opens = record {
-    stays = opened_stays v live refl u adds.goes_on last_is write_opened refl set_w words_w
-        values_w writes_w olds_w (λ all. tt) no_more;
-    kept = opened_kept v live refl u adds.goes_on last_is write_opened refl set_w words_w
-        values_w writes_w olds_w (λ all. tt) no_more;
-    continues = opened_continues v live refl u adds.goes_on last_is write_opened refl set_w
-        words_w values_w writes_w olds_w (λ all. tt) no_more (also_held (called c) (called write_as) o value holds_w
-        (holds_still v live refl u) others_w) (record {
-          kept = λ p marked. subst IsTrue (sym (marks_w p)) (still_marked p (state (called c)).writes _ marked);
-          others = λ p other. marks_w p ∙ ap is_some (write_apart p (state (called c)).writes _ (λ z. other (sym z)));
-        });
-    hands = sym (ap (λ w. option_or w (held (called write_as) o))
-        (ap (λ xs. value_in xs o) set_w
-        ∙ unset c.opened.writes o (no_slot c.opened.writes (state (called c)).writes o (v.writes live) unwritten))
-        ∙ holds_w);
-  }
+  write_opens =
+      opens_with v live refl u adds.goes_on last_is write_opened refl set_w words_w values_w writes_w olds_w (λ all. tt)
+      no_more (also_held (called c) (called write_as) o value holds_w (holds_still v live refl u) others_w) (record {
+        kept = λ p marked. subst IsTrue (sym (marks_w p)) (still_marked p (state (called c)).writes _ marked);
+        others = λ p other. marks_w p ∙ ap is_some (write_apart p (state (called c)).writes _ (λ z. other (sym z)));
+      }) (sym (ap (λ w. option_or w (held (called write_as) o)) (ap (λ xs. value_in xs o) set_w
+      ∙ unset c.opened.writes o (no_slot c.opened.writes (state (called c)).writes o (v.writes live) unwritten))
+      ∙ holds_w))

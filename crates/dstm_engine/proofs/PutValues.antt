@@ -237,17 +237,14 @@ module _ (v : ℕ → Val) (s : Shape) (ws : List Write) where
   put_step l e es LookNumber is p a hi lo x = stay_put e refl refl refl (ready_step v s e LookNumber p a x.is_ready) x
   put_step l e es Check is p a hi lo x = stay_put e refl refl refl (ready_step v s e Check p a x.is_ready) x
   put_step l e es Rank is p a hi lo x = stay_put e refl refl refl (ready_step v s e Rank p a x.is_ready) x
-  put_step l e es LookSelf is p a hi lo x = by (cases_Bool (e.found == given l.phase))
-    where
-      by : (e.found == given l.phase ≡ true) ⊎ (e.found == given l.phase ≡ false) →
-          ArePutBy (after LookSelf s l e) (e ∷ es)
-      by (inl q) = stay_put e (rw q refl) (rw q refl) (rw q refl) (ready_step v s e LookSelf p a x.is_ready) x
-      by (inr q) = stay_put e (rw q refl) (rw q refl) (rw q refl) (ready_step v s e LookSelf p a x.is_ready) x
-  put_step l e es ToValidating is p a hi lo x = by (cases_Bool (e.found == 1))
-    where
-      by : (e.found == 1 ≡ true) ⊎ (e.found == 1 ≡ false) → ArePutBy (after ToValidating s l e) (e ∷ es)
-      by (inl q) = stay_put e (rw q refl) (rw q refl) (rw q refl) (ready_step v s e ToValidating p a x.is_ready) x
-      by (inr q) = stay_put e (rw q refl) (rw q refl) (rw q refl) (ready_step v s e ToValidating p a x.is_ready) x
+  put_step l e es LookSelf is p a hi lo x = elim (cases_Bool (e.found == given l.phase)) [
+    | inl q ↦ stay_put e (rw q refl) (rw q refl) (rw q refl) (ready_step v s e LookSelf p a x.is_ready) x
+    | inr q ↦ stay_put e (rw q refl) (rw q refl) (rw q refl) (ready_step v s e LookSelf p a x.is_ready) x
+  ]
+  put_step l e es ToValidating is p a hi lo x = elim (cases_Bool (e.found == 1)) [
+    | inl q ↦ stay_put e (rw q refl) (rw q refl) (rw q refl) (ready_step v s e ToValidating p a x.is_ready) x
+    | inr q ↦ stay_put e (rw q refl) (rw q refl) (rw q refl) (ready_step v s e ToValidating p a x.is_ready) x
+  ]
   put_step l e es Draw is p a hi lo x = stay_put e refl refl refl (ready_step v s e Draw p a x.is_ready) x
   put_step l e es Commit is p a hi lo x = stay_put e refl refl refl (ready_step v s e Commit p a x.is_ready) x
   put_step l e es Quit is p a hi lo x = stay_put e refl refl refl (ready_step v s e Quit p a x.is_ready) x
@@ -336,10 +333,7 @@ commit_puts s c v log old g es core own allowed obeys plain runs undone none hal
 pub given_in : (v : ℕ → Val) (ws : List Write) (o : ℕ) →
     value_in (given_values v ws) o ≡ cond (is_some (write_of o ws)) (Some (v o)) None
 given_in v [] o = refl
-given_in v (w ∷ ws) o = go (cases_Bool (w.object == o)) (given_in v ws o)
-  where
-    go : (w.object == o ≡ true) ⊎ (w.object == o ≡ false) →
-        value_in (given_values v ws) o ≡ cond (is_some (write_of o ws)) (Some (v o)) None →
-        value_in (given_values v (w ∷ ws)) o ≡ cond (is_some (write_of o (w ∷ ws))) (Some (v o)) None
-    go (inl q) ih = rw q (ap (λ n. Some (v n)) (eqb-true w.object o q))
-    go (inr q) ih = rw q ih
+given_in v (w ∷ ws) o = elim (cases_Bool (w.object == o)) [
+  | inl q ↦ rw q (ap (λ n. Some (v n)) (eqb-true w.object o q))
+  | inr q ↦ rw q (given_in v ws o)
+]

@@ -2,7 +2,7 @@
 use Rattle.std.proofs.Common.{◌++◌, ◌+◌, ◌∙◌, ◌∷◌, ◌≡◌, ◌≢◌, List, None, Option, Some, [], ap, arith, cond, length, refl, subst, sym, true, ℕ}
 use Rattle.dstm_steps.proofs.Stepping.{call_of}
 use Rattle.dstm_steps.specs.Reads.{words_of}
-use Rattle.dstm_steps.specs.Under.{InTask, now, passed}
+use Rattle.dstm_steps.specs.Under.{now, passed}
 use Rattle.dstm_steps.specs.Writes.{AreWrites}
 use Rattle.dstm_steps.specs.declared.steps.Steps.{Steps}
 use Rattle.dstm_progress.proofs.Causes.{again_has_its_cause}
@@ -30,13 +30,12 @@ use Rattle.dstm_engine.proofs.Continuing.{doing_keeps, kept_live, kept_most, tol
 use Rattle.dstm_engine.proofs.Left.{call_there, current_there, on_tied, performed, same_place, stays, told_there}
 use Rattle.dstm_engine.proofs.Plain.{ArePlain, are_plain, is_plain}
 use Rattle.dstm_engine.proofs.Rechecking.{EndsInSight, begins_pass, one_more_sight, one_self, recheck_sights, sighted_of}
-use Rattle.dstm_engine.proofs.Steady.{olds_then, same_generator, same_there, values_then}
-use Rattle.dstm_engine.proofs.Tying.{live_there, state_then}
+use Rattle.dstm_engine.proofs.Steady.{held_same, olds_then, opened_same, same_generator, same_there, values_then}
+use Rattle.dstm_engine.proofs.Tying.{EndsHere, live_there, state_then}
 use Rattle.dstm_progress.specs.Disturbed.{count_of}
 use Rattle.dstm_core.specs.Traces.{events_of}
 use Rattle.dstm_engine.specs.Attempts.{Sighted, completes_pass, sights}
-use Rattle.dstm_engine.specs.Began.{began_of}
-use Rattle.dstm_engine.specs.Callers.{state}
+use Rattle.dstm_engine.specs.Callers.{Called, held, is_live, is_opened, is_running, state}
 use Rattle.dstm_engine.specs.Calls.{IsTold, Performs}
 use Rattle.dstm_engine.specs.Mirror.{Tied, called, phase_by}
 use Rattle.dstm_engine.specs.Transactions.{IsStaleOrKilled, Stays, tx_place}
@@ -78,8 +77,7 @@ plain_cause w s l es Waited h x =
 
 pub stale_or_killed : {L : Type 0} {holds : L → List Val → Type 0} {c : Inside L} (v : Tied holds c)
     (live : c.live ≡ true) {new : Steps L} {again : Again}
-    (u : InTask holds (called c).home (Doing Rechecking) (began_of (Doing Rechecking) (called c)) new Done
-    (Some again)) → IsStaleOrKilled again
+    (u : EndsHere holds c (Doing Rechecking) new (Some again)) → IsStaleOrKilled again
 stale_or_killed {c = c} v live {new = new} {again = again} u =
     plain_cause Rechecking c.terms.shape (state (called c)) u.events again
     (are_plain Rechecking c.terms.shape (state (called c)) c.steps.decider.generator u.events refl u.obeys)
@@ -88,9 +86,19 @@ stale_or_killed {c = c} v live {new = new} {again = again} u =
 
 -- ---- a recheck that has not left its attempt
 
+-- the recheck found every read as it was
+pub record IsRechecked {L : Type 0} (holds : L → List Val → Type 0) (k n : Called L) : Type 0 where
+  pub stays : Stays holds Rechecking k n
+  pub kept : n ≡ record k { log = n.log; left = None }
+  pub sight : Sighted n
+  pub one_more : sights n ≡ sights k + 1
+  pub same_held : (p : ℕ) → held n p ≡ held k p
+  pub same_opened : (p : ℕ) → is_opened n p ≡ is_opened k p
+  pub live : is_live n ≡ true
+  pub place : (name : GName) (table : Home L) → tx_place name table n ≡ tx_place name table k
+
 module _ {L : Type 0} {holds : L → List Val → Type 0} {c : Inside L} (v : Tied holds c) (live : c.live ≡ true)
-    {new : Steps L}
-    (u : InTask holds (called c).home (Doing Rechecking) (began_of (Doing Rechecking) (called c)) new Done None)
+    {new : Steps L} (u : EndsHere holds c (Doing Rechecking) new None)
     {last : Option ℕ} (number : ℕ) (is : now (called c).home new ≡ passed number (state (called c)))
     (taken : last ≡ Some number) where
   abbrev then : Inside L
@@ -99,14 +107,11 @@ module _ {L : Type 0} {holds : L → List Val → Type 0} {c : Inside L} (v : Ti
   then_is : state (called then) ≡ passed number (state (called c))
   then_is = state_then c u ∙ is
 
-  pub rechecked_runs : (state (called then)).phase ≡ Running
+  rechecked_runs : (state (called then)).phase ≡ Running
   rechecked_runs = ap (λ (l : LocalState). l.phase) then_is ∙ v.phase ∙ ap phase_by live
 
   steps : Performs holds (Doing Rechecking) (called c) (called then) None
   steps = performed v live u (called then) refl refl refl refl
-
-  pub rechecked_stays : Stays holds Rechecking (called c) (called then)
-  rechecked_stays = stays steps (λ out. let x = rechecked_runs in cc)
 
   after_events : state_after c.terms.shape (state (called c)) u.events ≡ passed number (state (called c))
   after_events = sym (after_own c.terms.shape c.number (view_of new.seat).log (called c).log u.events u.own) ∙ then_is
@@ -118,11 +123,11 @@ module _ {L : Type 0} {holds : L → List Val → Type 0} {c : Inside L} (v : Ti
       (ap (λ (l : LocalState). l.phase) after_events ∙ v.phase ∙ ap phase_by live)
       (ap (λ (l : LocalState). l.pass) after_events) (ap (λ (l : LocalState). l.checked) after_events)
 
-  pub rechecked_sighted : Sighted (called then)
+  rechecked_sighted : Sighted (called then)
   rechecked_sighted = sighted_of (called then) in_sight
 
   -- the attempt has had one sight more
-  pub rechecked_counts : sights (called then) ≡ sights (called c) + 1
+  rechecked_counts : sights (called then) ≡ sights (called c) + 1
   rechecked_counts =
       counts u.events u.obeys (call_there v live u).call.done u.own
       (λ out. let x = ap (λ (l : LocalState). l.phase) after_events in
@@ -164,13 +169,17 @@ module _ {L : Type 0} {holds : L → List Val → Type 0} {c : Inside L} (v : Ti
       }) told (λ _. rechecked_sighted) (ap words_of same.reads ∙ v.reads live) (values_then v live refl u)
       (subst (AreWrites c.opened.writes) (sym same.writes) (v.writes live)) (olds_then v live refl u) refl
 
-  pub rechecked_kept : called then ≡ record (called c) { log = (view_of new.seat).log; left = None }
-  rechecked_kept =
-      ap (λ t. record (called then) { home = record { table = t; terms = c.terms } }) u.seat.0
-      ∙ ap (λ g. record (called c) { log = (view_of new.seat).log; generator = g }) (same_generator v live refl u)
-      ∙ ap (λ left. record (called c) { log = (view_of new.seat).log; left = left }) (v.left live)
-
-  -- it is the same attempt
-  pub rechecked_place : (name : GName) (table : Home L) →
-      tx_place name table (called then) ≡ tx_place name table (called c)
-  rechecked_place = same_place v live u (ap (λ (l : LocalState). l.committed) then_is ∙ v.uncommitted live)
+  pub is_rechecked : IsRechecked holds (called c) (called then)
+  is_rechecked = record {
+    stays = stays steps (λ out. let x = rechecked_runs in cc);
+    kept =
+        ap (λ t. record (called then) { home = record { table = t; terms = c.terms } }) u.seat.0
+        ∙ ap (λ g. record (called c) { log = (view_of new.seat).log; generator = g }) (same_generator v live refl u)
+        ∙ ap (λ left. record (called c) { log = (view_of new.seat).log; left = left }) (v.left live);
+    sight = rechecked_sighted;
+    one_more = rechecked_counts;
+    same_held = held_same v live refl u;
+    same_opened = opened_same v live refl u;
+    live = ap is_running rechecked_runs;
+    place = same_place v live u (ap (λ (l : LocalState). l.committed) then_is ∙ v.uncommitted live);
+  }

@@ -1,5 +1,5 @@
 -- A recheck that has not left its attempt, and what a log tells of the values that are held.
-use Rattle.std.proofs.Common.{◌++◌, ◌<◌, ◌==◌, ◌∙◌, ◌∷◌, ◌≡◌, ◌≢◌, ◌⊎◌, List, None, Some, [], ap, arith, false, inl, inr, length, refl, subst, sym, true, ℕ}
+use Rattle.std.proofs.Common.{◌++◌, ◌<◌, ◌==◌, ◌∙◌, ◌∷◌, ◌≡◌, ◌≢◌, List, None, Some, [], ap, arith, false, inl, inr, length, refl, subst, sym, true, ℕ}
 use Rattle.std.proofs.lemmas.List.{append_cancel_right}
 use Rattle.std.specs.Prelude.{IfSome, ◌||◌}
 use Rattle.std.proofs.lemmas.Bool.{cases_Bool, cond_both, eq-eqb, eqb-true}
@@ -75,20 +75,21 @@ held_stay s start more es c core few live =
 pub look_self : (s : Shape) (l : LocalState) (e : Event) (k : Kind) → is_plain Rechecking k ≡ true →
     (after k s l e).phase ≡ Running → (after k s l e).pass ≡ None → (after k s l e).checked ≡ 0 →
     (k ≡ LookSelf) × (e.found ≡ given l.phase)
-look_self s l e LookSelf p run none zero = (refl, found (cases_Bool (e.found == given l.phase)))
-  where
-    found : (e.found == given l.phase ≡ true) ⊎ (e.found == given l.phase ≡ false) → e.found ≡ given l.phase
-    found (inl q) = eqb-true e.found (given l.phase) q
-    found (inr q) = absurd (let z : Outside ≡ Running = rw q at run in cc)
+look_self s l e LookSelf p run none zero = (
+  refl,
+  elim (cases_Bool (e.found == given l.phase)) [
+    | inl q ↦ eqb-true e.found (given l.phase) q
+    | inr q ↦ absurd (let z : Outside ≡ Running = rw q at run in cc)
+  ],
+)
 look_self s l e LookNumber p run none zero = absurd (cc)
 look_self s l e Check p run none zero = absurd (omega arith)
 look_self s l e PutHigh p run none zero = absurd (cc)
 look_self s l e PutNew p run none zero = absurd (cc)
-look_self s l e ToValidating p run none zero = absurd (by (cases_Bool (e.found == 1)))
-  where
-    by : (e.found == 1 ≡ true) ⊎ (e.found == 1 ≡ false) → ⊥
-    by (inl q) = let z = rw q at run in cc
-    by (inr q) = let z = rw q at run in cc
+look_self s l e ToValidating p run none zero = absurd (elim (cases_Bool (e.found == 1)) [
+  | inl q ↦ let z = rw q at run in cc
+  | inr q ↦ let z = rw q at run in cc
+])
 look_self s l e Draw p run none zero = absurd (cc)
 look_self s l e Commit p run none zero = absurd (cc)
 look_self s l e Quit p run none zero = absurd (cc)
@@ -139,15 +140,15 @@ ends_in_sight s start c {log = log} before e is own kind found =
 
 pub head_own : (c : ℕ) {log : List Event} (es before : List Event) (e : Event) → log ≡ e ∷ before → events_of c log ≡ e
     ∷ es → (e.caller ≡ c) × (events_of c before ≡ es)
-head_own c es before e is own = by (cases_Bool (e.caller == c))
+head_own c es before e is own = elim (cases_Bool (e.caller == c)) [
+  | inl q ↦ (eqb-true e.caller c q, (let z : e ∷ events_of c before ≡ e ∷ es = rw q at told in cc))
+  | inr q ↦
+      absurd (let n = newest_own c (e ∷ before) e es told in
+      let z : e.caller ≡ c = n.own in let y = eq-eqb e.caller c z in cc)
+]
   where
     told : events_of c (e ∷ before) ≡ e ∷ es
     told = ap (events_of c) (sym is) ∙ own
-
-    by : (e.caller == c ≡ true) ⊎ (e.caller == c ≡ false) → (e.caller ≡ c) × (events_of c before ≡ es)
-    by (inl q) = (eqb-true e.caller c q, (let z : e ∷ events_of c before ≡ e ∷ es = rw q at told in cc))
-    by (inr q) = absurd (let n = newest_own c (e ∷ before) e es told in
-        let z : e.caller ≡ c = n.own in let y = eq-eqb e.caller c z in cc)
 
 -- a recheck of an attempt that runs begins with an event
 pub begins_pass : (s : Shape) (l : LocalState) (g : Lcg) → l.phase ≡ Running →
@@ -213,36 +214,29 @@ one_self s l g e [] h live = tt
 one_self s l g e (x ∷ xs) h live =
     let m = state_after s l (x ∷ xs) in
     let f = effort_of s l g (x ∷ xs) in
-    let inside : m.phase ≢ Outside = λ z. nothing_due Rechecking s (Some x) m f e z h.1 in
-    (other (cases_Bool (is_look_self x.kind)), one_self s l g x xs h.0 inside)
-  where
-    other : (is_look_self x.kind ≡ true) ⊎ (is_look_self x.kind ≡ false) → is_look_self x.kind ≡ false
-    other (inl q) =
-        absurd (not_quit s (state_after s l (x ∷ xs)) e e.kind live
-        (only_quit s x e (state_after s l (x ∷ xs)) (effort_of s l g (x ∷ xs)) (self_kind x.kind q) h.1))
-    other (inr q) = q
+    let inside : m.phase ≢ Outside = λ z. nothing_due Rechecking s (Some x) m f e z h.1 in (
+      elim (cases_Bool (is_look_self x.kind)) [
+        | inl q ↦ absurd (not_quit s m e e.kind live (only_quit s x e m f (self_kind x.kind q) h.1))
+        | inr q ↦ q
+      ],
+      one_self s l g x xs h.0 inside,
+    )
 
 -- events without a LookSelf count nothing
 pub none_counted : (s : Shape) (c i : ℕ) (later before : List Event) → NoSelf (events_of c later) →
     count_of completes_pass s (later ++ before) c i ≡ count_of completes_pass s before c i
 none_counted s c i [] before h = refl
-none_counted s c i (e ∷ later) before h = go (cases_Bool (e.caller == c)) (none_counted s c i later before)
-  where
-    here : e.caller == c ≡ true → is_look_self e.kind ≡ false →
-        ((local s (later ++ before) c).begun == i ≡ true) ⊎ ((local s (later ++ before) c).begun == i ≡ false) →
-        count_of completes_pass s (later ++ before) c i ≡ count_of completes_pass s before c i →
-        count_of completes_pass s (e ∷ (later ++ before)) c i ≡ count_of completes_pass s before c i
-    here q none (inl b) ih = rw (q, b, none) ih
-    here q none (inr b) ih = rw (q, b) ih
-
-    go : (e.caller == c ≡ true) ⊎ (e.caller == c ≡ false) →
-        (NoSelf (events_of c later) →
-        count_of completes_pass s (later ++ before) c i ≡ count_of completes_pass s before c i) →
-        count_of completes_pass s (e ∷ (later ++ before)) c i ≡ count_of completes_pass s before c i
-    go (inl q) ih =
-        let all : NoSelf (e ∷ events_of c later) = rw q at h in
-        here q all.0 (cases_Bool ((local s (later ++ before) c).begun == i)) (ih all.1)
-    go (inr q) ih = rw q (ih (rw q at h))
+none_counted s c i (e ∷ later) before h =
+    let ih = none_counted s c i later before in
+    elim (cases_Bool (e.caller == c)) [
+      | inl q ↦
+          let all : NoSelf (e ∷ events_of c later) = rw q at h in
+          elim (cases_Bool ((local s (later ++ before) c).begun == i)) [
+            | inl b ↦ rw (q, b, all.0) (ih all.1)
+            | inr b ↦ rw (q, b) (ih all.1)
+          ]
+      | inr q ↦ rw q (ih (rw q at h))
+    ]
 
 -- a log that goes on with a call of one sight has one more
 pub one_more_sight : {s : Shape} {start : List Val} {c : ℕ} {log : List Event} (before later : List Event) (e : Event)
@@ -265,15 +259,15 @@ one_more_sight {s = s} {start = start} {c = c} {log = log} before (y ∷ later) 
     ap (λ xs. count_of completes_pass s xs c i) x.is ∙ counted x i refl ∙ ap (λ n. n + 1) count
   where
     own_head : (d : Event) (ds : List Event) → log ≡ d ∷ ds → events_of c log ≡ d ∷ (es ++ events_of c before)
-    own_head d ds is = by (cases_Bool (d.caller == c))
-      where
-        by : (d.caller == c ≡ true) ⊎ (d.caller == c ≡ false) → events_of c log ≡ d ∷ (es ++ events_of c before)
-        by (inl q) =
-            let now : events_of c log ≡ d ∷ events_of c ds = ap (events_of c) is ∙ rw q refl in
-            let same : d ∷ events_of c ds ≡ e ∷ (es ++ events_of c before) = sym now ∙ own in
-            let h : d ≡ e = cc in own ∙ ap (λ z. z ∷ (es ++ events_of c before)) (sym h)
-        by (inr q) = absurd (let z = x.caller in let w : d ∷ ds ≡ x.sight ∷ x.before = sym is ∙ x.is in
-            let v : d ≡ x.sight = cc in let y = eq-eqb d.caller c (ap (λ (e : Event). e.caller) v ∙ z) in cc)
+    own_head d ds is = elim (cases_Bool (d.caller == c)) [
+      | inl q ↦
+          let now : events_of c log ≡ d ∷ events_of c ds = ap (events_of c) is ∙ rw q refl in
+          let same : d ∷ events_of c ds ≡ e ∷ (es ++ events_of c before) = sym now ∙ own in
+          let h : d ≡ e = cc in own ∙ ap (λ z. z ∷ (es ++ events_of c before)) (sym h)
+      | inr q ↦
+          absurd (let z = x.caller in let w : d ∷ ds ≡ x.sight ∷ x.before = sym is ∙ x.is in
+          let v : d ≡ x.sight = cc in let y = eq-eqb d.caller c (ap (λ (e : Event). e.caller) v ∙ z) in cc)
+    ]
 
     counted : (x : EndsInSight s start c log) (i : ℕ) → (local s log c).begun ≡ i →
         count_of completes_pass s (x.sight ∷ x.before) c i ≡ count_of completes_pass s x.before c i + 1

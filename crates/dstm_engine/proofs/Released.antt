@@ -4,13 +4,13 @@ use Rattle.std.specs.Prelude.{IfSome, is_some, if◌then◌else◌, option_map}
 use base.Fml.{GName}
 use Rattle.std.proofs.lemmas.Bool.{and_parts, cases_Bool, cases_eq, cond_both, eqb-true}
 use Rattle.dstm_steps.specs.Reads.{words_of}
-use Rattle.dstm_steps.specs.Under.{InTask, now}
+use Rattle.dstm_steps.specs.Under.{now}
 use Rattle.dstm_steps.specs.Writes.{AreWrites}
 use Rattle.dstm_steps.specs.declared.slots.ReadSlot.{ReadSlot}
 use Rattle.dstm_steps.specs.declared.steps.Steps.{Steps}
 use Rattle.dstm_core.proofs.Pasts.{core_past}
 use Rattle.dstm_core.specs.Events.{Event}
-use Rattle.dstm_core.specs.Histories.{IsSight, old_values, read_values, seen, version_value}
+use Rattle.dstm_core.specs.Histories.{IsSight, read_values, seen, version_value}
 use Rattle.dstm_core.specs.Rules.{AllowedAs, is_outside}
 use Rattle.dstm_core.specs.Runs.{Core, local}
 use Rattle.dstm_core.specs.State.{LocalState, drop_read, read_of, write_of}
@@ -44,10 +44,9 @@ use Rattle.dstm_engine.proofs.Left.{current_there, on_tied, same_place, performe
 use Rattle.dstm_engine.proofs.Opens.{none_of}
 use Rattle.dstm_engine.proofs.Setting.{opened_slot}
 use Rattle.dstm_engine.proofs.Steady.{stay}
-use Rattle.dstm_engine.proofs.Tying.{live_there, state_then}
+use Rattle.dstm_engine.proofs.Tying.{EndsHere, live_there, olds_in, reads_in, state_then}
 use Rattle.dstm_engine.proofs.Rechecking.{NoSelf, none_counted}
 use Rattle.dstm_engine.specs.Attempts.{Admits, Sighted, completes_pass, is_look_self, sights}
-use Rattle.dstm_engine.specs.Began.{began_of}
 use Rattle.dstm_engine.specs.Callers.{held, is_opened, state}
 use Rattle.dstm_engine.specs.Calls.{IsTold, Performs}
 use Rattle.dstm_engine.specs.Mirror.{AtRest, Tied, called, phase_by, slot_old, slot_value, slot_word}
@@ -64,47 +63,39 @@ without o (p ∷ ps) = if p.0 == o then ps else p ∷ without o ps
 words_drop : (o : ℕ) (rs : List Read) → words_of (drop_read o rs) ≡ without o (words_of rs)
 unfolding without
 words_drop o [] = refl
-words_drop o (r ∷ rs) = go (cases_Bool (r.object == o)) (words_drop o rs)
-  where
-    go : (r.object == o ≡ true) ⊎ (r.object == o ≡ false) → words_of (drop_read o rs) ≡ without o (words_of rs) →
-        words_of (drop_read o (r ∷ rs)) ≡ without o (words_of (r ∷ rs))
-    go (inl q) ih = rw q refl
-    go (inr q) ih = rw q (ap (λ xs. (r.object, r.word) ∷ xs) ih)
+words_drop o (r ∷ rs) = elim (cases_Bool (r.object == o)) [
+  | inl q ↦ rw q refl
+  | inr q ↦ rw q (ap (λ xs. (r.object, r.word) ∷ xs) (words_drop o rs))
+]
 
 values_drop : (s : Shape) (start : List Val) (run : List Event) (o : ℕ) (rs : List Read) →
     read_values s start run (drop_read o rs) ≡ without o (read_values s start run rs)
 unfolding without
 values_drop s start run o [] = refl
-values_drop s start run o (r ∷ rs) = go (cases_Bool (r.object == o)) (values_drop s start run o rs)
-  where
-    go : (r.object == o ≡ true) ⊎ (r.object == o ≡ false) →
-        read_values s start run (drop_read o rs) ≡ without o (read_values s start run rs) →
-        read_values s start run (drop_read o (r ∷ rs)) ≡ without o (read_values s start run (r ∷ rs))
-    go (inl q) ih = rw q refl
-    go (inr q) ih = rw q (ap (λ xs. (r.object, version_value s start run r.object r.version) ∷ xs) ih)
+values_drop s start run o (r ∷ rs) = elim (cases_Bool (r.object == o)) [
+  | inl q ↦ rw q refl
+  | inr q ↦
+      rw q (ap (λ xs. (r.object, version_value s start run r.object r.version) ∷ xs) (values_drop s start run o rs))
+]
 
 slots_drop : {A : Type 0} → (f : ReadSlot → ℕ × A) → ((slot : ReadSlot) → (f slot).0 ≡ slot.object) → (o : ℕ) →
     (slots : List ReadSlot) → map f (without_read o slots) ≡ without o (map f slots)
 unfolding without
 slots_drop f same o [] = refl
-slots_drop f same o (x ∷ slots) = go (cases_Bool (x.object == o)) (slots_drop f same o slots)
-  where
-    go : (x.object == o ≡ true) ⊎ (x.object == o ≡ false) → map f (without_read o slots) ≡ without o (map f slots) →
-        map f (without_read o (x ∷ slots)) ≡ without o (map f (x ∷ slots))
-    go (inl q) ih = rw (q, ap (λ n. n == o) (same x) ∙ q) refl
-    go (inr q) ih = rw (q, ap (λ n. n == o) (same x) ∙ q) (ap (λ xs. f x ∷ xs) ih)
+slots_drop f same o (x ∷ slots) = elim (cases_Bool (x.object == o)) [
+  | inl q ↦ rw (q, ap (λ n. n == o) (same x) ∙ q) refl
+  | inr q ↦ rw (q, ap (λ n. n == o) (same x) ∙ q) (ap (λ xs. f x ∷ xs) (slots_drop f same o slots))
+]
 
 -- the value of another object stays
 without_others : (o p : ℕ) (xs ys : List (ℕ × Val)) → p ≢ o →
     value_in (without o xs ++ ys) p ≡ value_in (xs ++ ys) p
 unfolding without
 without_others o p [] ys h = refl
-without_others o p (x ∷ xs) ys h = go (cases_Bool (x.0 == o)) (without_others o p xs ys h)
-  where
-    go : (x.0 == o ≡ true) ⊎ (x.0 == o ≡ false) → value_in (without o xs ++ ys) p ≡ value_in (xs ++ ys) p →
-        value_in (without o (x ∷ xs) ++ ys) p ≡ value_in (x ∷ (xs ++ ys)) p
-    go (inl q) ih = rw (q, ne_eqb x.0 p (λ z. h (sym z ∙ eqb-true x.0 o q))) refl
-    go (inr q) ih = rw q (ap (λ v. if x.0 == p then Some x.1 else v) ih)
+without_others o p (x ∷ xs) ys h = elim (cases_Bool (x.0 == o)) [
+  | inl q ↦ rw (q, ne_eqb x.0 p (λ z. h (sym z ∙ eqb-true x.0 o q))) refl
+  | inr q ↦ rw q (ap (λ v. if x.0 == p then Some x.1 else v) (without_others o p xs ys h))
+]
 
 module _ (s : Shape) (start : List Val) (run : List Event) (o : ℕ) (ys : List (ℕ × Val)) where
   none_read : (rs : List Read) → read_of o rs ≡ None → value_in (read_values s start run rs ++ ys) o ≡ value_in ys o
@@ -117,13 +108,10 @@ module _ (s : Shape) (start : List Val) (run : List Event) (o : ℕ) (ys : List 
       value_in (without o (read_values s start run rs) ++ ys) o ≡ value_in ys o
   unfolding without
   without_it [] h = refl
-  without_it (r ∷ rs) h = go (cases_Bool (r.object == o)) (without_it rs h.1)
-    where
-      go : (r.object == o ≡ true) ⊎ (r.object == o ≡ false) →
-          value_in (without o (read_values s start run rs) ++ ys) o ≡ value_in ys o →
-          value_in (without o (read_values s start run (r ∷ rs)) ++ ys) o ≡ value_in ys o
-      go (inl q) ih = rw q (none_read rs (ap (λ n. read_of n rs) (sym (eqb-true r.object o q)) ∙ h.0))
-      go (inr q) ih = rw (q, q) ih
+  without_it (r ∷ rs) h = elim (cases_Bool (r.object == o)) [
+    | inl q ↦ rw q (none_read rs (ap (λ n. read_of n rs) (sym (eqb-true r.object o q)) ∙ h.0))
+    | inr q ↦ rw (q, q) (without_it rs h.1)
+  ]
 
 -- ---- a sight, as a longer log has it
 
@@ -226,18 +214,15 @@ module _ {L : Type 0} {holds : L → List Val → Type 0} {c : Inside L} (v : Ti
 -- there is one read less then
 one_fewer : (o : ℕ) (rs : List Read) → is_some (read_of o rs) ≡ true → length (drop_read o rs) + 1 ≡ length rs
 one_fewer o [] some = absurd (cc)
-one_fewer o (r ∷ rs) some = by (one_fewer o rs) (cases_Bool (r.object == o))
-  where
-    by : (is_some (read_of o rs) ≡ true → length (drop_read o rs) + 1 ≡ length rs) →
-        (r.object == o ≡ true) ⊎ (r.object == o ≡ false) → length (drop_read o (r ∷ rs)) + 1 ≡ length (r ∷ rs)
-    by ih (inl q) = rw q (omega arith)
-    by ih (inr q) = rw q (let rest = ih (rw q at some) in omega arith)
+one_fewer o (r ∷ rs) some = elim (cases_Bool (r.object == o)) [
+  | inl q ↦ rw q (omega arith)
+  | inr q ↦ rw q (let rest = (one_fewer o rs) (rw q at some) in omega arith)
+]
 
 -- ---- the caller then
 
 module _ {L : Type 0} {holds : L → List Val → Type 0} {c : Inside L} (v : Tied holds c) (live : c.live ≡ true) {o : ℕ}
-    {new : Steps L}
-    (u : InTask holds (called c).home (Doing (Releasing o)) (began_of (Doing (Releasing o)) (called c)) new Done None)
+    {new : Steps L} (u : EndsHere holds c (Doing (Releasing o)) new None)
     (is : now (called c).home new ≡ record (state (called c)) {
       reads = drop_read o (state (called c)).reads;
       resolution = None;
@@ -258,43 +243,38 @@ module _ {L : Type 0} {holds : L → List Val → Type 0} {c : Inside L} (v : Ti
   steps : Performs holds (Doing (Releasing o)) (called c) (called released) None
   steps = performed v live u (called released) refl refl refl refl
 
-  values : read_values c.terms.shape c.terms.start.value.items (view_of new.seat).log (state (called released)).reads
-      ≡ without o (read_values c.terms.shape c.terms.start.value.items (called c).log (state (called c)).reads)
+  values : reads_in c (view_of new.seat).log (state (called released)).reads
+      ≡ without o (reads_in c (called c).log (state (called c)).reads)
   values =
-      ap (λ (l : LocalState). read_values c.terms.shape c.terms.start.value.items (view_of new.seat).log l.reads) then_is
+      ap (λ (l : LocalState). reads_in c (view_of new.seat).log l.reads) then_is
       ∙ values_drop c.terms.shape c.terms.start.value.items (view_of new.seat).log o (state (called c)).reads
       ∙ ap (without o) (stay v live u).0
 
-  olds : old_values c.terms.shape c.terms.start.value.items (view_of new.seat).log (state (called released)).writes
-      ≡ old_values c.terms.shape c.terms.start.value.items (called c).log (state (called c)).writes
+  olds : olds_in c (view_of new.seat).log (state (called released)).writes
+      ≡ olds_in c (called c).log (state (called c)).writes
   olds =
-      ap (λ (l : LocalState). old_values c.terms.shape c.terms.start.value.items (view_of new.seat).log l.writes) then_is
+      ap (λ (l : LocalState). olds_in c (view_of new.seat).log l.writes) then_is
       ∙ (stay v live u).1
 
   held_then : (p : ℕ) → held (called released) p
-      ≡ value_in (without o (read_values c.terms.shape c.terms.start.value.items (called c).log (state (called c)).reads)
-      ++ old_values c.terms.shape c.terms.start.value.items (called c).log (state (called c)).writes) p
-  held_then p =
-      ap (λ rs. value_in (rs ++ old_values c.terms.shape c.terms.start.value.items (view_of new.seat).log
-      (state (called released)).writes) p) values
-      ∙ ap (λ ws. value_in (without o (read_values c.terms.shape c.terms.start.value.items (called c).log
-      (state (called c)).reads) ++ ws) p) olds
+      ≡ value_in (without o (reads_in c (called c).log (state (called c)).reads)
+      ++ olds_in c (called c).log (state (called c)).writes) p
+  held_then p = rw (values, olds) refl
 
   pub holds_without : HoldsWithout o (held (called c)) (held (called released))
   holds_without = record {
     gone =
         held_then o
         ∙ without_it c.terms.shape c.terms.start.value.items (called c).log o
-        (old_values c.terms.shape c.terms.start.value.items (called c).log (state (called c)).writes)
+        (olds_in c (called c).log (state (called c)).writes)
         (state (called c)).reads (tidy c.terms.shape (called c).log v.run.run.core c.number).reads
         ∙ ap (λ ws. value_in ws o) (v.olds live)
         ∙ none_of (value_in (map slot_old c.opened.writes) o) (old_there c.opened.writes o
         ∙ sym (opened_slot c.opened.writes (state (called c)).writes o (v.writes live))
         ∙ not_open v o read);
     others = λ p other. held_then p
-        ∙ without_others o p
-        (read_values c.terms.shape c.terms.start.value.items (called c).log (state (called c)).reads)
-        (old_values c.terms.shape c.terms.start.value.items (called c).log (state (called c)).writes) other;
+        ∙ without_others o p (reads_in c (called c).log (state (called c)).reads)
+        (olds_in c (called c).log (state (called c)).writes) other;
   }
 
   told : IsTold (called released)
@@ -344,10 +324,7 @@ module _ {L : Type 0} {holds : L → List Val → Type 0} {c : Inside L} (v : Ti
     where
       newest : (x : Sighted (called c)) → sights (called released)
           ≡ count_of completes_pass c.terms.shape (x.sight ∷ x.before) c.number (state (called released)).begun
-      newest x =
-          subst (λ i. count_of completes_pass c.terms.shape (view_of new.seat).log c.number i
-          ≡ count_of completes_pass c.terms.shape (x.sight ∷ x.before) c.number i)
-          (sym (ap (λ (l : LocalState). l.begun) then_is)) (no_sight (state (called c)).begun ∙ x.newest)
+      newest x = rw (ap (λ (l : LocalState). l.begun) then_is) (no_sight (state (called c)).begun ∙ x.newest)
 
       covered : (x : Sighted (called c)) (p : ℕ) (w : Val) → held (called released) p ≡ Some w →
           (p ≡ o) ⊎ (p ≡ o → ⊥) →
@@ -380,6 +357,5 @@ module _ {L : Type 0} {holds : L → List Val → Type 0} {c : Inside L} (v : Ti
   released_widens {map = map} a = record { length = a.length; lawful = a.lawful; agrees = λ p. by p (cases_eq p o) }
     where
       by : (p : ℕ) → (p ≡ o) ⊎ (p ≡ o → ⊥) → IfSome (held (called released) p) (λ w. value_at map p ≡ w)
-      by p (inl q) =
-          subst (λ h. IfSome h (λ w. value_at map p ≡ w)) (sym (ap (held (called released)) q ∙ holds_without.gone)) tt
+      by p (inl q) = rw (ap (held (called released)) q ∙ holds_without.gone) tt
       by p (inr q) = subst (λ h. IfSome h (λ w. value_at map p ≡ w)) (sym (holds_without.others p q)) (a.agrees p)

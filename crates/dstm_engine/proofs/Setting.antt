@@ -18,13 +18,10 @@ use Rattle.dstm_engine.specs.declared.caller.Caller.TheInside.{Inside}
 pub opened_slot : (slots : List WriteSlot) (writes : List Write) (o : ℕ) → AreWrites slots writes →
     is_some (write_of o writes) ≡ is_some (write_slot slots o)
 opened_slot [] [] o h = refl
-opened_slot (s ∷ slots) (w ∷ writes) o h = by (opened_slot slots writes o h.1) (cases_Bool (s.object == o))
-  where
-    by : is_some (write_of o writes) ≡ is_some (write_slot slots o) →
-        (s.object == o ≡ true) ⊎ (s.object == o ≡ false) →
-        is_some (write_of o (w ∷ writes)) ≡ is_some (write_slot (s ∷ slots) o)
-    by ih (inl q) = rw (h.0, q) refl
-    by ih (inr q) = rw (h.0, q) ih
+opened_slot (s ∷ slots) (w ∷ writes) o h = elim (cases_Bool (s.object == o)) [
+  | inl q ↦ rw (h.0, q) refl
+  | inr q ↦ rw (h.0, q) (opened_slot slots writes o h.1)
+]
 opened_slot [] (w ∷ writes) o h = absurd h
 opened_slot (s ∷ slots) [] o h = absurd h
 
@@ -59,28 +56,24 @@ with_new_apart object p (Some x) pairs h = rw h refl
 set_value : (o : ℕ) (v : Val) (slots : List WriteSlot) → is_some (write_slot slots o) ≡ true →
     value_in (set_pairs (with_set_slot o v slots)) o ≡ Some v
 set_value o v [] some = absurd (cc)
-set_value o v (s ∷ slots) some = by (set_value o v slots) (cases_Bool (s.object == o))
-  where
-    by : (is_some (write_slot slots o) ≡ true → value_in (set_pairs (with_set_slot o v slots)) o ≡ Some v) →
-        (s.object == o ≡ true) ⊎ (s.object == o ≡ false) →
-        value_in (set_pairs (with_set_slot o v (s ∷ slots))) o ≡ Some v
-    by ih (inl q) = rw (q, q) refl
-    by ih (inr q) =
-        let more : is_some (write_slot slots o) ≡ true = rw q at some in
-        rw q (with_new_apart s.object o s.new (set_pairs (with_set_slot o v slots)) q ∙ ih more)
+set_value o v (s ∷ slots) some = elim (cases_Bool (s.object == o)) [
+  | inl q ↦ rw (q, q) refl
+  | inr q ↦
+      let more : is_some (write_slot slots o) ≡ true = rw q at some in
+      rw q (with_new_apart s.object o s.new (set_pairs (with_set_slot o v slots)) q ∙ set_value o v slots more)
+]
 
 set_others : (o p : ℕ) (v : Val) (slots : List WriteSlot) → p ≢ o →
     value_in (set_pairs (with_set_slot o v slots)) p ≡ value_in (set_pairs slots) p
 set_others o p v [] other = refl
-set_others o p v (s ∷ slots) other = by (set_others o p v slots other) (cases_Bool (s.object == o))
-  where
-    by : value_in (set_pairs (with_set_slot o v slots)) p ≡ value_in (set_pairs slots) p →
-        (s.object == o ≡ true) ⊎ (s.object == o ≡ false) →
-        value_in (set_pairs (with_set_slot o v (s ∷ slots))) p ≡ value_in (set_pairs (s ∷ slots)) p
-    by ih (inl q) =
-        let apart : s.object == p ≡ false = ne_eqb s.object p (λ z. other (sym z ∙ eqb-true s.object o q)) in
-        rw (q, apart) (sym (with_new_apart s.object p s.new (set_pairs slots) apart))
-    by ih (inr q) = rw q (with_new_other s.object p s.new (set_pairs (with_set_slot o v slots)) (set_pairs slots) ih)
+set_others o p v (s ∷ slots) other = elim (cases_Bool (s.object == o)) [
+  | inl q ↦
+      let apart : s.object == p ≡ false = ne_eqb s.object p (λ z. other (sym z ∙ eqb-true s.object o q)) in
+      rw (q, apart) (sym (with_new_apart s.object p s.new (set_pairs slots) apart))
+  | inr q ↦
+      rw q (with_new_other s.object p s.new (set_pairs (with_set_slot o v slots)) (set_pairs slots)
+      (set_others o p v slots other))
+]
 
 -- only this object has a new value
 pub sets_only : (o : ℕ) (v : Val) (slots : List WriteSlot) → is_some (write_slot slots o) ≡ true →

@@ -69,12 +69,10 @@ newest_state s {c = c} {e = e} own n =
 
 found_given : (s : Shape) (l : LocalState) (e : Event) (k : Kind) → k ≡ LookSelf → (after k s l e).phase ≢ Outside →
     e.found ≡ given l.phase
-found_given s l e LookSelf q live = by (cases_Bool (e.found == given l.phase)) live
-  where
-    by : (e.found == given l.phase ≡ true) ⊎ (e.found == given l.phase ≡ false) →
-        (after LookSelf s l e).phase ≢ Outside → e.found ≡ given l.phase
-    by (inl z) live = eqb-true e.found (given l.phase) z
-    by (inr z) live = absurd (let n : Outside ≢ Outside = rw z at live in n refl)
+found_given s l e LookSelf q live = elim (cases_Bool (e.found == given l.phase)) [
+  | inl z ↦ eqb-true e.found (given l.phase) z
+  | inr z ↦ absurd (let n : Outside ≢ Outside = rw z at live in n refl)
+]
 found_given s l e k q live = absurd (cc)
 
 -- a log in which the caller's newest event completed a pass
@@ -142,7 +140,10 @@ rank_sees s c log rest rank e own raised kind live =
 pub open_sees : {s : Shape} (c : ℕ) (log old : List Event) {w : Work} {g : Lcg} {es : List Event} → is_open w ≡ true →
     (local s old c).phase ≡ Running → IsCall (Doing w) s (local s old c) g es →
     events_of c log ≡ es ++ events_of c old → (local s log c).phase ≡ Running → Sees s log c
-open_sees {s = s} c log old {w = w} {g = g} {es = es} opens run call own runs = by (cases_Bool (rises s.manager))
+open_sees {s = s} c log old {w = w} {g = g} {es = es} opens run call own runs = elim (cases_Bool (rises s.manager)) [
+  | inl risen ↦ in_rank (ends.0 risen)
+  | inr still ↦ in_pass (ends.1 still)
+]
   where
     now : local s log c ≡ state_after s (local s old c) es
     now = after_own s c log old es own
@@ -162,10 +163,6 @@ open_sees {s = s} c log old {w = w} {g = g} {es = es} opens run call own runs = 
     in_rank r =
         rank_sees s c log _ r.rank r.pass.end
         (own ∙ ap (λ xs. xs ++ events_of c old) (r.are ∙ ap (λ xs. r.rank ∷ xs) r.pass.are)) r.is_rank r.pass.ends live
-
-    by : (rises s.manager ≡ true) ⊎ (rises s.manager ≡ false) → Sees s log c
-    by (inl risen) = in_rank (ends.0 risen)
-    by (inr still) = in_pass (ends.1 still)
 
 -- the sight covers what is held
 pub sees_all : {L : Type 0} (k : Called L) → Sees (shape_of k) k.log k.number → Sighted k

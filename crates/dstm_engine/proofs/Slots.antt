@@ -23,7 +23,12 @@ pub set_slot_is : (slots : List WriteSlot) (o n : ℕ) (v : Val) → IsSlotOf wr
     slice_set slots n (record (write_at slots n) { new = Some v }) ≡ with_set_slot o v slots
 set_slot_is [] o n v r only = let w = r.within in absurd (omega arith)
 set_slot_is (s ∷ slots) o zero v r only = rw (eq-eqb s.object o r.object) refl
-set_slot_is (s ∷ slots) o (suc n) v r only = by (set_slot_is slots o n v later rest) (cases_Bool (s.object == o))
+set_slot_is (s ∷ slots) o (suc n) v r only = elim (cases_Bool (s.object == o)) [
+  | inl q ↦
+      let e = only 0 (record { within = omega arith; counts = refl; object = eqb-true s.object o q }) in
+      absurd (omega arith)
+  | inr q ↦ rw q (ap (λ xs. s ∷ xs) (set_slot_is slots o n v later rest))
+]
   where
     later : IsSlotOf writes_sort slots o n
     later = record { within = let w = r.within in omega arith; counts = refl; object = r.object }
@@ -31,28 +36,26 @@ set_slot_is (s ∷ slots) o (suc n) v r only = by (set_slot_is slots o n v later
     rest : (i : ℕ) → IsSlotOf writes_sort slots o i → i ≡ n
     rest i q = let e = only (suc i) (record { within = let w = q.within in omega arith; counts = refl; object = q.object }) in omega arith
 
-    by : slice_set slots n (record (write_at slots n) { new = Some v }) ≡ with_set_slot o v slots →
-        (s.object == o ≡ true) ⊎ (s.object == o ≡ false) →
-        slice_set (s ∷ slots) (suc n) (record (write_at (s ∷ slots) (suc n)) { new = Some v })
-        ≡ with_set_slot o v (s ∷ slots)
-    by ih (inl q) =
-        let e = only 0 (record { within = omega arith; counts = refl; object = eqb-true s.object o q }) in absurd (omega arith)
-    by ih (inr q) = rw q (ap (λ xs. s ∷ xs) ih)
-
 -- the words of the reads are those of the slots that were not let go
 pub words_all : (slots : List ReadSlot) → kept slots ≡ map slot_word (filter is_kept slots)
 words_all [] = refl
-words_all (s ∷ slots) = by (words_all slots) (cases_Bool s.kept)
-  where
-    by : kept slots ≡ map slot_word (filter is_kept slots) → (s.kept ≡ true) ⊎ (s.kept ≡ false) →
-        kept (s ∷ slots) ≡ map slot_word (filter is_kept (s ∷ slots))
-    by ih (inl q) = rw q (ap (λ xs. (s.object, s.word) ∷ xs) ih)
-    by ih (inr q) = rw q ih
+words_all (s ∷ slots) =
+    let ih = words_all slots in
+    elim (cases_Bool s.kept) [
+      | inl q ↦ rw q (ap (λ xs. (s.object, s.word) ∷ xs) ih)
+      | inr q ↦ rw q ih
+    ]
 
 -- one read more
 pub words_push : (reads : List Read) (r : Read) → words_of (reads ++ r ∷ []) ≡ words_of reads ++ (r.object, r.word) ∷ []
 words_push [] r = refl
 words_push (x ∷ reads) r = ap (λ xs. (x.object, x.word) ∷ xs) (words_push reads r)
+
+-- the first slot is that of the first read, and the others are those of the others
+first_slot : (s : ReadSlot) (slots : List ReadSlot) (r : Read) (reads : List Read) →
+    map slot_word (s ∷ slots) ≡ words_of (r ∷ reads) →
+    (slot_word s ≡ (r.object, r.word)) × (map slot_word slots ≡ words_of reads)
+first_slot s slots r reads h = (cc, cc)
 
 -- and one less
 pub words_without : (slots : List ReadSlot) (reads : List Read) (o : ℕ) → map slot_word slots ≡ words_of reads →
@@ -61,27 +64,14 @@ words_without [] [] o h = refl
 words_without [] (r ∷ reads) o h = absurd (cc)
 words_without (s ∷ slots) [] o h = absurd (cc)
 words_without (s ∷ slots) (r ∷ reads) o h =
-    by (words_without slots reads o rest) (cases_Bool (s.object == o))
-  where
-    rest : map slot_word slots ≡ words_of reads
-    rest = cc
-
-    same : slot_word s ≡ (r.object, r.word)
-    same = cc
-
-    object : s.object ≡ r.object
-    object = ap (λ (p : ℕ × ℕ). p.0) same
-
-    by : map slot_word (without_read o slots) ≡ words_of (drop_read o reads) →
-        (s.object == o ≡ true) ⊎ (s.object == o ≡ false) →
-        map slot_word (without_read o (s ∷ slots)) ≡ words_of (drop_read o (r ∷ reads))
-    by ih (inl q) =
-        ap (λ b. map slot_word (if b then slots else s ∷ without_read o slots)) q ∙ rest
-        ∙ sym (ap (λ b. words_of (if b then reads else r ∷ drop_read o reads)) (ap (λ n. n == o) (sym object) ∙ q))
-    by ih (inr q) =
-        ap (λ b. map slot_word (if b then slots else s ∷ without_read o slots)) q
-        ∙ ap (λ p. p ∷ map slot_word (without_read o slots)) same ∙ ap (λ xs. (r.object, r.word) ∷ xs) ih
-        ∙ sym (ap (λ b. words_of (if b then reads else r ∷ drop_read o reads)) (ap (λ n. n == o) (sym object) ∙ q))
+    let same = first_slot s slots r reads h in
+    let object : r.object ≡ s.object = ap (λ (p : ℕ × ℕ). p.0) (sym same.0) in
+    elim (cases_Bool (s.object == o)) [
+      | inl q ↦ rw (q, ap (λ n. n == o) object ∙ q) same.1
+      | inr q ↦
+          rw (q, ap (λ n. n == o) object ∙ q) (ap (λ p. p ∷ map slot_word (without_read o slots)) same.0
+          ∙ ap (λ xs. (r.object, r.word) ∷ xs) (words_without slots reads o same.1))
+    ]
 
 -- a read of an object has the word of its slot
 pub slot_read : (slots : List ReadSlot) (reads : List Read) (o : ℕ) → map slot_word slots ≡ words_of reads →
@@ -89,27 +79,13 @@ pub slot_read : (slots : List ReadSlot) (reads : List Read) (o : ℕ) → map sl
 slot_read [] [] o h = refl
 slot_read [] (r ∷ reads) o h = absurd (cc)
 slot_read (s ∷ slots) [] o h = absurd (cc)
-slot_read (s ∷ slots) (r ∷ reads) o h = by (slot_read slots reads o rest) (cases_Bool (s.object == o))
-  where
-    rest : map slot_word slots ≡ words_of reads
-    rest = cc
-
-    same : slot_word s ≡ (r.object, r.word)
-    same = cc
-
-    object : s.object ≡ r.object
-    object = ap (λ (p : ℕ × ℕ). p.0) same
-
-    by : word_of (read_of o reads) ≡ option_map (λ (s : ReadSlot). s.word) (read_slot slots o) →
-        (s.object == o ≡ true) ⊎ (s.object == o ≡ false) →
-        word_of (read_of o (r ∷ reads)) ≡ option_map (λ (s : ReadSlot). s.word) (read_slot (s ∷ slots) o)
-    by ih (inl q) =
-        ap (λ b. word_of (if b then Some r else read_of o reads)) (ap (λ n. n == o) (sym object) ∙ q)
-        ∙ ap (λ (p : ℕ × ℕ). Some p.1) (sym same)
-        ∙ sym (ap (λ b. option_map (λ (x : ReadSlot). x.word) (if b then Some s else read_slot slots o)) q)
-    by ih (inr q) =
-        ap (λ b. word_of (if b then Some r else read_of o reads)) (ap (λ n. n == o) (sym object) ∙ q) ∙ ih
-        ∙ sym (ap (λ b. option_map (λ (x : ReadSlot). x.word) (if b then Some s else read_slot slots o)) q)
+slot_read (s ∷ slots) (r ∷ reads) o h =
+    let same = first_slot s slots r reads h in
+    let object : r.object ≡ s.object = ap (λ (p : ℕ × ℕ). p.0) (sym same.0) in
+    elim (cases_Bool (s.object == o)) [
+      | inl q ↦ rw (ap (λ n. n == o) object ∙ q, q) (ap (λ (p : ℕ × ℕ). Some p.1) (sym same.0))
+      | inr q ↦ rw (ap (λ n. n == o) object ∙ q, q) (slot_read slots reads o same.1)
+    ]
 
 -- ---- a read that is let go
 
@@ -140,18 +116,15 @@ drop_kept (s ∷ slots) o (suc i) r only = by (drop_kept slots o i later rest) (
         ≡ without_read o (filter is_kept slots) → (s.kept ≡ true) ⊎ (s.kept ≡ false) →
         filter is_kept (slice_set (s ∷ slots) (suc i) (record (read_at (s ∷ slots) (suc i)) { kept = false }))
         ≡ without_read o (filter is_kept (s ∷ slots))
-    by ih (inl k) = at (cases_Bool (s.object == o))
-      where
-        at : (s.object == o ≡ true) ⊎ (s.object == o ≡ false) →
-            filter is_kept (slice_set (s ∷ slots) (suc i) (record (read_at (s ∷ slots) (suc i)) { kept = false }))
-            ≡ without_read o (filter is_kept (s ∷ slots))
-        at (inl q) =
-            let e = only 0 (record { within = omega arith; counts = k; object = eqb-true s.object o q }) in
-            absurd (omega arith)
-        at (inr q) =
-            kept_yes s (slice_set slots i (record (read_at slots i) { kept = false })) k ∙ ap (λ xs. s ∷ xs) ih
-            ∙ sym (ap (without_read o) (kept_yes s slots k)
-            ∙ ap (λ b. if b then filter is_kept slots else s ∷ without_read o (filter is_kept slots)) q)
+    by ih (inl k) = elim (cases_Bool (s.object == o)) [
+      | inl q ↦
+          let e = only 0 (record { within = omega arith; counts = k; object = eqb-true s.object o q }) in
+          absurd (omega arith)
+      | inr q ↦
+          kept_yes s (slice_set slots i (record (read_at slots i) { kept = false })) k ∙ ap (λ xs. s ∷ xs) ih
+          ∙ sym (ap (without_read o) (kept_yes s slots k)
+          ∙ ap (λ b. if b then filter is_kept slots else s ∷ without_read o (filter is_kept slots)) q)
+    ]
     by ih (inr k) =
         kept_no s (slice_set slots i (record (read_at slots i) { kept = false })) k ∙ ih
         ∙ sym (ap (without_read o) (kept_no s slots k))
@@ -159,32 +132,28 @@ drop_kept (s ∷ slots) o (suc i) r only = by (drop_kept slots o i later rest) (
 pub length-without : (slots : List ReadSlot) (o : ℕ) → is_some (read_slot slots o) ≡ true →
     length (without_read o slots) + 1 ≡ length slots
 length-without [] o some = absurd (cc)
-length-without (s ∷ slots) o some = by (length-without slots o) (cases_Bool (s.object == o))
-  where
-    by : (is_some (read_slot slots o) ≡ true → length (without_read o slots) + 1 ≡ length slots) →
-        (s.object == o ≡ true) ⊎ (s.object == o ≡ false) → length (without_read o (s ∷ slots)) + 1 ≡ length (s ∷ slots)
-    by ih (inl q) = rw q (omega arith)
-    by ih (inr q) = let x = ih (rw q at some) in rw q (omega arith)
+length-without (s ∷ slots) o some = elim (cases_Bool (s.object == o)) [
+  | inl q ↦ rw q (omega arith)
+  | inr q ↦ let x = length-without slots o (rw q at some) in rw q (omega arith)
+]
 
 pub without_none : (slots : List ReadSlot) (o : ℕ) → read_slot slots o ≡ None → without_read o slots ≡ slots
 without_none [] o none = refl
-without_none (s ∷ slots) o none = by (without_none slots o) (cases_Bool (s.object == o))
-  where
-    by : (read_slot slots o ≡ None → without_read o slots ≡ slots) → (s.object == o ≡ true) ⊎ (s.object == o ≡ false) →
-        without_read o (s ∷ slots) ≡ s ∷ slots
-    by ih (inl q) = absurd (let z : Some s ≡ None = rw q at none in cc)
-    by ih (inr q) = rw q (ap (λ xs. s ∷ xs) (ih (rw q at none)))
+without_none (s ∷ slots) o none = elim (cases_Bool (s.object == o)) [
+  | inl q ↦ absurd (let z : Some s ≡ None = rw q at none in cc)
+  | inr q ↦ rw q (ap (λ xs. s ∷ xs) (without_none slots o (rw q at none)))
+]
 
 pub filter_again : (slots : List ReadSlot) → filter is_kept (filter is_kept slots) ≡ filter is_kept slots
 filter_again [] = refl
-filter_again (s ∷ slots) = by (filter_again slots) (cases_Bool s.kept)
-  where
-    by : filter is_kept (filter is_kept slots) ≡ filter is_kept slots → (s.kept ≡ true) ⊎ (s.kept ≡ false) →
-        filter is_kept (filter is_kept (s ∷ slots)) ≡ filter is_kept (s ∷ slots)
-    by ih (inl k) =
-        ap (filter is_kept) (kept_yes s slots k) ∙ kept_yes s (filter is_kept slots) k ∙ ap (λ xs. s ∷ xs) ih
-        ∙ sym (kept_yes s slots k)
-    by ih (inr k) = ap (filter is_kept) (kept_no s slots k) ∙ ih ∙ sym (kept_no s slots k)
+filter_again (s ∷ slots) =
+    let ih = filter_again slots in
+    elim (cases_Bool s.kept) [
+      | inl k ↦
+          ap (filter is_kept) (kept_yes s slots k) ∙ kept_yes s (filter is_kept slots) k ∙ ap (λ xs. s ∷ xs) ih
+          ∙ sym (kept_yes s slots k)
+      | inr k ↦ ap (filter is_kept) (kept_no s slots k) ∙ ih ∙ sym (kept_no s slots k)
+    ]
 
 -- one read more
 pub filter_push : (slots : List ReadSlot) (s : ReadSlot) → s.kept ≡ true →

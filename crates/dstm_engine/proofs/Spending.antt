@@ -56,14 +56,13 @@ begins_more s l e k h = absurd (cc)
 none_begins : (s : Shape) (l : LocalState) (g : Lcg) (fresh : Bool) (es : List Event) → Obeys (Beginning fresh) s l g es →
     (state_after s l es).begun ≡ l.begun → has_begun (newest_of es) ≡ false
 none_begins s l g fresh [] h same = refl
-none_begins s l g fresh (e ∷ es) h same = by (cases_Bool (is_begin e.kind))
-  where
-    by : (is_begin e.kind ≡ true) ⊎ (is_begin e.kind ≡ false) → is_begin e.kind ≡ false
-    by (inr q) = q
-    by (inl q) =
-        let more = begins_more s (state_after s l es) e e.kind q in
-        let still = still_begun s l g fresh es h.0 (not_begun (newest_of es) s fresh (state_after s l es) e h.1) in
-        absurd (omega (arith, same, more, still))
+none_begins s l g fresh (e ∷ es) h same = elim (cases_Bool (is_begin e.kind)) [
+  | inr q ↦ q
+  | inl q ↦
+      let more = begins_more s (state_after s l es) e e.kind q in
+      let still = still_begun s l g fresh es h.0 (not_begun (newest_of es) s fresh (state_after s l es) e h.1) in
+      absurd (omega (arith, same, more, still))
+]
 
 module _ {L : Type 0} (holds : L → List Val → Type 0) (k n : Called L) (fresh : k.fresh ≡ is_new (state k))
     (s : SpentFrom holds k n) where

@@ -6,6 +6,7 @@ use Rattle.dstm_core.proofs.Columns.{in_table}
 use Rattle.dstm_core.specs.State.{LocalState, next_attempt}
 use Rattle.dstm_core.specs.Words.{IsValid}
 use Rattle.dstm_core.specs.declared.shape.Shape.{Shape}
+use Rattle.dstm_core.specs.declared.state.Phase.{Phase}
 use Rattle.dstm_core.specs.declared.state.Phase.TheVariants.{Outside, Running}
 use Rattle.dstm_opacity.proofs.Stays.{NoneCommits}
 use Rattle.std.proofs.lemmas.List.Elements.{All-cons, All-nil}
@@ -35,27 +36,21 @@ pub record Ended (old new : LocalState) : Type 0 where
   pub stands : new.stands ≡ old.stands
   pub committed : new.committed ≡ old.committed
 
+ends_in : (l : LocalState) (phase : Phase) → phase ≡ Outside → Ended l (record l { phase = phase })
+ends_in l phase out = record {
+  outside = out;
+  number = refl;
+  begun = refl;
+  installed = refl;
+  stamped = refl;
+  ranked = refl;
+  stands = refl;
+  committed = refl;
+}
+
 pub ended_is : (live : Bool) (l : LocalState) → l.phase ≡ phase_by live → Ended l (ended live l)
-ended_is true l phase = record {
-  outside = refl;
-  number = refl;
-  begun = refl;
-  installed = refl;
-  stamped = refl;
-  ranked = refl;
-  stands = refl;
-  committed = refl;
-}
-ended_is false l phase = record {
-  outside = phase;
-  number = refl;
-  begun = refl;
-  installed = refl;
-  stamped = refl;
-  ranked = refl;
-  stands = refl;
-  committed = refl;
-}
+ended_is true l phase = ends_in l Outside refl
+ended_is false l phase = ends_in l l.phase phase
 
 -- a caller that is spent is asked for nothing more
 pub spent_due : (s : Shape) (fresh : Bool) (l : LocalState) → l.phase ≡ Outside → is_spent s l ≡ true →

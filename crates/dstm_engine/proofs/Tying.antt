@@ -1,10 +1,15 @@
 -- A caller whose fields stand for what contracts see of it, before and after a call.
 use Rattle.std.proofs.Common.{◌∙◌, ◌≡◌, List, ap, refl, subst, sym}
-use Rattle.std.specs.Prelude.{Bool, true, false, None, Option, not, nat_lt, ◌||◌, ◌+◌}
+use Rattle.std.specs.Prelude.{Bool, true, false, None, Option, not, nat_lt, ℕ, ◌||◌, ◌+◌}
 use Rattle.dstm_steps.proofs.Stepping.{began_as}
 use Rattle.dstm_steps.specs.Under.{InTask, IsMirror, effort_by, now}
 use Rattle.dstm_steps.specs.declared.steps.Steps.{Steps}
+use Rattle.dstm_core.specs.Events.{Event}
+use Rattle.dstm_core.specs.Histories.{old_values, read_values}
 use Rattle.dstm_core.specs.Runs.{local}
+use Rattle.dstm_core.specs.State.{LocalState}
+use Rattle.dstm_core.specs.declared.state.Read.{Read}
+use Rattle.dstm_core.specs.declared.state.Write.{Write}
 use Rattle.dstm_model.specs.declared.value.Val.{Val}
 use Rattle.dstm_order.specs.Calls.{answer}
 use Rattle.dstm_order.specs.Order.{due, is_spent}
@@ -21,6 +26,26 @@ use Rattle.dstm_engine.specs.declared.caller.Caller.TheInside.{Inside}
 -- steps that have nothing behind them
 abbrev pub renewed : {L : Type 0} → Steps L → Steps L
 renewed steps = record steps { missed = 0; round = 0; left = 0 }
+
+-- a call of a caller has ended and answers this, by what stands for the caller
+abbrev pub EndsHere : {L : Type 0} → (L → List Val → Type 0) → Inside L → Task → Steps L → Option Again → Type 0
+EndsHere holds c task new again = InTask holds (called c).home task (began_of task (called c)) new Done again
+
+-- and by the steps that it began with
+abbrev pub EndsAt : {L : Type 0} → (L → List Val → Type 0) → Home L → Steps L → Task → Steps L → Option Again → Type 0
+EndsAt holds home steps task new again =
+    InTask holds home task (began_as home task (number_or (view_of steps.seat).number 0) steps) new Done again
+
+-- the state of the caller by the log of these steps
+abbrev pub state_logged : {L : Type 0} → Inside L → Steps L → LocalState
+state_logged c new = local c.terms.shape (view_of new.seat).log c.number
+
+-- the values of reads and the old values of writes, by a log
+abbrev pub reads_in : {L : Type 0} → Inside L → List Event → List Read → List (ℕ × Val)
+reads_in c log reads = read_values c.terms.shape c.terms.start.value.items log reads
+
+abbrev pub olds_in : {L : Type 0} → Inside L → List Event → List Write → List (ℕ × Val)
+olds_in c log writes = old_values c.terms.shape c.terms.start.value.items log writes
 
 runs_by : (b : Bool) → is_running (phase_by b) ≡ b
 runs_by true = refl
@@ -74,8 +99,7 @@ module _ {L : Type 0} {holds : L → List Val → Type 0} {c : Inside L} (v : Ti
 
   -- and ends
   pub ends_here : {task : Task} {new : Steps L} {again : Option Again} →
-      InTask holds home task (began_as home task (number_or (view_of steps.seat).number 0) steps) new Done again →
-      InTask holds (called c).home task (began_of task (called c)) new Done again
+      EndsAt holds home steps task new again → EndsHere holds c task new again
   ends_here {task = task} {new = new} {again = again} u =
       subst (λ b. InTask holds (called c).home task b new Done again) (began_is holds (called c) task steps_of)
       (subst (λ (h : Home L). InTask holds h task (began_as h task (number_or (view_of steps.seat).number 0) steps)
@@ -83,9 +107,9 @@ module _ {L : Type 0} {holds : L → List Val → Type 0} {c : Inside L} (v : Ti
 
 -- the state of the caller after a call
 module _ {L : Type 0} {holds : L → List Val → Type 0} (c : Inside L) {task : Task} {new : Steps L}
-    {again : Option Again} (u : InTask holds (called c).home task (began_of task (called c)) new Done again) where
-  pub state_then : local c.terms.shape (view_of new.seat).log c.number ≡ now (called c).home new
+    {again : Option Again} (u : EndsHere holds c task new again) where
+  pub state_then : state_logged c new ≡ now (called c).home new
   state_then = sym (ap (caller_state c.terms) u.view)
 
-  pub mirror_then : IsMirror c.terms.shape new (local c.terms.shape (view_of new.seat).log c.number)
+  pub mirror_then : IsMirror c.terms.shape new (state_logged c new)
   mirror_then = subst (IsMirror c.terms.shape new) (sym state_then) u.mirror

@@ -278,9 +278,21 @@ impl<L: Law> Caller<L> {
         ensures unmarked { IfSome result (λ _. (p : ℕ) → is_opened self.new p ≡ is_opened self.old p) }
         ensures stops { result ≡ None → (again : Cause) × Stops L.holds (Reading o) self.old self.new again }
     {
-        match self.read_first(stm, o) {
+        renew(&mut self.steps);
+        match read_object::<L, Brand>(
+            &mut self.steps,
+            stm.words(),
+            &mut self.last_number,
+            &mut self.opened,
+            stm,
+            o,
+        ) {
             Ok(value) => Some(value),
-            Err(_) => None,
+            Err(again) => {
+                self.live = false;
+                self.left = Some(again);
+                None
+            }
         }
     }
 
@@ -313,9 +325,23 @@ impl<L: Law> Caller<L> {
         ensures marked { IfSome result (λ _. IsTrue (is_opened self.new o)) }
         ensures stops { result ≡ None → (again : Cause) × Stops L.holds (Writing o) self.old self.new again }
     {
-        match self.write_first(stm, o) {
-            Ok(value) => Some(value),
-            Err(_) => None,
+        renew(&mut self.steps);
+        let next = self.number * self.terms.shape.locators + self.steps.installed;
+        match write_object::<L, Brand>(
+            &mut self.steps,
+            stm.words(),
+            &mut self.last_number,
+            &mut self.opened,
+            stm,
+            o,
+            next,
+        ) {
+            Ok(old) => Some(old),
+            Err(again) => {
+                self.live = false;
+                self.left = Some(again);
+                None
+            }
         }
     }
 
@@ -333,67 +359,6 @@ impl<L: Law> Caller<L> {
         match self.write_kept(stm, o) {
             Some(value) => Ok(value),
             None => Err(self.cause()),
-        }
-    }
-
-    // Opens an object for reading that is not held.
-    #[inline(always)]
-    fn read_first(&mut self, stm: &Stm<L>, o: u32) -> Result<Val, Again>
-        requires table { self.old.home ≡ stm.now }
-        requires exists { o < (shape_of self.old).objects }
-        requires live { IsTrue (is_live self.old) }
-        requires unheld { held self.old o ≡ None }
-        requires reads { (shape_of self.old).all_write ≡ false }
-        ensures opens { IfOk result (Opens L.holds (Reading o) o self.old self.new) }
-        ensures unmarked { OnOk result ((p : ℕ) → is_opened self.new p ≡ is_opened self.old p) }
-        ensures stops { IfErr result (Stops L.holds (Reading o) self.old self.new) }
-    {
-        renew(&mut self.steps);
-        match read_object::<L, Brand>(
-            &mut self.steps,
-            stm.words(),
-            &mut self.last_number,
-            &mut self.opened,
-            stm,
-            o,
-        ) {
-            Ok(value) => Ok(value),
-            Err(again) => {
-                self.live = false;
-                self.left = Some(again);
-                Err(again)
-            }
-        }
-    }
-
-    // Opens an object for writing that is not open for it.
-    #[inline(always)]
-    fn write_first(&mut self, stm: &Stm<L>, o: u32) -> Result<Val, Again>
-        requires table { self.old.home ≡ stm.now }
-        requires exists { o < (shape_of self.old).objects }
-        requires live { IsTrue (is_live self.old) }
-        requires unopened { is_opened self.old o ≡ false }
-        ensures opens { IfOk result (Opens L.holds (Writing o) o self.old self.new) }
-        ensures marked { OnOk result (IsTrue (is_opened self.new o)) }
-        ensures stops { IfErr result (Stops L.holds (Writing o) self.old self.new) }
-    {
-        renew(&mut self.steps);
-        let next = self.number * self.terms.shape.locators + self.steps.installed;
-        match write_object::<L, Brand>(
-            &mut self.steps,
-            stm.words(),
-            &mut self.last_number,
-            &mut self.opened,
-            stm,
-            o,
-            next,
-        ) {
-            Ok(old) => Ok(old),
-            Err(again) => {
-                self.live = false;
-                self.left = Some(again);
-                Err(again)
-            }
         }
     }
 

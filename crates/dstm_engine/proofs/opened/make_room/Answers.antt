@@ -39,11 +39,6 @@ returns-clause-placed c =
     (place_at new o).read ≡ (place_at c.deref_mut.result.now o).read) is e.others o none
     ∙ ap (λ (ps : List Place). (place_at ps o).read) value)) _ _ (e.size ∙ ap length value) (λ o. refl)))
 
-pub returns-clause-writes : goal.returns-clause-writes
-returns-clause-writes c o =
-    ap (λ (ps : List Place). (place_at ps o).write) (made (goal.at.returns-clause-writes c).After-place_reads)
-    ∙ c.place_reads.ensures.writes o ∙ ap (λ (ps : List Place). (place_at ps o).write) c.deref_mut.ensures.value
-
 pub returns-clause-kept : goal.returns-clause-kept
 returns-clause-kept c = ap (filter is_kept) c.keep_reads.ensures.items ∙ filter_again c.args.reads.now.items
 

@@ -9,11 +9,6 @@ use Rattle.dstm_engine.proofs.caller.Caller.is_read.Given.{Over}
 use Rattle.dstm_engine.proofs.caller.Caller.is_read.Goals.{After-is_some}
 use Rattle.dstm_engine.proofs.caller.Caller.is_read.Goals as goal
 
-pub returns-then-not-self : goal.returns-then-not-self
-returns-then-not-self g c =
-    sym (is_read_dead c.self.invariant c.args.o c.if-not-self.true)
-    ∙ ap (λ (k : Called _). is_some (live_held k c.args.o) && not (live_opened k c.args.o)) c.self.view_is
-
 -- it is read where it has a slot
 read : (g : Over) (c : After-is_some g) → is_some (read_slot c.self.inside.opened.reads c.args.o) ≡ c.is_some.result
 read g c = ap (λ (r : Option ReadSlot). is_some r) (sym c.read.ensures) ∙ sym c.is_some.ensures

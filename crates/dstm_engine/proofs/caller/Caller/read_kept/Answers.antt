@@ -3,9 +3,9 @@ use Rattle.dstm_order.specs.Tasks.Work.{Reading}
 use Rattle.dstm_engine.proofs.AtCall.{AtCall, at_call}
 use Rattle.dstm_engine.proofs.FirstOpens.{first_fresh, first_opens, first_room, first_stopped_tied, first_stops, first_tied, first_unopened, first_unread}
 use Rattle.dstm_engine.specs.Mirror.{set_pairs}
-use Rattle.dstm_engine.proofs.caller.Caller.read_first.Given.{Over}
-use Rattle.dstm_engine.proofs.caller.Caller.read_first.Goals.{After-words}
-use Rattle.dstm_engine.proofs.caller.Caller.read_first.Goals as goal
+use Rattle.dstm_engine.proofs.caller.Caller.read_kept.Given.{Over}
+use Rattle.dstm_engine.proofs.caller.Caller.read_kept.Goals.{After-words}
+use Rattle.dstm_engine.proofs.caller.Caller.read_kept.Goals as goal
 
 begun : (g : Over) (c : After-words g) →
     AtCall g.L.Law.holds c.self.inside c.args.self.now c.words.result.now c.renew.new.steps
@@ -49,8 +49,10 @@ invariant_of-self-in-Err g c =
     (c.read_object.ensures.rest.0, ap set_pairs c.read_object.ensures.rest.1)
 
 pub returns-in-Err-clause-stops : goal.returns-in-Err-clause-stops
-returns-in-Err-clause-stops g c =
-    first_stops (begun g (goal.at.returns-in-Err-clause-stops g c).After-words) c.requires.live refl
-    c.in-Err.ensures.ends
-    (λ all. let some = c.requires.reads in absurd (cc)) c.read_object.new.last c.read_object.new.opened
-    (c.read_object.ensures.rest.0, ap set_pairs c.read_object.ensures.rest.1)
+returns-in-Err-clause-stops g c = λ _. (
+  c.in-Err.again,
+  first_stops (begun g (goal.at.returns-in-Err-clause-stops g c).After-words) c.requires.live refl
+      c.in-Err.ensures.ends
+      (λ all. let some = c.requires.reads in absurd (cc)) c.read_object.new.last c.read_object.new.opened
+      (c.read_object.ensures.rest.0, ap set_pairs c.read_object.ensures.rest.1),
+)

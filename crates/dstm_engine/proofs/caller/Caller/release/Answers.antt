@@ -1,18 +1,11 @@
-use Rattle.std.proofs.Common.{rules, ◌∙◌, ◌≡◌, ap, subst, sym, true, None}
+use Rattle.std.proofs.Common.{rules, ◌∙◌, ◌≡◌, ap, true, None}
 use Rattle.std.specs.Prelude.{is_some, not, ◌&&◌}
 use Rattle.dstm_steps.specs.Under.{now}
 use Rattle.dstm_core.specs.State.{LocalState, drop_read, read_of}
-use Rattle.dstm_engine.proofs.AtCall.{AtCall, at_call, ends_at, state_at}
+use Rattle.dstm_engine.proofs.AtCall.{AtCall, at_call, at_home, ends_at, state_at}
 use Rattle.dstm_engine.proofs.Released.{holds_without, read_there, released_place, released_tied, released_widens}
-use Rattle.dstm_engine.specs.Attempts.{Admits}
 use Rattle.dstm_engine.specs.Callers.{Called, held, is_opened, state}
-use Rattle.dstm_engine.specs.Mirror.{Tied, called}
-use Rattle.dstm_engine.specs.Opened.{OpenedAs, without_read}
-use Rattle.dstm_engine.specs.Transactions.{tx_place}
-use Rattle.dstm_mem.specs.Memory.{HoldsWithout}
-use Rattle.dstm_order.specs.Tasks.Task.{Doing}
-use Rattle.dstm_order.specs.Tasks.Work.{Releasing}
-use Rattle.dstm_words.specs.Seats.{Home}
+use Rattle.dstm_engine.specs.Mirror.{called}
 use Rattle.dstm_engine.proofs.caller.Caller.release.Given.{Over}
 use Rattle.dstm_engine.proofs.caller.Caller.release.Goals.{After-release, After-words}
 use Rattle.dstm_engine.proofs.caller.Caller.release.Goals as goal
@@ -43,57 +36,35 @@ dropped : (g : Over) (c : After-release g) →
       checked = 0;
     }
 dropped g c at =
-    ap (λ (h : Home _). now h c.release.new.self) at.home ∙ c.release.ensures.state
-    ∙ ap (λ (l : LocalState). record l {
+    at_home at (λ h l. now h c.release.new.self ≡ record l {
       reads = drop_read c.args.o l.reads;
       resolution = None;
       pass = None;
       checked = 0;
-    }) (state_at at)
+    }) c.release.ensures.state
 
 pub invariant_of-self : goal.invariant_of-self
 invariant_of-self g c =
     let before = (goal.at.invariant_of-self g c).After-words in
     let at = begun g before in
-    let x = c.self.inside in
-    let live : x.live ≡ true = at.live ∙ c.requires.live in
+    let live : c.self.inside.live ≡ true = at.live ∙ c.requires.live in
     let u = ends_at at c.release.ensures.under in
     let is = dropped g (goal.at.invariant_of-self g c).After-release at in
-    subst (λ (o : OpenedAs). Tied g.L.Law.holds (record x { steps = c.release.new.self; opened = o }))
-    (sym c.drop_read.ensures) (released_tied at.tied live u is (read g before))
+    rw c.drop_read.ensures (released_tied at.tied live u is (read g before))
 
 pub returns : goal.returns
 returns g c =
     let before = (goal.at.returns g c).After-words in
     let at = begun g before in
-    let x = c.self.inside in
-    let live : x.live ≡ true = at.live ∙ c.requires.live in
+    let live : c.self.inside.live ≡ true = at.live ∙ c.requires.live in
     let u = ends_at at c.release.ensures.under in
     let is = dropped g (goal.at.returns g c).After-release at in
     record {
       steps = search rules;
       kept = search rules;
-      held =
-          subst (λ (o : OpenedAs). HoldsWithout c.args.o (held c.args.self.now) (held (called (record x { steps = c.release.new.self; opened = o })))) (sym c.drop_read.ensures)
-          (subst (λ (k : Called _). HoldsWithout c.args.o (held k) (held (called (record x {
-            steps = c.release.new.self;
-            opened = record x.opened { reads = without_read c.args.o x.opened.reads };
-          })))) c.self.view_is (holds_without c.self.invariant live u is (read g before)));
+      held = rw (← at.view) (holds_without at.tied live u is (read g before));
       opened = search rules;
       live = search rules;
-      place =
-          λ name table.
-          subst (λ (o : OpenedAs). tx_place name table (called (record x { steps = c.release.new.self; opened = o })) ≡ tx_place name table c.args.self.now) (sym c.drop_read.ensures)
-          (subst (λ (k : Called _). tx_place name table (called (record x {
-            steps = c.release.new.self;
-            opened = record x.opened { reads = without_read c.args.o x.opened.reads };
-          })) ≡ tx_place name table k) c.self.view_is
-          (released_place c.self.invariant live u is (read g before) name table));
-      widens =
-          λ map.
-          subst (λ (o : OpenedAs). Admits g.L.Law.holds c.args.self.now map → Admits g.L.Law.holds (called (record x { steps = c.release.new.self; opened = o })) map) (sym c.drop_read.ensures)
-          (subst (λ (k : Called _). Admits g.L.Law.holds k map → Admits g.L.Law.holds (called (record x {
-            steps = c.release.new.self;
-            opened = record x.opened { reads = without_read c.args.o x.opened.reads };
-          })) map) c.self.view_is (released_widens c.self.invariant live u is (read g before)));
+      place = λ name table. rw (← at.view) (released_place at.tied live u is (read g before) name table);
+      widens = λ map. rw (c.drop_read.ensures, ← at.view) (released_widens at.tied live u is (read g before));
     }

@@ -8,9 +8,9 @@ use Rattle.dstm_engine.proofs.Opens.{locator_left}
 use Rattle.dstm_engine.proofs.Tying.{live_there}
 use Rattle.dstm_engine.specs.Callers.{Called, is_live, is_opened, shape_of, state}
 use Rattle.dstm_engine.specs.Mirror.{called}
-use Rattle.dstm_engine.proofs.caller.Caller.write_first.Given.{Over}
-use Rattle.dstm_engine.proofs.caller.Caller.write_first.Goals.{After-words}
-use Rattle.dstm_engine.proofs.caller.Caller.write_first.Goals as goal
+use Rattle.dstm_engine.proofs.caller.Caller.write_kept.Given.{Over}
+use Rattle.dstm_engine.proofs.caller.Caller.write_kept.Goals.{After-words}
+use Rattle.dstm_engine.proofs.caller.Caller.write_kept.Goals as goal
 
 pub overflow_add-next : goal.overflow_add-next
 overflow_add-next g c =
@@ -69,6 +69,8 @@ invariant_of-self-in-Err g c =
     c.in-Err.ensures.ends (λ all. tt) c.write_object.new.last c.write_object.new.opened c.write_object.ensures.rest
 
 pub returns-in-Err-clause-stops : goal.returns-in-Err-clause-stops
-returns-in-Err-clause-stops g c =
-    first_stops (begun g (goal.at.returns-in-Err-clause-stops g c).After-words) c.requires.live refl
-    c.in-Err.ensures.ends (λ all. tt) c.write_object.new.last c.write_object.new.opened c.write_object.ensures.rest
+returns-in-Err-clause-stops g c = λ _. (
+  c.in-Err.again,
+  first_stops (begun g (goal.at.returns-in-Err-clause-stops g c).After-words) c.requires.live refl
+      c.in-Err.ensures.ends (λ all. tt) c.write_object.new.last c.write_object.new.opened c.write_object.ensures.rest,
+)

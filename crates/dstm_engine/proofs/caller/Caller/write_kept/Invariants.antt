@@ -2,7 +2,7 @@ use Rattle.dstm_steps.proofs.Stepping.{began_as}
 use Rattle.dstm_order.specs.Tasks.Task.{Doing}
 use Rattle.dstm_order.specs.Tasks.Work.{Writing}
 use Rattle.dstm_words.specs.Seats.{view_of, number_or}
-use Rattle.dstm_engine.proofs.caller.Caller.write_first.Given as goal
+use Rattle.dstm_engine.proofs.caller.Caller.write_kept.Given as goal
 
 abbrev pub ghosts-write_object : goal.ghosts-write_object
 ghosts-write_object g a = record {

@@ -32,10 +32,6 @@ returns-clause-found g c =
     finds g.L.Law.holds c.args.self.now.tx.now.caller.now c.open_read.result c.open_read.ensures.kept
     c.args.o c.requires.exists c.open_read.ensures.value
 
-pub returns-clause-unchanged : goal.returns-clause-unchanged
-returns-clause-unchanged g c =
-    sets_none g.L.Law.holds c.args.self.now.tx.now.caller.now c.open_read.result c.open_read.ensures.kept
-
 pub invariant_of-self : goal.invariant_of-self
 invariant_of-self g c =
     record {

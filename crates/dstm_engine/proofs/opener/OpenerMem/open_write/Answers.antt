@@ -16,10 +16,6 @@ returns-clause-found g c =
     finds g.L.Law.holds c.args.self.now.tx.now.caller.now c.open_write.result c.open_write.ensures.kept
     c.args.o c.requires.exists c.open_write.ensures.value
 
-pub returns-clause-unchanged : goal.returns-clause-unchanged
-returns-clause-unchanged g c =
-    sets_none g.L.Law.holds c.args.self.now.tx.now.caller.now c.open_write.result c.open_write.ensures.kept
-
 pub invariant_of-self : goal.invariant_of-self
 invariant_of-self g c =
     record {

@@ -4,9 +4,6 @@ use Rattle.dstm_engine.specs.Companies.{AreNew, IsNew}
 use Rattle.dstm_engine.proofs.Companies.{new_push}
 use Rattle.dstm_engine.proofs.stm.Founder.callers.Goals as goal
 
-pub retire_all-requires-clause-callers : goal.retire_all-requires-clause-callers
-retire_all-requires-clause-callers g c = λ k other within. (c.loop-seed.invariant.callers k other within).home
-
 pub loop-seed-preserved : goal.loop-seed-preserved
 loop-seed-preserved g c =
     let before = c.loop-seed.invariant in

@@ -1,17 +1,13 @@
-use Rattle.std.proofs.Common.{◌≡◌, [], Vec, ap, append-nil, subst, sym}
+use Rattle.std.proofs.Common.{[], Vec, ap, append-nil, subst, sym}
 use Rattle.dstm_core.specs.Histories.{history_of}
-use Rattle.dstm_model.specs.Map.{state_after}
 use Rattle.dstm_opacity.proofs.Opacity.{prefix_is_lawful}
-use Rattle.dstm_opacity.specs.Laws.{IsCurrent}
-use Rattle.dstm_words.specs.Seats.{Home, IsRunOf}
 use Rattle.dstm_engine.proofs.LastValues.{last_current, last_run, last_state}
 use Rattle.dstm_engine.proofs.stm.Stm.last_values.Goals as goal
 
 pub returns-clause-values : goal.returns-clause-values
 returns-clause-values g c =
     let v = c.self.invariant in
-    subst (λ (h : Home _). c.settle-values.result.items ≡ state_after h.terms.start.value.items
-    (history_of h.terms.shape h.terms.start.value.items c.args.seat.me.0.log)) c.self.view_is
+    rw (← c.self.view_is)
     (last_state g.L.Law.holds c.self.inside.words.terms c.args.seat.me.0 c.close_in_place-left.result
     c.close_in_place-left.ensures c.requires.whole.0 c.requires.whole.1 v.0
     (ap (λ (x : Vec _ _). x.items) v.1) c.settle-values.result.items c.settle-values.ensures.objects
@@ -20,8 +16,7 @@ returns-clause-values g c =
 pub returns-clause-current : goal.returns-clause-current
 returns-clause-current g c =
     let v = c.self.invariant in
-    subst (λ (h : Home _). IsCurrent h.terms.shape h.terms.start.value.items c.args.seat.me.0.log
-    c.settle-values.result.items) c.self.view_is
+    rw (← c.self.view_is)
     (last_current g.L.Law.holds c.self.inside.words.terms c.args.seat.me.0 c.close_in_place-left.result
     c.close_in_place-left.ensures c.requires.whole.0 c.requires.whole.1 v.0
     (ap (λ (x : Vec _ _). x.items) v.1) c.settle-values.result.items c.settle-values.ensures.objects
@@ -29,7 +24,7 @@ returns-clause-current g c =
 
 pub returns-clause-run : goal.returns-clause-run
 returns-clause-run g c =
-    subst (λ (h : Home _). IsRunOf g.L.Law.holds h.terms c.args.seat.me.0.log) c.self.view_is
+    rw (← c.self.view_is)
     (last_run g.L.Law.holds c.self.inside.words.terms c.args.seat.me.0 c.close_in_place-left.result
     c.close_in_place-left.ensures c.requires.whole.0 c.requires.whole.1)
 

@@ -5,7 +5,3 @@ pub returns-clause-found : goal.returns-clause-found
 returns-clause-found g c =
     finds g.L.Law.holds c.args.self.now.caller.now c.open_read.result c.open_read.ensures.kept
     c.args.o c.requires.exists c.open_read.ensures.value
-
-pub returns-clause-unchanged : goal.returns-clause-unchanged
-returns-clause-unchanged g c =
-    sets_none g.L.Law.holds c.args.self.now.caller.now c.open_read.result c.open_read.ensures.kept

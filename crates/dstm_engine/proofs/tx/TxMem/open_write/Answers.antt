@@ -5,7 +5,3 @@ pub returns-clause-found : goal.returns-clause-found
 returns-clause-found g c =
     finds g.L.Law.holds c.args.self.now.caller.now c.open_write.result c.open_write.ensures.kept
     c.args.o c.requires.exists c.open_write.ensures.value
-
-pub returns-clause-unchanged : goal.returns-clause-unchanged
-returns-clause-unchanged g c =
-    sets_none g.L.Law.holds c.args.self.now.caller.now c.open_write.result c.open_write.ensures.kept
