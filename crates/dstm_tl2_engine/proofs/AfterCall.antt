@@ -1,14 +1,6 @@
 -- A caller after a call: its attempt, and what it has committed.
 use Rattle.std.proofs.Common.{◌≡◌, ◌<◌, ◌⊎◌, ◌∷◌, ◌++◌, ◌∙◌, List, [], ap, sym, subst, true, false, Option, None, Some}
-use Rattle.dstm_model.specs.declared.value.Val.{Val}
-use Rattle.dstm_tl2.specs.Histories.{is_sample}
-use Rattle.dstm_tl2.specs.Runs.{Run, local, tl2}
-use Rattle.dstm_tl2.specs.State.{LocalState, is_valid}
-use Rattle.dstm_tl2.specs.Words.{Table}
-use Rattle.dstm_tl2_words.specs.Seats.{Home}
-use Rattle.dstm_tl2_order.specs.declared.again.TlAgain.{TlAgain}
-use Rattle.dstm_tl2_order.specs.Calls.{answer_of, state_after}
-use Rattle.dstm_tl2_order.specs.Tasks.{Task}
+use Rattle.dstm_tl2_engine.proofs.Words.{Home, LocalState, Run, Table, Task, TlAgain, Val, answer_of, is_sample, is_valid, local, state_after, tl2}
 use Rattle.dstm_tl2_order.specs.Ended.{Disturbed}
 use Rattle.dstm_tl2_order.proofs.Disturbing.{answers_disturb}
 use Rattle.dstm_tl2_engine.specs.Attempts.{attempt_of, done}

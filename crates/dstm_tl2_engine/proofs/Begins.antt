@@ -5,31 +5,10 @@ use Rattle.std.specs.Option.{option_or}
 use Rattle.std.proofs.lemmas.Bool.{cases_eq, cond-true, eq-eqb, ne_eqb}
 use Rattle.std.proofs.lemmas.List.{length-map, length-take-le}
 use Rattle.std.proofs.lemmas.List.Elements.{All-cons, All-nil}
+use Rattle.dstm_tl2_engine.proofs.Words.{Began, Beginning, Call, Done, Event, FreeAs, Hold, Home, IsDue, Just, Load, LocalState, Obeys, Read, Returning, Sample, Steps, Table, Task, TlAgain, Under, Val, after, begin, due_after, events_of, has_sampled, hold_of, in_giving_back, is_spent, is_valid, local, made_by, new_hold, newest_of, now, or_hold, read_of, read_values, state_after, table_of, value_at, value_in, view_of}
 use Rattle.dstm_mem.proofs.WithSet.{with_set-nothing}
-use Rattle.dstm_mem.specs.Memory.{value_in}
-use Rattle.dstm_model.specs.Map.{value_at}
-use Rattle.dstm_model.specs.declared.value.Val.{Val}
-use Rattle.dstm_machines.specs.Traces.{events_of}
-use Rattle.dstm_machines.specs.Traces.Access.{Load}
-use Rattle.dstm_tl2.specs.declared.kind.Kind.TheVariants.{Sample}
-use Rattle.dstm_tl2.specs.Histories.{read_values}
-use Rattle.dstm_tl2.specs.Rules.{Event, after, begin, new_hold}
-use Rattle.dstm_tl2.specs.Runs.{local}
-use Rattle.dstm_tl2.specs.Sharing.{table_of}
-use Rattle.dstm_tl2.specs.State.{Hold, LocalState, Read, hold_of, is_valid, or_hold, read_of}
-use Rattle.dstm_tl2.specs.Words.{Table}
-use Rattle.dstm_tl2_words.specs.Seats.{Home, view_of}
-use Rattle.dstm_tl2_order.specs.Calls.{Obeys, due_after, newest_of, state_after}
-use Rattle.dstm_tl2_order.specs.Made.{Call}
-use Rattle.dstm_tl2_order.specs.Order.{IsDue, has_sampled, in_giving_back, is_spent}
-use Rattle.dstm_tl2_order.specs.Order.Due.{Done, FreeAs, Just}
 use Rattle.dstm_tl2_order.proofs.Steps.{state_up}
 use Rattle.dstm_tl2_steps.proofs.Stepping.{call_of}
-use Rattle.dstm_tl2_order.specs.Tasks.{Task}
-use Rattle.dstm_tl2_order.specs.Tasks.Task.{Beginning, Returning}
-use Rattle.dstm_tl2_steps.specs.Under.{Began, Under, made_by, now}
-use Rattle.dstm_tl2_order.specs.declared.again.TlAgain.{TlAgain}
-use Rattle.dstm_tl2_steps.specs.declared.steps.Steps.{Steps}
 use Rattle.dstm_tl2_engine.proofs.Calling.{began_is, begun_as}
 use Rattle.dstm_tl2.proofs.Done.{NoCommits, may_commit, quiet_after, undrawn_invalid}
 use Rattle.dstm_tl2_engine.proofs.Tying.{EndsHere, Kept, at_home, kept, performs_then, state_then, steps_of}

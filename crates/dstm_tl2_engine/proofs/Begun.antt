@@ -2,14 +2,8 @@
 use Rattle.dstm_tl2_steps.proofs.Stepping.{sample_kept}
 use Rattle.std.proofs.Common.{◌≡◌, ◌==◌, ℕ, List, refl, true, false, Some, None}
 use Rattle.std.proofs.lemmas.Bool.{cond_both}
+use Rattle.dstm_tl2_engine.proofs.Words.{Event, Kind, LocalState, Lock, LookAgain, Sample, Table, after, is_sample, local, lock, look_of, record_read, tl2}
 use Rattle.dstm_machines.proofs.Attempts.{kept_since}
-use Rattle.dstm_tl2.specs.declared.kind.Kind.{Kind}
-use Rattle.dstm_tl2.specs.declared.kind.Kind.TheVariants.{Sample, LookAgain, Lock}
-use Rattle.dstm_tl2.specs.Histories.{is_sample}
-use Rattle.dstm_tl2.specs.Rules.{Event, after, lock, record_read}
-use Rattle.dstm_tl2.specs.Runs.{local, tl2}
-use Rattle.dstm_tl2.specs.State.{LocalState, look_of}
-use Rattle.dstm_tl2.specs.Words.{Table}
 use Rattle.dstm_tl2_engine.specs.Callers.{begun_log}
 
 -- it does not change within an attempt

@@ -4,27 +4,8 @@ use Rattle.std.specs.List.{All}
 use Rattle.std.specs.Prelude.{◌||◌, is_some, if◌then◌else◌}
 use Rattle.std.specs.Option.{option_or}
 use Rattle.std.proofs.lemmas.List.Elements.{All-cons, All-head, All-nil}
-use Rattle.dstm_mem.specs.Memory.{value_in}
-use Rattle.dstm_model.specs.declared.value.Val.{Val}
+use Rattle.dstm_tl2_engine.proofs.Words.{Check, Committing, Doing, Done, Draw, Enrol, Event, Finishing, Home, IsCall, IsDue, IsRunOf, Just, Kind, LocalState, Lock, Locking, LookAgain, LookHigh, LookLock, LookLow, Obeys, Sample, Table, Task, TlAgain, Unlock, Val, Work, WriteHigh, WriteLow, after, answer_of, cause, draws, due_after, events_of, fails, in_giving_back, in_locking, local, locks, newest_of, next, next_or_first, read_values, state_after, table_of, tl2, value_in, when_locked}
 use Rattle.dstm_machines.proofs.Pasts.{past_past}
-use Rattle.dstm_machines.specs.Traces.{events_of}
-use Rattle.dstm_tl2.specs.declared.kind.Kind.{Kind}
-use Rattle.dstm_tl2.specs.declared.kind.Kind.TheVariants.{Enrol, Sample, LookLock, LookLow, LookHigh, LookAgain, Lock, Draw, Check, WriteLow, WriteHigh, Unlock}
-use Rattle.dstm_tl2.specs.Failing.{fails}
-use Rattle.dstm_tl2.specs.Histories.{read_values}
-use Rattle.dstm_tl2.specs.Rules.{Event, after}
-use Rattle.dstm_tl2.specs.Runs.{local, tl2}
-use Rattle.dstm_tl2.specs.Sharing.{IsRunOf, table_of}
-use Rattle.dstm_tl2.specs.State.{LocalState}
-use Rattle.dstm_tl2.specs.Words.{Table}
-use Rattle.dstm_tl2_words.specs.Seats.{Home}
-use Rattle.dstm_tl2_order.specs.declared.again.TlAgain.{TlAgain}
-use Rattle.dstm_tl2_order.specs.Calls.{IsCall, Obeys, answer_of, cause, due_after, newest_of, state_after}
-use Rattle.dstm_tl2_order.specs.Order.{IsDue, draws, in_giving_back, in_locking, locks, next, next_or_first, when_locked}
-use Rattle.dstm_tl2_order.specs.Order.Due.{Done, Just}
-use Rattle.dstm_tl2_order.specs.Tasks.{Task, Work}
-use Rattle.dstm_tl2_order.specs.Tasks.Task.{Doing}
-use Rattle.dstm_tl2_order.specs.Tasks.Work.{Committing, Finishing, Locking}
 use Rattle.dstm_tl2_engine.specs.Attempts.{Commits, done}
 use Rattle.dstm_tl2_engine.specs.Callers.{TlCalled, handed, held, is_opened, state, table_of_caller, written}
 use Rattle.dstm_tl2_engine.specs.Calls.{Performs}

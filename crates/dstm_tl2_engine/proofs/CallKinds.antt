@@ -4,20 +4,7 @@ use Rattle.std.specs.List.{All}
 use Rattle.std.specs.Prelude.{not}
 use Rattle.std.proofs.lemmas.Bool.{cond_both}
 use Rattle.std.proofs.lemmas.List.Elements.{All-cons, All-head, All-nil, All-weaker}
-use Rattle.dstm_model.specs.declared.value.Val.{Val}
-use Rattle.dstm_tl2.specs.declared.kind.Kind.{Kind}
-use Rattle.dstm_tl2.specs.declared.kind.Kind.TheVariants.{Enrol, Sample, LookLock, LookLow, LookHigh, LookAgain, Lock, Draw, Check, WriteLow, WriteHigh, Unlock}
-use Rattle.dstm_tl2.specs.Failing.{is_readable}
-use Rattle.dstm_tl2.specs.Histories.{is_sample}
-use Rattle.dstm_tl2.specs.Rules.{Event}
-use Rattle.dstm_tl2.specs.State.{Hold, LocalState, or_zero, to_check}
-use Rattle.dstm_tl2.specs.Words.{Table}
-use Rattle.dstm_tl2_order.specs.Calls.{Obeys, due_after, state_after}
-use Rattle.dstm_tl2_order.specs.Order.{Due, IsDue, at_first, due, has_sampled, in_checking, in_giving_back, in_locking, in_writing_back, is_spent, locks, next, when_locked}
-use Rattle.dstm_tl2_order.specs.Order.Due.{Just, LookAt, PutLow, PutHigh, FreeAs, Done}
-use Rattle.dstm_tl2_order.specs.Tasks.{Task, Work}
-use Rattle.dstm_tl2_order.specs.Tasks.Task.{Enrolling, Beginning, Returning, Doing}
-use Rattle.dstm_tl2_order.specs.Tasks.Work.{Opening, Locking, Finishing, Committing}
+use Rattle.dstm_tl2_engine.proofs.Words.{Beginning, Check, Committing, Doing, Done, Draw, Due, Enrol, Enrolling, Event, Finishing, FreeAs, Hold, IsDue, Just, Kind, LocalState, Lock, Locking, LookAgain, LookAt, LookHigh, LookLock, LookLow, Obeys, Opening, PutHigh, PutLow, Returning, Sample, Table, Task, Unlock, Val, Work, WriteHigh, WriteLow, at_first, due, due_after, has_sampled, in_checking, in_giving_back, in_locking, in_writing_back, is_readable, is_sample, is_spent, locks, next, or_zero, state_after, to_check, when_locked}
 use Rattle.dstm_tl2.proofs.Done.{NoCommits, NoSamples, may_commit}
 
 -- ---- what is due

@@ -1,17 +1,8 @@
 -- A call of a caller, from what its steps know.
 use Rattle.std.proofs.Common.{◌<◌, ◌∙◌, ◌≡◌, List, ap, subst, sym}
 use Rattle.std.specs.Prelude.{Option}
-use Rattle.dstm_model.specs.declared.value.Val.{Val}
-use Rattle.dstm_machines.specs.Traces.{IsPastOf, events_of}
-use Rattle.dstm_tl2.specs.Sharing.{IsRunOf}
-use Rattle.dstm_tl2_words.specs.Seats.{Home, IsOf, View, caller_state, number_or, view_of}
+use Rattle.dstm_tl2_engine.proofs.Words.{Began, Done, Home, IsOf, IsPastOf, IsRunOf, Steps, Task, TlAgain, Under, Val, View, caller_state, caller_view, events_of, now, number_or, view_of}
 use Rattle.dstm_tl2_steps.proofs.Stepping.{began_as, call_of}
-use Rattle.dstm_tl2_order.specs.Order.Due.{Done}
-use Rattle.dstm_tl2_order.specs.Tasks.{Task}
-use Rattle.dstm_tl2_steps.specs.Under.{Began, Under, now}
-use Rattle.dstm_tl2_words.specs.Seats.{caller_view}
-use Rattle.dstm_tl2_order.specs.declared.again.TlAgain.{TlAgain}
-use Rattle.dstm_tl2_steps.specs.declared.steps.Steps.{Steps}
 use Rattle.dstm_tl2_engine.specs.Began.{began_of}
 use Rattle.dstm_tl2_engine.specs.Callers.{TlCalled, objects_of, state}
 use Rattle.dstm_tl2_engine.specs.Calls.{Performs}

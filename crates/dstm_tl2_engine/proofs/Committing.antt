@@ -4,28 +4,11 @@ use Rattle.std.specs.List.{All}
 use Rattle.std.specs.Prelude.{◌⊎◌, ◌||◌, IfSome, IsSome, is_none, is_some, if◌then◌else◌}
 use Rattle.std.specs.Option.{option_or}
 use Rattle.std.proofs.Math.Seq.{take-length}
+use Rattle.dstm_tl2_engine.proofs.Words.{Agrees, AtRest, CanLock, Doing, Done, Event, Finishing, Home, KeepsLaw, Lists, LocalState, Locking, NamesOnce, Steps, TlAgain, Under, Val, Work, answer_of, entry_of, is_valid, new_hold, now, objects, or_writes, or_zero, read_of, read_values, table_of, value_at, value_in, view_of, with_set, with_writes}
 use Rattle.dstm_mem.proofs.Pairs.{AgreesWith-of_agrees, with_writes-with_set}
 use Rattle.dstm_mem.proofs.WithSet.{unset_stays}
-use Rattle.dstm_mem.specs.Memory.{value_in, with_set}
-use Rattle.dstm_model.specs.declared.value.Val.{Val}
-use Rattle.dstm_model.specs.Map.{Agrees, KeepsLaw, NamesOnce, value_at, with_writes}
-use Rattle.dstm_tl2.specs.Histories.{entry_of, read_values}
-use Rattle.dstm_tl2.specs.Rules.{Event, new_hold}
-use Rattle.dstm_tl2.specs.Sharing.{table_of}
-use Rattle.dstm_tl2.specs.State.{LocalState, is_valid, or_writes, or_zero, read_of}
-use Rattle.dstm_tl2.specs.Words.{objects}
-use Rattle.dstm_tl2_words.specs.Seats.{Home, view_of}
-use Rattle.dstm_tl2_order.specs.declared.again.TlAgain.{TlAgain}
-use Rattle.dstm_tl2_steps.specs.declared.steps.Steps.{Steps}
 use Rattle.dstm_tl2_steps.proofs.Slots.{WritesApart, WritesBelow, writes_once}
-use Rattle.dstm_tl2_order.specs.Calls.{answer_of}
-use Rattle.dstm_tl2_order.specs.Order.Due.{Done}
-use Rattle.dstm_tl2_steps.specs.Reads.{AtRest}
-use Rattle.dstm_tl2_order.specs.Tasks.{Work}
-use Rattle.dstm_tl2_order.specs.Tasks.Task.{Doing}
-use Rattle.dstm_tl2_order.specs.Tasks.Work.{Finishing, Locking}
 use Rattle.dstm_tl2_steps.specs.Under as under
-use Rattle.dstm_tl2_steps.specs.Under.{Lists, Under, now}
 use Rattle.dstm_tl2_engine.specs.Attempts.{Commits, done}
 use Rattle.dstm_tl2_engine.specs.Began.{began_of}
 use Rattle.dstm_tl2_engine.specs.Callers.{TlCalled, handed, held, is_live, state, table_of_caller, written}
@@ -34,7 +17,6 @@ use Rattle.dstm_tl2_engine.specs.Calls.{IsMade, Performs}
 use Rattle.dstm_tl2_engine.specs.Mirror.{Tied, called}
 use Rattle.dstm_tl2_engine.proofs.Calling.{begun_as}
 use Rattle.dstm_tl2_engine.proofs.Told.{locked_made, rest_can, rest_made, told_more}
-use Rattle.dstm_tl2_order.specs.Laws.{CanLock}
 use Rattle.dstm_tl2_engine.specs.Outcomes.{IsLeft}
 use Rattle.dstm_tl2_engine.specs.Transactions.{HasLocked, IsLawful, Leaves, Stays}
 use Rattle.dstm_tl2_engine.specs.declared.caller.TlCaller.TheInside.{Inside}

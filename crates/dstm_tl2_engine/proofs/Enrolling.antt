@@ -1,23 +1,11 @@
 -- A caller that was made.
 use Rattle.std.proofs.Common.{◌<◌, ◌∙◌, ◌∷◌, ◌≡◌, List, [], ◌+◌, ap, refl, subst, sym, ℕ}
 use Rattle.std.specs.Prelude.{Option, Some, IfSome}
+use Rattle.dstm_tl2_engine.proofs.Words.{Add, Enrol, Enrolling, Event, Home, IsCall, IsRunOf, LocalState, Makes, Table, Terms, Val, View, events_of, first, given_part, kept_part, local, made, table_of, tl2}
 use Rattle.atomic_table.specs.Seated.{TableId}
 use Rattle.atomic_table.specs.declared.shared.Seat.{Seat}
-use Rattle.dstm_model.specs.declared.value.Val.{Val}
 use Rattle.dstm_machines.proofs.Own.{none_before_only}
 use Rattle.dstm_machines.proofs.Runs.{local-events_of}
-use Rattle.dstm_machines.specs.Traces.{events_of}
-use Rattle.dstm_machines.specs.Traces.Access.{Add}
-use Rattle.dstm_tl2.specs.declared.kind.Kind.TheVariants.{Enrol}
-use Rattle.dstm_tl2.specs.declared.terms.Terms.{Terms}
-use Rattle.dstm_tl2.specs.Rules.{Event}
-use Rattle.dstm_tl2.specs.Runs.{local, tl2}
-use Rattle.dstm_tl2.specs.Sharing.{IsRunOf, table_of}
-use Rattle.dstm_tl2.specs.State.{LocalState, first}
-use Rattle.dstm_tl2.specs.Words.{Table}
-use Rattle.dstm_tl2_words.specs.Seats.{View, Makes, made, given_part, kept_part, Home}
-use Rattle.dstm_tl2_order.specs.Calls.{IsCall}
-use Rattle.dstm_tl2_order.specs.Tasks.Task.{Enrolling}
 use Rattle.dstm_tl2_engine.specs.Callers.{TlCalled}
 use Rattle.dstm_tl2_engine.specs.Tables.{Enrols, TlFounding, enrolled_as, unnumbered}
 

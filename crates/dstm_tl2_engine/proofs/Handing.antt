@@ -2,11 +2,8 @@
 use Rattle.std.proofs.Common.{◌∙◌, ◌∷◌, ◌≡◌, ◌⊎◌, List, [], ap, false, inl, inr, subst, sym, true, ℕ}
 use Rattle.std.specs.Prelude.{Err, IfOk, IsSome, Ok, OnOk, Result, is_some}
 use Rattle.std.proofs.lemmas.Bool.{cases_Bool, cases_eq}
-use Rattle.dstm_mem.specs.Memory.{MarksAtMost, value_in}
-use Rattle.dstm_model.specs.declared.value.Val.{Val}
+use Rattle.dstm_tl2_engine.proofs.Words.{MarksAtMost, TlAgain, Val, value_in, with_value}
 use Rattle.dstm_tl2_steps.proofs.Slots.{value_in-with_other, value_in-with_value}
-use Rattle.dstm_tl2_steps.specs.Opened.{with_value}
-use Rattle.dstm_tl2_order.specs.declared.again.TlAgain.{TlAgain}
 use Rattle.dstm_tl2_engine.proofs.Opens.{not_some, value_in-last, value_in-more, value_in-stays}
 use Rattle.dstm_tl2_engine.specs.Callers.{TlCalled, is_opened}
 use Rattle.dstm_tl2_engine.specs.Transactions.{Marks}

@@ -4,10 +4,10 @@ use Rattle.std.specs.Prelude.{Contains, length}
 use Rattle.std.proofs.lemmas.Bool.{cases_eq, cases_lt}
 use Rattle.std.proofs.lemmas.List.{ext_get_or}
 use Rattle.std.proofs.lemmas.List.Elements.{Contains-append_right}
+use Rattle.dstm_tl2_engine.proofs.Words.{Event, HighWord, IsRunOf, LeftBy, LocalState, LockWord, LowWord, Run, Table, Terms, Val, View, history_of, hold_of, local, no_value, objects, place, shared, table_of, tl2, value_at, will_of, word}
 use Rattle.dstm_mem.proofs.Few.{first_or_other}
 use Rattle.dstm_model.proofs.Entries.{states_keep_length}
-use Rattle.dstm_model.specs.Map.{no_value, state_after, value_at}
-use Rattle.dstm_model.specs.declared.value.Val.{Val}
+use Rattle.dstm_model.specs.Map.{state_after}
 use Rattle.dstm_machines.proofs.Runs.{local-events_of}
 use Rattle.dstm_seats.specs.Seats.{AreApart, enrolled}
 use Rattle.dstm_tl2.proofs.Closing.{current}
@@ -15,16 +15,7 @@ use Rattle.dstm_tl2.proofs.Foretelling.{told}
 use Rattle.dstm_tl2.proofs.Orders.{prefix_is_lawful}
 use Rattle.dstm_tl2.proofs.Stands.{Stands, stands}
 use Rattle.dstm_tl2.proofs.Stands.Stands.{free, waits, commits}
-use Rattle.dstm_tl2.specs.Histories.{history_of, will_of}
 use Rattle.dstm_tl2.specs.Laws.{Tells}
-use Rattle.dstm_tl2.specs.Rules.{Event}
-use Rattle.dstm_tl2.specs.Runs.{Run, local, tl2, word}
-use Rattle.dstm_tl2.specs.Sharing.{IsRunOf, shared, table_of}
-use Rattle.dstm_tl2.specs.State.{LocalState, hold_of}
-use Rattle.dstm_tl2.specs.Words.{Table, objects, place}
-use Rattle.dstm_tl2.specs.Words.Word.{LockWord, LowWord, HighWord}
-use Rattle.dstm_tl2.specs.declared.terms.Terms.{Terms}
-use Rattle.dstm_tl2_words.specs.Seats.{LeftBy, View}
 use Rattle.dstm_tl2_engine.specs.Closing.{value_left}
 use Rattle.dstm_tl2_engine.specs.Tables.{HasReturned}
 

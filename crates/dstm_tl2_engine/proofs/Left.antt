@@ -4,19 +4,10 @@ use Rattle.std.specs.List.{All, Contains}
 use Rattle.std.specs.Prelude.{◌&&◌, ◌||◌}
 use Rattle.std.proofs.lemmas.Bool.{and_from, and_left, and_parts, and_right, cases_Bool, cases_eq, cond_both, eq-eqb, eqb-true, ne_eqb, or_left, or_right}
 use Rattle.std.proofs.lemmas.List.Elements.{All-cons, All-contains, All-nil, Contains-append_cases, Contains-push_cases}
-use Rattle.dstm_model.specs.declared.value.Val.{Val}
-use Rattle.dstm_machines.specs.Traces.{events_of}
-use Rattle.dstm_tl2.specs.declared.kind.Kind.{Kind}
-use Rattle.dstm_tl2.specs.declared.kind.Kind.TheVariants.{Enrol, Sample, LookLock, LookLow, LookHigh, LookAgain, Lock, Draw, Check, WriteLow, WriteHigh, Unlock}
-use Rattle.dstm_tl2.specs.Histories.{is_sample}
-use Rattle.dstm_tl2.specs.Rules.{AllowedAs, Event, MayUnlock, after, high_object, lock, low_object, new_hold, record_read}
-use Rattle.dstm_tl2.specs.Runs.{Run, local, tl2}
-use Rattle.dstm_tl2.specs.State.{Hold, LocalState, Read, hold_of, is_valid, look_of, marked, next_write, or_hold, recorded, with_high, with_low, without}
-use Rattle.dstm_tl2.specs.Words.{Table, objects}
+use Rattle.dstm_tl2_engine.proofs.Words.{AllowedAs, Check, Draw, Enrol, Event, Hold, Kind, LocalState, Lock, LookAgain, LookHigh, LookLock, LookLow, MayUnlock, Read, Run, Sample, Table, Unlock, Val, WriteHigh, WriteLow, after, answer_of, events_of, high_object, hold_of, is_sample, is_valid, local, lock, look_of, low_object, marked, new_hold, next_write, objects, or_hold, record_read, recorded, tl2, with_high, with_low, without}
 use Rattle.dstm_tl2.proofs.Foretelling.{valid_parts}
 use Rattle.dstm_tl2.proofs.Holds.{hold_of-append, marked_other, marked_own, or_else, without_other, without_own}
 use Rattle.dstm_tl2.proofs.Static.{Static, static}
-use Rattle.dstm_tl2_order.specs.Calls.{answer_of}
 use Rattle.dstm_tl2_order.specs.Ended.{Disturbed}
 use Rattle.dstm_tl2_engine.specs.Callers.{TlCalled, since_sample, state, table_of_caller}
 use Rattle.dstm_tl2_engine.specs.Outcomes.{GivesBack, HasGivenBack, IsLeft, begun_state, has_locked, is_lock, is_write, last_at, own_since}

@@ -1,19 +1,8 @@
 -- The calls of a caller add up, from its enrolment on.
 use Rattle.std.proofs.Common.{Bool, true, ◌≡◌, ◌∙◌, ◌++◌, ◌∷◌, List, [], None, ap, append_assoc, append-nil, arith, refl, subst, sym}
 use Rattle.std.specs.Prelude.{Contains, Option}
+use Rattle.dstm_tl2_engine.proofs.Words.{AreMade, Beginning, ByCalls, CanLock, Doing, Enrolling, Event, IsOnAttempt, LocalState, LocksItsWrites, Returning, Table, Task, TlAgain, Val, events_in, events_of, first, local, state_after, state_by, tl2}
 use Rattle.dstm_machines.proofs.Own.{after_own, none_before_only, whole_state}
-use Rattle.dstm_machines.specs.Traces.{events_of}
-use Rattle.dstm_model.specs.declared.value.Val.{Val}
-use Rattle.dstm_tl2.specs.Rules.{Event}
-use Rattle.dstm_tl2.specs.Runs.{local, tl2}
-use Rattle.dstm_tl2.specs.State.{LocalState, first}
-use Rattle.dstm_tl2.specs.Words.{Table}
-use Rattle.dstm_tl2_order.specs.Calls.{state_after}
-use Rattle.dstm_tl2_order.specs.Laws.{CanLock}
-use Rattle.dstm_tl2_order.specs.Made.{AreMade, ByCalls, IsOnAttempt, LocksItsWrites, events_in, state_by}
-use Rattle.dstm_tl2_order.specs.Tasks.{Task}
-use Rattle.dstm_tl2_order.specs.Tasks.Task.{Beginning, Doing, Enrolling, Returning}
-use Rattle.dstm_tl2_order.specs.declared.again.TlAgain.{TlAgain}
 use Rattle.dstm_tl2_order.proofs.AddingUp.{events_both, made_both, made_where}
 use Rattle.dstm_tl2_order.proofs.Disturbing.{own_stands}
 use Rattle.dstm_tl2_engine.specs.Callers.{TlCalled, begun_log, state, table_of_caller}

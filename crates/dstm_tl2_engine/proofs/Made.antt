@@ -2,25 +2,15 @@
 use Rattle.std.proofs.Common.{◌≡◌, ◌⊎◌, ◌++◌, ◌∙◌, ◌∷◌, ℕ, List, [], arith, inl, inr, refl, sym, ap, subst, length}
 use Rattle.std.specs.Prelude.{Bool, IsSome, Option, None, Some, false, is_some, true, ◌+◌}
 use base.Fml.{GName}
-use Rattle.dstm_model.specs.declared.value.Val.{Val}
-use Rattle.dstm_model.specs.Map.{Agrees, state_after, with_writes}
+use Rattle.dstm_tl2_engine.proofs.Words.{Agrees, AgreesWith, Committing, Doing, Event, Home, IsRunOf, LawfulRun, LocalState, TlAgain, Val, history_of, is_sample, is_valid, local, with_set, with_writes}
+use Rattle.dstm_model.specs.Map.{state_after}
 use Rattle.dstm_model.proofs.Entries.{states_keep_length}
-use Rattle.dstm_mem.specs.Memory.{AgreesWith, with_set}
 use Rattle.dstm_machines.proofs.Attempts.{log_parts}
 use Rattle.dstm_machines.proofs.Pasts.{past_past}
-use Rattle.dstm_tl2.specs.Histories.{LawfulRun, history_of, is_sample}
-use Rattle.dstm_tl2.specs.Rules.{Event}
-use Rattle.dstm_tl2.specs.Runs.{local}
-use Rattle.dstm_tl2.specs.Sharing.{IsRunOf}
-use Rattle.dstm_tl2.specs.State.{LocalState, is_valid}
 use Rattle.dstm_tl2.proofs.Standing.{done_stands}
-use Rattle.dstm_tl2_words.specs.Seats.{Home}
-use Rattle.dstm_tl2_order.specs.declared.again.TlAgain.{TlAgain}
 use Rattle.dstm_tl2_engine.specs.Attempts.{Admits, Committed, Commits, CommitsRun, Seen, Settles, StandsIn, done}
 use Rattle.dstm_tl2_engine.specs.Callers.{TlCalled, begun_log, held, is_opened, law_of, objects_of, since_sample, start_of, state, table_of_caller, written}
 use Rattle.dstm_tl2_engine.specs.Calls.{IsMade, IsTold, Performs}
-use Rattle.dstm_tl2_order.specs.Tasks.Task.{Doing}
-use Rattle.dstm_tl2_order.specs.Tasks.Work.{Committing}
 use Rattle.dstm_tl2_engine.specs.Endings.{Attempts}
 use Rattle.dstm_tl2_engine.specs.Transactions.{BeginsAnew, TxPlace, tx_place}
 use Rattle.dstm_tl2_engine.proofs.Begun.{begun_count}

@@ -5,28 +5,12 @@ use Rattle.std.specs.Prelude.{All, IfSome, IsSome, is_none, is_some, option_map}
 use Rattle.std.proofs.lemmas.Bool.{cases_Bool, cases_eq}
 use Rattle.std.proofs.lemmas.List.{map-append, take-append-le}
 use Rattle.std.proofs.Math.Seq.{get_or-append_seam}
+use Rattle.dstm_tl2_engine.proofs.Words.{AtRest, Doing, Done, Event, HoldsAlso, Home, IsRunOf, Kind, LocalState, LookAgain, LookHigh, LookLock, LookLow, NamesOnce, OpenedAs, Opening, Read, Steps, TlAgain, Under, Val, new_hold, now, prefix_at, read_of, read_slot, read_values, sample_place, slot_read, slots_value, value_at, value_in, view_of, writes_of}
 use Rattle.dstm_mem.proofs.Pairs.{AgreesWith-of_agrees, value_in-other, value_in-same}
-use Rattle.dstm_mem.specs.Memory.{HoldsAlso, value_in}
 use Rattle.dstm_model.proofs.Entries.{states_keep_length}
-use Rattle.dstm_model.specs.Map.{NamesOnce, state_after, value_at}
-use Rattle.dstm_model.specs.declared.value.Val.{Val}
-use Rattle.dstm_tl2.specs.declared.kind.Kind.{Kind}
-use Rattle.dstm_tl2.specs.declared.kind.Kind.TheVariants.{LookAgain, LookHigh, LookLock, LookLow}
-use Rattle.dstm_tl2.specs.Histories.{prefix_at, read_values, sample_place, writes_of}
-use Rattle.dstm_tl2.specs.Rules.{Event, new_hold}
-use Rattle.dstm_tl2.specs.Sharing.{IsRunOf}
-use Rattle.dstm_tl2.specs.State.{LocalState, Read, read_of}
-use Rattle.dstm_tl2_words.specs.Seats.{Home, view_of}
+use Rattle.dstm_model.specs.Map.{state_after}
 use Rattle.dstm_tl2_steps.proofs.Slots.{read_of-slots}
-use Rattle.dstm_tl2_steps.specs.Opened.{OpenedAs, read_slot, slots_value}
-use Rattle.dstm_tl2_order.specs.Order.Due.{Done}
-use Rattle.dstm_tl2_steps.specs.Reads.{AtRest, slot_read}
-use Rattle.dstm_tl2_order.specs.Tasks.Task.{Doing}
-use Rattle.dstm_tl2_order.specs.Tasks.Work.{Opening}
-use Rattle.dstm_tl2_steps.specs.Under.{Under, now}
-use Rattle.dstm_tl2_order.specs.declared.again.TlAgain.{TlAgain}
 use Rattle.dstm_tl2_steps.specs.declared.opened.ReadSlot.{ReadSlot}
-use Rattle.dstm_tl2_steps.specs.declared.steps.Steps.{Steps}
 use Rattle.dstm_tl2_engine.proofs.AfterCall.{attempt_kept, done_quiet, left_after}
 use Rattle.dstm_tl2_engine.proofs.Begins.{lawful_unlocked}
 use Rattle.dstm_tl2_engine.proofs.CallKinds.{is_look, opening_looks}

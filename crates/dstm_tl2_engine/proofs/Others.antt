@@ -1,18 +1,9 @@
 -- A call that has left its attempt: its table has another caller.
 use Rattle.std.proofs.Common.{◌++◌, ◌<◌, ◌∙◌, ◌∷◌, ◌≡◌, ◌⊎◌, List, Some, ap, append_assoc, arith, false, inl, inr, subst, sym, true, ℕ}
 use Rattle.std.proofs.lemmas.Bool.{cases_order}
-use Rattle.dstm_model.specs.Map.{NamesOnce}
+use Rattle.dstm_tl2_engine.proofs.Words.{Event, LocalState, NamesOnce, Run, Table, TlAgain, answer_of, events_of, fails, local, objects, state_after, tl2, writes_of}
 use Rattle.dstm_machines.proofs.Runs.{run_past}
-use Rattle.dstm_machines.specs.Traces.{events_of}
 use Rattle.dstm_tl2.proofs.Alone.{never_fails}
-use Rattle.dstm_tl2.specs.Failing.{fails}
-use Rattle.dstm_tl2.specs.Histories.{writes_of}
-use Rattle.dstm_tl2.specs.Rules.{Event}
-use Rattle.dstm_tl2.specs.Runs.{Run, local, tl2}
-use Rattle.dstm_tl2.specs.State.{LocalState}
-use Rattle.dstm_tl2.specs.Words.{Table, objects}
-use Rattle.dstm_tl2_order.specs.Calls.{answer_of, state_after}
-use Rattle.dstm_tl2_order.specs.declared.again.TlAgain.{TlAgain}
 use Rattle.dstm_tl2_order.proofs.Disturbing.{StandsAt, own_stands}
 use Rattle.dstm_tl2_order.proofs.Causing.{ended_by}
 use Rattle.dstm_machines.proofs.Own.{after_own}

@@ -2,14 +2,8 @@
 use Rattle.std.proofs.Common.{◌+◌, ◌-◌, ◌++◌, ◌∙◌, ◌∷◌, ◌≡◌, ◌⊎◌, List, [], ap, arith, inl, inr, length, length-append, subst, sym, ℕ}
 use Rattle.std.specs.Prelude.{Contains, None}
 use Rattle.std.proofs.lemmas.List.Elements.{Contains-append_cases}
-use Rattle.dstm_model.specs.declared.value.Val.{Val}
+use Rattle.dstm_tl2_engine.proofs.Words.{Home, Joined, LocalState, Returning, Terms, Val, View, local, table_of, tl2}
 use Rattle.dstm_seats.proofs.Lists.{one_of}
-use Rattle.dstm_tl2.specs.Runs.{local, tl2}
-use Rattle.dstm_tl2.specs.Sharing.{table_of}
-use Rattle.dstm_tl2.specs.State.{LocalState}
-use Rattle.dstm_tl2.specs.declared.terms.Terms.{Terms}
-use Rattle.dstm_tl2_words.specs.Seats.{Home, Joined, View}
-use Rattle.dstm_tl2_order.specs.Tasks.Task.{Returning}
 use Rattle.dstm_machines.proofs.Own.{same_local}
 use Rattle.dstm_tl2.proofs.Done.{same_done_by}
 use Rattle.dstm_tl2_engine.specs.Attempts.{done, done_by}

@@ -1,8 +1,7 @@
 -- What a caller has seen, at its own log.
 use Rattle.std.proofs.Common.{List, []}
-use Rattle.dstm_model.specs.declared.value.Val.{Val}
+use Rattle.dstm_tl2_engine.proofs.Words.{IsRunOf, Val}
 use Rattle.dstm_tl2.proofs.Closing.{sample_agrees}
-use Rattle.dstm_tl2.specs.Sharing.{IsRunOf}
 use Rattle.dstm_tl2_engine.specs.Attempts.{Seen}
 use Rattle.dstm_tl2_engine.specs.Callers.{TlCalled, law_of, table_of_caller}
 

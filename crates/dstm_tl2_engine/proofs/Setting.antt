@@ -3,18 +3,9 @@ use Rattle.std.proofs.Common.{◌<◌, ◌∙◌, ◌≡◌, ◌≢◌, ◌⊎�
 use Rattle.std.specs.Prelude.{IfSome, IsSome, is_none}
 use Rattle.std.specs.Option.{option_or}
 use Rattle.std.proofs.lemmas.Bool.{cases_eq}
+use Rattle.dstm_tl2_engine.proofs.Words.{AtRest, IsRunOf, LocalState, OpenedAs, Terms, TlAgain, Val, View, first, new_hold, slot_read, value_in, with_value}
 use Rattle.atomic_table.specs.declared.shared.Seat.{Seat}
-use Rattle.dstm_mem.specs.Memory.{value_in}
-use Rattle.dstm_model.specs.declared.value.Val.{Val}
-use Rattle.dstm_tl2.specs.Rules.{new_hold}
-use Rattle.dstm_tl2.specs.Sharing.{IsRunOf}
-use Rattle.dstm_tl2.specs.State.{LocalState, first}
-use Rattle.dstm_tl2.specs.declared.terms.Terms.{Terms}
-use Rattle.dstm_tl2_words.specs.Seats.{View}
 use Rattle.dstm_tl2_steps.proofs.Slots.{value_in-with_other, value_in-with_value}
-use Rattle.dstm_tl2_steps.specs.Opened.{OpenedAs, with_value}
-use Rattle.dstm_tl2_steps.specs.Reads.{AtRest, slot_read}
-use Rattle.dstm_tl2_order.specs.declared.again.TlAgain.{TlAgain}
 use Rattle.dstm_tl2_engine.proofs.Begins.{lawful_unlocked, none_locked}
 use Rattle.dstm_tl2_engine.proofs.Seeing.{seen_now}
 use Rattle.dstm_tl2_engine.specs.Callers.{held, is_live, objects_of, seat_view, state}

@@ -1,23 +1,9 @@
 -- The calls of an attempt, from call to call.
 use Rattle.std.proofs.Common.{◌≡◌, ◌≤◌, ◌<◌, ◌∙◌, ◌++◌, ◌∷◌, List, [], None, Option, ap, arith, inr, length, refl, subst, sym}
 use Rattle.std.proofs.lemmas.List.Elements.{All-cons}
-use Rattle.dstm_model.specs.declared.value.Val.{Val}
+use Rattle.dstm_tl2_engine.proofs.Words.{AreMade, AtRest, Call, CanLock, Doing, Event, IsCall, IsOnAttempt, LocalState, OpenedAs, Table, TlAgain, Val, Work, answer_of, events_of, is_sample, local, newest_answer, state_after, state_by, tl2}
 use Rattle.dstm_machines.proofs.Attempts.{log_parts}
 use Rattle.dstm_machines.proofs.Own.{own_append, own_state}
-use Rattle.dstm_machines.specs.Traces.{events_of}
-use Rattle.dstm_tl2.specs.Histories.{is_sample}
-use Rattle.dstm_tl2.specs.Rules.{Event}
-use Rattle.dstm_tl2.specs.Runs.{local, tl2}
-use Rattle.dstm_tl2.specs.State.{LocalState}
-use Rattle.dstm_tl2.specs.Words.{Table}
-use Rattle.dstm_tl2_order.specs.Calls.{IsCall, answer_of, state_after}
-use Rattle.dstm_tl2_order.specs.Laws.{CanLock}
-use Rattle.dstm_tl2_order.specs.Made.{AreMade, Call, IsOnAttempt, newest_answer, state_by}
-use Rattle.dstm_tl2_order.specs.Tasks.{Work}
-use Rattle.dstm_tl2_order.specs.Tasks.Task.{Doing}
-use Rattle.dstm_tl2_order.specs.declared.again.TlAgain.{TlAgain}
-use Rattle.dstm_tl2_steps.specs.Opened.{OpenedAs}
-use Rattle.dstm_tl2_steps.specs.Reads.{AtRest}
 use Rattle.dstm_tl2_engine.proofs.AfterCall.{began_then, own_since_then, table_then}
 use Rattle.dstm_tl2_engine.specs.Callers.{TlCalled, begun_log, since_sample, state, table_of_caller}
 use Rattle.dstm_tl2_engine.specs.Calls.{IsMade, IsTold, Performs}

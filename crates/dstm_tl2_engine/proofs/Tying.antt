@@ -1,19 +1,8 @@
 -- A caller whose fields stand for what contracts see of it, before and after a call.
 use Rattle.std.proofs.Common.{◌<◌, ◌∙◌, ◌≡◌, List, [], ap, refl, subst, sym}
 use Rattle.std.specs.Prelude.{Option, Some, is_some}
-use Rattle.dstm_model.specs.declared.value.Val.{Val}
-use Rattle.dstm_tl2.specs.Runs.{local}
-use Rattle.dstm_tl2.specs.Sharing.{IsRunOf, table_of}
-use Rattle.dstm_tl2.specs.State.{LocalState}
-use Rattle.dstm_tl2_words.specs.Seats.{Home, View, caller_state, view_of}
+use Rattle.dstm_tl2_engine.proofs.Words.{Done, Due, Home, IsRunOf, LocalState, OpenedAs, Steps, Task, TlAgain, Under, Val, View, caller_state, local, now, table_of, view_of}
 use Rattle.dstm_tl2_steps.proofs.Bounds.{number_now}
-use Rattle.dstm_tl2_steps.specs.Opened.{OpenedAs}
-use Rattle.dstm_tl2_order.specs.Order.{Due}
-use Rattle.dstm_tl2_order.specs.Order.Due.{Done}
-use Rattle.dstm_tl2_order.specs.Tasks.{Task}
-use Rattle.dstm_tl2_steps.specs.Under.{Under, now}
-use Rattle.dstm_tl2_order.specs.declared.again.TlAgain.{TlAgain}
-use Rattle.dstm_tl2_steps.specs.declared.steps.Steps.{Steps}
 use Rattle.dstm_tl2_engine.proofs.Calling.{StepsOf, began_is, begun_as, now_is, performs}
 use Rattle.dstm_tl2_engine.proofs.Seeing.{seen_now}
 use Rattle.dstm_tl2_engine.specs.Attempts.{Seen}

@@ -5,21 +5,7 @@ use Rattle.std.specs.List.{All}
 use Rattle.std.specs.Prelude.{◌||◌, not, is_some, if◌then◌else◌}
 use Rattle.std.proofs.lemmas.Bool.{cond_both}
 use Rattle.std.proofs.lemmas.List.Elements.{All-head, All-tail}
-use Rattle.dstm_model.specs.declared.value.Val.{Val}
-use Rattle.dstm_model.specs.Map.{NamesOnce}
-use Rattle.dstm_tl2.specs.declared.kind.Kind.{Kind}
-use Rattle.dstm_tl2.specs.declared.kind.Kind.TheVariants.{Enrol, Sample, LookLock, LookLow, LookHigh, LookAgain, Lock, Draw, Check, WriteLow, WriteHigh, Unlock}
-use Rattle.dstm_tl2.specs.Failing.{fails}
-use Rattle.dstm_tl2.specs.Histories.{writes_of}
-use Rattle.dstm_tl2.specs.Rules.{Event, after, lock}
-use Rattle.dstm_tl2.specs.State.{LocalState, or_zero}
-use Rattle.dstm_tl2.specs.Words.{Table}
-use Rattle.dstm_tl2_order.specs.declared.again.TlAgain.{TlAgain}
-use Rattle.dstm_tl2_order.specs.Calls.{Obeys, answer_of, cause, state_after}
-use Rattle.dstm_tl2_order.specs.Order.{at_first, draws, in_checking, in_giving_back, in_locking, in_writing_back, locks, next, when_locked}
-use Rattle.dstm_tl2_order.specs.Tasks.{Work}
-use Rattle.dstm_tl2_order.specs.Tasks.Task.{Doing}
-use Rattle.dstm_tl2_order.specs.Tasks.Work.{Committing, Finishing, Locking, Opening}
+use Rattle.dstm_tl2_engine.proofs.Words.{Check, Committing, Doing, Draw, Enrol, Event, Finishing, Kind, LocalState, Lock, Locking, LookAgain, LookHigh, LookLock, LookLow, NamesOnce, Obeys, Opening, Sample, Table, TlAgain, Unlock, Val, Work, WriteHigh, WriteLow, after, answer_of, at_first, cause, draws, fails, in_checking, in_giving_back, in_locking, in_writing_back, lock, locks, next, or_zero, state_after, when_locked, writes_of}
 use Rattle.dstm_tl2_engine.proofs.CallKinds.{Dues, checking, each_due, giving_back, locking, writing_back}
 
 -- ---- what such a call makes

@@ -1,14 +1,7 @@
 use Rattle.std.proofs.Common.{◌≡◌, ◌<◌, ◌≤◌, [], None}
-use Rattle.dstm_tl2.specs.Rules.{begin}
-use Rattle.dstm_tl2.specs.Sharing.{table_of}
-use Rattle.dstm_tl2.specs.Words.{place}
-use Rattle.dstm_tl2.specs.Words.Word.{ClockWord}
-use Rattle.dstm_tl2_order.specs.Order.Due.{Done}
-use Rattle.dstm_tl2_order.specs.Tasks.Task.{Beginning}
-use Rattle.dstm_tl2_steps.specs.Under.{Under, now}
+use Rattle.dstm_tl2_engine.proofs.Words.{Beginning, ClockWord, Done, Under, begin, now, place, table_of, view_of}
 use Rattle.dstm_tl2_engine.proofs.Begins.{anew_tied, begins_anew, begun_back, begun_here, freed_here, freed_tied, since_begin_of, spent_by, spent_from, top_here, unspent_by}
 use Rattle.dstm_tl2_engine.proofs.Tying.{at_words, ends_here}
-use Rattle.dstm_tl2_words.specs.Seats.{view_of}
 use Rattle.dstm_tl2_engine.specs.Began.{began_of}
 use Rattle.dstm_tl2_engine.specs.Callers.{state}
 use Rattle.dstm_tl2_engine.specs.Mirror.{called}

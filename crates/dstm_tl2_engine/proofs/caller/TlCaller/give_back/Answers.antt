@@ -1,7 +1,5 @@
 use Rattle.std.proofs.Common.{◌∙◌, None, ap, sym, subst}
-use Rattle.dstm_tl2_order.specs.Order.Due.{Done}
-use Rattle.dstm_tl2_order.specs.Tasks.Task.{Returning}
-use Rattle.dstm_tl2_steps.specs.Under.{Under, now}
+use Rattle.dstm_tl2_engine.proofs.Words.{Done, Returning, Under, now}
 use Rattle.dstm_tl2_engine.proofs.Begins.{freed_here, freed_tied, returned_back, returns_done}
 use Rattle.dstm_tl2_engine.proofs.Tying.{at_words, ends_here}
 use Rattle.dstm_tl2_engine.specs.Attempts.{done}

@@ -1,12 +1,5 @@
 use Rattle.std.proofs.Common.{◌≡◌, ◌∙◌, Some, ap, sym, subst, ◌<◌}
-use Rattle.dstm_machines.specs.Traces.Access.{Add}
-use Rattle.dstm_tl2.specs.declared.kind.Kind.TheVariants.{Enrol}
-use Rattle.dstm_tl2.specs.Runs.{local}
-use Rattle.dstm_tl2.specs.Sharing.{table_of}
-use Rattle.dstm_tl2.specs.State.{first}
-use Rattle.dstm_tl2.specs.Words.{place}
-use Rattle.dstm_tl2.specs.Words.Word.{CallersWord}
-use Rattle.dstm_tl2_words.specs.Seats.{Home, Makes, View, given_part}
+use Rattle.dstm_tl2_engine.proofs.Words.{Add, CallersWord, Enrol, Home, Makes, View, first, given_part, local, place, table_of}
 use Rattle.dstm_tl2_engine.specs.Tables.{TlFounding}
 use Rattle.dstm_tl2_engine.proofs.Enrolling.{caller_is, enrols, founder_is}
 use Rattle.dstm_tl2_engine.proofs.stm.TlFounder.caller.Goals as goal

@@ -1,12 +1,7 @@
 use Rattle.std.proofs.Common.{◌≡◌, Some, ap, sym, ◌∙◌}
-use Rattle.dstm_machines.specs.Traces.Access.{Add}
+use Rattle.dstm_tl2_engine.proofs.Words.{Add, Enrol, LocalState, View, number_or, table_of, tl2}
 use Rattle.dstm_seats.specs.Seats.{state_by}
-use Rattle.dstm_tl2.specs.declared.kind.Kind.TheVariants.{Enrol}
-use Rattle.dstm_tl2.specs.Runs.{tl2}
-use Rattle.dstm_tl2.specs.Sharing.{table_of}
-use Rattle.dstm_tl2.specs.State.{LocalState}
 use Rattle.dstm_tl2_words.proofs.Seats.{state_after}
-use Rattle.dstm_tl2_words.specs.Seats.{View, number_or}
 use Rattle.dstm_tl2_engine.proofs.stm.TlStm.enrol.Goals as goal
 
 pub returns-clause-state : goal.returns-clause-state
