@@ -41,8 +41,7 @@ module _ {L : Type 0} (May : LocalState → Task → Type 0) where
       let t = table_of_caller k in
       let table : table_of_caller n ≡ t = ap (λ h. table_of_caller (record k { home = h })) a.same.0 in
       let made : AreMade t (state_by t (state k) a.calls) May b.calls =
-      subst (λ (l : LocalState). AreMade t l May b.calls) (makes_state a)
-      (subst (λ (x : Table). AreMade x (state n) May b.calls) table b.made) in
+      rw (← makes_state a, ← table) b.made in
       record {
         calls = b.calls ++ a.calls;
         own =
