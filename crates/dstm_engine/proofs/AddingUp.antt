@@ -76,9 +76,7 @@ module _ {L : Type 0} (May : LocalState → Task → Type 0) where
       let s = shape_of k in
       let shape : shape_of n ≡ s = ap (λ h. h.terms.shape) a.same.0 in
       let made : AreMade s (state_by s (state k) k.generator a.calls) (generator_by s (state k) k.generator a.calls) May b.calls =
-      subst (λ (g : Lcg). AreMade s (state_by s (state k) k.generator a.calls) g May b.calls) a.generator
-      (subst (λ (l : LocalState). AreMade s l n.generator May b.calls) (makes_state a)
-      (subst (λ (z : Shape). AreMade z (state n) n.generator May b.calls) shape b.made)) in
+      rw (← makes_state a, ← a.generator, ← shape) b.made in
       record {
         calls = b.calls ++ a.calls;
         own =
@@ -88,10 +86,7 @@ module _ {L : Type 0} (May : LocalState → Task → Type 0) where
         made = made_both s (state k) k.generator May b.calls a.calls a.made made;
         generator =
             b.generator
-            ∙ ap (λ (z : Shape). generator_by z (state n) n.generator b.calls) shape
-            ∙ ap (λ (l : LocalState). generator_by s l n.generator b.calls) (makes_state a)
-            ∙ ap (λ (g : Lcg). generator_by s (state_by s (state k) k.generator a.calls) g b.calls) a.generator
-            ∙ generators_both s (state k) k.generator b.calls a.calls;
+            ∙ rw (makes_state a, shape, a.generator) (generators_both s (state k) k.generator b.calls a.calls);
         same = (b.same.0 ∙ a.same.0, b.same.1 ∙ a.same.1);
       }
 

@@ -67,9 +67,7 @@ module _ {L : Type 0} {k : Called L} (t : IsTold k) (alone : outcomes.IsAlone k)
 
   -- the log is that of the calls, on what stood at the Begin
   pub whole : k.log ≡ all_events t.calls ++ b.begin ∷ b.before
-  whole =
-      log_parts is_begin k.number k.log ∙ ap (λ xs. xs ++ begun_log k.number k.log) since
-      ∙ ap (λ xs. all_events t.calls ++ xs) b.is
+  whole = log_parts is_begin k.number k.log ∙ rw (since, b.is) refl
 
   -- so the laws speak of this attempt
   pub alone_is : IsAlone (shape_of k) k.began t.calls b.begin b.before

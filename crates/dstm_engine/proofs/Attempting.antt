@@ -2,9 +2,7 @@
 use Rattle.std.proofs.Common.{◌≡◌, ◌∙◌, ◌++◌, ◌∷◌, List, [], None, ap, refl, subst, sym}
 use Rattle.std.specs.Prelude.{Option}
 use Rattle.rand_pcg.specs.Lcg.{Lcg}
-use Rattle.dstm_core.specs.Runs.{local}
 use Rattle.dstm_core.specs.State.{LocalState}
-use Rattle.dstm_core.specs.Traces.{events_of}
 use Rattle.dstm_core.specs.declared.shape.Shape.{Shape}
 use Rattle.dstm_model.specs.declared.value.Val.{Val}
 use Rattle.dstm_order.specs.Calls.{IsCall, effort_of, state_after}
@@ -54,30 +52,18 @@ module _ {L : Type 0} (began n : Called L) (home : n.home ≡ began.home) (numbe
   same_shape = ap (λ h. h.terms.shape) home
 
   same_state : begun_state n ≡ state began
-  same_state =
-      ap (λ (s : Shape). local s (begun_log n.number n.log) n.number) same_shape
-      ∙ ap (λ es. local (shape_of began) es n.number) (sym at_begin)
-      ∙ ap (local (shape_of began) began.log) number
+  same_state = rw (same_shape, ← at_begin, number) refl
 
   pub told_makes : Makes TriesAgain began n
   told_makes = record {
     calls = doing t.calls;
-    own =
-        t.own
-        ∙ ap (λ es. es ++ events_of n.number (begun_log n.number n.log)) (sym (doing_events t.calls))
-        ∙ ap (λ es. events_in (doing t.calls) ++ events_of n.number es) (sym at_begin)
-        ∙ ap (λ c. events_in (doing t.calls) ++ events_of c began.log) number;
+    own = t.own ∙ rw (doing_events t.calls, at_begin, ← number) refl;
     made =
         doing_made (shape_of began) (state began) began.generator t.calls
-        (subst (λ (s : Shape). AreCalls s (state began) began.generator t.calls) same_shape
-        (subst (λ (l : LocalState). AreCalls (shape_of n) l began.generator t.calls) same_state
-        (subst (λ (g : Lcg). AreCalls (shape_of n) (begun_state n) g t.calls) (sym generator) t.are_calls)));
+        (rw (← same_state, ← same_shape, generator) t.are_calls);
     generator =
         t.generator
-        ∙ ap (λ (s : Shape). generator_after s (begun_state n) n.began t.calls) same_shape
-        ∙ ap (λ (l : LocalState). generator_after (shape_of began) l n.began t.calls) same_state
-        ∙ ap (λ (g : Lcg). generator_after (shape_of began) (state began) g t.calls) (sym generator)
-        ∙ doing_generator (shape_of began) (state began) began.generator t.calls;
+        ∙ rw (same_state, same_shape, ← generator) (doing_generator (shape_of began) (state began) began.generator t.calls);
     same = (home, number);
   }
 

@@ -102,12 +102,8 @@ module _ {L : Type 0} {holds : L → List Val → Type 0} {c : Inside L} (v : Ti
     ended_then : IfSome c.left (λ again. IsLeft (called (record c { steps = new; live = false })) again
         × Promises (called (record c { steps = new; live = false })) again)
     ended_then = elim (cases_Bool c.live) [
-      | inl live ↦
-          subst (λ left. IfSome left (λ again. IsLeft (record (called (record c { steps = new })) { left = left }) again
-          × Promises (record (called (record c { steps = new })) { left = left }) again)) (sym (v.left live)) tt
-      | inr dead ↦
-          subst (λ (x : Steps L). IfSome c.left (λ again. IsLeft (called (record c { steps = x })) again
-          × Promises (called (record c { steps = x })) again)) (sym (idle dead)) v.ended
+      | inl live ↦ rw (v.left live) tt
+      | inr dead ↦ rw (idle dead) v.ended
     ]
 
     pub spent_tied : Tied holds (record c { steps = new; live = false })
@@ -142,9 +138,7 @@ module _ {L : Type 0} {holds : L → List Val → Type 0} {c : Inside L} (v : Ti
     spent_from spent = record {
       steps = performs holds (called c) (called (record c { steps = new; live = false })) u
           refl refl (ap (λ t. record (called c).home { table = t }) u.seat.0) refl;
-      caller =
-          ap (λ t. record (called (record c { steps = new })) { home = record { table = t; terms = c.terms } }) u.seat.0
-          ∙ ap (λ generator. record (called c) { log = (view_of new.seat).log; generator = generator }) same_decider;
+      caller = rw (u.seat.0, same_decider) refl;
       live = ap is_running ends.outside;
       begun = ends.begun;
       same_done = same_done;
@@ -250,14 +244,7 @@ module _ {L : Type 0} {holds : L → List Val → Type 0} {c : Inside L} (v : Ti
     begins_anew enough = record {
       steps = performs holds (called c) (called anew) u refl refl
           (ap (λ t. record (called c).home { table = t }) u.seat.0) refl;
-      caller =
-          ap (λ t. record (called anew) { home = record { table = t; terms = c.terms } }) u.seat.0
-          ∙ ap (λ generator. record (called anew) { home = (called c).home; generator = generator }) same_decider
-          ∙ ap (λ (d : DeciderState). record (called anew) {
-            home = (called c).home;
-            generator = c.steps.decider.generator;
-            began = d.generator;
-          }) took;
+      caller = rw (u.seat.0, same_decider, took) refl;
       live = ap is_running runs;
       begun = ap (λ (l : LocalState). l.begun) is_begun ∙ ap (λ n. n + 1) e.begun;
       at_begin = at_begin;

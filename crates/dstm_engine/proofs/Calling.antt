@@ -1,5 +1,5 @@
 -- A call of a caller, from what its steps know.
-use Rattle.std.proofs.Common.{◌<◌, ◌∙◌, ◌≡◌, List, ap, subst, sym}
+use Rattle.std.proofs.Common.{◌<◌, ◌∙◌, ◌≡◌, List, ap, subst, sym, refl}
 use Rattle.std.specs.Prelude.{None, Option}
 use Rattle.dstm_steps.proofs.Stepping.{began_as, call_begins, call_of}
 use Rattle.dstm_steps.specs.Under.{InTask, IsMirror, effort_by, now}
@@ -37,15 +37,7 @@ module _ {L : Type 0} (holds : L → List Val → Type 0) (k : Called L) where
 
   pub began_is : (task : Task) {steps : Steps L} → StepsOf steps →
       began_as k.home task (number_or (view_of steps.seat).number 0) steps ≡ began_of task k
-  began_is task {steps = steps} s =
-      ap (λ (v : View L). record {
-        task = task;
-        number = number_or v.number 0;
-        state = caller_state k.home.terms v;
-        generator = steps.decider.generator;
-        log = v.log;
-      }) s.view
-      ∙ ap (λ generator. record (began_of task k) { generator = generator }) s.generator
+  began_is task {steps = steps} s = rw (s.view, s.generator) refl
 
   -- a call begins
   pub starts : (task : Task) {steps : Steps L} → StepsOf steps →

@@ -1,5 +1,5 @@
 -- A recheck or a commit, as its answers see it.
-use Rattle.std.proofs.Common.{◌∙◌, ◌≡◌, List, None, Option, Some, ap, false, refl, subst, true, ℕ}
+use Rattle.std.proofs.Common.{◌∙◌, ◌≡◌, List, None, Option, Some, ap, false, refl, true, ℕ}
 use base.Fml.{GName}
 use Rattle.dstm_steps.specs.Under.{now, passed}
 use Rattle.dstm_steps.specs.declared.slots.WriteSlot.{WriteSlot}
@@ -92,9 +92,7 @@ module _ {L : Type 0} {holds : L → List Val → Type 0} {c : Inside L} {k : Ca
     commit_ends : {answer : Option Again} →
         EndsAt holds words steps (Doing (Committing (value_there words steps slots))) new answer →
         EndsHere holds c (Doing (Committing (new_value (called c)))) new answer
-    commit_ends {answer = answer} u =
-        subst (λ f. EndsHere holds c (Doing (Committing f)) new answer) (value_is at.tied on at.home at.begun listed)
-        (ends_at at u)
+    commit_ends {answer = answer} u = rw (← value_is at.tied on at.home at.begun listed) (ends_at at u)
 
     module _ (u : EndsAt holds words steps (Doing (Committing (value_there words steps slots))) new None) where
       pub commit_tied : Tied holds (record c { steps = new; live = false; fresh = true })

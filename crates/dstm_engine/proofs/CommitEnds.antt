@@ -1,6 +1,6 @@
 -- A caller after a commit.
 use Rattle.std.proofs.Common.{◌<◌, ◌∙◌, ◌∷◌, ◌≡◌, List, None, Option, Some, ap, arith, cond, false, refl, subst, sym, true, ℕ}
-use Rattle.std.specs.Prelude.{Bool, IfSome}
+use Rattle.std.specs.Prelude.{Bool}
 use Rattle.dstm_opacity.specs.Committed.{attempt_of, done_by}
 use Rattle.dstm_steps.proofs.Stepping.{call_of}
 use Rattle.dstm_steps.specs.Under.{now}
@@ -38,7 +38,7 @@ use Rattle.dstm_engine.specs.Attempts.{Commits, done}
 use Rattle.dstm_engine.specs.Callers.{Called, begun_log, handed, is_opened, is_running, new_value, shape_of, state}
 use Rattle.dstm_engine.specs.Calls.{IsTold, Performs}
 use Rattle.dstm_engine.specs.Mirror.{Tied, called, phase_by}
-use Rattle.dstm_engine.specs.Outcomes.{IsEnded, IsLeft, Promises}
+use Rattle.dstm_engine.specs.Outcomes.{IsEnded}
 use Rattle.dstm_engine.specs.Transactions.{Stays}
 use Rattle.dstm_engine.specs.declared.caller.Caller.TheInside.{Inside}
 
@@ -87,8 +87,7 @@ module _ {L : Type 0} {holds : L → List Val → Type 0} {c : Inside L} (v : Ti
 
   pub committed_tied : Tied holds committed_as
   committed_tied =
-      subst (λ left. Tied holds (record committed_as { left = left })) (sym (v.left live))
-      (over_tied v live u c.last_number true c.opened refl ends.0 (λ h. absurd (cc h)) tt (told refl))
+      rw (v.left live) (over_tied v live u c.last_number true c.opened refl ends.0 (λ h. absurd (cc h)) tt (told refl))
 
   -- the new values are those last set, or the old ones
   new_are : new_values c.terms.shape (view_of new.seat).log (state (called committed_as)).writes
@@ -146,17 +145,11 @@ module _ {L : Type 0} {holds : L → List Val → Type 0} {c : Inside L} (v : Ti
   is_committed number drawn = record {
     stays = closed_stays refl steps;
     committed = commits number drawn;
-    kept =
-        ap (λ t. record (called committed_as) { home = record { table = t; terms = c.terms } }) u.seat.0
-        ∙ ap (λ g. record (called c) { log = (view_of new.seat).log; generator = g; fresh = true })
-        (same_generator v live refl u)
-        ∙ ap (λ left. record (called c) { log = (view_of new.seat).log; left = left; fresh = true }) (v.left live);
+    kept = rw (u.seat.0, same_generator v live refl u, v.left live) refl;
     attempt = doing_keeps steps;
     ended = record {
       told = told (v.left live);
-      left =
-          subst (λ left. IfSome left (λ again. IsLeft (record (called committed_as) { left = left }) again
-          × Promises (record (called committed_as) { left = left }) again)) (sym (v.left live)) tt;
+      left = rw (v.left live) tt;
       bounded = λ none.
           bounded (told (v.left live)) u.run.run.core (has_begin (called committed_as)
           (subst (λ n. 0 < n) (sym (begun_there v live u))

@@ -26,7 +26,7 @@ use Rattle.dstm_order.specs.Calls.{answer}
 use Rattle.dstm_order.specs.Order.{due, in_putting}
 use Rattle.dstm_order.specs.Tasks.Task.{Doing}
 use Rattle.dstm_order.specs.Tasks.Work.{Committing}
-use Rattle.dstm_words.specs.Seats.{Home, caller_state, view_of, number_or, View}
+use Rattle.dstm_words.specs.Seats.{Home, caller_state, view_of, number_or}
 use Rattle.dstm_engine.proofs.Holding.{old_there}
 use Rattle.dstm_engine.proofs.Opens.{none_of, unset, writes_length}
 use Rattle.dstm_engine.proofs.Setting.{opened_slot, with_new_apart}
@@ -227,9 +227,7 @@ module _ {L : Type 0} {holds : L → List Val → Type 0} {c : Inside L} (v : Ti
         (λ k d lt. slot_put k d lt))
 
     number_is : number_or (view_of steps.seat).number 0 ≡ c.number
-    number_is =
-        ap (λ (x : Steps L). number_or (view_of x.seat).number 0) is
-        ∙ ap (λ (w : View L). number_or w.number 0) v.seat.0
+    number_is = rw (is, v.seat.0) refl
 
     few : length c.opened.writes ≤ c.steps.installed
     few =

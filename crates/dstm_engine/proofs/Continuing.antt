@@ -1,5 +1,5 @@
 -- One call more on an attempt.
-use Rattle.std.proofs.Common.{◌++◌, ◌+◌, ◌<◌, ◌≤◌, ◌==◌, ◌||◌, ◌∙◌, ◌∷◌, ◌≡◌, ◌≢◌, ◌⊎◌, List, None, Option, Some, [], ap, append_assoc, arith, false, inl, inr, length, refl, subst, sym, true, ℕ}
+use Rattle.std.proofs.Common.{◌++◌, ◌+◌, ◌<◌, ◌≤◌, ◌==◌, ◌||◌, ◌∙◌, ◌∷◌, ◌≡◌, ◌≢◌, List, None, Option, Some, [], ap, append_assoc, arith, false, inl, inr, length, refl, subst, sym, true, ℕ}
 use Rattle.std.specs.Prelude.{if◌then◌else◌}
 use Rattle.std.proofs.lemmas.Bool.{cases_Bool, cond_both, eqb-true}
 use Rattle.std.proofs.lemmas.List.Elements.{All-cons}
@@ -12,7 +12,7 @@ use Rattle.dstm_core.specs.declared.state.Phase.{Phase}
 use Rattle.dstm_core.specs.declared.state.Phase.TheVariants.{Outside}
 use Rattle.dstm_core.specs.Rules.{after, is_outside}
 use Rattle.dstm_order.specs.declared.TheConstants.{MAX_MISSED}
-use Rattle.dstm_order.specs.Order.{Due, IsDue, at_first, due, just, next}
+use Rattle.dstm_order.specs.Order.{Due, IsDue, at_first, due, just}
 use Rattle.dstm_order.specs.Order.Due.{Done, Step}
 use Rattle.dstm_core.specs.Events.{Event}
 use Rattle.dstm_core.specs.Runs.{Core, local}
@@ -125,11 +125,7 @@ module _ {L : Type 0} {k : Called L} (t : IsTold k) where
     )
 
     pub more_answer : again ≡ last_answer (shape_of k) (begun_state k) k.began one_more t.calls
-    more_answer =
-        p.answers
-        ∙ ap (λ (l : LocalState). answer_of (Doing work) (shape_of k) l k.generator p.events) (sym told_state)
-        ∙ ap (λ (g : Lcg). answer_of (Doing work) (shape_of k)
-        (state_after (shape_of k) (begun_state k) (all_events t.calls)) g p.events) t.generator
+    more_answer = p.answers ∙ rw (← told_state, t.generator) refl
 
     pub told_more : (state k).phase ≢ Outside → begun_log n.number n.log ≡ begun_log k.number k.log →
         n.began ≡ k.began → n.left ≡ again → ((shape_of k).all_write ≡ true → IsNoReading work) →

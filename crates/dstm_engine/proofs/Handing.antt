@@ -23,7 +23,7 @@ use Rattle.dstm_engine.proofs.Opens.{no_slot, no_word, none_of, unheld_both, uns
 use Rattle.dstm_engine.proofs.Setting.{opened_slot, with_new_apart}
 use Rattle.dstm_engine.proofs.Sights.{sighted_admits}
 use Rattle.dstm_engine.proofs.Slots.{slot_read}
-use Rattle.dstm_engine.proofs.Tying.{live_there, olds_in}
+use Rattle.dstm_engine.proofs.Tying.{live_there}
 use Rattle.dstm_engine.specs.Attempts.{Admits}
 use Rattle.dstm_engine.specs.Callers.{Called, entry, handed, held, is_live, is_opened, shape_of, state, written}
 use Rattle.dstm_engine.specs.Calls.{reading}
@@ -105,9 +105,7 @@ pub record Hands {L : Type 0} (k : Called L) (o : ℕ) (slots : Option Val) : Ty
 module _ {L : Type 0} {holds : L → List Val → Type 0} {c : Inside L} (v : Tied holds c) (live : c.live ≡ true)
     (o : ℕ) where
   holds_slots : held (called c) o ≡ value_in (map slot_value c.opened.reads ++ map slot_old c.opened.writes) o
-  holds_slots =
-      ap (λ xs. value_in (xs ++ olds_in c (called c).log (state (called c)).writes) o) (v.values live)
-      ∙ ap (λ ys. value_in (map slot_value c.opened.reads ++ ys) o) (v.olds live)
+  holds_slots = rw (v.values live, v.olds live) refl
 
   pub slots_hand : Hands (called c) o (slots_value (write_slot c.opened.writes o) (read_slot c.opened.reads o))
   slots_hand = by (write_slot c.opened.writes o) (read_slot c.opened.reads o) refl refl
@@ -222,9 +220,7 @@ module _ {L : Type 0} {holds : L → List Val → Type 0} {c : Inside L} (v : Ti
 
   pub slot_unopened : slots_value (write_slot c.opened.writes o) (read_slot c.opened.reads o) ≡ None →
       is_opened k o ≡ false
-  slot_unopened q =
-      ap (λ (k : Called L). is_opened k o) (sym view)
-      ∙ ap is_some (unheld_both v on o (ap (λ (k : Called L). held k o) view ∙ slot_none q)).0
+  slot_unopened q = rw (← view, (unheld_both v on o (ap (λ (k : Called L). held k o) view ∙ slot_none q)).0) refl
 
   -- it has a slot to write where it is open for writing
   pub write_there : is_opened k o ≡ is_some (write_slot c.opened.writes o)

@@ -286,8 +286,7 @@ module _ {L : Type 0} {holds : L → List Val → Type 0} {c : Inside L} (v : Ti
 
   pub lasts_then : Lasts (state (called c)) (state_logged c new)
   lasts_then =
-      subst (Lasts (state (called c)))
-      (sym (after_own c.terms.shape c.number (view_of new.seat).log (called c).log u.events u.own))
+      rw (after_own c.terms.shape c.number (view_of new.seat).log (called c).log u.events u.own)
       (call_lasts work c.terms.shape (state (called c)) c.steps.decider.generator u.events
       (allowed_own c.terms.shape c.number (view_of new.seat).log (called c).log u.events u.run.run.core u.own) u.obeys
       v.unused.0 v.unused.1)
@@ -315,14 +314,8 @@ module _ {L : Type 0} {holds : L → List Val → Type 0} {c : Inside L} (v : Ti
   pub same_place : (state_logged c new).committed ≡ false → (name : GName) →
       (table : Home L) → tx_place name table (called (record c { steps = new })) ≡ tx_place name table (called c)
   same_place undone name table =
-      ap (λ t. record (tx_place name table (called (record c { steps = new }))) {
-        home = record { table = t; terms = c.terms };
-      }) u.seat.0
-      ∙ ap (λ xs. record (tx_place name table (called c)) {
-        began = xs;
-        done = done (called (record c { steps = new }));
-      }) (doing_keeps (performed (called (record c { steps = new })) refl refl refl refl))
-      ∙ ap (λ xs. record (tx_place name table (called c)) { done = xs }) (same_done undone)
+      rw (u.seat.0, doing_keeps (performed (called (record c { steps = new })) refl refl refl refl), same_done undone)
+      refl
 
   -- an attempt that is over, whichever way it ended
   pub over_tied : (last : Option ℕ) (fresh : Bool) (opened : OpenedAs) → opened.objects ≡ c.opened.objects →
@@ -383,11 +376,7 @@ module _ {L : Type 0} {holds : L → List Val → Type 0} {c : Inside L} (v : Ti
     last_number = λ h. passed;
     rest = λ h. rest;
     left = v.left;
-    ended =
-        subst (λ left. IfSome left (λ again.
-        IsLeft (record (called (record c { steps = new; last_number = last; opened = opened })) { left = left }) again
-        × Promises (record (called (record c { steps = new; last_number = last; opened = opened })) { left = left })
-        again)) (sym (v.left live)) tt;
+    ended = rw (v.left live) tt;
     uncommitted = λ h. undone;
     told = λ made. told;
     sighted = λ h some. sighted some;
@@ -429,9 +418,7 @@ module _ {L : Type 0} {holds : L → List Val → Type 0} {c : Inside L} (v : Ti
 
   pub left_kept : set_pairs opened.writes ≡ set_pairs c.opened.writes → called after
       ≡ record (called c) { log = (view_of new.seat).log; generator = new.decider.generator; left = Some again }
-  left_kept set =
-      ap (λ t. record (called after) { home = record { table = t; terms = c.terms } }) u.seat.0
-      ∙ ap (λ s. record (called after) { home = (called c).home; set = s }) set
+  left_kept set = rw (u.seat.0, set) refl
 
   -- it is the same attempt
   pub left_place : (name : GName) (table : Home L) → tx_place name table (called after) ≡ tx_place name table (called c)

@@ -1,5 +1,5 @@
 -- An attempt that began with a locator for each object does not run out of them.
-use Rattle.std.proofs.Common.{◌++◌, ◌+◌, ◌≤◌, ◌∙◌, ◌∷◌, ◌≡◌, ◌≢◌, ◌⊎◌, List, ap, arith, false, inl, inr, length, not, subst, sym, true, ℕ}
+use Rattle.std.proofs.Common.{◌++◌, ◌+◌, ◌≤◌, ◌∙◌, ◌∷◌, ◌≡◌, List, ap, arith, false, inl, inr, length, not, subst, sym, true, ℕ, refl}
 use Rattle.std.specs.Prelude.{nat_lt}
 use Rattle.std.proofs.lemmas.Bool.Decides.{nat_tests}
 use Rattle.std.proofs.lemmas.Bool.{or_parts}
@@ -32,9 +32,7 @@ begun_since s = kept_since is_begin core s (λ (l : LocalState). l.begun) (same_
 
 begins_one : (s : Shape) (before : List Event) (e : Event) → e.kind ≡ Begin →
     (local s (e ∷ before) e.caller).begun ≡ (local s before e.caller).begun + 1
-begins_one s before e kind =
-    ap (λ (l : LocalState). l.begun) (local_own s before e)
-    ∙ ap (λ k. (after k s (local s before e.caller) e).begun) kind
+begins_one s before e kind = rw (local_own s before e, kind) refl
 
 -- it has used a locator for each object that it has open for writing
 used : (s : Shape) {c : ℕ} {log : List Event} (b : Begun c log) →

@@ -195,9 +195,7 @@ module _ {s : Shape} (m : Manager) (number : ℕ) {object : ℕ} {found : Found}
       subst (AddsWrite object found.version old) (sym end_is) (record {
         goes_on = goes_risen m (goes_passed number (same_attempt (install s a.before) (ap attempt_of a.apart) run put));
         locator = next_locator s a.before;
-        reads =
-            k.reads ∙ ap (λ o. drop_read o a.before.reads) a.object_is
-            ∙ ap (λ (x : LocalState). drop_read object x.reads) a.apart;
+        reads = k.reads ∙ rw (a.object_is, a.apart) refl;
         writes =
             k.writes
             ∙ rw (ap (λ (x : LocalState). x.writes) a.apart, a.object_is)
@@ -211,9 +209,7 @@ module _ {s : Shape} (m : Manager) (number : ℕ) {object : ℕ} {found : Found}
 -- what is read once the object is open
 pub acquired_reads : {s : Shape} {object : ℕ} {old mid : LocalState} {found : Found} → Acquired s object old mid found →
     record_resolved mid.resolution mid.reads ≡ drop_read object old.reads
-acquired_reads {object = object} a =
-    ap (λ (l : LocalState). record_resolved l.resolution l.reads) a.installed
-    ∙ ap (λ o. drop_read o a.before.reads) a.object_is ∙ ap (λ (x : LocalState). drop_read object x.reads) a.apart
+acquired_reads {object = object} a = rw (a.installed, a.object_is, a.apart) refl
 
 -- and the version that was found is held
 pub acquired_held : {s : Shape} {object : ℕ} {old mid : LocalState} {found : Found} → Acquired s object old mid found →

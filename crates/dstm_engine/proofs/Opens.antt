@@ -143,14 +143,7 @@ module _ {L : Type 0} {holds : L → List Val → Type 0} {c : Inside L} (v : Ti
       Opens holds work o (called c) (called opened_as) value
   opens_with also marks hands = record {
     stays = stays steps (λ out. let x = runs in cc);
-    kept =
-        ap (λ t. record (called opened_as) { home = record { table = t; terms = c.terms } }) u.seat.0
-        ∙ ap (λ s. record (called opened_as) { home = (called c).home; set = s }) set
-        ∙ ap (λ left. record (called c) {
-          log = (view_of new.seat).log;
-          generator = new.decider.generator;
-          left = left;
-        }) (v.left live);
+    kept = rw (u.seat.0, set, v.left live) refl;
     continues = record {
       live = ap is_running runs;
       sight = opened_sighted;
@@ -496,9 +489,7 @@ module _ {L : Type 0} {holds : L → List Val → Type 0} {c : Inside L} (v : Ti
       c.opened.reads o ((stay v live u).0 ∙ v.values live)
 
   writes_w : AreWrites write_opened.writes (now (called c).home new).writes
-  writes_w =
-      subst (AreWrites write_opened.writes) (sym adds.writes)
-      (are_writes-push c.opened.writes (state (called c)).writes _ _ (v.writes live) refl)
+  writes_w = rw adds.writes (are_writes-push c.opened.writes (state (called c)).writes _ _ (v.writes live) refl)
 
   olds_w : olds_in c (view_of new.seat).log (now (called c).home new).writes
       ≡ map slot_old write_opened.writes

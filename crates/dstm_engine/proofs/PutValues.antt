@@ -291,9 +291,7 @@ all_values : (s : Shape) (v : ℕ → Val) (log : List Event) (ws : List Write) 
     ((j : ℕ) → j < length ws → new_value s log (nth ws j).locator ≡ v (nth ws j).object) →
     new_values s log ws ≡ given_values v ws
 all_values s v log [] h = refl
-all_values s v log (w ∷ ws) h =
-    ap (λ x. (w.object, x) ∷ new_values s log ws) (h 0 (omega arith))
-    ∙ ap (λ xs. (w.object, v w.object) ∷ xs) (all_values s v log ws (λ j lt. h (suc j) (omega arith)))
+all_values s v log (w ∷ ws) h = rw (h 0 (omega arith), all_values s v log ws (λ j lt. h (suc j) (omega arith))) refl
 
 same_val : (a b : Val) → a.low ≡ b.low → a.high ≡ b.high → a ≡ b
 same_val a b l h = ap (λ x. record a { low = x }) l ∙ ap (λ x. record b { high = x }) h

@@ -172,10 +172,7 @@ module _ {L : Type 0} {holds : L → List Val → Type 0} {c : Inside L} (v : Ti
   pub is_rechecked : IsRechecked holds (called c) (called then)
   is_rechecked = record {
     stays = stays steps (λ out. let x = rechecked_runs in cc);
-    kept =
-        ap (λ t. record (called then) { home = record { table = t; terms = c.terms } }) u.seat.0
-        ∙ ap (λ g. record (called c) { log = (view_of new.seat).log; generator = g }) (same_generator v live refl u)
-        ∙ ap (λ left. record (called c) { log = (view_of new.seat).log; left = left }) (v.left live);
+    kept = rw (u.seat.0, same_generator v live refl u, v.left live) refl;
     sight = rechecked_sighted;
     one_more = rechecked_counts;
     same_held = held_same v live refl u;

@@ -131,11 +131,7 @@ ends_in_sight s start c {log = log} before e is own kind found =
       is_one = record { kind = kind; found = found ∙ ap (λ n. given (local s before n).phase) (sym own) };
       caller = own;
       attempt = sym (ap (λ (m : LocalState). m.begun) now ∙ keeps.2 ∙ ap (λ (m : LocalState). m.begun) was);
-      covers =
-          ap (λ (m : LocalState). read_values s start log m.reads ++ old_values s start log m.writes) now
-          ∙ ap (λ rs. read_values s start log rs ++ old_values s start log (after e.kind s l e).writes) keeps.0
-          ∙ ap (λ ws. read_values s start log l.reads ++ old_values s start log ws) keeps.1
-          ∙ ap (λ (m : LocalState). read_values s start log m.reads ++ old_values s start log m.writes) was;
+      covers = rw (now, keeps.0, keeps.1, was) refl;
     }
 
 pub head_own : (c : ℕ) {log : List Event} (es before : List Event) (e : Event) → log ≡ e ∷ before → events_of c log ≡ e

@@ -144,8 +144,7 @@ pub set_tied : {L : Type 0} {holds : L → List Val → Type 0} {c : Inside L} (
 set_tied {c = c} o v t live =
     let slots = with_set_slot o v c.opened.writes in
     stays_tied c.fresh slots t (λ h. h)
-    (subst (λ left. IfSome left (λ again. IsLeft (after_set c c.fresh slots) again × Promises (after_set c c.fresh slots) again))
-    (sym (t.left live)) tt) (λ on. are_writes_set o v c.opened.writes _ (t.writes on)) (olds_set o v c.opened.writes)
+    (rw (t.left live) tt) (λ on. are_writes_set o v c.opened.writes _ (t.writes on)) (olds_set o v c.opened.writes)
 
 -- an object that was opened for writing has no value set yet
 pub set_pairs_push : (slots : List WriteSlot) (s : WriteSlot) → s.new ≡ None →

@@ -27,9 +27,7 @@ module _ {L : Type 0} {holds : L → List Val → Type 0} {c : Inside L} (v : Ti
       × (olds_in c (view_of new.seat).log (state (called c)).writes
       ≡ olds_in c (called c).log (state (called c)).writes)
   stay =
-      subst (λ xs. (reads_in c xs (state (called c)).reads ≡ reads_in c (called c).log (state (called c)).reads)
-      × (olds_in c xs (state (called c)).writes ≡ olds_in c (called c).log (state (called c)).writes)) u.seen.whole
-      (held_stay c.terms.shape c.terms.start.value.items u.seen.later (called c).log c.number
+      rw (← u.seen.whole) (held_stay c.terms.shape c.terms.start.value.items u.seen.later (called c).log c.number
       (subst (Core c.terms.shape) (sym u.seen.whole) u.run.run.core) v.number.0 (current_there v live u).live)
 
 module _ {L : Type 0} {holds : L → List Val → Type 0} {c : Inside L} (v : Tied holds c) (live : c.live ≡ true)
@@ -48,8 +46,7 @@ module _ {L : Type 0} {holds : L → List Val → Type 0} {c : Inside L} (v : Ti
   -- the same is open
   pub same_there : SameOpened (state (called c)) (state_logged c new)
   same_there =
-      subst (SameOpened (state (called c)))
-      (sym (after_own c.terms.shape c.number (view_of new.seat).log (called c).log u.events u.own))
+      rw (after_own c.terms.shape c.number (view_of new.seat).log (called c).log u.events u.own)
       (same_opened work c.terms.shape (state (called c)) u.events plain (v.rest live).recorded)
 
   -- with the same values
