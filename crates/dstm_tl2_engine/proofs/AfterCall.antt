@@ -1,5 +1,5 @@
 -- A caller after a call: its attempt, and what it has committed.
-use Rattle.std.proofs.Common.{◌≡◌, ◌<◌, ◌⊎◌, ◌∷◌, ◌++◌, ◌∙◌, List, [], ap, sym, subst, true, false, Option, None, Some}
+use Rattle.std.proofs.Common.{◌≡◌, ◌<◌, ◌⊎◌, ◌∷◌, ◌++◌, ◌∙◌, List, [], ap, sym, subst, true, false, Option, None, Some, refl}
 use Rattle.dstm_tl2_engine.proofs.Words.{Home, LocalState, Run, Table, Task, TlAgain, Val, answer_of, is_sample, is_valid, local, state_after, tl2}
 use Rattle.dstm_tl2_order.specs.Ended.{Disturbed}
 use Rattle.dstm_tl2_order.proofs.Disturbing.{answers_disturb}
@@ -48,10 +48,7 @@ module _ {L : Type 0} {holds : L → List Val → Type 0} {k n : TlCalled L} {ta
 
   -- and it began in the same state
   pub began_then : samples_in task ≡ false → begun_state n ≡ begun_state k
-  began_then none =
-      ap (λ (x : Table). local x (begun_log n.number n.log) n.number) table_then
-      ∙ ap (λ xs. local (table_of_caller k) xs n.number) (attempt_kept none)
-      ∙ ap (local (table_of_caller k) (begun_log k.number k.log)) p.same.1
+  began_then none = rw (table_then, attempt_kept none, p.same.1) refl
 
   -- a call that draws and checks nothing commits nothing
   pub done_quiet : commits_in task ≡ false → done n ≡ done k

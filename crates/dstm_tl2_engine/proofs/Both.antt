@@ -4,7 +4,7 @@ use Rattle.std.specs.List.{All}
 use Rattle.std.specs.Prelude.{◌||◌, is_some, if◌then◌else◌}
 use Rattle.std.specs.Option.{option_or}
 use Rattle.std.proofs.lemmas.List.Elements.{All-cons, All-head, All-nil}
-use Rattle.dstm_tl2_engine.proofs.Words.{Check, Committing, Doing, Done, Draw, Enrol, Event, Finishing, Home, IsCall, IsDue, IsRunOf, Just, Kind, LocalState, Lock, Locking, LookAgain, LookHigh, LookLock, LookLow, Obeys, Sample, Table, Task, TlAgain, Unlock, Val, Work, WriteHigh, WriteLow, after, answer_of, cause, draws, due_after, events_of, fails, in_giving_back, in_locking, local, locks, newest_of, next, next_or_first, read_values, state_after, table_of, tl2, value_in, when_locked}
+use Rattle.dstm_tl2_engine.proofs.Words.{Check, Committing, Doing, Done, Draw, Enrol, Event, Finishing, Home, IsCall, IsDue, IsRunOf, Just, Kind, LocalState, Lock, Locking, LookAgain, LookHigh, LookLock, LookLow, Obeys, Sample, Table, Task, TlAgain, Unlock, Val, Work, WriteHigh, WriteLow, after, answer_of, cause, draws, due_after, events_of, fails, in_giving_back, in_locking, local, locks, newest_of, next, next_or_first, state_after, table_of, tl2, value_in, when_locked}
 use Rattle.dstm_machines.proofs.Pasts.{past_past}
 use Rattle.dstm_tl2_engine.specs.Attempts.{Commits, done}
 use Rattle.dstm_tl2_engine.specs.Callers.{TlCalled, handed, held, is_opened, state, table_of_caller, written}
@@ -24,10 +24,7 @@ state_both t l (e ∷ es) fs = ap (λ m. after e.kind t m e) (state_both t l es 
 answer_both : (t : Table) (l : LocalState) (es fs : List Event) → answer_of t l fs ≡ None →
     answer_of t l (es ++ fs) ≡ answer_of t (state_after t l fs) es
 answer_both t l [] fs none = none
-answer_both t l (e ∷ es) fs none =
-    ap (λ m. if fails e.kind m e then Some (cause e) else answer_of t l (es ++ fs)) (state_both t l es fs)
-    ∙ ap (λ a. if fails e.kind (state_after t (state_after t l fs) es) e then Some (cause e) else a)
-    (answer_both t l es fs none)
+answer_both t l (e ∷ es) fs none = rw (state_both t l es fs, answer_both t l es fs none) refl
 
 -- ---- the rows differ once all is locked
 
@@ -252,9 +249,11 @@ module _ {L : Type 0} {holds : L → List Val → Type 0} where
   pub held_kept : {k m : TlCalled L} (writes : List (ℕ × Val)) {again : Option TlAgain} →
       Performs holds (Doing (Locking writes)) k m again → (o : ℕ) → held m o ≡ held k o
   held_kept {k = k} writes p o =
-      ap (λ (l : LocalState). value_in (read_values l.reads) o) (state_by p)
-      ∙ ap (λ rs. value_in (read_values rs) o) (closing_keeps (table_of_caller k) (state k) p.events
-      (are_closing (Locking writes) (table_of_caller k) (state k) p.events refl p.call.obeys)).reads
+      rw (
+        state_by p,
+        (closing_keeps (table_of_caller k) (state k) p.events
+            (are_closing (Locking writes) (table_of_caller k) (state k) p.events refl p.call.obeys)).reads,
+      ) refl
 
   pub commit_lost : {k n : TlCalled L} {again : TlAgain} → (state k).failed ≡ false →
       Leaves holds (Locking k.writes) k n again → Leaves holds (Committing k.writes) k n again

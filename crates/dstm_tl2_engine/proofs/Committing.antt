@@ -4,13 +4,12 @@ use Rattle.std.specs.List.{All}
 use Rattle.std.specs.Prelude.{◌⊎◌, ◌||◌, IfSome, IsSome, is_none, is_some, if◌then◌else◌}
 use Rattle.std.specs.Option.{option_or}
 use Rattle.std.proofs.Math.Seq.{take-length}
-use Rattle.dstm_tl2_engine.proofs.Words.{Agrees, AtRest, CanLock, Doing, Done, Event, Finishing, Home, KeepsLaw, Lists, LocalState, Locking, NamesOnce, Steps, TlAgain, Under, Val, Work, answer_of, entry_of, is_valid, new_hold, now, objects, or_writes, or_zero, read_of, read_values, table_of, value_at, value_in, view_of, with_set, with_writes}
+use Rattle.dstm_tl2_engine.proofs.Words.{Agrees, AtRest, CanLock, Doing, Done, Event, Finishing, Home, KeepsLaw, Lists, LocalState, Locking, NamesOnce, Steps, TlAgain, Under, Val, Work, entry_of, is_valid, new_hold, now, objects, or_writes, or_zero, read_of, read_values, table_of, value_at, value_in, view_of, with_set, with_writes}
 use Rattle.dstm_mem.proofs.Pairs.{AgreesWith-of_agrees, with_writes-with_set}
 use Rattle.dstm_mem.proofs.WithSet.{unset_stays}
 use Rattle.dstm_tl2_steps.proofs.Slots.{WritesApart, WritesBelow, writes_once}
 use Rattle.dstm_tl2_steps.specs.Under as under
 use Rattle.dstm_tl2_engine.specs.Attempts.{Commits, done}
-use Rattle.dstm_tl2_engine.specs.Began.{began_of}
 use Rattle.dstm_tl2_engine.specs.Callers.{TlCalled, handed, held, is_live, state, table_of_caller, written}
 use Rattle.dstm_tl2_engine.specs.Calls as calls
 use Rattle.dstm_tl2_engine.specs.Calls.{IsMade, Performs}
@@ -129,8 +128,7 @@ module _ {L : Type 0} (holds : L → List Val → Type 0) (c : Inside L) (v : Ti
               (sym (held_then o)) (v.puts o);
           sets = v.sets;
           seen = k.seen;
-          locks = subst (λ (l : LocalState). l.holds ≡ map (new_hold l) (take locked c.opened.writes)) (sym then_is)
-              locks;
+          locks = rw then_is locks;
           may = λ some. ap (λ (l : LocalState). l.drawn) then_is ∙ may some;
           few = few;
           lawful = lawful;
@@ -237,10 +235,8 @@ module _ {L : Type 0} (holds : L → List Val → Type 0) (c : Inside L) (v : Ti
       begun = subst (λ n. 0 < n)
           (sym (ap (λ (l : LocalState). l.begun) is_then ∙ ap (λ (l : LocalState). l.begun) by.state_is.same)) by.rest.begun;
       locked = ap (λ (l : LocalState). l.locked) is_then ∙ ap (λ (l : LocalState). l.locked) by.state_is.same;
-      told = subst (λ (l : LocalState). l.writes ≢ None → l.writes ≡ Some c.opened.writes) (sym is_then)
-          (told_some (now (called c).home new).writes c.opened.writes by.state_is.told);
-      all = subst (λ (l : LocalState). l.holds ≡ map (new_hold l) c.opened.writes) (sym is_then)
-          (by.locks ∙ ap (map (new_hold (now (called c).home new))) (take-length c.opened.writes));
+      told = rw is_then (told_some (now (called c).home new).writes c.opened.writes by.state_is.told);
+      all = rw is_then (by.locks ∙ ap (map (new_hold (now (called c).home new))) (take-length c.opened.writes));
       undrawn = ap (λ (l : LocalState). l.drawn) is_then ∙ locked_undrawn;
       sound = (
         ap (λ (l : LocalState). l.failed) is_then ∙ ap (λ (l : LocalState). l.failed) by.state_is.same ∙ by.rest.sound.0,

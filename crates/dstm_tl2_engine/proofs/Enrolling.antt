@@ -66,11 +66,7 @@ founder_is {L = L} {h = h} table terms old {new = new} made is at same kept =
 pub caller_is : {L : Type 0} (f : TlFounding L) {h : Home L} (found : ℕ) (seat : Seat ℕ (View L)) {terms : Terms L}
     {k : TlCalled L} → k ≡ enrolled_as terms seat found → f.home ≡ h → seat.table_id ≡ h.table → terms ≡ h.terms →
     k ≡ record (unnumbered f) { log = seat.me.0.log; number = found }
-caller_is {L = L} f {h = h} found seat {terms = terms} is at table told =
-    is
-    ∙ ap (λ t. record (enrolled_as terms seat found) { home = record { table = t; terms = terms } }) table
-    ∙ ap (λ t. record (enrolled_as terms seat found) { home = record { table = h.table; terms = t } }) told
-    ∙ ap (λ (x : Home L). record (enrolled_as terms seat found) { home = x }) (sym at)
+caller_is {L = L} f {h = h} found seat {terms = terms} is at table told = is ∙ rw (table, told, ← at) refl
 
 -- the founder after a join
 pub keeps_rest : {L : Type 0} {f : TlFounding L} {h : Home L} (table : TableId) (terms : Terms L) (old new : View L)

@@ -1,5 +1,5 @@
 -- What a call on an attempt says, from what its caller's call says.
-use Rattle.std.proofs.Common.{◌∙◌, ◌∷◌, ◌≡◌, ◌⊎◌, List, [], ap, false, inl, inr, subst, sym, true, ℕ}
+use Rattle.std.proofs.Common.{◌∙◌, ◌∷◌, ◌≡◌, List, [], ap, false, inl, inr, subst, sym, true, ℕ, refl}
 use Rattle.std.specs.Prelude.{Err, IfOk, IsSome, Ok, OnOk, Result, is_some}
 use Rattle.std.proofs.lemmas.Bool.{cases_Bool, cases_eq}
 use Rattle.dstm_tl2_engine.proofs.Words.{MarksAtMost, TlAgain, Val, value_in, with_value}
@@ -23,8 +23,7 @@ marks_at_most {o = o} {k = k} {value = value} m = record {
 marks_now : {L : Type 0} {o : ℕ} {k n : TlCalled L} {value : Val} → is_opened k o ≡ false → Marks o k n value →
     is_opened n o ≡ true
 marks_now {o = o} {k = k} {value = value} unopened m =
-    ap (λ ws. is_some (value_in ws o)) m.writes
-    ∙ ap is_some (value_in-last k.writes o value (not_some (value_in k.writes o) unopened))
+    rw (m.writes, value_in-last k.writes o value (not_some (value_in k.writes o) unopened)) refl
 
 -- an open for writing marks the object, and no other
 pub opens_marked : {L : Type 0} (o : ℕ) (k n : TlCalled L) (r : Result Val TlAgain) →

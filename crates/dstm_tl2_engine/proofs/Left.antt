@@ -245,8 +245,7 @@ module _ (t : Table) (l : LocalState) (s : Static t l) (events : List Event) (a 
             Taken t o taking m.reads m.holds m.gave_back (is_valid m) (e ∷ events)
         taken o taking h (inl q) =
             let at_o : e.place ≡ o = ap (λ (e : Event). e.place) q ∙ (locked_is o taking h).1 in record {
-              expected = ap (λ (e : Event). e.expected) (sym q) ∙ expected ∙ ap (λ n. recorded n l.reads) at_o
-                  ∙ ap (recorded o) (sym reads);
+              expected = ap (λ (e : Event). e.expected) (sym q) ∙ expected ∙ rw (at_o, ← reads) refl;
               below = subst (λ n. n < objects t) at_o below;
               now = inl (ap (λ hs. is_some (hold_of o hs)) holds ∙ some_added o l.holds new (object ∙ at_o));
             }

@@ -91,10 +91,7 @@ told_makes began n home number there told =
     ∙ ap (local (table_of_caller began) began.log) number in
     record {
       calls = told.calls;
-      own =
-          own_parts n ∙ ap (λ es. es ++ events_of n.number (begun_log n.number n.log)) told.own
-          ∙ ap (λ es. events_in told.calls ++ events_of n.number es) (sym there)
-          ∙ ap (λ c. events_in told.calls ++ events_of c began.log) number;
+      own = own_parts n ∙ rw (told.own, ← there, number) refl;
       made =
           made_where (table_of_caller began) (state began) IsOnAttempt LocksItsWrites on_attempt told.calls
           (subst (λ (l : LocalState). AreMade (table_of_caller began) l IsOnAttempt told.calls) state_is

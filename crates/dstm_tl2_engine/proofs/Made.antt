@@ -2,7 +2,7 @@
 use Rattle.std.proofs.Common.{◌≡◌, ◌⊎◌, ◌++◌, ◌∙◌, ◌∷◌, ℕ, List, [], arith, inl, inr, refl, sym, ap, subst, length}
 use Rattle.std.specs.Prelude.{Bool, IsSome, Option, None, Some, false, is_some, true, ◌+◌}
 use base.Fml.{GName}
-use Rattle.dstm_tl2_engine.proofs.Words.{Agrees, AgreesWith, Committing, Doing, Event, Home, IsRunOf, LawfulRun, LocalState, TlAgain, Val, history_of, is_sample, is_valid, local, with_set, with_writes}
+use Rattle.dstm_tl2_engine.proofs.Words.{Agrees, AgreesWith, Committing, Doing, Event, Home, IsRunOf, LawfulRun, TlAgain, Val, history_of, is_sample, is_valid, with_set, with_writes}
 use Rattle.dstm_model.specs.Map.{state_after}
 use Rattle.dstm_model.proofs.Entries.{states_keep_length}
 use Rattle.dstm_machines.proofs.Attempts.{log_parts}
@@ -93,12 +93,7 @@ module _ {L : Type 0} (holds : L → List Val → Type 0) (k b t : TlCalled L) (
 
       -- the calls on the attempt began no other
       counted : (state n).begun ≡ (state k).begun + 1
-      counted =
-          begun_count (table_of_caller n) n.number n.log
-          ∙ ap (λ xs. (local (table_of_caller n) xs n.number).begun) (sym there)
-          ∙ ap (λ (x : Home L). (state (record b { home = x; number = n.number })).begun) home_b
-          ∙ ap (λ c. (state (record b { number = c })).begun) number_b
-          ∙ ap (λ (l : LocalState). l.begun) begins.begun.1
+      counted = begun_count (table_of_caller n) n.number n.log ∙ rw (← there, home_b, number_b, begins.begun.1) refl
 
   -- it has committed, and its body was right for every map that it admits
   pub settled : (is_right : List Val → List Val → Type 0) (n : TlCalled L) (drawn : ℕ) (left : Option TlAgain) →

@@ -5,7 +5,7 @@ use Rattle.std.specs.Prelude.{All, IfSome, IsSome, is_none, is_some, option_map}
 use Rattle.std.proofs.lemmas.Bool.{cases_Bool, cases_eq}
 use Rattle.std.proofs.lemmas.List.{map-append, take-append-le}
 use Rattle.std.proofs.Math.Seq.{get_or-append_seam}
-use Rattle.dstm_tl2_engine.proofs.Words.{AtRest, Doing, Done, Event, HoldsAlso, Home, IsRunOf, Kind, LocalState, LookAgain, LookHigh, LookLock, LookLow, NamesOnce, OpenedAs, Opening, Read, Steps, TlAgain, Under, Val, new_hold, now, prefix_at, read_of, read_slot, read_values, sample_place, slot_read, slots_value, value_at, value_in, view_of, writes_of}
+use Rattle.dstm_tl2_engine.proofs.Words.{AtRest, Doing, Done, Event, HoldsAlso, Home, IsRunOf, Kind, LocalState, LookAgain, LookHigh, LookLock, LookLow, NamesOnce, OpenedAs, Opening, Read, Steps, TlAgain, Under, Val, new_hold, now, prefix_at, read_of, read_slot, read_values, sample_place, slot_read, slots_value, value_at, value_in, writes_of}
 use Rattle.dstm_mem.proofs.Pairs.{AgreesWith-of_agrees, value_in-other, value_in-same}
 use Rattle.dstm_model.proofs.Entries.{states_keep_length}
 use Rattle.dstm_model.specs.Map.{state_after}
@@ -19,7 +19,6 @@ use Rattle.dstm_tl2_order.proofs.Causing.{causes_of}
 use Rattle.dstm_tl2_engine.proofs.Others.{others_of}
 use Rattle.dstm_tl2_engine.proofs.Tying.{EndsHere, at_home, ends_here, kept, now_there, performs_then, state_then}
 use Rattle.dstm_tl2_engine.specs.Attempts.{Admits, Seen}
-use Rattle.dstm_tl2_engine.specs.Began.{began_of}
 use Rattle.dstm_tl2_engine.specs.Callers.{TlCalled, handed, held, is_live, objects_of, start_of, state, table_of_caller, written}
 use Rattle.dstm_tl2_engine.specs.Calls.{Performs}
 use Rattle.dstm_tl2_engine.specs.Mirror.{Tied, called}
@@ -272,10 +271,7 @@ module _ {L : Type 0} {holds : L → List Val → Type 0} {c : Inside L} (v : Ti
     -- what is held
     held_now : (p : ℕ) →
         held (called read_as) p ≡ value_in (read_values (state (called c)).reads ++ (o, slot.value) ∷ []) p
-    held_now p =
-        ap (λ rs. value_in (read_values rs) p) reads_now
-        ∙ ap (λ ps. value_in ps p) (values_push (state (called c)).reads (slot_read slot))
-        ∙ ap (λ n. value_in (read_values (state (called c)).reads ++ (n, slot.value) ∷ []) p) is
+    held_now p = rw (reads_now, values_push (state (called c)).reads (slot_read slot), is) refl
 
     pub read_held : HoldsAlso o (held (called c)) (held (called read_as))
     read_held =
@@ -335,9 +331,7 @@ module _ {L : Type 0} {holds : L → List Val → Type 0} {c : Inside L} (v : Ti
     reads =
         let k = kept v (Doing (Opening o)) u in record {
           stays = record { steps = steps; attempt = attempt_kept steps refl };
-          kept =
-              ap (λ h. record (called read_as) { home = h }) k.home
-              ∙ ap (λ x. record (called c) { log = (view_of new.seat).log; left = x }) (not_left c.left live);
+          kept = rw (k.home, not_left c.left live) refl;
           continues = opening_continues o steps (λ p some. read_held.kept p some);
           opens = record { held = read_held; admits = seen_admits (called read_as) u.run k.seen };
           rest = read_rest;
@@ -539,9 +533,7 @@ module _ {L : Type 0} {holds : L → List Val → Type 0} {c : Inside L} (v : Ti
   where
     -- what an open hands out is there where a value is held
     held_hands : (h : Option Val) → held (called c) o ≡ h → is_some (handed (called c) o) ≡ is_some h
-    held_hands None q =
-        ap (λ w. is_some (option_or w (held (called c) o))) (unset v o (unheld_unopened v o q))
-        ∙ ap is_some q
+    held_hands None q = rw (unset v o (unheld_unopened v o q), q) refl
     held_hands (Some x) q = ap (λ h. is_some (option_or (written (called c) o) h)) q ∙ some_else (written (called c) o)
       where
         some_else : (w : Option Val) → is_some (option_or w (Some x)) ≡ true
@@ -581,8 +573,7 @@ module _ {L : Type 0} {holds : L → List Val → Type 0} {c : Inside L} (v : Ti
     pub held_opened : IsSome (held k o) → HasOpened holds o k k
     held_opened some = record {
       held = record { held = some; kept = λ p some. refl; others = λ p other. refl };
-      admits = subst (λ (k : TlCalled L). (map : List Val) × Admits holds k map) view
-          (seen_admits (called c) v.run v.seen);
+      admits = rw (← view) (seen_admits (called c) v.run v.seen);
     }
 
 -- ---- an open for writing

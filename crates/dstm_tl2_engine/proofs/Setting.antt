@@ -1,5 +1,5 @@
 -- A caller that has just drawn its number, and one after a value is set.
-use Rattle.std.proofs.Common.{◌<◌, ◌∙◌, ◌≡◌, ◌≢◌, ◌⊎◌, List, None, Option, Some, [], ap, arith, inl, inr, map, refl, subst, sym, take, true, ℕ}
+use Rattle.std.proofs.Common.{◌<◌, ◌∙◌, ◌≡◌, ◌≢◌, List, None, Option, Some, [], ap, arith, inl, inr, map, refl, subst, sym, take, true, ℕ}
 use Rattle.std.specs.Prelude.{IfSome, IsSome, is_none}
 use Rattle.std.specs.Option.{option_or}
 use Rattle.std.proofs.lemmas.Bool.{cases_eq}
@@ -11,7 +11,6 @@ use Rattle.dstm_tl2_engine.proofs.Seeing.{seen_now}
 use Rattle.dstm_tl2_engine.specs.Callers.{held, is_live, objects_of, seat_view, state}
 use Rattle.dstm_tl2_engine.specs.Mirror.{Tied, called}
 use Rattle.dstm_tl2_engine.proofs.Told.{told_opened}
-use Rattle.dstm_tl2_engine.specs.Outcomes.{IsLeft}
 use Rattle.dstm_tl2_engine.specs.Tables.{enrolled_as}
 use Rattle.dstm_tl2_engine.specs.declared.caller.TlCaller.TheInside.{Inside}
 
@@ -125,7 +124,6 @@ module _ {L : Type 0} {holds : L → List Val → Type 0} {c : Inside L} (v : Ti
     may = λ some. absurd (some none);
     few = omega (arith, none);
     lawful = lawful_unlocked holds rest.untold.2 sets_then;
-    left = subst (λ left. IfSome left (λ again. IsLeft (called (record c { opened = new }))))
-        (sym (live_left c.left live)) tt;
+    left = rw (live_left c.left live) tt;
     told = λ made. told_opened c new (v.told made);
   }

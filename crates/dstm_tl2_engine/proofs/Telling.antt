@@ -1,11 +1,7 @@
 -- What a table was told is known by the values.
-use Rattle.std.proofs.Common.{◌≡◌, ◌∙◌, ap}
+use Rattle.std.proofs.Common.{◌≡◌, refl}
 use Rattle.dstm_tl2.specs.declared.terms.Terms.{Terms}
 
 pub terms_same : {L : Type 0} (t u : Terms L) → t.callers ≡ u.callers → t.attempts ≡ u.attempts →
     t.law.value ≡ u.law.value → t.start.value ≡ u.start.value → t ≡ u
-terms_same t u c a l v =
-    ap (λ x. record t { callers = x }) c
-    ∙ ap (λ x. record t { callers = u.callers; attempts = x }) a
-    ∙ ap (λ x. record t { callers = u.callers; attempts = u.attempts; law = record t.law { value = x } }) l
-    ∙ ap (λ x. record u { start = record t.start { value = x } }) v
+terms_same t u c a l v = rw (c, a, l, v) refl

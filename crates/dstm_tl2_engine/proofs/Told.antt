@@ -63,9 +63,7 @@ module _ {L : Type 0} {holds : L → List Val → Type 0} {k n : TlCalled L} {wo
 
   answer_then : (cs : List Call) → newest_answer (table_of_caller k) (begun_state k) cs
       ≡ newest_answer (table_of_caller n) (begun_state n) cs
-  answer_then cs =
-      ap (λ (l : LocalState). newest_answer (table_of_caller k) l cs) (sym began)
-      ∙ ap (λ (x : Table). newest_answer x (begun_state n) cs) (sym (table_then p))
+  answer_then cs = rw (← began, ← table_then p) refl
 
   told_with : (es : List Event) → p.events ≡ es → IsTold n
   told_with [] is =

@@ -1,5 +1,5 @@
-use Rattle.std.proofs.Common.{rules, ◌∙◌, ◌≡◌, None, Some, ap, length, refl, subst, sym}
-use Rattle.dstm_tl2_engine.proofs.Words.{AtRest, Doing, Locking, view_of}
+use Rattle.std.proofs.Common.{rules, ◌∙◌, Some, ap, length, refl, subst, sym}
+use Rattle.dstm_tl2_engine.proofs.Words.{AtRest, Doing, Locking}
 use Rattle.dstm_tl2_engine.proofs.Committing.{Left, Locked, has_locked, left_here, left_leaves, left_tied, left_told, locked_done, locked_here, locked_kept, locked_stays, locked_tied, locked_told, locks_here}
 use Rattle.dstm_tl2_engine.proofs.Told.{rest_can, rest_made}
 use Rattle.dstm_tl2_engine.proofs.Tying.{at_words, ends_here, kept}
@@ -73,9 +73,7 @@ returns-in_default g c =
     rw r (record {
       stays = rw (← c.self.view_is) (locked_stays g.L.Law.holds c.self.inside c.self.invariant by);
       leaves = search rules;
-      kept =
-          subst (λ (k : TlCalled _). called x ≡ record k { log = (view_of new.seat).log; left = None }) c.self.view_is
-          (locked_kept g.L.Law.holds c.self.inside c.self.invariant by);
+      kept = rw (← c.self.view_is) (locked_kept g.L.Law.holds c.self.inside c.self.invariant by);
       locked = has_locked g.L.Law.holds c.self.inside c.self.invariant by;
       done = locked_done g.L.Law.holds c.self.inside c.self.invariant by ∙ ap done c.self.view_is;
       told = λ _. locked_told g.L.Law.holds c.self.inside c.self.invariant by;
