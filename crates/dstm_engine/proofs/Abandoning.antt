@@ -4,27 +4,12 @@ use Rattle.std.specs.Prelude.{IfSome, count_by, if◌then◌else◌, is_some}
 use Rattle.std.proofs.lemmas.Bool.{cases_Bool}
 use Rattle.std.proofs.lemmas.List.Elements.{All-cons, All-nil}
 use Rattle.std.proofs.lemmas.List.Sums.{sum_by-cons}
+use Rattle.dstm_engine.proofs.Words.{Again, Done, Event, IsDue, IsRunOf, Kind, Lcg, Leaving, LocalState, Obeys, Quit, Shape, Val, begin_count, events_of, is_begin, is_outside, just, state_after}
 use Rattle.dstm_machines.proofs.Attempts.{NoneBegins, begun_after}
-use Rattle.dstm_core.specs.Counts.{begin_count, is_begin}
-use Rattle.dstm_core.specs.Events.{Event}
-use Rattle.dstm_core.specs.Rules.{is_outside}
-use Rattle.dstm_core.specs.State.{LocalState}
-use Rattle.dstm_core.specs.Traces.{events_of}
-use Rattle.dstm_core.specs.declared.event.Kind.{Kind}
-use Rattle.dstm_core.specs.declared.event.Kind.TheVariants.{Quit}
-use Rattle.dstm_core.specs.declared.shape.Shape.{Shape}
-use Rattle.dstm_model.specs.declared.value.Val.{Val}
-use Rattle.dstm_order.specs.Calls.{Obeys, state_after}
-use Rattle.dstm_order.specs.Order.{IsDue, just}
-use Rattle.dstm_order.specs.Order.Due.{Done}
-use Rattle.dstm_order.specs.Tasks.Task.{Leaving}
-use Rattle.dstm_order.specs.declared.again.Again.{Again}
-use Rattle.rand_pcg.specs.Lcg.{Lcg}
 use Rattle.dstm_core.proofs.Counted.{begins_are_counted}
 use Rattle.dstm_core.proofs.Static.{running, static}
 use Rattle.dstm_progress.proofs.Bound.{alone_is_bounded}
 use Rattle.dstm_progress.proofs.Prices.{prices_by_count}
-use Rattle.dstm_words.specs.Seats.{IsRunOf}
 use Rattle.dstm_engine.proofs.Alone.{Begun, begun_at, bounded}
 use Rattle.dstm_engine.specs.Mirror.{Tied, called}
 use Rattle.dstm_engine.specs.declared.caller.Caller.TheInside.{Inside}

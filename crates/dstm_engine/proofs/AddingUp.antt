@@ -1,21 +1,11 @@
 -- Calls add up.
 use Rattle.std.proofs.Common.{Bool, true, ◌≡◌, ◌∙◌, ◌++◌, ◌∷◌, List, [], ap, append_assoc, append-nil, refl, subst, sym}
 use Rattle.std.specs.Prelude.{Option}
-use Rattle.rand_pcg.specs.Lcg.{Lcg}
-use Rattle.dstm_core.specs.Events.{Event}
-use Rattle.dstm_core.specs.Runs.{local}
-use Rattle.dstm_core.specs.State.{LocalState, first}
-use Rattle.dstm_core.specs.Traces.{events_of}
-use Rattle.dstm_core.specs.declared.shape.Shape.{Shape}
-use Rattle.dstm_model.specs.declared.value.Val.{Val}
+use Rattle.dstm_engine.proofs.Words.{Again, AreMade, ByCalls, Call, Event, IsCall, Lcg, LocalState, Shape, Task, Val, effort_of, events_in, events_of, first, generator_by, local, state_after, state_by}
 use Rattle.dstm_progress.proofs.OwnEvents.{after_own, whole_state}
 use Rattle.dstm_progress.proofs.Own.{state_both}
-use Rattle.dstm_order.specs.Calls.{IsCall, effort_of, state_after}
-use Rattle.dstm_order.specs.Tasks.{Task}
-use Rattle.dstm_order.specs.declared.again.Again.{Again}
 use Rattle.dstm_engine.specs.Callers.{Called, shape_of, state}
 use Rattle.dstm_engine.specs.Calls.{Performs}
-use Rattle.dstm_order.specs.Made.{AreMade, ByCalls, Call, events_in, generator_by, state_by}
 use Rattle.dstm_engine.specs.Makes.{Makes}
 use Rattle.dstm_engine.specs.Lives.{CallsAddUp}
 

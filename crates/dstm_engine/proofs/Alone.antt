@@ -3,19 +3,11 @@ use Rattle.std.proofs.Common.{◌&&◌, ◌++◌, ◌+◌, ◌*◌, ◌==◌, �
 use Rattle.std.proofs.lemmas.List.{append_cancel_right}
 use Rattle.std.proofs.lemmas.Bool.{and_parts, cases_Bool, cond_both, eq-eqb, eqb-true}
 use Rattle.std.proofs.lemmas.List.Elements.{filter-append}
+use Rattle.dstm_engine.proofs.Words.{AloneBound, AloneCommits, AreCalls, AreOf, Begin, Core, Event, IsAlone, IsUnmet, Kind, LocalState, Outside, PricesByCount, Shape, all_events, count, events_of, is_begin, local}
 use Rattle.dstm_machines.proofs.Attempts.{log_parts}
-use Rattle.dstm_core.specs.Runs.{Core, local}
-use Rattle.dstm_core.specs.State.{LocalState}
-use Rattle.dstm_core.specs.Traces.{events_of}
-use Rattle.dstm_core.specs.Events.{Event}
-use Rattle.dstm_core.specs.declared.event.Kind.{Kind}
-use Rattle.dstm_core.specs.declared.event.Kind.TheVariants.{Begin}
-use Rattle.dstm_core.specs.declared.shape.Shape.{Shape}
-use Rattle.dstm_core.specs.declared.state.Phase.TheVariants.{Outside}
 use Rattle.dstm_managers.specs.Meetings.{most_turns}
 use Rattle.dstm_order.specs.Counts.{Counts, counted, counts_after, counts_of}
-use Rattle.dstm_progress.specs.Alone.{AloneBound, AloneCommits, AreCalls, AreOf, IsAlone, IsUnmet, PricesByCount, all_events, count, is_open}
-use Rattle.dstm_core.specs.Counts.{is_begin}
+use Rattle.dstm_progress.specs.Alone.{is_open}
 use Rattle.dstm_engine.specs.Callers.{Called, begun_log, shape_of, since_begin, state}
 use Rattle.dstm_engine.specs.Calls.{IsTold}
 use Rattle.dstm_engine.specs.Outcomes as outcomes

@@ -2,25 +2,14 @@
 use Rattle.std.proofs.Common.{◌≡◌, ◌≢◌, ◌∙◌, ◌⊎◌, ◌==◌, ◌||◌, ◌+◌, ◌-◌, ◌<◌, ◌≤◌, Bool, true, false, List, [], ap, arith, inl, inr, refl, subst, sym, ℕ}
 use Rattle.std.specs.Prelude.{Option, None, Some, IfSome, is_none}
 use Rattle.std.proofs.lemmas.Bool.{cases_Bool, ne_eqb}
-use Rattle.dstm_core.specs.Events.{Event}
-use Rattle.dstm_core.specs.Runs.{Core, local}
-use Rattle.dstm_core.specs.State.{given, own_attempt}
-use Rattle.dstm_core.specs.Traces.{word}
-use Rattle.dstm_core.specs.Words.Word.{StatusWord}
-use Rattle.dstm_core.specs.declared.shape.Shape.{Shape}
-use Rattle.dstm_core.specs.declared.state.Phase.{Phase}
-use Rattle.dstm_core.specs.declared.state.Phase.TheVariants.{Outside}
+use Rattle.dstm_engine.proofs.Words.{Again, Core, Event, Outside, Phase, Shape, StatusWord, StaysAt, Val, ended_as, given, is_new, local, own_attempt, word}
 use Rattle.dstm_core.proofs.Statuses.{own_status}
 use Rattle.dstm_core.proofs.Underway.{is_outside_now}
 use Rattle.dstm_progress.proofs.Ends.{callers_in_range, end_stays}
 use Rattle.dstm_progress.proofs.Sound.{sound}
-use Rattle.dstm_progress.specs.Ends.{StaysAt, ended_as}
-use Rattle.dstm_model.specs.declared.value.Val.{Val}
-use Rattle.dstm_order.specs.declared.again.Again.{Again}
 use Rattle.dstm_engine.specs.Callers.{Called, shape_of, state}
 use Rattle.dstm_engine.specs.Endings.{Attempts}
 use Rattle.dstm_engine.specs.Outcomes.{IsLeft, Promises}
-use Rattle.dstm_order.specs.Retries.{is_new}
 
 not_new : (n m : ℕ) (b : Bool) → n ≡ m + 1 → (n == 0 || b) ≡ b
 not_new n m b q = let z : n == 0 ≡ false = ne_eqb n 0 (λ h. absurd (omega (arith, q, h))) in rw z refl

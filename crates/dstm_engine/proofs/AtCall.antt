@@ -1,12 +1,6 @@
 -- A call of a caller as its answers see it.
 use Rattle.std.proofs.Common.{◌∙◌, ◌≡◌, List, Option, ap, subst, sym}
-use Rattle.dstm_steps.specs.Under.{now}
-use Rattle.dstm_steps.specs.declared.steps.Steps.{Steps}
-use Rattle.dstm_core.specs.State.{LocalState}
-use Rattle.dstm_model.specs.declared.value.Val.{Val}
-use Rattle.dstm_order.specs.Tasks.{Task}
-use Rattle.dstm_order.specs.declared.again.Again.{Again}
-use Rattle.dstm_words.specs.Seats.{Home}
+use Rattle.dstm_engine.proofs.Words.{Again, Home, LocalState, Steps, Task, Val, now}
 use Rattle.dstm_engine.proofs.Tying.{EndsAt, EndsHere, ends_here, live_there, now_there, renewed}
 use Rattle.dstm_engine.specs.Callers.{Called, is_live, state}
 use Rattle.dstm_engine.specs.Mirror.{Tied, called}

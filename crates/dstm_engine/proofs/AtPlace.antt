@@ -3,12 +3,10 @@ use Rattle.std.proofs.Common.{◌&&◌, ◌+◌, ◌-◌, ◌<◌, ◌==◌, ◌
 use Rattle.std.specs.Prelude.{IsSome, is_some, slice_index_or, slice_set}
 use Rattle.std.proofs.lemmas.List.{get_or_default}
 use Rattle.std.specs.Vec.{with_item}
+use Rattle.dstm_engine.proofs.Words.{ReadSlot, Val, WriteSlot}
 use Rattle.dstm_mem.proofs.Finding.{find_filter}
 use Rattle.dstm_mem.proofs.Slots.{finds_none, finds_one, one_less, only, part_here, part_kept, part_other, placed_alike, stands_there}
 use Rattle.dstm_mem.specs.Slots.{IsSlotOf}
-use Rattle.dstm_model.specs.declared.value.Val.{Val}
-use Rattle.dstm_steps.specs.declared.slots.ReadSlot.{ReadSlot}
-use Rattle.dstm_steps.specs.declared.slots.WriteSlot.{WriteSlot}
 use Rattle.dstm_engine.proofs.Slots.{drop_kept, length-without, set_slot_is, without_none}
 use Rattle.dstm_engine.specs.Opened.{HasPlaces, OpenedAs, is_kept, no_place, no_read, no_write, place_at, read_at, read_slot, reads_sort, with_set_slot, without_read, write_slot}
 use Rattle.dstm_engine.specs.declared.opened.Opened.TheInside.{Inside}

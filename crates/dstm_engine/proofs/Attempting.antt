@@ -1,20 +1,11 @@
 -- The calls of an attempt.
 use Rattle.std.proofs.Common.{◌≡◌, ◌∙◌, ◌++◌, ◌∷◌, List, [], None, ap, refl, subst, sym}
 use Rattle.std.specs.Prelude.{Option}
-use Rattle.rand_pcg.specs.Lcg.{Lcg}
-use Rattle.dstm_core.specs.State.{LocalState}
-use Rattle.dstm_core.specs.declared.shape.Shape.{Shape}
-use Rattle.dstm_model.specs.declared.value.Val.{Val}
-use Rattle.dstm_order.specs.Calls.{IsCall, effort_of, state_after}
-use Rattle.dstm_order.specs.Tasks.Task.{Beginning, Doing}
-use Rattle.dstm_order.specs.declared.again.Again.{Again}
-use Rattle.dstm_progress.specs.Alone.{AreCalls, Made, all_events, generator_after}
+use Rattle.dstm_engine.proofs.Words.{Again, AreCalls, AreMade, Beginning, Call, Doing, IsCall, Lcg, LocalState, Made, Shape, TriesAgain, Val, all_events, effort_of, events_in, generator_after, generator_by, is_new, state_after, state_by}
 use Rattle.dstm_engine.specs.Callers.{Called, begun_log, shape_of, state}
 use Rattle.dstm_engine.specs.Calls.{IsTold, begun_state}
 use Rattle.dstm_engine.specs.Endings.{Attempts}
-use Rattle.dstm_order.specs.Made.{AreMade, Call, events_in, generator_by, state_by}
 use Rattle.dstm_engine.specs.Makes.{Makes}
-use Rattle.dstm_order.specs.Retries.{TriesAgain, is_new}
 use Rattle.dstm_engine.proofs.AddingUp.{makes_both, makes_one}
 
 -- the calls on an attempt, as calls

@@ -4,32 +4,11 @@ use Rattle.std.specs.Prelude.{IfSome, is_some}
 use Rattle.std.specs.declared.snapshot.Snapshot.{Snapshot}
 use Rattle.std.proofs.lemmas.Bool.{cases_Bool, eq-eqb}
 use Rattle.std.proofs.lemmas.List.Elements.{All-nil}
+use Rattle.dstm_engine.proofs.Words.{AreWrites, Beginning, Core, DeciderState, Effort, Event, Home, LocalState, Made, Running, Steps, Val, begin, done_by, entry_of, events_of, has_begun, is_spent, newest_of, now, value_at, value_in, view_of, words_of, write_of}
 use Rattle.dstm_opacity.proofs.Stays.{call_adds_none}
-use Rattle.dstm_opacity.specs.Committed.{done_by}
-use Rattle.dstm_steps.specs.Reads.{words_of}
-use Rattle.dstm_steps.specs.Under.{now}
-use Rattle.dstm_steps.specs.Writes.{AreWrites}
-use Rattle.dstm_steps.specs.declared.steps.Steps.{Steps}
 use Rattle.dstm_core.proofs.Stamps.{standing}
-use Rattle.dstm_core.specs.Events.{Event}
-use Rattle.dstm_core.specs.Rules.{begin}
-use Rattle.dstm_core.specs.Runs.{Core}
-use Rattle.dstm_core.specs.Histories.{entry_of}
-use Rattle.dstm_core.specs.State.{LocalState, write_of}
-use Rattle.dstm_core.specs.Traces.{events_of}
-use Rattle.dstm_core.specs.declared.state.Phase.TheVariants.{Running}
 use Rattle.dstm_mem.proofs.WithSet.{with_set-nothing}
-use Rattle.dstm_managers.specs.Choices.{DeciderState}
-use Rattle.dstm_mem.specs.Memory.{value_in}
-use Rattle.dstm_model.specs.Map.{value_at}
-use Rattle.dstm_model.specs.declared.value.Val.{Val}
-use Rattle.dstm_order.specs.Calls.{newest_of}
-use Rattle.dstm_order.specs.Efforts.{Effort}
-use Rattle.dstm_order.specs.Order.{has_begun, is_spent}
-use Rattle.dstm_order.specs.Tasks.Task.{Beginning}
 use Rattle.dstm_progress.proofs.Own.{newest_own}
-use Rattle.dstm_progress.specs.Alone.{Made}
-use Rattle.dstm_words.specs.Seats.{Home, view_of}
 use Rattle.dstm_engine.proofs.AtCall.{AtCall, at_home, ends_at}
 use Rattle.dstm_engine.proofs.Calling.{performs}
 use Rattle.dstm_engine.proofs.Continuing.{kept_most}

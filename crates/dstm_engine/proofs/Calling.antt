@@ -1,19 +1,8 @@
 -- A call of a caller, from what its steps know.
 use Rattle.std.proofs.Common.{◌<◌, ◌∙◌, ◌≡◌, List, ap, subst, sym, refl}
 use Rattle.std.specs.Prelude.{None, Option}
+use Rattle.dstm_engine.proofs.Words.{Again, Done, Effort, InTask, IsMirror, IsOf, IsPastOf, IsRunOf, Steps, Task, Val, View, answer, caller_state, caller_view, due, effort_by, events_of, now, number_or, view_of}
 use Rattle.dstm_steps.proofs.Stepping.{began_as, call_begins, call_of}
-use Rattle.dstm_steps.specs.Under.{InTask, IsMirror, effort_by, now}
-use Rattle.dstm_words.specs.Seats.{caller_view}
-use Rattle.dstm_steps.specs.declared.steps.Steps.{Steps}
-use Rattle.dstm_core.specs.Traces.{IsPastOf, events_of}
-use Rattle.dstm_model.specs.declared.value.Val.{Val}
-use Rattle.dstm_order.specs.Calls.{answer}
-use Rattle.dstm_order.specs.Efforts.{Effort}
-use Rattle.dstm_order.specs.Order.{due}
-use Rattle.dstm_order.specs.Order.Due.{Done}
-use Rattle.dstm_order.specs.Tasks.{Task}
-use Rattle.dstm_order.specs.declared.again.Again.{Again}
-use Rattle.dstm_words.specs.Seats.{IsOf, caller_state, view_of, IsRunOf, number_or, View}
 use Rattle.dstm_engine.specs.Began.{began_of}
 use Rattle.dstm_engine.specs.Callers.{Called, shape_of, state}
 use Rattle.dstm_engine.specs.Calls.{Performs}

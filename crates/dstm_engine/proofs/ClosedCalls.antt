@@ -1,16 +1,7 @@
 -- A recheck or a commit, as its answers see it.
 use Rattle.std.proofs.Common.{◌∙◌, ◌≡◌, List, None, Option, Some, ap, false, refl, true, ℕ}
 use base.Fml.{GName}
-use Rattle.dstm_steps.specs.Under.{now, passed}
-use Rattle.dstm_steps.specs.declared.slots.WriteSlot.{WriteSlot}
-use Rattle.dstm_steps.specs.declared.steps.Steps.{Steps}
-use Rattle.dstm_model.specs.declared.value.Val.{Val}
-use Rattle.dstm_order.specs.Tasks.{Work}
-use Rattle.dstm_order.specs.Tasks.Task.{Doing}
-use Rattle.dstm_order.specs.Tasks.Work.{Committing, Rechecking}
-use Rattle.dstm_order.specs.declared.again.Again.{Again}
-use Rattle.dstm_progress.specs.Oldest.{IsNoReading}
-use Rattle.dstm_words.specs.Seats.{Home, view_of}
+use Rattle.dstm_engine.proofs.Words.{Again, Committing, Doing, Home, IsNoReading, Rechecking, Steps, Val, Work, WriteSlot, now, passed, view_of}
 use Rattle.dstm_engine.proofs.AtCall.{AtCall, at_home, ends_at}
 use Rattle.dstm_engine.proofs.CommitEnds.{IsCommitted, committed_tied, is_committed}
 use Rattle.dstm_engine.proofs.Committing.{value_is, value_there}

@@ -1,29 +1,14 @@
 -- A caller after a commit.
 use Rattle.std.proofs.Common.{◌<◌, ◌∙◌, ◌∷◌, ◌≡◌, List, None, Option, Some, ap, arith, cond, false, refl, subst, sym, true, ℕ}
 use Rattle.std.specs.Prelude.{Bool}
-use Rattle.dstm_opacity.specs.Committed.{attempt_of, done_by}
+use Rattle.dstm_engine.proofs.Words.{Again, Committing, Doing, IsCallIn, LocalState, Outside, StaysAt, Steps, Val, Work, attempt_of, code_of, done_by, entry_of, local, new_values, now, or_zero, value_in, view_of}
 use Rattle.dstm_steps.proofs.Stepping.{call_of}
-use Rattle.dstm_steps.specs.Under.{now}
-use Rattle.dstm_steps.specs.declared.steps.Steps.{Steps}
 use Rattle.dstm_progress.proofs.Adding.{is_added}
 use Rattle.dstm_progress.proofs.Committing.{commit_ends}
 use Rattle.dstm_progress.proofs.OwnEvents.{after_own, allowed_own}
-use Rattle.dstm_progress.specs.Ends.{IsCallIn, StaysAt}
-use Rattle.dstm_core.specs.Words.{code_of}
 use Rattle.dstm_core.specs.declared.status.Status.TheVariants as status
-use Rattle.dstm_core.specs.Histories.{entry_of, new_values}
-use Rattle.dstm_core.specs.Runs.{local}
-use Rattle.dstm_core.specs.State.{LocalState, or_zero}
-use Rattle.dstm_core.specs.declared.state.Phase.TheVariants.{Outside}
-use Rattle.dstm_mem.specs.Memory.{value_in}
-use Rattle.dstm_model.specs.declared.value.Val.{Val}
-use Rattle.dstm_order.specs.Tasks.{Work}
-use Rattle.dstm_order.specs.Tasks.Task.{Doing}
-use Rattle.dstm_order.specs.Tasks.Work.{Committing}
-use Rattle.dstm_order.specs.declared.again.Again.{Again}
 use Rattle.dstm_progress.proofs.Bound.{alone_is_bounded}
 use Rattle.dstm_progress.proofs.Prices.{prices_by_count}
-use Rattle.dstm_words.specs.Seats.{view_of}
 use Rattle.dstm_engine.proofs.Abandoning.{begun_of, has_begin}
 use Rattle.dstm_engine.proofs.Alone.{bounded}
 use Rattle.dstm_engine.proofs.Committing.{handed_value, unwritten}

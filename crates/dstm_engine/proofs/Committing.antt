@@ -4,29 +4,11 @@ use Rattle.std.specs.Option.{option_or}
 use Rattle.std.specs.Prelude.{All, is_some, slice_index_or, unwrap_or}
 use Rattle.std.proofs.lemmas.Bool.{cases_Bool, eq-eqb, eqb-true}
 use Rattle.std.proofs.lemmas.Nat.{mul-le}
+use Rattle.dstm_engine.proofs.Words.{Agrees, AgreesWith, AreWrites, Committing, Doing, Event, Home, InTask, IsLawful, LocalState, Read, Shape, Steps, Val, Write, WriteSlot, answer, caller_state, due, effort_by, entry_of, in_putting, is_outside, no_value, now, number_or, or_old, puts_of, read_values, seen, to_put, value_in, view_of, with_set, with_writes, write_of}
 use Rattle.dstm_steps.proofs.Ranged.{few_locators}
 use Rattle.dstm_steps.proofs.Stepping.{began_as}
-use Rattle.dstm_steps.specs.Under.{InTask, effort_by, now}
-use Rattle.dstm_steps.specs.Writes.{AreWrites, IsLawful, or_old, puts_of, to_put}
-use Rattle.dstm_steps.specs.declared.slots.WriteSlot.{WriteSlot}
-use Rattle.dstm_steps.specs.declared.steps.Steps.{Steps}
 use Rattle.dstm_core.proofs.Static.{static}
-use Rattle.dstm_core.specs.Events.{Event}
-use Rattle.dstm_core.specs.Histories.{entry_of, read_values, seen}
-use Rattle.dstm_core.specs.Rules.{is_outside}
-use Rattle.dstm_core.specs.State.{LocalState, write_of}
-use Rattle.dstm_core.specs.declared.shape.Shape.{Shape}
-use Rattle.dstm_core.specs.declared.state.Read.{Read}
-use Rattle.dstm_core.specs.declared.state.Write.{Write}
-use Rattle.dstm_mem.specs.Memory.{AgreesWith, value_in, with_set}
-use Rattle.dstm_model.specs.Map.{Agrees, no_value, with_writes}
-use Rattle.dstm_model.specs.declared.value.Val.{Val}
 use Rattle.dstm_opacity.proofs.Tidy.{Apart, WritesOnce, tidy}
-use Rattle.dstm_order.specs.Calls.{answer}
-use Rattle.dstm_order.specs.Order.{due, in_putting}
-use Rattle.dstm_order.specs.Tasks.Task.{Doing}
-use Rattle.dstm_order.specs.Tasks.Work.{Committing}
-use Rattle.dstm_words.specs.Seats.{Home, caller_state, view_of, number_or}
 use Rattle.dstm_engine.proofs.Holding.{old_there}
 use Rattle.dstm_engine.proofs.Opens.{none_of, unset, writes_length}
 use Rattle.dstm_engine.proofs.Setting.{opened_slot, with_new_apart}

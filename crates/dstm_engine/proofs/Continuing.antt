@@ -3,34 +3,12 @@ use Rattle.std.proofs.Common.{◌++◌, ◌+◌, ◌<◌, ◌≤◌, ◌==◌, �
 use Rattle.std.specs.Prelude.{if◌then◌else◌}
 use Rattle.std.proofs.lemmas.Bool.{cases_Bool, cond_both, eqb-true}
 use Rattle.std.proofs.lemmas.List.Elements.{All-cons}
+use Rattle.dstm_engine.proofs.Words.{Again, AreCalls, Begin, Committing, Core, Doing, Done, Due, Effort, Event, IsCall, IsDue, IsNoReading, Kind, Lcg, LocalState, MAX_MISSED, Made, Obeys, Outside, Phase, Quit, Reading, Rechecking, Release, Releasing, Shape, Step, Val, Work, Writing, after, all_events, answer, answer_of, at_first, due, due_after, effort_after, effort_of, events_of, generator_after, is_begin, is_outside, is_release, just, last_answer, local, newest_of, no_effort, state_after}
 use Rattle.dstm_machines.proofs.Own.{own_later}
 use Rattle.dstm_core.proofs.Underway.{not_begin}
-use Rattle.dstm_core.specs.Counts.{is_begin}
-use Rattle.dstm_core.specs.declared.event.Kind.{Kind}
-use Rattle.dstm_core.specs.declared.event.Kind.TheVariants.{Begin, Quit, Release}
-use Rattle.dstm_core.specs.declared.state.Phase.{Phase}
-use Rattle.dstm_core.specs.declared.state.Phase.TheVariants.{Outside}
-use Rattle.dstm_core.specs.Rules.{after, is_outside}
-use Rattle.dstm_order.specs.declared.TheConstants.{MAX_MISSED}
-use Rattle.dstm_order.specs.Order.{Due, IsDue, at_first, due, just}
-use Rattle.dstm_order.specs.Order.Due.{Done, Step}
-use Rattle.dstm_core.specs.Events.{Event}
-use Rattle.dstm_core.specs.Runs.{Core, local}
-use Rattle.dstm_core.specs.State.{LocalState}
-use Rattle.dstm_core.specs.Traces.{events_of}
-use Rattle.dstm_core.specs.declared.shape.Shape.{Shape}
-use Rattle.dstm_model.specs.declared.value.Val.{Val}
-use Rattle.dstm_order.specs.Calls.{IsCall, Obeys, answer, answer_of, due_after, effort_of, newest_of, state_after}
-use Rattle.dstm_order.specs.Efforts.{Effort, effort_after, no_effort}
-use Rattle.dstm_order.specs.Tasks.{Work}
-use Rattle.dstm_order.specs.Tasks.Task.{Doing}
-use Rattle.dstm_order.specs.Tasks.Work.{Committing, Reading, Rechecking, Releasing, Writing}
-use Rattle.dstm_order.specs.declared.again.Again.{Again}
 use Rattle.dstm_progress.proofs.OwnEvents.{after_own}
 use Rattle.dstm_progress.proofs.Own.{own_state}
-use Rattle.dstm_progress.specs.Alone.{AreCalls, Made, all_events, generator_after, is_open, is_release, last_answer}
-use Rattle.dstm_progress.specs.Oldest.{IsNoReading}
-use Rattle.rand_pcg.specs.Lcg.{Lcg}
+use Rattle.dstm_progress.specs.Alone.{is_open}
 use Rattle.dstm_engine.specs.Callers.{Called, begun_log, is_live, shape_of, state}
 use Rattle.dstm_engine.specs.Calls.{IsTold, Performs, begun_state, kept_reads, newest_answer}
 

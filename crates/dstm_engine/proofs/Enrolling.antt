@@ -1,26 +1,12 @@
 -- A caller that was made.
 use Rattle.std.proofs.Common.{◌<◌, ◌∙◌, ◌∷◌, ◌≡◌, List, [], ◌+◌, ap, refl, subst, sym, ℕ}
 use Rattle.std.specs.Prelude.{Option, Some, IfSome}
-use Rattle.rand_pcg.specs.Lcg.{Lcg}
-use Rattle.dstm_model.specs.declared.value.Val.{Val}
-use Rattle.dstm_core.specs.Runs.{core, local}
+use Rattle.dstm_engine.proofs.Words.{Add, Enrol, Enrolling, Event, Home, IsCall, IsRunOf, Lcg, LocalState, Makes, Manager, Shape, Terms, Val, View, core, events_of, first, given_part, kept_part, local, made, started}
 use Rattle.dstm_machines.proofs.Own.{none_before_only}
 use Rattle.dstm_machines.proofs.Runs.{local-events_of}
-use Rattle.dstm_core.specs.State.{LocalState, first}
-use Rattle.dstm_core.specs.Traces.{events_of}
-use Rattle.dstm_machines.specs.Traces.Access.{Add}
-use Rattle.dstm_core.specs.Events.{Event}
-use Rattle.dstm_core.specs.declared.event.Kind.TheVariants.{Enrol}
-use Rattle.dstm_core.specs.declared.shape.Shape.{Shape}
-use Rattle.dstm_order.specs.Calls.{IsCall}
-use Rattle.dstm_order.specs.Tasks.Task.{Enrolling}
-use Rattle.dstm_words.specs.declared.terms.Terms.{Terms}
-use Rattle.dstm_words.specs.Seats.{View, IsRunOf, Makes, made, given_part, kept_part, Home}
 use Rattle.dstm_engine.specs.Callers.{Called}
 use Rattle.atomic_table.specs.Seated.{TableId}
 use Rattle.atomic_table.specs.declared.shared.Seat.{Seat}
-use Rattle.dstm_core.specs.declared.shape.Manager.{Manager}
-use Rattle.dstm_managers.specs.Choices.{started}
 use Rattle.dstm_engine.specs.Enrolled.{enrolled_as}
 use Rattle.dstm_engine.specs.Tables.{Enrols, Founding, unnumbered}
 

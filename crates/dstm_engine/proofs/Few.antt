@@ -2,15 +2,10 @@
 use Rattle.std.proofs.Common.{◌≡◌, ◌∙◌, ◌++◌, ◌∷◌, ℕ, List, [], true, refl, sym, subst, arith}
 use Rattle.std.specs.Prelude.{IsSome, All, Contains}
 use Rattle.std.proofs.lemmas.List.Elements.{All-contains, Contains-append_right}
-use Rattle.dstm_model.specs.declared.value.Val.{Val}
-use Rattle.dstm_model.specs.Map.{IsEntry, NamesOnce}
-use Rattle.dstm_core.specs.Histories.{history_of, will_of}
+use Rattle.dstm_engine.proofs.Words.{Committed, HoldsAtMost, Home, IsEntry, IsRunOf, NamesOnce, Val, history_of, will_of}
 use Rattle.dstm_opacity.proofs.Entries.{entries_once}
-use Rattle.dstm_opacity.specs.Committed.{Committed}
 use Rattle.dstm_opacity.proofs.Standing.{done_stands}
-use Rattle.dstm_mem.specs.Memory.{HoldsAtMost}
 use Rattle.dstm_mem.proofs.Few.{named_few}
-use Rattle.dstm_words.specs.Seats.{Home, IsRunOf}
 use Rattle.dstm_engine.specs.Attempts.{Commits, ReadsAtMost, done}
 use Rattle.dstm_engine.specs.Callers.{Called, held, is_live, law_of, live_held, shape_of, start_of}
 

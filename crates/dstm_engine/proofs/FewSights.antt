@@ -2,25 +2,8 @@
 use Rattle.std.proofs.Common.{◌≡◌, ◌∙◌, ◌⊎◌, ◌+◌, ◌<◌, ◌≤◌, ◌++◌, ◌∷◌, ◌==◌, ◌&&◌, ℕ, Bool, List, [], None, Some, true, false, refl, sym, ap, subst, inl, inr, arith, not}
 use Rattle.std.specs.Prelude.{if◌then◌else◌}
 use Rattle.std.proofs.lemmas.Bool.{and_parts, cases_Bool, cond_both, cond-true, cond-false, eq-eqb, eqb-true}
+use Rattle.dstm_engine.proofs.Words.{Begin, Beginning, Doing, Done, Due, Effort, Event, IsDue, Kind, Lcg, LocalState, LookObj, LookSelf, Obeys, Quit, Rank, Reading, Shape, Stamp, Step, Work, Writing, at_first, count_of, due, effort_of, events_of, given, has_begun, has_ranks, has_stamps, is_open, is_outside, is_spent, just, local, newest_of, next, rises, state_after}
 use Rattle.dstm_core.proofs.Static.{begun_more}
-use Rattle.dstm_core.specs.Events.{Event}
-use Rattle.dstm_core.specs.Rules.{is_outside}
-use Rattle.dstm_core.specs.Runs.{local}
-use Rattle.dstm_core.specs.State.{LocalState, given}
-use Rattle.dstm_core.specs.Traces.{events_of}
-use Rattle.dstm_core.specs.declared.event.Kind.{Kind}
-use Rattle.dstm_core.specs.declared.event.Kind.TheVariants.{Begin, LookObj, LookSelf, Quit, Rank, Stamp}
-use Rattle.dstm_core.specs.declared.shape.Shape.{Shape}
-use Rattle.dstm_order.specs.Calls.{Obeys, effort_of, newest_of, state_after}
-use Rattle.dstm_order.specs.Efforts.{Effort}
-use Rattle.dstm_order.specs.Order.{Due, IsDue, at_first, due, has_begun, has_ranks, has_stamps, is_spent, just, next, rises}
-use Rattle.dstm_order.specs.Order.Due.{Done, Step}
-use Rattle.dstm_order.specs.Passes.{is_open}
-use Rattle.dstm_order.specs.Tasks.{Work}
-use Rattle.dstm_order.specs.Tasks.Task.{Beginning, Doing}
-use Rattle.dstm_order.specs.Tasks.Work.{Reading, Writing}
-use Rattle.rand_pcg.specs.Lcg.{Lcg}
-use Rattle.dstm_progress.specs.Disturbed.{count_of}
 use Rattle.dstm_engine.specs.Attempts.{completes_pass, is_look_object, is_look_self, looks_at_object}
 use Rattle.dstm_engine.proofs.Rechecking.{NoSelf}
 

@@ -1,17 +1,7 @@
 -- An open of an object that is not open yet, as its answers see it.
 use Rattle.std.proofs.Common.{◌<◌, ◌∙◌, ◌≡◌, List, None, Option, Some, ap, false, length, subst, sym, true, ℕ}
 use Rattle.std.specs.Prelude.{IsTrue}
-use Rattle.dstm_steps.specs.Under.{now}
-use Rattle.dstm_steps.specs.declared.steps.Steps.{Steps}
-use Rattle.dstm_core.specs.State.{LocalState, read_of, write_of}
-use Rattle.dstm_model.specs.declared.value.Val.{Val}
-use Rattle.dstm_order.specs.Passes.{is_open}
-use Rattle.dstm_order.specs.Tasks.{Work}
-use Rattle.dstm_order.specs.Tasks.Task.{Doing}
-use Rattle.dstm_order.specs.Tasks.Work.{Reading, Writing}
-use Rattle.dstm_order.specs.declared.again.Again.{Again}
-use Rattle.dstm_progress.specs.Oldest.{IsNoReading}
-use Rattle.dstm_words.specs.Seats.{Home}
+use Rattle.dstm_engine.proofs.Words.{Again, Doing, Home, IsNoReading, LocalState, Reading, Steps, Val, Work, Writing, is_open, now, read_of, write_of}
 use Rattle.dstm_engine.proofs.AtCall.{AtCall, at_home, ends_at, state_at}
 use Rattle.dstm_engine.proofs.Left.{left_as, left_tied}
 use Rattle.dstm_engine.proofs.Opens.{locator_left, no_slot_of, read_opens, read_tied, room_to_read, room_to_write, stopped, unheld_both, unheld_slot, write_marked, write_opens, write_tied}

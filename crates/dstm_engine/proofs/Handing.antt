@@ -3,22 +3,9 @@ use Rattle.std.proofs.Common.{◌++◌, ◌<◌, ◌==◌, ◌∙◌, ◌∷◌,
 use Rattle.std.specs.Prelude.{Err, IfErr, IfOk, Ok, OnOk, Result, if◌then◌else◌, is_some, option_map}
 use Rattle.std.specs.Option.{option_or}
 use Rattle.std.proofs.lemmas.Bool.{cases_Bool, cond_both, eqb-true}
-use Rattle.dstm_steps.specs.Finding.{word_of}
-use Rattle.dstm_steps.specs.Writes.{AreWrites, or_old}
-use Rattle.dstm_steps.specs.declared.slots.ReadSlot.{ReadSlot}
-use Rattle.dstm_steps.specs.declared.slots.WriteSlot.{WriteSlot}
-use Rattle.dstm_core.specs.State.{read_of, write_of}
-use Rattle.dstm_core.specs.declared.shape.Shape.{Shape}
-use Rattle.dstm_core.specs.declared.state.Read.{Read}
-use Rattle.dstm_core.specs.declared.state.Write.{Write}
+use Rattle.dstm_engine.proofs.Words.{Again, AreWrites, Read, ReadSlot, Reading, Shape, Val, Work, Write, WriteSlot, Writing, or_old, read_of, value_at, value_in, with_set, word_of, write_of}
 use Rattle.dstm_mem.proofs.WithSet.{found_by, unchanged_by}
-use Rattle.dstm_mem.specs.Memory.{value_in, with_set}
-use Rattle.dstm_model.specs.Map.{value_at}
-use Rattle.dstm_model.specs.declared.value.Val.{Val}
 use Rattle.dstm_opacity.proofs.Tidy.{Apart, WritesOnce, tidy}
-use Rattle.dstm_order.specs.Tasks.{Work}
-use Rattle.dstm_order.specs.Tasks.Work.{Reading, Writing}
-use Rattle.dstm_order.specs.declared.again.Again.{Again}
 use Rattle.dstm_engine.proofs.Opens.{no_slot, no_word, none_of, unheld_both, unset}
 use Rattle.dstm_engine.proofs.Setting.{opened_slot, with_new_apart}
 use Rattle.dstm_engine.proofs.Sights.{sighted_admits}

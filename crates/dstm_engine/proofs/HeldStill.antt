@@ -1,26 +1,12 @@
 -- What an attempt held before an open it holds after it.
 use Rattle.std.proofs.Common.{◌++◌, ◌<◌, ◌∙◌, ◌≡◌, ◌≢◌, List, None, Option, Some, ap, refl, subst, sym, ℕ}
 use Rattle.std.specs.Prelude.{option_map, IfSome}
+use Rattle.dstm_engine.proofs.Words.{Again, Began, Core, Due, Event, Home, InTask, IsPastOf, LocalState, Outside, Shape, Steps, Task, Val, entry_of, events_of, local, now, value_at, value_in, version_value, view_of}
 use Rattle.dstm_machines.proofs.Own.{own_later}
 use Rattle.dstm_core.proofs.Pasts.{core_past}
-use Rattle.dstm_core.specs.Events.{Event}
-use Rattle.dstm_core.specs.Histories.{entry_of, version_value}
-use Rattle.dstm_core.specs.Runs.{Core, local}
-use Rattle.dstm_core.specs.Traces.{IsPastOf, events_of}
-use Rattle.dstm_core.specs.declared.shape.Shape.{Shape}
-use Rattle.dstm_core.specs.declared.state.Phase.TheVariants.{Outside}
-use Rattle.dstm_mem.specs.Memory.{value_in}
-use Rattle.dstm_model.specs.Map.{value_at}
-use Rattle.dstm_model.specs.declared.value.Val.{Val}
 use Rattle.dstm_opacity.proofs.Held.{held_is_seen, version_held}
 use Rattle.dstm_opacity.proofs.Kept.{seen_stays}
-use Rattle.dstm_steps.specs.Under.{Began, InTask, now}
-use Rattle.dstm_steps.specs.declared.steps.Steps.{Steps}
-use Rattle.dstm_core.specs.State.{LocalState}
-use Rattle.dstm_order.specs.Order.{Due}
-use Rattle.dstm_order.specs.Tasks.{Task}
-use Rattle.dstm_order.specs.declared.again.Again.{Again}
-use Rattle.dstm_words.specs.Seats.{Home, view_of, state_by}
+use Rattle.dstm_words.specs.Seats.{state_by}
 use Rattle.dstm_engine.proofs.Keeping.{DropsNone, goes_on_holding}
 use Rattle.dstm_engine.specs.Attempts.{Admits}
 use Rattle.dstm_engine.specs.Callers.{Called, held}

@@ -2,32 +2,12 @@
 use Rattle.std.proofs.Common.{◌++◌, ◌==◌, ◌∙◌, ◌∷◌, ◌≡◌, ◌≢◌, ◌⊎◌, ◌&&◌, Bool, List, None, Option, Some, [], ap, false, inl, inr, refl, sym, true, ℕ}
 use Rattle.std.specs.Prelude.{if◌then◌else◌, is_none, ◌||◌}
 use Rattle.std.proofs.lemmas.Bool.{cases_Bool, cases_eq, cond_both, eq-eqb, eqb-true, ne_eqb}
+use Rattle.dstm_engine.proofs.Words.{Begin, Check, Commit, Committing, Core, Doing, Done, Draw, Due, Effort, Enrol, Event, Install, IsDue, Kind, Lcg, LocalState, LookNumber, LookSelf, MAX_MISSED, Manager, Obeys, Pause, PutHigh, PutNew, PutOld, PutOwner, Quit, Rank, Read, Reading, Rechecking, Release, Releasing, Resolution, Resume, Shape, Stamp, Step, Work, Write, Writing, after, at_first, drop_read, due_after, effort_of, events_of, given, in_resolving, install, is_open, is_outside, is_resolved, just, local, newest_of, next, next_locator, next_or_first, or_zero, read_of, record_resolved, res, state_after, version, when_resolved, write_of}
 use Rattle.dstm_core.proofs.Static.{local_other, local_own}
-use Rattle.dstm_core.specs.Events.{Event}
-use Rattle.dstm_core.specs.Rules.{after, install, is_outside}
-use Rattle.dstm_core.specs.Runs.{Core, local}
-use Rattle.dstm_core.specs.State.{LocalState, drop_read, given, is_resolved, next_locator, or_zero, read_of, record_resolved, res, version, write_of}
-use Rattle.dstm_core.specs.Traces.{events_of}
-use Rattle.dstm_core.specs.declared.event.Kind.{Kind}
-use Rattle.dstm_core.specs.declared.event.Kind.TheVariants.{Begin, Check, Commit, Draw, Enrol, Install, LookNumber, LookSelf, Pause, PutHigh, PutNew, PutOld, PutOwner, Quit, Rank, Release, Resume, Stamp, Validating as ToValidating}
-use Rattle.dstm_core.specs.declared.shape.Manager.{Manager}
-use Rattle.dstm_core.specs.declared.shape.Shape.{Shape}
-use Rattle.dstm_core.specs.declared.state.Read.{Read}
-use Rattle.dstm_core.specs.declared.state.Resolution.{Resolution}
-use Rattle.dstm_core.specs.declared.state.Write.{Write}
+use Rattle.dstm_core.specs.declared.event.Kind.TheVariants.{Validating as ToValidating}
 use Rattle.dstm_opacity.proofs.Held.{version_by_open, version_held}
 use Rattle.dstm_opacity.proofs.KeptVersions.{install_keeps_version}
 use Rattle.dstm_order.proofs.Rows.{EachStep, giving_way_by, is_step, is_test, resolved_by, resolves, resolves_by, resolving_by, table_by}
-use Rattle.dstm_order.specs.Calls.{Obeys, due_after, effort_of, newest_of, state_after}
-use Rattle.dstm_order.specs.Efforts.{Effort}
-use Rattle.dstm_order.specs.Order.{Due, IsDue, at_first, in_resolving, just, next, next_or_first, when_resolved}
-use Rattle.dstm_order.specs.Order.Due.{Done, Step}
-use Rattle.dstm_order.specs.Passes.{is_open}
-use Rattle.dstm_order.specs.Tasks.{Work}
-use Rattle.dstm_order.specs.Tasks.Task.{Doing}
-use Rattle.dstm_order.specs.Tasks.Work.{Committing, Reading, Rechecking, Releasing, Writing}
-use Rattle.dstm_order.specs.declared.TheConstants.{MAX_MISSED}
-use Rattle.rand_pcg.specs.Lcg.{Lcg}
 
 -- ---- an open lets no read go
 

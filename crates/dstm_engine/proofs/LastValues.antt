@@ -3,22 +3,14 @@ use Rattle.std.proofs.Common.{◌*◌, ◌-◌, ◌<◌, ◌==◌, ◌∙◌, �
 use Rattle.std.specs.Prelude.{length, slice_index}
 use Rattle.std.proofs.lemmas.Bool.{cond_both, eqb-false}
 use Rattle.std.proofs.lemmas.List.{ext_get_or}
-use Rattle.dstm_core.specs.Histories.{history_of}
+use Rattle.dstm_engine.proofs.Words.{Event, IsRunOf, LeftBy, OldWord, OwnerWord, Shape, StatusWord, Terms, Val, View, history_of, no_value, place, value_at, word}
 use Rattle.dstm_core.specs.Left.{value_left, version_left, word_left}
-use Rattle.dstm_core.specs.Traces.{word}
-use Rattle.dstm_core.specs.Words.{place}
-use Rattle.dstm_core.specs.Words.Word.{OldWord, OwnerWord, StatusWord}
-use Rattle.dstm_core.specs.Events.{Event}
-use Rattle.dstm_core.specs.declared.shape.Shape.{Shape}
 use Rattle.dstm_core.proofs.Basic.{Names, basic}
 use Rattle.dstm_core.proofs.LeftWords.{left_is_current, place_in}
 use Rattle.dstm_core.proofs.Ranges.{old_names}
-use Rattle.dstm_model.specs.Map.{no_value, state_after, value_at}
-use Rattle.dstm_model.specs.declared.value.Val.{Val}
+use Rattle.dstm_model.specs.Map.{state_after}
 use Rattle.dstm_opacity.proofs.Opacity.{state_is_current}
 use Rattle.dstm_opacity.specs.Laws.{IsCurrent}
-use Rattle.dstm_words.specs.Seats.{LeftBy, IsRunOf, View}
-use Rattle.dstm_words.specs.declared.terms.Terms.{Terms}
 use Rattle.dstm_engine.specs.Closing.{AreLeft, IsOwned, IsVersion}
 
 named : (s : Shape) (log : List Event) (v : ℕ) → Names s log v → IsVersion s v

@@ -1,19 +1,10 @@
 -- What a call on an attempt leaves of its caller's state.
 use Rattle.std.proofs.Common.{◌==◌, ◌∙◌, ◌∷◌, ◌≡◌, ◌≢◌, ◌⊎◌, List, [], false, inl, inr, refl}
 use Rattle.std.proofs.lemmas.Bool.{cond_both}
-use Rattle.dstm_core.specs.Events.{Event}
-use Rattle.dstm_core.specs.Rules.{AllowedAs, after}
-use Rattle.dstm_core.specs.State.{LocalState, given}
-use Rattle.dstm_core.specs.declared.event.Kind.{Kind}
-use Rattle.dstm_core.specs.declared.event.Kind.TheVariants.{Begin, Commit, Install, LookSelf, Pause, Rank, Resume, Stamp, Validating as ToValidating}
-use Rattle.dstm_core.specs.declared.shape.Shape.{Shape}
-use Rattle.dstm_core.specs.declared.state.Phase.TheVariants.{Outside}
-use Rattle.dstm_order.specs.Calls.{Obeys, effort_of, newest_of, state_after}
-use Rattle.dstm_order.specs.Tasks.{Work}
-use Rattle.dstm_order.specs.Tasks.Task.{Doing}
+use Rattle.dstm_engine.proofs.Words.{AllowedAs, Begin, Commit, Doing, Event, Install, Kind, Lcg, LocalState, LookSelf, Obeys, Outside, Pause, Rank, Resume, Shape, Stamp, Work, after, effort_of, given, newest_of, state_after}
+use Rattle.dstm_core.specs.declared.event.Kind.TheVariants.{Validating as ToValidating}
 use Rattle.dstm_progress.proofs.Calls.{inside_phase, nothing_due}
 use Rattle.dstm_progress.proofs.Own.{AreAllowed}
-use Rattle.rand_pcg.specs.Lcg.{Lcg}
 
 -- no stamp was drawn and no rank put for the next attempt, and a stamp stands as before unless the attempt commits
 pub record Lasts (old new : LocalState) : Type 0 where

@@ -1,23 +1,10 @@
 -- An attempt that is quit.
 use Rattle.std.proofs.Common.{◌*◌, ◌<◌, ◌∙◌, ◌∷◌, ◌≡◌, List, [], ap, inl, inr, refl, subst, sym, true, false, ℕ}
 use Rattle.std.specs.Prelude.{IfSome, None, Option, Some, is_some}
-use Rattle.dstm_model.specs.declared.value.Val.{Val}
-use Rattle.dstm_core.specs.Rules.{AllowedAs, leave}
-use Rattle.dstm_core.specs.State.{LocalState, given, own_attempt}
-use Rattle.dstm_machines.specs.Traces.Access.{Exchange}
-use Rattle.dstm_core.specs.Words.{place}
-use Rattle.dstm_core.specs.Words.Word.{StatusWord}
-use Rattle.dstm_core.specs.Events.{Event}
-use Rattle.dstm_core.specs.declared.event.Kind.TheVariants.{Quit}
-use Rattle.dstm_core.specs.declared.shape.Shape.{Shape}
-use Rattle.dstm_core.specs.declared.state.Phase.TheVariants.{Outside, Running}
+use Rattle.dstm_engine.proofs.Words.{AllowedAs, Event, Exchange, Home, IsCall, IsRunOf, Lcg, Leaving, LocalState, Makes, Outside, Quit, Running, Shape, StatusWord, Val, View, caller_state, given, leave, made, own_attempt, place}
 use Rattle.dstm_core.proofs.Columns.{own_in}
 use Rattle.dstm_core.proofs.Static.{static}
-use Rattle.dstm_order.specs.Calls.{IsCall}
-use Rattle.dstm_order.specs.Tasks.Task.{Leaving}
-use Rattle.rand_pcg.specs.Lcg.{Lcg}
 use Rattle.dstm_words.proofs.Seats.{state_after}
-use Rattle.dstm_words.specs.Seats.{Home, caller_state, IsRunOf, Makes, made, View}
 use Rattle.dstm_engine.specs.Callers.{Called, is_live, seat_view, shape_of, state}
 use Rattle.dstm_engine.specs.Calls.{IsMade, Performs}
 

@@ -4,48 +4,28 @@ use Rattle.std.proofs.lemmas.List.{append_cancel_right}
 use Rattle.std.specs.Prelude.{Bool, IfSome, is_some}
 use base.Fml.{GName}
 use Rattle.std.proofs.lemmas.List.Elements.{filter-append}
-use Rattle.dstm_core.specs.Counts.{is_begin}
+use Rattle.dstm_engine.proofs.Words.{Again, AreCalls, AreWrites, Committing, Core, Disturbed, Doing, Event, HasOther, Home, IsCallIn, IsNoReading, IsOfOldest, IsOldest, LocalState, Made, Obeys, Outside, Reading, Rechecking, Releasing, Running, Shape, StaysAt, Steps, Val, Work, Writing, all_events, answer_of, code_of, done_by, effort_of, events_of, is_begin, is_release, last_answer, local, newest_of, state_after, view_of, words_of}
 use Rattle.dstm_machines.proofs.Attempts.{log_parts}
 use Rattle.dstm_progress.proofs.Causes.{again_has_its_cause, has_left}
-use Rattle.dstm_opacity.specs.Committed.{done_by}
 use Rattle.dstm_steps.proofs.Stepping.{call_of}
-use Rattle.dstm_steps.specs.declared.steps.Steps.{Steps}
 use Rattle.dstm_progress.proofs.Adding.{adds_nothing}
 use Rattle.dstm_progress.proofs.Leaving.{is_aborted, keeps_its_attempt, was_disturbed}
 use Rattle.dstm_progress.proofs.Sound.{number_stays}
 use Rattle.dstm_progress.proofs.Others.{has_another, shows_another}
 use Rattle.dstm_progress.proofs.OwnEvents.{after_own, allowed_own}
 use Rattle.dstm_progress.proofs.Staying.{call_stays}
-use Rattle.dstm_progress.specs.Disturbed.{Disturbed, HasOther}
-use Rattle.dstm_progress.specs.Ends.{IsCallIn, IsCurrent, StaysAt}
+use Rattle.dstm_progress.specs.Ends.{IsCurrent}
 use Rattle.dstm_core.proofs.Pasts.{core_past}
 use Rattle.dstm_core.proofs.Static.{running, static}
-use Rattle.dstm_core.specs.Events.{Event}
-use Rattle.dstm_core.specs.Runs.{Core, local}
-use Rattle.dstm_core.specs.State.{LocalState}
-use Rattle.dstm_core.specs.Traces.{events_of}
-use Rattle.dstm_core.specs.Words.{code_of}
 use Rattle.dstm_core.specs.declared.shape.Manager.TheVariants.{Greedy}
-use Rattle.dstm_core.specs.declared.shape.Shape.{Shape}
-use Rattle.dstm_core.specs.declared.state.Phase.TheVariants.{Outside, Running}
 use Rattle.dstm_core.specs.declared.status.Status.TheVariants as status
-use Rattle.dstm_model.specs.declared.value.Val.{Val}
-use Rattle.dstm_order.specs.Calls.{Obeys, answer_of, effort_of, newest_of, state_after}
-use Rattle.dstm_order.specs.Tasks.{Work}
-use Rattle.dstm_order.specs.Tasks.Task.{Doing}
-use Rattle.dstm_order.specs.Tasks.Work.{Committing, Reading, Rechecking, Releasing, Writing}
-use Rattle.dstm_order.specs.declared.again.Again.{Again}
 use Rattle.dstm_order.specs.declared.again.Again.TheVariants.{Killed, Lost, Stale, Waited}
 use Rattle.dstm_progress.proofs.Answers.{oldest_answers}
 use Rattle.dstm_progress.proofs.Calls.{alone_is_committed}
-use Rattle.dstm_progress.specs.Alone.{AreCalls, Made, all_events, is_release, last_answer}
-use Rattle.dstm_progress.specs.Oldest.{AreMade, IsNoReading, IsOfOldest, IsOldest}
-use Rattle.dstm_words.specs.Seats.{Home, view_of}
+use Rattle.dstm_progress.specs.Oldest.{AreMade}
 use Rattle.dstm_engine.proofs.Calling.{performs}
 use Rattle.dstm_engine.proofs.Lasting.{Lasts, call_lasts}
 use Rattle.dstm_engine.proofs.Tying.{EndsHere, live_there, mirror_then, olds_in, reads_in, state_logged}
-use Rattle.dstm_steps.specs.Reads.{words_of}
-use Rattle.dstm_steps.specs.Writes.{AreWrites}
 use Rattle.dstm_engine.specs.Attempts.{Sighted, done}
 use Rattle.dstm_engine.specs.Opened.{OpenedAs}
 use Rattle.dstm_engine.specs.Mirror.{AtRest, Tied, called, phase_by, set_pairs, slot_old, slot_value, slot_word}

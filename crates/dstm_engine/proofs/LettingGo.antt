@@ -2,16 +2,7 @@
 use Rattle.std.proofs.Common.{◌≡◌, ◌∙◌, ◌++◌, ◌∷◌, Bool, List, [], None, Ok, Err, true, false, ap, refl, ℕ}
 use Rattle.std.specs.Prelude.{IfErr, IsSome, IsTrue, OnOk, Option, Some, Result, is_some}
 use Rattle.std.proofs.lemmas.Bool.{cond_both}
-use Rattle.dstm_core.specs.Events.{Event}
-use Rattle.dstm_core.specs.Traces.{events_of}
-use Rattle.dstm_core.specs.declared.event.Kind.{Kind}
-use Rattle.dstm_core.specs.declared.event.Kind.TheVariants.{Release}
-use Rattle.dstm_model.specs.declared.value.Val.{Val}
-use Rattle.dstm_order.specs.declared.again.Again.{Again}
-use Rattle.dstm_order.specs.Retries.{KeepsReads}
-use Rattle.dstm_order.specs.Tasks.{Task, Work}
-use Rattle.dstm_order.specs.Tasks.Task.{Doing}
-use Rattle.dstm_order.specs.Tasks.Work.{Reading, Writing}
+use Rattle.dstm_engine.proofs.Words.{Again, Doing, Event, KeepsReads, Kind, Reading, Release, Task, Val, Work, Writing, events_of}
 use Rattle.dstm_progress.specs.Lives.{lets_go}
 use Rattle.dstm_progress.proofs.Releases.{NoneIn, call_none}
 use Rattle.dstm_engine.proofs.Opens.{none_of}

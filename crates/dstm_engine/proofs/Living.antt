@@ -2,18 +2,11 @@
 use Rattle.std.proofs.Common.{◌≡◌, ◌∙◌, ◌⊎◌, ◌++◌, ◌∷◌, ◌==◌, true, false, List, [], None, ap, arith, inl, inr, refl, subst, sym, ℕ}
 use Rattle.std.specs.Prelude.{Contains}
 use Rattle.std.proofs.lemmas.Bool.{cases_Bool}
-use Rattle.dstm_core.specs.Events.{Event}
-use Rattle.dstm_core.specs.Traces.{events_of}
-use Rattle.dstm_core.specs.declared.shape.Shape.{Shape}
-use Rattle.dstm_model.specs.declared.value.Val.{Val}
+use Rattle.dstm_engine.proofs.Words.{ByCalls, Enrolling, Event, Leaving, Shape, TriesAgain, Val, events_of, started}
 use Rattle.dstm_machines.proofs.Own.{own_append, own_first, own_other}
-use Rattle.dstm_managers.specs.Choices.{started}
-use Rattle.dstm_order.specs.Tasks.Task.{Enrolling, Leaving}
 use Rattle.dstm_engine.specs.Callers.{Called, shape_of}
 use Rattle.dstm_engine.specs.Tables.{unnumbered}
-use Rattle.dstm_order.specs.Made.{ByCalls}
 use Rattle.dstm_engine.specs.Makes.{Makes}
-use Rattle.dstm_order.specs.Retries.{TriesAgain}
 use Rattle.dstm_engine.specs.Lives.{ALifeIsCalls}
 use Rattle.dstm_engine.proofs.AddingUp.{makes_all, makes_both, makes_one}
 

@@ -3,18 +3,11 @@ use Rattle.std.proofs.Common.{◌++◌, ◌+◌, ◌≤◌, ◌∙◌, ◌∷◌
 use Rattle.std.specs.Prelude.{nat_lt}
 use Rattle.std.proofs.lemmas.Bool.Decides.{nat_tests}
 use Rattle.std.proofs.lemmas.Bool.{or_parts}
+use Rattle.dstm_engine.proofs.Words.{Begin, Event, LocalState, Shape, after, core, is_begin, is_spent, local}
 use Rattle.dstm_machines.proofs.Attempts.{kept_since, log_parts}
 use Rattle.dstm_core.proofs.Begun.{begun_how}
 use Rattle.dstm_core.proofs.Spare.{locators_used}
 use Rattle.dstm_core.proofs.Static.{local_own}
-use Rattle.dstm_core.specs.Counts.{is_begin}
-use Rattle.dstm_core.specs.Events.{Event}
-use Rattle.dstm_core.specs.Rules.{after}
-use Rattle.dstm_core.specs.Runs.{local, core}
-use Rattle.dstm_core.specs.State.{LocalState}
-use Rattle.dstm_core.specs.declared.event.Kind.TheVariants.{Begin}
-use Rattle.dstm_core.specs.declared.shape.Shape.{Shape}
-use Rattle.dstm_order.specs.Order.{is_spent}
 use Rattle.dstm_engine.proofs.Alone.{Begun}
 use Rattle.dstm_engine.specs.Callers.{begun_log, since_begin}
 

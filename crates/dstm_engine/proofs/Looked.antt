@@ -2,20 +2,8 @@
 use Rattle.std.proofs.Common.{◌≡◌, ◌∙◌, ◌+◌, ◌≤◌, ◌++◌, ℕ, List, None, true, false, refl, sym, ap, subst, arith}
 use Rattle.std.specs.Prelude.{Bool, IfErr, IsSome, IsTrue, OnOk, Option, Result, is_some}
 use Rattle.std.proofs.lemmas.Bool.{cond_both}
-use Rattle.dstm_model.specs.declared.value.Val.{Val}
-use Rattle.dstm_core.specs.Events.{Event}
-use Rattle.dstm_core.specs.Runs.{local}
-use Rattle.dstm_core.specs.State.{LocalState}
-use Rattle.dstm_core.specs.Traces.{events_of, IsPastOf}
-use Rattle.dstm_core.specs.declared.shape.Shape.{Shape}
+use Rattle.dstm_engine.proofs.Words.{Again, Doing, Event, Home, IsPastOf, LocalState, Reading, Releasing, Shape, Val, Work, Writing, count_of, events_of, is_open, local}
 use Rattle.dstm_machines.proofs.Own.{own_later}
-use Rattle.dstm_order.specs.Passes.{is_open}
-use Rattle.dstm_order.specs.Tasks.{Work}
-use Rattle.dstm_order.specs.Tasks.Task.{Doing}
-use Rattle.dstm_order.specs.Tasks.Work.{Reading, Releasing, Writing}
-use Rattle.dstm_order.specs.declared.again.Again.{Again}
-use Rattle.dstm_progress.specs.Disturbed.{count_of}
-use Rattle.dstm_words.specs.Seats.{Home}
 use Rattle.dstm_engine.specs.Attempts.{completes_pass, is_look_object, is_look_self, looks, looks_at_object, sights}
 use Rattle.dstm_engine.specs.Callers.{Called, begun_log, held, is_opened, shape_of, state}
 use Rattle.dstm_engine.specs.Calls.{Performs, reading}

@@ -2,22 +2,11 @@
 use Rattle.std.proofs.Common.{◌++◌, ◌+◌, ◌==◌, ◌∙◌, ◌∷◌, ◌≡◌, ◌||◌, Bool, List, None, Option, Some, [], ap, arith, false, inl, inr, is_some, length, length-append, ne_eqb, refl, subst, sym, true, ℕ}
 use Rattle.std.specs.Prelude.{is_none}
 use Rattle.std.proofs.lemmas.Bool.{cases_Bool, cond_both, eq-eqb}
+use Rattle.dstm_engine.proofs.Words.{IsFound, IsRunning, KeepsAttempt, LocalState, Manager, Phase, Read, Resolution, Running, Shape, Write, drop_read, install, is_resolved, keep_resolved, next_locator, or_unresolved, or_zero, passed, read_of, record_resolved, res, rises, version, write_of}
 use Rattle.dstm_steps.proofs.FoundValues.{found_kept}
-use Rattle.dstm_steps.specs.Finding.{IsFound, KeepsAttempt}
 use Rattle.dstm_steps.specs.Opening.{Acquired, risen}
-use Rattle.dstm_steps.specs.Under.{IsRunning, passed}
 use Rattle.dstm_steps.specs.declared.resolving.Found.{Found}
-use Rattle.dstm_core.specs.Rules.{install}
-use Rattle.dstm_core.specs.State.{LocalState, drop_read, is_resolved, keep_resolved, next_locator, or_unresolved, or_zero, read_of, record_resolved, res, version, write_of}
-use Rattle.dstm_core.specs.declared.shape.Manager.{Manager}
-use Rattle.dstm_core.specs.declared.shape.Shape.{Shape}
-use Rattle.dstm_core.specs.declared.state.Phase.{Phase}
-use Rattle.dstm_core.specs.declared.state.Phase.TheVariants.{Running}
-use Rattle.dstm_core.specs.declared.state.Read.{Read}
-use Rattle.dstm_core.specs.declared.state.Resolution.{Resolution}
-use Rattle.dstm_core.specs.declared.state.Write.{Write}
 use Rattle.dstm_opacity.proofs.Held.{version_by_open, version_held}
-use Rattle.dstm_order.specs.Order.{rises}
 use Rattle.dstm_engine.proofs.Keeping.{write_last}
 use Rattle.dstm_engine.specs.Opens.{AddsRead, AddsWrite, GoesOn}
 

@@ -4,38 +4,14 @@ use Rattle.std.specs.Prelude.{IsSome, IsTrue, if◌then◌else◌, is_some, opti
 use Rattle.std.specs.Option.{option_or}
 use Rattle.std.proofs.lemmas.Bool.{cases_Bool, cases_eq, cond_both, eq-eqb, ne_eqb}
 use Rattle.std.proofs.lemmas.List.{length-map, map-append}
+use Rattle.dstm_engine.proofs.Words.{Again, AreWrites, Committing, Doing, Event, HoldsAlso, IsNoReading, IsUnnamed, LocalState, MarksAtMost, Outside, Read, ReadSlot, Reading, Rechecking, Releasing, Running, Shape, Steps, Val, Work, Write, WriteSlot, Writing, drop_read, is_open, is_release, no_value, now, old_values, read_of, read_values, value_in, version_value, view_of, word_of, words_of, write_of}
 use Rattle.dstm_steps.proofs.Stepping.{call_of}
-use Rattle.dstm_steps.specs.Reads.{words_of}
-use Rattle.dstm_steps.specs.Under.{now}
-use Rattle.dstm_steps.specs.Writes.{AreWrites}
-use Rattle.dstm_steps.specs.declared.slots.ReadSlot.{ReadSlot}
-use Rattle.dstm_steps.specs.declared.slots.WriteSlot.{WriteSlot}
-use Rattle.dstm_steps.specs.declared.steps.Steps.{Steps}
 use Rattle.dstm_mem.proofs.Pairs.{value_in-other, value_in-same}
-use Rattle.dstm_model.specs.Map.{IsUnnamed, no_value}
 use Rattle.dstm_opacity.proofs.Entries.{entry_once}
 use Rattle.dstm_opacity.proofs.Maps.{few_are_named}
 use Rattle.dstm_opacity.proofs.Room.{one_more_write}
-use Rattle.dstm_steps.specs.Finding.{word_of}
-use Rattle.dstm_core.specs.Events.{Event}
-use Rattle.dstm_core.specs.Histories.{old_values, read_values, version_value}
-use Rattle.dstm_core.specs.State.{LocalState, drop_read, read_of, write_of}
-use Rattle.dstm_core.specs.declared.shape.Shape.{Shape}
-use Rattle.dstm_core.specs.declared.state.Phase.TheVariants.{Outside, Running}
-use Rattle.dstm_core.specs.declared.state.Read.{Read}
-use Rattle.dstm_core.specs.declared.state.Write.{Write}
-use Rattle.dstm_mem.specs.Memory.{HoldsAlso, MarksAtMost, value_in}
-use Rattle.dstm_model.specs.declared.value.Val.{Val}
 use Rattle.dstm_opacity.proofs.Held.{version_by_open, version_held}
-use Rattle.dstm_order.specs.Passes.{is_open}
-use Rattle.dstm_order.specs.Tasks.{Work}
-use Rattle.dstm_order.specs.Tasks.Task.{Doing}
-use Rattle.dstm_order.specs.Tasks.Work.{Committing, Reading, Rechecking, Releasing, Writing}
-use Rattle.dstm_order.specs.declared.again.Again.{Again}
 use Rattle.dstm_progress.specs.Alone as alone
-use Rattle.dstm_progress.specs.Alone.{is_release}
-use Rattle.dstm_progress.specs.Oldest.{IsNoReading}
-use Rattle.dstm_words.specs.Seats.{view_of}
 use Rattle.dstm_engine.proofs.Continuing.{doing_keeps, kept_live, kept_most, told_more}
 use Rattle.dstm_engine.proofs.HeldStill.{by_version, narrows_by, same_held, still_held}
 use Rattle.dstm_engine.proofs.Keeping.{DropsNone, opens_keep, read_apart, write_apart, write_last, write_more}

@@ -1,26 +1,9 @@
 -- Calls that open nothing, and let nothing go: a recheck, and a commit.
 use Rattle.std.proofs.Common.{◌==◌, ◌||◌, ◌∙◌, ◌∷◌, ◌≡◌, Bool, List, None, Option, Some, [], ap, false, refl, sym, true}
 use Rattle.std.proofs.lemmas.Bool.{cond_both}
-use Rattle.dstm_core.specs.Events.{Event}
-use Rattle.dstm_core.specs.Rules.{after}
-use Rattle.dstm_core.specs.State.{LocalState, given, is_resolved, keep_resolved, record_resolved}
-use Rattle.dstm_core.specs.declared.event.Kind.{Kind}
-use Rattle.dstm_core.specs.declared.event.Kind.TheVariants.{Check, Commit, Draw, LookNumber, LookSelf, PutHigh, PutNew, Quit, Rank, Validating as ToValidating}
-use Rattle.dstm_core.specs.declared.shape.Manager.{Manager}
-use Rattle.dstm_core.specs.declared.shape.Shape.{Shape}
-use Rattle.dstm_core.specs.declared.state.Read.{Read}
-use Rattle.dstm_core.specs.declared.state.Resolution.{Resolution}
+use Rattle.dstm_engine.proofs.Words.{Check, Commit, Committing, Doing, Done, Draw, Due, Effort, Event, IsDue, Kind, Lcg, LocalState, LookNumber, LookSelf, MAX_MISSED, Manager, Obeys, PutHigh, PutNew, Quit, Rank, Read, Rechecking, Resolution, Shape, Step, Work, after, at_first, due, due_after, effort_after, effort_of, given, is_outside, is_resolved, keep_resolved, newest_of, next, next_or_first, no_effort, record_resolved, rises, state_after, when_passed, when_put}
+use Rattle.dstm_core.specs.declared.event.Kind.TheVariants.{Validating as ToValidating}
 use Rattle.dstm_order.proofs.Rows.{checks_by, checking_by, pass_by, putting_by}
-use Rattle.dstm_order.specs.Calls.{Obeys, due_after, effort_of, newest_of, state_after}
-use Rattle.dstm_order.specs.Efforts.{Effort, effort_after, no_effort}
-use Rattle.dstm_order.specs.Order.{Due, IsDue, at_first, due, next, next_or_first, rises, when_passed, when_put}
-use Rattle.dstm_order.specs.declared.TheConstants.{MAX_MISSED}
-use Rattle.dstm_core.specs.Rules.{is_outside}
-use Rattle.dstm_order.specs.Order.Due.{Done, Step}
-use Rattle.dstm_order.specs.Tasks.{Work}
-use Rattle.dstm_order.specs.Tasks.Task.{Doing}
-use Rattle.dstm_order.specs.Tasks.Work.{Committing, Rechecking}
-use Rattle.rand_pcg.specs.Lcg.{Lcg}
 
 -- kinds that change nothing of what is open
 abbrev pub is_plain : Work → Kind → Bool

@@ -2,33 +2,11 @@
 use Rattle.std.proofs.Common.{◌++◌, ◌+◌, ◌<◌, ◌==◌, ◌||◌, ◌∙◌, ◌∷◌, ◌≡◌, ◌≢◌, ◌≤◌, ◌⊎◌, List, None, Option, Some, [], ap, append_assoc, arith, cond, false, inl, inr, length, map, refl, slice_get, subst, suc, sym, true, ℕ}
 use Rattle.std.specs.Prelude.{is_some}
 use Rattle.std.proofs.lemmas.Bool.{cases_Bool, cases_lt, cond_both, eqb-true}
-use Rattle.dstm_core.specs.Events.{Event}
-use Rattle.dstm_core.specs.Histories.{new_value, new_values}
-use Rattle.dstm_core.specs.Rules.{AllowedAs, after, is_outside}
-use Rattle.dstm_core.specs.Runs.{Core, local}
-use Rattle.dstm_core.specs.State.{LocalState, given, next_write, or_write, write_of}
-use Rattle.dstm_core.specs.Traces.{at, events_of}
-use Rattle.dstm_core.specs.Words.{place}
-use Rattle.dstm_core.specs.Words.Word.{HighWord, LowWord}
-use Rattle.dstm_core.specs.declared.event.Kind.{Kind}
-use Rattle.dstm_core.specs.declared.event.Kind.TheVariants.{Check, Commit, Draw, LookNumber, LookSelf, PutHigh, PutNew, Quit, Rank, Validating as ToValidating}
-use Rattle.dstm_core.specs.declared.shape.Manager.{Manager}
-use Rattle.dstm_core.specs.declared.shape.Shape.{Shape}
-use Rattle.dstm_core.specs.declared.state.Phase.TheVariants.{Drawn, Putting, Running, Validating}
-use Rattle.dstm_core.specs.declared.state.Write.{Write}
-use Rattle.dstm_mem.specs.Memory.{value_in}
-use Rattle.dstm_model.specs.declared.value.Val.{Val}
+use Rattle.dstm_engine.proofs.Words.{AllowedAs, Check, Commit, Committing, Core, Doing, Done, Draw, Drawn, Due, Effort, Event, HighWord, IsDue, Kind, Lcg, LocalState, LookNumber, LookSelf, LowWord, MAX_MISSED, Manager, Obeys, PutHigh, PutNew, Putting, Quit, Rank, Running, Shape, Step, Val, Validating, Write, after, at, due, due_after, effort_of, events_of, given, in_putting, is_outside, local, new_value, new_values, newest_of, next, next_or_first, next_write, or_write, place, rises, state_after, value_in, write_of}
+use Rattle.dstm_core.specs.declared.event.Kind.TheVariants.{Validating as ToValidating}
 use Rattle.dstm_opacity.proofs.Kept.{put_stays}
 use Rattle.dstm_order.proofs.Rows.{checking_by, checks_by, pass_by}
-use Rattle.dstm_order.specs.Calls.{Obeys, due_after, effort_of, newest_of, state_after}
-use Rattle.dstm_order.specs.Efforts.{Effort}
-use Rattle.dstm_order.specs.Order.{Due, IsDue, due, in_putting, next, next_or_first, rises}
-use Rattle.dstm_order.specs.Order.Due.{Done, Step}
-use Rattle.dstm_order.specs.Tasks.Task.{Doing}
-use Rattle.dstm_order.specs.Tasks.Work.{Committing}
-use Rattle.dstm_order.specs.declared.TheConstants.{MAX_MISSED}
 use Rattle.dstm_progress.proofs.Own.{AreAllowed, newest_own}
-use Rattle.rand_pcg.specs.Lcg.{Lcg}
 use Rattle.dstm_engine.proofs.Plain.{ArePlain, IsPlainNewest, is_plain, newest_plain}
 
 -- ---- each Put that is due has its value

@@ -1,39 +1,18 @@
 -- A caller after a recheck.
 use Rattle.std.proofs.Common.{◌++◌, ◌+◌, ◌∙◌, ◌∷◌, ◌≡◌, ◌≢◌, List, None, Option, Some, [], ap, arith, cond, length, refl, subst, sym, true, ℕ}
 use Rattle.dstm_steps.proofs.Stepping.{call_of}
-use Rattle.dstm_steps.specs.Reads.{words_of}
-use Rattle.dstm_steps.specs.Under.{now, passed}
-use Rattle.dstm_steps.specs.Writes.{AreWrites}
-use Rattle.dstm_steps.specs.declared.steps.Steps.{Steps}
 use Rattle.dstm_progress.proofs.Causes.{again_has_its_cause}
 use Rattle.dstm_progress.proofs.OwnEvents.{after_own}
 use Rattle.dstm_progress.specs.Causes.{Causes}
-use Rattle.dstm_core.specs.Events.{Event}
-use Rattle.dstm_core.specs.State.{LocalState}
-use Rattle.dstm_core.specs.declared.event.Kind.{Kind}
-use Rattle.dstm_core.specs.declared.event.Kind.TheVariants.{Install, Kill, Pause}
-use Rattle.dstm_core.specs.declared.shape.Shape.{Shape}
-use Rattle.dstm_core.specs.declared.state.Phase.TheVariants.{Outside, Running}
-use Rattle.dstm_core.specs.declared.state.Read.{Read}
-use Rattle.dstm_model.specs.declared.value.Val.{Val}
-use Rattle.dstm_order.specs.Calls.{Obeys, due_after, state_after}
-use Rattle.dstm_order.specs.Order.Due.{Done}
-use Rattle.dstm_order.specs.Passes.{is_miss, misses}
-use Rattle.dstm_order.specs.Tasks.{Work}
-use Rattle.dstm_order.specs.Tasks.Task.{Doing}
-use Rattle.dstm_order.specs.Tasks.Work.{Rechecking}
-use Rattle.dstm_order.specs.declared.again.Again.{Again}
 use Rattle.dstm_order.specs.declared.again.Again.TheVariants.{Killed, Lost, Stale, Waited}
 use base.Fml.{GName}
-use Rattle.dstm_words.specs.Seats.{Home, view_of}
+use Rattle.dstm_engine.proofs.Words.{Again, AreWrites, Doing, Done, Event, Home, Install, Kill, Kind, LocalState, Obeys, Outside, Pause, Read, Rechecking, Running, Shape, Steps, Val, Work, count_of, due_after, events_of, is_miss, misses, now, passed, state_after, view_of, words_of}
 use Rattle.dstm_engine.proofs.Continuing.{doing_keeps, kept_live, kept_most, told_more}
 use Rattle.dstm_engine.proofs.Left.{call_there, current_there, on_tied, performed, same_place, stays, told_there}
 use Rattle.dstm_engine.proofs.Plain.{ArePlain, are_plain, is_plain}
 use Rattle.dstm_engine.proofs.Rechecking.{EndsInSight, begins_pass, one_more_sight, one_self, recheck_sights, sighted_of}
 use Rattle.dstm_engine.proofs.Steady.{held_same, olds_then, opened_same, same_generator, same_there, values_then}
 use Rattle.dstm_engine.proofs.Tying.{EndsHere, live_there, state_then}
-use Rattle.dstm_progress.specs.Disturbed.{count_of}
-use Rattle.dstm_core.specs.Traces.{events_of}
 use Rattle.dstm_engine.specs.Attempts.{Sighted, completes_pass, sights}
 use Rattle.dstm_engine.specs.Callers.{Called, held, is_live, is_opened, is_running, state}
 use Rattle.dstm_engine.specs.Calls.{IsTold, Performs}

@@ -4,38 +4,15 @@ use Rattle.std.proofs.lemmas.List.{append_cancel_right}
 use Rattle.std.specs.Prelude.{IfSome, ◌||◌}
 use Rattle.std.proofs.lemmas.Bool.{cases_Bool, cond_both, eq-eqb, eqb-true}
 use Rattle.dstm_core.proofs.Static.{local_own}
-use Rattle.dstm_core.specs.Events.{Event}
-use Rattle.dstm_core.specs.Histories.{IsSight, entry_of, old_values, read_values, seen}
-use Rattle.dstm_core.specs.Rules.{after}
-use Rattle.dstm_core.specs.Runs.{Core, local}
-use Rattle.dstm_core.specs.State.{LocalState, given}
-use Rattle.dstm_core.specs.Traces.{events_of}
-use Rattle.dstm_core.specs.declared.event.Kind.{Kind}
-use Rattle.dstm_core.specs.declared.event.Kind.TheVariants.{Check, Commit, Draw, LookNumber, LookSelf, PutHigh, PutNew, Quit, Validating as ToValidating}
-use Rattle.dstm_core.specs.declared.shape.Shape.{Shape}
-use Rattle.dstm_core.specs.declared.state.Phase.TheVariants.{Outside, Running}
-use Rattle.dstm_core.specs.declared.state.Read.{Read}
-use Rattle.dstm_mem.specs.Memory.{value_in}
-use Rattle.dstm_model.specs.declared.value.Val.{Val}
+use Rattle.dstm_core.specs.declared.event.Kind.TheVariants.{Validating as ToValidating}
 use Rattle.dstm_opacity.proofs.Kept.{seen_stays}
-use Rattle.dstm_order.specs.Calls.{Obeys, due_after, newest_of, state_after}
-use Rattle.dstm_order.specs.Order.{just}
-use Rattle.dstm_order.specs.Order.Due.{Done}
-use Rattle.dstm_order.specs.Tasks.Task.{Doing}
-use Rattle.dstm_order.specs.Tasks.Work.{Rechecking}
 use Rattle.dstm_progress.proofs.Own.{newest_own}
-use Rattle.rand_pcg.specs.Lcg.{Lcg}
 use Rattle.dstm_progress.proofs.OwnEvents.{after_own}
-use Rattle.dstm_order.specs.declared.TheConstants.{MAX_MISSED}
 use Rattle.std.specs.Prelude.{◌+◌, if◌then◌else◌}
 use Rattle.std.proofs.Common.{length-append}
 use Rattle.std.proofs.lemmas.List.Elements.{filter-append}
+use Rattle.dstm_engine.proofs.Words.{Check, Commit, Core, Doing, Done, Draw, Effort, Event, IsDue, IsSight, Kind, Lcg, LocalState, LookNumber, LookSelf, MAX_MISSED, Obeys, Outside, PutHigh, PutNew, Quit, Read, Rechecking, Running, Shape, Val, after, count_of, due, due_after, effort_of, entry_of, events_of, given, is_outside, just, local, newest_of, next, old_values, read_values, seen, state_after, value_in}
 use Rattle.dstm_progress.proofs.StaleReads.{not_quit}
-use Rattle.dstm_progress.specs.Disturbed.{count_of}
-use Rattle.dstm_core.specs.Rules.{is_outside}
-use Rattle.dstm_order.specs.Calls.{effort_of}
-use Rattle.dstm_order.specs.Efforts.{Effort}
-use Rattle.dstm_order.specs.Order.{IsDue, due, next}
 use Rattle.dstm_progress.proofs.Calls.{nothing_due}
 use Rattle.dstm_engine.specs.Attempts.{Sighted, completes_pass, is_look_self}
 use Rattle.dstm_engine.specs.Callers.{Called, shape_of, start_of, state}

@@ -3,41 +3,12 @@ use Rattle.std.proofs.Common.{◌&&◌, ◌||◌, ◌++◌, ◌==◌, ◌∙◌,
 use Rattle.std.specs.Prelude.{IfSome, is_some, if◌then◌else◌, option_map}
 use base.Fml.{GName}
 use Rattle.std.proofs.lemmas.Bool.{and_parts, cases_Bool, cases_eq, cond_both, eqb-true}
-use Rattle.dstm_steps.specs.Reads.{words_of}
-use Rattle.dstm_steps.specs.Under.{now}
-use Rattle.dstm_steps.specs.Writes.{AreWrites}
-use Rattle.dstm_steps.specs.declared.slots.ReadSlot.{ReadSlot}
-use Rattle.dstm_steps.specs.declared.steps.Steps.{Steps}
+use Rattle.dstm_engine.proofs.Words.{AllowedAs, AreWrites, Core, Doing, Done, Due, Effort, Event, HoldsWithout, Home, IsDue, IsSight, Kind, Lcg, LocalState, LookSelf, MAX_MISSED, Manager, Obeys, Outside, Quit, Read, ReadSlot, Release, Releasing, Running, Shape, Step, Steps, Val, Write, count_of, drop_read, due, due_after, effort_of, is_outside, local, newest_of, next, next_or_first, now, read_of, read_values, seen, state_after, value_at, value_in, version_value, view_of, words_of, write_of}
 use Rattle.dstm_core.proofs.Pasts.{core_past}
-use Rattle.dstm_core.specs.Events.{Event}
-use Rattle.dstm_core.specs.Histories.{IsSight, read_values, seen, version_value}
-use Rattle.dstm_core.specs.Rules.{AllowedAs, is_outside}
-use Rattle.dstm_core.specs.Runs.{Core, local}
-use Rattle.dstm_core.specs.State.{LocalState, drop_read, read_of, write_of}
-use Rattle.dstm_core.specs.declared.event.Kind.{Kind}
-use Rattle.dstm_core.specs.declared.event.Kind.TheVariants.{LookSelf, Quit, Release}
-use Rattle.dstm_core.specs.declared.shape.Manager.{Manager}
-use Rattle.dstm_core.specs.declared.shape.Shape.{Shape}
-use Rattle.dstm_core.specs.declared.state.Phase.TheVariants.{Outside, Running}
-use Rattle.dstm_core.specs.declared.state.Read.{Read}
-use Rattle.dstm_core.specs.declared.state.Write.{Write}
-use Rattle.dstm_mem.specs.Memory.{HoldsWithout, value_in}
-use Rattle.dstm_model.specs.Map.{value_at}
-use Rattle.dstm_model.specs.declared.value.Val.{Val}
 use Rattle.dstm_opacity.proofs.Held.{held_is_seen, version_by_open}
 use Rattle.dstm_opacity.proofs.Kept.{seen_stays}
 use Rattle.dstm_opacity.proofs.Tidy.{ReadsOnce, read_apart, tidy}
 use Rattle.dstm_machines.proofs.Own.{own_later}
-use Rattle.dstm_order.specs.Calls.{Obeys, due_after, effort_of, newest_of, state_after}
-use Rattle.dstm_order.specs.Efforts.{Effort}
-use Rattle.dstm_order.specs.Order.{Due, IsDue, due, next, next_or_first}
-use Rattle.dstm_order.specs.Order.Due.{Done, Step}
-use Rattle.dstm_order.specs.declared.TheConstants.{MAX_MISSED}
-use Rattle.dstm_progress.specs.Disturbed.{count_of}
-use Rattle.rand_pcg.specs.Lcg.{Lcg}
-use Rattle.dstm_order.specs.Tasks.Task.{Doing}
-use Rattle.dstm_order.specs.Tasks.Work.{Releasing}
-use Rattle.dstm_words.specs.Seats.{Home, view_of}
 use Rattle.dstm_engine.proofs.Continuing.{doing_keeps, kept_live, kept_most, told_more}
 use Rattle.dstm_engine.proofs.Holding.{old_there}
 use Rattle.dstm_engine.proofs.Left.{current_there, on_tied, same_place, performed, told_there}

@@ -1,28 +1,12 @@
 -- What a retired caller has committed is told by its founder's log.
 use Rattle.std.proofs.Common.{◌&&◌, ◌++◌, ◌==◌, ◌∙◌, ◌∷◌, ◌≡◌, List, [], arith, refl, subst, sym, true, false}
 use Rattle.std.specs.Prelude.{Bool, Contains, IfSome, None, Option, Some, if◌then◌else◌}
-use Rattle.dstm_model.specs.declared.value.Val.{Val}
 use Rattle.dstm_opacity.proofs.Stays.{NoneCommits, call_adds_none, told_stays}
 use Rattle.std.proofs.lemmas.List.Elements.{All-cons, All-nil}
-use Rattle.dstm_opacity.specs.Committed.{done_by, has_committed, is_commit}
-use Rattle.dstm_core.specs.Rules.{is_outside}
-use Rattle.dstm_core.specs.Runs.{Core}
-use Rattle.dstm_core.specs.State.{LocalState}
-use Rattle.dstm_core.specs.Traces.{events_of}
-use Rattle.dstm_core.specs.Events.{Event}
-use Rattle.dstm_core.specs.declared.event.Kind.{Kind}
-use Rattle.dstm_core.specs.declared.event.Kind.TheVariants.{Quit}
-use Rattle.dstm_core.specs.declared.shape.Shape.{Shape}
-use Rattle.dstm_order.specs.Calls.{Obeys, state_after}
-use Rattle.dstm_order.specs.Order.{IsDue, just}
-use Rattle.dstm_order.specs.Order.Due.{Done}
-use Rattle.dstm_order.specs.Tasks.Task.{Leaving}
-use Rattle.rand_pcg.specs.Lcg.{Lcg}
+use Rattle.dstm_engine.proofs.Words.{Core, Done, Event, IsDue, IsRunOf, Joined, Kind, Lcg, Leaving, LocalState, Obeys, Quit, Shape, Terms, Val, View, done_by, events_of, has_committed, is_commit, is_outside, just, state_after}
 use Rattle.dstm_engine.specs.Attempts.{done}
 use Rattle.dstm_engine.specs.Callers.{Called, seat_view, shape_of, start_of, state}
 use Rattle.dstm_engine.specs.Calls.{Performs}
-use Rattle.dstm_words.specs.Seats.{View, IsRunOf, Joined}
-use Rattle.dstm_words.specs.declared.terms.Terms.{Terms}
 
 quit_only : (b : Bool) (e : Event) → IsDue (if b then Done else just Quit) e → e.kind ≡ Quit
 quit_only true e h = absurd h

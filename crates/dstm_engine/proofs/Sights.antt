@@ -4,33 +4,13 @@ use Rattle.std.proofs.lemmas.List.{append_cancel_right}
 use Rattle.std.specs.Prelude.{Option, None, Some, IfSome}
 use Rattle.std.proofs.lemmas.Bool.{cases_Bool, cond_both, eq-eqb, eqb-true}
 use Rattle.std.proofs.lemmas.List.Elements.{filter-append}
+use Rattle.dstm_engine.proofs.Words.{CoreRun, Doing, EndsInPass, EndsInRank, Event, IsCall, IsRunOf, IsSight, Kind, Lcg, LocalState, LookSelf, Outside, Rank, Running, Shape, Val, Work, after, count_of, events_of, given, is_open, is_outside, local, old_values, read_values, rises, seen, state_after, value_at, value_in}
 use Rattle.dstm_progress.proofs.OwnEvents.{after_own}
 use Rattle.dstm_core.proofs.Static.{local_own}
-use Rattle.dstm_core.specs.Events.{Event}
-use Rattle.dstm_core.specs.Histories.{CoreRun, IsSight, old_values, read_values, seen}
-use Rattle.dstm_core.specs.Rules.{after, is_outside}
-use Rattle.dstm_core.specs.Runs.{local}
-use Rattle.dstm_core.specs.State.{LocalState, given}
-use Rattle.dstm_core.specs.Traces.{events_of}
-use Rattle.dstm_core.specs.declared.event.Kind.{Kind}
-use Rattle.dstm_core.specs.declared.event.Kind.TheVariants.{LookSelf, Rank}
-use Rattle.dstm_core.specs.declared.shape.Shape.{Shape}
-use Rattle.dstm_core.specs.declared.state.Phase.TheVariants.{Outside, Running}
 use Rattle.dstm_mem.proofs.Pairs.{AgreesWith-of_agrees}
-use Rattle.dstm_mem.specs.Memory.{value_in}
-use Rattle.dstm_model.specs.Map.{value_at}
-use Rattle.dstm_model.specs.declared.value.Val.{Val}
 use Rattle.dstm_opacity.proofs.Maps.{sights_have_maps}
 use Rattle.dstm_order.proofs.Opens.{every_open}
-use Rattle.dstm_order.specs.Calls.{IsCall, state_after}
-use Rattle.dstm_order.specs.Order.{rises}
-use Rattle.dstm_order.specs.Passes.{EndsInPass, EndsInRank, is_open}
-use Rattle.dstm_order.specs.Tasks.{Work}
-use Rattle.dstm_order.specs.Tasks.Task.{Doing}
 use Rattle.dstm_progress.proofs.Own.{IsNewest, newest_own, own_state}
-use Rattle.dstm_words.specs.Seats.{IsRunOf}
-use Rattle.rand_pcg.specs.Lcg.{Lcg}
-use Rattle.dstm_progress.specs.Disturbed.{count_of}
 use Rattle.dstm_engine.proofs.Rechecking.{NoSelf, none_counted, sight_keeps}
 use Rattle.dstm_engine.specs.Attempts.{Admits, Sighted, completes_pass, is_look_self}
 use Rattle.dstm_engine.specs.Callers.{Called, held, law_of, shape_of, start_of, state}

@@ -4,16 +4,10 @@ use Prim.Native.Nat.{zero, suc}
 use Rattle.std.specs.Prelude.{if◌then◌else◌, is_some, option_map, slice_set}
 use Rattle.std.proofs.lemmas.Bool.{cases_Bool, eqb-true, eq-eqb}
 use Rattle.std.proofs.lemmas.List.Elements.{filter-append}
+use Rattle.dstm_engine.proofs.Words.{Read, ReadSlot, Val, WriteSlot, drop_read, kept, read_of, word_of, words_of}
 use Rattle.dstm_mem.specs.Slots.{IsSlotOf}
-use Rattle.dstm_steps.specs.Finding.{word_of}
-use Rattle.dstm_steps.specs.Reads.{kept, words_of}
-use Rattle.dstm_core.specs.State.{drop_read, read_of}
-use Rattle.dstm_core.specs.declared.state.Read.{Read}
-use Rattle.dstm_steps.specs.declared.slots.ReadSlot.{ReadSlot}
-use Rattle.dstm_steps.specs.declared.slots.WriteSlot.{WriteSlot}
 use Rattle.dstm_engine.specs.Opened.{is_kept, read_at, read_slot, reads_sort, with_set_slot, without_read, write_at, writes_sort}
 use Rattle.dstm_engine.specs.Mirror.{slot_word}
-use Rattle.dstm_model.specs.declared.value.Val.{Val}
 
 -- ---- a value that is set
 

@@ -2,24 +2,12 @@
 use Rattle.std.proofs.Common.{◌≡◌, ◌∙◌, ◌⊎◌, ◌∷◌, ◌&&◌, ◌+◌, Bool, true, false, not, List, [], None, ap, arith, inl, inr, refl, subst, sym}
 use Rattle.std.specs.Prelude.{Option, if◌then◌else◌}
 use Rattle.std.proofs.lemmas.Bool.{cases_Bool, cond_both}
-use Rattle.rand_pcg.specs.Lcg.{Lcg}
-use Rattle.dstm_core.specs.Events.{Event}
-use Rattle.dstm_core.specs.Rules.{after, is_outside}
-use Rattle.dstm_core.specs.Runs.{local}
-use Rattle.dstm_core.specs.State.{LocalState}
-use Rattle.dstm_core.specs.declared.event.Kind.{Kind}
-use Rattle.dstm_core.specs.declared.event.Kind.TheVariants.{Begin, Quit, Rank, Stamp}
-use Rattle.dstm_core.specs.declared.shape.Shape.{Shape}
-use Rattle.dstm_model.specs.declared.value.Val.{Val}
+use Rattle.dstm_engine.proofs.Words.{Begin, Beginning, Due, Event, IsDue, Kind, Lcg, LocalState, Obeys, Quit, Rank, Shape, Stamp, Step, TriesAgain, Val, after, has_begun, has_ranks, has_stamps, in_beginning, is_new, is_outside, is_spent, just, local, newest_of, rises, state_after}
 use Rattle.dstm_progress.proofs.OwnEvents.{after_own}
-use Rattle.dstm_order.specs.Calls.{Obeys, newest_of, state_after}
-use Rattle.dstm_order.specs.Order.{Due, IsDue, has_begun, has_ranks, has_stamps, in_beginning, is_begin, is_spent, just, rises}
-use Rattle.dstm_order.specs.Order.Due.{Step}
-use Rattle.dstm_order.specs.Tasks.Task.{Beginning}
+use Rattle.dstm_order.specs.Order.{is_begin}
 use Rattle.dstm_engine.specs.Callers.{Called, shape_of, state}
 use Rattle.dstm_engine.specs.Transactions.{SpentFrom}
 use Rattle.dstm_engine.specs.Makes.{Makes}
-use Rattle.dstm_order.specs.Retries.{TriesAgain, is_new}
 use Rattle.dstm_engine.proofs.AddingUp.{makes_one}
 use Rattle.dstm_progress.proofs.Keeping.{not_begun, still_new}
 

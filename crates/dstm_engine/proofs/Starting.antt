@@ -3,25 +3,9 @@ use Rattle.std.proofs.Common.{◌*◌, ◌+◌, ◌<◌, ◌≤◌, ◌≡◌, B
 use Rattle.std.specs.Prelude.{Option, if◌then◌else◌, nat_lt}
 use Rattle.dstm_steps.specs.Beginning.{CanBegin, KeepsRank}
 use Rattle.dstm_core.proofs.Columns.{in_table}
-use Rattle.dstm_core.specs.State.{LocalState, next_attempt}
-use Rattle.dstm_core.specs.Words.{IsValid}
-use Rattle.dstm_core.specs.declared.shape.Shape.{Shape}
-use Rattle.dstm_core.specs.declared.state.Phase.{Phase}
-use Rattle.dstm_core.specs.declared.state.Phase.TheVariants.{Outside, Running}
 use Rattle.dstm_opacity.proofs.Stays.{NoneCommits}
 use Rattle.std.proofs.lemmas.List.Elements.{All-cons, All-nil}
-use Rattle.dstm_opacity.specs.Committed.{has_committed}
-use Rattle.dstm_core.specs.Events.{Event}
-use Rattle.dstm_core.specs.declared.event.Kind.{Kind}
-use Rattle.dstm_core.specs.declared.event.Kind.TheVariants.{Begin, Quit, Rank, Stamp}
-use Rattle.dstm_core.specs.declared.shape.Manager.{Manager}
-use Rattle.dstm_order.specs.Calls.{Obeys, effort_of, newest_of, state_after}
-use Rattle.dstm_order.specs.Efforts.{Effort, effort_after, no_effort}
-use Rattle.dstm_order.specs.Order.{IsDue, has_begun, has_ranks, has_stamps, in_beginning, is_spent, just, rises}
-use Rattle.dstm_core.specs.Rules.{is_outside}
-use Rattle.dstm_order.specs.Order.Due.{Done, Step}
-use Rattle.dstm_order.specs.Tasks.Task.{Beginning}
-use Rattle.rand_pcg.specs.Lcg.{Lcg}
+use Rattle.dstm_engine.proofs.Words.{Begin, Beginning, Done, Effort, Event, IsDue, IsValid, Kind, Lcg, LocalState, Manager, Obeys, Outside, Phase, Quit, Rank, Running, Shape, Stamp, Step, effort_after, effort_of, has_begun, has_committed, has_ranks, has_stamps, in_beginning, is_outside, is_spent, just, newest_of, next_attempt, no_effort, rises, state_after}
 use Rattle.dstm_engine.specs.Beginnings.{ended}
 use Rattle.dstm_engine.specs.Mirror.{phase_by}
 

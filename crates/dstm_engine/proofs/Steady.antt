@@ -1,16 +1,8 @@
 -- What a caller holds after a recheck or a commit.
 use Rattle.std.proofs.Common.{◌∙◌, ◌≡◌, List, Option, ap, map, subst, sym, true, ℕ, refl}
 use Rattle.std.specs.Prelude.{is_some}
-use Rattle.dstm_steps.specs.declared.steps.Steps.{Steps}
+use Rattle.dstm_engine.proofs.Words.{Again, Core, Doing, Effort, Steps, Val, Work, view_of, write_of}
 use Rattle.dstm_progress.proofs.OwnEvents.{after_own}
-use Rattle.dstm_core.specs.Runs.{Core}
-use Rattle.dstm_core.specs.State.{write_of}
-use Rattle.dstm_model.specs.declared.value.Val.{Val}
-use Rattle.dstm_order.specs.Efforts.{Effort}
-use Rattle.dstm_order.specs.Tasks.{Work}
-use Rattle.dstm_order.specs.Tasks.Task.{Doing}
-use Rattle.dstm_order.specs.declared.again.Again.{Again}
-use Rattle.dstm_words.specs.Seats.{view_of}
 use Rattle.dstm_engine.proofs.Left.{current_there}
 use Rattle.dstm_engine.proofs.Plain.{ArePlain, SameOpened, are_plain, is_closed, plain_still, same_opened}
 use Rattle.dstm_engine.proofs.Rechecking.{held_stay}

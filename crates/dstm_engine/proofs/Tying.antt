@@ -1,22 +1,8 @@
 -- A caller whose fields stand for what contracts see of it, before and after a call.
 use Rattle.std.proofs.Common.{◌∙◌, ◌≡◌, List, ap, refl, subst, sym}
 use Rattle.std.specs.Prelude.{Bool, true, false, None, Option, not, nat_lt, ℕ, ◌||◌, ◌+◌}
+use Rattle.dstm_engine.proofs.Words.{Again, Done, Event, Home, InTask, IsMirror, LocalState, Read, Steps, Task, Val, View, Write, answer, caller_state, due, effort_by, is_spent, local, now, number_or, old_values, read_values, view_of}
 use Rattle.dstm_steps.proofs.Stepping.{began_as}
-use Rattle.dstm_steps.specs.Under.{InTask, IsMirror, effort_by, now}
-use Rattle.dstm_steps.specs.declared.steps.Steps.{Steps}
-use Rattle.dstm_core.specs.Events.{Event}
-use Rattle.dstm_core.specs.Histories.{old_values, read_values}
-use Rattle.dstm_core.specs.Runs.{local}
-use Rattle.dstm_core.specs.State.{LocalState}
-use Rattle.dstm_core.specs.declared.state.Read.{Read}
-use Rattle.dstm_core.specs.declared.state.Write.{Write}
-use Rattle.dstm_model.specs.declared.value.Val.{Val}
-use Rattle.dstm_order.specs.Calls.{answer}
-use Rattle.dstm_order.specs.Order.{due, is_spent}
-use Rattle.dstm_order.specs.Order.Due.{Done}
-use Rattle.dstm_order.specs.Tasks.{Task}
-use Rattle.dstm_order.specs.declared.again.Again.{Again}
-use Rattle.dstm_words.specs.Seats.{Home, caller_state, view_of, number_or, View}
 use Rattle.dstm_engine.proofs.Calling.{StepsOf, began_is, now_is, starts}
 use Rattle.dstm_engine.specs.Began.{began_of}
 use Rattle.dstm_engine.specs.Callers.{is_live, is_running, state}

@@ -1,15 +1,12 @@
 use Rattle.std.proofs.Common.{◌++◌, ◌∙◌, ◌∷◌, [], ap, map, refl, sym}
 use Rattle.std.proofs.lemmas.List.{map-append}
+use Rattle.dstm_engine.proofs.Words.{Home, doing, now, value_at, words_of}
 use Rattle.dstm_steps.proofs.FoundValues.{has_value}
 use Rattle.dstm_steps.specs.FoundValues.{found_value}
-use Rattle.dstm_steps.specs.Reads.{words_of}
-use Rattle.dstm_steps.specs.Under.{doing, now}
 use Rattle.dstm_engine.proofs.OpenStates.{adds_read, found_still, last_read, object_still, owed_read, record_read}
 use Rattle.dstm_engine.proofs.Slots.{words_push}
 use Rattle.dstm_engine.specs.Mirror.{slot_word}
 use Rattle.dstm_engine.specs.Opened.{OpenedAs}
-use Rattle.dstm_model.specs.Map.{value_at}
-use Rattle.dstm_words.specs.Seats.{Home}
 use Rattle.dstm_engine.proofs.opening.read_object.Goals as goal
 
 pub conclude-requires-clause-slots : goal.conclude-requires-clause-slots

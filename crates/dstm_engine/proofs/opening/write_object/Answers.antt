@@ -1,17 +1,13 @@
 use Rattle.std.proofs.Common.{◌++◌, ◌∙◌, ◌∷◌, None, [], ap, map, refl, sym}
 use Rattle.dstm_steps.specs.FoundValues.{found_value}
-use Rattle.dstm_steps.specs.Reads.{words_of}
-use Rattle.dstm_steps.specs.Under.{doing, now}
-use Rattle.dstm_steps.specs.declared.slots.ReadSlot.{ReadSlot}
 use Rattle.std.specs.Prelude.{option_map}
+use Rattle.dstm_engine.proofs.Words.{Home, ReadSlot, doing, now, value_at, words_of}
 use Rattle.dstm_engine.proofs.OpenStates.{acquired_held, acquired_reads, acquired_runs, adds_write, last_write}
 use Rattle.dstm_engine.proofs.HeldStill.{version_goes}
 use Rattle.dstm_engine.proofs.Setting.{set_pairs_push}
 use Rattle.dstm_engine.proofs.Slots.{slot_read, words_without}
 use Rattle.dstm_engine.specs.Mirror.{set_pairs, slot_word}
 use Rattle.dstm_engine.specs.Opened.{OpenedAs}
-use Rattle.dstm_model.specs.Map.{value_at}
-use Rattle.dstm_words.specs.Seats.{Home}
 use Rattle.dstm_engine.proofs.opening.write_object.Goals as goal
 
 pub acquire-requires-clause-read : goal.acquire-requires-clause-read

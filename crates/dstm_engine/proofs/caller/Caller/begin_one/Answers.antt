@@ -1,8 +1,6 @@
 use Rattle.std.proofs.Common.{◌∙◌, ◌≡◌, ap, arith, sym}
-use Rattle.dstm_steps.specs.declared.steps.Steps.{Steps}
+use Rattle.dstm_engine.proofs.Words.{Beginning, Steps, is_spent}
 use Rattle.dstm_core.proofs.Static.{static}
-use Rattle.dstm_order.specs.Order.{is_spent}
-use Rattle.dstm_order.specs.Tasks.Task.{Beginning}
 use Rattle.dstm_engine.proofs.AtCall.{AtCall, at_call}
 use Rattle.dstm_engine.proofs.Begins.{begins, begun_caller, spends, spent_caller}
 use Rattle.dstm_engine.proofs.Starting.{next_small}

@@ -1,5 +1,6 @@
 use Rattle.std.proofs.Common.{rules, ◌∙◌, ◌≡◌, ap, arith, refl, subst, sym, true}
 use Rattle.std.specs.Prelude.{List}
+use Rattle.dstm_engine.proofs.Words.{Val, with_set}
 use Rattle.dstm_engine.proofs.AtCall.{AtCall, at_call}
 use Rattle.dstm_engine.proofs.ClosedCalls.{commit_left, commit_left_tied, commit_tied, committed}
 use Rattle.dstm_engine.proofs.Committing.{few_slots, few_there, first_fits, first_there, lawful_there, putting_there, values_there}
@@ -7,8 +8,6 @@ use Rattle.dstm_engine.proofs.Tying.{live_there}
 use Rattle.dstm_engine.specs.Attempts.{Admits}
 use Rattle.dstm_engine.specs.Callers.{Called, is_live, law_of, written}
 use Rattle.dstm_engine.specs.Mirror.{called}
-use Rattle.dstm_mem.specs.Memory.{with_set}
-use Rattle.dstm_model.specs.declared.value.Val.{Val}
 use Rattle.dstm_engine.proofs.caller.Caller.commit.Given.{Over}
 use Rattle.dstm_engine.proofs.caller.Caller.commit.Goals.{After-words}
 use Rattle.dstm_engine.proofs.caller.Caller.commit.Goals as goal

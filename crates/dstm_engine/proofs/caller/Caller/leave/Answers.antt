@@ -1,12 +1,5 @@
 use Rattle.std.proofs.Common.{◌*◌, ◌<◌, ◌∙◌, ◌≡◌, ap, sym, subst, None}
-use Rattle.dstm_core.specs.State.{LocalState, own_attempt}
-use Rattle.dstm_core.specs.declared.shape.Shape.{Shape}
-use Rattle.dstm_machines.specs.Traces.Access.{Exchange}
-use Rattle.dstm_core.specs.Words.{place}
-use Rattle.dstm_core.specs.Words.Word.{StatusWord}
-use Rattle.dstm_core.specs.declared.event.Kind.TheVariants.{Quit}
-use Rattle.dstm_order.specs.Tasks.Task.{Leaving}
-use Rattle.dstm_words.specs.Seats.{Home, found_in, Makes, View}
+use Rattle.dstm_engine.proofs.Words.{Exchange, Home, Leaving, LocalState, Makes, Quit, Shape, StatusWord, View, found_in, own_attempt, place}
 use Rattle.dstm_engine.specs.Callers.{Called, is_running, seat_view, shape_of, state}
 use Rattle.dstm_engine.specs.Calls.{Performs}
 use Rattle.dstm_engine.specs.Mirror.{called, phase_by}

@@ -1,10 +1,9 @@
 use Rattle.std.proofs.Common.{◌∙◌, ◌≡◌, ap, false, None, Some, sym, true}
 use Rattle.std.specs.Prelude.{IsSome, is_some}
-use Rattle.dstm_order.specs.Tasks.Work.{Reading, Writing}
+use Rattle.dstm_engine.proofs.Words.{Reading, Val, Writing}
 use Rattle.dstm_engine.proofs.Handing.{handed_there, held_continues, ok_then, read_leaves, read_stays, reading_all, reading_some, slot_held, slot_none, slot_unopened}
 use Rattle.dstm_engine.specs.Callers.{Called, held, shape_of}
 use Rattle.dstm_engine.specs.Calls.{reading}
-use Rattle.dstm_model.specs.declared.value.Val.{Val}
 use Rattle.dstm_engine.proofs.caller.Caller.open_read.Given.{Over}
 use Rattle.dstm_engine.proofs.caller.Caller.open_read.Goals.{After-value}
 use Rattle.dstm_engine.proofs.caller.Caller.open_read.Goals as goal

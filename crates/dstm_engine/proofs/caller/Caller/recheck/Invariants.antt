@@ -1,7 +1,5 @@
+use Rattle.dstm_engine.proofs.Words.{Doing, Rechecking, number_or, view_of}
 use Rattle.dstm_steps.proofs.Stepping.{began_as}
-use Rattle.dstm_order.specs.Tasks.Task.{Doing}
-use Rattle.dstm_order.specs.Tasks.Work.{Rechecking}
-use Rattle.dstm_words.specs.Seats.{view_of, number_or}
 use Rattle.dstm_engine.proofs.caller.Caller.recheck.Given as goal
 
 abbrev pub ghosts-recheck : goal.ghosts-recheck

@@ -1,12 +1,7 @@
 use Rattle.std.proofs.Common.{◌≡◌, ◌∙◌, Some, ap, sym, subst, ◌<◌}
-use Rattle.dstm_machines.specs.Traces.Access.{Add}
-use Rattle.dstm_core.specs.Words.{place}
-use Rattle.dstm_core.specs.Words.Word.{CallersWord}
-use Rattle.dstm_core.specs.declared.event.Kind.TheVariants.{Enrol}
-use Rattle.dstm_words.specs.Seats.{Home, Makes, given_part, View}
+use Rattle.dstm_engine.proofs.Words.{Add, CallersWord, DeciderState, Enrol, Home, Makes, View, given_part, place}
 use Rattle.dstm_engine.specs.Enrolled.{enrolled_as}
 use Rattle.dstm_engine.specs.Tables.{Founding}
-use Rattle.dstm_managers.specs.Choices.{DeciderState}
 use Rattle.dstm_engine.proofs.Enrolling.{enrols, founder_is, caller_is}
 use Rattle.dstm_engine.proofs.stm.Founder.caller.Goals as goal
 

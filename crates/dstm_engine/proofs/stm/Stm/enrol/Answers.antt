@@ -1,8 +1,6 @@
 use Rattle.std.proofs.Common.{◌≡◌, Some, ap, sym, ◌∙◌}
-use Rattle.dstm_core.specs.declared.event.Kind.TheVariants.{Enrol}
-use Rattle.dstm_core.specs.State.{LocalState}
-use Rattle.dstm_machines.specs.Traces.Access.{Add}
-use Rattle.dstm_words.specs.Seats.{View, number_or, state_by}
+use Rattle.dstm_engine.proofs.Words.{Add, Enrol, LocalState, View, number_or}
+use Rattle.dstm_words.specs.Seats.{state_by}
 use Rattle.dstm_words.proofs.Seats.{state_after}
 use Rattle.dstm_engine.proofs.stm.Stm.enrol.Goals as goal
 
