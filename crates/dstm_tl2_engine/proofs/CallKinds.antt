@@ -146,12 +146,18 @@ is_look LookHigh = true
 is_look LookAgain = true
 is_look kind = false
 
+-- an event of these kinds tells nothing
+abbrev pub is_plain : Kind → Bool
+is_plain Check = true
+is_plain WriteLow = true
+is_plain WriteHigh = true
+is_plain Unlock = true
+is_plain kind = false
+
 abbrev pub is_locking : Kind → Bool
 is_locking (Lock writes) = true
-is_locking WriteLow = true
-is_locking WriteHigh = true
-is_locking Unlock = true
-is_locking kind = false
+is_locking Check = false
+is_locking kind = is_plain kind
 
 abbrev Looking : Kind → Type 0
 Looking k = is_look k ≡ true
