@@ -35,6 +35,19 @@ at_begin_of c log (e ∷ es) rest begins top own =
     let mine : e.caller == c ≡ true = eq-eqb e.caller c (newest_own c log e (es ++ rest) own).own in
     subst (λ xs. xs ≡ begun_log c xs) (sym top.1) (rw (mine, begins) refl)
 
+-- a caller with these fields after it was to begin an attempt
+abbrev begun_with : {L : Type 0} → Inside L → Steps L → Snapshot DeciderState → Bool → OpenedAs → Inside L
+begun_with c new began live opened = record c {
+  steps = new;
+  begun = c.begun + 1;
+  fresh = false;
+  live = live;
+  last_number = None;
+  left = None;
+  began = began;
+  opened = opened;
+}
+
 module _ {L : Type 0} {holds : L → List Val → Type 0} {c : Inside L} (v : Tied holds c) {new : Steps L}
     (u : EndsHere holds c (Beginning c.fresh) new None) where
   st : state_logged c new ≡ now (called c).home new
@@ -134,16 +147,7 @@ module _ {L : Type 0} {holds : L → List Val → Type 0} {c : Inside L} (v : Ti
       })) where
     -- the caller then
     abbrev pub anew : Inside L
-    anew = record c {
-      steps = new;
-      begun = c.begun + 1;
-      fresh = false;
-      live = true;
-      last_number = None;
-      left = None;
-      began = began;
-      opened = record c.opened { reads = []; writes = [] };
-    }
+    anew = begun_with c new began true (record c.opened { reads = []; writes = [] })
 
     is_begun : state (called anew) ≡ begin (record (ended c.live (state (called c))) {
       rank = new.rank;
@@ -244,18 +248,6 @@ module _ {L : Type 0} {holds : L → List Val → Type 0} {c : Inside L} (v : Ti
     }
 
 -- ---- as the answers of a begin see it
-
-abbrev begun_with : {L : Type 0} → Inside L → Steps L → Snapshot DeciderState → Bool → OpenedAs → Inside L
-begun_with c new began live opened = record c {
-  steps = new;
-  begun = c.begun + 1;
-  fresh = false;
-  live = live;
-  last_number = None;
-  left = None;
-  began = began;
-  opened = opened;
-}
 
 module _ {L : Type 0} {holds : L → List Val → Type 0} {c : Inside L} {k : Called L} {words : Home L} {steps : Steps L}
     (at : AtCall holds c k words steps) {new : Steps L} (over : EndsAt holds words steps (Beginning c.fresh) new None) (spent : Bool)
