@@ -503,7 +503,8 @@ module _ {L : Type 0} {holds : L → List Val → Type 0} {c : Inside L} {k : Tl
         adds_here : now (called c).home new ≡ record (state (called c)) {
           reads = (state (called c)).reads ++ slot_read slot ∷ [];
         }
-        adds_here = at_home at.tied at.same (λ h l. now h new ≡ record l { reads = l.reads ++ slot_read slot ∷ [] }) adds
+        adds_here =
+            at_home at.tied at.same (λ h l. now h new ≡ record l { reads = l.reads ++ slot_read slot ∷ [] }) adds
 
         pub first_tied : Tied holds (record c { steps = new; opened = opened })
         first_tied =
@@ -511,7 +512,8 @@ module _ {L : Type 0} {holds : L → List Val → Type 0} {c : Inside L} {k : Tl
 
         pub first_reads : Reads holds o k (called (record c { steps = new; opened = opened })) slot.value
         first_reads =
-            rw (← at.view, pushed) (reads at.tied is_on at_rest o unheld slot is (ends_here at.tied at.same _ u) adds_here)
+            rw (← at.view, pushed)
+            (reads at.tied is_on at_rest o unheld slot is (ends_here at.tied at.same _ u) adds_here)
 
     module _ {new : Steps L} {again : TlAgain}
         (u : Under holds home (begun_as home (Doing (Opening o)) c.steps) new Done (Some again))

@@ -34,11 +34,12 @@ module _ {L : Type 0} {holds : L → List Val → Type 0} {c : Inside L} (v : Ti
     pub now_there : now home c.steps ≡ state (called c)
     now_there = subst (λ (h : Home L). now h c.steps ≡ state (called c)) same (now_is holds (called c) steps_of)
 
-    -- what holds of the words' table and of the state that its steps know holds of the caller's, and the other way round
+    -- what holds of the words' table and of the state known there holds of the caller's, and the other way round
     pub at_home : (P : Home L → LocalState → Type 0) → P home (now home c.steps) → P (called c).home (state (called c))
     at_home P x = subst (λ h. P h (state (called c))) (sym same) (subst (P home) now_there x)
 
-    pub from_home : (P : Home L → LocalState → Type 0) → P (called c).home (state (called c)) → P home (now home c.steps)
+    pub from_home : (P : Home L → LocalState → Type 0) → P (called c).home (state (called c)) →
+        P home (now home c.steps)
     from_home P x = subst (P home) (sym now_there) (subst (λ h. P h (state (called c))) same x)
 
     -- and ends

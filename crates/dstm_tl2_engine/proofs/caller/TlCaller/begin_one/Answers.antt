@@ -68,5 +68,6 @@ returns-clause-begins g c =
     let new = c.begin_next.new.steps in
     let some = unspent_by c.self.invariant c.if-spent.false in
     let before = (goal.at.returns-clause-begins g c).After-begin_next in
-    rw (← c.self.view_is, c.clear.ensures) (begins_anew c.self.invariant (ended g before) (begun g before c.if-spent.false) _
+    rw (← c.self.view_is, c.clear.ensures)
+    (begins_anew c.self.invariant (ended g before) (begun g before c.if-spent.false) _
     (top_here c.self.invariant (home g before) new _ (c.begin_next.ensures.top some.0)) some.1)
