@@ -54,7 +54,8 @@ module _ {L : Type 0} (began n : Called L) (home : n.home ≡ began.home) (numbe
         (rw (← same_state, ← same_shape, generator) t.are_calls);
     generator =
         t.generator
-        ∙ rw (same_state, same_shape, ← generator) (doing_generator (shape_of began) (state began) began.generator t.calls);
+        ∙ rw (same_state, same_shape, ← generator)
+        (doing_generator (shape_of began) (state began) began.generator t.calls);
     same = (home, number);
   }
 

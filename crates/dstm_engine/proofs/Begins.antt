@@ -250,7 +250,8 @@ module _ {L : Type 0} {holds : L → List Val → Type 0} {c : Inside L} (v : Ti
 -- ---- as the answers of a begin see it
 
 module _ {L : Type 0} {holds : L → List Val → Type 0} {c : Inside L} {k : Called L} {words : Home L} {steps : Steps L}
-    (at : AtCall holds c k words steps) {new : Steps L} (over : EndsAt holds words steps (Beginning c.fresh) new None) (spent : Bool)
+    (at : AtCall holds c k words steps) {new : Steps L} (over : EndsAt holds words steps (Beginning c.fresh) new None)
+    (spent : Bool)
     (told : is_spent c.terms.shape (state (called c)) ≡ spent) where
   done_there : EndsHere holds c (Beginning c.fresh) new None
   done_there = ends_at at over

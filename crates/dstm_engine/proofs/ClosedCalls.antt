@@ -95,7 +95,8 @@ module _ {L : Type 0} {holds : L → List Val → Type 0} {c : Inside L} {k : Ca
           rw (← at.view) (is_committed at.tied on (commit_ends u) number
           (at_home at (λ h _. (now h new).drawn ≡ Some number) drawn))
 
-    module _ {again : Again} (u : EndsAt holds words steps (Doing (Committing (value_there words steps slots))) new (Some again)) where
+    module _ {again : Again}
+        (u : EndsAt holds words steps (Doing (Committing (value_there words steps slots))) new (Some again)) where
       pub commit_left_tied : Tied holds (left_as c new c.last_number again c.opened)
       commit_left_tied = left_tied at.tied on (commit_ends u) (λ _. tt) c.last_number c.opened refl
 

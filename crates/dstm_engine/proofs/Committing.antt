@@ -11,7 +11,7 @@ use Rattle.dstm_core.proofs.Static.{static}
 use Rattle.dstm_opacity.proofs.Tidy.{Apart, WritesOnce, tidy}
 use Rattle.dstm_engine.proofs.Holding.{old_there}
 use Rattle.dstm_engine.proofs.Opens.{none_of, unset, writes_length}
-use Rattle.dstm_engine.proofs.Setting.{opened_slot, with_new_apart}
+use Rattle.dstm_engine.proofs.Setting.{opened_slot, opened_there, with_new_apart}
 use Rattle.dstm_mem.proofs.Settling.{agrees_held, writes_same}
 use Rattle.dstm_engine.proofs.Tying.{now_there, olds_in, renewed, starts_there}
 use Rattle.dstm_engine.specs.Attempts.{Admits}
@@ -120,14 +120,14 @@ module _ {L : Type 0} {holds : L → List Val → Type 0} {c : Inside L} (v : Ti
   pub held_some : (o : ℕ) → is_opened (called c) o ≡ true → is_some (held (called c) o) ≡ true
   held_some o opens =
       ap is_some (held_old o opens) ∙ old_there c.opened.writes o
-      ∙ sym (opened_slot c.opened.writes (state (called c)).writes o (v.writes live)) ∙ opens
+      ∙ sym (opened_there v live o) ∙ opens
 
   pub puts_handed : (o : ℕ) →
       value_in (puts_of c.opened.writes) o ≡ cond (is_opened (called c) o) (handed (called c) o) None
   puts_handed o =
       puts_in c.opened.writes o once
       ∙ ap (λ b. cond b (option_or (written (called c) o) (value_in (map slot_old c.opened.writes) o)) None)
-      (sym (opened_slot c.opened.writes (state (called c)).writes o (v.writes live)))
+      (sym (opened_there v live o))
       ∙ by (is_opened (called c) o) refl
     where
       by : (b : Bool) → is_opened (called c) o ≡ b →
@@ -139,8 +139,7 @@ module _ {L : Type 0} {holds : L → List Val → Type 0} {c : Inside L} (v : Ti
   -- nothing is set for an object that is not open for writing
   pub unwritten : (o : ℕ) → is_opened (called c) o ≡ false → written (called c) o ≡ None
   unwritten o shut =
-      unset c.opened.writes o (none_of (write_slot c.opened.writes o)
-      (sym (opened_slot c.opened.writes (state (called c)).writes o (v.writes live)) ∙ shut))
+      unset c.opened.writes o (none_of (write_slot c.opened.writes o) (sym (opened_there v live o) ∙ shut))
 
   pub handed_value : (o : ℕ) → is_opened (called c) o ≡ true → Some (new_value (called c) o) ≡ handed (called c) o
   handed_value o opens =

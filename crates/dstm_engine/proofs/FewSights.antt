@@ -190,12 +190,14 @@ sights_more s c i (e ∷ later) before =
             let look = (and_parts (is_look_self e.kind) (e.found == given l.phase)
             (and_parts (l.begun == i) (completes_pass s l e) passes).1).0 in
             let here : count_of completes_pass s (e ∷ (later ++ before)) c i ≡ was + 1 = rw (own, passes) refl in
-            let more : count_kinds is_look_self (events_of c (e ∷ later)) ≡ count_kinds is_look_self (events_of c later) + 1 =
+            let more : count_kinds is_look_self (events_of c (e ∷ later))
+            ≡ count_kinds is_look_self (events_of c later) + 1 =
             own_counts is_look_self c e later own ∙ counts_it is_look_self e (events_of c later) look in
             omega arith
         | inr fails ↦
             let here : count_of completes_pass s (e ∷ (later ++ before)) c i ≡ was = rw (own, fails) refl in
-            let more : count_kinds is_look_self (events_of c later) ≤ count_kinds is_look_self (events_of c (e ∷ later)) =
+            let more : count_kinds is_look_self (events_of c later)
+            ≤ count_kinds is_look_self (events_of c (e ∷ later)) =
             rw (own_counts is_look_self c e later own) (one_more is_look_self e (events_of c later)) in
             omega arith
       ]
@@ -247,13 +249,15 @@ looks_more s c i (e ∷ later) before was now =
         | inl look ↦
             let here : count_of looks_at_object s (e ∷ (later ++ before)) c i ≡ there + 1 =
             rw (own, eq-eqb (local s (later ++ before) c).begun i still, look) refl in
-            let more : count_kinds is_look_object (events_of c (e ∷ later)) ≡ count_kinds is_look_object (events_of c later) + 1 =
+            let more : count_kinds is_look_object (events_of c (e ∷ later))
+            ≡ count_kinds is_look_object (events_of c later) + 1 =
             own_counts is_look_object c e later own ∙ counts_it is_look_object e (events_of c later) look in
             omega arith
         | inr none ↦
             let here : count_of looks_at_object s (e ∷ (later ++ before)) c i ≡ there =
             rw (own, eq-eqb (local s (later ++ before) c).begun i still, none) refl in
-            let same : count_kinds is_look_object (events_of c (e ∷ later)) ≡ count_kinds is_look_object (events_of c later) =
+            let same : count_kinds is_look_object (events_of c (e ∷ later))
+            ≡ count_kinds is_look_object (events_of c later) =
             own_counts is_look_object c e later own ∙ skips_it is_look_object e (events_of c later) none in
             omega arith
       ]

@@ -59,7 +59,8 @@ module _ {L : Type 0} {holds : L → List Val → Type 0} {c : Inside L} {k : Ca
 
       pub first_opens :
           Opens holds (Reading o) o k (called (record c { steps = new; last_number = last; opened = opened })) value
-      first_opens = rw (← at.view, e.listed) (read_opens at.tied on value (ends_at at done) adds valued passed unheld reads)
+      first_opens =
+          rw (← at.view, e.listed) (read_opens at.tied on value (ends_at at done) adds valued passed unheld reads)
 
   -- ---- for writing
 
@@ -94,7 +95,8 @@ module _ {L : Type 0} {holds : L → List Val → Type 0} {c : Inside L} {k : Ca
 
       pub first_write_opens :
           Opens holds (Writing o) o k (called (record c { steps = new; last_number = last; opened = opened })) value
-      first_write_opens = rw (← at.view, e.listed) (write_opens at.tied on value (ends_at at done) adds_w valued_w passed_w unopened)
+      first_write_opens =
+          rw (← at.view, e.listed) (write_opens at.tied on value (ends_at at done) adds_w valued_w passed_w unopened)
 
       pub first_write_marked :
           IsTrue (is_opened (called (record c { steps = new; last_number = last; opened = opened })) o)

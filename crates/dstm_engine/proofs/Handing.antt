@@ -7,7 +7,7 @@ use Rattle.dstm_engine.proofs.Words.{Again, AreWrites, Read, ReadSlot, Reading, 
 use Rattle.dstm_mem.proofs.WithSet.{found_by, unchanged_by}
 use Rattle.dstm_opacity.proofs.Tidy.{Apart, WritesOnce, tidy}
 use Rattle.dstm_engine.proofs.Opens.{no_slot, no_word, none_of, unheld_both, unset}
-use Rattle.dstm_engine.proofs.Setting.{opened_slot, with_new_apart}
+use Rattle.dstm_engine.proofs.Setting.{opened_slot, opened_there, with_new_apart}
 use Rattle.dstm_engine.proofs.Sights.{sighted_admits}
 use Rattle.dstm_engine.proofs.Slots.{slot_read}
 use Rattle.dstm_engine.proofs.Tying.{live_there}
@@ -213,7 +213,7 @@ module _ {L : Type 0} {holds : L → List Val → Type 0} {c : Inside L} (v : Ti
   pub write_there : is_opened k o ≡ is_some (write_slot c.opened.writes o)
   write_there =
       ap (λ (k : Called L). is_opened k o) (sym view)
-      ∙ opened_slot c.opened.writes (state (called c)).writes o (v.writes on)
+      ∙ opened_there v on o
 
   -- what is held stays open as it is
   pub held_continues : is_some (held k o) ≡ true → Continues holds o k k

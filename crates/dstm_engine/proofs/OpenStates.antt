@@ -130,7 +130,8 @@ module _ (old : LocalState) {before : LocalState} (object : ℕ) {found : Found}
         version = or_zero (version (res before));
       } ∷ []) at
       ∙ ap (λ w. old.reads ++ record { object = object; word = w; version = or_zero (version (res before)) } ∷ [])
-      is.word ∙ ap (λ v. old.reads ++ record { object = object; word = found.word; version = or_zero v } ∷ []) is.version_is)
+      is.word ∙ ap (λ v. old.reads ++ record { object = object; word = found.word; version = or_zero v } ∷ [])
+      is.version_is)
 
   -- so the rank is owed
   pub owed_read : (passed 0 before).owed ≡ true

@@ -98,8 +98,8 @@ module _ {L : Type 0} {holds : L → List Val → Type 0} {c : Inside L} (v : Ti
 
   told : IsTold (called opened_as)
   told =
-      told_more (told_there v live u) steps (current_there v live u).live (doing_keeps steps) refl (v.left live) no_reading
-      (let most = kept_most (called opened_as) in
+      told_more (told_there v live u) steps (current_there v live u).live (doing_keeps steps) refl (v.left live)
+      no_reading (let most = kept_most (called opened_as) in
       let same = ap (λ (l : LocalState). length l.reads) opened_state in
       let was = kept_live (called c) (sym (live_there v) ∙ live) in
       let one = open_is work is_one in omega arith)

@@ -13,7 +13,7 @@ use Rattle.dstm_engine.proofs.Continuing.{doing_keeps, kept_live, kept_most, tol
 use Rattle.dstm_engine.proofs.Holding.{old_there}
 use Rattle.dstm_engine.proofs.Left.{current_there, on_tied, same_place, performed, told_there}
 use Rattle.dstm_engine.proofs.Opens.{none_of}
-use Rattle.dstm_engine.proofs.Setting.{opened_slot}
+use Rattle.dstm_engine.proofs.Setting.{opened_there}
 use Rattle.dstm_engine.proofs.Steady.{stay}
 use Rattle.dstm_engine.proofs.Tying.{EndsHere, live_there, olds_in, reads_in, state_then}
 use Rattle.dstm_engine.proofs.Rechecking.{NoSelf, none_counted}
@@ -241,7 +241,7 @@ module _ {L : Type 0} {holds : L → List Val → Type 0} {c : Inside L} (v : Ti
         (state (called c)).reads (tidy c.terms.shape (called c).log v.run.run.core c.number).reads
         ∙ ap (λ ws. value_in ws o) (v.olds live)
         ∙ none_of (value_in (map slot_old c.opened.writes) o) (old_there c.opened.writes o
-        ∙ sym (opened_slot c.opened.writes (state (called c)).writes o (v.writes live))
+        ∙ sym (opened_there v live o)
         ∙ not_open v o read);
     others = λ p other. held_then p
         ∙ without_others o p (reads_in c (called c).log (state (called c)).reads)

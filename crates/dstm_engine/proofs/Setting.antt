@@ -3,7 +3,7 @@ use Rattle.std.proofs.Common.{◌++◌, ◌==◌, ◌∙◌, ◌∷◌, ◌≡�
 use Rattle.std.specs.Prelude.{IfSome, is_some}
 use Rattle.std.proofs.lemmas.Bool.{cases_Bool, cond_both, eqb-true, ne_eqb}
 use Rattle.dstm_engine.proofs.Words.{AreWrites, SetsOnly, Val, Write, WriteSlot, value_in, write_of}
-use Rattle.dstm_engine.specs.Callers.{Called, state}
+use Rattle.dstm_engine.specs.Callers.{Called, is_opened, state}
 use Rattle.dstm_engine.specs.Outcomes.{IsLeft, Promises}
 use Rattle.dstm_engine.specs.Mirror.{Tied, called, set_pairs, slot_old, with_new}
 use Rattle.dstm_engine.specs.Opened.{with_set_slot, write_slot}
@@ -19,6 +19,10 @@ opened_slot (s ∷ slots) (w ∷ writes) o h = elim (cases_Bool (s.object == o))
 ]
 opened_slot [] (w ∷ writes) o h = absurd h
 opened_slot (s ∷ slots) [] o h = absurd h
+
+pub opened_there : {L : Type 0} {holds : L → List Val → Type 0} {c : Inside L} → Tied holds c → c.live ≡ true →
+    (o : ℕ) → is_opened (called c) o ≡ is_some (write_slot c.opened.writes o)
+opened_there {c = c} v live o = opened_slot c.opened.writes (state (called c)).writes o (v.writes live)
 
 -- the slots stay those of the writes, with the same old values
 pub are_writes_set : (o : ℕ) (v : Val) (slots : List WriteSlot) (writes : List Write) → AreWrites slots writes →
