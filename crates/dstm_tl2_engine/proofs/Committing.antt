@@ -56,7 +56,7 @@ told_some told writes (inr is) some = is
 
 -- ---- a caller's fields
 
-module _ {L : Type 0} (holds : L → List Val → Type 0) (c : Inside L) (v : Tied holds c) where
+module _ {L : Type 0} {holds : L → List Val → Type 0} {c : Inside L} (v : Tied holds c) where
   -- the condition of a commit, as the draw needs it
   pub keeps_law : IsLawful holds (called c) →
       KeepsLaw (holds c.terms.law.value) (objects (table_of c.terms)) (entry_of (state (called c)) c.opened.writes)

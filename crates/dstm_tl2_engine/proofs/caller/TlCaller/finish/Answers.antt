@@ -18,39 +18,35 @@ locked g c = subst HasLocked (sym c.self.view_is) c.requires.locked
 pub finish-committed-requires-clause-lawful : goal.finish-committed-requires-clause-lawful
 finish-committed-requires-clause-lawful g c =
     let before = (goal.at.finish-committed-requires-clause-lawful g c).After-words in
-    law_there g.L.Law.holds c.self.inside c.self.invariant (home g before) (c.self.invariant.lawful (locked g before))
+    law_there c.self.invariant (home g before) (c.self.invariant.lawful (locked g before))
 
 left : (g : Over) (c : In-Err g) → (called c.self.inside).home ≡ c.words.result.now → HasLocked (called c.self.inside) →
-    Left g.L.Law.holds c.self.inside c.self.invariant (Finishing c.self.inside.opened.writes)
-    c.finish-committed.new.self c.in-Err.again
+    Left c.self.invariant (Finishing c.self.inside.opened.writes) c.finish-committed.new.self c.in-Err.again
 left g c same locked =
-    left_here g.L.Law.holds c.self.inside c.self.invariant same
-    (Finishing c.self.inside.opened.writes) refl refl c.in-Err.ensures.ends
+    left_here c.self.invariant same (Finishing c.self.inside.opened.writes) refl refl c.in-Err.ensures.ends
     c.in-Err.ensures.free.1 c.writes.ensures.below c.writes.ensures.apart (locked_made locked) tt
 
 pub invariant_of-self : goal.invariant_of-self
 invariant_of-self g c =
     let at = goal.at.invariant_of-self g c in
     let by = left g at.In-Err (home g at.After-words) (locked g at.After-words) in
-    rw c.in-Err.ensures.free.0 (left_tied g.L.Law.holds c.self.inside c.self.invariant by)
+    rw c.in-Err.ensures.free.0 (left_tied c.self.invariant by)
 
 pub returns-in-Err : goal.returns-in-Err
 returns-in-Err g c =
     let at = goal.at.returns-in-Err g c in
     let by = left g at.In-Err (home g at.After-words) (locked g at.After-words) in
-    let x = record c.self.inside { steps = c.finish-committed.new.self; left = Some c.in-Err.again } in
     record {
       stays = search rules;
-      leaves = rw (← c.self.view_is) (left_leaves g.L.Law.holds c.self.inside c.self.invariant by);
+      leaves = rw (← c.self.view_is) (left_leaves c.self.invariant by);
       number = search rules;
       kept = search rules;
-      told = λ _. left_told g.L.Law.holds c.self.inside c.self.invariant by;
+      told = λ _. left_told c.self.invariant by;
       seen = (kept c.self.invariant _ by.under).seen;
     }
 
 finished : (g : Over) (c : In_default g) → (called c.self.inside).home ≡ c.words.result.now →
-    HasLocked (called c.self.inside) →
-    Finished g.L.Law.holds c.self.inside c.self.invariant c.finish-committed.new.self c.in_default.field-0
+    HasLocked (called c.self.inside) → Finished c.self.invariant c.finish-committed.new.self c.in_default.field-0
 finished g c same locked =
     let x = c.self.inside in
     let new = c.finish-committed.new.self in
@@ -60,26 +56,25 @@ finished g c same locked =
       valid = subst (λ (h : Home _). is_valid (now h new) ≡ true) (sym same) valid.0;
       drawn = subst (λ (h : Home _). (now h new).drawn ≡ Some c.in_default.field-0) (sym same) valid.1;
       told = subst (λ (h : Home _). (now h new).writes ≡ Some x.opened.writes) (sym same) valid.2;
-      free = free_here g.L.Law.holds x c.self.invariant same new c.in_default.ensures.free.1;
+      free = free_here c.self.invariant same new c.in_default.ensures.free.1;
     }
 
 pub invariant_of-self-in_default : goal.invariant_of-self-in_default
 invariant_of-self-in_default g c =
     let at = goal.at.invariant_of-self-in_default g c in
-    rw c.in_default.ensures.free.0 (finished_tied g.L.Law.holds c.self.inside c.self.invariant
+    rw c.in_default.ensures.free.0 (finished_tied c.self.invariant
     (finished g at.In_default (home g at.After-words) (locked g at.After-words)))
 
 pub returns-in_default : goal.returns-in_default
 returns-in_default g c =
     let at = goal.at.returns-in_default g c in
     let by = finished g at.In_default (home g at.After-words) (locked g at.After-words) in
-    let x = record c.self.inside { steps = c.finish-committed.new.self } in
     let r = c.in_default.is in
     rw r (record {
-      stays = rw (← c.self.view_is) (finished_stays g.L.Law.holds c.self.inside c.self.invariant by);
+      stays = rw (← c.self.view_is) (finished_stays c.self.invariant by);
       leaves = search rules;
-      number = rw (← c.self.view_is) (finished_commits g.L.Law.holds c.self.inside c.self.invariant by);
+      number = rw (← c.self.view_is) (finished_commits c.self.invariant by);
       kept = search rules;
-      told = λ _. finished_told g.L.Law.holds c.self.inside c.self.invariant by;
+      told = λ _. finished_told c.self.invariant by;
       seen = (kept c.self.invariant _ by.ends).seen;
     })

@@ -12,38 +12,34 @@ use Rattle.dstm_tl2_engine.proofs.caller.TlCaller.lock.Goals.{In-Err, In_default
 use Rattle.dstm_tl2_engine.proofs.caller.TlCaller.lock.Goals as goal
 
 left : (g : Over) (c : In-Err g) →
-    Left g.L.Law.holds c.self.inside c.self.invariant (Locking c.self.inside.opened.writes) c.lock_all-locked.new.self
-    c.in-Err.again
+    Left c.self.invariant (Locking c.self.inside.opened.writes) c.lock_all-locked.new.self c.in-Err.again
 left g c =
     let rest : AtRest (state (called c.self.inside)) =
     subst (λ (k : TlCalled _). AtRest (state k)) (sym c.self.view_is) c.requires.rest in
-    left_here g.L.Law.holds c.self.inside c.self.invariant
-    (at_words c.self.inside c.self.view_is c.requires.table c.words.ensures)
+    left_here c.self.invariant (at_words c.self.inside c.self.view_is c.requires.table c.words.ensures)
     (Locking c.self.inside.opened.writes) refl refl c.in-Err.ensures.ends
     c.in-Err.ensures.free.1 c.writes.ensures.below c.writes.ensures.apart (rest_made (called c.self.inside) rest)
     (rest_can rest (length c.self.inside.opened.writes))
 
 pub invariant_of-self : goal.invariant_of-self
 invariant_of-self g c =
-    rw c.in-Err.ensures.free.0
-    (left_tied g.L.Law.holds c.self.inside c.self.invariant (left g (goal.at.invariant_of-self g c).In-Err))
+    rw c.in-Err.ensures.free.0 (left_tied c.self.invariant (left g (goal.at.invariant_of-self g c).In-Err))
 
 pub returns-in-Err : goal.returns-in-Err
 returns-in-Err g c =
     let by = left g (goal.at.returns-in-Err g c).In-Err in
-    let x = record c.self.inside { steps = c.lock_all-locked.new.self; left = Some c.in-Err.again } in
     record {
       stays = search rules;
-      leaves = rw (← c.self.view_is) (left_leaves g.L.Law.holds c.self.inside c.self.invariant by);
+      leaves = rw (← c.self.view_is) (left_leaves c.self.invariant by);
       kept = search rules;
       locked = search rules;
       done = search rules;
-      told = λ _. left_told g.L.Law.holds c.self.inside c.self.invariant by;
+      told = λ _. left_told c.self.invariant by;
       seen = (kept c.self.invariant _ by.under).seen;
     }
 
 locked : (g : Over) (c : In_default g) →
-    Locked g.L.Law.holds c.self.inside c.self.invariant c.lock_all-locked.new.self
+    Locked c.self.invariant c.lock_all-locked.new.self
 locked g c =
     let x = c.self.inside in
     let new = c.lock_all-locked.new.self in
@@ -53,29 +49,27 @@ locked g c =
           (c.in_default.ensures.goes_on (Locking x.opened.writes) refl);
       rest = subst (λ (k : TlCalled _). AtRest (state k)) (sym c.self.view_is) c.requires.rest;
       live = ap is_live c.self.view_is ∙ c.requires.live;
-      state_is = locked_here g.L.Law.holds x c.self.invariant same new c.in_default.ensures.state;
-      locks = locks_here g.L.Law.holds x c.self.invariant same
+      state_is = locked_here c.self.invariant same new c.in_default.ensures.state;
+      locks = locks_here c.self.invariant same
           c.lock_all-locked.ensures.lists c.in_default.ensures.all;
     }
 
 pub invariant_of-self-in_default : goal.invariant_of-self-in_default
 invariant_of-self-in_default g c =
-    rw c.in_default.ensures.all (locked_tied g.L.Law.holds c.self.inside c.self.invariant
+    rw c.in_default.ensures.all (locked_tied c.self.invariant
     (locked g (goal.at.invariant_of-self-in_default g c).In_default)
     (subst (IsLawful g.L.Law.holds) (sym c.self.view_is) c.requires.lawful))
 
 pub returns-in_default : goal.returns-in_default
 returns-in_default g c =
     let by = locked g (goal.at.returns-in_default g c).In_default in
-    let new = c.lock_all-locked.new.self in
-    let x = record c.self.inside { steps = new } in
     let r = c.in_default.is in
     rw r (record {
-      stays = rw (← c.self.view_is) (locked_stays g.L.Law.holds c.self.inside c.self.invariant by);
+      stays = rw (← c.self.view_is) (locked_stays c.self.invariant by);
       leaves = search rules;
-      kept = rw (← c.self.view_is) (locked_kept g.L.Law.holds c.self.inside c.self.invariant by);
-      locked = has_locked g.L.Law.holds c.self.inside c.self.invariant by;
-      done = locked_done g.L.Law.holds c.self.inside c.self.invariant by ∙ ap done c.self.view_is;
-      told = λ _. locked_told g.L.Law.holds c.self.inside c.self.invariant by;
+      kept = rw (← c.self.view_is) (locked_kept c.self.invariant by);
+      locked = has_locked c.self.invariant by;
+      done = locked_done c.self.invariant by ∙ ap done c.self.view_is;
+      told = λ _. locked_told c.self.invariant by;
       seen = (kept c.self.invariant _ by.ends).seen;
     })
