@@ -37,10 +37,7 @@ module _ {L : Type 0} (holds : L → List Val → Type 0) (k : Called L) where
       let named : number_or (view_of steps.seat).number 0 ≡ k.number =
       ap (λ (v : View L). number_or v.number 0) s.view in
       let seen : (view_of steps.seat).log ≡ k.log = ap (λ (v : View L). v.log) s.view in
-      subst (λ n. InTask holds k.home task (began_as k.home task n steps) steps
-      (due task (shape_of k) None (now k.home steps) (effort_by steps))
-      (answer task None (now k.home steps) (effort_by steps))) (sym named)
-      (call_begins holds k.home task k.number steps s.seat
+      rw named (call_begins holds k.home task k.number steps s.seat
       (s.view ∙ ap (caller_view k.home.terms k.number) (sym seen)) s.number
       (subst (IsRunOf holds k.home.terms) (sym seen) s.run) s.shape s.manager
       (subst (IsMirror (shape_of k) steps) (sym (now_is s)) s.mirror) s.renewed.0 s.renewed.1 s.renewed.2)

@@ -64,13 +64,13 @@ told_by : (values : List Val) {s shape : Shape} {start first : List Val} (words 
     (o : ℕ) → o < s.objects → value_at values o ≡ value_left s start words o
 told_by values {s = s} {shape = shape} {start = start} words is_shape is_start told = rw (is_shape, is_start) told
 
-module _ {L : Type 0} (holds : L → List Val → Type 0) (terms : Terms L) (v : View L) (words : List ℕ)
+module _ {L : Type 0} {holds : L → List Val → Type 0} {terms : Terms L} {v : View L} {words : List ℕ}
     (l : LeftBy holds terms v words) (first : v.first ≡ true) (none_out : v.out ≡ 0) where
   -- the log of a seat, where no other is out
   pub last_run : IsRunOf holds terms v.log
   last_run = subst (IsRunOf holds terms) (l.whole first none_out) l.run
 
-module _ {L : Type 0} (holds : L → List Val → Type 0) (terms : Terms L) (v : View L) (words : List ℕ)
+module _ {L : Type 0} {holds : L → List Val → Type 0} {terms : Terms L} {v : View L} {words : List ℕ}
     (l : LeftBy holds terms v words) (first : v.first ≡ true) (none_out : v.out ≡ 0) {shape : Shape} {start : List Val}
     (is_shape : terms.shape ≡ shape) (is_start : terms.start.value.items ≡ start) (values : List Val)
     (objects : length values ≡ shape.objects)

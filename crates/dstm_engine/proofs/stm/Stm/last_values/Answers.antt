@@ -7,26 +7,20 @@ use Rattle.dstm_engine.proofs.stm.Stm.last_values.Goals as goal
 pub returns-clause-values : goal.returns-clause-values
 returns-clause-values g c =
     let v = c.self.invariant in
-    rw (← c.self.view_is)
-    (last_state g.L.Law.holds c.self.inside.words.terms c.args.seat.me.0 c.close_in_place-left.result
-    c.close_in_place-left.ensures c.requires.whole.0 c.requires.whole.1 v.0
+    rw (← c.self.view_is) (last_state c.close_in_place-left.ensures c.requires.whole.0 c.requires.whole.1 v.0
     (ap (λ (x : Vec _ _). x.items) v.1) c.settle-values.result.items c.settle-values.ensures.objects
     c.settle-values.ensures.values)
 
 pub returns-clause-current : goal.returns-clause-current
 returns-clause-current g c =
     let v = c.self.invariant in
-    rw (← c.self.view_is)
-    (last_current g.L.Law.holds c.self.inside.words.terms c.args.seat.me.0 c.close_in_place-left.result
-    c.close_in_place-left.ensures c.requires.whole.0 c.requires.whole.1 v.0
+    rw (← c.self.view_is) (last_current c.close_in_place-left.ensures c.requires.whole.0 c.requires.whole.1 v.0
     (ap (λ (x : Vec _ _). x.items) v.1) c.settle-values.result.items c.settle-values.ensures.objects
     c.settle-values.ensures.values)
 
 pub returns-clause-run : goal.returns-clause-run
 returns-clause-run g c =
-    rw (← c.self.view_is)
-    (last_run g.L.Law.holds c.self.inside.words.terms c.args.seat.me.0 c.close_in_place-left.result
-    c.close_in_place-left.ensures c.requires.whole.0 c.requires.whole.1)
+    rw (← c.self.view_is) (last_run c.close_in_place-left.ensures c.requires.whole.0 c.requires.whole.1)
 
 pub returns-clause-lawful : goal.returns-clause-lawful
 returns-clause-lawful g c =
