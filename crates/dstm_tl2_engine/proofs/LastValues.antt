@@ -125,7 +125,7 @@ free_word t run o r b none = by (stands t (will_of t run) run r (told t run run 
     by (waits c h held w) = absurd (let p = nobody c in let q = held.holds in cc)
     by (commits c h n held w) = absurd (let p = nobody c in let q = held.holds in cc)
 
-module _ {L : Type 0} (holds : L → List Val → Type 0) {terms : Terms L} {made : ℕ} {v : View L} (words : List ℕ)
+module _ {L : Type 0} {holds : L → List Val → Type 0} {terms : Terms L} {made : ℕ} {v : View L} {words : List ℕ}
     (l : LeftBy holds terms v words) (back : HasReturned terms made v) (all : terms.callers ≤ made + v.enrolments)
     (first : v.first ≡ true) (none_out : v.out ≡ 0) where
   -- each caller that has enrolled was taken in
@@ -176,10 +176,10 @@ module _ {L : Type 0} (holds : L → List Val → Type 0) {terms : Terms L} {mad
         (λ o within. let b : o < objects (table_of terms) = omega (arith, within, same) in settled o b ∙ left_is o b))
 
 -- and they are lawful
-pub last_lawful : {L : Type 0} (holds : L → List Val → Type 0) (terms : Terms L) (v : View L) (words : List ℕ)
-    (l : LeftBy holds terms v words) → v.first ≡ true → v.out ≡ 0 → {values : List Val} →
+pub last_lawful : {L : Type 0} {holds : L → List Val → Type 0} {terms : Terms L} {v : View L} {words : List ℕ} →
+    LeftBy holds terms v words → v.first ≡ true → v.out ≡ 0 → {values : List Val} →
     values ≡ state_after terms.start.value.items (history_of (table_of terms) v.log) → holds terms.law.value values
-last_lawful holds terms v words l first none_out is =
+last_lawful {holds = holds} {terms = terms} {v = v} l first none_out is =
     let run : IsRunOf holds terms v.log = subst (IsRunOf holds terms) (l.whole first none_out) l.run in
     subst (holds terms.law.value) (sym is)
     (prefix_is_lawful (table_of terms) (holds terms.law.value) v.log (history_of (table_of terms) v.log) []

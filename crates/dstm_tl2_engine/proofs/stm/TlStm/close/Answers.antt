@@ -1,4 +1,4 @@
-use Rattle.std.proofs.Common.{◌+◌, ◌≤◌, ◌∙◌, ◌≡◌, Vec, ap, subst, sym, true}
+use Rattle.std.proofs.Common.{◌+◌, ◌≤◌, ◌∙◌, ◌≡◌, Vec, ap, sym, true}
 use Rattle.std.specs.Prelude.{length}
 use Rattle.dstm_tl2_words.specs.Seats.{Home, LeftBy}
 use Rattle.dstm_tl2_engine.specs.Tables.{HasReturned, TlFounding}
@@ -23,20 +23,16 @@ returns-clause-values g c =
     let words = c.close_in_place-left.result in
     let values = c.settle-values.result.items in
     let back : HasReturned h.terms f.made f.view =
-    subst (λ (x : Home _). HasReturned x.terms f.made f.view) c.requires.founder
-    (subst (λ (x : TlFounding _). HasReturned x.home.terms x.made x.view) c.founder.view_is c.founder.invariant.6) in
+    rw (← c.requires.founder, ← c.founder.view_is) c.founder.invariant.6 in
     let all : h.terms.callers ≤ f.made + f.view.enrolments =
-    subst (λ (x : Home _). x.terms.callers ≤ f.made + f.view.enrolments) c.requires.founder
-    (subst (λ (x : TlFounding _). x.home.terms.callers ≤ x.made + x.view.enrolments) c.founder.view_is
-    c.founder.invariant.5) in
+    rw (← c.requires.founder, ← c.founder.view_is) c.founder.invariant.5 in
     let start : c.self.inside.start.items ≡ h.terms.start.value.items =
     ap (λ (x : Vec _ _). x.items) (sym c.self.invariant.0)
     ∙ ap (λ (x : Home _). x.terms.start.value.items) c.self.view_is in
-    last_state g.L.Law.holds words (left g before) back all (first g before) c.requires.out values
+    last_state (left g before) back all (first g before) c.requires.out values
     (c.settle-values.ensures.objects ∙ ap length start) (told_by values words start c.settle-values.ensures.values)
 
 pub returns-clause-lawful : goal.returns-clause-lawful
 returns-clause-lawful g c =
     let before = (goal.at.returns-clause-lawful g c).After-close_in_place-left in
-    last_lawful g.L.Law.holds c.args.self.terms c.args.founder.view c.close_in_place-left.result (left g before)
-    (first g before) c.requires.out (returns-clause-values g c)
+    last_lawful (left g before) (first g before) c.requires.out (returns-clause-values g c)
