@@ -1,9 +1,9 @@
 -- What the rules allow a guest they allow whatever it finds, and its state goes on by it.
-use Rattle.std.proofs.Common.{◌≡◌, ℕ, List, Some, None, refl, sym, ap, ◌∙◌, subst, eq-eqb}
-use Rattle.std.specs.Prelude.{◌==◌, true, false, if◌then◌else◌}
+use Rattle.std.proofs.Common.{◌≡◌, ℕ, List, Some, refl, sym, ap, ◌∙◌, subst, eq-eqb}
+use Rattle.std.specs.Prelude.{◌==◌, true, if◌then◌else◌}
 use Rattle.atomic_table.specs.declared.shared.Seat.{Seat}
 use Rattle.dstm_core.specs.Events.{Event}
-use Rattle.dstm_core.specs.Rules.{AllowedAs, access, after}
+use Rattle.dstm_core.specs.Rules.{AllowedAs, after}
 use Rattle.dstm_core.specs.State.{LocalState}
 use Rattle.dstm_core.specs.Traces.{Access, Acts}
 use Rattle.dstm_core.specs.declared.event.Kind.{Kind}
@@ -11,8 +11,7 @@ use Rattle.dstm_core.specs.declared.event.Kind.TheVariants.{Enrol, Rank, Begin, 
 use Rattle.dstm_core.specs.declared.shape.Shape.{Shape}
 use Rattle.dstm_model.specs.declared.value.Val.{Val}
 use Rattle.dstm_machines.specs.Traces.Access.{Load, Store, Exchange, Add}
-use Rattle.dstm_words.specs.Seats.{ActsBy, event_by, Home, IsOf, MayMake, caller_state, view_of, Makes, made, number_or, View}
-use Rattle.dstm_words.specs.declared.terms.Terms.{Terms}
+use Rattle.dstm_words.specs.Seats.{ActsBy, event_by, Home, IsOf, MayMake, caller_state, view_of, Makes, number_or, View}
 use Rattle.dstm_words.proofs.Seats.{number_after, state_after}
 use Rattle.dstm_engine_tests.specs.Guests.{GoesOnBy, IsGuest, is_add, is_exchange, is_load, is_store}
 
@@ -61,29 +60,18 @@ module _ (s : Shape) (l : LocalState) (e : Event) (c found : ℕ) where
   store_any PutNew q a = (a.0, (refl, refl), a.2, a.3)
   store_any k q a = absurd (cc)
 
+  -- an exchange acts as its event does, whatever it finds
+  acts_too : (k : Kind) (x v : ℕ) → e.expected ≡ e.found → Acts (Exchange x v) e →
+      Acts (Exchange x v) (event_by (Exchange e.expected e.put) c k e.place found)
+  acts_too k x v same acts =
+      subst (λ w. Acts w (event_by (Exchange e.expected e.put) c k e.place found)) (sym (exchanges e x v same acts))
+      (refl, refl)
+
   exchange_any : (k : Kind) → is_exchange k ≡ true → e.expected ≡ e.found → AllowedAs k s l e →
       AllowedAs k s l (event_by (Exchange e.expected e.put) c k e.place found)
-  exchange_any Install q x a = (
-    a.0,
-    subst (λ w. Acts w (event_by (Exchange e.expected e.put) c Install e.place found))
-        (sym (exchanges e _ _ x a.1)) (refl, refl),
-    a.2,
-    a.3,
-  )
-  exchange_any Validating q x a = (
-    a.0,
-    subst (λ w. Acts w (event_by (Exchange e.expected e.put) c Validating e.place found))
-        (sym (exchanges e _ _ x a.1)) (refl, refl),
-    a.2,
-    a.3,
-  )
-  exchange_any Commit q x a = (
-    a.0,
-    subst (λ w. Acts w (event_by (Exchange e.expected e.put) c Commit e.place found))
-        (sym (exchanges e _ _ x a.1)) (refl, refl),
-    a.2,
-    a.3,
-  )
+  exchange_any Install q x a = (a.0, acts_too Install _ _ x a.1, a.2, a.3)
+  exchange_any Validating q x a = (a.0, acts_too Validating _ _ x a.1, a.2, a.3)
+  exchange_any Commit q x a = (a.0, acts_too Commit _ _ x a.1, a.2, a.3)
   exchange_any k q x a = absurd (cc)
 
   -- ---- and the state after an event that finds what it is to find is that of the event

@@ -1,18 +1,20 @@
-// What the tests share: tables of zeros with two callers, and calls on an attempt whose contracts say no more than the tests
-// need.
+// What the tests of DSTM's engine share: tables of zeros with two callers, and calls on an attempt whose contracts say no more
+// than the tests need.
 ghost use Rattle.std.specs.Prelude.{◌≡◌, ◌<◌, ◌≤◌, IfOk, IfSome, IsTrue};
 ghost use Rattle.dstm_core.specs.Words.{IsValid};
 ghost use Rattle.dstm_engine.specs.Callers.{is_live, shape_of};
+ghost use Rattle.dstm_engine_tests.specs.Attempts.{GoesOn, IsSound};
 
+use crate::attempts::{Attempt, low, open};
 use dstm_core::{Manager, Shape};
 use dstm_engine::{Caller, Founder, Spent, Stm, Tally, Tx};
-use dstm_model::{AnyLaw, Law, Val};
+use dstm_mem::Mem;
+use dstm_model::{AnyLaw, Law};
 use dstm_order::Again;
 use std::alloc::Global;
 use std::test::Fail;
 
-// The low part of a value, or the number of a commit. None where the attempt was over before the call.
-pub type Answer = Option<Result<u64, Again>>;
+pub type Answer = crate::attempts::Answer<Again>;
 
 // A table of zeros with two callers.
 #[derive(Drop)]
@@ -92,6 +94,7 @@ pub fn begin<'a>(caller: &'a mut Caller<AnyLaw>, stm: &'a Stm<AnyLaw>) -> Option
     ensures reference { IfSome result (λ t. t.caller.ghost_name ≡ caller.entry.ghost_name) }
     ensures table { IfSome result (λ t. t.stm.now ≡ stm.now) }
     ensures home { IfSome result (λ t. t.caller.now.home ≡ stm.now) }
+    ensures live { IfSome result (λ t. IsTrue (is_live t.caller.now)) }
 {
     match caller.begin(stm) {
         Ok(tx) => Some(tx),
@@ -113,73 +116,17 @@ pub fn is_spent(caller: &mut Caller<AnyLaw>, stm: &Stm<AnyLaw>) -> bool
     }
 }
 
-// Opens an object for reading.
-pub fn read_value(tx: &mut Tx<'_, AnyLaw>, o: u32) -> Option<Result<Val, Again>>
-    requires exists { o < (shape_of tx.old.caller.now).objects }
-    ensures reference { tx.new.caller.ghost_name ≡ tx.old.caller.ghost_name }
-    ensures table { tx.new.stm.now ≡ tx.old.stm.now }
-    ensures home { tx.new.caller.now.home ≡ tx.old.caller.now.home }
-{
-    if !tx.is_live() {
-        return None;
-    }
-    Some(tx.open_read(o))
-}
-
-// The same, and answers the low part.
-pub fn read(tx: &mut Tx<'_, AnyLaw>, o: u32) -> Answer
-    requires exists { o < (shape_of tx.old.caller.now).objects }
-    ensures reference { tx.new.caller.ghost_name ≡ tx.old.caller.ghost_name }
-    ensures table { tx.new.stm.now ≡ tx.old.stm.now }
-    ensures home { tx.new.caller.now.home ≡ tx.old.caller.now.home }
-{
-    match read_value(tx, o)? {
-        Ok(value) => Some(Ok(value.low)),
-        Err(again) => Some(Err(again)),
-    }
-}
-
-// Opens an object for reading and writing, and leaves its value as it is.
-pub fn open(tx: &mut Tx<'_, AnyLaw>, o: u32) -> Answer
-    requires exists { o < (shape_of tx.old.caller.now).objects }
-    ensures reference { tx.new.caller.ghost_name ≡ tx.old.caller.ghost_name }
-    ensures table { tx.new.stm.now ≡ tx.old.stm.now }
-    ensures home { tx.new.caller.now.home ≡ tx.old.caller.now.home }
-{
-    if !tx.is_live() {
-        return None;
-    }
-    match tx.open_write(o) {
-        Ok(value) => Some(Ok(value.low)),
-        Err(again) => Some(Err(again)),
-    }
-}
-
-// Opens an object for reading and writing, and sets its value. Answers the old one.
-pub fn set(tx: &mut Tx<'_, AnyLaw>, o: u32, value: Val) -> Answer
-    requires exists { o < (shape_of tx.old.caller.now).objects }
-    ensures reference { tx.new.caller.ghost_name ≡ tx.old.caller.ghost_name }
-    ensures table { tx.new.stm.now ≡ tx.old.stm.now }
-    ensures home { tx.new.caller.now.home ≡ tx.old.caller.now.home }
-{
-    if !tx.is_live() {
-        return None;
-    }
-    match tx.open_write(o) {
-        Ok(old) => {
-            tx.set(o, value);
-            Some(Ok(old.low))
-        }
-        Err(again) => Some(Err(again)),
+impl Attempt for Tx<'_, AnyLaw> {
+    fn is_live(&self) -> bool {
+        Tx::is_live(self)
     }
 }
 
 // Lets a read go, if there is one.
-pub fn release(tx: &mut Tx<'_, AnyLaw>, o: u32) -> bool
+pub fn release<'a>(tx: &mut Tx<'a, AnyLaw>, o: u32) -> bool
     requires exists { o < (shape_of tx.old.caller.now).objects }
-    ensures reference { tx.new.caller.ghost_name ≡ tx.old.caller.ghost_name }
-    ensures table { tx.new.stm.now ≡ tx.old.stm.now }
-    ensures home { tx.new.caller.now.home ≡ tx.old.caller.now.home }
+    requires sound { IsSound ⟦<Tx<'a, AnyLaw> as Mem>⟧ tx.old }
+    ensures { GoesOn ⟦<Tx<'a, AnyLaw> as Mem>⟧ tx.old tx.new }
 {
     let is_read = tx.is_live() && tx.is_read(o);
     if is_read {
@@ -203,14 +150,25 @@ pub fn drop_early(tx: Tx<'_, AnyLaw>)
     let _tx = tx;
 }
 
+// A caller opens the first object and commits: the value, the number and the caller's counts.
+pub fn come(caller: &mut Caller<AnyLaw>, stm: &Stm<AnyLaw>) -> Option<(Answer, Answer, Tally)>
+    requires table { caller.old.home ≡ stm.now }
+    requires objects { 0 < stm.now.terms.shape.objects }
+    ensures home { IfSome result (λ _. caller.new.home ≡ stm.now) }
+{
+    let mut tx = begin(caller, stm)?;
+    let value = open(&mut tx, 0);
+    if !tx.is_live() {
+        return None;
+    }
+    let number = commit(tx);
+    Some((value, number, caller.tally()))
+}
+
 pub fn tally(steps: u64, turns: u64, kills: u64) -> Tally {
     Tally {
         steps,
         turns,
         kills,
     }
-}
-
-pub fn low(low: u64) -> Val {
-    Val { low, high: 0 }
 }

@@ -1,7 +1,8 @@
 // Callers that meet, under Karma and Greedy.
 ghost use Rattle.std.specs.Prelude.{◌≡◌, ◌≤◌, IfSome};
 
-use crate::calls::{Answer, begin, commit, open, read, shape, tally, two_callers};
+use crate::attempts::{open, read};
+use crate::calls::{Answer, begin, come, commit, shape, tally, two_callers};
 use dstm_core::Manager;
 use dstm_engine::{Caller, Stm, Tally};
 use dstm_model::AnyLaw;
@@ -43,13 +44,7 @@ fn karma(
     let mut b = begin(two, stm)?;
     let _values = (read(&mut b, 1), read(&mut b, 2), open(&mut b, 0));
     earn(one, stm, reads)?;
-    let mut a = begin(one, stm)?;
-    let _old = open(&mut a, 0);
-    if !a.is_live() {
-        return None;
-    }
-    let number = commit(a);
-    let counts = one.tally();
+    let (_old, number, counts) = come(one, stm)?;
     if !b.is_live() {
         return None;
     }

@@ -13,9 +13,10 @@ ghost use Rattle.dstm_engine_tests.specs.Guests.{
   is_store,
 };
 
-use crate::calls::{Answer, begin, commit, low, open, small, tally};
+use crate::attempts::low;
+use crate::calls::{Answer, come, small, tally};
 use dstm_core::{Event, Kind, Local, Manager, Shape};
-use dstm_engine::{Caller, Stm, Tally};
+use dstm_engine::{Stm, Tally};
 use dstm_model::AnyLaw;
 use dstm_words::{CoreSeat, Words};
 use std::alloc::{AllocError, Global};
@@ -167,21 +168,6 @@ fn play(
 
 // What a caller gets that opens the guest's object and commits, its number and its counts, and what is left.
 type Outcome = (Answer, Answer, Tally, u64);
-
-// A caller opens the guest's object and commits.
-fn come(caller: &mut Caller<AnyLaw>, stm: &Stm<AnyLaw>) -> Option<(Answer, Answer, Tally)>
-    requires table { caller.old.home ≡ stm.now }
-    requires objects { stm.now.terms.shape.objects ≡ 1 }
-    ensures home { IfSome result (λ _. caller.new.home ≡ stm.now) }
-{
-    let mut tx = begin(caller, stm)?;
-    let value = open(&mut tx, 0);
-    if !tx.is_live() {
-        return None;
-    }
-    let number = commit(tx);
-    Some((value, number, caller.tally()))
-}
 
 // What a caller gets that comes after this event of the guest.
 fn after_guest(alloc: Global, manager: Manager, last: usize) -> Result<Outcome, Fail> {

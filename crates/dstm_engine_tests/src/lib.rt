@@ -1,7 +1,9 @@
-//! Rows of the engine that were worked out by hand, and worked traces of its abstract machine, which its rules take or refuse,
+//! Rows of the engines that were worked out by hand, and worked traces of the abstract machine of DSTM, which its rules take or refuse,
 //! as tests. They stand apart from the crates that they try, since a crate with tests is proved twice.
 #![tactic(auto)]
 
+#[cfg(test)]
+mod attempts;
 #[cfg(test)]
 mod calls;
 #[cfg(test)]
@@ -15,6 +17,8 @@ mod machine;
 #[cfg(test)]
 mod managers;
 #[cfg(test)]
+mod moves;
+#[cfg(test)]
 mod opacity;
 #[cfg(test)]
 mod rows;
@@ -26,5 +30,9 @@ mod stale;
 mod tables;
 #[cfg(test)]
 mod threads;
+#[cfg(test)]
+mod tl2_meetings;
+#[cfg(test)]
+mod tl2_threads;
 #[cfg(test)]
 mod words;

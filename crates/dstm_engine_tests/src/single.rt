@@ -1,9 +1,8 @@
 // One caller alone, under Polite.
 ghost use Rattle.std.specs.Prelude.{◌≡◌, IfOk, IfSome};
 
-use crate::calls::{
-    Answer, Pair, begin, commit, drop_early, low, read, read_value, set, shape, tally, two_callers,
-};
+use crate::attempts::{low, read, read_value, set};
+use crate::calls::{Answer, Pair, begin, commit, drop_early, shape, tally, two_callers};
 use dstm_core::Manager;
 use dstm_engine::{Caller, Stm, Tally};
 use dstm_model::{AnyLaw, Val};

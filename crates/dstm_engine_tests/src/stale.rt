@@ -1,9 +1,8 @@
 // Reads that are no longer current, under Polite.
 ghost use Rattle.std.specs.Prelude.{◌≡◌, IfOk, IfSome};
 
-use crate::calls::{
-    Answer, Pair, begin, commit, drop_early, low, open, read, release, set, shape, two_callers,
-};
+use crate::attempts::{low, open, read, set};
+use crate::calls::{Answer, Pair, begin, commit, drop_early, release, shape, two_callers};
 use dstm_core::Manager;
 use dstm_engine::{Caller, Stm};
 use dstm_model::AnyLaw;

@@ -1,6 +1,7 @@
 ghost use Rattle.std.specs.Prelude.{◌≡◌, IfSome};
 
-use crate::calls::{Answer, begin, commit, is_spent, low, set, small};
+use crate::attempts::{low, set};
+use crate::calls::{Answer, begin, commit, is_spent, small};
 use dstm_core::{Kind, Manager};
 use dstm_engine::{Caller, EnrolError, Spent, Stm};
 use dstm_model::{AnyLaw, Val};

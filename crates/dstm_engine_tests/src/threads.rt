@@ -2,85 +2,34 @@
 ghost use Rattle.std.specs.Prelude.{◌≡◌, length};
 ghost use Rattle.dstm_core.specs.Words.{IsValid};
 
-use crate::calls::low;
+use crate::attempts::low;
+use crate::moves::{ATTEMPTS, MOVES, Move, Mover, TwoObjects, move_both};
 use dstm_core::{Manager, Shape};
 use dstm_engine::{Caller, Ended, Stm, attempt};
-use dstm_mem::{Body, Mem};
-use dstm_model::{Law, Val};
+use dstm_model::Val;
 use std::alloc::Global;
 use std::test::Fail;
-use std::thread::{Threads, join};
+use std::thread::Threads;
 
-// How many moves each thread makes.
-const MOVES: u32 = 10_000;
+impl Mover<Stm<TwoObjects>> for Caller<TwoObjects> {
+    ghost use Rattle.dstm_words.specs.Seats.{Home};
+    ghost use Rattle.dstm_engine_tests.specs.declared.moves.TwoObjects.{TwoObjects};
 
-// The attempts that it has for them.
-const ATTEMPTS: u32 = 65_536;
+    ghost Place = { Home TwoObjects };
 
-// The law of two objects.
-#[derive(Clone, Copy)]
-struct TwoObjects;
+    ghost home = { λ caller. caller.home };
 
-impl Law for TwoObjects {
-    ghost use Rattle.std.specs.Prelude.{◌≡◌, length};
+    ghost place = { λ stm. stm };
 
-    ghost holds = { λ _ map. length map ≡ 2 };
-}
+    ghost law = { λ home. home.terms.law.value };
 
-// Takes one from the first object and adds it to the second.
-#[derive(Drop)]
-struct Move {
-    law: TwoObjects,
-}
-
-impl Body<TwoObjects> for Move {
-    type Task = ();
-
-    type Outcome = ();
-
-    ghost law = { λ body. body.law };
-
-    ghost task = { λ _. tt };
-
-    ghost outcome = { λ _. tt };
-
-    ghost right = { λ _ _ _. Unit {0} };
-
-    ghost leaves = { λ _ _ _. Unit {0} };
-
-    fn run<M: Mem>(&mut self, mem: &mut M) -> Result<(), M::Err> {
-        let source = mem.open_write(0)?;
-        let target = mem.open_write(1)?;
-        mem.set(0, low(source.low.wrapping_sub(1)));
-        mem.set(1, low(target.low.wrapping_add(1)));
-        Ok(())
-    }
-}
-
-// Makes the moves, and counts them.
-fn move_all(
-    stm: &Stm<TwoObjects>,
-    caller: Caller<TwoObjects>,
-    law: TwoObjects,
-) -> (Caller<TwoObjects>, u32)
-    requires table { caller.home ≡ stm.now }
-    requires law { stm.now.terms.law.value ≡ law }
-    ensures table { result.0.home ≡ stm.entry.now }
-{
-    let mut caller = caller;
-    let mut body = Move { law };
-    let mut done = 0;
-    for _ in 0..ATTEMPTS {
-        if done == MOVES {
-            break;
-        }
-        match attempt(&mut caller, stm, &mut body) {
-            Ok(_) => done += 1,
-            Err(Ended::Again(_)) => {}
-            Err(Ended::Spent) => break,
+    fn try_move(&mut self, stm: &Stm<TwoObjects>, body: &mut Move) -> Option<bool> {
+        match attempt(self, stm, body) {
+            Ok(_) => Some(true),
+            Err(Ended::Again(_)) => Some(false),
+            Err(Ended::Spent) => None,
         }
     }
-    (caller, done)
 }
 
 // Both threads make their moves: how many each made, and what the objects are left with.
@@ -101,18 +50,7 @@ fn move_by_two<R: Threads + Sync>(
     let Ok(west) = founder.caller(alloc, &stm, 2) else {
         return Err(Fail::new("no caller"));
     };
-    let table = &stm;
-    let (east, west) = join(
-        rt,
-        move || -> (Caller<TwoObjects>, u32)
-            requires { (east.home ≡ table.now) × (table.now.terms.law.value ≡ law) }
-            ensures { result.0.home ≡ table.entry.now }
-        { move_all(table, east, law) },
-        move || -> (Caller<TwoObjects>, u32)
-            requires { (west.home ≡ table.now) × (table.now.terms.law.value ≡ law) }
-            ensures { result.0.home ≡ table.entry.now }
-        { move_all(table, west, law) },
-    );
+    let (east, west) = move_both(rt, &stm, east, west, law);
     founder.retire(&stm, east.0);
     founder.retire(&stm, west.0);
     let (values, _record) = stm.close(alloc, founder)?;

@@ -1,6 +1,6 @@
-use Rattle.std.proofs.Common.{◌≡◌, ◌∙◌}
+use Rattle.std.proofs.Common.{◌∙◌}
 use Rattle.dstm_mem.proofs.WithSet.{length-with_set}
-use Rattle.dstm_engine_tests.proofs.threads.MoveBodyTwoObjects.run.Goals as goal
+use Rattle.dstm_engine_tests.proofs.moves.MoveBodyTwoObjects.run.Goals as goal
 
 pub returns-clause-lawful : goal.returns-clause-lawful
 returns-clause-lawful g c map admitted =

@@ -1,15 +1,17 @@
 // Callers that meet on one thread, step by step.
-ghost use Rattle.std.specs.Prelude.{◌≡◌, ◌+◌, ◌<◌, ◌≤◌, length, true, IfOk, IfSome, IsTrue};
+ghost use Rattle.std.specs.Prelude.{◌≡◌, ◌+◌, ◌<◌, ◌≤◌, length, IfOk, IfSome, IsTrue, true};
 ghost use Rattle.dstm_tl2_steps.specs.Reads.{AtRest};
-ghost use Rattle.dstm_tl2_engine.specs.Callers.{is_live, objects_of, state};
+ghost use Rattle.dstm_tl2_engine.specs.Callers.{is_live, state};
+ghost use Rattle.dstm_engine_tests.specs.Attempts.{IsSound};
 
+use crate::attempts::{Attempt, low, open, read, set};
+use dstm_mem::Mem;
 use dstm_model::{AnyLaw, Val};
 use dstm_tl2_engine::{TlAgain, TlCaller, TlEnrol, TlFounder, TlLocked, TlSpent, TlStm, TlTx};
 use std::alloc::Global;
 use std::test::Fail;
 
-// The low part of a value, or the number of a commit. None where the attempt was over before the call.
-type Answer = Option<Result<u64, TlAgain>>;
+type Answer = crate::attempts::Answer<TlAgain>;
 
 // A table of zeros with two callers.
 #[derive(Drop)]
@@ -18,10 +20,6 @@ struct Pair {
     founder: TlFounder<AnyLaw>,
     one: TlCaller<AnyLaw>,
     two: TlCaller<AnyLaw>,
-}
-
-fn low(low: u64) -> Val {
-    Val { low, high: 0 }
 }
 
 fn two_callers(alloc: Global, objects: u32) -> Result<Pair, Fail>
@@ -73,72 +71,18 @@ fn begin<'a>(caller: &'a mut TlCaller<AnyLaw>, stm: &'a TlStm<AnyLaw>) -> Option
     }
 }
 
-// Opens an object for reading, and answers its value.
-fn read_value(tx: &mut TlTx<'_, AnyLaw>, o: u32) -> Option<Result<Val, TlAgain>>
-    requires exists { o < objects_of tx.old.caller.now }
-    requires rest { is_live tx.old.caller.now ≡ true → AtRest (state tx.old.caller.now) }
-    ensures reference { tx.new.caller.ghost_name ≡ tx.old.caller.ghost_name }
-    ensures table { tx.new.stm.now ≡ tx.old.stm.now }
-    ensures home { tx.new.caller.now.home ≡ tx.old.caller.now.home }
-    ensures rest { is_live tx.new.caller.now ≡ true → AtRest (state tx.new.caller.now) }
-{
-    if !tx.is_live() {
-        return None;
-    }
-    Some(tx.open_read(o))
-}
-
-fn read(tx: &mut TlTx<'_, AnyLaw>, o: u32) -> Answer
-    requires exists { o < objects_of tx.old.caller.now }
-    requires rest { is_live tx.old.caller.now ≡ true → AtRest (state tx.old.caller.now) }
-    ensures reference { tx.new.caller.ghost_name ≡ tx.old.caller.ghost_name }
-    ensures table { tx.new.stm.now ≡ tx.old.stm.now }
-    ensures home { tx.new.caller.now.home ≡ tx.old.caller.now.home }
-    ensures rest { is_live tx.new.caller.now ≡ true → AtRest (state tx.new.caller.now) }
-{
-    match read_value(tx, o)? {
-        Ok(value) => Some(Ok(value.low)),
-        Err(again) => Some(Err(again)),
+impl Attempt for TlTx<'_, AnyLaw> {
+    fn is_live(&self) -> bool {
+        TlTx::is_live(self)
     }
 }
 
-// Opens an object for reading and writing, and leaves its value as it is.
-fn open(tx: &mut TlTx<'_, AnyLaw>, o: u32) -> Answer
-    requires exists { o < objects_of tx.old.caller.now }
-    requires rest { is_live tx.old.caller.now ≡ true → AtRest (state tx.old.caller.now) }
-    ensures reference { tx.new.caller.ghost_name ≡ tx.old.caller.ghost_name }
-    ensures table { tx.new.stm.now ≡ tx.old.stm.now }
-    ensures home { tx.new.caller.now.home ≡ tx.old.caller.now.home }
-    ensures rest { is_live tx.new.caller.now ≡ true → AtRest (state tx.new.caller.now) }
+// It is live, and so it is at rest.
+fn rests<'a>(tx: &TlTx<'a, AnyLaw>) -> bool
+    requires sound { IsSound ⟦<TlTx<'a, AnyLaw> as Mem>⟧ tx.now }
+    ensures { result ≡ true → IsTrue (is_live tx.now.caller.now) × AtRest (state tx.now.caller.now) }
 {
-    if !tx.is_live() {
-        return None;
-    }
-    match tx.open_write(o) {
-        Ok(value) => Some(Ok(value.low)),
-        Err(again) => Some(Err(again)),
-    }
-}
-
-// Opens an object for reading and writing, and sets its value. Answers the old one.
-fn set(tx: &mut TlTx<'_, AnyLaw>, o: u32, value: Val) -> Answer
-    requires exists { o < objects_of tx.old.caller.now }
-    requires rest { is_live tx.old.caller.now ≡ true → AtRest (state tx.old.caller.now) }
-    ensures reference { tx.new.caller.ghost_name ≡ tx.old.caller.ghost_name }
-    ensures table { tx.new.stm.now ≡ tx.old.stm.now }
-    ensures home { tx.new.caller.now.home ≡ tx.old.caller.now.home }
-    ensures rest { is_live tx.new.caller.now ≡ true → AtRest (state tx.new.caller.now) }
-{
-    if !tx.is_live() {
-        return None;
-    }
-    match tx.open_write(o) {
-        Ok(old) => {
-            tx.set(o, value);
-            Some(Ok(old.low))
-        }
-        Err(again) => Some(Err(again)),
-    }
+    tx.is_live()
 }
 
 // Commits, and answers the number that was drawn.
@@ -178,7 +122,7 @@ fn crossed(
     let mut b = begin(two, stm)?;
     let reads = (read(&mut a, 0), read(&mut b, 1));
     let opens = (open(&mut a, 1), open(&mut b, 0));
-    if !a.is_live() || !b.is_live() {
+    if !rests(&a) || !rests(&b) {
         return None;
     }
     let commits = (commit(a), commit(b));
@@ -193,7 +137,7 @@ fn alone(stm: &TlStm<AnyLaw>, two: &mut TlCaller<AnyLaw>) -> Option<[Answer; 3]>
     let mut b = begin(two, stm)?;
     let first = read(&mut b, 1);
     let second = open(&mut b, 0);
-    if !b.is_live() {
+    if !rests(&b) {
         return None;
     }
     Some([first, second, commit(b)])
@@ -223,7 +167,7 @@ fn overtaken(
     let mut a = begin(one, stm)?;
     let mut b = begin(two, stm)?;
     let old = set(&mut b, 0, low(7));
-    if !b.is_live() {
+    if !rests(&b) {
         return None;
     }
     let first = commit(b);
@@ -232,7 +176,7 @@ fn overtaken(
     let mut a = begin(one, stm)?;
     let seven = read(&mut a, 0);
     let _same = open(&mut a, 0);
-    if !a.is_live() {
+    if !rests(&a) {
         return None;
     }
     let Ok(locked) = a.lock() else {
@@ -262,7 +206,7 @@ fn read_alone(stm: &TlStm<AnyLaw>, caller: &mut TlCaller<AnyLaw>) -> Option<[Ans
 {
     let mut tx = begin(caller, stm)?;
     let value = read(&mut tx, 0);
-    if !tx.is_live() {
+    if !rests(&tx) {
         return Some([value, None]);
     }
     Some([value, commit(tx)])
@@ -301,7 +245,7 @@ fn lock_and_drop(stm: &TlStm<AnyLaw>, caller: &mut TlCaller<AnyLaw>) -> Option<A
 {
     let mut tx = begin(caller, stm)?;
     let old = set(&mut tx, 0, low(9));
-    if !tx.is_live() {
+    if !rests(&tx) {
         return None;
     }
     let Ok(locked) = tx.lock() else {
@@ -353,7 +297,7 @@ fn locks_one_of_two(
     let _olds = (set(&mut a, 0, low(3)), set(&mut a, 1, low(4)));
     let mut b = begin(two, stm)?;
     let _old = set(&mut b, 1, Val { low: 7, high: 8 });
-    if !a.is_live() || !b.is_live() {
+    if !rests(&a) || !rests(&b) {
         return None;
     }
     let first = commit(b);
@@ -395,7 +339,7 @@ fn own_writes(stm: &TlStm<AnyLaw>, one: &mut TlCaller<AnyLaw>) -> Option<[Answer
     let old = set(&mut a, 0, low(3));
     let own = read(&mut a, 0);
     let again = set(&mut a, 0, low(4));
-    if !a.is_live() {
+    if !rests(&a) {
         return None;
     }
     let number = commit(a);
