@@ -8,6 +8,7 @@ use Rattle.dstm_model.specs.declared.op.Op.{Op}
 use Rattle.dstm_model.specs.declared.op.Op.TheVariants.{Transfer, Balance, Total, Insert, Remove, Member, Put, Get}
 use Rattle.dstm_model.specs.declared.op.Which.TheVariants as which
 use Rattle.dstm_model.specs.declared.reply.Reply.{Reply}
+use Rattle.dstm_model.specs.Layout.{FitsLayout}
 use Rattle.dstm_model.specs.Map.{value_at}
 use Rattle.dstm_model.specs.Store.{Store, apply}
 use Rattle.dstm_model.specs.Objects.{objects_of, tree_begin, IsBank, Does, plain}
@@ -205,19 +206,19 @@ module _ {S E : Type 0} (M : Ghosts S E) (layout : Layout) (op : Op) {In : ℕ �
         done.outside;
   }
 
-  pub of-bank : is_of_bank op ≡ true → ((o : ℕ) → In o → o < layout.accounts) → Applies M In (IsBank layout) op old new r →
+  of-bank : is_of_bank op ≡ true → ((o : ℕ) → In o → o < layout.accounts) → Applies M In (IsBank layout) op old new r →
       Applies M In (StandsFor layout) op old new r
   of-bank is within =
       of-part (λ map reply same. does-bank layout op map (M.written old) (M.written new) reply (bank_op op is)
       (λ p at. same p (λ inside. omega (arith, at, within p inside))))
 
-  pub of-list : is_of_list op ≡ true → ((o : ℕ) → In o → IsOfList layout o) → Applies M In (IsList layout) op old new r →
+  of-list : is_of_list op ≡ true → ((o : ℕ) → In o → IsOfList layout o) → Applies M In (IsList layout) op old new r →
       Applies M In (StandsFor layout) op old new r
   of-list is within =
       of-part (λ map reply same. does-list layout op map (M.written old) (M.written new) reply (list_op op is)
       (λ p out. same p (λ inside. out (within p inside))))
 
-  pub of-tree : is_of_tree op ≡ true → 0 < layout.tree → ((o : ℕ) → In o → IsOfTree layout o) →
+  of-tree : is_of_tree op ≡ true → 0 < layout.tree → ((o : ℕ) → In o → IsOfTree layout o) →
       Applies M In (IsTree layout) op old new r → Applies M In (StandsFor layout) op old new r
   of-tree is declared within =
       of-part (λ map reply same. does-tree layout op map (M.written old) (M.written new) reply (tree_op op is) declared
@@ -233,9 +234,26 @@ leaves-lawful M layout op (Ok reply) ready done =
     lawful-after layout op _ _ reply (ready.lawful map (done.leads.narrows map admitted)) (done.does map admitted)
 leaves-lawful M layout op (Err e) ready done = tt
 
--- an operation that is known by another name
-pub known-as : {S E : Type 0} (M : Ghosts S E) (layout : Layout) {op other : Op} {old new : S} {r : Result Reply E} →
-    op ≡ other → Applies M (Concerns layout other) (StandsFor layout) other old new r →
-    Applies M (Concerns layout op) (StandsFor layout) op old new r
-known-as M layout {old = old} {new = new} {r = r} is done =
-    subst (λ (o : Op). Applies M (Concerns layout o) (StandsFor layout) o old new r) (sym is) done
+-- and so is an operation that is known by another name
+module _ {S E : Type 0} (M : Ghosts S E) (layout : Layout) {op : Op} {old new : S} {r : Result Reply E} (known : Op)
+    (is : op ≡ known) where
+  by-other : Applies M (Concerns layout known) (StandsFor layout) known old new r →
+      Applies M (Concerns layout op) (StandsFor layout) op old new r
+  by-other done = subst (λ (o : Op). Applies M (Concerns layout o) (StandsFor layout) o old new r) (sym is) done
+
+  pub by-bank : is_of_bank known ≡ true → ((o : ℕ) → Concerns layout known o → o < layout.accounts) →
+      Applies M (Concerns layout known) (IsBank layout) known old new r →
+      Applies M (Concerns layout op) (StandsFor layout) op old new r
+  by-bank of within done = by-other (of-bank M layout known of within done)
+
+  pub by-list : is_of_list known ≡ true → ((o : ℕ) → Concerns layout known o → IsOfList layout o) →
+      Applies M (Concerns layout known) (IsList layout) known old new r →
+      Applies M (Concerns layout op) (StandsFor layout) op old new r
+  by-list of within done = by-other (of-list M layout known of within done)
+
+  pub by-tree : is_of_tree known ≡ true → (FitsLayout layout known → 0 < layout.tree) →
+      ((o : ℕ) → Concerns layout known o → IsOfTree layout o) → FitsLayout layout op →
+      Applies M (Concerns layout known) (IsTree layout) known old new r →
+      Applies M (Concerns layout op) (StandsFor layout) op old new r
+  by-tree of declared within fits done =
+      by-other (of-tree M layout known of (declared (subst (FitsLayout layout) is fits)) within done)
