@@ -37,14 +37,12 @@ end_so_far p count = []
 
 abbrev pub behind_bank : Draft → List (List ℕ)
 behind_bank draft =
-    numbers_lines (codes "list") draft.report.list
-    ++ (items_lines draft.report.version (codes "tree") draft.report.tree
+    numbers_lines (codes "list") draft.report.list ++ (items_lines draft.report.version (codes "tree") draft.report.tree
     ++ end_so_far draft.part draft.report.count)
 
 -- the lines behind the header
 abbrev pub so_far : Draft → List (List ℕ)
-so_far draft =
-    map row_line draft.report.rows ++ (numbers_lines (codes "bank") draft.report.bank ++ behind_bank draft)
+so_far draft = map row_line draft.report.rows ++ (numbers_lines (codes "bank") draft.report.bank ++ behind_bank draft)
 
 -- what comes in later parts is not there yet
 pub record IsDraft (draft : Draft) : Type 0 where
@@ -68,52 +66,19 @@ no_end p count before = refl
 abbrev pub whole : (R B L T E : List (List ℕ)) → List (List ℕ)
 whole R B L T E = R ++ (B ++ (L ++ (T ++ E)))
 
-pub same_whole : (R B L T E : List (List ℕ)) {R' B' L' T' E' : List (List ℕ)} → R ≡ R' → B ≡ B' → L ≡ L' → T ≡ T' →
-    E ≡ E' → whole R B L T E ≡ whole R' B' L' T' E'
-same_whole R B L T E {R'} {B'} {L'} {T'} {E'} rows bank list tree end =
-    ap (λ (x : List (List ℕ)). whole x B L T E) rows ∙ ap (λ (x : List (List ℕ)). whole R' x L T E) bank
-    ∙ ap (λ (x : List (List ℕ)). whole R' B' x T E) list ∙ ap (λ (x : List (List ℕ)). whole R' B' L' x E) tree
-    ∙ ap (λ (x : List (List ℕ)). whole R' B' L' T' x) end
-
-row_put : (R : List (List ℕ)) (t : List ℕ) → whole (R ++ t ∷ []) [] [] [] [] ≡ whole R [] [] [] [] ++ t ∷ []
-row_put R t = simp (append_assoc, append-nil)
-
-bank_put : (R : List (List ℕ)) (t : List ℕ) → whole R (t ∷ []) [] [] [] ≡ whole R [] [] [] [] ++ t ∷ []
-bank_put R t = simp (append_assoc, append-nil)
-
-list_put : (R B : List (List ℕ)) (t : List ℕ) → whole R B (t ∷ []) [] [] ≡ whole R B [] [] [] ++ t ∷ []
-list_put R B t = simp (append_assoc, append-nil)
-
-tree_put : (R B L : List (List ℕ)) (t : List ℕ) → whole R B L (t ∷ []) [] ≡ whole R B L [] [] ++ t ∷ []
-tree_put R B L t = simp (append_assoc, append-nil)
-
 pub end_put : (R B L T : List (List ℕ)) (t : List ℕ) → whole R B L T (t ∷ []) ≡ whole R B L T [] ++ t ∷ []
 end_put R B L T t = simp (append_assoc, append-nil)
 
--- the lines of a draft and one more
-onto_draft : (draft : Draft) (before : List (List ℕ)) (text shown : List ℕ) → so_far draft ≡ before → text ≡ shown →
-    before ++ shown ∷ [] ≡ so_far draft ++ text ∷ []
-onto_draft draft before text shown is line =
-    sym (ap (λ (ls : List (List ℕ)). ls ++ text ∷ []) is ∙ ap (λ (t : List ℕ). before ++ t ∷ []) line)
-
 -- ---- each kind of line
 
-grow_row : Printed → Only → (draft : Draft) (text : List ℕ) (row : Row) → IsDraft draft → rank draft.part ≡ 0 →
+grow_row : Printed → Only → {draft : Draft} (text : List ℕ) (row : Row) → IsDraft draft → rank draft.part ≡ 0 →
     row_of draft.report.version (pieces 32 text) ≡ Some row → HasGrown draft (with_row draft row) text
-grow_row printed only draft text row is first read =
+grow_row printed only {draft = draft} text row is first read =
     let version = draft.report.version in
     let rows = draft.report.rows in
     let spelled = row_of_is only version (pieces 32 text) row read in
     let shown : text ≡ row_line row = same_text 32 text (row_line row)
-    (spelled.spelled ∙ sym (row_pieces printed version row spelled.reply spelled.replies spelled.has spelled.are)) in
-    let b = numbers_lines (codes "bank") draft.report.bank in
-    let l = numbers_lines (codes "list") draft.report.list in
-    let t = items_lines version (codes "tree") draft.report.tree in
-    let e = end_so_far draft.part draft.report.count in
-    let bank = ap (numbers_lines (codes "bank")) (is.no_bank (omega (arith, first))) in
-    let list = ap (numbers_lines (codes "list")) (is.no_list (omega (arith, first))) in
-    let tree = ap (items_lines version (codes "tree")) (is.no_tree (omega (arith, first))) in
-    let end = no_end draft.part draft.report.count (omega (arith, first)) in
+    (spelled.spelled ∙ sym (row_pieces printed spelled.reply spelled.replies spelled.has spelled.are)) in
     record {
       draft_still = record {
         held = record {
@@ -129,36 +94,33 @@ grow_row printed only draft text row is first read =
         no_tree = is.no_tree;
       };
       same_version = refl;
-      grown = same_whole (map row_line (rows ++ row ∷ [])) b l t e (map_push row_line rows row) bank list tree end
-          ∙ row_put (map row_line rows) (row_line row) ∙ onto_draft draft (whole (map row_line rows) [] [] [] []) text
-          (row_line row) (same_whole (map row_line rows) b l t e refl bank list tree end) shown;
+      grown = rw (
+        map_push row_line rows row,
+        is.no_bank (omega (arith, first)),
+        is.no_list (omega (arith, first)),
+        is.no_tree (omega (arith, first)),
+        no_end draft.part draft.report.count (omega (arith, first)),
+        shown,
+      )
+          (simp (append_assoc, append-nil));
     }
 
 -- the line of a structure with numbers
-numbers_shown : Printed → (name text word : List ℕ) (rest : List (List ℕ)) (numbers : List ℕ) → IsWord name →
+numbers_shown : Printed → {name : List ℕ} (text : List ℕ) {word : List ℕ} (rest : List (List ℕ)) (numbers : List ℕ) →
+    IsWord name →
     pieces 32 text ≡ word ∷ rest → word ≡ name → (rest ≡ map decimal numbers) × All IsNumber numbers →
     text ≡ name ++ flat_map number_field numbers
-numbers_shown printed name text word rest numbers is_name words named read =
+numbers_shown printed {name = name} text rest numbers is_name words named read =
     same_text 32 text (name ++ flat_map number_field numbers)
     (words ∙ same_cons named read.0 ∙ sym (fields_pieces decimal name numbers is_name (number_words printed numbers read.1)))
 
-grow_bank : Printed → Only → (draft : Draft) (text word : List ℕ) (rest : List (List ℕ)) (numbers : List ℕ) →
+grow_bank : Printed → Only → {draft : Draft} (text : List ℕ) {word : List ℕ} (rest : List (List ℕ)) (numbers : List ℕ) →
     IsDraft draft → rank draft.part < 1 → pieces 32 text ≡ word ∷ rest → word ≡ codes "bank" →
     numbers_of rest ≡ Some numbers → HasGrown draft (with_bank draft numbers) text
-grow_bank printed only draft text word rest numbers is first words named read =
-    let rows = map row_line draft.report.rows in
+grow_bank printed only {draft = draft} text {word = word} rest numbers is first words named read =
     let numbers_are = numbers_of_is only rest numbers read in
-    let shown = numbers_shown printed (codes "bank") text word rest numbers
+    let shown = numbers_shown printed text rest numbers
     (record { in_line = refl; in_words = refl }) words named numbers_are in
-    let line = codes "bank" ++ flat_map number_field numbers in
-    let b = numbers_lines (codes "bank") draft.report.bank in
-    let l = numbers_lines (codes "list") draft.report.list in
-    let t = items_lines draft.report.version (codes "tree") draft.report.tree in
-    let e = end_so_far draft.part draft.report.count in
-    let bank = ap (numbers_lines (codes "bank")) (is.no_bank first) in
-    let list = ap (numbers_lines (codes "list")) (is.no_list (omega (arith, first))) in
-    let tree = ap (items_lines draft.report.version (codes "tree")) (is.no_tree (omega (arith, first))) in
-    let end = no_end draft.part draft.report.count (omega (arith, first)) in
     record {
       draft_still = record {
         held = record {
@@ -174,26 +136,22 @@ grow_bank printed only draft text word rest numbers is first words named read =
         no_tree = λ before. is.no_tree (omega (arith, first));
       };
       same_version = refl;
-      grown = same_whole rows (line ∷ []) l t [] refl refl list tree refl ∙ bank_put rows line
-          ∙ onto_draft draft (whole rows [] [] [] []) text line (same_whole rows b l t e refl bank list tree end) shown;
+      grown = rw (
+        is.no_bank first,
+        is.no_list (omega (arith, first)),
+        is.no_tree (omega (arith, first)),
+        no_end draft.part draft.report.count (omega (arith, first)),
+        shown,
+      ) (simp (append_assoc, append-nil));
     }
 
-grow_list : Printed → Only → (draft : Draft) (text word : List ℕ) (rest : List (List ℕ)) (numbers : List ℕ) →
+grow_list : Printed → Only → {draft : Draft} (text : List ℕ) {word : List ℕ} (rest : List (List ℕ)) (numbers : List ℕ) →
     IsDraft draft → rank draft.part < 2 → pieces 32 text ≡ word ∷ rest → word ≡ codes "list" →
     numbers_of rest ≡ Some numbers → HasGrown draft (with_list draft numbers) text
-grow_list printed only draft text word rest numbers is first words named read =
-    let rows = map row_line draft.report.rows in
-    let bank = numbers_lines (codes "bank") draft.report.bank in
+grow_list printed only {draft = draft} text {word = word} rest numbers is first words named read =
     let numbers_are = numbers_of_is only rest numbers read in
-    let shown = numbers_shown printed (codes "list") text word rest numbers
+    let shown = numbers_shown printed text rest numbers
     (record { in_line = refl; in_words = refl }) words named numbers_are in
-    let line = codes "list" ++ flat_map number_field numbers in
-    let l = numbers_lines (codes "list") draft.report.list in
-    let t = items_lines draft.report.version (codes "tree") draft.report.tree in
-    let e = end_so_far draft.part draft.report.count in
-    let list = ap (numbers_lines (codes "list")) (is.no_list first) in
-    let tree = ap (items_lines draft.report.version (codes "tree")) (is.no_tree (omega (arith, first))) in
-    let end = no_end draft.part draft.report.count (omega (arith, first)) in
     record {
       draft_still = record {
         held = record {
@@ -209,28 +167,25 @@ grow_list printed only draft text word rest numbers is first words named read =
         no_tree = λ before. is.no_tree (omega (arith, first));
       };
       same_version = refl;
-      grown = same_whole rows bank (line ∷ []) t [] refl refl refl tree refl ∙ list_put rows bank line
-          ∙ onto_draft draft (whole rows bank [] [] []) text line (same_whole rows bank l t e refl refl list tree end)
-          shown;
+      grown = rw (
+        is.no_list first,
+        is.no_tree (omega (arith, first)),
+        no_end draft.part draft.report.count (omega (arith, first)),
+        shown,
+      ) (simp (append_assoc, append-nil));
     }
 
-grow_tree : Printed → Only → (draft : Draft) (text word : List ℕ) (rest : List (List ℕ)) (items : List Item) →
+grow_tree : Printed → Only → {draft : Draft} (text : List ℕ) {word : List ℕ} (rest : List (List ℕ)) (items : List Item)
+    →
     IsDraft draft → rank draft.part < 3 → pieces 32 text ≡ word ∷ rest → word ≡ codes "tree" →
     items_of draft.report.version rest ≡ Some items → HasGrown draft (with_tree draft items) text
-grow_tree printed only draft text word rest items is first words named read =
+grow_tree printed only {draft = draft} text rest items is first words named read =
     let version = draft.report.version in
-    let rows = map row_line draft.report.rows in
-    let bank = numbers_lines (codes "bank") draft.report.bank in
-    let list = numbers_lines (codes "list") draft.report.list in
     let items_are = items_of_is only version rest items read in
     let line = codes "tree" ++ flat_map (item_field version) items in
     let shown : text ≡ line = same_text 32 text line (words ∙ same_cons named items_are.0
     ∙ sym (fields_pieces (item_text version) (codes "tree") items (record { in_line = refl; in_words = refl })
     (item_words printed version items items_are.1))) in
-    let t = items_lines version (codes "tree") draft.report.tree in
-    let e = end_so_far draft.part draft.report.count in
-    let tree = ap (items_lines version (codes "tree")) (is.no_tree first) in
-    let end = no_end draft.part draft.report.count (omega (arith, first)) in
     record {
       draft_still = record {
         held = record {
@@ -246,23 +201,17 @@ grow_tree printed only draft text word rest items is first words named read =
         no_tree = λ before. absurd (omega (arith, before));
       };
       same_version = refl;
-      grown = tree_put rows bank list line ∙ onto_draft draft (whole rows bank list [] []) text line
-          (same_whole rows bank list t e refl refl refl tree end) shown;
+      grown = rw (is.no_tree first, no_end draft.part draft.report.count (omega (arith, first)), shown)
+          (simp (append_assoc, append-nil));
     }
 
-grow_end : Printed → Only → (draft : Draft) (text word : List ℕ) (rest : List (List ℕ)) (count : ℕ) →
+grow_end : Printed → Only → {draft : Draft} (text : List ℕ) {word : List ℕ} (rest : List (List ℕ)) (count : ℕ) →
     IsDraft draft → rank draft.part < 4 → pieces 32 text ≡ word ∷ rest → word ≡ codes "end" →
     count_of rest ≡ Some count → HasGrown draft (with_count draft count) text
-grow_end printed only draft text word rest count is first words named read =
-    let rows = map row_line draft.report.rows in
-    let bank = numbers_lines (codes "bank") draft.report.bank in
-    let list = numbers_lines (codes "list") draft.report.list in
-    let tree = items_lines draft.report.version (codes "tree") draft.report.tree in
+grow_end printed only {draft = draft} text rest count is first words named read =
     let count_is = count_of_is only rest count read in
-    let shown : text ≡ end_text count =
-    same_text 32 text (end_text count)
+    let shown : text ≡ end_text count = same_text 32 text (end_text count)
     (words ∙ same_cons named count_is.0 ∙ sym (end_words printed count count_is.1)) in
-    let end = no_end draft.part draft.report.count first in
     record {
       draft_still = record {
         held = record {
@@ -278,9 +227,7 @@ grow_end printed only draft text word rest count is first words named read =
         no_tree = λ before. absurd (omega (arith, before));
       };
       same_version = refl;
-      grown = end_put rows bank list tree (end_text count)
-          ∙ onto_draft draft (whole rows bank list tree []) text (end_text count)
-          (same_whole rows bank list tree (end_so_far draft.part draft.report.count) refl refl refl refl end) shown;
+      grown = rw (no_end draft.part draft.report.count first, shown) (simp (append_assoc, append-nil));
     }
 
 -- ---- any line
@@ -311,33 +258,33 @@ part_named word =
     (λ _. cond_both (bytes_eq word (codes "end")) part.End part.Rows (IsNamed word) (is_word word (codes "end"))
     (λ _. tt))))
 
-pub add_line_grows : Printed → Only → (text : List ℕ) (draft more : Draft) → IsDraft draft →
+pub add_line_grows : Printed → Only → (text : List ℕ) {draft : Draft} (more : Draft) → IsDraft draft →
     add_line text draft ≡ Some more → HasGrown draft more text
-add_line_grows printed only text draft more is added = by_words (pieces 32 text) refl added
+add_line_grows printed only text {draft = draft} more is added = by_words (pieces 32 text) refl added
   where
     by_part : (word : List ℕ) (rest : List (List ℕ)) (p : Part) → pieces 32 text ≡ word ∷ rest → IsNamed word p →
         can_follow draft.part p ≡ true → add_part p (word ∷ rest) rest draft ≡ Some more → HasGrown draft more text
     by_part word rest part.Rows words named fits read =
         let found = map_some (with_row draft) (row_of draft.report.version (word ∷ rest)) more read in
         subst (λ m. HasGrown draft m text) found.2
-        (grow_row printed only draft text found.0 is (eqb-true (rank draft.part) 0 fits)
+        (grow_row printed only text found.0 is (eqb-true (rank draft.part) 0 fits)
         (ap (row_of draft.report.version) words ∙ found.1))
     by_part word rest part.Bank words named fits read =
         let found = map_some (with_bank draft) (numbers_of rest) more read in
         subst (λ m. HasGrown draft m text) found.2
-        (grow_bank printed only draft text word rest found.0 is (ltb-true (rank draft.part) 1 fits) words named found.1)
+        (grow_bank printed only text rest found.0 is (ltb-true (rank draft.part) 1 fits) words named found.1)
     by_part word rest part.List words named fits read =
         let found = map_some (with_list draft) (numbers_of rest) more read in
         subst (λ m. HasGrown draft m text) found.2
-        (grow_list printed only draft text word rest found.0 is (ltb-true (rank draft.part) 2 fits) words named found.1)
+        (grow_list printed only text rest found.0 is (ltb-true (rank draft.part) 2 fits) words named found.1)
     by_part word rest part.Tree words named fits read =
         let found = map_some (with_tree draft) (items_of draft.report.version rest) more read in
         subst (λ m. HasGrown draft m text) found.2
-        (grow_tree printed only draft text word rest found.0 is (ltb-true (rank draft.part) 3 fits) words named found.1)
+        (grow_tree printed only text rest found.0 is (ltb-true (rank draft.part) 3 fits) words named found.1)
     by_part word rest part.End words named fits read =
         let found = map_some (with_count draft) (count_of rest) more read in
         subst (λ m. HasGrown draft m text) found.2
-        (grow_end printed only draft text word rest found.0 is (ltb-true (rank draft.part) 4 fits) words named found.1)
+        (grow_end printed only text rest found.0 is (ltb-true (rank draft.part) 4 fits) words named found.1)
 
     by_words : (words : List (List ℕ)) → pieces 32 text ≡ words → add_words words draft ≡ Some more →
         HasGrown draft more text
@@ -365,15 +312,11 @@ rank_end part.End is = refl
 rank_end p is = absurd (omega (arith, is))
 
 -- the lines so far by the part of the last line
-pub whole_end : (draft : Draft) (p : Part) → draft.part ≡ p →
+pub whole_end : (draft : Draft) {p : Part} → draft.part ≡ p →
     so_far draft ≡ whole (map row_line draft.report.rows) (numbers_lines (codes "bank") draft.report.bank)
     (numbers_lines (codes "list") draft.report.list)
     (items_lines draft.report.version (codes "tree") draft.report.tree) (end_so_far p draft.report.count)
-whole_end draft p is =
-    same_whole (map row_line draft.report.rows) (numbers_lines (codes "bank") draft.report.bank)
-    (numbers_lines (codes "list") draft.report.list)
-    (items_lines draft.report.version (codes "tree") draft.report.tree) (end_so_far draft.part draft.report.count)
-    refl refl refl refl (ap (λ (q : Part). end_so_far q draft.report.count) is)
+whole_end draft is = rw is refl
 
 -- the lines left are those of the report that the draft does not have yet
 pub record AreLeft (draft : Draft) (texts : List (List ℕ)) (report : Report) : Type 0 where
@@ -381,20 +324,20 @@ pub record AreLeft (draft : Draft) (texts : List (List ℕ)) (report : Report) :
   pub same_version : report.version ≡ draft.report.version
   pub all : so_far draft ++ texts ≡ lines_behind_header report
 
-pub completed_left : Printed → Only → (texts : List (List ℕ)) (n : ℕ) (draft : Draft) (report : Report) →
+pub completed_left : Printed → Only → (texts : List (List ℕ)) (n : ℕ) {draft : Draft} (report : Report) →
     IsDraft draft → completed texts n draft ≡ Ok report → AreLeft draft texts report
-completed_left printed only [] n draft report is read =
+completed_left printed only [] n {draft = draft} report is read =
     let parts = cond_some (eqb (rank draft.part) 4) draft.report report (or_line_ok n (finished draft) report read) in
     let ended = rank_end draft.part (eqb-true (rank draft.part) 4 parts.0) in
     subst (AreLeft draft []) parts.1 (record {
       held = is.held;
       same_version = refl;
-      all = append-nil (so_far draft) ∙ whole_end draft part.End ended;
+      all = append-nil (so_far draft) ∙ whole_end draft ended;
     })
-completed_left printed only (text ∷ texts) n draft report is read =
+completed_left printed only (text ∷ texts) n {draft = draft} report is read =
     let found = then_on_ok n (add_line text draft) (completed texts (n + 1)) report read in
-    let grown = add_line_grows printed only text draft found.0 is found.1 in
-    let left = completed_left printed only texts (n + 1) found.0 report grown.draft_still found.2 in
+    let grown = add_line_grows printed only text found.0 is found.1 in
+    let left = completed_left printed only texts (n + 1) report grown.draft_still found.2 in
     record {
       held = left.held;
       same_version = left.same_version ∙ grown.same_version;
@@ -423,8 +366,7 @@ version_read version (Some n) is = ap (λ (m : ℕ). Some m) (eqb-true n version
 
 -- the line is a header of the version
 pub header_is : Printed → Only → (version : ℕ) (text : List ℕ) →
-    is_version version (header_of (pieces 32 text)) ≡ true →
-    (text ≡ header_line version) × (version ≤ MAX_NUMBER)
+    is_version version (header_of (pieces 32 text)) ≡ true → (text ≡ header_line version) × (version ≤ MAX_NUMBER)
 header_is printed only version text is =
     let words = header_of_is only (pieces 32 text) version (version_read version (header_of (pieces 32 text)) is) in
     (same_text 32 text (header_line version) (words.0 ∙ sym (header_words printed version words.1)), words.1)
@@ -440,17 +382,17 @@ read_is_printed printed only version [] report is = absurd (err_ok 1 report is)
 read_is_printed printed only version (text ∷ texts) report is =
     let parts = if_ok (is_version version (header_of (pieces 32 text))) 1 _ report is in
     let header = header_is printed only version text parts.0 in
-    let left = completed_left printed only texts 2 (blank version) report (blank_is_draft version header.1) parts.1 in
+    let left = completed_left printed only texts 2 report (blank_is_draft version header.1) parts.1 in
     record {
       same_version = left.same_version;
       held = left.held;
       printed = same_cons (header.0 ∙ ap header_line (sym left.same_version)) left.all
-          ∙ sym (report_lines printed report left.held);
+          ∙ sym (report_lines printed left.held);
     }
 
-pub printed_is_read : Printed → (version : ℕ) (lines : List (List ℕ)) (report : Report) →
+pub printed_is_read : Printed → {version : ℕ} {lines : List (List ℕ)} {report : Report} →
     AreLinesOf version report lines → parsed version lines ≡ Ok report
-printed_is_read printed version lines report are =
+printed_is_read printed {version = version} {report = report} are =
     ap (parsed version) are.printed
     ∙ subst (λ (v : ℕ). parsed v (lines_of (report_text report)) ≡ Ok report) are.same_version
     (reads_back printed report are.held)

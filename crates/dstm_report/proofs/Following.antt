@@ -20,34 +20,33 @@ use Rattle.dstm_report.proofs.Rising.{each-filter, found_holds, find_line, turn_
 
 -- ---- what is known of a workload's jobs
 
-pub workers_are_small : (workload : Workload) → IsValidWorkload workload →
+pub workers_are_small : {workload : Workload} → IsValidWorkload workload →
     All (λ job. job.worker < workload.workers) workload.jobs
-workers_are_small workload valid k d lt = (valid.each k d lt).worker
+workers_are_small valid k d lt = (valid.each k d lt).worker
 
-jobs_fit : (workload : Workload) → IsValidWorkload workload →
+jobs_fit : {workload : Workload} → IsValidWorkload workload →
     All (λ job. All (FitsLayout workload.layout) job.ops) workload.jobs
-jobs_fit workload valid k d lt = (valid.each k d lt).fits
+jobs_fit valid k d lt = (valid.each k d lt).fits
 
 -- what holds of each job holds of each that is left
-each_left : (P : Job → Type 0) (workload : Workload) (before : List Row) (left : List Job) → All P workload.jobs →
+each_left : (P : Job → Type 0) (workload : Workload) (before : List Row) {left : List Job} → All P workload.jobs →
     left ≡ jobs_left workload.jobs before → AllByRecursion P left
-each_left P workload before left all is =
+each_left P workload before all is =
     subst (AllByRecursion P) (sym is) (each-filter P _ workload.jobs (recursion_from_All P workload.jobs all))
 
-pub left_fit : (workload : Workload) (before : List Row) (replay : Replay) → IsValidWorkload workload →
+pub left_fit : {workload : Workload} {before : List Row} {replay : Replay} → IsValidWorkload workload →
     HasFollowed workload before replay → All (λ job. All (FitsLayout replay.store.layout) job.ops) replay.turns.left
-left_fit workload before replay valid followed =
+left_fit {workload = workload} {before = before} {replay = replay} valid followed =
     subst (λ l. All (λ (job : Job). All (FitsLayout l) job.ops) replay.turns.left) (sym followed.layout)
     (All-from_recursion (λ (job : Job). All (FitsLayout workload.layout) job.ops) replay.turns.left
-    (each_left (λ (job : Job). All (FitsLayout workload.layout) job.ops) workload before replay.turns.left
-    (jobs_fit workload valid) followed.turns))
+    (each_left (λ (job : Job). All (FitsLayout workload.layout) job.ops) workload before
+    (jobs_fit valid) followed.turns))
 
-pub left_small : (workload : Workload) (before : List Row) (replay : Replay) → IsValidWorkload workload →
+pub left_small : {workload : Workload} {before : List Row} {replay : Replay} → IsValidWorkload workload →
     HasFollowed workload before replay → All (λ job. job.worker < workload.workers) replay.turns.left
-left_small workload before replay valid followed =
+left_small {workload = workload} {before = before} {replay = replay} valid followed =
     All-from_recursion (λ (job : Job). job.worker < workload.workers) replay.turns.left
-    (each_left (λ (job : Job). job.worker < workload.workers) workload before replay.turns.left
-    (workers_are_small workload valid) followed.turns)
+    (each_left (λ (job : Job). job.worker < workload.workers) workload before (workers_are_small valid) followed.turns)
 
 -- ---- the first job left of a row's worker
 
@@ -67,13 +66,11 @@ turn_is : {workload : Workload} {before : List Row} {row : Row} {replay : Replay
 turn_is {row = row} h = ap (first_job row.worker) (sym h.followed.turns) ∙ h.first
 
 pub next_fits : {workload : Workload} {before : List Row} {row : Row} {replay : Replay} {job : Job} →
-    HasNext workload before row replay job →
-    All (FitsLayout replay.store.layout) job.ops
+    HasNext workload before row replay job → All (FitsLayout replay.store.layout) job.ops
 next_fits {workload} {before} {row} {replay} {job} h =
     let Fits : Job → Type 0 = λ j. All (FitsLayout replay.store.layout) j.ops in
-    subst (λ (o : Option Job). IfSome o Fits) h.first
-    (found_holds Fits _ replay.turns.left
-    (recursion_from_All Fits replay.turns.left (left_fit workload before replay h.valid h.followed)))
+    subst (λ (o : Option Job). IfSome o Fits) h.first (found_holds Fits _ replay.turns.left
+    (recursion_from_All Fits replay.turns.left (left_fit h.valid h.followed)))
 
 -- ---- rows that are not good
 
@@ -116,7 +113,7 @@ followed_more {workload} {before} {row} {replay} {after} {job} h line good passe
     let named : find (λ j. eqb j.line row.line) jobs ≡ Some job =
     subst (λ l. find (λ j. eqb j.line l) jobs ≡ Some job) line (find_line _ _ 0 jobs job rise (turn_is h)) in
     record {
-      good = RowsAreGood-push workload [] before row h.followed.good good;
+      good = RowsAreGood-push [] before h.followed.good good;
       layout = passed.layout ∙ h.followed.layout;
       store = passed.store ∙ ap (after_job (Some job)) h.followed.store
           ∙ sym (after_rows-push jobs before row (opening_store workload.layout)

@@ -114,8 +114,7 @@ yes_or_no_held : (version : ℕ) (b : Bool) → HasReply version (yes_or_no b)
 yes_or_no_held version b = cond_both b Yes No (HasReply version) (λ _. tt) (λ _. tt)
 
 held_op : (version : ℕ) (layout : Layout) (total : ℕ) (op : Op) (store : Store) → total ≤ MAX_NUMBER →
-    IsOp version layout op → IsSmall version layout total store →
-    IsHeldOutcome version layout total (apply op store)
+    IsOp version layout op → IsSmall version layout total store → IsHeldOutcome version layout total (apply op store)
 held_op version layout total (Transfer s t x) store range is small =
     let Held : Outcome → Type 0 = IsHeldOutcome version layout total in
     let paid : Outcome = answer Moved (record store { balances = credit t x (debit s x store.balances) }) in
@@ -141,8 +140,7 @@ held_op version layout total (Insert which.List key) store range is small =
     (cond (eqb (length store.keys) store.layout.list) (answer Full store) after) Held
     (λ _. record { reply = tt; keys = small.keys; items = small.items })
     (λ _. cond_both (eqb (length store.keys) store.layout.list) (answer Full store) after Held
-    (λ _. record { reply = tt; keys = small.keys; items = small.items })
-    (λ _. record {
+    (λ _. record { reply = tt; keys = small.keys; items = small.items }) (λ _. record {
       reply = tt;
       keys = keys_with key store.keys (omega (arith, is.fits.1)) small.keys;
       items = small.items;
@@ -156,8 +154,7 @@ held_op version layout total (Insert which.Tree key) store range is small =
     (cond (eqb (length store.items) store.layout.tree) (answer Full store) after) Held
     (λ _. record { reply = tt; keys = small.keys; items = small.items })
     (λ _. cond_both (eqb (length store.items) store.layout.tree) (answer Full store) after Held
-    (λ _. record { reply = tt; keys = small.keys; items = small.items })
-    (λ _. record {
+    (λ _. record { reply = tt; keys = small.keys; items = small.items }) (λ _. record {
       reply = tt;
       keys = small.keys;
       items = items_with version key 0 store.items pair small.items;
@@ -212,18 +209,18 @@ record IsHeldJob (version : ℕ) (layout : Layout) (total : ℕ) (outcome : JobO
   replies : AllByRecursion (HasReply version) outcome.replies
   store : IsSmall version layout total outcome.store
 
-held_all : (version : ℕ) (layout : Layout) (total : ℕ) (ops : List Op) (store : Store) → total ≤ MAX_NUMBER →
+held_all : {version : ℕ} {layout : Layout} {total : ℕ} (ops : List Op) {store : Store} → total ≤ MAX_NUMBER →
     AllByRecursion (IsOp version layout) ops → IsSmall version layout total store →
     IsHeldJob version layout total (apply_all ops store)
-held_all version layout total [] store range are small = record { replies = tt; store = small }
-held_all version layout total (op ∷ ops) store range are small =
+held_all [] {store = store} range are small = record { replies = tt; store = small }
+held_all {version = version} {layout = layout} {total = total} (op ∷ ops) {store = store} range are small =
     let one = held_op version layout total op store range are.0 small in
     let after : IsSmall version layout total (apply op store).store = record {
-      bank = keeps layout total op store are.0.fits small.bank;
+      bank = keeps op are.0.fits small.bank;
       keys = one.keys;
       items = one.items;
     } in
-    let rest = held_all version layout total ops (apply op store).store range are.1 after in
+    let rest = held_all ops range are.1 after in
     record { replies = (one.reply, rest.replies); store = rest.store }
 
 -- ---- branches
@@ -239,11 +236,11 @@ longer version layout most [] are = tt
 longer version layout most (branch ∷ branches) are =
     (record { ops = are.0.ops; few = omega (arith, are.0.few) }, longer version layout most branches are.1)
 
-onto_short : (version : ℕ) (layout : Layout) (most : ℕ) (op : Op) (branches : List (List Op)) →
+onto_short : {version : ℕ} {layout : Layout} (most : ℕ) {op : Op} (branches : List (List Op)) →
     IsOp version layout op → AllByRecursion (IsShort version layout most) branches →
     AllByRecursion (IsShort version layout (suc most)) (onto_first op branches)
-onto_short version layout most op [] is are = (record { ops = (is, tt); few = omega arith }, tt)
-onto_short version layout most op (branch ∷ branches) is are = (
+onto_short most [] is are = (record { ops = (is, tt); few = omega arith }, tt)
+onto_short {version = version} {layout = layout} most (branch ∷ branches) is are = (
   record { ops = (is, are.0.ops); few = omega (arith, are.0.few) },
   longer version layout most branches are.1,
 )
@@ -256,7 +253,7 @@ branches_short version layout (OrElse ∷ ops) are = (
   longer version layout (length ops) (branches_of ops) (branches_short version layout ops are.1),
 )
 branches_short version layout (op ∷ ops) are =
-    onto_short version layout (length ops) op (branches_of ops) are.0 (branches_short version layout ops are.1)
+    onto_short (length ops) (branches_of ops) are.0 (branches_short version layout ops are.1)
 
 branch_some : (branch : List Op) → IsBranch branch → 1 ≤ length branch
 branch_some [] is = absurd is
@@ -293,25 +290,24 @@ blocked_awaits version layout ops store are blocked =
     let first = first_branch ops in
     let short = subst (AllByRecursion (IsShort version layout (length ops))) first.2
     (branches_short version layout ops are) in
-    shut_awaits version layout store first.0 short.0.ops
-    (none_first (is_open store) first.0 first.1
+    shut_awaits version layout store first.0 short.0.ops (none_first (is_open store) first.0 first.1
     (ap (find (is_open store)) (sym first.2) ∙ blocked))
 
 -- ---- jobs
 
-jobs_ops : (workload : Workload) (job : Job) → IsJob workload job →
+jobs_ops : {workload : Workload} {job : Job} → IsJob workload job →
     AllByRecursion (IsOp workload.version workload.layout) job.ops
-jobs_ops workload job is =
+jobs_ops {workload = workload} {job = job} is =
     recursion_from_All (IsOp workload.version workload.layout) job.ops
     (λ k d lt. record { fits = is.fits k d lt; known = is.version k d lt; small = is.values k d lt })
 
 -- what a job leaves
-left_small : (version : ℕ) (layout : Layout) (total : ℕ) (branch : Option (List Op)) (store : Store) →
+left_small : {version : ℕ} {layout : Layout} {total : ℕ} (branch : Option (List Op)) {store : Store} →
     total ≤ MAX_NUMBER → IfSome branch (AllByRecursion (IsOp version layout)) → IsSmall version layout total store →
     IsSmall version layout total (store_left (run_branch branch store) store)
-left_small version layout total None store range are small = small
-left_small version layout total (Some ops) store range are small =
-    (held_all version layout total ops store range are small).store
+left_small None range are small = small
+left_small {version = version} {layout = layout} {total = total} (Some ops) {store = store} range are small =
+    (held_all ops range are small).store
 
 -- the branch that is taken
 taken : (version : ℕ) (layout : Layout) (ops : List Op) (store : Store) → AllByRecursion (IsOp version layout) ops →
@@ -325,40 +321,38 @@ some_ops : (version : ℕ) (layout : Layout) (most : ℕ) (branch : Option (List
 some_ops version layout most None is = tt
 some_ops version layout most (Some branch) is = is.ops
 
-job_small : (workload : Workload) (total : ℕ) (job : Option Job) (store : Store) → total ≤ MAX_NUMBER →
+job_small : (workload : Workload) {total : ℕ} (job : Option Job) {store : Store} → total ≤ MAX_NUMBER →
     IfSome job (IsJob workload) → IsSmall workload.version workload.layout total store →
     IsSmall workload.version workload.layout total (after_job job store)
-job_small workload total None store range is small = small
-job_small workload total (Some job) store range is small =
+job_small workload None range is small = small
+job_small workload {total = total} (Some job) {store = store} range is small =
     let version = workload.version in
     let layout = workload.layout in
-    left_small version layout total (open_branch job.ops store) store range
-    (some_ops version layout (length job.ops) (open_branch job.ops store)
-    (taken version layout job.ops store (jobs_ops workload job is))) small
+    left_small (open_branch job.ops store) range (some_ops version layout (length job.ops) (open_branch job.ops store)
+    (taken version layout job.ops store (jobs_ops is))) small
 
-rows_small : (workload : Workload) (total : ℕ) (rows : List Row) (store : Store) → total ≤ MAX_NUMBER →
+rows_small : (workload : Workload) {total : ℕ} (rows : List Row) {store : Store} → total ≤ MAX_NUMBER →
     AllByRecursion (IsJob workload) workload.jobs → IsSmall workload.version workload.layout total store →
     IsSmall workload.version workload.layout total (after_rows workload.jobs rows store)
-rows_small workload total [] store range each small = small
-rows_small workload total (row ∷ rows) store range each small =
+rows_small workload [] range each small = small
+rows_small workload {total = total} (row ∷ rows) {store = store} range each small =
     let job = find (λ j. eqb j.line row.line) workload.jobs in
-    rows_small workload total rows (after_job job store) range each
-    (job_small workload total job store range (found_holds (IsJob workload) (λ j. eqb j.line row.line) workload.jobs each)
-    small)
+    rows_small workload rows range each
+    (job_small workload job range (found_holds (IsJob workload) (λ j. eqb j.line row.line) workload.jobs each) small)
 
 -- the balances of a valid workload
 abbrev total_of : Workload → ℕ
 total_of workload = workload.layout.accounts * workload.layout.opening
 
-total_small : (workload : Workload) → IsValidWorkload workload → total_of workload ≤ MAX_NUMBER
-total_small workload valid =
+total_small : {workload : Workload} → IsValidWorkload workload → total_of workload ≤ MAX_NUMBER
+total_small {workload = workload} valid =
     let product : workload.layout.accounts * workload.layout.opening ≤ 4096 * 1000000000 =
     mul-le-mul valid.layout.accounts valid.layout.opening in
     omega (arith, product)
 
-store_small : (workload : Workload) (rows : List Row) → IsValidWorkload workload →
+store_small : {workload : Workload} (rows : List Row) → IsValidWorkload workload →
     IsSmall workload.version workload.layout (total_of workload) (store_after workload rows)
-store_small workload rows valid =
+store_small {workload = workload} rows valid =
     let layout = workload.layout in
     let opened : IsSmall workload.version layout (total_of workload) (opening_store layout) = record {
       bank = record {
@@ -369,8 +363,7 @@ store_small workload rows valid =
       keys = tt;
       items = tt;
     } in
-    rows_small workload (total_of workload) rows (opening_store layout) (total_small workload valid)
-    (recursion_from_All (IsJob workload) workload.jobs valid.each) opened
+    rows_small workload rows (total_small valid) (recursion_from_All (IsJob workload) workload.jobs valid.each) opened
 
 -- ---- rows
 
@@ -380,15 +373,16 @@ record AreHeldReplies (version : ℕ) (replies : List Reply) : Type 0 where
   few : length replies ≤ 8
   each : All (HasReply version) replies
 
-answers_held : (workload : Workload) (total : ℕ) (Stuck : Type 0) (job : Job) (store : Store) (replies : List Reply) →
+answers_held : {workload : Workload} {total : ℕ} (Stuck : Type 0) {job : Job} {store : Store} (replies : List Reply) →
     total ≤ MAX_NUMBER → IsJob workload job → IsSmall workload.version workload.layout total store →
     AnswersWhere Stuck (apply_job job.ops store) replies → AreHeldReplies workload.version replies
-answers_held workload total Stuck job store replies range is small answers = go (open_branch job.ops store) refl answers
+answers_held {workload = workload} {total = total} Stuck {job = job} {store = store} replies range is small answers =
+    go (open_branch job.ops store) refl answers
   where
     go : (branch : Option (List Op)) → open_branch job.ops store ≡ branch →
         AnswersWhere Stuck (run_branch branch store) replies → AreHeldReplies workload.version replies
     go None blocked told =
-        let newest = blocked_awaits workload.version workload.layout job.ops store (jobs_ops workload job is) blocked in
+        let newest = blocked_awaits workload.version workload.layout job.ops store (jobs_ops is) blocked in
         subst (AreHeldReplies workload.version) (sym told.0) (record {
           some = omega arith;
           few = omega arith;
@@ -398,11 +392,11 @@ answers_held workload total Stuck job store replies range is small answers = go 
         let version = workload.version in
         let layout = workload.layout in
         let short = subst (λ (o : Option (List Op)). IfSome o (IsShort version layout (length job.ops))) is_taken
-        (taken version layout job.ops store (jobs_ops workload job is)) in
+        (taken version layout job.ops store (jobs_ops is)) in
         let branch = subst (λ (o : Option (List Op)). IfSome o IsBranch) is_taken
         (found_holds IsBranch (is_open store) (branches_of job.ops)
         (recursion_from_All IsBranch (branches_of job.ops) is.branches)) in
-        let held = held_all version layout total ops store range short.ops small in
+        let held = held_all ops range short.ops small in
         let count = length-apply_all ops store in
         subst (AreHeldReplies version) (sym told) (record {
           some = omega (arith, count, branch_some ops branch);
@@ -410,17 +404,16 @@ answers_held workload total Stuck job store replies range is small answers = go 
           each = All-from_recursion (HasReply version) (apply_all ops store).replies held.replies;
         })
 
-row_held : (workload : Workload) (before : List Row) (row : Row) → IsValidWorkload workload → FitsRow row →
+row_held : {workload : Workload} {before : List Row} {row : Row} → IsValidWorkload workload → FitsRow row →
     IsGoodRow workload before row → HasRow workload.version row
-row_held workload before row valid fits good =
+row_held {workload = workload} {before = before} {row = row} valid fits good =
     let left = jobs_left workload.jobs before in
     let each = All-from_recursion (IsJob workload) left
     (each-filter (IsJob workload) (λ j. not (is_named before j)) workload.jobs
     (recursion_from_All (IsJob workload) workload.jobs valid.each)) in
     let is = first_holds (IsJob workload) row.worker left good.job each good.turn in
     let own = first_own row.worker left good.job good.turn in
-    let held = answers_held workload (total_of workload) _ good.job (store_after workload before) row.replies
-    (total_small workload valid) is (store_small workload before valid) good.replies in
+    let held = answers_held _ row.replies (total_small valid) is (store_small before valid) good.replies in
     record {
       line = omega (arith, fits.line);
       worker = omega (arith, own, is.worker, valid.workers);
@@ -431,25 +424,24 @@ row_held workload before row valid fits good =
       replies = held.each;
     }
 
-rows_held : (workload : Workload) (before rows : List Row) → IsValidWorkload workload → AllByRecursion FitsRow rows →
+rows_held : {workload : Workload} (before rows : List Row) → IsValidWorkload workload → AllByRecursion FitsRow rows →
     RowsAreGood workload before rows → AllByRecursion (HasRow workload.version) rows
-rows_held workload before [] valid fit good = tt
-rows_held workload before (row ∷ rows) valid fit good = (
-  row_held workload before row valid fit.0 good.0,
-  rows_held workload (before ++ row ∷ []) rows valid fit.1 good.1,
+rows_held before [] valid fit good = tt
+rows_held {workload = workload} before (row ∷ rows) valid fit good = (
+  row_held valid fit.0 good.0,
+  rows_held (before ++ row ∷ []) rows valid fit.1 good.1,
 )
 
 -- ---- what a report tells of the store
 
-declared_held : {A : Type 0} (size : ℕ) (content : A) (told : Option A) (P : A → Type 0) →
+declared_held : {A : Type 0} (size : ℕ) (content : A) {told : Option A} (P : A → Type 0) →
     told ≡ declared_as size content → P content → IfSome told P
-declared_held {A} size content told P is held =
+declared_held {A} size content P is held =
     subst (λ (o : Option A). IfSome o P) (sym is)
     (cond_both (eqb size 0) None (Some content) (λ o. IfSome o P) (λ _. tt) (λ _. held))
 
 balances_held : (balances : List ℕ) (most : ℕ) → sum balances ≤ most → All (λ n. n ≤ most) balances
-balances_held balances most small k d lt =
-    omega (arith, get_or-le-sum_by (λ (n : ℕ). n) balances k d lt, small)
+balances_held balances most small k d lt = omega (arith, get_or-le-sum_by (λ (n : ℕ). n) balances k d lt, small)
 
 items_held : (version : ℕ) (items : List (ℕ × ℕ)) → AllByRecursion (HasPair version) items →
     AllByRecursion (HasItem version) (map item_of items)
@@ -462,19 +454,18 @@ lawful_held workload report valid lawful fit =
     let version = workload.version in
     let same = sym lawful.version in
     let store = store_after workload report.rows in
-    let small = store_small workload report.rows valid in
+    let small = store_small report.rows valid in
     let items = All-from_recursion (HasItem version) (map item_of store.items)
     (items_held version store.items small.items) in
     record {
       version = omega (arith, same, valid.newest);
       rows = subst (λ (v : ℕ). All (HasRow v) report.rows) same (All-from_recursion (HasRow version) report.rows
-          (rows_held workload [] report.rows valid (recursion_from_All FitsRow report.rows fit) lawful.rows));
-      bank = declared_held workload.layout.accounts store.balances report.bank (All IsNumber) lawful.bank
-          (balances_held store.balances MAX_NUMBER (omega (arith, small.bank.total_is, total_small workload valid)));
-      list = declared_held workload.layout.list store.keys report.list (All IsNumber) lawful.list
+          (rows_held [] report.rows valid (recursion_from_All FitsRow report.rows fit) lawful.rows));
+      bank = declared_held workload.layout.accounts store.balances (All IsNumber) lawful.bank
+          (balances_held store.balances MAX_NUMBER (omega (arith, small.bank.total_is, total_small valid)));
+      list = declared_held workload.layout.list store.keys (All IsNumber) lawful.list
           (All-from_recursion IsNumber store.keys small.keys);
       tree = subst (λ (v : ℕ). IfSome report.tree (All (HasItem v))) same
-          (declared_held workload.layout.tree (map item_of store.items) report.tree (All (HasItem version)) lawful.tree
-          items);
+          (declared_held workload.layout.tree (map item_of store.items) (All (HasItem version)) lawful.tree items);
       count = omega (arith, lawful.count, lawful.whole, valid.few);
     }

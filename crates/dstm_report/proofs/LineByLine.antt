@@ -40,9 +40,9 @@ rows_from_places workload before (first ∷ rows) each = (
 
 -- ---- lawful reports
 
-pub lines_are_good : (workload : Workload) (report : Report) → IsLawful workload report → (line : ℕ) →
+pub lines_are_good : {workload : Workload} {report : Report} → IsLawful workload report → (line : ℕ) →
     IsGoodLine workload report line
-lines_are_good workload report lawful line = record {
+lines_are_good {workload = workload} {report = report} lawful line = record {
   header = λ e. lawful.version;
   row = λ i row at e. good_row_at workload [] report.rows i row lawful.rows at;
   bank = λ e. lawful.bank;
@@ -66,28 +66,25 @@ lawful_by_lines workload report good = record {
 
 -- ---- one first bad line
 
-same_line : (workload : Workload) (report : Report) (m n : ℕ) → IsFirstBadLine workload report m →
+same_line : {workload : Workload} {report : Report} {m n : ℕ} → IsFirstBadLine workload report m →
     IsFirstBadLine workload report n → m ≡ n
-same_line workload report m n first second =
-    ⊎_elim (λ same. same)
-    (λ other. ⊎_elim (λ below. absurd (first.bad (second.first m below)))
-    (λ above. absurd (second.bad (first.first n above))) other)
-    (cases_order m n)
+same_line {m = m} {n = n} first second =
+    ⊎_elim (λ same. same) (λ other. ⊎_elim (λ below. absurd (first.bad (second.first m below)))
+    (λ above. absurd (second.bad (first.first n above))) other) (cases_order m n)
 
 pub tells_lawful : (workload : Workload) (report : Report) (verdict : Verdict) → Tells workload report verdict →
     (verdict ≡ Lawful) ↔ IsLawful workload report
 tells_lawful workload report Lawful tells = (λ e. tells, λ lawful. refl)
 tells_lawful workload report (NotLawful line) tells =
-    (λ e. absurd (let no : ⊥ = cc in no), λ lawful. absurd (tells.bad (lines_are_good workload report lawful line)))
+    (λ e. absurd (let no : ⊥ = cc in no), λ lawful. absurd (tells.bad (lines_are_good lawful line)))
 
 pub tells_line : (workload : Workload) (report : Report) (verdict : Verdict) → Tells workload report verdict →
-    (line : ℕ) →
-    (verdict ≡ NotLawful line) ↔ IsFirstBadLine workload report line
+    (line : ℕ) → (verdict ≡ NotLawful line) ↔ IsFirstBadLine workload report line
 tells_line workload report Lawful tells line =
-    (λ e. absurd (let no : ⊥ = cc in no), λ first. absurd (first.bad (lines_are_good workload report tells line)))
+    (λ e. absurd (let no : ⊥ = cc in no), λ first. absurd (first.bad (lines_are_good tells line)))
 tells_line workload report (NotLawful n) tells line = (
   λ e. let same : n ≡ line = cc in subst (IsFirstBadLine workload report) same tells,
-  λ first. ap (λ (m : ℕ). NotLawful m) (same_line workload report n line tells first),
+  λ first. ap (λ (m : ℕ). NotLawful m) (same_line tells first),
 )
 
 -- ---- where the first bad line is
@@ -136,16 +133,15 @@ bad_row workload report i line row version at good bad is =
     }
 
 -- the same, as the code finds it
-pub bad_row_found : (workload : Workload) (report : Report) (rows : List Row) (i : ℕ) (row : Row) →
+pub bad_row_found : (workload : Workload) (report : Report) {rows : List Row} (i : ℕ) {row : Row} →
     report.version ≡ workload.version →
     rows ≡ report.rows → i < length rows → row ≡ get_or rows i row → RowsAreGood workload [] (take i rows) →
     ¬ (IsGoodRow workload (take i rows) row) → IsFirstBadLine workload report (2 + i)
-bad_row_found workload report rows i row version same within at good bad =
+bad_row_found workload report {rows = rows} i {row = row} version same within at good bad =
     bad_row workload report i (2 + i) row version
     (subst (λ (rs : List Row). slice_get rs i ≡ Some row) same (slice_get_read rows (length rows) i row refl within at))
     (subst (λ (rs : List Row). RowsAreGood workload [] (take i rs)) same good)
-    (subst (λ (rs : List Row). ¬ (IsGoodRow workload (take i rs) row)) same bad)
-    (omega arith)
+    (subst (λ (rs : List Row). ¬ (IsGoodRow workload (take i rs) row)) same bad) (omega arith)
 
 -- what is known where the rows are good
 pub record RowsGood (workload : Workload) (report : Report) : Type 0 where
@@ -164,10 +160,9 @@ abbrev pub IsTree : Workload → Report → Type 0
 IsTree workload report =
     report.tree ≡ declared_as workload.layout.tree (state_of (store_after workload report.rows)).tree
 
-pub bad_bank : (workload : Workload) (report : Report) (line : ℕ) → RowsGood workload report →
-    ¬ (IsBank workload report) →
-    line ≡ bank_line report → IsFirstBadLine workload report line
-bad_bank workload report line good bad is = record {
+pub bad_bank : {workload : Workload} {report : Report} (line : ℕ) → RowsGood workload report →
+    ¬ (IsBank workload report) → line ≡ bank_line report → IsFirstBadLine workload report line
+bad_bank {workload = workload} {report = report} line good bad is = record {
   bad = λ here. bad (here.bank is);
   first = λ earlier lt. record {
     header = λ e. good.version;
@@ -180,9 +175,9 @@ bad_bank workload report line good bad is = record {
   };
 }
 
-pub bad_list : (workload : Workload) (report : Report) (line : ℕ) → RowsGood workload report → IsBank workload report →
+pub bad_list : {workload : Workload} {report : Report} (line : ℕ) → RowsGood workload report → IsBank workload report →
     ¬ (IsList workload report) → line ≡ list_line report → IsFirstBadLine workload report line
-bad_list workload report line good bank bad is = record {
+bad_list {workload = workload} {report = report} line good bank bad is = record {
   bad = λ here. bad (here.list is);
   first = λ earlier lt. record {
     header = λ e. good.version;
@@ -195,9 +190,9 @@ bad_list workload report line good bank bad is = record {
   };
 }
 
-pub bad_tree : (workload : Workload) (report : Report) (line : ℕ) → RowsGood workload report → IsBank workload report →
+pub bad_tree : {workload : Workload} {report : Report} (line : ℕ) → RowsGood workload report → IsBank workload report →
     IsList workload report → ¬ (IsTree workload report) → line ≡ tree_line report → IsFirstBadLine workload report line
-bad_tree workload report line good bank list bad is = record {
+bad_tree {workload = workload} {report = report} line good bank list bad is = record {
   bad = λ here. bad (here.tree is);
   first = λ earlier lt. record {
     header = λ e. good.version;
@@ -210,11 +205,11 @@ bad_tree workload report line good bank list bad is = record {
   };
 }
 
-pub bad_end : (workload : Workload) (report : Report) (line : ℕ) → RowsGood workload report → IsBank workload report →
+pub bad_end : {workload : Workload} {report : Report} (line : ℕ) → RowsGood workload report → IsBank workload report →
     IsList workload report → IsTree workload report →
     ¬ ((report.count ≡ length report.rows) × (length report.rows ≡ length workload.jobs)) → line ≡ end_line report →
     IsFirstBadLine workload report line
-bad_end workload report line good bank list tree bad is = record {
+bad_end {workload = workload} {report = report} line good bank list tree bad is = record {
   bad = λ here. bad (here.count is, here.whole is);
   first = λ earlier lt. record {
     header = λ e. good.version;

@@ -9,13 +9,13 @@ use Rattle.dstm_workload.specs.declared.workload.Workload.{Workload}
 use Rattle.dstm_report.specs.declared.report.Row.{Row}
 use Rattle.dstm_report.specs.Lawful.{after_rows, after_job, last_row, IsGoodRow, RowsAreGood}
 
-pub RowsAreGood-push : (workload : Workload) (before rows : List Row) (row : Row) → RowsAreGood workload before rows →
+pub RowsAreGood-push : {workload : Workload} (before rows : List Row) {row : Row} → RowsAreGood workload before rows →
     IsGoodRow workload (before ++ rows) row → RowsAreGood workload before (rows ++ row ∷ [])
-RowsAreGood-push workload before [] row good next =
+RowsAreGood-push {workload = workload} before [] {row = row} good next =
     (subst (λ (b : List Row). IsGoodRow workload b row) (append-nil before) next, tt)
-RowsAreGood-push workload before (first ∷ rows) row good next = (
+RowsAreGood-push {workload = workload} before (first ∷ rows) {row = row} good next = (
   good.0,
-  RowsAreGood-push workload (before ++ first ∷ []) rows row good.1
+  RowsAreGood-push (before ++ first ∷ []) rows good.1
       (subst (λ (b : List Row). IsGoodRow workload b row) (sym (append_assoc before (first ∷ []) rows)) next),
 )
 

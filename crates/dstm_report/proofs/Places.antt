@@ -16,9 +16,9 @@ use Rattle.dstm_report.specs.Turns.{without_first, no_job, job_at, IsFirstFrom, 
 
 -- what another one's job is nothing to, and whose own jobs up to this place are over, passes over a job
 pub passed_over : {A : Type 0} (f : List Job → A) (next : List ℕ) (worker : ℕ) (job : Job) (jobs : List Job) (from : ℕ)
-    (x : A) → (job.worker ≢ worker → f (job ∷ left_from (from + 1) next jobs) ≡ f (left_from (from + 1) next jobs)) →
+    {x : A} → (job.worker ≢ worker → f (job ∷ left_from (from + 1) next jobs) ≡ f (left_from (from + 1) next jobs)) →
     from < get_or next worker 0 → f (left_from (from + 1) next jobs) ≡ x → f (left_from from next (job ∷ jobs)) ≡ x
-passed_over f next worker job jobs from x others over rest =
+passed_over f next worker job jobs from {x = x} others over rest =
     let more = left_from (from + 1) next jobs in
     elim (cases_eq job.worker worker) [
       | inl mine ↦
@@ -44,14 +44,14 @@ first_from next worker (job ∷ jobs) from zero is within own =
     le-leb _ _ (subst (λ w. get_or next w 0 ≤ from) (sym mine) (omega (arith, is))) in
     rw (here, eq-eqb job.worker worker mine) refl
 first_from next worker (job ∷ jobs) from (suc ahead) is within own =
-    passed_over (first_job worker) next worker job jobs from (slice_get jobs ahead)
+    passed_over (first_job worker) next worker job jobs from
     (λ other. rw (ne_eqb job.worker worker other) refl) (omega (arith, is))
     (first_from next worker jobs (from + 1) ahead (omega (arith, is)) (omega (arith, within))
     (λ lt. own (omega (arith, lt))))
 
-first_is : (jobs : List Job) (next followers : List ℕ) (worker : ℕ) → ArePlaces jobs next followers →
+first_is : {jobs : List Job} {next followers : List ℕ} (worker : ℕ) → ArePlaces jobs next followers →
     worker < length next → first_job worker (left_from 0 next jobs) ≡ slice_get jobs (get_or next worker 0)
-first_is jobs next followers worker places small =
+first_is {jobs = jobs} {next = next} worker places small =
     first_from next worker jobs 0 (get_or next worker 0) (omega arith) (places.within worker small)
     (places.own worker small)
 
@@ -66,37 +66,36 @@ no_more next worker workers from (job ∷ jobs) past h =
       | false ↦ rest
     ]
 
-none_is : (jobs : List Job) (next followers : List ℕ) (worker : ℕ) → ArePlaces jobs next followers →
+none_is : {jobs : List Job} {next followers : List ℕ} (worker : ℕ) → ArePlaces jobs next followers →
     length next ≤ worker → first_job worker (left_from 0 next jobs) ≡ None
-none_is jobs next followers worker places past =
+none_is {jobs = jobs} {next = next} worker places past =
     no_more next worker (length next) 0 jobs past
     (recursion_from_All (λ (j : Job). j.worker < length next) jobs places.small)
 
 -- what stands at the worker's place, if it has one
-pub first_at : (jobs : List Job) (next followers : List ℕ) (worker : ℕ) → ArePlaces jobs next followers →
+pub first_at : {jobs : List Job} {next followers : List ℕ} (worker : ℕ) → ArePlaces jobs next followers →
     job_of jobs next worker ≡ first_job worker (left_from 0 next jobs)
-first_at jobs next followers worker places =
+first_at {jobs = jobs} {next = next} {followers = followers} worker places =
     let get : Option ℕ → Option Job = option_and_then (λ place. slice_get jobs place) in
     elim (cases_lt worker (length next)) [
-      | inl small ↦ ap get (slice_get-get_or next worker 0 small) ∙ sym (first_is jobs next followers worker places small)
-      | inr past ↦ ap get (slice_get_past next worker past) ∙ sym (none_is jobs next followers worker places past)
+      | inl small ↦ ap get (slice_get-get_or next worker 0 small) ∙ sym (first_is worker places small)
+      | inr past ↦ ap get (slice_get_past next worker past) ∙ sym (none_is worker places past)
     ]
 
 -- a worker with a job left has a place
-pub has_place : (jobs : List Job) (next followers : List ℕ) (worker : ℕ) → ArePlaces jobs next followers →
-    IsSome (first_job worker (left_from 0 next jobs)) →
-    (worker < length next) × (get_or next worker 0 < length jobs)
-has_place jobs next followers worker places some =
+pub has_place : {jobs : List Job} {next followers : List ℕ} (worker : ℕ) → ArePlaces jobs next followers →
+    IsSome (first_job worker (left_from 0 next jobs)) → (worker < length next) × (get_or next worker 0 < length jobs)
+has_place {jobs = jobs} {next = next} {followers = followers} worker places some =
     elim (cases_lt worker (length next)) [
       | inl small ↦
           elim (cases_lt (get_or next worker 0) (length jobs)) [
             | inl inside ↦ (small, inside)
             | inr past ↦
-                let none = first_is jobs next followers worker places small
+                let none = first_is worker places small
                 ∙ slice_get_past jobs (get_or next worker 0) past in
                 absurd (false≢true (sym (ap is_some none) ∙ some))
           ]
-      | inr past ↦ absurd (false≢true (sym (ap is_some (none_is jobs next followers worker places past)) ∙ some))
+      | inr past ↦ absurd (false≢true (sym (ap is_some (none_is worker places past)) ∙ some))
     ]
 
 -- ---- the end of a turn
@@ -140,8 +139,7 @@ module _ (next : List ℕ) (worker after : ℕ) (small : worker < length next) w
       lt-leb _ _ (omega (arith, ap (λ w. get_or new w 0) own ∙ here, later)) in
       let was : leb (get_or next job.worker 0) from ≡ true =
       le-leb _ _ (omega (arith, ap (λ w. get_or next w 0) own, is)) in
-      rw (gone, was, eq-eqb job.worker worker own)
-      (behind_same jobs (from + 1) (omega (arith, is))
+      rw (gone, was, eq-eqb job.worker worker own) (behind_same jobs (from + 1) (omega (arith, is))
       (λ k lt mine. omega (arith, others (suc k) (omega arith) (omega (arith, lt)) mine)))
   left_less (job ∷ jobs) from (suc ahead) is within own later others =
       let rest = left_less jobs (from + 1) ahead (omega (arith, is)) (omega (arith, within)) own (omega (arith, later))
@@ -162,26 +160,24 @@ module _ (next : List ℕ) (worker after : ℕ) (small : worker < length next) w
             ])
       ]
 
-pub passed : (jobs : List Job) (next followers : List ℕ) (worker : ℕ) → ArePlaces jobs next followers →
+pub passed : {jobs : List Job} {next followers : List ℕ} (worker : ℕ) → ArePlaces jobs next followers →
     worker < length next → get_or next worker 0 < length jobs →
     left_from 0 (set next worker (get_or followers (get_or next worker 0) 0)) jobs
     ≡ without_first worker (left_from 0 next jobs)
-passed jobs next followers worker places small inside =
+passed {jobs = jobs} {next = next} {followers = followers} worker places small inside =
     let place = get_or next worker 0 in
     let own = places.own worker small inside in
     let ahead = places.following place inside in
     left_less next worker (get_or followers place 0) small jobs 0 place (omega arith) inside own
-    (omega (arith, ahead.behind))
-    (λ k lt within mine.
-    elim (cases_lt k (get_or followers place 0)) [
+    (omega (arith, ahead.behind)) (λ k lt within mine. elim (cases_lt k (get_or followers place 0)) [
       | inl before ↦ absurd (ahead.others k (omega (arith, lt)) before (mine ∙ sym own))
       | inr reached ↦ omega (arith, reached)
     ])
 
-pub places_passed : (jobs : List Job) (next followers : List ℕ) (worker : ℕ) → ArePlaces jobs next followers →
+pub places_passed : {jobs : List Job} {next followers : List ℕ} (worker : ℕ) → ArePlaces jobs next followers →
     worker < length next → get_or next worker 0 < length jobs →
     ArePlaces jobs (set next worker (get_or followers (get_or next worker 0) 0)) followers
-places_passed jobs next followers worker places small inside =
+places_passed {jobs = jobs} {next = next} {followers = followers} worker places small inside =
     let place = get_or next worker 0 in
     let after = get_or followers place 0 in
     let new = set next worker after in
@@ -222,9 +218,9 @@ all_left next (job ∷ jobs) from h =
     (ap (λ (js : List Job). job ∷ js) (all_left next jobs (from + 1)
     (λ k lt. let later = h (suc k) (omega (arith, lt)) in omega (arith, later))))
 
-pub starts : (jobs : List Job) (workers : ℕ) (firsts followers : List ℕ) → All (λ job. job.worker < workers) jobs →
+pub starts : {jobs : List Job} {workers : ℕ} {firsts followers : List ℕ} → All (λ job. job.worker < workers) jobs →
     AreLinked jobs workers 0 firsts followers → left_from 0 firsts jobs ≡ jobs
-starts jobs workers firsts followers all links =
+starts {jobs = jobs} {firsts = firsts} all links =
     all_left firsts jobs 0 (λ k lt.
     let mine = (job_at jobs k).worker in
     let first = links.first mine (all k no_job lt) in

@@ -47,15 +47,15 @@ record HasRead (draft more : Draft) (texts : List (List ℕ)) : Type 0 where
   same_version : more.report.version ≡ draft.report.version
   grown : so_far more ≡ so_far draft ++ texts
 
-after_reads : Printed → Only → (texts : List (List ℕ)) (draft more : Draft) → IsDraft draft →
+after_reads : Printed → Only → (texts : List (List ℕ)) {draft : Draft} (more : Draft) → IsDraft draft →
     after texts draft ≡ Some more → HasRead draft more texts
-after_reads printed only [] draft more is read =
+after_reads printed only [] {draft = draft} more is read =
     subst (λ (d : Draft). HasRead draft d []) (same_Some draft more read)
     (record { draft_still = is; same_version = refl; grown = sym (append-nil (so_far draft)) })
-after_reads printed only (text ∷ texts) draft more is read =
+after_reads printed only (text ∷ texts) {draft = draft} more is read =
     let found = bind_some (add_line text draft) _ more read in
-    let first = add_line_grows printed only text draft found.0 is found.1 in
-    let rest = after_reads printed only texts found.0 more first.draft_still found.2 in
+    let first = add_line_grows printed only text found.0 is found.1 in
+    let rest = after_reads printed only texts more first.draft_still found.2 in
     record {
       draft_still = rest.draft_still;
       same_version = rest.same_version ∙ first.same_version;
@@ -70,11 +70,11 @@ draft_begins draft = go draft.part refl
   where
     go : (p : Part) → draft.part ≡ p →
         (rest : List (List ℕ)) × (so_far draft ++ rest ≡ lines_behind_header draft.report)
-    go part.End is = ([], append-nil (so_far draft) ∙ whole_end draft part.End is)
+    go part.End is = ([], append-nil (so_far draft) ∙ whole_end draft is)
     go p is =
         let report = draft.report in (
           end_text report.count ∷ [],
-          ap (λ (ls : List (List ℕ)). ls ++ end_text report.count ∷ []) (whole_end draft p is)
+          ap (λ (ls : List (List ℕ)). ls ++ end_text report.count ∷ []) (whole_end draft is)
               ∙ sym (end_put (map row_line report.rows) (numbers_lines (codes "bank") report.bank)
               (numbers_lines (codes "list") report.list) (items_lines report.version (codes "tree") report.tree)
               (end_text report.count)),
@@ -94,7 +94,7 @@ read_lines_begin : Printed → Only → (version : ℕ) (text : List ℕ) (front
     BeginReport version (text ∷ front)
 read_lines_begin printed only version text front last first read =
     let header = header_is printed only version text first in
-    let known = after_reads printed only front (blank version) last (blank_is_draft version header.1) read in
+    let known = after_reads printed only front last (blank_is_draft version header.1) read in
     let ends = draft_begins last in
     record {
       report = last.report;
@@ -104,30 +104,30 @@ read_lines_begin printed only version text front last first read =
         held = known.draft_still.held;
         printed = same_cons (header.0 ∙ ap header_line (sym known.same_version))
             (ap (λ (ls : List (List ℕ)). ls ++ ends.0) (sym known.grown) ∙ ends.1)
-            ∙ sym (report_lines printed last.report known.draft_still.held);
+            ∙ sym (report_lines printed known.draft_still.held);
       };
     }
 
-begin_less : (version : ℕ) (a b : List (List ℕ)) → BeginReport version (a ++ b) → BeginReport version a
-begin_less version a b begun = record {
+begin_less : {version : ℕ} (a b : List (List ℕ)) → BeginReport version (a ++ b) → BeginReport version a
+begin_less {version = version} a b begun = record {
   report = begun.report;
   behind = b ++ begun.behind;
   whole = subst (AreLinesOf version begun.report) (append_assoc a b begun.behind) begun.whole;
 }
 
-begin_take : (version m : ℕ) (lines : List (List ℕ)) → BeginReport version lines → BeginReport version (take m lines)
-begin_take version m lines begun =
-    begin_less version (take m lines) (drop m lines)
-    (subst (BeginReport version) (sym (take-append-drop m lines)) begun)
+begin_take : {version : ℕ} (m : ℕ) {lines : List (List ℕ)} → BeginReport version lines → BeginReport version
+    (take m lines)
+begin_take {version = version} m {lines = lines} begun =
+    begin_less (take m lines) (drop m lines) (subst (BeginReport version) (sym (take-append-drop m lines)) begun)
 
-begin_shorter : (version m n : ℕ) (lines : List (List ℕ)) → m ≤ n → BeginReport version (take n lines) →
+begin_shorter : {version : ℕ} (m n : ℕ) (lines : List (List ℕ)) → m ≤ n → BeginReport version (take n lines) →
     BeginReport version (take m lines)
-begin_shorter version m n lines le begun =
-    subst (BeginReport version) (take-take m n lines le) (begin_take version m (take n lines) begun)
+begin_shorter {version = version} m n lines le begun =
+    subst (BeginReport version) (take-take m n lines le) (begin_take m begun)
 
-whole_begins : (version : ℕ) (lines : List (List ℕ)) (report : Report) → AreLinesOf version report lines →
+whole_begins : {version : ℕ} {lines : List (List ℕ)} {report : Report} → AreLinesOf version report lines →
     BeginReport version lines
-whole_begins version lines report are = record {
+whole_begins {version = version} {lines = lines} {report = report} are = record {
   report = report;
   behind = [];
   whole = subst (AreLinesOf version report) (sym (append-nil lines)) are;
@@ -185,9 +185,7 @@ stops (text ∷ texts) n draft line is =
           place = omega (arith, same);
         })
     go (Some more) added next told =
-        ⊎_elim
-        (λ at.
-        inl (record {
+        ⊎_elim (λ at. inl (record {
           front = text ∷ at.front;
           text = at.text;
           rest = at.rest;
@@ -196,22 +194,19 @@ stops (text ∷ texts) n draft line is =
           read = ap (λ (o : Option Draft). o >>= λ d. after at.front d) added ∙ at.read;
           none = at.none;
           place = omega (arith, at.place);
-        }))
-        (λ behind.
-        inr (record {
+        })) (λ behind. inr (record {
           last = behind.last;
           read = ap (λ (o : Option Draft). o >>= λ d. after texts d) added ∙ behind.read;
           place = omega (arith, behind.place);
-        }))
-        (next more told)
+        })) (next more told)
 
 -- ---- refusals
 
 -- a line that cannot stand there: no text begins with it
-stops_at : Printed → Only → (version : ℕ) (text : List ℕ) (texts : List (List ℕ)) (line : ℕ) →
+stops_at : Printed → Only → (version : ℕ) (text : List ℕ) {texts : List (List ℕ)} {line : ℕ} →
     is_version version (header_of (pieces 32 text)) ≡ true → StopsAt texts 2 (blank version) line →
     IsFirstMisplaced version (text ∷ texts) line
-stops_at printed only version text texts line header at =
+stops_at printed only version text {texts = texts} {line = line} header at =
     let front = text ∷ at.front in
     let lines : text ∷ texts ≡ front ++ at.text ∷ at.rest = ap (λ (ts : List (List ℕ)). text ∷ ts) at.are in
     let before : take (line - 1) (text ∷ texts) ≡ front =
@@ -237,7 +232,7 @@ stops_at printed only version text texts line header at =
         let lines : ((text ∷ at.front) ++ at.text ∷ []) ++ begun.behind ≡ text ∷ (at.front ++ rest) =
         append_assoc (text ∷ at.front) (at.text ∷ []) begun.behind in
         err_ok (2 + length at.front) begun.report
-        (sym (ap (parsed version) lines ∙ told) ∙ printed_is_read printed version _ begun.report begun.whole)
+        (sym (ap (parsed version) lines ∙ told) ∙ printed_is_read printed begun.whole)
 
 pub refused_is : Printed → Only → (version : ℕ) (lines : List (List ℕ)) (line : ℕ) → version ≤ MAX_NUMBER →
     parsed version lines ≡ Err line → AreRefusedAt version lines line
@@ -245,7 +240,7 @@ refused_is printed only version [] line small is =
     let same = same_err {A = Report} 1 line is in
     inr (record {
       started = none_begin version small;
-      none = λ some. err_ok 1 some.0 (printed_is_read printed version [] some.0 some.1);
+      none = λ some. err_ok 1 some.0 (printed_is_read printed some.1);
       behind = omega (arith, same);
     })
 refused_is printed only version (text ∷ texts) line small is =
@@ -259,40 +254,33 @@ refused_is printed only version (text ∷ texts) line small is =
           before = none_begin version small;
           none = λ begun. err_ok 1 begun.report
               (sym (cond-false (is_version version (header_of (pieces 32 text))) _ _ header)
-              ∙ printed_is_read printed version ((text ∷ []) ++ begun.behind) begun.report begun.whole);
+              ∙ printed_is_read printed begun.whole);
         }))
     go true header told =
-        ⊎_elim (λ at. inl (stops_at printed only version text texts line header at))
-        (λ behind.
-        inr (record {
+        ⊎_elim (λ at. inl (stops_at printed only version text header at)) (λ behind. inr (record {
           started = read_lines_begin printed only version text texts behind.last header behind.read;
           none = λ some. err_ok line some.0
               (sym (cond-true (is_version version (header_of (pieces 32 text))) _ _ header ∙ told)
-              ∙ printed_is_read printed version (text ∷ texts) some.0 some.1);
+              ∙ printed_is_read printed some.1);
           behind = omega (arith, behind.place);
-        }))
-        (stops texts 2 (blank version) line told)
+        })) (stops texts 2 (blank version) line told)
 
 -- ---- there is one such place
 
 pub same_place : (version : ℕ) (lines : List (List ℕ)) (m n : ℕ) → AreRefusedAt version lines m →
     AreRefusedAt version lines n → m ≡ n
 same_place version lines m n (inl first) (inl second) =
-    ⊎_elim (λ same. same)
-    (λ other. ⊎_elim
-    (λ less. absurd (first.none (begin_shorter version m (n - 1) lines (omega (arith, less)) second.before)))
-    (λ more. absurd (second.none (begin_shorter version n (m - 1) lines (omega (arith, more)) first.before))) other)
+    ⊎_elim (λ same. same) (λ other. ⊎_elim
+    (λ less. absurd (first.none (begin_shorter m (n - 1) lines (omega (arith, less)) second.before)))
+    (λ more. absurd (second.none (begin_shorter n (m - 1) lines (omega (arith, more)) first.before))) other)
     (cases_order m n)
-same_place version lines m n (inl first) (inr second) =
-    absurd (first.none (begin_take version m lines second.started))
-same_place version lines m n (inr first) (inl second) =
-    absurd (second.none (begin_take version n lines first.started))
+same_place version lines m n (inl first) (inr second) = absurd (first.none (begin_take m second.started))
+same_place version lines m n (inr first) (inl second) = absurd (second.none (begin_take n first.started))
 same_place version lines m n (inr first) (inr second) = first.behind ∙ sym second.behind
 
 pub not_refused : (version : ℕ) (lines : List (List ℕ)) (report : Report) (line : ℕ) → AreLinesOf version report lines →
     AreRefusedAt version lines line → ⊥
-not_refused version lines report line are (inl first) =
-    first.none (begin_take version line lines (whole_begins version lines report are))
+not_refused version lines report line are (inl first) = first.none (begin_take line (whole_begins are))
 not_refused version lines report line are (inr early) = early.none (report, are)
 
 pub is_refused : Printed → Only → (version : ℕ) (lines : List (List ℕ)) (line : ℕ) → version ≤ MAX_NUMBER →
@@ -312,8 +300,7 @@ same_ok x y is = cc
 pub same_report : Printed → (version : ℕ) (lines : List (List ℕ)) (one other : Report) →
     AreLinesOf version one lines → AreLinesOf version other lines → one ≡ other
 same_report printed version lines one other first second =
-    same_ok one other
-    (sym (printed_is_read printed version lines one first) ∙ printed_is_read printed version lines other second)
+    same_ok one other (sym (printed_is_read printed first) ∙ printed_is_read printed second)
 
 pub either_way : Printed → Only → (version : ℕ) (lines : List (List ℕ)) → version ≤ MAX_NUMBER →
     ((report : Report) × AreLinesOf version report lines) ⊎ ((line : ℕ) × AreRefusedAt version lines line)

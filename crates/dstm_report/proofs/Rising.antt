@@ -31,8 +31,7 @@ rise_of least (job ∷ jobs) first rising =
     let count = length-map jobs (λ (j : Job). j.line) in (
       first (omega arith),
       rise_of (job.line + 1) jobs
-          (λ some. let next = rising 0 (omega (arith, count)) in omega (arith, next))
-          (λ k lt.
+          (λ some. let next = rising 0 (omega (arith, count)) in omega (arith, next)) (λ k lt.
           let behind : suc k + 1 ≡ suc (k + 1) = omega arith in
           subst (λ (i : ℕ). get_or lines k 0 < get_or all i 0) behind (rising (suc k) (omega (arith, lt)))),
     )
@@ -65,12 +64,12 @@ each-filter P p (job ∷ jobs) h =
 abbrev pub others : ℕ → List Job → List Job
 others line jobs = filter (λ job. not (eqb line job.line)) jobs
 
-push_case : (named here : Bool) (line : ℕ) (job : Job) (left after : List Job) → after ≡ others line left →
+push_case : (named here : Bool) (line : ℕ) (job : Job) (left : List Job) {after : List Job} → after ≡ others line left →
     eqb line job.line ≡ here →
     cond (not (named || (here || false))) (job ∷ after) after ≡ others line (cond (not named) (job ∷ left) left)
-push_case true here line job left after e h = e
-push_case false true line job left after e h = rw h e
-push_case false false line job left after e h = rw h (ap (λ (rest : List Job). job ∷ rest) e)
+push_case true here line job left e h = e
+push_case false true line job left e h = rw h e
+push_case false false line job left e h = rw h (ap (λ (rest : List Job). job ∷ rest) e)
 
 -- one row more takes its line out
 pub jobs_left-push : (jobs : List Job) (rows : List Row) (row : Row) →
@@ -80,7 +79,7 @@ jobs_left-push (job ∷ jobs) rows row =
     let after = jobs_left jobs (rows ++ row ∷ []) in
     ap (λ (b : Bool). cond (not b) (job ∷ after) after) (list_any-append (λ (r : Row). eqb r.line job.line) rows
     (row ∷ []))
-    ∙ push_case (is_named rows job) (eqb row.line job.line) row.line job (jobs_left jobs rows) after
+    ∙ push_case (is_named rows job) (eqb row.line job.line) row.line job (jobs_left jobs rows)
     (jobs_left-push jobs rows row) refl
 
 -- without rows all jobs are left
@@ -164,8 +163,7 @@ first_own worker (first ∷ left) job is =
 
 -- where the first job of each worker is blocked, that is of every number
 pub all_blocked : (workers : ℕ) (left : List Job) (store : Store) → All (λ job. job.worker < workers) left →
-    ((k : ℕ) → k < workers → IfSome (first_job k left) (λ job. apply_job job.ops store ≡ None)) →
-    AreBlocked left store
+    ((k : ℕ) → k < workers → IfSome (first_job k left) (λ job. apply_job job.ops store ≡ None)) → AreBlocked left store
 all_blocked workers left store small each worker =
     elim (cases_lt worker workers) [
       | inl is_worker ↦ each worker is_worker
@@ -194,8 +192,7 @@ others-first worker least (first ∷ jobs) job rise is =
     others job.line (first ∷ jobs) ≡ cond b jobs (first ∷ without_first worker jobs)) [
       | true ↦ λ e.
           subst (λ (j : Job). others j.line (first ∷ jobs) ≡ jobs) (same_Some first job e)
-          (rw (eq-eqb first.line first.line refl)
-          (others-above first.line (first.line + 1) jobs (omega arith) rise.1))
+          (rw (eq-eqb first.line first.line refl) (others-above first.line (first.line + 1) jobs (omega arith) rise.1))
       | false ↦ λ e.
           let above = found_above (λ j. eqb j.worker worker) (first.line + 1) jobs job rise.1 e in
           rw (ne_eqb job.line first.line (λ q. omega (arith, above)))

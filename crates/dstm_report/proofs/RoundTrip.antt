@@ -20,7 +20,7 @@ use Rattle.dstm_report.specs.declared.draft.TheConstants.{MAX_NUMBER, MAX_WORKER
 use Rattle.dstm_report.specs.declared.report.Row.{Row}
 use Rattle.dstm_report.specs.declared.report.Report.{Report}
 use Rattle.dstm_text.specs.Options.{◌>>=◌}
-use Rattle.dstm_report.specs.Parser.{number_in, number_at, pair_of, both_numbers, place_at, known_reply}
+use Rattle.dstm_report.specs.Parser.{number_in, number_at, pair_of, both_numbers, known_reply}
 use Rattle.dstm_report.specs.Parser.{number_reply, reply_of, further_replies, replies_of, row_of}
 use Rattle.dstm_report.specs.Parser.{numbers_of, item_of, items_of, count_of, part_of, rank, can_follow, with_row}
 use Rattle.dstm_report.specs.Parser.{with_bank, with_list, with_tree, with_count, add_part, add_words, add_line}
@@ -31,8 +31,8 @@ use Rattle.dstm_report.specs.Text.{numbers_text, item_text, item_field, items_te
 use Rattle.dstm_report.proofs.Words.{is_free, free-append, pieces_word, pieces_last, lines_of-line, Printed}
 use Rattle.dstm_report.proofs.Words.{decimal_free, decimal_ne, number_in-decimal}
 
-bind_read : {A B : Type 0} (o : Option A) (f : A → Option B) (x : A) → o ≡ Some x → (o >>= f) ≡ f x
-bind_read {A} {B} o f x e = ap (λ (p : Option A). p >>= f) e
+bind_read : {A B : Type 0} {o : Option A} (f : A → Option B) (x : A) → o ≡ Some x → (o >>= f) ≡ f x
+bind_read {A} {B} f x e = ap (λ (p : Option A). p >>= f) e
 
 -- ---- words
 
@@ -41,8 +41,8 @@ pub record IsWord (word : List ℕ) : Type 0 where
   pub in_line : is_free 10 word ≡ true
   pub in_words : is_free 32 word ≡ true
 
-word-append : (a b : List ℕ) → IsWord a → IsWord b → IsWord (a ++ b)
-word-append a b first second = record {
+word-append : {a b : List ℕ} → IsWord a → IsWord b → IsWord (a ++ b)
+word-append {a = a} {b = b} first second = record {
   in_line = free-append 10 a b first.in_line second.in_line;
   in_words = free-append 32 a b first.in_words second.in_words;
 }
@@ -53,8 +53,7 @@ decimal_word printed n small =
 
 number_at-decimal : Printed → (most n : ℕ) (words : List (List ℕ)) → n ≤ most → most ≤ MAX_NUMBER →
     number_at most (decimal n ∷ words) ≡ Some (n, words)
-number_at-decimal printed most n words small range =
-    bind_read (number_in most (decimal n)) _ n (number_in-decimal printed most n small range)
+number_at-decimal printed most n words small range = bind_read _ n (number_in-decimal printed most n small range)
 
 -- two numbers with a separator between them
 abbrev pub pair_word : ℕ → ℕ → ℕ → List ℕ
@@ -66,8 +65,8 @@ pair_read printed c a b none small_a small_b =
     ap (λ (text : List ℕ). both_numbers (pieces c text)) (append_assoc (decimal a) (c ∷ []) (decimal b))
     ∙ ap both_numbers (pieces_word c (decimal a) (decimal b) (decimal_free printed c a none small_a)
     ∙ ap (λ (ps : List (List ℕ)). decimal a ∷ ps) (pieces_last c (decimal b) (decimal_free printed c b none small_b)))
-    ∙ bind_read (number_in MAX_NUMBER (decimal a)) _ a (number_in-decimal printed MAX_NUMBER a small_a (omega arith))
-    ∙ bind_read (number_in MAX_NUMBER (decimal b)) _ b (number_in-decimal printed MAX_NUMBER b small_b (omega arith))
+    ∙ bind_read _ a (number_in-decimal printed MAX_NUMBER a small_a (omega arith))
+    ∙ bind_read _ b (number_in-decimal printed MAX_NUMBER b small_b (omega arith))
 
 -- ---- replies
 
@@ -102,8 +101,7 @@ further_words [] = []
 further_words (reply ∷ replies) = codes ";" ∷ reply_text reply ∷ further_words replies
 
 further_pieces : Printed → (version : ℕ) (word : List ℕ) (replies : List Reply) → IsWord word →
-    All (HasReply version) replies →
-    pieces 32 (word ++ flat_map further_text replies) ≡ word ∷ further_words replies
+    All (HasReply version) replies → pieces 32 (word ++ flat_map further_text replies) ≡ word ∷ further_words replies
 further_pieces printed version word [] is_word has =
     ap (pieces 32) (append-nil word) ∙ pieces_last 32 word is_word.in_words
 further_pieces printed version word (reply ∷ replies) is_word has =
@@ -125,8 +123,7 @@ further_free printed version (reply ∷ replies) has =
     (further_free printed version replies (All-tail (HasReply version) reply replies has))
 
 further_read : Printed → (version room : ℕ) (replies : List Reply) → All (HasReply version) replies →
-    length replies ≤ room →
-    further_replies version room (further_words replies) ≡ Some replies
+    length replies ≤ room → further_replies version room (further_words replies) ≡ Some replies
 further_read printed version room [] has few = refl
 further_read printed version room (reply ∷ replies) has few =
     let next = further_replies version (room - 1) (further_words replies) in
@@ -137,8 +134,7 @@ further_read printed version room (reply ∷ replies) has few =
     (further_read printed version (room - 1) replies (All-tail (HasReply version) reply replies has) (omega arith))
 
 replies_read : Printed → (version : ℕ) (reply : Reply) (replies : List Reply) →
-    All (HasReply version) (reply ∷ replies) →
-    length (reply ∷ replies) ≤ MAX_REPLIES →
+    All (HasReply version) (reply ∷ replies) → length (reply ∷ replies) ≤ MAX_REPLIES →
     replies_of version (reply_text reply ∷ further_words replies) ≡ Some (reply ∷ replies)
 replies_read printed version reply replies has few =
     let next = further_replies version (MAX_REPLIES - 1) (further_words replies) in
@@ -165,17 +161,15 @@ four_words a b c d = append_assoc (a ++ (32 ∷ b)) (32 ∷ c) (32 ∷ d) ∙ ap
 
 pair_is_word : Printed → (c a b : ℕ) → IsWord (c ∷ []) → a ≤ MAX_NUMBER → b ≤ MAX_NUMBER → IsWord (pair_word c a b)
 pair_is_word printed c a b mark small_a small_b =
-    word-append (decimal a ++ (c ∷ [])) (decimal b)
-    (word-append (decimal a) (c ∷ []) (decimal_word printed a small_a) mark) (decimal_word printed b small_b)
+    word-append (word-append (decimal_word printed a small_a) mark) (decimal_word printed b small_b)
 
-place_is_word : Printed → (version : ℕ) (row : Row) → HasRow version row → IsWord (pair_word DOT row.round row.number)
-place_is_word printed version row has =
+place_is_word : Printed → {version : ℕ} {row : Row} → HasRow version row → IsWord (pair_word DOT row.round row.number)
+place_is_word printed {row = row} has =
     pair_is_word printed DOT row.round row.number (record { in_line = refl; in_words = refl }) has.round has.number
 
-pub row_pieces : Printed → (version : ℕ) (row : Row) (reply : Reply) (replies : List Reply) → HasRow version row →
-    row.replies ≡ reply ∷ replies →
-    pieces 32 (row_line row) ≡ row_words row reply replies
-row_pieces printed version row reply replies has is =
+pub row_pieces : Printed → {version : ℕ} {row : Row} (reply : Reply) (replies : List Reply) → HasRow version row →
+    row.replies ≡ reply ∷ replies → pieces 32 (row_line row) ≡ row_words row reply replies
+row_pieces printed {version = version} {row = row} reply replies has is =
     let place = pair_word DOT row.round row.number in
     let told = reply_text reply ++ flat_map further_text replies in
     let all = subst (λ (rs : List Reply). All (HasReply version) rs) is has.replies in
@@ -186,37 +180,33 @@ row_pieces printed version row reply replies has is =
     ∙ ap (λ (ps : List (List ℕ)). decimal row.line ∷ ps)
     (pieces_word 32 (decimal row.worker) _ (decimal_word printed row.worker (omega (arith, has.worker))).in_words
     ∙ ap (λ (ps : List (List ℕ)). decimal row.worker ∷ ps)
-    (pieces_word 32 place told (place_is_word printed version row has).in_words
-    ∙ ap (λ (ps : List (List ℕ)). place ∷ ps)
-    (further_pieces printed version (reply_text reply) replies
+    (pieces_word 32 place told (place_is_word printed has).in_words
+    ∙ ap (λ (ps : List (List ℕ)). place ∷ ps) (further_pieces printed version (reply_text reply) replies
     (reply_is_word printed version reply (All-head (HasReply version) reply replies all))
     (All-tail (HasReply version) reply replies all))))
 
-row_read : Printed → (version : ℕ) (row : Row) (reply : Reply) (replies : List Reply) → HasRow version row →
-    row.replies ≡ reply ∷ replies →
-    row_of version (row_words row reply replies) ≡ Some row
+row_read : Printed → {version : ℕ} {row : Row} (reply : Reply) (replies : List Reply) → HasRow version row →
+    row.replies ≡ reply ∷ replies → row_of version (row_words row reply replies) ≡ Some row
 unfolding row_of
-row_read printed version row reply replies has is =
+row_read printed {version = version} {row = row} reply replies has is =
     let words = reply_text reply ∷ further_words replies in
     let place = pair_word DOT row.round row.number in
     let all = subst (λ (rs : List Reply). All (HasReply version) rs) is has.replies in
     let few : length (reply ∷ replies) ≤ MAX_REPLIES =
     subst (λ (rs : List Reply). length rs ≤ MAX_REPLIES) is has.few in
-    bind_read (number_at MAX_NUMBER (row_words row reply replies)) _ (row.line, decimal row.worker ∷ place ∷ words)
+    bind_read _ (row.line, decimal row.worker ∷ place ∷ words)
     (number_at-decimal printed MAX_NUMBER row.line (decimal row.worker ∷ place ∷ words) has.line (omega arith))
-    ∙ bind_read (number_at MAX_WORKER (decimal row.worker ∷ place ∷ words)) _ (row.worker, place ∷ words)
+    ∙ bind_read _ (row.worker, place ∷ words)
     (number_at-decimal printed MAX_WORKER row.worker (place ∷ words) has.worker (omega arith))
-    ∙ bind_read (place_at (place ∷ words)) _ ((row.round, row.number), words)
-    (bind_read (pair_of DOT place) _ (row.round, row.number)
+    ∙ bind_read _ ((row.round, row.number), words) (bind_read _ (row.round, row.number)
     (pair_read printed DOT row.round row.number refl has.round has.number))
-    ∙ bind_read (replies_of version words) _ (reply ∷ replies) (replies_read printed version reply replies all few)
+    ∙ bind_read _ (reply ∷ replies) (replies_read printed version reply replies all few)
     ∙ ap (λ (rs : List Reply). Some
     (record { line = row.line; worker = row.worker; round = row.round; number = row.number; replies = rs })) (sym is)
 
-row_free : Printed → (version : ℕ) (row : Row) (reply : Reply) (replies : List Reply) → HasRow version row →
-    row.replies ≡ reply ∷ replies →
-    is_free 10 (row_line row) ≡ true
-row_free printed version row reply replies has is =
+row_free : Printed → {version : ℕ} {row : Row} (reply : Reply) (replies : List Reply) → HasRow version row →
+    row.replies ≡ reply ∷ replies → is_free 10 (row_line row) ≡ true
+row_free printed {version = version} {row = row} reply replies has is =
     let place = pair_word DOT row.round row.number in
     let all = subst (λ (rs : List Reply). All (HasReply version) rs) is has.replies in
     let told : is_free 10 (reply_text reply ++ flat_map further_text replies) ≡ true =
@@ -226,14 +216,13 @@ row_free printed version row reply replies has is =
     free-append 10 (decimal row.line ++ field (decimal row.worker) ++ field place) (field (replies_text row.replies))
     (free-append 10 (decimal row.line ++ field (decimal row.worker)) (field place)
     (free-append 10 (decimal row.line) (field (decimal row.worker)) (decimal_word printed row.line has.line).in_line
-    (decimal_word printed row.worker (omega (arith, has.worker))).in_line)
-    (place_is_word printed version row has).in_line)
+    (decimal_word printed row.worker (omega (arith, has.worker))).in_line) (place_is_word printed has).in_line)
     (subst (λ (rs : List Reply). is_free 10 (replies_text rs) ≡ true) (sym is) told)
 
 -- a row has a first reply
-pub first_reply : (version : ℕ) (row : Row) → HasRow version row →
+pub first_reply : {version : ℕ} {row : Row} → HasRow version row →
     (reply : Reply) × (replies : List Reply) × (row.replies ≡ reply ∷ replies)
-first_reply version row has = some_first row.replies has.some
+first_reply {row = row} has = some_first row.replies has.some
   where
     some_first : (rs : List Reply) → 1 ≤ length rs → (reply : Reply) × (replies : List Reply) × (rs ≡ reply ∷ replies)
     some_first [] some = absurd (omega arith)
@@ -242,8 +231,7 @@ first_reply version row has = some_first row.replies has.some
 -- ---- what a structure holds
 
 pub fields_pieces : {X : Type 0} (text : X → List ℕ) (word : List ℕ) (xs : List X) → IsWord word →
-    All (λ x. IsWord (text x)) xs →
-    pieces 32 (word ++ flat_map (λ x. field (text x)) xs) ≡ word ∷ map text xs
+    All (λ x. IsWord (text x)) xs → pieces 32 (word ++ flat_map (λ x. field (text x)) xs) ≡ word ∷ map text xs
 fields_pieces text word [] is_word all = ap (pieces 32) (append-nil word) ∙ pieces_last 32 word is_word.in_words
 fields_pieces {X} text word (x ∷ xs) is_word all =
     let Word : X → Type 0 = λ y. IsWord (text y) in
@@ -265,50 +253,41 @@ number_words printed numbers all k d lt = decimal_word printed (get_or numbers k
 numbers_read : Printed → (numbers : List ℕ) → All IsNumber numbers → numbers_of (map decimal numbers) ≡ Some numbers
 numbers_read printed [] all = refl
 numbers_read printed (n ∷ numbers) all =
-    bind_read (number_in MAX_NUMBER (decimal n)) _ n
-    (number_in-decimal printed MAX_NUMBER n (All-head IsNumber n numbers all) (omega arith))
-    ∙ bind_read (numbers_of (map decimal numbers)) _ numbers
-    (numbers_read printed numbers (All-tail IsNumber n numbers all))
+    bind_read _ n (number_in-decimal printed MAX_NUMBER n (All-head IsNumber n numbers all) (omega arith))
+    ∙ bind_read _ numbers (numbers_read printed numbers (All-tail IsNumber n numbers all))
 
-item_is_word : Printed → (version : ℕ) (item : Item) → HasItem version item → IsWord (item_text version item)
-item_is_word printed version item has =
-    ⊎_elim
-    (λ yes. subst IsWord (sym (cond-true (eqb version 1) (decimal item.key) _ yes))
+item_is_word : Printed → {version : ℕ} {item : Item} → HasItem version item → IsWord (item_text version item)
+item_is_word printed {version = version} {item = item} has =
+    ⊎_elim (λ yes. subst IsWord (sym (cond-true (eqb version 1) (decimal item.key) _ yes))
     (decimal_word printed item.key has.key))
     (λ no. subst IsWord (sym (cond-false (eqb version 1) (decimal item.key) (pair_word COLON item.key item.value) no))
     (pair_is_word printed COLON item.key item.value (record { in_line = refl; in_words = refl }) has.key has.value))
     (cases_Bool (eqb version 1))
 
-item_read : Printed → (version : ℕ) (item : Item) → HasItem version item →
+item_read : Printed → {version : ℕ} {item : Item} → HasItem version item →
     item_of version (item_text version item) ≡ Some item
-item_read printed version item has =
-    ⊎_elim
-    (λ yes.
-    ap (item_of version) (cond-true (eqb version 1) (decimal item.key) _ yes)
+item_read printed {version = version} {item = item} has =
+    ⊎_elim (λ yes. ap (item_of version) (cond-true (eqb version 1) (decimal item.key) _ yes)
     ∙ cond-true (eqb version 1) _ _ yes
     ∙ ap (option_map (λ (key : ℕ). record { key = key; value = 0 }))
     (number_in-decimal printed MAX_NUMBER item.key has.key (omega arith))
     ∙ ap (λ (value : ℕ). Some (record { key = item.key; value = value }))
-    (sym (has.keys_alone (eqb-true version 1 yes))))
-    (λ no.
+    (sym (has.keys_alone (eqb-true version 1 yes)))) (λ no.
     ap (item_of version) (cond-false (eqb version 1) (decimal item.key) (pair_word COLON item.key item.value) no)
     ∙ cond-false (eqb version 1) _ _ no
     ∙ ap (option_map (λ (pair : ℕ × ℕ). record { key = pair.0; value = pair.1 }))
-    (pair_read printed COLON item.key item.value refl has.key has.value))
-    (cases_Bool (eqb version 1))
+    (pair_read printed COLON item.key item.value refl has.key has.value)) (cases_Bool (eqb version 1))
 
 pub item_words : Printed → (version : ℕ) (items : List Item) → All (HasItem version) items →
     All (λ item. IsWord (item_text version item)) items
-item_words printed version items all k d lt = item_is_word printed version (get_or items k d) (all k d lt)
+item_words printed version items all k d lt = item_is_word printed (all k d lt)
 
 items_read : Printed → (version : ℕ) (items : List Item) → All (HasItem version) items →
     items_of version (map (item_text version) items) ≡ Some items
 items_read printed version [] all = refl
 items_read printed version (item ∷ items) all =
-    bind_read (item_of version (item_text version item)) _ item
-    (item_read printed version item (All-head (HasItem version) item items all))
-    ∙ bind_read (items_of version (map (item_text version) items)) _ items
-    (items_read printed version items (All-tail (HasItem version) item items all))
+    bind_read _ item (item_read printed (All-head (HasItem version) item items all))
+    ∙ bind_read _ items (items_read printed version items (All-tail (HasItem version) item items all))
 
 -- ---- the lines of the text
 
@@ -331,10 +310,9 @@ rows_lines : Printed → (version : ℕ) (rows : List Row) (rest : List ℕ) →
 rows_lines printed version [] rest all = refl
 rows_lines printed version (row ∷ rows) rest all =
     let has = All-head (HasRow version) row rows all in
-    let first = first_reply version row has in
+    let first = first_reply has in
     ap lines_of (append_assoc (row_text row) (flat_map row_text rows) rest)
-    ∙ lines_of-line (row_line row) (flat_map row_text rows ++ rest)
-    (row_free printed version row first.0 first.1 has first.2)
+    ∙ lines_of-line (row_line row) (flat_map row_text rows ++ rest) (row_free printed first.0 first.1 has first.2)
     ∙ ap (λ (ls : List (List ℕ)). row_line row ∷ ls)
     (rows_lines printed version rows rest (All-tail (HasRow version) row rows all))
 
@@ -370,9 +348,9 @@ lines_behind_header report =
     map row_line report.rows ++ (numbers_lines (codes "bank") report.bank ++ (numbers_lines (codes "list") report.list
     ++ (items_lines report.version (codes "tree") report.tree ++ (end_text report.count ∷ []))))
 
-pub report_lines : Printed → (report : Report) → IsHeld report →
+pub report_lines : Printed → {report : Report} → IsHeld report →
     lines_of (report_text report) ≡ header_line report.version ∷ lines_behind_header report
-report_lines printed report held =
+report_lines printed {report = report} held =
     let rows = flat_map row_text report.rows in
     let bank = numbers_text (codes "bank") report.bank in
     let list = numbers_text (codes "list") report.list in
@@ -409,22 +387,20 @@ Completes : List (List ℕ) → Draft → Report → Type 0
 Completes texts draft report = (n : ℕ) → completed texts n draft ≡ Ok report
 
 add_more : (text : List ℕ) (texts : List (List ℕ)) (draft more : Draft) (report : Report) →
-    add_line text draft ≡ Some more →
-    Completes texts more report → Completes (text ∷ texts) draft report
+    add_line text draft ≡ Some more → Completes texts more report → Completes (text ∷ texts) draft report
 unfolding Completes
 add_more text texts draft more report added completes n =
     ap (λ (o : Option Draft). then_on (or_line n o) (completed texts (n + 1))) added ∙ completes (n + 1)
 
 rows_complete : Printed → (version : ℕ) (rows done : List Row) (texts : List (List ℕ)) (report : Report) →
-    All (HasRow version) rows →
-    Completes texts (draft_at part.Rows version (done ++ rows) None None None) report →
+    All (HasRow version) rows → Completes texts (draft_at part.Rows version (done ++ rows) None None None) report →
     Completes (map row_line rows ++ texts) (draft_at part.Rows version done None None None) report
 rows_complete printed version [] done texts report all completes =
     subst (λ (rs : List Row). Completes texts (draft_at part.Rows version rs None None None) report)
     (append-nil done) completes
 rows_complete printed version (row ∷ rows) done texts report all completes =
     let has = All-head (HasRow version) row rows all in
-    let first = first_reply version row has in
+    let first = first_reply has in
     let words = row_words row first.0 first.1 in
     let draft = draft_at part.Rows version done None None None in
     let no_bank = decimal_ne printed row.line 98 (codes "ank") refl has.line in
@@ -433,20 +409,18 @@ rows_complete printed version (row ∷ rows) done texts report all completes =
     let no_end = decimal_ne printed row.line 101 (codes "nd") refl has.line in
     let is_row : part_of (decimal row.line) ≡ part.Rows = rw (no_bank, no_list, no_tree, no_end) refl in
     let added : add_line (row_line row) draft ≡ Some (with_row draft row) =
-    ap (λ (ps : List (List ℕ)). add_words ps draft) (row_pieces printed version row first.0 first.1 has first.2)
-    ∙ ap (λ (p : Part). cond (can_follow part.Rows p)
-    (add_part p words
+    ap (λ (ps : List (List ℕ)). add_words ps draft) (row_pieces printed first.0 first.1 has first.2)
+    ∙ ap (λ (p : Part). cond (can_follow part.Rows p) (add_part p words
     (decimal row.worker ∷ pair_word DOT row.round row.number ∷ reply_text first.0 ∷ further_words first.1) draft)
     None) is_row
-    ∙ ap (option_map (with_row draft)) (row_read printed version row first.0 first.1 has first.2) in
+    ∙ ap (option_map (with_row draft)) (row_read printed first.0 first.1 has first.2) in
     add_more (row_line row) (map row_line rows ++ texts) draft (with_row draft row) report added
     (rows_complete printed version rows (done ++ row ∷ []) texts report (All-tail (HasRow version) row rows all)
     (subst (λ (rs : List Row). Completes texts (draft_at part.Rows version rs None None None) report)
     (sym (append_assoc done (row ∷ []) rows)) completes))
 
 bank_completes : Printed → (version : ℕ) (rows : List Row) (bank : Option (List ℕ)) (texts : List (List ℕ))
-    (report : Report) →
-    IfSome bank (All IsNumber) → ((p : Part) → rank p < 2 →
+    (report : Report) → IfSome bank (All IsNumber) → ((p : Part) → rank p < 2 →
     Completes texts (draft_at p version rows bank None None) report) →
     Completes (numbers_lines (codes "bank") bank ++ texts) (draft_at part.Rows version rows None None None) report
 bank_completes printed version rows None texts report all completes = completes part.Rows (omega arith)
@@ -456,12 +430,10 @@ bank_completes printed version rows (Some numbers) texts report all completes =
     (ap (λ (ps : List (List ℕ)). add_words ps draft)
     (fields_pieces decimal (codes "bank") numbers (record { in_line = refl; in_words = refl })
     (number_words printed numbers all))
-    ∙ ap (option_map (with_bank draft)) (numbers_read printed numbers all))
-    (completes part.Bank (omega arith))
+    ∙ ap (option_map (with_bank draft)) (numbers_read printed numbers all)) (completes part.Bank (omega arith))
 
 list_completes : Printed → (version : ℕ) (rows : List Row) (bank list : Option (List ℕ)) (p : Part)
-    (texts : List (List ℕ)) (report : Report) →
-    IfSome list (All IsNumber) → rank p < 2 →
+    (texts : List (List ℕ)) (report : Report) → IfSome list (All IsNumber) → rank p < 2 →
     ((q : Part) → rank q < 3 → Completes texts (draft_at q version rows bank list None) report) →
     Completes (numbers_lines (codes "list") list ++ texts) (draft_at p version rows bank None None) report
 list_completes printed version rows bank None p texts report all before completes = completes p (omega arith)
@@ -472,12 +444,10 @@ list_completes printed version rows bank (Some numbers) p texts report all befor
     (fields_pieces decimal (codes "list") numbers (record { in_line = refl; in_words = refl })
     (number_words printed numbers all))
     ∙ cond-true (ltb (rank p) 2) _ None (lt-ltb (rank p) 2 before)
-    ∙ ap (option_map (with_list draft)) (numbers_read printed numbers all))
-    (completes part.List (omega arith))
+    ∙ ap (option_map (with_list draft)) (numbers_read printed numbers all)) (completes part.List (omega arith))
 
 tree_completes : Printed → (version : ℕ) (rows : List Row) (bank list : Option (List ℕ)) (tree : Option (List Item))
-    (p : Part) (texts : List (List ℕ)) (report : Report) →
-    IfSome tree (All (HasItem version)) → rank p < 3 →
+    (p : Part) (texts : List (List ℕ)) (report : Report) → IfSome tree (All (HasItem version)) → rank p < 3 →
     ((q : Part) → rank q < 4 → Completes texts (draft_at q version rows bank list tree) report) →
     Completes (items_lines version (codes "tree") tree ++ texts) (draft_at p version rows bank list None) report
 tree_completes printed version rows bank list None p texts report all before completes = completes p (omega arith)
@@ -488,14 +458,12 @@ tree_completes printed version rows bank list (Some items) p texts report all be
     (fields_pieces (item_text version) (codes "tree") items (record { in_line = refl; in_words = refl })
     (item_words printed version items all))
     ∙ cond-true (ltb (rank p) 3) _ None (lt-ltb (rank p) 3 before)
-    ∙ ap (option_map (with_tree draft)) (items_read printed version items all))
-    (completes part.Tree (omega arith))
+    ∙ ap (option_map (with_tree draft)) (items_read printed version items all)) (completes part.Tree (omega arith))
 
 count_read : Printed → (count : ℕ) → count ≤ MAX_NUMBER → count_of (decimal count ∷ []) ≡ Some count
 unfolding count_of
 count_read printed count small =
-    bind_read (number_at MAX_NUMBER (decimal count ∷ [])) _ (count, [])
-    (number_at-decimal printed MAX_NUMBER count [] small (omega arith))
+    bind_read _ (count, []) (number_at-decimal printed MAX_NUMBER count [] small (omega arith))
 
 ended : (report : Report) (p : Part) →
     Completes [] (with_count (draft_at p report.version report.rows report.bank report.list report.tree) report.count)
@@ -518,8 +486,7 @@ end_completes printed report p small before =
     add_more (end_text report.count) [] draft (with_count draft report.count) report
     (ap (λ (ps : List (List ℕ)). add_words ps draft) (end_words printed report.count small)
     ∙ cond-true (ltb (rank p) 4) _ None (lt-ltb (rank p) 4 before)
-    ∙ ap (option_map (with_count draft)) (count_read printed report.count small))
-    (ended report p)
+    ∙ ap (option_map (with_count draft)) (count_read printed report.count small)) (ended report p)
 
 pub header_words : Printed → (version : ℕ) → version ≤ MAX_NUMBER →
     pieces 32 (header_line version) ≡ codes "dstm" ∷ codes "report" ∷ decimal version ∷ []
@@ -534,12 +501,11 @@ header_read : Printed → (version : ℕ) → version ≤ MAX_NUMBER →
 unfolding header_of
 header_read printed version small =
     ap header_of (header_words printed version small)
-    ∙ bind_read (number_at MAX_NUMBER (decimal version ∷ [])) _ (version, [])
-    (number_at-decimal printed MAX_NUMBER version [] small (omega arith))
+    ∙ bind_read _ (version, []) (number_at-decimal printed MAX_NUMBER version [] small (omega arith))
 
-all_complete : Printed → (report : Report) → IsHeld report →
+all_complete : Printed → {report : Report} → IsHeld report →
     Completes (lines_behind_header report) (blank report.version) report
-all_complete printed report held =
+all_complete printed {report = report} held =
     let bank = numbers_lines (codes "bank") report.bank in
     let list = numbers_lines (codes "list") report.list in
     let tree = items_lines report.version (codes "tree") report.tree in
@@ -549,14 +515,13 @@ all_complete printed report held =
     (λ p before. list_completes printed report.version report.rows report.bank report.list p
     (tree ++ end) report held.list before
     (λ q behind. tree_completes printed report.version report.rows report.bank report.list report.tree q end report
-    held.tree behind
-    (λ r last. end_completes printed report r held.count last))))
+    held.tree behind (λ r last. end_completes printed report r held.count last))))
 
 pub reads_back : Printed → (report : Report) → IsHeld report →
     parsed report.version (lines_of (report_text report)) ≡ Ok report
 unfolding Completes
 reads_back printed report held =
-    ap (parsed report.version) (report_lines printed report held)
+    ap (parsed report.version) (report_lines printed held)
     ∙ cond-true _ _ _ (ap (is_version report.version) (header_read printed report.version held.version)
     ∙ eq-eqb report.version report.version refl)
-    ∙ all_complete printed report held 2
+    ∙ all_complete printed held 2

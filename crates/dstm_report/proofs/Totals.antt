@@ -31,10 +31,9 @@ pub record Holds (layout : Layout) (total : ℕ) (store : Store) : Type 0 where
   pub total_is : sum store.balances ≡ total
 
 -- a store with the same balances
-same : (layout : Layout) (total : ℕ) (store after : Store) → after.layout ≡ store.layout →
-    after.balances ≡ store.balances →
-    Holds layout total store → Holds layout total after
-same layout total store after layout_same balances_same h = record {
+same : {layout : Layout} {total : ℕ} {store : Store} (after : Store) → after.layout ≡ store.layout →
+    after.balances ≡ store.balances → Holds layout total store → Holds layout total after
+same after layout_same balances_same h = record {
   layout_is = layout_same ∙ h.layout_is;
   accounts = ap length balances_same ∙ h.accounts;
   total_is = ap sum balances_same ∙ h.total_is;
@@ -46,10 +45,10 @@ chosen : (layout : Layout) (total : ℕ) (b : Bool) (one other : Outcome) → (b
 chosen layout total true one other if_true if_false = if_true refl
 chosen layout total false one other if_true if_false = if_false refl
 
-moves : (layout : Layout) (total s t x : ℕ) (store : Store) → s < layout.accounts → t < layout.accounts →
+moves : {layout : Layout} {total : ℕ} (s t x : ℕ) {store : Store} → s < layout.accounts → t < layout.accounts →
     x ≤ balance_of s store →
     Holds layout total store → Holds layout total (record store { balances = credit t x (debit s x store.balances) })
-moves layout total s t x store in_s in_t enough h =
+moves s t x {store = store} in_s in_t enough h =
     let balances = store.balances in
     let paid = debit s x balances in
     record {
@@ -58,46 +57,44 @@ moves layout total s t x store in_s in_t enough h =
       total_is = sum-moved balances s t x (omega (arith, h.accounts)) (omega (arith, h.accounts)) enough ∙ h.total_is;
     }
 
-inserts : (layout : Layout) (total : ℕ) (there full : Bool) (store after : Store) → after.layout ≡ store.layout →
-    after.balances ≡ store.balances →
-    Holds layout total store → Holds layout total (cond there (answer No store)
+inserts : {layout : Layout} {total : ℕ} (there full : Bool) {store : Store} (after : Store) → after.layout
+    ≡ store.layout →
+    after.balances ≡ store.balances → Holds layout total store → Holds layout total (cond there (answer No store)
     (cond full (answer Full store) (answer Yes after))).store
-inserts layout total there full store after layout_same balances_same h =
+inserts {layout = layout} {total = total} there full {store = store} after layout_same balances_same h =
     chosen layout total there (answer No store) (cond full (answer Full store) (answer Yes after)) (λ _. h)
     (λ _. chosen layout total full (answer Full store) (answer Yes after) (λ _. h)
-    (λ _. same layout total store after layout_same balances_same h))
+    (λ _. same after layout_same balances_same h))
 
-pub keeps : (layout : Layout) (total : ℕ) (op : Op) (store : Store) → FitsLayout layout op → Holds layout total store →
+pub keeps : {layout : Layout} {total : ℕ} (op : Op) {store : Store} → FitsLayout layout op → Holds layout total store →
     Holds layout total (apply op store).store
-keeps layout total (Transfer s t x) store fits h =
+keeps {layout = layout} {total = total} (Transfer s t x) {store = store} fits h =
     chosen layout total (nat_lt (balance_of s store) x) (answer Poor store)
     (answer Moved (record store { balances = credit t x (debit s x store.balances) })) (λ _. h)
-    (λ rich. moves layout total s t x store fits.0 fits.1 (ltb-false _ _ rich) h)
-keeps layout total (Insert which.List key) store fits h =
-    inserts layout total (has_key key store.keys) (eqb (length store.keys) store.layout.list) store
+    (λ rich. moves s t x fits.0 fits.1 (ltb-false _ _ rich) h)
+keeps {layout = layout} {total = total} (Insert which.List key) {store = store} fits h =
+    inserts (has_key key store.keys) (eqb (length store.keys) store.layout.list)
     (record store { keys = with_key key store.keys }) refl refl h
-keeps layout total (Insert which.Tree key) store fits h =
-    inserts layout total (is_some (value_of key store.items)) (eqb (length store.items) store.layout.tree) store
+keeps {layout = layout} {total = total} (Insert which.Tree key) {store = store} fits h =
+    inserts (is_some (value_of key store.items)) (eqb (length store.items) store.layout.tree)
     (record store { items = with_item key 0 store.items }) refl refl h
-keeps layout total (Remove which.List key) store fits h = same layout total store
+keeps {layout = layout} {total = total} (Remove which.List key) {store = store} fits h = same
     (record store { keys = without_key key store.keys }) refl refl h
-keeps layout total (Remove which.Tree key) store fits h = same layout total store
+keeps {layout = layout} {total = total} (Remove which.Tree key) {store = store} fits h = same
     (record store { items = without_item key store.items }) refl refl h
-keeps layout total (Put key value) store fits h =
+keeps {layout = layout} {total = total} (Put key value) {store = store} fits h =
     let after : Store = record store { items = with_item key value store.items } in
-    let put = same layout total store after refl refl h in
+    let put = same after refl refl h in
     chosen layout total (is_some (value_of key store.items)) (answer No after)
     (cond (eqb (length store.items) store.layout.tree) (answer Full store) (answer Yes after)) (λ _. put)
     (λ _. chosen layout total (eqb (length store.items) store.layout.tree) (answer Full store) (answer Yes after)
     (λ _. h) (λ _. put))
-keeps layout total op store fits h = h
+keeps op fits h = h
 
-keeps_all : (layout : Layout) (total : ℕ) (ops : List Op) (store : Store) → AllByRecursion (FitsLayout layout) ops →
-    Holds layout total store →
-    Holds layout total (apply_all ops store).store
-keeps_all layout total [] store fits h = h
-keeps_all layout total (op ∷ ops) store fits h =
-    keeps_all layout total ops (apply op store).store fits.1 (keeps layout total op store fits.0 h)
+keeps_all : {layout : Layout} {total : ℕ} (ops : List Op) {store : Store} → AllByRecursion (FitsLayout layout) ops →
+    Holds layout total store → Holds layout total (apply_all ops store).store
+keeps_all [] fits h = h
+keeps_all {layout = layout} {total = total} (op ∷ ops) {store = store} fits h = keeps_all ops fits.1 (keeps op fits.0 h)
 
 -- ---- branches
 
@@ -114,29 +111,28 @@ branches_fit layout (OrElse ∷ ops) fits = (tt, branches_fit layout ops fits.1)
 branches_fit layout (op ∷ ops) fits = onto_first-fits layout op (branches_of ops) fits.0
     (branches_fit layout ops fits.1)
 
-keeps_branch : (layout : Layout) (total : ℕ) (branch : Option (List Op)) (store : Store) →
+keeps_branch : {layout : Layout} {total : ℕ} (branch : Option (List Op)) {store : Store} →
     IfSome branch (AllByRecursion (FitsLayout layout)) →
     Holds layout total store → Holds layout total (store_left (run_branch branch store) store)
-keeps_branch layout total None store fits h = h
-keeps_branch layout total (Some ops) store fits h = keeps_all layout total ops store fits h
+keeps_branch None fits h = h
+keeps_branch {layout = layout} {total = total} (Some ops) {store = store} fits h = keeps_all ops fits h
 
-keeps_job : (layout : Layout) (total : ℕ) (job : Option Job) (store : Store) →
+keeps_job : {layout : Layout} {total : ℕ} (job : Option Job) {store : Store} →
     IfSome job (λ j. AllByRecursion (FitsLayout layout) j.ops) →
     Holds layout total store → Holds layout total (after_job job store)
-keeps_job layout total None store fits h = h
-keeps_job layout total (Some job) store fits h =
-    keeps_branch layout total (open_branch job.ops store) store
+keeps_job None fits h = h
+keeps_job {layout = layout} {total = total} (Some job) {store = store} fits h =
+    keeps_branch (open_branch job.ops store)
     (found_holds (AllByRecursion (FitsLayout layout)) (is_open store) (branches_of job.ops)
     (branches_fit layout job.ops fits)) h
 
-keeps_rows : (layout : Layout) (total : ℕ) (jobs : List Job) (rows : List Row) (store : Store) →
+keeps_rows : {layout : Layout} {total : ℕ} (jobs : List Job) (rows : List Row) {store : Store} →
     AllByRecursion (λ j. AllByRecursion (FitsLayout layout) j.ops) jobs → Holds layout total store →
     Holds layout total (after_rows jobs rows store)
-keeps_rows layout total jobs [] store fits h = h
-keeps_rows layout total jobs (row ∷ rows) store fits h =
+keeps_rows jobs [] fits h = h
+keeps_rows {layout = layout} {total = total} jobs (row ∷ rows) {store = store} fits h =
     let job = find (λ j. eqb j.line row.line) jobs in
-    keeps_rows layout total jobs rows (after_job job store) fits
-    (keeps_job layout total job store (found_holds (λ (j : Job). AllByRecursion (FitsLayout layout) j.ops)
+    keeps_rows jobs rows fits (keeps_job job (found_holds (λ (j : Job). AllByRecursion (FitsLayout layout) j.ops)
     (λ j. eqb j.line row.line) jobs fits) h)
 
 -- the balances after any rows have the sum that they were opened with
@@ -149,10 +145,9 @@ total_stays workload rows valid =
     record {
       layout_is = refl;
       accounts = length-replicate layout.accounts layout.opening;
-      total_is =
-          sum_by-replicate (λ (x : ℕ). x) layout.accounts layout.opening;
+      total_is = sum_by-replicate (λ (x : ℕ). x) layout.accounts layout.opening;
     } in
     let fits : AllByRecursion (λ j. AllByRecursion (FitsLayout layout) j.ops) workload.jobs =
     recursion_from_All (λ (j : Job). AllByRecursion (FitsLayout layout) j.ops) workload.jobs
     (λ k d lt. recursion_from_All (FitsLayout layout) (get_or workload.jobs k d).ops (valid.each k d lt).fits) in
-    (keeps_rows layout total workload.jobs rows (opening_store layout) fits opened).total_is
+    (keeps_rows workload.jobs rows fits opened).total_is

@@ -1,7 +1,7 @@
 -- Where the jobs left of a worker stand, one after the other.
 use Rattle.std.proofs.Common.{◌≡◌, ◌≢◌, ℕ, zero, suc, ◌+◌, ◌-◌, ◌<◌, ◌≤◌, true, false, cond, leb, List, [], ◌∷◌, ◌++◌, length, get_or, map, drop, refl, ap, sym, subst, ◌∙◌, inl, inr, arith, append_assoc}
 use Rattle.std.specs.List.{All, AllByRecursion}
-use Rattle.std.proofs.lemmas.Bool.{cases_eq, cases_lt, eq-eqb, ne_eqb, le-leb, lt-leb}
+use Rattle.std.proofs.lemmas.Bool.{cases_eq, cases_lt, eq-eqb, ne_eqb, le-leb}
 use Rattle.std.proofs.lemmas.List.{drop_more, drop_all, get_or_default, get_or_past, map-append}
 use Rattle.std.proofs.lemmas.List.Elements.{recursion_from_All, All-nil, All-push}
 use Rattle.dstm_workload.specs.declared.workload.Job.{Job}
@@ -23,18 +23,16 @@ skip jobs worker from zero within others = ap (λ p. jobs_of worker (drop p jobs
 skip jobs worker from (suc n) within others =
     let here : drop from jobs ≡ job_at jobs from ∷ drop (from + 1) jobs = drop_more jobs from no_job (omega (arith, within)) in
     let rest = skip jobs worker (from + 1) n (omega (arith, within)) (λ k le lt. others k (omega (arith, le)) (omega (arith, lt))) in
-    let passed : jobs_of worker (drop from jobs) ≡ jobs_of worker (drop (from + 1) jobs) =
-    ap (jobs_of worker) here
+    let passed : jobs_of worker (drop from jobs) ≡ jobs_of worker (drop (from + 1) jobs) = ap (jobs_of worker) here
     ∙ rw (ne_eqb (job_at jobs from).worker worker (others from (omega arith) (omega arith))) refl in
     passed ∙ rest ∙ ap (λ p. jobs_of worker (drop p jobs)) (let e : (from + 1) + n ≡ from + suc n = omega arith in e)
 
-skip_to : (jobs : List Job) (worker from place : ℕ) → IsFirstFrom jobs worker from place →
+skip_to : {jobs : List Job} {worker from place : ℕ} → IsFirstFrom jobs worker from place →
     jobs_of worker (drop from jobs) ≡ jobs_of worker (drop place jobs)
-skip_to jobs worker from place first =
+skip_to {jobs = jobs} {worker = worker} {from = from} {place = place} first =
     let n = place - from in
     let is : from + n ≡ place = let b = first.behind in omega arith in
-    skip jobs worker from n (let w = first.within in omega arith)
-    (λ k le lt. first.others k le (omega (arith, lt, is)))
+    skip jobs worker from n (let w = first.within in omega arith) (λ k le lt. first.others k le (omega (arith, lt, is)))
     ∙ ap (λ p. jobs_of worker (drop p jobs)) is
 
 -- behind its place all jobs of the worker are left
@@ -63,7 +61,7 @@ from_place : (next : List ℕ) (worker : ℕ) (jobs : List Job) (from ahead : �
 from_place next worker jobs from zero is within = all_behind next worker jobs from (omega (arith, is))
 from_place next worker [] from (suc ahead) is within = absurd (omega (arith, within))
 from_place next worker (job ∷ jobs) from (suc ahead) is within =
-    passed_over (jobs_of worker) next worker job jobs from (jobs_of worker (drop ahead jobs))
+    passed_over (jobs_of worker) next worker job jobs from
     (λ other. rw (ne_eqb job.worker worker other) refl) (omega (arith, is))
     (from_place next worker jobs (from + 1) ahead (omega (arith, is)) (omega (arith, within)))
 
@@ -79,9 +77,9 @@ none_left next worker workers from (job ∷ jobs) past small =
       | false ↦ rest
     ]
 
-pub stands_first : (jobs : List Job) (next followers : List ℕ) (worker place : ℕ) → ArePlaces jobs next followers →
+pub stands_first : {jobs : List Job} {next followers : List ℕ} (worker place : ℕ) → ArePlaces jobs next followers →
     place ≡ get_or next worker (length jobs) → StandsAt jobs (left_from 0 next jobs) worker [] place
-stands_first jobs next followers worker place places is =
+stands_first {jobs = jobs} {next = next} worker place places is =
     elim (cases_lt worker (length next)) [
       | inl small ↦
           let at : place ≡ get_or next worker 0 = is ∙ get_or_default next worker (length jobs) 0 small in
@@ -103,18 +101,17 @@ stands_first jobs next followers worker place places is =
           }
     ]
 
-pub stands_next : (jobs left : List Job) (next followers : List ℕ) (worker place after : ℕ) (found : List ℕ) →
+pub stands_next : {jobs left : List Job} {next followers : List ℕ} {worker place : ℕ} (after : ℕ) {found : List ℕ} →
     ArePlaces jobs next followers → place < length jobs → after ≡ get_or followers place 0 →
     StandsAt jobs left worker found place → StandsAt jobs left worker (found ++ place ∷ []) after
-stands_next jobs left next followers worker place after found places inside is stands =
+stands_next {jobs = jobs} {worker = worker} {place = place} after {found = found} places inside is stands =
     let job = job_at jobs place in
     let mine : job.worker ≡ worker = stands.own inside in
-    let ahead : IsFirstFrom jobs worker (place + 1) after =
-    subst (λ w. IsFirstFrom jobs w (place + 1) after) mine
+    let ahead : IsFirstFrom jobs worker (place + 1) after = subst (λ w. IsFirstFrom jobs w (place + 1) after) mine
     (subst (IsFirstFrom jobs job.worker (place + 1)) (sym is) (places.following place inside)) in
     let here : jobs_of worker (drop place jobs) ≡ job ∷ jobs_of worker (drop after jobs) =
     ap (jobs_of worker) (drop_more jobs place no_job inside)
-    ∙ rw (eq-eqb job.worker worker mine) (ap (λ (js : List Job). job ∷ js) (skip_to jobs worker (place + 1) after ahead)) in
+    ∙ rw (eq-eqb job.worker worker mine) (ap (λ (js : List Job). job ∷ js) (skip_to ahead)) in
     record {
       found = ap (λ (js : List Job). js ++ jobs_of worker (drop after jobs)) (map-append (job_at jobs) found (place ∷ []))
           ∙ append_assoc (map (job_at jobs) found) (job ∷ []) (jobs_of worker (drop after jobs))

@@ -19,8 +19,7 @@ returns-then-not-branch c =
     let workload = c.args.workload.now in
     let report = c.args.report.now in
     let i = c.loop-at.at in
-    let told =
-    bad_row_found workload report c.as_slice-rows.result.now i c.index-rows-at.result c.if-report-workload.false
+    let told = bad_row_found workload report i c.if-report-workload.false
     c.as_slice-rows.ensures c.loop-at-test.true c.index-rows-at.is c.loop-at.invariant.good
     (MatchBool-at_false _ _ c.if-not-branch.true c.in_ok-follow.ensures) in
     record {

@@ -32,21 +32,20 @@ compares c = record {
 pub returns-then-not-are_numbers : goal.returns-then-not-are_numbers
 returns-then-not-are_numbers c =
     let k = compares (goal.at.returns-then-not-are_numbers c).After-as_slice in
-    bad_bank c.args.workload.now c.args.report.now _ k.good
-    (λ is. iff_false c.are_numbers.ensures c.if-not-are_numbers.true (is ∙ sym k.bank))
+    bad_bank _ k.good (λ is. iff_false c.are_numbers.ensures c.if-not-are_numbers.true (is ∙ sym k.bank))
     (omega (arith, ap length c.as_slice.ensures))
 
 pub returns-then-not-are_numbers-2 : goal.returns-then-not-are_numbers-2
 returns-then-not-are_numbers-2 c =
     let k = compares (goal.at.returns-then-not-are_numbers-2 c).After-as_slice in
-    bad_list c.args.workload.now c.args.report.now _ k.good (c.are_numbers.ensures.0 c.if-not-are_numbers.false ∙ k.bank)
+    bad_list _ k.good (c.are_numbers.ensures.0 c.if-not-are_numbers.false ∙ k.bank)
     (λ is. iff_false c.are_numbers-2.ensures c.if-not-are_numbers-2.true (is ∙ sym k.list))
     (omega (arith, ap length c.as_slice.ensures, c.shown-line.ensures))
 
 pub returns-then-not-are_items : goal.returns-then-not-are_items
 returns-then-not-are_items c =
     let k = compares (goal.at.returns-then-not-are_items c).After-as_slice in
-    bad_tree c.args.workload.now c.args.report.now _ k.good (c.are_numbers.ensures.0 c.if-not-are_numbers.false ∙ k.bank)
+    bad_tree _ k.good (c.are_numbers.ensures.0 c.if-not-are_numbers.false ∙ k.bank)
     (c.are_numbers-2.ensures.0 c.if-not-are_numbers-2.false ∙ k.list)
     (λ is. iff_false c.are_items.ensures c.if-not-are_items.true (is ∙ sym k.tree))
     (omega (arith, ap length c.as_slice.ensures, c.shown-line.ensures, c.shown-line-2.ensures))
@@ -56,11 +55,9 @@ returns-then-report-rows c =
     let k = compares (goal.at.returns-then-report-rows c).After-as_slice in
     let rows = ap length c.as_slice.ensures in
     let jobs = ap length c.as_slice-2.ensures in
-    bad_end c.args.workload.now c.args.report.now _ k.good (c.are_numbers.ensures.0 c.if-not-are_numbers.false ∙ k.bank)
+    bad_end _ k.good (c.are_numbers.ensures.0 c.if-not-are_numbers.false ∙ k.bank)
     (c.are_numbers-2.ensures.0 c.if-not-are_numbers-2.false ∙ k.list)
-    (c.are_items.ensures.0 c.if-not-are_items.false ∙ k.tree)
-    (λ is. elim c.then-report-rows.branch [
+    (c.are_items.ensures.0 c.if-not-are_items.false ∙ k.tree) (λ is. elim c.then-report-rows.branch [
       | then-report-rows-via-then-report-rows w ↦ w.if-report-rows.true (is.0 ∙ sym rows)
       | then-report-rows-via-else-report-rows+then-rows-jobs w ↦ w.if-rows-jobs.true (rows ∙ is.1 ∙ sym jobs)
-    ])
-    (omega (arith, rows, c.shown-line.ensures, c.shown-line-2.ensures, c.shown-line-3.ensures))
+    ]) (omega (arith, rows, c.shown-line.ensures, c.shown-line-2.ensures, c.shown-line-3.ensures))

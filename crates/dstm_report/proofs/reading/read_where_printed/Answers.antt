@@ -6,5 +6,5 @@ pub returns : goal.returns
 unfolding report_of
 returns c = λ version report lines. (
   read_is_printed c.one_spelling.ensures.printed c.one_spelling.ensures.only version lines report,
-  printed_is_read c.one_spelling.ensures.printed version lines report,
+  printed_is_read c.one_spelling.ensures.printed,
 )

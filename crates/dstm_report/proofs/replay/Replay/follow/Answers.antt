@@ -10,12 +10,10 @@ answers-requires-clause-job c =
     next_fits (has_next c.args.row.now c.requires.valid c.requires.followed c.in-Some.ensures)
 
 pub answers-requires-clause-left : goal.answers-requires-clause-left
-answers-requires-clause-left c =
-    left_fit c.args.workload.now c.args.before.now c.args.self.now c.requires.valid c.requires.followed
+answers-requires-clause-left c = left_fit c.requires.valid c.requires.followed
 
 pub answers-requires-clause-small : goal.answers-requires-clause-small
-answers-requires-clause-small c =
-    left_small c.args.workload.now c.args.before.now c.args.self.now c.requires.valid c.requires.followed
+answers-requires-clause-small c = left_small c.requires.valid c.requires.followed
 
 pub returns : goal.returns
 returns c =
@@ -25,8 +23,7 @@ returns c =
     let h = has_next row c.requires.valid c.requires.followed c.in-Some.ensures in
     let told = c.in_ok-answers.ensures in
     let line : job.line ≡ row.line = c.if-job-row.false in
-    let answer : OwnAnswer row replay job =
-    simp c.as_slice.ensures.value at (told.answer.0 c.if-not-branch.false) in
+    let answer : OwnAnswer row replay job = simp c.as_slice.ensures.value at (told.answer.0 c.if-not-branch.false) in
     let after : Replay = record c.answers.new.self { turns = c.pass.new.self } in
     let passed : HasPassed row job replay after = record {
       store = told.store;

@@ -10,5 +10,5 @@ returns c =
     let next = c.self.inside.next.items in
     c.job_of.ensures
     ∙ ap (λ (places : List ℕ). job_of jobs places c.args.worker) c.deref.ensures.value
-    ∙ first_at jobs next c.self.inside.following.items c.args.worker c.self.invariant
+    ∙ first_at c.args.worker c.self.invariant
     ∙ ap (λ (t : Turning). first_job c.args.worker t.left) c.self.view_is

@@ -7,5 +7,4 @@ use Rattle.dstm_report.proofs.turns.Turns.new.Goals as goal
 pub returns : goal.returns
 returns c =
     let whole : List Job → Turning = λ (left : List Job). record { jobs = c.args.jobs.now; left = left } in
-    ap whole (starts c.args.jobs.now c.args.workers c.in_ok-next.next.items c.in_ok-next.following.items c.requires
-    c.in_ok-next.ensures)
+    ap whole (starts c.requires c.in_ok-next.ensures)

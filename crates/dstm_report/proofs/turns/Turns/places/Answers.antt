@@ -11,8 +11,7 @@ loop-place-init c =
     let place = c.place_of-place.result in
     subst (λ (t : Turning). StandsAt jobs t.left c.args.worker c.new-places.result.items place) c.self.view_is
     (subst (λ (found : List ℕ). StandsAt jobs (left_from 0 next jobs) c.args.worker found place)
-    (sym c.new-places.ensures.items)
-    (stands_first jobs next c.self.inside.following.items c.args.worker place c.self.invariant
+    (sym c.new-places.ensures.items) (stands_first c.args.worker place c.self.invariant
     (c.place_of-place.ensures ∙ ap (λ (ns : List ℕ). get_or ns c.args.worker (length jobs)) c.deref.ensures.value)))
 
 pub loop-place-preserved : goal.loop-place-preserved
@@ -23,6 +22,5 @@ loop-place-preserved c =
     let inside : place < length followers = omega (arith, c.loop-place-test.true, c.self.invariant.each_job) in
     let pushed : c.push.new.self.items ≡ c.loop-place.places.items ++ place ∷ [] = c.in_ok-push.ensures.items in
     subst (λ (found : List ℕ). StandsAt jobs c.args.self.now.left c.args.worker found c.index-place.result.now) (sym pushed)
-    (stands_next jobs c.args.self.now.left c.self.inside.next.items followers c.args.worker place c.index-place.result.now
-    c.loop-place.places.items c.self.invariant c.loop-place-test.true
+    (stands_next c.index-place.result.now c.self.invariant c.loop-place-test.true
     (get_or_read followers place _ inside c.index-place.ensures 0) c.loop-place.invariant)
