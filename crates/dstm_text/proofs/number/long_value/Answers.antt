@@ -21,10 +21,3 @@ loop-digit-preserved c =
     let longer = c.in_ok-number.ensures in
     let so_far = c.loop-digit.invariant.value in
     record { value = omega (arith, more.0, longer, so_far); small = omega (arith, longer) }
-
-pub returns : goal.returns
-returns c =
-    let whole = ap (digits_value 10) (take_all c.loop-digit.digit-index c.args.digits.now (omega arith)) in
-    let so_far = c.loop-digit.invariant.value in
-    let small = c.loop-digit.invariant.small in
-    (omega (arith, whole, so_far, small), so_far ∙ whole)

@@ -8,9 +8,6 @@ use Rattle.dstm_text.proofs.LineSearch.{Split, searched-none, searched-more, fou
 use Rattle.dstm_text.proofs.sections.split_at_line.Goals.{In-Some, In_default}
 use Rattle.dstm_text.proofs.sections.split_at_line.Goals as goal
 
-pub loop-length-init : goal.loop-length-init
-loop-length-init c = searched-none c.args.bytes.now c.args.mark.now
-
 -- what was found in the rest of the text
 in_rest : (bytes : List ℕ) (start : ℕ) (result : Option ℕ) →
     IsFirstByte (is_byte line_feed) (take (length bytes - start) (drop start bytes)) result →
