@@ -55,6 +55,15 @@ module _ {L : Type 0} where
           };
         }
 
+    -- what an open for writing and a set leave of a caller that was resumed for them
+    pub exchanges : (k resumed m n : Called L) (o : ℕ) (had v : Val) → resumed ≡ k → m.set ≡ resumed.set →
+        o < (shape_of resumed).objects → ((map : List Val) → MayBegin holds m map → MayBegin holds resumed map) →
+        Some had ≡ handed m o → n ≡ record m { set = n.set } → SetsOnly o v (written m) (written n) →
+        Exchanges holds k n o had v
+    exchanges k resumed m n o had v same set within narrows value kept sets =
+        subst (λ (k : Called L). Exchanges holds k n o had v) same
+        (puts resumed m n o had v (finds resumed m o had set within narrows value) kept sets)
+
     -- values that are those of a map at which the attempt may have begun, for each object, are this map
     pub all_values : (k n : Called L) (values map : List Val) (o objects : ℕ) → attempt n ≡ attempt k →
         objects ≡ (shape_of k).objects → o ≡ objects → length values ≡ o → MayBegin holds n map →

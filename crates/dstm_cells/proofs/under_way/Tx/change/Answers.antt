@@ -1,25 +1,17 @@
-use Rattle.std.proofs.Common.{ap, refl, rules, subst}
+use Rattle.std.proofs.Common.{ap, refl, rules}
 use Rattle.dstm_engine.specs.Callers.{Called}
-use Rattle.dstm_cells.specs.UnderWay.{Exchanges}
-use Rattle.dstm_cells.proofs.UnderWay.{finds, puts}
+use Rattle.dstm_cells.proofs.UnderWay.{exchanges}
 use Rattle.dstm_cells.proofs.Undoing.{notes_nothing, notes_one}
 use Rattle.dstm_cells.proofs.under_way.Tx.change.Goals as goal
 
 pub returns-clause-changes : goal.returns-clause-changes
-returns-clause-changes g c =
-    let old = c.resume-tx.result.caller.now in
-    let opened = c.open_write.new.self.caller.now in
-    let new = c.set.new.self.caller.now in
-    let had = c.in_ok-value.value in
-    let kept = c.open_write.ensures.kept in
-    let found =
-    finds g.L.Law.holds old opened c.args.object had (ap (λ (k : Called _). k.set) kept)
-    c.in_ok-may_open.ensures.may.1 c.open_write.ensures.narrows c.in_ok-value.ensures.value in (
-      c.f.result,
-      c.f.ensures,
-      subst (λ (k : Called _). Exchanges g.L.Law.holds k new c.args.object had c.f.result) c.resume-tx.ensures.attempt
-          (puts g.L.Law.holds old opened new c.args.object had c.f.result found c.set.ensures.kept c.set.ensures.written),
-    )
+returns-clause-changes g c = (
+  c.f.result,
+  c.f.ensures,
+  exchanges g.L.Law.holds _ _ _ _ c.args.object c.in_ok-value.value c.f.result
+      c.resume-tx.ensures.attempt (ap (λ (k : Called _). k.set) c.open_write.ensures.kept) c.in_ok-may_open.ensures.may.1
+      c.open_write.ensures.narrows c.in_ok-value.ensures.value c.set.ensures.kept c.set.ensures.written,
+)
 
 pub returns-in_err-value-clause-notes : goal.returns-in_err-value-clause-notes
 returns-in_err-value-clause-notes g c = notes_nothing g.L.Law.holds _ _ (search rules) refl refl (search rules)
