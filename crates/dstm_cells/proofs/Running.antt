@@ -10,9 +10,11 @@ use Rattle.dstm_cells.specs.declared.error.Failed.TheVariants as failed
 use Rattle.dstm_cells.specs.declared.memory.Seat.{Seat}
 use Rattle.dstm_model.specs.declared.value.Val.{Val}
 use Rattle.dstm_words.specs.Seats.{Home}
-use Rattle.dstm_engine.specs.Tables.{Founding}
-use Rattle.dstm_cells.specs.Cells.{Founds}
-use Rattle.dstm_cells.specs.Runs.{End, FailsFor, IsFirst, LeavesBy, OnItsTable}
+use Rattle.dstm_engine.specs.Callers.{Called}
+use Rattle.dstm_engine.specs.Tables.{Enrols, Founding}
+use Rattle.dstm_cells.specs.Attempts.{CouldNotRead}
+use Rattle.dstm_cells.specs.Cells.{Founds, ReadsAll}
+use Rattle.dstm_cells.specs.Runs.{End, FailsFor, IsFirst, LeavesBy, OnItsTable, Ran, WasUnread}
 
 -- a vector that was lent as a slice has what was left there, in the same number
 pub lent_back : {X : Type 0} (n count : ℕ) (old new whole : List X) → n ≡ length old → length new ≡ length old →
@@ -69,16 +71,23 @@ module _ {L : Type 0} (seats : List (Seat L)) where
               (at_seat earlier (omega (arith, same.1, less, first.below)));
         })
 
--- what has become of the table of a run
-pub on_its_table : {L : Type 0} (holds : L → List Val → Type 0) (rule : L) (before : List Val) (home : Home L)
-    (f g : Founding L) {ended : Founding L → Founding L → Type 0} → Founds rule before home f → ended f g →
-    OnItsTable holds rule before ended
-on_its_table holds rule before home f g {ended} founds ends = record {
-  home = home;
-  starts = founds.starts;
-  left = g;
-  ends = subst (λ new. ended new g) founds.founder ends;
-}
+module _ {L : Type 0} (holds : L → List Val → Type 0) {rule : L} {before : List Val} {home : Home L} {f g : Founding L}
+    {caller : Called L} (founds : Founds rule before home f) (enrols : Enrols holds f g 0 caller) where
+  on_its_table : {ended : Founding L → Founding L → Type 0} → ended f g → OnItsTable holds rule before ended
+  on_its_table {ended} ends = record {
+    home = home;
+    starts = founds.starts;
+    left = g;
+    ends = subst (λ new. ended new g) founds.founder ends;
+  }
+
+  -- what a run has left whose values were read by a last caller
+  pub has_left : {after : List Val} → ReadsAll holds caller after → Ran holds rule before after
+  has_left reads = on_its_table (record { caller = caller; enrols = enrols; reads = reads })
+
+  -- what has become of a run whose last caller could not read them
+  pub was_unread : {after : Called L} → CouldNotRead 64 caller after → WasUnread holds rule before
+  was_unread {after} unread = on_its_table (record { caller = caller; enrols = enrols; after = after; unread = unread })
 
 -- why a run failed whose values were not taken
 pub untaken : (ended : ℕ → End → Type 0) (unread : Type 0) (threads : ℕ) (why : Failed) →

@@ -9,7 +9,7 @@ use Rattle.dstm_engine.specs.Companies.{IsNew}
 use Rattle.dstm_cells.specs.Runs.{CalledFor, End, FailsFor}
 use Rattle.dstm_cells.specs.declared.memory.Seat.{Seat}
 use Rattle.dstm_cells.proofs.Calling.{is_err}
-use Rattle.dstm_cells.proofs.Running.{all_ended, first_ended, lent_back, on_its_table, ran_leaves, untaken}
+use Rattle.dstm_cells.proofs.Running.{all_ended, first_ended, has_left, lent_back, ran_leaves, untaken, was_unread}
 use Rattle.dstm_cells.proofs.Sends.{seat_send}
 use Rattle.dstm_cells.proofs.memory.Memory.run.Given.{Over}
 use Rattle.dstm_cells.proofs.memory.Memory.run.Goals.{After-how_all_ended}
@@ -68,22 +68,12 @@ returns-clause-fails g c =
 pub returns-clause-left : goal.returns-clause-left
 returns-clause-left g c =
     ran_leaves c.deref.result.now _ _ c.how_all_ended.result c.how_all_ended.ensures.first
-    (on_its_table TheLaw.holds-value.it c.args.self.now.law c.args.self.now.values.items c.in_ok-stm.stm
-    c.in_ok-stm.founder c.part.new.founder c.in_ok-stm.ensures.founds (record {
-      caller = c.in_ok-last.last.tx.caller;
-      enrols = c.in_ok-last.ensures.enrols;
-      reads = c.in_ok-take_by.ensures.reads;
-    }))
+    (has_left TheLaw.holds-value.it c.in_ok-stm.ensures.founds c.in_ok-last.ensures.enrols c.in_ok-take_by.ensures.reads)
 
 pub returns-in_err-take_by-clause-fails : goal.returns-in_err-take_by-clause-fails
 returns-in_err-take_by-clause-fails g c =
     let why = c.in_err-take_by.field-0.0 in
     is_err c.from_residual-in_err-take_by.result why (FailsFor _ _ c.args.threads) c.from_residual-in_err-take_by.ensures.1
     (untaken _ _ c.args.threads why c.in_err-take_by.ensures.fails.1 (λ unread.
-    on_its_table TheLaw.holds-value.it c.args.self.now.law c.args.self.now.values.items c.in_ok-stm.stm c.in_ok-stm.founder
-    c.part.new.founder c.in_ok-stm.ensures.founds (record {
-      caller = c.in_ok-last.last.tx.caller;
-      enrols = c.in_ok-last.ensures.enrols;
-      after = c.take_by.new.last.tx.caller;
-      unread = c.in_err-take_by.ensures.unread (ap Err unread);
-    })))
+    was_unread TheLaw.holds-value.it c.in_ok-stm.ensures.founds c.in_ok-last.ensures.enrols
+    (c.in_err-take_by.ensures.unread (ap Err unread))))
