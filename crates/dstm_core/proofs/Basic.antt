@@ -52,7 +52,12 @@ pub record Fresh (s : Shape) (es : List Event) (e : Event) (m : ℕ) : Type 0 wh
   pub locator : m ≡ e.caller * s.locators + (local s es e.caller).installed
 
 pub used_back : {s : Shape} (es : List Event) (e : Event) {m : ℕ} → Used s (e ∷ es) m → Used s es m ⊎ Fresh s es e m
-used_back {s = s} es e {m = m} u = go (cases_eq e.caller (m / s.locators))
+used_back {s = s} es e {m = m} u = elim (cases_eq e.caller (m / s.locators)) [
+  | inl q ↦
+      at_own q (installed_how s (local s es e.caller) e e.kind)
+      (rw (local_own s es e) at (subst (λ n. m % s.locators < (local s (e ∷ es) n).installed) (sym q) u.used))
+  | inr q ↦ inl (record { below = u.below; used = rw (local_other s es e (m / s.locators) q) at u.used })
+]
   where
     at_own : e.caller ≡ m / s.locators →
         ((after e.kind s (local s es e.caller) e).installed ≡ (local s es e.caller).installed)
@@ -74,12 +79,6 @@ used_back {s = s} es e {m = m} u = go (cases_eq e.caller (m / s.locators))
         old (inr y) = let z = x.2 in let r : m % s.locators ≡ (local s es e.caller).installed = omega arith in
             let d = div-add-mod m s.locators in
             inr (record { kind = x.0; succeeds = x.1; locator = sym d ∙ rw (r, ← q) (omega arith) })
-
-    go : (e.caller ≡ m / s.locators) ⊎ (e.caller ≡ m / s.locators → ⊥) → Used s es m ⊎ Fresh s es e m
-    go (inl q) =
-        at_own q (installed_how s (local s es e.caller) e e.kind)
-        (rw (local_own s es e) at (subst (λ n. m % s.locators < (local s (e ∷ es) n).installed) (sym q) u.used))
-    go (inr q) = inl (record { below = u.below; used = rw (local_other s es e (m / s.locators) q) at u.used })
 
 -- a put on the owner or the old word of a locator is none on a used one
 pub own_number : {s : Shape} {es : List Event} {e : Event} → Step s es e → (local s es e.caller).phase ≢ Outside →
@@ -234,7 +233,10 @@ own_begun s es c t b h = let x = own_place s c (local s es c) t b h in
 
 owner_step : (s : Shape) (es : List Event) (e : Event) → Step s es e → Basic s es → (m : ℕ) →
     Used s (e ∷ es) m → OwnerFits s (e ∷ es) m
-owner_step s es e p b m u = go (used_back es e u)
+owner_step s es e p b m u = elim (used_back es e u) [
+  | inl x ↦ fit m (owner_stays s es e m p x) (b.owner m x)
+  | inr f ↦ fit m (stays (OwnerWord m) p u.below (λ x. let i = f.kind in let j = x.kind in cc)) (new f)
+]
   where
     fit : (m : ℕ) → Same s es e (OwnerWord m) → OwnerFits s es m → OwnerFits s (e ∷ es) m
     fit m q f =
@@ -253,10 +255,6 @@ owner_step s es e p b m u = go (used_back es e u)
           same = rw (h, x.1, f.locator)
               (sym (caller_of e.caller s.locators l.installed lt));
         }
-
-    go : Used s es m ⊎ Fresh s es e m → OwnerFits s (e ∷ es) m
-    go (inl x) = fit m (owner_stays s es e m p x) (b.owner m x)
-    go (inr f) = fit m (stays (OwnerWord m) p u.below (λ x. let i = f.kind in let j = x.kind in cc)) (new f)
 
 -- what is known of a resolution stays known
 pub owner_is_more : {s : Shape} {es : List Event} {e : Event} → Step s es e → (x : ℕ) (o : Option ℕ) →

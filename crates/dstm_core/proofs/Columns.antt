@@ -211,11 +211,7 @@ change {s = s} {es = es} {e = e} w p h =
 -- a word stays at an event that is none of those that change it
 pub stays : {s : Shape} {es : List Event} {e : Event} (w : Word) → Step s es e → HasWord s w →
     (ChangeOf w s (local s es e.caller) e → ⊥) → Same s es e w
-stays {s = s} {es = es} {e = e} w p h not = go (change w p h)
-  where
-    go : Same s es e w ⊎ Changed s es e w → Same s es e w
-    go (inl x) = x
-    go (inr x) = absurd (not x.how)
+stays {s = s} {es = es} {e = e} w p h not = elim (change w p h) [ inl x ↦ x | inr x ↦ absurd (not x.how) ]
 
 -- ---- the words of objects, and the counts
 

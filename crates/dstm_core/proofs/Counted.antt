@@ -15,15 +15,14 @@ counted : (s : Shape) (p : Event → Bool) (f : LocalState → ℕ) (es : List E
     ((l : LocalState) (e : Event) → f (after e.kind s l e) ≡ cond (p e) (f l + 1) (f l)) →
     f (local s [] c) ≡ 0 → count_by p (events_of c es) ≡ f (local s es c)
 counted s p f [] c step zero = omega arith
-counted s p f (e ∷ es) c step zero = go (cases_Bool (e.caller == c)) (counted s p f es c step zero)
-  where
-    go : (e.caller == c ≡ true) ⊎ (e.caller == c ≡ false) → count_by p (events_of c es) ≡ f (local s es c) →
-        count_by p (events_of c (e ∷ es)) ≡ f (local s (e ∷ es) c)
-    go (inl q) ih = rw q
-        (sum_by-cons (λ (x : Event). cond (p x) 1 0) e (events_of c es)
-        ∙ one_more (p e) (f (after e.kind s (local s es c) e)) (f (local s es c)) (count_by p (events_of c es))
-        (step (local s es c) e) ih)
-    go (inr q) ih = rw q ih
+counted s p f (e ∷ es) c step zero = elim (cases_Bool (e.caller == c)) [
+  | inl q ↦
+      rw q
+      (sum_by-cons (λ (x : Event). cond (p x) 1 0) e (events_of c es)
+      ∙ one_more (p e) (f (after e.kind s (local s es c) e)) (f (local s es c)) (count_by p (events_of c es))
+      (step (local s es c) e) (counted s p f es c step zero))
+  | inr q ↦ rw q (counted s p f es c step zero)
+]
 
 begun_counts : (s : Shape) (l : LocalState) (e : Event) (k : Kind) →
     (after k s l e).begun ≡ cond (is_begin k) (l.begun + 1) l.begun

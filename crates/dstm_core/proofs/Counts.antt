@@ -166,17 +166,16 @@ enrol_found s l e q a = absurd (cc)
 -- no more callers enrol than there are
 pub callers_few : (s : Shape) (es : List Event) → Core s es → word s es CallersWord ≤ s.callers
 callers_few s [] core = omega arith
-callers_few s (e ∷ es) core = go (enrolled (step s es e core)) (callers_few s es core.0)
-  where
-    go : Same s es e CallersWord ⊎ ((e.kind ≡ Enrol) × (word s (e ∷ es) CallersWord ≡ word s es CallersWord + 1)) →
-        word s es CallersWord ≤ s.callers → word s (e ∷ es) CallersWord ≤ s.callers
-    go (inl x) ih = omega arith
-    go (inr x) ih =
-        let found = core.1.enrolled x.0 in
-        let here : word s es CallersWord ≡ e.found =
-        ap (at es) (sym (enrol_found s (local s es e.caller) e x.0 core.1.allowed).0)
-        ∙ sym core.1.linked in
-        let below = core.1.caller in omega arith
+callers_few s (e ∷ es) core = elim (enrolled (step s es e core)) [
+  | inl x ↦ let ih = callers_few s es core.0 in omega arith
+  | inr x ↦
+      let ih = callers_few s es core.0 in
+      let found = core.1.enrolled x.0 in
+      let here : word s es CallersWord ≡ e.found =
+      ap (at es) (sym (enrol_found s (local s es e.caller) e x.0 core.1.allowed).0)
+      ∙ sym core.1.linked in
+      let below = core.1.caller in omega arith
+]
 
 -- none of these words comes near the end of its range
 pub record CountsFit (s : Shape) (es : List Event) : Type 0 where

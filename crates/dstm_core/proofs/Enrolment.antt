@@ -46,11 +46,10 @@ without s c l e k n t q a = let out = outside s c l t q in grind arith
 
 numbered : (s : Shape) (c : ℕ) (l : LocalState) (e : Event) (k : Kind) → k ≢ Enrol → Static s c l →
     AllowedAs k s l e → is_some (after k s l e).number ≡ true
-numbered s c l e k n t a = go (cases_Bool (is_some l.number))
-  where
-    go : (is_some l.number ≡ true) ⊎ (is_some l.number ≡ false) → is_some (after k s l e).number ≡ true
-    go (inl q) = ap is_some (number_kept s l e k n) ∙ q
-    go (inr q) = absurd (without s c l e k n t q a)
+numbered s c l e k n t a = elim (cases_Bool (is_some l.number)) [
+  | inl q ↦ ap is_some (number_kept s l e k n) ∙ q
+  | inr q ↦ absurd (without s c l e k n t q a)
+]
 
 -- a caller that made an event has a number
 pub has_number : (s : Shape) (c : ℕ) (l : LocalState) (e : Event) (k : Kind) → Static s c l →

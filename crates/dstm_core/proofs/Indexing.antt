@@ -140,7 +140,8 @@ indexed_push {rs = rs} {ks = ks} {es = es} new r x none g = record {
         ∙ gives_here r.object (Some (length rs)) es new r.object g refl ∙ ap Some (sym e)
 
 -- without the place of an object's read
-pub indexed_less : {rs : List Read} {ks : List ℕ} (less : List ℕ) {es : List (ℕ × ℕ)} (new : List (ℕ × ℕ)) {c : ℕ} (o p : ℕ) →
+pub indexed_less : {rs : List Read} {ks : List ℕ} (less : List ℕ) {es : List (ℕ × ℕ)} (new : List (ℕ × ℕ)) {c : ℕ}
+    (o p : ℕ) →
     IsIndexed rs ks es c → place_of o es ≡ Some p → Gives o None es new
     → ((q : ℕ) → is_among q less ≡ cond (is_at (nat_cmp p) q) false (is_among q ks)) → IsIndexed rs less new 0
 indexed_less {rs = rs} {ks = ks} less {es = es} new o p x here g gone = record {

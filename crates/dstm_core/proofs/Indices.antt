@@ -45,15 +45,14 @@ from_yes c k ks h = grind (arith, nat_tests)
 pub next_is : (c : ℕ) (ks : List ℕ) → IsStrictlySortedBy nat_cmp ks →
     slice_get ks (count_before c ks) ≡ slice_get (from c ks) 0
 next_is c [] s = refl
-next_is c (k ∷ ks) s = go (below_or k c) (next_is c ks (sorted_tail nat_cmp k ks s))
-  where
-    go : (k < c) ⊎ (c ≤ k) → slice_get ks (count_before c ks) ≡ slice_get (from c ks) 0
-        → slice_get (k ∷ ks) (count_before c (k ∷ ks)) ≡ slice_get (from c (k ∷ ks)) 0
-    go (inl h) e = rw (count_yes c k ks h, from_no c k ks h) e
-    go (inr h) e =
-        let none : count_before c (k ∷ ks) ≡ 0 = count_no c k ks h
-        ∙ none_before c ks k (omega arith) (sorted_head nat_cmp k ks s) in
-        rw (none, from_yes c k ks h) refl
+next_is c (k ∷ ks) s = elim (below_or k c) [
+  | inl h ↦ rw (count_yes c k ks h, from_no c k ks h) (next_is c ks (sorted_tail nat_cmp k ks s))
+  | inr h ↦
+      let e = next_is c ks (sorted_tail nat_cmp k ks s) in
+      let none : count_before c (k ∷ ks) ≡ 0 = count_no c k ks h
+      ∙ none_before c ks k (omega arith) (sorted_head nat_cmp k ks s) in
+      rw (none, from_yes c k ks h) refl
+]
 
 later : (k p : ℕ) (ks : List ℕ) (i : ℕ) → AllByRecursion (λ y. nat_cmp k y ≡ Less) ks → slice_get ks i ≡ Some p → k < p
 later k p [] i a e = absurd (cc)
@@ -64,26 +63,23 @@ later k p (y ∷ ks) (suc i) a e = later k p ks i a.1 e
 pub next_count : (c p : ℕ) (ks : List ℕ) → IsStrictlySortedBy nat_cmp ks →
     slice_get ks (count_before c ks) ≡ Some p → count_before (p + 1) ks ≡ count_before c ks + 1
 next_count c p [] s e = absurd (cc)
-next_count c p (k ∷ ks) s e = go (below_or k c) (next_count c p ks (sorted_tail nat_cmp k ks s))
-  where
-    go : (k < c) ⊎ (c ≤ k) →
-        (slice_get ks (count_before c ks) ≡ Some p → count_before (p + 1) ks ≡ count_before c ks + 1)
-        → count_before (p + 1) (k ∷ ks) ≡ count_before c (k ∷ ks) + 1
-    go (inl h) f =
-        let rest : slice_get ks (count_before c ks) ≡ Some p = rw (count_yes c k ks h) at e in
-        let up = later k p ks (count_before c ks) (sorted_head nat_cmp k ks s) rest in
-        let one = count_yes (p + 1) k ks (omega arith) in
-        let more = count_yes c k ks h in
-        let all = f rest in
-        omega arith
-    go (inr h) f =
-        let none : count_before c (k ∷ ks) ≡ 0 = count_no c k ks h
-        ∙ none_before c ks k (omega arith) (sorted_head nat_cmp k ks s) in
-        let first : Some k ≡ Some p = rw (none) at e in
-        let same : k ≡ p = cc in
-        let one = count_yes (p + 1) k ks (omega arith) in
-        let rest = none_before (p + 1) ks k (omega arith) (sorted_head nat_cmp k ks s) in
-        omega arith
+next_count c p (k ∷ ks) s e = elim (below_or k c) [
+  | inl h ↦
+      let rest : slice_get ks (count_before c ks) ≡ Some p = rw (count_yes c k ks h) at e in
+      let up = later k p ks (count_before c ks) (sorted_head nat_cmp k ks s) rest in
+      let one = count_yes (p + 1) k ks (omega arith) in
+      let more = count_yes c k ks h in
+      let all = next_count c p ks (sorted_tail nat_cmp k ks s) rest in
+      omega arith
+  | inr h ↦
+      let none : count_before c (k ∷ ks) ≡ 0 = count_no c k ks h
+      ∙ none_before c ks k (omega arith) (sorted_head nat_cmp k ks s) in
+      let first : Some k ≡ Some p = rw (none) at e in
+      let same : k ≡ p = cc in
+      let one = count_yes (p + 1) k ks (omega arith) in
+      let rest = none_before (p + 1) ks k (omega arith) (sorted_head nat_cmp k ks s) in
+      omega arith
+]
 
 pub next_counts : (c : ℕ) (ks : List ℕ) {o : Option ℕ} → IsStrictlySortedBy nat_cmp ks →
     o ≡ slice_get ks (count_before c ks) → IfSome o (λ p. count_before (p + 1) ks ≡ count_before c ks + 1)

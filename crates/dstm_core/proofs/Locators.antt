@@ -40,16 +40,13 @@ names_later s (e ∷ more) es m u = names_more s (more ++ es) e m (names_later s
 -- a word that an object had stays away once it is gone
 no_return_step : (s : Shape) (es : List Event) (e : Event) (o x : ℕ) → Core s (e ∷ es) → o < s.objects →
     Names s es x → at (e ∷ es) o ≡ x → at es o ≡ x
-no_return_step s es e o x core h n q = go (objects o (step s es e core) h)
+no_return_step s es e o x core h n q =
+    elim (objects o (step s es e core) h) [ inl y ↦ sym y ∙ q | inr i ↦ absurd (installed i n) ]
   where
     installed : Installed s es e o → Names s es x → ⊥
     installed i (inl z) = let w = i.now in omega arith
     installed i (inr z) = let f = install_fresh s es e core i.how.kind (i.how.found ∙ sym i.how.expected) in
         f.2 (subst (λ m. Used s es (m - 1)) (sym q ∙ i.now ∙ sym i.how.put) z.1)
-
-    go : (at (e ∷ es) o ≡ at es o) ⊎ Installed s es e o → at es o ≡ x
-    go (inl y) = sym y ∙ q
-    go (inr i) = absurd (installed i n)
 
 pub no_return : (s : Shape) (more es : List Event) (o x : ℕ) → Core s (more ++ es) → o < s.objects →
     Names s es x → at (more ++ es) o ≡ x → at es o ≡ x

@@ -80,11 +80,10 @@ reads_get s (r ∷ rs) (suc i) h l = reads_get s rs i h.1 (omega arith)
 
 read_found : (s : Shape) (o : ℕ) (rs : List Read) → ReadsIn s rs → is_some (read_of o rs) ≡ true → o < s.objects
 read_found s o [] h q = absurd (cc)
-read_found s o (r ∷ rs) h q = go (cases_eq r.object o) (read_found s o rs h.1)
-  where
-    go : (r.object ≡ o) ⊎ (r.object ≡ o → ⊥) → (is_some (read_of o rs) ≡ true → o < s.objects) → o < s.objects
-    go (inl x) ih = subst (λ n. n < s.objects) x h.0
-    go (inr x) ih = ih (grind (arith, nat_tests))
+read_found s o (r ∷ rs) h q = elim (cases_eq r.object o) [
+  | inl x ↦ subst (λ n. n < s.objects) x h.0
+  | inr x ↦ read_found s o rs h.1 (grind (arith, nat_tests))
+]
 
 reads_recorded : (s : Shape) (r : Option Resolution) (rs : List Read) → InShape s r → ReadsIn s rs →
     ReadsIn s (record_resolved r rs)
@@ -166,17 +165,16 @@ old_own s es e l k a q w h = unlooked (OldNames s (e ∷ es)) s l e k refl tt h
 
 old_words : {s : Shape} {es : List Event} (e : Event) → Core s (e ∷ es) → Olds s es → (m : ℕ) →
     m < s.callers * s.locators → Names s (e ∷ es) (word s (e ∷ es) (OldWord m))
-old_words {s = s} {es = es} e core o m b = go (change (OldWord m) (step s es e core) b)
-  where
-    go : Same s es e (OldWord m) ⊎ Changed s es e (OldWord m) → Names s (e ∷ es) (word s (e ∷ es) (OldWord m))
-    go (inl x) = subst (Names s (e ∷ es)) (sym x) (names_more s es e (word s es (OldWord m)) (o.word m b))
-    go (inr x) =
-        let puts = put_old_puts s (local s es e.caller) e x.how.kind core.1.allowed in
-        let here : e.place ≡ place s (OldWord m) =
-        puts.0 ∙ ap (place s) puts.2 ∙ ap (λ m. place s (OldWord m)) (sym x.how.number) in
-        let now : word s (e ∷ es) (OldWord m) ≡ or_zero (version (res (local s es e.caller))) =
-        put_at es e (place s (OldWord m)) here ∙ puts.1 in
-        subst (Names s (e ∷ es)) (sym now) (names_more s es e _ (version_names (basic s es core.0) o e.caller))
+old_words {s = s} {es = es} e core o m b = elim (change (OldWord m) (step s es e core) b) [
+  | inl x ↦ subst (Names s (e ∷ es)) (sym x) (names_more s es e (word s es (OldWord m)) (o.word m b))
+  | inr x ↦
+      let puts = put_old_puts s (local s es e.caller) e x.how.kind core.1.allowed in
+      let here : e.place ≡ place s (OldWord m) =
+      puts.0 ∙ ap (place s) puts.2 ∙ ap (λ m. place s (OldWord m)) (sym x.how.number) in
+      let now : word s (e ∷ es) (OldWord m) ≡ or_zero (version (res (local s es e.caller))) =
+      put_at es e (place s (OldWord m)) here ∙ puts.1 in
+      subst (Names s (e ∷ es)) (sym now) (names_more s es e _ (version_names (basic s es core.0) o e.caller))
+]
 
 pub old_names : (s : Shape) (es : List Event) → Core s es → Olds s es
 old_names s [] core = record { word = λ m b. inl refl; res = λ c. tt }
@@ -275,7 +273,8 @@ ranged {s = s} {es = es} {l = l} e LookHigh t o m = names_in s es (or_zero (vers
 ranged {s = s} {es = es} {l = l} e LookNew t o m =
     version_in s es (res l).word (or_zero (version (res l))) t.word (t.known.high m.2) t.version
 ranged {s = s} {c = c} {l = l} e PutOwner t o m = next_locator_in s c l t.own t.caller (λ h. cc) m.2
-ranged {s = s} {c = c} {l = l} e PutOld t o m = next_locator_in s c l t.own t.caller (λ h. cc) (t.own.held (ap is_some m.4))
+ranged {s = s} {c = c} {l = l} e PutOld t o m =
+    next_locator_in s c l t.own t.caller (λ h. cc) (t.own.held (ap is_some m.4))
 ranged {s = s} {l = l} e Install t o m = res-in_shape s l t.own.object m.2
 ranged e LookNumber t o m = tt
 ranged {s = s} {l = l} e Check t o m = reads_get s l.reads l.checked t.reads m.2

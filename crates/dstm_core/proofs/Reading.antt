@@ -130,15 +130,12 @@ one_tail {rs = rs} k ks {p = p} h n = record {
 pub one_found : {o : ℕ} {rs : List Read} {ks : List ℕ} {p : ℕ} → OneOf o rs ks p →
     read_of o (reads_at rs ks) ≡ Some (read_at rs p)
 one_found {ks = []} h = absurd (let a = h.among in cc)
-one_found {o = o} {rs = rs} {ks = (k ∷ ks)} {p = p} h = go (same_or_not (read_at rs k).object o) (one_found)
-  where
-    go : ((read_at rs k).object ≡ o) ⊎ ((read_at rs k).object ≢ o) →
-        (OneOf o rs ks p → read_of o (reads_at rs ks) ≡ Some (read_at rs p))
-        → read_of o (reads_at rs (k ∷ ks)) ≡ Some (read_at rs p)
-    go (inl e) f =
-        let here = test_yes (read_at rs k).object o e in
-        rw here (ap (λ (q : ℕ). Some (read_at rs q)) (h.alone k (among_head k ks) e))
-    go (inr n) f = let here = test_no (read_at rs k).object o n in rw here (f (one_tail k ks h n))
+one_found {o = o} {rs = rs} {ks = (k ∷ ks)} {p = p} h = elim (same_or_not (read_at rs k).object o) [
+  | inl e ↦
+      let here = test_yes (read_at rs k).object o e in
+      rw here (ap (λ (q : ℕ). Some (read_at rs q)) (h.alone k (among_head k ks) e))
+  | inr n ↦ let here = test_no (read_at rs k).object o n in rw here (one_found (one_tail k ks h n))
+]
 
 remove_here : (p k : ℕ) (ks : List ℕ) → k ≡ p → remove_key (is_at (nat_cmp p)) (k ∷ ks) ≡ ks
 remove_here p k ks h = grind (arith, nat_tests)

@@ -32,12 +32,11 @@ core_whole s t i h c =
 
 -- there is but one first event that breaks a run
 pub one_first : {s : Shape} {t : List Event} {i j : ℕ} → IsFirstBroken s t i → IsFirstBroken s t j → i ≡ j
-one_first {s = s} {t = t} {i = i} {j = j} p q = go (compare i j)
-  where
-    go : (i < j) ⊎ (j < i) ⊎ (i ≡ j) → i ≡ j
-    go (inl h) = absurd (p.broken (core_fewer s t (i + 1) j (omega arith) q.before))
-    go (inr (inl h)) = absurd (q.broken (core_fewer s t (j + 1) i (omega arith) p.before))
-    go (inr (inr h)) = h
+one_first {s = s} {t = t} {i = i} {j = j} p q = elim (compare i j) [
+  | inl h ↦ absurd (p.broken (core_fewer s t (i + 1) j (omega arith) q.before))
+  | inr (inl h) ↦ absurd (q.broken (core_fewer s t (j + 1) i (omega arith) p.before))
+  | inr (inr h) ↦ h
+]
 
 -- and none in a core run
 pub none_broken : {s : Shape} {t : List Event} {i : ℕ} → Core s (reverse t) → IsFirstBroken s t i → ⊥

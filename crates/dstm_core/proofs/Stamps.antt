@@ -104,12 +104,7 @@ stamp_how s l e k a = unstamped s l e k (λ q. cc) (λ q. cc) (λ q. cc) (grind 
 -- the number of stamps drawn never falls
 pub stamps_rise : {s : Shape} {es : List Event} {e : Event} → Step s es e →
     word s es StampsWord ≤ word s (e ∷ es) StampsWord
-stamps_rise {s = s} {es = es} {e = e} p = go (stamps p)
-  where
-    go : Same s es e StampsWord ⊎ ((e.kind ≡ Stamp) × (word s (e ∷ es) StampsWord ≡ word s es StampsWord + 1)) →
-        word s es StampsWord ≤ word s (e ∷ es) StampsWord
-    go (inl x) = omega arith
-    go (inr x) = let y = x.1 in omega arith
+stamps_rise {s = s} {es = es} {e = e} p = elim (stamps p) [ inl x ↦ omega arith | inr x ↦ let y = x.1 in omega arith ]
 
 -- an attempt under way has a stamp that stands, and so has one whose rank was put; each such stamp was drawn
 pub record Standing (s : Shape) (es : List Event) (l : LocalState) : Type 0 where

@@ -35,7 +35,10 @@ unbegun_step : {s : Shape} {es : List Event} {e : Event} → Step s es e → (c 
     i < s.attempts → (local s (e ∷ es) c).begun ≤ i → word s es (StatusWord (c * s.attempts + i)) ≡ 0 →
     word s (e ∷ es) (StatusWord (c * s.attempts + i)) ≡ 0
 unbegun_step {s = s} {es = es} {e = e} st c i p q h before =
-    go (change (StatusWord (c * s.attempts + i)) st (in_table c s.attempts i s.callers p q))
+    elim (change (StatusWord (c * s.attempts + i)) st (in_table c s.attempts i s.callers p q)) [
+      | inl x ↦ x ∙ before
+      | inr x ↦ moved x.how x.was
+    ]
   where
     beginning : Begins s (local s es e.caller) e (c * s.attempts + i) → ⊥
     beginning b = let may = begin_may s (local s es e.caller) e b.kind st.fits.allowed in
@@ -58,11 +61,6 @@ unbegun_step {s = s} {es = es} {e = e} st c i p q h before =
         let b = before in absurd (omega arith)
     moved (kills k) w = let f = k.found in let b = before in absurd (omega arith)
 
-    go : (word s (e ∷ es) (StatusWord (c * s.attempts + i)) ≡ word s es (StatusWord (c * s.attempts + i)))
-        ⊎ Changed s es e (StatusWord (c * s.attempts + i)) → word s (e ∷ es) (StatusWord (c * s.attempts + i)) ≡ 0
-    go (inl x) = x ∙ before
-    go (inr x) = moved x.how x.was
-
 -- an attempt that has not begun is idle
 pub unbegun : (s : Shape) (es : List Event) → Core s es → (c i : ℕ) → c < s.callers → i < s.attempts →
     (local s es c).begun ≤ i → word s es (StatusWord (c * s.attempts + i)) ≡ 0
@@ -73,7 +71,7 @@ unbegun s (e ∷ es) core c i p q h = let m = begun_more s es e c in
 -- a status that is finished stays
 pub finished_step : (s : Shape) (es : List Event) (e : Event) (a : ℕ) → Core s (e ∷ es) → a < s.callers * s.attempts →
     4 ≤ word s es (StatusWord a) → word s (e ∷ es) (StatusWord a) ≡ word s es (StatusWord a)
-finished_step s es e a core h f = go (change (StatusWord a) st h)
+finished_step s es e a core h f = elim (change (StatusWord a) st h) [ inl x ↦ x | inr x ↦ absurd (moved x.how x.was) ]
   where
     st : Step s es e
     st = step s es e core
@@ -88,11 +86,6 @@ finished_step s es e a core h f = go (change (StatusWord a) st h)
     moved (moves m) w = let g = given_live (local s es e.caller).phase m.inside in let q = m.found in
         omega arith
     moved (kills k) w = let q = k.found in omega arith
-
-    go : (word s (e ∷ es) (StatusWord a) ≡ word s es (StatusWord a)) ⊎ Changed s es e (StatusWord a) →
-        word s (e ∷ es) (StatusWord a) ≡ word s es (StatusWord a)
-    go (inl x) = x
-    go (inr x) = absurd (moved x.how x.was)
 
 pub finished_stays : (s : Shape) (more es : List Event) (a : ℕ) → Core s (more ++ es) → a < s.callers * s.attempts →
     4 ≤ word s es (StatusWord a) → word s (more ++ es) (StatusWord a) ≡ word s es (StatusWord a)
@@ -121,34 +114,30 @@ phase_how s c l e Install t a h =
     (cond_both (e.found == e.expected) _ _ (λ (m : LocalState). given m.phase ≡ given l.phase) (λ _. refl) (λ _. refl))
     (cond_both (e.found == e.expected) _ _ (λ (m : LocalState). own_attempt s m ≡ own_attempt s l) (λ _. refl)
     (λ _. refl)) ((λ q. cc), (λ q. cc), (λ q. cc), (λ q. cc), (λ q. cc))
-phase_how s c l e LookSelf t a h = go (cases_Bool (e.found == given l.phase))
-  where
-    go : (e.found == given l.phase ≡ true) ⊎ (e.found == given l.phase ≡ false) → PhaseHow s l e LookSelf
-    go (inl q) =
-        at_none (λ x. let i = a.2.0 in cc) (rw q refl) (rw q refl)
-        ((λ q. cc), (λ q. cc), (λ q. cc), (λ q. cc), (λ q. cc))
-    go (inr q) = absurd (h (rw q refl))
+phase_how s c l e LookSelf t a h = elim (cases_Bool (e.found == given l.phase)) [
+  | inl q ↦
+      at_none (λ x. let i = a.2.0 in cc) (rw q refl) (rw q refl)
+      ((λ q. cc), (λ q. cc), (λ q. cc), (λ q. cc), (λ q. cc))
+  | inr q ↦ absurd (h (rw q refl))
+]
 phase_how s c l e PutNew t a h =
     at_none (λ q. let i = a.2.0 in cc) (ap given (sym a.2.0)) refl
     ((λ q. cc), (λ q. cc), (λ q. cc), (λ q. cc), (λ q. cc))
 phase_how s c l e PutHigh t a h =
     at_none (λ q. let i = a.2.0 in grind arith) (let i = a.2.0 in grind arith) refl
     ((λ q. cc), (λ q. cc), (λ q. cc), (λ q. cc), (λ q. cc))
-phase_how s c l e ToValidating t a h = go (cases_Bool (e.found == 1))
-  where
-    go : (e.found == 1 ≡ true) ⊎ (e.found == 1 ≡ false) → PhaseHow s l e ToValidating
-    go (inl q) = at_move (λ x. cc) (λ x. let i = a.2.0 in grind arith) a.0 (a.1.1 ∙ rw q refl) (rw q refl)
-    go (inr q) = absurd (h (rw q refl))
-phase_how s c l e Pause t a h = go (cases_Bool (e.found == 1))
-  where
-    go : (e.found == 1 ≡ true) ⊎ (e.found == 1 ≡ false) → PhaseHow s l e Pause
-    go (inl q) = at_move (λ x. cc) (λ x. let i = a.2.0 in cc) a.0 (a.1.1 ∙ rw q refl) (rw q refl)
-    go (inr q) = absurd (h (rw q refl))
-phase_how s c l e Resume t a h = go (cases_Bool (e.found == 2))
-  where
-    go : (e.found == 2 ≡ true) ⊎ (e.found == 2 ≡ false) → PhaseHow s l e Resume
-    go (inl q) = at_move (λ x. cc) (λ x. let i = a.2.0 in cc) a.0 (a.1.1 ∙ rw q refl) (rw q refl)
-    go (inr q) = absurd (h (rw q refl))
+phase_how s c l e ToValidating t a h = elim (cases_Bool (e.found == 1)) [
+  | inl q ↦ at_move (λ x. cc) (λ x. let i = a.2.0 in grind arith) a.0 (a.1.1 ∙ rw q refl) (rw q refl)
+  | inr q ↦ absurd (h (rw q refl))
+]
+phase_how s c l e Pause t a h = elim (cases_Bool (e.found == 1)) [
+  | inl q ↦ at_move (λ x. cc) (λ x. let i = a.2.0 in cc) a.0 (a.1.1 ∙ rw q refl) (rw q refl)
+  | inr q ↦ absurd (h (rw q refl))
+]
+phase_how s c l e Resume t a h = elim (cases_Bool (e.found == 2)) [
+  | inl q ↦ at_move (λ x. cc) (λ x. let i = a.2.0 in cc) a.0 (a.1.1 ∙ rw q refl) (rw q refl)
+  | inr q ↦ absurd (h (rw q refl))
+]
 phase_how s c l e Draw t a h =
     at_none (λ q. let i = a.2.0 in cc) (ap given (sym a.2.0)) refl
     ((λ q. cc), (λ q. cc), (λ q. cc), (λ q. cc), (λ q. cc))
@@ -174,7 +163,10 @@ pub own_status_step : (s : Shape) (es : List Event) (e : Event) → Core s (e �
     (word s (e ∷ es) (StatusWord (own_attempt s (local s es c))) ≡ given (local s es c).phase)
     ⊎ (word s (e ∷ es) (StatusWord (own_attempt s (local s es c))) ≡ 5)
 own_status_step s es e core c lt out quiet before =
-    go (change (StatusWord (own_attempt s (local s es c))) st (own_in s c (local s es c) t lt out))
+    elim (change (StatusWord (own_attempt s (local s es c))) st (own_in s c (local s es c) t lt out)) [
+      | inl x ↦ rw x before
+      | inr x ↦ moved x.how x.now
+    ]
   where
     st : Step s es e
     st = step s es e core
@@ -208,13 +200,6 @@ own_status_step s es e core c lt out quiet before =
         (sym m.attempt) in
         absurd (excluded (quiet same) m.how)
     moved (kills k) w = inr (w ∙ k.put)
-
-    go : (word s (e ∷ es) (StatusWord (own_attempt s (local s es c))) ≡ word s es
-        (StatusWord (own_attempt s (local s es c)))) ⊎ Changed s es e (StatusWord (own_attempt s (local s es c))) →
-        (word s (e ∷ es) (StatusWord (own_attempt s (local s es c))) ≡ given (local s es c).phase)
-        ⊎ (word s (e ∷ es) (StatusWord (own_attempt s (local s es c))) ≡ 5)
-    go (inl x) = rw x before
-    go (inr x) = moved x.how x.now
 
 pub begin_put : (s : Shape) (l : LocalState) (e : Event) {k : Kind} → k ≡ Begin → AllowedAs k s l e →
     (e.place ≡ place s (StatusWord (next_attempt s l))) × (e.put ≡ 1) × ((after k s l e).phase ≡ Running)

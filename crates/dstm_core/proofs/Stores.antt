@@ -74,46 +74,39 @@ module _ (extra : Bool → ℕ) (small : (b : Bool) → extra b ≤ one_if b) wh
       counted extra l ≤ counted extra (after k s l e)
   count_step s c l e Begin t a = let x : counted extra l ≡ l.installed = ap (λ p. count_by extra p l) a.2.0 in
       omega arith
-  count_step s c l e Install t a = go (cases_Bool (e.found == e.expected))
-    where
-      go : (e.found == e.expected ≡ true) ⊎ (e.found == e.expected ≡ false) →
-          counted extra l ≤ counted extra (after Install s l e)
-      go (inl q) =
-          count_more l (after Install s l e)
-          (record { object = (res l).object; locator = next_locator s l; old = or_zero (version (res l)) })
-          (λ z. let i = a.2.0 in cc) t.count (rw q refl) (rw q refl) (rw q refl) (rw q refl) (rw q refl)
-      go (inr q) =
-          count_on l (after Install s l e) (λ z. let i = a.2.0 in cc) (rw q (λ z. let i = a.2.0 in cc)) (rw q refl)
-          (rw q refl) (rw q refl) (rw q refl)
-  count_step s c l e LookSelf t a = go (cases_Bool (e.found == given l.phase))
-    where
-      go : (e.found == given l.phase ≡ true) ⊎ (e.found == given l.phase ≡ false) →
-          counted extra l ≤ counted extra (after LookSelf s l e)
-      go (inl q) =
-          count_on l (after LookSelf s l e) (λ z. let i = a.2.0 in cc) (rw q (λ z. let i = a.2.0 in cc))
-          (rw q refl) (rw q refl) (rw q refl) (rw q refl)
-      go (inr q) = count_out s c l (after LookSelf s l e) t (rw q refl) (rw q refl)
-  count_step s c l e ToValidating t a = go (cases_Bool (e.found == 1))
-    where
-      go : (e.found == 1 ≡ true) ⊎ (e.found == 1 ≡ false) → counted extra l ≤ counted extra (after ToValidating s l e)
-      go (inl q) =
-          count_on l (after ToValidating s l e) (λ z. let i = a.2.0 in grind arith) (rw q (λ z. cc)) (rw q refl)
-          (rw q refl) (rw q refl) (rw q refl)
-      go (inr q) = count_out s c l (after ToValidating s l e) t (rw q refl) (rw q refl)
-  count_step s c l e Pause t a = go (cases_Bool (e.found == 1))
-    where
-      go : (e.found == 1 ≡ true) ⊎ (e.found == 1 ≡ false) → counted extra l ≤ counted extra (after Pause s l e)
-      go (inl q) =
-          count_on l (after Pause s l e) (λ z. let i = a.2.0 in cc) (rw q (λ z. cc)) (rw q refl) (rw q refl)
-          (rw q refl) (rw q refl)
-      go (inr q) = count_out s c l (after Pause s l e) t (rw q refl) (rw q refl)
-  count_step s c l e Resume t a = go (cases_Bool (e.found == 2))
-    where
-      go : (e.found == 2 ≡ true) ⊎ (e.found == 2 ≡ false) → counted extra l ≤ counted extra (after Resume s l e)
-      go (inl q) =
-          count_on l (after Resume s l e) (λ z. let i = a.2.0 in cc) (rw q (λ z. cc)) (rw q refl) (rw q refl)
-          (rw q refl) (rw q refl)
-      go (inr q) = count_out s c l (after Resume s l e) t (rw q refl) (rw q refl)
+  count_step s c l e Install t a = elim (cases_Bool (e.found == e.expected)) [
+    | inl q ↦
+        count_more l (after Install s l e)
+        (record { object = (res l).object; locator = next_locator s l; old = or_zero (version (res l)) })
+        (λ z. let i = a.2.0 in cc) t.count (rw q refl) (rw q refl) (rw q refl) (rw q refl) (rw q refl)
+    | inr q ↦
+        count_on l (after Install s l e) (λ z. let i = a.2.0 in cc) (rw q (λ z. let i = a.2.0 in cc)) (rw q refl)
+        (rw q refl) (rw q refl) (rw q refl)
+  ]
+  count_step s c l e LookSelf t a = elim (cases_Bool (e.found == given l.phase)) [
+    | inl q ↦
+        count_on l (after LookSelf s l e) (λ z. let i = a.2.0 in cc) (rw q (λ z. let i = a.2.0 in cc))
+        (rw q refl) (rw q refl) (rw q refl) (rw q refl)
+    | inr q ↦ count_out s c l (after LookSelf s l e) t (rw q refl) (rw q refl)
+  ]
+  count_step s c l e ToValidating t a = elim (cases_Bool (e.found == 1)) [
+    | inl q ↦
+        count_on l (after ToValidating s l e) (λ z. let i = a.2.0 in grind arith) (rw q (λ z. cc)) (rw q refl)
+        (rw q refl) (rw q refl) (rw q refl)
+    | inr q ↦ count_out s c l (after ToValidating s l e) t (rw q refl) (rw q refl)
+  ]
+  count_step s c l e Pause t a = elim (cases_Bool (e.found == 1)) [
+    | inl q ↦
+        count_on l (after Pause s l e) (λ z. let i = a.2.0 in cc) (rw q (λ z. cc)) (rw q refl) (rw q refl)
+        (rw q refl) (rw q refl)
+    | inr q ↦ count_out s c l (after Pause s l e) t (rw q refl) (rw q refl)
+  ]
+  count_step s c l e Resume t a = elim (cases_Bool (e.found == 2)) [
+    | inl q ↦
+        count_on l (after Resume s l e) (λ z. let i = a.2.0 in cc) (rw q (λ z. cc)) (rw q refl) (rw q refl)
+        (rw q refl) (rw q refl)
+    | inr q ↦ count_out s c l (after Resume s l e) t (rw q refl) (rw q refl)
+  ]
   count_step s c l e PutNew t a = let x = in_attempt l.phase l (λ z. let i = a.2.0 in cc) in
       let y = small l.high_put in let z : one_if l.high_put ≡ 1 = ap one_if a.2.3 in omega arith
   count_step s c l e PutHigh t a = let x = in_attempt l.phase l (λ z. let i = a.2.0 in grind arith) in
@@ -246,7 +239,16 @@ pub record Once (s : Shape) (es : List Event) (f : LocalState → ℕ) (w : ℕ 
 once_step : {s : Shape} {es : List Event} (e : Event) {f : LocalState → ℕ} {w : ℕ → Word} {m : ℕ} →
     ((m n : ℕ) → place s (w m) ≡ place s (w n) → m ≡ n) → ((c : ℕ) → f (local s es c) ≤ f (local s (e ∷ es) c)) →
     (is_put s es e (w m) ≡ true → Puts s es e f w) → Once s es f w m → Once s (e ∷ es) f w m
-once_step {s = s} {es = es} e {f = f} {w = w} {m = m} same grows puts ih = go (cases_Bool (is_put s es e (w m)))
+once_step {s = s} {es = es} e {f = f} {w = w} {m = m} same grows puts ih = elim (cases_Bool (is_put s es e (w m))) [
+  | inl q ↦ put q (puts q)
+  | inr q ↦
+      let count : put_count s (e ∷ es) (w m) ≡ put_count s es (w m) = rw q refl in
+      let before = ih.once in
+      record {
+        once = omega arith;
+        not_yet = λ h. let more = grows (m / s.locators) in count ∙ ih.not_yet (omega arith);
+      }
+]
   where
     put : is_put s es e (w m) ≡ true → Puts s es e f w → Once s (e ∷ es) f w m
     put q p =
@@ -263,16 +265,6 @@ once_step {s = s} {es = es} e {f = f} {w = w} {m = m} same grows puts ih = go (c
         ap (λ c. f (local s (e ∷ es) c)) caller ∙ ap f (local_own s es e) ∙ p.up in
         let count : put_count s (e ∷ es) (w m) ≡ put_count s es (w m) + 1 = rw q refl in
         record { once = omega arith; not_yet = λ h. absurd (omega arith) }
-
-    go : (is_put s es e (w m) ≡ true) ⊎ (is_put s es e (w m) ≡ false) → Once s (e ∷ es) f w m
-    go (inl q) = put q (puts q)
-    go (inr q) =
-        let count : put_count s (e ∷ es) (w m) ≡ put_count s es (w m) = rw q refl in
-        let before = ih.once in
-        record {
-          once = omega arith;
-          not_yet = λ h. let more = grows (m / s.locators) in count ∙ ih.not_yet (omega arith);
-        }
 
 part_once : {extra : Bool → ℕ} {k : Kind} {w : ℕ → Word} → Part extra k w → (s : Shape) (es : List Event) (m : ℕ) →
     ((l : LocalState) (e : Event) → AllowedAs e.kind s l e → e.place ≡ place s (w m) → target e.kind s l e ≡ w m) →

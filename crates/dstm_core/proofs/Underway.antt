@@ -217,7 +217,18 @@ pub live_under_way : {s : Shape} {es : List Event} → Core s es → {a : ℕ} �
     ((local s es (a / s.attempts)).phase ≢ Outside) × (own_attempt s (local s es (a / s.attempts)) ≡ a)
     × (a / s.attempts < s.callers)
 live_under_way {s = s} {es = es} core {a = a} b live =
-    go (finished_or_under_way s es core (a / s.attempts) (a % s.attempts) below b.begun)
+    elim (finished_or_under_way s es core (a / s.attempts) (a % s.attempts) below b.begun) [
+      | inl f ↦ absurd (let x = rw parts at f in omega arith)
+      | inr u ↦
+          let x = own_place s (a / s.attempts) (local s es (a / s.attempts)) (static s es core
+          (a / s.attempts)) below u.inside in
+          let y = u.last in (
+            u.inside,
+            x.0 ∙ ap (λ n. a / s.attempts * s.attempts + n) (omega arith)
+                ∙ parts,
+            below,
+          )
+    ]
   where
     parts : a / s.attempts * s.attempts + a % s.attempts ≡ a
     parts = omega (arith, div-add-mod a s.attempts)
@@ -230,20 +241,6 @@ live_under_way {s = s} {es = es} core {a = a} b live =
         at_size (inr x) =
             let y = mul-le s.callers s.attempts (a / s.attempts) s.attempts x (omega arith) in
             let z = b.below in let w = parts in absurd (omega arith)
-
-    go : (4 ≤ word s es (StatusWord (a / s.attempts * s.attempts + a % s.attempts)))
-        ⊎ IsUnderWay s es (a / s.attempts) (a % s.attempts) →
-        ((local s es (a / s.attempts)).phase ≢ Outside) × (own_attempt s (local s es (a / s.attempts)) ≡ a)
-        × (a / s.attempts < s.callers)
-    go (inl f) = absurd (let x = rw parts at f in omega arith)
-    go (inr u) = let x = own_place s (a / s.attempts) (local s es (a / s.attempts)) (static s es core
-        (a / s.attempts)) below u.inside in
-        let y = u.last in (
-          u.inside,
-          x.0 ∙ ap (λ n. a / s.attempts * s.attempts + n) (omega arith)
-              ∙ parts,
-          below,
-        )
 
 -- ---- an attempt under way
 

@@ -20,12 +20,8 @@ resolution_how s l e k q = grind (arith, nat_tests)
 -- any other leaves the resolution, or drops it
 pub unlooked : (P : Option Resolution → Type 0) (s : Shape) (l : LocalState) (e : Event) (k : Kind) →
     is_look k ≡ false → P None → P l.resolution → P (after k s l e).resolution
-unlooked P s l e k q none h = go (resolution_how s l e k q)
-  where
-    go : ((after k s l e).resolution ≡ l.resolution) ⊎ ((after k s l e).resolution ≡ None) →
-        P (after k s l e).resolution
-    go (inl x) = subst P (sym x) h
-    go (inr x) = subst P (sym x) none
+unlooked P s l e k q none h =
+    elim (resolution_how s l e k q) [ inl x ↦ subst P (sym x) h | inr x ↦ subst P (sym x) none ]
 
 -- kinds that change what is recorded of reads
 abbrev pub records : Kind → Bool
