@@ -24,12 +24,10 @@ written_in : (ws : List (ℕ × Val)) (i : ℕ) → i < length ws → write_of (
 written_in [] i h q = omega arith
 written_in (w ∷ ws) zero h q = let bad : Some w.1 ≡ None = rw (eq-eqb w.0 w.0 refl) at q in cc
 written_in (w ∷ ws) (suc i) h q =
-    go (cases_eq w.0 (slice_index_or ws i no_write).0) (λ z. written_in ws i (omega arith) z)
-  where
-    go : (w.0 ≡ (slice_index_or ws i no_write).0) ⊎ (w.0 ≡ (slice_index_or ws i no_write).0 → ⊥) →
-        (write_of (slice_index_or ws i no_write).0 ws ≡ None → ⊥) → ⊥
-    go (inl z) ih = let bad : Some w.1 ≡ None = rw (eq-eqb w.0 (slice_index_or ws i no_write).0 z) at q in cc
-    go (inr z) ih = ih (rw (ne_eqb w.0 (slice_index_or ws i no_write).0 z) at q)
+    elim (cases_eq w.0 (slice_index_or ws i no_write).0) [
+      | inl z ↦ let bad : Some w.1 ≡ None = rw (eq-eqb w.0 (slice_index_or ws i no_write).0 z) at q in cc
+      | inr z ↦ written_in ws i (omega arith) (rw (ne_eqb w.0 (slice_index_or ws i no_write).0 z) at q)
+    ]
 
 unnamed_at : (o : ℕ) (ws : List (ℕ × Val)) (i : ℕ) → IsUnnamed o ws → i < length ws →
     (slice_index_or ws i no_write).0 ≢ o
@@ -59,14 +57,13 @@ module _ (t : Table) (l : LocalState) (s : Static t l) (h : Unheld l) where
   marked_unheld : (f : Hold → Hold) → ((h : Hold) → (f h).object ≡ h.object) → (p : ℕ) →
       is_some (hold_of p l.holds) ≡ true → (o : ℕ) → write_of o (or_writes l.writes) ≡ None →
       hold_of o (marked f p l.holds) ≡ None
-  marked_unheld f same p held o q = go (cases_eq p o)
-    where
-      go : (p ≡ o) ⊎ (p ≡ o → ⊥) → hold_of o (marked f p l.holds) ≡ None
-      go (inl z) =
-          let some : is_some (hold_of o l.holds) ≡ true = subst (λ n. is_some (hold_of n l.holds) ≡ true) z held in
-          let none : is_some (hold_of o l.holds) ≡ false = ap is_some (h o q) in
-          absurd (cc)
-      go (inr z) = marked_other f same o p l.holds z ∙ h o q
+  marked_unheld f same p held o q = elim (cases_eq p o) [
+    | inl z ↦
+        let some : is_some (hold_of o l.holds) ≡ true = subst (λ n. is_some (hold_of n l.holds) ≡ true) z held in
+        let none : is_some (hold_of o l.holds) ≡ false = ap is_some (h o q) in
+        absurd (cc)
+    | inr z ↦ marked_other f same o p l.holds z ∙ h o q
+  ]
 
   unheld_step : (e : Event) (k : Kind) → AllowedAs k t l e → Unheld (after k t l e)
   unheld_step e Sample a = λ o _. refl
@@ -248,7 +245,8 @@ fresh t will [] run foretold one c = λ b. record {
 fresh t will (e ∷ es) run foretold one c =
     runs.callers tl2 t es e (λ c l. c < t.callers → Fresh will (e ∷ es) l)
     (λ b. fresh_by t e run.1 (static t es run.0 e.caller)
-    (free_word t will es run.0 foretold.0 one e.caller b) (fresh t will es run.0 foretold.0 one e.caller b) refl run.1.allowed)
+    (free_word t will es run.0 foretold.0 one e.caller b) (fresh t will es run.0 foretold.0 one e.caller b) refl
+    run.1.allowed)
     (λ c other b. absurd (let a = run.1.caller in other (omega arith))) c
 
 -- ---- its events

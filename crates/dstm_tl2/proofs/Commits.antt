@@ -89,7 +89,8 @@ entry_stands t will q d more k w =
     told_among (commits_at will) (entry_at t) more d q (and_from (is_draw d.kind) (will d.found) k w)
 
 -- so does that of an attempt that is valid before
-pub valid_stands : (t : Table) {run : List Event} (early between : List Event) (c : ℕ) → Run t run → IsPastOf (between ++ early) run →
+pub valid_stands : (t : Table) {run : List Event} (early between : List Event) (c : ℕ) → Run t run → IsPastOf
+    (between ++ early) run →
     is_valid (local t early c) ≡ true → Contains (reverse (history t (will_of t run) (between ++ early)))
     (entry_of (local t early c) (or_writes (local t early c).writes))
 valid_stands t {run = run} early between c r p v = go (local t early c).drawn refl (valid_drawn (local t early c) v)

@@ -55,17 +55,15 @@ done_other t es e c q = done_still t es e c (other_commits t es e c q)
 -- IT IS TOLD BY ITS OWN EVENTS.
 pub done_own : (t : Table) (es : List Event) (c : ℕ) → done_by t (events_of c es) c ≡ done_by t es c
 done_own t [] c = refl
-done_own t (e ∷ es) c = go (cases_Bool (e.caller == c)) (done_own t es c)
-  where
-    go : (e.caller == c ≡ true) ⊎ (e.caller == c ≡ false) → done_by t (events_of c es) c ≡ done_by t es c →
-        done_by t (events_of c (e ∷ es)) c ≡ done_by t (e ∷ es) c
-    go (inl q) ih =
-        ap (λ xs. done_by t xs c) (own_first e es c q)
-        ∙ done_mine t (events_of c es) e c q
-        ∙ ap (λ l. more_done t c e l (done_by t (events_of c es) c)) (runs.local-events_of tl2 t es c)
-        ∙ ap (more_done t c e (local t es c)) ih
-        ∙ sym (done_mine t es e c q)
-    go (inr q) ih = ap (λ xs. done_by t xs c) (own_other e es c q) ∙ ih ∙ sym (done_other t es e c q)
+done_own t (e ∷ es) c = elim (cases_Bool (e.caller == c)) [
+  | inl q ↦
+      ap (λ xs. done_by t xs c) (own_first e es c q)
+      ∙ done_mine t (events_of c es) e c q
+      ∙ ap (λ l. more_done t c e l (done_by t (events_of c es) c)) (runs.local-events_of tl2 t es c)
+      ∙ ap (more_done t c e (local t es c)) (done_own t es c)
+      ∙ sym (done_mine t es e c q)
+  | inr q ↦ ap (λ xs. done_by t xs c) (own_other e es c q) ∙ (done_own t es c) ∙ sym (done_other t es e c q)
+]
 
 -- so equal own events tell the same
 pub same_done_by : (t : Table) (es fs : List Event) (c : ℕ) → events_of c es ≡ events_of c fs →
@@ -98,11 +96,10 @@ failed_invalid l q =
 
 -- an attempt that has told no writes has not drawn
 pub untold_invalid : (t : Table) (l : LocalState) → Static t l → l.writes ≡ None → is_valid l ≡ false
-untold_invalid t l s q = go (cases_Bool (is_valid l))
-  where
-    go : (is_valid l ≡ true) ⊎ (is_valid l ≡ false) → is_valid l ≡ false
-    go (inl v) = absurd (let x = s.told (valid_drawn l v) in let y : is_some l.writes ≡ false = ap is_some q in cc)
-    go (inr v) = v
+untold_invalid t l s q = elim (cases_Bool (is_valid l)) [
+  | inl v ↦ absurd (let x = s.told (valid_drawn l v) in let y : is_some l.writes ≡ false = ap is_some q in cc)
+  | inr v ↦ v
+]
 
 -- what is not valid stays so by any other event
 pub stays_invalid : (t : Table) (l : LocalState) (e : Event) (k : Kind) → Static t l → AllowedAs k t l e →

@@ -28,13 +28,10 @@ draw_undrawn t l e k d a = absurd (cc)
 seen_recorded : (t : Table) (will : ℕ → Bool) (p : List Event) (rs : List Read) (o : ℕ) → Seen t will p rs →
     is_some (read_of o rs) ≡ true → recorded o rs ≡ 2 * version_at will p o
 seen_recorded t will p [] o s i = absurd (cc)
-seen_recorded t will p (r ∷ rs) o s i = go (cases_eq r.object o) (λ j. seen_recorded t will p rs o s.2 j)
-  where
-    go : (r.object ≡ o) ⊎ (r.object ≡ o → ⊥) →
-        (is_some (read_of o rs) ≡ true → recorded o rs ≡ 2 * version_at will p o) →
-        recorded o (r ∷ rs) ≡ 2 * version_at will p o
-    go (inl q) ih = rw (recorded, eq-eqb r.object o q) (s.0 ∙ ap (λ o. 2 * version_at will p o) q)
-    go (inr q) ih = rw (recorded, ne_eqb r.object o q) (ih (rw (ne_eqb r.object o q) at i))
+seen_recorded t will p (r ∷ rs) o s i = elim (cases_eq r.object o) [
+  | inl q ↦ rw (recorded, eq-eqb r.object o q) (s.0 ∙ ap (λ o. 2 * version_at will p o) q)
+  | inr q ↦ rw (recorded, ne_eqb r.object o q) (seen_recorded t will p rs o s.2 (rw (ne_eqb r.object o q) at i))
+]
 
 held_some : (x : Option Hold) (v : Val) → hold_value x ≡ Some v → (h : Hold) × (x ≡ Some h)
 held_some None v q = absurd (cc)
@@ -67,13 +64,12 @@ module _ (t : Table) (will : ℕ → Bool) (q : List Event) (d : Event) (run : R
 
       go : (h : Hold) → hold_of o l.holds ≡ Some h → Stands t will q o → version_at will q o ≡ version_at will place o
       go h k (free g) = absurd (let n = g.nobody d.caller in cc)
-      go h k (waits c j held x) = by (cases_eq d.caller c)
-        where
-          by : (d.caller ≡ c) ⊎ (d.caller ≡ c → ⊥) → version_at will q o ≡ version_at will place o
-          by (inl z) =
-              let same_hold : Some h ≡ Some j = sym k ∙ ap (λ c. hold_of o (local t q c).holds) z ∙ held.holds in
-              same h k (ap (λ (h : Hold). h.word) (let y : h ≡ j = cc in y) ∙ x.version)
-          by (inr z) = absurd (let n = held.others d.caller z in cc)
+      go h k (waits c j held x) = elim (cases_eq d.caller c) [
+        | inl z ↦
+            let same_hold : Some h ≡ Some j = sym k ∙ ap (λ c. hold_of o (local t q c).holds) z ∙ held.holds in
+            same h k (ap (λ (h : Hold). h.word) (let y : h ≡ j = cc in y) ∙ x.version)
+        | inr z ↦ absurd (let n = held.others d.caller z in cc)
+      ]
       go h k (commits c j n held x) = absurd (by (cases_eq d.caller c))
         where
           by : (d.caller ≡ c) ⊎ (d.caller ≡ c → ⊥) → ⊥

@@ -23,11 +23,10 @@ in_order t run r =
   where
     draws : (e : Event) (es : List Event) → Run t (e ∷ es) → commits_at (will_of t run) e es ≡ true →
         (e.found ≡ clock t es) × (e.found < clock t (e ∷ es))
-    draws e es now h = go (clock_step t es e now.1)
-      where
-        go : Draws t es e e.kind ⊎ NoDraw t es e e.kind → (e.found ≡ clock t es) × (e.found < clock t (e ∷ es))
-        go (inl x) = let found = x.found in let up = x.rises in (x.found, omega arith)
-        go (inr x) = absurd (let no = x.kind in let yes = (and_parts (is_draw e.kind) (will_of t run e.found) h).0 in cc)
+    draws e es now h = elim (clock_step t es e now.1) [
+      | inl x ↦ let found = x.found in let up = x.rises in (x.found, omega arith)
+      | inr x ↦ absurd (let no = x.kind in let yes = (and_parts (is_draw e.kind) (will_of t run e.found) h).0 in cc)
+    ]
 
 -- what a caller has committed stands in the history
 pub done_stands : (t : Table) (holds : List Val → Type 0) (later before : List Event) (c : ℕ) (x : Committed) →

@@ -116,7 +116,8 @@ drawn_step will c l m ds n p d a stays commits = go (cases_Bool (is_valid l)) (c
 
 -- A Draw makes an attempt pending or valid, the last good Check makes it valid, a Sample leaves it, and nothing else
 -- changes this.
-own_step : {t : Table} {will : ℕ → Bool} (c : ℕ) {l : LocalState} {e : Event} {k : Kind} {xs : List Committed} (ds : List Committed) →
+own_step : {t : Table} {will : ℕ → Bool} (c : ℕ) {l : LocalState} {e : Event} {k : Kind} {xs : List Committed}
+    (ds : List Committed) →
     Static t l → AllowedAs k t l e → Turn t e k l (after k t l e) → Ends will l (after k t l e) k →
     xs ≡ pending will c l ++ ds →
     cond (is_draw k && will e.found) (record { caller = c; number = e.found; entry = entry_of l (writes_of k) } ∷ xs) xs
@@ -187,11 +188,8 @@ own_step {t = t} {will = will} c {l = l} {e = e} {k = k} {xs = xs} ds s a (drew 
 -- what is not valid is no attempt that commits so far
 invalid_not_yet : (t : Table) (es : List Event) (c n : ℕ) → Run t es → (local t es c).drawn ≡ Some n →
     is_valid (local t es c) ≡ false → will_of t es n ≡ false
-invalid_not_yet t es c n run d v = go (cases_Bool (will_of t es n))
-  where
-    go : (will_of t es n ≡ true) ⊎ (will_of t es n ≡ false) → will_of t es n ≡ false
-    go (inl w) = let is = (shown t es n run w).valid c d in absurd (cc)
-    go (inr w) = w
+invalid_not_yet t es c n run d v =
+    elim (cases_Bool (will_of t es n)) [ inl w ↦ let is = (shown t es n run w).valid c d in absurd (cc) | inr w ↦ w ]
 
 not_both : {d : Option ℕ} (n : ℕ) → d ≡ None → d ≡ Some n → ⊥
 not_both n p q = cc

@@ -32,15 +32,13 @@ state_length t will es = orders.state_length (history t will es) t.start
 with_value : (ws : List (ℕ × Val)) (m : List Val) (o : ℕ) → o < length m →
     value_at (with_writes m ws) o ≡ value_or (write_of o ws) (value_at m o)
 with_value [] m o h = refl
-with_value (w ∷ ws) m o h = go (cases_eq w.0 o) (with_value ws m o h)
+with_value (w ∷ ws) m o h = elim (cases_eq w.0 o) [
+  | inl q ↦ rw (q, eq-eqb o o refl, get_or-set_same, long) refl
+  | inr q ↦ let apart : o ≢ w.0 = λ z. q (sym z) in rw (ne_eqb w.0 o q, get_or-set_other) (with_value ws m o h)
+]
   where
     long : o < length (with_writes m ws)
     long = rw (with_length ws m) h
-
-    go : (w.0 ≡ o) ⊎ (w.0 ≡ o → ⊥) → value_at (with_writes m ws) o ≡ value_or (write_of o ws) (value_at m o) →
-        value_at (with_writes m (w ∷ ws)) o ≡ value_or (write_of o (w ∷ ws)) (value_at m o)
-    go (inl q) ih = rw (q, eq-eqb o o refl, get_or-set_same, long) refl
-    go (inr q) ih = let apart : o ≢ w.0 = λ z. q (sym z) in rw (ne_eqb w.0 o q, get_or-set_other) ih
 
 -- an event changes the version of an object and its value only by a draw of an attempt that writes it and commits
 pub record Still (t : Table) (will : ℕ → Bool) (es : List Event) (e : Event) (o : ℕ) : Type 0 where
@@ -134,14 +132,12 @@ unchanged_from : (t : Table) (will : ℕ → Bool) (more past : List Event) (o :
     o < objects t → version_at will (more ++ past) o ≤ clock t past → Unchanged t will past (more ++ past) o
 unchanged_from t will [] past o run b h = record { version = refl; value = refl }
 unchanged_from t will (e ∷ more) past o run b h =
-    go (version_how t will (more ++ past) e o run b) (λ k. unchanged_from t will more past o run.0 b k)
-  where
-    go : Still t will (more ++ past) e o ⊎ (clock t (more ++ past) < version_at will (e ∷ (more ++ past)) o) →
-        (version_at will (more ++ past) o ≤ clock t past → Unchanged t will past (more ++ past) o) →
-        Unchanged t will past (e ∷ (more ++ past)) o
-    go (inl s) ih = let v = s.version in let k = ih (omega arith) in
-        record { version = k.version ∙ sym s.version; value = k.value ∙ sym s.value }
-    go (inr s) ih = absurd (let c = clock_more t more past run.0 in omega arith)
+    elim (version_how t will (more ++ past) e o run b) [
+      | inl s ↦
+          let v = s.version in let k = unchanged_from t will more past o run.0 b (omega arith) in
+          record { version = k.version ∙ sym s.version; value = k.value ∙ sym s.value }
+      | inr s ↦ absurd (let c = clock_more t more past run.0 in omega arith)
+    ]
 
 pub unchanged : (t : Table) (will : ℕ → Bool) {past es : List Event} (o : ℕ) → IsPastOf past es → Run t es →
     o < objects t → version_at will es o ≤ clock t past → Unchanged t will past es o

@@ -117,8 +117,10 @@ first_given t (x ∷ hs) e h =
 
 -- something of the first of them is written, or it gets its lock word
 pub data Written (t : Table) (hs : List Hold) (e : Event) : Type 0 where
-  puts_low : (e.kind ≡ WriteLow) → (writing (marked with_low (low_object t e.place) hs) + 1 ≤ writing hs) → Written t hs e
-  puts_high : (e.kind ≡ WriteHigh) → (writing (marked with_high (high_object t e.place) hs) + 1 ≤ writing hs) → Written t hs e
+  puts_low : (e.kind ≡ WriteLow) → (writing (marked with_low (low_object t e.place) hs) + 1 ≤ writing hs) →
+      Written t hs e
+  puts_high : (e.kind ≡ WriteHigh) → (writing (marked with_high (high_object t e.place) hs) + 1 ≤ writing hs) →
+      Written t hs e
   frees : (e.kind ≡ Unlock) → (writing (without e.place hs) + 1 ≤ writing hs) → Written t hs e
 
 pub first_written : (t : Table) (n : ℕ) (hs : List Hold) (e : Event) → IsDue t (in_writing_back n hs) e → Written t hs e
@@ -206,7 +208,22 @@ module _ (t : Table) (w : Work) (l : LocalState) (e : Event) where
   -- a lock, or what comes behind the last one
   takes_locked : (n : ℕ) (ws : List (ℕ × Val)) → l.locked ≤ length ws → IsDue t (in_locking ws w l) e →
       locking ws w l ≤ n → Takes t w l e n e.kind
-  takes_locked n ws counted due enough = go (cases_Bool (l.locked == length ws))
+  takes_locked n ws counted due enough = elim (cases_Bool (l.locked == length ws)) [
+    | inl q ↦ rest w (rw q at due) enough
+    | inr q ↦
+        let is : e.kind ≡ locks ws = rw q at due in
+        let left = less l.locked (length ws) counted (eqb-false l.locked (length ws) q) in
+        of_kind n is
+        (cond_both (e.found == e.expected) (lock l ws) (record l { look = None; writes = Some ws; failed = true })
+        (λ (m : LocalState). ((if m.failed then length m.holds else locking ws w m) + 1 ≤ n) × (m.locked ≤ length ws))
+        (λ _. one w left enough (lock l ws) (inl (
+          refl,
+          refl,
+          length-append l.holds (new_hold l (next_write l ws) ∷ []),
+          writing_snoc l.holds l (next_write l ws),
+        )))
+        (λ _. one w left enough (record l { look = None; writes = Some ws; failed = true }) (inr (refl, refl, refl))))
+  ]
     where
       less : (a b : ℕ) → a ≤ b → (a ≡ b → ⊥) → a < b
       less a b h other = omega arith
@@ -243,22 +260,6 @@ module _ (t : Table) (w : Work) (l : LocalState) (e : Event) where
               let more = x.0 in let reads = ap length x.1 in let cost = x.3 in omega arith
           by v enough = let more = x.0 in let few = x.2 in omega arith
 
-      go : (l.locked == length ws ≡ true) ⊎ (l.locked == length ws ≡ false) → Takes t w l e n e.kind
-      go (inl q) = rest w (rw q at due) enough
-      go (inr q) =
-          let is : e.kind ≡ locks ws = rw q at due in
-          let left = less l.locked (length ws) counted (eqb-false l.locked (length ws) q) in
-          of_kind n is
-          (cond_both (e.found == e.expected) (lock l ws) (record l { look = None; writes = Some ws; failed = true })
-          (λ (m : LocalState). ((if m.failed then length m.holds else locking ws w m) + 1 ≤ n) × (m.locked ≤ length ws))
-          (λ _. one w left enough (lock l ws) (inl (
-            refl,
-            refl,
-            length-append l.holds (new_hold l (next_write l ws) ∷ []),
-            writing_snoc l.holds l (next_write l ws),
-          )))
-          (λ _. one w left enough (record l { look = None; writes = Some ws; failed = true }) (inr (refl, refl, refl))))
-
 -- ---- the calls
 
 -- how much of a call is left
@@ -290,45 +291,40 @@ takes_first t (Committing ws) l e can due =
 -- and behind an event of this kind
 takes_next : (t : Table) (w : Work) (l : LocalState) (newest e : Event) (k : Kind) → Counted k l →
     IsDue t (next k newest w l) e → Takes t w l e (left_next k w l) e.kind
-takes_next t w l newest e LookLock c due = go (cases_Bool (is_readable l.sample newest.found))
-  where
-    go : (is_readable l.sample newest.found ≡ true) ⊎ (is_readable l.sample newest.found ≡ false) →
-        Takes t w l e 3 e.kind
-    go (inl q) = let is : e.kind ≡ LookLow = rw q at due in of_kind t w l e 3 is (omega arith, tt)
-    go (inr q) = let none : ⊥ = rw q at due in absurd none
+takes_next t w l newest e LookLock c due = elim (cases_Bool (is_readable l.sample newest.found)) [
+  | inl q ↦ let is : e.kind ≡ LookLow = rw q at due in of_kind t w l e 3 is (omega arith, tt)
+  | inr q ↦ let none : ⊥ = rw q at due in absurd none
+]
 takes_next t w l newest e LookLow c due = of_kind t w l e 2 due (omega arith, tt)
 takes_next t w l newest e LookHigh c due = of_kind t w l e 1 due (omega arith, tt)
 takes_next t w l newest e LookAgain c due = absurd due
-takes_next t w l newest e (Lock ws) c due = go (cases_Bool l.failed)
-  where
-    go : (l.failed ≡ true) ⊎ (l.failed ≡ false) → Takes t w l e (left_next (Lock ws) w l) e.kind
-    go (inl q) =
-        subst (λ n. Takes t w l e n e.kind) (sym (cond-true l.failed (length l.holds) (locking ws.value w l) q))
-        (takes_given t w l e (length l.holds) q (rw q at due) (omega arith))
-    go (inr q) =
-        subst (λ n. Takes t w l e n e.kind) (sym (cond-false l.failed (length l.holds) (locking ws.value w l) q))
-        (takes_locked t w l e (locking ws.value w l) ws.value c (rw q at due) (omega arith))
+takes_next t w l newest e (Lock ws) c due = elim (cases_Bool l.failed) [
+  | inl q ↦
+      subst (λ n. Takes t w l e n e.kind) (sym (cond-true l.failed (length l.holds) (locking ws.value w l) q))
+      (takes_given t w l e (length l.holds) q (rw q at due) (omega arith))
+  | inr q ↦
+      subst (λ n. Takes t w l e n e.kind) (sym (cond-false l.failed (length l.holds) (locking ws.value w l) q))
+      (takes_locked t w l e (locking ws.value w l) ws.value c (rw q at due) (omega arith))
+]
 takes_next t w l newest e (Draw ws) c due = takes_checked t w l e (checking l) c due (omega arith)
-takes_next t w l newest e Check c due = go (cases_Bool l.failed)
-  where
-    go : (l.failed ≡ true) ⊎ (l.failed ≡ false) → Takes t w l e (left_next Check w l) e.kind
-    go (inl q) =
-        subst (λ n. Takes t w l e n e.kind) (sym (cond-true l.failed (length l.holds) (checking l) q))
-        (takes_given t w l e (length l.holds) q (rw q at due) (omega arith))
-    go (inr q) =
-        subst (λ n. Takes t w l e n e.kind) (sym (cond-false l.failed (length l.holds) (checking l) q))
-        (takes_checked t w l e (checking l) c (rw q at due) (omega arith))
+takes_next t w l newest e Check c due = elim (cases_Bool l.failed) [
+  | inl q ↦
+      subst (λ n. Takes t w l e n e.kind) (sym (cond-true l.failed (length l.holds) (checking l) q))
+      (takes_given t w l e (length l.holds) q (rw q at due) (omega arith))
+  | inr q ↦
+      subst (λ n. Takes t w l e n e.kind) (sym (cond-false l.failed (length l.holds) (checking l) q))
+      (takes_checked t w l e (checking l) c (rw q at due) (omega arith))
+]
 takes_next t w l newest e WriteLow c due = takes_written t w l e (writing l.holds) (or_zero l.drawn) due (omega arith)
 takes_next t w l newest e WriteHigh c due = takes_written t w l e (writing l.holds) (or_zero l.drawn) due (omega arith)
-takes_next t w l newest e Unlock c due = go (cases_Bool l.failed)
-  where
-    go : (l.failed ≡ true) ⊎ (l.failed ≡ false) → Takes t w l e (left_next Unlock w l) e.kind
-    go (inl q) =
-        subst (λ n. Takes t w l e n e.kind) (sym (cond-true l.failed (length l.holds) (writing l.holds) q))
-        (takes_given t w l e (length l.holds) q (rw q at due) (omega arith))
-    go (inr q) =
-        subst (λ n. Takes t w l e n e.kind) (sym (cond-false l.failed (length l.holds) (writing l.holds) q))
-        (takes_written t w l e (writing l.holds) (or_zero l.drawn) (rw q at due) (omega arith))
+takes_next t w l newest e Unlock c due = elim (cases_Bool l.failed) [
+  | inl q ↦
+      subst (λ n. Takes t w l e n e.kind) (sym (cond-true l.failed (length l.holds) (writing l.holds) q))
+      (takes_given t w l e (length l.holds) q (rw q at due) (omega arith))
+  | inr q ↦
+      subst (λ n. Takes t w l e n e.kind) (sym (cond-false l.failed (length l.holds) (writing l.holds) q))
+      (takes_written t w l e (writing l.holds) (or_zero l.drawn) (rw q at due) (omega arith))
+]
 takes_next t w l newest e Enrol c due = absurd due
 takes_next t w l newest e Sample c due = absurd due
 
@@ -356,14 +352,12 @@ takes_begun t newest l e due = go (cases_Bool (has_sampled newest)) (cases_Bool 
 takes : (task : Task) (t : Table) (newest : Option Event) (l : LocalState) (e : Event) → Within task newest l →
     IsDue t (due task t newest l) e →
     (left task (Some e) (after e.kind t l e) + 1 ≤ left task newest l) × Within task (Some e) (after e.kind t l e)
-takes Enrolling t newest l e c due = go (cases_Bool (is_some l.number))
-  where
-    go : (is_some l.number ≡ true) ⊎ (is_some l.number ≡ false) →
-        (one_unless (is_some (after e.kind t l e).number) + 1 ≤ one_unless (is_some l.number)) × Unit {0}
-    go (inl q) = let none : ⊥ = rw q at due in absurd none
-    go (inr q) =
-        let is : e.kind ≡ Enrol = rw q at due in
-        (rw q (subst (λ k. one_unless (is_some (after k t l e).number) + 1 ≤ 1) (sym is) (omega arith)), tt)
+takes Enrolling t newest l e c due = elim (cases_Bool (is_some l.number)) [
+  | inl q ↦ let none : ⊥ = rw q at due in absurd none
+  | inr q ↦
+      let is : e.kind ≡ Enrol = rw q at due in
+      (rw q (subst (λ k. one_unless (is_some (after k t l e).number) + 1 ≤ 1) (sym is) (omega arith)), tt)
+]
 takes Beginning t newest l e c due = (takes_begun t newest l e due, tt)
 takes Returning t newest l e c due =
     let given = first_given t l.holds e due in

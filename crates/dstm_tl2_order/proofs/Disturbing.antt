@@ -32,14 +32,12 @@ unreadable sample word h free =
 
 ends_by : (l : LocalState) (e : Event) {k : Kind} → e.kind ≡ k → fails k l e ≡ true →
     (finds_locked l e ≡ true) ⊎ ((finds_newer l e ≡ true) ⊎ (finds_changed l e ≡ true))
-ends_by l e {k = LookLock} is f = by (cases_Bool (is_locked e.found))
-  where
-    by : (is_locked e.found ≡ true) ⊎ (is_locked e.found ≡ false) →
-        (finds_locked l e ≡ true) ⊎ ((finds_newer l e ≡ true) ⊎ (finds_changed l e ≡ true))
-    by (inl q) = inl (and_from (is_first_or_lock e.kind) (is_locked e.found) (ap is_first_or_lock is) q)
-    by (inr q) =
-        inr (inl (and_from (is_look_lock e.kind) (nat_lt (2 * l.sample + 1) e.found) (ap is_look_lock is)
-        (unreadable l.sample e.found f q)))
+ends_by l e {k = LookLock} is f = elim (cases_Bool (is_locked e.found)) [
+  | inl q ↦ inl (and_from (is_first_or_lock e.kind) (is_locked e.found) (ap is_first_or_lock is) q)
+  | inr q ↦
+      inr (inl (and_from (is_look_lock e.kind) (nat_lt (2 * l.sample + 1) e.found) (ap is_look_lock is)
+      (unreadable l.sample e.found f q)))
+]
 ends_by l e {k = LookAgain} is f =
     inr (inr (and_from (is_later_look e.kind) (fails e.kind l e) (ap is_later_look is) (ap (λ k. fails k l e) is ∙ f)))
 ends_by l e {k = (Lock w)} is f =
@@ -73,23 +71,20 @@ pub own_stands : (c : ℕ) (log newer : List Event) (event : Event) (rest : List
     events_of c log ≡ newer ++ event ∷ rest → StandsAt c log event rest
 own_stands c [] [] event rest h = absurd (cc)
 own_stands c [] (e ∷ newer) event rest h = absurd (cc)
-own_stands c (f ∷ log) [] event rest h = by (cases_eq f.caller c) (own_stands c log [] event rest)
-  where
-    by : (f.caller ≡ c) ⊎ (f.caller ≡ c → ⊥) →
-        (events_of c log ≡ event ∷ rest → StandsAt c log event rest) → StandsAt c (f ∷ log) event rest
-    by (inl q) ih =
-        let both : f ∷ events_of c log ≡ event ∷ rest = rw (eq-eqb f.caller c q) at h in
-        let same : f ≡ event = cc in
-        let others : events_of c log ≡ rest = cc in
-        record {
-          own = ap (λ (e : Event). e.caller) (sym same) ∙ q;
-          later = [];
-          before = log;
-          whole = ap (λ (e : Event). e ∷ log) same;
-          rest = others;
-        }
-    by (inr n) ih =
-        stands_later f (ih (rw (ne_eqb f.caller c n) at h))
+own_stands c (f ∷ log) [] event rest h = elim (cases_eq f.caller c) [
+  | inl q ↦
+      let both : f ∷ events_of c log ≡ event ∷ rest = rw (eq-eqb f.caller c q) at h in
+      let same : f ≡ event = cc in
+      let others : events_of c log ≡ rest = cc in
+      record {
+        own = ap (λ (e : Event). e.caller) (sym same) ∙ q;
+        later = [];
+        before = log;
+        whole = ap (λ (e : Event). e ∷ log) same;
+        rest = others;
+      }
+  | inr n ↦ stands_later f (own_stands c log [] event rest (rw (ne_eqb f.caller c n) at h))
+]
 own_stands c (f ∷ log) (e ∷ newer) event rest h =
     by (cases_eq f.caller c) (own_stands c log (e ∷ newer) event rest) (own_stands c log newer event rest)
   where

@@ -29,17 +29,16 @@ behind t o l m a e {k = k} q d = subst (λ k. IsDue t (next k a (Opening o) m) e
 one_more : {t : Table} {l : LocalState} {o : ℕ} {es : List Event} (e : Event) → Looks t l o es →
     IsDue t (due_after (Doing (Opening o)) t l es) e → Looks t l o (e ∷ es)
 one_more e none d = one e d.0 d.1
-one_more {t = t} {l = l} {o = o} e (one a k p) d = go (cases_Bool (is_readable l.sample a.found))
+one_more {t = t} {l = l} {o = o} e (one a k p) d = elim (cases_Bool (is_readable l.sample a.found)) [
+  | inl q ↦ let is : e.kind ≡ LookLow = rw (same, q) at due in two e a is k p q
+  | inr q ↦ let no : ⊥ = rw (same, q) at due in absurd no
+]
   where
     due : IsDue t (if is_readable (after a.kind t l a).sample a.found then Just LookLow else Done) e
     due = behind t o l (after a.kind t l a) a e k d
 
     same : (after a.kind t l a).sample ≡ l.sample
     same = ap (λ k. (after k t l a).sample) k
-
-    go : (is_readable l.sample a.found ≡ true) ⊎ (is_readable l.sample a.found ≡ false) → Looks t l o (e ∷ a ∷ [])
-    go (inl q) = let is : e.kind ≡ LookLow = rw (same, q) at due in two e a is k p q
-    go (inr q) = let no : ⊥ = rw (same, q) at due in absurd no
 one_more {t = t} {l = l} {o = o} e (two b a kb k p q) d =
     three e b a (behind t o l (state_after t l (b ∷ a ∷ [])) b e kb d) kb k p q
 one_more {t = t} {l = l} {o = o} e (three c b a kc kb k p q) d =
@@ -80,28 +79,25 @@ recorded t m d k q =
 -- an event that fails is answered
 no_failure : (t : Table) (l : LocalState) (e : Event) (es : List Event) → answer_of t l (e ∷ es) ≡ None →
     fails e.kind (state_after t l es) e ≡ false
-no_failure t l e es answer = go (cases_Bool (fails e.kind (state_after t l es) e))
-  where
-    go : (fails e.kind (state_after t l es) e ≡ true) ⊎ (fails e.kind (state_after t l es) e ≡ false) →
-        fails e.kind (state_after t l es) e ≡ false
-    go (inl q) = absurd (let some : Some (cause e) ≡ None = rw q at answer in cc)
-    go (inr q) = q
+no_failure t l e es answer = elim (cases_Bool (fails e.kind (state_after t l es) e)) [
+  | inl q ↦ absurd (let some : Some (cause e) ≡ None = rw q at answer in cc)
+  | inr q ↦ q
+]
 
 -- a call that has ended, and goes on
 ended : {t : Table} {l : LocalState} {o : ℕ} {es : List Event} → Looks t l o es →
     due_after (Doing (Opening o)) t l es ≡ Done → answer_of t l es ≡ None → AreFourLooks t l o es
 ended none done answer = absurd (cc)
-ended {t = t} {l = l} {o = o} (one a k p) done answer = go (cases_Bool (is_readable l.sample a.found))
+ended {t = t} {l = l} {o = o} (one a k p) done answer = elim (cases_Bool (is_readable l.sample a.found)) [
+  | inl q ↦ absurd (let no : Just LookLow ≡ Done = rw (ap (λ k. (after k t l a).sample) k, q) at due in cc)
+  | inr q ↦ absurd (let no : true ≡ false = rw q at good in cc)
+]
   where
     due : (if is_readable (after a.kind t l a).sample a.found then Just LookLow else Done) ≡ Done
     due = subst (λ k. next k a (Opening o) (after a.kind t l a) ≡ Done) k done
 
     good : fails LookLock l a ≡ false
     good = subst (λ k. fails k l a ≡ false) k (no_failure t l a [] answer)
-
-    go : (is_readable l.sample a.found ≡ true) ⊎ (is_readable l.sample a.found ≡ false) → AreFourLooks t l o (a ∷ [])
-    go (inl q) = absurd (let no : Just LookLow ≡ Done = rw (ap (λ k. (after k t l a).sample) k, q) at due in cc)
-    go (inr q) = absurd (let no : true ≡ false = rw q at good in cc)
 ended {t = t} {l = l} {o = o} (two b a kb k p q) done answer =
     absurd (let no : next LookLow b (Opening o) (state_after t l (b ∷ a ∷ [])) ≡ Done =
     subst (λ k. next k b (Opening o) (state_after t l (b ∷ a ∷ [])) ≡ Done) kb done in cc)
@@ -139,11 +135,10 @@ ended {t = t} {l = l} {o = o} (four d c b a kd kc kb k p q) done answer = record
     good = subst (λ k. fails k before d ≡ false) kd (no_failure t l d (c ∷ b ∷ a ∷ []) answer)
 
     same : d.found ≡ a.found
-    same = go (cases_Bool (d.found == (look_of before).word))
-      where
-        go : (d.found == (look_of before).word ≡ true) ⊎ (d.found == (look_of before).word ≡ false) → d.found ≡ a.found
-        go (inl r) = eqb-true d.found (look_of before).word r ∙ word
-        go (inr r) = absurd (let no : true ≡ false = rw r at good in cc)
+    same = elim (cases_Bool (d.found == (look_of before).word)) [
+      | inl r ↦ eqb-true d.found (look_of before).word r ∙ word
+      | inr r ↦ absurd (let no : true ≡ false = rw r at good in cc)
+    ]
 
 pub four_looks : (o : ℕ) {t : Table} {l : LocalState} {es : List Event} → IsCall (Doing (Opening o)) t l es →
     answer_of t l es ≡ None → AreFourLooks t l o es

@@ -26,7 +26,8 @@ one_more test t [] es c i is = is
 one_more test t (e ∷ more) es c i is = or_right _ (has_one test t (more ++ es) c i) (one_more test t more es c i is)
 
 -- an event that stands somewhere in a log
-pub one_there : (test : Test) (t : Table) {log : List Event} (later : List Event) (e : Event) (es : List Event) (c i : ℕ) →
+pub one_there : (test : Test) (t : Table) {log : List Event} (later : List Event) (e : Event) (es : List Event)
+    (c i : ℕ) →
     log ≡ later ++ e ∷ es → e.caller ≡ c → (local t es c).begun ≡ i → test (local t es c) e ≡ true →
     has_one test t log c i ≡ true
 one_there test t later e es c i whole own at is =
@@ -39,19 +40,15 @@ pub one_weaker : (test other : Test) (t : Table) (es : List Event) (c i : ℕ) �
     has_one other t es c i ≡ true
 one_weaker test other t [] c i weaker is = is
 one_weaker test other t (e ∷ es) c i weaker is =
-    go (cases_Bool ((e.caller == c) && (((local t es c).begun == i) && test (local t es c) e)))
-    (λ q. one_weaker test other t es c i weaker q)
-  where
-    go : (((e.caller == c) && (((local t es c).begun == i) && test (local t es c) e)) ≡ true)
-        ⊎ (((e.caller == c) && (((local t es c).begun == i) && test (local t es c) e)) ≡ false) →
-        (has_one test t es c i ≡ true → has_one other t es c i ≡ true) → has_one other t (e ∷ es) c i ≡ true
-    go (inl q) ih =
-        let outer = and_parts (e.caller == c) (((local t es c).begun == i) && test (local t es c) e) q in
-        let inner = and_parts ((local t es c).begun == i) (test (local t es c) e) outer.1 in
-        one_here other t e es c i outer.0 (eqb-true (local t es c).begun i inner.0) (weaker (local t es c) e inner.1)
-    go (inr q) ih =
-        or_right ((e.caller == c) && (((local t es c).begun == i) && other (local t es c) e)) (has_one other t es c i)
-        (ih (rw q at is))
+    elim (cases_Bool ((e.caller == c) && (((local t es c).begun == i) && test (local t es c) e))) [
+      | inl q ↦
+          let outer = and_parts (e.caller == c) (((local t es c).begun == i) && test (local t es c) e) q in
+          let inner = and_parts ((local t es c).begun == i) (test (local t es c) e) outer.1 in
+          one_here other t e es c i outer.0 (eqb-true (local t es c).begun i inner.0) (weaker (local t es c) e inner.1)
+      | inr q ↦
+          or_right ((e.caller == c) && (((local t es c).begun == i) && other (local t es c) e)) (has_one other t es c i)
+          (one_weaker test other t es c i weaker (rw q at is))
+    ]
 
 -- none is of an attempt that is not begun yet
 pub none_later : (test : Test) (t : Table) (es : List Event) (c i : ℕ) → (local t es c).begun < i →
@@ -73,18 +70,15 @@ one_head test own l e i more = (own && ((l.begun == i) && test l e)) || more
 pub one_own : (test : Test) (t : Table) (es : List Event) (c i : ℕ) →
     has_one test t (events_of c es) c i ≡ has_one test t es c i
 one_own test t [] c i = refl
-one_own test t (e ∷ es) c i = go (cases_Bool (e.caller == c)) (one_own test t es c i)
-  where
-    go : (e.caller == c ≡ true) ⊎ (e.caller == c ≡ false) →
-        has_one test t (events_of c es) c i ≡ has_one test t es c i →
-        has_one test t (events_of c (e ∷ es)) c i ≡ has_one test t (e ∷ es) c i
-    go (inl q) ih =
-        ap (λ xs. has_one test t xs c i) (own_first e es c q)
-        ∙ ap (λ l. one_head test (e.caller == c) l e i (has_one test t (events_of c es) c i)) (local-events_of tl2 t es c)
-        ∙ ap (one_head test (e.caller == c) (local t es c) e i) ih
-    go (inr q) ih =
-        ap (λ xs. has_one test t xs c i) (own_other e es c q) ∙ ih
-        ∙ sym (ap (λ b. one_head test b (local t es c) e i (has_one test t es c i)) q)
+one_own test t (e ∷ es) c i = elim (cases_Bool (e.caller == c)) [
+  | inl q ↦
+      ap (λ xs. has_one test t xs c i) (own_first e es c q)
+      ∙ ap (λ l. one_head test (e.caller == c) l e i (has_one test t (events_of c es) c i)) (local-events_of tl2 t es c)
+      ∙ ap (one_head test (e.caller == c) (local t es c) e i) (one_own test t es c i)
+  | inr q ↦
+      ap (λ xs. has_one test t xs c i) (own_other e es c q) ∙ (one_own test t es c i)
+      ∙ sym (ap (λ b. one_head test b (local t es c) e i (has_one test t es c i)) q)
+]
 
 pub one_same : (test : Test) (t : Table) (one other : List Event) (c i : ℕ) → events_of c one ≡ events_of c other →
     has_one test t one c i ≡ has_one test t other c i

@@ -116,13 +116,12 @@ module _ (t : Table) (l : LocalState) where
           good = sym (ap (λ k. (after k t (now es) e).failed) q) ∙ sound
 
           found : e.found ≡ (next_check (now es)).word
-          found = by (cases_Bool (e.found == (next_check (now es)).word))
-            where
-              by : (e.found == (next_check (now es)).word ≡ true) ⊎ (e.found == (next_check (now es)).word ≡ false) →
-                  e.found ≡ (next_check (now es)).word
-              by (inl r) = eqb-true e.found (next_check (now es)).word r
-              by (inr r) = absurd (let no : true ≡ false =
-                  sym (or_right (now es).failed (not (e.found == (next_check (now es)).word)) (ap not r)) ∙ good in cc)
+          found = elim (cases_Bool (e.found == (next_check (now es)).word)) [
+            | inl r ↦ eqb-true e.found (next_check (now es)).word r
+            | inr r ↦
+                absurd (let no : true ≡ false =
+                sym (or_right (now es).failed (not (e.found == (next_check (now es)).word)) (ap not r)) ∙ good in cc)
+          ]
 
           place : next_check (now es)
               ≡ or_read (slice_get (to_check (state_after t l (c.draw ∷ c.before))) (length c.checks))
@@ -149,15 +148,14 @@ module _ (t : Table) (l : LocalState) where
 
   behind_lock : (es : List Event) (e : Event) (ws : List (ℕ × Val)) (w : Work) → IsDue t (in_locking ws w (now es)) e →
       Goes es e
-  behind_lock es e ws w due = go (cases_Bool ((now es).locked == length ws))
+  behind_lock es e ws w due = elim (cases_Bool ((now es).locked == length ws)) [
+    | inl q ↦ rest w (rw q at due)
+    | inr q ↦ let is : e.kind ≡ locks ws = rw q at due in of_kind es e is tt (λ no. absurd (cc))
+  ]
     where
       rest : (w : Work) → IsDue t (when_locked w) e → Goes es e
       rest (Committing writes) d = behind_draw es e writes d
       rest w d = absurd d
-
-      go : ((now es).locked == length ws ≡ true) ⊎ ((now es).locked == length ws ≡ false) → Goes es e
-      go (inl q) = rest w (rw q at due)
-      go (inr q) = let is : e.kind ≡ locks ws = rw q at due in of_kind es e is tt (λ no. absurd (cc))
 
   first : (w : Work) (e : Event) → IsDue t (at_first w l) e → Goes [] e
   first (Opening o) e due = of_kind [] e due.0 tt (λ no. absurd (cc))
@@ -166,33 +164,30 @@ module _ (t : Table) (l : LocalState) where
   first (Committing ws) e due = behind_lock [] e ws (Committing ws) due
 
   -- behind an event of this kind
-  behind : (w : Work) (es : List Event) (n e : Event) (k : Kind) → Known k es → IsDue t (next k n w (now es)) e → Goes es e
-  behind w es n e LookLock known due = go (cases_Bool (is_readable (now es).sample n.found))
-    where
-      go : (is_readable (now es).sample n.found ≡ true) ⊎ (is_readable (now es).sample n.found ≡ false) → Goes es e
-      go (inl q) = let is : e.kind ≡ LookLow = rw q at due in of_kind es e is tt (λ no. absurd (cc))
-      go (inr q) = let no : ⊥ = rw q at due in absurd no
+  behind : (w : Work) (es : List Event) (n e : Event) (k : Kind) → Known k es → IsDue t (next k n w (now es)) e →
+      Goes es e
+  behind w es n e LookLock known due = elim (cases_Bool (is_readable (now es).sample n.found)) [
+    | inl q ↦ let is : e.kind ≡ LookLow = rw q at due in of_kind es e is tt (λ no. absurd (cc))
+    | inr q ↦ let no : ⊥ = rw q at due in absurd no
+  ]
   behind w es n e LookLow known due = of_kind es e due tt (λ no. absurd (cc))
   behind w es n e LookHigh known due = of_kind es e due tt (λ no. absurd (cc))
   behind w es n e LookAgain known due = absurd due
-  behind w es n e (Lock ws) known due = go (cases_Bool (now es).failed)
-    where
-      go : ((now es).failed ≡ true) ⊎ ((now es).failed ≡ false) → Goes es e
-      go (inl q) = given_back es e q (rw q at due)
-      go (inr q) = behind_lock es e ws.value w (rw q at due)
+  behind w es n e (Lock ws) known due = elim (cases_Bool (now es).failed) [
+    | inl q ↦ given_back es e q (rw q at due)
+    | inr q ↦ behind_lock es e ws.value w (rw q at due)
+  ]
   behind w es n e (Draw ws) known due = behind_check e known due
-  behind w es n e Check known due = go (cases_Bool (now es).failed)
-    where
-      go : ((now es).failed ≡ true) ⊎ ((now es).failed ≡ false) → Goes es e
-      go (inl q) = given_back es e q (rw q at due)
-      go (inr q) = behind_check e (known q) (rw q at due)
+  behind w es n e Check known due = elim (cases_Bool (now es).failed) [
+    | inl q ↦ given_back es e q (rw q at due)
+    | inr q ↦ behind_check e (known q) (rw q at due)
+  ]
   behind w es n e WriteLow known due = behind_write e (or_zero (now es).drawn) known due
   behind w es n e WriteHigh known due = behind_write e (or_zero (now es).drawn) known due
-  behind w es n e Unlock known due = go (cases_Bool (now es).failed)
-    where
-      go : ((now es).failed ≡ true) ⊎ ((now es).failed ≡ false) → Goes es e
-      go (inl q) = given_back es e q (rw q at due)
-      go (inr q) = behind_write e (or_zero (now es).drawn) (known q) (rw q at due)
+  behind w es n e Unlock known due = elim (cases_Bool (now es).failed) [
+    | inl q ↦ given_back es e q (rw q at due)
+    | inr q ↦ behind_write e (or_zero (now es).drawn) (known q) (rw q at due)
+  ]
   behind w es n e Enrol known due = absurd due
   behind w es n e Sample known due = absurd due
 
