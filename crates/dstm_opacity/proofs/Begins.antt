@@ -25,13 +25,12 @@ begun_later s (e ∷ more) es c = let a = begun_later s more es c in let b = beg
 -- what stands before a caller's present attempt began is a past of each place in that attempt
 pub before_attempt : (s : Shape) (es q b : List Event) (c : ℕ) → IsPastOf q es → IsPastOf b es →
     (local s b c).begun < (local s q c).begun → IsPastOf b q
-before_attempt s es q b c p r less = go (pasts b q es r p)
-  where
-    go : IsPastOf b q ⊎ IsPastOf q b → IsPastOf b q
-    go (inl x) = x
-    go (inr x) =
-        let y = subst (λ xs. (local s q c).begun ≤ (local s xs c).begun) x.whole (begun_later s x.later q c) in
-        absurd (omega arith)
+before_attempt s es q b c p r less = elim (pasts b q es r p) [
+  | inl x ↦ x
+  | inr x ↦
+      let y = subst (λ xs. (local s q c).begun ≤ (local s xs c).begun) x.whole (begun_later s x.later q c) in
+      absurd (omega arith)
+]
 
 -- before a Begin of a caller fewer attempts of it had begun
 pub begun_before : (s : Shape) (since between b : List Event) {e : Event} {c : ℕ} → IsBeginOf c e →

@@ -20,13 +20,10 @@ closing s start run o long core lt =
     same : Names s run (at run o) → meant s (will_of s run) run (at run o) ≡ current_version s run (at run o)
     same (inl z) = rw z refl
     same (inr z) = let b = ((basic s run core).owner (at run o - 1) z.1).begun.below in
-        go (cases_Bool (will_of s run (owner_of s run (at run o)))) b
+        elim (cases_Bool (will_of s run (owner_of s run (at run o)))) [
+          | inl w ↦ rw (pos, w, committed_drawn s run core (owner_of s run (at run o)) b (eqb-true _ 4 w)) refl
+          | inr w ↦ rw (pos, w) refl
+        ]
       where
         pos : at run o == 0 ≡ false
         pos = ne_eqb (at run o) 0 (λ q. let p = z.0 in omega arith)
-
-        go : (will_of s run (owner_of s run (at run o)) ≡ true)
-            ⊎ (will_of s run (owner_of s run (at run o)) ≡ false) → owner_of s run (at run o) < s.callers * s.attempts →
-            meant s (will_of s run) run (at run o) ≡ current_version s run (at run o)
-        go (inl w) b = rw (pos, w, committed_drawn s run core (owner_of s run (at run o)) b (eqb-true _ 4 w)) refl
-        go (inr w) b = rw (pos, w) refl

@@ -22,14 +22,12 @@ draw_may s l e k q a = absurd (cc)
 -- an attempt that has drawn stays so, and is one that began
 drawn_now : (s : Shape) (es : List Event) (e : Event) (a : ℕ) → drawn s (e ∷ es) a ≡ true →
     (drawn s es a ≡ true) ⊎ ((is_draw e.kind ≡ true) × (own_attempt s (local s es e.caller) ≡ a))
-drawn_now s es e a h = go (cases_Bool (is_draw e.kind && (own_attempt s (local s es e.caller) == a)))
-  where
-    go : (is_draw e.kind && (own_attempt s (local s es e.caller) == a) ≡ true)
-        ⊎ (is_draw e.kind && (own_attempt s (local s es e.caller) == a) ≡ false) →
-        (drawn s es a ≡ true) ⊎ ((is_draw e.kind ≡ true) × (own_attempt s (local s es e.caller) ≡ a))
-    go (inl q) = let two = and_parts (is_draw e.kind) (own_attempt s (local s es e.caller) == a) q in
-        inr (two.0, eqb-true (own_attempt s (local s es e.caller)) a two.1)
-    go (inr q) = inl (rw q at h)
+drawn_now s es e a h = elim (cases_Bool (is_draw e.kind && (own_attempt s (local s es e.caller) == a))) [
+  | inl q ↦
+      let two = and_parts (is_draw e.kind) (own_attempt s (local s es e.caller) == a) q in
+      inr (two.0, eqb-true (own_attempt s (local s es e.caller)) a two.1)
+  | inr q ↦ inl (rw q at h)
+]
 
 -- an attempt that has drawn stays so
 pub drawn_more : (s : Shape) (es : List Event) (e : Event) (a : ℕ) → drawn s es a ≡ true → drawn s (e ∷ es) a ≡ true
@@ -40,14 +38,13 @@ drawn_more s es e a h =
 -- it has begun
 pub drawn_begun : (s : Shape) (es : List Event) → Core s es → (a : ℕ) → drawn s es a ≡ true → Begun s es a
 drawn_begun s [] core a h = absurd (cc)
-drawn_begun s (e ∷ es) core a h = go (drawn_now s es e a h) (drawn_begun s es core.0 a)
-  where
-    go : (drawn s es a ≡ true) ⊎ ((is_draw e.kind ≡ true) × (own_attempt s (local s es e.caller) ≡ a)) →
-        (drawn s es a ≡ true → Begun s es a) → Begun s (e ∷ es) a
-    go (inl q) ih = begun_still e (ih q)
-    go (inr q) ih = let v = draw_may s (local s es e.caller) e e.kind q.0 core.1.allowed in
-        begun_still e (subst (Begun s es) q.1
-        (own_begun s es e.caller (static s es core.0 e.caller) core.1.caller (λ z. cc)))
+drawn_begun s (e ∷ es) core a h = elim (drawn_now s es e a h) [
+  | inl q ↦ begun_still e (drawn_begun s es core.0 a q)
+  | inr q ↦
+      let v = draw_may s (local s es e.caller) e e.kind q.0 core.1.allowed in
+      begun_still e (subst (Begun s es) q.1
+      (own_begun s es e.caller (static s es core.0 e.caller) core.1.caller (λ z. cc)))
+]
 
 -- other events than draws
 pub drawn_same : (s : Shape) (es : List Event) (e : Event) (a : ℕ) →
@@ -78,11 +75,10 @@ phase_drawn s l e Install a out =
     pd_same refl (λ q. cc)
     (cond_both (e.found == e.expected) _ _ (λ (m : LocalState). is_drawn m.phase ≡ is_drawn l.phase) (λ _. refl)
     (λ _. refl))
-phase_drawn s l e LookSelf a out = go (cases_Bool (e.found == given l.phase))
-  where
-    go : (e.found == given l.phase ≡ true) ⊎ (e.found == given l.phase ≡ false) → PhaseDrawn s l e LookSelf
-    go (inl q) = pd_same refl (λ q. cc) (rw q refl)
-    go (inr q) = absurd (out (rw q refl))
+phase_drawn s l e LookSelf a out = elim (cases_Bool (e.found == given l.phase)) [
+  | inl q ↦ pd_same refl (λ q. cc) (rw q refl)
+  | inr q ↦ absurd (out (rw q refl))
+]
 phase_drawn s l e ToValidating a out = go (cases_Bool (e.found == 1)) a.2.0
   where
     go : (e.found == 1 ≡ true) ⊎ (e.found == 1 ≡ false) →
@@ -97,16 +93,14 @@ phase_drawn s l e PutHigh a out = go a.2.0
     go : (l.phase ≡ Running) ⊎ (l.phase ≡ Putting) → PhaseDrawn s l e PutHigh
     go (inl z) = pd_same refl (λ q. cc) (ap is_drawn (sym z))
     go (inr z) = pd_same refl (λ q. cc) (ap is_drawn (sym z))
-phase_drawn s l e Pause a out = go (cases_Bool (e.found == 1))
-  where
-    go : (e.found == 1 ≡ true) ⊎ (e.found == 1 ≡ false) → PhaseDrawn s l e Pause
-    go (inl q) = pd_same refl (λ q. cc) (rw q (ap is_drawn (sym a.2.0)))
-    go (inr q) = absurd (out (rw q refl))
-phase_drawn s l e Resume a out = go (cases_Bool (e.found == 2))
-  where
-    go : (e.found == 2 ≡ true) ⊎ (e.found == 2 ≡ false) → PhaseDrawn s l e Resume
-    go (inl q) = pd_same refl (λ q. cc) (rw q (ap is_drawn (sym a.2.0)))
-    go (inr q) = absurd (out (rw q refl))
+phase_drawn s l e Pause a out = elim (cases_Bool (e.found == 1)) [
+  | inl q ↦ pd_same refl (λ q. cc) (rw q (ap is_drawn (sym a.2.0)))
+  | inr q ↦ absurd (out (rw q refl))
+]
+phase_drawn s l e Resume a out = elim (cases_Bool (e.found == 2)) [
+  | inl q ↦ pd_same refl (λ q. cc) (rw q (ap is_drawn (sym a.2.0)))
+  | inr q ↦ absurd (out (rw q refl))
+]
 phase_drawn s l e Commit a out = absurd (out refl)
 phase_drawn s l e Quit a out = absurd (out refl)
 phase_drawn s l e k a out = pd_same refl (λ q. cc) refl
@@ -173,7 +167,10 @@ pub committed_drawn : (s : Shape) (es : List Event) → Core s es → (a : ℕ) 
 unfolding is_drawn
 committed_drawn s [] core a lt h = absurd (omega arith)
 committed_drawn s (e ∷ es) core a lt h =
-    go (change (StatusWord a) (step s es e core) lt) (committed_drawn s es core.0 a lt)
+    elim (change (StatusWord a) (step s es e core) lt) [
+      | inl x ↦ drawn_more s es e a (committed_drawn s es core.0 a lt (sym x ∙ h))
+      | inr x ↦ drawn_more s es e a (moved x.how x.now)
+    ]
   where
     by_move : Moves s (local s es e.caller) e a →
         ((e.kind ≡ ToValidating) × (e.put ≡ 3)) ⊎ ((e.kind ≡ Commit) × (e.put ≡ 4))
@@ -190,8 +187,3 @@ committed_drawn s (e ∷ es) core a lt h =
     moved (begins b) w = let p = b.put in absurd (omega arith)
     moved (moves m) w = by_move m m.how w
     moved (kills k) w = let p = k.put in absurd (omega arith)
-
-    go : (word s (e ∷ es) (StatusWord a) ≡ word s es (StatusWord a)) ⊎ Changed s es e (StatusWord a) →
-        (word s es (StatusWord a) ≡ 4 → drawn s es a ≡ true) → drawn s (e ∷ es) a ≡ true
-    go (inl x) ih = drawn_more s es e a (ih (sym x ∙ h))
-    go (inr x) ih = drawn_more s es e a (moved x.how x.now)

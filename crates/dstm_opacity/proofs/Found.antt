@@ -24,20 +24,18 @@ high_of (Some r) h i = h i
 
 -- while the owner is not found finished no version is known but the first value
 pub version_unknown : (word : ℕ) (st old : Option ℕ) → or_zero st < 4 → or_zero (version_by word st old) ≡ 0
-version_unknown word st old h = go (cases_Bool (word == 0))
-  where
-    go : (word == 0 ≡ true) ⊎ (word == 0 ≡ false) → or_zero (version_by word st old) ≡ 0
-    go (inl q) = rw q refl
-    go (inr q) = rw (q, ne_eqb (or_zero st) 4 (λ z. omega arith), ne_eqb (or_zero st) 5 (λ z. omega arith)) refl
+version_unknown word st old h = elim (cases_Bool (word == 0)) [
+  | inl q ↦ rw q refl
+  | inr q ↦ rw (q, ne_eqb (or_zero st) 4 (λ z. omega arith), ne_eqb (or_zero st) 5 (λ z. omega arith)) refl
+]
 
 -- the version of an aborted owner's locator is the old one
 pub version_aborted : (word : ℕ) (st old : Option ℕ) → or_zero st ≡ 5 → 0 < or_zero (version_by word st old) →
     (word == 0 ≡ false) × (0 < or_zero old)
-version_aborted word st old h p = go (cases_Bool (word == 0))
-  where
-    go : (word == 0 ≡ true) ⊎ (word == 0 ≡ false) → (word == 0 ≡ false) × (0 < or_zero old)
-    go (inl q) = let z : 0 < 0 = rw q at p in absurd (omega arith)
-    go (inr q) = (q, rw (q, ne_eqb (or_zero st) 4 (λ z. omega arith), eq-eqb (or_zero st) 5 h) at p)
+version_aborted word st old h p = elim (cases_Bool (word == 0)) [
+  | inl q ↦ let z : 0 < 0 = rw q at p in absurd (omega arith)
+  | inr q ↦ (q, rw (q, ne_eqb (or_zero st) 4 (λ z. omega arith), eq-eqb (or_zero st) 5 h) at p)
+]
 
 pub version_old : (word : ℕ) (st old : Option ℕ) → or_zero st ≡ 5 → word == 0 ≡ false → version_by word st old ≡ old
 version_old word st old h q = rw (q, ne_eqb (or_zero st) 4 (λ z. omega arith), eq-eqb (or_zero st) 5 h) refl

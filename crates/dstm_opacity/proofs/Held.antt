@@ -24,16 +24,10 @@ module _ (s : Shape) (start : List Val) (run : List Event) (o : ℕ) where
       value_of o (old_values s start run ws)
       ≡ option_map (version_value s start run o) (version_by_open (write_of o ws) None)
   old_value [] = refl
-  old_value (w ∷ ws) = go (cases_Bool (w.object == o)) (old_value ws)
-    where
-      go : (w.object == o ≡ true) ⊎ (w.object == o ≡ false) →
-          value_of o (old_values s start run ws)
-          ≡ option_map (version_value s start run o) (version_by_open (write_of o ws) None) →
-          value_of o (old_values s start run (w ∷ ws))
-          ≡ option_map (version_value s start run o) (version_by_open (write_of o (w ∷ ws)) None)
-      go (inl q) ih =
-          rw q (ap (λ n. Some (version_value s start run n w.old)) (eqb-true w.object o q))
-      go (inr q) ih = rw q ih
+  old_value (w ∷ ws) = elim (cases_Bool (w.object == o)) [
+    | inl q ↦ rw q (ap (λ n. Some (version_value s start run n w.old)) (eqb-true w.object o q))
+    | inr q ↦ rw q (old_value ws)
+  ]
 
   -- an object that is opened for writing is not read
   unread : (ws : List Write) (rs : List Read) → Apart ws rs → (w : Write) → write_of o ws ≡ Some w → read_of o rs ≡ None
@@ -48,25 +42,19 @@ module _ (s : Shape) (start : List Val) (run : List Event) (o : ℕ) where
       value_of o (read_values s start run rs ++ old_values s start run ws)
       ≡ option_map (version_value s start run o) (version_by_open (write_of o ws) (read_of o rs))
   seen_value [] ws h = old_value ws
-  seen_value (r ∷ rs) ws h = go (cases_Bool (r.object == o)) (seen_value rs ws)
+  seen_value (r ∷ rs) ws h = elim (cases_Bool (r.object == o)) [
+    | inl q ↦
+        let k : (w : Write) → write_of o ws ≡ Some w → Some r ≡ None = λ w z. rw q at (h w z) in
+        rw q
+        (ap (λ n. Some (version_value s start run n r.version)) (eqb-true r.object o q)
+        ∙ ap (option_map (version_value s start run o)) (sym (here (write_of o ws) k)))
+    | inr q ↦ rw q (seen_value rs ws (λ w z. rw q at (h w z)))
+  ]
     where
       here : (x : Option Write) → ((w : Write) → x ≡ Some w → Some r ≡ None) →
           version_by_open x (Some r) ≡ Some r.version
       here None k = refl
       here (Some w) k = absurd (let z = k w refl in cc)
-
-      go : (r.object == o ≡ true) ⊎ (r.object == o ≡ false) →
-          (((w : Write) → write_of o ws ≡ Some w → read_of o rs ≡ None) →
-          value_of o (read_values s start run rs ++ old_values s start run ws)
-          ≡ option_map (version_value s start run o) (version_by_open (write_of o ws) (read_of o rs))) →
-          value_of o (read_values s start run (r ∷ rs) ++ old_values s start run ws)
-          ≡ option_map (version_value s start run o) (version_by_open (write_of o ws) (read_of o (r ∷ rs)))
-      go (inl q) ih =
-          let k : (w : Write) → write_of o ws ≡ Some w → Some r ≡ None = λ w z. rw q at (h w z) in
-          rw q
-          (ap (λ n. Some (version_value s start run n r.version)) (eqb-true r.object o q)
-          ∙ ap (option_map (version_value s start run o)) (sym (here (write_of o ws) k)))
-      go (inr q) ih = rw q (ih (λ w z. rw q at (h w z)))
 
 -- what is seen of an object is the value of the version that is held
 pub held_is_seen : (s : Shape) (start : List Val) (run es : List Event) (c o : ℕ) → Core s es →

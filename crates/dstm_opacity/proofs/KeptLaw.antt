@@ -120,22 +120,18 @@ law_own {s = s} start holds es {e = e} core law ih (at_last k w r q) =
     inr (subst (KeepsLaw holds s.objects)
     (sym (entry_same s start (e ∷ es) (local s es e.caller) (after e.kind s (local s es e.caller) e) r q)) (law.1 k w))
 law_own start holds es core law ih (at_no_write q) = inl q
-law_own {s = s} start holds es {e = e} core law ih (at_later p r q n) = go (ih p)
+law_own {s = s} start holds es {e = e} core law ih (at_later p r q n) = elim (ih p) [
+  | inl x ↦ inl (q ∙ x)
+  | inr x ↦
+      inr (subst (KeepsLaw holds s.objects)
+      (sym (entry_same s start (e ∷ es) (local s es e.caller) (after e.kind s (local s es e.caller) e) r q
+      ∙ entry_stays s start es e (own_attempt s (local s es e.caller)) (local s es e.caller) core
+      (reads s es core.0 e.caller) (kept_from s es (own_attempt s (local s es e.caller)) (local s es e.caller).writes
+      (written s es core.0 e.caller core.1.caller out)) (λ k. absurd (cc)))) x)
+]
   where
     out : (local s es e.caller).phase ≢ Outside
     out = all_put_out (local s es e.caller) p
-
-    go : ((local s es e.caller).writes ≡ [])
-        ⊎ KeepsLaw holds s.objects (entry_of s start es (local s es e.caller)) →
-        ((after e.kind s (local s es e.caller) e).writes ≡ [])
-        ⊎ KeepsLaw holds s.objects (entry_of s start (e ∷ es) (after e.kind s (local s es e.caller) e))
-    go (inl x) = inl (q ∙ x)
-    go (inr x) =
-        inr (subst (KeepsLaw holds s.objects)
-        (sym (entry_same s start (e ∷ es) (local s es e.caller) (after e.kind s (local s es e.caller) e) r q
-        ∙ entry_stays s start es e (own_attempt s (local s es e.caller)) (local s es e.caller) core
-        (reads s es core.0 e.caller) (kept_from s es (own_attempt s (local s es e.caller)) (local s es e.caller).writes
-        (written s es core.0 e.caller core.1.caller out)) (λ k. absurd (cc)))) x)
 
 -- each attempt of a lawful run does
 pub law_ok : (s : Shape) (start : List Val) (holds : List Val → Type 0) (es : List Event) → Core s es →

@@ -19,33 +19,28 @@ WordsAgree l = WordsAgreeBy l.stale l.reads l.resolution
 
 same_word : (found : ℕ) {o : Option Read} (r : Read) → is_other found o ≡ false → o ≡ Some r → r.word ≡ found
 same_word found {o = None} r s q = absurd (cc)
-same_word found {o = (Some x)} r s q = go (cases_Bool (x.word == found)) s
-  where
-    go : (x.word == found ≡ true) ⊎ (x.word == found ≡ false) → not (x.word == found) ≡ false → r.word ≡ found
-    go (inl y) s = let z : x ≡ r = cc in ap (λ (y : Read). y.word) (sym z) ∙ eqb-true x.word found y
-    go (inr y) s = absurd (let z : true ≡ false = rw y at s in cc)
+same_word found {o = (Some x)} r s q = elim (cases_Bool (x.word == found)) [
+  | inl y ↦ let z : x ≡ r = cc in ap (λ (y : Read). y.word) (sym z) ∙ eqb-true x.word found y
+  | inr y ↦ absurd (let z : true ≡ false = rw y at s in cc)
+]
 
 read_of-new : (o : ℕ) (rs : List Read) (x r : Read) → x.object ≡ o → read_of o rs ≡ None →
     read_of o (rs ++ x ∷ []) ≡ Some r → r ≡ x
 read_of-new o [] x r e n q = let z : Some x ≡ Some r = rw (eq-eqb x.object o e) at q in cc
-read_of-new o (y ∷ rs) x r e n q = go (cases_Bool (y.object == o)) (read_of-new o rs x r e)
-  where
-    go : (y.object == o ≡ true) ⊎ (y.object == o ≡ false) →
-        (read_of o rs ≡ None → read_of o (rs ++ x ∷ []) ≡ Some r → r ≡ x) → r ≡ x
-    go (inl z) ih = absurd (let w : Some y ≡ None = rw z at n in cc)
-    go (inr z) ih = ih (rw z at n) (rw z at q)
+read_of-new o (y ∷ rs) x r e n q = elim (cases_Bool (y.object == o)) [
+  | inl z ↦ absurd (let w : Some y ≡ None = rw z at n in cc)
+  | inr z ↦ read_of-new o rs x r e (rw z at n) (rw z at q)
+]
 
 recorded : (o : Option Resolution) (rs : List Read) → WordsAgreeBy false rs o →
     WordsAgreeBy false (record_resolved o rs) o
 recorded None rs h r s i q = absurd (cc)
-recorded (Some x) rs h r s i q = go (cases_Bool (is_resolved x && is_none (read_of x.object rs)))
-  where
-    go : (is_resolved x && is_none (read_of x.object rs) ≡ true)
-        ⊎ (is_resolved x && is_none (read_of x.object rs) ≡ false) → r.word ≡ x.word
-    go (inl z) =
-        let two = and_parts (is_resolved x) (is_none (read_of x.object rs)) z in
-        ap (λ (y : Read). y.word) (read_of-new x.object rs _ r refl (none_from (read_of x.object rs) two.1) (rw z at q))
-    go (inr z) = h r refl refl (rw z at q)
+recorded (Some x) rs h r s i q = elim (cases_Bool (is_resolved x && is_none (read_of x.object rs))) [
+  | inl z ↦
+      let two = and_parts (is_resolved x) (is_none (read_of x.object rs)) z in
+      ap (λ (y : Read). y.word) (read_of-new x.object rs _ r refl (none_from (read_of x.object rs) two.1) (rw z at q))
+  | inr z ↦ h r refl refl (rw z at q)
+]
 
 kept : (o : Option Resolution) (rs : List Read) → WordsAgreeBy false rs o → WordsAgreeBy false rs (keep_resolved o)
 kept None rs h = h
@@ -91,13 +86,12 @@ words_agree s (e ∷ es) core c =
 pub read_named : (s : Shape) (es : List Event) (o : ℕ) (rs : List Read) (r : Read) → ReadsNamed s es rs →
     read_of o rs ≡ Some r → Named s es r.word r.version
 read_named s es o [] r h q = absurd (cc)
-read_named s es o (x ∷ rs) r h q = go (cases_Bool (x.object == o)) (read_named s es o rs r h.2)
-  where
-    go : (x.object == o ≡ true) ⊎ (x.object == o ≡ false) →
-        (read_of o rs ≡ Some r → Named s es r.word r.version) → Named s es r.word r.version
-    go (inl z) ih = let w : Some x ≡ Some r = rw z at q in let same : x ≡ r = cc in
-        subst (λ (y : Read). Named s es y.word y.version) same h.1
-    go (inr z) ih = ih (rw z at q)
+read_named s es o (x ∷ rs) r h q = elim (cases_Bool (x.object == o)) [
+  | inl z ↦
+      let w : Some x ≡ Some r = rw z at q in let same : x ≡ r = cc in
+      subst (λ (y : Read). Named s es y.word y.version) same h.1
+  | inr z ↦ read_named s es o rs r h.2 (rw z at q)
+]
 
 -- a word names one version
 pub named_one : {s : Shape} {es : List Event} {x v w : ℕ} → Named s es x v → Named s es x w → v ≡ w

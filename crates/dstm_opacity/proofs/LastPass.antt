@@ -57,11 +57,10 @@ agreed_record {s = s} {will = will} {es = es} core f (Some r) rs b k h c =
 -- a resolution that a LookNumber keeps has its object among the reads
 read_of-snoc : (o : ℕ) (rs : List Read) (r : Read) → r.object ≡ o → read_of o (rs ++ r ∷ []) ≡ None → ⊥
 read_of-snoc o [] r q h = let t = eq-eqb r.object o q in let z : Some r ≡ None = rw t at h in cc
-read_of-snoc o (v ∷ rs) r q h = go (cases_Bool (v.object == o)) (read_of-snoc o rs r q)
-  where
-    go : (v.object == o ≡ true) ⊎ (v.object == o ≡ false) → (read_of o (rs ++ r ∷ []) ≡ None → ⊥) → ⊥
-    go (inl t) ih = let z : Some v ≡ None = rw t at h in cc
-    go (inr t) ih = ih (rw t at h)
+read_of-snoc o (v ∷ rs) r q h = elim (cases_Bool (v.object == o)) [
+  | inl t ↦ let z : Some v ≡ None = rw t at h in cc
+  | inr t ↦ read_of-snoc o rs r q (rw t at h)
+]
 
 -- the resolution that it keeps has its object among the reads
 pub kept_recorded : (o : Option Resolution) (rs : List Read) (r : Resolution) → keep_resolved o ≡ Some r →
@@ -111,7 +110,8 @@ own_reads {s = s} {will = will} es e core f Install b k h c =
     (λ _. agreed_drop s will (e ∷ es) (res (local s es e.caller)).object (local s es e.caller).reads h) (λ _. h)
 own_reads {s = s} es e core f LookNumber b k h c =
     agreed_record core f (local s es e.caller).resolution (local s es e.caller).reads b k h c
-own_reads {s = s} {will = will} es e core f Release b k h c = agreed_drop s will (e ∷ es) e.place (local s es e.caller).reads h
+own_reads {s = s} {will = will} es e core f Release b k h c =
+    agreed_drop s will (e ∷ es) e.place (local s es e.caller).reads h
 own_reads {s = s} {will = will} es e core f j b k h c =
     unrecorded (Agreed s will (e ∷ es)) s (local s es e.caller) e j refl h
 
@@ -123,11 +123,16 @@ own_res es e core f Begin a c = tt
 own_res {s = s} {will = will} es e core f LookObj a c =
     λ _. current core f e.place a.3
     ∙ ap (meant s will (e ∷ es)) (put_at es e e.place refl ∙ a.1.1)
-own_res {s = s} {will = will} es e core f LookOwner a c = cur_res s will (e ∷ es) _ _ (has_word (local s es e.caller).resolution a.2.2) c
-own_res {s = s} {will = will} es e core f LookStatus a c = cur_res s will (e ∷ es) _ _ (has_owner (local s es e.caller).resolution a.2.2) c
-own_res {s = s} {will = will} es e core f LookOld a c = cur_res s will (e ∷ es) _ _ (has_status (local s es e.caller).resolution 4 a.2.2) c
-own_res {s = s} {will = will} es e core f LookNew a c = cur_res s will (e ∷ es) _ _ (has_high (local s es e.caller).resolution a.2.2) c
-own_res {s = s} {will = will} es e core f Kill a c = cur_res s will (e ∷ es) _ _ (has_owner (local s es e.caller).resolution a.2.2) c
+own_res {s = s} {will = will} es e core f LookOwner a c =
+    cur_res s will (e ∷ es) _ _ (has_word (local s es e.caller).resolution a.2.2) c
+own_res {s = s} {will = will} es e core f LookStatus a c =
+    cur_res s will (e ∷ es) _ _ (has_owner (local s es e.caller).resolution a.2.2) c
+own_res {s = s} {will = will} es e core f LookOld a c =
+    cur_res s will (e ∷ es) _ _ (has_status (local s es e.caller).resolution 4 a.2.2) c
+own_res {s = s} {will = will} es e core f LookNew a c =
+    cur_res s will (e ∷ es) _ _ (has_high (local s es e.caller).resolution a.2.2) c
+own_res {s = s} {will = will} es e core f Kill a c =
+    cur_res s will (e ∷ es) _ _ (has_owner (local s es e.caller).resolution a.2.2) c
 own_res {s = s} {will = will} es e core f Install a c =
     cond_both (e.found == e.expected) _ _ (λ (l : LocalState). ResCur s will (e ∷ es) l.reads l.resolution)
     (λ _. tt) (λ _. tt)
@@ -137,8 +142,10 @@ own_res {s = s} {will = will} es e core f LookNumber a c = go (keep_resolved (lo
         ResCur s will (e ∷ es) (record_resolved (local s es e.caller).resolution (local s es e.caller).reads) o
     go None q = tt
     go (Some r) q = λ n. absurd (kept_recorded (local s es e.caller).resolution (local s es e.caller).reads r q n)
-own_res {s = s} {will = will} es e core f LookRank a c = cur_res s will (e ∷ es) _ _ (has_owner (local s es e.caller).resolution a.2.2) c
-own_res {s = s} {will = will} es e core f LookHigh a c = cur_res s will (e ∷ es) _ _ (has_version (local s es e.caller).resolution a.2.2) c
+own_res {s = s} {will = will} es e core f LookRank a c =
+    cur_res s will (e ∷ es) _ _ (has_owner (local s es e.caller).resolution a.2.2) c
+own_res {s = s} {will = will} es e core f LookHigh a c =
+    cur_res s will (e ∷ es) _ _ (has_version (local s es e.caller).resolution a.2.2) c
 own_res es e core f Release a c = tt
 own_res {s = s} {will = will} es e core f k a c =
     unlooked (ResCur s will (e ∷ es) (after k s (local s es e.caller) e).reads) s (local s es e.caller) e k refl tt
@@ -156,11 +163,8 @@ last_how s l e Install n q = by_old (go (cases_Bool (e.found == e.expected)))
     go : (e.found == e.expected ≡ true) ⊎ (e.found == e.expected ≡ false) → l.last_pass ≡ Some n
     go (inl t) = rw t at q
     go (inr t) = rw t at q
-last_how s l e LookSelf n q = go (cases_Bool (e.found == given l.phase))
-  where
-    go : (e.found == given l.phase ≡ true) ⊎ (e.found == given l.phase ≡ false) → LastHow l e LookSelf n
-    go (inl t) = by_self refl (rw t at q)
-    go (inr t) = by_old (rw t at q)
+last_how s l e LookSelf n q =
+    elim (cases_Bool (e.found == given l.phase)) [ inl t ↦ by_self refl (rw t at q) | inr t ↦ by_old (rw t at q) ]
 last_how s l e ToValidating n q = by_old (go (cases_Bool (e.found == 1)))
   where
     go : (e.found == 1 ≡ true) ⊎ (e.found == 1 ≡ false) → l.last_pass ≡ Some n

@@ -25,7 +25,14 @@ law_entry : (s : Shape) (start : List Val) (holds : List Val → Type 0) (es : L
     holds (with_writes (map_after start (history s start (will_of s (more ++ d ∷ es)) (more ++ d ∷ es) es))
     (entry_of s start (more ++ d ∷ es) (local s es d.caller)).writes)
 law_entry s start holds es d more long core law k w h =
-    go (law_ok s start holds es core_d.0 law d.caller core_d.1.caller (inr (inl v)))
+    elim (law_ok s start holds es core_d.0 law d.caller core_d.1.caller (inr (inl v))) [
+      | inl x ↦ rw x h
+      | inr x ↦
+          (subst (KeepsLaw holds s.objects) (sym (later ∙ now)) x)
+          (map_after start (history s start (will_of s (more ++ d ∷ es)) (more ++ d ∷ es) es))
+          (state_length (history s start (will_of s (more ++ d ∷ es)) (more ++ d ∷ es) es) start ∙ long) h
+          (legal_entry s start es d more long core k w)
+    ]
   where
     core_d : Core s (d ∷ es)
     core_d = core_past s more (d ∷ es) core
@@ -48,17 +55,6 @@ law_entry s start holds es d more long core law k w h =
     later = (entry_later s start (d ∷ es) more (own_attempt s (local s es d.caller)) (local s es d.caller) core
         (drawn_yes s es d k) (reads_more s es d (local s es d.caller).reads core_d (reads s es core_d.0 d.caller))
         (kept_more s es d (own_attempt s (local s es d.caller)) (local s es d.caller).writes core_d kept)).0
-
-    go : ((local s es d.caller).writes ≡ [])
-        ⊎ KeepsLaw holds s.objects (entry_of s start es (local s es d.caller)) →
-        holds (with_writes (map_after start (history s start (will_of s (more ++ d ∷ es)) (more ++ d ∷ es) es))
-        (entry_of s start (more ++ d ∷ es) (local s es d.caller)).writes)
-    go (inl x) = rw x h
-    go (inr x) =
-        (subst (KeepsLaw holds s.objects) (sym (later ∙ now)) x)
-        (map_after start (history s start (will_of s (more ++ d ∷ es)) (more ++ d ∷ es) es))
-        (state_length (history s start (will_of s (more ++ d ∷ es)) (more ++ d ∷ es) es) start ∙ long) h
-        (legal_entry s start es d more long core k w)
 
 -- the state after the entries of each past is lawful
 pub lawful_from : (s : Shape) (start : List Val) (holds : List Val → Type 0) {run : List Event} →

@@ -43,12 +43,10 @@ write_of-object o (v ∷ ws) w h = go (cases_Bool (v.object == o)) (λ k. write_
 pub write_of-ok : (s : Shape) (es : List Event) (own o : ℕ) (ws : List Write) (w : Write) →
     WritesOk s es own ws → write_of o ws ≡ Some w → WriteOk s es own w
 write_of-ok s es own o [] w k h = absurd (cc)
-write_of-ok s es own o (v ∷ ws) w k h = go (cases_Bool (v.object == o)) (λ z. write_of-ok s es own o ws w k.1 z)
-  where
-    go : (v.object == o ≡ true) ⊎ (v.object == o ≡ false) → (write_of o ws ≡ Some w → WriteOk s es own w) →
-        WriteOk s es own w
-    go (inl q) ih = let z : Some v ≡ Some w = rw q at h in let y : v ≡ w = cc in subst (WriteOk s es own) y k.0
-    go (inr q) ih = ih (rw q at h)
+write_of-ok s es own o (v ∷ ws) w k h = elim (cases_Bool (v.object == o)) [
+  | inl q ↦ let z : Some v ≡ Some w = rw q at h in let y : v ≡ w = cc in subst (WriteOk s es own) y k.0
+  | inr q ↦ write_of-ok s es own o ws w k.1 (rw q at h)
+]
 
 -- that the word of an object names a locator of an attempt was so before, or an Install just made it so
 abbrev Back : Shape → List Event → Event → ℕ → ℕ → Type 0
@@ -121,17 +119,13 @@ mine_own {s = s} es {e = e} core (added k f w) ph ih o h pos q =
 mine_other : (s : Shape) (es : List Event) (e : Event) → Core s (e ∷ es) → (c : ℕ) → c < s.callers →
     e.caller ≢ c → (local s es c).phase ≢ Outside → Mine s es (local s es c) → Mine s (e ∷ es) (local s es c)
 unfolding Mine
-mine_other s es e core c lt d out ih o h pos q = go (mine_back s es e o (own_attempt s (local s es c)) core h pos q)
-  where
-    go : ((at (e ∷ es) o ≡ at es o) × (0 < at es o) × Used s es (at es o - 1)
-        × (owner_of s es (at es o) ≡ own_attempt s (local s es c)))
-        ⊎ ((e.kind ≡ Install) × (e.found ≡ e.expected) × (o ≡ (res (local s es e.caller)).object)
-        × (own_attempt s (local s es c) ≡ own_attempt s (local s es e.caller))) →
-        is_some (write_of o (local s es c).writes) ≡ true
-    go (inl x) = ih o h x.1 x.3
-    go (inr x) = let may = install_may s (local s es e.caller) e x.0 core.1.allowed in
-        absurd (d (sym (own_differs s c e.caller (local s es c) (local s es e.caller) (static s es core.0 c)
-        (static s es core.0 e.caller) lt core.1.caller out (λ q. let i = may.0 in cc) x.3)))
+mine_other s es e core c lt d out ih o h pos q = elim (mine_back s es e o (own_attempt s (local s es c)) core h pos q) [
+  | inl x ↦ ih o h x.1 x.3
+  | inr x ↦
+      let may = install_may s (local s es e.caller) e x.0 core.1.allowed in
+      absurd (d (sym (own_differs s c e.caller (local s es c) (local s es e.caller) (static s es core.0 c)
+      (static s es core.0 e.caller) lt core.1.caller out (λ q. let i = may.0 in cc) x.3)))
+]
 
 -- so it is of every attempt under way
 pub mine : (s : Shape) (es : List Event) → Core s es → (c : ℕ) → c < s.callers →

@@ -48,13 +48,7 @@ draw_up s es e core d = go e.kind d core.1.allowed
 -- the counter never falls
 pub numbers_up : (s : Shape) (es : List Event) (e : Event) → Core s (e ∷ es) →
     word s es NumbersWord ≤ word s (e ∷ es) NumbersWord
-numbers_up s es e core = go (numbers (step s es e core))
-  where
-    go : (word s (e ∷ es) NumbersWord ≡ word s es NumbersWord)
-        ⊎ ((e.kind ≡ Draw) × (word s (e ∷ es) NumbersWord ≡ word s es NumbersWord + 1)) →
-        word s es NumbersWord ≤ word s (e ∷ es) NumbersWord
-    go (inl x) = omega arith
-    go (inr x) = let y = x.1 in omega arith
+numbers_up s es e core = elim (numbers (step s es e core)) [ inl x ↦ omega arith | inr x ↦ let y = x.1 in omega arith ]
 
 -- nor over several events
 pub numbers_later : (s : Shape) (more q : List Event) → Core s (more ++ q) →

@@ -204,7 +204,8 @@ passes {es = []} core f c = (
   record { bound = λ n q. absurd (cc); reads = λ n q m. absurd (cc); res = λ n q m. absurd (cc) },
   (λ n r q. absurd (cc)),
 )
-passes {s = s} {will = will} {es = (e ∷ es)} core f c = callers s es e (λ c l. LastOk s will (e ∷ es) l × PassOk s will (e ∷ es) c l)
+passes {s = s} {will = will} {es = (e ∷ es)} core f c =
+    callers s es e (λ c l. LastOk s will (e ∷ es) l × PassOk s will (e ∷ es) c l)
     (let ih = passes core.0 (foretells_past es e core f) e.caller in (
       last_own e core f ih.0 ih.1,
       (λ n r q. pass_own core f ih.0 ih.1

@@ -86,8 +86,8 @@ draw_begins {s = s} {q = q} d core f k = let x = draw_after s (local s q d.calle
           (sym x.4 ∙ z ∙ x.5 ∙ ap Some (core.1.linked ∙ ap (at q) x.6)) refl;
     }
 
-draw_own : {s : Shape} {will : ℕ → Bool} {q : List Event} (es : List Event) (e : Event) → IsPastOf q es → Core s (e ∷ es) →
-    Foretells s will (e ∷ es) → own_attempt s (local s q e.caller) < s.callers * s.attempts →
+draw_own : {s : Shape} {will : ℕ → Bool} {q : List Event} (es : List Event) (e : Event) → IsPastOf q es →
+    Core s (e ∷ es) → Foretells s will (e ∷ es) → own_attempt s (local s q e.caller) < s.callers * s.attempts →
     ReadsNamed s q (local s q e.caller).reads → SinceDraw s will q e.caller (local s es e.caller) →
     (e.kind ≡ Check) ⊎ ((e.kind ≡ Commit) ⊎ (e.kind ≡ Quit)) → DrawState s will q e.caller (e ∷ es)
 draw_own {s = s} {will = will} {q = q} es e p core f inn named d (inr (inl k)) =

@@ -30,9 +30,9 @@ draws Draw h = refl
 draws k h = absurd (cc)
 
 -- the entry of an attempt that commits is that of its Draw, in each run
-entry_stays : {s : Shape} (start : List Val) (run : List Event) {es : List Event} (e : Event) → IsPastOf (e ∷ es) run → Core s run →
-    (d : DrawOf s es (local s es e.caller)) → entry_of s start run (local s es e.caller)
-    ≡ entry_of s start (d.draw ∷ d.before) (local s d.before d.draw.caller)
+entry_stays : {s : Shape} (start : List Val) (run : List Event) {es : List Event} (e : Event) → IsPastOf (e ∷ es) run →
+    Core s run → (d : DrawOf s es (local s es e.caller)) →
+    entry_of s start run (local s es e.caller) ≡ entry_of s start (d.draw ∷ d.before) (local s d.before d.draw.caller)
 entry_stays {s = s} start run {es = es} e p core d =
     sym (entry_same s start run (local s es e.caller) (local s d.before d.draw.caller) d.reads d.writes)
     ∙ subst (λ xs. entry_of s start xs (local s d.before d.draw.caller)

@@ -53,12 +53,10 @@ read_of-none o r rs d h = rw (ne_eqb r.object o d) h
 write_of-none : (o : ℕ) (ws : List Write) (w : Write) → w.object ≢ o → write_of o ws ≡ None →
     write_of o (ws ++ w ∷ []) ≡ None
 write_of-none o [] w d h = rw (ne_eqb w.object o d) refl
-write_of-none o (v ∷ ws) w d h = go (cases_Bool (v.object == o)) (λ k. write_of-none o ws w d k)
-  where
-    go : (v.object == o ≡ true) ⊎ (v.object == o ≡ false) →
-        (write_of o ws ≡ None → write_of o (ws ++ w ∷ []) ≡ None) → write_of o (v ∷ (ws ++ w ∷ [])) ≡ None
-    go (inl q) ih = let z : Some v ≡ None = rw q at h in absurd (cc)
-    go (inr q) ih = rw q (ih (rw q at h))
+write_of-none o (v ∷ ws) w d h = elim (cases_Bool (v.object == o)) [
+  | inl q ↦ let z : Some v ≡ None = rw q at h in absurd (cc)
+  | inr q ↦ rw q (write_of-none o ws w d (rw q at h))
+]
 
 -- a read that another drop left
 pub drop_keeps : (o p : ℕ) (rs : List Read) → read_of p rs ≡ None → read_of p (drop_read o rs) ≡ None

@@ -66,12 +66,14 @@ record Ends (s : Shape) (will : ℕ → Bool) (l : LocalState) (e : Event) (k : 
 
 -- a Draw makes an attempt pending, its end takes it off, and nothing else changes this
 own_step : {s : Shape} (start : List Val) (run : List Event) {will : ℕ → Bool} (c : ℕ) {l : LocalState} {e : Event}
-    {k : Kind} {xs : List Committed} (ds : List Committed) → e.caller ≡ c → Static s c l → AllowedAs k s l e → Ends s will l e k →
+    {k : Kind} {xs : List Committed} (ds : List Committed) → e.caller ≡ c → Static s c l → AllowedAs k s l e → Ends s
+    will l e k →
     xs ≡ pending s start run will c l ++ ds → cond (is_draw k && will (own_attempt s l))
     (record { caller = e.caller; number = e.found; entry = entry_of s start run l } ∷ xs) xs
     ≡ pending s start run will c (after k s l e)
     ++ cond (is_commit k && (e.found == 3)) (attempt_of s start run c l ∷ ds) ds
-own_step {s = s} start run {will = will} c {l = l} {e = e} {k = Draw} {xs = xs} ds own t a z h = go (cases_Bool (will (own_attempt s l)))
+own_step {s = s} start run {will = will} c {l = l} {e = e} {k = Draw} {xs = xs} ds own t a z h =
+    go (cases_Bool (will (own_attempt s l)))
   where
     before : xs ≡ ds
     before = h ∙ ap (λ ys. ys ++ ds) (none_pending s start run will c l (ap at_drawn a.2.0))
@@ -82,7 +84,8 @@ own_step {s = s} start run {will = will} c {l = l} {e = e} {k = Draw} {xs = xs} 
         ≡ pending s start run will c (after Draw s l e) ++ ds
     go (inl w) = rw (w, own, before) refl
     go (inr w) = rw (w, before) refl
-own_step {s = s} start run {will = will} c {l = l} {e = e} {k = Commit} {xs = xs} ds own t a z h = go (cases_Bool (e.found == 3))
+own_step {s = s} start run {will = will} c {l = l} {e = e} {k = Commit} {xs = xs} ds own t a z h =
+    go (cases_Bool (e.found == 3))
   where
     go : (e.found == 3 ≡ true) ⊎ (e.found == 3 ≡ false) →
         xs ≡ pending s start run will c (after Commit s l e) ++ cond (e.found == 3) (attempt_of s start run c l ∷ ds) ds
@@ -92,7 +95,8 @@ own_step {s = s} start run {will = will} c {l = l} {e = e} {k = Commit} {xs = xs
     go (inr q) =
         h ∙ ap (λ ys. ys ++ ds) (dead_pending s start run will c l (z.fails refl q))
         ∙ ap (λ b. cond b (attempt_of s start run c l ∷ ds) ds) (sym q)
-own_step {s = s} start run {will = will} c {l = l} {k = Quit} {xs = xs} ds own t a z h = go (cases_Bool (at_drawn l.phase))
+own_step {s = s} start run {will = will} c {l = l} {k = Quit} {xs = xs} ds own t a z h =
+    go (cases_Bool (at_drawn l.phase))
   where
     go : (at_drawn l.phase ≡ true) ⊎ (at_drawn l.phase ≡ false) → xs ≡ ds
     go (inl q) = h ∙ ap (λ ys. ys ++ ds) (dead_pending s start run will c l (z.quits refl (at_drawn_is l.phase q)))
@@ -103,19 +107,10 @@ own_step {s = s} start run {will = will} c {l = l} {e = e} {k = k} ds own t a z 
     ∙ sym (none_pending s start run will c (after k s l e) (not_drawn (after k s l e).phase now)))
   where
     before : l.phase ≡ Drawn → ⊥
-    before q = go (drawn_may s c l e k t q a)
-      where
-        go : (k ≡ Check) ⊎ ((k ≡ Commit) ⊎ (k ≡ Quit)) → ⊥
-        go (inl x) = cc
-        go (inr (inl x)) = cc
-        go (inr (inr x)) = cc
+    before q = elim (drawn_may s c l e k t q a) [ inl x ↦ cc | inr (inl x) ↦ cc | inr (inr x) ↦ cc ]
 
     now : (after k s l e).phase ≡ Drawn → ⊥
-    now q = go (drawn_back s l e k q)
-      where
-        go : (k ≡ Draw) ⊎ (l.phase ≡ Drawn) → ⊥
-        go (inl x) = cc
-        go (inr x) = before x
+    now q = elim (drawn_back s l e k q) [ inl x ↦ cc | inr x ↦ before x ]
 
 -- ---- how attempts end
 
@@ -264,7 +259,10 @@ each_is_told s start run core c =
     ∙ ap (λ xs. xs ++ done_by s start run run c) none
   where
     none : pending s start run (will_of s run) c (local s run c) ≡ []
-    none = go (cases_Bool (at_drawn (local s run c).phase))
+    none = elim (cases_Bool (at_drawn (local s run c).phase)) [
+      | inl q ↦ dead_pending s start run (will_of s run) c (local s run c) (dead (at_drawn_is (local s run c).phase q))
+      | inr q ↦ none_pending s start run (will_of s run) c (local s run c) q
+    ]
       where
         dead : (local s run c).phase ≡ Drawn → will_of s run (own_attempt s (local s run c)) ≡ false
         dead ph = by (own_status s run core c known (λ z. cc))
@@ -275,9 +273,3 @@ each_is_told s start run core c =
             by : OwnStatus s run (local s run c) → will_of s run (own_attempt s (local s run c)) ≡ false
             by (inl x) = ap (λ n. n == 4) (x ∙ ap given ph)
             by (inr x) = ap (λ n. n == 4) x
-
-        go : (at_drawn (local s run c).phase ≡ true) ⊎ (at_drawn (local s run c).phase ≡ false) →
-            pending s start run (will_of s run) c (local s run c) ≡ []
-        go (inl q) =
-            dead_pending s start run (will_of s run) c (local s run c) (dead (at_drawn_is (local s run c).phase q))
-        go (inr q) = none_pending s start run (will_of s run) c (local s run c) q

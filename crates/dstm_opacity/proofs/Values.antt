@@ -78,11 +78,10 @@ committed_low s es e v core (inr z) p = low_stays e core z.1 (λ k q. go k (put_
 -- so the value of a settled version stays
 pub value_stays : (s : Shape) (start : List Val) (es : List Event) (e : Event) (o v : ℕ) → Core s (e ∷ es) →
     Settled s es v → version_value s start (e ∷ es) o v ≡ version_value s start es o v
-value_stays s start es e o v core h = go (cases_Bool (v == 0))
-  where
-    go : (v == 0 ≡ true) ⊎ (v == 0 ≡ false) → version_value s start (e ∷ es) o v ≡ version_value s start es o v
-    go (inl q) = rw q refl
-    go (inr q) = rw q (committed_low s es e v core h (let n = eqb-false v 0 q in omega arith))
+value_stays s start es e o v core h = elim (cases_Bool (v == 0)) [
+  | inl q ↦ rw q refl
+  | inr q ↦ rw q (committed_low s es e v core h (let n = eqb-false v 0 q in omega arith))
+]
 
 -- the values read stay
 pub read_values_stay : (s : Shape) (start : List Val) (es : List Event) (e : Event) (rs : List Read) →

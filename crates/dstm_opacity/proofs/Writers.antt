@@ -25,7 +25,10 @@ replaced_finished : (s : Shape) (more es : List Event) (d : Event) → Core s (m
     d.kind ≡ Install → d.found ≡ d.expected → (at (more ++ d ∷ es) d.place ≡ d.put)
     ⊎ (4 ≤ word s (more ++ d ∷ es) (StatusWord (own_attempt s (local s es d.caller))))
 replaced_finished s [] es d core k h = inl (put_at es d d.place refl)
-replaced_finished s (e ∷ more) es d core k h = go (replaced_finished s more es d core.0 k h)
+replaced_finished s (e ∷ more) es d core k h = elim (replaced_finished s more es d core.0 k h) [
+  | inl z ↦ step_on z (objects d.place (step s (more ++ d ∷ es) e core) (rw place_is made.object))
+  | inr z ↦ inr (stays z)
+]
   where
     core_d : Core s (d ∷ es)
     core_d = core_past s more (d ∷ es) core.0
@@ -74,13 +77,6 @@ replaced_finished s (e ∷ more) es d core k h = go (replaced_finished s more es
         let r = replaces s (more ++ d ∷ es) e core i.how.kind (i.how.found ∙ sym i.how.expected) in
         inr (stays (done (subst (λ n. Named s (more ++ d ∷ es) n (word s (more ++ d ∷ es) (OldWord (e.put - 1))))
         (sym i.was ∙ z) r.named)))
-
-    go : (at (more ++ d ∷ es) d.place ≡ d.put)
-        ⊎ (4 ≤ word s (more ++ d ∷ es) (StatusWord (own_attempt s (local s es d.caller)))) →
-        (at (e ∷ (more ++ d ∷ es)) d.place ≡ d.put)
-        ⊎ (4 ≤ word s (e ∷ (more ++ d ∷ es)) (StatusWord (own_attempt s (local s es d.caller))))
-    go (inl z) = step_on z (objects d.place (step s (more ++ d ∷ es) e core) (rw place_is made.object))
-    go (inr z) = inr (stays z)
 
 not_install : {s : Shape} {l : LocalState} {e : Event} {a : ℕ} → StatusMove s l e a → e.kind ≡ Install → ⊥
 not_install (begins b) k = let x = b.kind in cc

@@ -32,7 +32,13 @@ here_more : (s : Shape) (es : List Event) (e : Event) (own m o : ℕ) → Core s
     (word s es (StatusWord own) ≡ 5) ⊎ (at es o ≡ m + 1) →
     (word s (e ∷ es) (StatusWord own) ≡ 5) ⊎ (at (e ∷ es) o ≡ m + 1)
 here_more s es e own m o core a h q st (inl x) = inl (finished_step s es e own core a (omega arith) ∙ x)
-here_more s es e own m o core a h q st (inr x) = go (objects o (step s es e core) h)
+here_more s es e own m o core a h q st (inr x) = elim (objects o (step s es e core) h) [
+  | inl y ↦ inr (y ∙ x)
+  | inr i ↦
+      let r = replaces s es e core i.how.kind (i.how.found ∙ sym i.how.expected) in
+      let d = dead (subst (λ n. Named s es n (word s es (OldWord (e.put - 1)))) (word_is i) r.named) st in
+      inl (finished_step s es e own core a (omega arith) ∙ d)
+]
   where
     less : m + 1 - 1 ≡ m
     less = omega arith
@@ -49,13 +55,6 @@ here_more s es e own m o core a h q st (inr x) = go (objects o (step s es e core
     dead (by_zero z y) (inl lt) = absurd (omega arith)
     dead (by_commit z u y w) (inl lt) = absurd (omega (arith, status_is))
     dead (by_abort z u y w) (inl lt) = absurd (omega (arith, status_is))
-
-    go : (at (e ∷ es) o ≡ at es o) ⊎ Installed s es e o →
-        (word s (e ∷ es) (StatusWord own) ≡ 5) ⊎ (at (e ∷ es) o ≡ m + 1)
-    go (inl y) = inr (y ∙ x)
-    go (inr i) = let r = replaces s es e core i.how.kind (i.how.found ∙ sym i.how.expected) in
-        let d = dead (subst (λ n. Named s es n (word s es (OldWord (e.put - 1)))) (word_is i) r.named) st in
-        inl (finished_step s es e own core a (omega arith) ∙ d)
 
 write_more : {s : Shape} {es : List Event} (e : Event) {own : ℕ} {w : Write} → Core s (e ∷ es) →
     own < s.callers * s.attempts → ((word s es (StatusWord own) < 4) ⊎ (word s es (StatusWord own) ≡ 5)) →
@@ -105,11 +104,10 @@ pub data WritesHow (s : Shape) (l : LocalState) (e : Event) (k : Kind) : Type 0 
 -- writes grow at a successful Install alone
 pub writes_how : (s : Shape) (l : LocalState) (e : Event) (k : Kind) → WritesHow s l e k
 writes_how s l e Begin = cleared refl refl
-writes_how s l e Install = go (cases_Bool (e.found == e.expected))
-  where
-    go : (e.found == e.expected ≡ true) ⊎ (e.found == e.expected ≡ false) → WritesHow s l e Install
-    go (inl q) = added refl (eqb-true e.found e.expected q) (rw q refl)
-    go (inr q) = unchanged (λ z. cc) (rw q refl) (λ _. eqb-false e.found e.expected q)
+writes_how s l e Install = elim (cases_Bool (e.found == e.expected)) [
+  | inl q ↦ added refl (eqb-true e.found e.expected q) (rw q refl)
+  | inr q ↦ unchanged (λ z. cc) (rw q refl) (λ _. eqb-false e.found e.expected q)
+]
 writes_how s l e k = unchanged (λ z. cc) (grind (arith, nat_tests)) (λ z. cc)
 
 -- the write of a successful Install
