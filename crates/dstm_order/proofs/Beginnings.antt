@@ -19,8 +19,9 @@ data Stage (m : Manager) (fresh : Bool) (rank : ℕ) (stamps ranks : List ℕ) (
       l.stamped ≡ true → l.ranked ≡ true → Stage m fresh rank stamps ranks l
 
 -- it keeps where neither the rank nor what was drawn or stored changes
-kept_at : {m : Manager} {fresh : Bool} {rank : ℕ} {stamps ranks : List ℕ} {l : LocalState} (n : LocalState) → n.rank ≡ l.rank →
-    n.stamped ≡ l.stamped → n.ranked ≡ l.ranked → Stage m fresh rank stamps ranks l → Stage m fresh rank stamps ranks n
+kept_at : {m : Manager} {fresh : Bool} {rank : ℕ} {stamps ranks : List ℕ} {l : LocalState} (n : LocalState) →
+    n.rank ≡ l.rank → n.stamped ≡ l.stamped → n.ranked ≡ l.ranked → Stage m fresh rank stamps ranks l →
+    Stage m fresh rank stamps ranks n
 kept_at n r s k (clear a b c d) = clear a b (record { no_stamp = s ∙ c.no_stamp; no_rank = k ∙ c.no_rank }) (r ∙ d)
 kept_at n r s k (drawn a b c d e) = drawn a (b ∙ ap (λ n. n ∷ []) (sym r)) c (s ∙ d) (k ∙ e)
 kept_at n r s k (stored a b c d e f) = stored a b (c ∙ ap (λ n. n ∷ []) (sym r)) (r ∙ d) e (k ∙ f)
@@ -109,11 +110,8 @@ module _ (s : Shape) (fresh : Bool) (rank : ℕ) (stamps ranks : List ℕ) (l : 
 -- behind a Begin nothing is due
 pub none_after : (o : Option Event) (s : Shape) (fresh : Bool) (l : LocalState) (e : Event) →
     IsDue (in_beginning s fresh o l) e → has_begun o ≡ false
-none_after o s fresh l e h = by (cases_Bool (has_begun o))
-  where
-    by : (has_begun o ≡ true) ⊎ (has_begun o ≡ false) → has_begun o ≡ false
-    by (inl q) = absurd (let x : IsDue Done e = rw q at h in x)
-    by (inr q) = q
+none_after o s fresh l e h =
+    elim (cases_Bool (has_begun o)) [ inl q ↦ absurd (let x : IsDue Done e = rw q at h in x) | inr q ↦ q ]
 
 module _ (s : Shape) (fresh : Bool) (l : LocalState) (g : Lcg) (is : IsClear l) where
   abbrev Come : List Event → Type 0
@@ -184,21 +182,18 @@ again_at {m = Greedy} q h = again_ranked refl q h
 
 pub retry_keeps : EveryRetryKeepsItsRank
 retry_keeps s l g [] is h = (refl, refl, λ q. absurd (cc))
-retry_keeps s l g (e ∷ es) is h = by (cases_Bool (is_begin e.kind))
-  where
-    by : (is_begin e.kind ≡ true) ⊎ (is_begin e.kind ≡ false) →
-        (stamps_of (e ∷ es) ≡ []) × ((state_after s l (e ∷ es)).rank ≡ l.rank)
-        × (is_begin e.kind ≡ true → BeginsAgain s.manager l.rank (stamps_of (e ∷ es)) (ranks_of (e ∷ es)))
-    by (inl k) =
-        let b = begun s false l g is e es h k in
-        let kept = again_kept b.come in
-        subst (λ k. (with_stamp k e.found (stamps_of es) ≡ []) × ((after k s (state_after s l es) e).rank ≡ l.rank)
-        × (is_begin k ≡ true →
-        BeginsAgain s.manager l.rank (with_stamp k e.found (stamps_of es)) (with_rank k e.put (ranks_of es))))
-        (sym b.kind) (kept.0, kept.1, λ _. again_at b.may.1 b.come)
-    by (inr n) =
-        let kept = again_kept (comes s false l g is (e ∷ es) h n) in
-        (kept.0, kept.1, λ q. absurd (apart (is_begin e.kind) q n))
+retry_keeps s l g (e ∷ es) is h = elim (cases_Bool (is_begin e.kind)) [
+  | inl k ↦
+      let b = begun s false l g is e es h k in
+      let kept = again_kept b.come in
+      subst (λ k. (with_stamp k e.found (stamps_of es) ≡ []) × ((after k s (state_after s l es) e).rank ≡ l.rank)
+      × (is_begin k ≡ true →
+      BeginsAgain s.manager l.rank (with_stamp k e.found (stamps_of es)) (with_rank k e.put (ranks_of es))))
+      (sym b.kind) (kept.0, kept.1, λ _. again_at b.may.1 b.come)
+  | inr n ↦
+      let kept = again_kept (comes s false l g is (e ∷ es) h n) in
+      (kept.0, kept.1, λ q. absurd (apart (is_begin e.kind) q n))
+]
 
 -- ---- a new transaction
 

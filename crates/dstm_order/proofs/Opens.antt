@@ -84,16 +84,15 @@ next_early k e w m l c h i p = inr (inr (inr (resolving_early w m l c h)))
 
 next_opens : (k : Kind) (e : Event) (w : Work) (m : Manager) (l : LocalState) (c : Effort) → is_open w ≡ true →
     in_open k ≡ true → open_phase l.phase ≡ true → IsOpen (next k e w m l c)
-next_opens k e w m l c h i p = go (next_early k e w m l c h i p)
+next_opens k e w m l c h i p = elim (next_early k e w m l c h i p) [
+  | inl q ↦ at_kind LookSelf q (passed_by IsOpen w m l refl (λ n. refl))
+  | inr (inl q) ↦ at_kind Rank q refl
+  | inr (inr (inl q)) ↦ at_kind Quit q refl
+  | inr (inr (inr early)) ↦ early_opens (next k e w m l c) early
+]
   where
     at_kind : (j : Kind) → k ≡ j → IsOpen (next j e w m l c) → IsOpen (next k e w m l c)
     at_kind j q opens = subst (λ j. IsOpen (next j e w m l c)) (sym q) opens
-
-    go : (k ≡ LookSelf) ⊎ (k ≡ Rank) ⊎ (k ≡ Quit) ⊎ IsEarly (next k e w m l c) → IsOpen (next k e w m l c)
-    go (inl q) = at_kind LookSelf q (passed_by IsOpen w m l refl (λ n. refl))
-    go (inr (inl q)) = at_kind Rank q refl
-    go (inr (inr (inl q))) = at_kind Quit q refl
-    go (inr (inr (inr early))) = early_opens (next k e w m l c) early
 
 -- these events leave the attempt in those phases
 phase_opens : (k : Kind) (s : Shape) (l : LocalState) (e : Event) → in_open k ≡ true → open_phase l.phase ≡ true →

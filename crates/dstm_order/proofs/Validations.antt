@@ -105,7 +105,8 @@ pub record Chain (first last : Kind) (number : LocalState → Option ℕ) (s : S
       ≡ row_by number last (state_after s l es)
 
 -- the first of them
-pub chain_none : {first : Kind} (last : Kind) (number : LocalState → Option ℕ) (s : Shape) (l : LocalState) (w : Work) (g : Lcg)
+pub chain_none : {first : Kind} (last : Kind) (number : LocalState → Option ℕ) (s : Shape) (l : LocalState) (w : Work)
+    (g : Lcg)
     (e : Event) (es : List Event) → e.kind ≡ first → (state_after s l (e ∷ es)).checked ≡ 0 →
     number (state_after s l (e ∷ es)) ≡ Some e.found →
     next e.kind e w s.manager (state_after s l (e ∷ es)) (effort_of s l g (e ∷ es))

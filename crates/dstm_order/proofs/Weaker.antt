@@ -4,7 +4,8 @@ use Rattle.dstm_order.proofs.Base.{AreMade, ByCalls, Call, Lcg, Shape, Task, sta
 use Rattle.dstm_core.proofs.Base.{Event, LocalState, first}
 
 module _ (May Will : LocalState → Task → Type 0) (implies : (l : LocalState) (t : Task) → May l t → Will l t) where
-  pub made_weaker : (s : Shape) (l : LocalState) (g : Lcg) (cs : List Call) → AreMade s l g May cs → AreMade s l g Will cs
+  pub made_weaker : (s : Shape) (l : LocalState) (g : Lcg) (cs : List Call) → AreMade s l g May cs →
+      AreMade s l g Will cs
   made_weaker s l g [] m = tt
   made_weaker s l g (c ∷ cs) m = (made_weaker s l g cs m.0, implies (state_by s l g cs) c.task m.1, m.2)
 

@@ -120,19 +120,11 @@ pub record Undisturbed (s : Shape) (es : List Event) (c : ℕ) : Type 0 where
 -- the words of objects stay, but for the one that an Install replaces
 words_but : (s : Shape) (es : List Event) (e : Event) → Core s (e ∷ es) → (o : ℕ) → o < s.objects →
     o ≢ (res (local s es e.caller)).object → at (e ∷ es) o ≡ at es o
-words_but s es e core o b n = go (objects o (step s es e core) b)
-  where
-    go : (at (e ∷ es) o ≡ at es o) ⊎ Installed s es e o → at (e ∷ es) o ≡ at es o
-    go (inl x) = x
-    go (inr x) = absurd (n x.how.object)
+words_but s es e core o b n = elim (objects o (step s es e core) b) [ inl x ↦ x | inr x ↦ absurd (n x.how.object) ]
 
 words_keep : (s : Shape) (es : List Event) (e : Event) → Core s (e ∷ es) → e.kind ≢ Install → (o : ℕ) →
     o < s.objects → at (e ∷ es) o ≡ at es o
-words_keep s es e core n o b = go (objects o (step s es e core) b)
-  where
-    go : (at (e ∷ es) o ≡ at es o) ⊎ Installed s es e o → at (e ∷ es) o ≡ at es o
-    go (inl x) = x
-    go (inr x) = absurd (n x.how.kind)
+words_keep s es e core n o b = elim (objects o (step s es e core) b) [ inl x ↦ x | inr x ↦ absurd (n x.how.kind) ]
 
 -- ---- no exchange fails
 
@@ -208,17 +200,13 @@ reads_after s es e own k ok but keep i r n =
 pub status_keep : (s : Shape) (es : List Event) (e : Event) (a : ℕ) → Core s (e ∷ es) →
     a < s.callers * s.attempts → e.kind ≢ Begin → e.kind ≢ Kill → a ≢ own_attempt s (local s es e.caller) →
     word s (e ∷ es) (StatusWord a) ≡ word s es (StatusWord a)
-status_keep s es e a core b n k d = go (change (StatusWord a) (step s es e core) b)
+status_keep s es e a core b n k d =
+    elim (change (StatusWord a) (step s es e core) b) [ inl x ↦ x | inr x ↦ absurd (moved x.how) ]
   where
     moved : StatusMove s (local s es e.caller) e a → ⊥
     moved (begins x) = n x.kind
     moved (moves x) = d x.attempt
     moved (kills x) = k x.kind
-
-    go : (word s (e ∷ es) (StatusWord a) ≡ word s es (StatusWord a)) ⊎ Changed s es e (StatusWord a) →
-        word s (e ∷ es) (StatusWord a) ≡ word s es (StatusWord a)
-    go (inl x) = x
-    go (inr x) = absurd (moved x.how)
 
 -- what is known of a resolution stays known at an event that is no Install, no Kill and no Begin
 res_keep : (s : Shape) (es : List Event) (e : Event) (r : Option Resolution) → Core s (e ∷ es) →
@@ -381,12 +369,7 @@ numbers_after e k a f i o w h = numbers_drop e _ (w (λ q. cc)) refl refl (λ d.
 -- the count of numbers stays, but at a Draw
 pub numbers_stay : (s : Shape) (es : List Event) (e : Event) → Core s (e ∷ es) → e.kind ≢ Draw →
     word s (e ∷ es) NumbersWord ≡ word s es NumbersWord
-numbers_stay s es e core n = go (numbers (step s es e core))
-  where
-    go : Same s es e NumbersWord ⊎ ((e.kind ≡ Draw) × (word s (e ∷ es) NumbersWord ≡ word s es NumbersWord + 1)) →
-        word s (e ∷ es) NumbersWord ≡ word s es NumbersWord
-    go (inl x) = x
-    go (inr x) = absurd (n x.0)
+numbers_stay s es e core n = elim (numbers (step s es e core)) [ inl x ↦ x | inr x ↦ absurd (n x.0) ]
 
 -- no Kill of an attempt that is alone is at its own status
 no_own_kill : {s : Shape} {es : List Event} {e : Event} → Core s (e ∷ es) → Undisturbed s es e.caller →

@@ -22,20 +22,17 @@ none_inside w n l f a i q = let x : None ≡ Some a = rw (inside_phase l.phase i
 
 pub none_committed : (w : Work) (n : Option Event) (l : LocalState) (f : Effort) (a : Again) →
     l.committed ≡ true → answer (Doing w) n l f ≡ Some a → ⊥
-none_committed w n l f a c q = go (cases_Bool (is_outside l.phase))
-  where
-    go : (is_outside l.phase ≡ true) ⊎ (is_outside l.phase ≡ false) → ⊥
-    go (inl o) = let x : None ≡ Some a = rw (o, c) at q in cc
-    go (inr o) = let x : None ≡ Some a = rw o at q in cc
+none_committed w n l f a c q = elim (cases_Bool (is_outside l.phase)) [
+  | inl o ↦ let x : None ≡ Some a = rw (o, c) at q in cc
+  | inr o ↦ let x : None ≡ Some a = rw o at q in cc
+]
 
 pub some_cause : (w : Work) (n : Option Event) (l : LocalState) (f : Effort) (a : Again) →
     answer (Doing w) n l f ≡ Some a → cause n l f ≡ a
-some_cause w n l f a q = go (cases_Bool (is_outside l.phase && not l.committed))
-  where
-    go : (is_outside l.phase && not l.committed ≡ true) ⊎ (is_outside l.phase && not l.committed ≡ false) →
-        cause n l f ≡ a
-    go (inl o) = let x : Some (cause n l f) ≡ Some a = rw o at q in cc
-    go (inr o) = absurd (let x : None ≡ Some a = rw o at q in cc)
+some_cause w n l f a q = elim (cases_Bool (is_outside l.phase && not l.committed)) [
+  | inl o ↦ let x : Some (cause n l f) ≡ Some a = rw o at q in cc
+  | inr o ↦ absurd (let x : None ≡ Some a = rw o at q in cc)
+]
 
 pub quit_is : {k : Kind} → k ≡ Quit → is_quit k ≡ true
 quit_is {k = Quit} h = refl
@@ -66,13 +63,12 @@ quit_effort s l f e q = absurd (cc)
 -- why a Quit is due
 quit_why : (s : Shape) (w : Work) (n : Option Event) (l : LocalState) (f : Effort) (e : Event) → l.phase ≢ Outside →
     l.phase ≢ Paused → IsDue (due (Doing w) s n l f) e → e.kind ≡ Quit → (l.stale ≡ true) ⊎ (f.missed == 64 ≡ true)
-quit_why s w n l f e i np d k = go (cases_Bool (l.stale || (f.missed == 64)))
-  where
-    go : (l.stale || (f.missed == 64) ≡ true) ⊎ (l.stale || (f.missed == 64) ≡ false) →
-        (l.stale ≡ true) ⊎ (f.missed == 64 ≡ true)
-    go (inl q) = or_cases l.stale (f.missed == 64) q
-    go (inr q) = absurd (quit_not_due (next_or_first n w s.manager l f) e (newest_no_quit n w s.manager l f np)
-        (rw (inside_phase l.phase i, q) at d) k)
+quit_why s w n l f e i np d k = elim (cases_Bool (l.stale || (f.missed == 64))) [
+  | inl q ↦ or_cases l.stale (f.missed == 64) q
+  | inr q ↦
+      absurd (quit_not_due (next_or_first n w s.manager l f) e (newest_no_quit n w s.manager l f np)
+      (rw (inside_phase l.phase i, q) at d) k)
+]
 
 -- a call's newest event, where the attempt is untouched before it
 newest_answer : (s : Shape) (w : Work) (n : Option Event) (l : LocalState) (f : Effort) (e : Event)
@@ -80,7 +76,10 @@ newest_answer : (s : Shape) (w : Work) (n : Option Event) (l : LocalState) (f : 
     (e.place ≡ place s (StatusWord (own_attempt s l)) → e.found ≡ given l.phase) → IsDue (due (Doing w) s n l f) e →
     answer (Doing w) (Some e) (after e.kind s l e) (effort_after e.kind s.manager l f e) ≡ Some a →
     (a ≢ Killed) × (a ≢ Waited)
-newest_answer s w n l f e a al i np own d q = go (is_outside_now (after e.kind s l e).phase)
+newest_answer s w n l f e a al i np own d q = elim (is_outside_now (after e.kind s l e).phase) [
+  | inl o ↦ left (left_by s l e e.kind al own i o)
+  | inr x ↦ absurd (none_inside w (Some e) m h a x q)
+]
   where
     m : LocalState
     m = after e.kind s l e
@@ -97,10 +96,6 @@ newest_answer s w n l f e a al i np own d q = go (is_outside_now (after e.kind s
     left : (e.kind ≡ Quit) ⊎ ((after e.kind s l e).committed ≡ true) → (a ≢ Killed) × (a ≢ Waited)
     left (inl k) = quits k (quit_why s w n l f e i np d k)
     left (inr c) = absurd (none_committed w (Some e) m h a c q)
-
-    go : ((after e.kind s l e).phase ≡ Outside) ⊎ ((after e.kind s l e).phase ≢ Outside) → (a ≢ Killed) × (a ≢ Waited)
-    go (inl o) = left (left_by s l e e.kind al own i o)
-    go (inr x) = absurd (none_inside w (Some e) m h a x q)
 
 -- ---- a call on an attempt that began as the oldest
 

@@ -103,11 +103,10 @@ at_rest s l g (e ∷ es) o q =
     absurd (let x : IsDue Done e = rw here at o.1 in x)
 
 outside_at : (l : LocalState) → (if is_outside l.phase then Done else just Quit) ≡ Done → l.phase ≡ Outside
-outside_at l q = go (is_outside_now l.phase)
-  where
-    go : (l.phase ≡ Outside) ⊎ (l.phase ≢ Outside) → l.phase ≡ Outside
-    go (inl o) = o
-    go (inr i) = absurd (let z : just Quit ≡ Done = rw (inside_phase l.phase i) at q in cc)
+outside_at l q = elim (is_outside_now l.phase) [
+  | inl o ↦ o
+  | inr i ↦ absurd (let z : just Quit ≡ Done = rw (inside_phase l.phase i) at q in cc)
+]
 
 pub leaving : EveryLeaving
 leaving = λ s c g events before run h.

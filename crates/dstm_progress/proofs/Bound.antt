@@ -55,7 +55,8 @@ some_not_none {o = (Some n)} h q = cc
 stage_done : {s : Shape} {w : Work} {l : LocalState} {f : Effort} {d : Due} {n : ℕ} → Stage s w l f d n →
     d ≡ Done → AtRest l × (closes w ≡ false)
 stage_done (opening op o h st un rm) z = absurd (cc)
-stage_done {s = s} {w = w} {l = l} {f = f} (resolving op h st un rm) z = absurd (resolving_due s.manager w l f op st.phase (sym h
+stage_done {s = s} {w = w} {l = l} {f = f} (resolving op h st un rm) z =
+    absurd (resolving_due s.manager w l f op st.phase (sym h
     ∙ z))
 stage_done (owning op h st un rm) z = absurd (cc)
 stage_done (installing op h st un rm) z = absurd (cc)
@@ -255,7 +256,8 @@ call_done {s = s} c {w = w} {g = g} {events = events} es h call =
     ∙ call.done
 
 -- one call more
-more_spend : {s : Shape} (c : ℕ) {w : Work} {g : Lcg} {events : List Event} (es : List Event) (most : ℕ) (made : List Event) →
+more_spend : {s : Shape} (c : ℕ) {w : Work} {g : Lcg} {events : List Event} (es : List Event) (most : ℕ)
+    (made : List Event) →
     AreOf c events → Core s (events ++ es) → IsUnmet s c es → IsCall (Doing w) s (local s es c) g events →
     AllSpend s es c most (length made) → (all : ℕ) → all ≡ price s.manager w + most →
     AllSpend s (events ++ es) c all (length (events ++ made))

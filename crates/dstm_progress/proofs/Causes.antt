@@ -178,7 +178,17 @@ cause_in : (w : Work) (s : Shape) (c : ℕ) (g : Lcg) (events before run : List 
     answer_of (Doing w) s (local s before c) g events ≡ Some again → Causes again s (local s before c) events
 cause_in w s c g [] before run again core own o h now q =
     absurd (none_inside w None (local s before c) (effort_of s (local s before c) g []) again now.live q)
-cause_in w s c g (e ∷ es) before run again core own o h now q = go (cases_Bool (is_quit e.kind))
+cause_in w s c g (e ∷ es) before run again core own o h now q = elim (cases_Bool (is_quit e.kind)) [
+  | inl k ↦
+      quits w s l g e es o (allowed_own s c run before (e ∷ es) core own).0 h now.agreed (quit_kind e.kind k)
+      inside (rw k at why)
+  | inr k ↦
+      let left = has_left w (Some e) new f again q in
+      let is : Killed ≡ again = rw k at why in
+      subst (λ a. Causes a s (local s before c) (e ∷ es)) is
+      (killed w s c g e es before run core own o (h.number (h.begun now.live)) inside left.0 left.1
+      (λ z. let x = quit_is z in cc))
+]
   where
     l : LocalState
     l = local s before c
@@ -194,17 +204,6 @@ cause_in w s c g (e ∷ es) before run again core own o h now q = go (cases_Bool
 
     why : cause (Some e) new f ≡ again
     why = some_cause w (Some e) new f again q
-
-    go : (is_quit e.kind ≡ true) ⊎ (is_quit e.kind ≡ false) → Causes again s (local s before c) (e ∷ es)
-    go (inl k) =
-        quits w s l g e es o (allowed_own s c run before (e ∷ es) core own).0 h now.agreed (quit_kind e.kind k)
-        inside (rw k at why)
-    go (inr k) =
-        let left = has_left w (Some e) new f again q in
-        let is : Killed ≡ again = rw k at why in
-        subst (λ a. Causes a s (local s before c) (e ∷ es)) is
-        (killed w s c g e es before run core own o (h.number (h.begun now.live)) inside left.0 left.1
-        (λ z. let x = quit_is z in cc))
 
 pub again_has_its_cause : EveryAgainHasItsCause
 again_has_its_cause = λ w s c g events before run again h now q.

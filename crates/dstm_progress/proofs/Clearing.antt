@@ -19,7 +19,8 @@ clear_inside : (s : Shape) {l : LocalState} (e : Event) (k : Kind) → AllowedAs
 clear_inside s e Stamp a i h = absurd (i a.2.0)
 clear_inside s {l = l} e Rank a i h = record { no_stamp = h.no_stamp; no_rank = inside_phase l.phase i }
 clear_inside s e Begin a i h = record { no_stamp = refl; no_rank = refl }
-clear_inside s e k a i h = record { no_stamp = grind (arith, nat_tests, h.no_stamp); no_rank = grind (arith, nat_tests, h.no_rank) }
+clear_inside s e k a i h =
+    record { no_stamp = grind (arith, nat_tests, h.no_stamp); no_rank = grind (arith, nat_tests, h.no_rank) }
 
 clear_at : (s : Shape) (l : LocalState) (e : Event) {k : Kind} → e.kind ≡ k → IsClear (after k s l e) →
     IsClear (after e.kind s l e)
@@ -74,7 +75,8 @@ module _ (s : Shape) {l : LocalState} (g : Lcg) (clear : IsClear l) where
       by es h (inr q) =
           none es (goes_so_far fresh es h.obeys q) (spent_at fresh s (newest_of es) (state_after s l es) q h.done).1
 
-  does_clear : (w : Work) (es : List Event) → AreAllowed s l es → Obeys (Doing w) s l g es → IsClear (state_after s l es)
+  does_clear : (w : Work) (es : List Event) → AreAllowed s l es → Obeys (Doing w) s l g es →
+      IsClear (state_after s l es)
   does_clear w [] a h = clear
   does_clear w (e ∷ es) a h =
       clear_inside s e e.kind a.1

@@ -75,26 +75,23 @@ module _ (v : ℕ → Val) where
 
   commit_leaves : {s : Shape} {l : LocalState} {g : Lcg} {es : List Event} →
       IsCall (Doing (Committing v)) s l g es → (state_after s l es).phase ≡ Outside
-  commit_leaves {s = s} {l = l} {g = g} {es = es} h = go (is_outside_now (state_after s l es).phase)
-    where
-      go : ((state_after s l es).phase ≡ Outside) ⊎ ((state_after s l es).phase ≢ Outside) →
-          (state_after s l es).phase ≡ Outside
-      go (inl o) = o
-      go (inr i) =
-          let f = effort_of s l g es in
-          let now = state_after s l es in
-          let two = unless_quit (Committing v) s (newest_of es) now f i h.done (λ z. cc) in
-          absurd (not_done (rows s l g es h.obeys i)
-          (table_says (Committing v) s (newest_of es) now f i two.0 two.1 h.done))
+  commit_leaves {s = s} {l = l} {g = g} {es = es} h = elim (is_outside_now (state_after s l es).phase) [
+    | inl o ↦ o
+    | inr i ↦
+        let f = effort_of s l g es in
+        let now = state_after s l es in
+        let two = unless_quit (Committing v) s (newest_of es) now f i h.done (λ z. cc) in
+        absurd (not_done (rows s l g es h.obeys i)
+        (table_says (Committing v) s (newest_of es) now f i two.0 two.1 h.done))
+  ]
 
 -- a call that has left its attempt and does not answer Again has committed
 no_again : (w : Work) (n : Option Event) (l : LocalState) (f : Effort) → l.phase ≡ Outside →
     answer (Doing w) n l f ≡ None → l.committed ≡ true
-no_again w n l f o q = go (cases_Bool l.committed)
-  where
-    go : (l.committed ≡ true) ⊎ (l.committed ≡ false) → l.committed ≡ true
-    go (inl c) = c
-    go (inr c) = absurd (let x : Some (cause n l f) ≡ None = rw (ap is_outside o, c) at q in cc)
+no_again w n l f o q = elim (cases_Bool l.committed) [
+  | inl c ↦ c
+  | inr c ↦ absurd (let x : Some (cause n l f) ≡ None = rw (ap is_outside o, c) at q in cc)
+]
 
 pub commit_ends : EveryCommitEnds
 commit_ends = λ v s c g events before run h i q.

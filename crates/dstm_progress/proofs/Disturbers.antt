@@ -82,11 +82,10 @@ module _ (s : Shape) (es : List Event) (e : Event) (core : Core s (e ∷ es)) wh
 
   fine_aborted : Fine s es e.caller → finds_aborted s l e ≡ false
   fine_aborted (inl o) = rw (early_apart e.kind (early s l e e.kind core.1.allowed o)) refl
-  fine_aborted (inr u) = by (cases_Bool (is_at_own e.kind))
-    where
-      by : (is_at_own e.kind ≡ true) ⊎ (is_at_own e.kind ≡ false) → finds_aborted s l e ≡ false
-      by (inl q) = rw (q, own_status_found e core u (at_own_place s l e e.kind core.1.allowed q)) (given_live l.phase)
-      by (inr q) = rw q refl
+  fine_aborted (inr u) = elim (cases_Bool (is_at_own e.kind)) [
+    | inl q ↦ rw (q, own_status_found e core u (at_own_place s l e e.kind core.1.allowed q)) (given_live l.phase)
+    | inr q ↦ rw q refl
+  ]
 
   fine_hits : Fine s es e.caller → fails s l e ≡ false
   fine_hits (inl o) = early_hits e.kind e (early s l e e.kind core.1.allowed o)
@@ -240,7 +239,8 @@ by_another s later begin before core k few h = by (own_or_other begin.caller lat
         found q (gave_way g x) = let y = few g in omega arith
 
 alone_is_not : {s : Shape} {log : List Event} {c i : ℕ} → Core s log → AreOf c log → Disturbed s log c i → ⊥
-alone_is_not {s = s} {log = log} {c = c} {i = i} core own h = found (subst (λ xs. Quiet s c i xs []) (append-nil log) now) h
+alone_is_not {s = s} {log = log} {c = c} {i = i} core own h =
+    found (subst (λ xs. Quiet s c i xs []) (append-nil log) now) h
   where
     now : Quiet s c i (log ++ []) []
     now = quiet s c i log [] (subst (Core s) (sym (append-nil log)) core) own (inl refl)
@@ -252,18 +252,15 @@ alone_is_not {s = s} {log = log} {c = c} {i = i} core own h = found (subst (λ x
     found q (gave_way g x) = let a = (alone s c i log core own).none in omega arith
 
 pub beside_another : DisturbedBesideAnother
-beside_another s log c i core h = by (own_or_other c log)
-  where
-    by : AreOf c log ⊎ HasOther c log → HasOther c log
-    by (inr x) = x
-    by (inl own) = absurd (alone_is_not core own h)
+beside_another s log c i core h = elim (own_or_other c log) [ inr x ↦ x | inl own ↦ absurd (alone_is_not core own h) ]
 
 stranger_is_not : {s : Shape} {log : List Event} {c i : ℕ} → Core s log → s.callers ≤ c → Disturbed s log c i → ⊥
 stranger_is_not {s = s} {log = log} {c = c} {i = i} core b (became_stale x) =
     let a = none_of_strangers finds_stale s log c i core b in omega arith
 stranger_is_not {s = s} {log = log} {c = c} {i = i} core b (was_aborted x) =
     let a = none_of_strangers finds_aborted s log c i core b in omega arith
-stranger_is_not {s = s} {log = log} {c = c} {i = i} core b (missed x) = let a = none_of_strangers fails s log c i core b in omega arith
+stranger_is_not {s = s} {log = log} {c = c} {i = i} core b (missed x) =
+    let a = none_of_strangers fails s log c i core b in omega arith
 stranger_is_not {s = s} {log = log} {c = c} {i = i} core b (gave_way g x) =
     let a = none_of_strangers gives_way s log c i core b in omega arith
 

@@ -20,11 +20,10 @@ use Rattle.dstm_progress.proofs.Sound.{sound}
 
 pub below : (s : Shape) (es : List Event) → Core s es → (c : ℕ) → is_some (local s es c).number ≡ true → c < s.callers
 below s [] core c h = absurd (cc)
-below s (e ∷ es) core c h = go (cases_eq e.caller c) (below s es core.0 c)
-  where
-    go : (e.caller ≡ c) ⊎ (e.caller ≡ c → ⊥) → (is_some (local s es c).number ≡ true → c < s.callers) → c < s.callers
-    go (inl q) ih = subst (λ c. c < s.callers) q core.1.caller
-    go (inr n) ih = ih (subst (λ (l : LocalState). is_some l.number ≡ true) (local_other s es e c n) h)
+below s (e ∷ es) core c h = elim (cases_eq e.caller c) [
+  | inl q ↦ subst (λ c. c < s.callers) q core.1.caller
+  | inr n ↦ below s es core.0 c (subst (λ (l : LocalState). is_some l.number ≡ true) (local_other s es e c n) h)
+]
 
 pub named : (s : Shape) (es : List Event) → Core s es → (c : ℕ) → is_some (local s es c).number ≡ true →
     (local s es c).number ≡ Some c
@@ -74,12 +73,7 @@ left_word (by_other q f c p) = rw c p
 
 -- an event that is no Begin begins no attempt, as none does after which no attempt is under way
 pub no_begin : (s : Shape) (l : LocalState) (e : Event) (k : Kind) → k ≢ Begin → (after k s l e).begun ≡ l.begun
-no_begin s l e k n = go (begun_how s l e k)
-  where
-    go : ((k ≡ Begin) × ((after k s l e).begun ≡ l.begun + 1)) ⊎ ((k ≢ Begin) × ((after k s l e).begun ≡ l.begun)) →
-        (after k s l e).begun ≡ l.begun
-    go (inl x) = absurd (n x.0)
-    go (inr x) = x.1
+no_begin s l e k n = elim (begun_how s l e k) [ inl x ↦ absurd (n x.0) | inr x ↦ x.1 ]
 
 not_begun : (s : Shape) (l : LocalState) (e : Event) (k : Kind) → (after k s l e).phase ≡ Outside → k ≢ Begin
 not_begun s l e Begin o q = cc
@@ -99,30 +93,34 @@ ended_own : (s : Shape) (es : List Event) (e : Event) → Core s (e ∷ es) →
     ((local s es e.caller).phase ≡ Outside → 0 < (local s es e.caller).begun → Ended s es (local s es e.caller)) →
     (after e.kind s (local s es e.caller) e).phase ≡ Outside →
     0 < (after e.kind s (local s es e.caller) e).begun → Ended s (e ∷ es) (after e.kind s (local s es e.caller) e)
-ended_own s es e core ih o b = go (is_outside_now (local s es e.caller).phase)
+ended_own s es e core ih o b = elim (is_outside_now (local s es e.caller).phase) [
+  | inr i ↦
+      let h = left_in s es e core i o in
+      ap (λ a. word s (e ∷ es) (StatusWord a)) h.same ∙ put_at es e _ h.at
+      ∙ left_word h.how
+  | inl p ↦
+      let keeps = outside_keeps s (local s es e.caller) e e.kind core.1.allowed
+      ((sound s es core.0 e.caller).number old) p o in
+      let was = ih p old in
+      ap (λ a. word s (e ∷ es) (StatusWord a)) keeps.0
+      ∙ finished_step s es e (own_attempt s (local s es e.caller)) core (own_below s es core.0 e.caller old)
+      (rw was (ended_finished (local s es e.caller).committed))
+      ∙ was ∙ ap ended_as (sym keeps.1)
+]
   where
     old : 0 < (local s es e.caller).begun
     old = let x = no_begin s (local s es e.caller) e e.kind
         (not_begun s (local s es e.caller) e e.kind o) in omega arith
 
-    go : ((local s es e.caller).phase ≡ Outside) ⊎ ((local s es e.caller).phase ≢ Outside) →
-        Ended s (e ∷ es) (after e.kind s (local s es e.caller) e)
-    go (inr i) = let h = left_in s es e core i o in
-        ap (λ a. word s (e ∷ es) (StatusWord a)) h.same ∙ put_at es e _ h.at
-        ∙ left_word h.how
-    go (inl p) =
-        let keeps = outside_keeps s (local s es e.caller) e e.kind core.1.allowed
-        ((sound s es core.0 e.caller).number old) p o in
-        let was = ih p old in
-        ap (λ a. word s (e ∷ es) (StatusWord a)) keeps.0
-        ∙ finished_step s es e (own_attempt s (local s es e.caller)) core (own_below s es core.0 e.caller old)
-        (rw was (ended_finished (local s es e.caller).committed))
-        ∙ was ∙ ap ended_as (sym keeps.1)
-
 pub ended : (s : Shape) (es : List Event) → Core s es → (c : ℕ) → (local s es c).phase ≡ Outside →
     0 < (local s es c).begun → Ended s es (local s es c)
 ended s [] core c o b = absurd (omega arith)
-ended s (e ∷ es) core c o b = go (cases_eq e.caller c) (λ d. ended s es core.0 d) o b
+ended s (e ∷ es) core c o b = elim (cases_eq e.caller c) [
+  | inl q ↦
+      subst (λ c. (local s (e ∷ es) c).phase ≡ Outside → 0 < (local s (e ∷ es) c).begun →
+      Ended s (e ∷ es) (local s (e ∷ es) c)) q (own (ended s es core.0 e.caller)) o b
+  | inr n ↦ other (ended s es core.0 c) n o b
+]
   where
     Before : ℕ → Type 0
     Before d = (local s es d).phase ≡ Outside → 0 < (local s es d).begun → Ended s es (local s es d)
@@ -143,12 +141,6 @@ ended s (e ∷ es) core c o b = go (cases_eq e.caller c) (λ d. ended s es core.
         subst (Ended s (e ∷ es)) (sym now)
         (finished_step s es e (own_attempt s (local s es c)) core (own_below s es core.0 c b')
         (rw was (ended_finished (local s es c).committed)) ∙ was)
-
-    go : (e.caller ≡ c) ⊎ (e.caller ≡ c → ⊥) → ((d : ℕ) → Before d) → (local s (e ∷ es) c).phase ≡ Outside →
-        0 < (local s (e ∷ es) c).begun → Ended s (e ∷ es) (local s (e ∷ es) c)
-    go (inl q) ih o b = subst (λ c. (local s (e ∷ es) c).phase ≡ Outside → 0 < (local s (e ∷ es) c).begun →
-        Ended s (e ∷ es) (local s (e ∷ es) c)) q (own (ih e.caller)) o b
-    go (inr n) ih o b = other (ih c) n o b
 
 pub end_stays : EveryEndStays
 end_stays = λ s run c o b later core.

@@ -94,8 +94,8 @@ not_begun = none_after
 -- ---- the calls
 
 module _ (s : Shape) (l : LocalState) (g : Lcg) where
-  pub still_new : (fresh : Bool) (es : List Event) → Obeys (Beginning fresh) s l g es → has_begun (newest_of es) ≡ false →
-      is_new (state_after s l es) ≡ is_new l
+  pub still_new : (fresh : Bool) (es : List Event) → Obeys (Beginning fresh) s l g es →
+      has_begun (newest_of es) ≡ false → is_new (state_after s l es) ≡ is_new l
   still_new fresh [] h not_yet = refl
   still_new fresh (e ∷ es) h not_yet =
       beginning_same s fresh (state_after s l es) e (newest_of es) h.1 not_yet
@@ -167,7 +167,8 @@ log_keeps : (s : Shape) (c : ℕ) (log : List Event) → AllKeep s first (events
 log_keeps s c [] h = tt
 log_keeps s c (e ∷ es) h = by (λ own. log_keeps s c es own) (cases_Bool (e.caller == c))
   where
-    by : (AllKeep s first (events_of c es) → KeepsAll s c es) → (e.caller == c ≡ true) ⊎ (e.caller == c ≡ false) → KeepsAll s c (e ∷ es)
+    by : (AllKeep s first (events_of c es) → KeepsAll s c es) → (e.caller == c ≡ true) ⊎ (e.caller == c ≡ false) →
+        KeepsAll s c (e ∷ es)
     by ih (inl q) =
         let own : AllKeep s first (e ∷ events_of c es) = subst (AllKeep s first) (own_first e es c q) h in
         (ih own.0, λ here. subst (λ l. KeepsRank l e) (sym (whole_state s c es)) own.1)

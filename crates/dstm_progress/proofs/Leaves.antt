@@ -33,13 +33,12 @@ by_exchange : (s : Shape) (l : LocalState) (e : Event) (k : Kind) (expected valu
     ((e.found == expected) ≡ false → own_attempt s (after k s l e) ≡ own_attempt s l) →
     ((e.found == expected) ≡ false → (after k s l e).committed ≡ false) →
     e.put ≡ cond (e.found == expected) value e.found → Left s l e k
-by_exchange s l e k expected value at own same other found keeps none put = go (cases_Bool (e.found == expected))
-  where
-    go : ((e.found == expected) ≡ true) ⊎ ((e.found == expected) ≡ false) → Left s l e k
-    go (inl q) = absurd (other q)
-    go (inr q) =
-        let five = aborted e expected q (subst (λ g. (e.found ≡ g) ⊎ (e.found ≡ 5)) same found) in
-        by_another s l e k at own (keeps q) five (none q) (put ∙ rw q five)
+by_exchange s l e k expected value at own same other found keeps none put = elim (cases_Bool (e.found == expected)) [
+  | inl q ↦ absurd (other q)
+  | inr q ↦
+      let five = aborted e expected q (subst (λ g. (e.found ≡ g) ⊎ (e.found ≡ 5)) same found) in
+      by_another s l e k at own (keeps q) five (none q) (put ∙ rw q five)
+]
 
 pub left_how : (s : Shape) (l : LocalState) (e : Event) (k : Kind) → AllowedAs k s l e → l.phase ≢ Outside →
     l.committed ≡ false → (after k s l e).phase ≡ Outside →

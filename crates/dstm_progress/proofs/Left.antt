@@ -81,7 +81,12 @@ last_event {s = s} {es = es} e {c = c} w f a q core u m z =
     own : Undisturbed s es e.caller →
         answer (Doing w) (Some e) (after e.kind s (local s es e.caller) e)
         (effort_after e.kind s.manager (local s es e.caller) f e) ≡ Some a → a ≡ Waited
-    own u z = go (is_outside_now (after e.kind s (local s es e.caller) e).phase)
+    own u z = elim (is_outside_now (after e.kind s (local s es e.caller) e).phase) [
+      | inl o ↦
+          left (left_by s (local s es e.caller) e e.kind core.1.allowed
+          (own_status_found e core u) u.inside o)
+      | inr i ↦ absurd (none_inside w (Some e) l h a i z)
+    ]
       where
         l : LocalState
         l = after e.kind s (local s es e.caller) e
@@ -95,17 +100,12 @@ last_event {s = s} {es = es} e {c = c} w f a q core u m z =
             (some_cause w (Some e) l h a z)
         left (inr c) = absurd (none_committed w (Some e) l h a c z)
 
-        go : ((after e.kind s (local s es e.caller) e).phase ≡ Outside)
-            ⊎ ((after e.kind s (local s es e.caller) e).phase ≢ Outside) → a ≡ Waited
-        go (inl o) = left (left_by s (local s es e.caller) e e.kind core.1.allowed
-            (own_status_found e core u) u.inside o)
-        go (inr i) = absurd (none_inside w (Some e) l h a i z)
-
 -- a call of an attempt that is alone
-last_call : {s : Shape} {c : ℕ} (w : Work) (g : Lcg) (events : List Event) {es : List Event} (a : Again) → AreOf c events →
-    Core s (events ++ es) → Obeys (Doing w) s (local s es c) g events → Undisturbed s es c →
+last_call : {s : Shape} {c : ℕ} (w : Work) (g : Lcg) (events : List Event) {es : List Event} (a : Again) →
+    AreOf c events → Core s (events ++ es) → Obeys (Doing w) s (local s es c) g events → Undisturbed s es c →
     answer_of (Doing w) s (local s es c) g events ≡ Some a → a ≡ Waited
-last_call {s = s} {c = c} w g [] {es = es} a h core o u z = absurd (none_inside w None (local s es c) (no_effort g) a u.inside z)
+last_call {s = s} {c = c} w g [] {es = es} a h core o u z =
+    absurd (none_inside w None (local s es c) (no_effort g) a u.inside z)
 last_call {s = s} {c = c} w g (e ∷ events) {es = es} a h core o u z =
     let l = local_after s c events es h.1 in
     let f = effort_of s (local s es c) g events in

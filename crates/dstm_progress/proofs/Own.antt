@@ -28,18 +28,17 @@ state_both s = runs.state_both core s
 pub own_allowed : (s : Shape) (c : ℕ) (later es : List Event) → Core s (later ++ es) →
     AreAllowed s (local s es c) (events_of c later)
 own_allowed s c [] es core = tt
-own_allowed s c (e ∷ later) es core = go (cases_eq e.caller c) (own_allowed s c later es core.0)
+own_allowed s c (e ∷ later) es core = elim (cases_eq e.caller c) [
+  | inl q ↦
+      subst (λ c. AreAllowed s (local s es c) (events_of c later) →
+      AreAllowed s (local s es c) (events_of c (e ∷ later))) q own (own_allowed s c later es core.0)
+  | inr n ↦ subst (AreAllowed s (local s es c)) (sym (runs.others_event c e later n)) (own_allowed s c later es core.0)
+]
   where
     own : AreAllowed s (local s es e.caller) (events_of e.caller later) →
         AreAllowed s (local s es e.caller) (events_of e.caller (e ∷ later))
     own ih = subst (AreAllowed s (local s es e.caller)) (sym (runs.own_event e later))
         (ih, subst (λ l. AllowedAs e.kind s l e) (own_state s e.caller later es) core.1.allowed)
-
-    go : (e.caller ≡ c) ⊎ (e.caller ≡ c → ⊥) → AreAllowed s (local s es c) (events_of c later) →
-        AreAllowed s (local s es c) (events_of c (e ∷ later))
-    go (inl q) ih = subst (λ c. AreAllowed s (local s es c) (events_of c later) →
-        AreAllowed s (local s es c) (events_of c (e ∷ later))) q own ih
-    go (inr n) ih = subst (AreAllowed s (local s es c)) (sym (runs.others_event c e later n)) ih
 
 pub allowed_split : (s : Shape) (l : LocalState) (xs ys : List Event) → AreAllowed s l (xs ++ ys) →
     AreAllowed s (state_after s l ys) xs × AreAllowed s l ys

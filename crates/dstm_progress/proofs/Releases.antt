@@ -26,7 +26,8 @@ table_no o w m l f held = table_by NoRelease o w m l f steps
     steps : EachStep NoRelease w
     steps = record { done = tt; step = λ k n q. no_release k (λ z. let x = ap is_step z in cc); release = held }
 
-due_no : (t : Task) (s : Shape) (o : Option Event) (l m : LocalState) (f : Effort) → KeepsReads m t → NoRelease (due t s o l f)
+due_no : (t : Task) (s : Shape) (o : Option Event) (l m : LocalState) (f : Effort) → KeepsReads m t →
+    NoRelease (due t s o l f)
 due_no Enrolling s o l m f h = cond_both (is_some l.number) _ _ NoRelease (λ _. tt) (λ _. refl)
 due_no (Beginning fresh) s o l m f h = beginning_by NoRelease s fresh o l tt refl (λ _ _. refl) (λ _. refl) refl
 due_no Leaving s o l m f h = cond_both (is_outside l.phase) _ _ NoRelease (λ _. tt) (λ _. refl)
@@ -49,7 +50,8 @@ none_both : (xs ys : List Event) → NoneIn xs → NoneIn ys → NoneIn (xs ++ y
 none_both [] ys a b = b
 none_both (x ∷ xs) ys a b = (none_both xs ys a.0 b, a.1)
 
-pub call_none : (t : Task) (s : Shape) (l : LocalState) (g : Lcg) (es : List Event) → KeepsReads l t → Obeys t s l g es → NoneIn es
+pub call_none : (t : Task) (s : Shape) (l : LocalState) (g : Lcg) (es : List Event) → KeepsReads l t →
+    Obeys t s l g es → NoneIn es
 call_none t s l g [] may h = tt
 call_none t s l g (e ∷ es) may h = (
   call_none t s l g es may h.0,
@@ -57,7 +59,8 @@ call_none t s l g (e ∷ es) may h = (
       (due_no t s (newest_of es) (state_after s l es) l (effort_of s l g es) may) h.1,
 )
 
-calls_none : (s : Shape) (l : LocalState) (g : Lcg) (cs : List Call) → AreMade s l g KeepsReads cs → NoneIn (events_in cs)
+calls_none : (s : Shape) (l : LocalState) (g : Lcg) (cs : List Call) → AreMade s l g KeepsReads cs →
+    NoneIn (events_in cs)
 calls_none s l g [] m = tt
 calls_none s l g (c ∷ cs) m =
     none_both c.events (events_in cs)

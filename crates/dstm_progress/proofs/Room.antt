@@ -121,7 +121,8 @@ looking_most : (m : Manager) (r : Resolution) (t most : ℕ) → 1 ≤ most → 
     (is_none r.high ≡ true → 2 ≤ most) → looking m r t ≤ most
 looking_most m r t most one owner status rank live three two =
     cond_both (is_resolved r) _ _ (λ n. n ≤ most) (λ _. omega arith) (λ _.
-    cond_both (is_none r.owner) _ _ (λ n. n ≤ most) owner (λ _. cond_both (is_none r.status) _ _ (λ n. n ≤ most) status (λ _.
+    cond_both (is_none r.owner) _ _ (λ n. n ≤ most) owner
+    (λ _. cond_both (is_none r.status) _ _ (λ n. n ≤ most) status (λ _.
     cond_both (is_live (or_zero r.status)) _ _ (λ n. n ≤ most)
     (λ l. cond_both (has_ranks m && is_none r.rank) _ _ (λ n. n ≤ most) (rank l) (λ _. live l)) (λ _.
     cond_both (is_none (version r)) _ _ (λ n. n ≤ most) three (λ _.

@@ -32,8 +32,8 @@ due_kind {d = d} k o e h i = let x : IsDue (Step k o) e = subst (λ d. IsDue d e
 none_due : {d : Due} (e : Event) → d ≡ Done → IsDue d e → ⊥
 none_due {d = d} e h i = let x : IsDue Done e = subst (λ d. IsDue d e) h i in x
 
-still_at : {l : LocalState} (m : LocalState) → m.phase ≡ l.phase → m.written ≡ l.written → m.high_put ≡ l.high_put → Still l →
-    Still m
+still_at : {l : LocalState} (m : LocalState) → m.phase ≡ l.phase → m.written ≡ l.written → m.high_put ≡ l.high_put →
+    Still l → Still m
 still_at m p w h st = record { phase = p ∙ st.phase; written = w ∙ st.written; high = h ∙ st.high }
 
 -- ---- resolving
@@ -318,7 +318,12 @@ passing_step : {s : Shape} (w : Work) {l : LocalState} (f : Effort) (n : ℕ) {e
     closes w ≡ false → Still l → is_some l.pass ≡ true → 1 + tail w + unchecked l ≤ n → IsDue (in_pass l) e →
     NextStage s w e l f n e.kind
 passing_step {s = s} w {l = l} f n {e = e} fa cl st ps rm i =
-    go (cases_Bool (l.checked == length l.reads || is_same l.last_pass l.pass))
+    elim (cases_Bool (l.checked == length l.reads || is_same l.last_pass l.pass)) [
+      | inl q ↦ let j : IsDue (just LookSelf) e = rw q at i in look j.0
+      | inr q ↦
+          let j : IsDue (just Check) e = rw q at i in
+          check (not_same l.last_pass l.pass refl refl (or_parts _ _ q).1) j.0
+    ]
   where
     look : e.kind ≡ LookSelf → NextStage s w e l f n e.kind
     look k =
@@ -350,12 +355,6 @@ passing_step {s = s} w {l = l} f n {e = e} fa cl st ps rm i =
               (still_at _ refl refl refl st) ps (omega arith);
           falls = omega arith;
         })
-
-    go : (l.checked == length l.reads || is_same l.last_pass l.pass ≡ true)
-        ⊎ (l.checked == length l.reads || is_same l.last_pass l.pass ≡ false) → NextStage s w e l f n e.kind
-    go (inl q) = let j : IsDue (just LookSelf) e = rw q at i in look j.0
-    go (inr q) = let j : IsDue (just Check) e = rw q at i in
-        check (not_same l.last_pass l.pass refl refl (or_parts _ _ q).1) j.0
 
 passed_step : (s : Shape) (w : Work) {l : LocalState} (f : Effort) (n : ℕ) (e : Event) → closes w ≡ false → Still l →
     is_some l.last_pass ≡ true → tail w ≤ n → IsDue (when_passed w s.manager l) e → NextStage s w e l f n e.kind
@@ -391,7 +390,8 @@ releasing_step s w {l = l} f n e cl st bl rm k = subst (NextStage s w e l f n) (
 putting_step : {s : Shape} {w : Work} {l : LocalState} (f : Effort) (n : ℕ) {e : Event} → Facts s l e →
     closes w ≡ true → (v : ℕ → Val) → w ≡ Committing v → Unread l → 3 ≤ n → IsDue (in_putting v l) e →
     NextStage s w e l f n e.kind
-putting_step {s = s} {w = w} {l = l} f n {e = e} fa cl v wv un rm i = at_all (cases_Bool (l.written == length l.writes)) i
+putting_step {s = s} {w = w} {l = l} f n {e = e} fa cl v wv un rm i =
+    at_all (cases_Bool (l.written == length l.writes)) i
   where
     again : (m : LocalState) → when_put w m ≡ in_putting v m
     again m = ap (λ w. when_put w m) wv

@@ -27,12 +27,10 @@ table_says w s n l f i st m q = sym (same w s n l f i st m) ∙ q
 pub unless_quit : (w : Work) (s : Shape) (n : Option Event) (l : LocalState) (f : Effort) {d : Due} →
     l.phase ≢ Outside → due (Doing w) s n l f ≡ d → just Quit ≢ d →
     (l.stale ≡ false) × ((f.missed == most_missed) ≡ false)
-unless_quit w s n l f i q h = go (cases_Bool (l.stale || (f.missed == most_missed)))
-  where
-    go : (l.stale || (f.missed == most_missed) ≡ true) ⊎ (l.stale || (f.missed == most_missed) ≡ false) →
-        (l.stale ≡ false) × ((f.missed == most_missed) ≡ false)
-    go (inl x) = absurd (h (rw (inside_phase l.phase i, x) at q))
-    go (inr x) = or_parts l.stale (f.missed == most_missed) x
+unless_quit w s n l f i q h = elim (cases_Bool (l.stale || (f.missed == most_missed))) [
+  | inl x ↦ absurd (h (rw (inside_phase l.phase i, x) at q))
+  | inr x ↦ or_parts l.stale (f.missed == most_missed) x
+]
 
 fewer : (s : Shape) (l : LocalState) (g : Lcg) (es : List Event) →
     ((effort_of s l g es).missed == most_missed) ≡ false → misses es ≢ most_missed

@@ -134,8 +134,8 @@ module _ (s : Shape) (l : LocalState) (g : Lcg) (before : List Event) (valid : I
   not_both : (b : Bool) → b ≡ false → b ≡ true → ⊥
   not_both b p q = let no_way : false ≡ true = sym p ∙ q in cc
 
-  idle_valid : (t : Task) → ((o : Option Event) (m : LocalState) (f : Effort) → Idle (due t s o m f)) → (es : List Event) →
-      Obeys t s l g es → IsValid (es ++ before)
+  idle_valid : (t : Task) → ((o : Option Event) (m : LocalState) (f : Effort) → Idle (due t s o m f)) →
+      (es : List Event) → Obeys t s l g es → IsValid (es ++ before)
   idle_valid t idle [] h = valid
   idle_valid t idle (e ∷ es) h =
       let ih = idle_valid t idle es h.0 in (
@@ -184,7 +184,8 @@ module _ (s : Shape) (l : LocalState) (g : Lcg) (before : List Event) (valid : I
 
   call_valid : {t : Task} {es : List Event} → AreAllowed s l es → IsCall t s l g es → IsValid (es ++ before)
   call_valid {t = Enrolling} {es = es} a call = idle_valid Enrolling (enrolling_idle s) es call.obeys
-  call_valid {t = (Beginning fresh)} {es = es} a call = idle_valid (Beginning fresh) (beginning_idle fresh s) es call.obeys
+  call_valid {t = (Beginning fresh)} {es = es} a call =
+      idle_valid (Beginning fresh) (beginning_idle fresh s) es call.obeys
   call_valid {t = Leaving} {es = es} a call = idle_valid Leaving (leaving_idle s) es call.obeys
   call_valid {t = (Doing w)} a call = doing_valid a call
 
@@ -195,7 +196,8 @@ calls_valid : (s : Shape) (l : LocalState) (g : Lcg) (cs : List Call) → AreAll
 calls_valid s l g [] a m = (tt, refl)
 calls_valid s l g (c ∷ cs) a m =
     let parts = allowed_split s l c.events (events_in cs) a in
-    call_valid s (state_by s l g cs) (generator_by s l g cs) (events_in cs) (calls_valid s l g cs parts.1 m.0) parts.0 m.2
+    call_valid s (state_by s l g cs) (generator_by s l g cs) (events_in cs) (calls_valid s l g cs parts.1 m.0) parts.0
+    m.2
 
 pub every_value : EveryValueIsValidated
 every_value s g log c core by =

@@ -119,33 +119,29 @@ due_quit w s n l f i q = rw (inside_phase l.phase i, or_right l.stale (f.missed 
 -- what is due next, where nothing is stale: a Quit, or what the table says
 due_or_quit : (s : Shape) (w : Work) (n : Option Event) (l : LocalState) (f : Effort) (e : Event) → l.phase ≢ Outside →
     l.stale ≡ false → IsDue (due (Doing w) s n l f) e → (e.kind ≡ Quit) ⊎ IsDue (next_or_first n w s.manager l f) e
-due_or_quit s w n l f e i st d = go (cases_Bool (f.missed == 64))
-  where
-    go : (f.missed == 64 ≡ true) ⊎ (f.missed == 64 ≡ false) →
-        (e.kind ≡ Quit) ⊎ IsDue (next_or_first n w s.manager l f) e
-    go (inl q) = let x : IsDue (just Quit) e = subst (λ d. IsDue d e) (due_quit w s n l f i q) d in inl x.0
-    go (inr q) = inr (subst (λ d. IsDue d e) (due_table w s n l f i st q) d)
+due_or_quit s w n l f e i st d = elim (cases_Bool (f.missed == 64)) [
+  | inl q ↦ let x : IsDue (just Quit) e = subst (λ d. IsDue d e) (due_quit w s n l f i q) d in inl x.0
+  | inr q ↦ inr (subst (λ d. IsDue d e) (due_table w s n l f i st q) d)
+]
 
 -- a calm event is due only where nothing is resolved
 calm_clear : {w : Work} {n : Option Event} (m : Manager) {l : LocalState} (f : Effort) (e : Event) →
     ((o : ℕ) → w ≢ Reading o) → l.phase ≢ Outside → ReadsNothing w n l →
     IsDue (next_or_first n w m l f) e → is_calm e.kind ≡ true → l.resolution ≡ None
 calm_clear {n = None} m f e h i r d q = r.clear refl i
-calm_clear {w = w} {n = (Some x)} m {l = l} f e h i r d q = go (cases_Bool (is_busy x.kind))
-  where
-    go : (is_busy x.kind ≡ true) ⊎ (is_busy x.kind ≡ false) → l.resolution ≡ None
-    go (inl b) = absurd (not_calm (next x.kind x w m l f) e (busy_next x.kind x w m l f h b) d q)
-    go (inr b) = r.clear b i
+calm_clear {w = w} {n = (Some x)} m {l = l} f e h i r d q = elim (cases_Bool (is_busy x.kind)) [
+  | inl b ↦ absurd (not_calm (next x.kind x w m l f) e (busy_next x.kind x w m l f h b) d q)
+  | inr b ↦ r.clear b i
+]
 
 -- an object is resolved in an open alone
 busy_opens : {w : Work} {n : Option Event} (m : Manager) {l : LocalState} (f : Effort) (e : Event) →
     ReadsNothing w n l → IsDue (next_or_first n w m l f) e → is_busy e.kind ≡ true → is_open w ≡ true
 busy_opens {w = w} {n = None} m {l = l} f e r d q = opens_busy w (at_first w l) e (first_busy w l) d q
-busy_opens {w = w} {n = (Some x)} m {l = l} f e r d q = go (cases_Bool (is_busy x.kind))
-  where
-    go : (is_busy x.kind ≡ true) ⊎ (is_busy x.kind ≡ false) → is_open w ≡ true
-    go (inl b) = r.opening b
-    go (inr b) = opens_busy w (next x.kind x w m l f) e (calm_next x.kind x w m l f b) d q
+busy_opens {w = w} {n = (Some x)} m {l = l} f e r d q = elim (cases_Bool (is_busy x.kind)) [
+  | inl b ↦ r.opening b
+  | inr b ↦ opens_busy w (next x.kind x w m l f) e (calm_next x.kind x w m l f b) d q
+]
 
 calm_not_quit : {k : Kind} → k ≡ Quit → is_calm k ≡ true → ⊥
 calm_not_quit {k = Quit} q h = cc
