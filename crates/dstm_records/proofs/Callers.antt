@@ -130,15 +130,14 @@ has_worker : (f : ℕ → ℕ) (ws : List ℕ) (n c : ℕ) → IsDistinct eqb ws
     ((w : ℕ) → Contains ws w → f w < n) →
     ((one other : ℕ) → Contains ws one → Contains ws other → f one ≡ f other → one ≡ other) → c < n →
     (w : ℕ) × Contains ws w × (f w ≡ c)
-has_worker f ws n c distinct count below apart within = by (find_worker f ws c)
-  where
-    by : Found f ws c ⊎ AllByRecursion (λ m. eqb c m ≡ false) (map f ws) → (w : ℕ) × Contains ws w × (f w ≡ c)
-    by (inl found) = found
-    by (inr none) =
-        absurd (let few : suc (length (map f ws)) ≤ n = length-le_from_distinct_below (c ∷ map f ws) n
-        (distinct_more c (map f ws) none (distinct_callers f ws distinct apart))
-        (λ q some. is_below (c ∷ map f ws) n q (within, all_below f ws n below) some) in
-        let same = length-map ws f in omega (arith, few, same, count))
+has_worker f ws n c distinct count below apart within = elim (find_worker f ws c) [
+  | inl found ↦ found
+  | inr none ↦
+      absurd (let few : suc (length (map f ws)) ≤ n = length-le_from_distinct_below (c ∷ map f ws) n
+      (distinct_more c (map f ws) none (distinct_callers f ws distinct apart))
+      (λ q some. is_below (c ∷ map f ws) n q (within, all_below f ws n below) some) in
+      let same = length-map ws f in omega (arith, few, same, count))
+]
 
 -- ---- in a round
 

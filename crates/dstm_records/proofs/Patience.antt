@@ -75,17 +75,16 @@ looks_behind (e ∷ es) older = looks_grow e.kind (looks_at_enemy es) (looks_at_
 
 kill_chosen : (m : Manager) (own enemy : ℕ) (st : Status) (round word : ℕ) →
     choice m own enemy st round word ≡ decision.Kill → kills m own enemy st round ≡ true
-kill_chosen m own enemy st round word is = by (cases_Bool (kills m own enemy st round))
+kill_chosen m own enemy st round word is = elim (cases_Bool (kills m own enemy st round)) [
+  | inl wanted ↦ wanted
+  | inr other ↦ absurd (none m (let p : patience m round word ≡ decision.Kill = rw other at is in p))
+]
   where
     none : (m : Manager) → patience m round word ≡ decision.Kill → ⊥
     none Polite is = cc
     none Karma is = cc
     none Polka is = cc
     none Greedy is = cc
-
-    by : (kills m own enemy st round ≡ true) ⊎ (kills m own enemy st round ≡ false) → kills m own enemy st round ≡ true
-    by (inl wanted) = wanted
-    by (inr other) = absurd (none m (let p : patience m round word ≡ decision.Kill = rw other at is in p))
 
 kills_later : (m : Manager) (own enemy : ℕ) (st : Status) (r n : ℕ) → r ≤ n → kills m own enemy st r ≡ true →
     kills m own enemy st n ≡ true

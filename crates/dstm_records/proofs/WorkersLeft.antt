@@ -44,10 +44,7 @@ module _ {X : Type 0} (p : X → Bool) where
   any_either (x ∷ xs) ys some =
       elim (any_cases x (xs ++ ys) some) [
         | inl is ↦ inl (any_first x xs is)
-        | inr rest ↦ elim (any_either xs ys rest) [
-          | inl before ↦ inl (any_later x xs before)
-          | inr behind ↦ inr behind
-        ]
+        | inr rest ↦ elim (any_either xs ys rest) [ inl before ↦ inl (any_later x xs before) | inr behind ↦ inr behind ]
       ]
 
   -- what more pass than pass another test
