@@ -1,7 +1,8 @@
 -- A guest on the words of a table, and the kinds of events that it makes.
-use Rattle.std.specs.Prelude.{◌≡◌, ℕ, ◌<◌, Bool, true, false, None}
+use Rattle.std.specs.Prelude.{◌≡◌, ℕ, ◌<◌, Bool, List, [], ◌∷◌, None}
 use Rattle.atomic_table.specs.declared.shared.Seat.{Seat}
 use Rattle.dstm_core.specs.Events.{Event}
+use Rattle.dstm_core.specs.Kinds.{is_one_of}
 use Rattle.dstm_core.specs.Local.{Tracked}
 use Rattle.dstm_core.specs.Rules.{after}
 use Rattle.dstm_core.specs.declared.event.Kind.{Kind}
@@ -10,33 +11,19 @@ use Rattle.dstm_words.specs.Seats.{View, Home, IsOf, IsOut, caller_state, view_o
 
 -- it adds one to a word
 abbrev pub is_add : Kind → Bool
-is_add Enrol = true
-is_add Draw = true
-is_add kind = false
+is_add = is_one_of (Enrol ∷ Draw ∷ [])
 
 -- it loads a word
 abbrev pub is_load : Kind → Bool
-is_load LookObj = true
-is_load LookNumber = true
-is_load LookSelf = true
-is_load kind = false
+is_load = is_one_of (LookObj ∷ LookNumber ∷ LookSelf ∷ [])
 
 -- it stores a number in a word
 abbrev pub is_store : Kind → Bool
-is_store Rank = true
-is_store Begin = true
-is_store PutOwner = true
-is_store PutOld = true
-is_store PutHigh = true
-is_store PutNew = true
-is_store kind = false
+is_store = is_one_of (Rank ∷ Begin ∷ PutOwner ∷ PutOld ∷ PutHigh ∷ PutNew ∷ [])
 
 -- it exchanges a word
 abbrev pub is_exchange : Kind → Bool
-is_exchange Install = true
-is_exchange Validating = true
-is_exchange Commit = true
-is_exchange kind = false
+is_exchange = is_one_of (Install ∷ Validating ∷ Commit ∷ [])
 
 module _ {L : Type 0} where
   -- the seat is one of the table's, for a guest that can still enrol where it has no number
