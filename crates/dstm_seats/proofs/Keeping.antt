@@ -1,6 +1,6 @@
 -- A load, a store, an exchange and an add keep the rule.
 use Rattle.std.proofs.Common.{◌≡◌, ◌≢◌, ◌⊎◌, ℕ, ◌+◌, ◌^◌, ◌<◌, ◌≤◌, List, [], ◌∷◌, set, get_or, refl, sym, ap, ◌∙◌, subst, ⊎_elim, inl, inr, arith, length-set, get_or-set_same, get_or-set_other, Some, None}
-use Rattle.std.specs.Prelude.{Contains, Option, IfSome}
+use Rattle.std.specs.Prelude.{Contains, Option}
 use Rattle.std.proofs.lemmas.List.Elements.{All-weaker, All-nil, Contains-append_cases}
 use lib.ListN.{get_elem?}
 use mathlib.Core.Logic.{dite}
@@ -71,20 +71,14 @@ module _ {K T B S : Type 0} (shared : Shared K T B S) (laws : Enrolling shared) 
 
   -- no number is twice where one view changes, and no other has a number of its
   pub apart_set : (vs : List V) (id : ℕ) (w : V) → Apart vs →
-      ((j : ℕ) (u : V) (n : ℕ) → j ≢ id → get_elem? vs j ≡ some u → Contains u.numbers n →
-      Contains w.numbers n → ⊥) →
+      ((j : ℕ) (u : V) (n : ℕ) → j ≢ id → get_elem? vs j ≡ some u → Contains u.numbers n → Contains w.numbers n → ⊥) →
       Apart (set vs id w)
   apart_set vs id w old new i j v u n ei ej hi hj = ⊎_elim
-      (λ (a : (i ≡ id) × (w ≡ v)). ⊎_elim
-      (λ (b : (j ≡ id) × (w ≡ u)). a.0 ∙ sym b.0)
-      (λ (b : (j ≢ id) × (get_elem? vs j ≡ some u)).
-      absurd (new j u n b.0 b.1 hj (subst (λ (x : V). Contains x.numbers n) (sym a.1) hi)))
-      (at_set vs id j w u ej))
-      (λ (a : (i ≢ id) × (get_elem? vs i ≡ some v)). ⊎_elim
-      (λ (b : (j ≡ id) × (w ≡ u)).
-      absurd (new i v n a.0 a.1 hi (subst (λ (x : V). Contains x.numbers n) (sym b.1) hj)))
-      (λ (b : (j ≢ id) × (get_elem? vs j ≡ some u)). old i j v u n a.1 b.1 hi hj)
-      (at_set vs id j w u ej))
+      (λ (a : (i ≡ id) × (w ≡ v)). ⊎_elim (λ (b : (j ≡ id) × (w ≡ u)). a.0 ∙ sym b.0)
+      (λ (b : (j ≢ id) × (get_elem? vs j ≡ some u)). absurd (new j u n b.0 b.1 hj (rw a.1 hi))) (at_set vs id j w u ej))
+      (λ (a : (i ≢ id) × (get_elem? vs i ≡ some v)). ⊎_elim (λ (b : (j ≡ id) × (w ≡ u)).
+      absurd (new i v n a.0 a.1 hi (rw b.1 hj)))
+      (λ (b : (j ≢ id) × (get_elem? vs j ≡ some u)). old i j v u n a.1 b.1 hi hj) (at_set vs id j w u ej))
       (at_set vs id i w v ei)
 
   -- the view after an event that goes on from the longest log
@@ -111,17 +105,14 @@ module _ {K T B S : Type 0} (shared : Shared K T B S) (laws : Enrolling shared) 
 
   -- a number that the seat had has its state, also after an event of the seat
   named_after : (s : St) (k : Kept shared key s) (id at_place : ℕ) (v : V) (e : Event K) →
-      get_elem? s.views id ≡ some v → Turn s k id at_place v e → (n : ℕ) →
-      Contains (after_turn s k v e).numbers n →
+      get_elem? s.views id ≡ some v → Turn s k id at_place v e → (n : ℕ) → Contains (after_turn s k v e).numbers n →
       shared.number (state (e ∷ k.log) n) ≡ Some n
   named_after s k id at_place v e at_id t n has = dite (ℕ_discrete e.caller n)
-      (λ same. subst (λ m. shared.number (state (e ∷ k.log) m) ≡ Some m) same
-      (laws.named table k.log e (laws.follows key (e ∷ k.log) t.run)))
+      (λ same. rw (← same) (laws.named table k.log e (laws.follows key (e ∷ k.log) t.run)))
       (λ other. ⊎_elim (λ (is : n ≡ e.caller). absurd (other (sym is)))
       (λ was. ap shared.number (local_other shared.machine table k.log e n other
       ∙ same_local shared.machine table k.log v.log n ((k.seats id v at_id).mine n was))
-      ∙ (k.seats id v at_id).begun n was)
-      (t.numbers n has))
+      ∙ (k.seats id v at_id).begun n was) (t.numbers n has))
 
   turned : (s : St) (k : Kept shared key s) (id at_place : ℕ) (c : List (ℕ × ℕ)) (v : V) (e : Event K) →
       get_elem? s.views id ≡ some v → Turn s k id at_place v e →
@@ -190,23 +181,19 @@ module _ {K T B S : Type 0} (shared : Shared K T B S) (laws : Enrolling shared) 
       v.number ≡ o →
       get_elem? s.views id ≡ some v → v.terms ≡ Some key → e.caller ≡ number_or o e.found → e.place ≡ at_place →
       e.found ≡ get_or s.words at_place 0 → Allowed (state_by shared.machine table o v.log) e →
-      KeepsSince shared key v e → (o ≡ None → 0 < v.enrolments) →
-      Turn s k id at_place v e
+      KeepsSince shared key v e → (o ≡ None → 0 < v.enrolments) → Turn s k id at_place v e
   turn_of s k id at_place v e (Some m) is at_id live caller there found may law ticket =
       let f : Sees shared key k.log id v = k.seats id v at_id in
       let has : Contains v.numbers m = f.number m is in
       let below = f.known m has in
       let all = k.tickets in
       let same : events_of m k.log ≡ events_of m v.log = f.mine m has in
-      let mine : events_of e.caller k.log ≡ events_of e.caller v.log =
-      subst (λ c. events_of c k.log ≡ events_of c v.log) (sym caller) same in
+      let mine : events_of e.caller k.log ≡ events_of e.caller v.log = rw caller same in
       let stays : state v.log m ≡ state k.log e.caller =
       sym (same_local shared.machine table k.log v.log m same) ∙ ap (state k.log) (sym caller) in
-      let ok : Allowed (state k.log e.caller) e =
-      subst (λ l. Allowed l e) stays may in
+      let ok : Allowed (state k.log e.caller) e = rw (← stays) may in
       let later = laws.later table (state v.log m) e m (f.begun m has) may in
-      let inside : e.place < shared.word_count table =
-      laws.inside table (state v.log m) e may in
+      let inside : e.place < shared.word_count table = laws.inside table (state v.log m) e may in
       let still : enrolled shared key (e ∷ k.log) ≡ enrolled shared key k.log =
       elsewhere _ k.log e (shared.callers_place table) later.1 in
       let ns : numbers_by v.number e.caller v.numbers ≡ v.numbers =
@@ -225,9 +212,9 @@ module _ {K T B S : Type 0} (shared : Shared K T B S) (laws : Enrolling shared) 
         mine = mine ∙ ap (λ c. events_of c v.log) caller ∙ sym (ap (λ (x : Option ℕ). events_by x v.log) is);
         there = there;
         live = live;
-        has = subst (λ l. Contains l e.caller) (sym ns) (subst (Contains v.numbers) (sym caller) has);
+        has = rw (ns, caller) has;
         unlike = subst AreApart (sym ns) f.unlike;
-        numbers = λ n h. inr (subst (λ l. Contains l n) ns h);
+        numbers = λ n h. inr (rw (← ns) h);
         others = λ j u n away here h same.
             away (k.apart j id u v n here at_id h (subst (Contains v.numbers) (sym caller ∙ same) has));
         more = omega arith;
@@ -246,8 +233,7 @@ module _ {K T B S : Type 0} (shared : Shared K T B S) (laws : Enrolling shared) 
       let number : e.caller ≡ enrolled shared key k.log = caller ∙ found' ∙ ap (word k.log) enrol.1 in
       let none : events_of e.caller k.log ≡ [] = k.fresh e.caller (omega arith) in
       let past = f.past in
-      let nothing : events_of e.caller v.log ≡ [] =
-      none_before e.caller v.log past.later k.log past.whole none in
+      let nothing : events_of e.caller v.log ≡ [] = none_before e.caller v.log past.later k.log past.whole none in
       let stays : shared.machine.first ≡ state k.log e.caller =
       sym (same_local shared.machine table k.log [] e.caller none) in
       let next : enrolled shared key (e ∷ k.log) ≡ e.caller + 1 =
@@ -259,7 +245,7 @@ module _ {K T B S : Type 0} (shared : Shared K T B S) (laws : Enrolling shared) 
         linked = found';
         caller = omega arith;
         enrolled = λ kind. sym caller;
-        allowed = subst (λ l. Allowed l e) stays may;
+        allowed = rw (← stays) may;
       } in
       record {
         fits = fits;
@@ -268,10 +254,10 @@ module _ {K T B S : Type 0} (shared : Shared K T B S) (laws : Enrolling shared) 
         mine = none ∙ sym (ap (λ (x : Option ℕ). events_by x v.log) is);
         there = there;
         live = live;
-        has = subst (λ l. Contains l e.caller) (sym ns) (head_of e.caller v.numbers);
+        has = rw ns (head_of e.caller v.numbers);
         unlike = subst AreApart (sym ns) ((λ h. let b = f.known e.caller h in omega arith), f.unlike);
         numbers = λ n h. ⊎_elim (λ a. inl (one_of e.caller n a)) (λ b. inr b)
-            (Contains-append_cases (e.caller ∷ []) v.numbers n (subst (λ l. Contains l n) ns h));
+            (Contains-append_cases (e.caller ∷ []) v.numbers n (rw ns at h));
         others = λ j u n away here h same. let b = (k.seats j u here).known n h in omega arith;
         more = omega arith;
         known = omega arith;
@@ -297,8 +283,7 @@ module _ {K T B S : Type 0} (shared : Shared K T B S) (laws : Enrolling shared) 
 
   pub steps : (slots id : ℕ) (me : Me ℕ V) (at_place : ℕ) (f : ℕ → ℕ) (event : ℕ → ℕ → Event K) →
       Fitting at_place event → Putting f event → me.0.terms ≡ Some key → Allowing me.0 event →
-      (me.0.number ≡ None → 0 < me.0.enrolments) →
-      Allows (Kept shared key) slots id me at_place f
+      (me.0.number ≡ None → 0 < me.0.enrolments) → Allows (Kept shared key) slots id me at_place f
       (λ found n. (n.1 ≡ me.1) × Adds shared me.0 (event (number_or me.0.number found) found) n.0)
   steps slots id me at_place f event fitting putting live may ticket s k homes at_id bound =
       let v : V = me.0 in
@@ -310,16 +295,13 @@ module _ {K T B S : Type 0} (shared : Shared K T B S) (laws : Enrolling shared) 
       let log : List (Event K) = e ∷ k.log in
       let w : V = moved v e log in
       let past = (k.seats id v at_id).past in
-      let turn : Turn s k id at_place v e =
-      turn_of s k id at_place v e v.number refl at_id live
-      (fit.0 ∙ ap (number_or v.number) (sym fit.2)) fit.1 fit.2
-      ok.0 ok.1 ticket in
+      let turn : Turn s k id at_place v e = turn_of s k id at_place v e v.number refl at_id live
+      (fit.0 ∙ ap (number_or v.number) (sym fit.2)) fit.1 fit.2 ok.0 ok.1 ticket in
       let kept = turned s k id at_place me.1 v e at_id turn in (
         w,
         keeps,
         tt,
-        subst (λ n. Kept shared key (stepped s at_place n id me.1 w keeps))
-            (putting k.log c found k.run turn.fits bound) kept,
+        rw (← putting k.log c found k.run turn.fits bound) kept,
         (
           refl,
           record {
@@ -328,8 +310,7 @@ module _ {K T B S : Type 0} (shared : Shared K T B S) (laws : Enrolling shared) 
             mine = own_event e k.log ∙ ap (λ l. e ∷ l) turn.mine;
             others = λ n has other. others_event n e k.log (λ x. other (sym x))
                 ∙ (k.seats id v at_id).mine n has;
-            run = subst (λ (o : Option T). IfSome o (λ terms. shared.IsRunOf terms log))
-                (sym live) turn.run;
+            run = rw live turn.run;
           },
         ),
       )

@@ -1,5 +1,5 @@
 -- Logs: their pasts, and the events of one caller in them.
-use Rattle.std.proofs.Common.{◌≡◌, ℕ, suc, ◌<◌, ◌≤◌, cond, List, [], ◌∷◌, ◌++◌, length, refl, sym, ap, ◌∙◌, subst, ⊎_elim, arith, length-append}
+use Rattle.std.proofs.Common.{◌≡◌, ℕ, suc, ◌<◌, ◌≤◌, List, [], ◌∷◌, ◌++◌, length, refl, sym, ap, ◌∙◌, ⊎_elim, arith, length-append}
 use Rattle.std.proofs.lemmas.Bool.Decides.{leb_tells}
 use Rattle.dstm_machines.specs.declared.event.Event.{Event}
 use Rattle.dstm_machines.specs.Traces.{IsPastOf, events_of}
@@ -84,8 +84,7 @@ module _ {K : Type 0} where
     of_longer : (P : List (Event K) → Type 0) → (length xs < length ys → P ys) → (length ys ≤ length xs → P xs) →
         P (longer xs ys)
     of_longer P hit miss = ⊎_elim
-        (λ t. subst (λ b. P (cond b ys xs)) (sym t.0) (hit t.1))
-        (λ t. subst (λ b. P (cond b ys xs)) (sym t.0) (miss (let l = t.1 in omega arith)))
+        (λ t. rw t.0 (hit t.1)) (λ t. rw t.0 (miss (let l = t.1 in omega arith)))
         (leb_tells (suc (length xs)) (length ys))
 
     pub longer_past : IsPastOf (longer xs ys) log

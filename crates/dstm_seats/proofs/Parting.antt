@@ -1,6 +1,6 @@
 -- A split, a join, and the meet after it.
 use Rattle.std.proofs.Common.{◌≡◌, ◌≢◌, ℕ, true, false, List, [], ◌∷◌, ◌++◌, set, refl, sym, ap, ◌∙◌, subst, ⊎_elim, arith, Some, None}
-use Rattle.std.specs.Prelude.{sum_by, Contains, Option, IfSome}
+use Rattle.std.specs.Prelude.{sum_by, Contains, Option}
 use Rattle.std.proofs.lemmas.List.Elements.{All-nil, All-cons, All-head, All-tail, Contains-append_cases, Contains-append_left, Contains-append_right}
 use Rattle.std.proofs.lemmas.List.Sums.{sum_by_push}
 use Rattle.std.proofs.lemmas.List.{set-get_or}
@@ -75,15 +75,13 @@ module _ {K T B S : Type 0} (shared : Shared K T B S) (laws : Enrolling shared) 
               a,
               at_longer vs (b ∷ []) id a (set_here s.views id a (inside_of s.views id v at_id)),
               ap (λ (x : V). x.log) (sym is) ∙ q.3,
-            ))
-            (λ other. (q.0, q.1, at_longer vs (b ∷ []) q.0 q.1 (set_else s.views id q.0 a other ∙ q.2), q.3));
+            )) (λ other. (q.0, q.1, at_longer vs (b ∷ []) q.0 q.1 (set_else s.views id q.0 a other ∙ q.2), q.3));
         run = k.run;
         wide = k.wide;
         left = k.left;
         fresh = k.fresh;
         seats = λ j u there. ⊎_elim
-            (λ (old : get_elem? vs j ≡ some u). each_set (λ j u. Sees shared key k.log j u) s.views id a
-            (record {
+            (λ (old : get_elem? vs j ≡ some u). each_set (λ j u. Sees shared key k.log j u) s.views id a (record {
               past = f.past;
               olds = f.olds;
               mine = f.mine;
@@ -96,20 +94,15 @@ module _ {K T B S : Type 0} (shared : Shared K T B S) (laws : Enrolling shared) 
               none_out = λ no. absurd (off (sym no ∙ first));
               spent = f.spent;
               empty = f.empty;
-            })
-            (λ j u _ there. k.seats j u there) j u old)
-            (λ (new : b ≡ u). subst (Sees shared key k.log j) new
+            }) (λ j u _ there. k.seats j u there) j u old) (λ (new : b ≡ u). subst (Sees shared key k.log j) new
             (newcomer k.log v.log j _ 1 v.terms f.past (λ no. absurd (omega arith))
-            (λ none. absurd (none_some key (sym none ∙ live)))))
-            (at_snoc vs b u j there);
+            (λ none. absurd (none_some key (sym none ∙ live))))) (at_snoc vs b u j there);
         apart = λ i j u w n ei ej hi hj. ⊎_elim
             (λ (oi : get_elem? vs i ≡ some u). ⊎_elim
             (λ (oj : get_elem? vs j ≡ some w). apart_set shared laws key s.views id a k.apart
             (λ j u n away there has mine. away (k.apart j id u v n there at_id has mine)) i j u w n oi oj hi hj)
-            (λ (nj : b ≡ w). absurd (no_number n (subst (λ (x : V). Contains x.numbers n) (sym nj) hj)))
-            (at_snoc vs b w j ej))
-            (λ (ni : b ≡ u). absurd (no_number n (subst (λ (x : V). Contains x.numbers n) (sym ni) hi)))
-            (at_snoc vs b u i ei);
+            (λ (nj : b ≡ w). absurd (no_number n (rw (← nj) at hj))) (at_snoc vs b w j ej))
+            (λ (ni : b ≡ u). absurd (no_number n (rw (← ni) at hi))) (at_snoc vs b u i ei);
         tickets = let d = sum_set (λ (x : V). x.enrolments) s.views id v a at_id in
             let p = sum_by_push (λ (x : V). x.enrolments) vs b in let t = k.tickets in omega arith;
         outs = let d = sum_set (λ (x : V). x.out) s.views id v a at_id in
@@ -148,8 +141,7 @@ module _ {K T B S : Type 0} (shared : Shared K T B S) (laws : Enrolling shared) 
               none_out = f.none_out;
               spent = f.spent;
               empty = λ none. absurd (none_some key (sym none ∙ live));
-            })
-            (λ j u _ there. k.seats j u there);
+            }) (λ j u _ there. k.seats j u there);
         apart = apart_set shared laws key s.views id w k.apart
             (λ j u n away there has mine. away (k.apart j id u v n there at_id has mine));
         tickets = let d = sum_set (λ (x : V). x.enrolments) s.views id v w at_id in let b = k.tickets in
@@ -160,8 +152,7 @@ module _ {K T B S : Type 0} (shared : Shared K T B S) (laws : Enrolling shared) 
         w,
         keeps,
         tt,
-        subst (λ (ws : List ℕ). Kept shared key record { words = ws; homes = s.homes; views = views })
-            (sym (set-get_or s.words 0 0)) kept,
+        rw (set-get_or s.words 0 0) kept,
         (
           refl,
           record {
@@ -170,8 +161,7 @@ module _ {K T B S : Type 0} (shared : Shared K T B S) (laws : Enrolling shared) 
             olds = f.olds;
             quiet = f.mine;
             unlike = f.unlike;
-            run = subst (λ (o : Option T). IfSome o (λ terms. shared.IsRunOf terms k.log))
-                (sym live) k.run;
+            run = rw live k.run;
           },
         ),
       )
@@ -237,22 +227,17 @@ module _ {K T B S : Type 0} (shared : Shared K T B S) (laws : Enrolling shared) 
       let none : V = nobody in
       let at_other : get_elem? s.views other ≡ some u = ⊎_elim
       (λ (t : (other ≡ id) × (both ≡ u)). absurd (away_from t.0))
-      (λ (t : (other ≢ id) × (get_elem? s.views other ≡ some u)). t.1)
-      (at_set s.views id other both u there) in
+      (λ (t : (other ≢ id) × (get_elem? s.views other ≡ some u)). t.1) (at_set s.views id other both u there) in
       let vs : List V = set s.views other none in
       let here : get_elem? vs id ≡ some v = set_else s.views other id none (λ e. away_from (sym e)) ∙ at_id in
       let f : Sees shared key k.log id v = k.seats id v at_id in
       let g : Sees shared key k.log other u = k.seats other u at_other in
       let unlike = λ (n : ℕ) (a : Contains v.numbers n) (b : Contains u.numbers n).
       away_from (sym (k.apart id other v u n at_id at_other a b)) in
-      let lone : (vw : List V) →
-      Kept shared key record { words = s.words; homes = s.homes; views = set vs id both } →
-      vw ≡ set vs id both → Kept shared key record { words = s.words; homes = s.homes; views = vw } =
-      λ vw h e. subst
-      (λ (x : List V). Kept shared key record { words = s.words; homes = s.homes; views = x })
-      (sym e) h in
-      lone (set (set s.views id both) other none)
-      (record {
+      let lone : (vw : List V) → Kept shared key record { words = s.words; homes = s.homes; views = set vs id both } →
+      vw ≡ set vs id both → Kept shared key record { words = s.words; homes = s.homes; views = vw } = λ vw h e. subst
+      (λ (x : List V). Kept shared key record { words = s.words; homes = s.homes; views = x }) (sym e) h in
+      lone (set (set s.views id both) other none) (record {
         log = k.log;
         longest = let q = k.longest in dite (ℕ_discrete q.0 id)
             (λ same. let is : q.1 ≡ v = some-injective q.1 v (sym q.2 ∙ ap (get_elem? s.views) same ∙ at_id) in (
@@ -260,16 +245,13 @@ module _ {K T B S : Type 0} (shared : Shared K T B S) (laws : Enrolling shared) 
               both,
               set_here vs id both (inside_of vs id v here),
               longer_whole_left k.log v.log u.log f.past g.past (ap (λ (x : V). x.log) (sym is) ∙ q.3),
-            ))
-            (λ away. dite (ℕ_discrete q.0 other)
-            (λ same. let is : q.1 ≡ u = some-injective q.1 u
+            )) (λ away. dite (ℕ_discrete q.0 other) (λ same. let is : q.1 ≡ u = some-injective q.1 u
             (sym q.2 ∙ ap (get_elem? s.views) same ∙ at_other) in (
               id,
               both,
               set_here vs id both (inside_of vs id v here),
               longer_whole_right k.log v.log u.log f.past g.past (ap (λ (x : V). x.log) (sym is) ∙ q.3),
-            ))
-            (λ away'. (
+            )) (λ away'. (
               q.0,
               q.1,
               set_else vs id q.0 both away ∙ set_else s.views other q.0 none away' ∙ q.2,
@@ -286,13 +268,9 @@ module _ {K T B S : Type 0} (shared : Shared K T B S) (laws : Enrolling shared) 
             (λ j x _ e. k.seats j x e) j x e);
         apart = apart_set shared laws key vs id both
             (apart_set shared laws key s.views other none k.apart (λ j x n _ e h no. no_number n no))
-            (λ j x n away e h mine. ⊎_elim
-            (λ (t : (j ≡ other) × (none ≡ x)). no_number n
-            (subst (λ (y : V). Contains y.numbers n) (sym t.1) h))
-            (λ (t : (j ≢ other) × (get_elem? s.views j ≡ some x)). ⊎_elim
-            (λ a. away (k.apart j id x v n t.1 at_id h a))
-            (λ b. t.0 (k.apart j other x u n t.1 at_other h b))
-            (Contains-append_cases v.numbers u.numbers n mine))
+            (λ j x n away e h mine. ⊎_elim (λ (t : (j ≡ other) × (none ≡ x)). no_number n (rw (← t.1) at h))
+            (λ (t : (j ≢ other) × (get_elem? s.views j ≡ some x)). ⊎_elim (λ a. away (k.apart j id x v n t.1 at_id h a))
+            (λ b. t.0 (k.apart j other x u n t.1 at_other h b)) (Contains-append_cases v.numbers u.numbers n mine))
             (at_set s.views other j none x e));
         tickets = let d = sum_set (λ (x : V). x.enrolments) s.views other u none at_other in
             let d' = sum_set (λ (x : V). x.enrolments) vs id v both here in let t = k.tickets in omega arith;
@@ -305,8 +283,7 @@ module _ {K T B S : Type 0} (shared : Shared K T B S) (laws : Enrolling shared) 
             let no_out = g.none_out not_first in
             let all_out = outs s k id v at_id first in
             let t = k.outs in omega arith;
-      })
-      (set_comm s.views id other both none (λ e. away_from (sym e)))
+      }) (set_comm s.views id other both none (λ e. away_from (sym e)))
 
   -- after the join and the meet
   pub joined_after : (v u w : V) → Meets shared (joined v u) w → Joined shared v u w

@@ -8,7 +8,7 @@ use Rattle.dstm_machines.specs.Sharing.{Shared}
 use Rattle.dstm_machines.specs.Traces.{Access, events_of}
 use Rattle.dstm_machines.proofs.Runs.{local_own, local-events_of}
 use Rattle.dstm_seats.specs.declared.view.View.{View}
-use Rattle.dstm_seats.specs.Seats.{caller_view, event_by, events_by, made, moved, number_or, own_events, state_by, Adds, Joined, Makes}
+use Rattle.dstm_seats.specs.Seats.{caller_view, event_by, events_by, made, number_or, own_events, state_by, Adds, Joined, Makes}
 use Rattle.dstm_seats.proofs.Lists.{apart_of}
 use Rattle.dstm_machines.proofs.Own.{own_first, same_local}
 
@@ -42,8 +42,7 @@ module _ {K T B S : Type 0} (shared : Shared K T B S) where
   -- the event that it makes
   pub makes_by : (c : ℕ) (v w : View K T) (way : Access) (kind : K) (place found : ℕ) → v.number ≡ Some c →
       Makes shared v way kind place found w → Adds shared v (event_by way c kind place found) w
-  makes_by c v w way kind place found n m =
-      subst (λ c. Adds shared v (event_by way c kind place found) w) (ap (λ o. number_or o found) n) m
+  makes_by c v w way kind place found n m = rw (← ap (λ o. number_or o found) n) m
 
   module _ (c : ℕ) (v w : View K T) (e : Event K) (n : v.number ≡ Some c) (m : Adds shared v e w)
       (mine : e.caller ≡ c) where
@@ -56,9 +55,7 @@ module _ {K T B S : Type 0} (shared : Shared K T B S) where
         subst (λ c. events_of c w.log ≡ e ∷ own_events v) mine m.mine ∙ ap (λ o. e ∷ events_by o v.log) n
 
     pub view_now : (terms : T) → v ≡ caller_view terms c v.log → w ≡ caller_view terms c w.log
-    view_now terms is =
-        m.view ∙ ap (λ (x : View K T). moved x e w.log) is
-        ∙ ap (λ n. record (caller_view terms c w.log) { number = Some n }) mine
+    view_now terms is = rw (m.view, is, mine) refl
 
     pub state_now : (table : B) →
         state_by shared.machine table w.number w.log

@@ -16,4 +16,4 @@ returns g c =
     LeftBy g.M.Machine.shared terms c.args.seat.me.0 ws in
     let words = subst (Left key) (sym {A = List ℕ} c.copy_words.ensures)
     (left_by g.M.Machine.shared g.M.Machine.enrolling key _ _ _ _ c.close_with-closed.ensures.values.2) in
-    subst (λ terms. Left terms c.copy_words.new.words.items) (ap (λ h. h.terms) c.self.view_is) words
+    rw (← ap (λ h. h.terms) c.self.view_is) words

@@ -1,5 +1,4 @@
-use Rattle.std.proofs.Common.{ℕ, List, ap, subst}
-use Rattle.std.specs.Mem.Slots.{slots_items}
+use Rattle.std.proofs.Common.{ℕ, List, ap}
 use Rattle.dstm_seats.specs.Seats.{LeftBy}
 use Rattle.dstm_seats.proofs.Ends.{left_by}
 use Rattle.dstm_seats.proofs.words.Words.close_in_place.Goals as goal
@@ -10,4 +9,4 @@ returns g c =
     let Left : g.row.M-Terms.Denot → List ℕ → Type 0 = λ terms ws.
     LeftBy g.M.Machine.shared terms c.args.seat.me.0 ws in
     let words = left_by g.M.Machine.shared g.M.Machine.enrolling key _ _ _ _ c.close_with-closed.ensures.values.2 in
-    subst (λ terms. Left terms (slots_items c.close_with-closed.result.words)) (ap (λ h. h.terms) c.self.view_is) words
+    rw (← ap (λ h. h.terms) c.self.view_is) words

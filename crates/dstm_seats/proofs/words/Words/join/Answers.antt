@@ -1,8 +1,7 @@
 use Rattle.std.proofs.Common.{ℕ, ap, sym, ◌∙◌, subst, arith}
 use Rattle.atomic_table.specs.Table.{Me}
 use Rattle.dstm_seats.specs.declared.view.View.{View}
-use Rattle.dstm_seats.specs.Seats.{Home, IsOf}
-use Rattle.dstm_seats.specs.Seats.{Meets}
+use Rattle.dstm_seats.specs.Seats.{Home, IsOf, Meets}
 use Rattle.dstm_seats.proofs.Parting.{joins, meets, joined_after}
 use Rattle.dstm_seats.proofs.words.Words.join.Goals as goal
 
@@ -26,8 +25,7 @@ load-found-requires g c =
     let j = c.join_seat.ensures in
     let wide = c.self.invariant.1 in
     let some = g.M.Machine.enrolling.has_count (g.M.Machine.shared.table c.self.inside.table.shared.key) in
-    let seat = subst (λ (h : Home g.row.M-Terms.Denot). IsOf h c.args.seat.now) (sym c.self.view_is)
-    c.requires.seat in (
+    let seat = rw (← c.self.view_is) at c.requires.seat in (
       j.0 ∙ seat.0,
       omega arith,
       meets g.M.Machine.shared g.M.Machine.enrolling c.self.inside.table.shared.key _ _ c.join_seat.new.seat.me
