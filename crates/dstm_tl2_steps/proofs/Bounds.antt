@@ -103,8 +103,6 @@ module _ {L : Type 0} {holds : L → List Val → Type 0} {home : Home L} {b : B
   pub number_now : is_some b.state.number ≡ true → (now home steps).number ≡ Some b.number
   number_now h =
       let some : is_some (now home steps).number ≡ true =
-      subst (λ (l : LocalState). is_some l.number ≡ true) (sym u.state)
-      (numbers_stay (table_of home.terms) b.state u.events h) in
+      rw u.state (numbers_stay (table_of home.terms) b.state u.events h) in
       ap (λ (l : LocalState). l.number) (sym now_is)
-      ∙ numbered (table_of home.terms) (view_of steps.seat).log u.run.run.run b.number
-      (subst (λ (l : LocalState). is_some l.number ≡ true) (sym now_is) some)
+      ∙ numbered (table_of home.terms) (view_of steps.seat).log u.run.run.run b.number (rw now_is some)

@@ -23,11 +23,12 @@ use Rattle.dstm_tl2_steps.specs.Opened.{no_slot, read_at}
 use Rattle.dstm_tl2_order.specs.Order.{Due, in_checking, in_giving_back}
 use Rattle.dstm_tl2_order.specs.Order.Due.{Just}
 use Rattle.dstm_tl2_steps.specs.Reads.{slot_read}
-use Rattle.dstm_tl2_steps.specs.Under.{Began, Under, Went, answer_by, made_by, now}
+use Rattle.dstm_tl2_steps.specs.Under.{Began, Under, Went, made_by, now}
 use Rattle.dstm_tl2_steps.proofs.Bounds.{static_now}
 use Rattle.dstm_tl2_steps.proofs.Going.{goes_on}
 use Rattle.dstm_tl2_steps.proofs.Slots.{write_of-value_in}
 use Rattle.dstm_tl2_steps.proofs.WritingBack.{due_is, is_doing}
+use Rattle.dstm_tl2_steps.proofs.Stepping.{under_is}
 
 -- ---- lists
 
@@ -72,15 +73,12 @@ pub slot_is : (ws : List (ℕ × Val)) {given slots : List ReadSlot} (i : ℕ) {
     given ≡ slots → found ≡ value_in ws (read_at given i).object → is_some found ≡ not none → none ≡ is →
     is_none (value_in ws (read_at slots i).object) ≡ is
 slot_is ws {slots = slots} i {found = found} none is same value test q =
-    subst (λ (slots : List ReadSlot). is_none (value_in ws (read_at slots i).object) ≡ is) same
-    (ap is_none (sym value) ∙ none_is found none test ∙ q)
+    rw (← same) (ap is_none (sym value) ∙ none_is found none test ∙ q)
 
 -- the slot is that of the read
 pub slot_read_is : {given slots : List ReadSlot} (i : ℕ) {r : Read} → given ≡ slots → r ≡ slot_read (read_at slots i) →
     (r.object ≡ (read_at given i).object) × (r.word ≡ (read_at given i).word)
-slot_read_is {slots = slots} i {r = r} same q =
-    subst (λ (slots : List ReadSlot). (r.object ≡ (read_at slots i).object) × (r.word ≡ (read_at slots i).word))
-    (sym same) (ap (λ (r : Read). r.object) q, ap (λ (r : Read). r.word) q)
+slot_read_is {slots = slots} i {r = r} same q = rw same (ap (λ (r : Read). r.object) q, ap (λ (r : Read). r.word) q)
 
 at_none : {P : Type 0} (x : Option TlAgain) → is_some x ≡ false → IfNone x P → P
 at_none None q h = h
@@ -137,37 +135,16 @@ module _ {L : Type 0} {holds : L → List Val → Type 0} {home : Home L} {b : B
       rw (good, is) test in
       w.state ∙ ap (λ x. record (now home old) { checked = (now home old).checked + 1; failed = x }) failed
 
-  -- it was good
-  pub check_good : {old new : Steps L} (o found word : ℕ) → Under holds home b old (Just Check) None →
+  -- the call goes on with the next one, or gives back what is locked
+  pub check_goes : {old new : Steps L} (o found word : ℕ) (bad : Bool) → Under holds home b old (Just Check) None →
       Went holds home b old new None (made_by b Load Check o found) → (now home old).failed ≡ false →
-      (next_check (now home old)).word ≡ word → (found == word) ≡ true →
-      Under holds home b new (in_checking (now home new)) None
-  check_good {old = old} {new = new} o found word u w good is test =
+      (next_check (now home old)).word ≡ word → not (found == word) ≡ bad →
+      Under holds home b new (if bad then in_giving_back (now home new).holds else in_checking (now home new))
+      (if bad then Some (if is_locked found then Locked o else Changed o) else None)
+  check_goes o found word bad u w good is test =
       let work = is_doing u refl in
-      let bad : not (found == word) ≡ false = ap not test in
-      let state = check_state o found word false w good is bad in
-      let failed : (now home new).failed ≡ false = ap (λ (l : LocalState). l.failed) state in
-      let fine : (found == (next_check (now home old)).word) ≡ true = rw is test in
-      let on = goes_on work.0 work.1 w in
-      let answered : answer_by (now home old) (made_by b Load Check o found) None ≡ None = rw fine refl in
-      subst (Under holds home b new (in_checking (now home new))) answered (due_is on (rw failed refl))
-
-  -- it was not
-  pub check_bad : {old new : Steps L} (o found word : ℕ) → Under holds home b old (Just Check) None →
-      Went holds home b old new None (made_by b Load Check o found) → (now home old).failed ≡ false →
-      (next_check (now home old)).word ≡ word → (found == word) ≡ false →
-      Under holds home b new (in_giving_back (now home new).holds)
-      (Some (if is_locked found then Locked o else Changed o))
-  check_bad {old = old} {new = new} o found word u w good is test =
-      let work = is_doing u refl in
-      let bad : not (found == word) ≡ true = ap not test in
-      let state = check_state o found word true w good is bad in
-      let failed : (now home new).failed ≡ true = ap (λ (l : LocalState). l.failed) state in
-      let wrong : (found == (next_check (now home old)).word) ≡ false = rw is test in
-      let on = goes_on work.0 work.1 w in
-      let answered : answer_by (now home old) (made_by b Load Check o found) None
-      ≡ Some (if is_locked found then Locked o else Changed o) = rw wrong refl in
-      subst (Under holds home b new (in_giving_back (now home new).holds)) answered (due_is on (rw failed refl))
+      let state = check_state o found word bad w good is test in
+      under_is (goes_on work.0 work.1 w) (rw (ap (λ (l : LocalState). l.failed) state) refl) (rw (is, test) refl)
 
 -- ---- the loop
 
@@ -190,8 +167,11 @@ module _ {L : Type 0} (holds : L → List Val → Type 0) (home : Home L) (b : B
     pub left : (now home steps).checked < length (to_check (now home steps))
     pub read : next_check (now home steps) ≡ slot_read slot
 
-  pub next_is : {steps : Steps L} (slots : List ReadSlot) (i : ℕ) → Checking steps (drop i slots) →
-      i < length slots → is_none (value_in writes (read_at slots i).object) ≡ true → NextCheck steps (read_at slots i)
+module _ {L : Type 0} {holds : L → List Val → Type 0} {home : Home L} {b : Began} {start : Steps L}
+    {writes : List (ℕ × Val)} where
+  pub next_is : {steps : Steps L} (slots : List ReadSlot) (i : ℕ) →
+      Checking holds home b start writes steps (drop i slots) → i < length slots →
+      is_none (value_in writes (read_at slots i).object) ≡ true → NextCheck holds home b start writes steps (read_at slots i)
   next_is {steps = steps} slots i c h is =
       let none : is_none (write_of (read_at slots i).object writes) ≡ true =
       ap is_none (write_of-value_in writes (read_at slots i).object) ∙ is in
@@ -204,12 +184,13 @@ module _ {L : Type 0} (holds : L → List Val → Type 0) (home : Home L) (b : B
       }
 
   -- one read was checked, and it is good
-  pub checked_one : {old : Steps L} (new : Steps L) (slots : List ReadSlot) (i : ℕ) → Checking old (drop i slots) →
-      i < length slots → is_none (value_in writes (read_at slots i).object) ≡ true → (bad : Option TlAgain) →
+  pub checked_one : {old : Steps L} (new : Steps L) (slots : List ReadSlot) (i : ℕ) →
+      Checking holds home b start writes old (drop i slots) → i < length slots →
+      is_none (value_in writes (read_at slots i).object) ≡ true → (bad : Option TlAgain) →
       is_some bad ≡ false → IfNone bad (Under holds home b new (in_checking (now home new)) None) →
       (now home start).failed ≡ false →
       now home new ≡ record (now home old) { checked = (now home old).checked + 1; failed = is_some bad } →
-      Checking new (drop (i + 1) slots)
+      Checking holds home b start writes new (drop (i + 1) slots)
   checked_one {old = old} new slots i c h is bad fine u good state =
       let none : is_none (write_of (read_at slots i).object writes) ≡ true =
       ap is_none (write_of-value_in writes (read_at slots i).object) ∙ is in
@@ -226,9 +207,10 @@ module _ {L : Type 0} (holds : L → List Val → Type 0) (home : Home L) (b : B
       }
 
   -- a read of an object that is written is not checked
-  pub checked_none : {steps : Steps L} (slots : List ReadSlot) (i : ℕ) → Checking steps (drop i slots) →
+  pub checked_none : {steps : Steps L} (slots : List ReadSlot) (i : ℕ) →
+      Checking holds home b start writes steps (drop i slots) →
       i < length slots → is_none (value_in writes (read_at slots i).object) ≡ false →
-      Checking steps (drop (i + 1) slots)
+      Checking holds home b start writes steps (drop (i + 1) slots)
   checked_none {steps = steps} slots i c h is =
       let none : is_none (write_of (read_at slots i).object writes) ≡ false =
       ap is_none (write_of-value_in writes (read_at slots i).object) ∙ is in record {
@@ -239,7 +221,8 @@ module _ {L : Type 0} (holds : L → List Val → Type 0) (home : Home L) (b : B
       }
 
   -- where no slot is left every read is checked
-  pub checked_all : {steps : Steps L} (slots : List ReadSlot) (i : ℕ) → Checking steps (drop i slots) →
+  pub checked_all : {steps : Steps L} (slots : List ReadSlot) (i : ℕ) →
+      Checking holds home b start writes steps (drop i slots) →
       length slots ≤ i → is_some (now home start).drawn ≡ true → (now home start).failed ≡ false →
       is_valid (now home steps) ≡ true
   checked_all {steps = steps} slots i c h drawn good =

@@ -41,7 +41,7 @@ holds_by old new writes q =
       high_put = false;
     }) writes) (sym q)
 
-module _ {L : Type 0} (holds : L → List Val → Type 0) {home : Home L} (b : Began) where
+module _ {L : Type 0} {home : Home L} where
   -- the lists say as much after events that read, lock and unlock nothing
   lists_kept : {old : Steps L} (new : Steps L) {opened : OpenedAs} {n : ℕ} (m : ℕ) → Lists home old opened n → n ≡ m →
       (now home new).reads ≡ (now home old).reads → (now home new).holds ≡ (now home old).holds →
@@ -59,43 +59,41 @@ module _ {L : Type 0} (holds : L → List Val → Type 0) {home : Home L} (b : B
   lists_checked new {n = n} lists state =
       lists_kept new n lists refl (ap (λ (l : LocalState). l.reads) state) (ap (λ (l : LocalState). l.holds) state)
 
-  module _ {start : Steps L} (writes : List (ℕ × Val)) (u : Under holds home b start (Just (draws writes)) None) where
-    pub is_commit : (work : Work) × (b.task ≡ Doing work)
-    is_commit = is_doing u refl
+module _ {L : Type 0} {holds : L → List Val → Type 0} {home : Home L} {b : Began} {start : Steps L} (writes : List (ℕ × Val))
+    (u : Under holds home b start (Just (draws writes)) None) where
+  pub is_commit : (work : Work) × (b.task ≡ Doing work)
+  is_commit = is_doing u refl
 
-    -- the number is drawn
-    drawn_state : {new : Steps L} {told : List (ℕ × Val)} (at number : ℕ) → told ≡ writes →
-        Went holds home b start new None (made_by b Add (draws told) at number) →
-        now home new ≡ record (now home start) {
-          look = None;
-          writes = Some writes;
-          drawn = Some number;
-          checked = 0;
-        }
-    drawn_state at number same w =
-        w.state
-        ∙ ap (λ ws. record (now home start) { look = None; writes = Some ws; drawn = Some number; checked = 0 }) same
+  -- the number is drawn
+  drawn_state : {new : Steps L} {told : List (ℕ × Val)} (at number : ℕ) → told ≡ writes →
+      Went holds home b start new None (made_by b Add (draws told) at number) → now home new ≡ record (now home start) {
+        look = None;
+        writes = Some writes;
+        drawn = Some number;
+        checked = 0;
+      }
+  drawn_state at number same w = rw (w.state, same) refl
 
-    pub drawn_under : {new : Steps L} (told : List (ℕ × Val)) (at number : ℕ) →
-        Went holds home b start new None (made_by b Add (draws told) at number) →
-        Under holds home b new (in_checking (now home new)) None
-    drawn_under told at number w = goes_on is_commit.0 is_commit.1 w
+  pub drawn_under : {new : Steps L} (told : List (ℕ × Val)) (at number : ℕ) →
+      Went holds home b start new None (made_by b Add (draws told) at number) →
+      Under holds home b new (in_checking (now home new)) None
+  drawn_under told at number w = goes_on is_commit.0 is_commit.1 w
 
-    pub drawn_lists : {new : Steps L} {told : List (ℕ × Val)} (at number : ℕ) → told ≡ writes →
-        Went holds home b start new None (made_by b Add (draws told) at number) → {opened : OpenedAs} {n : ℕ} (m : ℕ) →
-        Lists home start opened n → n ≡ m → Lists home new opened m
-    drawn_lists {new = new} at number same w m lists q =
-        let state = drawn_state at number same w in
-        lists_kept new m lists q (ap (λ (l : LocalState). l.reads) state) (ap (λ (l : LocalState). l.holds) state)
+  pub drawn_lists : {new : Steps L} {told : List (ℕ × Val)} (at number : ℕ) → told ≡ writes →
+      Went holds home b start new None (made_by b Add (draws told) at number) → {opened : OpenedAs} {n : ℕ} (m : ℕ) →
+      Lists home start opened n → n ≡ m → Lists home new opened m
+  drawn_lists {new = new} at number same w m lists q =
+      let state = drawn_state at number same w in
+      lists_kept new m lists q (ap (λ (l : LocalState). l.reads) state) (ap (λ (l : LocalState). l.holds) state)
 
-    -- what is locked is to be given back
-    pub bad_under : {steps : Steps L} {a : Option TlAgain} →
-        Under holds home b steps (in_giving_back (now home steps).holds) a →
-        Under holds home b steps (in_freeing b.task (table_of home.terms) (now home steps)) a
-    bad_under {steps = steps} v = due_is v (gives_frees is_commit.0 is_commit.1 (table_of home.terms) (now home steps))
+  -- what is locked is to be given back
+  pub bad_under : {steps : Steps L} {a : Option TlAgain} →
+      Under holds home b steps (in_giving_back (now home steps).holds) a →
+      Under holds home b steps (in_freeing b.task (table_of home.terms) (now home steps)) a
+  bad_under {steps = steps} v = due_is v (gives_frees is_commit.0 is_commit.1 (table_of home.terms) (now home steps))
 
-    -- it is
-    pub bad_ends : {steps : Steps L} {a : Option TlAgain} →
-        Under holds home b steps (when_free b.task (table_of home.terms) (now home steps)) a →
-        Under holds home b steps Done a
-    bad_ends {steps = steps} v = due_is v (free_ends is_commit.0 is_commit.1 (table_of home.terms) (now home steps))
+  -- it is
+  pub bad_ends : {steps : Steps L} {a : Option TlAgain} →
+      Under holds home b steps (when_free b.task (table_of home.terms) (now home steps)) a →
+      Under holds home b steps Done a
+  bad_ends {steps = steps} v = due_is v (free_ends is_commit.0 is_commit.1 (table_of home.terms) (now home steps))

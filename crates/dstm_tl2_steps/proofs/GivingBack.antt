@@ -81,15 +81,12 @@ module _ (start : LocalState) (writes : List (ℕ × Val)) (count i : ℕ) (few 
     -- the next one is the first of these
     pub next_held : still_held start writes count i
         ≡ new_hold start (write_at writes i) ∷ still_held start writes count (i + 1)
-    next_held =
-        holds_from start (take count writes) i within
-        ∙ ap (λ w. new_hold start w ∷ still_held start writes count (i + 1)) same
+    next_held = rw (holds_from start (take count writes) i within, same) refl
 
     -- it stands there once
     pub held_once : WritesApart writes → hold_of (write_at writes i).0 (still_held start writes count (i + 1)) ≡ None
     held_once apart =
-        subst (λ (w : ℕ × Val). hold_of w.0 (still_held start writes count (i + 1)) ≡ None) same
-        (unheld start (drop (i + 1) (take count writes)) (write_at (take count writes) i).0
+        rw (← same) (unheld start (drop (i + 1) (take count writes)) (write_at (take count writes) i).0
         (later_unnamed (take count writes) i (apart_take writes count apart few) within))
 
 -- ---- a call that gives back
@@ -106,8 +103,9 @@ module _ {L : Type 0} (holds : L → List Val → Type 0) (home : Home L) (began
         Under holds home began start (in_freeing began.task (table_of home.terms) (now home start)) again →
         Under holds home began steps (in_freeing began.task (table_of home.terms) (now home steps)) again
 
+module _ {L : Type 0} {holds : L → List Val → Type 0} {home : Home L} {began : Began} where
   module _ {start old : Steps L} {opened : OpenedAs} {count i : ℕ} (lists : Lists home start opened count)
-      (few : count ≤ length opened.writes) (left : i < count) (gives : GivesBack start opened.writes count i old)
+      (few : count ≤ length opened.writes) (left : i < count) (gives : GivesBack holds home began start opened.writes count i old)
       (call : (again : Option TlAgain)
       × Under holds home began start (in_freeing began.task (table_of home.terms) (now home start)) again)
       (o : ℕ) (at : (write_at opened.writes i).0 ≡ o) where
@@ -199,5 +197,5 @@ module _ {L : Type 0} (holds : L → List Val → Type 0) (home : Home L) (began
             (λ work task. ap (λ (state : LocalState). state.failed) kept ∙ failed work task)) refl
 
         -- one more is given back
-        pub gives_one : GivesBack start opened.writes count (i + 1) new
+        pub gives_one : GivesBack holds home began start opened.writes count (i + 1) new
         gives_one = record { left = freed; rest = kept; under = goes_on }

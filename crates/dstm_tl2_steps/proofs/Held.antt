@@ -51,9 +51,7 @@ later_unnamed writes i apart lt =
 pub holds_from : (state : LocalState) (writes : List (ℕ × Val)) (i : ℕ) → i < length writes →
     map (new_hold state) (drop i writes)
     ≡ new_hold state (write_at writes i) ∷ map (new_hold state) (drop (i + 1) writes)
-holds_from state writes i lt =
-    ap (map (new_hold state)) (drop-cons writes i no_write lt)
-    ∙ ap (λ n. new_hold state (write_at writes i) ∷ map (new_hold state) (drop n writes)) (sym (add-one i))
+holds_from state writes i lt = rw (drop-cons writes i no_write lt, add-one i) refl
 
 -- The first lock of those from a place on is that of the write there, and it is held once.
 pub first_from : (state : LocalState) (writes : List (ℕ × Val)) (i : ℕ) → WritesApart writes → i < length writes →

@@ -36,8 +36,9 @@ module _ {L : Type 0} (holds : L → List Val → Type 0) (home : Home L) (began
     pub under : (work : Work) → began.task ≡ Doing work →
         Under holds home began steps (in_locking writes work (now home steps)) None
 
+module _ {L : Type 0} {holds : L → List Val → Type 0} {home : Home L} {began : Began} where
   module _ {start old : Steps L} {opened : OpenedAs} {i : ℕ} (lists : Lists home start opened 0)
-      (rest : AtRest (now home start)) (so_far : Locks start opened.writes i old) where
+      (rest : AtRest (now home start)) (so_far : Locks holds home began start opened.writes i old) where
     -- the first writes are locked, so many
     pub lists_now : Lists home old opened i
     lists_now = record {
@@ -53,9 +54,7 @@ module _ {L : Type 0} (holds : L → List Val → Type 0) (home : Home L) (began
           (made_by began (Exchange word (word + 1)) (locks items) o found)) where
         went : Went holds home began old new None
             (made_by began (Exchange word (word + 1)) (locks opened.writes) o found)
-        went =
-            subst (λ items. Went holds home began old new None
-            (made_by began (Exchange word (word + 1)) (locks items) o found)) same_items went_with
+        went = rw (← same_items) went_with
 
         -- it had another word, which ends the attempt
         lost_now : found ≢ word → now home new ≡ record (now home old) {
@@ -71,20 +70,7 @@ module _ {L : Type 0} (holds : L → List Val → Type 0) (home : Home L) (began
           holds = map (new_hold (now home start)) (take i opened.writes);
           failed = true;
         }
-        lost other =
-            lost_now other
-            ∙ ap (λ (state : LocalState). record state {
-              look = None;
-              writes = Some opened.writes;
-              failed = true;
-            }) so_far.has.same
-            ∙ ap (λ look. record (now home start) {
-              look = look;
-              writes = Some opened.writes;
-              locked = i;
-              holds = map (new_hold (now home start)) (take i opened.writes);
-              failed = true;
-            }) (sym rest.no_look)
+        lost other = rw (lost_now other, so_far.has.same, rest.no_look) refl
 
         pub lost_under : {again : TlAgain} → found ≢ word →
             again ≡ (if is_locked found then Locked o else Changed o) →
@@ -120,8 +106,7 @@ module _ {L : Type 0} (holds : L → List Val → Type 0) (home : Home L) (began
       was_read =
           let open_o : IsSome (value_in opened.writes o) =
           subst (λ o. IsSome (value_in opened.writes o)) at (is_written_at opened.writes i left) in
-          subst (λ (state : LocalState). is_some (read_of o state.reads) ≡ true) (sym so_far.has.same)
-          (is_something (read_of o (now home start).reads) (read o open_o))
+          rw so_far.has.same (is_something (read_of o (now home start).reads) (read o open_o))
 
       reads_now : map slot_read opened.reads ≡ (now home old).reads
       reads_now = lists.reads ∙ sym (ap (λ (state : LocalState). state.reads) so_far.has.same)
@@ -134,7 +119,7 @@ module _ {L : Type 0} (holds : L → List Val → Type 0) (home : Home L) (began
       has_word word is = sym (slot_word opened.reads o word has_slot is ∙ ap (recorded o) reads_now)
 
   -- all are locked
-  module _ {start steps : Steps L} {writes : List (ℕ × Val)} {i : ℕ} (so_far : Locks start writes i steps)
+  module _ {start steps : Steps L} {writes : List (ℕ × Val)} {i : ℕ} (so_far : Locks holds home began start writes i steps)
       (all : length writes ≤ i) where
     pub locks_all : (i ≡ length writes) × HasLocked (now home start) writes (length writes) (now home steps)
     locks_all =

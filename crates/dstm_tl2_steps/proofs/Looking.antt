@@ -43,15 +43,16 @@ tells_bad true why again q = absurd (cc)
 tells_bad false why again q = (refl, (cc))
 
 module _ {L : Type 0} (holds : L → List Val → Type 0) (home : Home L) (began : Began) where
-  -- the call that looks at an object is one on an attempt
-  pub on_attempt : {steps : Steps L} (o : ℕ) {again : Option TlAgain} →
-      Under holds home began steps (LookAt o) again → (work : Work) × (began.task ≡ Doing work)
-  on_attempt o under = looks_in _ _ _ _ o under.due
-
   -- the look that is due next, at an object whose word is readable
   pub record Looks (steps : Steps L) (kind : Kind) (again : Option TlAgain) : Type 0 where
     pub due : Under holds home began steps (Just kind) again
     pub good : IsReadable (now home steps).sample (look_of (now home steps)).word
+
+module _ {L : Type 0} {holds : L → List Val → Type 0} {home : Home L} {began : Began} where
+  -- the call that looks at an object is one on an attempt
+  pub on_attempt : {steps : Steps L} (o : ℕ) {again : Option TlAgain} →
+      Under holds home began steps (LookAt o) again → (work : Work) × (began.task ≡ Doing work)
+  on_attempt o under = looks_in _ _ _ _ o under.due
 
   module _ {old new : Steps L} {again : Option TlAgain} (o word : ℕ) where
     -- the word of the first look stays that of the read under way
@@ -74,12 +75,10 @@ module _ {L : Type 0} (holds : L → List Val → Type 0) (home : Home L) (began
       task = on_attempt o under
 
       sample_now : (now home new).sample ≡ new.sample
-      sample_now =
-          ap (λ (state : LocalState). state.sample) went.state ∙ sym under.sample
-          ∙ ap (λ (steps : Steps L). steps.sample) (sym rest)
+      sample_now = rw (went.state, ← under.sample, rest) refl
 
       -- a first look at a readable word
-      pub looked : (if is_readable new.sample word then None else Some why) ≡ None → Looks new LookLow again
+      pub looked : (if is_readable new.sample word then None else Some why) ≡ None → Looks holds home began new LookLow again
       looked test =
           let good : is_readable new.sample word ≡ true = tells_good (is_readable new.sample word) why test in record {
             due = under_is (goes_on task.0 task.1 went)
@@ -101,7 +100,7 @@ module _ {L : Type 0} (holds : L → List Val → Type 0) (home : Home L) (began
     module _ (work : Work) (task : began.task ≡ Doing work) where
       -- the looks at the value stand between the two looks at the lock
       pub looked_low : (at : ℕ) → Went holds home began old new again (made_by began Load LookLow at word) →
-          IsReadable (now home old).sample (look_of (now home old)).word → Looks new LookHigh again
+          IsReadable (now home old).sample (look_of (now home old)).word → Looks holds home began new LookHigh again
       looked_low at went good = record {
         due = goes_on work task went;
         good = subst (λ (state : LocalState). IsReadable state.sample (look_of state).word) (sym went.state) good;

@@ -37,14 +37,11 @@ module _ (writes : List (ℕ × Val)) (places : List Place) (p : AreWritePlaces 
   write_is = ap (λ (x : Place). x.write) (place_is places o below place found)
 
   pub found_no_write : place.write ≡ 0 → value_in writes o ≡ None
-  found_no_write none =
-      lookup_find (λ q. q == o) writes ∙ ap (option_map (λ (w : ℕ × Val). w.1)) (finds_none p o below place.write write_is none)
+  found_no_write none = rw (lookup_find (λ q. q == o) writes, finds_none p o below place.write write_is none) refl
 
   pub found_write : place.write ≢ 0 → (w : ℕ × Val) → w ≡ slice_index_or writes (place.write - 1) w →
       value_in writes o ≡ Some w.1
-  found_write some w is =
-      lookup_find (λ q. q == o) writes
-      ∙ ap (option_map (λ (w : ℕ × Val). w.1)) (finds_one p o below place.write write_is some w is)
+  found_write some w is = rw (lookup_find (λ q. q == o) writes, finds_one p o below place.write write_is some w is) refl
 
 -- an object that is not open for writing has no place among the writes
 pub unopened_there : (writes : List (ℕ × Val)) (places : List Place) (p : AreWritePlaces writes places) (o : ℕ) →
@@ -86,9 +83,10 @@ module _ {writes : List (ℕ × Val)} {places : List Place} {sets : List Bool} {
   pub set_there : (v : Val) (w : ℕ × Val) → w ≡ slice_index_or writes (place.write - 1) w →
       slice_set writes (place.write - 1) (w.0, v) ≡ with_value o v writes
   set_there v w is =
-      ap (λ (y : ℕ × Val). slice_set writes (place.write - 1) (y.0, v))
-      (is ∙ get_or_default writes (place.write - 1) w no_write slot_there.within)
-      ∙ with_value_is writes o (place.write - 1) v slot_there slot_only
+      rw (
+        is ∙ get_or_default writes (place.write - 1) w no_write slot_there.within,
+        with_value_is writes o (place.write - 1) v slot_there slot_only,
+      ) refl
 
   -- the object was set to it
   pub set_here : (v : Val) →

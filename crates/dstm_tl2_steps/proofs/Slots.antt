@@ -17,8 +17,7 @@ use Rattle.dstm_tl2_steps.specs.declared.opened.ReadSlot.{ReadSlot}
 pub write_none : (writes : List (ℕ × Val)) (o : ℕ) → ((i : ℕ) → IsSlotOf writes_sort writes o i → ⊥) → value_in writes o ≡ None
 write_none writes o none =
     lookup_find (λ p. p == o) writes
-    ∙ ap (option_map (λ (w : ℕ × Val). w.1))
-    (find_none (λ (w : ℕ × Val). w.0 == o) no_write writes
+    ∙ ap (option_map (λ (w : ℕ × Val). w.1)) (find_none (λ (w : ℕ × Val). w.0 == o) no_write writes
     (λ i lt q. none i (record { within = lt; counts = refl; object = eqb-true (write_at writes i).0 o q })))
 
 -- ---- another value for an object
@@ -79,8 +78,7 @@ pub set_push : (sets : List Bool) (writes : List (ℕ × Val)) (w : ℕ × Val) 
 set_push [] [] w long = refl
 set_push [] (x ∷ writes) w long = absurd (omega arith)
 set_push (s ∷ sets) [] w long = absurd (omega arith)
-set_push (s ∷ sets) (x ∷ writes) w long =
-    ap (λ xs. cond s (x ∷ xs) xs) (set_push sets writes w (omega arith))
+set_push (s ∷ sets) (x ∷ writes) w long = ap (λ xs. cond s (x ∷ xs) xs) (set_push sets writes w (omega arith))
 
 -- what is set has the new value
 pub value_in-set_here : (sets : List Bool) (writes : List (ℕ × Val)) (o n : ℕ) (v : Val) →
@@ -88,8 +86,7 @@ pub value_in-set_here : (sets : List Bool) (writes : List (ℕ × Val)) (o n : �
     value_in (set_writes (slice_set sets n true) (with_value o v writes)) o ≡ Some v
 value_in-set_here sets [] o n v long r only = let w = r.within in absurd (omega arith)
 value_in-set_here [] (w ∷ writes) o n v long r only = absurd (omega arith)
-value_in-set_here (s ∷ sets) (w ∷ writes) o zero v long r only =
-    rw (eq-eqb w.0 o r.object) (rw (eq-eqb o o refl) refl)
+value_in-set_here (s ∷ sets) (w ∷ writes) o zero v long r only = rw (eq-eqb w.0 o r.object) (rw (eq-eqb o o refl) refl)
 value_in-set_here (s ∷ sets) (w ∷ writes) o (suc n) v long r only =
     by (cases_Bool s)
     (value_in-set_here sets writes o n v (omega arith) (later_write w writes o n r only) (later_only w writes o n r only))
@@ -130,8 +127,7 @@ value_in-set_other (s ∷ sets) (w ∷ writes) o (suc n) v p other r only lt =
         value_in (set_writes (slice_set sets n true) (with_value o v writes)) p ≡ value_in (set_writes sets writes) p →
         value_in (set_writes (slice_set (s ∷ sets) (suc n) true) (with_value o v (w ∷ writes))) p
         ≡ value_in (set_writes (s ∷ sets) (w ∷ writes)) p
-    by (inl set) ih =
-        rw (not_first w writes o n r only) (rw set (ap (λ x. cond (w.0 == p) (Some w.1) x) ih))
+    by (inl set) ih = rw (not_first w writes o n r only) (rw set (ap (λ x. cond (w.0 == p) (Some w.1) x) ih))
     by (inr unset) ih = rw (not_first w writes o n r only) (rw unset ih)
 
 -- ---- lists that name each object once

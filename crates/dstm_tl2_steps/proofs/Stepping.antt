@@ -3,7 +3,7 @@ use Rattle.std.proofs.Common.{◌≡◌, ◌≢◌, ℕ, ◌+◌, ◌<◌, ◌�
 use Rattle.std.proofs.lemmas.Bool.{cond_both}
 use Rattle.std.specs.Prelude.{Option, IfSome}
 use Rattle.dstm_model.specs.declared.value.Val.{Val}
-use Rattle.dstm_machines.specs.Traces.{Access, Acts, IsPastOf, events_of}
+use Rattle.dstm_machines.specs.Traces.{Access, IsPastOf, events_of}
 use Rattle.dstm_machines.specs.Traces.Access.{Exchange, Add}
 use Rattle.dstm_machines.proofs.Pasts.{past_past}
 use Rattle.dstm_seats.proofs.Seats as seats
@@ -35,20 +35,18 @@ pub draw_allowed : (t : Table) (l : LocalState) {k : Kind} (ws : List (ℕ × Va
     p ≡ place t ClockWord → 0 < l.begun → IsTold l ws → l.drawn ≡ None → l.failed ≡ false → l.gave_back ≡ false →
     l.locked ≡ length ws → AllowedAs k t l (event_by Add c k p found)
 draw_allowed t l {k = k} ws c p found same there begun told undrawn sound kept locked =
-    subst (λ k. AllowedAs k t l (event_by Add c k p found)) (sym same)
-    (there, (refl, refl), (begun, told, undrawn, sound, kept, locked), tt)
+    rw same (there, (refl, refl), (begun, told, undrawn, sound, kept, locked), tt)
 
 pub lock_allowed : (t : Table) (l : LocalState) {k : Kind} (ws : List (ℕ × Val)) (c p o word found : ℕ) →
     k ≡ locks ws → p ≡ o → o < objects t → IsTold l ws → l.drawn ≡ None → l.failed ≡ false → l.gave_back ≡ false →
     l.locked < length ws → (next_write l ws).0 ≡ o → is_some (read_of o l.reads) ≡ true → recorded o l.reads ≡ word →
     AllowedAs k t l (event_by (Exchange word (word + 1)) c k p found)
 lock_allowed t l {k = k} ws c p o word found same there exists told undrawn sound kept left next read recorded_word =
-    subst (λ k. AllowedAs k t l (event_by (Exchange word (word + 1)) c k p found)) (sym same) (
+    rw same (
       there ∙ sym next,
-      subst (λ n. Acts (Exchange n (n + 1)) (event_by (Exchange word (word + 1)) c (locks ws) p found))
-          (sym (ap (λ o. recorded o l.reads) next ∙ recorded_word)) (refl, refl),
-      (told, undrawn, sound, kept, left, subst (λ o. is_some (read_of o l.reads) ≡ true) (sym next) read),
-      subst (λ o. o < objects t) (sym next) exists,
+      rw (ap (λ o. recorded o l.reads) next ∙ recorded_word) (refl, refl),
+      (told, undrawn, sound, kept, left, rw next read),
+      rw next exists,
     )
 
 -- ---- what a step tells
@@ -144,8 +142,7 @@ module _ {L : Type 0} {holds : L → List Val → Type 0} {home : Home L} {b : B
   -- The same due and the same answer, written otherwise.
   pub under_is : {steps : Steps L} {d f : Due} {a c : Option TlAgain} → Under holds home b steps d a → d ≡ f → a ≡ c →
       Under holds home b steps f c
-  under_is {steps = steps} {d = d} {f = f} {a = a} u q r =
-      subst (Under holds home b steps f) r (subst (λ d. Under holds home b steps d a) q u)
+  under_is {steps = steps} {d = d} {f = f} {a = a} u q r = subst (Under holds home b steps f) r (rw (← q) u)
 
   -- A CALL THAT ENDS IS A CALL: each of its events was due, and nothing more is; it answers what its events say.
   pub call_of : {steps : Steps L} {a : Option TlAgain} (u : Under holds home b steps Done a) →

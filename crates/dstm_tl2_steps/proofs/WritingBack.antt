@@ -108,6 +108,12 @@ or_false : (x : Bool) → (x || false) ≡ x
 or_false true = refl
 or_false false = refl
 
+-- it is of the table
+pub first_below : {L : Type 0} {holds : L → List Val → Type 0} {home : Home L} {b : Began} {steps : Steps L} {d : Due}
+    {a : Option TlAgain} {w : ℕ × Val} {rest : List Hold} → IsFirst (now home steps) w rest →
+    Under holds home b steps d a → w.0 < objects (table_of home.terms)
+first_below {w = w} first u = held_below u w.0 (first_is_held first)
+
 module _ {L : Type 0} (holds : L → List Val → Type 0) (home : Home L) (b : Began) (number o : ℕ) (value : Val)
     (start : Steps L) (rest : List Hold) (first : IsFirst (now home start) (o, value) rest) where
   -- its low part is written
@@ -123,10 +129,6 @@ module _ {L : Type 0} (holds : L → List Val → Type 0) (home : Home L) (b : B
       holds = with_high (with_low (new_hold (now home start) (o, value))) ∷ rest;
     }
     pub under : Under holds home b steps (FreeAs o (2 * number + 2)) None
-
-  -- the object is of the table
-  pub first_below : {d : Due} {a : Option TlAgain} → Under holds home b start d a → o < objects (table_of home.terms)
-  first_below u = held_below u o (first_is_held first)
 
   module _ (u : Under holds home b start (in_writing_back number (now home start).holds) None) where
     -- the low part is due first
@@ -215,8 +217,10 @@ module _ {L : Type 0} (holds : L → List Val → Type 0) (home : Home L) (b : B
     }
     pub under : Under holds home b steps (in_writing_back number (now home steps).holds) None
 
+module _ {L : Type 0} {holds : L → List Val → Type 0} {home : Home L} {b : Began} {number : ℕ} {start : Steps L}
+    {writes : List (ℕ × Val)} where
   -- the object of the next write is the first of those that are locked
-  pub next_is_first : {steps : Steps L} {i : ℕ} → Writing steps i → i < length writes →
+  pub next_is_first : {steps : Steps L} {i : ℕ} → Writing holds home b number start writes steps i → i < length writes →
       ((i j : ℕ) → i < j → j < length writes → (write_at writes i).0 ≢ (write_at writes j).0) →
       IsFirst (now home steps) (write_at writes i) (map (new_hold (now home start)) (drop (i + 1) writes))
   next_is_first {i = i} w h apart =
@@ -225,9 +229,9 @@ module _ {L : Type 0} (holds : L → List Val → Type 0) (home : Home L) (b : B
       (first_from (record (now home start) { holds = map (new_hold (now home start)) (drop i writes) }) writes i apart h
       refl)
 
-  pub one_written : {old new : Steps L} {i : ℕ} → Writing old i →
+  pub one_written : {old new : Steps L} {i : ℕ} → Writing holds home b number start writes old i →
       now home new ≡ record (now home old) { holds = map (new_hold (now home start)) (drop (i + 1) writes) } →
-      Under holds home b new (in_writing_back number (now home new).holds) None → Writing new (i + 1)
+      Under holds home b new (in_writing_back number (now home new).holds) None → Writing holds home b number start writes new (i + 1)
   one_written {i = i} w state u = record {
     state = state
         ∙ ap (λ (l : LocalState). record l { holds = map (new_hold (now home start)) (drop (i + 1) writes) }) w.state;

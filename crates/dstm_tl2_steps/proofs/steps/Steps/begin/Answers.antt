@@ -1,9 +1,6 @@
 use Rattle.std.proofs.Common.{◌+◌, ◌++◌, ◌*◌, ◌∙◌, ◌∷◌, ap, refl}
 use Rattle.dstm_machines.specs.Traces.Access.{Load}
 use Rattle.dstm_tl2.specs.declared.kind.Kind.TheVariants.{Sample}
-use Rattle.dstm_tl2.specs.Sharing.{table_of}
-use Rattle.dstm_tl2.specs.Words.{place}
-use Rattle.dstm_tl2.specs.Words.Word.{ClockWord}
 use Rattle.dstm_seats.specs.Seats.{event_by}
 use Rattle.dstm_tl2_words.specs.Seats.{number_or, view_of}
 use Rattle.dstm_tl2_steps.specs.declared.steps.Steps.{Steps}

@@ -2,10 +2,7 @@ use Rattle.std.proofs.Common.{◌≡◌, ◌+◌, ◌*◌, ◌∙◌, ap, refl}
 use Rattle.dstm_machines.specs.Traces.Access.{Add}
 use Rattle.dstm_tl2.specs.declared.kind.Kind.TheVariants.{Draw}
 use Rattle.dstm_tl2.specs.Sharing.{table_of}
-use Rattle.dstm_tl2.specs.Words.{place}
-use Rattle.dstm_tl2.specs.Words.Word.{ClockWord}
 use Rattle.dstm_tl2_words.specs.Seats.{number_or, view_of}
-use Rattle.dstm_tl2_steps.specs.declared.steps.Steps.{Steps}
 use Rattle.dstm_tl2_order.specs.Order.{draws}
 use Rattle.dstm_tl2_steps.specs.Under.{now}
 use Rattle.dstm_tl2_steps.proofs.Stepping.{draw_allowed, went_on}

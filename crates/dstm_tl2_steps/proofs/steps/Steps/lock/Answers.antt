@@ -3,8 +3,7 @@ use Rattle.dstm_machines.specs.Traces.Access.{Exchange}
 use Rattle.dstm_tl2.specs.declared.kind.Kind.TheVariants.{Lock}
 use Rattle.dstm_tl2.specs.Sharing.{table_of}
 use Rattle.dstm_tl2.specs.State.{recorded}
-use Rattle.dstm_tl2_words.specs.Seats.{found_in, number_or, view_of}
-use Rattle.dstm_tl2_steps.specs.declared.steps.Steps.{Steps}
+use Rattle.dstm_tl2_words.specs.Seats.{number_or, view_of}
 use Rattle.dstm_tl2_order.specs.Order.{locks}
 use Rattle.dstm_tl2_steps.specs.Under.{now}
 use Rattle.dstm_tl2_steps.proofs.Bounds.{recorded_below}

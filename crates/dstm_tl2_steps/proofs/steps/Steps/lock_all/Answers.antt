@@ -22,35 +22,32 @@ named g c =
 
 pub word-word-requires-clause-read : goal.word-word-requires-clause-read
 word-word-requires-clause-read g c =
-    has_slot g.L.Law.holds c.args.words.now g.B.InCall.began c.requires.lists c.requires.rest
+    has_slot c.requires.lists c.requires.rest
     c.loop-write.invariant.so_far c.requires.read (within g (goal.at.word-word-requires-clause-read g c).In-loop-write)
     _ (named g (goal.at.word-word-requires-clause-read g c).In-loop-write)
 
 pub lock-requires-clause-exists : goal.lock-requires-clause-exists
 lock-requires-clause-exists g c =
     let at = (goal.at.lock-requires-clause-exists g c).In-loop-write in
-    subst (λ n. (write_at c.deref-write-items.result.now c.loop-write.write-index).0 < n) c.requires.lists.objects
-    (subst (λ n. n < c.args.opened.now.objects) (named g at)
-    (c.writes.ensures.below c.loop-write.write-index (within g at)))
+    rw (← c.requires.lists.objects, ← named g at) (c.writes.ensures.below c.loop-write.write-index (within g at))
 
 pub lock-requires-clause-read : goal.lock-requires-clause-read
 lock-requires-clause-read g c =
     not_nothing (read_of (write_at c.deref-write-items.result.now c.loop-write.write-index).0
-    (now c.args.words.now c.loop-write.self).reads)
-    (was_read g.L.Law.holds c.args.words.now g.B.InCall.began c.requires.lists c.requires.rest
+    (now c.args.words.now c.loop-write.self).reads) (was_read c.requires.lists c.requires.rest
     c.loop-write.invariant.so_far c.requires.read (within g (goal.at.lock-requires-clause-read g c).In-loop-write)
     _ (named g (goal.at.lock-requires-clause-read g c).In-loop-write))
 
 pub lock-requires-clause-word : goal.lock-requires-clause-word
 lock-requires-clause-word g c =
-    has_word g.L.Law.holds c.args.words.now g.B.InCall.began c.requires.lists c.requires.rest
+    has_word c.requires.lists c.requires.rest
     c.loop-write.invariant.so_far c.requires.read (within g (goal.at.lock-requires-clause-word g c).In-loop-write)
     _ (named g (goal.at.lock-requires-clause-word g c).In-loop-write) c.word-word.result c.word-word.ensures
 
 pub give_back-requires-clause-under : goal.give_back-requires-clause-under
 give_back-requires-clause-under g c = (
   Some _,
-  lost_under g.L.Law.holds c.args.words.now g.B.InCall.began c.requires.lists c.requires.rest
+  lost_under c.requires.lists c.requires.rest
       c.loop-write.invariant.so_far (within g (goal.at.give_back-requires-clause-under g c).In-loop-write)
       c.requires.work.0 c.requires.work.1 _ c.word-word.result c.in-Err.found
       c.writes-in-loop-write.ensures.items c.in-Err.ensures.went c.in-Err.ensures.answer refl,
@@ -59,14 +56,14 @@ give_back-requires-clause-under g c = (
 pub give_back-requires-clause-lists : goal.give_back-requires-clause-lists
 give_back-requires-clause-lists g c =
     subst (Lists c.args.words.now c.lock.new.self c.args.opened.now) (sym c.loop-write.invariant.counted)
-    (lost_lists g.L.Law.holds c.args.words.now g.B.InCall.began c.requires.lists c.requires.rest
+    (lost_lists c.requires.lists c.requires.rest
     c.loop-write.invariant.so_far (within g (goal.at.give_back-requires-clause-lists g c).In-loop-write)
     c.requires.work.0 c.requires.work.1 _ c.word-word.result c.in-Err.found
     c.writes-in-loop-write.ensures.items c.in-Err.ensures.went c.in-Err.ensures.answer)
 
 pub returns-in-Err-clause-ends : goal.returns-in-Err-clause-ends
 returns-in-Err-clause-ends g c =
-    lost_ends g.L.Law.holds c.args.words.now g.B.InCall.began c.requires.lists c.requires.rest
+    lost_ends c.requires.lists c.requires.rest
     c.loop-write.invariant.so_far (within g (goal.at.returns-in-Err-clause-ends g c).In-loop-write)
     c.requires.work.0 c.requires.work.1 _ c.word-word.result c.in-Err.found
     c.writes-in-loop-write.ensures.items c.in-Err.ensures.went c.give_back.new.self
@@ -77,18 +74,16 @@ returns-clause-all g c =
     let same : c.deref-write-items.result.now ≡ c.args.opened.now.writes =
     c.deref-write-items.ensures.value ∙ c.writes.ensures.items in
     c.loop-write.invariant.counted
-    ∙ (locks_all g.L.Law.holds c.args.words.now g.B.InCall.began c.loop-write.invariant.so_far
+    ∙ (locks_all c.loop-write.invariant.so_far
     (subst (λ ws. length ws ≤ c.loop-write.write-index) same c.loop-write-test.false)).0
 
 pub returns-clause-lists : goal.returns-clause-lists
 returns-clause-lists g c =
     subst (Lists c.args.words.now c.loop-write.self c.args.opened.now) (sym c.loop-write.invariant.counted)
-    (lists_now g.L.Law.holds c.args.words.now g.B.InCall.began c.requires.lists c.requires.rest
-    c.loop-write.invariant.so_far)
+    (lists_now c.requires.lists c.requires.rest c.loop-write.invariant.so_far)
 
 pub returns-clause-goes_on : goal.returns-clause-goes_on
 returns-clause-goes_on g c =
     let same : c.deref-write-items.result.now ≡ c.args.opened.now.writes =
     c.deref-write-items.ensures.value ∙ c.writes.ensures.items in
-    then_goes_on g.L.Law.holds c.args.words.now g.B.InCall.began c.loop-write.invariant.so_far
-    (subst (λ ws. length ws ≤ c.loop-write.write-index) same c.loop-write-test.false)
+    then_goes_on c.loop-write.invariant.so_far (rw (← same) c.loop-write-test.false)

@@ -1,7 +1,5 @@
 use Rattle.std.proofs.Common.{refl}
 use Rattle.dstm_machines.specs.Traces.Access.{Load}
-use Rattle.dstm_tl2.specs.declared.kind.Kind.TheVariants.{LookAgain}
-use Rattle.dstm_tl2_steps.specs.declared.steps.Steps.{Steps}
 use Rattle.dstm_tl2_steps.proofs.Stepping.{went_on}
 use Rattle.dstm_tl2_steps.proofs.steps.Steps.look_again.Goals as goal
 

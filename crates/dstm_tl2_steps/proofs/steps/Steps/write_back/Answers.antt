@@ -14,14 +14,12 @@ first : (g : Over) (c : In-loop-write g) →
     (drop (c.loop-write.write-index + 1) c.args.opened.now.writes))
 first g c =
     let items = c.deref-write-items.ensures.value ∙ c.writes.ensures.items in
-    rw items (next_is_first g.L.Law.holds c.args.words.now g.B.InCall.began c.args.number c.args.self.now
-    c.args.opened.now.writes c.loop-write.invariant (rw items at c.loop-write-test.true) c.writes.ensures.apart)
+    rw items (next_is_first c.loop-write.invariant (rw items at c.loop-write-test.true) c.writes.ensures.apart)
 
 pub write_one-requires-clause-first : goal.write_one-requires-clause-first
 write_one-requires-clause-first g c = (_, first g (goal.at.write_one-requires-clause-first g c).In-loop-write)
 
 pub loop-write-preserved : goal.loop-write-preserved
 loop-write-preserved g c =
-    one_written g.L.Law.holds c.args.words.now g.B.InCall.began c.args.number c.args.self.now
-    c.args.opened.now.writes c.loop-write.invariant
+    one_written c.loop-write.invariant
     (c.write_one.ensures.state _ (first g (goal.at.loop-write-preserved g c).In-loop-write)) c.write_one.ensures.under

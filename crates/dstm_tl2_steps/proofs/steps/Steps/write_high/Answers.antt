@@ -1,10 +1,5 @@
 use Rattle.std.proofs.Common.{◌+◌, ◌*◌, ◌∙◌, ap, refl}
 use Rattle.dstm_machines.specs.Traces.Access.{Store}
-use Rattle.dstm_tl2.specs.declared.kind.Kind.TheVariants.{WriteHigh}
-use Rattle.dstm_tl2.specs.Sharing.{table_of}
-use Rattle.dstm_tl2.specs.Words.{place}
-use Rattle.dstm_tl2.specs.Words.Word.{HighWord}
-use Rattle.dstm_tl2_steps.specs.declared.steps.Steps.{Steps}
 use Rattle.dstm_tl2_steps.proofs.Stepping.{went_on}
 use Rattle.dstm_tl2_steps.proofs.steps.Steps.write_high.Goals as goal
 

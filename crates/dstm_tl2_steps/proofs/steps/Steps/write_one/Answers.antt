@@ -8,19 +8,13 @@ use Rattle.dstm_tl2_steps.proofs.steps.Steps.write_one.Goals.{After-write_high, 
 use Rattle.dstm_tl2_steps.proofs.steps.Steps.write_one.Goals as goal
 
 pub write_low-requires-clause-exists : goal.write_low-requires-clause-exists
-write_low-requires-clause-exists g c =
-    first_below g.L.Law.holds c.args.words.now g.B.InCall.began c.args.number _ _ _ _ c.requires.first.1
-    c.requires.under
+write_low-requires-clause-exists g c = first_below c.requires.first.1 c.requires.under
 
 pub write_high-requires-clause-exists : goal.write_high-requires-clause-exists
-write_high-requires-clause-exists g c =
-    first_below g.L.Law.holds c.args.words.now g.B.InCall.began c.args.number _ _ _ _ c.requires.first.1
-    c.requires.under
+write_high-requires-clause-exists g c = first_below c.requires.first.1 c.requires.under
 
 pub unlock-requires-clause-exists : goal.unlock-requires-clause-exists
-unlock-requires-clause-exists g c =
-    first_below g.L.Law.holds c.args.words.now g.B.InCall.began c.args.number _ _ _ _ c.requires.first.1
-    c.requires.under
+unlock-requires-clause-exists g c = first_below c.requires.first.1 c.requires.under
 
 pub overflow_mul-number : goal.overflow_mul-number
 overflow_mul-number g c =
