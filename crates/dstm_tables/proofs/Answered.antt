@@ -1,5 +1,5 @@
 -- What a body did on every lawful map is what its job does there.
-use Rattle.std.proofs.Common.{◌≡◌, List, Option, Some, None, sym, subst}
+use Rattle.std.proofs.Common.{◌≡◌, List, Option, Some, None}
 use Rattle.std.specs.Prelude.{All, IsSomeAnd}
 use Rattle.dstm_model.specs.declared.value.Val.{Val}
 use Rattle.dstm_model.specs.declared.layout.Layout.{Layout}
@@ -26,10 +26,7 @@ module _ (layout : Layout) (ops : List Op) (replies : List Reply) (entry : Entry
       IsRightFor (λ before after. DoesAll (record { layout = layout; ops = ops }) before after replies) layout entry →
       IsAnsweredBy layout ops replies entry
   answered_plain plain right map held stands agrees =
-      subst (λ (o : Option JobOutcome). IsSomeAnd o (λ outcome. (replies ≡ outcome.replies)
-      × StandsFor layout (with_writes map entry.writes) outcome.store))
-      (sym (plain_job ops held plain))
-      (right map (held, stands) agrees held stands)
+      rw (plain_job ops held plain) (right map (held, stands) agrees held stands)
 
   -- a body that ran the first open branch
   pub answered_branch :

@@ -1,12 +1,12 @@
 -- What an attempt at a job with branches leaves, from the clauses of its calls.
 use Rattle.std.proofs.Common.{◌≡◌, ◌≢◌, ◌∙◌, ◌+◌, ◌<◌, ◌≤◌, ◌++◌, ◌∷◌, ℕ, Bool, List, [], None, Some, true, false, refl, sym, ap, subst, arith, length, add-zero}
-use Rattle.std.specs.Prelude.{Option, IfSome, if◌then◌else◌, ◌&&◌}
+use Rattle.std.specs.Prelude.{Option, if◌then◌else◌, ◌&&◌}
 use Rattle.std.proofs.lemmas.Bool.{cond_both}
 use base.Fml.{GName}
 use Rattle.dstm_model.specs.declared.value.Val.{Val}
 use Rattle.dstm_model.specs.declared.layout.Layout.{Layout}
 use Rattle.dstm_model.specs.declared.op.Op.{Op}
-use Rattle.dstm_model.specs.Map.{Agrees, value_at}
+use Rattle.dstm_model.specs.Map.{Agrees}
 use Rattle.dstm_model.specs.Objects.{objects_of}
 use Rattle.dstm_model.specs.Store.{Store}
 use Rattle.dstm_core.specs.Events.{Event}
@@ -16,7 +16,6 @@ use Rattle.dstm_core.specs.State.{LocalState}
 use Rattle.dstm_core.specs.Traces.{events_of, IsPastOf}
 use Rattle.dstm_core.specs.declared.event.Kind.TheVariants.{Quit}
 use Rattle.dstm_core.specs.declared.shape.Shape.{Shape}
-use Rattle.dstm_core.specs.declared.state.Write.{Write}
 use Rattle.dstm_core.specs.declared.state.Phase.TheVariants.{Outside, Running}
 use Rattle.dstm_core.proofs.Pasts.{core_past}
 use Rattle.dstm_progress.proofs.Disturbing.{count_in, log_counts}
@@ -50,7 +49,7 @@ use Rattle.dstm_engine.specs.Outcomes.{IsLeft}
 use Rattle.dstm_engine.specs.Transactions.{BeginsAnew, TxPlace, tx_place}
 use Rattle.dstm_store.specs.declared.law.StoreLaw.{StoreLaw}
 use Rattle.dstm_store.specs.declared.job.JobTask.{JobTask}
-use Rattle.dstm_store.specs.Whole.{IsLawful, StandsFor}
+use Rattle.dstm_store.specs.Whole.{StandsFor}
 use Rattle.dstm_compose.specs.Compose.{IsRight}
 use Rattle.dstm_compose.specs.declared.body.Outcome.{Outcome}
 use Rattle.dstm_compose.specs.declared.body.Outcome.TheVariants.{Ran, Blocked}
@@ -85,9 +84,7 @@ pub right_for : (layout : Layout) (ops : List Op) (task : JobTask) (outcome is :
     task.layout ≡ layout → task.ops ≡ ops → outcome ≡ is → IsRight task before after outcome →
     IsRight (record { layout = layout; ops = ops }) before after is
 right_for layout ops task outcome is before after same_layout same_ops same right =
-    subst (IsRight (record { layout = layout; ops = ops }) before after) same
-    (subst (λ (l : Layout). IsRight (record { layout = l; ops = ops }) before after outcome) same_layout
-    (subst (λ (os : List Op). IsRight (record { layout = task.layout; ops = os }) before after outcome) same_ops right))
+    subst (IsRight (record { layout = layout; ops = ops }) before after) same (rw (← same_layout, ← same_ops) right)
 
 -- ---- a caller's attempt, from its begin to its end
 
@@ -157,12 +154,7 @@ module _ (k b t : Called StoreLaw) (r q : GName) (h j : Home StoreLaw) (begins :
       same_number = nn ∙ ap (λ (p : TxPlace StoreLaw). p.number) place
 
       begun : (state n).begun ≡ (state k).begun + 1
-      begun =
-          begun_there (shape_of n) n.number n.log
-          ∙ ap (λ (xs : List Event). (local (shape_of n) xs n.number).begun) (sym there)
-          ∙ ap (λ (x : Home StoreLaw). (local x.terms.shape b.log n.number).begun) same_home
-          ∙ ap (λ (c : ℕ). (local (shape_of b) b.log c).begun) same_number
-          ∙ begins.begun
+      begun = rw (begun_there (shape_of n) n.number n.log, ← there, same_home, same_number, begins.begun) refl
 
   -- others kept it from its commit
   was_kept_by : (n : Called StoreLaw) (again : Again) → OneMore (Dstm k) (Dstm n) → IsLeft n again → done n ≡ done t →
@@ -191,10 +183,8 @@ module _ (k b t : Called StoreLaw) (r q : GName) (h j : Home StoreLaw) (begins :
       IsRight (record { layout = layout; ops = job.ops }) map (with_set map (written t)) (Ran finished.replies)) →
       DidJob Branches layout job (Dstm k) (Dstm n) finished
   did_branch layout job finished n rest law nh one commits right =
-      doing.did_branch layout job (Dstm k) (Dstm n) finished law
-      (did _ k n finished.number rest one commits.status
-      (made.settled keeps k b t r q h j begins place _ n finished.number nh
-      (subst (λ (x : Home StoreLaw). IsRunOf keeps x.terms n.log) nh one.on.rest.run) commits right))
+      doing.did_branch layout job (Dstm k) (Dstm n) finished law (did _ k n finished.number rest one commits.status
+      (made.settled keeps k b t r q h j begins place _ n finished.number nh (rw (← nh) one.on.rest.run) commits right))
 
 -- ---- from the clauses of its last call
 
@@ -232,8 +222,7 @@ module _ {k b t n x : Called StoreLaw} (a : made.Tried keeps k b t n x) (rest : 
       let nh : n.home ≡ t.home = ap (λ (x : Called StoreLaw). x.home) kept in
       let nn : n.number ≡ t.number = ap (λ (x : Called StoreLaw). x.number) kept in
       let there = run_there t n nh run in
-      subst (λ (c : Called StoreLaw). WasKept (Dstm k) (Dstm c)) (sym a.end)
-      (was_kept_by k b t a.reference a.before a.table a.at a.begins a.place n again
+      rw a.end (was_kept_by k b t a.reference a.before a.table a.at a.begins a.place n again
       (one_more_by k b t a.reference a.before a.table a.at a.begins a.place n nh nn log there left.over
       (calls_by k b t a.reference a.before a.table a.at a.begins a.place rest n nh nn
       (ap (λ (x : Called StoreLaw). x.began) kept) log told)
@@ -244,18 +233,14 @@ module _ {k b t n x : Called StoreLaw} (a : made.Tried keeps k b t n x) (rest : 
   pub was_dead : (again : Again) → IsTold t → n ≡ t → IsLeft t again → IsRunOf keeps t.home.terms n.log →
       WasKept (Dstm k) (Dstm x)
   was_dead again told same left run =
-      subst (λ (c : Called StoreLaw). WasKept (Dstm k) (Dstm c)) (sym a.end)
-      (was_kept_dead k b t a.reference a.before a.table a.at a.begins a.place n again rest told same left run)
+      rw a.end (was_kept_dead k b t a.reference a.before a.table a.at a.begins a.place n again rest told same left run)
 
 -- ---- an attempt that was given up at its job
 
 -- a call leaves the state that its events make
 performed : {task : Task} {again : Option Again} (u n : Called StoreLaw) (p : Performs keeps task u n again) →
     state n ≡ state_after (shape_of u) (state u) p.events
-performed u n p =
-    ap (λ (x : Home StoreLaw). local x.terms.shape n.log n.number) p.same.0
-    ∙ ap (local (shape_of u) n.log) p.same.1
-    ∙ after_own (shape_of u) u.number n.log u.log p.events p.own
+performed u n p = rw (p.same.0, p.same.1, after_own (shape_of u) u.number n.log u.log p.events p.own) refl
 
 quit_kind : (b : Bool) (e : Event) → IsDue (if b then Done else just Quit) e → e.kind ≡ Quit
 quit_kind true e due = absurd due
@@ -345,8 +330,7 @@ outside u n p =
     let out : (local (shape_of u) n.log u.number).phase ≡ Outside =
     (leaving (shape_of u) u.number u.generator p.events u.log n.log
     (record { core = p.run.run.core; own = p.own; call = p.call })).0 in
-    subst (λ (h : Home StoreLaw). (local h.terms.shape n.log n.number).phase ≡ Outside) (sym p.same.0)
-    (subst (λ (c : ℕ). (local (shape_of u) n.log c).phase ≡ Outside) (sym p.same.1) out)
+    rw (p.same.0, p.same.1) out
 
 pub rests : (u n : Called StoreLaw) → Performs keeps Leaving u n None → is_live n ≡ false
 rests u n p = ap is_running (outside u n p)
@@ -363,9 +347,11 @@ aborts u n p run live some =
 
     committed : (state n).committed ≡ false
     committed =
-        ap (λ (l : LocalState). l.committed) (performed u n p)
-        ∙ leaving_commits (shape_of u) (state u) u.generator p.events p.call.obeys
-        ∙ (sound (shape_of u) u.log run.run.core u.number).goes inside
+        rw (
+          performed u n p,
+          leaving_commits (shape_of u) (state u) u.generator p.events p.call.obeys,
+          (sound (shape_of u) u.log run.run.core u.number).goes inside,
+        ) refl
 
 -- a live attempt in which nothing was newly opened for writing
 pub unopened_by : (b t : Called StoreLaw) (o : ℕ) → is_live t ≡ true → live_opened t o ≡ live_opened b o →
@@ -392,18 +378,17 @@ unused_by k b u n begins home number log unopened left = last ∙ none ∙ first
 
     none : (state u).installed ≡ (state b).installed
     none =
-        installed_there (shape_of u) u.number u.log
-        ∙ ap (λ (ws : List Write). (local (shape_of u) (begun_log u.number u.log) u.number).installed + length ws)
-        (no_writes (state u).writes unopened)
-        ∙ add-zero ((local (shape_of u) (begun_log u.number u.log) u.number).installed)
-        ∙ ap (λ (l : List Event). (local (shape_of u) l u.number).installed) (log ∙ sym begins.at_begin)
-        ∙ ap (λ (x : Home StoreLaw). (local x.terms.shape b.log u.number).installed) home
-        ∙ ap (λ (c : ℕ). (local (shape_of b) b.log c).installed) number
+        rw (
+          installed_there (shape_of u) u.number u.log,
+          no_writes (state u).writes unopened,
+          add-zero ((local (shape_of u) (begun_log u.number u.log) u.number).installed),
+          log ∙ sym begins.at_begin,
+          home,
+          number,
+        ) refl
 
     last : (state n).installed ≡ (state u).installed
-    last =
-        ap (λ (l : LocalState). l.installed) (performed u n left)
-        ∙ leaving_installs (shape_of u) (state u) u.generator left.events left.call.obeys
+    last = rw (performed u n left, leaving_installs (shape_of u) (state u) u.generator left.events left.call.obeys) refl
 
 -- an attempt that was rechecked so often, and then given up, in which no branch of the job was open
 pub stood_at : (rechecks : ℕ) (layout : Layout) (job : Job) (k b t u n : Called StoreLaw) → 0 < rechecks →
@@ -474,8 +459,7 @@ stood_at rechecks layout job k b t u n some few one same law size rechecked left
         Agrees map (seen_last (shape_of n) (start_of n) n.log n.log n.number (state n).begun) → Admits keeps t map
     admitted map store stands agrees = record {
       length = stands.objects ∙ sym size;
-      lawful = subst (λ (l : Layout). IsLawful l map) (sym law) (store, stands);
+      lawful = rw law (store, stands);
       agrees = λ o.
-          subst (λ (v : Option Val). IfSome v (λ x. value_at map o ≡ x)) (rechecked.held o)
-          (AgreesWith-of_agrees map (entry u).reads (subst (Agrees map) covers agrees) o);
+          rw (← rechecked.held o) (AgreesWith-of_agrees map (entry u).reads (subst (Agrees map) covers agrees) o);
     }

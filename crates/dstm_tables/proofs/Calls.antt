@@ -8,22 +8,16 @@ use Rattle.dstm_core.specs.declared.shape.Shape.{Shape}
 use Rattle.dstm_progress.proofs.OwnEvents.{whole_state}
 use Rattle.dstm_managers.specs.Choices.{started}
 use Rattle.dstm_order.specs.Calls.{state_after}
-use Rattle.dstm_order.specs.Made as made
 use Rattle.dstm_order.specs.Made.{AreMade, events_in, generator_by}
 use Rattle.dstm_order.specs.Retries.{TriesAgain}
 use Rattle.dstm_words.specs.Seats.{Home}
-use Rattle.dstm_words.specs.declared.terms.Terms.{Terms}
 use Rattle.dstm_engine.proofs.AddingUp.{makes_both}
 use Rattle.dstm_engine.specs.Callers.{Called, shape_of, state}
 use Rattle.dstm_engine.specs.Makes.{Makes}
 use Rattle.dstm_machines.proofs.Own as machine
 use Rattle.dstm_tl2.specs.Rules as tl2_rules
 use Rattle.dstm_tl2.specs.Runs as tl2_runs
-use Rattle.dstm_tl2.specs.Sharing.{table_of}
 use Rattle.dstm_tl2.specs.State as tl2_state
-use Rattle.dstm_tl2.specs.Words.{Table}
-use Rattle.dstm_tl2.specs.declared.terms.Terms as tl2_terms
-use Rattle.dstm_tl2_order.specs.Calls as tl2_calls
 use Rattle.dstm_tl2_order.specs.Made as tl2_made
 use Rattle.dstm_tl2_order.specs.Made.{LocksItsWrites}
 use Rattle.dstm_tl2_engine.proofs.Living as living
@@ -70,8 +64,7 @@ pub tl2_from_first : (u n : TlCalled StoreLaw) → events_of u.number u.log ≡ 
 tl2_from_first u n none m = record {
   calls = m.calls;
   own = m.own ∙ ap (λ (es : List tl2_rules.Event). tl2_made.events_in m.calls ++ es) none;
-  made = subst (λ (t : Table). tl2_made.AreMade t tl2_state.first LocksItsWrites m.calls) (sym table)
-      (subst (λ (l : tl2_state.LocalState). tl2_made.AreMade (table_of_caller u) l LocksItsWrites m.calls) new m.made);
+  made = rw (table, ← new) m.made;
   same = (refl, refl);
 }
   where
@@ -79,8 +72,7 @@ tl2_from_first u n none m = record {
     table = ap (λ h. table_of_caller (record u { home = h })) m.same.0
 
     new : called.state u ≡ tl2_state.first
-    new = machine.whole_state tl2_runs.tl2 (table_of_caller u) u.number u.log
-        ∙ ap (tl2_calls.state_after (table_of_caller u) tl2_state.first) none
+    new = rw (machine.whole_state tl2_runs.tl2 (table_of_caller u) u.number u.log, none) refl
 
 -- a caller that goes on
 pub came_on : (seed : ℕ) (k n : Caller) → GoesOn k n → CameByCalls seed k → CameByCalls seed n
@@ -88,8 +80,7 @@ came_on seed (Dstm k) (Dstm n) on came =
     from_first seed (at_first seed k) n refl refl (makes_both TriesAgain (at_first seed k) k n came on.calls)
 came_on seed (Tl2 k) (Tl2 n) on came =
     tl2_from_first (tl2_first k) n refl (living.makes_both LocksItsWrites (tl2_first k) k n came on.calls)
-came_on seed (Dstm k) (Tl2 n) on came = absurd on.seen
-came_on seed (Tl2 k) (Dstm n) on came = absurd on.seen
+came_on seed k n on came = absurd on.seen
 
 -- as its own log tells
 pub by_calls : (seed : ℕ) (k : Caller) → CameByCalls seed k → ByCalls seed (round_of k) (number_of k)
@@ -101,10 +92,7 @@ by_calls seed (Tl2 k) came =
 -- and as a longer log tells, in which it made no more events
 pub calls_at_close : (seed : ℕ) (a b : Round) (c : ℕ) → IsPast a b → SameOwn c a b → ByCalls seed a c → ByCalls seed b c
 calls_at_close seed (round.Dstm a) (round.Dstm b) c past own was =
-    subst (λ (t : Terms StoreLaw). made.ByCalls TriesAgain t.shape (started t.shape.manager seed).generator b.log c) (sym past.0)
-    (record { calls = was.calls; own = own ∙ was.own; made = was.made })
+    rw past.0 (record { calls = was.calls; own = own ∙ was.own; made = was.made })
 calls_at_close seed (round.Tl2 a) (round.Tl2 b) c past own was =
-    subst (λ (t : tl2_terms.Terms StoreLaw). tl2_made.ByCalls LocksItsWrites (table_of t) b.log c) (sym past.0)
-    (record { calls = was.calls; own = own ∙ was.own; made = was.made })
-calls_at_close seed (round.Dstm a) (round.Tl2 b) c past own was = absurd past
-calls_at_close seed (round.Tl2 a) (round.Dstm b) c past own was = absurd past
+    rw past.0 (record { calls = was.calls; own = own ∙ was.own; made = was.made })
+calls_at_close seed a b c past own was = absurd past

@@ -1,7 +1,6 @@
 -- What is known of a caller as it was taken back is so in the record of its table, where it makes no more events.
 use Rattle.std.proofs.Common.{◌≡◌, ◌∙◌, ◌⊎◌, ◌<◌, ◌≤◌, ℕ, List, refl, sym, ap, subst, inl, inr, arith}
 use Rattle.std.specs.Prelude.{Option}
-use Rattle.dstm_model.specs.declared.value.Val.{Val}
 use Rattle.dstm_machines.specs.Traces.{IsPastOf, events_of}
 use Rattle.dstm_machines.proofs.Own.{same_local}
 use Rattle.dstm_core.specs.Events as core_events
@@ -22,8 +21,6 @@ use Rattle.dstm_tl2_order.proofs.WasRead.{same_reads}
 use Rattle.dstm_store.specs.declared.law.StoreLaw.{StoreLaw}
 use Rattle.dstm_workload.specs.declared.workload.Job.{Job}
 use Rattle.dstm_workload.specs.declared.workload.Workload.{Workload}
-use Rattle.dstm_tables.specs.Attempts as attempts
-use Rattle.dstm_tables.specs.Answers.{IsBlockedWith}
 use Rattle.dstm_tables.specs.Jobs.{HadToStop, NoneWasted, Waited}
 use Rattle.dstm_tables.specs.Tells.{IsPast, IsRun, IsSpent, SameOwn, callers_of, done_of, let_go_by}
 use Rattle.dstm_tables.specs.declared.tables.Round.{Round}
@@ -40,14 +37,10 @@ at_close : (P : Round → ℕ → Type 0) →
     P (Tl2 (record { terms = terms; log = new })) c) →
     (a b : Round) (c : ℕ) → IsRun b → c < callers_of a → IsPast a b → SameOwn c a b → P a c → P b c
 at_close P by_dstm by_tl2 (Dstm a) (Dstm b) c run inside past own was =
-    subst (λ (t : core_terms.Terms StoreLaw). P (Dstm (record { terms = t; log = b.log })) c) (sym past.0)
-    (by_dstm a.terms a.log b.log c
-    (subst (λ (t : core_terms.Terms StoreLaw). core.Core t.shape b.log) past.0 run.run.core) inside past.1 own was)
+    rw past.0 (by_dstm a.terms a.log b.log c (rw (← past.0) run.run.core) inside past.1 own was)
 at_close P by_dstm by_tl2 (Tl2 a) (Tl2 b) c run inside past own was =
-    subst (λ (t : tl2_terms.Terms StoreLaw). P (Tl2 (record { terms = t; log = b.log })) c) (sym past.0)
-    (by_tl2 a.terms a.log b.log c past.1 own was)
-at_close P by_dstm by_tl2 (Dstm a) (Tl2 b) c run inside past own was = absurd past
-at_close P by_dstm by_tl2 (Tl2 a) (Dstm b) c run inside past own was = absurd past
+    rw past.0 (by_tl2 a.terms a.log b.log c past.1 own was)
+at_close P by_dstm by_tl2 a b c run inside past own was = absurd past
 
 module _ (workload : Workload) (job : Option Job) where
   -- ---- TL2
@@ -63,9 +56,7 @@ module _ (workload : Workload) (job : Option Job) where
       version = was.version;
       stood = record {
         given_up = one_same ended.draws (table_of t) new old c i own ∙ was.stood.given_up;
-        blocked =
-            subst (λ (values : List (ℕ × Val)). IsBlockedWith workload.layout values job)
-            (sym (same_reads (table_of t) new old c i own)) was.stood.blocked;
+        blocked = rw (same_reads (table_of t) new old c i own) was.stood.blocked;
       };
     }
 
@@ -79,12 +70,8 @@ module _ (workload : Workload) (job : Option Job) where
             ⊎ (ended.Disturbed (table_of t) old c i ⊎ Waited workload job (Tl2 (record { terms = t; log = old })) c i) →
             ended.HasCommitted (table_of t) new c i
             ⊎ (ended.Disturbed (table_of t) new c i ⊎ Waited workload job (Tl2 (record { terms = t; log = new })) c i)
-        by (inl was) =
-            inl (subst (λ (log : List Event). ended.HasCommitted (table_of t) log c i) past.whole
-            (committed_stays (table_of t) past.later old c i was))
-        by (inr (inl was)) =
-            inr (inl (subst (λ (log : List Event). ended.Disturbed (table_of t) log c i) past.whole
-            (disturbed_stays (table_of t) past.later old c i was)))
+        by (inl was) = inl (rw (← past.whole) (committed_stays (table_of t) past.later old c i was))
+        by (inr (inl was)) = inr (inl (rw (← past.whole) (disturbed_stays (table_of t) past.later old c i was)))
         by (inr (inr was)) = inr (inr (tl2_waited i was))
 
     tl2_stop : HadToStop workload job (Tl2 (record { terms = t; log = old })) c →
@@ -122,31 +109,23 @@ dstm_done terms old new c run past own =
 
 pub done_at_close : (a b : Round) (c : ℕ) → IsRun b → IsPast a b → SameOwn c a b → done_of b c ≡ done_of a c
 done_at_close (Dstm a) (Dstm b) c run past own =
-    subst (λ (t : core_terms.Terms StoreLaw). core.Core t.shape b.log →
-    done_of (Dstm (record { terms = t; log = b.log })) c ≡ done_of (Dstm a) c) (sym past.0)
-    (λ ran. dstm_done a.terms a.log b.log c ran past.1 own) run.run.core
+    rw past.0 (dstm_done a.terms a.log b.log c (rw (← past.0) run.run.core) past.1 own)
 done_at_close (Tl2 a) (Tl2 b) c run past own =
     subst (λ (t : tl2_terms.Terms StoreLaw). done_of (Tl2 (record { terms = t; log = b.log })) c ≡ done_of (Tl2 a) c) (sym past.0)
     (same_done_by (table_of a.terms) b.log a.log c own)
-done_at_close (Dstm a) (Tl2 b) c run past own = absurd past
-done_at_close (Tl2 a) (Dstm b) c run past own = absurd past
+done_at_close a b c run past own = absurd past
 
 -- ---- a caller that is spent
 
 pub spent_at_close : (a b : Round) (c : ℕ) → IsPast a b → SameOwn c a b → IsSpent a c → IsSpent b c
-spent_at_close (Dstm a) (Dstm b) c past own spent =
-    subst (λ (t : core_terms.Terms StoreLaw). IsSpent (Dstm (record { terms = t; log = b.log })) c) (sym past.0)
-    (subst (attempts.IsSpent a.terms.shape) (sym (state_at_close a.terms.shape c a.log b.log own)) spent)
+spent_at_close (Dstm a) (Dstm b) c past own spent = rw (past.0, state_at_close a.terms.shape c a.log b.log own) spent
 spent_at_close (Tl2 a) (Tl2 b) c past own spent =
-    subst (λ (t : tl2_terms.Terms StoreLaw). IsSpent (Tl2 (record { terms = t; log = b.log })) c) (sym past.0)
-    (ap (λ (l : LocalState). l.begun) (same_local tl2 (table_of a.terms) b.log a.log c own) ∙ spent)
-spent_at_close (Dstm a) (Tl2 b) c past own spent = absurd past
-spent_at_close (Tl2 a) (Dstm b) c past own spent = absurd past
+    rw past.0 (ap (λ (l : LocalState). l.begun) (same_local tl2 (table_of a.terms) b.log a.log c own) ∙ spent)
+spent_at_close a b c past own spent = absurd past
 
 -- ---- how many reads a caller has let go
 
 pub let_go_at_close : (a b : Round) (c : ℕ) → SameOwn c a b → let_go_by b c ≡ let_go_by a c
 let_go_at_close (Dstm a) (Dstm b) c own = ap count_let_go own
 let_go_at_close (Tl2 a) (Tl2 b) c own = refl
-let_go_at_close (Dstm a) (Tl2 b) c own = absurd own
-let_go_at_close (Tl2 a) (Dstm b) c own = absurd own
+let_go_at_close a b c own = absurd own

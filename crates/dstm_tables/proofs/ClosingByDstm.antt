@@ -14,14 +14,13 @@ use Rattle.dstm_core.proofs.Pasts.{core_past}
 use Rattle.dstm_progress.proofs.Disturbing.{disturbed_stays}
 use Rattle.dstm_progress.proofs.Ends.{callers_in_range}
 use Rattle.dstm_progress.proofs.OwnEvents.{after_own}
-use Rattle.dstm_progress.specs.Disturbed.{Disturbed, count_of}
+use Rattle.dstm_progress.specs.Disturbed.{Disturbed}
 use Rattle.dstm_engine.specs.Attempts.{completes_pass, is_look_self, looks_at_object}
 use Rattle.dstm_store.specs.declared.law.StoreLaw.{StoreLaw}
 use Rattle.dstm_words.specs.declared.terms.Terms.{Terms}
 use Rattle.dstm_workload.specs.declared.workload.Job.{Job}
 use Rattle.dstm_workload.specs.declared.workload.Workload.{Workload}
 use Rattle.dstm_tables.specs.Attempts.{HasCommitted, IsSpent, quits, seen_last}
-use Rattle.dstm_tables.specs.Answers.{IsBlockedWith}
 use Rattle.dstm_tables.specs.Jobs.{HadToStop, NoneWasted, StoodBlocked, Waited}
 use Rattle.dstm_tables.specs.declared.tables.Round.{Round}
 use Rattle.dstm_tables.specs.declared.tables.Round.TheVariants.{Dstm}
@@ -61,13 +60,10 @@ module _ (terms : Terms StoreLaw) (c : ℕ) (old new : List Event) (core : Core 
       HasCommitted terms.shape new c i
   committed i some few was =
       let most = (callers_in_range terms.shape old c (core_past terms.shape past.later old whole)).0 in
-      subst (λ (log : List Event). HasCommitted terms.shape log c i) past.whole
-      (committed_stays terms.shape past.later old c i whole caller some (omega arith) was)
+      rw (← past.whole) (committed_stays terms.shape past.later old c i whole caller some (omega arith) was)
 
   disturbed : (i : ℕ) → Disturbed terms.shape old c i → Disturbed terms.shape new c i
-  disturbed i was =
-      subst (λ (log : List Event). Disturbed terms.shape log c i) past.whole
-      (disturbed_stays terms.shape past.later old c i was)
+  disturbed i was = rw (← past.whole) (disturbed_stays terms.shape past.later old c i was)
 
   same_sight : (i : ℕ) →
       seen_last terms.shape terms.start.value.items new new c i ≡ seen_last terms.shape terms.start.value.items old old c i
@@ -81,23 +77,18 @@ module _ (terms : Terms StoreLaw) (c : ℕ) (old new : List Event) (core : Core 
   stood_at_close layout i job was = record {
     given_up = record {
       sights =
-          subst (λ (log : List Event). 1024 ≤ count_of completes_pass terms.shape log c i) past.whole
-          (let more = count_later completes_pass terms.shape past.later old c i in
+          rw (← past.whole) (let more = count_later completes_pass terms.shape past.later old c i in
           let many = was.given_up.sights in omega arith);
       no_more =
-          subst (λ (log : List Event). count_of completes_pass terms.shape log c i
-          ≤ count_of looks_at_object terms.shape log c i + 1024) past.whole
-          (let more = sights_more terms.shape c i past.later old in
+          rw (← past.whole) (let more = sights_more terms.shape c i past.later old in
           let none = ap (count_kinds is_look_self) quiet in
           let looks = count_later looks_at_object terms.shape past.later old c i in
           let few = was.given_up.no_more in omega arith);
       quit =
-          subst (λ (log : List Event). 1 ≤ count_of quits terms.shape log c i) past.whole
-          (let more = count_later quits terms.shape past.later old c i in
+          rw (← past.whole) (let more = count_later quits terms.shape past.later old c i in
           let some = was.given_up.quit in omega arith);
     };
-    blocked =
-        subst (λ (values : List (ℕ × Val)). IsBlockedWith layout values job) (sym (same_sight i)) was.blocked;
+    blocked = rw (same_sight i) was.blocked;
   }
 
   pub waited_at_close : (workload : Workload) (job : Option Job) (i : ℕ) → Waited workload job (there old) c i →

@@ -3,10 +3,7 @@ use Rattle.std.proofs.Common.{◌≡◌, ◌∷◌, true, List, refl, subst, sym
 use Rattle.std.specs.Prelude.{All}
 use Rattle.dstm_model.specs.declared.value.Val.{Val}
 use Rattle.dstm_model.specs.declared.layout.Layout.{Layout}
-use Rattle.dstm_model.specs.declared.op.Op.{Op}
-use Rattle.dstm_model.specs.declared.reply.Reply.{Reply}
 use Rattle.dstm_model.specs.Answers.{Committed}
-use Rattle.dstm_model.specs.Map.{with_writes}
 use Rattle.dstm_model.specs.Store.{IsPlain}
 use Rattle.dstm_store.specs.Job.{Job as Body, DoesAll}
 use Rattle.dstm_store.specs.Whole.{IsLawful}
@@ -53,12 +50,8 @@ module _ (layout : Layout) (job : Job) (k n : Caller) (finished : Finished) (law
       DidJob style layout job k n finished
   did_plain style body same ops replies plain d few =
       did_job style _ d (λ right.
-      subst (λ (rs : List Reply). IsAnsweredBy layout job.ops rs d.entry) (sym replies)
-      (answered_plain layout job.ops body.replies d.entry plain (λ map lawful agrees.
-      subst (λ (l : Layout). DoesAll (record { layout = l; ops = job.ops }) map (with_writes map d.entry.writes) body.replies) same
-      (subst (λ (os : List Op). DoesAll (record { layout = body.task.layout; ops = os }) map (with_writes map d.entry.writes) body.replies) ops
-      (right map lawful agrees)))))
-      few
+      rw replies (answered_plain layout job.ops body.replies d.entry plain (λ map lawful agrees.
+      rw (← same, ← ops) (right map lawful agrees)))) few
 
   -- by its first open branch
   pub did_branch :

@@ -1,5 +1,5 @@
 -- Transactions that committed: their entries, and those of one caller.
-use Rattle.std.proofs.Common.{◌≡◌, ◌∙◌, Bool, true, false, cond, List, [], ◌∷◌, ◌++◌, refl, sym, ap, reverse}
+use Rattle.std.proofs.Common.{◌≡◌, Bool, true, false, cond, List, [], ◌∷◌, ◌++◌, refl, ap, reverse}
 use Rattle.std.proofs.lemmas.Bool.{eq-eqb}
 use mathlib.Core.List.{reverse-cons}
 use Rattle.dstm_model.specs.Answers.{Committed, by_caller}
@@ -13,9 +13,12 @@ entries_push (first ∷ done) next = ap (λ (rest : List Entry). first.entry ∷
 pub entries_reverse : (done : List Committed) → entries_of (reverse done) ≡ reverse (entries_of done)
 entries_reverse [] = refl
 entries_reverse (first ∷ done) =
-    ap entries_of (reverse-cons first done) ∙ entries_push (reverse done) first
-    ∙ ap (λ (es : List Entry). es ++ first.entry ∷ []) (entries_reverse done)
-    ∙ sym (reverse-cons first.entry (entries_of done))
+    rw (
+      reverse-cons first done,
+      entries_push (reverse done) first,
+      entries_reverse done,
+      ← reverse-cons first.entry (entries_of done),
+    ) refl
 
 -- ---- those of an only caller
 

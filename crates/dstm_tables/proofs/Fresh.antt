@@ -16,7 +16,7 @@ use Rattle.dstm_core.specs.State.{LocalState, first, given}
 use Rattle.dstm_machines.specs.Traces.{events_of}
 use Rattle.dstm_machines.proofs.Own.{none_before_only}
 use Rattle.dstm_machines.proofs.Runs.{local-events_of}
-use Rattle.dstm_opacity.specs.Committed.{done_by, has_committed, is_commit}
+use Rattle.dstm_opacity.specs.Committed.{has_committed, is_commit}
 use Rattle.dstm_opacity.proofs.Stays.{call_adds_none}
 use Rattle.dstm_progress.proofs.Ends.{callers_in_range}
 use Rattle.dstm_progress.specs.Lives.{lets_go}
@@ -108,10 +108,8 @@ module _ (f g : Founding StoreLaw) (seed : ℕ) (k : Called StoreLaw) (enrols : 
   fresh_done =
       let shape = shape_of k in
       let whole : k.log ++ [] ≡ k.log = append-nil k.log in
-      subst (λ (l : List Event). done_by shape (start_of k) l l k.number ≡ []) whole
-      (call_adds_none shape (start_of k) k.log [] k.number (enrols.enrol ∷ [])
-      (subst (Core shape) (sym whole) run.run.core)
-      (ap (events_of k.number) whole ∙ enrols.own)
+      rw (← whole) (call_adds_none shape (start_of k) k.log [] k.number (enrols.enrol ∷ [])
+      (subst (Core shape) (sym whole) run.run.core) (ap (events_of k.number) whole ∙ enrols.own)
       (All-cons (λ (e : Event). has_committed e ≡ false) enrols.enrol []
       (ap (λ b. b && (enrols.enrol.found == 3)) (enrols_none enrols.enrol enrols.enrol.kind kind))
       (All-nil (λ (e : Event). has_committed e ≡ false))))

@@ -68,14 +68,12 @@ module _ (f g : tl2_tables.TlFounding StoreLaw) (k : called.TlCalled StoreLaw) (
   tl2_done =
       let t = called.table_of_caller k in
       let own : e.enrol.caller ≡ k.number = fresh.head_own k.number k.log e.enrol [] e.own in
-      let alone : events_of k.number (e.enrol ∷ []) ≡ e.enrol ∷ [] =
-      subst (λ c. events_of c (e.enrol ∷ []) ≡ e.enrol ∷ []) own (own_event e.enrol []) in
+      let alone : events_of k.number (e.enrol ∷ []) ≡ e.enrol ∷ [] = rw (← own) (own_event e.enrol []) in
       let same : local t (e.enrol ∷ []) k.number ≡ called.state k =
       same_local tl2 t (e.enrol ∷ []) k.log k.number (alone ∙ sym e.own) in
       let invalid : is_valid (local t (e.enrol ∷ []) k.number) ≡ false = ap is_valid (same ∙ e.state) in
       same_done_by t k.log (e.enrol ∷ []) k.number (e.own ∙ sym alone)
-      ∙ done_still t [] e.enrol k.number
-      (and_right (e.enrol.caller == k.number)
+      ∙ done_still t [] e.enrol k.number (and_right (e.enrol.caller == k.number)
       (is_valid (local t (e.enrol ∷ []) k.number) && not (is_valid (local t [] k.number)))
       (and_left (is_valid (local t (e.enrol ∷ []) k.number)) (not (is_valid (local t [] k.number))) invalid))
 

@@ -8,7 +8,7 @@ use Rattle.dstm_model.specs.Map.{Agrees}
 use Rattle.dstm_model.specs.Objects.{objects_of}
 use Rattle.dstm_model.specs.Store.{Store}
 use Rattle.dstm_store.specs.declared.law.StoreLaw.{StoreLaw}
-use Rattle.dstm_store.specs.Whole.{IsLawful, StandsFor}
+use Rattle.dstm_store.specs.Whole.{StandsFor}
 use Rattle.dstm_workload.specs.declared.workload.Job.{Job}
 use Rattle.dstm_compose.specs.declared.body.Outcome.TheVariants.{Blocked}
 use Rattle.dstm_compose.specs.Compose.{IsRight}
@@ -114,7 +114,7 @@ module _ (k b t : TlCalled StoreLaw) (r q : GName) (h j : Home StoreLaw) (begins
           Agrees map (reads_of (table_of_caller t) t.log t.number (state t).begun) → Admits keeps t map
       admitted map held stands agrees = record {
         length = stands.objects ∙ sym (run.lawful.1.objects ∙ ap objects_of law_there);
-        lawful = subst (λ (l : Layout). IsLawful l map) (sym law_there) (held, stands);
+        lawful = rw law_there (held, stands);
         agrees =
             AgreesWith-of_agrees map (read_values (state t).reads)
             (subst (Agrees map) (reads_so_far (table_of_caller t) t.log t.number begun) agrees);

@@ -1,9 +1,8 @@
 -- What an attempt leaves by DSTM, from the clauses of the engine's calls.
 use Rattle.std.proofs.Common.{◌≡◌, ◌∙◌, ◌+◌, ◌-◌, ◌*◌, ◌<◌, ◌≤◌, ◌++◌, ◌∷◌, ℕ, Bool, List, [], Some, true, false, length, refl, sym, ap, subst, arith, is_some}
-use Rattle.std.specs.Prelude.{IfSome, Option, All, not, sum_by}
+use Rattle.std.specs.Prelude.{IfSome, Option, not, sum_by}
 use Rattle.std.proofs.lemmas.Bool.{eq-eqb, eqb-true}
 use Rattle.dstm_model.specs.declared.value.Val.{Val}
-use Rattle.dstm_model.specs.declared.op.Op.{Op}
 use Rattle.dstm_model.specs.Objects.{objects_of}
 use Rattle.dstm_core.specs.Events.{Event}
 use Rattle.dstm_core.specs.Runs.{local}
@@ -27,7 +26,7 @@ use Rattle.dstm_engine.specs.Transactions.{SpentFrom}
 use Rattle.dstm_store.specs.declared.law.StoreLaw.{StoreLaw}
 use Rattle.dstm_store.specs.declared.job.JobTask.{JobTask}
 use Rattle.dstm_store.specs.Job.{KeepsAtMost}
-use Rattle.dstm_store.specs.Keeps.{is_of_list, most_kept}
+use Rattle.dstm_store.specs.Keeps.{most_kept}
 use Rattle.dstm_workload.specs.declared.workload.Job.{Job}
 use Rattle.dstm_tables.specs.Attempts.{HasCommitted}
 use Rattle.dstm_tables.specs.declared.style.Style.TheVariants.{Loose}
@@ -146,8 +145,7 @@ is_spent_from k n rest s =
     let home : n.home ≡ k.home = ap (λ (c : Called StoreLaw). c.home) s.caller in
     let number : n.number ≡ k.number = ap (λ (c : Called StoreLaw). c.number) s.caller in
     let run = run_there k n home s.steps.run in
-    let own : events_of n.number n.log ≡ s.steps.events ++ events_of n.number k.log =
-    subst (λ (c : ℕ). events_of c n.log ≡ s.steps.events ++ events_of c k.log) (sym number) s.steps.own in
+    let own : events_of n.number n.log ≡ s.steps.events ++ events_of n.number k.log = rw number s.steps.own in
     record {
       on = record {
         home = ap table.Dstm home;
@@ -187,5 +185,5 @@ few_loose job k n task home ops reads loose lets by newest all =
     let stays = ap (λ (h : Home StoreLaw). h.terms.shape.all_write) (sym home) ∙ not_true (shape_of n).all_write lets in
     let most = sum_by most_kept job.ops in
     let fits : sum_by most_kept task.ops ≤ most = let kept = ap (sum_by most_kept) ops in omega arith in
-    let ours = subst (λ (os : List Op). All (λ op. is_of_list op ≡ true) os) (sym ops) all in
+    let ours = rw (← ops) at all in
     newest_reads most n by (done k) (reads stays most (ours, fits)) newest

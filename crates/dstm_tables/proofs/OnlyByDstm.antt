@@ -140,9 +140,7 @@ only_done s start run core one =
 
 pub only_history : (s : Shape) (start : List Val) (run : List Event) → Core s run → s.callers ≡ 1 →
     history_of s start run ≡ reverse (map (λ (done : Committed). done.entry) (done_by s start run run 0))
-only_history s start run core one =
-    entries_are_history s start run
-    ∙ ap (λ (cs : List Committed). reverse (map (λ (done : Committed). done.entry) cs)) (only_done s start run core one)
+only_history s start run core one = rw (entries_are_history s start run, only_done s start run core one) refl
 
 -- ---- the newest sight of an attempt
 

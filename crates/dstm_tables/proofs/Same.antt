@@ -37,41 +37,34 @@ use Rattle.dstm_tables.proofs.StayingByDstm as staying
 pub start_past : (a b : Round) → IsPast a b → start_of b ≡ start_of a
 start_past (Dstm a) (Dstm b) past = ap (λ (t : core_terms.Terms StoreLaw). t.start.value.items) past.0
 start_past (Tl2 a) (Tl2 b) past = ap (λ (t : tl2_terms.Terms StoreLaw). t.start.value.items) past.0
-start_past (Dstm a) (Tl2 b) past = absurd past
-start_past (Tl2 a) (Dstm b) past = absurd past
+start_past a b past = absurd past
 
 pub callers_past : (a b : Round) → IsPast a b → callers_of b ≡ callers_of a
 callers_past (Dstm a) (Dstm b) past = ap (λ (t : core_terms.Terms StoreLaw). t.shape.callers) past.0
 callers_past (Tl2 a) (Tl2 b) past = ap (λ (t : tl2_terms.Terms StoreLaw). t.callers) past.0
-callers_past (Dstm a) (Tl2 b) past = absurd past
-callers_past (Tl2 a) (Dstm b) past = absurd past
+callers_past a b past = absurd past
 
 pub writes_past : (a b : Round) → IsPast a b → writes_all b ≡ writes_all a
 writes_past (Dstm a) (Dstm b) past = ap (λ (t : core_terms.Terms StoreLaw). t.shape.all_write) past.0
 writes_past (Tl2 a) (Tl2 b) past = refl
-writes_past (Dstm a) (Tl2 b) past = absurd past
-writes_past (Tl2 a) (Dstm b) past = absurd past
+writes_past a b past = absurd past
 
 pub locators_past : (a b : Round) → IsPast a b → HasLocators a → HasLocators b
-locators_past (Dstm a) (Dstm b) past has =
-    subst (λ (t : core_terms.Terms StoreLaw). t.shape.objects ≤ t.shape.locators) (sym past.0) has
+locators_past (Dstm a) (Dstm b) past has = rw past.0 has
 locators_past (Tl2 a) (Tl2 b) past has = tt
-locators_past (Dstm a) (Tl2 b) past has = absurd past
-locators_past (Tl2 a) (Dstm b) past has = absurd past
+locators_past a b past has = absurd past
 
 pub layout_past : (a b : Round) → IsPast a b → layout_of b ≡ layout_of a
 layout_past (Dstm a) (Dstm b) past = ap (λ (t : core_terms.Terms StoreLaw). t.law.value.layout) past.0
 layout_past (Tl2 a) (Tl2 b) past = ap (λ (t : tl2_terms.Terms StoreLaw). t.law.value.layout) past.0
-layout_past (Dstm a) (Tl2 b) past = absurd past
-layout_past (Tl2 a) (Dstm b) past = absurd past
+layout_past a b past = absurd past
 
 pub of_past : (engine : Engine) (a b : Round) → IsPast a b → IsOf engine a → IsOf engine b
 of_past engines.Dstm (Dstm a) (Dstm b) past is = tt
 of_past engines.Tl2 (Tl2 a) (Tl2 b) past is = tt
 of_past engines.Dstm (Tl2 a) b past is = absurd is
 of_past engines.Tl2 (Dstm a) b past is = absurd is
-of_past engine (Dstm a) (Tl2 b) past is = absurd past
-of_past engine (Tl2 a) (Dstm b) past is = absurd past
+of_past engine a b past is = absurd past
 
 -- of its shape
 pub locators_told : (shape : Shape) (r : Round) → HasShape shape r → shape.objects ≤ shape.locators → HasLocators r
@@ -120,8 +113,7 @@ locators_same k n on = locators_past (round_of k) (round_of n) on.seen
 pub law_same : (k n : Caller) → GoesOn k n → law_of n ≡ law_of k
 law_same (caller.Dstm k) (caller.Dstm n) on = ap (λ (t : core_terms.Terms StoreLaw). t.law.value) on.seen.0
 law_same (caller.Tl2 k) (caller.Tl2 n) on = ap (λ (t : tl2_terms.Terms StoreLaw). t.law.value) on.seen.0
-law_same (caller.Dstm k) (caller.Tl2 n) on = absurd on.seen
-law_same (caller.Tl2 k) (caller.Dstm n) on = absurd on.seen
+law_same k n on = absurd on.seen
 
 -- ---- an only caller
 

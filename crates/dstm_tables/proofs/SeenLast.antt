@@ -64,14 +64,12 @@ seen_agrees : (shape : Shape) (start : List Val) (c : ℕ) (more other : List Ev
     Core shape (more ++ e ∷ before) → Core shape (other ++ e ∷ before) → c < shape.callers → e.caller ≡ c →
     is_look_self e.kind ≡ true →
     seen shape start (more ++ e ∷ before) before c ≡ seen shape start (other ++ e ∷ before) before c
-seen_agrees shape start c more other e before one two caller own look =
-    there more one ∙ sym (there other two)
+seen_agrees shape start c more other e before one two caller own look = there more one ∙ sym (there other two)
   where
     live : (local shape before c).phase ≢ Outside
     live =
         let core : Core shape (e ∷ before) = core_past shape more (e ∷ before) one in
-        subst (λ (n : ℕ). (local shape before n).phase ≢ Outside) own
-        (look_runs shape (local shape before e.caller) e e.kind look core.1.allowed)
+        rw (← own) (look_runs shape (local shape before e.caller) e e.kind look core.1.allowed)
 
     there : (xs : List Event) → Core shape (xs ++ e ∷ before) →
         seen shape start (xs ++ e ∷ before) before c ≡ seen shape start before before c

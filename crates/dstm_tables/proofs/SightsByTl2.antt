@@ -1,14 +1,12 @@
 -- What attempts of TL2 saw, in each record.
-use Rattle.std.proofs.Common.{◌≡◌, ◌==◌, ◌&&◌, ◌∷◌, ◌++◌, List, true, false, refl, sym, subst}
+use Rattle.std.proofs.Common.{◌≡◌, ◌==◌, ◌&&◌, ◌∷◌, ◌++◌, List, true, false, refl, subst}
 use Rattle.std.proofs.lemmas.Bool.{and_right, cond-false}
-use Rattle.dstm_model.specs.Map.{Agrees, state_after}
 use Rattle.dstm_store.specs.declared.law.StoreLaw.{StoreLaw}
 use Rattle.dstm_tl2.specs.declared.kind.Kind.{Kind}
 use Rattle.dstm_tl2.specs.declared.kind.Kind.TheVariants.{LookAgain}
 use Rattle.dstm_tl2.specs.declared.terms.Terms.{Terms}
-use Rattle.dstm_tl2.specs.Histories.{LawfulRun, is_sample, prefix_at, read_values, sample_place}
+use Rattle.dstm_tl2.specs.Histories.{LawfulRun, is_sample, sample_place}
 use Rattle.dstm_tl2.specs.Rules.{Event}
-use Rattle.dstm_tl2.specs.Runs.{local}
 use Rattle.dstm_tl2.specs.Sharing.{IsRunOf, table_of}
 use Rattle.dstm_tl2.proofs.Closing.{sample_agrees}
 use Rattle.dstm_tables.specs.Tells.{Tl2SightsAgree, is_look_again}
@@ -27,7 +25,4 @@ tl2_sights_agree terms log run = λ later before sight is kind found.
     let place : sample_place sight.caller (sight ∷ before) ≡ sample_place sight.caller before =
     cond-false ((sight.caller == sight.caller) && is_sample sight.kind) before (sample_place sight.caller before)
     (and_right (sight.caller == sight.caller) (is_sample sight.kind) (no_sample sight.kind kind)) in
-    subst (λ (r : List Event). Agrees (state_after t.start (prefix_at t r (sample_place sight.caller before)))
-    (read_values (local t (sight ∷ before) sight.caller).reads)) (sym is)
-    (subst (λ (p : List Event). Agrees (state_after t.start (prefix_at t (later ++ sight ∷ before) p))
-    (read_values (local t (sight ∷ before) sight.caller).reads)) place seen.values)
+    rw (is, ← place) seen.values

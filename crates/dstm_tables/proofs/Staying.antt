@@ -1,5 +1,5 @@
 -- What became of an attempt stays so in a longer log, under each engine.
-use Rattle.std.proofs.Common.{◌≡◌, ◌∙◌, ◌⊎◌, ◌<◌, ◌≤◌, ℕ, List, refl, sym, ap, subst, inl, inr}
+use Rattle.std.proofs.Common.{◌≡◌, ◌∙◌, ◌⊎◌, ◌<◌, ◌≤◌, ℕ, List, refl, ap, subst, inl, inr}
 use Rattle.std.specs.Prelude.{not}
 use Rattle.dstm_machines.proofs.Pasts.{past_past, past_self}
 use Rattle.dstm_engine.proofs.AddingUp.{makes_both, makes_none}
@@ -37,18 +37,16 @@ past_trans (round.Dstm a) (round.Dstm b) (round.Dstm c) one two =
     (two.0 ∙ one.0, past_past a.log b.log c.log one.1 two.1)
 past_trans (round.Tl2 a) (round.Tl2 b) (round.Tl2 c) one two =
     (two.0 ∙ one.0, past_past a.log b.log c.log one.1 two.1)
-past_trans (round.Dstm a) (round.Tl2 b) c one two = absurd one
-past_trans (round.Tl2 a) (round.Dstm b) c one two = absurd one
 past_trans (round.Dstm a) (round.Dstm b) (round.Tl2 c) one two = absurd two
 past_trans (round.Tl2 a) (round.Tl2 b) (round.Dstm c) one two = absurd two
+past_trans a b c one two = absurd one
 
 pub own_trans : (c : ℕ) (a b d : Round) → SameOwn c a b → SameOwn c b d → SameOwn c a d
 own_trans c (round.Dstm a) (round.Dstm b) (round.Dstm d) one two = two ∙ one
 own_trans c (round.Tl2 a) (round.Tl2 b) (round.Tl2 d) one two = two ∙ one
-own_trans c (round.Dstm a) (round.Tl2 b) d one two = absurd one
-own_trans c (round.Tl2 a) (round.Dstm b) d one two = absurd one
 own_trans c (round.Dstm a) (round.Dstm b) (round.Tl2 d) one two = absurd two
 own_trans c (round.Tl2 a) (round.Tl2 b) (round.Dstm d) one two = absurd two
+own_trans c a b d one two = absurd one
 
 calls_none : (k : Caller) → WentByCalls k k
 calls_none (Dstm k) = makes_none TriesAgain k
@@ -57,10 +55,9 @@ calls_none (Tl2 k) = living.makes_none LocksItsWrites k
 calls_both : (k n m : Caller) → WentByCalls k n → WentByCalls n m → WentByCalls k m
 calls_both (Dstm k) (Dstm n) (Dstm m) one two = makes_both TriesAgain k n m one two
 calls_both (Tl2 k) (Tl2 n) (Tl2 m) one two = living.makes_both LocksItsWrites k n m one two
-calls_both (Dstm k) (Tl2 n) m one two = absurd one
-calls_both (Tl2 k) (Dstm n) m one two = absurd one
 calls_both (Dstm k) (Dstm n) (Tl2 m) one two = absurd two
 calls_both (Tl2 k) (Tl2 n) (Dstm m) one two = absurd two
+calls_both k n m one two = absurd one
 
 pub goes_nowhere : (k : Caller) → AtRest k → GoesOn k k
 goes_nowhere k rest =
@@ -80,8 +77,7 @@ goes_on k n m first second = record {
 pub attempts_past : (a b : Round) → IsPast a b → attempts_of b ≡ attempts_of a
 attempts_past (round.Dstm a) (round.Dstm b) past = ap (λ (t : core_terms.Terms StoreLaw). t.shape.attempts) past.0
 attempts_past (round.Tl2 a) (round.Tl2 b) past = ap (λ (t : tl2_terms.Terms StoreLaw). t.attempts) past.0
-attempts_past (round.Dstm a) (round.Tl2 b) past = absurd past
-attempts_past (round.Tl2 a) (round.Dstm b) past = absurd past
+attempts_past a b past = absurd past
 
 pub same_attempts : (k n : Caller) → GoesOn k n → attempts_of (round_of n) ≡ attempts_of (round_of k)
 same_attempts k n on = attempts_past (round_of k) (round_of n) on.seen
@@ -89,8 +85,7 @@ same_attempts k n on = attempts_past (round_of k) (round_of n) on.seen
 pub lets_go_past : (a b : Round) → IsPast a b → lets_go b ≡ lets_go a
 lets_go_past (round.Dstm a) (round.Dstm b) past = ap (λ (t : core_terms.Terms StoreLaw). not t.shape.all_write) past.0
 lets_go_past (round.Tl2 a) (round.Tl2 b) past = refl
-lets_go_past (round.Dstm a) (round.Tl2 b) past = absurd past
-lets_go_past (round.Tl2 a) (round.Dstm b) past = absurd past
+lets_go_past a b past = absurd past
 
 pub same_lets_go : (k n : Caller) → GoesOn k n → lets_go (round_of n) ≡ lets_go (round_of k)
 same_lets_go k n on = lets_go_past (round_of k) (round_of n) on.seen
@@ -104,14 +99,11 @@ few_begun (Tl2 k) rest = begun_le (table_of k.home.terms) k.log rest.run.run.run
 -- ---- what became of its attempts stays so
 
 tl2_later : (k n : TlCalled StoreLaw) (i : ℕ) → GoesOn (Tl2 k) (Tl2 n) → WasNotWasted (Tl2 k) i → WasNotWasted (Tl2 n) i
-tl2_later k n i on was =
-    by (there (λ t c. ended.HasCommitted t k.log c i ⊎ ended.Disturbed t k.log c i) was)
+tl2_later k n i on was = by (there (λ t c. ended.HasCommitted t k.log c i ⊎ ended.Disturbed t k.log c i) was)
   where
     -- as this log tells, on the table as n has it
     there : (P : Tl2Table → ℕ → Type 0) → P (table_of k.home.terms) k.number → P (table_of n.home.terms) n.number
-    there P is =
-        subst (λ (t : tl2_terms.Terms StoreLaw). P (table_of t) n.number) (sym on.seen.0)
-        (subst (P (table_of k.home.terms)) (sym on.number) is)
+    there P is = rw (on.seen.0, on.number) is
 
     by : ended.HasCommitted (table_of n.home.terms) k.log n.number i ⊎ ended.Disturbed (table_of n.home.terms) k.log n.number i →
         WasNotWasted (Tl2 n) i
@@ -126,5 +118,4 @@ pub was_later : (k n : Caller) (i : ℕ) → GoesOn k n → 0 < i → i ≤ atte
     WasNotWasted n i
 was_later (Dstm k) (Dstm n) i on some few was = staying.was_later k n i on some few was
 was_later (Tl2 k) (Tl2 n) i on some few was = tl2_later k n i on was
-was_later (Dstm k) (Tl2 n) i on some few was = absurd on.seen
-was_later (Tl2 k) (Dstm n) i on some few was = absurd on.seen
+was_later k n i on some few was = absurd on.seen

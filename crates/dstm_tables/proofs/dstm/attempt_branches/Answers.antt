@@ -9,7 +9,7 @@ use Rattle.dstm_engine.proofs.Made.{Tried, home, keeps_reads, same_done, tried}
 use Rattle.dstm_engine.proofs.Abandoning.{under_way}
 use Rattle.dstm_model.specs.declared.value.Val.{Val}
 use Rattle.dstm_engine.specs.Attempts.{Admits}
-use Rattle.dstm_engine.specs.Callers.{Called, is_opened, new_value, shape_of, written}
+use Rattle.dstm_engine.specs.Callers.{Called, is_opened, shape_of, written}
 use Rattle.dstm_engine.specs.Makes.{let_go}
 use Rattle.dstm_engine.specs.Outcomes.{IsLeft, Promises}
 use Rattle.dstm_engine.specs.Transactions.{TxPlace}
@@ -22,8 +22,7 @@ use Rattle.dstm_tables.specs.declared.style.Style.TheVariants.{Branches}
 use Rattle.dstm_tables.specs.declared.tables.Caller.TheVariants.{Dstm}
 use Rattle.dstm_tables.specs.Jobs.{StoodAt}
 use Rattle.dstm_tables.specs.Law.{keeps}
-use Rattle.dstm_order.specs.Tasks.Task.{Beginning, Doing, Leaving}
-use Rattle.dstm_order.specs.Tasks.Work.{Committing}
+use Rattle.dstm_order.specs.Tasks.Task.{Beginning, Leaving}
 use Rattle.dstm_order.specs.Retries.{TriesAgain}
 use Rattle.dstm_engine.proofs.AddingUp.{makes_both, makes_one}
 use Rattle.dstm_tables.proofs.Made.{is_spent_from, objects_are, run_there}

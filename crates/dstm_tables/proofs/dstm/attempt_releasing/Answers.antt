@@ -33,7 +33,5 @@ returns-in-Err-Again c =
 
 pub returns-in-Err-Spent : goal.returns-in-Err-Spent
 returns-in-Err-Spent c =
-    let k = c.args.caller.now in
-    let n = c.attempt_loose.new.caller in
-    is_spent_from k n c.requires.rest
-    (subst (λ (e : Ended). EndsBy keeps k n e) c.in-Err-Spent.field-0-is c.in-Err-Spent.ensures.ended)
+    is_spent_from c.args.caller.now c.attempt_loose.new.caller c.requires.rest
+    (rw c.in-Err-Spent.field-0-is at c.in-Err-Spent.ensures.ended)

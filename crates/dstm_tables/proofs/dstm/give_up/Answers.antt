@@ -1,9 +1,8 @@
 use Rattle.std.proofs.Common.{None, refl, subst, sym}
-use Rattle.dstm_order.specs.Tasks.Task.{Beginning, Doing}
-use Rattle.dstm_order.specs.Tasks.Work.{Committing}
+use Rattle.dstm_order.specs.Tasks.Task.{Beginning}
 use Rattle.dstm_engine.proofs.LettingGo.{lets_none_go}
 use Rattle.dstm_engine.proofs.Made.{Tried, keeps_reads, tried}
-use Rattle.dstm_engine.specs.Callers.{Called, new_value}
+use Rattle.dstm_engine.specs.Callers.{Called}
 use Rattle.dstm_tables.specs.declared.tables.Caller.TheVariants.{Dstm}
 use Rattle.dstm_tables.specs.OnlyCallers.{HasGivenUp}
 use Rattle.dstm_tables.specs.Law.{keeps}

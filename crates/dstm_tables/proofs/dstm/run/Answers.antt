@@ -2,14 +2,11 @@ use Rattle.std.proofs.Common.{◌∙◌, ◌≡◌, List, Ok, Err, ap, false, re
 use Rattle.std.specs.Prelude.{IfErr, IsSome, IsTrue, OnOk, Result}
 use Rattle.dstm_model.specs.declared.value.Val.{Val}
 use Rattle.dstm_mem.proofs.InTheEnd.{in_the_end}
-use Rattle.dstm_mem.specs.Memory.{with_set}
-use Rattle.dstm_compose.specs.Compose.{IsRight}
 use Rattle.dstm_engine.specs.Attempts.{Admits}
 use Rattle.dstm_engine.specs.Callers.{is_live, live_held, live_opened, shape_of, written}
 use Rattle.dstm_engine.specs.Transactions.{tx_place}
 use Rattle.dstm_engine.specs.declared.tx.Tx.{Tx}
 use Rattle.dstm_store.specs.declared.law.StoreLaw.{StoreLaw}
-use Rattle.dstm_store.specs.Whole.{IsLawful}
 use Rattle.dstm_tables.specs.Law.{keeps}
 use Rattle.dstm_tables.proofs.dstm.run.Goals.{After-tx-1}
 use Rattle.dstm_tables.proofs.dstm.run.Goals as goal
@@ -28,14 +25,12 @@ in_case (Err e) f is = tt
 pub returns-clause-lawful : goal.returns-clause-lawful
 returns-clause-lawful c =
     let is = same (goal.at.returns-clause-lawful c).After-tx-1 in
-    subst (λ (x : Tx StoreLaw). OnOk c.run.result ((map : List Val) → Admits keeps x.caller.now map →
-    IsLawful c.run.new.self.task.layout (with_set map (written x.caller.now)))) (sym is) c.run.ensures.lawful
+    rw is c.run.ensures.lawful
 
 pub returns-clause-right : goal.returns-clause-right
 returns-clause-right c =
     let is = same (goal.at.returns-clause-right c).After-tx-1 in
-    subst (λ (x : Tx StoreLaw). OnOk c.run.result ((map : List Val) → Admits keeps x.caller.now map →
-    IsRight c.run.new.self.task map (with_set map (written x.caller.now)) c.run.new.self.outcome)) (sym is) c.run.ensures.right
+    rw is c.run.ensures.right
 
 pub returns-clause-leads : goal.returns-clause-leads
 returns-clause-leads c =

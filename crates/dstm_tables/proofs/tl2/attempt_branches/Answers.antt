@@ -103,8 +103,6 @@ returns-in-Err-run c = λ rechecks.
     let left : IsLeft t = subst (λ l. IfSome l (λ _. IsLeft t)) over was.left in
     let name = same_name keeps k b t _ _ _ _ begins place _ c.in-Ok.ensures.same in
     let P = λ (x : TlCalled _). WasKept (Tl2 k) (Tl2 x) in
-    in_the_end P _ _ _ _ (assumption c) name (subst P (sym was.same)
-    (tl2_kept k t c.in-Err-run.field-0 c.requires.rest
+    in_the_end P _ _ _ _ (assumption c) name (subst P (sym was.same) (tl2_kept k t c.in-Err-run.field-0 c.requires.rest
     (made keeps k b t _ _ _ _ begins place t (Some c.in-Err-run.field-0) (still t _ over) refl left.given_back.free
-    (λ none. absurd (cc)) was.seen was.run was.told)
-    left (same_done keeps k b t _ _ _ _ begins place)))
+    (λ none. absurd (cc)) was.seen was.run was.told) left (same_done keeps k b t _ _ _ _ begins place)))

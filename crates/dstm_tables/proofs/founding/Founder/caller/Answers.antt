@@ -1,21 +1,17 @@
-use Rattle.std.proofs.Common.{◌∙◌, ap, subst, sym}
-use Rattle.dstm_tables.specs.declared.founding.Founder.{Founder}
-use Rattle.dstm_tables.specs.declared.founding.Founder.TheVariants.{Dstm, Tl2}
+use Rattle.std.proofs.Common.{◌∙◌, ap, sym}
 use Rattle.dstm_tables.specs.declared.tables.Caller.TheVariants as caller
-use Rattle.dstm_tables.specs.Founders.{GivesOut, home_there}
+use Rattle.dstm_tables.specs.Founders.{home_there}
 use Rattle.dstm_tables.proofs.GivingOut.{dstm_new, tl2_new}
 use Rattle.dstm_tables.proofs.founding.Founder.caller.Goals as goal
 
 pub returns-in-Ok : goal.returns-in-Ok
 returns-in-Ok c =
     let g = c.caller.new.self in
-    subst (λ (f : Founder). GivesOut c.args.table.now f (Dstm g) c.args.seed (caller.Dstm c.in-Ok.caller)) (sym c.in-Dstm.is)
-    (dstm_new c.args.table.now c.in-Dstm.founder g c.args.seed c.in-Ok.caller
+    rw c.in-Dstm.is (dstm_new c.args.table.now c.in-Dstm.founder g c.args.seed c.in-Ok.caller
     (ap home_there (sym c.in-Dstm.is) ∙ c.requires.table) c.in-Ok.ensures.caller)
 
 pub returns-in-Ok-caller : goal.returns-in-Ok-caller
 returns-in-Ok-caller c =
     let g = c.caller-in-Tl2-table-2.new.self in
-    subst (λ (f : Founder). GivesOut c.args.table.now f (Tl2 g) c.args.seed (caller.Tl2 c.in-Ok-caller.caller)) (sym c.in-Tl2.is)
-    (tl2_new c.in-Tl2.founder g c.in-Ok-caller.caller c.in-Ok-caller.ensures.caller c.args.table.now c.args.seed
+    rw c.in-Tl2.is (tl2_new c.in-Tl2.founder g c.in-Ok-caller.caller c.in-Ok-caller.ensures.caller c.args.table.now c.args.seed
     (ap home_there (sym c.in-Tl2.is) ∙ c.requires.table))
