@@ -34,17 +34,7 @@ module _ {K T B S : Type 0} (shared : Shared K T B S) (laws : Enrolling shared) 
   -- what the rule says of a seat with no number that has seen a past of the log
   newcomer : (log seen : List (Event K)) (id enrolments apart : ℕ) (terms : Option T) → IsPastOf seen log →
       (apart ≡ 0 → terms ≡ None) → (terms ≡ None → seen ≡ []) →
-      Sees shared key log id (record {
-        terms = terms;
-        log = seen;
-        number = None;
-        numbers = [];
-        enrolments = enrolments;
-        first = false;
-        out = 0;
-        apart = apart;
-        olds = [];
-      })
+      Sees shared key log id (record (nobody {K = K} {T = T}) { terms = terms; log = seen; enrolments = enrolments; apart = apart })
   newcomer log seen id enrolments apart terms past spent empty = record {
     past = past;
     olds = All-nil (GoesOn log []);
