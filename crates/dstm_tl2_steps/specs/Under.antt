@@ -8,7 +8,8 @@ use Rattle.dstm_tl2.specs.Failing.{fails}
 use Rattle.dstm_tl2.specs.Rules.{Event, IsTold, after, new_hold}
 use Rattle.dstm_tl2.specs.Sharing.{IsRunOf, table_of}
 use Rattle.dstm_tl2.specs.State.{LocalState, Hold, first, hold_of}
-use Rattle.dstm_tl2.specs.Words.{Table, objects}
+use Rattle.dstm_tl2.specs.Words.{Table, Word, objects, place}
+use Rattle.dstm_machines.specs.Traces.Access.{Load, Store}
 use Rattle.dstm_tl2_words.specs.Seats.{caller_view, Home, view_of, caller_state, IsOf}
 use Rattle.dstm_seats.specs.Seats.{event_by}
 use Rattle.dstm_tl2_order.specs.declared.again.TlAgain.{TlAgain}
@@ -96,6 +97,19 @@ module _ {L : Type 0} where
     pub state : now home new ≡ after event.kind (table_of home.terms) (now home old) event
     pub goes_on : Under holds home began new (due began.task (table_of home.terms) (Some event) (now home new))
         (answer_by (now home old) event again)
+
+  -- A load of this kind found this in the word, and the call goes on with it.
+  pub record Loaded (holds : L → List Val → Type 0) (home : Home L) (began : Began) (old new : Steps L) (kind : Kind)
+      (word : Word) (found : ℕ) : Type 0 where
+    pub went : Went holds home began old new None (made_by began Load kind (place (table_of home.terms) word) found)
+    pub rest : new ≡ record old { seat = new.seat }
+
+  -- A store of this kind put this in the word, and the call goes on with it.
+  pub record Stored (holds : L → List Val → Type 0) (home : Home L) (began : Began) (old new : Steps L) (kind : Kind)
+      (word : Word) (put : ℕ) : Type 0 where
+    pub went : (found : ℕ)
+        × Went holds home began old new None (made_by began (Store put) kind (place (table_of home.terms) word) found)
+    pub rest : new ≡ record old { seat = new.seat }
 
   -- The lists have what the machine has of the attempt, and the first writes of the list, so many, are locked and as
   -- they were when they were locked.

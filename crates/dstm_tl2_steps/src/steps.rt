@@ -8,12 +8,12 @@ ghost use Rattle.dstm_tl2.specs.Rules.{Event, IsHeld, IsReadable, IsTold, MayUnl
 ghost use Rattle.dstm_tl2.specs.Sharing.{table_of};
 ghost use Rattle.dstm_tl2.specs.State.{hold_of, is_valid, look_of, next_check, next_write, or_hold, read_of, recorded, to_check};
 ghost use Rattle.dstm_tl2.specs.Words.{objects, place};
-ghost use Rattle.dstm_tl2.specs.Words.Word.{ClockWord, HighWord, LowWord};
+ghost use Rattle.dstm_tl2.specs.Words.Word.{ClockWord, HighWord, LockWord, LowWord};
 ghost use Rattle.dstm_tl2_words.specs.Seats.{found_in, view_of};
 ghost use Rattle.dstm_tl2_order.specs.declared.again.TlAgain.{TlAgain};
 ghost use Rattle.dstm_tl2_order.specs.Order.{draws, locks};
 ghost use Rattle.dstm_tl2_order.specs.Order.Due.{FreeAs, Just, LookAt, PutHigh, PutLow};
-ghost use Rattle.dstm_tl2_steps.specs.Under.{made_by, now, Under, Went};
+ghost use Rattle.dstm_tl2_steps.specs.Under.{made_by, now, Loaded, Stored, Under, Went};
 
 use crate::places::Places;
 use dstm_model::{Law, Val};
@@ -68,9 +68,7 @@ impl<L: Law> Steps<L> {
         requires begun { 0 < (now words.now self.old).begun }
         requires untold { (now words.now self.old).writes ≡ None }
         requires unread { read_of o (now words.now self.old).reads ≡ None }
-        ensures went { Went L.holds words.now B.began self.old self.new None
-            (made_by B.began Load LookLock o result) }
-        ensures rest { self.new ≡ record self.old { seat = self.new.seat } }
+        ensures { Loaded L.holds words.now B.began self.old self.new LookLock (LockWord o) result }
     {
         let lock = self.places.lock(o);
         words.load(&mut self.seat, Kind::LookLock, lock)
@@ -84,9 +82,7 @@ impl<L: Law> Steps<L> {
         requires begins { (now words.now self.old).look ≢ None }
         requires looks { (look_of (now words.now self.old)).object ≡ o }
         requires readable { IsReadable (now words.now self.old).sample (look_of (now words.now self.old)).word }
-        ensures went { Went L.holds words.now B.began self.old self.new None
-            (made_by B.began Load LookLow (place (table_of words.now.terms) (LowWord o)) result) }
-        ensures rest { self.new ≡ record self.old { seat = self.new.seat } }
+        ensures { Loaded L.holds words.now B.began self.old self.new LookLow (LowWord o) result }
     {
         let low = self.places.low(o);
         words.load(&mut self.seat, Kind::LookLow, low)
@@ -100,9 +96,7 @@ impl<L: Law> Steps<L> {
         requires looks { (look_of (now words.now self.old)).object ≡ o }
         requires low { (look_of (now words.now self.old)).low ≢ None }
         requires readable { IsReadable (now words.now self.old).sample (look_of (now words.now self.old)).word }
-        ensures went { Went L.holds words.now B.began self.old self.new None
-            (made_by B.began Load LookHigh (place (table_of words.now.terms) (HighWord o)) result) }
-        ensures rest { self.new ≡ record self.old { seat = self.new.seat } }
+        ensures { Loaded L.holds words.now B.began self.old self.new LookHigh (HighWord o) result }
     {
         let high = self.places.high(o);
         words.load(&mut self.seat, Kind::LookHigh, high)
@@ -115,9 +109,7 @@ impl<L: Law> Steps<L> {
         requires untold { (now words.now self.old).writes ≡ None }
         requires looks { (look_of (now words.now self.old)).object ≡ o }
         requires value { (look_of (now words.now self.old)).value ≢ None }
-        ensures went { Went L.holds words.now B.began self.old self.new None
-            (made_by B.began Load LookAgain o result) }
-        ensures rest { self.new ≡ record self.old { seat = self.new.seat } }
+        ensures { Loaded L.holds words.now B.began self.old self.new LookAgain (LockWord o) result }
     {
         let lock = self.places.lock(o);
         words.load(&mut self.seat, Kind::LookAgain, lock)
@@ -183,9 +175,7 @@ impl<L: Law> Steps<L> {
         requires kept { (now words.now self.old).gave_back ≡ false }
         requires left { (now words.now self.old).checked < length (to_check (now words.now self.old)) }
         requires next { (next_check (now words.now self.old)).object ≡ o }
-        ensures went { Went L.holds words.now B.began self.old self.new None
-            (made_by B.began Load Check o result) }
-        ensures rest { self.new ≡ record self.old { seat = self.new.seat } }
+        ensures { Loaded L.holds words.now B.began self.old self.new Check (LockWord o) result }
     {
         let lock = self.places.lock(o);
         words.load(&mut self.seat, Kind::Check, lock)
@@ -198,9 +188,7 @@ impl<L: Law> Steps<L> {
         requires valid { is_valid (now words.now self.old) ≡ true }
         requires held { IsHeld (now words.now self.old) o }
         requires value { (or_hold (hold_of o (now words.now self.old).holds)).value.low ≡ low }
-        ensures went { (found : ℕ) × Went L.holds words.now B.began self.old self.new None
-            (made_by B.began (Store low) WriteLow (place (table_of words.now.terms) (LowWord o)) found) }
-        ensures rest { self.new ≡ record self.old { seat = self.new.seat } }
+        ensures { Stored L.holds words.now B.began self.old self.new WriteLow (LowWord o) low }
     {
         let place = self.places.low(o);
         words.store(&mut self.seat, Kind::WriteLow, place, low);
@@ -213,9 +201,7 @@ impl<L: Law> Steps<L> {
         requires valid { is_valid (now words.now self.old) ≡ true }
         requires held { IsHeld (now words.now self.old) o }
         requires value { (or_hold (hold_of o (now words.now self.old).holds)).value.high ≡ high }
-        ensures went { (found : ℕ) × Went L.holds words.now B.began self.old self.new None
-            (made_by B.began (Store high) WriteHigh (place (table_of words.now.terms) (HighWord o)) found) }
-        ensures rest { self.new ≡ record self.old { seat = self.new.seat } }
+        ensures { Stored L.holds words.now B.began self.old self.new WriteHigh (HighWord o) high }
     {
         let place = self.places.high(o);
         words.store(&mut self.seat, Kind::WriteHigh, place, high);
