@@ -32,6 +32,7 @@ use Rattle.dstm_words.specs.Seats.{Home, view_of}
 use Rattle.dstm_steps.specs.Conflicts.{Keeps, Meets, lets_go, patience_left, rounds_of}
 use Rattle.dstm_steps.specs.declared.steps.Steps.{Steps}
 use Rattle.dstm_steps.specs.Under.{Began, InTask, Under, Resolving, IsRunning, made_by, now}
+use Rattle.dstm_steps.proofs.Finding.{stays_resolving, stays_self, stays_then}
 use Rattle.dstm_steps.proofs.FoundCodes.{code_found}
 use Rattle.dstm_steps.proofs.Stepping.{here, under_is}
 use Rattle.dstm_core.proofs.Absent.{known_some}
@@ -50,15 +51,11 @@ module _ {L : Type 0} {task : Task} {holds : L → List Val → Type 0} {home : 
     {d : Due} {a : Option Again} (u : InTask holds home task b steps d a) where
   -- a status that was found has a code of an attempt that has begun
   pub code_in : (n : ℕ) → (res (now home steps)).status ≡ Some n → IsCode n
-  code_in n q =
-      code_found home.terms.shape (view_of steps.seat).log u.run.run.core b.number n
-      (subst (λ (l : LocalState). (res l).status ≡ Some n) (here u) q)
+  code_in n q = code_found home.terms.shape (view_of steps.seat).log u.run.run.core b.number n (rw (← here u) q)
 
   -- a rank that was found is one that an attempt can have
   pub rank_in : IsRank home.terms.shape.manager (or_zero (res (now home steps)).rank)
-  rank_in =
-      subst (λ (l : LocalState). IsRank home.terms.shape.manager (or_zero (res l).rank)) (sym (here u))
-      (found_is_rank home.terms.shape (view_of steps.seat).log u.run.run.core b.number)
+  rank_in = rw (here u) (found_is_rank home.terms.shape (view_of steps.seat).log u.run.run.core b.number)
 
   -- where ranks rise the own one is small
   pub small_rank : rises home.terms.shape.manager ≡ true → steps.rank ≤ MAX_RANK
@@ -199,16 +196,10 @@ module _ {L : Type 0} {holds : L → List Val → Type 0} {home : Home L} {b : B
 -- ---- what a conflict keeps
 
 pub keeps_self : {l : LocalState} → Keeps l l
-keeps_self = record { attempt = refl; object = refl; word = refl; rank = refl }
+keeps_self = record { stays = stays_self; rank = refl }
 
 pub keeps_then : {a b c : LocalState} → Keeps a b → Keeps b c → Keeps a c
-keeps_then {c = c} p q = record {
-  attempt = q.attempt
-      ∙ ap (λ (l : LocalState). record l { resolution = c.resolution; pass = c.pass; checked = c.checked }) p.attempt;
-  object = q.object ∙ p.object;
-  word = q.word ∙ p.word;
-  rank = q.rank ∙ p.rank;
-}
+keeps_then p q = record { stays = stays_then p.stays q.stays; rank = q.rank ∙ p.rank }
 
 -- a look at the status keeps it, and so does a Kill
 pub keeps_status : {old new : LocalState} {put : ℕ} → new ≡ record old {
@@ -216,11 +207,8 @@ pub keeps_status : {old new : LocalState} {put : ℕ} → new ≡ record old {
   pass = None;
   checked = 0;
 } → Keeps old new
-keeps_status {old = old} q = record {
-  attempt = q ∙ ap (λ (l : LocalState). record old { resolution = l.resolution; pass = l.pass; checked = l.checked })
-      (sym q);
-  object = ap (λ l. (res l).object) q;
-  word = ap (λ l. (res l).word) q;
+keeps_status {old = old} {put = put} q = record {
+  stays = stays_resolving (record (res old) { status = Some put }) q refl refl;
   rank = ap (λ l. (res l).rank) q;
 }
 
@@ -229,16 +217,17 @@ pub keeps_aside : {a b c d : LocalState} → a.phase ≡ Running →
     b ≡ record a { phase = Paused; pass = None; checked = 0 } →
     Keeps b c → d ≡ record c { phase = Running; pass = None; checked = 0 } → Keeps a d
 keeps_aside {a = a} {c = c} {d = d} run p k q = record {
-  attempt = attempt;
-  object = ap (λ l. (res l).object) q ∙ k.object ∙ ap (λ l. (res l).object) p;
-  word = ap (λ l. (res l).word) q ∙ k.word ∙ ap (λ l. (res l).word) p;
+  stays = record {
+    attempt = whole ∙ parts;
+    object = ap (λ l. (res l).object) q ∙ k.stays.object ∙ ap (λ l. (res l).object) p;
+    word = ap (λ l. (res l).word) q ∙ k.stays.word ∙ ap (λ l. (res l).word) p;
+  };
   rank = ap (λ l. (res l).rank) q ∙ k.rank ∙ ap (λ l. (res l).rank) p;
 }
   where
     -- the whole, by the phase that it began in
     whole : d ≡ record a { phase = Running; resolution = c.resolution; pass = None; checked = 0 }
-    whole = q ∙ ap (λ (l : LocalState). record l { phase = Running; pass = None; checked = 0 }) k.attempt
-        ∙ ap (λ (l : LocalState). record l { phase = Running; resolution = c.resolution; pass = None; checked = 0 }) p
+    whole = rw (q, k.stays.attempt, p) refl
 
     parts : record a { phase = Running; resolution = c.resolution; pass = None; checked = 0 }
         ≡ record a { resolution = d.resolution; pass = d.pass; checked = d.checked }
@@ -248,9 +237,6 @@ keeps_aside {a = a} {c = c} {d = d} run p k q = record {
       ap (λ (l : LocalState). l.checked) whole,
     )
         (ap (λ x. record a { phase = x; resolution = c.resolution; pass = None; checked = 0 }) (sym run))
-
-    attempt : d ≡ record a { resolution = d.resolution; pass = d.pass; checked = d.checked }
-    attempt = whole ∙ parts
 
 -- ---- what the manager's choice tells
 

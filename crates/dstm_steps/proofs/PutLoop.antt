@@ -11,14 +11,13 @@ use Rattle.dstm_core.specs.declared.state.Write.{Write}
 use Rattle.dstm_core.specs.Histories.{new_value, new_values, read_values, old_values, seen}
 use Rattle.dstm_core.specs.Runs.{local, Core}
 use Rattle.dstm_core.specs.State.{LocalState, next_write}
-use Rattle.dstm_core.specs.Traces.{at, word}
+use Rattle.dstm_core.specs.Traces.{at, word, IsPastOf}
 use Rattle.dstm_core.specs.Words.{place}
 use Rattle.dstm_core.specs.Words.Word.{LowWord, HighWord}
 use Rattle.dstm_core.proofs.Static.{Numbered, numbered-get, static}
 use Rattle.dstm_model.specs.declared.value.Val.{Val}
 use Rattle.dstm_model.specs.Map.{Agrees}
 use Rattle.dstm_opacity.proofs.Kept.{seen_stays}
-use Rattle.dstm_core.specs.Traces.{IsPastOf}
 use Rattle.dstm_words.specs.Seats.{Home, view_of, StoresLawfully, made}
 use Rattle.dstm_machines.specs.Traces.Access.{Store}
 use Rattle.dstm_core.proofs.Places.{put_at}
@@ -61,8 +60,7 @@ pub numbered : {L : Type 0} {holds : L → List Val → Type 0} {home : Home L} 
     first ≡ b.number * home.terms.shape.locators + ((now home steps).installed - length (now home steps).writes) →
     Numbered first (now home steps).writes
 numbered {home = home} {b = b} {steps = steps} u is =
-    rw is (subst (λ (l : LocalState). Numbered (b.number * home.terms.shape.locators + (l.installed - length l.writes))
-    l.writes) (sym (here u)) (static home.terms.shape (view_of steps.seat).log u.run.run.core b.number).numbered)
+    rw is (rw (here u) (static home.terms.shape (view_of steps.seat).log u.run.run.core b.number).numbered)
 
 -- the write whose value is put next
 pub record NextPut (l : LocalState) (value : ℕ → Val) (locator : ℕ) (put : Val) : Type 0 where

@@ -9,12 +9,11 @@ use Rattle.dstm_core.specs.declared.state.Write.{Write}
 use Rattle.dstm_core.specs.Histories.{new_value, new_values}
 use Rattle.dstm_core.specs.Runs.{Core}
 use Rattle.dstm_core.specs.State.{or_write}
-use Rattle.dstm_core.specs.Traces.{at, word}
+use Rattle.dstm_core.specs.Traces.{at, word, IsPastOf}
 use Rattle.dstm_core.specs.Words.{Word, place}
 use Rattle.dstm_model.specs.declared.value.Val.{Val}
 use Rattle.dstm_core.proofs.Static.{Numbered}
 use Rattle.dstm_opacity.proofs.Kept.{put_stays}
-use Rattle.dstm_core.specs.Traces.{IsPastOf}
 use Rattle.dstm_words.specs.Seats.{Home, view_of}
 use Rattle.dstm_steps.specs.declared.slots.WriteSlot.{WriteSlot}
 use Rattle.dstm_steps.specs.declared.steps.Steps.{Steps}
@@ -28,8 +27,7 @@ pub holds_put : {L : Type 0} {holds : L → List Val → Type 0} {home : Home L}
 holds_put {home = home} {old = old} {e = e} w went kind here put more core =
     let s : Shape = home.terms.shape in
     let es : List Event = went.log.0 ++ (view_of old.seat).log in
-    let stays : at (more ++ e ∷ es) e.place ≡ e.put =
-    put_stays s more es e (subst (λ log. Core s (more ++ log)) went.log.1 core) kind in
+    let stays : at (more ++ e ∷ es) e.place ≡ e.put = put_stays s more es e (rw (← went.log.1) core) kind in
     ap (λ log. at (more ++ log) (place s w)) went.log.1 ∙ ap (at (more ++ e ∷ es)) (sym here) ∙ stays ∙ put
 
 -- and what stays in every longer run stays in those of a later log

@@ -1,5 +1,5 @@
 -- What a caller finds is in range: the words that it is aimed at are words of the table.
-use Rattle.std.proofs.Common.{ℕ, Some, refl, ◌≡◌, ◌≢◌, ◌⊎◌, false, ◌-◌, ◌*◌, ◌^◌, ◌<◌, List, true, sym, subst, arith, inl}
+use Rattle.std.proofs.Common.{ℕ, Some, refl, ◌≡◌, ◌≢◌, ◌⊎◌, false, ◌-◌, ◌*◌, ◌^◌, ◌<◌, List, true, arith, inl}
 use Rattle.std.specs.Prelude.{Option}
 use Rattle.std.proofs.lemmas.Bool.Decides.{nat_tests}
 use Rattle.std.proofs.lemmas.Nat.{mul-le}
@@ -44,9 +44,8 @@ module _ {L : Type 0} {task : Task} {holds : L → List Val → Type 0} {home : 
   in_word k other may =
       let s : Shape = home.terms.shape in
       let e : Event = made_by b Load k 0 0 in
-      subst (λ l. HasWord s (target k s l e)) (sym (here u))
-      (in_range s (view_of steps.seat).log b.number e k u.run.run.core u.caller (λ q. absurd (other q))
-      (subst (λ l. May k s l e) (here u) may))
+      rw (here u) (in_range s (view_of steps.seat).log b.number e k u.run.run.core u.caller (λ q. absurd (other q))
+      (rw (← here u) may))
 
   -- the owner found, where its status was not found finished, also of an attempt that gives way
   owner_in : {owner : ℕ} → ((now home steps).phase ≡ Running) ⊎ ((now home steps).phase ≡ Paused) →

@@ -168,8 +168,7 @@ counts_next s log before c e own mine =
 
 module _ {L : Type 0} (holds : L → List Val → Type 0) (home : Home L) where
   numbered : (v w : View L) (way : Access) (k : Kind) (p found c : ℕ) → v.terms ≡ Some home.terms →
-      v.number ≡ Some c → Makes holds v way k p found w →
-      tally_of (counts_by w)
+      v.number ≡ Some c → Makes holds v way k p found w → tally_of (counts_by w)
       ≡ tally_of (counts_after k (caller_state home.terms v) (counts_by v) (made v way k p found))
   numbered v w way k p found c told q m =
       let s : Shape = home.terms.shape in
@@ -185,8 +184,7 @@ module _ {L : Type 0} (holds : L → List Val → Type 0) (home : Home L) where
       let before_it : counts_by v ≡ counts_of s v.log c =
       ap (λ o. counts_in o v.number v.log) told ∙ ap (λ o. counts_in (Some home.terms) o v.log) q in
       let state : caller_state home.terms v ≡ local s v.log c = ap (λ o. state_by s o v.log) q in
-      ap tally_of
-      (after_it ∙ counts_next s w.log v.log c e own mine
+      ap tally_of (after_it ∙ counts_next s w.log v.log c e own mine
       ∙ ap (λ l. counts_after k l (counts_of s v.log c) e) (sym state)
       ∙ ap (λ i. counts_after k (caller_state home.terms v) i e) (sym before_it))
 
@@ -213,12 +211,15 @@ module _ {L : Type 0} (holds : L → List Val → Type 0) (home : Home L) where
       go : (o : Option ℕ) → v.number ≡ o → IsSome o → Counts new
       go (Some c) q s = record {
         caller = rw (ap (λ (x : View L). x.number) m.view) refl;
-        counts = is ∙ ap (λ b. ticked k b kills old.tally) t
-            ∙ ap (λ b. ticked k (is_turn k (caller_state home.terms v)) b old.tally) r
-            ∙ ap (λ i. ticked k (is_turn k (caller_state home.terms v)) (is_kill k (made v way k p found)) i)
-            counts.counts
-            ∙ ticked_is k (caller_state home.terms v) (counts_by v) (made v way k p found) (begun_where v c seat.2 q)
-            ∙ sym (numbered v (view_of new.seat) way k p found c seat.2 q m);
+        counts =
+            rw (
+              is,
+              t,
+              r,
+              counts.counts,
+              ticked_is k (caller_state home.terms v) (counts_by v) (made v way k p found) (begun_where v c seat.2 q),
+              ← numbered v (view_of new.seat) way k p found c seat.2 q m,
+            ) refl;
       }
       go None q s = absurd (cc)
 

@@ -8,6 +8,7 @@ use Rattle.dstm_words.specs.Seats.{Home}
 use Rattle.dstm_order.specs.Efforts.{most_missed}
 use Rattle.dstm_order.specs.Order.{has_ranks}
 use Rattle.dstm_steps.specs.declared.steps.Steps.{Steps}
+use Rattle.dstm_steps.specs.Finding.{StaysAt}
 use Rattle.dstm_steps.specs.Under.{Began, IsRunning, Resolving, now}
 
 -- an enemy that was found with this code is given way to no more
@@ -23,9 +24,7 @@ patience_left missed round code =
 -- the attempt is as it was, but for what was found out of the same object, with the same word, and the same rank of its
 -- owner
 pub record Keeps (old new : LocalState) : Type 0 where
-  pub attempt : new ≡ record old { resolution = new.resolution; pass = new.pass; checked = new.checked }
-  pub object : (res new).object ≡ (res old).object
-  pub word : (res new).word ≡ (res old).word
+  pub stays : StaysAt old new
   pub rank : (res new).rank ≡ (res old).rank
 
 module _ {L : Type 0} where

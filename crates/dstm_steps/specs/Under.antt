@@ -9,6 +9,7 @@ use Rattle.dstm_core.specs.Rules.{after, target, access, May}
 use Rattle.dstm_core.specs.State.{LocalState, own_attempt, keep_resolved, record_resolved}
 use Rattle.dstm_core.specs.Traces.{Access, IsPastOf, events_of}
 use Rattle.dstm_core.specs.Words.{place}
+use Rattle.dstm_machines.specs.Traces.Access.{Load}
 use Rattle.dstm_model.specs.declared.value.Val.{Val}
 use Rattle.dstm_words.specs.Seats.{caller_view, event_by, Home, view_of, caller_state, IsOf, IsRunOf}
 use Rattle.rand_pcg.specs.Lcg.{Lcg}
@@ -16,6 +17,7 @@ use Rattle.dstm_order.specs.Calls.{Obeys, state_after, effort_of, newest_of, ans
 use Rattle.dstm_order.specs.declared.again.Again.{Again}
 use Rattle.dstm_order.specs.Efforts.{Effort, effort_after}
 use Rattle.dstm_order.specs.Order.{Due, due, in_resolving, when_resolved, when_passed}
+use Rattle.dstm_order.specs.declared.TheConstants.{MAX_MISSED}
 use Rattle.dstm_order.specs.Tasks.{Task, Work}
 use Rattle.dstm_order.specs.Tasks.Task.{Doing}
 use Rattle.dstm_order.specs.Tasks.Work.{Rechecking}
@@ -121,6 +123,13 @@ module _ {L : Type 0} where
       (in_resolving home.terms.shape.manager (now home steps) (effort_by steps) (when_resolved (work_of began.task)))
       None
 
+  -- an event of this kind found this word, and the object is being resolved still
+  pub record Looked (holds : L → List Val → Type 0) (home : Home L) (began : Began) (old new : Steps L) (kind : Kind)
+      (found : ℕ) : Type 0 where
+    pub state : now home new ≡ after kind home.terms.shape (now home old) (made_by began Load kind 0 found)
+    pub under : Resolving holds home began new
+    pub rest : new ≡ record old { seat = new.seat }
+
   -- it is resolved
   abbrev pub Resolved : (holds : L → List Val → Type 0) → Home L → Began → Steps L → Type 0
   Resolved holds home began steps = Under holds home began steps (when_resolved (work_of began.task)) None
@@ -170,6 +179,13 @@ pub record IsRunning (state : LocalState) : Type 0 where
   pub phase : state.phase ≡ Running
   pub agreed : state.stale ≡ false
   pub uncommitted : state.committed ≡ false
+
+-- it does, and this is due next in the call, which has tries left
+pub record RunsOn {L : Type 0} (holds : L → List Val → Type 0) (home : Home L) (began : Began) (steps : Steps L)
+    (next : Due) : Type 0 where
+  pub under : Under holds home began steps next None
+  pub running : IsRunning (now home steps)
+  pub tries : steps.missed < MAX_MISSED
 
 -- the state after a complete pass that began with this number
 abbrev pub passed : ℕ → LocalState → LocalState

@@ -1,21 +1,24 @@
 -- The objects that a caller has opened for writing, and the values that it puts.
-use Rattle.std.specs.Prelude.{◌≡◌, ◌⊎◌, ℕ, ◌+◌, ◌<◌, List, [], ◌∷◌, ◌++◌, length, slice_index_or, Option, Some, None}
+use Rattle.std.specs.Prelude.{◌≡◌, ◌⊎◌, ℕ, ◌+◌, ◌-◌, ◌*◌, ◌<◌, false, List, [], ◌∷◌, ◌++◌, length, slice_index_or, Option, Some, None}
 use Rattle.dstm_core.specs.Events.{Event}
 use Rattle.dstm_core.specs.declared.state.Write.{Write}
 use Rattle.dstm_core.specs.declared.state.Phase.TheVariants.{Running, Putting}
 use Rattle.dstm_core.specs.State.{LocalState}
 use Rattle.dstm_core.specs.Histories.{seen}
 use Rattle.dstm_core.specs.Runs.{Core}
-use Rattle.dstm_core.specs.Traces.{word}
+use Rattle.dstm_core.specs.Traces.{IsPastOf, word}
 use Rattle.dstm_core.specs.Words.{Word}
 use Rattle.dstm_core.specs.Words.Word.{LowWord, HighWord}
 use Rattle.dstm_model.specs.declared.value.Val.{Val}
 use Rattle.dstm_model.specs.Map.{Agrees, with_writes, no_value}
 use Rattle.dstm_words.specs.Seats.{Home, view_of}
+use Rattle.dstm_order.specs.Order.{in_putting}
+use Rattle.dstm_order.specs.declared.TheConstants.{MAX_MISSED}
 use Rattle.dstm_order.specs.Tasks.{Work}
 use Rattle.dstm_order.specs.Tasks.Work.{Committing}
 use Rattle.dstm_steps.specs.declared.slots.WriteSlot.{WriteSlot}
 use Rattle.dstm_steps.specs.declared.steps.Steps.{Steps}
+use Rattle.dstm_steps.specs.Under.{Began, IsRunning, Under, now, work_of}
 
 -- the value last set, or else the old one
 abbrev pub or_old : Option Val → Val → Val
@@ -58,6 +61,12 @@ module _ {L : Type 0} where
       (more : List Event) → Core home.terms.shape (more ++ (view_of steps.seat).log) →
       word home.terms.shape (more ++ (view_of steps.seat).log) w ≡ n
 
+  -- the number was put in the word, and stays
+  pub record Puts (home : Home L) (old new : Steps L) (w : Word) (n : ℕ) : Type 0 where
+    pub past : IsPastOf (view_of old.seat).log (view_of new.seat).log
+    pub put : Holds home new w n
+    pub tries : new.missed < MAX_MISSED
+
   -- the values of the first n slots are put, in locators one after the other, and stay
   abbrev pub ArePut : Home L → Steps L → (first : ℕ) → List WriteSlot → (n : ℕ) → Type 0
   ArePut home steps first slots n =
@@ -71,3 +80,13 @@ module _ {L : Type 0} where
       Agrees map (seen home.terms.shape home.terms.start.value.items (view_of steps.seat).log
       (view_of steps.seat).log number) →
       holds home.terms.law.value (with_writes map (puts_of slots))
+
+  -- the attempt runs, and is to put its new values, the first of them in this locator
+  pub record CanPut (holds : L → List Val → Type 0) (home : Home L) (began : Began) (steps : Steps L) (first : ℕ) :
+      Type 0 where
+    pub under : Under holds home began steps (in_putting (value_in (work_of began.task)) (now home steps)) None
+    pub work : work_of began.task ≡ Committing (value_in (work_of began.task))
+    pub running : IsRunning (now home steps)
+    pub none : ((now home steps).written ≡ 0) × ((now home steps).high_put ≡ false)
+    pub first_is : first ≡ began.number * home.terms.shape.locators +
+        ((now home steps).installed - length (now home steps).writes)

@@ -9,7 +9,7 @@ ghost use Rattle.dstm_core.specs.Words.{code_of};
 ghost use Rattle.dstm_order.specs.Order.{just, has_ranks, has_stamps, in_beginning, is_spent, rises};
 ghost use Rattle.dstm_order.specs.Order.Due.{Step, Done};
 ghost use Rattle.dstm_order.specs.Tasks.Task.{Beginning, Leaving};
-ghost use Rattle.dstm_steps.specs.Beginning.{CanBegin, KeepsRank};
+ghost use Rattle.dstm_steps.specs.Beginning.{CanBegin, HasBegun, KeepsRank};
 ghost use Rattle.dstm_steps.specs.Under.{InTask, now};
 
 use crate::opening::rises;
@@ -148,14 +148,7 @@ impl<L: Law> Steps<L> {
         requires stamped { (has_stamps words.now.terms.shape.manager && fresh && not
             (now words.now self.old).stamped) ≡ false }
         requires ranks { KeepsRank words.now.terms.shape fresh (now words.now self.old) }
-        ensures state { now words.now self.new
-            ≡ begin (record (now words.now self.old) {
-              rank = self.new.rank;
-              stands =
-                  (now words.now self.new).stands;
-            }) }
-        ensures under { InTask L.holds words.now (Beginning fresh) B.began self.new Done None }
-        ensures own { self.new.own ≡ next }
+        ensures { HasBegun L.holds words.now B.began fresh self.old self.new next }
     {
         if has_ranks(self.shape.manager()) && !ranked {
             let rank = first_rank(self.shape.manager(), fresh, self.rank);

@@ -11,8 +11,8 @@ ghost use Rattle.dstm_order.specs.Tasks.Work.{Committing};
 ghost use Rattle.dstm_order.specs.declared.TheConstants.{MAX_MISSED};
 ghost use Rattle.dstm_core.specs.Traces.{IsPastOf};
 ghost use Rattle.dstm_words.specs.Seats.{view_of, StoresLawfully};
-ghost use Rattle.dstm_steps.specs.Under.{work_of, now, Under, IsRunning};
-ghost use Rattle.dstm_steps.specs.Writes.{IsReady, to_put, value_in, Holds, AreWrites, ArePut, IsLawful};
+ghost use Rattle.dstm_steps.specs.Under.{work_of, now, Under};
+ghost use Rattle.dstm_steps.specs.Writes.{IsReady, to_put, value_in, AreWrites, ArePut, CanPut, IsLawful, Puts};
 
 use crate::slots::WriteSlot;
 use crate::steps::{InCall, Steps};
@@ -35,9 +35,7 @@ impl<L: Law> Steps<L> {
             ≡ record (now words.now self.old) { phase = Putting; high_put = true; pass = None; checked = 0 } }
         ensures under { Under L.holds words.now B.began self.new
             (in_putting (value_in (work_of B.began.task)) (now words.now self.new)) None }
-        ensures past { IsPastOf (view_of self.old.seat).log (view_of self.new.seat).log }
-        ensures put { Holds words.now self.new (HighWord locator) high }
-        ensures tries { self.new.missed < MAX_MISSED }
+        ensures puts { Puts words.now self.old self.new (HighWord locator) high }
     {
         let place = self.shape.high_cell(locator);
         self.store::<B>(words, Kind::PutHigh, place, high)
@@ -65,9 +63,7 @@ impl<L: Law> Steps<L> {
             } }
         ensures under { Under L.holds words.now B.began self.new
             (in_putting (value_in (work_of B.began.task)) (now words.now self.new)) None }
-        ensures past { IsPastOf (view_of self.old.seat).log (view_of self.new.seat).log }
-        ensures put { Holds words.now self.new (LowWord locator) low }
-        ensures tries { self.new.missed < MAX_MISSED }
+        ensures puts { Puts words.now self.old self.new (LowWord locator) low }
     {
         let place = self.shape.new_cell(locator);
         self.store::<B>(words, Kind::PutNew, place, low)
@@ -80,13 +76,7 @@ impl<L: Law> Steps<L> {
         first: u32,
         writes: &[WriteSlot],
     )
-        requires under { Under L.holds words.now B.began self.old
-            (in_putting (value_in (work_of B.began.task)) (now words.now self.old)) None }
-        requires work { (work_of B.began.task) ≡ Committing (value_in (work_of B.began.task)) }
-        requires running { IsRunning (now words.now self.old) }
-        requires none { ((now words.now self.old).written ≡ 0) × ((now words.now self.old).high_put ≡ false) }
-        requires first { first ≡ B.began.number * words.now.terms.shape.locators +
-            ((now words.now self.old).installed - length (now words.now self.old).writes) }
+        requires can { CanPut L.holds words.now B.began self.old first }
         requires slots { AreWrites writes.now (now words.now self.old).writes }
         requires values { All (λ slot. value_in (work_of B.began.task) slot.object ≡ to_put slot) writes.now }
         requires lawful { IsLawful L.holds words.now self.old B.began.number writes.now }

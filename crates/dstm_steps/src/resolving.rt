@@ -13,7 +13,7 @@ ghost use Rattle.dstm_order.specs.Order.Due.{Step, Done};
 ghost use Rattle.dstm_order.specs.declared.TheConstants.{MAX_MISSED};
 ghost use Rattle.dstm_steps.specs.Conflicts.{Encounters, Meets, Starts};
 ghost use Rattle.dstm_steps.specs.Finding.{KeepsAttempt, StaysAt, IsFound, word_of, is_changed};
-ghost use Rattle.dstm_steps.specs.Under.{Resolving, Resolved, work_of, now, effort_by, made_by, Under, IsRunning};
+ghost use Rattle.dstm_steps.specs.Under.{Looked, Resolving, Resolved, work_of, now, effort_by, made_by, RunsOn, Under, IsRunning};
 
 use crate::conflict::is_live;
 use crate::steps::{InCall, Steps};
@@ -34,16 +34,10 @@ pub struct Found {
 impl<L: Law> Steps<L> {
     /// Looks at the owner of the locator that the object's word names.
     pub(crate) fn look_owner<B: InCall>(&mut self, words: &Words<L>, word: u64) -> u32
-        requires under { Under L.holds words.now B.began self.old (just LookOwner) None }
-        requires running { IsRunning (now words.now self.old) }
+        requires runs { RunsOn L.holds words.now B.began self.old (just LookOwner) }
         requires word { ((res (now words.now self.old)).word ≡ word) × (0 < word) }
         requires fresh { (res (now words.now self.old)).status ≡ None }
-        requires tries { self.old.missed < MAX_MISSED }
-        ensures state { now words.now self.new
-            ≡ after LookOwner words.now.terms.shape (now words.now self.old)
-            (made_by B.began Load LookOwner 0 result) }
-        ensures under { Resolving L.holds words.now B.began self.new }
-        ensures rest { self.new ≡ record self.old { seat = self.new.seat } }
+        ensures { Looked L.holds words.now B.began self.old self.new LookOwner result }
     {
         let locator = (word - 1) as u32;
         let place = self.shape.owner(locator);
@@ -52,16 +46,10 @@ impl<L: Law> Steps<L> {
 
     /// Looks at the status of that owner, for the first time.
     pub(crate) fn look_status<B: InCall>(&mut self, words: &Words<L>, owner: u32) -> u64
-        requires under { Under L.holds words.now B.began self.old (just LookStatus) None }
-        requires running { IsRunning (now words.now self.old) }
+        requires runs { RunsOn L.holds words.now B.began self.old (just LookStatus) }
         requires owner { (res (now words.now self.old)).owner ≡ Some owner }
         requires fresh { (res (now words.now self.old)).status ≡ None }
-        requires tries { self.old.missed < MAX_MISSED }
-        ensures state { now words.now self.new
-            ≡ after LookStatus words.now.terms.shape (now words.now self.old)
-            (made_by B.began Load LookStatus 0 result) }
-        ensures under { Resolving L.holds words.now B.began self.new }
-        ensures rest { self.new ≡ record self.old { seat = self.new.seat } }
+        ensures { Looked L.holds words.now B.began self.old self.new LookStatus result }
     {
         let place = self.shape.status(owner);
         self.load::<B>(words, Kind::LookStatus, place)
@@ -69,16 +57,11 @@ impl<L: Law> Steps<L> {
 
     /// Looks at the rank of that owner.
     pub(crate) fn look_rank<B: InCall>(&mut self, words: &Words<L>, owner: u32) -> u64
-        requires under { Under L.holds words.now B.began self.old (just LookRank) None }
-        requires running { IsRunning (now words.now self.old) }
+        requires runs { RunsOn L.holds words.now B.began self.old (just LookRank) }
         requires owner { (res (now words.now self.old)).owner ≡ Some owner }
         requires live { or_zero (res (now words.now self.old)).status < 4 }
         requires ranks { words.now.terms.shape.manager ≢ Polite }
-        requires tries { self.old.missed < MAX_MISSED }
-        ensures state { now words.now self.new
-            ≡ after LookRank words.now.terms.shape (now words.now self.old) (made_by B.began Load LookRank 0 result) }
-        ensures under { Resolving L.holds words.now B.began self.new }
-        ensures rest { self.new ≡ record self.old { seat = self.new.seat } }
+        ensures { Looked L.holds words.now B.began self.old self.new LookRank result }
     {
         let place = self.shape.rank(owner);
         self.load::<B>(words, Kind::LookRank, place)
@@ -86,15 +69,10 @@ impl<L: Law> Steps<L> {
 
     /// Looks at the old version that the locator names.
     pub(crate) fn look_old<B: InCall>(&mut self, words: &Words<L>, word: u64) -> u64
-        requires under { Under L.holds words.now B.began self.old (just LookOld) None }
-        requires running { IsRunning (now words.now self.old) }
+        requires runs { RunsOn L.holds words.now B.began self.old (just LookOld) }
         requires word { ((res (now words.now self.old)).word ≡ word) × (0 < word) }
         requires aborted { (res (now words.now self.old)).status ≡ Some 5 }
-        requires tries { self.old.missed < MAX_MISSED }
-        ensures state { now words.now self.new
-            ≡ after LookOld words.now.terms.shape (now words.now self.old) (made_by B.began Load LookOld 0 result) }
-        ensures under { Resolving L.holds words.now B.began self.new }
-        ensures rest { self.new ≡ record self.old { seat = self.new.seat } }
+        ensures { Looked L.holds words.now B.began self.old self.new LookOld result }
     {
         let place = self.shape.old_cell((word - 1) as u32);
         self.load::<B>(words, Kind::LookOld, place)
@@ -102,14 +80,9 @@ impl<L: Law> Steps<L> {
 
     /// Looks at the high part of the version.
     pub(crate) fn look_high<B: InCall>(&mut self, words: &Words<L>, named: u64) -> u64
-        requires under { Under L.holds words.now B.began self.old (just LookHigh) None }
-        requires running { IsRunning (now words.now self.old) }
+        requires runs { RunsOn L.holds words.now B.began self.old (just LookHigh) }
         requires version { (version (res (now words.now self.old)) ≡ Some named) × (0 < named) }
-        requires tries { self.old.missed < MAX_MISSED }
-        ensures state { now words.now self.new
-            ≡ after LookHigh words.now.terms.shape (now words.now self.old) (made_by B.began Load LookHigh 0 result) }
-        ensures under { Resolving L.holds words.now B.began self.new }
-        ensures rest { self.new ≡ record self.old { seat = self.new.seat } }
+        ensures { Looked L.holds words.now B.began self.old self.new LookHigh result }
     {
         let place = self.shape.high_cell((named - 1) as u32);
         self.load::<B>(words, Kind::LookHigh, place)
@@ -117,15 +90,10 @@ impl<L: Law> Steps<L> {
 
     /// Looks at the low part of the version.
     pub(crate) fn look_low<B: InCall>(&mut self, words: &Words<L>, named: u64) -> u64
-        requires under { Under L.holds words.now B.began self.old (just LookNew) None }
-        requires running { IsRunning (now words.now self.old) }
+        requires runs { RunsOn L.holds words.now B.began self.old (just LookNew) }
         requires version { (version (res (now words.now self.old)) ≡ Some named) × (0 < named) }
         requires high { is_some (res (now words.now self.old)).high ≡ true }
-        requires tries { self.old.missed < MAX_MISSED }
-        ensures state { now words.now self.new
-            ≡ after LookNew words.now.terms.shape (now words.now self.old) (made_by B.began Load LookNew 0 result) }
-        ensures under { Resolving L.holds words.now B.began self.new }
-        ensures rest { self.new ≡ record self.old { seat = self.new.seat } }
+        ensures { Looked L.holds words.now B.began self.old self.new LookNew result }
     {
         let place = self.shape.new_cell((named - 1) as u32);
         self.load::<B>(words, Kind::LookNew, place)

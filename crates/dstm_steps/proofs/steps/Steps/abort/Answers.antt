@@ -2,7 +2,7 @@ use Rattle.std.proofs.Common.{◌<◌, subst, arith}
 use Rattle.dstm_core.specs.declared.state.Phase.TheVariants.{Running}
 use Rattle.dstm_order.specs.declared.TheConstants.{MAX_MISSED}
 use Rattle.dstm_steps.specs.Conflicts.{Meets}
-use Rattle.dstm_steps.proofs.Meeting.{keeps_status, killed_as}
+use Rattle.dstm_steps.proofs.Meeting.{killed_as}
 use Rattle.dstm_steps.proofs.steps.Steps.abort.Goals as goal
 
 pub returns-else-self-eq-MAX_MISSED-clause-met : goal.returns-else-self-eq-MAX_MISSED-clause-met
@@ -13,9 +13,3 @@ returns-else-self-eq-MAX_MISSED-clause-met g c =
     let one = kill.missed.1 in let before = met.tries in let other = c.if-self-eq-MAX_MISSED.false in omega arith in
     subst (Meets g.L.Law.holds c.args.words.now g.B.InCall.began Running c.kill.new.self c.args.owner) kill.state.3
     (killed_as met (kill.goes_on tries) kill.state.2 c.requires.left kill.kept.0 kill.kept.1 tries)
-
-pub returns-else-self-eq-MAX_MISSED-clause-keeps : goal.returns-else-self-eq-MAX_MISSED-clause-keeps
-returns-else-self-eq-MAX_MISSED-clause-keeps g c = keeps_status c.in-Err.ensures.state.2
-
-pub returns-in-Ok-clause-keeps : goal.returns-in-Ok-clause-keeps
-returns-in-Ok-clause-keeps g c = keeps_status c.in-Ok.ensures.state.2

@@ -1,7 +1,6 @@
-use Rattle.std.proofs.Common.{refl, ◌∙◌}
-use Rattle.dstm_core.specs.Words.{code_of}
+use Rattle.std.proofs.Common.{refl}
 use Rattle.dstm_steps.specs.Under.{now, effort_by}
-use Rattle.dstm_steps.proofs.Meeting.{GivesWay, keeps_status, keeps_then, may_kill, gives_way, began_wait, less_waited}
+use Rattle.dstm_steps.proofs.Meeting.{GivesWay, may_kill, gives_way, began_wait}
 use Rattle.dstm_steps.proofs.steps.Steps.contend.Given.{Over}
 use Rattle.dstm_steps.proofs.steps.Steps.contend.Goals.{In-GiveWay}
 use Rattle.dstm_steps.proofs.steps.Steps.contend.Goals as goal
@@ -31,14 +30,3 @@ wait-requires g c =
     let waits = c.in-Waits.ensures.waits c.in-Waits.code refl in
     let rounds = c.in-Waits.ensures.rounds c.in-Waits.code refl in
     record { met = began_wait c.requires.met waits.1 waits.0 rounds.0 rounds.1 rounds.2 }
-
-pub returns-in-Waits-clause-less : goal.returns-in-Waits-clause-less
-returns-in-Waits-clause-less g c =
-    let rounds = c.in-Waits.ensures.rounds c.in-Waits.code refl in
-    less_waited c.args.self.now.missed c.args.self.now.round (code_of c.args.status) c.wait.new.self.missed
-    c.wait.new.self.left c.wait.new.self.round c.wait.result (c.wait.ensures.missed ∙ rounds.2) c.wait.ensures.over
-    (c.wait.ensures.rounds ∙ rounds.0) rounds.1 c.requires.live
-
-pub returns-in-Waits-clause-keeps : goal.returns-in-Waits-clause-keeps
-returns-in-Waits-clause-keeps g c =
-    keeps_then (keeps_status (c.in-Waits.ensures.waits c.in-Waits.code refl).0) c.wait.ensures.keeps

@@ -1,7 +1,7 @@
 use Rattle.std.proofs.Common.{refl, ap, sym, ◌∙◌, Some, arith}
 use Rattle.dstm_core.specs.Words.{code_of}
 use Rattle.dstm_steps.specs.Under.{now, effort_by}
-use Rattle.dstm_steps.proofs.Meeting.{keeps_aside, greedy_rank, in_other_phase, less_waiting, quit_waited}
+use Rattle.dstm_steps.proofs.Meeting.{greedy_rank, in_other_phase, less_waiting, quit_waited}
 use Rattle.dstm_steps.proofs.Stepping.{under_is}
 use Rattle.dstm_steps.proofs.steps.Steps.give_way.Goals as goal
 
@@ -39,8 +39,3 @@ returns-clause-less g c =
     rw (resumed.1, aside.0, paused.1, resumed.2, aside.1, paused.2)
     (less_waiting c.args.self.now.missed c.args.self.now.round (code_of c.args.status) c.stand_aside-code.result
     c.requires.live.0 c.requires.live.1 (sym c.lets_go.ensures ∙ c.if-not-lets_go.false))
-
-pub returns-clause-keeps : goal.returns-clause-keeps
-returns-clause-keeps g c =
-    keeps_aside c.requires.met.in_phase (c.pause.ensures.state c.if-not-pause.false) c.stand_aside-code.ensures.keeps
-    (c.resume.ensures.state c.if-not-resume.false)

@@ -1,4 +1,4 @@
-use Rattle.std.proofs.Common.{◌≡◌, ◌∙◌, refl, ap, subst}
+use Rattle.std.proofs.Common.{◌≡◌, ◌∙◌, refl, ap}
 use Rattle.dstm_core.specs.declared.event.Kind.TheVariants.{Quit}
 use Rattle.dstm_core.specs.Words.{place}
 use Rattle.dstm_core.specs.Words.Word.{StatusWord}
@@ -45,9 +45,7 @@ left g c task is =
     let e = made_by g.B.InCall.began (Exchange c.code.result c.code-2.result) Quit c.status-place.result
     (found_in c.exchange.result) in
     let m = c.requires.under.mirror in
-    subst (λ t. InTask g.L.Law.holds c.args.words.now t g.B.InCall.began new (due_next_by c.args.words.now t new e)
-    (answer_by c.args.words.now t new e)) is
-    ((went g c).goes_on new refl (record {
+    rw (← is) ((went g c).goes_on new refl (record {
       shape = refl;
       manager = refl;
       mirror = record { own = m.own; installed = m.installed; rank = m.rank };

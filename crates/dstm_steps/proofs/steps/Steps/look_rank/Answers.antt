@@ -4,4 +4,4 @@ use Rattle.dstm_steps.proofs.steps.Steps.look_rank.Goals as goal
 
 pub rank-place-requires-clause-below : goal.rank-place-requires-clause-below
 rank-place-requires-clause-below g c =
-    owner_below c.requires.under (inl c.requires.running.phase) c.requires.running.agreed c.requires.owner c.requires.live
+    owner_below c.requires.runs.under (inl c.requires.runs.running.phase) c.requires.runs.running.agreed c.requires.owner c.requires.live

@@ -4,5 +4,5 @@ use Rattle.dstm_steps.proofs.steps.Steps.look_status.Goals as goal
 
 pub status-place-requires-clause-below : goal.status-place-requires-clause-below
 status-place-requires-clause-below g c =
-    owner_below c.requires.under (inl c.requires.running.phase) c.requires.running.agreed c.requires.owner
+    owner_below c.requires.runs.under (inl c.requires.runs.running.phase) c.requires.runs.running.agreed c.requires.owner
     (rw c.requires.fresh (omega arith))

@@ -12,10 +12,10 @@ high_cell-place-requires-clause-below g c =
     rw c.requires.under.shape (rw c.requires.locator at (in_word c.requires.under PutHigh (λ q. absurd (cc))
     (c.requires.live.0, c.requires.live.1, c.requires.next.0, c.requires.next.1)))
 
-pub returns-clause-past : goal.returns-clause-past
-returns-clause-past g c = past_went c.store.ensures.went.1
-
-pub returns-clause-put : goal.returns-clause-put
-returns-clause-put g c =
-    holds_put (HighWord c.args.locator) c.store.ensures.went.1 (inl refl)
-    (c.high_cell-place.ensures ∙ ap (λ s. place s (HighWord c.args.locator)) c.requires.under.shape) refl
+pub returns-clause-puts : goal.returns-clause-puts
+returns-clause-puts g c = record {
+  past = past_went c.store.ensures.went.1;
+  put = holds_put (HighWord c.args.locator) c.store.ensures.went.1 (inl refl)
+      (c.high_cell-place.ensures ∙ ap (λ s. place s (HighWord c.args.locator)) c.requires.under.shape) refl;
+  tries = rw c.store.ensures.rest c.requires.tries;
+}

@@ -17,7 +17,7 @@ next_before : (g : Over) (c : In-loop-i g) →
     (value_of c.args.writes.now c.loop-i.i)
 next_before g c =
     next_put _ _ _ c.args.first c.args.writes.now c.loop-i.i c.requires.slots
-    (numbered c.requires.under c.requires.first) c.requires.values c.loop-i.invariant.writes c.loop-i.invariant.written
+    (numbered c.requires.can.under c.requires.can.first_is) c.requires.values c.loop-i.invariant.writes c.loop-i.invariant.written
     c.loop-i-test.true
 
 next_between : (g : Over) (c : After-put_high g) →
@@ -26,14 +26,14 @@ next_between : (g : Over) (c : After-put_high g) →
 next_between g c =
     let state = c.put_high.ensures.state in
     next_put _ _ _ c.args.first c.args.writes.now c.loop-i.i c.requires.slots
-    (numbered c.requires.under c.requires.first) c.requires.values (rw state c.loop-i.invariant.writes)
+    (numbered c.requires.can.under c.requires.can.first_is) c.requires.values (rw state c.loop-i.invariant.writes)
     (rw state c.loop-i.invariant.written) c.loop-i-test.true
 
 -- its locator is a small number
 locator_fits : (g : Over) (c : In-loop-i g) → c.args.first + c.loop-i.i < 4294967296
 locator_fits g c =
     let n = next_before g c in
-    let few = few_locators c.args.words.now.terms.shape c.requires.under.run.valid in
+    let few = few_locators c.args.words.now.terms.shape c.requires.can.under.run.valid in
     let below = rw n.locator_is at
     (in_word c.loop-i.invariant.under PutHigh (λ q. absurd (cc))
     (c.loop-i.invariant.phase, c.loop-i.invariant.agreed, n.left, c.loop-i.invariant.none)) in
@@ -77,9 +77,9 @@ pub put_low-requires-clause-lawful : goal.put_low-requires-clause-lawful
 put_low-requires-clause-lawful g c =
     let high = c.put_high.ensures in
     rw c.to_put-value.ensures
-    (lawful_put c.loop-i.invariant c.requires.under high.under (λ q. let p = c.requires.running.phase in cc)
-    c.requires.slots (numbered c.requires.under c.requires.first) c.requires.lawful high.past high.state
-    (rw c.to_put-value.ensures at high.put))
+    (lawful_put c.loop-i.invariant c.requires.can.under high.under (λ q. let p = c.requires.can.running.phase in cc)
+    c.requires.slots (numbered c.requires.can.under c.requires.can.first_is) c.requires.lawful high.puts.past high.state
+    (rw c.to_put-value.ensures at high.puts.put))
 
 pub loop-i-preserved : goal.loop-i-preserved
 loop-i-preserved g c =
@@ -97,10 +97,10 @@ loop-i-preserved g c =
       last = rw (low.state, high.state) inv.last;
       written = rw (low.state, high.state) (ap (λ n. n + 1) inv.written);
       none = rw low.state refl;
-      past = past_past _ _ _ inv.past (past_past _ _ _ high.past low.past);
-      put = puts_more inv c.put_high.new.self c.put_low.new.self high.past low.past
-          (rw c.to_put-value.ensures at high.put) (rw c.to_put-value.ensures at low.put);
-      tries = low.tries;
+      past = past_past _ _ _ inv.past (past_past _ _ _ high.puts.past low.puts.past);
+      put = puts_more inv c.put_high.new.self c.put_low.new.self high.puts.past low.puts.past
+          (rw c.to_put-value.ensures at high.puts.put) (rw c.to_put-value.ensures at low.puts.put);
+      tries = low.puts.tries;
     }
 
 pub returns-clause-under : goal.returns-clause-under

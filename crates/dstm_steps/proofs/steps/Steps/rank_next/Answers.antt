@@ -1,11 +1,10 @@
-use Rattle.std.proofs.Common.{◌∙◌, refl, ap, false, None}
+use Rattle.std.proofs.Common.{◌∙◌, refl, ap}
 use Rattle.dstm_core.specs.declared.event.Kind.TheVariants.{Rank}
 use Rattle.dstm_core.specs.Words.{place}
 use Rattle.dstm_core.specs.Words.Word.{RankWord}
 use Rattle.dstm_machines.specs.Traces.Access.{Store}
 use Rattle.dstm_order.specs.Tasks.Task.{Beginning}
 use Rattle.dstm_steps.specs.Under.{WentOn, made_by, now}
-use Rattle.dstm_core.specs.Rules.{is_outside}
 use Rattle.dstm_steps.proofs.Stepping.{may_make, took}
 use Rattle.dstm_steps.proofs.Unused.{next_in_shape}
 use Rattle.dstm_steps.proofs.steps.Steps.rank_next.Given.{Over}
@@ -33,14 +32,7 @@ went g c = took c.requires.under (Store c.args.rank) c.store.ensures.event.1 c.s
 
 pub returns-clause-state : goal.returns-clause-state
 returns-clause-state g c =
-    (went g (goal.at.returns-clause-state g c).After-store).state
-    ∙ ap (λ p. record (now c.args.words.now c.args.self.now) {
-      rank = c.args.rank;
-      ranked = is_outside p;
-      owed = false;
-      pass = None;
-      checked = 0;
-    }) c.requires.outside
+    rw ((went g (goal.at.returns-clause-state g c).After-store).state, c.requires.outside) refl
 
 pub returns-clause-under : goal.returns-clause-under
 returns-clause-under g c =
