@@ -8,7 +8,7 @@ use Rattle.dstm_core.specs.declared.shape.Shape.{Shape}
 use Rattle.dstm_progress.proofs.OwnEvents.{whole_state}
 use Rattle.dstm_managers.specs.Choices.{started}
 use Rattle.dstm_order.specs.Calls.{state_after}
-use Rattle.dstm_order.specs.Made.{AreMade, events_in, generator_by}
+use Rattle.dstm_order.specs.Made.{AreMade, events_in}
 use Rattle.dstm_order.specs.Retries.{TriesAgain}
 use Rattle.dstm_words.specs.Seats.{Home}
 use Rattle.dstm_engine.proofs.AddingUp.{makes_both}
@@ -42,10 +42,7 @@ from_first seed u n none seeded m = record {
   made = subst Made (sym shape)
       (subst (λ (g : Lcg). AreMade (shape_of u) first g TriesAgain m.calls) seeded
       (subst (λ (l : LocalState). AreMade (shape_of u) l u.generator TriesAgain m.calls) new m.made));
-  generator = m.generator
-      ∙ ap (λ (l : LocalState). generator_by (shape_of u) l u.generator m.calls) new
-      ∙ ap (λ (g : Lcg). generator_by (shape_of u) first g m.calls) seeded
-      ∙ ap (λ (s : Shape). generator_by s first (started s.manager seed).generator m.calls) (sym shape);
+  generator = rw (m.generator, new, seeded, ← shape) refl;
   same = (refl, refl);
 }
   where

@@ -17,7 +17,7 @@ use Rattle.dstm_core.specs.declared.state.Phase.TheVariants.{Outside, Running, V
 use Rattle.dstm_core.specs.Events.{Event}
 use Rattle.dstm_core.specs.Histories.{CoreRun, IsSight, entry_of, history, history_of, is_draw, pass_place, prefix_at, seen, will_of}
 use Rattle.dstm_core.specs.Runs.{Core, local}
-use Rattle.dstm_core.specs.State.{LocalState, given, or_zero, own_attempt}
+use Rattle.dstm_core.specs.State.{given, or_zero, own_attempt}
 use Rattle.dstm_core.specs.Traces.{IsPastOf}
 use Rattle.dstm_core.proofs.Pasts.{core_past}
 use Rattle.dstm_core.proofs.Static.{running, static}
@@ -60,8 +60,7 @@ no_draw s run later es e i whole core one at none =
     let inside = running s e.caller (local s es e.caller) (static s es here.0 e.caller) (outside phase) in
     let number : or_zero (local s es e.caller).number ≡ 0 = ap or_zero inside.0 ∙ zeroth in
     let own : own_attempt s (local s es e.caller) ≡ 0 * s.attempts + ((local s es 0).begun - 1) =
-    ap (λ n. n * s.attempts + ((local s es e.caller).begun - 1)) number
-    ∙ ap (λ c. 0 * s.attempts + ((local s es c).begun - 1)) zeroth in
+    rw (number, zeroth) refl in
     let more : (local s es 0).begun ≤ (local s run 0).begun =
     subst (λ l. (local s es 0).begun ≤ (local s l 0).begun) (append_assoc later (e ∷ []) es ∙ sym whole)
     (begun_later s (later ++ e ∷ []) es 0) in
@@ -117,8 +116,7 @@ only_agrees s start holds run later before sight i core whole one is at none =
         history s start (will_of s run) run run ≡ history s start (will_of s run) run place
     whole_history place past begun =
         let all : run ≡ (later ++ sight ∷ past.later) ++ place =
-        whole ∙ ap (λ (b : List Event). later ++ sight ∷ b) (sym past.whole)
-        ∙ sym (append_assoc later (sight ∷ past.later) place) in
+        rw (whole, ← past.whole, ← append_assoc later (sight ∷ past.later) place) refl in
         ap (history s start (will_of s run) run) all
         ∙ nothing_since s start run [] (later ++ sight ∷ past.later) place i all core.core one
         (subst (λ (n : ℕ). i ≤ n) (sym begun) at) none
@@ -184,8 +182,7 @@ at_sight s start run es e c i own attempt is values =
       is = refl;
       is_one = record {
         kind = found.0;
-        found = eqb-true e.found (given (local s es c).phase) found.1
-            ∙ ap (λ (l : LocalState). given l.phase) (ap (local s es) (sym own));
+        found = rw (eqb-true e.found (given (local s es c).phase) found.1, ← own) refl;
       };
       caller = own;
       attempt = attempt;

@@ -70,9 +70,7 @@ installed_there s c (e ∷ log) = by (cases_eq e.caller c) (cases_Bool (is_begin
     by (inl own) (inl begins) ih =
         let now : local s (e ∷ log) c ≡ after e.kind s (local s log e.caller) e =
         ap (local s (e ∷ log)) (sym own) ∙ local_own s log e in
-        let none : (local s (e ∷ log) c).writes ≡ [] =
-        ap (λ (l : LocalState). l.writes) now
-        ∙ ap (λ (k : Kind). (after k s (local s log e.caller) e).writes) (is_one e.kind begins) in
+        let none : (local s (e ∷ log) c).writes ≡ [] = rw (now, is_one e.kind begins) refl in
         ap (λ (l : List Event). (local s l c).installed)
         (sym (cond-true ((e.caller == c) && is_begin e.kind) (e ∷ log) (begun_log c log)
         (rw (eq-eqb e.caller c own, begins) refl)))

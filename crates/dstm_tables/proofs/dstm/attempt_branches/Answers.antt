@@ -66,8 +66,7 @@ right c is same map admits =
 
 pub returns-in-Err-clause-tried : goal.returns-in-Err-clause-tried
 returns-in-Err-clause-tried c =
-    is_spent_from c.args.caller.now c.begin.follows.lender-at-none c.requires.rest
-    (rw c.in-Err.is at c.begin.follows.holds-at-none)
+    is_spent_from c.args.caller.now _ c.requires.rest (rw c.in-Err.is at c.begin.follows.holds-at-none)
 
 pub run-requires-clause-few : goal.run-requires-clause-few
 run-requires-clause-few c = begins_few keeps c.args.caller.now c.in-Ok.tx.caller.now c.in-Ok.ensures.begins

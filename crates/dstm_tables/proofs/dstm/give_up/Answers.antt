@@ -14,8 +14,7 @@ use Rattle.dstm_tables.proofs.dstm.give_up.Goals as goal
 
 pub returns-in-Err-clause-spent : goal.returns-in-Err-clause-spent
 returns-in-Err-clause-spent c =
-    is_spent_from c.args.caller.now c.begin.follows.lender-at-none c.requires.rest
-    (rw c.in-Err.is at c.begin.follows.holds-at-none)
+    is_spent_from c.args.caller.now _ c.requires.rest (rw c.in-Err.is at c.begin.follows.holds-at-none)
 
 pub commit-requires-clause-lawful : goal.commit-requires-clause-lawful
 commit-requires-clause-lawful c map admits =

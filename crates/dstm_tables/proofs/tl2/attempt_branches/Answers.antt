@@ -21,8 +21,7 @@ use Rattle.dstm_tables.proofs.tl2.attempt_branches.Goals as goal
 
 pub returns-in-Err : goal.returns-in-Err
 returns-in-Err c = λ rechecks.
-    tl2_spent c.args.caller.now c.begin.follows.lender-at-none c.requires.rest
-    (rw c.in-Err.is at c.begin.follows.holds-at-none)
+    tl2_spent c.args.caller.now _ c.requires.rest (rw c.in-Err.is at c.begin.follows.holds-at-none)
 
 pub commit-requires-clause-rest : goal.commit-requires-clause-rest
 commit-requires-clause-rest c = rests _ (and_parts _ _ c.in-Ok-run.ensures.leads.live).1

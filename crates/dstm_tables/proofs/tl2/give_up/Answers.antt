@@ -11,8 +11,7 @@ use Rattle.dstm_tables.proofs.tl2.give_up.Goals as goal
 
 pub returns-in-Err-clause-spent : goal.returns-in-Err-clause-spent
 returns-in-Err-clause-spent c =
-    tl2_spent c.args.caller.now c.begin.follows.lender-at-none c.requires.rest
-    (rw c.in-Err.is at c.begin.follows.holds-at-none)
+    tl2_spent c.args.caller.now _ c.requires.rest (rw c.in-Err.is at c.begin.follows.holds-at-none)
 
 pub commit-requires-clause-lawful : goal.commit-requires-clause-lawful
 commit-requires-clause-lawful c map admits =
