@@ -72,13 +72,11 @@ module _ {K T B S : Type 0} (shared : Shared K T B S) (laws : Enrolling shared) 
       let its = sum_at (λ (x : V). x.apart) s.views q.0 q.1 q.2 in
       let not_apart : q.1.apart ≡ 0 = omega arith in
       let g : Sees shared key k.log q.0 q.1 = k.seats q.0 q.1 q.2 in
-      ⊎_elim
-      (λ (is : q.1.first ≡ true). let same : q.0 ≡ id = g.first is ∙ sym (f.first first) in
+      ⊎_elim (λ (is : q.1.first ≡ true). let same : q.0 ≡ id = g.first is ∙ sym (f.first first) in
       let v_is : q.1 ≡ v = some-injective q.1 v (sym q.2 ∙ ap (get_elem? s.views) same ∙ at_id) in
       sym q.3 ∙ ap (λ (x : V). x.log) v_is)
       (λ (is : q.1.first ≡ false). let nil : k.log ≡ [] = sym q.3 ∙ g.empty (g.spent is not_apart) in
-      nil ∙ sym (past_nil v.log (subst (IsPastOf v.log) nil f.past)))
-      (cases_Bool q.1.first)
+      nil ∙ sym (past_nil v.log (subst (IsPastOf v.log) nil f.past))) (cases_Bool q.1.first)
 
   -- what the last state says of the words
   pub left_by : (ws xs : List ℕ) (id : ℕ) (v : V) → Final (Seen (Kept shared key) id v) ws xs →

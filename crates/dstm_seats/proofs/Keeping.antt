@@ -151,8 +151,7 @@ module _ {K T B S : Type 0} (shared : Shared K T B S) (laws : Enrolling shared) 
               none_out = λ is. f.none_out is;
               spent = λ is no. f.spent is no;
               empty = λ none. absurd (none_some key (sym none ∙ t.live));
-            })
-            (λ j u away here. sees_more k.log j e u t.more (λ n has. t.others j u n away here has)
+            }) (λ j u away here. sees_more k.log j e u t.more (λ n has. t.others j u n away here has)
             (k.seats j u here));
         apart = apart_set s.views id w k.apart
             (λ j u n away here has mine. ⊎_elim (λ (x : n ≡ e.caller). t.others j u n away here has (sym x))
@@ -277,8 +276,7 @@ module _ {K T B S : Type 0} (shared : Shared K T B S) (laws : Enrolling shared) 
   -- the rules let the seat's caller make it, whatever is found, and the law is kept
   abbrev pub Allowing : V → (ℕ → ℕ → Event K) → Type 0
   Allowing v event = (found : ℕ) → found < 2 ^ 64 →
-      Allowed (state_by shared.machine table v.number v.log)
-      (event (number_or v.number found) found)
+      Allowed (state_by shared.machine table v.number v.log) (event (number_or v.number found) found)
       × KeepsSince shared key v (event (number_or v.number found) found)
 
   pub steps : (slots id : ℕ) (me : Me ℕ V) (at_place : ℕ) (f : ℕ → ℕ) (event : ℕ → ℕ → Event K) →

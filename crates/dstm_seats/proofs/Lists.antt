@@ -29,8 +29,7 @@ module _ {X : Type 0} where
       (j : ℕ) (y : X) → get_elem? (set xs i x) j ≡ some y → P j y
   each_set P xs i x mine others j y e = ⊎_elim
       (λ (t : (j ≡ i) × (x ≡ y)). subst (λ (z : ℕ × X). P z.0 z.1) (λ k. (sym t.0 k, t.1 k)) mine)
-      (λ (t : (j ≢ i) × (get_elem? xs j ≡ some y)). others j y t.0 t.1)
-      (at_set xs i j x y e)
+      (λ (t : (j ≢ i) × (get_elem? xs j ≡ some y)). others j y t.0 t.1) (at_set xs i j x y e)
 
   pub set_comm : (xs : List X) (i j : ℕ) (x y : X) → i ≢ j → set (set xs i x) j y ≡ set (set xs j y) i x
   set_comm [] i j x y n = refl
@@ -46,8 +45,7 @@ module _ {X : Type 0} where
     sum_set (z ∷ xs) zero x y e =
         let same : f z ≡ f x = ap f (some-injective z x e) in
         omega (arith, sum_by-cons f y xs, sum_by-cons f z xs)
-    sum_set (z ∷ xs) (suc i) x y e =
-        omega (arith, sum_set xs i x y e, sum_by-cons f z (set xs i y), sum_by-cons f z xs)
+    sum_set (z ∷ xs) (suc i) x y e = omega (arith, sum_set xs i x y e, sum_by-cons f z (set xs i y), sum_by-cons f z xs)
 
     -- no term is greater than the sum
     pub sum_at : (xs : List X) (i : ℕ) (x : X) → get_elem? xs i ≡ some x → f x ≤ sum_by f xs
@@ -92,5 +90,4 @@ pub apart_of : (xs ys : List ℕ) (n : ℕ) → AreApart (xs ++ ys) → Contains
 apart_of [] ys n apart left right = no_number n left
 apart_of (x ∷ xs) ys n apart left right = ⊎_elim
     (λ here. apart.0 (subst (Contains (xs ++ ys)) (one_of x n here) (Contains-append_right xs ys n right)))
-    (λ there. apart_of xs ys n apart.1 there right)
-    (Contains-append_cases (x ∷ []) xs n left)
+    (λ there. apart_of xs ys n apart.1 there right) (Contains-append_cases (x ∷ []) xs n left)

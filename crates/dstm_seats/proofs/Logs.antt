@@ -15,8 +15,7 @@ module _ {K : Type 0} where
 
   -- where the whole log has no more events of n than a past of it, none came since
   pub none_since : (n : ℕ) (before later log : List (Event K)) → later ++ before ≡ log →
-      events_of n log ≡ events_of n before →
-      events_of n later ≡ []
+      events_of n log ≡ events_of n before → events_of n later ≡ []
   none_since n before later log whole same =
       let all : length (events_of n log) ≡ length (events_of n later ++ events_of n before) =
       ap (λ l. length (events_of n l)) (sym whole) ∙ ap length (own_append n later before) in
@@ -62,17 +61,14 @@ module _ {K : Type 0} where
 
   -- what a past has of n already, a longer one has no more of
   quiet_between : (n : ℕ) (log xs ys : List (Event K)) → IsPastOf xs ys → IsPastOf ys log →
-      events_of n log ≡ events_of n xs →
-      events_of n log ≡ events_of n ys
+      events_of n log ≡ events_of n xs → events_of n log ≡ events_of n ys
   quiet_between n log xs ys p q same =
       let all : length (events_of n log) ≡ length (events_of n q.later ++ events_of n ys) =
       ap (λ l. length (events_of n l)) (sym q.whole) ∙ ap length (own_append n q.later ys) in
       let some : length (events_of n ys) ≡ length (events_of n p.later ++ events_of n xs) =
       ap (λ l. length (events_of n l)) (sym p.whole) ∙ ap length (own_append n p.later xs) in
       let mine : length (events_of n log) ≡ length (events_of n xs) = ap length same in
-      let none : events_of n q.later ≡ [] =
-      nil_of (events_of n q.later)
-      (omega (
+      let none : events_of n q.later ≡ [] = nil_of (events_of n q.later) (omega (
         arith,
         length-append (events_of n q.later) (events_of n ys),
         length-append (events_of n p.later) (events_of n xs),
@@ -102,10 +98,8 @@ module _ {K : Type 0} where
 
     pub longer_whole_left : xs ≡ log → longer xs ys ≡ log
     longer_whole_left is =
-        of_longer (λ l. l ≡ log)
-        (λ l. let m = past_length ys log q in let n : length xs ≡ length log = ap length is in
-        absurd (omega arith))
-        (λ _. is)
+        of_longer (λ l. l ≡ log) (λ l. let m = past_length ys log q in let n : length xs ≡ length log = ap length is in
+        absurd (omega arith)) (λ _. is)
 
     pub longer_whole_right : ys ≡ log → longer xs ys ≡ log
     longer_whole_right is =

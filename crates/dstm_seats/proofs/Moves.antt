@@ -43,15 +43,13 @@ module _ {K T B S : Type 0} (shared : Shared K T B S) (laws : Enrolling shared) 
   told : (slots id : ℕ) (me : Me ℕ (View K T)) (place : ℕ) (f : ℕ → ℕ) (P : K → ℕ → View K T → Type 0)
       (o : Option K) (kind : K) → o ≡ Some kind →
       Allows (Kept shared key) slots id me place f (λ found n. (n.1 ≡ me.1) × P kind found n.0) →
-      Allows (Kept shared key) slots id me place f
-      (λ found n. (n.1 ≡ me.1) × IfSome o (λ kind. P kind found n.0))
+      Allows (Kept shared key) slots id me place f (λ found n. (n.1 ≡ me.1) × IfSome o (λ kind. P kind found n.0))
   told slots id me place f P o kind is = subst
       (λ o. Allows (Kept shared key) slots id me place f
       (λ found n. (n.1 ≡ me.1) × IfSome o (λ kind. P kind found n.0))) (sym is)
 
   pub loads : (slots id : ℕ) (me : Me ℕ (View K T)) (o : Option K) (kind : K) (place : ℕ) → o ≡ Some kind →
-      me.0.terms ≡ Some key → MayMake shared key me.0 Load kind place →
-      MakesKept shared key me.0 Load kind place →
+      me.0.terms ≡ Some key → MayMake shared key me.0 Load kind place → MakesKept shared key me.0 Load kind place →
       Allows (Kept shared key) slots id me place (λ n. n)
       (λ found n. (n.1 ≡ me.1) × IfSome o (λ kind. Makes shared me.0 Load kind place found n.0))
   loads slots id me o kind place is live may keeps = told slots id me place (λ n. n)
@@ -62,13 +60,11 @@ module _ {K T B S : Type 0} (shared : Shared K T B S) (laws : Enrolling shared) 
 
   pub stores : (slots id : ℕ) (me : Me ℕ (View K T)) (o : Option K) (kind : K) (place put : ℕ) → o ≡ Some kind →
       me.0.terms ≡ Some key → MayMake shared key me.0 (Store put) kind place →
-      MakesKept shared key me.0 (Store put) kind place →
-      Allows (Kept shared key) slots id me place (λ _. put)
+      MakesKept shared key me.0 (Store put) kind place → Allows (Kept shared key) slots id me place (λ _. put)
       (λ _ n. (n.1 ≡ me.1)
       × IfSome o (λ kind. (found : ℕ) × Makes shared me.0 (Store put) kind place found n.0))
   stores slots id me o kind place put is live may keeps = told slots id me place (λ _. put)
-      (λ kind _ w. (found : ℕ) × Makes shared me.0 (Store put) kind place found w) o kind is
-      (λ s k homes at_id bound.
+      (λ kind _ w. (found : ℕ) × Makes shared me.0 (Store put) kind place found w) o kind is (λ s k homes at_id bound.
       let t = steps shared laws key slots id me place (λ _. put) (λ c n. event_by (Store put) c kind place n)
       (λ c n. (refl, refl, refl)) (λ log c n run f l. refl) live (λ found l. (may found l, keeps found))
       (λ none. absurd (

@@ -164,11 +164,9 @@ module _ {K T B S : Type 0} (shared : Shared K T B S) (laws : Enrolling shared) 
       let d = sum_set (λ (x : V). x.out) s.views id v none at_id in
       let rest : sum_by (λ (x : V). x.out) (set s.views id none) ≡ 0 =
       sum_zero (λ (x : V). x.out) (set s.views id none) (each_set (λ j u. u.out ≡ 0) s.views id none refl
-      (λ j u away there. ⊎_elim
-      (λ (is : u.first ≡ true).
+      (λ j u away there. ⊎_elim (λ (is : u.first ≡ true).
       absurd (away ((k.seats j u there).first is ∙ sym ((k.seats id v at_id).first first))))
-      (λ (is : u.first ≡ false). (k.seats j u there).none_out is)
-      (cases_Bool u.first))) in
+      (λ (is : u.first ≡ false). (k.seats j u there).none_out is) (cases_Bool u.first))) in
       omega arith
 
   -- what the first seat knows after it took in what a seat that is out knows
@@ -178,13 +176,10 @@ module _ {K T B S : Type 0} (shared : Shared K T B S) (laws : Enrolling shared) 
   both_see log id other v u live first f g unlike =
       let both : List ℕ = v.numbers ++ u.numbers in
       let seen : List (Event K) = longer v.log u.log in
-      let left =
-      λ (n : ℕ) (h : Contains v.numbers n). quiet_left log v.log u.log f.past g.past n (f.mine n h) in
-      let right =
-      λ (n : ℕ) (h : Contains u.numbers n). quiet_right log v.log u.log f.past g.past n (g.mine n h) in
+      let left = λ (n : ℕ) (h : Contains v.numbers n). quiet_left log v.log u.log f.past g.past n (f.mine n h) in
+      let right = λ (n : ℕ) (h : Contains u.numbers n). quiet_right log v.log u.log f.past g.past n (g.mine n h) in
       let which = Contains-append_cases v.numbers u.numbers in
-      let again =
-      λ (n : ℕ) (past : List (Event K)) (is : events_of n log ≡ events_of n past)
+      let again = λ (n : ℕ) (past : List (Event K)) (is : events_of n log ≡ events_of n past)
       (now : events_of n log ≡ events_of n seen).
       ap shared.number (same_local shared.machine (shared.table key) seen past n (sym now ∙ is)) in
       record {
@@ -199,8 +194,7 @@ module _ {K T B S : Type 0} (shared : Shared K T B S) (laws : Enrolling shared) 
         unlike = apart_append v.numbers u.numbers f.unlike g.unlike unlike;
         begun = λ n h. ⊎_elim
             (λ a. again n v.log (f.mine n a) (left n a) ∙ f.begun n a)
-            (λ b. again n u.log (g.mine n b) (right n b) ∙ g.begun n b)
-            (which n h);
+            (λ b. again n u.log (g.mine n b) (right n b) ∙ g.begun n b) (which n h);
         number = λ n is. Contains-append_left v.numbers u.numbers n (f.number n is);
         first = f.first;
         stays = f.stays;

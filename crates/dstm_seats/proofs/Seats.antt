@@ -25,8 +25,7 @@ module _ {K T B S : Type 0} (shared : Shared K T B S) where
 
   -- the state of the seat's caller after its event
   pub state_after : (table : B) (v w : View K T) (way : Access) (kind : K) (place found : ℕ) →
-      Makes shared v way kind place found w →
-      state_by shared.machine table w.number w.log
+      Makes shared v way kind place found w → state_by shared.machine table w.number w.log
       ≡ shared.machine.after table (state_by shared.machine table v.number v.log) (made v way kind place found)
   state_after table v w way kind place found m =
       let c : ℕ = number_or v.number found in
@@ -51,8 +50,7 @@ module _ {K T B S : Type 0} (shared : Shared K T B S) where
 
     -- its events are one more
     pub own_now : events_of c w.log ≡ e ∷ events_of c v.log
-    own_now =
-        subst (λ c. events_of c w.log ≡ e ∷ own_events v) mine m.mine ∙ ap (λ o. e ∷ events_by o v.log) n
+    own_now = subst (λ c. events_of c w.log ≡ e ∷ own_events v) mine m.mine ∙ ap (λ o. e ∷ events_by o v.log) n
 
     pub view_now : (terms : T) → v ≡ caller_view terms c v.log → w ≡ caller_view terms c w.log
     view_now terms is = rw (m.view, is, mine) refl

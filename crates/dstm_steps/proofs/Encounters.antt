@@ -67,8 +67,7 @@ stays_object old new found changed q agreed same =
       ap (λ (l : LocalState). l.resolution) q,
       ap (λ (l : LocalState). l.pass) q,
       ap (λ (l : LocalState). l.checked) q,
-    )
-    (ap (λ b. record old { resolution = found; stale = b; pass = None; checked = 0 }) (same ∙ sym agreed))
+    ) (ap (λ b. record old { resolution = found; stale = b; pass = None; checked = 0 }) (same ∙ sym agreed))
 
 module _ {L : Type 0} {holds : L → List Val → Type 0} {home : Home L} {b : Began} {old : Steps L} {word owner code : ℕ}
     (en : Encounters holds home b old word owner code) where
@@ -76,8 +75,7 @@ module _ {L : Type 0} {holds : L → List Val → Type 0} {home : Home L} {b : B
   pub rank_due : is_live code ≡ true → has_ranks home.terms.shape.manager ≡ true →
       Under holds home b old (just LookRank) None
   rank_due live ranks =
-      under_is en.under
-      (rw (
+      under_is en.under (rw (
         en.running.phase,
         en.owner_is,
         en.status,

@@ -32,8 +32,7 @@ code_kept (Some r) h = cond_both (is_resolved r) (Some r) None FoundCode (λ _. 
 -- the word of the owner's status holds a code
 owner_code : (s : Shape) (es : List Event) (c : ℕ) → Core s es → is_some (res (local s es c)).owner ≡ true →
     IsCode (word s es (StatusWord (or_zero (res (local s es c)).owner)))
-owner_code s es c core h =
-    status_code s es core _ (owner_begun s es core c _ (some_zero (res (local s es c)).owner h))
+owner_code s es c core h = status_code s es core _ (owner_begun s es core c _ (some_zero (res (local s es c)).owner h))
 
 found_code : (s : Shape) (es : List Event) (e : Event) (k : Kind) → Core s es →
     AllowedAs k s (local s es e.caller) e → e.found ≡ at es e.place →

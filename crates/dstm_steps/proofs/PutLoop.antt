@@ -160,8 +160,7 @@ module _ {L : Type 0} {holds : L → List Val → Type 0} {home : Home L} {b : B
       let e : Event = made (view_of mid.seat) (Store (value_of slots i).low) PutNew (place s (LowWord (first + i))) found in
       let more : List Event = e ∷ (between ++ past.later) in
       let core : Core s (e ∷ (between ++ after)) = (run.run.core, fits) in
-      let whole : e ∷ (between ++ after) ≡ more ++ log0 =
-      ap (λ es. e ∷ (between ++ es)) (sym past.whole)
+      let whole : e ∷ (between ++ after) ≡ more ++ log0 = ap (λ es. e ∷ (between ++ es)) (sym past.whole)
       ∙ ap (λ es. e ∷ es) (sym (append_assoc between past.later log0)) in
       let c : ℕ = b.number in
       let q : l0 ≡ local s log0 c = here u in
@@ -170,8 +169,7 @@ module _ {L : Type 0} {holds : L → List Val → Type 0} {home : Home L} {b : B
       let seen_same : seen s st (more ++ log0) log0 c ≡ seen s st log0 log0 c =
       seen_stays s st more log0 c (subst (Core s) whole core) u.caller
       (subst (λ (l : LocalState). l.phase ≢ Outside) q live) in
-      let reads_same : entry l (e ∷ (between ++ after)) ≡ seen s st log0 log0 c =
-      ap (λ log. entry l log) whole
+      let reads_same : entry l (e ∷ (between ++ after)) ≡ seen s st log0 log0 c = ap (λ log. entry l log) whole
       ∙ ap (λ rs. read_values s st (more ++ log0) rs ++ old_values s st (more ++ log0) l.writes) reads
       ∙ ap (λ ws. read_values s st (more ++ log0) l0.reads ++ old_values s st (more ++ log0) ws) writes
       ∙ ap (λ l. entry l (more ++ log0)) q ∙ seen_same in

@@ -57,8 +57,7 @@ slot_object (x ∷ slots) [] i m h = absurd m
 
 -- the new values of writes whose locators are one after the other, and hold what is to be put
 pub all_put : (s : Shape) (run : List Event) (first : ℕ) (slots : List WriteSlot) (ws : List Write) →
-    AreWrites slots ws →
-    Numbered first ws →
+    AreWrites slots ws → Numbered first ws →
     ((j : ℕ) → j < length slots → new_value s run (first + j) ≡ to_put (slice_index_or slots j no_slot)) →
     new_values s run ws ≡ puts_of slots
 all_put s run first [] [] m n h = refl

@@ -182,8 +182,7 @@ module _ {L : Type 0} {holds : L → List Val → Type 0} {home : Home L} {task 
       let l : LocalState = now home old in
       let e : Event = made_by b way k p found in
       let any : MayStep s l k way e = may_any k s l way b.number p found m in
-      let word =
-      in_range s (view_of old.seat).log b.number e k u.run.run.core u.caller
+      let word = in_range s (view_of old.seat).log b.number e k u.run.run.core u.caller
       (λ q. subst (λ n. n < s.objects) (sym (placed way b.number k p found)) (in_shape q))
       (subst (λ l. May k s l e) here any.may) in
       let all : AllowedAs k s l e = (
@@ -214,20 +213,17 @@ after_rest rest more mirror effort = record {
 
 -- a live attempt goes on as the table says
 pub due_next : (w : Work) (s : Shape) (e : Event) (l : LocalState) (c : Effort) → is_outside l.phase ≡ false →
-    l.stale ≡ false → (c.missed == MAX_MISSED) ≡ false →
-    due (Doing w) s (Some e) l c ≡ next e.kind e w s.manager l c
+    l.stale ≡ false → (c.missed == MAX_MISSED) ≡ false → due (Doing w) s (Some e) l c ≡ next e.kind e w s.manager l c
 due_next w s e l c live agreed tries = rw (live, agreed, tries) refl
 
 -- an attempt that found a read stale quits
 pub due_quit : (w : Work) (s : Shape) (newest : Option Event) (l : LocalState) (c : Effort) →
-    is_outside l.phase ≡ false →
-    l.stale ≡ true → due (Doing w) s newest l c ≡ just Quit
+    is_outside l.phase ≡ false → l.stale ≡ true → due (Doing w) s newest l c ≡ just Quit
 due_quit w s newest l c live stale = rw (live, stale) refl
 
 -- an attempt whose exchanges failed too often quits
 pub due_lost : (w : Work) (s : Shape) (newest : Option Event) (l : LocalState) (c : Effort) →
-    is_outside l.phase ≡ false →
-    c.missed ≡ MAX_MISSED → due (Doing w) s newest l c ≡ just Quit
+    is_outside l.phase ≡ false → c.missed ≡ MAX_MISSED → due (Doing w) s newest l c ≡ just Quit
 due_lost w s newest l c live lost = rw (live, lost) (either l.stale)
   where
     either : (b : Bool) →
@@ -238,8 +234,7 @@ due_lost w s newest l c live lost = rw (live, lost) (either l.stale)
 
 -- where the attempt is left the call ends
 pub due_done : (w : Work) (s : Shape) (newest : Option Event) (l : LocalState) (c : Effort) →
-    is_outside l.phase ≡ true →
-    due (Doing w) s newest l c ≡ Done
+    is_outside l.phase ≡ true → due (Doing w) s newest l c ≡ Done
 due_done w s newest l c left = rw left refl
 
 pub again_none : (w : Work) (n : Option Event) (l : LocalState) (c : Effort) → is_outside l.phase ≡ false →
@@ -258,8 +253,7 @@ module _ {L : Type 0} {holds : L → List Val → Type 0} {home : Home L} {b : B
   went_on live agreed tries =
       under_is (w.goes_on steps same t)
       (due_next (work_of b.task) home.terms.shape e (now home steps) (effort_by steps) live agreed
-      (more_tries steps.missed tries))
-      (again_none (work_of b.task) (Some e) (now home steps) (effort_by steps) live)
+      (more_tries steps.missed tries)) (again_none (work_of b.task) (Some e) (now home steps) (effort_by steps) live)
 
   -- it has found a read stale
   pub went_stale : is_outside (now home steps).phase ≡ false → (now home steps).stale ≡ true →
@@ -331,16 +325,13 @@ pub chosen_is : {L : Type 0} {holds : L → List Val → Type 0} {home : Home L}
     or_zero (res (now home steps)).rank ≡ enemy → (res (now home steps)).status ≡ Some (code_of status) →
     chosen home.terms.shape.manager (now home steps) (effort_by steps)
     ≡ choice steps.decider.manager steps.rank enemy status steps.round (next_word steps.decider)
-chosen_is u status rank code =
-    rw (rank, code, status_named status, ← u.mirror.rank, ← u.manager) refl
+chosen_is u status rank code = rw (rank, code, status_named status, ← u.mirror.rank, ← u.manager) refl
 
 -- the first turn of a wait
 pub first_turn : (m : Manager) (l : LocalState) (c : Effort) (t : ℕ) → is_some (res l).status ≡ true →
     l.phase ≡ Running → c.left ≡ 0 → chosen m l c ≡ decision.Wait t →
-    effort_after LookStatus m l c (event_by Load 0 LookStatus 0 0)
-    ≡ turn t (record c {
-      generator =
-          (decided (record { manager = m; generator = c.generator }) (decision.Wait t)).generator;
+    effort_after LookStatus m l c (event_by Load 0 LookStatus 0 0) ≡ turn t (record c {
+      generator = (decided (record { manager = m; generator = c.generator }) (decision.Wait t)).generator;
     })
 first_turn m l c t h p left wait = rw (h, p, left, wait) refl
 
@@ -395,5 +386,4 @@ pub call_of : {L : Type 0} {task : Task} {holds : L → List Val → Type 0} {ho
     {a : Option Again} (u : InTask holds home task b steps Done a) →
     IsCall task home.terms.shape b.state b.generator u.events
     × (answer_of task home.terms.shape b.state b.generator u.events ≡ a)
-call_of u =
-    (record { obeys = u.obeys; done = rw (← u.state, u.effort) u.due }, rw (← u.state, u.effort) u.gives)
+call_of u = (record { obeys = u.obeys; done = rw (← u.state, u.effort) u.due }, rw (← u.state, u.effort) u.gives)

@@ -33,8 +33,7 @@ counts_own s (e ∷ es) c = go (cases_Bool (e.caller == c)) (counts_own s es c)
     go : (e.caller == c ≡ true) ⊎ (e.caller == c ≡ false) → counts_of s (events_of c es) c ≡ counts_of s es c →
         counts_of s (events_of c (e ∷ es)) c ≡ counts_of s (e ∷ es) c
     go (inl q) ih =
-        rw (q, q)
-        (ap (λ l. counts_after e.kind l (counts_of s (events_of c es) c) e) (local-events_of core s es c)
+        rw (q, q) (ap (λ l. counts_after e.kind l (counts_of s (events_of c es) c) e) (local-events_of core s es c)
         ∙ ap (λ n. counts_after e.kind (local s es c) n e) ih)
     go (inr q) ih = rw q ih
 
@@ -176,8 +175,7 @@ module _ {L : Type 0} (holds : L → List Val → Type 0) (home : Home L) where
       let own : e.caller ≡ c = ap (λ o. number_or o found) q in
       let terms : w.terms ≡ Some home.terms = ap (λ (x : View L). x.terms) m.view ∙ told in
       let number : w.number ≡ Some c = ap (λ (x : View L). x.number) m.view ∙ ap Some own in
-      let mine : events_of c w.log ≡ e ∷ events_of c v.log =
-      subst (λ i. events_of i w.log ≡ e ∷ events_of c v.log) own
+      let mine : events_of c w.log ≡ e ∷ events_of c v.log = subst (λ i. events_of i w.log ≡ e ∷ events_of c v.log) own
       (m.mine ∙ ap (λ o. e ∷ events_by o v.log) q) in
       let after_it : counts_by w ≡ counts_of s w.log c =
       ap (λ o. counts_in o w.number w.log) terms ∙ ap (λ o. counts_in (Some home.terms) o w.log) number in
@@ -240,8 +238,7 @@ pub unbegun_counts : {L : Type 0} (s : Inside L) → IsUnbegun (view_of s.seat) 
 unbegun_counts {L = L} s u is = let v : View L = view_of s.seat in record {
   caller = rw u.caller refl;
   counts = is
-      ∙ ap tally_of
-      (sym
+      ∙ ap tally_of (sym
       (ap (λ o. counts_in o v.number v.log) u.told ∙ ap (λ o. counts_in (Some u.terms) o v.log) u.caller
       ∙ unbegun_none u.terms.shape v.log u.number u.unbegun));
 }

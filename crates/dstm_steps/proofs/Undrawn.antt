@@ -38,8 +38,7 @@ undrawn_step s l e Begin a h = inr (inr refl)
 undrawn_step s l e Draw a h = inl refl
 undrawn_step s l e Commit a h = inr (inl refl)
 undrawn_step s l e Quit a h = inr (inl refl)
-undrawn_step s l e LookSelf a h =
-    cond_both (e.found == given l.phase) _ _ IsUndrawn (λ _. h) (λ _. inr (inl refl))
+undrawn_step s l e LookSelf a h = cond_both (e.found == given l.phase) _ _ IsUndrawn (λ _. h) (λ _. inr (inl refl))
 undrawn_step s l e Install a h = cond_both (e.found == e.expected) _ _ IsUndrawn (λ _. h) (λ _. h)
 undrawn_step s l e ToValidating a h =
     cond_both (e.found == 1) _ _ IsUndrawn (λ _. inr (inr (begun a.2.0))) (λ _. inr (inl refl))

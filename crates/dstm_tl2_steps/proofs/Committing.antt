@@ -49,8 +49,7 @@ module _ {L : Type 0} {home : Home L} where
   lists_kept {old = old} new {opened = opened} m lists same reads held = record {
     objects = lists.objects;
     reads = lists.reads ∙ sym reads;
-    held = held ∙ lists.held ∙ ap (λ k. map (new_hold (now home old)) (take k opened.writes)) same
-        ∙ holds_by (now home old) (now home new) (take m opened.writes) reads;
+    held = rw (held, lists.held, same, holds_by (now home old) (now home new) (take m opened.writes) reads) refl;
   }
 
   pub lists_checked : {old : Steps L} (new : Steps L) {opened : OpenedAs} {n : ℕ} → Lists home old opened n →

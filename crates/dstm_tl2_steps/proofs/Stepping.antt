@@ -103,8 +103,7 @@ module _ {L : Type 0} {holds : L → List Val → Type 0} {home : Home L} {b : B
           state = state_now ∙ ap (λ l. after e.kind t l e) u.state;
           obeys = (u.obeys, subst (λ d. IsDue t d e) (sym (rw (← u.state) u.due)) is);
           due = refl;
-          gives = ap (λ l. answer_by l e (answer_of t b.state u.events)) (sym u.state)
-              ∙ ap (answer_by (now home old) e) u.gives;
+          gives = rw (← u.state, u.gives) refl;
         }
 
   -- THE CALL GOES ON with an event that the seat's caller made, of a kind at a place, which were due.

@@ -185,8 +185,7 @@ module _ {L : Type 0} (holds : L → List Val → Type 0) (home : Home L) (b : B
         new_word u number o (new_hold l (o, value)) drawn (first_held first) in
         let here : hold_of o (k ∷ rest) ≡ Some k = rw (eq-eqb o o refl) refl in
         let gave : (l.gave_back || (2 * number + 2 == (or_hold (hold_of o (k ∷ rest))).word)) ≡ l.gave_back =
-        ap (λ h. l.gave_back || (2 * number + 2 == (or_hold h).word)) here
-        ∙ ap (λ x. l.gave_back || x) other ∙ or_false l.gave_back in
+        rw (here, other, or_false l.gave_back) refl in
         w.state
         ∙ ap (λ (m : LocalState). record m {
           holds = without o m.holds;

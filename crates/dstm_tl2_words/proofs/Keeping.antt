@@ -57,10 +57,8 @@ module _ {L : Type 0} (holds : L → List Val → Type 0) (terms : Terms L) (v :
     where
       same : (o : Option ℕ) →
           AllowedAs kind (table_of terms) (state_by tl2 (table_of terms) o v.log)
-          (event_by Add (number_or o 0) kind place 0) →
-          events_of (number_or o found) between ≡ [] →
-          state_by tl2 (table_of terms) o v.log
-          ≡ local (table_of terms) (between ++ v.log) (number_or o found)
+          (event_by Add (number_or o 0) kind place 0) → events_of (number_or o found) between ≡ [] →
+          state_by tl2 (table_of terms) o v.log ≡ local (table_of terms) (between ++ v.log) (number_or o found)
       same (Some c) ok none = sym (local_quiet tl2 (table_of terms) between v.log c none)
       same None ok none =
           let enrol = (enrols (table_of terms) (event_by Add 0 kind place 0) kind ok).0 in absurd (cc)

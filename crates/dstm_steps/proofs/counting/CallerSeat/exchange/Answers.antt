@@ -14,5 +14,4 @@ invariant_of-self g c =
     c.self.view_is c.requires.seat c.self.invariant (exchange_turns c.args.kind state c.requires.exchanges)
     (rw (c.kills.ensures, c.is_ok.ensures.value) (exchange_kills c.args.kind c.exchange-answer.result
     (made v (Exchange c.args.expected c.args.put) c.args.kind c.args.place (found_in c.exchange-answer.result)) refl
-    c.exchange-answer.ensures.answer))
-    c.exchange-answer.ensures.event c.tick.ensures
+    c.exchange-answer.ensures.answer)) c.exchange-answer.ensures.event c.tick.ensures

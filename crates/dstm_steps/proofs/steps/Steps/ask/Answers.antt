@@ -42,8 +42,7 @@ load-code-requires-clause-allowed g c =
 chose : (g : Over) (c : After-decide g) (x : Choice) →
     decided c.args.self.now.decider x ≡ c.args.self.now.decider → c.decide.new.self ≡ decided c.args.self.now.decider x →
     x ≡ choice c.args.self.now.decider.manager c.args.self.now.rank c.args.enemy c.args.status c.args.self.now.round
-    (next_word c.args.self.now.decider) →
-    (record c.args.self.now { decider = c.decide.new.self } ≡ c.args.self.now)
+    (next_word c.args.self.now.decider) → (record c.args.self.now { decider = c.decide.new.self } ≡ c.args.self.now)
     × Under g.L.Law.holds c.args.words.now g.B.InCall.began (record c.args.self.now { decider = c.decide.new.self })
     (on_choice x) None
     × (chosen c.args.words.now.terms.shape.manager (now c.args.words.now c.args.self.now) (effort_by c.args.self.now) ≡ x)
@@ -114,8 +113,7 @@ waits g c code round found counts =
             effort = first_turn manager (now c.args.words.now old) (effort_by old) c.in-Wait.turns
                 (rw c.requires.status.0 refl) c.requires.running.phase c.requires.left (chose_wait g c)
                 ∙ ap (λ n. turn c.in-Wait.turns (record (effort_by old) { generator = n })) generator ∙ counts;
-          })
-          (rw (w.state, c.requires.running.phase) refl) (rw w.state c.requires.running.agreed) c.requires.tries,
+          }) (rw (w.state, c.requires.running.phase) refl) (rw w.state c.requires.running.agreed) c.requires.tries,
     )
 
 pub returns-then-turns-eq1-clause-waits : goal.returns-then-turns-eq1-clause-waits

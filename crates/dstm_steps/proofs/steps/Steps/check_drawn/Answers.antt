@@ -13,8 +13,7 @@ use Rattle.dstm_steps.proofs.steps.Steps.check_drawn.Goals as goal
 
 pub object-place-requires-clause-below : goal.object-place-requires-clause-below
 object-place-requires-clause-below g c =
-    rw c.requires.read.0 at
-    (next_in_shape c.requires.under (inr c.requires.phase) c.requires.agreed.0 c.requires.left)
+    rw c.requires.read.0 at (next_in_shape c.requires.under (inr c.requires.phase) c.requires.agreed.0 c.requires.left)
 
 pub returns-clause-stale : goal.returns-clause-stale
 returns-clause-stale g c wrong =

@@ -17,22 +17,19 @@ returns-in-Ok-clause-under g c good =
     let new : Steps g.row.L.Denot = record c.exchange.new.self { installed = c.exchange.new.self.installed + 1 } in
     let same : found_in c.exchange.result ≡ c.args.word = ap found_in c.in-Ok.is ∙ c.in-Ok.ensures.answer in
     let found : (found_in c.exchange.result == c.args.word) ≡ true = eq-eqb _ _ same in
-    rw found at (went_on {steps = new} c.exchange.ensures.went refl
-    (record {
+    rw found at (went_on {steps = new} c.exchange.ensures.went refl (record {
       shape = ap (λ (s : Steps g.row.L.Denot). s.shape) rest;
       manager = ap (λ (s : Steps g.row.L.Denot). s.decider.manager) rest;
       mirror = rw found
           (record { own = rw rest m.own; installed = rw rest (ap (λ n. n + 1) m.installed); rank = rw rest m.rank });
       effort = rw (found, rest) refl;
-    })
-    (rw (state, found, c.requires.running.phase) refl) (rw (state, found) c.requires.running.agreed)
+    }) (rw (state, found, c.requires.running.phase) refl) (rw (state, found) c.requires.running.agreed)
     (rw rest c.requires.tries))
 
 -- the word was not the one that was expected
 differs : (g : Over) (c : In-Err g) → (found_in c.exchange.result == c.args.word) ≡ false
 differs g c =
-    ne_eqb (found_in c.exchange.result) c.args.word
-    (λ q. c.in-Err.ensures.answer (sym (ap found_in c.in-Err.is) ∙ q))
+    ne_eqb (found_in c.exchange.result) c.args.word (λ q. c.in-Err.ensures.answer (sym (ap found_in c.in-Err.is) ∙ q))
 
 -- an exchange that failed is counted
 failed : (g : Over) (c : In-Err g) →

@@ -31,8 +31,7 @@ failed : (g : Over) (c : In-Err g) →
 failed g c =
     let rest = c.exchange.ensures.rest in
     let m = c.requires.under.mirror in
-    after_rest rest refl (record { own = m.own; installed = m.installed; rank = m.rank })
-    (rw (
+    after_rest rest refl (record { own = m.own; installed = m.installed; rank = m.rank }) (rw (
       ne_eqb (found_in c.exchange.result) c.code.result
           (λ q. c.in-Err.ensures.answer (sym (ap found_in c.in-Err.is) ∙ q)),
       rest,

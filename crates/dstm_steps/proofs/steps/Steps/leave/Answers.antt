@@ -61,5 +61,4 @@ returns-clause-leaves g c task =
     rw (went g before).state at (left g before Leaving task)
 
 pub returns-clause-begins : goal.returns-clause-begins
-returns-clause-begins g c fresh task =
-    left g (goal.at.returns-clause-begins g c).After-exchange (Beginning fresh) task
+returns-clause-begins g c fresh task = left g (goal.at.returns-clause-begins g c).After-exchange (Beginning fresh) task

@@ -23,8 +23,7 @@ changed g c =
     after_rest rest refl
     (cond_both (found_in c.exchange-found.result == 1) _ _ (IsMirror c.args.words.now.terms.shape c.args.self.now)
     (λ _. record { own = m.own; installed = m.installed; rank = m.rank })
-    (λ _. record { own = m.own; installed = m.installed; rank = m.rank }))
-    (rw rest refl)
+    (λ _. record { own = m.own; installed = m.installed; rank = m.rank })) (rw rest refl)
 
 pub returns-in-Ok-clause-good : goal.returns-in-Ok-clause-good
 returns-in-Ok-clause-good g c ok =

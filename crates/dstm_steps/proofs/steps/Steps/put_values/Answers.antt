@@ -34,8 +34,7 @@ locator_fits : (g : Over) (c : In-loop-i g) → c.args.first + c.loop-i.i < 4294
 locator_fits g c =
     let n = next_before g c in
     let few = few_locators c.args.words.now.terms.shape c.requires.can.under.run.valid in
-    let below = rw n.locator_is at
-    (in_word c.loop-i.invariant.under PutHigh (λ q. absurd (cc))
+    let below = rw n.locator_is at (in_word c.loop-i.invariant.under PutHigh (λ q. absurd (cc))
     (c.loop-i.invariant.phase, c.loop-i.invariant.agreed, n.left, c.loop-i.invariant.none)) in
     omega arith
 

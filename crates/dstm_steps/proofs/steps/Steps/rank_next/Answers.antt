@@ -31,8 +31,7 @@ went : (g : Over) (c : After-store g) →
 went g c = took c.requires.under (Store c.args.rank) c.store.ensures.event.1 c.store.ensures.seat (refl, refl)
 
 pub returns-clause-state : goal.returns-clause-state
-returns-clause-state g c =
-    rw ((went g (goal.at.returns-clause-state g c).After-store).state, c.requires.outside) refl
+returns-clause-state g c = rw ((went g (goal.at.returns-clause-state g c).After-store).state, c.requires.outside) refl
 
 pub returns-clause-under : goal.returns-clause-under
 returns-clause-under g c =

@@ -13,14 +13,12 @@ returns-clause-under g c =
     let m = c.requires.under.mirror in
     let went = c.store.ensures.went.1 in
     let new : Steps g.row.L.Denot = record c.store.new.self { rank = c.min-rank.result } in
-    went_on {steps = new} went refl
-    (record {
+    went_on {steps = new} went refl (record {
       shape = ap (λ (s : Steps g.row.L.Denot). s.shape) rest;
       manager = ap (λ (s : Steps g.row.L.Denot). s.decider.manager) rest;
       mirror = record { own = rw rest m.own; installed = rw rest m.installed; rank = refl };
       effort = rw rest refl;
-    })
-    (rw (went.state, c.requires.running.phase) refl) (rw went.state c.requires.running.agreed)
+    }) (rw (went.state, c.requires.running.phase) refl) (rw went.state c.requires.running.agreed)
     (rw rest c.requires.tries)
 
 pub returns-clause-past : goal.returns-clause-past

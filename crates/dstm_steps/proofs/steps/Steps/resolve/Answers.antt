@@ -78,5 +78,4 @@ returns-clause-attempt g c =
     (changed g (goal.at.returns-clause-attempt g c).After-is_changed ∙ c.if-is_changed.false) in
     on_ok c.resolve_word.result (λ (stays : StaysAt _ last). stays.attempt
     ∙ ap (λ (l : LocalState). record l { resolution = last.resolution; pass = last.pass; checked = last.checked })
-    first)
-    c.resolve_word.ensures.stays
+    first) c.resolve_word.ensures.stays

@@ -17,8 +17,7 @@ status-place-requires-clause-below g c =
 
 -- after a turn of a wait, in this round
 turned : (g : Over) (c : After-look-status g) (looked : Steps g.row.L.Denot) (round : ℕ) →
-    looked ≡ record c.look-status.new.self { round = round } →
-    turn c.args.self.now.left (effort_by c.args.self.now)
+    looked ≡ record c.look-status.new.self { round = round } → turn c.args.self.now.left (effort_by c.args.self.now)
     ≡ record (effort_by c.args.self.now) { left = c.args.self.now.left - 1; round = round } →
     Resolving g.L.Law.holds c.args.words.now g.B.InCall.began (record looked { left = looked.left - 1 })
 turned g c looked round is counts =
@@ -30,15 +29,13 @@ turned g c looked round is counts =
     let seat = ap (λ (s : Steps g.row.L.Denot). s.seat) is in
     let here : now c.args.words.now new ≡ now c.args.words.now c.look-status.new.self =
     ap (λ s. caller_state c.args.words.now.terms (view_of s)) seat in
-    went_on {steps = new} went seat
-    (record {
+    went_on {steps = new} went seat (record {
       shape = rw (is, rest) refl;
       manager = rw (is, rest) refl;
       mirror = record { own = rw (is, rest) m.own; installed = rw (is, rest) m.installed; rank = rw (is, rest) m.rank };
       effort = turn_left c.args.words.now.terms.shape.manager (now c.args.words.now old) (effort_by old)
           c.requires.status.0 c.requires.running.phase c.requires.left ∙ counts ∙ (rw (is, rest) refl);
-    })
-    (rw (here, went.state, c.requires.running.phase) refl) (rw (here, went.state) c.requires.running.agreed)
+    }) (rw (here, went.state, c.requires.running.phase) refl) (rw (here, went.state) c.requires.running.agreed)
     (rw (is, rest) c.requires.tries)
 
 pub returns-clause-under : goal.returns-clause-under

@@ -12,8 +12,7 @@ pub returns-clause-under : goal.returns-clause-under
 returns-clause-under g c =
     let look = c.look-status.ensures in
     let m = c.requires.under.mirror in
-    went_on look.went refl
-    (after_rest look.rest refl (record { own = m.own; installed = m.installed; rank = m.rank })
+    went_on look.went refl (after_rest look.rest refl (record { own = m.own; installed = m.installed; rank = m.rank })
     (rw (c.requires.status.0, c.requires.phase, look.rest) refl))
     (rw (look.went.state, c.requires.phase) refl) (rw look.went.state c.requires.agreed.0)
     (rw look.rest c.requires.tries)
