@@ -2,7 +2,6 @@
 use Rattle.std.proofs.Common.{◌≡◌, ◌≢◌, ◌∙◌, ◌+◌, ◌<◌, ◌≤◌, ◌++◌, ◌∷◌, ℕ, Bool, List, [], None, Some, true, false, refl, sym, ap, subst, arith, length, add-zero}
 use Rattle.std.specs.Prelude.{Option, if◌then◌else◌, ◌&&◌}
 use Rattle.std.proofs.lemmas.Bool.{cond_both}
-use base.Fml.{GName}
 use Rattle.dstm_model.specs.declared.value.Val.{Val}
 use Rattle.dstm_model.specs.declared.layout.Layout.{Layout}
 use Rattle.dstm_model.specs.declared.op.Op.{Op}
@@ -46,7 +45,7 @@ use Rattle.dstm_engine.specs.Attempts.{Admits, Commits, completes_pass, done, is
 use Rattle.dstm_engine.specs.Callers.{Called, begun_log, entry, is_live, is_opened, is_running, live_opened, law_of, shape_of, since_begin, start_of, state, written}
 use Rattle.dstm_engine.specs.Calls.{Performs, IsTold}
 use Rattle.dstm_engine.specs.Outcomes.{IsLeft}
-use Rattle.dstm_engine.specs.Transactions.{BeginsAnew, TxPlace, tx_place}
+use Rattle.dstm_engine.specs.Transactions.{BeginsAnew, TxPlace}
 use Rattle.dstm_store.specs.declared.law.StoreLaw.{StoreLaw}
 use Rattle.dstm_store.specs.declared.job.JobTask.{JobTask}
 use Rattle.dstm_store.specs.Whole.{StandsFor}
@@ -88,27 +87,26 @@ right_for layout ops task outcome is before after same_layout same_ops same righ
 
 -- ---- a caller's attempt, from its begin to its end
 
-module _ (k b t : Called StoreLaw) (r q : GName) (h j : Home StoreLaw) (begins : BeginsAnew keeps k b)
-    (place : tx_place r h t ≡ tx_place q j b) where
+module _ {k b t u x : Called StoreLaw} (a : made.Tried keeps k b t u x) where
   home : t.home ≡ k.home
-  home = made.home keeps k b t r q h j begins place
+  home = made.home keeps k b t a.reference a.before a.table a.at a.begins a.place
 
   number : t.number ≡ k.number
-  number = made.number keeps k b t r q h j begins place
+  number = made.number keeps k b t a.reference a.before a.table a.at a.begins a.place
 
   -- the calls on it, where the caller is told by them
   pub calls_by : AtRest (Dstm k) → (n : Called StoreLaw) → n.home ≡ t.home → n.number ≡ t.number → n.began ≡ t.began →
       begun_log n.number n.log ≡ begun_log t.number t.log → IsTold n → Makes TriesAgain k n
   calls_by rest n nh nn nb log told =
-      makes_both TriesAgain k b n (makes_one TriesAgain keeps (Beginning k.fresh) k b None rest.right begins.steps)
-      (told_makes b n (nh ∙ ap (λ (p : TxPlace StoreLaw). p.home) place) (nn ∙ ap (λ (p : TxPlace StoreLaw). p.number) place)
-      (begins.at_begin ∙ sym (ap (λ (p : TxPlace StoreLaw). p.began) place) ∙ sym log)
-      (ap (λ (x : Called StoreLaw). x.generator) begins.caller
-      ∙ sym (nb ∙ ap (λ (p : TxPlace StoreLaw). p.generator) place ∙ ap (λ (x : Called StoreLaw). x.began) begins.caller)) told)
+      makes_both TriesAgain k b n (makes_one TriesAgain keeps (Beginning k.fresh) k b None rest.right a.begins.steps)
+      (told_makes b n (nh ∙ ap (λ (p : TxPlace StoreLaw). p.home) a.place) (nn ∙ ap (λ (p : TxPlace StoreLaw). p.number) a.place)
+      (a.begins.at_begin ∙ sym (ap (λ (p : TxPlace StoreLaw). p.began) a.place) ∙ sym log)
+      (ap (λ (x : Called StoreLaw). x.generator) a.begins.caller
+      ∙ sym (nb ∙ ap (λ (p : TxPlace StoreLaw). p.generator) a.place ∙ ap (λ (x : Called StoreLaw). x.began) a.begins.caller)) told)
 
   -- its transaction goes on
   pub stays_same : t.fresh ≡ false
-  stays_same = made.goes_on keeps k b t r q h j begins place
+  stays_same = made.goes_on keeps k b t a.reference a.before a.table a.at a.begins a.place
 
   pub aborted_fresh : (n : Called StoreLaw) → n.fresh ≡ t.fresh → IsRunOf keeps n.home.terms n.log →
       StaysAt (shape_of n) n.log n.number 5 → 1 ≤ (state n).begun → n.fresh ≡ is_new (state n)
@@ -124,7 +122,7 @@ module _ (k b t : Called StoreLaw) (r q : GName) (h j : Home StoreLaw) (begins :
       number = nn ∙ number;
       seen = (
         ap (λ (h : Home StoreLaw). h.terms) at_home,
-        past_past k.log b.log n.log begins.steps.seen
+        past_past k.log b.log n.log a.begins.steps.seen
             (record {
               later = since_begin n.number n.log;
               whole = ap (λ (xs : List Event). since_begin n.number n.log ++ xs) there ∙ sym (log_parts is_begin n.number n.log);
@@ -145,16 +143,16 @@ module _ (k b t : Called StoreLaw) (r q : GName) (h j : Home StoreLaw) (begins :
       at_home = nh ∙ home
 
       there : b.log ≡ begun_log n.number n.log
-      there = begins.at_begin ∙ sym (ap (λ (p : TxPlace StoreLaw). p.began) place) ∙ sym log
+      there = a.begins.at_begin ∙ sym (ap (λ (p : TxPlace StoreLaw). p.began) a.place) ∙ sym log
 
       same_home : n.home ≡ b.home
-      same_home = nh ∙ ap (λ (p : TxPlace StoreLaw). p.home) place
+      same_home = nh ∙ ap (λ (p : TxPlace StoreLaw). p.home) a.place
 
       same_number : n.number ≡ b.number
-      same_number = nn ∙ ap (λ (p : TxPlace StoreLaw). p.number) place
+      same_number = nn ∙ ap (λ (p : TxPlace StoreLaw). p.number) a.place
 
       begun : (state n).begun ≡ (state k).begun + 1
-      begun = rw (begun_there (shape_of n) n.number n.log, ← there, same_home, same_number, begins.begun) refl
+      begun = rw (begun_there (shape_of n) n.number n.log, ← there, same_home, same_number, a.begins.begun) refl
 
   -- others kept it from its commit
   was_kept_by : (n : Called StoreLaw) (again : Again) → OneMore (Dstm k) (Dstm n) → IsLeft n again → done n ≡ done t →
@@ -163,7 +161,7 @@ module _ (k b t : Called StoreLaw) (r q : GName) (h j : Home StoreLaw) (begins :
     made = one;
     disturbed = left.disturbed;
     others = left.callers;
-    same_done = same ∙ made.same_done keeps k b t r q h j begins place;
+    same_done = same ∙ made.same_done keeps k b t a.reference a.before a.table a.at a.begins a.place;
   }
 
   -- the same of an attempt that had been left as it was given up
@@ -184,7 +182,8 @@ module _ (k b t : Called StoreLaw) (r q : GName) (h j : Home StoreLaw) (begins :
       DidJob Branches layout job (Dstm k) (Dstm n) finished
   did_branch layout job finished n rest law nh one commits right =
       doing.did_branch layout job (Dstm k) (Dstm n) finished law (did _ k n finished.number rest one commits.status
-      (made.settled keeps k b t r q h j begins place _ n finished.number nh (rw (← nh) one.on.rest.run) commits right))
+      (made.settled keeps k b t a.reference a.before a.table a.at a.begins a.place _ n finished.number nh
+      (rw (← nh) one.on.rest.run) commits right))
 
 -- ---- from the clauses of its last call
 
@@ -197,8 +196,7 @@ module _ {k b t n x : Called StoreLaw} (a : made.Tried keeps k b t n x) (rest : 
       let nh : n.home ≡ t.home = ap (λ (x : Called StoreLaw). x.home) kept in
       let nn : n.number ≡ t.number = ap (λ (x : Called StoreLaw). x.number) kept in
       let there = run_there t n nh run in
-      one_more_by k b t a.reference a.before a.table a.at a.begins a.place n nh nn log there commits.over
-      (calls_by k b t a.reference a.before a.table a.at a.begins a.place rest n nh nn
+      one_more_by a n nh nn log there commits.over (calls_by a rest n nh nn
       (ap (λ (x : Called StoreLaw). x.began) kept) log told)
       (λ some. ap (λ (x : Called StoreLaw). x.fresh) kept ∙ sym (new_committed n there.run.core commits.status some))
 
@@ -211,7 +209,7 @@ module _ {k b t n x : Called StoreLaw} (a : made.Tried keeps k b t n x) (rest : 
       DidJob Branches layout job (Dstm k) (Dstm x) finished
   did_commit layout job finished law kept log run told commits right =
       subst (λ (c : Called StoreLaw). DidJob Branches layout job (Dstm k) (Dstm c) finished) (sym a.end)
-      (did_branch k b t a.reference a.before a.table a.at a.begins a.place layout job finished n rest law
+      (did_branch a layout job finished n rest law
       (ap (λ (x : Called StoreLaw). x.home) kept) (one_committed kept log run told finished.number commits) commits right)
 
   -- it did not commit
@@ -222,18 +220,14 @@ module _ {k b t n x : Called StoreLaw} (a : made.Tried keeps k b t n x) (rest : 
       let nh : n.home ≡ t.home = ap (λ (x : Called StoreLaw). x.home) kept in
       let nn : n.number ≡ t.number = ap (λ (x : Called StoreLaw). x.number) kept in
       let there = run_there t n nh run in
-      rw a.end (was_kept_by k b t a.reference a.before a.table a.at a.begins a.place n again
-      (one_more_by k b t a.reference a.before a.table a.at a.begins a.place n nh nn log there left.over
-      (calls_by k b t a.reference a.before a.table a.at a.begins a.place rest n nh nn
-      (ap (λ (x : Called StoreLaw). x.began) kept) log told)
-      (aborted_fresh k b t a.reference a.before a.table a.at a.begins a.place n
+      rw a.end (was_kept_by a n again (one_more_by a n nh nn log there left.over (calls_by a rest n nh nn
+      (ap (λ (x : Called StoreLaw). x.began) kept) log told) (aborted_fresh a n
       (ap (λ (x : Called StoreLaw). x.fresh) kept) there left.aborted)) left same)
 
   -- it had been left as it was given up
   pub was_dead : (again : Again) → IsTold t → n ≡ t → IsLeft t again → IsRunOf keeps t.home.terms n.log →
       WasKept (Dstm k) (Dstm x)
-  was_dead again told same left run =
-      rw a.end (was_kept_dead k b t a.reference a.before a.table a.at a.begins a.place n again rest told same left run)
+  was_dead again told same left run = rw a.end (was_kept_dead a n again rest told same left run)
 
 -- ---- an attempt that was given up at its job
 
@@ -392,8 +386,7 @@ unused_by k b u n begins home number log unopened left = last ∙ none ∙ first
 
 -- an attempt that was rechecked so often, and then given up, in which no branch of the job was open
 pub stood_at : (rechecks : ℕ) (layout : Layout) (job : Job) (k b t u n : Called StoreLaw) → 0 < rechecks →
-    sights t ≤ looks t →
-    OneMore (Dstm k) (Dstm n) →
+    sights t ≤ looks t → OneMore (Dstm k) (Dstm n) →
     done n ≡ done k → (law_of t).layout ≡ layout → (shape_of t).objects ≡ objects_of layout → HasRechecked rechecks t u →
     Performs keeps Leaving u n None → BeginsAnew keeps k b → u.home ≡ b.home → u.number ≡ b.number →
     begun_log u.number u.log ≡ begun_log b.number b.log → ((shape_of k).all_write ≡ false → (o : ℕ) → is_opened u o ≡ false) →

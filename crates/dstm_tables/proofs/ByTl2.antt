@@ -50,8 +50,7 @@ pub begun_le : (t : Table) (es : List Event) → Run t es → (c : ℕ) → (loc
 begun_le t [] run c = omega arith
 begun_le t (e ∷ es) run c =
     runs.callers tl2 t es e (λ c l. l.begun ≤ t.attempts)
-    (step (local t es e.caller) e.kind run.1.allowed (begun_le t es run.0 e.caller))
-    (λ c _. begun_le t es run.0 c) c
+    (step (local t es e.caller) e.kind run.1.allowed (begun_le t es run.0 e.caller)) (λ c _. begun_le t es run.0 c) c
   where
     step : (l : LocalState) (k : Kind) → AllowedAs k t l e → l.begun ≤ t.attempts →
         (after k t l e).begun ≤ t.attempts

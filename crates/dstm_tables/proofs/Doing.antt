@@ -57,5 +57,4 @@ module _ (layout : Layout) (job : Job) (k n : Caller) (finished : Finished) (law
   pub did_branch :
       Did (λ before after. IsRight (record { layout = layout; ops = job.ops }) before after (Ran finished.replies)) k n finished.number →
       DidJob Branches layout job k n finished
-  did_branch d =
-      did_job Branches _ d (answered_branch layout job.ops finished.replies d.entry) (λ loose. absurd (cc))
+  did_branch d = did_job Branches _ d (answered_branch layout job.ops finished.replies d.entry) (λ loose. absurd (cc))

@@ -25,5 +25,4 @@ entries_reverse (first ∷ done) =
 pub one_more : (b : Bool) (attempt : Committed) (rest : List Committed) → attempt.caller ≡ 0 → by_caller 0 rest ≡ rest →
     by_caller 0 (cond b (attempt ∷ rest) rest) ≡ cond b (attempt ∷ rest) rest
 one_more false attempt rest own same = same
-one_more true attempt rest own same =
-    rw (eq-eqb attempt.caller 0 own) (ap (λ (cs : List Committed). attempt ∷ cs) same)
+one_more true attempt rest own same = rw (eq-eqb attempt.caller 0 own) (ap (λ (cs : List Committed). attempt ∷ cs) same)

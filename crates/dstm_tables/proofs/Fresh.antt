@@ -8,11 +8,11 @@ use Rattle.std.proofs.lemmas.Option.{none-some}
 use Rattle.dstm_machines.specs.declared.event.Event as trace
 use Rattle.dstm_core.specs.Events.{Event}
 use Rattle.dstm_core.specs.declared.event.Kind.{Kind}
-use Rattle.dstm_core.specs.declared.event.Kind.TheVariants.{Enrol, Install, LookSelf, Validating, Pause, Resume}
+use Rattle.dstm_core.specs.declared.event.Kind.TheVariants.{Enrol, Install}
 use Rattle.dstm_core.specs.declared.shape.Shape.{Shape}
 use Rattle.dstm_core.specs.Rules.{after}
 use Rattle.dstm_core.specs.Runs.{Core, core, local}
-use Rattle.dstm_core.specs.State.{LocalState, first, given}
+use Rattle.dstm_core.specs.State.{LocalState, first}
 use Rattle.dstm_machines.specs.Traces.{events_of}
 use Rattle.dstm_machines.proofs.Own.{none_before_only}
 use Rattle.dstm_machines.proofs.Runs.{local-events_of}
@@ -36,6 +36,7 @@ use Rattle.dstm_tables.specs.declared.tables.Caller.TheVariants.{Dstm}
 use Rattle.dstm_tables.specs.Callers.{AtRest, CameByCalls}
 use Rattle.dstm_tables.specs.Law.{keeps}
 use Rattle.dstm_tables.proofs.Calls.{from_first}
+use Rattle.dstm_tables.proofs.Unused.{stays}
 
 -- an event that stands first among a caller's is that caller's
 pub head_own : {K : Type 0} (c : ℕ) (log : List (trace.Event K)) (event : trace.Event K)
@@ -135,18 +136,12 @@ NoneInstalled n state = state.number ≡ Some n → state.installed ≡ 0
 installs_none : (kind : Kind) (shape : Shape) (event : Event) (n : ℕ) → NoneInstalled n (after kind shape first event)
 installs_none Install shape event n =
     cond_both (event.found == event.expected) _ _ (NoneInstalled n) (λ _ is. absurd (none-some n is)) (λ _ is. refl)
-installs_none LookSelf shape event n =
-    cond_both (event.found == given first.phase) _ _ (NoneInstalled n) (λ _ is. refl) (λ _ is. refl)
-installs_none Validating shape event n = cond_both (event.found == 1) _ _ (NoneInstalled n) (λ _ is. refl) (λ _ is. refl)
-installs_none Pause shape event n = cond_both (event.found == 1) _ _ (NoneInstalled n) (λ _ is. refl) (λ _ is. refl)
-installs_none Resume shape event n = cond_both (event.found == 2) _ _ (NoneInstalled n) (λ _ is. refl) (λ _ is. refl)
-installs_none kind shape event n = λ is. refl
+installs_none kind shape event n = λ is. (stays shape first event kind (λ q. cc)).0
 
 -- a caller that was just made has installed nothing
 pub fresh_installed : (f g : Founding StoreLaw) (seed : ℕ) (k : Called StoreLaw) → Enrols keeps f g seed k →
     (state k).installed ≡ 0
-fresh_installed f g seed k enrols =
-    by (cases_Bool (enrols.enrol.caller == k.number))
+fresh_installed f g seed k enrols = by (cases_Bool (enrols.enrol.caller == k.number))
   where
     shape : Shape
     shape = shape_of k

@@ -85,8 +85,7 @@ module _ (f g : tl2_tables.TlFounding StoreLaw) (k : called.TlCalled StoreLaw) (
       let u : called.TlCalled StoreLaw = record (tl2_tables.unnumbered f) { number = k.number } in
       tl2_from_first u k
       (none_before_only k.number e.log.0 f.view.log e.enrol (fresh.head_own k.number k.log e.enrol [] e.own)
-      (ap (events_of k.number) (sym e.log.1) ∙ e.own))
-      (makes_one LocksItsWrites keeps Enrolling u k None tt e.steps)
+      (ap (events_of k.number) (sym e.log.1) ∙ e.own)) (makes_one LocksItsWrites keeps Enrolling u k None tt e.steps)
 
   pub tl2_new : (t : Table) (seed : ℕ) → home_there (Tl2 f) ≡ t → GivesOut t (Tl2 f) (Tl2 g) seed (caller.Tl2 k)
   tl2_new t seed home = record {

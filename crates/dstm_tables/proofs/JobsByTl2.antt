@@ -69,8 +69,7 @@ module _ (k b t : TlCalled StoreLaw) (r q : GName) (h j : Home StoreLaw) (begins
 
   past : IsPastOf k.log t.log
   past =
-      past_past k.log b.log t.log begins.steps.seen
-      (record {
+      past_past k.log b.log t.log begins.steps.seen (record {
         later = since_sample t.number t.log;
         whole = ap (λ xs. since_sample t.number t.log ++ xs) there ∙ sym (log_parts is_sample t.number t.log);
       })

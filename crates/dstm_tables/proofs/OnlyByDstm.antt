@@ -98,8 +98,7 @@ only_agrees s start holds run later before sight i core whole one is at none =
     ap reverse (sym (whole_history place past begun)) in
     subst (λ (prefix : List Entry). Agrees (state_after start prefix) (seen s start run before 0)) same
     (subst (λ (c : ℕ). Agrees (state_after start (prefix_at s start run (pass_place c before))) (seen s start run before c))
-    zeroth
-    (subst (λ (r : List Event). Agrees (state_after start (prefix_at s start r (pass_place sight.caller before)))
+    zeroth (subst (λ (r : List Event). Agrees (state_after start (prefix_at s start r (pass_place sight.caller before)))
     (seen s start r before sight.caller)) (sym whole) seen_there))
   where
     begun_at : (p : Option ℕ) → (local s before sight.caller).pass ≡ p → (local s before sight.caller).phase ≡ Running →
@@ -153,9 +152,9 @@ pub record NewestSight (s : Shape) (start : List Val) (run log : List Event) (c 
   pub values : seen_last s start run log c i ≡ seen s start run before c
 
 -- an event before the newest sight
-past_sight : (s : Shape) (start : List Val) (run es : List Event) (e : Event) (c i : ℕ) → NewestSight s start run es c i →
+past_sight : {s : Shape} {start : List Val} {run es : List Event} {e : Event} {c i : ℕ} → NewestSight s start run es c i →
     seen_last s start run (e ∷ es) c i ≡ seen_last s start run es c i → NewestSight s start run (e ∷ es) c i
-past_sight s start run es e c i n same = record {
+past_sight {e = e} n same = record {
   later = e ∷ n.later;
   sight = n.sight;
   before = n.before;
@@ -199,12 +198,11 @@ newest_sight s start run (e ∷ es) c i some =
     by : ((e.caller == c) ≡ true) ⊎ ((e.caller == c) ≡ false) →
         (((local s es c).begun == i) ≡ true) ⊎ (((local s es c).begun == i) ≡ false) →
         (completes_pass s (local s es c) e ≡ true) ⊎ (completes_pass s (local s es c) e ≡ false) →
-        (1 ≤ count_of completes_pass s es c i → NewestSight s start run es c i) →
-        NewestSight s start run (e ∷ es) c i
-    by (inr a) b d further = past_sight s start run es e c i (further (rw a at some)) (rw a refl)
-    by (inl a) (inr b) d further = past_sight s start run es e c i (further (rw b at (rw a at some))) (rw a (rw b refl))
+        (1 ≤ count_of completes_pass s es c i → NewestSight s start run es c i) → NewestSight s start run (e ∷ es) c i
+    by (inr a) b d further = past_sight (further (rw a at some)) (rw a refl)
+    by (inl a) (inr b) d further = past_sight (further (rw b at (rw a at some))) (rw a (rw b refl))
     by (inl a) (inl b) (inr d) further =
-        past_sight s start run es e c i (further (rw d at (rw b at (rw a at some)))) (rw a (rw b (rw d refl)))
+        past_sight (further (rw d at (rw b at (rw a at some)))) (rw a (rw b (rw d refl)))
     by (inl a) (inl b) (inl d) further =
         at_sight s start run es e c i (eqb-true e.caller c a) (eqb-true (local s es c).begun i b) d (rw a (rw b (rw d refl)))
 
@@ -227,8 +225,7 @@ only_blocked layout s start run i job store core one some none blocked stands =
     let n = newest_sight s start run run 0 i some in
     let map = state_after start (history_of s start run) in
     let there = only_values s start run core.core one in
-    let agrees : Agrees map (seen_last s start run run 0 i) =
-    subst (Agrees map) (sym n.values)
+    let agrees : Agrees map (seen_last s start run run 0 i) = subst (Agrees map) (sym n.values)
     (only_agrees s start (IsLawful layout) run n.later n.before n.sight i core n.is one n.is_one
     (omega (arith, n.attempt)) none) in
     blocked map store (subst (λ (m : List Val). StandsFor layout m store) (sym there) stands) agrees

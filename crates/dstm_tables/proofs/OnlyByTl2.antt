@@ -83,8 +83,7 @@ only_done t run r one = sym (only_committed t (will_of t run) run r one) ∙ eac
 pub only_values : (t : Table) (run : List Event) → Run t run → t.callers ≡ 1 →
     state_after t.start (history_of t run) ≡ state_after t.start (entries_of (reverse (done_by t run 0)))
 only_values t run r one =
-    ap (state_after t.start)
-    (entries_are_history t run
+    ap (state_after t.start) (entries_are_history t run
     ∙ ap (λ (cs : List Committed). reverse (map (λ (done : Committed). done.entry) cs)) (only_done t run r one)
     ∙ sym (entries_reverse (done_by t run 0)))
 

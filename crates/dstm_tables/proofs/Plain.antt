@@ -4,22 +4,15 @@ use Rattle.std.specs.Prelude.{All}
 use Rattle.std.specs.List.{find, AllByRecursion}
 use Rattle.std.proofs.lemmas.List.Elements.{recursion_from_All}
 use Rattle.dstm_model.specs.declared.op.Op.{Op}
-use Rattle.dstm_model.specs.declared.op.Op.TheVariants.{Transfer, Balance, Total, Insert, Remove, Member, Put, Get, Await, OrElse}
+use Rattle.dstm_model.specs.declared.op.Op.TheVariants.{Await, OrElse}
 use Rattle.dstm_model.specs.Job.{apply_all, apply_job, branches_of, is_open, onto_first, run_branch}
 use Rattle.dstm_model.specs.Store.{Store, IsPlain}
 
 one_branch : (ops : List Op) → AllByRecursion IsPlain ops → branches_of ops ≡ ops ∷ []
 one_branch [] plain = refl
-one_branch (Transfer a b x ∷ ops) plain = ap (onto_first (Transfer a b x)) (one_branch ops plain.1)
-one_branch (Balance a ∷ ops) plain = ap (onto_first (Balance a)) (one_branch ops plain.1)
-one_branch (Total ∷ ops) plain = ap (onto_first Total) (one_branch ops plain.1)
-one_branch (Insert w k ∷ ops) plain = ap (onto_first (Insert w k)) (one_branch ops plain.1)
-one_branch (Remove w k ∷ ops) plain = ap (onto_first (Remove w k)) (one_branch ops plain.1)
-one_branch (Member w k ∷ ops) plain = ap (onto_first (Member w k)) (one_branch ops plain.1)
-one_branch (Put k v ∷ ops) plain = ap (onto_first (Put k v)) (one_branch ops plain.1)
-one_branch (Get k ∷ ops) plain = ap (onto_first (Get k)) (one_branch ops plain.1)
 one_branch (Await c ∷ ops) plain = absurd plain.0
 one_branch (OrElse ∷ ops) plain = absurd plain.0
+one_branch (op ∷ ops) plain = ap (onto_first op) (one_branch ops plain.1)
 
 plain_open : (ops : List Op) (store : Store) → AllByRecursion IsPlain ops → is_open store ops ≡ true
 plain_open [] store plain = refl

@@ -11,7 +11,7 @@ use Rattle.dstm_core.specs.Runs.{local}
 use Rattle.dstm_core.specs.State.{LocalState, given}
 use Rattle.dstm_core.specs.Traces.{events_of}
 use Rattle.dstm_core.specs.declared.event.Kind.{Kind}
-use Rattle.dstm_core.specs.declared.event.Kind.TheVariants.{Check, Commit, Draw, LookNumber, LookSelf, PutHigh, PutNew, Quit, Validating as ToValidating}
+use Rattle.dstm_core.specs.declared.event.Kind.TheVariants.{Check, LookNumber, LookSelf, Quit, Validating as ToValidating}
 use Rattle.dstm_core.specs.declared.shape.Manager.{Manager}
 use Rattle.dstm_core.specs.declared.shape.Shape.{Shape}
 use Rattle.dstm_core.specs.declared.state.Phase.{Phase}
@@ -65,22 +65,16 @@ self_last s l e m f LookNumber plain run done =
 self_last s l e m f Check plain run done =
     absurd (checks_by (λ (d : Due). d ≡ Done → ⊥) (after Check s l e).phase (after Check s l e) (λ z. cc) (λ z. cc)
     (λ z. cc) done)
-self_last s l e m f PutHigh plain run done = absurd (cc)
-self_last s l e m f PutNew plain run done = absurd (cc)
 self_last s l e m f ToValidating plain run done = absurd (by (cases_Bool (e.found == 1)))
   where
     by : (e.found == 1 ≡ true) ⊎ (e.found == 1 ≡ false) → ⊥
     by (inl q) = let z = rw q at run in cc
     by (inr q) = let z = rw q at run in cc
-self_last s l e m f Draw plain run done = absurd (cc)
-self_last s l e m f Commit plain run done = absurd (cc)
-self_last s l e m f Quit plain run done = absurd (cc)
 self_last s l e m f k plain run done = absurd (cc)
 
 ends_with_self : (s : Shape) (l : LocalState) (g : Lcg) (e : Event) (es : List Event) →
     Obeys (Doing Rechecking) s l g (e ∷ es) → due_after (Doing Rechecking) s l g (e ∷ es) ≡ Done →
-    (state_after s l (e ∷ es)).phase ≡ Running →
-    (e.kind ≡ LookSelf) × (e.found ≡ given (state_after s l es).phase)
+    (state_after s l (e ∷ es)).phase ≡ Running → (e.kind ≡ LookSelf) × (e.found ≡ given (state_after s l es).phase)
 ends_with_self s l g e es obeys done run =
     cond_both (is_outside now.phase) Done (if now.stale || (f.missed == MAX_MISSED) then just Quit else due_next)
     (λ (d : Due). d ≡ Done → Ends) (λ out _. absurd (let in_run = ap is_outside run in cc)) (λ _.

@@ -46,8 +46,7 @@ stood_alone style layout job k n one law was = record {
   same_done = was.same_done;
   blocked = λ store stands.
       only_blocked layout s (start_of n) n.log (state n).begun job store core only
-      (at_zero (λ c. 1 ≤ count_of completes_pass s n.log c (state n).begun) was.given_up.sights)
-      none
+      (at_zero (λ c. 1 ≤ count_of completes_pass s n.log c (state n).begun) was.given_up.sights) none
       (at_zero (λ c. IsBlockedWith layout (seen_last s (start_of n) n.log n.log c (state n).begun) (Some job)) was.blocked)
       (at_zero (λ c. StandsFor layout (state_after (start_of n) (entries_of (reverse (done_by s (start_of n) n.log n.log c)))) store)
       stands);
@@ -74,16 +73,14 @@ stood_alone style layout job k n one law was = record {
     none : NoneCommitted (shape_of n) n.log 0 (state n).begun
     none j from to committed =
         let last : j ≡ (state n).begun = omega (arith, from, ap (λ (c : ℕ). (local (shape_of n) n.log c).begun) number) in
-        was.uncommitted
-        (subst (HasCommitted (shape_of n) n.log n.number) last
+        was.uncommitted (subst (HasCommitted (shape_of n) n.log n.number) last
         (subst (λ (c : ℕ). HasCommitted (shape_of n) n.log c j) (sym number) committed))
 
 -- ---- an entry that names no object
 
 nothing_named : (pairs : List (ℕ × Val)) → ((o : ℕ) → value_in pairs o ≡ None) → pairs ≡ []
 nothing_named [] none = refl
-nothing_named (p ∷ ps) none =
-    absurd (let some = value_in-same p ps p.0 refl in let unnamed = none p.0 in cc)
+nothing_named (p ∷ ps) none = absurd (let some = value_in-same p ps p.0 refl in let unnamed = none p.0 in cc)
 
 -- a transaction that opened nothing
 pub opened_none : {k n : Caller} {before : List Committed} (by : Committed) → OneMore k n → callers.done n ≡ by ∷ before →
@@ -103,8 +100,7 @@ opened_none by made newest before unread unwritten = record {
 -- nothing is set, so a lawful map stays so
 pub stays_lawful : (b : Called StoreLaw) (map : List Val) → ((o : ℕ) → written b o ≡ None) → keeps (law_of b) map →
     keeps (law_of b) (with_set map (written b))
-stays_lawful b map none lawful =
-    subst (keeps (law_of b)) (sym (with_set-nothing map (written b) none)) lawful
+stays_lawful b map none lawful = subst (keeps (law_of b)) (sym (with_set-nothing map (written b) none)) lawful
 
 pub gave_up : (k b n : Called StoreLaw) (number : ℕ) → BeginsAnew keeps k b → OneMore (Dstm k) (Dstm n) →
     Commits b n number → HasGivenUp (Dstm k) (Dstm n) number

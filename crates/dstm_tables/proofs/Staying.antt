@@ -35,8 +35,7 @@ past_refl (round.Tl2 r) = (refl, past_self r.log)
 pub past_trans : (a b c : Round) → IsPast a b → IsPast b c → IsPast a c
 past_trans (round.Dstm a) (round.Dstm b) (round.Dstm c) one two =
     (two.0 ∙ one.0, past_past a.log b.log c.log one.1 two.1)
-past_trans (round.Tl2 a) (round.Tl2 b) (round.Tl2 c) one two =
-    (two.0 ∙ one.0, past_past a.log b.log c.log one.1 two.1)
+past_trans (round.Tl2 a) (round.Tl2 b) (round.Tl2 c) one two = (two.0 ∙ one.0, past_past a.log b.log c.log one.1 two.1)
 past_trans (round.Dstm a) (round.Dstm b) (round.Tl2 c) one two = absurd two
 past_trans (round.Tl2 a) (round.Tl2 b) (round.Dstm c) one two = absurd two
 past_trans a b c one two = absurd one

@@ -22,6 +22,21 @@ use Rattle.dstm_engine.specs.Callers.{begun_log}
 
 -- ---- what a caller has installed, by its last Begin
 
+-- an event that is no Install keeps what was installed, and one that is no Begin either what is open for writing
+abbrev Stays : LocalState → Kind → LocalState → Type 0
+Stays l k m = (m.installed ≡ l.installed) × (k ≢ Begin → m.writes ≡ l.writes)
+
+pub stays : (s : Shape) (l : LocalState) (e : Event) (k : Kind) → k ≢ Install → Stays l k (after k s l e)
+stays s l e Install other = absurd (other refl)
+stays s l e LookSelf other =
+    cond_both (e.found == given l.phase) _ _ (Stays l LookSelf) (λ _. (refl, λ _. refl)) (λ _. (refl, λ _. refl))
+stays s l e ToValidating other =
+    cond_both (e.found == 1) _ _ (Stays l ToValidating) (λ _. (refl, λ _. refl)) (λ _. (refl, λ _. refl))
+stays s l e Pause other = cond_both (e.found == 1) _ _ (Stays l Pause) (λ _. (refl, λ _. refl)) (λ _. (refl, λ _. refl))
+stays s l e Resume other = cond_both (e.found == 2) _ _ (Stays l Resume) (λ _. (refl, λ _. refl)) (λ _. (refl, λ _. refl))
+stays s l e Begin other = (refl, λ no. absurd (no refl))
+stays s l e k other = (refl, λ _. refl)
+
 -- an event that is no Begin installs as many locators as it adds writes
 installs : (s : Shape) (l : LocalState) (e : Event) (k : Kind) → k ≢ Begin → (n : ℕ) → l.installed ≡ n + length l.writes →
     (after k s l e).installed ≡ n + length (after k s l e).writes
@@ -36,15 +51,7 @@ installs s l e Install other n h =
       locator = next_locator s l;
       old = or_zero (version (res l));
     }
-installs s l e LookSelf other n h =
-    cond_both (e.found == given l.phase) _ _ (λ (m : LocalState). m.installed ≡ n + length m.writes) (λ _. h) (λ _. h)
-installs s l e ToValidating other n h =
-    cond_both (e.found == 1) _ _ (λ (m : LocalState). m.installed ≡ n + length m.writes) (λ _. h) (λ _. h)
-installs s l e Pause other n h =
-    cond_both (e.found == 1) _ _ (λ (m : LocalState). m.installed ≡ n + length m.writes) (λ _. h) (λ _. h)
-installs s l e Resume other n h =
-    cond_both (e.found == 2) _ _ (λ (m : LocalState). m.installed ≡ n + length m.writes) (λ _. h) (λ _. h)
-installs s l e k other n h = h
+installs s l e k other n h = let same = stays s l e k (λ q. cc) in rw (same.0, same.1 other) h
 
 is_one : (k : Kind) → is_begin k ≡ true → k ≡ Begin
 is_one Begin is = refl
@@ -64,8 +71,7 @@ installed_there s c (e ∷ log) = by (cases_eq e.caller c) (cases_Bool (is_begin
     there = (local s (begun_log c log) c).installed
 
     by : (e.caller ≡ c) ⊎ (e.caller ≡ c → ⊥) → (is_begin e.kind ≡ true) ⊎ (is_begin e.kind ≡ false) →
-        (local s log c).installed ≡ there + length (local s log c).writes →
-        (local s (e ∷ log) c).installed
+        (local s log c).installed ≡ there + length (local s log c).writes → (local s (e ∷ log) c).installed
         ≡ (local s (begun_log c (e ∷ log)) c).installed + length (local s (e ∷ log) c).writes
     by (inl own) (inl begins) ih =
         let now : local s (e ∷ log) c ≡ after e.kind s (local s log e.caller) e =
@@ -95,18 +101,6 @@ installed_there s c (e ∷ log) = by (cases_eq e.caller c) (cases_Bool (is_begin
 
 -- ---- calls that install nothing
 
-keeps_installed : (s : Shape) (l : LocalState) (e : Event) (k : Kind) → k ≢ Install → (after k s l e).installed ≡ l.installed
-keeps_installed s l e Install other = absurd (other refl)
-keeps_installed s l e LookSelf other =
-    cond_both (e.found == given l.phase) _ _ (λ (m : LocalState). m.installed ≡ l.installed) (λ _. refl) (λ _. refl)
-keeps_installed s l e ToValidating other =
-    cond_both (e.found == 1) _ _ (λ (m : LocalState). m.installed ≡ l.installed) (λ _. refl) (λ _. refl)
-keeps_installed s l e Pause other =
-    cond_both (e.found == 1) _ _ (λ (m : LocalState). m.installed ≡ l.installed) (λ _. refl) (λ _. refl)
-keeps_installed s l e Resume other =
-    cond_both (e.found == 2) _ _ (λ (m : LocalState). m.installed ≡ l.installed) (λ _. refl) (λ _. refl)
-keeps_installed s l e k other = refl
-
 other_kind : (e : Event) (k : Kind) → e.kind ≡ k → (k ≡ Install → ⊥) → e.kind ≢ Install
 other_kind e k is other q = other (sym is ∙ q)
 
@@ -119,8 +113,7 @@ pub leaving_installs : (s : Shape) (l : LocalState) (g : Lcg) (events : List Eve
     (state_after s l events).installed ≡ l.installed
 leaving_installs s l g [] obeys = refl
 leaving_installs s l g (e ∷ events) obeys =
-    keeps_installed s (state_after s l events) e e.kind
-    (leaving_kind (is_outside (state_after s l events).phase) e obeys.1)
+    (stays s (state_after s l events) e e.kind (leaving_kind (is_outside (state_after s l events).phase) e obeys.1)).0
     ∙ leaving_installs s l g events obeys.0
 
 -- and commits none
@@ -153,10 +146,9 @@ pub beginning_installs : (s : Shape) (fresh : Bool) (l : LocalState) (g : Lcg) (
 beginning_installs s fresh l g [] obeys = refl
 beginning_installs s fresh l g (e ∷ events) obeys =
     let m = state_after s l events in
-    keeps_installed s m e e.kind
-    (beginning_kind (has_begun (newest_of events)) (not (is_outside m.phase)) (is_spent s m)
+    (stays s m e e.kind (beginning_kind (has_begun (newest_of events)) (not (is_outside m.phase)) (is_spent s m)
     (has_stamps s.manager && fresh && not m.stamped) (has_ranks s.manager && not m.ranked)
-    (if rises s.manager && fresh then 0 else m.rank) e obeys.1)
+    (if rises s.manager && fresh then 0 else m.rank) e obeys.1)).0
     ∙ beginning_installs s fresh l g events obeys.0
 
 -- ---- nothing is open for writing

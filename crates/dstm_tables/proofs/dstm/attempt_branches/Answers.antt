@@ -18,9 +18,6 @@ use Rattle.dstm_compose.specs.declared.body.Outcome.{Outcome}
 use Rattle.dstm_compose.specs.declared.body.Outcome.TheVariants.{Blocked, Ran}
 use Rattle.dstm_store.specs.declared.job.JobTask.{JobTask}
 use Rattle.dstm_store.specs.Whole.{IsLawful}
-use Rattle.dstm_tables.specs.declared.style.Style.TheVariants.{Branches}
-use Rattle.dstm_tables.specs.declared.tables.Caller.TheVariants.{Dstm}
-use Rattle.dstm_tables.specs.Jobs.{StoodAt}
 use Rattle.dstm_tables.specs.Law.{keeps}
 use Rattle.dstm_order.specs.Tasks.Task.{Beginning, Leaving}
 use Rattle.dstm_order.specs.Retries.{TriesAgain}
@@ -78,8 +75,7 @@ commit-requires-clause-lawful c map admits =
     let there = home keeps c.args.caller.now c.in-Ok.tx.caller.now c.run.new.tx.caller.now _ _ _ _ begins place in
     subst (λ (l : Layout). IsLawful l (with_set map (written c.run.new.tx.caller.now)))
     (ap (λ (t : JobTask). t.layout) c.in-Ok-run.ensures.task ∙ c.make-body.ensures.layout ∙ sym c.requires.law
-    ∙ ap (λ (h : Home _). h.terms.law.value.layout) (sym there))
-    (c.in-Ok-run.ensures.lawful map admits)
+    ∙ ap (λ (h : Home _). h.terms.law.value.layout) (sym there)) (c.in-Ok-run.ensures.lawful map admits)
 
 pub returns-in-Ok-commit-clause-tried : goal.returns-in-Ok-commit-clause-tried
 returns-in-Ok-commit-clause-tried c =
@@ -110,13 +106,13 @@ returns-in-Ok-rechecked-clause-tried c =
     let place = rechecked.place ∙ ran.leads.place in
     let at = goal.at.returns-in-Ok-rechecked-clause-tried c in
     let nh : n.home ≡ u.home = left.steps.same.0 in
-    let one = one_more_by k b u _ _ _ _ begins place n nh left.steps.same.1 left.attempt
+    let was = stood at.After-caller-in-Blocked-1 in
+    let one = one_more_by was n nh left.steps.same.1 left.attempt
     (run_there u n nh left.steps.run) (rests u n left.steps)
-    (makes_both TriesAgain k u n (calls_by k b u _ _ _ _ begins place c.requires.rest u refl refl refl refl
+    (makes_both TriesAgain k u n (calls_by was c.requires.rest u refl refl refl refl
     (left.ended (ap (λ x. x || is_some u.left) rechecked.stands.live)).told)
     (makes_one TriesAgain keeps Leaving u n None tt left.steps))
-    (λ some. aborted_fresh k b u _ _ _ _ begins place n (ap (λ (x : Called _). x.fresh) left.kept)
-    (run_there u n nh left.steps.run)
+    (λ some. aborted_fresh was n (ap (λ (x : Called _). x.fresh) left.kept) (run_there u n nh left.steps.run)
     (aborts u n left.steps (rechecked.stands.newest c.requires.some).run rechecked.stands.live some) some) in
     let there : t.home ≡ k.home = home keeps k b t _ _ _ _ begins ran.leads.place in
     let law = ap (λ (h : Home _). h.terms.law.value.layout) there ∙ c.requires.law in
@@ -124,17 +120,13 @@ returns-in-Ok-rechecked-clause-tried c =
     ∙ ap objects_of c.requires.law in
     let blocked : c.run.new.body.outcome ≡ Blocked = sym c.outcome.ensures ∙ c.in-Blocked.is in
     let began : b.home ≡ k.home = begins.steps.same.0 in
-    let unopened : (shape_of k).all_write ≡ false → (o : ℕ) → is_opened u o ≡ false = λ reads o.
-    rechecked.opened o
+    let unopened : (shape_of k).all_write ≡ false → (o : ℕ) → is_opened u o ≡ false = λ reads o. rechecked.opened o
     ∙ unopened_by b t o ran.leads.live
     ((ran.looks blocked).opens (ap (λ (h : Home _). h.terms.shape.all_write) began ∙ reads) o) (begins.unopened o) in
-    subst (λ (x : Called _). StoodAt Branches c.args.rechecks c.args.layout.now c.args.job.now (Dstm k) (Dstm x))
-    (sym (stood at.After-caller-in-Blocked-1).end)
-    (stood_at c.args.rechecks c.args.layout.now c.args.job.now k b t u n c.requires.some ran.few one
+    rw was.end (stood_at c.args.rechecks c.args.layout.now c.args.job.now k b t u n c.requires.some ran.few one
     (left.done ∙ same_done keeps k b u _ _ _ _ begins place) law size rechecked.stands left.steps begins
     (ap (λ (p : TxPlace _). p.home) place) (ap (λ (p : TxPlace _). p.number) place) (ap (λ (p : TxPlace _). p.began) place)
-    unopened
-    (right at.In-Ok-run Blocked blocked))
+    unopened (right at.In-Ok-run Blocked blocked))
 
 pub returns-in-Err-rechecked-clause-tried : goal.returns-in-Err-rechecked-clause-tried
 returns-in-Err-rechecked-clause-tried c =
@@ -175,8 +167,7 @@ returns-in-Err-commit-clause-keeps c =
 
 stood_keeping : (c : After-caller-in-Blocked-1) → let_go c.caller-in-Blocked-1.given.0 ≡ let_go c.args.caller.now
 stood_keeping c =
-    keeps_reads (stood c) (c.recheck_often-rechecked.ensures.kept ∙ c.in-Ok-run.ensures.kept) tt
-    c.abandon.ensures.steps
+    keeps_reads (stood c) (c.recheck_often-rechecked.ensures.kept ∙ c.in-Ok-run.ensures.kept) tt c.abandon.ensures.steps
 
 pub returns-in-Ok-rechecked-clause-keeps : goal.returns-in-Ok-rechecked-clause-keeps
 returns-in-Ok-rechecked-clause-keeps c =

@@ -47,8 +47,7 @@ returns-in-Ok-commit c = λ rechecks.
     (made keeps k b t _ _ _ _ begins place n _ commit.kept commit.stays.attempt commit.number.free
     (λ _. commit.number.valid) commit.seen commit.stays.steps.run commit.told)
     (settled keeps k b t _ _ _ _ begins place _ n c.in-Ok-commit.number _ commit.kept commit.stays.steps.run commit.number
-    (λ map admits.
-    right_for c.args.layout.now c.args.job.now.ops c.run.new.self.task c.run.new.self.outcome _ map _
+    (λ map admits. right_for c.args.layout.now c.args.job.now.ops c.run.new.self.task c.run.new.self.outcome _ map _
     (ap (λ (j : JobTask). j.layout) ran.task ∙ c.make-body.ensures.layout)
     (ap (λ (j : JobTask). j.ops) ran.task ∙ c.make-body.ensures.ops) (sym c.outcome.ensures ∙ c.in-Ran.is)
     (ran.right map admits)))))
@@ -82,8 +81,7 @@ returns-in-Blocked c = λ rechecks.
     in_the_end P _ _ _ _ (assumption c) name (subst P (sym c.abandon.ensures.same)
     (stood_at k b t _ _ _ _ begins place c.requires.rest (rests _ (and_parts _ _ ran.leads.live).1) c.abandon.ensures.run
     (c.abandon.ensures.told (rest_made t (rests _ (and_parts _ _ ran.leads.live).1)))
-    rechecks c.args.layout.now c.args.job.now c.requires.law
-    (λ map admits.
+    rechecks c.args.layout.now c.args.job.now c.requires.law (λ map admits.
     right_for c.args.layout.now c.args.job.now.ops c.run.new.self.task c.run.new.self.outcome _ map _
     (ap (λ (j : JobTask). j.layout) ran.task ∙ c.make-body.ensures.layout)
     (ap (λ (j : JobTask). j.ops) ran.task ∙ c.make-body.ensures.ops) (sym c.outcome.ensures ∙ c.in-Blocked.is)

@@ -29,8 +29,6 @@ returns-clause-given_up c =
     let h = c.in-Ok.tx.stm.now in
     let name = same_name keeps k b b r r h h begins refl _ c.in-Ok.ensures.same in
     in_the_end (λ (x : TlCalled _). HasGivenUp (Tl2 k) (Tl2 x) c.in-Ok-commit.number) _ _ _ _ (assumption c) name
-    (gave_up k b n c.in-Ok-commit.number begins
-    (tl2_more k n _ c.requires.rest
+    (gave_up k b n c.in-Ok-commit.number begins (tl2_more k n _ c.requires.rest
     (made keeps k b b r r h h begins refl n _ commit.kept commit.stays.attempt commit.number.free
-    (λ _. commit.number.valid) commit.seen commit.stays.steps.run commit.told))
-    commit.number)
+    (λ _. commit.number.valid) commit.seen commit.stays.steps.run commit.told)) commit.number)

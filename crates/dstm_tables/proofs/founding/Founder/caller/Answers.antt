@@ -6,8 +6,7 @@ use Rattle.dstm_tables.proofs.founding.Founder.caller.Goals as goal
 
 pub returns-in-Ok : goal.returns-in-Ok
 returns-in-Ok c =
-    let g = c.caller.new.self in
-    rw c.in-Dstm.is (dstm_new c.args.table.now c.in-Dstm.founder g c.args.seed c.in-Ok.caller
+    rw c.in-Dstm.is (dstm_new c.args.table.now c.in-Dstm.founder c.caller.new.self c.args.seed c.in-Ok.caller
     (ap home_there (sym c.in-Dstm.is) ∙ c.requires.table) c.in-Ok.ensures.caller)
 
 pub returns-in-Ok-caller : goal.returns-in-Ok-caller

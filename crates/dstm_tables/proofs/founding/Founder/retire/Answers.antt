@@ -13,8 +13,7 @@ returns-in-Dstm-caller c =
     let g = c.retire.new.self in
     let k = c.in-Dstm-caller.caller in
     subst (λ (x : Founder). TakesBack x (Dstm g) c.args.caller) (sym c.in-Dstm.is)
-    (subst (λ (x : Caller). TakesBack (Dstm f) (Dstm g) x) (sym c.in-Dstm-caller.is)
-    (dstm_back f g k
+    (subst (λ (x : Caller). TakesBack (Dstm f) (Dstm g) x) (sym c.in-Dstm-caller.is) (dstm_back f g k
     (dstm_home_is k f (ap home_of (sym c.in-Dstm-caller.is) ∙ c.requires.caller ∙ sym c.requires.table ∙ ap home_there c.in-Dstm.is))
     (subst IsOver c.in-Dstm-caller.is c.requires.over) c.retire.ensures.retired))
 
@@ -24,7 +23,6 @@ returns-in-Tl2-caller-2 c =
     let g = c.retire-in-Tl2-caller-2.new.self in
     let k = c.in-Tl2-caller-2.caller in
     subst (λ (x : Founder). TakesBack x (Tl2 g) c.args.caller) (sym c.in-Tl2.is)
-    (subst (λ (x : Caller). TakesBack (Tl2 f) (Tl2 g) x) (sym c.in-Tl2-caller-2.is)
-    (tl2_back f g k
+    (subst (λ (x : Caller). TakesBack (Tl2 f) (Tl2 g) x) (sym c.in-Tl2-caller-2.is) (tl2_back f g k
     (tl2_home_is k f (ap home_of (sym c.in-Tl2-caller-2.is) ∙ c.requires.caller ∙ sym c.requires.table ∙ ap home_there c.in-Tl2.is))
     (subst IsOver c.in-Tl2-caller-2.is c.requires.over) c.retire-in-Tl2-caller-2.ensures.retired))
