@@ -89,5 +89,5 @@ apart_append (x ∷ xs) ys a b none = (
 pub apart_of : (xs ys : List ℕ) (n : ℕ) → AreApart (xs ++ ys) → Contains xs n → Contains ys n → ⊥
 apart_of [] ys n apart left right = no_number n left
 apart_of (x ∷ xs) ys n apart left right = ⊎_elim
-    (λ here. apart.0 (subst (Contains (xs ++ ys)) (one_of x n here) (Contains-append_right xs ys n right)))
+    (λ here. apart.0 (rw (← one_of x n here) (Contains-append_right xs ys n right)))
     (λ there. apart_of xs ys n apart.1 there right) (Contains-append_cases (x ∷ []) xs n left)

@@ -70,5 +70,4 @@ module _ {K T B S : Type 0} (shared : Shared K T B S) where
   -- a seat that is joined has other numbers than the first one
   pub numbers_differ : (v other w : View K T) (m n : ℕ) → Joined shared v other w → Contains v.numbers m →
       Contains other.numbers n → m ≢ n
-  numbers_differ v other w m n j left right same =
-      apart_of v.numbers other.numbers n j.unlike (subst (Contains v.numbers) same left) right
+  numbers_differ v other w m n j left right same = apart_of v.numbers other.numbers n j.unlike (rw (← same) left) right

@@ -38,4 +38,4 @@ returns-clause-joined g c =
     Meets g.M.Machine.shared v c.load-found.new.seat.me.0 in
     let both = ap {A = Me ℕ (View g.row.M-Kind.Denot g.row.M-Terms.Denot)} (λ m. m.0) c.join_seat.ensures.2 in
     joined_after g.M.Machine.shared g.M.Machine.enrolling c.self.inside.table.shared.key _ _ _
-    (subst Met both c.load-found.ensures.2.1)
+    (rw (← both) c.load-found.ensures.2.1)
