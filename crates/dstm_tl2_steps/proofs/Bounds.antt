@@ -67,14 +67,10 @@ module _ {L : Type 0} {holds : L → List Val → Type 0} {home : Home L} {b : B
   now_is = ap (λ o. state_by tl2 (table_of home.terms) o (view_of steps.seat).log) (sym (number_of u))
 
   pub static_now : Static (table_of home.terms) (now home steps)
-  static_now =
-      subst (Static (table_of home.terms)) now_is
-      (static (table_of home.terms) (view_of steps.seat).log u.run.run.run b.number)
+  static_now = rw (← now_is) (static (table_of home.terms) (view_of steps.seat).log u.run.run.run b.number)
 
   clock_now : ClockOk (table_of home.terms) (view_of steps.seat).log (now home steps)
-  clock_now =
-      subst (ClockOk (table_of home.terms) (view_of steps.seat).log) now_is
-      (clock_ok (table_of home.terms) (view_of steps.seat).log u.run.run.run b.number)
+  clock_now = rw (← now_is) (clock_ok (table_of home.terms) (view_of steps.seat).log u.run.run.run b.number)
 
   clock_below : clock (table_of home.terms) (view_of steps.seat).log < 2 ^ 61
   clock_below =

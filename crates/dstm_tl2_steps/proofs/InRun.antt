@@ -1,13 +1,13 @@
 -- What holds of a call under way since its log is a run: of the objects that it has locked, and of its new versions.
 use Rattle.std.proofs.lemmas.List.Elements.{All-head, All-tail}
-use Rattle.std.proofs.Common.{◌≡◌, ◌==◌, ◌<◌, ◌+◌, ◌*◌, ◌⊎◌, ◌∷◌, ℕ, inl, inr, List, [], refl, arith, subst, true, false, Option, Some, None, is_some}
+use Rattle.std.proofs.Common.{◌≡◌, ◌==◌, ◌<◌, ◌+◌, ◌*◌, ◌⊎◌, ◌∷◌, ℕ, inl, inr, List, [], refl, arith, true, false, Option, Some, None, is_some}
 use Rattle.std.proofs.lemmas.Bool.{cases_eq, ne_eqb}
 use Rattle.dstm_model.specs.declared.value.Val.{Val}
 use Rattle.dstm_tl2.specs.Rules.{IsHeld}
 use Rattle.dstm_tl2.specs.Sharing.{table_of}
 use Rattle.dstm_tl2.specs.State.{Hold, Read, hold_of, read_of}
 use Rattle.dstm_tl2.specs.Words.{Table, objects}
-use Rattle.dstm_tl2.proofs.Clock.{ClockOk, clock_ok}
+use Rattle.dstm_tl2.proofs.Clock.{clock_ok}
 use Rattle.dstm_tl2.proofs.Static.{ReadOk, ReadsOk}
 use Rattle.dstm_tl2_words.specs.Seats.{Home, view_of}
 use Rattle.dstm_tl2_order.specs.declared.again.TlAgain.{TlAgain}
@@ -44,8 +44,7 @@ module _ {L : Type 0} {holds : L → List Val → Type 0} {home : Home L} {b : B
   pub new_word : (n o : ℕ) (k : Hold) → (now home steps).drawn ≡ Some n →
       hold_of o (now home steps).holds ≡ Some k → (2 * n + 2 == k.word) ≡ false
   new_word n o k q h =
-      let clock = subst (ClockOk (table_of home.terms) (view_of steps.seat).log) (now_is u)
-      (clock_ok (table_of home.terms) (view_of steps.seat).log u.run.run.run b.number) in
+      let clock = rw (now_is u) at (clock_ok (table_of home.terms) (view_of steps.seat).log u.run.run.run b.number) in
       ne_eqb (2 * n + 2) k.word (λ same.
       let r = ((static_now u).locks o k h).readable in
       let v = r.0 in let w = r.1 in let l = r.2 in

@@ -1,7 +1,7 @@
-use Rattle.std.proofs.Common.{◌≡◌, ◌<◌, ◌≤◌, ◌∙◌, Some, length, refl, ap, sym, subst}
+use Rattle.std.proofs.Common.{◌≡◌, ◌<◌, ◌∙◌, Some, length, refl, ap, sym}
 use Rattle.dstm_tl2.specs.State.{read_of}
 use Rattle.dstm_tl2_steps.specs.Opened.{write_at}
-use Rattle.dstm_tl2_steps.specs.Under.{Lists, now}
+use Rattle.dstm_tl2_steps.specs.Under.{now}
 use Rattle.dstm_tl2_steps.proofs.LockingAll.{has_slot, has_word, lists_now, locks_all, lost_ends, lost_lists, lost_under, then_goes_on, was_read}
 use Rattle.dstm_tl2_steps.proofs.Slotted.{not_nothing}
 use Rattle.dstm_tl2_steps.proofs.steps.Steps.lock_all.Given.{Over}
@@ -55,8 +55,7 @@ give_back-requires-clause-under g c = (
 
 pub give_back-requires-clause-lists : goal.give_back-requires-clause-lists
 give_back-requires-clause-lists g c =
-    subst (Lists c.args.words.now c.lock.new.self c.args.opened.now) (sym c.loop-write.invariant.counted)
-    (lost_lists c.requires.lists c.requires.rest
+    rw c.loop-write.invariant.counted (lost_lists c.requires.lists c.requires.rest
     c.loop-write.invariant.so_far (within g (goal.at.give_back-requires-clause-lists g c).In-loop-write)
     c.requires.work.0 c.requires.work.1 _ c.word-word.result c.in-Err.found
     c.writes-in-loop-write.ensures.items c.in-Err.ensures.went c.in-Err.ensures.answer)
@@ -74,13 +73,11 @@ returns-clause-all g c =
     let same : c.deref-write-items.result.now ≡ c.args.opened.now.writes =
     c.deref-write-items.ensures.value ∙ c.writes.ensures.items in
     c.loop-write.invariant.counted
-    ∙ (locks_all c.loop-write.invariant.so_far
-    (subst (λ ws. length ws ≤ c.loop-write.write-index) same c.loop-write-test.false)).0
+    ∙ (locks_all c.loop-write.invariant.so_far (rw (← same) c.loop-write-test.false)).0
 
 pub returns-clause-lists : goal.returns-clause-lists
 returns-clause-lists g c =
-    subst (Lists c.args.words.now c.loop-write.self c.args.opened.now) (sym c.loop-write.invariant.counted)
-    (lists_now c.requires.lists c.requires.rest c.loop-write.invariant.so_far)
+    rw c.loop-write.invariant.counted (lists_now c.requires.lists c.requires.rest c.loop-write.invariant.so_far)
 
 pub returns-clause-goes_on : goal.returns-clause-goes_on
 returns-clause-goes_on g c =
