@@ -454,5 +454,5 @@ stood_at rechecks layout job k b t u n some few one same law size rechecked left
       length = stands.objects ∙ sym size;
       lawful = rw law (store, stands);
       agrees = λ o.
-          rw (← rechecked.held o) (AgreesWith-of_agrees map (entry u).reads (subst (Agrees map) covers agrees) o);
+          rw (← rechecked.held o) (AgreesWith-of_agrees map (entry u).reads (rw (← covers) agrees) o);
     }

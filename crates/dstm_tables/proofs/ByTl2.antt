@@ -9,7 +9,7 @@ use Rattle.dstm_tl2.specs.declared.kind.Kind.{Kind}
 use Rattle.dstm_tl2.specs.declared.kind.Kind.TheVariants.{Sample, LookAgain, Lock}
 use Rattle.dstm_tl2.specs.Rules.{AllowedAs, Event, after, lock, record_read}
 use Rattle.dstm_tl2.specs.Runs.{Run, local, tl2}
-use Rattle.dstm_tl2.specs.Sharing.{IsRunOf, table_of}
+use Rattle.dstm_tl2.specs.Sharing.{IsRunOf}
 use Rattle.dstm_tl2.specs.State.{LocalState, look_of}
 use Rattle.dstm_tl2.specs.Words.{Table}
 use Rattle.dstm_tl2.proofs.Enrolment.{named}
@@ -77,11 +77,9 @@ not_less a b h = ltb-false a b (denied (nat_lt a b) h)
 pub tl2_on : (k n : TlCalled StoreLaw) → AtRest (Tl2 k) → n.home ≡ k.home → n.number ≡ k.number → IsPastOf k.log n.log →
     IsRunOf keeps k.home.terms n.log → (state n).holds ≡ [] → Makes LocksItsWrites k n → GoesOn (Tl2 k) (Tl2 n)
 tl2_on k n rest home number past run free calls =
-    let run_there : IsRunOf keeps n.home.terms n.log = subst (λ (h : Home StoreLaw). IsRunOf keeps h.terms n.log) (sym home) run in
-    let before : (local (table_of_caller n) k.log n.number).number ≡ Some n.number =
-    subst (λ (h : Home StoreLaw). (local (table_of h.terms) k.log n.number).number ≡ Some n.number) (sym home)
-    (subst (λ c. (local (table_of_caller k) k.log c).number ≡ Some c) (sym number) rest.enrolled) in
-    let whole : Run (table_of_caller n) (past.later ++ k.log) = subst (Run (table_of_caller n)) (sym past.whole) run_there.run.run in
+    let run_there : IsRunOf keeps n.home.terms n.log = rw home run in
+    let before : (local (table_of_caller n) k.log n.number).number ≡ Some n.number = rw (home, number) rest.enrolled in
+    let whole : Run (table_of_caller n) (past.later ++ k.log) = rw past.whole run_there.run.run in
     record {
       home = ap table.Tl2 home;
       number = number;
@@ -89,9 +87,7 @@ tl2_on k n rest home number past run free calls =
       calls = calls;
       rest = record {
         run = run_there;
-        enrolled =
-            subst (λ (log : List Event). (local (table_of_caller n) log n.number).number ≡ Some n.number) past.whole
-            (number_later (table_of_caller n) n.number past.later k.log whole before);
+        enrolled = rw (← past.whole) (number_later (table_of_caller n) n.number past.later k.log whole before);
         over = free;
         right = tt;
       };

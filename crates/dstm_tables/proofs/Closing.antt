@@ -5,7 +5,6 @@ use Rattle.dstm_machines.specs.Traces.{IsPastOf, events_of}
 use Rattle.dstm_machines.proofs.Own.{same_local}
 use Rattle.dstm_core.specs.Events as core_events
 use Rattle.dstm_core.specs.Runs as core
-use Rattle.dstm_opacity.specs.Committed as core_answers
 use Rattle.dstm_opacity.proofs.Stays.{told_stays}
 use Rattle.dstm_engine.specs.Makes.{count_let_go}
 use Rattle.dstm_words.specs.declared.terms.Terms as core_terms
@@ -103,9 +102,7 @@ dstm_done : (terms : core_terms.Terms StoreLaw) (old new : List core_events.Even
 dstm_done terms old new c run past own =
     let shape = terms.shape in
     let start = terms.start.value.items in
-    subst (λ (log : List core_events.Event). core_answers.done_by shape start log log c ≡ core_answers.done_by shape start old old c)
-    past.whole
-    (told_stays shape start past.later old c (subst (core.Core shape) (sym past.whole) run) (ap (events_of c) past.whole ∙ own))
+    rw (← past.whole) (told_stays shape start past.later old c (rw past.whole run) (ap (events_of c) past.whole ∙ own))
 
 pub done_at_close : (a b : Round) (c : ℕ) → IsRun b → IsPast a b → SameOwn c a b → done_of b c ≡ done_of a c
 done_at_close (Dstm a) (Dstm b) c run past own =

@@ -116,5 +116,5 @@ module _ (k b t : TlCalled StoreLaw) (r q : GName) (h j : Home StoreLaw) (begins
         lawful = rw law_there (held, stands);
         agrees =
             AgreesWith-of_agrees map (read_values (state t).reads)
-            (subst (Agrees map) (reads_so_far (table_of_caller t) t.log t.number begun) agrees);
+            (rw (← reads_so_far (table_of_caller t) t.log t.number begun) agrees);
       }

@@ -54,7 +54,7 @@ no_draw : (s : Shape) (run later es : List Event) (e : Event) (i : ℕ) → run 
     (is_draw e.kind && will_of s run (own_attempt s (local s es e.caller))) ≡ false
 no_draw s run later es e i whole core one at none =
     both (is_draw e.kind) (will_of s run (own_attempt s (local s es e.caller))) (λ draws commits.
-    let here = core_past s later (e ∷ es) (subst (Core s) whole core) in
+    let here = core_past s later (e ∷ es) (rw (← whole) core) in
     let zeroth = only s es e one here in
     let phase = draw_may s (local s es e.caller) e e.kind draws here.1.allowed in
     let inside = running s e.caller (local s es e.caller) (static s es here.0 e.caller) (outside phase) in
@@ -62,8 +62,7 @@ no_draw s run later es e i whole core one at none =
     let own : own_attempt s (local s es e.caller) ≡ 0 * s.attempts + ((local s es 0).begun - 1) =
     rw (number, zeroth) refl in
     let more : (local s es 0).begun ≤ (local s run 0).begun =
-    subst (λ l. (local s es 0).begun ≤ (local s l 0).begun) (append_assoc later (e ∷ []) es ∙ sym whole)
-    (begun_later s (later ++ e ∷ []) es 0) in
+    rw (← (append_assoc later (e ∷ []) es ∙ sym whole)) (begun_later s (later ++ e ∷ []) es 0) in
     none (local s es 0).begun at more (sym (ap (will_of s run) own) ∙ commits))
   where
     outside : {p : _} → p ≡ Validating → p ≢ Outside

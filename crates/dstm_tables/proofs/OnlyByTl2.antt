@@ -1,6 +1,6 @@
 -- A TL2 table with one caller: what an attempt of it has read that has drawn nothing are the values that its transactions
 -- have left.
-use Rattle.std.proofs.Common.{◌≡◌, ◌∙◌, ◌==◌, ◌⊎◌, ◌∷◌, ℕ, List, [], Bool, true, false, None, refl, sym, ap, subst, arith, inl, inr, map, reverse}
+use Rattle.std.proofs.Common.{◌≡◌, ◌∙◌, ◌==◌, ◌⊎◌, ◌∷◌, ℕ, List, [], Bool, true, false, None, refl, sym, ap, arith, inl, inr, map, reverse}
 use Rattle.std.specs.Prelude.{◌&&◌}
 use Rattle.std.proofs.lemmas.Bool.{and_from, and_left, and_right, cases_Bool, cond-false, cond-true, eq-eqb}
 use Rattle.dstm_model.specs.declared.value.Val.{Val}
@@ -95,5 +95,4 @@ only_agrees t holds run lawful one none =
     let seen = sample_agrees t holds [] run 0 lawful in
     let same : prefix_at t run (sample_place 0 run) ≡ history_of t run =
     ap reverse (sym (since_sample_none t (will_of t run) run lawful.run one none)) in
-    subst (λ (m : List Val). Agrees m (read_values (local t run 0).reads))
-    (ap (state_after t.start) same ∙ only_values t run lawful.run one) seen.values
+    rw (← (ap (state_after t.start) same ∙ only_values t run lawful.run one)) seen.values

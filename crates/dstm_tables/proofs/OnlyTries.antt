@@ -100,8 +100,7 @@ stood_alone style layout job k n one was = record {
 pub stays_lawful : (k b : TlCalled StoreLaw) (map : List Val) → BeginsAnew keeps k b → keeps (law_of b) map →
     keeps (law_of b) (with_set map (written b))
 stays_lawful k b map begins lawful =
-    subst (keeps (law_of b))
-    (sym (with_set-nothing map (written b) (λ o. ap (λ (x : TlCalled StoreLaw). value_in x.set o) begins.caller))) lawful
+    rw (with_set-nothing map (written b) (λ o. ap (λ (x : TlCalled StoreLaw). value_in x.set o) begins.caller)) lawful
 
 -- a transaction that opened nothing
 pub gave_up : (k b n : TlCalled StoreLaw) (number : ℕ) → BeginsAnew keeps k b → OneMore (Tl2 k) (Tl2 n) → Commits b n number →

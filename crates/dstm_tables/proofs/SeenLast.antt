@@ -85,8 +85,7 @@ pub seen_last-agrees : (shape : Shape) (start : List Val) (c i : ℕ) (more othe
 seen_last-agrees shape start c i more other [] one two caller = refl
 seen_last-agrees shape start c i more other (e ∷ before) one two caller =
     by (cases_Bool test) (seen_last-agrees shape start c i (more ++ e ∷ []) (other ++ e ∷ []) before
-    (subst (Core shape) (sym (append_assoc more (e ∷ []) before)) one)
-    (subst (Core shape) (sym (append_assoc other (e ∷ []) before)) two) caller)
+    (rw (append_assoc more (e ∷ []) before) one) (rw (append_assoc other (e ∷ []) before) two) caller)
   where
     test : Bool
     test = (e.caller == c) && (((local shape before c).begun == i) && completes_pass shape (local shape before c) e)

@@ -1,5 +1,5 @@
 -- What attempts of TL2 saw, in each record.
-use Rattle.std.proofs.Common.{◌≡◌, ◌==◌, ◌&&◌, ◌∷◌, ◌++◌, List, true, false, refl, subst}
+use Rattle.std.proofs.Common.{◌≡◌, ◌==◌, ◌&&◌, ◌∷◌, ◌++◌, List, true, false, refl}
 use Rattle.std.proofs.lemmas.Bool.{and_right, cond-false}
 use Rattle.dstm_store.specs.declared.law.StoreLaw.{StoreLaw}
 use Rattle.dstm_tl2.specs.declared.kind.Kind.{Kind}
@@ -19,8 +19,7 @@ no_sample k is = absurd (cc)
 pub tl2_sights_agree : (terms : Terms StoreLaw) (log : List Event) → IsRunOf keeps terms log → Tl2SightsAgree terms log
 tl2_sights_agree terms log run = λ later before sight is kind found.
     let t = table_of terms in
-    let whole : LawfulRun t (keeps terms.law.value) (later ++ sight ∷ before) =
-    subst (LawfulRun t (keeps terms.law.value)) is run.run in
+    let whole : LawfulRun t (keeps terms.law.value) (later ++ sight ∷ before) = rw (← is) run.run in
     let seen = sample_agrees t (keeps terms.law.value) later (sight ∷ before) sight.caller whole in
     let place : sample_place sight.caller (sight ∷ before) ≡ sample_place sight.caller before =
     cond-false ((sight.caller == sight.caller) && is_sample sight.kind) before (sample_place sight.caller before)

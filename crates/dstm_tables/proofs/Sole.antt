@@ -66,9 +66,7 @@ stood_alone style layout job k n one law was = record {
     at_zero P is = subst P number is
 
     core : CoreRun (shape_of n) (start_of n) (IsLawful layout) n.log
-    core =
-        subst (λ (l : Layout). CoreRun (shape_of n) (start_of n) (IsLawful l) n.log)
-        (ap (λ (t : Terms StoreLaw). t.law.value.layout) was.made.on.seen.0 ∙ law) was.made.on.rest.run.run
+    core = rw (← (ap (λ (t : Terms StoreLaw). t.law.value.layout) was.made.on.seen.0 ∙ law)) was.made.on.rest.run.run
 
     none : NoneCommitted (shape_of n) n.log 0 (state n).begun
     none j from to committed =
