@@ -1,6 +1,5 @@
 -- A load, a store, an exchange and an add keep the rule.
-use Rattle.std.proofs.Common.{◌≡◌, ◌≢◌, ◌⊎◌, ℕ, ◌+◌, ◌^◌, ◌<◌, ◌≤◌, List, [], ◌∷◌, set, get_or, refl, sym, ap, ◌∙◌, subst, ⊎_elim, inl, inr, arith, length-set, get_or-set_same, get_or-set_other, Some, None}
-use Rattle.std.specs.Prelude.{Contains, Option}
+use Rattle.std.proofs.Common.{◌≡◌, ◌≢◌, ◌⊎◌, ℕ, ◌+◌, ◌^◌, ◌<◌, ◌≤◌, List, [], ◌∷◌, set, get_or, refl, sym, ap, ◌∙◌, subst, ⊎_elim, inl, inr, arith, length-set, get_or-set_same, get_or-set_other, Some, None, Contains, Option}
 use Rattle.std.proofs.lemmas.List.Elements.{All-weaker, All-nil, Contains-append_cases}
 use lib.ListN.{get_elem?}
 use mathlib.Core.Logic.{dite}

@@ -1,6 +1,5 @@
 -- The steps, at each of the four accesses.
-use Rattle.std.proofs.Common.{◌≡◌, ◌≢◌, ℕ, ◌+◌, ◌^◌, ◌%◌, ◌<◌, cond, refl, sym, ap, ◌∙◌, subst, arith, lit<, ne_eqb, Some, None}
-use Rattle.std.specs.Prelude.{Option, IfSome, Bool, true, false, ◌==◌}
+use Rattle.std.proofs.Common.{◌≡◌, ◌≢◌, ℕ, ◌+◌, ◌^◌, ◌%◌, ◌<◌, cond, refl, sym, ap, ◌∙◌, subst, arith, lit<, ne_eqb, Some, None, Option, IfSome, Bool, true, false, ◌==◌}
 use Rattle.std.proofs.Math.Nat.{mod-eq_of_lt}
 use mathlib.Core.Logic.{dite}
 use native.Mathlib.Decide.{ℕ_discrete}

@@ -1,7 +1,5 @@
 -- What a seat knows after a step: its number, and the state of its caller.
-use Rattle.std.proofs.Common.{◌≡◌, ◌≢◌, ℕ, List, ◌∷◌, Some, None, refl, sym, ap, ◌∙◌, subst}
-use Rattle.std.proofs.lemmas.Bool.{eq-eqb}
-use Rattle.std.specs.Prelude.{Option, Contains}
+use Rattle.std.proofs.Common.{◌≡◌, ◌≢◌, ℕ, List, ◌∷◌, Some, None, refl, sym, ap, ◌∙◌, subst, eq-eqb, Option, Contains}
 use Rattle.dstm_machines.specs.declared.event.Event.{Event}
 use Rattle.dstm_machines.specs.Machines.{Machine, local}
 use Rattle.dstm_machines.specs.Sharing.{Shared}

@@ -1,6 +1,5 @@
 -- The loop of a pass.
-use Rattle.std.proofs.Common.{◌≡◌, ◌≢◌, ◌⊎◌, ◌*◌, ℕ, ◌+◌, ◌-◌, ◌≤◌, ◌<◌, ◌∙◌, true, false, List, length, drop, slice_index_or, None, Some, is_some, refl, ap, sym, subst, arith}
-use Rattle.std.specs.Prelude.{Option, Bool, ◌||◌, if◌then◌else◌, slice_get}
+use Rattle.std.proofs.Common.{◌≡◌, ◌≢◌, ◌⊎◌, ◌*◌, ℕ, ◌+◌, ◌-◌, ◌≤◌, ◌<◌, ◌∙◌, true, false, List, length, drop, slice_index_or, None, Some, is_some, refl, ap, sym, subst, arith, Option, Bool, ◌||◌, if◌then◌else◌, slice_get, eq-eqb, eqb-true}
 use Rattle.dstm_core.specs.declared.event.Kind.TheVariants.{Check, LookSelf, Commit}
 use Rattle.dstm_core.specs.Rules.{is_outside, May}
 use Rattle.dstm_core.specs.Runs.{local}
@@ -21,7 +20,6 @@ use Rattle.dstm_order.specs.declared.TheConstants.{MAX_MISSED}
 use Rattle.dstm_order.specs.Order.{Due, in_pass, in_checking, is_same, just}
 use Rattle.dstm_steps.specs.declared.slots.ReadSlot.{ReadSlot}
 use Rattle.dstm_steps.specs.declared.steps.Steps.{Steps}
-use Rattle.std.proofs.lemmas.Bool.{eq-eqb, eqb-true}
 use Rattle.std.proofs.lemmas.List.{drop_all}
 use Rattle.dstm_steps.proofs.Kept.{no_slot, slot_next, slot_skip, none_left}
 use Rattle.dstm_steps.specs.Reads.{kept, words_of}

@@ -1,9 +1,8 @@
 -- The slots that a loop has before it are the reads that are left to check.
-use Rattle.std.proofs.Common.{◌≡◌, ℕ, ◌+◌, ◌≤◌, ◌<◌, List, [], ◌∷◌, ◌∙◌, true, false, length, length-drop, drop, refl, sym, ap, arith, add-one, slice_index_or, None}
+use Rattle.std.proofs.Common.{◌≡◌, ℕ, ◌+◌, ◌≤◌, ◌<◌, List, [], ◌∷◌, ◌∙◌, true, false, length, length-drop, drop, refl, sym, ap, arith, add-one, slice_index_or, None, slice_get}
 use Rattle.std.proofs.Math.Seq.{drop-cons}
 use Rattle.std.proofs.lemmas.List.{drop_more, length-map}
 use Rattle.std.proofs.lemmas.Option.{slice_get-get_or}
-use Rattle.std.specs.Prelude.{slice_get}
 use Rattle.dstm_core.specs.declared.state.Read.{Read}
 use Rattle.dstm_core.specs.State.{or_read}
 use Rattle.dstm_model.specs.Map.{no_value}

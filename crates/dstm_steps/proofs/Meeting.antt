@@ -1,6 +1,5 @@
 -- What is due in a conflict, and what is known after each of its events.
-use Rattle.std.proofs.Common.{◌≡◌, ◌≢◌, ◌⊎◌, ℕ, ◌+◌, ◌-◌, ◌*◌, ◌<◌, ◌≤◌, ◌==◌, ◌&&◌, ◌||◌, Bool, true, false, not, None, Some, is_none, is_some, refl, ap, sym, subst, arith, ne_eqb, ◌∙◌, inl, inr, nat_lt, List}
-use Rattle.std.specs.Prelude.{Option, if◌then◌else◌}
+use Rattle.std.proofs.Common.{◌≡◌, ◌≢◌, ◌⊎◌, ℕ, ◌+◌, ◌-◌, ◌*◌, ◌<◌, ◌≤◌, ◌==◌, ◌&&◌, ◌||◌, Bool, true, false, not, None, Some, is_none, is_some, refl, ap, sym, subst, arith, ne_eqb, ◌∙◌, inl, inr, nat_lt, List, Option, if◌then◌else◌}
 use Rattle.std.proofs.lemmas.Bool.{lt-ltb, cond_both, eqb-true}
 use Rattle.std.proofs.lemmas.Bool.Decides.{nat_tests}
 use Rattle.dstm_core.specs.declared.event.Kind.TheVariants.{LookStatus}

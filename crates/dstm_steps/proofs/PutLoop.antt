@@ -1,6 +1,5 @@
 -- The loop that puts the new values, and why the last of them keeps the law.
-use Rattle.std.proofs.Common.{◌≡◌, ◌≢◌, ◌⊎◌, ℕ, ◌+◌, ◌-◌, ◌*◌, ◌≤◌, ◌<◌, ◌∙◌, List, [], ◌∷◌, ◌++◌, length, true, false, None, refl, sym, ap, subst, arith, inl, inr, append_assoc, slice_index_or, ne_eqb}
-use Rattle.std.specs.Prelude.{Option, All}
+use Rattle.std.proofs.Common.{◌≡◌, ◌≢◌, ◌⊎◌, ℕ, ◌+◌, ◌-◌, ◌*◌, ◌≤◌, ◌<◌, ◌∙◌, List, [], ◌∷◌, ◌++◌, length, true, false, None, refl, sym, ap, subst, arith, inl, inr, append_assoc, slice_index_or, ne_eqb, Option, All}
 use Rattle.std.proofs.lemmas.Bool.{cases_lt, eq-eqb}
 use Rattle.std.proofs.lemmas.List.Elements.{All-get_or}
 use Rattle.dstm_core.specs.Events.{Event}

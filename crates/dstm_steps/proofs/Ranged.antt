@@ -1,6 +1,5 @@
 -- What a caller finds is in range: the words that it is aimed at are words of the table.
-use Rattle.std.proofs.Common.{ℕ, Some, refl, ◌≡◌, ◌≢◌, ◌⊎◌, false, ◌-◌, ◌*◌, ◌^◌, ◌<◌, List, true, arith, inl}
-use Rattle.std.specs.Prelude.{Option}
+use Rattle.std.proofs.Common.{ℕ, Some, refl, ◌≡◌, ◌≢◌, ◌⊎◌, false, ◌-◌, ◌*◌, ◌^◌, ◌<◌, List, true, arith, inl, Option}
 use Rattle.std.proofs.lemmas.Bool.Decides.{nat_tests}
 use Rattle.std.proofs.lemmas.Nat.{mul-le}
 use Rattle.dstm_core.specs.Events.{Event}

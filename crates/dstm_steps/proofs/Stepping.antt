@@ -1,7 +1,6 @@
 -- A step of a call that is due goes on with it.
-use Rattle.std.proofs.Common.{◌≡◌, ◌≢◌, ℕ, ◌<◌, ◌∙◌, List, [], ◌∷◌, ◌++◌, ◌==◌, true, false, Some, None, refl, sym, ap, subst, arith, ne_eqb, eq-eqb, is_some, ◌+◌, ◌-◌}
+use Rattle.std.proofs.Common.{◌≡◌, ◌≢◌, ℕ, ◌<◌, ◌∙◌, List, [], ◌∷◌, ◌++◌, ◌==◌, true, false, Some, None, refl, sym, ap, subst, arith, ne_eqb, eq-eqb, is_some, ◌+◌, ◌-◌, Option, IfSome, Bool, ◌||◌, if◌then◌else◌}
 use Rattle.std.proofs.lemmas.Bool.{cond_both}
-use Rattle.std.specs.Prelude.{Option, IfSome, Bool, ◌||◌, if◌then◌else◌}
 use Rattle.dstm_core.specs.Events.{Event}
 use Rattle.dstm_core.specs.declared.event.Kind.{Kind}
 use Rattle.dstm_core.specs.declared.event.Kind.TheVariants.{Enrol, Stamp, Begin, LookObj, LookStatus, LookSelf, Install, Release, Rank, PutHigh, PutNew, Quit, Validating as ToValidating, Pause, Resume}

@@ -1,6 +1,5 @@
 -- The first unused attempt.
-use Rattle.std.proofs.Common.{◌≡◌, ℕ, ◌*◌, ◌<◌, true, is_some, ap, sym, subst, ◌∙◌}
-use Rattle.std.specs.Prelude.{Option, List}
+use Rattle.std.proofs.Common.{◌≡◌, ℕ, ◌*◌, ◌<◌, true, is_some, ap, sym, subst, ◌∙◌, Option, List}
 use Rattle.dstm_core.specs.Runs.{local}
 use Rattle.dstm_core.specs.State.{LocalState, next_attempt}
 use Rattle.dstm_core.specs.declared.shape.Shape.{Shape}

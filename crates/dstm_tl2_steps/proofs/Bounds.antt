@@ -1,8 +1,7 @@
 -- What a call under way knows of its caller's state: bounds, so that no word is near the end of 64 bits, and its number.
-use Rattle.std.proofs.Common.{◌≡◌, ◌≤◌, ◌<◌, ◌*◌, ◌^◌, ◌==◌, ◌⊎◌, ◌∙◌, ℕ, inl, inr, List, [], ◌∷◌, true, Some, None, is_some, ap, arith, refl, subst, sym}
+use Rattle.std.proofs.Common.{◌≡◌, ◌≤◌, ◌<◌, ◌*◌, ◌^◌, ◌==◌, ◌⊎◌, ◌∙◌, ℕ, inl, inr, List, [], ◌∷◌, true, Some, None, is_some, ap, arith, refl, subst, sym, Option}
 use Rattle.std.proofs.lemmas.Bool.{cases_eq, cond_both}
 use Rattle.std.proofs.lemmas.Nat.{mul-le}
-use Rattle.std.specs.Prelude.{Option}
 use Rattle.dstm_model.specs.declared.value.Val.{Val}
 use Rattle.dstm_machines.proofs.Runs.{local_other}
 use Rattle.dstm_tl2.specs.declared.kind.Kind.{Kind}

@@ -1,6 +1,5 @@
 -- To commit: what holds after the Draw, after the checks, and once all is unlocked.
-use Rattle.std.proofs.Common.{◌≡◌, ◌∙◌, ℕ, List, refl, ap, sym, false, Option, Some, None, take}
-use Rattle.std.specs.Prelude.{map}
+use Rattle.std.proofs.Common.{◌≡◌, ◌∙◌, ℕ, List, refl, ap, sym, false, Option, Some, None, take, map}
 use Rattle.dstm_model.specs.declared.value.Val.{Val}
 use Rattle.dstm_machines.specs.Traces.Access.{Add}
 use Rattle.dstm_tl2.specs.Rules.{new_hold}

@@ -1,6 +1,5 @@
 -- Giving back what is locked, in the order of locking.
-use Rattle.std.proofs.Common.{◌≡◌, ◌≢◌, ◌⊎◌, ◌∙◌, ℕ, ◌+◌, ◌<◌, ◌≤◌, ◌==◌, List, [], ◌∷◌, true, Some, None, is_some, inl, inr, refl, sym, ap, subst, length, map, take, drop, arith}
-use Rattle.std.specs.Prelude.{Option, IfSome, IsSome, not, if◌then◌else◌}
+use Rattle.std.proofs.Common.{◌≡◌, ◌≢◌, ◌⊎◌, ◌∙◌, ℕ, ◌+◌, ◌<◌, ◌≤◌, ◌==◌, List, [], ◌∷◌, true, Some, None, is_some, inl, inr, refl, sym, ap, subst, length, map, take, drop, arith, Option, IfSome, IsSome, not, if◌then◌else◌}
 use Rattle.std.proofs.lemmas.Bool.{cases_eq, eq-eqb, ne_eqb}
 use Rattle.std.proofs.lemmas.List.{get_or-take, length-take-le}
 use Rattle.dstm_model.specs.declared.value.Val.{Val}

@@ -1,6 +1,5 @@
 -- How a call goes on: what is due after its newest event.
-use Rattle.std.proofs.Common.{◌≡◌, ◌≢◌, ℕ, List, [], ◌∷◌, true, false, Some, is_some, refl, ap}
-use Rattle.std.specs.Prelude.{Option, Bool, not, length, ◌==◌, if◌then◌else◌}
+use Rattle.std.proofs.Common.{◌≡◌, ◌≢◌, ℕ, List, [], ◌∷◌, true, false, Some, is_some, refl, ap, Option, Bool, not, length, ◌==◌, if◌then◌else◌}
 use Rattle.dstm_model.specs.declared.value.Val.{Val}
 use Rattle.dstm_tl2.specs.declared.kind.Kind.TheVariants.{Enrol, Sample}
 use Rattle.dstm_tl2.specs.Rules.{Event}

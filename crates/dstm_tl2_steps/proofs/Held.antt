@@ -1,6 +1,5 @@
 -- The locks that an attempt holds, by what it writes.
-use Rattle.std.proofs.Common.{◌+◌, ◌<◌, ◌≤◌, ◌==◌, ◌∙◌, ◌∷◌, ◌≡◌, List, None, Some, [], add-one, ap, arith, drop, eqb-true, false, inl, inr, length, map, refl, sym, take, true, ℕ, ◌⊎◌}
-use Rattle.std.specs.Prelude.{option_map}
+use Rattle.std.proofs.Common.{◌+◌, ◌<◌, ◌≤◌, ◌==◌, ◌∙◌, ◌∷◌, ◌≡◌, List, None, Some, [], add-one, ap, arith, drop, eqb-true, false, inl, inr, length, map, refl, sym, take, true, ℕ, ◌⊎◌, option_map}
 use Rattle.std.proofs.lemmas.Bool.{cases_Bool}
 use Rattle.std.proofs.lemmas.List.{get_or-drop, get_or-take, length-drop, length-take-le}
 use Rattle.std.proofs.Math.Seq.{drop-cons}

@@ -1,7 +1,5 @@
 -- Locking what an attempt writes, in the order of opening.
-use Rattle.std.proofs.Common.{◌≡◌, ◌≢◌, ◌∙◌, ℕ, ◌+◌, ◌<◌, ◌≤◌, List, true, Some, None, is_some, refl, sym, ap, subst, length, map, take, arith}
-use Rattle.std.specs.Prelude.{Option, IfSome, IsSome, if◌then◌else◌}
-use Rattle.std.proofs.lemmas.Bool.{eq-eqb, ne_eqb}
+use Rattle.std.proofs.Common.{◌≡◌, ◌≢◌, ◌∙◌, ℕ, ◌+◌, ◌<◌, ◌≤◌, List, true, Some, None, is_some, refl, sym, ap, subst, length, map, take, arith, Option, IfSome, IsSome, if◌then◌else◌, eq-eqb, ne_eqb}
 use Rattle.dstm_model.specs.declared.value.Val.{Val}
 use Rattle.dstm_machines.specs.Traces.Access.{Exchange}
 use Rattle.dstm_tl2.specs.Failing.{is_locked}

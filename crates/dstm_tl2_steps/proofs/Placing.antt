@@ -1,6 +1,5 @@
 -- What is open of an object, by where it stands.
-use Rattle.std.proofs.Common.{◌-◌, ◌<◌, ◌∙◌, ◌==◌, ◌≡◌, ◌≢◌, Bool, List, None, Option, Some, ap, arith, length, refl, sym, true, ℕ}
-use Rattle.std.specs.Prelude.{IsSome, is_some, option_map, slice_index_or, slice_set}
+use Rattle.std.proofs.Common.{◌-◌, ◌<◌, ◌∙◌, ◌==◌, ◌≡◌, ◌≢◌, Bool, List, None, Option, Some, ap, arith, length, refl, sym, true, ℕ, IsSome, is_some, option_map, slice_index_or, slice_set}
 use Rattle.std.proofs.lemmas.List.{get_or_default}
 use Rattle.dstm_mem.proofs.Finding.{lookup_find}
 use Rattle.dstm_mem.proofs.Slots.{finds_none, finds_one, only, stands_there, unplaced}

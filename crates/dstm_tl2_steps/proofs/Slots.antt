@@ -1,7 +1,6 @@
 -- The reads and the writes of an attempt, by object.
-use Rattle.std.proofs.Common.{◌++◌, ◌<◌, ◌==◌, ◌∙◌, ◌∷◌, ◌≡◌, ◌≢◌, Bool, List, None, Option, Some, [], ap, arith, cond, false, inl, inr, length, map, refl, sym, true, ℕ, ◌⊎◌}
+use Rattle.std.proofs.Common.{◌++◌, ◌<◌, ◌==◌, ◌∙◌, ◌∷◌, ◌≡◌, ◌≢◌, Bool, List, None, Option, Some, [], ap, arith, cond, false, inl, inr, length, map, refl, sym, true, ℕ, ◌⊎◌, IsSome, is_some, option_map, slice_set}
 use Prim.Native.Nat.{zero, suc}
-use Rattle.std.specs.Prelude.{IsSome, is_some, option_map, slice_set}
 use Rattle.std.proofs.lemmas.Bool.{cases_Bool, eqb-true, eq-eqb, ne_eqb}
 use Rattle.dstm_mem.proofs.Finding.{find_none, lookup_find}
 use Rattle.dstm_mem.specs.Memory.{value_in}

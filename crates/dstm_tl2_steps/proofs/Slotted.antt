@@ -1,6 +1,5 @@
 -- The lists of an attempt beside what the machine has recorded of it.
-use Rattle.std.proofs.Common.{◌≡◌, ◌≢◌, ◌∙◌, ℕ, ◌<◌, ◌≤◌, List, true, Some, None, is_some, refl, sym, ap, length, get_or, map, arith}
-use Rattle.std.specs.Prelude.{Option, IfSome, IsSome}
+use Rattle.std.proofs.Common.{◌≡◌, ◌≢◌, ◌∙◌, ℕ, ◌<◌, ◌≤◌, List, true, Some, None, is_some, refl, sym, ap, length, get_or, map, arith, Option, IfSome, IsSome}
 use Rattle.std.proofs.lemmas.List.{get_or_default}
 use Rattle.dstm_model.specs.declared.value.Val.{Val}
 use Rattle.dstm_tl2.specs.State.{no_write, read_of, recorded}

@@ -1,7 +1,6 @@
 -- A step of a call that is due goes on with it; how a call begins, and what it is once it has ended.
-use Rattle.std.proofs.Common.{◌≡◌, ◌≢◌, ℕ, ◌+◌, ◌<◌, ◌∙◌, List, ◌∷◌, ◌++◌, ◌==◌, true, false, Some, None, is_some, length, refl, sym, ap, subst}
+use Rattle.std.proofs.Common.{◌≡◌, ◌≢◌, ℕ, ◌+◌, ◌<◌, ◌∙◌, List, ◌∷◌, ◌++◌, ◌==◌, true, false, Some, None, is_some, length, refl, sym, ap, subst, Option, IfSome}
 use Rattle.std.proofs.lemmas.Bool.{cond_both}
-use Rattle.std.specs.Prelude.{Option, IfSome}
 use Rattle.dstm_model.specs.declared.value.Val.{Val}
 use Rattle.dstm_machines.specs.Traces.{Access, IsPastOf, events_of}
 use Rattle.dstm_machines.specs.Traces.Access.{Exchange, Add}

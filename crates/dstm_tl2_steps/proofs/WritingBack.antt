@@ -1,6 +1,5 @@
 -- To write back and to unlock what is locked, one object after the other.
-use Rattle.std.proofs.Common.{◌≡◌, ◌≢◌, ◌==◌, ◌<◌, ◌+◌, ◌*◌, ◌-◌, ◌⊎◌, ◌∷◌, ◌∙◌, ℕ, inl, inr, Bool, List, [], refl, ap, arith, sym, subst, true, false, Option, Some, None, is_some, length, drop}
-use Rattle.std.specs.Prelude.{◌||◌, ◌&&◌, not, map}
+use Rattle.std.proofs.Common.{◌≡◌, ◌≢◌, ◌==◌, ◌<◌, ◌+◌, ◌*◌, ◌-◌, ◌⊎◌, ◌∷◌, ◌∙◌, ℕ, inl, inr, Bool, List, [], refl, ap, arith, sym, subst, true, false, Option, Some, None, is_some, length, drop, ◌||◌, ◌&&◌, not, map}
 use Rattle.std.proofs.lemmas.Bool.{and_parts, cases_eq, eq-eqb, ne_eqb, not-true}
 use Rattle.dstm_model.specs.declared.value.Val.{Val}
 use Rattle.dstm_machines.specs.Traces.Access.{Store}

@@ -1,6 +1,5 @@
 -- What a seat knows after a step: its number, and the state of its caller.
-use Rattle.std.proofs.Common.{◌≡◌, ◌≢◌, ℕ, List}
-use Rattle.std.specs.Prelude.{Contains}
+use Rattle.std.proofs.Common.{◌≡◌, ◌≢◌, ℕ, List, Contains}
 use Rattle.dstm_model.specs.declared.value.Val.{Val}
 use Rattle.dstm_machines.specs.Traces.{Access}
 use Rattle.dstm_seats.proofs.Seats as seats

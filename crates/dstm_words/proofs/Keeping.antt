@@ -1,6 +1,5 @@
 -- What a step keeps besides: only a store puts a new value.
-use Rattle.std.proofs.Common.{◌≡◌, ℕ, ◌+◌, ◌^◌, ◌<◌, List, ◌∷◌, ◌++◌, [], length, Some, None, sym, subst, arith, lit<}
-use Rattle.std.specs.Prelude.{Option}
+use Rattle.std.proofs.Common.{◌≡◌, ℕ, ◌+◌, ◌^◌, ◌<◌, List, ◌∷◌, ◌++◌, [], length, Some, None, sym, subst, arith, lit<, Option}
 use Rattle.dstm_model.specs.declared.value.Val.{Val}
 use Rattle.dstm_model.specs.Map.{KeepsLaw}
 use Rattle.dstm_machines.specs.Traces.Access.{Store, Exchange}

@@ -1,5 +1,4 @@
-use Rattle.std.proofs.Common.{ℕ, List, refl, sym, ap, arith, subst}
-use Rattle.std.specs.Prelude.{Contains}
+use Rattle.std.proofs.Common.{ℕ, List, refl, sym, ap, arith, subst, Contains}
 use Rattle.std.proofs.lemmas.List.Elements.{Contains-append_right}
 use Rattle.dstm_tl2_words.proofs.Seats.{numbers_differ}
 use Rattle.dstm_tl2_words.proofs.tests.side_by_side.Goals as goal

@@ -6,9 +6,8 @@ use Rattle.dstm_order.specs.Efforts.{turn}
 use Rattle.dstm_steps.proofs.Ranged.{live_small, owner_below}
 use Rattle.dstm_steps.proofs.Stepping.{went_on, turn_left, turn_last, turn_more}
 use Rattle.dstm_steps.proofs.steps.Steps.turn.Given.{Over}
-use Rattle.dstm_steps.proofs.steps.Steps.turn.Goals.{After-look-status}
+use Rattle.dstm_steps.proofs.steps.Steps.turn.Goals.{After-look-status, then-self-eq1, else-self-eq1}
 use Rattle.dstm_steps.proofs.steps.Steps.turn.Goals as goal
-use Rattle.dstm_steps.proofs.steps.Steps.turn.Goals.{then-self-eq1, else-self-eq1}
 
 pub status-place-requires-clause-below : goal.status-place-requires-clause-below
 status-place-requires-clause-below g c =

@@ -1,6 +1,4 @@
-use Rattle.std.proofs.Common.{◌+◌, ◌++◌, ◌<◌, ◌∙◌, ◌∷◌, ◌≡◌, [], ap, arith, length, length-append, refl, sym}
-use Rattle.std.specs.Prelude.{slice_set}
-use Rattle.std.proofs.lemmas.List.{length-set}
+use Rattle.std.proofs.Common.{◌+◌, ◌++◌, ◌<◌, ◌∙◌, ◌∷◌, ◌≡◌, [], ap, arith, length, length-append, refl, sym, slice_set, length-set}
 use Rattle.dstm_mem.proofs.Slots.{one_more, part_here, part_kept, part_other, placed_alike, room_for, unplaced}
 use Rattle.dstm_tl2_steps.specs.Opened.{no_place, place_at}
 use Rattle.dstm_tl2_steps.specs.declared.opened.Place.{Place}

@@ -1,6 +1,4 @@
-use Rattle.std.proofs.Common.{◌+◌, ◌++◌, ◌<◌, ◌∙◌, ◌∷◌, ◌≡◌, [], ap, arith, false, length, length-append, refl, sym, ℕ}
-use Rattle.std.specs.Prelude.{slice_set}
-use Rattle.std.proofs.lemmas.List.{length-set}
+use Rattle.std.proofs.Common.{◌+◌, ◌++◌, ◌<◌, ◌∙◌, ◌∷◌, ◌≡◌, [], ap, arith, false, length, length-append, refl, sym, ℕ, slice_set, length-set}
 use Rattle.dstm_mem.proofs.Slots.{one_more, part_here, part_kept, part_other, placed_alike, room_for}
 use Rattle.dstm_model.specs.declared.value.Val.{Val}
 use Rattle.dstm_tl2_steps.specs.Opened.{no_place, place_at}

@@ -1,8 +1,6 @@
-use Rattle.std.proofs.Common.{ap, false, true}
-use Rattle.std.proofs.lemmas.Bool.{eq-eqb, ne_eqb}
+use Rattle.std.proofs.Common.{ap, false, true, eq-eqb, ne_eqb, not}
 use Rattle.dstm_tl2_steps.proofs.Checking.{check_below, check_goes}
 use Rattle.dstm_tl2_steps.proofs.steps.Steps.check_one.Goals as goal
-use Rattle.std.specs.Prelude.{not}
 
 pub check-found-requires-clause-exists : goal.check-found-requires-clause-exists
 check-found-requires-clause-exists g c =
