@@ -1,6 +1,5 @@
 -- What an attempt at a job with branches leaves, from the clauses of its calls.
-use Rattle.std.proofs.Common.{◌≡◌, ◌≢◌, ◌∙◌, ◌+◌, ◌<◌, ◌≤◌, ◌++◌, ◌∷◌, ℕ, Bool, List, [], None, Some, true, false, refl, sym, ap, subst, arith, length, add-zero}
-use Rattle.std.specs.Prelude.{Option, if◌then◌else◌, ◌&&◌}
+use Rattle.std.proofs.Common.{◌≡◌, ◌≢◌, ◌∙◌, ◌+◌, ◌<◌, ◌≤◌, ◌++◌, ◌∷◌, ℕ, Bool, List, [], None, Some, true, false, refl, sym, ap, subst, arith, length, add-zero, Option, if◌then◌else◌, ◌&&◌}
 use Rattle.std.proofs.lemmas.Bool.{cond_both}
 use Rattle.dstm_model.specs.declared.value.Val.{Val}
 use Rattle.dstm_model.specs.declared.layout.Layout.{Layout}

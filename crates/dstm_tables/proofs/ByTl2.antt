@@ -1,6 +1,5 @@
 -- What an attempt leaves by TL2, in the words of both engines.
-use Rattle.std.proofs.Common.{◌≡◌, ◌∙◌, ◌≤◌, ◌==◌, ◌⊎◌, ◌∷◌, ◌++◌, ℕ, List, [], Bool, None, Some, true, false, inl, inr, refl, sym, ap, subst, arith}
-use Rattle.std.specs.Prelude.{Option, nat_lt, not}
+use Rattle.std.proofs.Common.{◌≡◌, ◌∙◌, ◌≤◌, ◌==◌, ◌⊎◌, ◌∷◌, ◌++◌, ℕ, List, [], Bool, None, Some, true, false, inl, inr, refl, sym, ap, subst, arith, Option, nat_lt, not}
 use Rattle.std.proofs.lemmas.Bool.{cases_eq, cond_both, ltb-false}
 use Rattle.dstm_model.specs.declared.value.Val.{Val}
 use Rattle.dstm_machines.proofs.Runs as runs

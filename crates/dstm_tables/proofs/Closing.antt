@@ -1,6 +1,5 @@
 -- What is known of a caller as it was taken back is so in the record of its table, where it makes no more events.
-use Rattle.std.proofs.Common.{◌≡◌, ◌∙◌, ◌⊎◌, ◌<◌, ◌≤◌, ℕ, List, refl, sym, ap, subst, inl, inr, arith}
-use Rattle.std.specs.Prelude.{Option}
+use Rattle.std.proofs.Common.{◌≡◌, ◌∙◌, ◌⊎◌, ◌<◌, ◌≤◌, ℕ, List, refl, sym, ap, subst, inl, inr, arith, Option}
 use Rattle.dstm_machines.specs.Traces.{IsPastOf, events_of}
 use Rattle.dstm_machines.proofs.Own.{same_local}
 use Rattle.dstm_core.specs.Events as core_events

@@ -1,7 +1,6 @@
 -- Under DSTM, what is known of a caller's attempts by its own log is known by every longer log in which it has made no more events: so
 -- by the record of its table.
-use Rattle.std.proofs.Common.{◌≡◌, ◌⊎◌, ◌∙◌, ◌+◌, ◌<◌, ◌≤◌, ◌++◌, ℕ, List, [], sym, ap, subst, inl, inr, arith}
-use Rattle.std.specs.Prelude.{Option}
+use Rattle.std.proofs.Common.{◌≡◌, ◌⊎◌, ◌∙◌, ◌+◌, ◌<◌, ◌≤◌, ◌++◌, ℕ, List, [], sym, ap, subst, inl, inr, arith, Option}
 use Rattle.dstm_machines.proofs.Own.{own_later}
 use Rattle.dstm_model.specs.declared.value.Val.{Val}
 use Rattle.dstm_model.specs.declared.layout.Layout.{Layout}

@@ -1,6 +1,5 @@
 -- What an attempt that did a job leaves, under either engine.
-use Rattle.std.proofs.Common.{◌≡◌, ◌∷◌, true, List, refl, subst, sym}
-use Rattle.std.specs.Prelude.{All}
+use Rattle.std.proofs.Common.{◌≡◌, ◌∷◌, true, List, refl, subst, sym, All}
 use Rattle.dstm_model.specs.declared.value.Val.{Val}
 use Rattle.dstm_model.specs.declared.layout.Layout.{Layout}
 use Rattle.dstm_model.specs.Answers.{Committed}

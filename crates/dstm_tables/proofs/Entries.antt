@@ -1,6 +1,5 @@
 -- Transactions that committed: their entries, and those of one caller.
-use Rattle.std.proofs.Common.{◌≡◌, Bool, true, false, cond, List, [], ◌∷◌, ◌++◌, refl, ap, reverse}
-use Rattle.std.proofs.lemmas.Bool.{eq-eqb}
+use Rattle.std.proofs.Common.{◌≡◌, Bool, true, false, cond, List, [], ◌∷◌, ◌++◌, refl, ap, reverse, eq-eqb}
 use mathlib.Core.List.{reverse-cons}
 use Rattle.dstm_model.specs.Answers.{Committed, by_caller}
 use Rattle.dstm_model.specs.Map.{Entry}

@@ -1,6 +1,5 @@
 -- What gives out the callers of a table, by each engine.
-use Rattle.std.proofs.Common.{◌≡◌, ◌∙◌, ◌∷◌, ◌++◌, ◌==◌, ◌&&◌, ℕ, [], None, false, refl, sym, ap, subst}
-use Rattle.std.specs.Prelude.{not}
+use Rattle.std.proofs.Common.{◌≡◌, ◌∙◌, ◌∷◌, ◌++◌, ◌==◌, ◌&&◌, ℕ, [], None, false, refl, sym, ap, subst, not}
 use Rattle.std.proofs.lemmas.Bool.{and_left, and_right}
 use Rattle.std.proofs.lemmas.List.Elements.{Contains-push}
 use Rattle.dstm_model.specs.Map.{state_after}

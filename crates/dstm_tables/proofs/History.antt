@@ -1,6 +1,5 @@
 -- What was committed on a table, under each engine.
-use Rattle.std.proofs.Common.{◌∙◌, ◌<◌, ◌∷◌, ℕ, List, [], Bool, true, false, cond, sym, subst}
-use Rattle.std.specs.Prelude.{◌&&◌}
+use Rattle.std.proofs.Common.{◌∙◌, ◌<◌, ◌∷◌, ℕ, List, [], Bool, true, false, cond, sym, subst, ◌&&◌}
 use Rattle.std.specs.List.{AllByRecursion}
 use Rattle.dstm_model.specs.declared.value.Val.{Val}
 use Rattle.dstm_model.specs.Answers.{Committed}

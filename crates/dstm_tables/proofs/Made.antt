@@ -1,7 +1,6 @@
 -- What an attempt leaves by DSTM, from the clauses of the engine's calls.
-use Rattle.std.proofs.Common.{◌≡◌, ◌∙◌, ◌+◌, ◌-◌, ◌*◌, ◌<◌, ◌≤◌, ◌++◌, ◌∷◌, ℕ, Bool, List, [], Some, true, false, length, refl, sym, ap, subst, arith, is_some}
+use Rattle.std.proofs.Common.{◌≡◌, ◌∙◌, ◌+◌, ◌-◌, ◌*◌, ◌<◌, ◌≤◌, ◌++◌, ◌∷◌, ℕ, Bool, List, [], Some, true, false, length, refl, sym, ap, subst, arith, is_some, eq-eqb, eqb-true}
 use Rattle.std.specs.Prelude.{IfSome, Option, not, sum_by}
-use Rattle.std.proofs.lemmas.Bool.{eq-eqb, eqb-true}
 use Rattle.dstm_model.specs.declared.value.Val.{Val}
 use Rattle.dstm_model.specs.Objects.{objects_of}
 use Rattle.dstm_core.specs.Events.{Event}

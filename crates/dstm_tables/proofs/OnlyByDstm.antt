@@ -1,7 +1,6 @@
 -- A table with one caller: what a pass of it has seen, since which none of its attempts has committed, are the values that
 -- its transactions have left.
-use Rattle.std.proofs.Common.{◌≡◌, ◌≢◌, ◌⊎◌, inl, inr, ℕ, ◌+◌, ◌-◌, ◌*◌, ◌≤◌, Bool, true, false, List, [], ◌∷◌, ◌++◌, Option, Some, None, ap, sym, subst, refl, ◌∙◌, arith, append_assoc, reverse, map, true≢false}
-use Rattle.std.specs.Prelude.{◌&&◌, ◌==◌, is_some}
+use Rattle.std.proofs.Common.{◌≡◌, ◌≢◌, ◌⊎◌, inl, inr, ℕ, ◌+◌, ◌-◌, ◌*◌, ◌≤◌, Bool, true, false, List, [], ◌∷◌, ◌++◌, Option, Some, None, ap, sym, subst, refl, ◌∙◌, arith, append_assoc, reverse, map, true≢false, ◌&&◌, ◌==◌, is_some}
 use Rattle.std.proofs.lemmas.Bool.{cases_Bool, eqb-true}
 use Rattle.dstm_opacity.specs.Committed.{Committed, by_caller, committed, committed_in, done_by}
 use Rattle.dstm_opacity.proofs.Stays.{entries_are_history}

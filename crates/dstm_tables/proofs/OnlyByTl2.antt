@@ -1,7 +1,6 @@
 -- A TL2 table with one caller: what an attempt of it has read that has drawn nothing are the values that its transactions
 -- have left.
-use Rattle.std.proofs.Common.{◌≡◌, ◌∙◌, ◌==◌, ◌⊎◌, ◌∷◌, ℕ, List, [], Bool, true, false, None, refl, sym, ap, arith, inl, inr, map, reverse}
-use Rattle.std.specs.Prelude.{◌&&◌}
+use Rattle.std.proofs.Common.{◌≡◌, ◌∙◌, ◌==◌, ◌⊎◌, ◌∷◌, ℕ, List, [], Bool, true, false, None, refl, sym, ap, arith, inl, inr, map, reverse, ◌&&◌}
 use Rattle.std.proofs.lemmas.Bool.{and_from, and_left, and_right, cases_Bool, cond-false, cond-true, eq-eqb}
 use Rattle.dstm_model.specs.declared.value.Val.{Val}
 use Rattle.dstm_model.specs.Answers.{Committed, by_caller}

@@ -1,6 +1,5 @@
 -- A try of a table's only caller, under either engine, and by TL2.
-use Rattle.std.proofs.Common.{◌≡◌, ◌∙◌, ◌<◌, ◌⊎◌, ◌∷◌, ℕ, List, [], Bool, false, Option, None, Some, is_some, refl, sym, ap, subst, arith, inl, inr, reverse}
-use Rattle.std.specs.Prelude.{◌&&◌, ◌==◌, if◌then◌else◌}
+use Rattle.std.proofs.Common.{◌≡◌, ◌∙◌, ◌<◌, ◌⊎◌, ◌∷◌, ℕ, List, [], Bool, false, Option, None, Some, is_some, refl, sym, ap, subst, arith, inl, inr, reverse, ◌&&◌, ◌==◌, if◌then◌else◌}
 use Rattle.std.proofs.lemmas.Bool.{and_parts, cases_eq}
 use Rattle.dstm_model.specs.declared.value.Val.{Val}
 use Rattle.dstm_model.specs.declared.layout.Layout.{Layout}

@@ -1,6 +1,5 @@
 -- A recheck that has not left its attempt ends with a sight of all that the attempt holds.
-use Rattle.std.proofs.Common.{◌≡◌, ◌∙◌, ◌⊎◌, ◌++◌, ◌∷◌, ◌==◌, ◌||◌, ℕ, List, [], true, false, None, refl, sym, ap, subst, inl, inr}
-use Rattle.std.specs.Prelude.{if◌then◌else◌}
+use Rattle.std.proofs.Common.{◌≡◌, ◌∙◌, ◌⊎◌, ◌++◌, ◌∷◌, ◌==◌, ◌||◌, ℕ, List, [], true, false, None, refl, sym, ap, subst, inl, inr, if◌then◌else◌}
 use Rattle.std.proofs.lemmas.Bool.{and_from, cases_Bool, cond_both, eq-eqb, eqb-true}
 use Rattle.dstm_machines.proofs.Own.{own_later}
 use Rattle.dstm_model.specs.declared.value.Val.{Val}

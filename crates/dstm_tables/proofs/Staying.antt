@@ -1,6 +1,5 @@
 -- What became of an attempt stays so in a longer log, under each engine.
-use Rattle.std.proofs.Common.{◌≡◌, ◌∙◌, ◌⊎◌, ◌<◌, ◌≤◌, ℕ, List, refl, ap, subst, inl, inr}
-use Rattle.std.specs.Prelude.{not}
+use Rattle.std.proofs.Common.{◌≡◌, ◌∙◌, ◌⊎◌, ◌<◌, ◌≤◌, ℕ, List, refl, ap, subst, inl, inr, not}
 use Rattle.dstm_machines.proofs.Pasts.{past_past, past_self}
 use Rattle.dstm_engine.proofs.AddingUp.{makes_both, makes_none}
 use Rattle.dstm_order.specs.Retries.{TriesAgain}

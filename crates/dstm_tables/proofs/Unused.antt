@@ -1,6 +1,5 @@
 -- An attempt that opened nothing for writing has used no locator.
-use Rattle.std.proofs.Common.{◌≡◌, ◌≢◌, ◌∙◌, ◌⊎◌, ◌+◌, ◌∷◌, ◌==◌, ◌&&◌, ℕ, List, [], Bool, true, false, length, refl, sym, ap, inl, inr, arith, is_some, not, add-zero}
-use Rattle.std.specs.Prelude.{if◌then◌else◌}
+use Rattle.std.proofs.Common.{◌≡◌, ◌≢◌, ◌∙◌, ◌⊎◌, ◌+◌, ◌∷◌, ◌==◌, ◌&&◌, ℕ, List, [], Bool, true, false, length, refl, sym, ap, inl, inr, arith, is_some, not, add-zero, if◌then◌else◌}
 use Rattle.std.proofs.lemmas.Bool.{cases_Bool, cases_eq, cond_both, cond-true, cond-false, eq-eqb, ne_eqb}
 use Rattle.std.proofs.lemmas.List.{length_push}
 use Rattle.dstm_core.proofs.Static.{local_other, local_own}

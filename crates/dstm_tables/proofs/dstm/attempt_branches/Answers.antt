@@ -1,5 +1,4 @@
-use Rattle.std.proofs.Common.{◌∙◌, ◌||◌, refl, ap, subst, sym, List, ℕ, false}
-use Rattle.std.specs.Prelude.{◌≡◌, ◌≢◌, is_some, None, Some, Option, IfSome}
+use Rattle.std.proofs.Common.{◌∙◌, ◌||◌, refl, ap, subst, sym, List, ℕ, false, ◌≡◌, ◌≢◌, is_some, None, Some, Option, IfSome}
 use Rattle.dstm_model.specs.declared.layout.Layout.{Layout}
 use Rattle.dstm_model.specs.Objects.{objects_of}
 use Rattle.dstm_mem.specs.Memory.{with_set}

@@ -1,5 +1,4 @@
-use Rattle.std.proofs.Common.{◌∙◌, None, arith, ap}
-use Rattle.std.specs.Prelude.{◌+◌}
+use Rattle.std.proofs.Common.{◌∙◌, None, arith, ap, ◌+◌}
 use Rattle.dstm_engine.specs.Transactions.{TxPlace}
 use Rattle.dstm_order.specs.Tasks.Task.{Doing}
 use Rattle.dstm_order.specs.Tasks.Work.{Rechecking}

@@ -1,5 +1,4 @@
-use Rattle.std.proofs.Common.{◌∙◌, Some, ap, refl, subst, sym}
-use Rattle.std.specs.Prelude.{IfSome}
+use Rattle.std.proofs.Common.{◌∙◌, Some, ap, refl, subst, sym, IfSome}
 use Rattle.std.proofs.lemmas.Bool.{and_parts}
 use Rattle.dstm_mem.proofs.InTheEnd.{in_the_end}
 use Rattle.dstm_store.specs.declared.job.JobTask.{JobTask}
