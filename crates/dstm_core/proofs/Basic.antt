@@ -70,15 +70,13 @@ used_back {s = s} es e {m = m} u = elim (cases_eq e.caller (m / s.locators)) [
           used = subst (λ n. m % s.locators < (local s es n).installed) q
               (omega arith);
         })
-    at_own q (inr x) h = old (cases_lt (m % s.locators) (local s es e.caller).installed)
-      where
-        old : (m % s.locators < (local s es e.caller).installed)
-            ⊎ ((local s es e.caller).installed ≤ m % s.locators) → Used s es m ⊎ Fresh s es e m
-        old (inl y) =
-            inl (record { below = u.below; used = subst (λ n. m % s.locators < (local s es n).installed) q y })
-        old (inr y) = let z = x.2 in let r : m % s.locators ≡ (local s es e.caller).installed = omega arith in
-            let d = div-add-mod m s.locators in
-            inr (record { kind = x.0; succeeds = x.1; locator = sym d ∙ rw (r, ← q) (omega arith) })
+    at_own q (inr x) h = elim (cases_lt (m % s.locators) (local s es e.caller).installed) [
+      | inl y ↦ inl (record { below = u.below; used = subst (λ n. m % s.locators < (local s es n).installed) q y })
+      | inr y ↦
+          let z = x.2 in let r : m % s.locators ≡ (local s es e.caller).installed = omega arith in
+          let d = div-add-mod m s.locators in
+          inr (record { kind = x.0; succeeds = x.1; locator = sym d ∙ rw (r, ← q) (omega arith) })
+    ]
 
 -- a put on the owner or the old word of a locator is none on a used one
 pub own_number : {s : Shape} {es : List Event} {e : Event} → Step s es e → (local s es e.caller).phase ≢ Outside →

@@ -29,13 +29,12 @@ begun_back {s = s} es e {a = a} u = go (cases_eq e.caller (a / s.attempts))
         ((e.kind ≡ Begin) × ((after e.kind s (local s es e.caller) e).begun ≡ (local s es e.caller).begun + 1))
         ⊎ ((e.kind ≢ Begin) × ((after e.kind s (local s es e.caller) e).begun ≡ (local s es e.caller).begun)) → Goal
     at_own q h (inr x) = before q (rw x.1 at h)
-    at_own q h (inl x) = new (cases_lt (a % s.attempts) (local s es e.caller).begun)
-      where
-        new : (a % s.attempts < (local s es e.caller).begun) ⊎ ((local s es e.caller).begun ≤ a % s.attempts) → Goal
-        new (inl y) = before q y
-        new (inr y) =
-            let z = x.1 in let r : a % s.attempts ≡ (local s es e.caller).begun = omega arith in
-            let d = div-add-mod a s.attempts in inr (x.0, sym d ∙ rw (r, ← q) (omega arith))
+    at_own q h (inl x) = elim (cases_lt (a % s.attempts) (local s es e.caller).begun) [
+      | inl y ↦ before q y
+      | inr y ↦
+          let z = x.1 in let r : a % s.attempts ≡ (local s es e.caller).begun = omega arith in
+          let d = div-add-mod a s.attempts in inr (x.0, sym d ∙ rw (r, ← q) (omega arith))
+    ]
 
     go : (e.caller ≡ a / s.attempts) ⊎ (e.caller ≡ a / s.attempts → ⊥) → Goal
     go (inl q) = at_own q

@@ -27,12 +27,7 @@ counted s p f (e ∷ es) c step zero = elim (cases_Bool (e.caller == c)) [
 begun_counts : (s : Shape) (l : LocalState) (e : Event) (k : Kind) →
     (after k s l e).begun ≡ cond (is_begin k) (l.begun + 1) l.begun
 begun_counts s l e Begin = refl
-begun_counts s l e k = stays (begun_how s l e k)
-  where
-    stays : ((k ≡ Begin) × ((after k s l e).begun ≡ l.begun + 1)) ⊎ ((k ≢ Begin) × ((after k s l e).begun ≡ l.begun)) →
-        (after k s l e).begun ≡ l.begun
-    stays (inl x) = absurd (let q = x.0 in cc)
-    stays (inr x) = x.1
+begun_counts s l e k = elim (begun_how s l e k) [ inl x ↦ absurd (let q = x.0 in cc) | inr x ↦ x.1 ]
 
 pub begins_are_counted : (s : Shape) (es : List Event) (c : ℕ) → begin_count c es ≡ (local s es c).begun
 begins_are_counted s es c =

@@ -171,14 +171,12 @@ finished_or_under_way s (e ∷ es) core c i b lt = go (cases_eq e.caller c) (fin
         new : e.kind ≡ Begin → (local s (e ∷ es) c).begun ≡ (local s es c).begun + 1 →
             (i < (local s es c).begun) ⊎ ((local s es c).begun ≤ i) →
             (4 ≤ word s (e ∷ es) (StatusWord (c * s.attempts + i))) ⊎ IsUnderWay s (e ∷ es) c i
-        new k n (inl x) = before (ih x)
-          where
-            before : (4 ≤ word s es (StatusWord (c * s.attempts + i))) ⊎ IsUnderWay s es c i →
-                (4 ≤ word s (e ∷ es) (StatusWord (c * s.attempts + i))) ⊎ IsUnderWay s (e ∷ es) c i
-            before (inl f) = inl (stays f)
-            before (inr u) =
-                let may = begin_may s (local s es e.caller) e k core.1.allowed in
-                absurd (u.inside (ap (λ (l : LocalState). l.phase) (sym was) ∙ may.0))
+        new k n (inl x) = elim (ih x) [
+          | inl f ↦ inl (stays f)
+          | inr u ↦
+              let may = begin_may s (local s es e.caller) e k core.1.allowed in
+              absurd (u.inside (ap (λ (l : LocalState). l.phase) (sym was) ∙ may.0))
+        ]
         new k n (inr x) = inr (record {
           inside = λ z. let r : (local s (e ∷ es) c).phase ≡ Running = ap (λ (l : LocalState). l.phase) now
               ∙ (begin_put s (local s es e.caller) e k core.1.allowed).2 in cc;
@@ -234,13 +232,12 @@ live_under_way {s = s} {es = es} core {a = a} b live =
     parts = omega (arith, div-add-mod a s.attempts)
 
     below : a / s.attempts < s.callers
-    below = at_size (cases_lt (a / s.attempts) s.callers)
-      where
-        at_size : (a / s.attempts < s.callers) ⊎ (s.callers ≤ a / s.attempts) → a / s.attempts < s.callers
-        at_size (inl x) = x
-        at_size (inr x) =
-            let y = mul-le s.callers s.attempts (a / s.attempts) s.attempts x (omega arith) in
-            let z = b.below in let w = parts in absurd (omega arith)
+    below = elim (cases_lt (a / s.attempts) s.callers) [
+      | inl x ↦ x
+      | inr x ↦
+          let y = mul-le s.callers s.attempts (a / s.attempts) s.attempts x (omega arith) in
+          let z = b.below in let w = parts in absurd (omega arith)
+    ]
 
 -- ---- an attempt under way
 

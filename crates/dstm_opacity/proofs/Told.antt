@@ -73,34 +73,24 @@ own_step : {s : Shape} (start : List Val) (run : List Event) {will : ℕ → Boo
     ≡ pending s start run will c (after k s l e)
     ++ cond (is_commit k && (e.found == 3)) (attempt_of s start run c l ∷ ds) ds
 own_step {s = s} start run {will = will} c {l = l} {e = e} {k = Draw} {xs = xs} ds own t a z h =
-    go (cases_Bool (will (own_attempt s l)))
+    elim (cases_Bool (will (own_attempt s l))) [ inl w ↦ rw (w, own, before) refl | inr w ↦ rw (w, before) refl ]
   where
     before : xs ≡ ds
     before = h ∙ ap (λ ys. ys ++ ds) (none_pending s start run will c l (ap at_drawn a.2.0))
-
-    go : (will (own_attempt s l) ≡ true) ⊎ (will (own_attempt s l) ≡ false) →
-        cond (will (own_attempt s l))
-        (record { caller = e.caller; number = e.found; entry = entry_of s start run l } ∷ xs) xs
-        ≡ pending s start run will c (after Draw s l e) ++ ds
-    go (inl w) = rw (w, own, before) refl
-    go (inr w) = rw (w, before) refl
 own_step {s = s} start run {will = will} c {l = l} {e = e} {k = Commit} {xs = xs} ds own t a z h =
-    go (cases_Bool (e.found == 3))
-  where
-    go : (e.found == 3 ≡ true) ⊎ (e.found == 3 ≡ false) →
-        xs ≡ pending s start run will c (after Commit s l e) ++ cond (e.found == 3) (attempt_of s start run c l ∷ ds) ds
-    go (inl q) =
-        h ∙ ap (λ ys. ys ++ ds) (one_pending s start run will c l a.2.0 (z.commits refl q))
-        ∙ ap (λ b. cond b (attempt_of s start run c l ∷ ds) ds) (sym q)
-    go (inr q) =
-        h ∙ ap (λ ys. ys ++ ds) (dead_pending s start run will c l (z.fails refl q))
-        ∙ ap (λ b. cond b (attempt_of s start run c l ∷ ds) ds) (sym q)
+    elim (cases_Bool (e.found == 3)) [
+      | inl q ↦
+          h ∙ ap (λ ys. ys ++ ds) (one_pending s start run will c l a.2.0 (z.commits refl q))
+          ∙ ap (λ b. cond b (attempt_of s start run c l ∷ ds) ds) (sym q)
+      | inr q ↦
+          h ∙ ap (λ ys. ys ++ ds) (dead_pending s start run will c l (z.fails refl q))
+          ∙ ap (λ b. cond b (attempt_of s start run c l ∷ ds) ds) (sym q)
+    ]
 own_step {s = s} start run {will = will} c {l = l} {k = Quit} {xs = xs} ds own t a z h =
-    go (cases_Bool (at_drawn l.phase))
-  where
-    go : (at_drawn l.phase ≡ true) ⊎ (at_drawn l.phase ≡ false) → xs ≡ ds
-    go (inl q) = h ∙ ap (λ ys. ys ++ ds) (dead_pending s start run will c l (z.quits refl (at_drawn_is l.phase q)))
-    go (inr q) = h ∙ ap (λ ys. ys ++ ds) (none_pending s start run will c l q)
+    elim (cases_Bool (at_drawn l.phase)) [
+      | inl q ↦ h ∙ ap (λ ys. ys ++ ds) (dead_pending s start run will c l (z.quits refl (at_drawn_is l.phase q)))
+      | inr q ↦ h ∙ ap (λ ys. ys ++ ds) (none_pending s start run will c l q)
+    ]
 own_step start run c {k = Check} ds own t a z h = h
 own_step {s = s} start run {will = will} c {l = l} {e = e} {k = k} ds own t a z h =
     h ∙ ap (λ ys. ys ++ ds) (none_pending s start run will c l (not_drawn l.phase before)

@@ -65,15 +65,13 @@ committed_low s es e v core (inr z) p = low_stays e core z.1 (λ k q. go k (put_
         ((local s es e.caller).phase ≢ Outside) × (given (local s es e.caller).phase ≡ 1)
         × (word s es (OwnerWord (next_write (local s es e.caller)).locator) ≡ own_attempt s
         (local s es e.caller)) → v - 1 ≡ (next_write (local s es e.caller)).locator → ⊥
-    go k o q = bad (own_status s es core.0 e.caller core.1.caller o.0)
+    go k o q = elim (own_status s es core.0 e.caller core.1.caller o.0) [
+      | inl y ↦ let a = z.2 in let b = o.1 in let c = is in omega arith
+      | inr y ↦ let a = z.2 in let c = is in omega arith
+    ]
       where
         is : status_of s es v ≡ word s es (StatusWord (own_attempt s (local s es e.caller)))
         is = ap (λ n. word s es (StatusWord n)) (ap (λ m. word s es (OwnerWord m)) q ∙ o.2)
-
-        bad : (word s es (StatusWord (own_attempt s (local s es e.caller))) ≡ given (local s es e.caller).phase)
-            ⊎ (word s es (StatusWord (own_attempt s (local s es e.caller))) ≡ 5) → ⊥
-        bad (inl y) = let a = z.2 in let b = o.1 in let c = is in omega arith
-        bad (inr y) = let a = z.2 in let c = is in omega arith
 
 -- so the value of a settled version stays
 pub value_stays : (s : Shape) (start : List Val) (es : List Event) (e : Event) (o v : ℕ) → Core s (e ∷ es) →

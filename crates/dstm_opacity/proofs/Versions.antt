@@ -99,7 +99,10 @@ seen_res s es (Some r) h = h
 -- the version of a resolution is the one that its word names
 version_named : {s : Shape} {es : List Event} {x : ℕ} {status old : Option ℕ} (v : ℕ) → Names s es x →
     Seen s es x status old → version_by x status old ≡ Some v → Named s es x v
-version_named {s = s} {es = es} {x = x} {status = status} {old = old} v n h q = at_zero (cases_Bool (x == 0))
+version_named {s = s} {es = es} {x = x} {status = status} {old = old} v n h q = elim (cases_Bool (x == 0)) [
+  | inl z ↦ let o : Some 0 ≡ Some v = rw z at q in by_zero (eqb-true x 0 z) (cc)
+  | inr z ↦ at_four (cases_Bool (or_zero status == 4)) (rw z at q)
+]
   where
     used : 0 < x → Used s es (x - 1)
     used p = go n
@@ -119,10 +122,6 @@ version_named {s = s} {es = es} {x = x} {status = status} {old = old} v n h q = 
     at_four (inl z) w = let f = eqb-true (or_zero status) 4 z in let k = h.status (omega arith) in
         let o : Some x ≡ Some v = rw z at w in by_commit k.0 (used k.0) (k.1 ∙ f) (cc)
     at_four (inr z) w = at_five (cases_Bool (or_zero status == 5)) (rw z at w)
-
-    at_zero : (x == 0 ≡ true) ⊎ (x == 0 ≡ false) → Named s es x v
-    at_zero (inl z) = let o : Some 0 ≡ Some v = rw z at q in by_zero (eqb-true x 0 z) (cc)
-    at_zero (inr z) = at_four (cases_Bool (or_zero status == 4)) (rw z at q)
 
 -- a resolution's version, where it is known, is the one that its word names
 pub res_named : (s : Shape) (es : List Event) (r : Option Resolution) (v : ℕ) → ResBasic s es r →

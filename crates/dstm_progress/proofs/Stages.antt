@@ -127,7 +127,18 @@ conflict_step : {s : Shape} (w : Work) {l : LocalState} (f : Effort) (n : ℕ) {
     (res l).rank then left_of s.manager f + 5 else left_of s.manager f + 4) ≤ n →
     IsDue (in_conflict s.manager l f) e → NextStage s w e l f n e.kind
 conflict_step {s = s} w {l = l} f n {e = e} fa op st un ow ss rm i =
-    at_rank (cases_Bool (has_ranks s.manager && is_none (res l).rank))
+    elim (cases_Bool (has_ranks s.manager && is_none (res l).rank)) [
+      | inl q ↦
+          let j : IsDue (just LookRank) e = rw q at i in
+          let rm' : base w + (left_of s.manager f + 5) ≤ n = rw q at rm in
+          more_looks LookRank j.0 op refl (still_at _ refl refl refl st) un
+          (let x = looking_ranked s.manager (res (after LookRank s l e)) (left_of s.manager f) ow ss (and_right
+          (has_ranks s.manager) false refl) in omega arith)
+      | inr q ↦
+          let j : IsDue (if nat_lt 0 f.left then just LookStatus else on_choice (chosen s.manager l f)) e = rw q at i in
+          let rm' : base w + (left_of s.manager f + 4) ≤ n = rw q at rm in
+          at_left q (omega arith) (cases_Bool (nat_lt 0 f.left)) j
+    ]
   where
     killed : base w + left_of s.manager f + 4 ≤ n → e.kind ≡ Kill → NextStage s w e l f n e.kind
     killed rm k =
@@ -156,19 +167,6 @@ conflict_step {s = s} w {l = l} f n {e = e} fa op st un ow ss rm i =
     at_left rk rm (inr q) i =
         let j : IsDue (on_choice (chosen s.manager l f)) e = rw q at i in
         at_choice (chosen s.manager l f) refl (let x = ltb-false 0 f.left q in omega arith) rm rk j
-
-    at_rank : (has_ranks s.manager && is_none (res l).rank ≡ true)
-        ⊎ (has_ranks s.manager && is_none (res l).rank ≡ false) → NextStage s w e l f n e.kind
-    at_rank (inl q) =
-        let j : IsDue (just LookRank) e = rw q at i in
-        let rm' : base w + (left_of s.manager f + 5) ≤ n = rw q at rm in
-        more_looks LookRank j.0 op refl (still_at _ refl refl refl st) un
-        (let x = looking_ranked s.manager (res (after LookRank s l e)) (left_of s.manager f) ow ss (and_right
-        (has_ranks s.manager) false refl) in omega arith)
-    at_rank (inr q) =
-        let j : IsDue (if nat_lt 0 f.left then just LookStatus else on_choice (chosen s.manager l f)) e = rw q at i in
-        let rm' : base w + (left_of s.manager f + 4) ≤ n = rw q at rm in
-        at_left q (omega arith) (cases_Bool (nat_lt 0 f.left)) j
 
 resolving_step : {s : Shape} (w : Work) {l : LocalState} (f : Effort) (n : ℕ) {e : Event} → Facts s l e →
     is_open w ≡ true → Still l → Unread l → base w + looking s.manager (res l) (left_of s.manager f) ≤ n →
