@@ -1,6 +1,6 @@
 -- What follows for a run from its seats, and from why it failed.
 use Rattle.std.proofs.Common.{◌≡◌, ◌∙◌, ◌∷◌, [], ◌++◌, ◌<◌, ℕ, List, Ok, Err, ap, arith, drop, length, subst, sym, take, inl, inr, ⊎_elim}
-use Rattle.std.specs.Prelude.{◌⊎◌, All, IfErr, Result, slice_index_or}
+use Rattle.std.specs.Prelude.{◌⊎◌, All, IfErr, OnOk, Result, slice_index_or}
 use Rattle.std.proofs.lemmas.Bool.{cases_lt}
 use Rattle.std.proofs.lemmas.Grind.{common_steps}
 use Rattle.std.proofs.lemmas.List.{get_or_push, length_push}
@@ -17,9 +17,10 @@ use Rattle.dstm_cells.specs.Cells.{Founds, ReadsAll}
 use Rattle.dstm_cells.specs.Runs.{End, FailsFor, IsFirst, LeavesBy, OnItsTable, Ran, WasUnread}
 
 -- a vector that was lent as a slice has what was left there, in the same number
-pub lent_back : {X : Type 0} (n count : ℕ) (old new whole : List X) → n ≡ length old → length new ≡ length old →
-    length old ≡ count → whole ≡ take n (new ++ drop (length new) old) → (whole ≡ new) × (length whole ≡ count)
-lent_back n count old new whole all same size is =
+pub lent_back : {X : Type 0} {n count : ℕ} {new whole : List X} (old : List X) → length old ≡ count →
+    whole ≡ take n (new ++ drop (length new) old) → n ≡ length old → length new ≡ length old →
+    (whole ≡ new) × (length whole ≡ count)
+lent_back {n = n} {new = new} {whole = whole} old size is all same =
     let back : whole ≡ new = is ∙ written_back n new old all same in (back, ap length back ∙ same ∙ size)
   where
     written_back : {X : Type 0} (n : ℕ) (new old : List X) → n ≡ length old → length new ≡ length old →
@@ -54,12 +55,12 @@ module _ {L : Type 0} (seats : List (Seat L)) where
         subst (λ (xs : List (Seat L)). ended number (slice_index_or xs number other).ended) (sym same.0) (each number below)
 
     -- all threads have ended well where their seats tell so
-    pub all_ended : All (λ (seat : Seat L). seat.ended ≡ Ok tt) seats → (number : ℕ) → number < threads →
+    all_ended : All (λ (seat : Seat L). seat.ended ≡ Ok tt) seats → (number : ℕ) → number < threads →
         ended number (Ok tt)
     all_ended well number below = subst (ended number) (well number other (omega (arith, same.1, below))) (at_seat number below)
 
     -- and that is how the first one ended of which they do not
-    pub first_ended : (unread : Type 0) (why : Failed) → IsFirst seats why → FailsFor ended unread threads why
+    first_ended : (unread : Type 0) (why : Failed) → IsFirst seats why → FailsFor ended unread threads why
     first_ended unread why it =
         let first = it.first in
         subst (FailsFor ended unread threads) (sym it.is) (record {
@@ -70,6 +71,13 @@ module _ {L : Type 0} (seats : List (Seat L)) where
               subst (ended earlier) (first.before earlier less other)
               (at_seat earlier (omega (arith, same.1, less, first.below)));
         })
+
+    -- what a run tells of its threads
+    pub told : (unread : Type 0) (answer : Result (Unit {0}) Failed) →
+        OnOk answer (All (λ (seat : Seat L). seat.ended ≡ Ok tt) seats) → IfErr answer (IsFirst seats) →
+        OnOk answer ((number : ℕ) → number < threads → ended number (Ok tt)) × IfErr answer (FailsFor ended unread threads)
+    told unread (Ok x) well first = (all_ended well, tt)
+    told unread (Err why) well first = (tt, first_ended unread why first)
 
 module _ {L : Type 0} (holds : L → List Val → Type 0) {rule : L} {before : List Val} {home : Home L} {f g : Founding L}
     {caller : Called L} (founds : Founds rule before home f) (enrols : Enrols holds f g 0 caller) where

@@ -1,12 +1,11 @@
 use Rattle.std.proofs.Common.{◌≡◌, ◌∙◌, ◌<◌, ℕ, Err, Ok, ap, arith, length, rules, subst}
-use Rattle.std.specs.Prelude.{slice_index_or}
+use Rattle.std.specs.Prelude.{IfErr, OnOk, slice_index_or}
 use denote.Param.Send.{sendable}
 use Rattle.std.proofs.Crossing.{crosses}
-use Rattle.std.proofs.lemmas.Result.{MatchResult-weaker, on_ok_weaker}
 use Rattle.dstm_cells.specs.Runs.{FailsFor}
 use Rattle.dstm_cells.specs.declared.memory.Seat.{Seat}
 use Rattle.dstm_cells.proofs.Calling.{is_err}
-use Rattle.dstm_cells.proofs.Running.{all_ended, first_ended, has_left, lent_back, ran_leaves, untaken, was_unread}
+use Rattle.dstm_cells.proofs.Running.{has_left, lent_back, ran_leaves, told, untaken, was_unread}
 use Rattle.dstm_cells.proofs.Sends.{seat_send}
 use Rattle.dstm_cells.proofs.memory.Memory.run_work.Given.{Over}
 use Rattle.dstm_cells.proofs.memory.Memory.run_work.Goals.{After-how_all_ended}
@@ -19,8 +18,7 @@ for_each_mut-requires-send-T g c κs within = search (seat_send, c.type_bounds.s
 seats_left : (g : Over) (c : After-how_all_ended g) →
     (c.deref.result.now ≡ c.for_each_mut.new.s) × (length c.deref.result.now ≡ c.args.threads)
 seats_left g c =
-    lent_back c.in_ok-seats.seats.len c.args.threads c.in_ok-seats.seats.items c.for_each_mut.new.s c.deref.result.now
-    (search rules) (search rules) c.in_ok-seats.ensures.count c.deref.ensures.value
+    lent_back c.in_ok-seats.seats.items c.in_ok-seats.ensures.count c.deref.ensures.value (search rules) (search rules)
 
 -- and ended as it tells
 ended : (g : Over) (c : After-how_all_ended g) (other : Seat g.row.L.Denot) (number : ℕ) → number < c.args.threads →
@@ -30,22 +28,20 @@ ended g c other number below =
     let change = (c.for_each_mut.ensures number other (omega (arith, some, below))).1 in
     subst (g.W.Work.ends c.args.work.now number) (ap (λ (seat : Seat _). seat.ended) change.left) change.call
 
-pub returns-clause-ended : goal.returns-clause-ended
-returns-clause-ended g c =
-    let at = (goal.at.returns-clause-ended g c).After-how_all_ended in
+-- and so it tells
+tells : (g : Over) (c : After-how_all_ended g) (unread : Type 0) →
+    OnOk c.how_all_ended.result ((number : ℕ) → number < c.args.threads → g.W.Work.ends c.args.work.now number (Ok tt))
+    × IfErr c.how_all_ended.result (FailsFor (g.W.Work.ends c.args.work.now) unread c.args.threads)
+tells g c unread =
     let other : Seat _ = record { me = c.in_ok-last.last; ended = Ok tt } in
-    on_ok_weaker c.how_all_ended.result
-    (all_ended c.deref.result.now c.for_each_mut.new.s c.args.threads (seats_left g at)
-    (g.W.Work.ends c.args.work.now) other (ended g at other))
-    c.how_all_ended.ensures.well
+    told c.deref.result.now c.for_each_mut.new.s c.args.threads (seats_left g c) (g.W.Work.ends c.args.work.now) other (ended g c other)
+    unread c.how_all_ended.result c.how_all_ended.ensures.well c.how_all_ended.ensures.first
+
+pub returns-clause-ended : goal.returns-clause-ended
+returns-clause-ended g c = (tells g (goal.at.returns-clause-ended g c).After-how_all_ended (Unit {0})).0
 
 pub returns-clause-fails : goal.returns-clause-fails
-returns-clause-fails g c =
-    let at = (goal.at.returns-clause-fails g c).After-how_all_ended in
-    let other : Seat _ = record { me = c.in_ok-last.last; ended = Ok tt } in
-    MatchResult-weaker c.how_all_ended.result c.how_all_ended.ensures.first (λ x t. t)
-    (first_ended c.deref.result.now c.for_each_mut.new.s c.args.threads (seats_left g at)
-    (g.W.Work.ends c.args.work.now) other (ended g at other) _)
+returns-clause-fails g c = (tells g (goal.at.returns-clause-fails g c).After-how_all_ended _).1
 
 pub returns-clause-left : goal.returns-clause-left
 returns-clause-left g c =
