@@ -59,15 +59,16 @@ row_done w row is kept = rw (eq-eqb row.worker w is) (rw kept refl)
 
 module _ (workload : Workload) (before : List Row) where
   -- it was blocked behind all rows so far
-  pub blocked_now : (rows now : List Row) (w : ℕ) (job : Job) → rows ≡ before ++ now →
+  pub blocked_now : {rows : List Row} (now : List Row) (w : ℕ) (job : Job) → rows ≡ before ++ now →
       first_job w (left_by workload rows) ≡ Some job → apply_job job.ops (store_after workload rows) ≡ None →
       is_blocked workload rows w ≡ true
-  blocked_now rows now w job are next stuck =
+  blocked_now {rows = rows} now w job are next stuck =
       ap (is_blocked_in (store_after workload rows)) next ∙ ap (λ (o : Option JobOutcome). is_none o) stuck
 
-  pub asked_blocked : (rows now : List Row) (w : ℕ) → rows ≡ before ++ now → is_blocked workload rows w ≡ true →
+  pub asked_blocked : {rows : List Row} (now : List Row) (w : ℕ) → rows ≡ before ++ now → is_blocked workload rows w
+      ≡ true →
       WasAsked workload before now w
-  asked_blocked rows now w are blocked = inr (record {
+  asked_blocked now w are blocked = inr (record {
     first = now;
     rest = [];
     are = sym (append-nil now);
@@ -146,8 +147,7 @@ module _ (workload : Workload) where
       (subst (λ (rs : List Row). is_blocked workload rs w ≡ true) (sym (append_assoc before (row ∷ []) now)) blocked) in
       let all = blocked_below workload before workload.workers in
       let more : all + blocked_so_far workload (before ++ row ∷ []) now (w + 1)
-      ≡ all + blocked_so_far workload (before ++ row ∷ []) now w + 1 =
-      omega (arith, rest) in
+      ≡ all + blocked_so_far workload (before ++ row ∷ []) now w + 1 = omega (arith, rest) in
       more
 
   -- one row more
@@ -164,8 +164,7 @@ module _ (workload : Workload) where
       let rest = so_far_row (before ++ first ∷ []) now row w v few in
       let all = blocked_below workload before workload.workers in
       let grows : all + blocked_so_far workload (before ++ first ∷ []) now w
-      ≤ all + blocked_so_far workload (before ++ first ∷ []) (now ++ row ∷ []) v =
-      omega (arith, rest) in
+      ≤ all + blocked_so_far workload (before ++ first ∷ []) (now ++ row ∷ []) v = omega (arith, rest) in
       grows
 
   -- all workers were looked at

@@ -40,31 +40,34 @@ pub most_alone : (workload : Workload) (number : ℕ) (before : List Row) → is
 most_alone workload number before alone = rw alone refl
 
 -- jobs are left when an alone round begins
-pub some_left : (workload : Workload) (number : ℕ) (before : List Row) (values : List Val) → is_parallel number ≡ false →
+pub some_left : {workload : Workload} {number : ℕ} {before : List Row} {values : List Val} → is_parallel number ≡ false
+    →
     Begins workload number before values → 0 < count_left workload before
-some_left workload number before values alone begins =
+some_left alone begins =
     elim begins.needed [
       | inl first ↦ absurd (true≢false (sym (ap is_parallel first) ∙ alone))
       | inr some ↦ some
     ]
 
 -- the table is as large as the workers that have jobs left behind these rows want it
-pub opened_for : (workload : Workload) (options : Options) (waiting : ℕ) (before : List Row) (values : List Val)
-    (turns : Turning) (table : Table) (f : Founder) (k : Caller) →
+pub opened_for : {workload : Workload} {options : Options} {waiting : ℕ} (before : List Row) {values : List Val}
+    {turns : Turning} {table : Table} {f : Founder} {k : Caller} →
     waiting ≡ length (with_jobs workload.workers turns.left) → turns ≡ turns_behind workload before →
     IsOpened workload options waiting values table f k →
     IsOpened workload options (length (workers_left workload before)) values table f k
-opened_for workload options waiting before values turns table f k count turned opened =
+opened_for {workload = workload} {options = options} before {values = values} {table = table} {f = f} {k = k} count
+    turned opened =
     subst (λ n. IsOpened workload options n values table f k)
     (count ∙ ap (λ (t : Turning). length (with_jobs workload.workers t.left)) turned) opened
 
 -- the caller has the seed of the least worker that has jobs left behind these rows
-pub least_came : (workload : Workload) (options : Options) (before : List Row) (turns : Turning) (first : ℕ) (k : Caller) →
+pub least_came : (workload : Workload) (options : Options) (before : List Row) {turns : Turning} (first : ℕ)
+    (k : Caller) →
     turns ≡ turns_behind workload before →
     IfSome (slice_get (with_jobs workload.workers turns.left) 0) (λ worker. first ≡ worker) →
     CameByCalls (seed_for options first) k →
     IfSome (slice_get (workers_left workload before) 0) (λ worker. CameByCalls (seed_for options worker) k)
-least_came workload options before turns first k turned is came =
+least_came workload options before first k turned is came =
     by (slice_get (workers_left workload before) 0)
     (subst (λ (t : Turning). IfSome (slice_get (with_jobs workload.workers t.left) 0) (λ worker. first ≡ worker)) turned is)
   where
@@ -74,12 +77,14 @@ least_came workload options before turns first k turned is came =
     by (Some worker) same = subst (λ (w : ℕ). CameByCalls (seed_for options w) k) same came
 
 -- the caller of the table can run alone
-pub can_run : (workload : Workload) (options : Options) (number : ℕ) (before : List Row) (values : List Val) (turns : Turning)
-    (table : Table) (f : Founder) (k : Caller) → is_parallel number ≡ false → Begins workload number before values →
+pub can_run : {workload : Workload} {options : Options} {number : ℕ} {before : List Row} {values : List Val}
+    {turns : Turning}
+    {table : Table} {f : Founder} {k : Caller} → is_parallel number ≡ false → Begins workload number before values →
     turns ≡ turns_behind workload before →
     IsOpened workload options (length (workers_left workload before)) values table f k →
     CanRunAlone workload number table k before turns
-can_run workload options number before values turns table f k alone begins turned opened =
+can_run {workload = workload} {number = number} {before = before} {values = values} {table = table} {k = k} alone
+    begins turned opened =
     let a = first_of table in
     let b = round_of k in
     let past : IsPast a b = first_past k table opened.home in
@@ -100,7 +105,7 @@ can_run workload options number before values turns table f k alone begins turne
       stands = subst (λ (vs : List Val). StandsFor workload.layout vs (store_after workload before))
           (sym (start_past a b past ∙ opened.start)) begins.stands;
       turns_are = turned;
-      some_left = some_left workload number before values alone begins;
+      some_left = some_left alone begins;
     }
 
 module _ (workload : Workload) (options : Options) (number : ℕ) (before : List Row) (values : List Val)
@@ -169,8 +174,7 @@ module _ (workload : Workload) (options : Options) (number : ℕ) (before : List
 
   is_alone : IsAlone workload options before ran.now (seen_by g)
   is_alone =
-      let begun_then : begun_of (seen_by g) 0 ≡ begun n =
-      ap (begun_of (seen_by g)) (sym zeroth)
+      let begun_then : begun_of (seen_by g) 0 ≡ begun n = ap (begun_of (seen_by g)) (sym zeroth)
       ∙ begun_at_close (round_of n) (seen_by g) (number_of n) takes.other_past takes.other_kept in
       record {
         one_caller = only;
@@ -202,9 +206,9 @@ module _ (workload : Workload) (options : Options) (number : ℕ) (before : List
     released = λ _ parallel. absurd (true≢false (sym parallel ∙ alone));
   }
 
-  pub adds_alone : (left : List Val) → left ≡ values_of (seen_by g) →
+  pub adds_alone : {left : List Val} → left ≡ values_of (seen_by g) →
       AddsRound workload options number before values (seen_by g) ran.now left
-  adds_alone left is = record {
+  adds_alone is = record {
     good = collected.good;
     all_in = ran.goes.in_round;
     round = round;

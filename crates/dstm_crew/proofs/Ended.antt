@@ -25,11 +25,10 @@ use Rattle.dstm_crew.specs.Workers.{AreDone, HasRun, IsReady, next_job}
 module _ (workload : Workload) (options : Options) where
   -- ---- as its own caller's log tells
 
-  pub has_ended : (table : Table) (old new : Worker) → IsReady workload table old → HasCome options old →
-      HasRun workload options old new →
-      (KeepsReads options workload.version → let_go new.caller ≡ let_go old.caller) →
+  pub has_ended : {table : Table} {old new : Worker} → IsReady workload table old → HasCome options old →
+      HasRun workload options old new → (KeepsReads options workload.version → let_go new.caller ≡ let_go old.caller) →
       HasEnded workload options table new
-  has_ended table old new ready come ran kept = record {
+  has_ended {old = old} {new = new} ready come ran kept = record {
     rests = record { home = ran.on.home ∙ ready.home; rest = ran.on.rest };
     shared = record {
       within = number_below new.caller ran.on.rest;
@@ -47,9 +46,9 @@ module _ (workload : Workload) (options : Options) where
 
   -- ---- as a longer log tells
 
-  share_stays : (old new : Round) (share : Share) (c : ℕ) → IsRun new → IsPast old new → SameOwn c old new →
+  share_stays : {old : Round} (new : Round) {share : Share} {c : ℕ} → IsRun new → IsPast old new → SameOwn c old new →
       IsShared workload options old share c → IsShared workload options new share c
-  share_stays old new share c run past own was = record {
+  share_stays {old = old} new {share = share} {c = c} run past own was = record {
     within = subst (λ (n : ℕ). c < n) (sym (callers_past old new past)) was.within;
     done =
         subst (λ (ds : List Committed). AreDone workload.layout workload.jobs share.places.items share.done.items (reverse ds))
@@ -70,10 +69,9 @@ module _ (workload : Workload) (options : Options) where
       same : done_of new c ≡ done_of old c
       same = done_at_close old new c run past own
 
-  is_shared : (table : Table) (r : Round) (worker : Worker) → IsRun r → HasEnded workload options table worker →
+  is_shared : {table : Table} {r : Round} {worker : Worker} → IsRun r → HasEnded workload options table worker →
       IsKnownBy r worker.caller → IsShared workload options r (share_of worker) (caller_number worker)
-  is_shared table r worker run ended known =
-      share_stays (round_of worker.caller) r (share_of worker) (number_of worker.caller) run known.past known.own ended.shared
+  is_shared {r = r} {worker = worker} run ended known = share_stays r run known.past known.own ended.shared
 
   -- what was done of all shares, by the callers of these workers
   pub all_shared : (table : Table) (r : Round) (workers : List Worker) → IsRun r → All (HasEnded workload options table) workers →
@@ -82,7 +80,7 @@ module _ (workload : Workload) (options : Options) where
   all_shared table r [] run ended known = tt
   all_shared table r (worker ∷ workers) run ended known =
       let P : Worker → Type 0 = λ w. IsKnownBy r w.caller in (
-        is_shared table r worker run (All-head (HasEnded workload options table) worker workers ended)
+        is_shared run (All-head (HasEnded workload options table) worker workers ended)
             (All-head P worker workers known),
         all_shared table r workers run (All-tail (HasEnded workload options table) worker workers ended)
             (All-tail P worker workers known),

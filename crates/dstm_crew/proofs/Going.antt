@@ -24,8 +24,7 @@ use Rattle.dstm_crew.proofs.Numbers.{apart_places}
 
 -- a fact of each element, at a place
 pub at_place : {X : Type 0} (P : X → Type 0) (xs : List X) (k : ℕ) (x : X) → All P xs → slice_get xs k ≡ Some x → P x
-at_place P xs k x all there =
-    subst P (get_or_from_slice_get xs k x x there) (all k x (slice_get_within xs k x there))
+at_place P xs k x all there = subst P (get_or_from_slice_get xs k x x there) (all k x (slice_get_within xs k x there))
 
 -- a fact at each place, of each element
 pub each_place : {X : Type 0} (P : X → Type 0) (xs : List X) → ((k : ℕ) (x : X) → slice_get xs k ≡ Some x → P x) → All P xs
@@ -90,10 +89,10 @@ pub record Going (workload : Workload) (shares : List Share) (rows : List Row) (
       map (job_at workload.jobs) (drop (get_or next k 0) share.places.items) ≡ jobs_of share.worker turns.left
 
 -- nothing was taken yet
-pub going_first : (workload : Workload) (shares : List Share) (rows : List Row) (turns : Turning) (next : List ℕ) →
+pub going_first : {workload : Workload} {shares : List Share} {rows : List Row} {turns : Turning} (next : List ℕ) →
     CanCollect workload shares rows turns → length next ≡ length shares → ((k : ℕ) → get_or next k 0 ≡ 0) →
     Going workload shares rows turns next
-going_first workload shares rows turns next can size zeros = record {
+going_first {workload = workload} {shares = shares} {turns = turns} next can size zeros = record {
   valid = can.valid;
   turns_are = can.turns_are;
   fit = can.fit;
@@ -126,10 +125,11 @@ pub record Comes (workload : Workload) (share : Share) (turns : Turning) (k : �
   pub first : first_job share.worker turns.left ≡ Some (job_at workload.jobs place)
   pub jobs : jobs_of share.worker turns.left ≡ job_at workload.jobs place ∷ map (job_at workload.jobs) (drop (k + 1) share.places.items)
 
-pub comes : (workload : Workload) (shares : List Share) (rows : List Row) (turns : Turning) (next : List ℕ) (at : ℕ) (share : Share) →
+pub comes : {workload : Workload} {shares : List Share} {rows : List Row} {turns : Turning} {next : List ℕ} (at : ℕ)
+    (share : Share) →
     Going workload shares rows turns next → slice_get shares at ≡ Some share →
     get_or next at 0 < length share.done.items → Comes workload share turns (get_or next at 0)
-comes workload shares rows turns next at share going here some =
+comes {workload = workload} {shares = shares} {turns = turns} {next = next} at share going here some =
     let k = get_or next at 0 in
     let fit = at_place (IsFit workload) shares at share going.fit here in
     let within : k < length share.places.items = (let e = fit.enough in omega arith) in
@@ -145,33 +145,37 @@ comes workload shares rows turns next at share going here some =
     }
 
 -- the row is of that job
-pub same_line : (workload : Workload) (round : ℕ) (share : Share) (row : Row) (turns : Turning) (k : ℕ) (c : Comes workload share turns k) →
+pub same_line : {workload : Workload} {round : ℕ} {share : Share} {row : Row} {turns : Turning} {k : ℕ}
+    (c : Comes workload share turns k) →
     IsRowOf workload round share k row → row.line ≡ (job_at workload.jobs c.place).line
-same_line workload round share row turns k c is =
+same_line {workload = workload} {share = share} {k = k} c is =
     is.line ∙ ap (λ (p : ℕ). (job_at workload.jobs p).line) (get_or_from_slice_get share.places.items k c.place 0 c.there)
 
-pub same_turn : (workload : Workload) (round : ℕ) (share : Share) (rows : List Row) (row : Row) (turns : Turning) (k : ℕ)
+pub same_turn : {workload : Workload} {round : ℕ} {share : Share} (rows : List Row) {row : Row} {turns : Turning}
+    {k : ℕ}
     (c : Comes workload share turns k) → turns ≡ turns_behind workload rows → IsRowOf workload round share k row →
     first_job row.worker (jobs_left workload.jobs rows) ≡ Some (job_at workload.jobs c.place)
-same_turn workload round share rows row turns k c turns_are is =
+same_turn {workload = workload} rows {row = row} {turns = turns} c turns_are is =
     subst (λ (js : List Job). first_job row.worker js ≡ Some (job_at workload.jobs c.place))
     (ap (λ (t : Turning). t.left) turns_are)
     (subst (λ (w : ℕ). first_job w turns.left ≡ Some (job_at workload.jobs c.place)) (sym is.worker) c.first)
 
 -- one row more: the cursor of its share moves on
-pub going_more : (workload : Workload) (shares : List Share) (rows : List Row) (turns : Turning) (next : List ℕ) (at round : ℕ)
-    (share : Share) (row : Row) → Going workload shares rows turns next → slice_get shares at ≡ Some share →
+pub going_more : {workload : Workload} {shares : List Share} {rows : List Row} {turns : Turning} {next : List ℕ}
+    (at : ℕ) {round : ℕ}
+    {share : Share} {row : Row} → Going workload shares rows turns next → slice_get shares at ≡ Some share →
     get_or next at 0 < length share.done.items → IsRowOf workload round share (get_or next at 0) row →
     Going workload shares (rows ++ row ∷ []) (record turns { left = without_first share.worker turns.left })
     (set next at (get_or next at 0 + 1))
-going_more workload shares rows turns next at round share row going here some is =
+going_more {workload = workload} {shares = shares} {rows = rows} {turns = turns} {next = next} at {round = round}
+    {share = share} {row = row} going here some is =
     let k = get_or next at 0 in
-    let c = comes workload shares rows turns next at share going here some in
+    let c = comes at share going here some in
     let inside : at < length next = (let w = slice_get_within shares at share here in let s = going.size in omega arith) in
     let left_is : turns.left ≡ jobs_left workload.jobs rows = ap (λ (t : Turning). t.left) going.turns_are in
     let job = job_at workload.jobs c.place in
     let ends = turn_ends workload.jobs rows row job (rise_all workload.jobs going.valid.rising)
-    (same_turn workload round share rows row turns k c going.turns_are is) (same_line workload round share row turns k c is) in
+    (same_turn rows c going.turns_are is) (same_line c is) in
     let left_then : without_first share.worker turns.left ≡ jobs_left workload.jobs (rows ++ row ∷ []) =
     ap (λ (w : ℕ). without_first w turns.left) (sym is.worker) ∙ ap (without_first row.worker) left_is ∙ ends in
     record {
@@ -208,10 +212,11 @@ going_more workload shares rows turns next at round share row going here some is
     }
 
 -- where nothing is left, each cursor is at the end
-pub at_end : (workload : Workload) (shares : List Share) (rows : List Row) (turns : Turning) (next : List ℕ) (k : ℕ) (share : Share) →
+pub at_end : {workload : Workload} {shares : List Share} {rows : List Row} {turns : Turning} {next : List ℕ} (k : ℕ)
+    (share : Share) →
     Going workload shares rows turns next → AreTaken shares next → slice_get shares k ≡ Some share →
     get_or next k 0 ≡ length share.done.items
-at_end workload shares rows turns next k share going taken here =
+at_end {shares = shares} {next = next} k share going taken here =
     elim (slice_get_cases share.done.items (get_or next k 0)).1 [
       | inl some ↦
           absurd (none-some some.0.number (sym none ∙ ap (option_map (λ (f : Finished). f.number)) some.2))

@@ -11,8 +11,8 @@ use Rattle.dstm_crew.specs.Done.{IsWithin, told, told_by}
 
 module _ (replies more : List Reply) where
   -- what stood there stands there still
-  told_still : (mark : Mark) → IsWithin (length replies) mark → told_by (replies ++ more) mark ≡ told_by replies mark
-  told_still mark within =
+  told_still : {mark : Mark} → IsWithin (length replies) mark → told_by (replies ++ more) mark ≡ told_by replies mark
+  told_still {mark = mark} within =
       let size = length-drop mark.from replies in
       let short : mark.to - mark.from ≤ length (drop mark.from replies) =
       let order = within.in_order in let below = within.below in omega arith in
@@ -31,11 +31,10 @@ module _ (replies more : List Reply) where
 
   -- a job more
   pub told_push : (marks : List Mark) (mark : Mark) → All (IsWithin (length replies)) marks →
-      mark.from ≡ length replies → mark.to ≡ length replies + length more →
-      told (replies ++ more) (marks ++ mark ∷ [])
+      mark.from ≡ length replies → mark.to ≡ length replies + length more → told (replies ++ more) (marks ++ mark ∷ [])
       ≡ told replies marks ++ record { number = mark.number; replies = more } ∷ []
   told_push [] mark within from to = ap (λ (f : Finished). f ∷ []) (told_last mark from to)
   told_push (m ∷ marks) mark within from to =
-      ap (λ (f : Finished). f ∷ told (replies ++ more) (marks ++ mark ∷ [])) (told_still m (within 0 m (omega arith)))
+      ap (λ (f : Finished). f ∷ told (replies ++ more) (marks ++ mark ∷ [])) (told_still (within 0 m (omega arith)))
       ∙ ap (λ (fs : List Finished). told_by replies m ∷ fs)
       (told_push marks mark (λ k d lt. within (suc k) d (omega arith)) from to)

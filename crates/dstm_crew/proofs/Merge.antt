@@ -65,16 +65,14 @@ module _ {A : Type 0} (Is : A → Committed → Type 0) where
     some_next x xs m = subst (Match []) (by_same x.caller x xs refl) m
 
     -- one step of the merge
-    pub merge_step : (n least : ℕ) (caller : ℕ → ℕ) (left after : ℕ → List A) (w : ℕ) (a : A) (rest : List A)
-        (x : Committed) (xs : List Committed) (other : ℕ) →
-        Rise least (x ∷ xs) → AllMatch n caller left (x ∷ xs) →
-        ((one two : ℕ) → one < n → two < n → caller one ≡ caller two → one ≡ two) →
-        w < n → left w ≡ a ∷ rest →
+    pub merge_step : (n least : ℕ) (caller : ℕ → ℕ) (left after : ℕ → List A) (w : ℕ) (a : A) {rest : List A}
+        (x : Committed) (xs : List Committed) (other : ℕ) → Rise least (x ∷ xs) → AllMatch n caller left (x ∷ xs) →
+        ((one two : ℕ) → one < n → two < n → caller one ≡ caller two → one ≡ two) → w < n → left w ≡ a ∷ rest →
         ((v : ℕ) (b : A) (more : List A) → v < n → left v ≡ b ∷ more → number_of a ≤ number_of b) →
-        other < n → caller other ≡ x.caller →
-        after w ≡ rest → ((v : ℕ) → v ≢ w → after v ≡ left v) →
+        other < n → caller other ≡ x.caller → after w ≡ rest → ((v : ℕ) → v ≢ w → after v ≡ left v) →
         NextIs n caller left after w a x xs
-    merge_step n least caller left after w a rest x xs other rise match apart within at smallest known mine then_rest then_same =
+    merge_step n least caller left after w a {rest = rest} x xs other rise match apart within at smallest known mine
+        then_rest then_same =
         let theirs : Match (left other) (by_caller x.caller (x ∷ xs)) =
         subst (λ (c : ℕ). Match (left other) (by_caller c (x ∷ xs))) mine (match other known) in
         let own : Match (a ∷ rest) (by_caller (caller w) (x ∷ xs)) =
@@ -95,8 +93,7 @@ module _ {A : Type 0} (Is : A → Committed → Type 0) where
                         subst (λ (u : ℕ). Match (after u) (by_caller (caller u) xs)) (sym same)
                         (subst (λ (list : List A). Match list (by_caller (caller w) xs)) (sym then_rest) found.1.1)
                     | inr differ ↦
-                        let not_its : x.caller ≢ caller v =
-                        λ e. differ (apart v w below within (sym e ∙ found.0)) in
+                        let not_its : x.caller ≢ caller v = λ e. differ (apart v w below within (sym e ∙ found.0)) in
                         subst (λ (list : List A). Match list (by_caller (caller v) xs)) (sym (then_same v differ))
                         (subst (Match (left v)) (by_other (caller v) x xs not_its) (match v below))
                   ];
@@ -106,6 +103,5 @@ module _ {A : Type 0} (Is : A → Committed → Type 0) where
     pub merge_ends : (n : ℕ) (caller : ℕ → ℕ) (left : ℕ → List A) (x : Committed) (xs : List Committed) (other : ℕ) →
         AllMatch n caller left (x ∷ xs) → ((v : ℕ) → v < n → left v ≡ []) → other < n → caller other ≡ x.caller → ⊥
     merge_ends n caller left x xs other match none known mine =
-        some_next x xs
-        (subst (λ (c : ℕ). Match [] (by_caller c (x ∷ xs))) mine
+        some_next x xs (subst (λ (c : ℕ). Match [] (by_caller c (x ∷ xs))) mine
         (subst (λ (list : List A). Match list (by_caller (caller other) (x ∷ xs))) (none other known) (match other known)))

@@ -86,8 +86,7 @@ shared_size workload options r (s ∷ shares) (c ∷ callers) shared =
     ap suc (shared_size workload options r shares callers shared.1)
 
 shared_below : (workload : Workload) (options : Options) (r : Round) (shares : List Share)
-    (callers : List ℕ) → AreShared workload options r shares callers →
-    AllByRecursion (λ c. c < callers_of r) callers
+    (callers : List ℕ) → AreShared workload options r shares callers → AllByRecursion (λ c. c < callers_of r) callers
 shared_below workload options r [] [] shared = tt
 shared_below workload options r [] (c ∷ callers) shared = absurd shared
 shared_below workload options r (s ∷ shares) [] shared = absurd shared
@@ -260,16 +259,14 @@ module _ (workload : Workload) (options : Options) (r : Round) where
             let share = at.0 in
             let is = shared_at workload options r shares callers k share run.shared at.1 in
             let mine : by_caller (caller_there k) (committed_of r)
-            ≡ reverse (done_of r (caller_there k)) =
-            by_caller-reverse (caller_there k) (all_done r)
+            ≡ reverse (done_of r (caller_there k)) = by_caller-reverse (caller_there k) (all_done r)
             ∙ ap reverse ((is_history r run.run).parts (caller_there k)) in
             subst (λ (n : ℕ). Match Does (drop n (pairs_at shares k)) (by_caller (caller_there k) (committed_of r)))
             (sym (zeros k))
             (subst (λ (ps : List (ℕ × Finished)). Match Does ps (by_caller (caller_there k) (committed_of r)))
             (sym (pairs_there shares k share at.1))
             (subst (Match Does (zip share.places.items share.done.items)) (sym mine)
-            (match_all share.places.items share.done.items
-            (reverse (done_of r (caller_there k))) is.done
+            (match_all share.places.items share.done.items (reverse (done_of r (caller_there k))) is.done
             (λ releasing reads. recursion_from_All _ _ (is.few_reads releasing reads)))))
 
     -- the next transaction is of a caller that ran one of the shares
@@ -284,12 +281,13 @@ module _ (workload : Workload) (options : Options) (r : Round) where
         (all-reverse (λ (d : Committed). d.caller < callers_of r) (all_done r) ((is_history r run.run).within))))
 
     -- the row of the share whose next number is the least tells of the next transaction
-    pub merged_more : (round : ℕ) (before rows : List Row) (turns : Turning) (next : List ℕ) (at : ℕ) (share : Share)
-        (row : Row) → AreRunBy workload options r shares callers → Merged round before rows next →
+    pub merged_more : {round : ℕ} {before rows : List Row} {turns : Turning} {next : List ℕ} {at : ℕ} {share : Share}
+        {row : Row} → AreRunBy workload options r shares callers → Merged round before rows next →
         Going workload shares rows turns next → slice_get shares at ≡ Some share → IsNext shares next at →
         IsRowOf workload round share (get_or next at 0) row →
         Merged round before (rows ++ row ∷ []) (set next at (get_or next at 0 + 1))
-    merged_more round before rows turns next at share row run m going here is_next is = go m.left refl
+    merged_more {round = round} {before = before} {rows = rows} {turns = turns} {next = next} {at = at} {share = share}
+        {row = row} run m going here is_next is = go m.left refl
       where
         k : ℕ
         k = get_or next at 0
@@ -308,7 +306,7 @@ module _ (workload : Workload) (options : Options) (r : Round) where
         inside = let w = slice_get_within shares at share here in let s = going.size in omega arith
 
         c : Comes workload share turns k
-        c = comes workload shares rows turns next at share going here (slice_get_within share.done.items k f at_head.1)
+        c = comes at share going here (slice_get_within share.done.items k f at_head.1)
 
         number_is : row.number ≡ f.number
         number_is = same_Some row.number f.number (is.number ∙ ap (option_map (λ (x : Finished). x.number)) at_head.1)
@@ -343,8 +341,7 @@ module _ (workload : Workload) (options : Options) (r : Round) where
             let other = there_of m x xs run some in
             let rise : Rise m.least (x ∷ xs) = subst (Rise m.least) some m.rise in
             let step = merge_step Does number_of (λ a d does. does.0.number) (length shares) m.least caller_there
-            (pairs_left shares next) (pairs_left shares (set next at (k + 1))) at (c.place, f) (drop (k + 1) (pairs_at shares at)) x xs
-            other.0 rise
+            (pairs_left shares next) (pairs_left shares (set next at (k + 1))) at (c.place, f) x xs other.0 rise
             (subst (AllMatch Does (length shares) caller_there (pairs_left shares next)) some m.matched)
             (λ one two first second same. apart_places callers run.apart one two (omega (arith, first, sizes)) (omega (arith, second, sizes)) same)
             (slice_get_within shares at share here) mine smallest (let o = other.1 in omega (arith, sizes)) other.2
@@ -368,8 +365,8 @@ module _ (workload : Workload) (options : Options) (r : Round) where
             told x does = record {
               job = job_at workload.jobs c.place;
               turn = subst (λ (rs : List Row). first_job row.worker (jobs_left workload.jobs rs) ≡ Some (job_at workload.jobs c.place)) m.rows_are
-                  (same_turn workload round share rows row turns k c going.turns_are is);
-              line = same_line workload round share row turns k c is;
+                  (same_turn rows c going.turns_are is);
+              line = same_line c is;
               number = number_is ∙ does.0.number;
               answer = inl (subst (λ (rs : List Reply). IsAnsweredBy workload.layout (job_at workload.jobs c.place).ops rs x.entry)
                   replies_are does.0.answered);
@@ -383,47 +380,47 @@ module _ (workload : Workload) (options : Options) (r : Round) where
               λ releasing reads job named.
                   subst (λ (j : Job). KeepsFew j x)
                   (same_Some (job_at workload.jobs c.place) job (sym (turn_names workload rows row (job_at workload.jobs c.place) going.valid
-                  (same_turn workload round share rows row turns k c going.turns_are is) (same_line workload round share row turns k c is)) ∙ named))
-                  (does.1 releasing reads),
+                  (same_turn rows c going.turns_are is) (same_line c is)) ∙ named)) (does.1 releasing reads),
             )
 
     -- where nothing is left, the rows tell of all
-    pub merged_last : (round : ℕ) (before rows : List Row) (turns : Turning) (next : List ℕ) →
+    pub merged_last : {round : ℕ} {before rows : List Row} {turns : Turning} {next : List ℕ} →
         AreRunBy workload options r shares callers → Merged round before rows next →
         Going workload shares rows turns next → AreTaken shares next →
         HasCollected workload options round r shares callers before rows turns
-    merged_last round before rows turns next run m going taken = record {
-      now = m.now;
-      rows_are = m.rows_are;
-      turns_are = going.turns_are;
-      in_round = All-from_recursion (λ (row : Row). row.round ≡ round) m.now m.in_round;
-      told = subst (AreTold workload before m.now) whole m.told;
-      own = All-from_recursion (λ (told : Row × Committed). told.1.caller ≡ caller_of shares callers told.0.worker)
-          (zip m.now (committed_of r))
-          (ours_all (λ (told : Row × Committed). told.1.caller ≡ caller_of shares callers told.0.worker) (λ row d is. is.0)
-          m.now (committed_of r) ours);
-      few_reads = λ releasing same. All-from_recursion (KeepsFewReads workload) (zip m.now (committed_of r))
-          (ours_all (KeepsFewReads workload) (λ row d is. is.1 releasing same) m.now (committed_of r) ours);
-      next = each_place (λ (share : Share). first_job share.worker (left_by workload rows)
-          ≡ next_job workload.jobs share.places.items share.done.items) shares (λ k share here.
-          first_of_jobs share.worker (left_by workload rows)
-          ∙ ap (λ (js : List Job). slice_get js 0) (sym (jobs_then k share here))
-          ∙ slice_get-map (job_at workload.jobs) (drop (length share.done.items) share.places.items) 0
-          ∙ ap (option_map (job_at workload.jobs)) (get_drop share.places.items (length share.done.items)));
-      fewer = each_place (λ (share : Share). has_job (left_by workload rows) share.worker ≡ true
-          → length share.done.items < length share.places.items) shares (λ k share here has.
-          let some = has_some share.worker (left_by workload rows) has in
-          let same = ap length (jobs_then k share here) in
-          let n = length-map (drop (length share.done.items) share.places.items) (job_at workload.jobs) in
-          let d = length-drop (length share.done.items) share.places.items in
-          omega (arith, some, same, n, d));
-    }
+    merged_last {round = round} {before = before} {rows = rows} {turns = turns} {next = next} run m going taken =
+        record {
+          now = m.now;
+          rows_are = m.rows_are;
+          turns_are = going.turns_are;
+          in_round = All-from_recursion (λ (row : Row). row.round ≡ round) m.now m.in_round;
+          told = subst (AreTold workload before m.now) whole m.told;
+          own = All-from_recursion (λ (told : Row × Committed). told.1.caller ≡ caller_of shares callers told.0.worker)
+              (zip m.now (committed_of r))
+              (ours_all (λ (told : Row × Committed). told.1.caller ≡ caller_of shares callers told.0.worker) (λ row d is. is.0)
+              m.now (committed_of r) ours);
+          few_reads = λ releasing same. All-from_recursion (KeepsFewReads workload) (zip m.now (committed_of r))
+              (ours_all (KeepsFewReads workload) (λ row d is. is.1 releasing same) m.now (committed_of r) ours);
+          next = each_place (λ (share : Share). first_job share.worker (left_by workload rows)
+              ≡ next_job workload.jobs share.places.items share.done.items) shares (λ k share here.
+              first_of_jobs share.worker (left_by workload rows)
+              ∙ ap (λ (js : List Job). slice_get js 0) (sym (jobs_then k share here))
+              ∙ slice_get-map (job_at workload.jobs) (drop (length share.done.items) share.places.items) 0
+              ∙ ap (option_map (job_at workload.jobs)) (get_drop share.places.items (length share.done.items)));
+          fewer = each_place (λ (share : Share). has_job (left_by workload rows) share.worker ≡ true
+              → length share.done.items < length share.places.items) shares (λ k share here has.
+              let some = has_some share.worker (left_by workload rows) has in
+              let same = ap length (jobs_then k share here) in
+              let n = length-map (drop (length share.done.items) share.places.items) (job_at workload.jobs) in
+              let d = length-drop (length share.done.items) share.places.items in
+              omega (arith, some, same, n, d));
+        }
       where
         jobs_then : (k : ℕ) (share : Share) → slice_get shares k ≡ Some share →
             map (job_at workload.jobs) (drop (length share.done.items) share.places.items) ≡ jobs_of share.worker (left_by workload rows)
         jobs_then k share here =
             ap (λ (n : ℕ). map (job_at workload.jobs) (drop n share.places.items))
-            (sym (at_end workload shares rows turns next k share going taken here))
+            (sym (at_end k share going taken here))
             ∙ going.jobs k share here
             ∙ ap (λ (t : Turning). jobs_of share.worker t.left) going.turns_are
 
@@ -439,7 +436,7 @@ module _ (workload : Workload) (options : Options) (r : Round) where
             nothing : (v : ℕ) → (share : Share) × (slice_get shares v ≡ Some share) → pairs_left shares next v ≡ []
             nothing v at =
                 let share = at.0 in
-                let end = at_end workload shares rows turns next v share going taken at.1 in
+                let end = at_end v share going taken at.1 in
                 let few = zip_short share.places.items share.done.items in
                 ap (drop (get_or next v 0)) (pairs_there shares v share at.1)
                 ∙ drop_all (get_or next v 0) (zip share.places.items share.done.items) (omega (arith, end, few))
@@ -460,21 +457,21 @@ pub record Collects (workload : Workload) (round : ℕ) (before : List Row) (sha
     (turns : Turning) (next : List ℕ) : Type 0 where
   pub going : Going workload shares rows turns next
   pub merged : (options : Options) (r : Round) (callers : List ℕ) →
-      AreRunBy workload options r shares callers →
-      Merged workload options r shares callers round before rows next
+      AreRunBy workload options r shares callers → Merged workload options r shares callers round before rows next
 
 abbrev pub zeros : ℕ → List ℕ
 zeros n = replicate n 0
 
-pub collects_first : (workload : Workload) (round : ℕ) (shares : List Share) (rows : List Row) (turns : Turning)
-    (next : List ℕ) → CanCollect workload shares rows turns → next ≡ zeros (length shares) →
+pub collects_first : {workload : Workload} (round : ℕ) {shares : List Share} {rows : List Row} {turns : Turning}
+    {next : List ℕ} → CanCollect workload shares rows turns → next ≡ zeros (length shares) →
     Collects workload round rows shares rows turns next
-collects_first workload round shares rows turns next can is = record {
-  going = going_first workload shares rows turns next can
-      (ap length is ∙ length-replicate (length shares) 0) zero_at;
-  merged = λ options r callers run.
-      merged_first workload options r shares callers round rows next run zero_at;
-}
+collects_first {workload = workload} round {shares = shares} {rows = rows} {turns = turns} {next = next} can is =
+    record {
+      going = going_first next can
+          (ap length is ∙ length-replicate (length shares) 0) zero_at;
+      merged = λ options r callers run.
+          merged_first workload options r shares callers round rows next run zero_at;
+    }
   where
     zero_at : (k : ℕ) → get_or next k 0 ≡ 0
     zero_at k = ap (λ (ns : List ℕ). get_or ns k 0) is ∙ zero_in (length shares) k
@@ -496,11 +493,13 @@ pub record Turn (workload : Workload) (shares : List Share) (turns : Turning) (n
   pub job : Job
   pub first : first_job share.worker turns.left ≡ Some job
 
-pub its_turn : (workload : Workload) (round : ℕ) (before : List Row) (shares : List Share) (rows : List Row) (turns : Turning)
-    (next seen : List ℕ) (at : ℕ) (share : Share) (place : ℕ) → Collects workload round before shares rows turns next →
+pub its_turn : {workload : Workload} {round : ℕ} {before : List Row} {shares : List Share} {rows : List Row}
+    {turns : Turning}
+    {next seen : List ℕ} {at : ℕ} {share : Share} (place : ℕ) → Collects workload round before shares rows turns next →
     seen ≡ next → IsNext shares seen at → share ≡ get_or shares at share → place ≡ get_or next at place →
     Turn workload shares turns next at share place
-its_turn workload round before shares rows turns next seen at share place c same is_next share_is place_is =
+its_turn {workload = workload} {shares = shares} {rows = rows} {turns = turns} {next = next} {at = at} {share = share}
+    place c same is_next share_is place_is =
     by (subst (λ (ns : List ℕ). IsNext shares ns at) same is_next)
   where
     by : IsNext shares next at → Turn workload shares turns next at share place
@@ -513,7 +512,7 @@ its_turn workload round before shares rows turns next seen at share place c same
         let done = finished_at share (get_or next at 0) is.number
         (subst (λ (s : Share). number_at s (get_or next at 0) ≡ Some is.number) (same_Some f.share share (sym f.there ∙ there)) f.number) in
         let some = slice_get_within share.done.items (get_or next at 0) done.0 done.1 in
-        let job = comes workload shares rows turns next at share c.going there some in
+        let job = comes at share c.going there some in
         record {
           there = there;
           inside = inside;
@@ -525,20 +524,23 @@ its_turn workload round before shares rows turns next seen at share place c same
           first = job.first;
         }
 
-pub collects_more : (workload : Workload) (round : ℕ) (before : List Row) (shares : List Share) (rows rows_then : List Row)
-    (turns turns_then : Turning) (next seen : List ℕ) (at : ℕ) (share : Share) (place : ℕ) (row : Row) →
+pub collects_more : {workload : Workload} {round : ℕ} {before : List Row} {shares : List Share}
+    {rows rows_then : List Row}
+    {turns turns_then : Turning} {next seen : List ℕ} {at : ℕ} {share : Share} {place : ℕ} {row : Row} →
     Collects workload round before shares rows turns next → seen ≡ next → IsNext shares seen at →
     Turn workload shares turns next at share place → rows_then ≡ rows ++ row ∷ [] → IsRowOf workload round share place row →
     turns_then ≡ record turns { left = without_first share.worker turns.left } →
     Collects workload round before shares rows_then turns_then (set next at (place + 1))
-collects_more workload round before shares rows rows_then turns turns_then next seen at share place row c same is_next t rows_are is turns_are =
+collects_more {workload = workload} {round = round} {before = before} {shares = shares} {rows = rows}
+    {rows_then = rows_then} {turns = turns} {turns_then = turns_then} {next = next} {at = at} {share = share} {row = row} c
+    same is_next t rows_are is turns_are =
     subst (λ (p : ℕ). Collects workload round before shares rows_then turns_then (set next at (p + 1))) (sym t.place_is)
     (subst (λ (rs : List Row). Collects workload round before shares rs turns_then (set next at (get_or next at 0 + 1))) (sym rows_are)
     (subst (λ (ts : Turning). Collects workload round before shares (rows ++ row ∷ []) ts (set next at (get_or next at 0 + 1))) (sym turns_are)
     (record {
-      going = going_more workload shares rows turns next at round share row c.going t.there some row_is;
+      going = going_more at c.going t.there some row_is;
       merged = λ options r callers run.
-          merged_more workload options r shares callers round before rows turns next at share row run
+          merged_more workload options r shares callers run
           (c.merged options r callers run) c.going t.there (subst (λ (ns : List ℕ). IsNext shares ns at) same is_next) row_is;
     })))
   where
@@ -548,11 +550,10 @@ collects_more workload round before shares rows rows_then turns turns_then next 
     some : get_or next at 0 < length share.done.items
     some = subst (λ (p : ℕ). p < length share.done.items) t.place_is t.some
 
-pub collects_last : (workload : Workload) (options : Options) (round : ℕ) (r : Round)
-    (shares : List Share) (callers : List ℕ) (before rows : List Row) (turns : Turning) (next seen : List ℕ) →
+pub collects_last : {workload : Workload} {options : Options} {round : ℕ} {r : Round}
+    {shares : List Share} {callers : List ℕ} {before rows : List Row} {turns : Turning} {next seen : List ℕ} →
     Collects workload round before shares rows turns next → seen ≡ next → AreTaken shares seen →
-    AreRunBy workload options r shares callers →
-    HasCollected workload options round r shares callers before rows turns
-collects_last workload options round r shares callers before rows turns next seen c same taken run =
-    merged_last workload options r shares callers round before rows turns next run
-    (c.merged options r callers run) c.going (subst (AreTaken shares) same taken)
+    AreRunBy workload options r shares callers → HasCollected workload options round r shares callers before rows turns
+collects_last {workload = workload} {options = options} {r = r} {shares = shares} {callers = callers} c same taken run =
+    merged_last workload options r shares callers run (c.merged options r callers run) c.going
+    (subst (AreTaken shares) same taken)

@@ -18,18 +18,17 @@ use Rattle.dstm_crew.specs.declared.progress.Progress.{Progress}
 use Rattle.dstm_crew.specs.Playing.{HasCome, HasPlayed}
 
 -- what stands behind the others was added
-pub added_is : (old new more : List Round) → new ≡ old ++ more → added old new ≡ more
-added_is old new more is = ap (drop (length old)) is ∙ drop-append_seam old more
+pub added_is : (old : List Round) {new : List Round} (more : List Round) → new ≡ old ++ more → added old new ≡ more
+added_is old more is = ap (drop (length old)) is ∙ drop-append_seam old more
 
 -- a run that has come so far has added the records of its first rounds
-pub first_rounds : (workload : Workload) (options : Options) (p q : Progress) (records : List Round) →
+pub first_rounds : {workload : Workload} {options : Options} {p q : Progress} {records : List Round} →
     p.rounds.items ≡ records → p.values.items ≡ opening_values workload.layout → HasCome workload options p q →
     AreFirstRounds workload options (added records q.rounds.items)
-first_rounds workload options p q records same values come =
+first_rounds {workload = workload} {options = options} {q = q} {records = records} same values come =
     let is : added records q.rounds.items ≡ come.more =
-    added_is records q.rounds.items come.more (come.behind ∙ ap (λ (rs : List Round). rs ++ come.more) same) in
-    subst (AreFirstRounds workload options) (sym is)
-    (record {
+    added_is records come.more (come.behind ∙ ap (λ (rs : List Round). rs ++ come.more) same) in
+    subst (AreFirstRounds workload options) (sym is) (record {
       rows = come.rows;
       good = come.good;
       each = subst (λ (vs : List Val). AreRoundsOf workload options come.rows 0 [] vs come.more) values come.each;
@@ -37,9 +36,9 @@ first_rounds workload options p q records same values come =
     })
 
 -- before the first round all jobs are left
-pub all_left : (workload : Workload) (jobs : List Job) (turns : Turning) → jobs ≡ workload.jobs →
+pub all_left : (workload : Workload) {jobs : List Job} {turns : Turning} → jobs ≡ workload.jobs →
     turns ≡ record { jobs = jobs; left = jobs } → turns ≡ turns_behind workload []
-all_left workload jobs turns same turned =
+all_left workload {jobs = jobs} same turned =
     turned ∙ ap (λ (js : List Job). record { jobs = js; left = js }) same
     ∙ ap (λ (left : List Job). record { jobs = workload.jobs; left = left }) (sym (jobs_left-none workload.jobs))
 
@@ -49,14 +48,15 @@ module _ (workload : Workload) (options : Options) (start : List Val) (old : Lis
   Stands more = Reached workload options start old p.rounds.items p.rows.items p.values.items number more
 
   -- room was taken for more
-  pub with_room : (more : Bool) (rows : List Row) (rounds : List Round) → rows ≡ p.rows.items → rounds ≡ p.rounds.items →
+  pub with_room : (more : Bool) {rows : List Row} {rounds : List Round} → rows ≡ p.rows.items → rounds ≡ p.rounds.items
+      →
       Stands more → Reached workload options start old rounds rows p.values.items number more
-  with_room more rows rounds same_rows same_rounds r =
+  with_room more {rows = rows} same_rows same_rounds r =
       subst (λ (rs : List Round). Reached workload options start old rs rows p.values.items number more) (sym same_rounds)
       (subst (λ (rs : List Row). Reached workload options start old p.rounds.items rs p.values.items number more)
       (sym same_rows) r)
 
-  module _ (q : Progress) (next : Bool) (more_is : next ≡ nat_lt (length q.rows.items) (length workload.jobs))
+  module _ {q : Progress} (next : Bool) (more_is : next ≡ nat_lt (length q.rows.items) (length workload.jobs))
       (played : HasPlayed workload options number p q) where
     -- one round more
     pub one_round_more : (more : Bool) → Stands more →
@@ -65,8 +65,7 @@ module _ (workload : Workload) (options : Options) (start : List Val) (old : Lis
         subst (λ (rs : List Round). Reached workload options start old rs q.rows.items q.values.items (number + 1) next)
         (sym played.rounds_are)
         (subst (λ (rs : List Row). Reached workload options start old (p.rounds.items ++ played.closed ∷ []) rs q.values.items
-        (number + 1) next)
-        (sym played.rows_are)
+        (number + 1) next) (sym played.rows_are)
         (round_more workload options start old p.rounds.items p.rows.items p.values.items number more played.closed played.now
         q.values.items next r played.adds
         (more_is ∙ ap (λ (rs : List Row). nat_lt (length rs) (length workload.jobs)) played.rows_are)))

@@ -21,67 +21,65 @@ pub record Waited (k n : Caller) : Type 0 where
   pub same_done : done n ≡ done k
 
 -- what was not wasted before another attempt was not
-pub earlier : (k n m : Caller) (most : ℕ) → AtRest n → GoesOn n m → most ≤ (begun n) →
+pub earlier : (k : Caller) {n m : Caller} (most : ℕ) → AtRest n → GoesOn n m → most ≤ (begun n) →
     NoneWastedSince k n most → NoneWastedSince k m most
-earlier k n m most rest on few none i after before =
+earlier k {n = n} {m = m} most rest on few none i after before =
     was_later n m i on (omega arith) (let range = few_begun n rest in omega arith) (none i after before)
 
 -- nor was that attempt
-with_last : (k n m : Caller) → AtRest n → OneMore n m → WasNotWasted m (begun m) →
+with_last : (k : Caller) {n m : Caller} → AtRest n → OneMore n m → WasNotWasted m (begun m) →
     NoneWastedSince k n (begun n) → NoneWastedSince k m (begun m)
-with_last k n m rest made last none i after before = by (cases_eq i (begun m))
+with_last k {n = n} {m = m} rest made last none i after before = by (cases_eq i (begun m))
   where
     below : (i ≡ (begun m) → ⊥) → i ≤ (begun n)
     below other = let b = made.begun in omega arith
 
     by : (i ≡ (begun m)) ⊎ (i ≡ (begun m) → ⊥) → WasNotWasted m i
     by (inl is) = subst (WasNotWasted m) (sym is) last
-    by (inr other) =
-        earlier k n m (begun n) rest made.on (omega arith) none i after (below other)
+    by (inr other) = earlier k (begun n) rest made.on (omega arith) none i after (below other)
 
-pub waited_more : (k n m : Caller) → Waited k n → WasKept n m → Waited k m
-waited_more k n m w was = record {
+pub waited_more : {k n m : Caller} → Waited k n → WasKept n m → Waited k m
+waited_more {k = k} {n = n} {m = m} w was = record {
   on = goes_on k n m w.on was.made.on;
-  none_wasted = with_last k n m w.on.rest was.made (inr was.disturbed) w.none_wasted;
+  none_wasted = with_last k w.on.rest was.made (inr was.disturbed) w.none_wasted;
   same_done = was.same_done ∙ w.same_done;
 }
 
-pub waited_done : (style : Style) (layout : Layout) (job : Job) (k n m : Caller) (finished : Finished) →
+pub waited_done : {style : Style} {layout : Layout} {job : Job} {k n m : Caller} {finished : Finished} →
     Waited k n → DidJob style layout job n m finished → HasDone style layout job k m finished
-waited_done style layout job k n m finished w was = record {
+waited_done {k = k} {n = n} {m = m} w was = record {
   on = goes_on k n m w.on was.made.on;
-  none_wasted = with_last k n m w.on.rest was.made (inl was.committed) w.none_wasted;
+  none_wasted = with_last k w.on.rest was.made (inl was.committed) w.none_wasted;
   by = was.by;
   newest = was.newest ∙ ap (λ (rest : List Committed). was.by ∷ rest) w.same_done;
   is = was.is;
   few_reads = was.few_reads;
 }
 
-pub waited_spent : (k n m : Caller) → Waited k n → IsSpentFrom n m → HasNoneLeft k m
-waited_spent k n m w was = record {
+pub waited_spent : {k n m : Caller} → Waited k n → IsSpentFrom n m → HasNoneLeft k m
+waited_spent {k = k} {n = n} {m = m} w was = record {
   on = goes_on k n m w.on was.on;
   none_wasted = λ i after before.
-      earlier k n m (begun n) w.on.rest was.on (omega arith) w.none_wasted i after
-      (let b = was.begun in omega arith);
+      earlier k (begun n) w.on.rest was.on (omega arith) w.none_wasted i after (let b = was.begun in omega arith);
   spent = was.spent;
   same_done = was.same_done ∙ w.same_done;
 }
 
-pub waited_blocked : (style : Style) (layout : Layout) (job : Job) (k n m : Caller) → Waited k n →
+pub waited_blocked : {style : Style} {layout : Layout} {job : Job} {k n m : Caller} → Waited k n →
     StoodAt style 1024 layout job n m → StaysBlocked style layout job k m
-waited_blocked style layout job k n m w was = record {
+waited_blocked {k = k} {n = n} {m = m} w was = record {
   branches = was.branches;
   on = goes_on k n m w.on was.made.on;
   last = (begun n);
   is_last = was.made.begun;
-  none_wasted = earlier k n m (begun n) w.on.rest was.made.on (omega arith) w.none_wasted;
+  none_wasted = earlier k (begun n) w.on.rest was.made.on (omega arith) w.none_wasted;
   stood = record { given_up = was.given_up; blocked = was.blocked };
   same_done = was.same_done ∙ w.same_done;
 }
 
 -- another attempt leaves fewer
-pub fewer_left : (k n m : Caller) → GoesOn k n → OneMore n m →
+pub fewer_left : {k n m : Caller} → GoesOn k n → OneMore n m →
     attempts_of (round_of m) - (begun m) < attempts_of (round_of n) - (begun n)
-fewer_left k n m on made =
+fewer_left {n = n} {m = m} on made =
     let same : attempts_of (round_of m) ≡ attempts_of (round_of n) = same_attempts n m made.on in
     let b = made.begun in let few = few_begun m made.on.rest in omega arith

@@ -21,16 +21,16 @@ use Rattle.dstm_crew.specs.Shares.{IsOpen}
 use Rattle.dstm_crew.specs.Workers.{IsReady}
 
 module _ (table : Table) where
-  is_new : (f g : Founder) (seed : ℕ) (k : Caller) → GivesOut table f g seed k → IsNew table k
-  is_new f g seed k gives = record {
+  is_new : {f g : Founder} {seed : ℕ} {k : Caller} → GivesOut table f g seed k → IsNew table k
+  is_new gives = record {
     rests = record { home = gives.home; rest = gives.rest };
     none_begun = gives.none_begun;
     none_done = gives.none_done;
   }
 
-  one_out : (f g : Founder) (seed out : ℕ) (k : Caller) → HasBack table out [] f → GivesOut table f g seed k →
+  one_out : {f g : Founder} {seed out : ℕ} {k : Caller} → HasBack table out [] f → GivesOut table f g seed k →
       HasBack table (out + 1) [] g
-  one_out f g seed out k back gives = record {
+  one_out {g = g} {out = out} back gives = record {
     home = gives.home_then ∙ back.home;
     guests = gives.guests ∙ back.guests;
     out = gives.out ∙ ap (λ (n : ℕ). n + 1) back.out;
@@ -49,34 +49,32 @@ module _ (table : Table) where
   count_push : (workers : List Worker) (worker : Worker) → length workers + 1 ≡ length (workers ++ worker ∷ [])
   count_push workers worker = sym (length-append workers (worker ∷ []))
 
-  pub seats_one : (shares : List Share) (workers : List Worker) (left : List Share) (f g : Founder) (share : Share)
-      (worker : Worker) (seed : ℕ) → Seats shares workers (share ∷ left) f → share_of worker ≡ share →
+  pub seats_one : {shares : List Share} {workers : List Worker} (left : List Share) {f g : Founder} {share : Share}
+      (worker : Worker) {seed : ℕ} → Seats shares workers (share ∷ left) f → share_of worker ≡ share →
       GivesOut table f g seed worker.caller → Seats shares (workers ++ worker ∷ []) left g
-  seats_one shares workers left f g share worker seed seats is gives = record {
+  seats_one {workers = workers} left {f = f} {g = g} worker {seed = seed} seats is gives = record {
     are = ap (λ (ss : List Share). ss ++ left) (map_push share_of workers worker)
         ∙ append_assoc (map share_of workers) (share_of worker ∷ []) left
         ∙ ap (λ (s : Share). map share_of workers ++ s ∷ left) is
         ∙ seats.are;
-    new = All-push (λ (w : Worker). IsNew table w.caller) workers worker seats.new (is_new f g seed worker.caller gives);
+    new = All-push (λ (w : Worker). IsNew table w.caller) workers worker seats.new (is_new gives);
     made = gives.made ∙ ap (λ (n : ℕ). n + 1) seats.made ∙ count_push workers worker;
-    back =
-        subst (λ (n : ℕ). HasBack table n [] g) (count_push workers worker)
-        (one_out f g seed (length workers) worker.caller seats.back gives);
+    back = subst (λ (n : ℕ). HasBack table n [] g) (count_push workers worker) (one_out seats.back gives);
   }
 
   -- it has come by calls, and has let no read go
-  pub has_come : (options : Options) (f g : Founder) (share : Share) (worker : Worker) → share_of worker ≡ share →
+  pub has_come : (options : Options) {f g : Founder} {share : Share} (worker : Worker) → share_of worker ≡ share →
       GivesOut table f g (seed_for options share.worker) worker.caller → HasCome options worker
-  has_come options f g share worker is gives = record {
+  has_come options worker is gives = record {
     by_calls = subst (λ (s : Share). CameByCalls (seed_for options s.worker) worker.caller) (sym is) gives.came;
     none_let_go = gives.none_let_go;
   }
 
   -- ---- workers with callers that have done nothing are ready
 
-  is_ready : (workload : Workload) → layout_of (first_of table) ≡ workload.layout → (worker : Worker) →
+  is_ready : {workload : Workload} → layout_of (first_of table) ≡ workload.layout → (worker : Worker) →
       IsNew table worker.caller → IsOpen workload (share_of worker) → IsReady workload table worker
-  is_ready workload law worker new still = record {
+  is_ready law worker new still = record {
     home = new.rests.home;
     law = sym (layout_is worker.caller)
         ∙ layout_past (first_of table) (round_of worker.caller) (first_past worker.caller table new.rests.home) ∙ law;
@@ -94,14 +92,14 @@ module _ (table : Table) where
   ready_by workload law [] new still = All-nil (IsReady workload table)
   ready_by workload law (worker ∷ workers) new still =
       All-cons (IsReady workload table) worker workers
-      (is_ready workload law worker (All-head (λ (w : Worker). IsNew table w.caller) worker workers new)
+      (is_ready law worker (All-head (λ (w : Worker). IsNew table w.caller) worker workers new)
       (All-head (IsOpen workload) (share_of worker) (map share_of workers) still))
       (ready_by workload law workers (All-tail (λ (w : Worker). IsNew table w.caller) worker workers new)
       (All-tail (IsOpen workload) (share_of worker) (map share_of workers) still))
 
-  pub all_ready : (workload : Workload) (shares : List Share) (workers : List Worker) →
+  pub all_ready : (workload : Workload) {shares : List Share} (workers : List Worker) →
       layout_of (first_of table) ≡ workload.layout → map share_of workers ≡ shares →
       All (λ (worker : Worker). IsNew table worker.caller) workers → All (IsOpen workload) shares →
       All (IsReady workload table) workers
-  all_ready workload shares workers law are new still =
+  all_ready workload workers law are new still =
       ready_by workload law workers new (subst (All (IsOpen workload)) (sym are) still)

@@ -135,8 +135,7 @@ module _ (workload : Workload) (options : Options) (number : ℕ) (rows : List R
       is : share.worker ≡ worker
 
     share_of : (worker : ℕ) → Contains (workers_in workload number rows) worker → Has worker
-    share_of worker has =
-        by (subst (λ (ws : List ℕ). Contains ws worker) (sym workers_are) has)
+    share_of worker has = by (subst (λ (ws : List ℕ). Contains ws worker) (sym workers_are) has)
       where
         by : Contains (map (λ (share : Share). share.worker) shares_then) worker → Has worker
         by at = go (slice_get shares_then at.0) refl
@@ -154,21 +153,21 @@ module _ (workload : Workload) (options : Options) (number : ℕ) (rows : List R
               is = same_Some share.worker worker (sym (ap (option_map (λ (s : Share). s.worker)) there) ∙ some);
             }
 
-    caller_is : (worker : ℕ) (h : Has worker) → caller worker ≡ get_or run.callers h.place 0
-    caller_is worker h =
+    caller_is : {worker : ℕ} (h : Has worker) → caller worker ≡ get_or run.callers h.place 0
+    caller_is h =
         ap caller (sym h.is)
         ∙ caller_at shares_then run.callers h.place h.share
         (λ i other there same. workers_apart shares_then apart i h.place other h.share there h.there same) h.there
         (let w = slice_get_within shares_then h.place h.share h.there in omega (arith, sizes))
 
-    shared_of : (worker : ℕ) (h : Has worker) → IsShared workload options closed h.share (caller worker)
-    shared_of worker h =
-        subst (IsShared workload options closed h.share) (sym (caller_is worker h))
+    shared_of : {worker : ℕ} (h : Has worker) → IsShared workload options closed h.share (caller worker)
+    shared_of {worker = worker} h =
+        subst (IsShared workload options closed h.share) (sym (caller_is h))
         (shared_at workload options closed shares_then run.callers h.place h.share run.shared h.there)
 
-    next_is : (worker : ℕ) (h : Has worker) →
+    next_is : {worker : ℕ} (h : Has worker) →
         next_of workload (rows ++ collected.now) worker ≡ next_job workload.jobs h.share.places.items h.share.done.items
-    next_is worker h =
+    next_is {worker = worker} h =
         ap (λ (rs : List Row). first_job worker (left_by workload rs)) (sym collected.rows_are)
         ∙ ap (λ (w : ℕ). first_job w (left_by workload rows_then)) (sym h.is)
         ∙ at_place (λ (s : Share). first_job s.worker (left_by workload rows_then) ≡ next_job workload.jobs s.places.items s.done.items)
@@ -177,14 +176,14 @@ module _ (workload : Workload) (options : Options) (number : ℕ) (rows : List R
     paired : ArePaired (workers_in workload number rows) (callers_of closed) caller
     paired = record {
       count = sym (ap length workers_are) ∙ length-map shares_then (λ (share : Share). share.worker) ∙ sizes ∙ run.count;
-      within = λ worker has. (shared_of worker (share_of worker has)).within;
+      within = λ worker has. (shared_of (share_of worker has)).within;
       apart = λ one other first second same.
           let a = share_of one first in
           let b = share_of other second in
           let inside = slice_get_within shares_then a.place a.share a.there in
           let within = slice_get_within shares_then b.place b.share b.there in
           let place : a.place ≡ b.place = apart_places run.callers run.apart a.place b.place (omega (arith, inside, sizes))
-          (omega (arith, within, sizes)) (sym (caller_is one a) ∙ same ∙ caller_is other b) in
+          (omega (arith, within, sizes)) (sym (caller_is a) ∙ same ∙ caller_is b) in
           sym a.is ∙ ap (λ (s : Share). s.worker)
           (same_Some a.share b.share (sym a.there ∙ ap (slice_get shares_then) place ∙ b.there)) ∙ b.is;
     }
@@ -198,17 +197,17 @@ module _ (workload : Workload) (options : Options) (number : ℕ) (rows : List R
           let h = share_of worker has in
           let fewer = at_place (λ (s : Share). has_job (left_by workload rows_then) s.worker ≡ true
           → length s.done.items < length s.places.items) shares_then h.place h.share collected.fewer h.there in
-          subst (λ (next : Option Job). HadToStop workload next closed (caller worker)) (sym (next_is worker h))
-          ((shared_of worker h).left (fewer (ap (has_job (left_by workload rows_then)) h.is
+          subst (λ (next : Option Job). HadToStop workload next closed (caller worker)) (sym (next_is h))
+          ((shared_of h).left (fewer (ap (has_job (left_by workload rows_then)) h.is
           ∙ ap (λ (rs : List Row). has_job (left_by workload rs) worker) collected.rows_are ∙ more)));
       attempts = λ worker has.
           let h = share_of worker has in
-          subst (λ (next : Option Job). NoneWasted workload next closed (caller worker)) (sym (next_is worker h))
-          (shared_of worker h).none_wasted;
+          subst (λ (next : Option Job). NoneWasted workload next closed (caller worker)) (sym (next_is h))
+          (shared_of h).none_wasted;
       calls = λ worker has.
           let h = share_of worker has in
-          subst (λ (w : ℕ). ByCalls (seed_for options w) closed (caller worker)) h.is (shared_of worker h).calls;
-      keeps = λ none worker has. (shared_of worker (share_of worker has)).keeps none;
+          subst (λ (w : ℕ). ByCalls (seed_for options w) closed (caller worker)) h.is (shared_of h).calls;
+      keeps = λ none worker has. (shared_of (share_of worker has)).keeps none;
     }
 
     most : most_places shares ≡ most_jobs workload number rows
@@ -225,8 +224,7 @@ module _ (workload : Workload) (options : Options) (number : ℕ) (rows : List R
             ≡ jobs_of share.worker turns.left) shares are.jobs)
           where
             each : (xs : List Share) → AllByRecursion (λ (share : Share). map (job_at workload.jobs) share.places.items
-                ≡ jobs_of share.worker turns.left) xs →
-                map (λ (share : Share). length share.places.items) xs
+                ≡ jobs_of share.worker turns.left) xs → map (λ (share : Share). length share.places.items) xs
                 ≡ map (λ (worker : ℕ). length (jobs_of worker turns.left)) (map (λ (share : Share). share.worker) xs)
             each [] all = refl
             each (x ∷ xs) all =
@@ -272,14 +270,15 @@ module _ (workload : Workload) (options : Options) (number : ℕ) (rows : List R
     }
 
 -- a round was played
-pub has_played : (workload : Workload) (options : Options) (number : ℕ) (old new : Progress)
-    (shares shares_then : List Share) (closed : Round) → is_parallel number ≡ true →
+pub has_played : {workload : Workload} {options : Options} {number : ℕ} (old new : Progress)
+    {shares shares_then : List Share} {closed : Round} → is_parallel number ≡ true →
     Begins workload number old.rows.items old.values.items → old.turns ≡ turns_behind workload old.rows.items →
     AreShares workload old.turns.left (workers_of workload number old.turns.left) shares →
     (run : WereRun workload options number old.values.items new.values.items shares shares_then closed) →
     HasCollected workload options number closed shares_then run.callers old.rows.items new.rows.items new.turns →
     new.rounds.items ≡ old.rounds.items ++ closed ∷ [] → HasPlayed workload options number old new
-has_played workload options number old new shares shares_then closed parallel begins turned are run collected rounds_are =
+has_played {workload = workload} {options = options} {number = number} old new {shares = shares}
+    {shares_then = shares_then} {closed = closed} parallel begins turned are run collected rounds_are =
     record {
       now = collected.now;
       closed = closed;

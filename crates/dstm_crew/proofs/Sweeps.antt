@@ -67,8 +67,7 @@ count_other : (worker : ℕ) (row : Row) → row.worker ≢ worker → count_don
 count_other worker row other = rw (ne_eqb row.worker worker other) refl
 
 count_given : (worker : ℕ) (row : Row) → row.replies ≡ Never ∷ [] → count_done worker (row ∷ []) ≡ 0
-count_given worker row given =
-    by (row.worker == worker) (is_given_up row.replies) (ap is_given_up given)
+count_given worker row given = by (row.worker == worker) (is_given_up row.replies) (ap is_given_up given)
   where
     by : (a b : Bool) → b ≡ true → length (cond (a && not b) (row ∷ []) []) ≡ 0
     by false b is = refl
@@ -85,25 +84,25 @@ count_one worker row = by ((row.worker == worker) && not (is_given_up row.replie
 -- ---- the store that the caller's transactions have left
 
 -- the only caller has the number 0
-number_zero : (k : Caller) → AtRest k → callers_of (round_of k) ≡ 1 → number_of k ≡ 0
-number_zero k rest only = let below = number_below k rest in omega (arith, only, below)
+number_zero : {k : Caller} → AtRest k → callers_of (round_of k) ≡ 1 → number_of k ≡ 0
+number_zero {k = k} rest only = let below = number_below k rest in omega (arith, only, below)
 
-pub told_committed : (k : Caller) → AtRest k → callers_of (round_of k) ≡ 1 → all_done (round_of k) ≡ done k
-told_committed k rest only =
-    only_tells_all (round_of k) rest.run only ∙ ap (done_of (round_of k)) (sym (number_zero k rest only))
+pub told_committed : {k : Caller} → AtRest k → callers_of (round_of k) ≡ 1 → all_done (round_of k) ≡ done k
+told_committed {k = k} rest only =
+    only_tells_all (round_of k) rest.run only ∙ ap (done_of (round_of k)) (sym (number_zero rest only))
 
-module _ (workload : Workload) (number : ℕ) (table : Table) (first : Caller) (before : List Row)
-    (begun : Turning) (can : CanRunAlone workload number table first before begun) where
-  only_of : (k : Caller) → GoesOn first k → callers_of (round_of k) ≡ 1
-  only_of k on = callers_same first k on ∙ can.only
+module _ {workload : Workload} {number : ℕ} {table : Table} {first : Caller} {before : List Row}
+    {begun : Turning} (can : CanRunAlone workload number table first before begun) where
+  only_of : {k : Caller} → GoesOn first k → callers_of (round_of k) ≡ 1
+  only_of {k = k} on = callers_same first k on ∙ can.only
 
   -- the rows are good, and the store after them is what the caller's transactions have left
-  pub collected : (k : Caller) (rows now : List Row) (turns : Turning) →
+  pub collected : {k : Caller} {rows now : List Row} {turns : Turning} →
       Goes workload number first k before rows now turns →
       Collected workload before now (start_of (round_of k)) (reverse (done k)) []
-  collected k rows now turns goes =
-      let only = only_of k goes.on in
-      let same = told_committed k goes.on.rest only in
+  collected {k = k} {now = now} goes =
+      let only = only_of goes.on in
+      let same = told_committed goes.on.rest only in
       subst (λ (ds : List Committed). Collected workload before now (start_of (round_of k)) (reverse ds) []) same
       (rows_told workload before now (round_of k) number can.valid goes.on.rest.run
       (recursion_from_All (λ row. row.round < number) before can.earlier)
@@ -112,20 +111,20 @@ module _ (workload : Workload) (number : ℕ) (table : Table) (first : Caller) (
       (subst (λ (ds : List Committed). AreTold workload before now (reverse ds)) (sym same) goes.told)
       (recursion_from_All (λ row. row.round ≡ number) now goes.in_round))
 
-  stands_now : (k : Caller) (rows now : List Row) (turns : Turning) →
+  stands_now : {k : Caller} {rows now : List Row} {turns : Turning} →
       Goes workload number first k before rows now turns →
       StandsFor workload.layout (values_left k) (store_after workload rows)
-  stands_now k rows now turns goes =
+  stands_now {k = k} {rows = rows} {now = now} {turns = turns} goes =
       subst (λ (rs : List Row). StandsFor workload.layout (values_left k) (store_after workload rs)) (sym goes.rows_are)
-      (collected k rows now turns goes).stands
+      (collected goes).stands
 
   -- ---- one row more
 
   -- the caller went on and committed nothing
-  still : (k n : Caller) (rows now : List Row) (turns : Turning) →
+  still : {k n : Caller} {rows now : List Row} {turns : Turning} →
       Goes workload number first k before rows now turns → GoesOn k n → done n ≡ done k →
       Goes workload number first n before rows now turns
-  still k n rows now turns goes on same = record {
+  still {k = k} {n = n} {now = now} goes on same = record {
     rows_are = goes.rows_are;
     turns_are = goes.turns_are;
     on = goes_on first k n goes.on on;
@@ -134,13 +133,14 @@ module _ (workload : Workload) (number : ℕ) (table : Table) (first : Caller) (
   }
 
   -- a transaction has committed, and its row was made
-  row_goes : (k n : Caller) (rows now : List Row) (turns behind : Turning) (by : Committed) (row : Row) (job : Job) →
+  row_goes : {k n : Caller} {rows now : List Row} {turns behind : Turning} (by : Committed) (row : Row) (job : Job) →
       Goes workload number first k before rows now turns → GoesOn k n → done n ≡ by ∷ done k →
       first_job row.worker turns.left ≡ Some job → row.line ≡ job.line → row.round ≡ number → row.number ≡ by.number →
       (IsAnsweredBy workload.layout job.ops row.replies by.entry ⊎ IsGivenUp workload rows row by) →
       behind ≡ record turns { left = without_first row.worker turns.left } →
       Goes workload number first n before (rows ++ row ∷ []) (now ++ row ∷ []) behind
-  row_goes k n rows now turns behind by row job goes on newest turn line round drew answer turned =
+  row_goes {k = k} {n = n} {rows = rows} {now = now} {turns = turns} by row job goes on newest turn line round drew
+      answer turned =
       let left : turns.left ≡ jobs_left workload.jobs rows = ap (λ (t : Turning). t.left) goes.turns_are in
       let turn_there : first_job row.worker (jobs_left workload.jobs rows) ≡ Some job =
       ap (first_job row.worker) (sym left) ∙ turn in
@@ -221,16 +221,15 @@ module _ (workload : Workload) (number : ℕ) (table : Table) (first : Caller) (
       (rw has (omega arith))
 
   -- after a worker's turn that adds no row
-  step_on : (k n : Caller) (rows : List Row) (turns : Turning) (w : ℕ) (some : Bool)
+  step_on : {k n : Caller} {rows : List Row} {turns : Turning} {w : ℕ} {some : Bool}
       (s : Sweeps workload number first k before rows turns w some) → Goes workload number first n before rows s.now turns →
       IfSome (first_job w (left_by workload rows)) (λ job. apply_job job.ops (store_after workload rows) ≡ None) →
       WasAsked workload before s.now w ⊎ (has_job (left_by workload rows) w ≡ true → ⊥) →
       callers.begun n ≤ length s.now + blocked_so_far workload before s.now (w + 1) →
       (s.now ≡ [] → used_by (round_of n) (number_of n) ≡ 0) →
       (s.now ≡ [] → callers.begun n + length (still_waiting workload (w + 1) (left_by workload before))
-      ≤ length (workers_left workload before)) →
-      Sweeps workload number first n before rows turns (w + 1) some
-  step_on k n rows turns w some s goes blocked asked attempts unused few_tries = record {
+      ≤ length (workers_left workload before)) → Sweeps workload number first n before rows turns (w + 1) some
+  step_on {rows = rows} {w = w} s goes blocked asked attempts unused few_tries = record {
     now = s.now;
     goes = goes;
     few = λ v below.
@@ -268,15 +267,15 @@ module _ (workload : Workload) (number : ℕ) (table : Table) (first : Caller) (
   }
 
   -- the worker has no job left
-  pub step_none : (k : Caller) (rows : List Row) (turns : Turning) (w : ℕ) (some : Bool) → w < workload.workers →
+  pub step_none : {k : Caller} {rows : List Row} {turns : Turning} {w : ℕ} {some : Bool} → w < workload.workers →
       first_job w turns.left ≡ None → Sweeps workload number first k before rows turns w some →
       Sweeps workload number first k before rows turns (w + 1) some
-  step_none k rows turns w some inside none s =
+  step_none {k = k} {rows = rows} {turns = turns} {w = w} {some = some} inside none s =
       let left : turns.left ≡ left_by workload rows = ap (λ (t : Turning). t.left) s.goes.turns_are in
       let no_job : first_job w (left_by workload rows) ≡ None = ap (first_job w) (sym left) ∙ none in
       let a = s.attempts in
       let more = so_far_grows workload before s.now w (w + 1) (omega arith) in
-      step_on k k rows turns w some s s.goes
+      step_on s s.goes
       (subst (λ (o : Option Job). IfSome o (λ job. apply_job job.ops (store_after workload rows) ≡ None)) (sym no_job) tt)
       (inr (λ has. has_first w (left_by workload rows) has no_job)) (omega (arith, a, more)) s.unused
       (λ empty. let t = s.few_tries empty in let l = waiting_less w (left_by workload before) inside in omega (arith, t, l))
@@ -292,68 +291,69 @@ module _ (workload : Workload) (number : ℕ) (table : Table) (first : Caller) (
       by false here is further = rw (sym here) (further is)
 
   -- the job of the worker is blocked
-  pub step_blocked : (style : Style) (k n : Caller) (rows : List Row) (turns : Turning) (w : ℕ) (some : Bool)
-      (job : Job) → w < workload.workers → (style ≡ Branches → workload.version ≡ 3) →
+  pub step_blocked : {style : Style} {k n : Caller} {rows : List Row} {turns : Turning} {w : ℕ} {some : Bool}
+      {job : Job} → w < workload.workers → (style ≡ Branches → workload.version ≡ 3) →
       first_job w turns.left ≡ Some job → StoodAlone style workload.layout job k n →
       Sweeps workload number first k before rows turns w some →
       Sweeps workload number first n before rows turns (w + 1) some
-  step_blocked style k n rows turns w some job inside third turn stood s =
-      let goes = still k n rows s.now turns s.goes stood.made.on stood.same_done in
+  step_blocked {k = k} {n = n} {rows = rows} {turns = turns} {w = w} {some = some} {job = job} inside third turn stood
+      s =
+      let goes = still s.goes stood.made.on stood.same_done in
       let left : turns.left ≡ jobs_left workload.jobs rows = ap (λ (t : Turning). t.left) s.goes.turns_are in
       let there : first_job w (jobs_left workload.jobs rows) ≡ Some job = ap (first_job w) (sym left) ∙ turn in
-      let stuck = stood.blocked (store_after workload rows) (stands_now n rows s.now turns goes) in
+      let stuck = stood.blocked (store_after workload rows) (stands_now goes) in
       let blocked : is_blocked workload rows w ≡ true =
-      blocked_now workload before rows s.now w job s.goes.rows_are there stuck in
+      blocked_now workload before s.now w job s.goes.rows_are there stuck in
       let a = s.attempts in
       let more = stood.made.begun in
       let one = so_far_blocked workload before s.now w
       (subst (λ (rs : List Row). is_blocked workload rs w ≡ true) s.goes.rows_are blocked) in
-      step_on k n rows turns w some s goes
+      step_on s goes
       (subst (λ (o : Option Job). IfSome o (λ job. apply_job job.ops (store_after workload rows) ≡ None)) (sym there) stuck)
-      (inl (asked_blocked workload before rows s.now w s.goes.rows_are blocked)) (omega (arith, a, more, one))
+      (inl (asked_blocked workload before s.now w s.goes.rows_are blocked)) (omega (arith, a, more, one))
       (λ empty. stood.unused (writes_same first k s.goes.on ∙ can.reads (third stood.branches)) ∙ s.unused empty)
       (λ empty.
       let t = s.few_tries empty in
-      let rows_is : rows ≡ before =
-      s.goes.rows_are ∙ ap (λ (rs : List Row). before ++ rs) empty ∙ append-nil before in
+      let rows_is : rows ≡ before = s.goes.rows_are ∙ ap (λ (rs : List Row). before ++ rs) empty ∙ append-nil before in
       let turn_before : first_job w (left_by workload before) ≡ Some job =
       ap (λ (rs : List Row). first_job w (jobs_left workload.jobs rs)) (sym rows_is) ∙ there in
       let one = waiting_one w (left_by workload before) inside (has_turn w (left_by workload before) job turn_before) in
       omega (arith, t, one, more))
 
   -- what the newest transaction has read is what those before it have left
-  agrees_then : (k n : Caller) (by : Committed) → GoesOn first k → GoesOn k n → done n ≡ by ∷ done k →
+  agrees_then : {k n : Caller} (by : Committed) → GoesOn first k → GoesOn k n → done n ≡ by ∷ done k →
       Agrees (values_left k) by.entry.reads
-  agrees_then k n by so_far on newest =
-      let only = only_of n (goes_on first k n so_far on) in
+  agrees_then {k = k} {n = n} by so_far on newest =
+      let only = only_of (goes_on first k n so_far on) in
       let is : entries_of (committed_of (round_of n)) ≡ entries_of (reverse (done k)) ++ by.entry ∷ [] =
-      ap (λ (ds : List Committed). entries_of (reverse ds)) (told_committed n on.rest only ∙ newest)
+      ap (λ (ds : List Committed). entries_of (reverse ds)) (told_committed on.rest only ∙ newest)
       ∙ ap entries_of (reverse-cons by (done k)) ∙ entries_push (reverse (done k)) by in
       agrees_next (start_of (round_of k)) (entries_of (reverse (done k))) by.entry []
       (subst (λ (vs : List Val). IsLegal vs (entries_of (reverse (done k)) ++ by.entry ∷ [])) (start_same k n on)
       (subst (IsLegal (start_of (round_of n))) is (is_history (round_of n) on.rest.run).legal))
 
   -- the job of the worker was done
-  pub step_done : (style : Style) (k n : Caller) (rows : List Row) (turns behind : Turning) (w : ℕ)
-      (some : Bool) (job : Job) (finished : Finished) (row : Row) → w < workload.workers → first_job w turns.left ≡ Some job →
+  pub step_done : {style : Style} {k n : Caller} {rows : List Row} {turns behind : Turning} {w : ℕ}
+      {some : Bool} {job : Job} {finished : Finished} (row : Row) → w < workload.workers → first_job w turns.left
+      ≡ Some job →
       DidJob style workload.layout job k n finished → row.worker ≡ w → row.line ≡ job.line → row.round ≡ number →
       row.number ≡ finished.number → row.replies ≡ finished.replies →
       behind ≡ record turns { left = without_first row.worker turns.left } →
       Sweeps workload number first k before rows turns w some →
       Sweeps workload number first n before (rows ++ row ∷ []) behind (w + 1) true
-  step_done style k n rows turns behind w some job finished row inside turn did worker line round drew replies turned s =
+  step_done {k = k} {n = n} {rows = rows} {turns = turns} {behind = behind} {w = w} {job = job} row inside turn did
+      worker line round drew replies turned s =
       let answered : IsAnsweredBy workload.layout job.ops row.replies did.by.entry =
       subst (λ (rs : List Reply). IsAnsweredBy workload.layout job.ops rs did.by.entry) (sym replies) did.is.answered in
       let here : first_job row.worker turns.left ≡ Some job = ap (λ v. first_job v turns.left) worker ∙ turn in
       let left : turns.left ≡ jobs_left workload.jobs rows = ap (λ (t : Turning). t.left) s.goes.turns_are in
       let there : first_job row.worker (jobs_left workload.jobs rows) ≡ Some job = ap (first_job row.worker) (sym left) ∙ here in
-      let kept : is_given_up row.replies ≡ false =
-      not_given_up job.ops (store_after workload rows) row.replies
-      (answers_there workload rows row.replies (values_left k) did.by.entry job (stands_now k rows s.now turns s.goes)
-      (agrees_then k n did.by s.goes.on did.made.on did.newest) answered) in
+      let kept : is_given_up row.replies ≡ false = not_given_up job.ops (store_after workload rows) row.replies
+      (answers_there workload rows row.replies (values_left k) did.by.entry job (stands_now s.goes)
+      (agrees_then did.by s.goes.on did.made.on did.newest) answered) in
       record {
         now = s.now ++ row ∷ [];
-        goes = row_goes k n rows s.now turns behind did.by row job s.goes did.made.on did.newest here line round
+        goes = row_goes did.by row job s.goes did.made.on did.newest here line round
             (drew ∙ did.is.number) (inl answered) turned;
         few = λ v below.
             elim (cases_lt v w) [
@@ -405,14 +405,13 @@ module _ (workload : Workload) (number : ℕ) (table : Table) (first : Caller) (
 
   -- ---- where a round ends
 
-  end_by : (k : Caller) (rows now : List Row) (turns : Turning) (w : ℕ) →
+  end_by : {k : Caller} {rows now : List Row} {turns : Turning} (w : ℕ) →
       Goes workload number first k before rows now turns → ((v : ℕ) → v < w → count_done v now ≤ 1) →
       ((v : ℕ) → w ≤ v → count_done v now ≡ 0) → 0 < length now →
       ((v : ℕ) → v < workload.workers → has_job (left_by workload before) v ≡ true →
       WasAsked workload before now v ⊎ IsSpent (round_of k) (number_of k)) →
-      callers.begun k ≤ most_tries workload before now →
-      HasRunAlone workload number first k before rows turns
-  end_by k rows now turns w goes few others has asked attempts = record {
+      callers.begun k ≤ most_tries workload before now → HasRunAlone workload number first k before rows turns
+  end_by {now = now} w goes few others has asked attempts = record {
     now = now;
     goes = goes;
     some = has;
@@ -426,24 +425,23 @@ module _ (workload : Workload) (number : ℕ) (table : Table) (first : Caller) (
   }
 
   -- a pass that has come to its end has asked all
-  end_whole : (k : Caller) (rows : List Row) (turns : Turning) (some : Bool) →
+  end_whole : {k : Caller} {rows : List Row} {turns : Turning} {some : Bool} →
       (s : Sweeps workload number first k before rows turns workload.workers some) → 0 < length s.now →
       HasRunAlone workload number first k before rows turns
-  end_whole k rows turns some s has =
-      end_by k rows s.now turns workload.workers s.goes s.few s.others has
-      (λ v below had.
+  end_whole {k = k} {rows = rows} {turns = turns} s has =
+      end_by workload.workers s.goes s.few s.others has (λ v below had.
       elim (s.asked v below had) [ inl was ↦ inl was | inr later ↦ absurd (omega (arith, below, later.0)) ])
       (tries_are_few workload before s.now workload.workers (callers.begun k) (omega arith) s.attempts)
 
-  pub end_done : (k : Caller) (rows : List Row) (turns : Turning) →
+  pub end_done : {k : Caller} {rows : List Row} {turns : Turning} →
       Sweeps workload number first k before rows turns workload.workers true →
       HasRunAlone workload number first k before rows turns
-  end_done k rows turns s = end_whole k rows turns true s (s.has_row refl)
+  end_done {k = k} {rows = rows} {turns = turns} s = end_whole s (s.has_row refl)
 
   -- a caller that has used nothing and has tried few jobs is not spent
-  not_spent : (k : Caller) → GoesOn first k → used_by (round_of k) (number_of k) ≡ 0 →
+  not_spent : {k : Caller} → GoesOn first k → used_by (round_of k) (number_of k) ≡ 0 →
       callers.begun k ≤ length (workers_left workload before) → CannotBegin (round_of k) (number_of k) → ⊥
-  not_spent k on none few spent =
+  not_spent {k = k} on none few spent =
       let attempts : attempts_of (round_of k) ≡ attempts_for (length (workers_left workload before)) =
       same_attempts first k on ∙ can.attempts in
       let has = has_job (left_by workload before) in
@@ -454,11 +452,11 @@ module _ (workload : Workload) (number : ℕ) (table : Table) (first : Caller) (
       (omega (arith, attempts, few, workers, all, most)) spent
 
   -- the caller is spent, which has a row behind
-  pub spent_after : (k n : Caller) (rows : List Row) (turns : Turning) (w : ℕ) (some : Bool) → w ≤ workload.workers →
+  pub spent_after : {k n : Caller} {rows : List Row} {turns : Turning} {w : ℕ} {some : Bool} → w ≤ workload.workers →
       IsSpentFrom k n → (s : Sweeps workload number first k before rows turns w some) →
       (s.now ≡ [] → callers.begun k ≤ length (workers_left workload before)) →
       HasRunAlone workload number first n before rows turns
-  spent_after k n rows turns w some small was s few = by s.now refl
+  spent_after {k = k} {n = n} {rows = rows} {turns = turns} {w = w} small was s few = by s.now refl
     where
       tries : callers.begun n ≤ most_tries workload before s.now
       tries =
@@ -467,29 +465,29 @@ module _ (workload : Workload) (number : ℕ) (table : Table) (first : Caller) (
 
       by : (now : List Row) → s.now ≡ now → HasRunAlone workload number first n before rows turns
       by (row ∷ now) is =
-          end_by n rows s.now turns w (still k n rows s.now turns s.goes was.on was.same_done) s.few s.others
+          end_by w (still s.goes was.on was.same_done) s.few s.others
           (let some_ = ap length is in omega (arith, some_)) (λ v below had. inr was.spent) tries
-      by [] is = absurd (not_spent k s.goes.on (s.unused is) (few is) was.was)
+      by [] is = absurd (not_spent s.goes.on (s.unused is) (few is) was.was)
 
   -- the caller is spent, after a try of a worker that has a job left
-  pub step_spent : (k n : Caller) (rows : List Row) (turns : Turning) (w : ℕ) (some : Bool) (job : Job) →
+  pub step_spent : {k n : Caller} {rows : List Row} {turns : Turning} {w : ℕ} {some : Bool} (job : Job) →
       w < workload.workers → first_job w turns.left ≡ Some job → IsSpentFrom k n →
-      Sweeps workload number first k before rows turns w some →
-      HasRunAlone workload number first n before rows turns
-  step_spent k n rows turns w some job inside turn was s =
-      spent_after k n rows turns w some (omega (arith, inside)) was s (λ empty. let t = s.few_tries empty in omega (arith, t))
+      Sweeps workload number first k before rows turns w some → HasRunAlone workload number first n before rows turns
+  step_spent {k = k} {n = n} {rows = rows} {turns = turns} {w = w} {some = some} job inside turn was s =
+      spent_after (omega (arith, inside)) was s (λ empty. let t = s.few_tries empty in omega (arith, t))
 
   -- ---- giving up
 
   -- where all are blocked, that of the least worker was given up
-  pub step_given_up : (k n : Caller) (rows : List Row) (turns behind : Turning) (job : Job) (drawn : ℕ) (row : Row) →
+  pub step_given_up : {k n : Caller} {rows : List Row} {turns behind : Turning} (job : Job) {drawn : ℕ} (row : Row) →
       first_job job.worker turns.left ≡ Some job → ((v : ℕ) → v < job.worker → first_job v turns.left ≡ None) →
       HasGivenUp k n drawn → row.worker ≡ job.worker → row.line ≡ job.line →
       row.round ≡ number → row.number ≡ drawn → row.replies ≡ Never ∷ [] →
       behind ≡ record turns { left = without_first row.worker turns.left } →
       Sweeps workload number first k before rows turns workload.workers false →
       Sweeps workload number first n before (rows ++ row ∷ []) behind 0 false
-  step_given_up k n rows turns behind job drawn row turn least gave worker line round drew replies turned s =
+  step_given_up {k = k} {n = n} {rows = rows} {turns = turns} {behind = behind} job row turn least gave worker line
+      round drew replies turned s =
       let left : turns.left ≡ jobs_left workload.jobs rows = ap (λ (t : Turning). t.left) s.goes.turns_are in
       let here : first_job row.worker turns.left ≡ Some job = ap (λ v. first_job v turns.left) worker ∙ turn in
       let small : All (λ job. job.worker < workload.workers) (jobs_left workload.jobs rows) = small_left rows in
@@ -505,7 +503,7 @@ module _ (workload : Workload) (number : ℕ) (table : Table) (first : Caller) (
       } in
       record {
         now = s.now ++ row ∷ [];
-        goes = row_goes k n rows s.now turns behind gave.by row job s.goes gave.made.on gave.newest here line round
+        goes = row_goes gave.by row job s.goes gave.made.on gave.newest here line round
             (drew ∙ gave.drew) (inr given) turned;
         few = λ v below. absurd (omega (arith, below));
         others = λ v past.
@@ -532,24 +530,23 @@ module _ (workload : Workload) (number : ℕ) (table : Table) (first : Caller) (
       }
 
   -- the caller is spent
-  pub given_up_spent : (k n : Caller) (rows : List Row) (turns : Turning) → IsSpentFrom k n →
+  pub given_up_spent : {k n : Caller} {rows : List Row} {turns : Turning} → IsSpentFrom k n →
       Sweeps workload number first k before rows turns workload.workers false →
       HasRunAlone workload number first n before rows turns
-  given_up_spent k n rows turns was s =
-      spent_after k n rows turns workload.workers false (omega arith) was s (λ empty. let t = s.few_tries empty in omega (arith, t))
+  given_up_spent {k = k} {n = n} {rows = rows} {turns = turns} was s =
+      spent_after (omega arith) was s (λ empty. let t = s.few_tries empty in omega (arith, t))
 
   -- no job is left
-  pub end_empty : (k : Caller) (rows : List Row) (turns : Turning) →
+  pub end_empty : {k : Caller} {rows : List Row} {turns : Turning} →
       ((v : ℕ) → v < workload.workers → first_job v turns.left ≡ None) →
       Sweeps workload number first k before rows turns workload.workers false →
       HasRunAlone workload number first k before rows turns
-  end_empty k rows turns none s = by s.now refl
+  end_empty {k = k} {rows = rows} {turns = turns} none s = by s.now refl
     where
       by : (now : List Row) → s.now ≡ now → HasRunAlone workload number first k before rows turns
-      by (row ∷ now) is = end_whole k rows turns false s (let some_ = ap length is in omega (arith, some_))
+      by (row ∷ now) is = end_whole s (let some_ = ap length is in omega (arith, some_))
       by [] is =
-          let rows_is : rows ≡ before =
-          s.goes.rows_are ∙ ap (λ (rs : List Row). before ++ rs) is ∙ append-nil before in
+          let rows_is : rows ≡ before = s.goes.rows_are ∙ ap (λ (rs : List Row). before ++ rs) is ∙ append-nil before in
           let left : turns.left ≡ left_by workload before =
           ap (λ (t : Turning). t.left) s.goes.turns_are ∙ ap (λ (rs : List Row). jobs_left workload.jobs rs) rows_is in
           absurd (someone workload.workers (left_by workload before) can.some_left (small_left before)
@@ -558,19 +555,18 @@ module _ (workload : Workload) (number : ℕ) (table : Table) (first : Caller) (
 -- ---- what each step counts on
 
 -- the first job left of a worker is one of the workload
-pub job_is : (workload : Workload) (rows : List Row) (turns : Turning) (w : ℕ) (job : Job) → IsValidWorkload workload →
+pub job_is : {workload : Workload} (rows : List Row) {turns : Turning} (w : ℕ) (job : Job) → IsValidWorkload workload →
     turns ≡ turns_behind workload rows → first_job w turns.left ≡ Some job → IsJob workload job
-job_is workload rows turns w job valid are turn =
-    first_holds (IsJob workload) w turns.left job
-    (subst (All (IsJob workload)) (sym (ap (λ (t : Turning). t.left) are))
+job_is {workload = workload} rows {turns = turns} w job valid are turn =
+    first_holds (IsJob workload) w turns.left job (subst (All (IsJob workload)) (sym (ap (λ (t : Turning). t.left) are))
     (All-from_recursion (IsJob workload) (jobs_left workload.jobs rows)
-    (each-filter (IsJob workload) _ workload.jobs (recursion_from_All (IsJob workload) workload.jobs valid.each))))
-    turn
+    (each-filter (IsJob workload) _ workload.jobs (recursion_from_All (IsJob workload) workload.jobs valid.each)))) turn
 
-pub may_on : (workload : Workload) (table : Table) (k n : Caller) (rows behind : List Row)
-    (turns turned : Turning) → MayStep workload table k rows turns → GoesOn k n → turned ≡ turns_behind workload behind →
+pub may_on : {workload : Workload} {table : Table} {k n : Caller} {rows : List Row} (behind : List Row)
+    {turns turned : Turning} → MayStep workload table k rows turns → GoesOn k n → turned ≡ turns_behind workload behind
+    →
     MayStep workload table n behind turned
-may_on workload table k n rows behind turns turned may on are = record {
+may_on {k = k} {n = n} behind may on are = record {
   valid = may.valid;
   home = on.home ∙ may.home;
   only = callers_same k n on ∙ may.only;
@@ -580,11 +576,11 @@ may_on workload table k n rows behind turns turned may on are = record {
 }
 
 -- behind one row more
-pub turns_after : (workload : Workload) (rows : List Row) (turns turned : Turning) (row : Row) (job : Job) →
+pub turns_after : {workload : Workload} (rows : List Row) {turns turned : Turning} (row : Row) (job : Job) →
     IsValidWorkload workload → turns ≡ turns_behind workload rows → first_job row.worker turns.left ≡ Some job →
     row.line ≡ job.line → turned ≡ record turns { left = without_first row.worker turns.left } →
     turned ≡ turns_behind workload (rows ++ row ∷ [])
-turns_after workload rows turns turned row job valid are turn line is =
+turns_after {workload = workload} rows row job valid are turn line is =
     is ∙ ap (λ (t : Turning). record { jobs = t.jobs; left = without_first row.worker t.left }) are
     ∙ ap (λ (l : List Job). record { jobs = workload.jobs; left = l })
     (turn_ends workload.jobs rows row job (rise_all workload.jobs valid.rising)
@@ -603,18 +599,18 @@ third_of version release is = by (cases_eq version 3)
         others false e = cc
 
 -- a pass that has ended, but not for want of attempts
-pub swept_leads : (workload : Workload) (number : ℕ) (first n : Caller) (before rows : List Row) (turns : Turning)
-    (next : ℕ) (ended : Swept) → (ended ≡ swept.Spent → ⊥) →
+pub swept_leads : {workload : Workload} {number : ℕ} {first n : Caller} {before rows : List Row} {turns : Turning}
+    {next : ℕ} (ended : Swept) → (ended ≡ swept.Spent → ⊥) →
     Sweeps workload number first n before rows turns next (is_done ended) →
     Leads workload number first n before rows turns next false ended
-swept_leads workload number first n before rows turns next swept.Done other sweeps = sweeps
-swept_leads workload number first n before rows turns next swept.Blocked other sweeps = sweeps
-swept_leads workload number first n before rows turns next swept.Spent other sweeps = absurd (other refl)
+swept_leads swept.Done other sweeps = sweeps
+swept_leads swept.Blocked other sweeps = sweeps
+swept_leads swept.Spent other sweeps = absurd (other refl)
 
 -- the caller of an alone round that begins may step
-pub may_begin : (workload : Workload) (number : ℕ) (table : Table) (first : Caller) (before : List Row)
-    (begun : Turning) → CanRunAlone workload number table first before begun → MayStep workload table first before begun
-may_begin workload number table first before begun can = record {
+pub may_begin : {workload : Workload} {number : ℕ} {table : Table} {first : Caller} {before : List Row}
+    {begun : Turning} → CanRunAlone workload number table first before begun → MayStep workload table first before begun
+may_begin can = record {
   valid = can.valid;
   home = can.home;
   only = can.only;

@@ -23,8 +23,7 @@ known_later old new numbers quiet past (worker ∷ workers) among known =
     let P : Worker → Type 0 = λ w. IsKnownBy old w.caller in
     let Q : Worker → Type 0 = λ w. IsKnownBy new w.caller in
     let here = All-head P worker workers known in
-    All-cons Q worker workers
-    (record {
+    All-cons Q worker workers (record {
       past = past_trans (round_of worker.caller) old new here.past past;
       own = own_trans (number_of worker.caller) (round_of worker.caller) old new here.own
           (quiet (number_of worker.caller) (All-head A worker workers among));
@@ -37,19 +36,18 @@ are_among [] = All-nil (λ (worker : Worker). Contains [] (caller_number worker)
 are_among (worker ∷ workers) =
     let numbers = map caller_number workers in
     let A : Worker → Type 0 = λ w. Contains (caller_number worker ∷ numbers) (caller_number w) in
-    All-cons A worker workers (0, omega arith, refl)
-    (All-weaker (λ (w : Worker). Contains numbers (caller_number w)) A
+    All-cons A worker workers (0, omega arith, refl) (All-weaker (λ (w : Worker). Contains numbers (caller_number w)) A
     (λ w in_rest. Contains-append_right (caller_number worker ∷ []) numbers (caller_number w) in_rest) workers (are_among workers))
 
 module _ (table : Table) where
-  module _ (out : ℕ) (workers : List Worker) (f g : Founder) (worker : Worker) (back : HasBack table (out + 1) workers f)
+  module _ (out : ℕ) {workers : List Worker} {f g : Founder} (worker : Worker)
+      (back : HasBack table (out + 1) workers f)
       (takes : TakesBack f g worker.caller) where
     known_there : All (λ (w : Worker). IsKnownBy (seen_by g) w.caller) workers
     known_there =
         known_later (seen_by f) (seen_by g) (numbers_of f) takes.kept takes.past workers
         (subst (λ (ns : List ℕ). All (λ (w : Worker). Contains ns (caller_number w)) workers) (sym back.numbers)
-        (are_among workers))
-        back.known
+        (are_among workers)) back.known
 
     one_back : HasBack table out (workers ++ worker ∷ []) g
     one_back = record {
@@ -73,14 +71,15 @@ module _ (table : Table) where
     pub rest : All (λ (worker : Worker). RestsAt table worker.caller) left
     pub back : HasBack table (length left) now f
 
-  pub takes_one : (workers now left : List Worker) (f g : Founder) (worker : Worker) → Takes workers now (worker ∷ left) f →
+  pub takes_one : {workers now : List Worker} (left : List Worker) {f g : Founder} (worker : Worker) → Takes workers
+      now (worker ∷ left) f →
       TakesBack f g worker.caller → Takes workers (now ++ worker ∷ []) left g
-  takes_one workers now left f g worker takes taken =
+  takes_one {now = now} left {f = f} {g = g} worker takes taken =
       let P : Worker → Type 0 = λ w. RestsAt table w.caller in record {
         are = append_assoc now (worker ∷ []) left ∙ takes.are;
         rest = All-tail P worker left takes.rest;
         back =
-            one_back (length left) now f g worker
+            one_back (length left) worker
             (subst (λ (n : ℕ). HasBack table n now f) (longer worker left) takes.back) taken;
       }
     where

@@ -43,10 +43,10 @@ next_is workers left worker below =
     ap (λ n. filter (has_job left) (range_with_len worker n)) more
 
 -- one more, which is the first now
-pub counted : (workers : ℕ) (left : List Job) (worker count first : ℕ) → worker < workers →
+pub counted : {workers : ℕ} {left : List Job} (worker : ℕ) {count first : ℕ} → worker < workers →
     has_job left worker ≡ true → IsCounted workers left (worker + 1) count first →
     IsCounted workers left worker (count + 1) worker
-counted workers left worker count first below has c =
+counted {workers = workers} {left = left} worker below has c =
     let more : from_on workers left worker ≡ worker ∷ from_on workers left (worker + 1) =
     next_is workers left worker below
     ∙ ap (λ b. cond b (worker ∷ from_on workers left (worker + 1)) (from_on workers left (worker + 1))) has in
@@ -57,12 +57,11 @@ counted workers left worker count first below has c =
     }
 
 -- none more
-pub passed_over : (workers : ℕ) (left : List Job) (worker count first : ℕ) → worker < workers →
+pub passed_over : {workers : ℕ} {left : List Job} (worker : ℕ) {count first : ℕ} → worker < workers →
     has_job left worker ≡ false → IsCounted workers left (worker + 1) count first →
     IsCounted workers left worker count first
-passed_over workers left worker count first below has c =
-    let more : from_on workers left worker ≡ from_on workers left (worker + 1) =
-    next_is workers left worker below
+passed_over {workers = workers} {left = left} worker {first = first} below has c =
+    let more : from_on workers left worker ≡ from_on workers left (worker + 1) = next_is workers left worker below
     ∙ ap (λ b. cond b (worker ∷ from_on workers left (worker + 1)) (from_on workers left (worker + 1))) has in
     record {
       is = let l = ap length more in let n = c.is in omega (arith, l, n);

@@ -51,9 +51,9 @@ pub third_version : (version : ℕ) (release : Bool) → style_of version releas
 third_version version release is = eqb-true version 3 (branches_by (version == 3) release is)
 
 -- a workload whose reads are given up early is run loosely
-pub loose_style : (options : Options) (version : ℕ) → IsReleasing options version →
+pub loose_style : {options : Options} {version : ℕ} → IsReleasing options version →
     style_of version (releases options) ≡ Loose
-loose_style options version is =
+loose_style {version = version} is =
     let low = is.no_conditions in
     rw (ne_eqb version 3 (λ e. omega arith), is.engine, is.release, is.reads) refl
 
@@ -74,9 +74,9 @@ loose_by false true is = (refl, refl)
 loose_by false false is = cc
 
 -- one of which no read is given up is not run loosely
-pub not_loose : (options : Options) (version : ℕ) (style : Style) → version ≤ 3 →
+pub not_loose : (options : Options) (version : ℕ) {style : Style} → version ≤ 3 →
     style ≡ style_of version (releases options) → KeepsReads options version → style ≢ Loose
-not_loose options version style newest is keeps loose =
+not_loose options version newest is keeps loose =
     let by = loose_by (version == 3) (releases options) (sym is ∙ loose) in
     let all = both_on (is_dstm options.engine) options.release options.all_write by.1 in
     keeps (record {
@@ -121,18 +121,19 @@ can_try workload release job valid is = record {
 
 -- ---- what was done
 
-pub AreDone-push : (layout : Layout) (jobs : List Job) (places : List ℕ) (finished : List Finished) (by : List Committed)
-    (next : Finished) (last : Committed) (place : ℕ) → length finished < length places →
+pub AreDone-push : {layout : Layout} (jobs : List Job) (places : List ℕ) (finished : List Finished)
+    (by : List Committed)
+    {next : Finished} {last : Committed} (place : ℕ) → length finished < length places →
     place ≡ get_or places (length finished) place → AreDone layout jobs places finished by →
-    IsDone layout (job_at jobs place) next last →
-    AreDone layout jobs places (finished ++ next ∷ []) (by ++ last ∷ [])
-AreDone-push layout jobs [] finished by next last place more at are is = absurd (omega (arith, more))
-AreDone-push layout jobs (p ∷ places) [] [] next last place more at are is =
+    IsDone layout (job_at jobs place) next last → AreDone layout jobs places (finished ++ next ∷ []) (by ++ last ∷ [])
+AreDone-push jobs [] finished by place more at are is = absurd (omega (arith, more))
+AreDone-push {layout = layout} jobs (p ∷ places) [] [] {next = next} {last = last} place more at are is =
     (subst (λ (q : ℕ). IsDone layout (job_at jobs q) next last) at is, tt)
-AreDone-push layout jobs (p ∷ places) [] (d ∷ by) next last place more at are is = absurd are
-AreDone-push layout jobs (p ∷ places) (f ∷ finished) [] next last place more at are is = absurd are
-AreDone-push layout jobs (p ∷ places) (f ∷ finished) (d ∷ by) next last place more at are is =
-    (are.0, AreDone-push layout jobs places finished by next last place (omega (arith, more)) at are.1 is)
+AreDone-push jobs (p ∷ places) [] (d ∷ by) place more at are is = absurd are
+AreDone-push jobs (p ∷ places) (f ∷ finished) [] place more at are is = absurd are
+AreDone-push {layout = layout} jobs (p ∷ places) (f ∷ finished) (d ∷ by) {next = next} {last = last} place more at are
+    is =
+    (are.0, AreDone-push jobs places finished by place (omega (arith, more)) at are.1 is)
 
 -- ---- what transactions keep of their reads
 
@@ -169,9 +170,9 @@ pub record Stands (workload : Workload) (style : Style) (k n : Caller) (places :
   pub few_reads : style ≡ Loose → lets_go (round_of n) ≡ true →
       All (FewAt workload.jobs) (zip places (reverse (attempts.done n)))
 
-pub at_start : (workload : Workload) (style : Style) (k : Caller) (places : List ℕ) → AtRest k →
+pub at_start : (workload : Workload) (style : Style) {k : Caller} (places : List ℕ) → AtRest k →
     done k ≡ [] → Stands workload style k k places []
-at_start workload style k places rest none = record {
+at_start workload style {k = k} places rest none = record {
   on = goes_nowhere k rest;
   none_wasted = λ i some few. absurd (omega arith);
   done = subst (λ (ds : List Committed). AreDone workload.layout workload.jobs places [] (reverse ds)) (sym none) tt;
@@ -181,53 +182,53 @@ at_start workload style k places rest none = record {
 }
 
 -- no attempt was wasted up to some number
-then_none : (k n m : Caller) (most : ℕ) → GoesOn k n → GoesOn n m → NoneWastedSince k n (begun n) →
+then_none : {k n m : Caller} (most : ℕ) → GoesOn k n → GoesOn n m → NoneWastedSince k n (begun n) →
     NoneWastedSince n m most → NoneWastedSince k m most
-then_none k n m most on more first second i after before = by (cases_lt (begun n) i)
+then_none {k = k} {n = n} {m = m} most on more first second i after before = by (cases_lt (begun n) i)
   where
     by : (begun n < i) ⊎ (i ≤ begun n) → WasNotWasted m i
     by (inl late) = second i late before
-    by (inr early) = earlier k n m (begun n) on.rest more (omega arith) first i after early
+    by (inr early) = earlier k (begun n) on.rest more (omega arith) first i after early
 
 -- reads are let go on the whole table
-same_reads : (n m : Caller) → GoesOn n m → lets_go (round_of m) ≡ true → lets_go (round_of n) ≡ true
-same_reads n m on reads = sym (same_lets_go n m on) ∙ reads
+same_reads : {n m : Caller} → GoesOn n m → lets_go (round_of m) ≡ true → lets_go (round_of n) ≡ true
+same_reads {n = n} {m = m} on reads = sym (same_lets_go n m on) ∙ reads
 
 -- one job more was done
-pub one_done : (workload : Workload) (style : Style) (k n m : Caller) (places : List ℕ)
-    (finished : List Finished) (next : Finished) (job : Job) (place : ℕ) → Stands workload style k n places finished →
+pub one_done : {workload : Workload} {style : Style} {k n m : Caller} {places : List ℕ}
+    {finished : List Finished} {next : Finished} {job : Job} (place : ℕ) → Stands workload style k n places finished →
     HasDone style workload.layout job n m next → length finished < length places →
     place ≡ get_or places (length finished) place → job ≡ job_at workload.jobs place →
     Stands workload style k m places (finished ++ next ∷ [])
-one_done workload style k n m places finished next job place stands was more at is = record {
-  on = goes_on k n m stands.on was.on;
-  none_wasted = then_none k n m (begun m) stands.on was.on stands.none_wasted was.none_wasted;
-  done =
-      subst (AreDone workload.layout workload.jobs places (finished ++ next ∷ []))
-      (sym (ap reverse was.newest ∙ reverse-cons was.by (done n)))
-      (AreDone-push workload.layout workload.jobs places finished (reverse (done n)) next was.by place more at stands.done
-      (subst (λ (j : Job). IsDone workload.layout j next was.by) is was.is));
-  few_reads = λ loose reads.
-      subst (λ (by : List Committed). All (FewAt workload.jobs) (zip places by))
-      (sym (ap reverse was.newest ∙ reverse-cons was.by (done n)))
-      (few-push workload.layout workload.jobs places finished (reverse (done n)) was.by place more at stands.done
-      (stands.few_reads loose (same_reads n m was.on reads))
-      (subst (λ (j : Job). KeepsFew j was.by) is (was.few_reads loose reads)));
-}
+one_done {workload = workload} {k = k} {n = n} {m = m} {places = places} {finished = finished} {next = next} place
+    stands was more at is = record {
+      on = goes_on k n m stands.on was.on;
+      none_wasted = then_none (begun m) stands.on was.on stands.none_wasted was.none_wasted;
+      done =
+          subst (AreDone workload.layout workload.jobs places (finished ++ next ∷ []))
+          (sym (ap reverse was.newest ∙ reverse-cons was.by (done n)))
+          (AreDone-push workload.jobs places finished (reverse (done n)) place more at stands.done
+          (subst (λ (j : Job). IsDone workload.layout j next was.by) is was.is));
+      few_reads = λ loose reads.
+          subst (λ (by : List Committed). All (FewAt workload.jobs) (zip places by))
+          (sym (ap reverse was.newest ∙ reverse-cons was.by (done n)))
+          (few-push workload.layout workload.jobs places finished (reverse (done n)) was.by place more at stands.done
+          (stands.few_reads loose (same_reads was.on reads))
+          (subst (λ (j : Job). KeepsFew j was.by) is (was.few_reads loose reads)));
+    }
 
 -- ---- a worker that stops
 
 -- the job that is next
-pub next_is : (jobs : List Job) (places : List ℕ) (finished : List Finished) (job : Job) (place : ℕ) →
+pub next_is : (jobs : List Job) (places : List ℕ) (finished : List Finished) {job : Job} (place : ℕ) →
     length finished < length places → place ≡ get_or places (length finished) place → job ≡ job_at jobs place →
     Some job ≡ next_job jobs places finished
-next_is jobs places finished job place more at is =
+next_is jobs places finished place more at is =
     ap Some is
-    ∙ ap (option_map (job_at jobs))
-    (sym (slice_get-get_or places (length finished) place more ∙ ap Some (sym at)))
+    ∙ ap (option_map (job_at jobs)) (sym (slice_get-get_or places (length finished) place more ∙ ap Some (sym at)))
 
 module _ (workload : Workload) (options : Options) (old new : Worker) (unbegun : begun old.caller ≡ 0)
-    (style : Style) (is_style : style ≡ style_of workload.version (releases options))
+    {style : Style} (is_style : style ≡ style_of workload.version (releases options))
     (number : new.number ≡ old.number) (places : new.places.items ≡ old.places.items) where
   abbrev next : Option Job
   next = next_job workload.jobs new.places.items new.done.items
@@ -242,22 +243,22 @@ module _ (workload : Workload) (options : Options) (old new : Worker) (unbegun :
 
   -- it was loose, where reads are given up early
   was_loose : IsReleasing options workload.version → style ≡ Loose
-  was_loose releasing = is_style ∙ loose_style options workload.version releasing
+  was_loose releasing = is_style ∙ loose_style releasing
 
   -- what it kept before its last attempts, which committed nothing
-  same_few : (n : Caller) → Stands workload style old.caller n new.places.items new.done.items →
+  same_few : {n : Caller} → Stands workload style old.caller n new.places.items new.done.items →
       GoesOn n new.caller → done new.caller ≡ done n → IsReleasing options workload.version →
       lets_go (round_of new.caller) ≡ true →
       All (FewAt workload.jobs) (zip new.places.items (reverse (done new.caller)))
-  same_few n stands on same releasing reads =
+  same_few {n = n} stands on same releasing reads =
       subst (λ (ds : List Committed). All (FewAt workload.jobs) (zip new.places.items (reverse ds))) (sym same)
-      (stands.few_reads (was_loose releasing) (same_reads n new.caller on reads))
+      (stands.few_reads (was_loose releasing) (same_reads on reads))
 
   -- and those did what they had done
-  still_done : (n : Caller) → Stands workload style old.caller n new.places.items new.done.items →
+  still_done : {n : Caller} → Stands workload style old.caller n new.places.items new.done.items →
       done new.caller ≡ done n →
       AreDone workload.layout workload.jobs new.places.items new.done.items (reverse (done new.caller))
-  still_done n stands same =
+  still_done stands same =
       subst (λ (ds : List Committed). AreDone workload.layout workload.jobs new.places.items new.done.items (reverse ds))
       (sym same) stands.done
 
@@ -275,33 +276,33 @@ module _ (workload : Workload) (options : Options) (old new : Worker) (unbegun :
   }
 
   -- no attempt is left
-  pub stopped_spent : (n : Caller) → Stands workload style old.caller n new.places.items new.done.items →
+  pub stopped_spent : {n : Caller} → Stands workload style old.caller n new.places.items new.done.items →
       HasNoneLeft n new.caller → HasRun workload options old new
-  stopped_spent n stands was = record {
+  stopped_spent {n = n} stands was = record {
     number = number;
     places = places;
     on = goes_on old.caller n new.caller stands.on was.on;
-    done = still_done n stands was.same_done;
+    done = still_done stands was.same_done;
     none_wasted = λ i some few.
-        not_wasted i (then_none old.caller n new.caller (begun new.caller) stands.on was.on stands.none_wasted
+        not_wasted i (then_none (begun new.caller) stands.on was.on stands.none_wasted
         was.none_wasted i (omega arith) few);
     left = λ few. inl was.spent;
-    few_reads = same_few n stands was.on was.same_done;
+    few_reads = same_few stands was.on was.same_done;
   }
 
   -- its last attempt stood at the job that is next
-  pub stopped_blocked : (n : Caller) (release : Bool) (job : Job) →
+  pub stopped_blocked : {n : Caller} (release : Bool) {job : Job} →
       Stands workload style old.caller n new.places.items new.done.items →
       StaysBlocked (style_of workload.version release) workload.layout job n new.caller →
       Some job ≡ next_job workload.jobs new.places.items new.done.items → HasRun workload options old new
-  stopped_blocked n release job stands was is = record {
+  stopped_blocked {n = n} release stands was is = record {
     number = number;
     places = places;
     on = goes_on old.caller n new.caller stands.on was.on;
-    done = still_done n stands was.same_done;
+    done = still_done stands was.same_done;
     none_wasted = λ i some few. by i some few (cases_eq i (begun new.caller));
     left = λ few. inr (let b = was.is_last in omega arith, waited);
-    few_reads = same_few n stands was.on was.same_done;
+    few_reads = same_few stands was.on was.same_done;
   }
     where
       waited : Waited workload next (round_of new.caller) (number_of new.caller) (begun new.caller)
@@ -320,13 +321,13 @@ module _ (workload : Workload) (options : Options) (old new : Worker) (unbegun :
       by i some few (inl last) =
           inr (inr (subst (Waited workload next (round_of new.caller) (number_of new.caller)) (sym last) waited))
       by i some few (inr other) =
-          not_wasted i (then_none old.caller n new.caller was.last stands.on was.on stands.none_wasted was.none_wasted i
+          not_wasted i (then_none was.last stands.on was.on stands.none_wasted was.none_wasted i
           (omega arith) (let b = was.is_last in omega arith))
 
   -- why ever it left the job that is next
-  pub stopped : (n : Caller) (release : Bool) (job : Job) (why : Left) →
+  pub stopped : {n : Caller} (release : Bool) (job : Job) (why : Left) →
       Stands workload style old.caller n new.places.items new.done.items →
       HasLeft (style_of workload.version release) workload.layout job n new.caller why →
       Some job ≡ next_job workload.jobs new.places.items new.done.items → HasRun workload options old new
-  stopped n release job left.Spent stands was is = stopped_spent n stands was
-  stopped n release job left.Blocked stands was is = stopped_blocked n release job stands was is
+  stopped {n = n} release job left.Spent stands was is = stopped_spent stands was
+  stopped {n = n} release job left.Blocked stands was is = stopped_blocked release stands was is

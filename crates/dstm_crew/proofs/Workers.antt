@@ -170,12 +170,12 @@ first_left jobs rows P all some = by (jobs_left jobs rows) (each-filter P (λ jo
     by [] holds none = absurd (omega (arith, none))
     by (job ∷ js) holds more = (job, holds.0, rw (eq-eqb job.worker job.worker refl) refl)
 
-pub workers_some : (workload : Workload) (number : ℕ) (rows : List Row) → IsValidWorkload workload →
+pub workers_some : {workload : Workload} (number : ℕ) (rows : List Row) → IsValidWorkload workload →
     (number ≡ 0) ⊎ (0 < count_left workload rows) → 0 < length (workers_of workload number (left_by workload rows))
-workers_some workload number rows valid (inl zeroth) =
+workers_some {workload = workload} number rows valid (inl zeroth) =
     some_passes (takes_part number (left_by workload rows)) 0 workload.workers 0 (omega arith)
     (let some = valid.some_worker in omega arith) (ap (λ (b : Bool). b || has_job (left_by workload rows) 0) (eq-eqb number 0 zeroth))
-workers_some workload number rows valid (inr some) =
+workers_some {workload = workload} number rows valid (inr some) =
     let found = first_left workload.jobs rows (IsJob workload) (recursion_from_All (IsJob workload) workload.jobs valid.each) some in
     some_passes (takes_part number (left_by workload rows)) 0 workload.workers found.0.worker (omega arith)
     (let below = found.1.worker in omega arith) (either (number == 0) found.2)
@@ -187,29 +187,29 @@ workers_some workload number rows valid (inr some) =
 -- ---- shares, worker by worker
 
 -- the next worker has its share
-pub share_more : (workload : Workload) (number : ℕ) (left : List Job) (n : ℕ) (shares : List Share) (share : Share) →
+pub share_more : {workload : Workload} (number : ℕ) {left : List Job} (n : ℕ) {shares : List Share} {share : Share} →
     AreShares workload left (filter (takes_part number left) (range_with_len 0 n)) shares → takes_part number left n ≡ true →
     share.worker ≡ n → IsOpen workload share → map (job_at workload.jobs) share.places.items ≡ jobs_of share.worker left →
     AreShares workload left (filter (takes_part number left) (range_with_len 0 (n + 1))) (shares ++ share ∷ [])
-share_more workload number left n shares share are part worker is jobs = record {
-  one_each = map-append (λ (s : Share). s.worker) shares (share ∷ [])
-      ∙ ap (λ (ws : List ℕ). ws ++ share.worker ∷ []) are.one_each
-      ∙ ap (λ (w : ℕ). filter (takes_part number left) (range_with_len 0 n) ++ w ∷ []) worker
-      ∙ sym (one_worker number left n
-      ∙ ap (λ (b : Bool). filter (takes_part number left) (range_with_len 0 n) ++ cond b (n ∷ []) []) part);
-  open_yet = All-append (IsOpen workload) shares (share ∷ []) are.open_yet
-      (All-from_recursion (IsOpen workload) (share ∷ []) (is, tt));
-  jobs = All-append (λ (s : Share). map (job_at workload.jobs) s.places.items ≡ jobs_of s.worker left) shares (share ∷ []) are.jobs
-      (All-from_recursion (λ (s : Share). map (job_at workload.jobs) s.places.items ≡ jobs_of s.worker left) (share ∷ []) (jobs, tt));
-}
+share_more {workload = workload} number {left = left} n {shares = shares} {share = share} are part worker is jobs =
+    record {
+      one_each = map-append (λ (s : Share). s.worker) shares (share ∷ [])
+          ∙ ap (λ (ws : List ℕ). ws ++ share.worker ∷ []) are.one_each
+          ∙ ap (λ (w : ℕ). filter (takes_part number left) (range_with_len 0 n) ++ w ∷ []) worker
+          ∙ sym (one_worker number left n
+          ∙ ap (λ (b : Bool). filter (takes_part number left) (range_with_len 0 n) ++ cond b (n ∷ []) []) part);
+      open_yet = All-append (IsOpen workload) shares (share ∷ []) are.open_yet
+          (All-from_recursion (IsOpen workload) (share ∷ []) (is, tt));
+      jobs = All-append (λ (s : Share). map (job_at workload.jobs) s.places.items ≡ jobs_of s.worker left) shares (share ∷ []) are.jobs
+          (All-from_recursion (λ (s : Share). map (job_at workload.jobs) s.places.items ≡ jobs_of s.worker left) (share ∷ []) (jobs, tt));
+    }
 
 -- it takes no part
-pub share_skip : (workload : Workload) (number : ℕ) (left : List Job) (n : ℕ) (shares : List Share) →
+pub share_skip : {workload : Workload} (number : ℕ) {left : List Job} (n : ℕ) {shares : List Share} →
     AreShares workload left (filter (takes_part number left) (range_with_len 0 n)) shares → takes_part number left n ≡ false →
     AreShares workload left (filter (takes_part number left) (range_with_len 0 (n + 1))) shares
-share_skip workload number left n shares are none =
-    subst (λ (ws : List ℕ). AreShares workload left ws shares)
-    (sym (one_worker number left n
+share_skip {workload = workload} number {left = left} n {shares = shares} are none =
+    subst (λ (ws : List ℕ). AreShares workload left ws shares) (sym (one_worker number left n
     ∙ ap (λ (b : Bool). filter (takes_part number left) (range_with_len 0 n) ++ cond b (n ∷ []) []) none
     ∙ append-nil (filter (takes_part number left) (range_with_len 0 n)))) are
 

@@ -17,7 +17,7 @@ pub loop-worker-preserved-then-is_some : goal.loop-worker-preserved-then-is_some
 loop-worker-preserved-then-is_some c =
     let left = c.args.turns.now.left in
     let (below, before) = behind (goal.at.loop-worker-preserved-then-is_some c).After-is_some in
-    counted c.args.workers left (c.loop-worker.worker - 1) c.loop-worker.count c.loop-worker.first below
+    counted (c.loop-worker.worker - 1) below
     (is_found (c.loop-worker.worker - 1) left c.first.result c.first.ensures ∙ sym c.is_some.ensures ∙ c.if-is_some.true)
     before
 
@@ -25,6 +25,6 @@ pub loop-worker-preserved : goal.loop-worker-preserved
 loop-worker-preserved c =
     let left = c.args.turns.now.left in
     let (below, before) = behind (goal.at.loop-worker-preserved c).After-is_some in
-    passed_over c.args.workers left (c.loop-worker.worker - 1) c.loop-worker.count c.loop-worker.first below
+    passed_over (c.loop-worker.worker - 1) below
     (is_found (c.loop-worker.worker - 1) left c.first.result c.first.ensures ∙ sym c.is_some.ensures ∙ c.if-is_some.false)
     before

@@ -10,10 +10,8 @@ run_alone-requires-clause-can g c =
     let workload = c.args.play.now.workload.now in
     let options = c.args.play.now.options.now in
     let p = c.args.progress.now in
-    can_run workload options c.args.number p.rows.items p.values.items p.turns c.in_ok-table.table c.in_ok-table.founder
-    c.in_ok-table.caller c.requires.alone c.requires.can.begins c.requires.can.turns
-    (opened_for workload options c.count_waiting-waiting.result.count p.rows.items p.values.items p.turns c.in_ok-table.table
-    c.in_ok-table.founder c.in_ok-table.caller c.count_waiting-waiting.ensures.count c.requires.can.turns
+    can_run c.requires.alone c.requires.can.begins c.requires.can.turns
+    (opened_for p.rows.items c.count_waiting-waiting.ensures.count c.requires.can.turns
     (subst (λ (vs : List Val). IsOpened workload options c.count_waiting-waiting.result.count vs c.in_ok-table.table
     c.in_ok-table.founder c.in_ok-table.caller) (ap (λ v. v.items) c.replace-values.ensures.value)
     c.in_ok-table.ensures.opened))
@@ -24,8 +22,7 @@ returns-clause-played g c =
     let options = c.args.play.now.options.now in
     let p = c.args.progress.now in
     let table = c.in_ok-table.table in
-    let opened = opened_for workload options c.count_waiting-waiting.result.count p.rows.items p.values.items p.turns
-    table c.in_ok-table.founder c.in_ok-table.caller c.count_waiting-waiting.ensures.count c.requires.can.turns
+    let opened = opened_for p.rows.items c.count_waiting-waiting.ensures.count c.requires.can.turns
     (subst (λ (vs : List Val). IsOpened workload options c.count_waiting-waiting.result.count vs table
     c.in_ok-table.founder c.in_ok-table.caller) (ap (λ v. v.items) c.replace-values.ensures.value)
     c.in_ok-table.ensures.opened) in
@@ -39,9 +36,8 @@ returns-clause-played g c =
       adds = adds_alone workload options c.args.number p.rows.items p.values.items table c.in_ok-table.founder taken
           c.in_ok-table.caller c.run_alone.new.caller c.run_alone.new.rows.items c.run_alone.new.turns c.requires.alone
           c.requires.can.begins opened ran (λ none. c.run_alone.ensures.keeps none ∙ opened.none_let_go) c.retire.ensures
-          c.in_ok-left.ensures.run
-          (least_came workload options p.rows.items c.args.progress.now.turns c.count_waiting-waiting.result.first
+          c.in_ok-left.ensures.run (least_came workload options p.rows.items c.count_waiting-waiting.result.first
           c.in_ok-table.caller c.requires.can.turns c.count_waiting-waiting.ensures.first c.in_ok-table.ensures.come)
-          c.in_ok-left.left.items c.in_ok-left.ensures.values;
+          c.in_ok-left.ensures.values;
       turns_are = ran.goes.turns_are;
     }

@@ -3,5 +3,5 @@ use Rattle.dstm_crew.proofs.beside.run_one.Goals as goal
 
 pub returns-clause-ended : goal.returns-clause-ended
 returns-clause-ended g c =
-    has_ended c.args.play.now.workload.now c.args.play.now.options.now c.args.table.now c.args.worker.now c.run.new.self
+    has_ended c.args.play.now.workload.now c.args.play.now.options.now
     c.requires.ready c.requires.come c.run.ensures.run c.run.ensures.keeps

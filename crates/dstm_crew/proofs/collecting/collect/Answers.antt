@@ -8,7 +8,7 @@ use Rattle.dstm_crew.proofs.collecting.collect.Goals as goal
 
 pub loop-least-init : goal.loop-least-init
 loop-least-init c = (
-  collects_first c.args.workload.now c.args.round c.args.shares.now c.args.rows.now.items c.args.turns.now c.args.next.items
+  collects_first c.args.round
       c.requires.can c.requires.next,
   c.requires.room,
 )
@@ -17,13 +17,11 @@ loop-least-init c = (
 turn : (c : After-push_row-arg-1) → Turn c.args.workload.now c.args.shares.now c.loop-least.turns c.loop-least.next.items
     c.in-Some.least c.index-shares-least.result c.index-place.result.now
 turn c =
-    its_turn c.args.workload.now c.args.round c.args.rows.now.items c.args.shares.now c.loop-least.rows.items c.loop-least.turns
-    c.loop-least.next.items c.deref.result.now c.in-Some.least c.index-shares-least.result c.index-place.result.now
+    its_turn c.index-place.result.now
     c.loop-least.invariant.0 c.deref.ensures.value c.in-Some.ensures.some c.index-shares-least.is c.index-place.ensures
 
 pub push_row-requires-clause-done : goal.push_row-requires-clause-done
-push_row-requires-clause-done c =
-    (turn (goal.at.push_row-requires-clause-done c).After-push_row-arg-1).some
+push_row-requires-clause-done c = (turn (goal.at.push_row-requires-clause-done c).After-push_row-arg-1).some
 
 pub push_row-requires-clause-room : goal.push_row-requires-clause-room
 push_row-requires-clause-room c =
@@ -54,9 +52,7 @@ loop-least-preserved c =
     let room = c.loop-least.invariant.1 in
     let len = c.push_row.ensures.len in
     let cap = c.push_row.ensures.capacity in (
-      collects_more c.args.workload.now c.args.round c.args.rows.now.items c.args.shares.now c.loop-least.rows.items
-          c.push_row.new.rows.items c.loop-least.turns c.pass.new.self c.loop-least.next.items c.deref.result.now c.in-Some.least
-          c.index-shares-least.result c.index-place.result.now c.push_row.ensures.row.0 c.loop-least.invariant.0 c.deref.ensures.value
+      collects_more c.loop-least.invariant.0 c.deref.ensures.value
           c.in-Some.ensures.some t c.push_row.ensures.row.1.0 c.push_row.ensures.row.1.1 c.pass.ensures,
       omega (arith, one, fewer, room, len, cap),
     )
@@ -70,6 +66,4 @@ loop-least-smaller c =
 
 pub returns-clause-collected : goal.returns-clause-collected
 returns-clause-collected c = λ options r callers run.
-    collects_last c.args.workload.now options c.args.round r c.args.shares.now callers c.args.rows.now.items
-    c.loop-least.rows.items c.loop-least.turns c.loop-least.next.items c.deref.result.now c.loop-least.invariant.0
-    c.deref.ensures.value c.in_default.ensures.none run
+    collects_last c.loop-least.invariant.0 c.deref.ensures.value c.in_default.ensures.none run

@@ -14,8 +14,7 @@ pub returns-in_err-played-clause-first : goal.returns-in_err-played-clause-first
 returns-in_err-played-clause-first g c =
     let old = c.args.rounds.now in
     subst (λ (rs : List Round). AreFirstRounds c.args.workload.now c.args.options.now (added old rs)) (sym c.from_vec.ensures)
-    (first_rounds c.args.workload.now c.args.options.now c.in_ok-progress.progress c.play_rounds-played.new.progress old
-    c.in_ok-progress.ensures.rounds c.in_ok-progress.ensures.values c.play_rounds-played.ensures.come)
+    (first_rounds c.in_ok-progress.ensures.rounds c.in_ok-progress.ensures.values c.play_rounds-played.ensures.come)
 
 pub returns-in_err-played-clause-closed : goal.returns-in_err-played-clause-closed
 returns-in_err-played-clause-closed g c =
@@ -26,8 +25,7 @@ pub returns-clause-first : goal.returns-clause-first
 returns-clause-first g c =
     let old = c.args.rounds.now in
     subst (λ (rs : List Round). AreFirstRounds c.args.workload.now c.args.options.now (added old rs)) (sym c.from_vec.ensures)
-    (first_rounds c.args.workload.now c.args.options.now c.in_ok-progress.progress c.play_rounds-played.new.progress old
-    c.in_ok-progress.ensures.rounds c.in_ok-progress.ensures.values c.play_rounds-played.ensures.come)
+    (first_rounds c.in_ok-progress.ensures.rounds c.in_ok-progress.ensures.values c.play_rounds-played.ensures.come)
 
 pub returns-clause-closed : goal.returns-clause-closed
 returns-clause-closed g c =

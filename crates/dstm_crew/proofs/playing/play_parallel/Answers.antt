@@ -16,7 +16,7 @@ pub run_shares-requires-clause-some : goal.run_shares-requires-clause-some
 run_shares-requires-clause-some g c = λ _ _.
     let workload = c.args.play.now.workload.now in
     let p = c.args.progress.now in
-    let some = workers_some workload c.args.number p.rows.items c.requires.can.begins.valid c.requires.can.begins.needed in
+    let some = workers_some c.args.number p.rows.items c.requires.can.begins.valid c.requires.can.begins.needed in
     let left = ap (λ (t : Turning). length (workers_of workload c.args.number t.left)) c.requires.can.turns in
     let same = ap length c.in_ok-shares.ensures.one_each in
     let n = length-map c.in_ok-shares.shares.items (λ (s : Share). s.worker) in
@@ -66,12 +66,10 @@ returns-clause-played g c =
       rounds = c.run_shares.new.rounds;
       zeros = c.run_shares.new.zeros;
     } in
-    has_played workload options c.args.number p q before shares closed c.requires.parallel
-    c.requires.can.begins c.requires.can.turns c.in_ok-shares.ensures run
+    has_played p q c.requires.parallel c.requires.can.begins c.requires.can.turns c.in_ok-shares.ensures run
     (subst (λ (ss : List Share). HasCollected workload options c.args.number closed ss run.callers p.rows.items
     c.collect.new.rows.items c.collect.new.turns) c.deref.ensures.value
     (c.collect.ensures.collected options closed run.callers
-    (subst (λ (ss : List Share). AreRunBy workload options closed ss run.callers)
-    (sym c.deref.ensures.value)
+    (subst (λ (ss : List Share). AreRunBy workload options closed ss run.callers) (sym c.deref.ensures.value)
     (run_by workload options c.args.number p.rows.items p.values.items left p.turns before shares closed run))))
     c.in_ok-shares-2.ensures.run.1.0

@@ -15,7 +15,7 @@ loop-worker-preserved c =
     let takes =
     subst (λ (ws : List Worker). Takes c.args.table.now workers yielded ws c.loop-worker.founder) c.in-Some.ensures.steps.0
     c.loop-worker.invariant.0 in (
-      takes_one c.args.table.now workers yielded (into_iter_items c.next.new.self) c.loop-worker.founder c.retire.new.founder worker
+      takes_one c.args.table.now (into_iter_items c.next.new.self) worker
           takes c.retire.ensures.taken,
       c.push_reserved.ensures.items
           ∙ ap (λ (ss : List Share). ss ++ c.retire.result ∷ []) c.loop-worker.invariant.1

@@ -31,8 +31,8 @@ stands : (g : Over) (c : In_ok-reserve-2 g) → Stands c.args.play.now.workload.
     c.loop-more.number c.loop-more.more
 stands g c =
     with_room c.args.play.now.workload.now c.args.play.now.options.now c.args.progress.now.values.items
-    c.args.progress.now.rounds.items c.loop-more.progress c.loop-more.number c.loop-more.more c.reserve.new.self.items
-    c.reserve-in-loop-more.new.self.items c.reserve.ensures.items c.reserve-in-loop-more.ensures.items
+    c.args.progress.now.rounds.items c.loop-more.progress c.loop-more.number c.loop-more.more c.reserve.ensures.items
+    c.reserve-in-loop-more.ensures.items
     c.loop-more.invariant.reached
 
 pub loop-more-preserved : goal.loop-more-preserved
@@ -47,7 +47,7 @@ loop-more-preserved g c =
     let more = nat_lt c.len-in-loop-more.result (length c.as_slice-jobs.result.now) in
     let more_is : more ≡ nat_lt (length q.rows.items) (length workload.jobs) = search rules in
     record {
-      reached = one_round_more workload options start old p c.loop-more.number q more more_is played c.loop-more.more
+      reached = one_round_more workload options start old p c.loop-more.number more more_is played c.loop-more.more
           (stands g (goal.at.loop-more-preserved g c).In_ok-reserve-2);
       turned = played.turns_are;
     }

@@ -21,7 +21,7 @@ run_all-requires-clause-ready g c κs within =
     let table = c.in_ok-table.table in
     let workers = c.in_ok-workers.workers.items in
     subst (All (IsReady workload table)) (sym c.deref_mut.ensures.value)
-    (all_ready table workload c.args.shares.items workers c.in_ok-table.ensures.told.layout
+    (all_ready table workload workers c.in_ok-table.ensures.told.layout
     c.in_ok-workers.ensures.shares c.in_ok-workers.ensures.new c.requires.shares)
 
 pub retire_all-requires-clause-rest : goal.retire_all-requires-clause-rest

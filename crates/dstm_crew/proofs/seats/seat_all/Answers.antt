@@ -20,10 +20,9 @@ loop-share-preserved c =
     let now : c.push_reserved.new.self.items ≡ workers ++ c.in_ok-seat.field-0 ∷ [] = c.push_reserved.ensures.items in (
       subst (All (HasCome c.args.options.now)) (sym now)
           (All-push (HasCome c.args.options.now) workers c.in_ok-seat.field-0 c.loop-share.invariant.0
-          (has_come table c.args.options.now c.loop-share.founder c.seat.new.founder c.in-Some.share c.in_ok-seat.field-0
+          (has_come table c.args.options.now c.in_ok-seat.field-0
           c.in_ok-seat.ensures.share c.in_ok-seat.ensures.given)),
       subst (λ (ws : List Worker). Seats table shares ws left c.seat.new.founder) (sym now)
-          (seats_one table shares workers left c.loop-share.founder c.seat.new.founder c.in-Some.share c.in_ok-seat.field-0 _ seats
-          c.in_ok-seat.ensures.share c.in_ok-seat.ensures.given),
+          (seats_one table left c.in_ok-seat.field-0 seats c.in_ok-seat.ensures.share c.in_ok-seat.ensures.given),
       search rules,
     )

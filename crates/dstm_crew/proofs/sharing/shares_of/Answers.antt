@@ -22,8 +22,7 @@ loop-worker-preserved c =
     elim c.if-number-eq0.branch [
       | then-number-eq0+in_ok-done+in_ok-push w ↦
           let share : Share = record { worker = c.loop-worker.worker; places = c.in_ok-places.places; done = w.in_ok-done.done } in
-          let some : (c.args.number ≡ 0) ⊎ (0 < length c.in_ok-places.places.items) =
-          elim w.then-number-eq0.branch [
+          let some : (c.args.number ≡ 0) ⊎ (0 < length c.in_ok-places.places.items) = elim w.then-number-eq0.branch [
             | then-number-eq0-via-then-number-eq0 v ↦ inl v.if-number-eq0.true
             | then-number-eq0-via-else-number-eq0+then-not-is_empty v ↦ inr (not_empty c.in_ok-places.places.len (length c.in_ok-places.places.items) (sym v.is_empty.ensures ∙ v.if-not-is_empty.true)
                 c.in_ok-places.places.ok.0)
@@ -31,11 +30,9 @@ loop-worker-preserved c =
           subst (AreShares c.args.workload.now c.args.turns.now.left
           (filter (takes_part c.args.number c.args.turns.now.left) (range_with_len 0 (c.loop-worker.worker + 1))))
           (sym (ap (λ v. v.items) w.shares-is ∙ w.in_ok-push.ensures.items))
-          (share_more c.args.workload.now c.args.number c.args.turns.now.left c.loop-worker.worker c.loop-worker.shares.items share
-          c.loop-worker.invariant
+          (share_more c.args.number c.loop-worker.worker c.loop-worker.invariant
           (part_of c.args.workload.now c.args.number c.args.turns.now.left c.loop-worker.worker c.in_ok-places.places.items jobs some)
-          refl
-          (record {
+          refl (record {
             within = subst (λ (js : List Job). All (λ place. place < length js) c.in_ok-places.places.items) c.requires
                 c.in_ok-places.ensures.within;
             empty = ap (λ (d : DoneAs). d.items) w.in_ok-done.ensures;
@@ -47,9 +44,7 @@ loop-worker-preserved c =
       | else-number-eq0+else-not-is_empty w ↦
           subst (AreShares c.args.workload.now c.args.turns.now.left
           (filter (takes_part c.args.number c.args.turns.now.left) (range_with_len 0 (c.loop-worker.worker + 1))))
-          (sym (ap (λ v. v.items) w.shares-is))
-          (share_skip c.args.workload.now c.args.number c.args.turns.now.left c.loop-worker.worker c.loop-worker.shares.items
-          c.loop-worker.invariant
+          (sym (ap (λ v. v.items) w.shares-is)) (share_skip c.args.number c.loop-worker.worker c.loop-worker.invariant
           (no_part_of c.args.workload.now c.args.number c.args.turns.now.left c.loop-worker.worker c.in_ok-places.places.items jobs
           w.if-number-eq0.false (sym c.in_ok-places.places.ok.0 ∙ eqb-true c.in_ok-places.places.len 0 (sym w.is_empty.ensures ∙ w.if-not-is_empty.false))))
     ]

@@ -9,10 +9,10 @@ use Rattle.dstm_crew.proofs.sweeping.run_alone.Goals as goal
 
 pub loop-turns-init : goal.loop-turns-init
 loop-turns-init g c = (
-  may_begin c.args.play.now.workload.now c.args.number c.args.table.now c.args.caller.now c.args.rows.now.items c.args.turns.now
+  may_begin
       c.requires.can,
   c.requires.room,
-  sweep_begins c.args.play.now.workload.now c.args.number c.args.table.now c.args.caller.now c.args.rows.now.items c.args.turns.now
+  sweep_begins
       c.requires.can,
   λ _. refl,
 )
@@ -21,8 +21,7 @@ pub returns-in-Done-clause-ran : goal.returns-in-Done-clause-ran
 returns-in-Done-clause-ran g c =
     let swept = c.in-Done.ensures.swept c.args.caller.now c.args.rows.now.items c.args.turns.now c.requires.can
     c.loop-turns.invariant.2 in
-    end_done c.args.play.now.workload.now c.args.number c.args.table.now c.args.caller.now c.args.rows.now.items c.args.turns.now
-    c.requires.can c.sweep.new.caller c.sweep.new.rows.items c.sweep.new.turns swept
+    end_done c.requires.can swept
 
 pub returns-in-Spent-clause-ran : goal.returns-in-Spent-clause-ran
 returns-in-Spent-clause-ran g c =
@@ -32,16 +31,13 @@ pub returns-in_default-clause-ran : goal.returns-in_default-clause-ran
 returns-in_default-clause-ran g c =
     let swept = c.in-Blocked.ensures.swept c.args.caller.now c.args.rows.now.items c.args.turns.now c.requires.can
     c.loop-turns.invariant.2 in
-    end_empty c.args.play.now.workload.now c.args.number c.args.table.now c.args.caller.now c.args.rows.now.items c.args.turns.now
-    c.requires.can c.sweep.new.caller c.sweep.new.rows.items c.sweep.new.turns c.in_default.ensures.none swept
+    end_empty c.requires.can c.in_default.ensures.none swept
 
 pub returns-in_default-give_up-clause-ran : goal.returns-in_default-give_up-clause-ran
 returns-in_default-give_up-clause-ran g c =
     let swept = c.in-Blocked.ensures.swept c.args.caller.now c.args.rows.now.items c.args.turns.now c.requires.can
     c.loop-turns.invariant.2 in
-    given_up_spent c.args.play.now.workload.now c.args.number c.args.table.now c.args.caller.now c.args.rows.now.items c.args.turns.now
-    c.requires.can c.sweep.new.caller c.give_up.new.caller c.sweep.new.rows.items c.sweep.new.turns
-    c.in_default-give_up.ensures.spent swept
+    given_up_spent c.requires.can c.in_default-give_up.ensures.spent swept
 
 pub loop-turns-smaller : goal.loop-turns-smaller
 loop-turns-smaller g c =
@@ -73,16 +69,14 @@ loop-turns-preserved g c =
     let fewer : length c.push_row.new.turns.left + 1 ≡ length turns.left =
     ap (λ (t : Turning). length t.left + 1) c.push_row.ensures.turns ∙ length-without_first job.worker turns.left job turn in
     let may : MayStep workload c.args.table.now c.give_up.new.caller (rows ++ row ∷ []) c.push_row.new.turns =
-    may_on workload c.args.table.now c.sweep.new.caller c.give_up.new.caller rows (rows ++ row ∷ []) turns c.push_row.new.turns
-    c.in-Blocked.ensures.may gave.made.on
-    (turns_after workload rows turns c.push_row.new.turns row job c.in-Blocked.ensures.may.valid
+    may_on (rows ++ row ∷ []) c.in-Blocked.ensures.may gave.made.on
+    (turns_after rows row job c.in-Blocked.ensures.may.valid
     c.in-Blocked.ensures.may.turns_are turn refl c.push_row.ensures.turns) in
     let swept = c.in-Blocked.ensures.swept c.args.caller.now c.args.rows.now.items c.args.turns.now c.requires.can
     c.loop-turns.invariant.2 in
     let goes : Sweeps workload c.args.number c.args.caller.now c.give_up.new.caller c.args.rows.now.items (rows ++ row ∷ [])
-    c.push_row.new.turns 0 false =
-    step_given_up workload c.args.number c.args.table.now c.args.caller.now c.args.rows.now.items c.args.turns.now
-    c.requires.can c.sweep.new.caller c.give_up.new.caller rows turns c.push_row.new.turns job drawn row turn c.in-Some.ensures.least gave refl refl
+    c.push_row.new.turns 0 false = step_given_up
+    c.requires.can job row turn c.in-Some.ensures.least gave refl refl
     refl refl never c.push_row.ensures.turns swept in (
       subst (λ (rs : List Row). MayStep workload c.args.table.now c.give_up.new.caller rs c.push_row.new.turns)
           (sym c.push_row.ensures.rows) may,

@@ -43,7 +43,6 @@ pub returns-clause-swept : goal.returns-clause-swept
 returns-clause-swept g c first before begun can sweeps =
     let workload = c.args.play.now.workload.now in
     let all : c.loop-worker.worker ≡ workload.workers = search rules in
-    swept_leads workload c.args.number first c.loop-worker.caller before c.loop-worker.rows.items c.loop-worker.turns
-    workload.workers c.loop-worker.swept c.loop-worker.invariant.4
+    swept_leads c.loop-worker.swept c.loop-worker.invariant.4
     (subst (λ n. Sweeps workload c.args.number first c.loop-worker.caller before c.loop-worker.rows.items
     c.loop-worker.turns n (is_done c.loop-worker.swept)) all (c.loop-worker.invariant.3 first before begun can sweeps))

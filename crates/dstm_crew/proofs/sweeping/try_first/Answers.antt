@@ -14,8 +14,7 @@ use Rattle.dstm_crew.proofs.sweeping.try_first.Goals as goal
 
 pub returns-in_default-clause-stepped : goal.returns-in_default-clause-stepped
 returns-in_default-clause-stepped g c first before begun some can sweeps =
-    step_none c.args.play.now.workload.now c.args.number c.args.table.now first before begun can c.args.caller.now c.args.rows.now.items
-    c.args.turns.now c.args.worker some c.requires.worker (search rules) sweeps
+    step_none can c.requires.worker (search rules) sweeps
 
 -- the job is the first one left of its worker
 turn : (g : Over) (c : In-Some g) → (c.in-Some.job.now.worker ≡ c.args.worker)
@@ -52,12 +51,10 @@ try_alone-requires-clause-can g c =
     let turn : first_job c.args.worker c.args.turns.now.left ≡ Some job = search rules in
     subst (λ s. CanTry s workload.layout job) (sym c.style_for-style.ensures)
     (can_try workload (releases c.args.play.now.options.now) job c.requires.may.valid
-    (job_is workload c.args.rows.now.items c.args.turns.now c.args.worker job c.requires.may.valid
-    c.requires.may.turns_are turn))
+    (job_is c.args.rows.now.items c.args.worker job c.requires.may.valid c.requires.may.turns_are turn))
 
 pub push_row-requires-clause-turn : goal.push_row-requires-clause-turn
-push_row-requires-clause-turn g c =
-    (turn g (goal.at.push_row-requires-clause-turn g c).In-Some).1
+push_row-requires-clause-turn g c = (turn g (goal.at.push_row-requires-clause-turn g c).In-Some).1
 
 pub returns-in-Done-clause-may : goal.returns-in-Done-clause-may
 returns-in-Done-clause-may g c =
@@ -67,10 +64,8 @@ returns-in-Done-clause-may g c =
     let at = goal.at.returns-in-Done-clause-may g c in
     let row = row g at.In-Done in
     subst (λ (rs : List Row). MayStep workload c.args.table.now c.try_alone.new.caller rs c.push_row.new.turns)
-    (sym c.push_row.ensures.rows)
-    (may_on workload c.args.table.now c.args.caller.now c.try_alone.new.caller rows (rows ++ row ∷ []) c.args.turns.now
-    c.push_row.new.turns c.requires.may c.in-Done.ensures.tried.made.on
-    (turns_after workload rows c.args.turns.now c.push_row.new.turns row job c.requires.may.valid c.requires.may.turns_are
+    (sym c.push_row.ensures.rows) (may_on (rows ++ row ∷ []) c.requires.may c.in-Done.ensures.tried.made.on
+    (turns_after rows row job c.requires.may.valid c.requires.may.turns_are
     (turn g at.In-Some).1 refl c.push_row.ensures.turns))
 
 pub returns-in-Done-clause-room : goal.returns-in-Done-clause-room
@@ -92,10 +87,8 @@ returns-in-Done-clause-stepped g c first before begun some can sweeps =
     let own : first_job c.args.worker left ≡ Some job = search rules in
     let row = row g (goal.at.returns-in-Done-clause-stepped g c).In-Done in
     subst (λ (rs : List Row). Sweeps workload c.args.number first c.try_alone.new.caller before rs c.push_row.new.turns
-    (c.args.worker + 1) true)
-    (sym c.push_row.ensures.rows)
-    (step_done workload c.args.number c.args.table.now first before begun can c.style_for-style.result c.args.caller.now
-    c.try_alone.new.caller rows c.args.turns.now c.push_row.new.turns c.args.worker some job c.in-Done.finished row c.requires.worker own c.in-Done.ensures.tried
+    (c.args.worker + 1) true) (sym c.push_row.ensures.rows)
+    (step_done can row c.requires.worker own c.in-Done.ensures.tried
     (first_own c.args.worker left job own) refl refl refl refl c.push_row.ensures.turns sweeps)
 
 pub returns-in-Blocked-clause-stepped : goal.returns-in-Blocked-clause-stepped
@@ -103,13 +96,11 @@ returns-in-Blocked-clause-stepped g c first before begun some can sweeps =
     let workload = c.args.play.now.workload.now in
     let job = c.in-Some.job.now in
     let turn : first_job c.args.worker c.args.turns.now.left ≡ Some job = search rules in
-    step_blocked workload c.args.number c.args.table.now first before begun can c.style_for-style.result c.args.caller.now
-    c.try_alone.new.caller c.args.rows.now.items c.args.turns.now c.args.worker some job c.requires.worker
+    step_blocked can c.requires.worker
     (λ is. third_of workload.version (releases c.args.play.now.options.now) (sym c.style_for-style.ensures ∙ is)) turn c.in-Blocked.ensures.tried sweeps
 
 pub returns-in-Spent-clause-stepped : goal.returns-in-Spent-clause-stepped
 returns-in-Spent-clause-stepped g c first before begun some can sweeps =
     let job = c.in-Some.job.now in
     let turn : first_job c.args.worker c.args.turns.now.left ≡ Some job = search rules in
-    step_spent c.args.play.now.workload.now c.args.number c.args.table.now first before begun can c.args.caller.now c.try_alone.new.caller
-    c.args.rows.now.items c.args.turns.now c.args.worker some job c.requires.worker turn c.in-Spent.ensures.tried sweeps
+    step_spent can job c.requires.worker turn c.in-Spent.ensures.tried sweeps

@@ -19,7 +19,7 @@ loop-at-init g c =
     let places = c.args.self.now.places.items in
     let ready = c.requires.ready in
     let stands : Stands workload c.style_for-style.result k k places [] =
-    at_start workload c.style_for-style.result k places ready.rest ready.none_done in (
+    at_start workload c.style_for-style.result places ready.rest ready.none_done in (
       refl,
       refl,
       ap length ready.empty,
@@ -30,8 +30,7 @@ loop-at-init g c =
 
 -- the job of this turn is the next one
 its_job : (g : Over) (c : After-try_job g) → (length c.loop-at.self.done.items < length c.loop-at.self.places.items)
-    × (c.index.result.now
-    ≡ get_or c.loop-at.self.places.items (length c.loop-at.self.done.items) c.index.result.now)
+    × (c.index.result.now ≡ get_or c.loop-at.self.places.items (length c.loop-at.self.done.items) c.index.result.now)
     × (c.index-jobs-index.result ≡ job_at c.args.workload.now.jobs c.index.result.now)
 its_job g c =
     let place = c.index.result.now in
@@ -58,7 +57,7 @@ loop-at-preserved g c =
     let job = c.index-jobs-index.result in
     let style = c.style_for-style.result in
     let stands : Stands workload style k m places (finished ++ next ∷ []) =
-    one_done workload style k n m places finished next job place c.loop-at.invariant.4 c.in-Ok.ensures.done more at is in
+    one_done place c.loop-at.invariant.4 c.in-Ok.ensures.done more at is in
     let items : c.push.new.self.items ≡ finished ++ next ∷ [] = ap (λ (d : DoneAs). d.items) c.push.ensures in (
       c.loop-at.invariant.0,
       c.loop-at.invariant.1,
@@ -66,7 +65,8 @@ loop-at-preserved g c =
       subst (λ (n : ℕ). length places ≤ n) (sym (ap (λ (d : DoneAs). d.room) c.push.ensures)) c.loop-at.invariant.3,
       subst (λ (fs : List Finished). Stands workload style k m places fs) (sym items) stands,
       λ none.
-          c.try_job.ensures.keeps (not_loose c.args.options.now workload.version style c.requires.valid.newest c.style_for-style.ensures none)
+          c.try_job.ensures.keeps
+          (not_loose c.args.options.now workload.version c.requires.valid.newest c.style_for-style.ensures none)
           ∙ c.loop-at.invariant.5 none,
     )
 
@@ -80,13 +80,13 @@ returns-in-Err-clause-run g c =
     let place = c.index.result.now in
     let (more, at, is) = its_job g (goal.at.returns-in-Err-clause-run g c).After-try_job in
     let job = c.index-jobs-index.result in
-    stopped workload c.args.options.now c.args.self.now _ c.requires.ready.none_begun c.style_for-style.result c.style_for-style.ensures
-    c.loop-at.invariant.0 (ap (λ v. v.items) c.loop-at.invariant.1) n
+    stopped workload c.args.options.now c.args.self.now _ c.requires.ready.none_begun c.style_for-style.ensures
+    c.loop-at.invariant.0 (ap (λ v. v.items) c.loop-at.invariant.1)
     (releases c.args.options.now) job c.in-Err.field-0 c.loop-at.invariant.4
     (subst (λ (s : Style). HasLeft s workload.layout job n m c.in-Err.field-0) c.style_for-style.ensures c.in-Err.ensures.left)
-    (next_is workload.jobs places finished job place more at is)
+    (next_is workload.jobs places finished place more at is)
 
 pub returns-clause-run : goal.returns-clause-run
 returns-clause-run g c =
-    all_done c.args.workload.now c.args.options.now c.args.self.now _ c.requires.ready.none_begun c.style_for-style.result
+    all_done c.args.workload.now c.args.options.now c.args.self.now _ c.requires.ready.none_begun
     c.style_for-style.ensures c.loop-at.invariant.0 (ap (λ v. v.items) c.loop-at.invariant.1) c.loop-at.invariant.4 (search rules)
