@@ -28,10 +28,8 @@ same_keys : (n begin : ℕ) (values : List Val) (cells others : List Cell) → n
     first_of (numbers_of cells) ≡ first_of (numbers_of others) →
     IsChain begin values cells → IsChain begin values others → keys_of cells ≡ keys_of others
 same_keys n begin values [] [] small used also is_first chain other = refl
-same_keys n begin values [] (d ∷ ds) small used also is_first chain other =
-    absurd (omega (arith, is_first, also.0.0))
-same_keys n begin values (c ∷ cs) [] small used also is_first chain other =
-    absurd (omega (arith, is_first, used.0.0))
+same_keys n begin values [] (d ∷ ds) small used also is_first chain other = absurd (omega (arith, is_first, also.0.0))
+same_keys n begin values (c ∷ cs) [] small used also is_first chain other = absurd (omega (arith, is_first, used.0.0))
 same_keys n begin values (c ∷ cs) (d ∷ ds) small used also is_first chain other =
     let low : (node c.key (first_of (numbers_of cs))).low ≡ (node d.key (first_of (numbers_of ds))).low =
     ap (λ v. v.low) (sym chain.0 ∙ ap (λ i. value_at values (node_object begin i)) is_first ∙ other.0) in
@@ -103,8 +101,7 @@ list-kept {layout} {values} after other list layouts keys same =
           let free = node-of_list layout 0 declared (omega arith) in
           same (free_object begin) (omega (arith, free), omega (arith, free)) ∙ list.free_head declared;
       free_chain =
-          IsFreeChain-same begin values after list.free
-          (each-right Keeps numbers list.free kept) list.free_chain;
+          IsFreeChain-same begin values after list.free (each-right Keeps numbers list.free kept) list.free_chain;
       once = list.once;
     }
 
@@ -138,17 +135,16 @@ all_from_one (suc n) =
     (IsPermutation-trans _ _ _ (IsPermutation-to_front (from_on 1 n) (suc n))
     (IsPermutation-cons (suc n) (from_on 1 n) (nodes_to n) (all_from_one n)))
 
-free_chain : (layout : Layout) (values : List Val) → IsOpening layout values → (k n : ℕ) → 0 < k →
-    k + n ≡ layout.list + 1 →
-    IsFreeChain (list_begin layout) values (from_on k n)
-free_chain layout values opening k zero some all = tt
-free_chain layout values opening k (suc zero) some all =
+free_chain : {layout : Layout} {values : List Val} → IsOpening layout values → (k n : ℕ) → 0 < k →
+    k + n ≡ layout.list + 1 → IsFreeChain (list_begin layout) values (from_on k n)
+free_chain opening k zero some all = tt
+free_chain {layout = layout} {values = values} opening k (suc zero) some all =
     let last : k ≡ layout.list = omega (arith, all) in
     (ap (λ i. value_at values (node_object (list_begin layout) i)) last ∙ opening.last, tt)
-free_chain layout values opening k (suc (suc n)) some all =
+free_chain {layout = layout} {values = values} opening k (suc (suc n)) some all =
     let next : k + 1 ≡ suc k = omega arith in (
       opening.nodes k some (omega (arith, all)) ∙ ap plain next,
-      free_chain layout values opening (suc k) (suc n) (omega arith) (omega (arith, all)),
+      free_chain opening (suc k) (suc n) (omega arith) (omega (arith, all)),
     )
 
 first_from : (k n : ℕ) → 0 < n → first_of (from_on k n) ≡ k
@@ -169,7 +165,7 @@ list-opening layout values opening = record {
   free_chain = elim (cases_eq layout.list 0) [
     | inl none ↦ subst (λ n. IsFreeChain (list_begin layout) values (from_on 1 n)) (sym none) tt
     | inr some ↦
-        free_chain layout values (opening (omega (arith, some))) 1 layout.list (omega arith) (omega arith)
+        free_chain (opening (omega (arith, some))) 1 layout.list (omega arith) (omega arith)
   ];
   once = all_from_one layout.list;
 }

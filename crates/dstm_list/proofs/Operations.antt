@@ -31,10 +31,8 @@ use Rattle.dstm_list.proofs.Steps.{IsChain-right, rise_of, used_within, first_wi
 -- ---- whether the key is there
 
 has_key-at : (key : ℕ) (found : Option Node) (behind ahead : List Cell) → AllLess key behind →
-    IsFirst key found ahead →
-    has_key key (keys_of (behind ++ ahead)) ≡ is_some found
-has_key-at key None behind ahead less here =
-    has_key-behind key behind ahead less ∙ has_key-greater key ahead here
+    IsFirst key found ahead → has_key key (keys_of (behind ++ ahead)) ≡ is_some found
+has_key-at key None behind ahead less here = has_key-behind key behind ahead less ∙ has_key-greater key ahead here
 has_key-at key (Some found) behind [] less here = absurd here
 has_key-at key (Some found) behind (c ∷ cs) less here =
     has_key-behind key behind (c ∷ cs) less ∙ has_key-first key c cs here.0
@@ -50,8 +48,7 @@ has_key-found {key = key} {place = place} list found =
 pub does-member : {layout : Layout} {values : List Val} (key : ℕ) (place : Place) (b : Bool) →
     Finds layout values key place → is_some place.node ≡ b →
     Does (IsList layout) (Member which.List key) values values (yes_or_no b)
-does-member key place b finds is store list =
-    (ap yes_or_no (sym (has_key-found list (finds store list) ∙ is)), list)
+does-member key place b finds is store list = (ap yes_or_no (sym (has_key-found list (finds store list) ∙ is)), list)
 
 -- ---- a key that is there is not inserted, and one that is absent is not removed
 
@@ -63,8 +60,7 @@ does-no_insert key place finds is store list =
     rw has (refl, list)
 
 pub does-no_remove : {layout : Layout} {values : List Val} (key : ℕ) (place : Place) →
-    Finds layout values key place → place.node ≡ None →
-    Does (IsList layout) (Remove which.List key) values values No
+    Finds layout values key place → place.node ≡ None → Does (IsList layout) (Remove which.List key) values values No
 does-no_remove {layout} {values} key place finds is store list =
     let found = finds store list in
     let stands = found.stands in
@@ -96,8 +92,7 @@ node-zero : (n : ℕ) → node 0 n ≡ plain n
 node-zero n = ap plain (omega arith)
 
 parts_of : {layout : Layout} {values : List Val} {store : Store} → 0 < layout.list →
-    (list : IsList layout values store) →
-    Parts layout values store list.cells list.free
+    (list : IsList layout values store) → Parts layout values store list.cells list.free
 parts_of declared list = record {
   capacity = list.capacity;
   keys = list.keys;
@@ -109,9 +104,9 @@ parts_of declared list = record {
   once = IsPermutation-sym _ _ list.once;
 }
 
-list_of : {layout : Layout} {values : List Val} {store : Store} (cells : List Cell) (free : List ℕ) →
+list_of : {layout : Layout} {values : List Val} {store : Store} {cells : List Cell} {free : List ℕ} →
     Parts layout values store cells free → IsList layout values store
-list_of cells free parts = record {
+list_of {cells = cells} {free = free} parts = record {
   cells = cells;
   free = free;
   capacity = parts.capacity;
@@ -154,15 +149,13 @@ some_free n [] is some = absurd (some is)
 some_free n (i ∷ is) same some = (is, ap (λ j. j ∷ is) (sym same))
 
 pub does-full : {layout : Layout} {values : List Val} (key n : ℕ) (place : Place) → IsValid layout →
-    0 < layout.list →
-    Finds layout values key place → is_some place.node ≡ false →
+    0 < layout.list → Finds layout values key place → is_some place.node ≡ false →
     n ≡ next_of (value_at values (free_object (list_begin layout))) → n ≡ 0 →
     Does (IsList layout) (Insert which.List key) values values Full
 does-full {layout} key n place valid declared finds is free none store list =
     let has : has_key key store.keys ≡ false = has_key-found list (finds store list) ∙ is in
     let in_range = each-right (IsNumber layout.list) (numbers_of list.cells) list.free (used_within list) in
-    let no_free =
-    none_free layout.list list.free in_range (sym (first_free n valid declared list free).0 ∙ none) in
+    let no_free = none_free layout.list list.free in_range (sym (first_free n valid declared list free).0 ∙ none) in
     let all = used-free (parts_of declared list) in
     let full : (length store.keys == store.layout.list) ≡ true =
     eq-eqb (length store.keys) store.layout.list (omega (arith, all, no_free, list.capacity)) in
@@ -177,15 +170,11 @@ with_node values begin i key next link last rest =
     (node last i)
 
 inserted : {layout : Layout} {values : List Val} {store : Store} (c : Cell) (behind ahead : List Cell)
-    (free : List ℕ)
-    (link : ℕ) (rest : Val) → 0 < layout.list → tree_begin layout ≤ length values →
-    Parts layout values store (behind ++ ahead) (c.number ∷ free) → AllLess c.key behind →
-    AllGreater c.key ahead →
+    (free : List ℕ) (link : ℕ) (rest : Val) → 0 < layout.list → tree_begin layout ≤ length values →
+    Parts layout values store (behind ++ ahead) (c.number ∷ free) → AllLess c.key behind → AllGreater c.key ahead →
     link ≡ link_after (list_begin layout) (list_begin layout) behind → IsOfList layout link →
-    value_at values (node_object (list_begin layout) c.number) ≡ rest →
-    Parts layout
-    (with_node values (list_begin layout) c.number c.key (first_of (numbers_of ahead)) link
-    (key_after 0 behind) rest)
+    value_at values (node_object (list_begin layout) c.number) ≡ rest → Parts layout
+    (with_node values (list_begin layout) c.number c.key (first_of (numbers_of ahead)) link (key_after 0 behind) rest)
     (record store { keys = with_key c.key store.keys }) (behind ++ c ∷ ahead) free
 inserted {layout} {values} {store} c behind ahead free link rest declared in_map parts less greater is_link link_in
     had =
@@ -222,18 +211,15 @@ inserted {layout} {values} {store} c behind ahead free link rest declared in_map
     }
 
 greater_of : (key : ℕ) (found : Option Node) (cells : List Cell) → is_some found ≡ false →
-    IsFirst key found cells →
-    AllGreater key cells
+    IsFirst key found cells → AllGreater key cells
 greater_of key None cells is here = here
 greater_of key (Some found) cells is here = absurd (cc is)
 
 pub does-insert : {layout : Layout} {values : List Val} (key n : ℕ) (place : Place) (rest : Val) →
-    IsValid layout →
-    0 < layout.list → tree_begin layout ≤ length values → Finds layout values key place →
+    IsValid layout → 0 < layout.list → tree_begin layout ≤ length values → Finds layout values key place →
     is_some place.node ≡ false →
     IsOfList layout place.link → n ≡ next_of (value_at values (free_object (list_begin layout))) → n ≢ 0 →
-    value_at values (node_object (list_begin layout) n) ≡ rest →
-    Does (IsList layout) (Insert which.List key) values
+    value_at values (node_object (list_begin layout) n) ≡ rest → Does (IsList layout) (Insert which.List key) values
     (with_node values (list_begin layout) n key place.before.next place.link place.before.key rest) Yes
 does-insert {layout} {values} key n place rest valid declared in_map finds is link_in free some had store list =
     let found = finds store list in
@@ -248,7 +234,7 @@ does-insert {layout} {values} key n place rest valid declared in_map finds is li
     ne_eqb (length store.keys) store.layout.list (λ e. omega (arith, all, e, list.capacity)) in
     let after = inserted c stands.behind stands.ahead tail place.link rest declared in_map parts stands.lesser
     (greater_of key place.node stands.ahead is found.here) stands.link link_in had in
-    rw (has, room, stands.next, stands.last) (refl, list_of (stands.behind ++ c ∷ stands.ahead) tail after)
+    rw (has, room, stands.next, stands.last) (refl, list_of after)
 
 -- ---- a key goes out
 
@@ -259,15 +245,14 @@ without_node values begin i next link last rest =
     (node last next)
 
 removed : {layout : Layout} {values : List Val} {store : Store} (c : Cell) (behind ahead : List Cell)
-    (free : List ℕ)
-    (link : ℕ) (rest : Val) → 0 < layout.list → tree_begin layout ≤ length values →
+    {free : List ℕ} (link : ℕ) (rest : Val) → 0 < layout.list → tree_begin layout ≤ length values →
     Parts layout values store (behind ++ c ∷ ahead) free → AllLess c.key behind →
     link ≡ link_after (list_begin layout) (list_begin layout) behind → IsOfList layout link →
-    value_at values (free_object (list_begin layout)) ≡ rest →
-    Parts layout
+    value_at values (free_object (list_begin layout)) ≡ rest → Parts layout
     (without_node values (list_begin layout) c.number (first_of (numbers_of ahead)) link (key_after 0 behind) rest)
     (record store { keys = without_key c.key store.keys }) (behind ++ ahead) (c.number ∷ free)
-removed {layout} {values} {store} c behind ahead free link rest declared in_map parts less is_link link_in had =
+removed {layout} {values} {store} c behind ahead {free = free} link rest declared in_map parts less is_link link_in
+    had =
     let n = layout.list in
     let begin = list_begin layout in
     let i = c.number in
@@ -317,8 +302,7 @@ first_cell key found (c ∷ cs) here =
     record { cell = c; rest = cs; cells_are = refl; key_is = sym here.0; next_is = here.1 }
 
 pub does-remove : {layout : Layout} {values : List Val} (key : ℕ) (place : Place) (found : Node) (rest : Val) →
-    0 < layout.list → tree_begin layout ≤ length values → Finds layout values key place →
-    place.node ≡ Some found →
+    0 < layout.list → tree_begin layout ≤ length values → Finds layout values key place → place.node ≡ Some found →
     IsOfList layout place.link → value_at values (free_object (list_begin layout)) ≡ rest →
     Does (IsList layout) (Remove which.List key) values
     (without_node values (list_begin layout) place.before.next found.next place.link place.before.key rest) Yes
@@ -331,7 +315,7 @@ does-remove {layout} {values} key place found rest declared in_map finds is link
     let parts = subst (λ cs. Parts layout values store (stands.behind ++ cs) list.free) here.cells_are
     (subst (λ cs. Parts layout values store cs list.free) stands.split (parts_of declared list)) in
     let number : place.before.next ≡ c.number = stands.next ∙ ap (λ cs. first_of (numbers_of cs)) here.cells_are in
-    let after = removed c stands.behind here.rest list.free place.link rest declared in_map parts
+    let after = removed c stands.behind here.rest place.link rest declared in_map parts
     (subst (λ k. AllLess k stands.behind) here.key_is stands.lesser) stands.link link_in had in
     let begin = list_begin layout in
     let link = place.link in
@@ -339,14 +323,11 @@ does-remove {layout} {values} key place found rest declared in_map finds is link
     ≡ without_node values begin c.number (first_of (numbers_of here.rest)) link (key_after 0 stands.behind) rest =
     ap (λ i. without_node values begin i found.next link place.before.key rest) number
     ∙ ap (λ next. without_node values begin c.number next link place.before.key rest) here.next_is
-    ∙ ap (λ last. without_node values begin c.number
-    (first_of (numbers_of here.rest)) link last rest) stands.last in
-    let now =
-    without_node values begin c.number (first_of (numbers_of here.rest)) link
+    ∙ ap (λ last. without_node values begin c.number (first_of (numbers_of here.rest)) link last rest) stands.last in
+    let now = without_node values begin c.number (first_of (numbers_of here.rest)) link
     (key_after 0 stands.behind) rest in
-    let still =
-    subst (λ k. IsList layout now (record store { keys = without_key k store.keys })) (sym here.key_is)
-    (list_of (stands.behind ++ here.rest) (c.number ∷ list.free) after) in (
+    let still = subst (λ k. IsList layout now (record store { keys = without_key k store.keys })) (sym here.key_is)
+    (list_of after) in (
       ap yes_or_no (sym has),
       subst (λ now. IsList layout now (record store { keys = without_key key store.keys })) (sym maps) still,
     )

@@ -28,15 +28,13 @@ head-of_list layout declared = (omega arith, omega (arith, structure_objects-dec
 
 pub node-of_list : (layout : Layout) (i : ℕ) → 0 < layout.list → i ≤ layout.list →
     IsOfList layout (node_object (list_begin layout) i)
-node-of_list layout i declared h =
-    (omega arith, omega (arith, structure_objects-declared layout.list declared, h))
+node-of_list layout i declared h = (omega arith, omega (arith, structure_objects-declared layout.list declared, h))
 
 -- ---- numbers on the chains
 
 pub used_within : {layout : Layout} {values : List Val} {store : Store} (list : IsList layout values store) →
     Each (IsNumber layout.list) (numbers_of list.cells ++ list.free)
-used_within {layout} list =
-    within layout.list (numbers_of list.cells ++ list.free) (IsPermutation-sym _ _ list.once)
+used_within {layout} list = within layout.list (numbers_of list.cells ++ list.free) (IsPermutation-sym _ _ list.once)
 
 pub first_within : (n : ℕ) (is : List ℕ) → Each (IsNumber n) is → first_of is ≤ n
 first_within n [] each = omega arith
@@ -122,21 +120,17 @@ pub stands-next : {layout : Layout} {values : List Val} {store : Store} {key obj
     next.next ≡ next_of (value_at values (node_object (list_begin layout) before.next)) →
     IsNext stands.ahead before.next next
 stands-next {layout} {values} {before = before} next valid list stands some next_key next_next =
-    next_in layout.list (list_begin layout) values before.next next stands.ahead
-    (omega (arith, valid.list)) some
-    stands.next (ahead_within list stands)
-    (IsChain-right (list_begin layout) values stands.behind stands.ahead
-    (subst (IsChain (list_begin layout) values) stands.split list.chain))
-    next_key next_next
+    next_in layout.list (list_begin layout) values before.next next stands.ahead (omega (arith, valid.list)) some
+    stands.next (ahead_within list stands) (IsChain-right (list_begin layout) values stands.behind stands.ahead
+    (subst (IsChain (list_begin layout) values) stands.split list.chain)) next_key next_next
 
 -- the same, where the walk looked at a map that has the same values
 pub stands-seen : {layout : Layout} {values : List Val} {store : Store} {key object : ℕ} {before : Node}
-    (now : List Val) (at : ℕ) (next : Node) → IsValid layout → (list : IsList layout values store)
+    {now : List Val} (at : ℕ) (next : Node) → IsValid layout → (list : IsList layout values store)
     (stands : Stands (list_begin layout) key object before list.cells) → before.next ≢ 0 →
     now ≡ values → at ≡ node_object (list_begin layout) before.next →
-    next.key ≡ key_of (value_at now at) → next.next ≡ next_of (value_at now at) →
-    IsNext stands.ahead before.next next
-stands-seen {values = values} now at next valid list stands some same at_node next_key next_next =
+    next.key ≡ key_of (value_at now at) → next.next ≡ next_of (value_at now at) → IsNext stands.ahead before.next next
+stands-seen {values = values} at next valid list stands some same at_node next_key next_next =
     let seen = ap (λ x. value_at x at) same ∙ ap (λ o. value_at values o) at_node in
     stands-next next valid list stands some (next_key ∙ ap key_of seen) (next_next ∙ ap next_of seen)
 
@@ -154,10 +148,10 @@ pub key_after-push : (key : ℕ) (cells : List Cell) (c : Cell) → key_after ke
 key_after-push key [] c = refl
 key_after-push key (d ∷ ds) c = key_after-push d.key ds c
 
-pub stands-on : {begin key object : ℕ} {before : Node} {cells : List Cell} (next : Node)
+pub stands-on : {begin key object : ℕ} {before : Node} {cells : List Cell} {next : Node}
     (stands : Stands begin key object before cells) → IsNext stands.ahead before.next next → next.key < key →
     Stands begin key (node_object begin before.next) next cells
-stands-on {begin} {key} next stands ahead less =
+stands-on {begin} {key} {next = next} stands ahead less =
     let c = ahead.cell in
     record {
       behind = stands.behind ++ c ∷ [];
@@ -176,20 +170,20 @@ pub rise_of : {layout : Layout} {values : List Val} {store : Store} (list : IsLi
     Rise 0 list.cells
 rise_of list = Rise-of_increasing list.cells (subst IsStrictlyIncreasing list.keys list.rising)
 
-place-found : {begin key object : ℕ} {before : Node} {cells : List Cell} (next : Node)
+place-found : {begin key object : ℕ} {before : Node} {cells : List Cell} {next : Node}
     (stands : Stands begin key object before cells) → IsNext stands.ahead before.next next → next.key ≡ key →
     IsPlace begin key (record { link = object; before = before; node = Some next }) cells
-place-found {key = key} next stands ahead same = record {
+place-found {key = key} {next = next} stands ahead same = record {
   stands = stands;
   here = subst (IsFirst key (Some next)) (sym ahead.cells_are) (ahead.key ∙ same, ahead.next_is);
 }
 
 place-passed : {layout : Layout} {values : List Val} {store : Store} {key object : ℕ} {before : Node}
-    (next : Node) (list : IsList layout values store)
+    {next : Node} (list : IsList layout values store)
     (stands : Stands (list_begin layout) key object before list.cells) →
     IsNext stands.ahead before.next next → key < next.key →
     IsPlace (list_begin layout) key (record { link = object; before = before; node = None }) list.cells
-place-passed {key = key} next list stands ahead greater =
+place-passed {key = key} list stands ahead greater =
     let c = ahead.cell in
     let cells = stands.split ∙ ap (λ cs. stands.behind ++ cs) ahead.cells_are in
     let rise = subst (Rise 0) cells (rise_of list) in
@@ -202,15 +196,15 @@ place-passed {key = key} next list stands ahead greater =
     record { stands = stands; here = subst (AllGreater key) (sym ahead.cells_are) all }
 
 place-behind : {layout : Layout} {values : List Val} {store : Store} {key object : ℕ} {before : Node}
-    (next : Node) (node : Option Node) (list : IsList layout values store)
+    {next : Node} (node : Option Node) (list : IsList layout values store)
     (stands : Stands (list_begin layout) key object before list.cells) → IsNext stands.ahead before.next next →
     MatchOption node (key < next.key) (λ n. (n ≡ next) × (next.key ≡ key)) →
     IsPlace (list_begin layout) key (record { link = object; before = before; node = node }) list.cells
-place-behind next None list stands ahead greater = place-passed next list stands ahead greater
-place-behind {layout} {key = key} {object = object} {before = before} next (Some n) list stands ahead (is, same) =
+place-behind {next = next} None list stands ahead greater = place-passed list stands ahead greater
+place-behind {layout} {key = key} {object = object} {before = before} {next = next} (Some n) list stands ahead
+    (is, same) =
     subst (λ (m : Node). IsPlace (list_begin layout) key
-    (record { link = object; before = before; node = Some m }) list.cells) (sym is)
-    (place-found next stands ahead same)
+    (record { link = object; before = before; node = Some m }) list.cells) (sym is) (place-found stands ahead same)
 
 -- the key's place, where the next node does not hold a lesser key
 pub place-next : {layout : Layout} {values : List Val} {store : Store} {key object : ℕ} {before : Node}
@@ -223,11 +217,10 @@ place-next {layout} {key = key} {object = object} next place list stands ahead l
     subst (λ (l : ℕ). IsPlace (list_begin layout) key
     (record { link = l; before = place.before; node = place.node }) list.cells) (sym link)
     (subst (λ (b : Node). IsPlace (list_begin layout) key (record { link = object; before = b; node = place.node })
-    list.cells) (sym holds) (place-behind next place.node list stands ahead node))
+    list.cells) (sym holds) (place-behind place.node list stands ahead node))
 
 nothing : (n key : ℕ) (cells : List Cell) → Each (IsNumber n) (numbers_of cells) →
-    first_of (numbers_of cells) ≡ 0 →
-    AllGreater key cells
+    first_of (numbers_of cells) ≡ 0 → AllGreater key cells
 nothing n key [] each none = tt
 nothing n key (c ∷ cs) each none = absurd (omega (arith, each.0.0, none))
 

@@ -35,11 +35,10 @@ pub record Reaches (layout : Layout) (key link : ℕ) (before : Node) (start now
 -- the node that is seen next is that of the next cell
 pub next-seen : {layout : Layout} {key link object : ℕ} {before next : Node} {start now : List Val} →
     IsValid layout → before.next ≢ 0 → object ≡ node_object (list_begin layout) before.next →
-    (h : Through (Reaches layout key link before) (Sees object next) start now) → (store : Store) →
+    (h : Through (Reaches layout key link before) (Sees object next) start now) → {store : Store} →
     (list : IsList layout start store) → IsNext (h.first.stands store list).ahead before.next next
-next-seen {object = object} {next = next} valid some at h store list =
-    stands-seen h.mid object next valid list (h.first.stands store list) some h.first.same at h.second.key
-    h.second.next
+next-seen {object = object} {next = next} valid some at h {store = store} list =
+    stands-seen object next valid list (h.first.stands store list) some h.first.same at h.second.key h.second.next
 
 -- an object that is known otherwise was set to a value that is known otherwise
 pub set-known : {before now after : List Val} {o p : ℕ} {v u : Val} → after ≡ slice_set now o v → now ≡ before →

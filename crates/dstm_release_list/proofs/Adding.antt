@@ -56,17 +56,16 @@ module _ {S E : Type 0} (M : Ghosts S E) where
   -- ---- after a walk
 
   -- what stays a read of the walk is one of the three
-  pub three-walked : {old mid : S} (layout : Layout) (place : Place) → AddsToPlace M layout old mid place →
+  pub three-walked : {old mid : S} {layout : Layout} {place : Place} → AddsToPlace M layout old mid place →
       AddsAtMost 3 M old mid
-  three-walked layout place walked =
+  three-walked {layout = layout} {place = place} walked =
       let begin = list_begin layout in
       let link = place.link in
       let other = walked.other in
       adds-listed 3 (link ∷ (begin ∷ (other ∷ []))) (omega arith) (λ p none read.
       walked.each p (λ e. none (then_first link (begin ∷ (other ∷ [])) p e))
       (λ e. none (then_other link (begin ∷ (other ∷ [])) p (then_first begin (other ∷ []) p e)))
-      (λ e. none (then_other link (begin ∷ (other ∷ [])) p
-      (then_other begin (other ∷ []) p (then_first other [] p e))))
+      (λ e. none (then_other link (begin ∷ (other ∷ [])) p (then_other begin (other ∷ []) p (then_first other [] p e))))
       read)
 
   adds-kept : {old mid new : S} {most : ℕ} → AddsAtMost most M old mid → AddsNoRead M mid new → AddsAtMost most M old new
@@ -87,39 +86,37 @@ module _ {S E : Type 0} (M : Ghosts S E) where
   }
 
   -- where the object that links to the place is opened for writing it is no read
-  two : {old mid new : S} (layout : Layout) (place : Place) → AddsToPlace M layout old mid place →
+  two : {old mid new : S} {layout : Layout} {place : Place} → AddsToPlace M layout old mid place →
       AddsNoRead M mid new → IsTrue (M.is_opened new place.link) → AddsAtMost 2 M old new
-  two {new = new} layout place walked none opened =
+  two {new = new} {layout = layout} {place = place} walked none opened =
       let begin = list_begin layout in
       let other = walked.other in
       adds-listed 2 (begin ∷ (other ∷ [])) (omega arith) (λ p out read.
       walked.each p (λ e. unread-opened M place.link opened (subst (IsRead M new) e read))
       (λ e. out (then_first begin (other ∷ []) p e))
-      (λ e. out (then_other begin (other ∷ []) p (then_first other [] p e)))
-      (none p read))
+      (λ e. out (then_other begin (other ∷ []) p (then_first other [] p e))) (none p read))
 
   -- so is the node that comes next where it is opened, too
-  one : {old mid new : S} (layout : Layout) (place : Place) → AddsToPlace M layout old mid place →
+  one : {old mid new : S} {layout : Layout} {place : Place} → AddsToPlace M layout old mid place →
       AddsNoRead M mid new → IsSome place.node → IsTrue (M.is_opened new place.link) →
       IsTrue (M.is_opened new (node_object (list_begin layout) place.before.next)) → AddsAtMost 1 M old new
-  one {new = new} layout place walked none some opened node_opened =
+  one {new = new} {layout = layout} {place = place} walked none some opened node_opened =
       let begin = list_begin layout in
       adds-listed 1 (begin ∷ []) (omega arith) (λ p out read.
       walked.each p (λ e. unread-opened M place.link opened (subst (IsRead M new) e read))
-      (λ e. out (then_first begin [] p e))
-      (λ e. unread-opened M (node_object begin place.before.next) node_opened
-      (subst (IsRead M new) (e ∙ walked.node some) read))
-      (none p read))
+      (λ e. out (then_first begin [] p e)) (λ e. unread-opened M (node_object begin place.before.next) node_opened
+      (subst (IsRead M new) (e ∙ walked.node some) read)) (none p read))
 
-  pub adds-insert : {old mid new : S} (layout : Layout) (place : Place) (reply : Reply) →
+  pub adds-insert : {old mid new : S} {layout : Layout} {place : Place} (reply : Reply) →
       AddsToPlace M layout old mid place → AddsReadOf M (free_object (list_begin layout)) mid new →
       (reply ≢ Full → AddsNoRead M mid new) → (reply ≡ Yes → IsTrue (M.is_opened new place.link)) →
       AddsAtMost (most_of_insert reply) M old new
-  adds-insert layout place Full walked looked reads opened =
-      adds-also (free_object (list_begin layout)) (three-walked layout place walked) looked
-  adds-insert layout place Yes walked looked reads opened = two layout place walked (reads (λ e. cc)) (opened refl)
-  adds-insert layout place reply walked looked reads opened =
-      adds-kept (three-walked layout place walked) (reads (λ e. cc))
+  adds-insert {layout = layout} {place = place} Full walked looked reads opened =
+      adds-also (free_object (list_begin layout)) (three-walked walked) looked
+  adds-insert {layout = layout} {place = place} Yes walked looked reads opened =
+      two walked (reads (λ e. cc)) (opened refl)
+  adds-insert {layout = layout} {place = place} reply walked looked reads opened =
+      adds-kept (three-walked walked) (reads (λ e. cc))
 
   node_some : (node : Option Node) → Yes ≡ yes_or_no (is_some node) → IsSome node
   node_some None is = absurd (let no : ⊥ = cc in no)
@@ -131,6 +128,5 @@ module _ {S E : Type 0} (M : Ghosts S E) where
       (reply ≡ Yes → IsTrue (M.is_opened new (node_object (list_begin layout) place.before.next))) →
       AddsAtMost (most_of_remove reply) M old new
   adds-remove layout place Yes walked reads there opened node_opened =
-      one layout place walked reads (node_some place.node there) (opened refl) (node_opened refl)
-  adds-remove layout place reply walked reads there opened node_opened =
-      adds-kept (three-walked layout place walked) reads
+      one walked reads (node_some place.node there) (opened refl) (node_opened refl)
+  adds-remove layout place reply walked reads there opened node_opened = adds-kept (three-walked walked) reads

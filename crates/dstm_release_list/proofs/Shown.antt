@@ -108,8 +108,7 @@ at_number {layout} {values} i valid number list some =
 least_below : (least : ℕ) (behind : List Cell) (c : Cell) (ahead : List Cell) → Rise least (behind ++ c ∷ ahead) →
     least ≤ c.key
 least_below least [] c ahead rise = rise.0
-least_below least (d ∷ ds) c ahead rise =
-    omega (arith, rise.0, least_below (d.key + 1) ds c ahead rise.1)
+least_below least (d ∷ ds) c ahead rise = omega (arith, rise.0, least_below (d.key + 1) ds c ahead rise.1)
 
 less_behind : (key least : ℕ) (behind : List Cell) (c : Cell) (ahead : List Cell) →
     Rise least (behind ++ c ∷ ahead) → c.key < key → AllLess key (behind ++ c ∷ [])
@@ -117,12 +116,12 @@ less_behind key least [] c ahead rise less = (less, tt)
 less_behind key least (d ∷ ds) c ahead rise less =
     (omega (arith, least_below (d.key + 1) ds c ahead rise.1, less), less_behind key (d.key + 1) ds c ahead rise.1 less)
 
-at_stands : {layout : Layout} {values : List Val} {store : Store} (key i : ℕ) (node : Node) → IsValid layout →
+at_stands : {layout : Layout} {values : List Val} {store : Store} (key : ℕ) {i : ℕ} (node : Node) → IsValid layout →
     (list : IsList layout values store) → AtCell list.cells i →
     node.key ≡ key_of (value_at values (node_object (list_begin layout) i)) →
     node.next ≡ next_of (value_at values (node_object (list_begin layout) i)) → node.key < key →
     Stands (list_begin layout) key (node_object (list_begin layout) i) node list.cells
-at_stands {layout} {values} key i node valid list at node_key node_next less =
+at_stands {layout} {values} key {i = i} node valid list at node_key node_next less =
     let n = layout.list in
     let begin = list_begin layout in
     let c = at.cell in
@@ -157,7 +156,7 @@ pub stands-kept : {layout : Layout} {values : List Val} {store : Store} (key i :
     (0 < node.key) ⊎ (first_of (numbers_of list.cells) ≡ i) →
     Stands (list_begin layout) key (node_object (list_begin layout) i) node list.cells
 stands-kept key i node valid number list node_key node_next less (inl some) =
-    at_stands key i node valid list (at_number i valid number list (omega (arith, some, node_key)))
+    at_stands key node valid list (at_number i valid number list (omega (arith, some, node_key)))
     node_key node_next less
 stands-kept key i node valid number list node_key node_next less (inr named) =
-    at_stands key i node valid list (at_first list.cells i number.0 named) node_key node_next less
+    at_stands key node valid list (at_first list.cells i number.0 named) node_key node_next less

@@ -29,12 +29,12 @@ pub AgreesWith-before : (map : List Val) (old new : ℕ → Option Val) → ((o 
     AgreesWith map new → AgreesWith map old
 AgreesWith-before map old new kept agrees o = agrees_before (old o) (new o) (value_at map o) (kept o) (agrees o)
 
-module _ {S E : Type 0} (M : Ghosts S E) where
+module _ {S E : Type 0} {M : Ghosts S E} where
   -- ---- what a stop sees
 
-  pub sees-opened : {old new : S} (stop : Stop) (o : ℕ) → Sees M old stop → HoldsAlso o (M.held old) (M.held new) →
+  pub sees-opened : {old new : S} {stop : Stop} {o : ℕ} → Sees M old stop → HoldsAlso o (M.held old) (M.held new) →
       ((p : ℕ) → M.written new p ≡ M.written old p) → Sees M new stop
-  sees-opened {old} {new} stop o sees held same = record {
+  sees-opened {old} {new} {stop = stop} sees held same = record {
     value = sees.value;
     found = answer_stays (M.written old stop.object) (M.held old stop.object) (M.held new stop.object) sees.value
         sees.found (held.kept stop.object)
@@ -43,9 +43,9 @@ module _ {S E : Type 0} (M : Ghosts S E) where
     next = sees.next;
   }
 
-  pub sees-same : {old new : S} (stop : Stop) → Sees M old stop → M.held new stop.object ≡ M.held old stop.object →
+  pub sees-same : {old new : S} {stop : Stop} → Sees M old stop → M.held new stop.object ≡ M.held old stop.object →
       ((p : ℕ) → M.written new p ≡ M.written old p) → Sees M new stop
-  sees-same {old} {new} stop sees held same = record {
+  sees-same {old} {new} {stop = stop} sees held same = record {
     value = sees.value;
     found = sees.found
         ∙ ap (λ (w : Option Val). option_or w (M.held old stop.object)) (sym (same stop.object))
@@ -55,20 +55,18 @@ module _ {S E : Type 0} (M : Ghosts S E) where
   }
 
   -- the value of its object in a map that is admitted, with what was set before
-  pub sees-value : {start memory : S} (stop : Stop) (map : List Val) (sees : Sees M memory stop) →
-      stop.object < length map → AgreesWith map (M.held memory) →
-      ((p : ℕ) → M.written memory p ≡ M.written start p) →
+  pub sees-value : {start memory : S} {stop : Stop} (map : List Val) (sees : Sees M memory stop) →
+      stop.object < length map → AgreesWith map (M.held memory) → ((p : ℕ) → M.written memory p ≡ M.written start p) →
       value_at (with_set map (M.written start)) stop.object ≡ sees.value
-  sees-value {start} {memory} stop map sees within agrees same =
+  sees-value {start} {memory} {stop = stop} map sees within agrees same =
       value_at-opened map (M.written start) (M.written memory) (M.held memory) stop.object sees.value within agrees
       same sees.found
 
   -- two stops with different keys are at different objects
-  pub sees-apart : {memory : S} (a b : Stop) → Sees M memory a → Sees M memory b → a.node.key ≢ b.node.key →
+  pub sees-apart : {memory : S} {a b : Stop} → Sees M memory a → Sees M memory b → a.node.key ≢ b.node.key →
       a.object ≢ b.object
-  sees-apart {memory} a b one two other same =
-      let value : one.value ≡ two.value =
-      same_Some one.value two.value (one.found
+  sees-apart {memory} one two other same =
+      let value : one.value ≡ two.value = same_Some one.value two.value (one.found
       ∙ ap (λ (o : ℕ). option_or (M.written memory o) (M.held memory o)) same ∙ sym two.found) in
       other (one.key ∙ ap key_of value ∙ sym two.key)
 

@@ -73,8 +73,7 @@ pub record Inner {S E : Type 0} (M : Ghosts S E) (memory : S) (layout : Layout) 
   pub shown : (0 < last.node.key) ⊎ (Sees M memory head × (head.node.next ≡ number))
 
 abbrev pub Anchored : {S E : Type 0} → Ghosts S E → S → Layout → ℕ → Stop → Stop → Type 0
-Anchored M memory layout key head last =
-    (last.object ≡ list_begin layout) ⊎ Inner M memory layout key head last
+Anchored M memory layout key head last = (last.object ≡ list_begin layout) ⊎ Inner M memory layout key head last
 
 -- the node before the last one
 pub record Older {S E : Type 0} (M : Ghosts S E) (layout : Layout) (start memory : S) (last older : Stop) : Type 0 where
@@ -145,18 +144,17 @@ pub record Advanced {S E : Type 0} (M : Ghosts S E) (layout : Layout) (key : ℕ
 module _ {S E : Type 0} {M : Ghosts S E} {layout : Layout} {start : S} where
   -- ---- on a map that stands for a list
 
-  seen-value : {memory : S} {map : List Val} {store : Store} (stop : Stop) → At M layout start memory map store →
+  seen-value : {memory : S} {map : List Val} {store : Store} {stop : Stop} → At M layout start memory map store →
       (sees : Sees M memory stop) → IsOfList layout stop.object →
       value_at (with_set map (M.written start)) stop.object ≡ sees.value
-  seen-value {map = map} stop at sees within =
-      sees-value M stop map sees (omega (arith, at.size, within.1)) at.agrees at.same
+  seen-value {map = map} {stop = stop} at sees within =
+      sees-value map sees (omega (arith, at.size, within.1)) at.agrees at.same
 
-  named : {memory : S} {map : List Val} {store : Store} (head : Stop) (at : At M layout start memory map store) →
-      Sees M memory head → head.object ≡ list_begin layout →
-      first_of (numbers_of at.list.cells) ≡ head.node.next
-  named {map = map} head at sees at_begin =
+  named : {memory : S} {map : List Val} {store : Store} {head : Stop} (at : At M layout start memory map store) →
+      Sees M memory head → head.object ≡ list_begin layout → first_of (numbers_of at.list.cells) ≡ head.node.next
+  named {map = map} {head = head} at sees at_begin =
       let within = subst (IsOfList layout) (sym at_begin) (head-of_list layout at.declared) in
-      let value = seen-value head at sees within in
+      let value = seen-value at sees within in
       let low = ap (λ v. v.low) (sym value ∙ ap (value_at (with_set map (M.written start))) at_begin
       ∙ at.list.head at.declared) in
       let small = first_within layout.list (numbers_of at.list.cells)
@@ -164,47 +162,45 @@ module _ {S E : Type 0} {M : Ghosts S E} {layout : Layout} {start : S} where
       omega (arith, sees.next, low, small, at.valid.list)
 
   -- the last stop is in the list, with lesser keys before it
-  pub stands-held : {memory : S} {map : List Val} {store : Store} (key : ℕ) (head last : Stop)
+  pub stands-held : {memory : S} {map : List Val} {store : Store} (key : ℕ) (head : Stop) {last : Stop}
       (at : At M layout start memory map store) → head.object ≡ list_begin layout → Sees M memory last →
-      Anchored M memory layout key head last →
-      Stands (list_begin layout) key last.object last.node at.list.cells
-  stands-held {map = map} key head last at head_at sees (inl at_begin) =
+      Anchored M memory layout key head last → Stands (list_begin layout) key last.object last.node at.list.cells
+  stands-held {map = map} key head {last = last} at head_at sees (inl at_begin) =
       let begin = list_begin layout in
       let values = with_set map (M.written start) in
       let within = subst (IsOfList layout) (sym at_begin) (head-of_list layout at.declared) in
       let value : value_at values begin ≡ sees.value =
-      ap (value_at values) (sym at_begin) ∙ seen-value last at sees within in
+      ap (value_at values) (sym at_begin) ∙ seen-value at sees within in
       subst (λ o. Stands begin key o last.node at.list.cells) (sym at_begin)
       (stands-start key last.node at.valid at.declared at.list (sees.key ∙ ap key_of (sym value))
       (sees.next ∙ ap next_of (sym value)))
-  stands-held {map = map} key head last at head_at sees (inr inner) =
+  stands-held {map = map} key head {last = last} at head_at sees (inr inner) =
       let begin = list_begin layout in
       let i = inner.number in
       let values = with_set map (M.written start) in
       let node_in = node-of_list layout i at.declared inner.within.1 in
       let within = subst (IsOfList layout) (sym inner.object) node_in in
       let value : value_at values (node_object begin i) ≡ sees.value =
-      ap (value_at values) (sym inner.object) ∙ seen-value last at sees within in
+      ap (value_at values) (sym inner.object) ∙ seen-value at sees within in
       subst (λ o. Stands begin key o last.node at.list.cells) (sym inner.object)
       (stands-kept key i last.node at.valid inner.within at.list (sees.key ∙ ap key_of (sym value))
       (sees.next ∙ ap next_of (sym value)) inner.less (elim inner.shown [
         | inl some ↦ inl some
-        | inr (seen, is_next) ↦ inr (named head at seen head_at ∙ is_next)
+        | inr (seen, is_next) ↦ inr (named at seen head_at ∙ is_next)
       ]))
 
   -- the next node is the first one ahead
-  pub next-held : {memory : S} {map : List Val} {store : Store} {key : ℕ} (last next : Stop)
+  pub next-held : {memory : S} {map : List Val} {store : Store} {key : ℕ} (last : Stop) {next : Stop}
       (at : At M layout start memory map store)
       (stands : Stands (list_begin layout) key last.object last.node at.list.cells) → Sees M memory next →
       next.object ≡ node_object (list_begin layout) last.node.next → last.node.next ≢ 0 →
       IsNext stands.ahead last.node.next next.node
-  next-held {map = map} last next at stands sees next_at some =
+  next-held {map = map} last {next = next} at stands sees next_at some =
       let begin = list_begin layout in
       let values = with_set map (M.written start) in
       let node_in = node-of_list layout last.node.next at.declared (next_within at.list stands) in
-      let value : value_at values (node_object begin last.node.next) ≡ sees.value =
-      ap (value_at values) (sym next_at)
-      ∙ seen-value next at sees (subst (IsOfList layout) (sym next_at) node_in) in
+      let value : value_at values (node_object begin last.node.next) ≡ sees.value = ap (value_at values) (sym next_at)
+      ∙ seen-value at sees (subst (IsOfList layout) (sym next_at) node_in) in
       stands-next next.node at.valid at.list stands some (sees.key ∙ ap key_of (sym value))
       (sees.next ∙ ap next_of (sym value))
 
@@ -216,17 +212,17 @@ not_own head None p not_head not_older own = own
 not_own head (Some o) p not_head not_older (inl own) = not_older own.0
 not_own head (Some o) p not_head not_older (inr own) = not_head refl own.0
 
-none_some : (o : Option Val) → o ≡ None → ¬ IsSome o
-none_some o none some = absurd (let no : ⊥ = cc in no)
+none_some : {o : Option Val} → o ≡ None → ¬ IsSome o
+none_some none some = absurd (let no : ⊥ = cc in no)
 
 cases_held : (o : Option Val) → (o ≡ None) ⊎ IsSome o
 cases_held None = inl refl
 cases_held (Some v) = inr refl
 
 module _ {S E : Type 0} (M : Ghosts S E) (start : S) where
-  owes-later : {old new : S} (stop : Stop) → Owes M start old stop →
+  owes-later : {old new : S} {stop : Stop} → Owes M start old stop →
       (IsTrue (M.is_opened old stop.object) → IsTrue (M.is_opened new stop.object)) → Owes M start new stop
-  owes-later stop owes opened = record {
+  owes-later owes opened = record {
     own = owes.own;
     other = λ no. elim (owes.other no) [
       | inl some ↦ inl some
@@ -235,13 +231,12 @@ module _ {S E : Type 0} (M : Ghosts S E) (start : S) where
   }
 
   module _ (layout : Layout) where
-    own_none : {memory : S} (head : Stop) (behind : Option Stop) (last : Stop) (p : ℕ) →
+    own_none : {memory : S} {head : Stop} (behind : Option Stop) (last : Stop) (p : ℕ) →
         Owes M start memory head → IfSome behind (Older M layout start memory last) →
         IsOwnOfTwo head behind p → M.held start p ≡ None
-    own_none head None last p owes older own = absurd own
-    own_none head (Some o) last p owes older (inl own) =
-        ap (M.held start) own.0 ∙ older.owes.own own.1
-    own_none head (Some o) last p owes older (inr own) = ap (M.held start) own.0 ∙ owes.own own.1
+    own_none None last p owes older own = absurd own
+    own_none (Some o) last p owes older (inl own) = ap (M.held start) own.0 ∙ older.owes.own own.1
+    own_none (Some o) last p owes older (inr own) = ap (M.held start) own.0 ∙ owes.own own.1
 
     own_in : (memory : S) (head : Stop) (behind : Option Stop) (last : Stop) (p : ℕ) →
         IsOfList layout head.object → IfSome behind (Older M layout start memory last) →
@@ -269,14 +264,14 @@ module _ {S E : Type 0} (M : Ghosts S E) (start : S) where
           ];
         })
 
-    older_apart : {old new : S} (behind : Option Stop) (last stop : Stop) →
+    older_apart : {old new : S} (behind : Option Stop) (last : Stop) {stop : Stop} →
         IfSome behind (Older M layout start old last) → ((o : Stop) → Sees M old o → Sees M new o) →
         Sees M new stop → ((o : Stop) → o.node.key < last.node.key → last.object ≢ list_begin layout →
         o.node.key < stop.node.key) → IfSome behind (λ o. stop.object ≢ o.object)
-    older_apart None last stop older later sees less = tt
-    older_apart (Some o) last stop older later sees less =
+    older_apart None last older later sees less = tt
+    older_apart (Some o) last {stop = stop} older later sees less =
         let below = less o older.less older.last_inner in
-        sees-apart M stop o sees (later o older.seen) (λ e. omega (arith, e, below))
+        sees-apart sees (later o older.seen) (λ e. omega (arith, e, below))
 
     opened : {Began : S → List Val → Type 0} {old new : S} (key : ℕ) (head : Stop) (behind : Option Stop)
         (last next : Stop) (o : ℕ) → Laws M Began → IsReady M (objects_of layout) (IsList layout) start →
@@ -288,8 +283,7 @@ module _ {S E : Type 0} (M : Ghosts S E) (start : S) where
         let begin = list_begin layout in
         let leads = leads-then M so_far.way.leads visit_leads in
         let looks = only_reads-then M so_far.way.leads so_far.way.looks visit_looks in
-        let later = λ (stop : Stop) (sees : Sees M old stop).
-        sees-opened M stop o sees visits.held visit_looks.sets in
+        let later = λ (stop : Stop) (sees : Sees M old stop). sees-opened sees visits.held visit_looks.sets in
         let last_seen = later last so_far.last_seen in
         let anchored = anchored-later (λ inner. inr (later head)) so_far.anchored in
         let next_at = visits.object ∙ o_is in
@@ -304,8 +298,8 @@ module _ {S E : Type 0} (M : Ghosts S E) (start : S) where
           same = looks.sets;
           list = list;
         } in
-        let stands = stands-held key head last at so_far.head_at last_seen anchored in
-        let ahead = next-held last next at stands visits.sees next_at some in
+        let stands = stands-held key head at so_far.head_at last_seen anchored in
+        let ahead = next-held last at stands visits.sees next_at some in
         let rises = λ (inner : last.object ≢ begin). next_greater next.node list stands ahead inner in
         let within = next_within list stands in
         let in_list : IsOfList layout o =
@@ -314,9 +308,9 @@ module _ {S E : Type 0} (M : Ghosts S E) (start : S) where
         outside (subst (IsOfList layout) (sym e) in_list) in
         let not_last : next.object ≢ last.object = elim (cases_eq last.object begin) [
           | inl at_begin ↦ λ e. omega (arith, e, at_begin, next_at)
-          | inr inner ↦ sees-apart M next last visits.sees last_seen (λ e. omega (arith, e, rises inner))
+          | inr inner ↦ sees-apart visits.sees last_seen (λ e. omega (arith, e, rises inner))
         ] in
-        let next_apart = older_apart behind last next so_far.older later visits.sees
+        let next_apart = older_apart behind last so_far.older later visits.sees
         (λ older below inner. omega (arith, below, rises inner)) in
         record {
           way = record {
@@ -335,8 +329,7 @@ module _ {S E : Type 0} (M : Ghosts S E) (start : S) where
               | inl none ↦ none
               | inr held ↦
                   let before = so_far.way.leads.holds next.object held in
-                  absurd (none_some (M.held start next.object)
-                  (sym before ∙ ap (M.held old) visits.object ∙ visits.own is) held)
+                  absurd (none_some (sym before ∙ ap (M.held old) visits.object ∙ visits.own is) held)
             ];
             other = λ no. elim (visits.other no) [
               | inl read ↦
@@ -347,7 +340,7 @@ module _ {S E : Type 0} (M : Ghosts S E) (start : S) where
           };
           next_seen = visits.sees;
           rises = rises;
-          last_apart = older_apart behind last last so_far.older later last_seen (λ older below inner. below);
+          last_apart = older_apart behind last so_far.older later last_seen (λ older below inner. below);
           next_apart = next_apart;
           few = λ p not_next not_last not_begin not_older read.
               let not_o = λ (e : p ≡ o). not_next (e ∙ sym visits.object) in
@@ -360,8 +353,8 @@ module _ {S E : Type 0} (M : Ghosts S E) (start : S) where
         IfSome behind (Older M layout start new last)
     older_later None last older visits looks = tt
     older_later {o = o} (Some stop) last older visits looks = record {
-      seen = sees-opened M stop o older.seen visits.held looks.sets;
-      owes = owes-later stop older.owes (visits.opened.kept stop.object);
+      seen = sees-opened older.seen visits.held looks.sets;
+      owes = owes-later older.owes (visits.opened.kept stop.object);
       in_list = older.in_list;
       less = older.less;
       inner = older.inner;
@@ -380,7 +373,7 @@ module _ {S E : Type 0} (M : Ghosts S E) (start : S) where
 
     none_same : {old new : S} (head : Stop) (behind : Option Stop) (p : ℕ) → behind ≡ None →
         LetsGo M (IsOwnOfTwo head behind) old new → M.held new p ≡ M.held old p
-    none_same head None p none lets = kept-other M p lets (λ own. own)
+    none_same head None p none lets = kept-other p lets (λ own. own)
     none_same head (Some o) p none lets = absurd (let no : ⊥ = cc in no)
 
     few_left : {mid new : S} (head : Stop) (behind : Option Stop) (last : Stop) (p : ℕ) →
@@ -389,12 +382,11 @@ module _ {S E : Type 0} (M : Ghosts S E) (start : S) where
         IfSome behind (λ o. IsTrue o.is_own → ¬ IsRead M new o.object) → IsRead M new p →
         (IfSome behind (λ o. p ≢ o.object) → IsRead M mid p → IsSome (M.held start p)) → IsSome (M.held start p)
     few_left head None last p head_at not_begin older lets gone read few =
-        few tt (read-same M p (kept-other M p lets (λ own. own)) (lets.opened p) read)
+        few tt (read-same M p (kept-other p lets (λ own. own)) (lets.opened p) read)
     few_left {new = new} head (Some o) last p head_at not_begin older lets gone read few =
         elim (cases_eq p o.object) [
           | inr other ↦
-              let kept =
-              kept-other M p lets (not_own head (Some o) p (λ some e. not_begin (e ∙ head_at)) other) in
+              let kept = kept-other p lets (not_own head (Some o) p (λ some e. not_begin (e ∙ head_at)) other) in
               few other (read-same M p kept (lets.opened p) read)
           | inl same ↦
               let here = subst (IsRead M new) same read in
@@ -408,30 +400,29 @@ module _ {S E : Type 0} (M : Ghosts S E) (start : S) where
               ]
         ]
 
-    advanced : {Began : S → List Val → Type 0} {mid new : S} (key : ℕ) (head : Stop) (behind : Option Stop)
-        (last next : Stop) → Laws M Began → IsTrue (M.is_live start) → head.object ≡ list_begin layout →
+    advanced : {Began : S → List Val → Type 0} {mid new : S} {key : ℕ} {head : Stop} {behind : Option Stop}
+        {last next : Stop} → Laws M Began → IsTrue (M.is_live start) → head.object ≡ list_begin layout →
         0 < layout.list → Owes M start mid head → Owes M start mid last →
         IfSome behind (Older M layout start mid last) → Opened M layout key start mid head behind last next →
-        LetsGo M (IsOwnOfTwo head behind) mid new →
-        IfSome behind (λ o. IsTrue o.is_own → ¬ IsRead M new o.object) →
+        LetsGo M (IsOwnOfTwo head behind) mid new → IfSome behind (λ o. IsTrue o.is_own → ¬ IsRead M new o.object) →
         Advanced M layout key start new head behind last next
-    advanced {mid = mid} {new = new} key head behind last next laws live head_at declared head_owes last_owes older
-        at lets gone =
+    advanced {mid = mid} {new = new} {head = head} {behind = behind} {last = last} {next = next} laws live head_at
+        declared head_owes last_owes older at lets gone =
         let opened_stays = λ (p : ℕ) (is : IsTrue (M.is_opened mid p)). subst IsTrue (sym (lets.opened p)) is in
         let head_in = subst (IsOfList layout) (sym head_at) (head-of_list layout declared) in
         let last_kept : M.held new last.object ≡ M.held mid last.object =
-        kept-other M last.object lets (not_own head behind last.object
+        kept-other last.object lets (not_own head behind last.object
         (λ some e. older_inner mid behind last older some (e ∙ head_at)) at.last_apart) in
         let next_kept : M.held new next.object ≡ M.held mid next.object =
-        kept-other M next.object lets (not_own head behind next.object
+        kept-other next.object lets (not_own head behind next.object
         (λ some e. omega (arith, e, head_at, at.next_at)) at.next_apart) in
         let head_later = λ (none : behind ≡ None) (sees : Sees M mid head).
-        sees-same M head sees (none_same head behind head.object none lets) lets.written in
+        sees-same sees (none_same head behind head.object none lets) lets.written in
         let holds = λ (o : ℕ) (some : IsSome (M.held start o)).
         let same : M.held new o ≡ M.held start o = elim (lets.held o) [
           | inl same ↦ same ∙ at.way.leads.holds o some
           | inr (own, none) ↦
-              absurd (none_some (M.held start o) (own_none head behind last o head_owes older own) some)
+              absurd (none_some (own_none behind last o head_owes older own) some)
         ] in same in
         let place = lets.place ∙ at.way.leads.place in
         record {
@@ -455,22 +446,21 @@ module _ {S E : Type 0} (M : Ghosts S E) (start : S) where
             ];
             opens = λ p outside. lets.opened p ∙ at.way.opens p outside;
           };
-          head_owes = owes-later head head_owes (opened_stays head.object);
+          head_owes = owes-later head_owes (opened_stays head.object);
           head_seen = λ none. head_later none (at.head_seen none);
-          last_owes = owes-later last last_owes (opened_stays last.object);
-          last_seen = sees-same M last at.last_seen last_kept lets.written;
+          last_owes = owes-later last_owes (opened_stays last.object);
+          last_seen = sees-same at.last_seen last_kept lets.written;
           anchored = anchored-later (λ inner. elim (older_less mid behind last older) [
             | inl none ↦ inr (head_later none)
             | inr less ↦ inl less
           ]) at.anchored;
           next_at = at.next_at;
           next_within = at.next_within;
-          next_owes = owes-later next at.next_owes (opened_stays next.object);
-          next_seen = sees-same M next at.next_seen next_kept lets.written;
+          next_owes = owes-later at.next_owes (opened_stays next.object);
+          next_seen = sees-same at.next_seen next_kept lets.written;
           rises = at.rises;
           few = λ p not_next not_last not_begin read.
-              few_left head behind last p head_at not_begin older lets gone read
-              (at.few p not_next not_last not_begin);
+              few_left head behind last p head_at not_begin older lets gone read (at.few p not_next not_last not_begin);
         }
 
     -- ---- the whole walk
@@ -485,9 +475,8 @@ module _ {S E : Type 0} (M : Ghosts S E) (start : S) where
         Advanced M layout key start new head behind last next
     stepped {old = old} {mid = mid} {key} {head} {behind} {last} {next} {o} laws ready valid declared so_far some o_is visits
         visit_leads visit_looks lets gone =
-        let later = λ (stop : Stop) (owes : Owes M start old stop).
-        owes-later stop owes (visits.opened.kept stop.object) in
-        advanced key head behind last next laws ready.live so_far.head_at declared (later head so_far.head_owes)
+        let later = λ (stop : Stop) (owes : Owes M start old stop). owes-later owes (visits.opened.kept stop.object) in
+        advanced laws ready.live so_far.head_at declared (later head so_far.head_owes)
         (later last so_far.last_owes) (older_later behind last so_far.older visits visit_looks)
         (opened key head behind last next o laws ready valid declared so_far some o_is visits visit_leads visit_looks)
         lets gone
@@ -512,13 +501,14 @@ module _ {S E : Type 0} (M : Ghosts S E) (start : S) where
         not_older (e ∙ ap (λ (s : Stop). s.object) (sym some.0))
 
     -- at the next node, whose key is less than the one that is looked for
-    pub walking-on : {old new : S} (key : ℕ) (head : Stop) (before : Option Stop) (last next : Stop)
+    pub walking-on : {old new : S} {key : ℕ} {head : Stop} {before : Option Stop} {last next : Stop}
         (behind : Option Stop) → 0 < layout.list → Walking M layout key start old head before last →
         last.node.next ≢ 0 → Advanced M layout key start new head before last next → next.node.key < key →
         (behind ≡ None → last.object ≡ head.object) →
         IfSome behind (λ stop. (stop ≡ last) × (last.object ≢ head.object)) →
         Walking M layout key start new head behind next
-    walking-on {old = old} {new = new} key head before last next behind declared so_far some at less none is_last =
+    walking-on {old = old} {new = new} {head = head} {before = before} {last = last} {next = next} behind declared
+        so_far some at less none is_last =
         let begin = list_begin layout in
         let not_begin : next.object ≢ begin = λ e. omega (arith, e, at.next_at) in
         let first = λ (at_begin : last.object ≡ begin). older_none old before last so_far.older at_begin in
@@ -569,10 +559,10 @@ module _ {S E : Type 0} (M : Ghosts S E) (start : S) where
     }
 
     -- the reads that are added, where the walk ends before a node
-    pub adds-next : {new : S} (key : ℕ) (head : Stop) (behind : Option Stop) (last next : Stop) (place : Place) →
+    pub adds-next : {new : S} {key : ℕ} {head : Stop} {behind : Option Stop} {last next : Stop} (place : Place) →
         Advanced M layout key start new head behind last next → place.link ≡ last.object →
         place.before ≡ last.node → AddsToPlace M layout start new place
-    adds-next key head behind last next place at link before = record {
+    adds-next {next = next} place at link before = record {
       other = next.object;
       node = λ some. at.next_at ∙ ap (λ (n : Node). node_object (list_begin layout) n.next) (sym before);
       each = λ p not_link not_begin not_next read.

@@ -10,6 +10,6 @@ returns g c =
     assumption (
       changes-walked g.M.Mem c.args.layout.now (Insert which.List c.args.key) c.in_ok-reply.reply
           c.in_ok-place.ensures.walks (record { applies = done.applies; few = done.few }),
-      adds-insert g.M.Mem c.args.layout.now c.in_ok-place.place c.in_ok-reply.reply c.in_ok-place.ensures.adds
+      adds-insert g.M.Mem c.in_ok-reply.reply c.in_ok-place.ensures.adds
           done.looked done.reads done.link_opened,
     )

@@ -7,5 +7,4 @@ returns-clause-applies g c =
     member-walked g.M.Mem c.args.layout.now c.member_at.result c.in_ok-walk.ensures.walks c.member_at.ensures
 
 pub returns-clause-adds : goal.returns-clause-adds
-returns-clause-adds g c =
-    three-walked g.M.Mem c.args.layout.now c.in_ok-walk.field-0 c.in_ok-walk.ensures.adds
+returns-clause-adds g c = three-walked g.M.Mem c.in_ok-walk.ensures.adds

@@ -37,7 +37,7 @@ returns-then-node-from g c =
       same = h.second.same ∙ h.first.same;
       finds = λ store list.
           place-next c.in_ok-node.node c.place_before.result list (h.first.stands store list)
-          (next-seen c.requires.valid c.loop-before-test.true c.node_object-object.ensures h store list)
+          (next-seen c.requires.valid c.loop-before-test.true c.node_object-object.ensures h list)
           place.link place.before place.node;
     }) in
     record {
@@ -56,9 +56,8 @@ loop-before-smaller g c =
     let h = both.does map admitted in
     let less : node.key < c.args.key = omega (arith, c.if-node-from.false, c.from.ensures) in
     subst (λ o. left begin c.args.key o node.key < left begin c.args.key c.loop-before.link c.loop-before.before.key)
-    (sym c.node_object-object.ensures)
-    (left-less node list (h.first.stands store list)
-    (next-seen c.requires.valid c.loop-before-test.true c.node_object-object.ensures h store list) less)
+    (sym c.node_object-object.ensures) (left-less node list (h.first.stands store list)
+    (next-seen c.requires.valid c.loop-before-test.true c.node_object-object.ensures h list) less)
 
 pub loop-before-preserved : goal.loop-before-preserved
 loop-before-preserved g c =
@@ -74,10 +73,9 @@ loop-before-preserved g c =
           (λ before after h. record {
             same = h.second.same ∙ h.first.same;
             stands = λ store list.
-                subst (λ o. Stands (list_begin layout) c.args.key o node list.cells)
-                (sym c.node_object-object.ensures)
-                (stands-on node (h.first.stands store list)
-                (next-seen c.requires.valid c.loop-before-test.true c.node_object-object.ensures h store list) less);
+                subst (λ o. Stands (list_begin layout) c.args.key o node list.cells) (sym c.node_object-object.ensures)
+                (stands-on (h.first.stands store list)
+                (next-seen c.requires.valid c.loop-before-test.true c.node_object-object.ensures h list) less);
           });
       link = subst (IsOfList layout) (sym c.node_object-object.ensures)
           (node-of_list layout c.loop-before.before.next c.requires.declared within);

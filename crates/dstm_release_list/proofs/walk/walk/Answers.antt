@@ -25,8 +25,7 @@ visit-requires-in-loop-last-clause-exists g c =
     let (store, list) = c.requires.ready.lawful map (leads.narrows map admitted) in
     let at = at-map g.M.Mem c.args.mem.now layout (laws g) c.requires.ready c.requires.valid c.requires.declared
     so_far.way admitted list in
-    let stands = stands-held c.args.key c.in_ok-head.head c.loop-last.last at so_far.head_at so_far.last_seen
-    so_far.anchored in
+    let stands = stands-held c.args.key c.in_ok-head.head at so_far.head_at so_far.last_seen so_far.anchored in
     let within = node-of_list layout c.loop-last.last.node.next c.requires.declared (next_within list stands) in
     omega (arith, within, c.node_object.ensures, leads.objects, c.requires.ready.objects)
 
@@ -44,14 +43,13 @@ returns-then-next-from g c =
     step.way.opens (λ map admitted store list.
     let at = at-map g.M.Mem c.args.mem.now layout (laws g) c.requires.ready c.requires.valid c.requires.declared
     step.way admitted list in
-    let stands = stands-held c.args.key c.in_ok-head.head last at so_far.head_at step.last_seen step.anchored in
+    let stands = stands-held c.args.key c.in_ok-head.head at so_far.head_at step.last_seen step.anchored in
     place-next next.node c.place_before.result list stands
-    (next-held last next at stands step.next_seen step.next_at c.loop-last-test.true) place.link place.before
-    place.node) in
+    (next-held last at stands step.next_seen step.next_at c.loop-last-test.true) place.link place.before place.node) in
     record {
       walks = walks;
       ready = ready-walked g.M.Mem layout c.requires.ready (subst (IsOfList layout) (sym place.link) so_far.last_in) walks;
-      adds = adds-next g.M.Mem c.args.mem.now layout c.args.key c.in_ok-head.head c.loop-last.behind last next
+      adds = adds-next g.M.Mem c.args.mem.now layout
           c.place_before.result step place.link place.before;
     }
 
@@ -68,8 +66,8 @@ loop-last-smaller g c =
     let (store, list) = c.requires.ready.lawful map (step.way.leads.narrows map admitted) in
     let at = at-map g.M.Mem c.args.mem.now c.args.layout.now (laws g) c.requires.ready c.requires.valid
     c.requires.declared step.way admitted list in
-    let stands = stands-held c.args.key c.in_ok-head.head last at so_far.head_at step.last_seen step.anchored in
-    let ahead = next-held last next at stands step.next_seen step.next_at c.loop-last-test.true in
+    let stands = stands-held c.args.key c.in_ok-head.head at so_far.head_at step.last_seen step.anchored in
+    let ahead = next-held last at stands step.next_seen step.next_at c.loop-last-test.true in
     let less : next.node.key < c.args.key = omega (arith, c.if-next-from.false, c.from.ensures) in
     subst (λ o. left begin c.args.key o next.node.key < left begin c.args.key last.object last.node.key)
     (sym step.next_at) (left-less next.node list stands ahead less)
@@ -82,8 +80,8 @@ loop-last-preserved g c =
     c.in_ok-next.ensures.leads c.in_ok-next.ensures.looks c.let_go.ensures.lets c.let_go.ensures.gone in
     let next = c.in_ok-next.next in
     let less : next.node.key < c.args.key = omega (arith, c.if-next-from.false, c.from.ensures) in
-    walking-on g.M.Mem c.args.mem.now c.args.layout.now c.args.key c.in_ok-head.head c.loop-last.behind
-    c.loop-last.last next c.unless_at-behind.result c.requires.declared so_far c.loop-last-test.true step
+    walking-on g.M.Mem c.args.mem.now c.args.layout.now c.unless_at-behind.result c.requires.declared so_far
+    c.loop-last-test.true step
     less c.unless_at-behind.ensures.none c.unless_at-behind.ensures.some
 
 pub returns : goal.returns
@@ -91,12 +89,10 @@ returns g c =
     let so_far = c.loop-last.invariant in
     let layout = c.args.layout.now in
     let way = so_far.way in
-    let walks = walks-by g.M.Mem layout c.args.key _ way.leads way.looks way.holds way.opens
-    (λ map admitted store list.
+    let walks = walks-by g.M.Mem layout c.args.key _ way.leads way.looks way.holds way.opens (λ map admitted store list.
     let at = at-map g.M.Mem c.args.mem.now layout (laws g) c.requires.ready c.requires.valid c.requires.declared way
     admitted list in
-    place-end list
-    (stands-held c.args.key c.in_ok-head.head c.loop-last.last at so_far.head_at so_far.last_seen so_far.anchored)
+    place-end list (stands-held c.args.key c.in_ok-head.head at so_far.head_at so_far.last_seen so_far.anchored)
     c.loop-last-test.false) in
     record {
       walks = walks;
