@@ -148,41 +148,30 @@ module _ {L : Type 0} (home : Home L) where
 
   module _ (holds : L → List Val → Type 0) (before now : Seat ℕ (View L)) (e : Event) (found : ℕ)
       (g : IsGuest home before) (of : IsOf home now) where
+    -- an event that the seat has made in one of these ways
+    went : (way : Access) (other : ℕ) → Makes holds (view_of before) way e.kind e.place other (view_of now) →
+        (found ≡ e.found → after e.kind home.terms.shape (caller_state home.terms (view_of before))
+        (event_by way (number_or (view_of before).number other) e.kind e.place other)
+        ≡ after e.kind home.terms.shape (caller_state home.terms (view_of before)) e) → GoesOnBy home before now e found
+    went way other m same = record {
+      guest = stays_guest holds before now way e.kind e.place other g of m;
+      state = λ f. state_after holds home.terms (view_of before) (view_of now) way e.kind e.place other m ∙ same f;
+    }
+
     pub added : is_add e.kind ≡ true → Makes holds (view_of before) Add e.kind e.place found (view_of now) →
         GoesOnBy home before now e found
-    added q m = record {
-      guest = stays_guest holds before now Add e.kind e.place found g of m;
-      state = λ f. state_after holds home.terms (view_of before) (view_of now) Add e.kind e.place found m
-          ∙ add_goes_on home.terms.shape (caller_state home.terms (view_of before)) e
-          (number_or (view_of before).number found) found e.kind q f;
-    }
+    added q m = went Add found m (add_goes_on _ _ e _ found e.kind q)
 
     pub loaded : is_load e.kind ≡ true → Makes holds (view_of before) Load e.kind e.place found (view_of now) →
         GoesOnBy home before now e found
-    loaded q m = record {
-      guest = stays_guest holds before now Load e.kind e.place found g of m;
-      state = λ f. state_after holds home.terms (view_of before) (view_of now) Load e.kind e.place found m
-          ∙ load_goes_on home.terms.shape (caller_state home.terms (view_of before)) e
-          (number_or (view_of before).number found) found e.kind q f;
-    }
+    loaded q m = went Load found m (load_goes_on _ _ e _ found e.kind q)
 
     pub stored : is_store e.kind ≡ true → (other : ℕ) →
         Makes holds (view_of before) (Store e.put) e.kind e.place other (view_of now) →
         GoesOnBy home before now e found
-    stored q other m = record {
-      guest = stays_guest holds before now (Store e.put) e.kind e.place other g of m;
-      state = λ f. state_after holds home.terms (view_of before) (view_of now) (Store e.put) e.kind e.place other m
-          ∙ store_goes_on home.terms.shape (caller_state home.terms (view_of before)) e
-          (number_or (view_of before).number other) other e.kind q;
-    }
+    stored q other m = went (Store e.put) other m (λ f. store_goes_on _ _ e _ other e.kind q)
 
     pub exchanged : is_exchange e.kind ≡ true →
         Makes holds (view_of before) (Exchange e.expected e.put) e.kind e.place found (view_of now) →
         GoesOnBy home before now e found
-    exchanged q m = record {
-      guest = stays_guest holds before now (Exchange e.expected e.put) e.kind e.place found g of m;
-      state = λ f. state_after holds home.terms (view_of before) (view_of now) (Exchange e.expected e.put) e.kind
-          e.place found m
-          ∙ exchange_goes_on home.terms.shape (caller_state home.terms (view_of before)) e
-          (number_or (view_of before).number found) found e.kind q f;
-    }
+    exchanged q m = went (Exchange e.expected e.put) found m (exchange_goes_on _ _ e _ found e.kind q)

@@ -49,17 +49,20 @@ pub fn open<M: Attempt>(tx: &mut M, o: u32) -> Answer<M::Err>
     requires sound { IsSound M.Mem tx.old }
     ensures { GoesOn M.Mem tx.old tx.new }
 {
-    if !tx.is_live() {
-        return None;
-    }
-    match tx.open_write(o) {
-        Ok(value) => Some(Ok(value.low)),
-        Err(again) => Some(Err(again)),
-    }
+    write(tx, o, None)
 }
 
 // Opens an object for reading and writing, and sets its value. Answers the old one.
 pub fn set<M: Attempt>(tx: &mut M, o: u32, value: Val) -> Answer<M::Err>
+    requires exists { o < M.Mem.objects tx.old }
+    requires sound { IsSound M.Mem tx.old }
+    ensures { GoesOn M.Mem tx.old tx.new }
+{
+    write(tx, o, Some(value))
+}
+
+// Opens an object for reading and writing, and sets its value if one is given. Answers the old one.
+fn write<M: Attempt>(tx: &mut M, o: u32, value: Option<Val>) -> Answer<M::Err>
     requires exists { o < M.Mem.objects tx.old }
     requires sound { IsSound M.Mem tx.old }
     ensures { GoesOn M.Mem tx.old tx.new }
@@ -69,7 +72,9 @@ pub fn set<M: Attempt>(tx: &mut M, o: u32, value: Val) -> Answer<M::Err>
     }
     match tx.open_write(o) {
         Ok(old) => {
-            tx.set(o, value);
+            if let Some(value) = value {
+                tx.set(o, value);
+            }
             Some(Ok(old.low))
         }
         Err(again) => Some(Err(again)),
