@@ -21,13 +21,6 @@ returns-in_err-next_separator c =
     rw (p.1, p.2) (goes_on c.loop.invariant c.loop-test.true c.in_ok-operation.ensures
     c.push.ensures c.as_slice.ensures.value c.in_err-next_separator.ensures.read)
 
-pub returns-in-End : goal.returns-in-End
-returns-in-End c =
-    let read =
-    goes_on c.loop.invariant c.loop-test.true c.in_ok-operation.ensures c.push.ensures
-    c.as_slice.ensures.value c.in_ok-next_separator.ensures.read in
-    rw c.in-End.is at read
-
 pub loop-preserved : goal.loop-preserved
 loop-preserved c =
     let slice = c.as_slice.result.now in
