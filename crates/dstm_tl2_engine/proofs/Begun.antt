@@ -1,8 +1,7 @@
 -- How many attempts a caller has begun.
 use Rattle.dstm_tl2_steps.proofs.Stepping.{sample_kept}
-use Rattle.std.proofs.Common.{◌≡◌, ◌==◌, ℕ, List, refl, true, false, Some, None}
-use Rattle.std.proofs.lemmas.Bool.{cond_both}
-use Rattle.dstm_tl2_engine.proofs.Words.{Event, Kind, LocalState, Lock, LookAgain, Sample, Table, after, is_sample, local, lock, look_of, record_read, tl2}
+use Rattle.std.proofs.Common.{◌≡◌, ℕ, List}
+use Rattle.dstm_tl2_engine.proofs.Words.{Event, LocalState, Table, is_sample, local, tl2}
 use Rattle.dstm_machines.proofs.Attempts.{kept_since}
 use Rattle.dstm_tl2_engine.specs.Callers.{begun_log}
 

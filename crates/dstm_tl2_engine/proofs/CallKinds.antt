@@ -5,6 +5,8 @@ use Rattle.std.specs.Prelude.{not}
 use Rattle.std.proofs.lemmas.Bool.{cond_both}
 use Rattle.std.proofs.lemmas.List.Elements.{All-cons, All-head, All-nil, All-weaker}
 use Rattle.dstm_tl2_engine.proofs.Words.{Beginning, Check, Committing, Doing, Done, Draw, Due, Enrol, Enrolling, Event, Finishing, FreeAs, Hold, IsDue, Just, Kind, LocalState, Lock, Locking, LookAgain, LookAt, LookHigh, LookLock, LookLow, Obeys, Opening, PutHigh, PutLow, Returning, Sample, Table, Task, Unlock, Val, Work, WriteHigh, WriteLow, at_first, due, due_after, has_sampled, in_checking, in_giving_back, in_locking, in_writing_back, is_readable, is_sample, is_spent, locks, next, or_zero, state_after, to_check, when_locked}
+use Rattle.dstm_tl2_order.specs.Calls.{is_look_lock}
+use Rattle.dstm_tl2_engine.specs.Outcomes.{is_write}
 use Rattle.dstm_tl2.proofs.Done.{NoCommits, NoSamples, may_commit}
 
 -- ---- what is due
@@ -140,19 +142,16 @@ Uncommitted k = may_commit k ≡ false
 
 -- the kinds of the events of a call that opens an object, and of one that locks
 abbrev pub is_look : Kind → Bool
-is_look LookLock = true
 is_look LookLow = true
 is_look LookHigh = true
 is_look LookAgain = true
-is_look kind = false
+is_look kind = is_look_lock kind
 
 -- an event of these kinds tells nothing
 abbrev pub is_plain : Kind → Bool
 is_plain Check = true
-is_plain WriteLow = true
-is_plain WriteHigh = true
 is_plain Unlock = true
-is_plain kind = false
+is_plain kind = is_write kind
 
 abbrev pub is_locking : Kind → Bool
 is_locking (Lock writes) = true

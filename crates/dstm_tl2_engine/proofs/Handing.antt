@@ -1,12 +1,27 @@
 -- What a call on an attempt says, from what its caller's call says.
-use Rattle.std.proofs.Common.{◌∙◌, ◌∷◌, ◌≡◌, List, [], ap, false, inl, inr, subst, sym, true, ℕ, refl}
-use Rattle.std.specs.Prelude.{Err, IfOk, IsSome, Ok, OnOk, Result, is_some}
+use Rattle.std.proofs.Common.{◌∙◌, ◌∷◌, ◌<◌, ◌≡◌, List, [], ap, arith, false, inl, inr, length, subst, sym, true, ℕ, refl}
+use Rattle.std.specs.Prelude.{Err, IfOk, IsSome, Ok, OnOk, Result, Some, is_some}
 use Rattle.std.proofs.lemmas.Bool.{cases_Bool, cases_eq}
 use Rattle.dstm_tl2_engine.proofs.Words.{MarksAtMost, TlAgain, Val, value_in, with_value}
+use Rattle.dstm_mem.proofs.WithSet.{found_by}
+use Rattle.dstm_model.specs.Map.{value_at}
+use Rattle.dstm_mem.specs.Memory.{with_set}
 use Rattle.dstm_tl2_steps.proofs.Slots.{value_in-with_other, value_in-with_value}
 use Rattle.dstm_tl2_engine.proofs.Opens.{not_some, value_in-last, value_in-more, value_in-stays}
-use Rattle.dstm_tl2_engine.specs.Callers.{TlCalled, is_opened}
+use Rattle.dstm_tl2_engine.specs.Attempts.{Admits}
+use Rattle.dstm_tl2_engine.specs.Callers.{TlCalled, handed, held, is_opened, objects_of, written}
 use Rattle.dstm_tl2_engine.specs.Transactions.{Marks}
+
+-- ---- what it hands out
+
+-- an open finds the object's value in each map that is admitted
+pub finds : {L : Type 0} (holds : L → List Val → Type 0) (n : TlCalled L) (r : Result Val TlAgain) (o objects : ℕ) →
+    objects_of n ≡ objects → o < objects → IfOk r (λ v. Some v ≡ handed n o) →
+    IfOk r (λ v. (map : List Val) → Admits holds n map → value_at (with_set map (written n)) o ≡ v)
+finds holds n r o objects same exists value =
+    found_by r (Admits holds n) (held n) (written n) o (λ map admitted.
+    let size = admitted.length in
+    let within : o < length map = omega arith in (within, admitted.agrees)) value
 
 -- ---- what is open for writing
 

@@ -1,5 +1,5 @@
 -- A call that has left its attempt: its table has another caller.
-use Rattle.std.proofs.Common.{◌++◌, ◌<◌, ◌∙◌, ◌∷◌, ◌≡◌, ◌⊎◌, List, Some, ap, append_assoc, arith, false, inl, inr, subst, sym, true, ℕ}
+use Rattle.std.proofs.Common.{◌++◌, ◌<◌, ◌∙◌, ◌∷◌, ◌≡◌, List, Some, ap, append_assoc, arith, false, inl, inr, subst, sym, true, ℕ}
 use Rattle.std.proofs.lemmas.Bool.{cases_order}
 use Rattle.dstm_tl2_engine.proofs.Words.{Event, LocalState, NamesOnce, Run, Table, TlAgain, answer_of, events_of, fails, local, objects, state_after, tl2, writes_of}
 use Rattle.dstm_machines.proofs.Runs.{run_past}
