@@ -101,15 +101,18 @@ gives_back t l (h ∷ hs) is e d =
     eq-eqb e.put (or_hold (hold_of e.place l.holds)).word (d.2 ∙ ap (λ x. (or_hold x).word) (sym found)) in
     ap (λ k. (after k t l e).gave_back) d.0 ∙ ap (λ b. l.gave_back || b) same ∙ or_true l.gave_back
 
--- so where none came, nothing was locked
-returned_nothing : (t : Table) (l : LocalState) (es : List Event) → Obeys Returning t l es →
-    due_after Returning t l es ≡ Done → (state_after t l es).gave_back ≡ false → l.holds ≡ []
-returned_nothing t l [] o done kept = by l.holds done
+-- so where none came, and no attempt was begun, nothing was locked
+abbrev pub NothingBack : Task → Type 0
+NothingBack task = (t : Table) (l : LocalState) (es : List Event) → Obeys task t l es → due_after task t l es ≡ Done →
+    (state_after t l es).gave_back ≡ false → (state_after t l es).begun ≡ l.begun → l.holds ≡ []
+
+pub returned_nothing : NothingBack Returning
+returned_nothing t l [] o done kept same = by l.holds done
   where
     by : (holds : List Hold) → in_giving_back holds ≡ Done → holds ≡ []
     by [] q = refl
     by (h ∷ hs) q = absurd (cc)
-returned_nothing t l (e ∷ es) o done kept =
+returned_nothing t l (e ∷ es) o done kept same =
     absurd (let gave = gives_back t (state_after t l es) (state_after t l es).holds refl e o.1 in cc)
 
 due_gives : (a b c : Bool) (t : Table) (l : LocalState) (e : Event) →
@@ -120,9 +123,7 @@ due_gives false true c t l e d = inl (gives_back t l l.holds refl e d)
 due_gives false false true t l e d = absurd d
 due_gives false false false t l e d = inr (ap (λ k. (after k t l e).begun) d)
 
-begun_nothing : (t : Table) (l : LocalState) (es : List Event) → Obeys Beginning t l es →
-    due_after Beginning t l es ≡ Done → (state_after t l es).gave_back ≡ false →
-    (state_after t l es).begun ≡ l.begun → l.holds ≡ []
+pub begun_nothing : NothingBack Beginning
 begun_nothing t l [] o done kept same = by l.holds (is_spent t l) done
   where
     by : (holds : List Hold) (spent : Bool) →
@@ -314,22 +315,23 @@ pub since_begin_of : (b : Began) (log : List Event) (p found : ℕ) →
     ((before : List Event) × (log ≡ made_by b Load Sample p found ∷ before)) → since_sample b.number log ≡ []
 since_begin_of b log p found top = rw (top.1, eq-eqb b.number b.number refl) refl
 
+-- where a call gave nothing back, nothing was locked
+pub nothing_back : {L : Type 0} {holds : L → List Val → Type 0} (c : Inside L) {task : Task} {new : Steps L}
+    (u : EndsHere holds c task new None) → NothingBack task → (gave : Bool) →
+    now (called c).home new ≡ record (state (called c)) { holds = []; gave_back = gave } → gave ≡ false →
+    (state (called c)).holds ≡ []
+nothing_back c u nothing gave is none =
+    let call = (call_of u).0 in
+    nothing (table_of c.terms) (state (called c)) u.events call.obeys call.done
+    (ap (λ (l : LocalState). l.gave_back) (sym u.state ∙ is) ∙ none)
+    (ap (λ (l : LocalState). l.begun) (sym u.state ∙ is))
+
 -- ---- a call that was to begin an attempt
 
 module _ {L : Type 0} {holds : L → List Val → Type 0} {c : Inside L} (v : Tied holds c) {new : Steps L}
     (u : EndsHere holds c Beginning new None) where
   done_then : done (called (record c { steps = new })) ≡ done (called c)
   done_then = same_done v Beginning u (beginning_none (table_of c.terms) (state (called c)) u.events u.obeys)
-
-  -- where it gave nothing back, nothing was locked
-  pub begun_back : (gave : Bool) →
-      now (called c).home new ≡ record (state (called c)) { holds = []; gave_back = gave } → gave ≡ false →
-      (state (called c)).holds ≡ []
-  begun_back gave is none =
-      let call = (call_of u).0 in
-      begun_nothing (table_of c.terms) (state (called c)) u.events call.obeys call.done
-      (ap (λ (l : LocalState). l.gave_back) (sym u.state ∙ is) ∙ none)
-      (ap (λ (l : LocalState). l.begun) (sym u.state ∙ is))
 
   pub spent_from : (gave : Bool) →
       now (called c).home new ≡ record (state (called c)) { holds = []; gave_back = gave } →
@@ -365,15 +367,6 @@ module _ {L : Type 0} {holds : L → List Val → Type 0} {c : Inside L} (v : Ti
     (u : EndsHere holds c Returning new None) where
   pub returns_done : done (called (freed c new)) ≡ done (called c)
   returns_done = same_done v Returning u (returning_none (table_of c.terms) (state (called c)) u.events u.obeys)
-
-  -- where it gave nothing back, nothing was locked
-  pub returned_back : (gave : Bool) →
-      now (called c).home new ≡ record (state (called c)) { holds = []; gave_back = gave } → gave ≡ false →
-      (state (called c)).holds ≡ []
-  returned_back gave is none =
-      let call = (call_of u).0 in
-      returned_nothing (table_of c.terms) (state (called c)) u.events call.obeys call.done
-      (ap (λ (l : LocalState). l.gave_back) (sym u.state ∙ is) ∙ none)
 
 -- ---- the same from what the steps tell of their table
 

@@ -1,6 +1,6 @@
 use Rattle.std.proofs.Common.{◌≡◌, ◌<◌, ◌≤◌, [], None}
 use Rattle.dstm_tl2_engine.proofs.Words.{Beginning, ClockWord, Done, Under, begin, now, place, table_of, view_of}
-use Rattle.dstm_tl2_engine.proofs.Begins.{anew_tied, begins_anew, begun_back, begun_here, freed_here, freed_tied, since_begin_of, spent_by, spent_from, top_here, unspent_by}
+use Rattle.dstm_tl2_engine.proofs.Begins.{anew_tied, begins_anew, begun_here, begun_nothing, freed_here, freed_tied, nothing_back, since_begin_of, spent_by, spent_from, top_here, unspent_by}
 use Rattle.dstm_tl2_engine.proofs.Tying.{at_words, ends_here}
 use Rattle.dstm_tl2_engine.specs.Began.{began_of}
 use Rattle.dstm_tl2_engine.specs.Callers.{state}
@@ -41,7 +41,7 @@ invariant_of-self g c =
     let u = ended g before in
     let is = freed g before c.if-spent.true in
     rw c.begin_next.ensures.none (freed_tied c.self.invariant Beginning u _ is
-    (c.begin_next.ensures.idle (spent_by c.self.invariant c.if-spent.true).0) (begun_back c.self.invariant u _ is))
+    (c.begin_next.ensures.idle (spent_by c.self.invariant c.if-spent.true).0) (nothing_back c.self.inside u begun_nothing _ is))
 
 pub returns-then-spent-clause-spent : goal.returns-then-spent-clause-spent
 returns-then-spent-clause-spent g c =

@@ -1,6 +1,6 @@
 use Rattle.std.proofs.Common.{◌∙◌, None, ap, sym, subst}
 use Rattle.dstm_tl2_engine.proofs.Words.{Done, Returning, Under, now}
-use Rattle.dstm_tl2_engine.proofs.Begins.{freed_here, freed_tied, returned_back, returns_done}
+use Rattle.dstm_tl2_engine.proofs.Begins.{freed_here, freed_tied, nothing_back, returned_nothing, returns_done}
 use Rattle.dstm_tl2_engine.proofs.Tying.{at_words, ends_here}
 use Rattle.dstm_tl2_engine.specs.Attempts.{done}
 use Rattle.dstm_tl2_engine.specs.Began.{began_of}
@@ -25,7 +25,7 @@ invariant_of-self g c =
     (at_words c.self.inside c.self.view_is c.requires.table c.words.ensures) new gave c.free_first.ensures.state in
     subst (λ n. Tied g.L.Law.holds (record c.self.inside { steps = new; locked = n })) (sym c.free_first.ensures.none)
     (freed_tied c.self.invariant Returning u gave is c.free_first.ensures.idle
-    (returned_back c.self.invariant u gave is))
+    (nothing_back c.self.inside u returned_nothing gave is))
 
 pub returns-clause-done : goal.returns-clause-done
 returns-clause-done g c =
