@@ -28,9 +28,7 @@ returns c =
     let job = c.fill.new.job in
     let at : c.len-last.result ≡ length jobs = search rules in
     let put : slice_set c.push_reserved.new.self.items c.len-last.result job ≡ jobs ++ job ∷ [] =
-    ap (λ (all : List Job). slice_set all c.len-last.result job) c.push_reserved.ensures.items
-    ∙ ap (λ (place : ℕ). slice_set (jobs ++ c.blank.result ∷ []) place job) at
-    ∙ set-append_seam jobs c.blank.result [] job in
+    rw (c.push_reserved.ensures.items, at) (set-append_seam jobs c.blank.result [] job) in
     let most : c.from.result ≡ worker_count known - 1 = search rules in
     let number = rw most at c.in_ok-worker.ensures.read in
     kept_last c.args.version c.args.line known c.args.fields.now c.number.new.fields c.in_ok-worker.worker job jobs
