@@ -107,8 +107,8 @@ pub record Walking {S E : Type 0} (M : Ghosts S E) (layout : Layout) (key : ℕ)
   pub few : (p : ℕ) → p ≢ last.object → p ≢ list_begin layout → IfSome behind (λ o. p ≢ o.object) →
       IsRead M memory p → IsSome (M.held start p)
 
--- after the next node was opened
-pub record Opened {S E : Type 0} (M : Ghosts S E) (layout : Layout) (key : ℕ) (start memory : S) (head : Stop)
+-- what is known of the last stop and of the next one
+pub record Next {S E : Type 0} (M : Ghosts S E) (layout : Layout) (key : ℕ) (start memory : S) (head : Stop)
     (behind : Option Stop) (last next : Stop) : Type 0 where
   pub way : Way M layout start memory next
   pub head_seen : behind ≡ None → Sees M memory head
@@ -119,6 +119,11 @@ pub record Opened {S E : Type 0} (M : Ghosts S E) (layout : Layout) (key : ℕ) 
   pub next_owes : Owes M start memory next
   pub next_seen : Sees M memory next
   pub rises : last.object ≢ list_begin layout → last.node.key < next.node.key
+
+-- after the next node was opened
+pub record Opened {S E : Type 0} (M : Ghosts S E) (layout : Layout) (key : ℕ) (start memory : S) (head : Stop)
+    (behind : Option Stop) (last next : Stop) : Type 0 where
+  pub stops : Next M layout key start memory head behind last next
   pub last_apart : IfSome behind (λ o. last.object ≢ o.object)
   pub next_apart : IfSome behind (λ o. next.object ≢ o.object)
   pub few : (p : ℕ) → p ≢ next.object → p ≢ last.object → p ≢ list_begin layout →
@@ -127,17 +132,9 @@ pub record Opened {S E : Type 0} (M : Ghosts S E) (layout : Layout) (key : ℕ) 
 -- after a step: the next node was opened, and what stands before the last two was let go
 pub record Advanced {S E : Type 0} (M : Ghosts S E) (layout : Layout) (key : ℕ) (start memory : S) (head : Stop)
     (behind : Option Stop) (last next : Stop) : Type 0 where
-  pub way : Way M layout start memory next
+  pub stops : Next M layout key start memory head behind last next
   pub head_owes : Owes M start memory head
-  pub head_seen : behind ≡ None → Sees M memory head
   pub last_owes : Owes M start memory last
-  pub last_seen : Sees M memory last
-  pub anchored : Anchored M memory layout key head last
-  pub next_at : next.object ≡ node_object (list_begin layout) last.node.next
-  pub next_within : last.node.next ≤ layout.list
-  pub next_owes : Owes M start memory next
-  pub next_seen : Sees M memory next
-  pub rises : last.object ≢ list_begin layout → last.node.key < next.node.key
   pub few : (p : ℕ) → p ≢ next.object → p ≢ last.object → p ≢ list_begin layout → IsRead M memory p →
       IsSome (M.held start p)
 
@@ -313,33 +310,35 @@ module _ {S E : Type 0} (M : Ghosts S E) (start : S) where
         let next_apart = older_apart behind last so_far.older later visits.sees
         (λ older below inner. omega (arith, below, rises inner)) in
         record {
-          way = record {
-            leads = leads;
-            looks = looks;
-            holds = λ p outside. visits.held.others p (other p outside) ∙ so_far.way.holds p outside;
-            opens = λ p outside. visits.opened.others p (other p outside) ∙ so_far.way.opens p outside;
+          stops = record {
+            way = record {
+              leads = leads;
+              looks = looks;
+              holds = λ p outside. visits.held.others p (other p outside) ∙ so_far.way.holds p outside;
+              opens = λ p outside. visits.opened.others p (other p outside) ∙ so_far.way.opens p outside;
+            };
+            head_seen = λ none. later head (so_far.head_seen none);
+            last_seen = last_seen;
+            anchored = anchored;
+            next_at = next_at;
+            next_within = within;
+            next_owes = record {
+              own = λ is. elim (cases_held (M.held start next.object)) [
+                | inl none ↦ none
+                | inr held ↦
+                    let before = so_far.way.leads.holds next.object held in
+                    absurd (none_some (sym before ∙ ap (M.held old) visits.object ∙ visits.own is) held)
+              ];
+              other = λ no. elim (visits.other no) [
+                | inl read ↦
+                    inl (so_far.few next.object not_last (λ e. omega (arith, e, next_at)) next_apart
+                    (subst (IsRead M old) (sym visits.object) read))
+                | inr is ↦ inr (subst (λ p. IsTrue (M.is_opened new p)) (sym visits.object) is)
+              ];
+            };
+            next_seen = visits.sees;
+            rises = rises;
           };
-          head_seen = λ none. later head (so_far.head_seen none);
-          last_seen = last_seen;
-          anchored = anchored;
-          next_at = next_at;
-          next_within = within;
-          next_owes = record {
-            own = λ is. elim (cases_held (M.held start next.object)) [
-              | inl none ↦ none
-              | inr held ↦
-                  let before = so_far.way.leads.holds next.object held in
-                  absurd (none_some (sym before ∙ ap (M.held old) visits.object ∙ visits.own is) held)
-            ];
-            other = λ no. elim (visits.other no) [
-              | inl read ↦
-                  inl (so_far.few next.object not_last (λ e. omega (arith, e, next_at)) next_apart
-                  (subst (IsRead M old) (sym visits.object) read))
-              | inr is ↦ inr (subst (λ p. IsTrue (M.is_opened new p)) (sym visits.object) is)
-            ];
-          };
-          next_seen = visits.sees;
-          rises = rises;
           last_apart = older_apart behind last so_far.older later last_seen (λ older below inner. below);
           next_apart = next_apart;
           few = λ p not_next not_last not_begin not_older read.
@@ -408,6 +407,7 @@ module _ {S E : Type 0} (M : Ghosts S E) (start : S) where
         Advanced M layout key start new head behind last next
     advanced {mid = mid} {new = new} {head = head} {behind = behind} {last = last} {next = next} laws live head_at
         declared head_owes last_owes older at lets gone =
+        let from = at.stops in
         let opened_stays = λ (p : ℕ) (is : IsTrue (M.is_opened mid p)). subst IsTrue (sym (lets.opened p)) is in
         let head_in = subst (IsOfList layout) (sym head_at) (head-of_list layout declared) in
         let last_kept : M.held new last.object ≡ M.held mid last.object =
@@ -415,50 +415,52 @@ module _ {S E : Type 0} (M : Ghosts S E) (start : S) where
         (λ some e. older_inner mid behind last older some (e ∙ head_at)) at.last_apart) in
         let next_kept : M.held new next.object ≡ M.held mid next.object =
         kept-other next.object lets (not_own head behind next.object
-        (λ some e. omega (arith, e, head_at, at.next_at)) at.next_apart) in
+        (λ some e. omega (arith, e, head_at, from.next_at)) at.next_apart) in
         let head_later = λ (none : behind ≡ None) (sees : Sees M mid head).
         sees-same sees (none_same head behind head.object none lets) lets.written in
         let holds = λ (o : ℕ) (some : IsSome (M.held start o)).
         let same : M.held new o ≡ M.held start o = elim (lets.held o) [
-          | inl same ↦ same ∙ at.way.leads.holds o some
+          | inl same ↦ same ∙ from.way.leads.holds o some
           | inr (own, none) ↦
               absurd (none_some (own_none behind last o head_owes older own) some)
         ] in same in
-        let place = lets.place ∙ at.way.leads.place in
+        let place = lets.place ∙ from.way.leads.place in
         record {
-          way = record {
-            leads = record {
-              place = place;
-              objects = lets.objects ∙ at.way.leads.objects;
-              narrows = narrows-kept start new laws live lets.live place holds;
-              admits = (at.way.leads.admits.0, lets.widens at.way.leads.admits.0 at.way.leads.admits.1);
-              live = lets.live;
-              holds = holds;
-              ended = tt;
+          stops = record {
+            way = record {
+              leads = record {
+                place = place;
+                objects = lets.objects ∙ from.way.leads.objects;
+                narrows = narrows-kept start new laws live lets.live place holds;
+                admits = (from.way.leads.admits.0, lets.widens from.way.leads.admits.0 from.way.leads.admits.1);
+                live = lets.live;
+                holds = holds;
+                ended = tt;
+              };
+              looks = record {
+                sets = λ o. lets.written o ∙ from.way.looks.sets o;
+                opens = λ off o. lets.opened o ∙ from.way.looks.opens off o;
+              };
+              holds = λ p outside. elim (lets.held p) [
+                | inl same ↦ same ∙ from.way.holds p outside
+                | inr (own, none) ↦ absurd (outside (own_in mid head behind last p head_in older own))
+              ];
+              opens = λ p outside. lets.opened p ∙ from.way.opens p outside;
             };
-            looks = record {
-              sets = λ o. lets.written o ∙ at.way.looks.sets o;
-              opens = λ off o. lets.opened o ∙ at.way.looks.opens off o;
-            };
-            holds = λ p outside. elim (lets.held p) [
-              | inl same ↦ same ∙ at.way.holds p outside
-              | inr (own, none) ↦ absurd (outside (own_in mid head behind last p head_in older own))
-            ];
-            opens = λ p outside. lets.opened p ∙ at.way.opens p outside;
+            head_seen = λ none. head_later none (from.head_seen none);
+            last_seen = sees-same from.last_seen last_kept lets.written;
+            anchored = anchored-later (λ inner. elim (older_less mid behind last older) [
+              | inl none ↦ inr (head_later none)
+              | inr less ↦ inl less
+            ]) from.anchored;
+            next_at = from.next_at;
+            next_within = from.next_within;
+            next_owes = owes-later from.next_owes (opened_stays next.object);
+            next_seen = sees-same from.next_seen next_kept lets.written;
+            rises = from.rises;
           };
           head_owes = owes-later head_owes (opened_stays head.object);
-          head_seen = λ none. head_later none (at.head_seen none);
           last_owes = owes-later last_owes (opened_stays last.object);
-          last_seen = sees-same at.last_seen last_kept lets.written;
-          anchored = anchored-later (λ inner. elim (older_less mid behind last older) [
-            | inl none ↦ inr (head_later none)
-            | inr less ↦ inl less
-          ]) at.anchored;
-          next_at = at.next_at;
-          next_within = at.next_within;
-          next_owes = owes-later at.next_owes (opened_stays next.object);
-          next_seen = sees-same at.next_seen next_kept lets.written;
-          rises = at.rises;
           few = λ p not_next not_last not_begin read.
               few_left head behind last p head_at not_begin older lets gone read (at.few p not_next not_last not_begin);
         }
@@ -510,33 +512,34 @@ module _ {S E : Type 0} (M : Ghosts S E) (start : S) where
     walking-on {old = old} {new = new} {head = head} {before = before} {last = last} {next = next} behind declared
         so_far some at less none is_last =
         let begin = list_begin layout in
-        let not_begin : next.object ≢ begin = λ e. omega (arith, e, at.next_at) in
+        let stops = at.stops in
+        let not_begin : next.object ≢ begin = λ e. omega (arith, e, stops.next_at) in
         let first = λ (at_begin : last.object ≡ begin). older_none old before last so_far.older at_begin in
         record {
-          way = at.way;
+          way = stops.way;
           head_at = so_far.head_at;
           head_owes = at.head_owes;
-          head_seen = λ is. at.head_seen (first (none is ∙ so_far.head_at));
+          head_seen = λ is. stops.head_seen (first (none is ∙ so_far.head_at));
           head_next = λ e. absurd (not_begin e);
-          last_in = subst (IsOfList layout) (sym at.next_at)
-              (node-of_list layout last.node.next declared at.next_within);
-          last_owes = at.next_owes;
-          last_seen = at.next_seen;
+          last_in = subst (IsOfList layout) (sym stops.next_at)
+              (node-of_list layout last.node.next declared stops.next_within);
+          last_owes = stops.next_owes;
+          last_seen = stops.next_seen;
           anchored = inr (record {
             number = last.node.next;
-            object = at.next_at;
-            within = (omega (arith, some), at.next_within);
+            object = stops.next_at;
+            within = (omega (arith, some), stops.next_within);
             less = less;
             shown = elim (cases_eq last.object begin) [
-              | inl at_begin ↦ inr (at.head_seen (first at_begin), sym (so_far.head_next at_begin))
-              | inr inner ↦ inl (omega (arith, at.rises inner))
+              | inl at_begin ↦ inr (stops.head_seen (first at_begin), sym (so_far.head_next at_begin))
+              | inr inner ↦ inl (omega (arith, stops.rises inner))
             ];
           });
           older = newer behind head last next is_last (λ not_head. record {
-            seen = at.last_seen;
+            seen = stops.last_seen;
             owes = at.last_owes;
             in_list = so_far.last_in;
-            less = at.rises (λ e. not_head (e ∙ sym so_far.head_at));
+            less = stops.rises (λ e. not_head (e ∙ sym so_far.head_at));
             inner = λ e. not_head (e ∙ sym so_far.head_at);
             last_inner = not_begin;
           });
@@ -564,7 +567,7 @@ module _ {S E : Type 0} (M : Ghosts S E) (start : S) where
         place.before ≡ last.node → AddsToPlace M layout start new place
     adds-next {next = next} place at link before = record {
       other = next.object;
-      node = λ some. at.next_at ∙ ap (λ (n : Node). node_object (list_begin layout) n.next) (sym before);
+      node = λ some. at.stops.next_at ∙ ap (λ (n : Node). node_object (list_begin layout) n.next) (sym before);
       each = λ p not_link not_begin not_next read.
           at.few p not_next (λ e. not_link (e ∙ sym link)) not_begin read;
     }

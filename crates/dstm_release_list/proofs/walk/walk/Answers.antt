@@ -39,13 +39,13 @@ returns-then-next-from g c =
     let last = c.loop-last.last in
     let next = c.in_ok-next.next in
     let place = c.place_before.ensures in
-    let walks = walks-by g.M.Mem layout c.args.key c.place_before.result step.way.leads step.way.looks step.way.holds
-    step.way.opens (λ map admitted store list.
+    let walks = walks-by g.M.Mem layout c.args.key c.place_before.result step.stops.way.leads step.stops.way.looks step.stops.way.holds
+    step.stops.way.opens (λ map admitted store list.
     let at = at-map g.M.Mem c.args.mem.now layout (laws g) c.requires.ready c.requires.valid c.requires.declared
-    step.way admitted list in
-    let stands = stands-held c.args.key c.in_ok-head.head at so_far.head_at step.last_seen step.anchored in
+    step.stops.way admitted list in
+    let stands = stands-held c.args.key c.in_ok-head.head at so_far.head_at step.stops.last_seen step.stops.anchored in
     place-next next.node c.place_before.result list stands
-    (next-held last at stands step.next_seen step.next_at c.loop-last-test.true) place.link place.before place.node) in
+    (next-held last at stands step.stops.next_seen step.stops.next_at c.loop-last-test.true) place.link place.before place.node) in
     record {
       walks = walks;
       ready = ready-walked g.M.Mem layout c.requires.ready (subst (IsOfList layout) (sym place.link) so_far.last_in) walks;
@@ -62,15 +62,15 @@ loop-last-smaller g c =
     let last = c.loop-last.last in
     let next = c.in_ok-next.next in
     let begin = list_begin c.args.layout.now in
-    let (map, admitted) = step.way.leads.admits in
-    let (store, list) = c.requires.ready.lawful map (step.way.leads.narrows map admitted) in
+    let (map, admitted) = step.stops.way.leads.admits in
+    let (store, list) = c.requires.ready.lawful map (step.stops.way.leads.narrows map admitted) in
     let at = at-map g.M.Mem c.args.mem.now c.args.layout.now (laws g) c.requires.ready c.requires.valid
-    c.requires.declared step.way admitted list in
-    let stands = stands-held c.args.key c.in_ok-head.head at so_far.head_at step.last_seen step.anchored in
-    let ahead = next-held last at stands step.next_seen step.next_at c.loop-last-test.true in
+    c.requires.declared step.stops.way admitted list in
+    let stands = stands-held c.args.key c.in_ok-head.head at so_far.head_at step.stops.last_seen step.stops.anchored in
+    let ahead = next-held last at stands step.stops.next_seen step.stops.next_at c.loop-last-test.true in
     let less : next.node.key < c.args.key = omega (arith, c.if-next-from.false, c.from.ensures) in
     subst (λ o. left begin c.args.key o next.node.key < left begin c.args.key last.object last.node.key)
-    (sym step.next_at) (left-less next.node list stands ahead less)
+    (sym step.stops.next_at) (left-less next.node list stands ahead less)
 
 pub loop-last-preserved : goal.loop-last-preserved
 loop-last-preserved g c =
