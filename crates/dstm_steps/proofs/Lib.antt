@@ -8,6 +8,7 @@ pub mod FoundCodes
 pub mod Meeting
 pub mod Finding
 pub mod Undrawn
+pub mod GivingWay
 pub mod Encounters
 pub mod Unused
 pub mod FoundValues
