@@ -4,7 +4,7 @@ use Rattle.std.specs.Prelude.{IfSome, count_by, if◌then◌else◌, is_some}
 use Rattle.std.proofs.lemmas.Bool.{cases_Bool}
 use Rattle.std.proofs.lemmas.List.Elements.{All-cons, All-nil}
 use Rattle.std.proofs.lemmas.List.Sums.{sum_by-cons}
-use Rattle.dstm_engine.proofs.Words.{Again, Done, Event, IsDue, IsRunOf, Kind, Lcg, Leaving, LocalState, Obeys, Quit, Shape, Val, begin_count, events_of, is_begin, is_outside, just, state_after}
+use Rattle.dstm_engine.proofs.Base.{Again, Done, Event, IsDue, IsRunOf, Kind, Lcg, Leaving, LocalState, Obeys, Quit, Shape, Val, begin_count, events_of, is_begin, is_outside, just, state_after}
 use Rattle.dstm_machines.proofs.Attempts.{NoneBegins, begun_after}
 use Rattle.dstm_core.proofs.Counted.{begins_are_counted}
 use Rattle.dstm_core.proofs.Static.{running, static}

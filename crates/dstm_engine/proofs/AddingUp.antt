@@ -1,7 +1,7 @@
 -- Calls add up.
 use Rattle.std.proofs.Common.{Bool, true, ◌≡◌, ◌∙◌, ◌++◌, ◌∷◌, List, [], ap, append_assoc, append-nil, refl, subst, sym}
 use Rattle.std.specs.Prelude.{Option}
-use Rattle.dstm_engine.proofs.Words.{Again, AreMade, ByCalls, Call, Event, IsCall, Lcg, LocalState, Shape, Task, Val, effort_of, events_in, events_of, first, generator_by, local, state_after, state_by}
+use Rattle.dstm_engine.proofs.Base.{Again, AreMade, ByCalls, Call, Event, IsCall, Lcg, LocalState, Shape, Task, Val, effort_of, events_in, events_of, first, generator_by, local, state_after, state_by}
 use Rattle.dstm_progress.proofs.OwnEvents.{after_own, whole_state}
 use Rattle.dstm_progress.proofs.Own.{state_both}
 use Rattle.dstm_engine.specs.Callers.{Called, shape_of, state}

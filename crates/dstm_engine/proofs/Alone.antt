@@ -3,7 +3,7 @@ use Rattle.std.proofs.Common.{◌&&◌, ◌++◌, ◌+◌, ◌*◌, ◌==◌, �
 use Rattle.std.proofs.lemmas.List.{append_cancel_right}
 use Rattle.std.proofs.lemmas.Bool.{and_parts, cases_Bool, cond_both, eq-eqb, eqb-true}
 use Rattle.std.proofs.lemmas.List.Elements.{filter-append}
-use Rattle.dstm_engine.proofs.Words.{AloneBound, AloneCommits, AreCalls, AreOf, Begin, Core, Event, IsAlone, IsUnmet, Kind, LocalState, Outside, PricesByCount, Shape, all_events, count, events_of, is_begin, local}
+use Rattle.dstm_engine.proofs.Base.{AloneBound, AloneCommits, AreCalls, AreOf, Begin, Core, Event, IsAlone, IsUnmet, Kind, LocalState, Outside, PricesByCount, Shape, all_events, count, events_of, is_begin, local}
 use Rattle.dstm_machines.proofs.Attempts.{log_parts}
 use Rattle.dstm_managers.specs.Meetings.{most_turns}
 use Rattle.dstm_order.specs.Counts.{Counts, counted, counts_after, counts_of}

@@ -1,6 +1,6 @@
 -- A call of a caller as its answers see it.
 use Rattle.std.proofs.Common.{◌∙◌, ◌≡◌, List, Option, ap, subst, sym}
-use Rattle.dstm_engine.proofs.Words.{Again, Home, LocalState, Steps, Task, Val, now}
+use Rattle.dstm_engine.proofs.Base.{Again, Home, LocalState, Steps, Task, Val, now}
 use Rattle.dstm_engine.proofs.Tying.{EndsAt, EndsHere, ends_here, live_there, now_there, renewed}
 use Rattle.dstm_engine.specs.Callers.{Called, is_live, state}
 use Rattle.dstm_engine.specs.Mirror.{Tied, called}

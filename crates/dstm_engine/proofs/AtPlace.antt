@@ -1,9 +1,9 @@
 -- Where an object stands among what an attempt has open.
-use Rattle.std.proofs.Common.{◌&&◌, ◌+◌, ◌-◌, ◌<◌, ◌==◌, ◌∙◌, ◌≡◌, ◌≢◌, None, Some, ap, arith, false, filter, find, length, length-set, refl, subst, sym, true, ℕ}
+use Rattle.std.proofs.Common.{◌&&◌, ◌+◌, ◌-◌, ◌<◌, ◌==◌, ◌∙◌, ◌≡◌, ◌≢◌, ◌⊎◌, List, None, Some, ap, arith, false, filter, find, length, length-set, refl, subst, sym, true, ℕ}
 use Rattle.std.specs.Prelude.{IsSome, is_some, slice_index_or, slice_set}
 use Rattle.std.proofs.lemmas.List.{get_or_default}
 use Rattle.std.specs.Vec.{with_item}
-use Rattle.dstm_engine.proofs.Words.{ReadSlot, Val, WriteSlot}
+use Rattle.dstm_engine.proofs.Base.{ReadSlot, Val, WriteSlot}
 use Rattle.dstm_mem.proofs.Finding.{find_filter}
 use Rattle.dstm_mem.proofs.Slots.{finds_none, finds_one, one_less, only, part_here, part_kept, part_other, placed_alike, stands_there}
 use Rattle.dstm_mem.specs.Slots.{IsSlotOf}
@@ -11,6 +11,15 @@ use Rattle.dstm_engine.proofs.Slots.{drop_kept, length-without, set_slot_is, wit
 use Rattle.dstm_engine.specs.Opened.{HasPlaces, OpenedAs, is_kept, no_place, no_read, no_write, place_at, read_at, read_slot, reads_sort, with_set_slot, without_read, write_slot}
 use Rattle.dstm_engine.specs.declared.opened.Opened.TheInside.{Inside}
 use Rattle.dstm_engine.specs.declared.opened.Place.{Place}
+
+-- Places are forgotten on one side, those of the objects of the first slots at least: each is forgotten or as it was, and
+-- the other side is as it was.
+abbrev pub Forgotten : (side other : Place → ℕ) (object : ℕ → ℕ) (slots : ℕ) (places before : List Place) → Type 0
+Forgotten side other object slots places before = record {
+  done : (k : ℕ) → k < slots → side (place_at places (object k)) ≡ 0;
+  same : (o : ℕ) → (side (place_at places o) ≡ 0) ⊎ (side (place_at places o) ≡ side (place_at before o));
+  others : (o : ℕ) → other (place_at places o) ≡ other (place_at before o);
+}
 
 -- The object has this place, and contracts see what is open as this.
 pub record AtPlace (x : Inside) (k : OpenedAs) (o : ℕ) (place : Place) : Type 0 where

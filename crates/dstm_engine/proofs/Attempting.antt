@@ -1,7 +1,7 @@
 -- The calls of an attempt.
 use Rattle.std.proofs.Common.{◌≡◌, ◌∙◌, ◌++◌, ◌∷◌, List, [], None, ap, refl, subst, sym}
 use Rattle.std.specs.Prelude.{Option}
-use Rattle.dstm_engine.proofs.Words.{Again, AreCalls, AreMade, Beginning, Call, Doing, IsCall, Lcg, LocalState, Made, Shape, TriesAgain, Val, all_events, effort_of, events_in, generator_after, generator_by, is_new, state_after, state_by}
+use Rattle.dstm_engine.proofs.Base.{Again, AreCalls, AreMade, Beginning, Call, Doing, IsCall, Lcg, LocalState, Made, Shape, TriesAgain, Val, all_events, effort_of, events_in, generator_after, generator_by, is_new, state_after, state_by}
 use Rattle.dstm_engine.specs.Callers.{Called, begun_log, shape_of, state}
 use Rattle.dstm_engine.specs.Calls.{IsTold, begun_state}
 use Rattle.dstm_engine.specs.Endings.{Attempts}

@@ -4,7 +4,7 @@ use Rattle.std.specs.Prelude.{IfSome, is_some}
 use Rattle.std.specs.declared.snapshot.Snapshot.{Snapshot}
 use Rattle.std.proofs.lemmas.Bool.{cases_Bool, eq-eqb}
 use Rattle.std.proofs.lemmas.List.Elements.{All-nil}
-use Rattle.dstm_engine.proofs.Words.{AreWrites, Beginning, Core, DeciderState, Effort, Event, Home, LocalState, Made, Running, Steps, Val, begin, done_by, entry_of, events_of, has_begun, is_spent, newest_of, now, value_at, value_in, view_of, words_of, write_of}
+use Rattle.dstm_engine.proofs.Base.{AreWrites, Beginning, Core, DeciderState, Effort, Event, Home, LocalState, Made, Running, Steps, Val, begin, done_by, entry_of, events_of, has_begun, is_spent, newest_of, now, value_at, value_in, view_of, words_of, write_of}
 use Rattle.dstm_opacity.proofs.Stays.{call_adds_none}
 use Rattle.dstm_core.proofs.Stamps.{standing}
 use Rattle.dstm_mem.proofs.WithSet.{with_set-nothing}

@@ -1,7 +1,7 @@
 -- The attempt that a caller is in, as the last Begin in its log tells.
 use Rattle.std.proofs.Common.{◌≡◌, ◌≢◌, ◌∙◌, ◌⊎◌, ◌+◌, ◌≤◌, ◌++◌, ◌∷◌, ◌==◌, ◌&&◌, ℕ, List, [], Bool, true, false, refl, sym, ap, inl, inr, arith}
 use Rattle.std.proofs.lemmas.Bool.{cases_Bool, cond_both, cond-true, cond-false, eq-eqb, cases_eq, ne_eqb}
-use Rattle.dstm_engine.proofs.Words.{Begin, Event, Kind, LocalState, Shape, count_of, is_begin, local}
+use Rattle.dstm_engine.proofs.Base.{Begin, Event, Kind, LocalState, Shape, count_of, is_begin, local}
 use Rattle.dstm_core.proofs.Static.{local_other, local_own}
 use Rattle.dstm_progress.proofs.Ends.{no_begin}
 use Rattle.dstm_engine.specs.Callers.{begun_log}

@@ -1,7 +1,7 @@
 -- A call of a caller, from what its steps know.
 use Rattle.std.proofs.Common.{◌<◌, ◌∙◌, ◌≡◌, List, ap, subst, sym, refl}
 use Rattle.std.specs.Prelude.{None, Option}
-use Rattle.dstm_engine.proofs.Words.{Again, Done, Effort, InTask, IsMirror, IsOf, IsPastOf, IsRunOf, Steps, Task, Val, View, answer, caller_state, caller_view, due, effort_by, events_of, now, number_or, view_of}
+use Rattle.dstm_engine.proofs.Base.{Again, Done, Effort, InTask, IsMirror, IsOf, IsPastOf, IsRunOf, Steps, Task, Val, View, answer, caller_state, caller_view, due, effort_by, events_of, now, number_or, view_of}
 use Rattle.dstm_steps.proofs.Stepping.{began_as, call_begins, call_of}
 use Rattle.dstm_engine.specs.Began.{began_of}
 use Rattle.dstm_engine.specs.Callers.{Called, shape_of, state}

@@ -1,7 +1,7 @@
 -- A recheck or a commit, as its answers see it.
 use Rattle.std.proofs.Common.{◌∙◌, ◌≡◌, List, None, Option, Some, ap, false, refl, true, ℕ}
 use base.Fml.{GName}
-use Rattle.dstm_engine.proofs.Words.{Again, Committing, Doing, Home, IsNoReading, Rechecking, Steps, Val, Work, WriteSlot, now, passed, view_of}
+use Rattle.dstm_engine.proofs.Base.{Again, Committing, Doing, Home, IsNoReading, Rechecking, Steps, Val, Work, WriteSlot, now, passed, view_of}
 use Rattle.dstm_engine.proofs.AtCall.{AtCall, at_home, ends_at}
 use Rattle.dstm_engine.proofs.CommitEnds.{IsCommitted, committed_tied, is_committed}
 use Rattle.dstm_engine.proofs.Committing.{value_is, value_there}

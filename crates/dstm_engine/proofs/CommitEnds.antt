@@ -1,7 +1,7 @@
 -- A caller after a commit.
 use Rattle.std.proofs.Common.{◌<◌, ◌∙◌, ◌∷◌, ◌≡◌, List, None, Option, Some, ap, arith, cond, false, refl, subst, sym, true, ℕ}
 use Rattle.std.specs.Prelude.{Bool}
-use Rattle.dstm_engine.proofs.Words.{Again, Committing, Doing, IsCallIn, LocalState, Outside, StaysAt, Steps, Val, Work, attempt_of, code_of, done_by, entry_of, local, new_values, now, or_zero, value_in, view_of}
+use Rattle.dstm_engine.proofs.Base.{Again, Committing, Doing, IsCallIn, LocalState, Outside, StaysAt, Steps, Val, Work, attempt_of, code_of, done_by, entry_of, local, new_values, now, or_zero, value_in, view_of}
 use Rattle.dstm_steps.proofs.Stepping.{call_of}
 use Rattle.dstm_progress.proofs.Adding.{is_added}
 use Rattle.dstm_progress.proofs.Committing.{commit_ends}

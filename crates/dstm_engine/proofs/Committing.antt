@@ -4,7 +4,7 @@ use Rattle.std.specs.Option.{option_or}
 use Rattle.std.specs.Prelude.{All, is_some, slice_index_or, unwrap_or}
 use Rattle.std.proofs.lemmas.Bool.{cases_Bool, eq-eqb, eqb-true}
 use Rattle.std.proofs.lemmas.Nat.{mul-le}
-use Rattle.dstm_engine.proofs.Words.{Agrees, AgreesWith, AreWrites, Committing, Doing, Event, Home, InTask, IsLawful, LocalState, Read, Shape, Steps, Val, Write, WriteSlot, answer, caller_state, due, effort_by, entry_of, in_putting, is_outside, no_value, now, number_or, or_old, puts_of, read_values, seen, to_put, value_in, view_of, with_set, with_writes, write_of}
+use Rattle.dstm_engine.proofs.Base.{Agrees, AgreesWith, AreWrites, Committing, Doing, Event, Home, InTask, IsLawful, LocalState, Read, Shape, Steps, Val, Write, WriteSlot, answer, caller_state, due, effort_by, entry_of, in_putting, is_outside, no_value, now, number_or, or_old, puts_of, read_values, seen, to_put, value_in, view_of, with_set, with_writes, write_of}
 use Rattle.dstm_steps.proofs.Ranged.{few_locators}
 use Rattle.dstm_steps.proofs.Stepping.{began_as}
 use Rattle.dstm_core.proofs.Static.{static}
@@ -103,6 +103,16 @@ some_or : (x y : Option Val) → is_some y ≡ true → is_some (option_or x y) 
 some_or None y h = h
 some_or (Some v) y h = refl
 
+-- A call begins with the first event of a commit: the locator of its first new value, and the values that it puts.
+pub record Putting {L : Type 0} (holds : L → List Val → Type 0) (home : Home L) (steps : Steps L)
+    (slots : List WriteSlot) (locator : ℕ) : Type 0 where
+  pub under : InTask holds home (Doing (Committing (value_there home steps slots)))
+      (began_as home (Doing (Committing (value_there home steps slots))) (number_or (view_of steps.seat).number 0) steps)
+      steps (in_putting (value_there home steps slots) (now home steps)) None
+  pub first : locator ≡ number_or (view_of steps.seat).number 0 * home.terms.shape.locators
+      + ((now home steps).installed - length (now home steps).writes)
+  pub values : All (λ slot. value_there home steps slots slot.object ≡ to_put slot) slots
+
 module _ {L : Type 0} {holds : L → List Val → Type 0} {c : Inside L} (v : Tied holds c) (live : c.live ≡ true) where
   once : SlotsOnce c.opened.writes
   once =
@@ -181,32 +191,6 @@ module _ {L : Type 0} {holds : L → List Val → Type 0} {c : Inside L} (v : Ti
         (value_in (entry_of c.terms.shape c.terms.start.value.items (called c).log l).reads o)) no_value)
         (ap (caller_state c.terms) v.seat.0)
 
-    -- the call begins with the first event of a commit
-    pub putting_there :
-        InTask holds home (Doing (Committing (value_there home steps slots)))
-        (began_as home (Doing (Committing (value_there home steps slots))) (number_or (view_of steps.seat).number 0) steps)
-        steps (in_putting (value_there home steps slots) (now home steps)) None
-    putting_there =
-        let task = Doing (Committing (value_there home steps slots)) in
-        let was = now_there v same is in
-        let inside : is_outside (now home steps).phase ≡ false =
-        ap (λ (l : LocalState). is_outside l.phase) was ∙ ap is_outside (v.phase ∙ ap phase_by live) in
-        let agreed : (now home steps).stale ≡ false = ap (λ (l : LocalState). l.stale) was ∙ (v.rest live).agreed in
-        let none : steps.missed ≡ 0 = ap (λ (s : Steps L). s.missed) is in
-        let first : due task home.terms.shape None (now home steps) (effort_by steps)
-        ≡ in_putting (value_there home steps slots) (now home steps) = rw (inside, agreed, none) refl in
-        let gives : answer task None (now home steps) (effort_by steps) ≡ None = rw inside refl in
-        subst (λ again. InTask holds home task (began_as home task (number_or (view_of steps.seat).number 0) steps) steps
-        (in_putting (value_there home steps slots) (now home steps)) again) gives
-        (subst (λ next. InTask holds home task (began_as home task (number_or (view_of steps.seat).number 0) steps) steps
-        next (answer task None (now home steps) (effort_by steps))) first (starts_there v same is task))
-
-    pub values_there : All (λ slot. value_there home steps slots slot.object ≡ to_put slot) slots
-    values_there =
-        subst (λ value. All (λ slot. value slot.object ≡ to_put slot) slots) (sym value_is)
-        (subst (λ xs. All (λ slot. new_value (called c) slot.object ≡ to_put slot) xs) (sym listed)
-        (λ k d lt. slot_put k d lt))
-
     number_is : number_or (view_of steps.seat).number 0 ≡ c.number
     number_is = rw (is, v.seat.0) refl
 
@@ -240,22 +224,41 @@ module _ {L : Type 0} {holds : L → List Val → Type 0} {c : Inside L} (v : Ti
             let row : (c.number + 1) * locators ≤ callers * locators = mul-le (c.number + 1) locators callers locators (omega arith) (omega arith) in
             omega arith
 
-    pub first_there : c.number * c.terms.shape.locators + (steps.installed - length slots)
-        ≡ number_or (view_of steps.seat).number 0 * home.terms.shape.locators
-        + ((now home steps).installed - length (now home steps).writes)
-    first_there =
-        let shape : c.terms.shape ≡ home.terms.shape = ap (λ (h : Home L). h.terms.shape) same in
-        let was = now_there v same is in
-        let i : steps.installed ≡ (now home steps).installed =
-        ap (λ (s : Steps L). s.installed) is ∙ v.mirror.installed ∙ sym (ap (λ (l : LocalState). l.installed) was) in
-        let n : length slots ≡ length (now home steps).writes =
-        ap length listed ∙ writes_length c.opened.writes (state (called c)).writes (v.writes live)
-        ∙ sym (ap (λ (l : LocalState). length l.writes) was) in
-        ap (λ (s : Shape). c.number * s.locators + (steps.installed - length slots)) shape
-        ∙ ap (λ m. m * home.terms.shape.locators + (steps.installed - length slots)) (sym number_is)
-        ∙ ap (λ m. number_or (view_of steps.seat).number 0 * home.terms.shape.locators + (m - length slots)) i
-        ∙ ap (λ m. number_or (view_of steps.seat).number 0 * home.terms.shape.locators
-        + ((now home steps).installed - m)) n
+    pub putting : Putting holds home steps slots
+        (c.number * c.terms.shape.locators + (steps.installed - length slots))
+    putting = record {
+      under =
+          let task = Doing (Committing (value_there home steps slots)) in
+          let was = now_there v same is in
+          let inside : is_outside (now home steps).phase ≡ false =
+          ap (λ (l : LocalState). is_outside l.phase) was ∙ ap is_outside (v.phase ∙ ap phase_by live) in
+          let agreed : (now home steps).stale ≡ false = ap (λ (l : LocalState). l.stale) was ∙ (v.rest live).agreed in
+          let none : steps.missed ≡ 0 = ap (λ (s : Steps L). s.missed) is in
+          let first : due task home.terms.shape None (now home steps) (effort_by steps)
+          ≡ in_putting (value_there home steps slots) (now home steps) = rw (inside, agreed, none) refl in
+          let gives : answer task None (now home steps) (effort_by steps) ≡ None = rw inside refl in
+          subst (λ again. InTask holds home task (began_as home task (number_or (view_of steps.seat).number 0) steps) steps
+          (in_putting (value_there home steps slots) (now home steps)) again) gives
+          (subst (λ next. InTask holds home task (began_as home task (number_or (view_of steps.seat).number 0) steps) steps
+          next (answer task None (now home steps) (effort_by steps))) first (starts_there v same is task));
+      first =
+          let shape : c.terms.shape ≡ home.terms.shape = ap (λ (h : Home L). h.terms.shape) same in
+          let was = now_there v same is in
+          let i : steps.installed ≡ (now home steps).installed =
+          ap (λ (s : Steps L). s.installed) is ∙ v.mirror.installed ∙ sym (ap (λ (l : LocalState). l.installed) was) in
+          let n : length slots ≡ length (now home steps).writes =
+          ap length listed ∙ writes_length c.opened.writes (state (called c)).writes (v.writes live)
+          ∙ sym (ap (λ (l : LocalState). length l.writes) was) in
+          ap (λ (s : Shape). c.number * s.locators + (steps.installed - length slots)) shape
+          ∙ ap (λ m. m * home.terms.shape.locators + (steps.installed - length slots)) (sym number_is)
+          ∙ ap (λ m. number_or (view_of steps.seat).number 0 * home.terms.shape.locators + (m - length slots)) i
+          ∙ ap (λ m. number_or (view_of steps.seat).number 0 * home.terms.shape.locators
+          + ((now home steps).installed - m)) n;
+      values =
+          subst (λ value. All (λ slot. value slot.object ≡ to_put slot) slots) (sym value_is)
+          (subst (λ xs. All (λ slot. new_value (called c) slot.object ≡ to_put slot) xs) (sym listed)
+          (λ k d lt. slot_put k d lt));
+    }
 
     pub lawful_there : ((map : List Val) → Admits holds (called c) map →
         holds (law_of (called c)) (with_set map (written (called c)))) →

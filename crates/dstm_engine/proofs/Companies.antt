@@ -5,7 +5,7 @@ use Rattle.std.proofs.lemmas.List.{get_or_push, length_push}
 use Rattle.std.proofs.lemmas.List.Elements.{All-cons, All-weaker}
 use Rattle.std.proofs.Math.ListN.{get_or-append}
 use Rattle.std.specs.Prelude.{All}
-use Rattle.dstm_engine.proofs.Words.{Event, Home, IsPastOf, Val}
+use Rattle.dstm_engine.proofs.Base.{Event, Home, IsPastOf, Val}
 use Rattle.dstm_machines.proofs.Pasts.{past_past}
 use Rattle.dstm_engine.specs.Callers.{Called}
 use Rattle.dstm_engine.specs.Companies.{AreNew, IsNew, IsSeenIn}

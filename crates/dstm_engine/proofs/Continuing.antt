@@ -3,7 +3,7 @@ use Rattle.std.proofs.Common.{◌++◌, ◌+◌, ◌<◌, ◌≤◌, ◌==◌, �
 use Rattle.std.specs.Prelude.{if◌then◌else◌}
 use Rattle.std.proofs.lemmas.Bool.{cases_Bool, cond_both, eqb-true}
 use Rattle.std.proofs.lemmas.List.Elements.{All-cons}
-use Rattle.dstm_engine.proofs.Words.{Again, AreCalls, Begin, Committing, Core, Doing, Done, Due, Effort, Event, IsCall, IsDue, IsNoReading, Kind, Lcg, LocalState, MAX_MISSED, Made, Obeys, Outside, Phase, Quit, Reading, Rechecking, Release, Releasing, Shape, Step, Val, Work, Writing, after, all_events, answer, answer_of, at_first, due, due_after, effort_after, effort_of, events_of, generator_after, is_begin, is_outside, is_release, just, last_answer, local, newest_of, no_effort, state_after}
+use Rattle.dstm_engine.proofs.Base.{Again, AreCalls, Begin, Committing, Core, Doing, Done, Due, Effort, Event, IsCall, IsDue, IsNoReading, Kind, Lcg, LocalState, MAX_MISSED, Made, Obeys, Outside, Phase, Quit, Reading, Rechecking, Release, Releasing, Shape, Step, Val, Work, Writing, after, all_events, answer, answer_of, at_first, due, due_after, effort_after, effort_of, events_of, generator_after, is_begin, is_outside, is_release, just, last_answer, local, newest_of, no_effort, state_after}
 use Rattle.dstm_machines.proofs.Own.{own_later}
 use Rattle.dstm_core.proofs.Underway.{not_begin}
 use Rattle.dstm_progress.proofs.OwnEvents.{after_own}

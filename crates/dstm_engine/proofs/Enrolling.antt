@@ -1,7 +1,7 @@
 -- A caller that was made.
 use Rattle.std.proofs.Common.{◌<◌, ◌∙◌, ◌∷◌, ◌≡◌, List, [], ◌+◌, ap, refl, subst, sym, ℕ}
 use Rattle.std.specs.Prelude.{Option, Some, IfSome}
-use Rattle.dstm_engine.proofs.Words.{Add, Enrol, Enrolling, Event, Home, IsCall, IsRunOf, Lcg, LocalState, Makes, Manager, Shape, Terms, Val, View, core, events_of, first, given_part, kept_part, local, made, started}
+use Rattle.dstm_engine.proofs.Base.{Add, Enrol, Enrolling, Event, Home, IsCall, IsRunOf, Lcg, LocalState, Makes, Manager, Shape, Terms, Val, View, core, events_of, first, given_part, kept_part, local, made, started}
 use Rattle.dstm_machines.proofs.Own.{none_before_only}
 use Rattle.dstm_machines.proofs.Runs.{local-events_of}
 use Rattle.dstm_engine.specs.Callers.{Called}

@@ -2,7 +2,7 @@
 use Rattle.std.proofs.Common.{◌≡◌, ◌∙◌, ◌++◌, ◌∷◌, ℕ, List, [], true, refl, sym, subst, arith}
 use Rattle.std.specs.Prelude.{IsSome, All, Contains}
 use Rattle.std.proofs.lemmas.List.Elements.{All-contains, Contains-append_right}
-use Rattle.dstm_engine.proofs.Words.{Committed, HoldsAtMost, Home, IsEntry, IsRunOf, NamesOnce, Val, history_of, will_of}
+use Rattle.dstm_engine.proofs.Base.{Committed, HoldsAtMost, Home, IsEntry, IsRunOf, NamesOnce, Val, history_of, will_of}
 use Rattle.dstm_opacity.proofs.Entries.{entries_once}
 use Rattle.dstm_opacity.proofs.Standing.{done_stands}
 use Rattle.dstm_mem.proofs.Few.{named_few}

@@ -2,7 +2,7 @@
 use Rattle.std.proofs.Common.{◌≡◌, ◌∙◌, ◌⊎◌, ◌+◌, ◌<◌, ◌≤◌, ◌++◌, ◌∷◌, ◌==◌, ◌&&◌, ℕ, Bool, List, [], None, Some, true, false, refl, sym, ap, subst, inl, inr, arith, not}
 use Rattle.std.specs.Prelude.{if◌then◌else◌}
 use Rattle.std.proofs.lemmas.Bool.{and_parts, cases_Bool, cond_both, cond-true, cond-false, eq-eqb, eqb-true}
-use Rattle.dstm_engine.proofs.Words.{Begin, Beginning, Doing, Done, Due, Effort, Event, IsDue, Kind, Lcg, LocalState, LookObj, LookSelf, Obeys, Quit, Rank, Reading, Shape, Stamp, Step, Work, Writing, at_first, count_of, due, effort_of, events_of, given, has_begun, has_ranks, has_stamps, is_open, is_outside, is_spent, just, local, newest_of, next, rises, state_after}
+use Rattle.dstm_engine.proofs.Base.{Begin, Beginning, Doing, Done, Due, Effort, Event, IsDue, Kind, Lcg, LocalState, LookObj, LookSelf, Obeys, Quit, Rank, Reading, Shape, Stamp, Step, Work, Writing, at_first, count_of, due, effort_of, events_of, given, has_begun, has_ranks, has_stamps, is_open, is_outside, is_spent, just, local, newest_of, next, rises, state_after}
 use Rattle.dstm_core.proofs.Static.{begun_more}
 use Rattle.dstm_engine.specs.Attempts.{completes_pass, is_look_object, is_look_self, looks_at_object}
 use Rattle.dstm_engine.proofs.Rechecking.{NoSelf}

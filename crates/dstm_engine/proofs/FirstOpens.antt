@@ -1,7 +1,7 @@
 -- An open of an object that is not open yet, as its answers see it.
 use Rattle.std.proofs.Common.{◌<◌, ◌∙◌, ◌≡◌, List, None, Option, Some, ap, false, length, subst, sym, true, ℕ}
 use Rattle.std.specs.Prelude.{IsTrue}
-use Rattle.dstm_engine.proofs.Words.{Again, Doing, Home, IsNoReading, LocalState, Reading, Steps, Val, Work, Writing, is_open, now, read_of, write_of}
+use Rattle.dstm_engine.proofs.Base.{Again, Doing, Home, IsNoReading, LocalState, Reading, Steps, Val, Work, Writing, is_open, now, read_of, write_of}
 use Rattle.dstm_engine.proofs.AtCall.{AtCall, at_home, ends_at, state_at}
 use Rattle.dstm_engine.proofs.Left.{left_as, left_tied}
 use Rattle.dstm_engine.proofs.Opens.{locator_left, no_slot_of, read_opens, read_tied, room_to_read, room_to_write, stopped, unheld_both, unheld_slot, write_marked, write_opens, write_tied}
@@ -11,6 +11,13 @@ use Rattle.dstm_engine.specs.Mirror.{Tied, called, set_pairs}
 use Rattle.dstm_engine.specs.Opened.{OpenedAs, read_slot, write_slot}
 use Rattle.dstm_engine.specs.Opens.{AddsRead, AddsWrite, HasVersion, Opens, OpensToRead, OpensToWrite, Stops}
 use Rattle.dstm_engine.specs.declared.caller.Caller.TheInside.{Inside}
+
+-- An object is not held: it was not opened, and there is room for it among the reads.
+pub record Unheld {L : Type 0} (words : Home L) (steps : Steps L) (opened : OpenedAs) (o : ℕ) : Type 0 where
+  pub unopened : write_of o (now words steps).writes ≡ None
+  pub unread : read_of o (now words steps).reads ≡ None
+  pub fresh : read_slot opened.reads o ≡ None
+  pub room : length opened.reads < opened.objects
 
 module _ {L : Type 0} {holds : L → List Val → Type 0} {c : Inside L} {k : Called L} {words : Home L} {steps : Steps L}
     (at : AtCall holds c k words steps) (live : is_live k ≡ true) (o : ℕ) where
@@ -26,17 +33,13 @@ module _ {L : Type 0} {holds : L → List Val → Type 0} {c : Inside L} {k : Ca
     unheld : held (called c) o ≡ None
     unheld = ap (λ (k : Called L). held k o) at.view ∙ none
 
-    pub first_unopened : write_of o (now words steps).writes ≡ None
-    first_unopened = ap (λ (l : LocalState). write_of o l.writes) (state_at at) ∙ (unheld_both at.tied on o unheld).0
-
-    pub first_unread : read_of o (now words steps).reads ≡ None
-    first_unread = ap (λ (l : LocalState). read_of o l.reads) (state_at at) ∙ (unheld_both at.tied on o unheld).1
-
-    pub first_fresh : read_slot c.opened.reads o ≡ None
-    first_fresh = unheld_slot at.tied on o unheld
-
-    pub first_room : o < (shape_of k).objects → length c.opened.reads < c.opened.objects
-    first_room below = room_to_read at.tied on o (exists below) unheld
+    pub first_unheld : o < (shape_of k).objects → Unheld words steps c.opened o
+    first_unheld below = record {
+      unopened = ap (λ (l : LocalState). write_of o l.writes) (state_at at) ∙ (unheld_both at.tied on o unheld).0;
+      unread = ap (λ (l : LocalState). read_of o l.reads) (state_at at) ∙ (unheld_both at.tied on o unheld).1;
+      fresh = unheld_slot at.tied on o unheld;
+      room = room_to_read at.tied on o (exists below) unheld;
+    }
 
     module _ (some_reads : (shape_of k).all_write ≡ false) {new : Steps L}
         (done : EndsAt holds words steps (Doing (Reading o)) new None) {value : Val}

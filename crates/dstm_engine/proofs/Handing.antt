@@ -3,7 +3,7 @@ use Rattle.std.proofs.Common.{◌++◌, ◌<◌, ◌==◌, ◌∙◌, ◌∷◌,
 use Rattle.std.specs.Prelude.{Err, IfErr, IfOk, Ok, OnOk, Result, if◌then◌else◌, is_some, option_map}
 use Rattle.std.specs.Option.{option_or}
 use Rattle.std.proofs.lemmas.Bool.{cases_Bool, cond_both, eqb-true}
-use Rattle.dstm_engine.proofs.Words.{Again, AreWrites, Read, ReadSlot, Reading, Shape, Val, Work, Write, WriteSlot, Writing, or_old, read_of, value_at, value_in, with_set, word_of, write_of}
+use Rattle.dstm_engine.proofs.Base.{Again, AreWrites, Read, ReadSlot, Reading, Shape, Val, Work, Write, WriteSlot, Writing, or_old, read_of, value_at, value_in, with_set, word_of, write_of}
 use Rattle.dstm_mem.proofs.WithSet.{found_by, unchanged_by}
 use Rattle.dstm_opacity.proofs.Tidy.{Apart, WritesOnce, tidy}
 use Rattle.dstm_engine.proofs.Opens.{no_slot, no_word, none_of, unheld_both, unset}

@@ -1,7 +1,7 @@
 -- What an attempt held before an open it holds after it.
 use Rattle.std.proofs.Common.{◌++◌, ◌<◌, ◌∙◌, ◌≡◌, ◌≢◌, List, None, Option, Some, ap, refl, subst, sym, ℕ}
 use Rattle.std.specs.Prelude.{option_map, IfSome}
-use Rattle.dstm_engine.proofs.Words.{Again, Began, Core, Due, Event, Home, InTask, IsPastOf, LocalState, Outside, Shape, Steps, Task, Val, entry_of, events_of, local, now, value_at, value_in, version_value, view_of}
+use Rattle.dstm_engine.proofs.Base.{Again, Began, Core, Due, Event, Home, InTask, IsPastOf, LocalState, Outside, Shape, Steps, Task, Val, entry_of, events_of, local, now, value_at, value_in, version_value, view_of}
 use Rattle.dstm_machines.proofs.Own.{own_later}
 use Rattle.dstm_core.proofs.Pasts.{core_past}
 use Rattle.dstm_opacity.proofs.Held.{held_is_seen, version_held}

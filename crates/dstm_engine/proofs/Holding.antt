@@ -2,7 +2,7 @@
 use Rattle.std.proofs.Common.{◌&&◌, ◌++◌, ◌==◌, ◌∙◌, ◌∷◌, ◌≡◌, ◌⊎◌, Bool, List, None, [], ap, cond, false, inl, inr, map, not, refl, sym, true, ℕ}
 use Rattle.std.specs.Prelude.{is_some}
 use Rattle.std.proofs.lemmas.Bool.{cases_Bool}
-use Rattle.dstm_engine.proofs.Words.{ReadSlot, Val, WriteSlot, old_values, value_in}
+use Rattle.dstm_engine.proofs.Base.{ReadSlot, Val, WriteSlot, old_values, value_in}
 use Rattle.dstm_engine.proofs.Setting.{opened_slot}
 use Rattle.dstm_engine.proofs.Tying.{live_there}
 use Rattle.dstm_engine.specs.Callers.{held, is_opened, live_held, live_opened, state}

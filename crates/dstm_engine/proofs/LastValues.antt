@@ -3,7 +3,7 @@ use Rattle.std.proofs.Common.{◌*◌, ◌-◌, ◌<◌, ◌==◌, ◌∙◌, �
 use Rattle.std.specs.Prelude.{length, slice_index}
 use Rattle.std.proofs.lemmas.Bool.{cond_both, eqb-false}
 use Rattle.std.proofs.lemmas.List.{ext_get_or}
-use Rattle.dstm_engine.proofs.Words.{Event, IsRunOf, LeftBy, OldWord, OwnerWord, Shape, StatusWord, Terms, Val, View, history_of, no_value, place, value_at, word}
+use Rattle.dstm_engine.proofs.Base.{Event, IsRunOf, LeftBy, OldWord, OwnerWord, Shape, StatusWord, Terms, Val, View, history_of, no_value, place, value_at, word}
 use Rattle.dstm_core.specs.Left.{value_left, version_left, word_left}
 use Rattle.dstm_core.proofs.Basic.{Names, basic}
 use Rattle.dstm_core.proofs.LeftWords.{left_is_current, place_in}
@@ -65,12 +65,6 @@ told_by : (values : List Val) {s shape : Shape} {start first : List Val} (words 
 told_by values {s = s} {shape = shape} {start = start} words is_shape is_start told = rw (is_shape, is_start) told
 
 module _ {L : Type 0} {holds : L → List Val → Type 0} {terms : Terms L} {v : View L} {words : List ℕ}
-    (l : LeftBy holds terms v words) (first : v.first ≡ true) (none_out : v.out ≡ 0) where
-  -- the log of a seat, where no other is out
-  pub last_run : IsRunOf holds terms v.log
-  last_run = subst (IsRunOf holds terms) (l.whole first none_out) l.run
-
-module _ {L : Type 0} {holds : L → List Val → Type 0} {terms : Terms L} {v : View L} {words : List ℕ}
     (l : LeftBy holds terms v words) (first : v.first ≡ true) (none_out : v.out ≡ 0) {shape : Shape} {start : List Val}
     (is_shape : terms.shape ≡ shape) (is_start : terms.start.value.items ≡ start) (values : List Val)
     (objects : length values ≡ shape.objects)
@@ -83,13 +77,15 @@ module _ {L : Type 0} {holds : L → List Val → Type 0} {terms : Terms L} {v :
         ∙ left_is_current terms.shape l.log words l.left terms.start.value.items o l.run.run.core h;
   }
 
-  -- the values that the words of a closed table tell, where no seat is out, are the current ones
-  pub last_current : IsCurrent terms.shape terms.start.value.items v.log values
-  last_current = rw (← (l.whole first none_out)) in_table
-
-  -- and those of the state after the history
-  pub last_state : values ≡ state_after terms.start.value.items (history_of terms.shape terms.start.value.items v.log)
-  last_state =
-      subst (λ log. values ≡ state_after terms.start.value.items (history_of terms.shape terms.start.value.items log))
-      (l.whole first none_out) (same_current in_table
-      (state_is_current terms.shape terms.start.value.items (holds terms.law.value) l.log l.run.run))
+  -- the values that the words of a closed table tell, where no seat is out, are the current ones, and those of the state
+  -- after the history
+  pub last_values : {named : Terms L} → terms ≡ named →
+      (values ≡ state_after named.start.value.items (history_of named.shape named.start.value.items v.log))
+      × IsCurrent named.shape named.start.value.items v.log values × IsRunOf holds named v.log
+  last_values is =
+      rw (← is, ← (l.whole first none_out)) (
+        same_current in_table
+            (state_is_current terms.shape terms.start.value.items (holds terms.law.value) l.log l.run.run),
+        in_table,
+        l.run,
+      )

@@ -1,7 +1,7 @@
 -- What a call on an attempt leaves of its caller's state.
 use Rattle.std.proofs.Common.{◌==◌, ◌∙◌, ◌∷◌, ◌≡◌, ◌≢◌, ◌⊎◌, List, [], false, inl, inr, refl}
 use Rattle.std.proofs.lemmas.Bool.{cond_both}
-use Rattle.dstm_engine.proofs.Words.{AllowedAs, Begin, Commit, Doing, Event, Install, Kind, Lcg, LocalState, LookSelf, Obeys, Outside, Pause, Rank, Resume, Shape, Stamp, Work, after, effort_of, given, newest_of, state_after}
+use Rattle.dstm_engine.proofs.Base.{AllowedAs, Begin, Commit, Doing, Event, Install, Kind, Lcg, LocalState, LookSelf, Obeys, Outside, Pause, Rank, Resume, Shape, Stamp, Work, after, effort_of, given, newest_of, state_after}
 use Rattle.dstm_core.specs.declared.event.Kind.TheVariants.{Validating as ToValidating}
 use Rattle.dstm_progress.proofs.Calls.{inside_phase, nothing_due}
 use Rattle.dstm_progress.proofs.Own.{AreAllowed}

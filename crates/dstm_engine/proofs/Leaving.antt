@@ -1,7 +1,7 @@
 -- An attempt that is quit.
 use Rattle.std.proofs.Common.{◌*◌, ◌<◌, ◌∙◌, ◌∷◌, ◌≡◌, List, [], ap, inl, inr, refl, subst, sym, true, false, ℕ}
 use Rattle.std.specs.Prelude.{IfSome, None, Option, Some, is_some}
-use Rattle.dstm_engine.proofs.Words.{AllowedAs, Event, Exchange, Home, IsCall, IsRunOf, Lcg, Leaving, LocalState, Makes, Outside, Quit, Running, Shape, StatusWord, Val, View, caller_state, given, leave, made, own_attempt, place}
+use Rattle.dstm_engine.proofs.Base.{AllowedAs, Event, Exchange, Home, IsCall, IsRunOf, Lcg, Leaving, LocalState, Makes, Outside, Quit, Running, Shape, StatusWord, Val, View, caller_state, given, leave, made, own_attempt, place}
 use Rattle.dstm_core.proofs.Columns.{own_in}
 use Rattle.dstm_core.proofs.Static.{static}
 use Rattle.dstm_words.proofs.Seats.{state_after}

@@ -4,7 +4,7 @@ use Rattle.std.proofs.lemmas.List.{append_cancel_right}
 use Rattle.std.specs.Prelude.{Bool, IfSome, is_some}
 use base.Fml.{GName}
 use Rattle.std.proofs.lemmas.List.Elements.{filter-append}
-use Rattle.dstm_engine.proofs.Words.{Again, AreCalls, AreWrites, Committing, Core, Disturbed, Doing, Event, HasOther, Home, IsCallIn, IsNoReading, IsOfOldest, IsOldest, LocalState, Made, Obeys, Outside, Reading, Rechecking, Releasing, Running, Shape, StaysAt, Steps, Val, Work, Writing, all_events, answer_of, code_of, done_by, effort_of, events_of, is_begin, is_release, last_answer, local, newest_of, state_after, view_of, words_of}
+use Rattle.dstm_engine.proofs.Base.{Again, AreCalls, AreWrites, Committing, Core, Disturbed, Doing, Event, HasOther, Home, IsCallIn, IsNoReading, IsOfOldest, IsOldest, LocalState, Made, Obeys, Outside, Reading, Rechecking, Releasing, Running, Shape, StaysAt, Steps, Val, Work, Writing, all_events, answer_of, code_of, done_by, effort_of, events_of, is_begin, is_release, last_answer, local, newest_of, state_after, view_of, words_of}
 use Rattle.dstm_machines.proofs.Attempts.{log_parts}
 use Rattle.dstm_progress.proofs.Causes.{again_has_its_cause, has_left}
 use Rattle.dstm_steps.proofs.Stepping.{call_of}

@@ -2,7 +2,7 @@
 use Rattle.std.proofs.Common.{◌≡◌, ◌∙◌, ◌++◌, ◌∷◌, Bool, List, [], None, Ok, Err, true, false, ap, refl, ℕ}
 use Rattle.std.specs.Prelude.{IfErr, IsSome, IsTrue, OnOk, Option, Some, Result, is_some}
 use Rattle.std.proofs.lemmas.Bool.{cond_both}
-use Rattle.dstm_engine.proofs.Words.{Again, Doing, Event, KeepsReads, Kind, Reading, Release, Task, Val, Work, Writing, events_of}
+use Rattle.dstm_engine.proofs.Base.{Again, Doing, Event, KeepsReads, Kind, Reading, Release, Task, Val, Work, Writing, events_of}
 use Rattle.dstm_progress.specs.Lives.{lets_go}
 use Rattle.dstm_progress.proofs.Releases.{NoneIn, call_none}
 use Rattle.dstm_engine.proofs.Opens.{none_of}

@@ -48,4 +48,4 @@ pub mod BegunThere
 pub mod FewSights
 pub mod Looked
 pub mod Companies
-pub mod Words
+pub mod Base

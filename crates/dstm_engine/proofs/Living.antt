@@ -2,7 +2,7 @@
 use Rattle.std.proofs.Common.{◌≡◌, ◌∙◌, ◌⊎◌, ◌++◌, ◌∷◌, ◌==◌, true, false, List, [], None, ap, arith, inl, inr, refl, subst, sym, ℕ}
 use Rattle.std.specs.Prelude.{Contains}
 use Rattle.std.proofs.lemmas.Bool.{cases_Bool}
-use Rattle.dstm_engine.proofs.Words.{ByCalls, Enrolling, Event, Leaving, Shape, TriesAgain, Val, events_of, started}
+use Rattle.dstm_engine.proofs.Base.{ByCalls, Enrolling, Event, Leaving, Shape, TriesAgain, Val, events_of, started}
 use Rattle.dstm_machines.proofs.Own.{own_append, own_first, own_other}
 use Rattle.dstm_engine.specs.Callers.{Called, shape_of}
 use Rattle.dstm_engine.specs.Tables.{unnumbered}

@@ -3,7 +3,7 @@ use Rattle.std.proofs.Common.{◌++◌, ◌+◌, ◌≤◌, ◌∙◌, ◌∷◌
 use Rattle.std.specs.Prelude.{nat_lt}
 use Rattle.std.proofs.lemmas.Bool.Decides.{nat_tests}
 use Rattle.std.proofs.lemmas.Bool.{or_parts}
-use Rattle.dstm_engine.proofs.Words.{Begin, Event, LocalState, Shape, after, core, is_begin, is_spent, local}
+use Rattle.dstm_engine.proofs.Base.{Begin, Event, LocalState, Shape, after, core, is_begin, is_spent, local}
 use Rattle.dstm_machines.proofs.Attempts.{kept_since, log_parts}
 use Rattle.dstm_core.proofs.Begun.{begun_how}
 use Rattle.dstm_core.proofs.Spare.{locators_used}

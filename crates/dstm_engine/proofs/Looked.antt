@@ -2,7 +2,7 @@
 use Rattle.std.proofs.Common.{◌≡◌, ◌∙◌, ◌+◌, ◌≤◌, ◌++◌, ℕ, List, None, true, false, refl, sym, ap, subst, arith}
 use Rattle.std.specs.Prelude.{Bool, IfErr, IsSome, IsTrue, OnOk, Option, Result, is_some}
 use Rattle.std.proofs.lemmas.Bool.{cond_both}
-use Rattle.dstm_engine.proofs.Words.{Again, Doing, Event, Home, IsPastOf, LocalState, Reading, Releasing, Shape, Val, Work, Writing, count_of, events_of, is_open, local}
+use Rattle.dstm_engine.proofs.Base.{Again, Doing, Event, Home, IsPastOf, LocalState, Reading, Releasing, Shape, Val, Work, Writing, count_of, events_of, is_open, local}
 use Rattle.dstm_machines.proofs.Own.{own_later}
 use Rattle.dstm_engine.specs.Attempts.{completes_pass, is_look_object, is_look_self, looks, looks_at_object, sights}
 use Rattle.dstm_engine.specs.Callers.{Called, begun_log, held, is_opened, shape_of, state}

@@ -2,7 +2,7 @@
 use Rattle.std.proofs.Common.{◌++◌, ◌+◌, ◌==◌, ◌∙◌, ◌∷◌, ◌≡◌, ◌||◌, Bool, List, None, Option, Some, [], ap, arith, false, inl, inr, is_some, length, length-append, ne_eqb, refl, subst, sym, true, ℕ}
 use Rattle.std.specs.Prelude.{is_none}
 use Rattle.std.proofs.lemmas.Bool.{cases_Bool, cond_both, eq-eqb}
-use Rattle.dstm_engine.proofs.Words.{IsFound, IsRunning, KeepsAttempt, LocalState, Manager, Phase, Read, Resolution, Running, Shape, Write, drop_read, install, is_resolved, keep_resolved, next_locator, or_unresolved, or_zero, passed, read_of, record_resolved, res, rises, version, write_of}
+use Rattle.dstm_engine.proofs.Base.{IsFound, IsRunning, KeepsAttempt, LocalState, Manager, Phase, Read, Resolution, Running, Shape, Write, drop_read, install, is_resolved, keep_resolved, next_locator, or_unresolved, or_zero, passed, read_of, record_resolved, res, rises, version, write_of}
 use Rattle.dstm_steps.proofs.FoundValues.{found_kept}
 use Rattle.dstm_steps.specs.Opening.{Acquired, risen}
 use Rattle.dstm_steps.specs.declared.resolving.Found.{Found}

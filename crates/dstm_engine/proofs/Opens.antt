@@ -4,7 +4,7 @@ use Rattle.std.specs.Prelude.{IsSome, IsTrue, if◌then◌else◌, is_some, opti
 use Rattle.std.specs.Option.{option_or}
 use Rattle.std.proofs.lemmas.Bool.{cases_Bool, cases_eq, cond_both, eq-eqb, ne_eqb}
 use Rattle.std.proofs.lemmas.List.{length-map, map-append}
-use Rattle.dstm_engine.proofs.Words.{Again, AreWrites, Committing, Doing, Event, HoldsAlso, IsNoReading, IsUnnamed, LocalState, MarksAtMost, Outside, Read, ReadSlot, Reading, Rechecking, Releasing, Running, Shape, Steps, Val, Work, Write, WriteSlot, Writing, drop_read, is_open, is_release, no_value, now, old_values, read_of, read_values, value_in, version_value, view_of, word_of, words_of, write_of}
+use Rattle.dstm_engine.proofs.Base.{Again, AreWrites, Committing, Doing, Event, HoldsAlso, IsNoReading, IsUnnamed, LocalState, MarksAtMost, Outside, Read, ReadSlot, Reading, Rechecking, Releasing, Running, Shape, Steps, Val, Work, Write, WriteSlot, Writing, drop_read, is_open, is_release, no_value, now, old_values, read_of, read_values, value_in, version_value, view_of, word_of, words_of, write_of}
 use Rattle.dstm_steps.proofs.Stepping.{call_of}
 use Rattle.dstm_mem.proofs.Pairs.{value_in-other, value_in-same}
 use Rattle.dstm_opacity.proofs.Entries.{entry_once}

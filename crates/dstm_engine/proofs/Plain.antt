@@ -1,7 +1,7 @@
 -- Calls that open nothing, and let nothing go: a recheck, and a commit.
 use Rattle.std.proofs.Common.{◌==◌, ◌||◌, ◌∙◌, ◌∷◌, ◌≡◌, Bool, List, None, Option, Some, [], ap, false, refl, sym, true}
 use Rattle.std.proofs.lemmas.Bool.{cond_both}
-use Rattle.dstm_engine.proofs.Words.{Check, Commit, Committing, Doing, Done, Draw, Due, Effort, Event, IsDue, Kind, Lcg, LocalState, LookNumber, LookSelf, MAX_MISSED, Manager, Obeys, PutHigh, PutNew, Quit, Rank, Read, Rechecking, Resolution, Shape, Step, Work, after, at_first, due, due_after, effort_after, effort_of, given, is_outside, is_resolved, keep_resolved, newest_of, next, next_or_first, no_effort, record_resolved, rises, state_after, when_passed, when_put}
+use Rattle.dstm_engine.proofs.Base.{Check, Commit, Committing, Doing, Done, Draw, Due, Effort, Event, IsDue, Kind, Lcg, LocalState, LookNumber, LookSelf, MAX_MISSED, Manager, Obeys, PutHigh, PutNew, Quit, Rank, Read, Rechecking, Resolution, Shape, Step, Work, after, at_first, due, due_after, effort_after, effort_of, given, is_outside, is_resolved, keep_resolved, newest_of, next, next_or_first, no_effort, record_resolved, rises, state_after, when_passed, when_put}
 use Rattle.dstm_core.specs.declared.event.Kind.TheVariants.{Validating as ToValidating}
 use Rattle.dstm_order.proofs.Rows.{checks_by, checking_by, pass_by, putting_by}
 

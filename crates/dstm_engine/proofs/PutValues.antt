@@ -2,7 +2,7 @@
 use Rattle.std.proofs.Common.{◌++◌, ◌+◌, ◌<◌, ◌==◌, ◌||◌, ◌∙◌, ◌∷◌, ◌≡◌, ◌≢◌, ◌≤◌, ◌⊎◌, List, None, Option, Some, [], ap, append_assoc, arith, cond, false, inl, inr, length, map, refl, slice_get, subst, suc, sym, true, ℕ}
 use Rattle.std.specs.Prelude.{is_some}
 use Rattle.std.proofs.lemmas.Bool.{cases_Bool, cases_lt, cond_both, eqb-true}
-use Rattle.dstm_engine.proofs.Words.{AllowedAs, Check, Commit, Committing, Core, Doing, Done, Draw, Drawn, Due, Effort, Event, HighWord, IsDue, Kind, Lcg, LocalState, LookNumber, LookSelf, LowWord, MAX_MISSED, Manager, Obeys, PutHigh, PutNew, Putting, Quit, Rank, Running, Shape, Step, Val, Validating, Write, after, at, due, due_after, effort_of, events_of, given, in_putting, is_outside, local, new_value, new_values, newest_of, next, next_or_first, next_write, or_write, place, rises, state_after, value_in, write_of}
+use Rattle.dstm_engine.proofs.Base.{AllowedAs, Check, Commit, Committing, Core, Doing, Done, Draw, Drawn, Due, Effort, Event, HighWord, IsDue, Kind, Lcg, LocalState, LookNumber, LookSelf, LowWord, MAX_MISSED, Manager, Obeys, PutHigh, PutNew, Putting, Quit, Rank, Running, Shape, Step, Val, Validating, Write, after, at, due, due_after, effort_of, events_of, given, in_putting, is_outside, local, new_value, new_values, newest_of, next, next_or_first, next_write, or_write, place, rises, state_after, value_in, write_of}
 use Rattle.dstm_core.specs.declared.event.Kind.TheVariants.{Validating as ToValidating}
 use Rattle.dstm_opacity.proofs.Kept.{put_stays}
 use Rattle.dstm_order.proofs.Rows.{checking_by, checks_by, pass_by}

@@ -6,7 +6,7 @@ use Rattle.dstm_progress.proofs.OwnEvents.{after_own}
 use Rattle.dstm_progress.specs.Causes.{Causes}
 use Rattle.dstm_order.specs.declared.again.Again.TheVariants.{Killed, Lost, Stale, Waited}
 use base.Fml.{GName}
-use Rattle.dstm_engine.proofs.Words.{Again, AreWrites, Doing, Done, Event, Home, Install, Kill, Kind, LocalState, Obeys, Outside, Pause, Read, Rechecking, Running, Shape, Steps, Val, Work, count_of, due_after, events_of, is_miss, misses, now, passed, state_after, view_of, words_of}
+use Rattle.dstm_engine.proofs.Base.{Again, AreWrites, Doing, Done, Event, Home, Install, Kill, Kind, LocalState, Obeys, Outside, Pause, Read, Rechecking, Running, Shape, Steps, Val, Work, count_of, due_after, events_of, is_miss, misses, now, passed, state_after, view_of, words_of}
 use Rattle.dstm_engine.proofs.Continuing.{doing_keeps, kept_live, kept_most, told_more}
 use Rattle.dstm_engine.proofs.Left.{call_there, current_there, on_tied, performed, same_place, stays, told_there}
 use Rattle.dstm_engine.proofs.Plain.{ArePlain, are_plain, is_plain}

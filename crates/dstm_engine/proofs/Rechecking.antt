@@ -11,7 +11,7 @@ use Rattle.dstm_progress.proofs.OwnEvents.{after_own}
 use Rattle.std.specs.Prelude.{◌+◌, if◌then◌else◌}
 use Rattle.std.proofs.Common.{length-append}
 use Rattle.std.proofs.lemmas.List.Elements.{filter-append}
-use Rattle.dstm_engine.proofs.Words.{Check, Commit, Core, Doing, Done, Draw, Effort, Event, IsDue, IsSight, Kind, Lcg, LocalState, LookNumber, LookSelf, MAX_MISSED, Obeys, Outside, PutHigh, PutNew, Quit, Read, Rechecking, Running, Shape, Val, after, count_of, due, due_after, effort_of, entry_of, events_of, given, is_outside, just, local, newest_of, next, old_values, read_values, seen, state_after, value_in}
+use Rattle.dstm_engine.proofs.Base.{Check, Commit, Core, Doing, Done, Draw, Effort, Event, IsDue, IsSight, Kind, Lcg, LocalState, LookNumber, LookSelf, MAX_MISSED, Obeys, Outside, PutHigh, PutNew, Quit, Read, Rechecking, Running, Shape, Val, after, count_of, due, due_after, effort_of, entry_of, events_of, given, is_outside, just, local, newest_of, next, old_values, read_values, seen, state_after, value_in}
 use Rattle.dstm_progress.proofs.StaleReads.{not_quit}
 use Rattle.dstm_progress.proofs.Calls.{nothing_due}
 use Rattle.dstm_engine.specs.Attempts.{Sighted, completes_pass, is_look_self}

@@ -3,7 +3,7 @@ use Rattle.std.proofs.Common.{◌&&◌, ◌||◌, ◌++◌, ◌==◌, ◌∙◌,
 use Rattle.std.specs.Prelude.{IfSome, is_some, if◌then◌else◌, option_map}
 use base.Fml.{GName}
 use Rattle.std.proofs.lemmas.Bool.{and_parts, cases_Bool, cases_eq, cond_both, eqb-true}
-use Rattle.dstm_engine.proofs.Words.{AllowedAs, AreWrites, Core, Doing, Done, Due, Effort, Event, HoldsWithout, Home, IsDue, IsSight, Kind, Lcg, LocalState, LookSelf, MAX_MISSED, Manager, Obeys, Outside, Quit, Read, ReadSlot, Release, Releasing, Running, Shape, Step, Steps, Val, Write, count_of, drop_read, due, due_after, effort_of, is_outside, local, newest_of, next, next_or_first, now, read_of, read_values, seen, state_after, value_at, value_in, version_value, view_of, words_of, write_of}
+use Rattle.dstm_engine.proofs.Base.{AllowedAs, AreWrites, Core, Doing, Done, Due, Effort, Event, HoldsWithout, Home, IsDue, IsSight, Kind, Lcg, LocalState, LookSelf, MAX_MISSED, Manager, Obeys, Outside, Quit, Read, ReadSlot, Release, Releasing, Running, Shape, Step, Steps, Val, Write, count_of, drop_read, due, due_after, effort_of, is_outside, local, newest_of, next, next_or_first, now, read_of, read_values, seen, state_after, value_at, value_in, version_value, view_of, words_of, write_of}
 use Rattle.dstm_core.proofs.Pasts.{core_past}
 use Rattle.dstm_opacity.proofs.Held.{held_is_seen, version_by_open}
 use Rattle.dstm_opacity.proofs.Kept.{seen_stays}

@@ -3,7 +3,7 @@ use Rattle.std.proofs.Common.{◌&&◌, ◌++◌, ◌==◌, ◌∙◌, ◌∷◌
 use Rattle.std.specs.Prelude.{Bool, Contains, IfSome, None, Option, Some, if◌then◌else◌}
 use Rattle.dstm_opacity.proofs.Stays.{NoneCommits, call_adds_none, told_stays}
 use Rattle.std.proofs.lemmas.List.Elements.{All-cons, All-nil}
-use Rattle.dstm_engine.proofs.Words.{Core, Done, Event, IsDue, IsRunOf, Joined, Kind, Lcg, Leaving, LocalState, Obeys, Quit, Shape, Terms, Val, View, done_by, events_of, has_committed, is_commit, is_outside, just, state_after}
+use Rattle.dstm_engine.proofs.Base.{Core, Done, Event, IsDue, IsRunOf, Joined, Kind, Lcg, Leaving, LocalState, Obeys, Quit, Shape, Terms, Val, View, done_by, events_of, has_committed, is_commit, is_outside, just, state_after}
 use Rattle.dstm_engine.specs.Attempts.{done}
 use Rattle.dstm_engine.specs.Callers.{Called, seat_view, shape_of, start_of, state}
 use Rattle.dstm_engine.specs.Calls.{Performs}

@@ -2,7 +2,7 @@
 use Rattle.std.proofs.Common.{◌++◌, ◌==◌, ◌∙◌, ◌∷◌, ◌≡◌, ◌≢◌, ◌⊎◌, Bool, List, None, Option, Some, [], ap, cond, false, inl, inr, map, refl, subst, sym, true, ℕ}
 use Rattle.std.specs.Prelude.{IfSome, is_some}
 use Rattle.std.proofs.lemmas.Bool.{cases_Bool, cond_both, eqb-true, ne_eqb}
-use Rattle.dstm_engine.proofs.Words.{AreWrites, SetsOnly, Val, Write, WriteSlot, value_in, write_of}
+use Rattle.dstm_engine.proofs.Base.{AreWrites, SetsOnly, Val, Write, WriteSlot, value_in, write_of}
 use Rattle.dstm_engine.specs.Callers.{Called, is_opened, state}
 use Rattle.dstm_engine.specs.Outcomes.{IsLeft, Promises}
 use Rattle.dstm_engine.specs.Mirror.{Tied, called, set_pairs, slot_old, with_new}

@@ -4,7 +4,7 @@ use Rattle.std.proofs.lemmas.List.{append_cancel_right}
 use Rattle.std.specs.Prelude.{Option, None, Some, IfSome}
 use Rattle.std.proofs.lemmas.Bool.{cases_Bool, cond_both, eq-eqb, eqb-true}
 use Rattle.std.proofs.lemmas.List.Elements.{filter-append}
-use Rattle.dstm_engine.proofs.Words.{CoreRun, Doing, EndsInPass, EndsInRank, Event, IsCall, IsRunOf, IsSight, Kind, Lcg, LocalState, LookSelf, Outside, Rank, Running, Shape, Val, Work, after, count_of, events_of, given, is_open, is_outside, local, old_values, read_values, rises, seen, state_after, value_at, value_in}
+use Rattle.dstm_engine.proofs.Base.{CoreRun, Doing, EndsInPass, EndsInRank, Event, IsCall, IsRunOf, IsSight, Kind, Lcg, LocalState, LookSelf, Outside, Rank, Running, Shape, Val, Work, after, count_of, events_of, given, is_open, is_outside, local, old_values, read_values, rises, seen, state_after, value_at, value_in}
 use Rattle.dstm_progress.proofs.OwnEvents.{after_own}
 use Rattle.dstm_core.proofs.Static.{local_own}
 use Rattle.dstm_mem.proofs.Pairs.{AgreesWith-of_agrees}

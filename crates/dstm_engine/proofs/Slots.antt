@@ -4,7 +4,7 @@ use Prim.Native.Nat.{zero, suc}
 use Rattle.std.specs.Prelude.{if◌then◌else◌, is_some, option_map, slice_set}
 use Rattle.std.proofs.lemmas.Bool.{cases_Bool, eqb-true, eq-eqb}
 use Rattle.std.proofs.lemmas.List.Elements.{filter-append}
-use Rattle.dstm_engine.proofs.Words.{Read, ReadSlot, Val, WriteSlot, drop_read, kept, read_of, word_of, words_of}
+use Rattle.dstm_engine.proofs.Base.{Read, ReadSlot, Val, WriteSlot, drop_read, kept, read_of, word_of, words_of}
 use Rattle.dstm_mem.specs.Slots.{IsSlotOf}
 use Rattle.dstm_engine.specs.Opened.{is_kept, read_at, read_slot, reads_sort, with_set_slot, without_read, write_at, writes_sort}
 use Rattle.dstm_engine.specs.Mirror.{slot_word}
@@ -51,35 +51,39 @@ first_slot : (s : ReadSlot) (slots : List ReadSlot) (r : Read) (reads : List Rea
     (slot_word s ≡ (r.object, r.word)) × (map slot_word slots ≡ words_of reads)
 first_slot s slots r reads h = (cc, cc)
 
+-- so what holds of none, and with one more slot and its read, holds of slots and their reads
+along : (P : List ReadSlot → List Read → Type 0) → P [] [] →
+    ((s : ReadSlot) (slots : List ReadSlot) (r : Read) (reads : List Read) → slot_word s ≡ (r.object, r.word) →
+    r.object ≡ s.object → map slot_word slots ≡ words_of reads → P slots reads → P (s ∷ slots) (r ∷ reads)) →
+    (slots : List ReadSlot) (reads : List Read) → map slot_word slots ≡ words_of reads → P slots reads
+along P none more [] [] h = none
+along P none more [] (r ∷ reads) h = absurd (cc)
+along P none more (s ∷ slots) [] h = absurd (cc)
+along P none more (s ∷ slots) (r ∷ reads) h =
+    let same = first_slot s slots r reads h in
+    more s slots r reads same.0 (ap (λ (p : ℕ × ℕ). p.0) (sym same.0)) same.1 (along P none more slots reads same.1)
+
 -- and one less
 pub words_without : (slots : List ReadSlot) (reads : List Read) (o : ℕ) → map slot_word slots ≡ words_of reads →
     map slot_word (without_read o slots) ≡ words_of (drop_read o reads)
-words_without [] [] o h = refl
-words_without [] (r ∷ reads) o h = absurd (cc)
-words_without (s ∷ slots) [] o h = absurd (cc)
-words_without (s ∷ slots) (r ∷ reads) o h =
-    let same = first_slot s slots r reads h in
-    let object : r.object ≡ s.object = ap (λ (p : ℕ × ℕ). p.0) (sym same.0) in
-    elim (cases_Bool (s.object == o)) [
-      | inl q ↦ rw (q, ap (λ n. n == o) object ∙ q) same.1
+words_without slots reads o =
+    along (λ slots reads. map slot_word (without_read o slots) ≡ words_of (drop_read o reads)) refl
+    (λ s slots r reads word object rest without. elim (cases_Bool (s.object == o)) [
+      | inl q ↦ rw (q, ap (λ n. n == o) object ∙ q) rest
       | inr q ↦
-          rw (q, ap (λ n. n == o) object ∙ q) (ap (λ p. p ∷ map slot_word (without_read o slots)) same.0
-          ∙ ap (λ xs. (r.object, r.word) ∷ xs) (words_without slots reads o same.1))
-    ]
+          rw (q, ap (λ n. n == o) object ∙ q) (ap (λ p. p ∷ map slot_word (without_read o slots)) word
+          ∙ ap (λ xs. (r.object, r.word) ∷ xs) without)
+    ]) slots reads
 
 -- a read of an object has the word of its slot
 pub slot_read : (slots : List ReadSlot) (reads : List Read) (o : ℕ) → map slot_word slots ≡ words_of reads →
     word_of (read_of o reads) ≡ option_map (λ (s : ReadSlot). s.word) (read_slot slots o)
-slot_read [] [] o h = refl
-slot_read [] (r ∷ reads) o h = absurd (cc)
-slot_read (s ∷ slots) [] o h = absurd (cc)
-slot_read (s ∷ slots) (r ∷ reads) o h =
-    let same = first_slot s slots r reads h in
-    let object : r.object ≡ s.object = ap (λ (p : ℕ × ℕ). p.0) (sym same.0) in
-    elim (cases_Bool (s.object == o)) [
-      | inl q ↦ rw (ap (λ n. n == o) object ∙ q, q) (ap (λ (p : ℕ × ℕ). Some p.1) (sym same.0))
-      | inr q ↦ rw (ap (λ n. n == o) object ∙ q, q) (slot_read slots reads o same.1)
-    ]
+slot_read slots reads o =
+    along (λ slots reads. word_of (read_of o reads) ≡ option_map (λ (s : ReadSlot). s.word) (read_slot slots o)) refl
+    (λ s slots r reads word object rest read. elim (cases_Bool (s.object == o)) [
+      | inl q ↦ rw (ap (λ n. n == o) object ∙ q, q) (ap (λ (p : ℕ × ℕ). Some p.1) (sym word))
+      | inr q ↦ rw (ap (λ n. n == o) object ∙ q, q) read
+    ]) slots reads
 
 -- ---- a read that is let go
 

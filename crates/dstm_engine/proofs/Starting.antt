@@ -5,7 +5,7 @@ use Rattle.dstm_steps.specs.Beginning.{CanBegin, KeepsRank}
 use Rattle.dstm_core.proofs.Columns.{in_table}
 use Rattle.dstm_opacity.proofs.Stays.{NoneCommits}
 use Rattle.std.proofs.lemmas.List.Elements.{All-cons, All-nil}
-use Rattle.dstm_engine.proofs.Words.{Begin, Beginning, Done, Effort, Event, IsDue, IsValid, Kind, Lcg, LocalState, Manager, Obeys, Outside, Phase, Quit, Rank, Running, Shape, Stamp, Step, effort_after, effort_of, has_begun, has_committed, has_ranks, has_stamps, in_beginning, is_outside, is_spent, just, newest_of, next_attempt, no_effort, rises, state_after}
+use Rattle.dstm_engine.proofs.Base.{Begin, Beginning, Done, Effort, Event, IsDue, IsValid, Kind, Lcg, LocalState, Manager, Obeys, Outside, Phase, Quit, Rank, Running, Shape, Stamp, Step, effort_after, effort_of, has_begun, has_committed, has_ranks, has_stamps, in_beginning, is_outside, is_spent, just, newest_of, next_attempt, no_effort, rises, state_after}
 use Rattle.dstm_engine.specs.Beginnings.{ended}
 use Rattle.dstm_engine.specs.Mirror.{phase_by}
 

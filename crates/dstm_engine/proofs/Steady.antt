@@ -1,7 +1,7 @@
 -- What a caller holds after a recheck or a commit.
 use Rattle.std.proofs.Common.{◌∙◌, ◌≡◌, List, Option, ap, map, subst, sym, true, ℕ, refl}
 use Rattle.std.specs.Prelude.{is_some}
-use Rattle.dstm_engine.proofs.Words.{Again, Core, Doing, Effort, Steps, Val, Work, view_of, write_of}
+use Rattle.dstm_engine.proofs.Base.{Again, Core, Doing, Effort, Steps, Val, Work, view_of, write_of}
 use Rattle.dstm_progress.proofs.OwnEvents.{after_own}
 use Rattle.dstm_engine.proofs.Left.{current_there}
 use Rattle.dstm_engine.proofs.Plain.{ArePlain, SameOpened, are_plain, is_closed, plain_still, same_opened}

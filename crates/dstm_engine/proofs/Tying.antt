@@ -1,7 +1,7 @@
 -- A caller whose fields stand for what contracts see of it, before and after a call.
 use Rattle.std.proofs.Common.{◌∙◌, ◌≡◌, List, ap, refl, subst, sym}
 use Rattle.std.specs.Prelude.{Bool, true, false, None, Option, not, nat_lt, ℕ, ◌||◌, ◌+◌}
-use Rattle.dstm_engine.proofs.Words.{Again, Done, Event, Home, InTask, IsMirror, LocalState, Read, Steps, Task, Val, View, Write, answer, caller_state, due, effort_by, is_spent, local, now, number_or, old_values, read_values, view_of}
+use Rattle.dstm_engine.proofs.Base.{Again, Done, Event, Home, InTask, IsMirror, LocalState, Read, Steps, Task, Val, View, Write, answer, caller_state, due, effort_by, is_spent, local, now, number_or, old_values, read_values, view_of}
 use Rattle.dstm_steps.proofs.Stepping.{began_as}
 use Rattle.dstm_engine.proofs.Calling.{StepsOf, began_is, now_is, starts}
 use Rattle.dstm_engine.specs.Began.{began_of}

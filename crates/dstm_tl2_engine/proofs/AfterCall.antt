@@ -1,6 +1,6 @@
 -- A caller after a call: its attempt, and what it has committed.
 use Rattle.std.proofs.Common.{◌≡◌, ◌<◌, ◌⊎◌, ◌∷◌, ◌++◌, ◌∙◌, List, [], ap, sym, subst, true, false, Option, None, Some, refl}
-use Rattle.dstm_tl2_engine.proofs.Words.{Home, LocalState, Run, Table, Task, TlAgain, Val, answer_of, is_sample, is_valid, local, state_after, tl2}
+use Rattle.dstm_tl2_engine.proofs.Base.{Home, LocalState, Run, Table, Task, TlAgain, Val, answer_of, is_sample, is_valid, local, state_after, tl2}
 use Rattle.dstm_tl2_order.specs.Ended.{Disturbed}
 use Rattle.dstm_tl2_order.proofs.Disturbing.{answers_disturb}
 use Rattle.dstm_tl2_engine.specs.Attempts.{attempt_of, done}

@@ -5,7 +5,7 @@ use Rattle.std.specs.Option.{option_or}
 use Rattle.std.proofs.lemmas.Bool.{cases_eq, cond-true, eq-eqb, ne_eqb}
 use Rattle.std.proofs.lemmas.List.{length-map, length-take-le}
 use Rattle.std.proofs.lemmas.List.Elements.{All-cons, All-nil}
-use Rattle.dstm_tl2_engine.proofs.Words.{Began, Beginning, Call, Done, Event, FreeAs, Hold, Home, IsDue, Just, Load, LocalState, Obeys, Read, Returning, Sample, Steps, Table, Task, TlAgain, Val, after, begin, due_after, events_of, has_sampled, hold_of, in_giving_back, is_spent, is_valid, local, made_by, new_hold, newest_of, now, or_hold, read_of, read_values, state_after, table_of, value_at, value_in, view_of}
+use Rattle.dstm_tl2_engine.proofs.Base.{Began, Beginning, Call, Done, Event, FreeAs, Hold, Home, IsDue, Just, Load, LocalState, Obeys, Read, Returning, Sample, Steps, Table, Task, TlAgain, Val, after, begin, due_after, events_of, has_sampled, hold_of, in_giving_back, is_spent, is_valid, local, made_by, new_hold, newest_of, now, or_hold, read_of, read_values, state_after, table_of, value_at, value_in, view_of}
 use Rattle.dstm_mem.proofs.WithSet.{with_set-nothing}
 use Rattle.dstm_tl2_order.proofs.Steps.{state_up}
 use Rattle.dstm_tl2_steps.proofs.Stepping.{call_of}

@@ -1,7 +1,7 @@
 -- How many attempts a caller has begun.
 use Rattle.dstm_tl2_steps.proofs.Stepping.{sample_kept}
 use Rattle.std.proofs.Common.{◌≡◌, ℕ, List}
-use Rattle.dstm_tl2_engine.proofs.Words.{Event, LocalState, Table, is_sample, local, tl2}
+use Rattle.dstm_tl2_engine.proofs.Base.{Event, LocalState, Table, is_sample, local, tl2}
 use Rattle.dstm_machines.proofs.Attempts.{kept_since}
 use Rattle.dstm_tl2_engine.specs.Callers.{begun_log}
 

@@ -4,7 +4,7 @@ use Rattle.std.specs.List.{All}
 use Rattle.std.specs.Prelude.{◌||◌, is_some, if◌then◌else◌}
 use Rattle.std.specs.Option.{option_or}
 use Rattle.std.proofs.lemmas.List.Elements.{All-cons, All-head, All-nil}
-use Rattle.dstm_tl2_engine.proofs.Words.{Check, Committing, Doing, Done, Draw, Enrol, Event, Finishing, Home, IsCall, IsDue, IsRunOf, Just, Kind, LocalState, Lock, Locking, LookAgain, LookHigh, LookLock, LookLow, Obeys, Sample, Table, Task, TlAgain, Unlock, Val, Work, WriteHigh, WriteLow, after, answer_of, draws, due_after, events_of, fails, in_giving_back, in_locking, local, locks, newest_of, next, next_or_first, state_after, table_of, tl2, value_in, when_locked}
+use Rattle.dstm_tl2_engine.proofs.Base.{Check, Committing, Doing, Done, Draw, Enrol, Event, Finishing, Home, IsCall, IsDue, IsRunOf, Just, Kind, LocalState, Lock, Locking, LookAgain, LookHigh, LookLock, LookLow, Obeys, Sample, Table, Task, TlAgain, Unlock, Val, Work, WriteHigh, WriteLow, after, answer_of, draws, due_after, events_of, fails, in_giving_back, in_locking, local, locks, newest_of, next, next_or_first, state_after, table_of, tl2, value_in, when_locked}
 use Rattle.dstm_machines.proofs.Pasts.{past_past}
 use Rattle.dstm_tl2_engine.specs.Attempts.{Commits, done}
 use Rattle.dstm_tl2_engine.specs.Callers.{TlCalled, handed, held, is_opened, state, table_of_caller, written}

@@ -4,7 +4,7 @@ use Rattle.std.specs.List.{All}
 use Rattle.std.specs.Prelude.{not}
 use Rattle.std.proofs.lemmas.Bool.{cond_both}
 use Rattle.std.proofs.lemmas.List.Elements.{All-cons, All-head, All-nil, All-weaker}
-use Rattle.dstm_tl2_engine.proofs.Words.{Beginning, Check, Committing, Doing, Done, Draw, Due, Enrol, Enrolling, Event, Finishing, FreeAs, Hold, IsDue, Just, Kind, LocalState, Lock, Locking, LookAgain, LookAt, LookHigh, LookLock, LookLow, Obeys, Opening, PutHigh, PutLow, Returning, Sample, Table, Task, Unlock, Val, Work, WriteHigh, WriteLow, at_first, due, due_after, has_sampled, in_checking, in_giving_back, in_locking, in_writing_back, is_readable, is_sample, is_spent, locks, next, or_zero, state_after, to_check, when_locked}
+use Rattle.dstm_tl2_engine.proofs.Base.{Beginning, Check, Committing, Doing, Done, Draw, Due, Enrol, Enrolling, Event, Finishing, FreeAs, Hold, IsDue, Just, Kind, LocalState, Lock, Locking, LookAgain, LookAt, LookHigh, LookLock, LookLow, Obeys, Opening, PutHigh, PutLow, Returning, Sample, Table, Task, Unlock, Val, Work, WriteHigh, WriteLow, at_first, due, due_after, has_sampled, in_checking, in_giving_back, in_locking, in_writing_back, is_readable, is_sample, is_spent, locks, next, or_zero, state_after, to_check, when_locked}
 use Rattle.dstm_tl2_order.specs.Calls.{is_look_lock}
 use Rattle.dstm_tl2_engine.specs.Outcomes.{is_write}
 use Rattle.dstm_tl2.proofs.Done.{NoCommits, NoSamples, may_commit}

@@ -1,7 +1,7 @@
 -- A call of a caller, from what its steps know.
 use Rattle.std.proofs.Common.{◌<◌, ◌∙◌, ◌≡◌, List, ap, subst, sym}
 use Rattle.std.specs.Prelude.{Option}
-use Rattle.dstm_tl2_engine.proofs.Words.{Began, Done, Home, IsOf, IsPastOf, IsRunOf, Steps, Task, TlAgain, Under, Val, View, caller_state, caller_view, events_of, now, number_or, view_of}
+use Rattle.dstm_tl2_engine.proofs.Base.{Began, Done, Home, IsOf, IsPastOf, IsRunOf, Steps, Task, TlAgain, Under, Val, View, caller_state, caller_view, events_of, now, number_or, view_of}
 use Rattle.dstm_tl2_steps.proofs.Stepping.{began_as, call_of}
 use Rattle.dstm_tl2_engine.specs.Began.{began_of}
 use Rattle.dstm_tl2_engine.specs.Callers.{TlCalled, objects_of, state}

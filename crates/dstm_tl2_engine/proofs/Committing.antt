@@ -4,7 +4,7 @@ use Rattle.std.specs.List.{All}
 use Rattle.std.specs.Prelude.{◌⊎◌, ◌||◌, IfSome, IsSome, is_none, is_some, if◌then◌else◌}
 use Rattle.std.specs.Option.{option_or}
 use Rattle.std.proofs.Math.Seq.{take-length}
-use Rattle.dstm_tl2_engine.proofs.Words.{Agrees, AtRest, CanLock, Doing, Done, Event, Finishing, Home, KeepsLaw, Lists, LocalState, Locking, NamesOnce, Steps, TlAgain, Under, Val, Work, entry_of, is_valid, new_hold, now, objects, or_writes, or_zero, read_of, read_values, table_of, value_at, value_in, view_of, with_set, with_writes}
+use Rattle.dstm_tl2_engine.proofs.Base.{Agrees, AtRest, CanLock, Doing, Done, Event, Finishing, Home, KeepsLaw, Lists, LocalState, Locking, NamesOnce, Steps, TlAgain, Under, Val, Work, entry_of, is_valid, new_hold, now, objects, or_writes, or_zero, read_of, read_values, table_of, value_at, value_in, view_of, with_set, with_writes}
 use Rattle.dstm_mem.proofs.Pairs.{AgreesWith-of_agrees, with_writes-with_set}
 use Rattle.dstm_mem.proofs.WithSet.{unset_stays}
 use Rattle.dstm_tl2_steps.proofs.Slots.{WritesApart, WritesBelow, writes_once}

@@ -1,7 +1,7 @@
 -- A caller that was made.
 use Rattle.std.proofs.Common.{◌<◌, ◌∙◌, ◌∷◌, ◌≡◌, List, [], ◌+◌, ap, refl, subst, sym, ℕ}
 use Rattle.std.specs.Prelude.{Option, Some, IfSome}
-use Rattle.dstm_tl2_engine.proofs.Words.{Add, Enrol, Enrolling, Event, Home, IsCall, IsRunOf, LocalState, Makes, Table, Terms, Val, View, events_of, first, given_part, kept_part, local, made, table_of, tl2}
+use Rattle.dstm_tl2_engine.proofs.Base.{Add, Enrol, Enrolling, Event, Home, IsCall, IsRunOf, LocalState, Makes, Table, Terms, Val, View, events_of, first, given_part, kept_part, local, made, table_of, tl2}
 use Rattle.atomic_table.specs.Seated.{TableId}
 use Rattle.atomic_table.specs.declared.shared.Seat.{Seat}
 use Rattle.dstm_machines.proofs.Own.{none_before_only}

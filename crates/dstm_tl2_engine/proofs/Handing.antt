@@ -2,7 +2,7 @@
 use Rattle.std.proofs.Common.{◌∙◌, ◌∷◌, ◌<◌, ◌≡◌, List, [], ap, arith, false, inl, inr, length, subst, sym, true, ℕ, refl}
 use Rattle.std.specs.Prelude.{Err, IfOk, IsSome, Ok, OnOk, Result, Some, is_some}
 use Rattle.std.proofs.lemmas.Bool.{cases_Bool, cases_eq}
-use Rattle.dstm_tl2_engine.proofs.Words.{MarksAtMost, TlAgain, Val, value_in, with_value}
+use Rattle.dstm_tl2_engine.proofs.Base.{MarksAtMost, TlAgain, Val, value_in, with_value}
 use Rattle.dstm_mem.proofs.WithSet.{found_by}
 use Rattle.dstm_model.specs.Map.{value_at}
 use Rattle.dstm_mem.specs.Memory.{with_set}

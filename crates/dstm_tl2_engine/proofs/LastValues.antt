@@ -4,7 +4,7 @@ use Rattle.std.specs.Prelude.{Contains, length}
 use Rattle.std.proofs.lemmas.Bool.{cases_eq, cases_lt}
 use Rattle.std.proofs.lemmas.List.{ext_get_or}
 use Rattle.std.proofs.lemmas.List.Elements.{Contains-append_right}
-use Rattle.dstm_tl2_engine.proofs.Words.{Event, HighWord, IsRunOf, LeftBy, LocalState, LockWord, LowWord, Run, Table, Terms, Val, View, history_of, hold_of, local, no_value, objects, place, shared, table_of, tl2, value_at, will_of, word}
+use Rattle.dstm_tl2_engine.proofs.Base.{Event, HighWord, IsRunOf, LeftBy, LocalState, LockWord, LowWord, Run, Table, Terms, Val, View, history_of, hold_of, local, no_value, objects, place, shared, table_of, tl2, value_at, will_of, word}
 use Rattle.dstm_mem.proofs.Few.{first_or_other}
 use Rattle.dstm_model.proofs.Entries.{states_keep_length}
 use Rattle.dstm_model.specs.Map.{state_after}

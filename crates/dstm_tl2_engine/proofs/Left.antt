@@ -4,7 +4,7 @@ use Rattle.std.specs.List.{All, Contains}
 use Rattle.std.specs.Prelude.{◌&&◌, ◌||◌}
 use Rattle.std.proofs.lemmas.Bool.{and_from, and_left, and_parts, and_right, cases_Bool, cases_eq, cond_both, eq-eqb, eqb-true, ne_eqb, or_left, or_right}
 use Rattle.std.proofs.lemmas.List.Elements.{All-cons, All-contains, All-nil, Contains-append_cases, Contains-push_cases}
-use Rattle.dstm_tl2_engine.proofs.Words.{AllowedAs, Check, Draw, Enrol, Event, Hold, Kind, LocalState, Lock, LookAgain, LookHigh, LookLock, LookLow, MayUnlock, Read, Run, Sample, Table, Unlock, Val, WriteHigh, WriteLow, after, answer_of, events_of, high_object, hold_of, is_sample, is_valid, local, lock, look_of, low_object, marked, new_hold, next_write, objects, or_hold, record_read, recorded, tl2, with_high, with_low, without}
+use Rattle.dstm_tl2_engine.proofs.Base.{AllowedAs, Check, Draw, Enrol, Event, Hold, Kind, LocalState, Lock, LookAgain, LookHigh, LookLock, LookLow, MayUnlock, Read, Run, Sample, Table, Unlock, Val, WriteHigh, WriteLow, after, answer_of, events_of, high_object, hold_of, is_sample, is_valid, local, lock, look_of, low_object, marked, new_hold, next_write, objects, or_hold, record_read, recorded, tl2, with_high, with_low, without}
 use Rattle.dstm_tl2.proofs.Foretelling.{valid_parts}
 use Rattle.dstm_tl2.proofs.Holds.{hold_of-append, marked_other, marked_own, or_else, without_other, without_own}
 use Rattle.dstm_tl2.proofs.Static.{Static, static}

@@ -23,4 +23,4 @@ pub mod Resting
 pub mod Made
 pub mod Working
 pub mod Sends
-pub mod Words
+pub mod Base

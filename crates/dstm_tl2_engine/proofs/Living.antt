@@ -1,7 +1,7 @@
 -- The calls of a caller add up, from its enrolment on.
 use Rattle.std.proofs.Common.{Bool, true, ◌≡◌, ◌∙◌, ◌++◌, ◌∷◌, List, [], None, ap, append_assoc, append-nil, arith, refl, subst, sym}
 use Rattle.std.specs.Prelude.{Contains, Option}
-use Rattle.dstm_tl2_engine.proofs.Words.{AreMade, Beginning, ByCalls, CanLock, Doing, Enrolling, Event, IsOnAttempt, LocalState, LocksItsWrites, Returning, Table, Task, TlAgain, Val, events_in, events_of, first, local, state_after, state_by, tl2}
+use Rattle.dstm_tl2_engine.proofs.Base.{AreMade, Beginning, ByCalls, CanLock, Doing, Enrolling, Event, IsOnAttempt, LocalState, LocksItsWrites, Returning, Table, Task, TlAgain, Val, events_in, events_of, first, local, state_after, state_by, tl2}
 use Rattle.dstm_machines.proofs.Own.{after_own, none_before_only, whole_state}
 use Rattle.dstm_tl2_order.proofs.AddingUp.{events_both, made_both, made_where}
 use Rattle.dstm_tl2_order.proofs.Disturbing.{own_stands}

@@ -2,7 +2,7 @@
 use Rattle.std.proofs.Common.{◌≡◌, ◌⊎◌, ◌++◌, ◌∙◌, ◌∷◌, ℕ, List, [], arith, inl, inr, refl, sym, ap, subst, length}
 use Rattle.std.specs.Prelude.{Bool, IsSome, Option, None, Some, false, is_some, true, ◌+◌}
 use base.Fml.{GName}
-use Rattle.dstm_tl2_engine.proofs.Words.{Agrees, AgreesWith, Committing, Doing, Event, Home, IsRunOf, LawfulRun, TlAgain, Val, history_of, is_sample, is_valid, with_set, with_writes}
+use Rattle.dstm_tl2_engine.proofs.Base.{Agrees, AgreesWith, Committing, Doing, Event, Home, IsRunOf, LawfulRun, TlAgain, Val, history_of, is_sample, is_valid, with_set, with_writes}
 use Rattle.dstm_model.specs.Map.{state_after}
 use Rattle.dstm_model.proofs.Entries.{states_keep_length}
 use Rattle.dstm_machines.proofs.Attempts.{log_parts}

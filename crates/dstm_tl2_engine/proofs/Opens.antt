@@ -5,7 +5,7 @@ use Rattle.std.specs.Prelude.{All, IfSome, IsSome, is_none, is_some, option_map}
 use Rattle.std.proofs.lemmas.Bool.{cases_Bool, cases_eq}
 use Rattle.std.proofs.lemmas.List.{map-append, take-append-le}
 use Rattle.std.proofs.Math.Seq.{get_or-append_seam}
-use Rattle.dstm_tl2_engine.proofs.Words.{AtRest, Doing, Done, Event, HoldsAlso, Home, IsRunOf, Kind, LocalState, LookAgain, LookHigh, LookLock, LookLow, NamesOnce, OpenedAs, Opening, Read, Steps, TlAgain, Under, Val, new_hold, now, prefix_at, read_of, read_slot, read_values, sample_place, slot_read, slots_value, value_at, value_in, writes_of}
+use Rattle.dstm_tl2_engine.proofs.Base.{AtRest, Doing, Done, Event, HoldsAlso, Home, IsRunOf, Kind, LocalState, LookAgain, LookHigh, LookLock, LookLow, NamesOnce, OpenedAs, Opening, Read, Steps, TlAgain, Under, Val, new_hold, now, prefix_at, read_of, read_slot, read_values, sample_place, slot_read, slots_value, value_at, value_in, writes_of}
 use Rattle.dstm_mem.proofs.Pairs.{AgreesWith-of_agrees, value_in-other, value_in-same}
 use Rattle.dstm_model.proofs.Entries.{states_keep_length}
 use Rattle.dstm_model.specs.Map.{state_after}

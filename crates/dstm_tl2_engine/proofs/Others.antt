@@ -1,7 +1,7 @@
 -- A call that has left its attempt: its table has another caller.
 use Rattle.std.proofs.Common.{◌++◌, ◌<◌, ◌∙◌, ◌∷◌, ◌≡◌, List, Some, ap, append_assoc, arith, false, inl, inr, subst, sym, true, ℕ}
 use Rattle.std.proofs.lemmas.Bool.{cases_order}
-use Rattle.dstm_tl2_engine.proofs.Words.{Event, LocalState, NamesOnce, Run, Table, TlAgain, answer_of, events_of, fails, local, objects, state_after, tl2, writes_of}
+use Rattle.dstm_tl2_engine.proofs.Base.{Event, LocalState, NamesOnce, Run, Table, TlAgain, answer_of, events_of, fails, local, objects, state_after, tl2, writes_of}
 use Rattle.dstm_machines.proofs.Runs.{run_past}
 use Rattle.dstm_tl2.proofs.Alone.{never_fails}
 use Rattle.dstm_tl2_order.proofs.Disturbing.{StandsAt, own_stands}

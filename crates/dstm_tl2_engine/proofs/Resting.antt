@@ -1,6 +1,6 @@
 -- An attempt at rest, told by a test.
 use Rattle.std.proofs.Common.{◌≡◌, ◌<◌, ◌&&◌, ◌==◌, Bool, true, false, not, ℕ, List, [], ◌∷◌, length, Option, Some, None, is_none, nat_lt, arith, eqb-true, ltb-true, refl}
-use Rattle.dstm_tl2_engine.proofs.Words.{AtRest, LocalState}
+use Rattle.dstm_tl2_engine.proofs.Base.{AtRest, LocalState}
 use Rattle.dstm_tl2_engine.specs.Callers.{is_resting}
 
 -- both of two tests say yes

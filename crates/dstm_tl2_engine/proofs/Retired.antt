@@ -2,7 +2,7 @@
 use Rattle.std.proofs.Common.{◌+◌, ◌-◌, ◌++◌, ◌∙◌, ◌∷◌, ◌≡◌, ◌⊎◌, List, [], ap, arith, inl, inr, length, length-append, subst, sym, ℕ}
 use Rattle.std.specs.Prelude.{Contains, None}
 use Rattle.std.proofs.lemmas.List.Elements.{Contains-append_cases}
-use Rattle.dstm_tl2_engine.proofs.Words.{Home, Joined, LocalState, Returning, Terms, Val, View, local, table_of, tl2}
+use Rattle.dstm_tl2_engine.proofs.Base.{Home, Joined, LocalState, Returning, Terms, Val, View, local, table_of, tl2}
 use Rattle.dstm_seats.proofs.Lists.{one_of}
 use Rattle.dstm_machines.proofs.Own.{same_local}
 use Rattle.dstm_tl2.proofs.Done.{same_done_by}

@@ -1,6 +1,6 @@
 -- What a caller has seen, at its own log.
 use Rattle.std.proofs.Common.{List, []}
-use Rattle.dstm_tl2_engine.proofs.Words.{IsRunOf, Val}
+use Rattle.dstm_tl2_engine.proofs.Base.{IsRunOf, Val}
 use Rattle.dstm_tl2.proofs.Closing.{sample_agrees}
 use Rattle.dstm_tl2_engine.specs.Attempts.{Seen}
 use Rattle.dstm_tl2_engine.specs.Callers.{TlCalled, law_of, table_of_caller}

@@ -3,7 +3,7 @@ use Rattle.std.proofs.Common.{◌<◌, ◌∙◌, ◌≡◌, ◌≢◌, List, No
 use Rattle.std.specs.Prelude.{IfSome, IsSome, is_none}
 use Rattle.std.specs.Option.{option_or}
 use Rattle.std.proofs.lemmas.Bool.{cases_eq}
-use Rattle.dstm_tl2_engine.proofs.Words.{AtRest, IsRunOf, LocalState, OpenedAs, Terms, TlAgain, Val, View, first, new_hold, slot_read, value_in, with_value}
+use Rattle.dstm_tl2_engine.proofs.Base.{AtRest, IsRunOf, LocalState, OpenedAs, Terms, TlAgain, Val, View, first, new_hold, slot_read, value_in, with_value}
 use Rattle.atomic_table.specs.declared.shared.Seat.{Seat}
 use Rattle.dstm_tl2_steps.proofs.Slots.{value_in-with_other, value_in-with_value}
 use Rattle.dstm_tl2_engine.proofs.Begins.{lawful_unlocked, none_locked}

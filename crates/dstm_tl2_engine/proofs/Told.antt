@@ -1,7 +1,7 @@
 -- The calls of an attempt, from call to call.
 use Rattle.std.proofs.Common.{◌≡◌, ◌≤◌, ◌<◌, ◌∙◌, ◌++◌, ◌∷◌, List, [], None, Option, ap, arith, inr, length, refl, subst, sym}
 use Rattle.std.proofs.lemmas.List.Elements.{All-cons}
-use Rattle.dstm_tl2_engine.proofs.Words.{AreMade, AtRest, Call, CanLock, Doing, Event, IsCall, IsOnAttempt, LocalState, OpenedAs, Table, TlAgain, Val, Work, answer_of, events_of, is_sample, local, newest_answer, state_after, state_by, tl2}
+use Rattle.dstm_tl2_engine.proofs.Base.{AreMade, AtRest, Call, CanLock, Doing, Event, IsCall, IsOnAttempt, LocalState, OpenedAs, Table, TlAgain, Val, Work, answer_of, events_of, is_sample, local, newest_answer, state_after, state_by, tl2}
 use Rattle.dstm_machines.proofs.Attempts.{log_parts}
 use Rattle.dstm_machines.proofs.Own.{own_append, own_state}
 use Rattle.dstm_tl2_engine.proofs.AfterCall.{began_then, own_since_then, table_then}

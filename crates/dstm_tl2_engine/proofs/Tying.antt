@@ -1,7 +1,7 @@
 -- A caller whose fields stand for what contracts see of it, before and after a call.
 use Rattle.std.proofs.Common.{◌<◌, ◌∙◌, ◌≡◌, List, [], ap, refl, subst, sym}
 use Rattle.std.specs.Prelude.{Option, Some, is_some}
-use Rattle.dstm_tl2_engine.proofs.Words.{Done, Due, Home, IsRunOf, LocalState, OpenedAs, Steps, Task, TlAgain, Under, Val, View, caller_state, local, now, table_of, view_of}
+use Rattle.dstm_tl2_engine.proofs.Base.{Done, Due, Home, IsRunOf, LocalState, OpenedAs, Steps, Task, TlAgain, Under, Val, View, caller_state, local, now, table_of, view_of}
 use Rattle.dstm_tl2_steps.proofs.Bounds.{number_now}
 use Rattle.dstm_tl2_engine.proofs.Calling.{StepsOf, began_is, begun_as, now_is, performs}
 use Rattle.dstm_tl2_engine.proofs.Seeing.{seen_now}

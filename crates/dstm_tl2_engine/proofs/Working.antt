@@ -5,7 +5,7 @@ use Rattle.std.specs.List.{All}
 use Rattle.std.specs.Prelude.{◌||◌, not, is_some, if◌then◌else◌}
 use Rattle.std.proofs.lemmas.Bool.{cond_both}
 use Rattle.std.proofs.lemmas.List.Elements.{All-head, All-tail}
-use Rattle.dstm_tl2_engine.proofs.Words.{Check, Committing, Doing, Draw, Enrol, Event, Finishing, Kind, LocalState, Lock, Locking, LookAgain, LookHigh, LookLock, LookLow, NamesOnce, Obeys, Opening, Sample, Table, TlAgain, Unlock, Val, Work, WriteHigh, WriteLow, after, answer_of, at_first, cause, draws, fails, in_checking, in_giving_back, in_locking, in_writing_back, lock, locks, next, or_zero, state_after, when_locked, writes_of}
+use Rattle.dstm_tl2_engine.proofs.Base.{Check, Committing, Doing, Draw, Enrol, Event, Finishing, Kind, LocalState, Lock, Locking, LookAgain, LookHigh, LookLock, LookLow, NamesOnce, Obeys, Opening, Sample, Table, TlAgain, Unlock, Val, Work, WriteHigh, WriteLow, after, answer_of, at_first, cause, draws, fails, in_checking, in_giving_back, in_locking, in_writing_back, lock, locks, next, or_zero, state_after, when_locked, writes_of}
 use Rattle.dstm_tl2_engine.proofs.CallKinds.{Dues, checking, each_due, giving_back, is_plain, locking, writing_back}
 
 -- ---- what such a call makes

@@ -1,5 +1,5 @@
 use Rattle.std.proofs.Common.{◌∙◌, ◌≡◌, ap, arith, sym}
-use Rattle.dstm_engine.proofs.Words.{Beginning, Steps, is_spent}
+use Rattle.dstm_engine.proofs.Base.{Beginning, Steps, is_spent}
 use Rattle.dstm_core.proofs.Static.{static}
 use Rattle.dstm_engine.proofs.AtCall.{AtCall, at_call}
 use Rattle.dstm_engine.proofs.Begins.{begins, begun_caller, spends, spent_caller}

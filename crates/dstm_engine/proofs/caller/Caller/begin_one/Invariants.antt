@@ -1,4 +1,4 @@
-use Rattle.dstm_engine.proofs.Words.{Beginning, number_or, view_of}
+use Rattle.dstm_engine.proofs.Base.{Beginning, number_or, view_of}
 use Rattle.dstm_steps.proofs.Stepping.{began_as}
 use Rattle.dstm_engine.proofs.caller.Caller.begin_one.Given as goal
 

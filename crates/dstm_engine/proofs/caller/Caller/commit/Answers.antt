@@ -1,9 +1,9 @@
-use Rattle.std.proofs.Common.{rules, ◌∙◌, ◌≡◌, ap, arith, refl, subst, sym, true}
+use Rattle.std.proofs.Common.{rules, ◌∙◌, ◌≡◌, ◌*◌, ◌+◌, ◌-◌, ap, arith, length, refl, subst, sym, true}
 use Rattle.std.specs.Prelude.{List}
-use Rattle.dstm_engine.proofs.Words.{Val, with_set}
+use Rattle.dstm_engine.proofs.Base.{Val, with_set}
 use Rattle.dstm_engine.proofs.AtCall.{AtCall, at_call}
 use Rattle.dstm_engine.proofs.ClosedCalls.{commit_left, commit_left_tied, commit_tied, committed}
-use Rattle.dstm_engine.proofs.Committing.{few_slots, few_there, first_fits, first_there, lawful_there, putting_there, values_there}
+use Rattle.dstm_engine.proofs.Committing.{Putting, few_slots, few_there, first_fits, lawful_there, putting}
 use Rattle.dstm_engine.proofs.Tying.{live_there}
 use Rattle.dstm_engine.specs.Attempts.{Admits}
 use Rattle.dstm_engine.specs.Callers.{Called, is_live, law_of, written}
@@ -34,20 +34,21 @@ begun : (g : Over) (c : After-words g) →
     AtCall g.L.Law.holds c.self.inside c.args.self.now c.words.result.now c.renew.new.steps
 begun g c = at_call c.self.invariant c.self.view_is c.requires.table c.words.ensures c.renew.ensures
 
+puts : (g : Over) (c : After-words g) → Putting g.L.Law.holds c.words.result.now c.renew.new.steps c.writes-writes.result.now
+    (c.self.inside.number * c.self.inside.terms.shape.locators
+    + (c.renew.new.steps.installed - length c.writes-writes.result.now))
+puts g c =
+    let at = begun g c in
+    putting at.tied (at.live ∙ c.requires.live) at.home at.begun c.writes-writes.ensures
+
 pub commit-committed-requires-clause-under : goal.commit-committed-requires-clause-under
-commit-committed-requires-clause-under g c =
-    let at = begun g (goal.at.commit-committed-requires-clause-under g c).After-words in
-    putting_there at.tied (at.live ∙ c.requires.live) at.home at.begun c.writes-writes.ensures
+commit-committed-requires-clause-under g c = (puts g (goal.at.commit-committed-requires-clause-under g c).After-words).under
 
 pub commit-committed-requires-clause-first : goal.commit-committed-requires-clause-first
-commit-committed-requires-clause-first g c =
-    let at = begun g (goal.at.commit-committed-requires-clause-first g c).After-words in
-    first_there at.tied (at.live ∙ c.requires.live) at.home at.begun c.writes-writes.ensures
+commit-committed-requires-clause-first g c = (puts g (goal.at.commit-committed-requires-clause-first g c).After-words).first
 
 pub commit-committed-requires-clause-values : goal.commit-committed-requires-clause-values
-commit-committed-requires-clause-values g c =
-    let at = begun g (goal.at.commit-committed-requires-clause-values g c).After-words in
-    values_there at.tied (at.live ∙ c.requires.live) at.home at.begun c.writes-writes.ensures
+commit-committed-requires-clause-values g c = (puts g (goal.at.commit-committed-requires-clause-values g c).After-words).values
 
 pub commit-committed-requires-clause-lawful : goal.commit-committed-requires-clause-lawful
 commit-committed-requires-clause-lawful g c =

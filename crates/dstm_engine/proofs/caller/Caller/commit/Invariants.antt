@@ -1,4 +1,4 @@
-use Rattle.dstm_engine.proofs.Words.{Committing, Doing, number_or, view_of}
+use Rattle.dstm_engine.proofs.Base.{Committing, Doing, number_or, view_of}
 use Rattle.dstm_steps.proofs.Stepping.{began_as}
 use Rattle.dstm_engine.proofs.Committing.{value_there}
 use Rattle.dstm_engine.proofs.caller.Caller.commit.Given as goal

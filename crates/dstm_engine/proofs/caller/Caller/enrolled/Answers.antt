@@ -1,5 +1,5 @@
 use Rattle.std.proofs.Common.{ap}
-use Rattle.dstm_engine.proofs.Words.{LocalState, View}
+use Rattle.dstm_engine.proofs.Base.{LocalState, View}
 use Rattle.dstm_engine.proofs.caller.Caller.enrolled.Goals as goal
 
 pub make-requires : goal.make-requires

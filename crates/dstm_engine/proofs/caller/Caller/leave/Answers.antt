@@ -1,5 +1,5 @@
 use Rattle.std.proofs.Common.{◌*◌, ◌<◌, ◌∙◌, ◌≡◌, ap, sym, subst, None}
-use Rattle.dstm_engine.proofs.Words.{Exchange, Home, Leaving, LocalState, Makes, Quit, Shape, StatusWord, View, found_in, own_attempt, place}
+use Rattle.dstm_engine.proofs.Base.{Exchange, Home, Leaving, LocalState, Makes, Quit, Shape, StatusWord, View, found_in, own_attempt, place}
 use Rattle.dstm_engine.specs.Callers.{Called, is_running, seat_view, shape_of, state}
 use Rattle.dstm_engine.specs.Calls.{Performs}
 use Rattle.dstm_engine.specs.Mirror.{called, phase_by}

@@ -1,6 +1,6 @@
 use Rattle.std.proofs.Common.{◌∙◌, ◌≡◌, ap, false, None, Some, sym, true}
 use Rattle.std.specs.Prelude.{IsSome, is_some}
-use Rattle.dstm_engine.proofs.Words.{Reading, Val, Writing}
+use Rattle.dstm_engine.proofs.Base.{Reading, Val, Writing}
 use Rattle.dstm_engine.proofs.Handing.{handed_there, held_continues, ok_then, read_leaves, read_stays, reading_all, reading_some, slot_held, slot_none, slot_unopened}
 use Rattle.dstm_engine.specs.Callers.{Called, held, shape_of}
 use Rattle.dstm_engine.specs.Calls.{reading}

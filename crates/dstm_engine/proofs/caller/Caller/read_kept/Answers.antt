@@ -1,7 +1,7 @@
 use Rattle.std.proofs.Common.{ap, refl}
 use Rattle.dstm_order.specs.Tasks.Work.{Reading}
 use Rattle.dstm_engine.proofs.AtCall.{AtCall, at_call}
-use Rattle.dstm_engine.proofs.FirstOpens.{first_fresh, first_opens, first_room, first_stopped_tied, first_stops, first_tied, first_unopened, first_unread}
+use Rattle.dstm_engine.proofs.FirstOpens.{Unheld, first_opens, first_stopped_tied, first_stops, first_tied, first_unheld}
 use Rattle.dstm_engine.specs.Mirror.{set_pairs}
 use Rattle.dstm_engine.proofs.caller.Caller.read_kept.Given.{Over}
 use Rattle.dstm_engine.proofs.caller.Caller.read_kept.Goals.{After-words}
@@ -11,25 +11,22 @@ begun : (g : Over) (c : After-words g) →
     AtCall g.L.Law.holds c.self.inside c.args.self.now c.words.result.now c.renew.new.steps
 begun g c = at_call c.self.invariant c.self.view_is c.requires.table c.words.ensures c.renew.ensures
 
+unheld : (g : Over) (c : After-words g) →
+    Unheld c.words.result.now c.renew.new.steps c.self.inside.opened c.args.o
+unheld g c = first_unheld (begun g c) c.requires.live c.args.o c.requires.unheld c.requires.exists
+
 pub read_object-requires-clause-unopened : goal.read_object-requires-clause-unopened
 read_object-requires-clause-unopened g c =
-    first_unopened (begun g (goal.at.read_object-requires-clause-unopened g c).After-words) c.requires.live c.args.o
-    c.requires.unheld
+    (unheld g (goal.at.read_object-requires-clause-unopened g c).After-words).unopened
 
 pub read_object-requires-clause-unread : goal.read_object-requires-clause-unread
-read_object-requires-clause-unread g c =
-    first_unread (begun g (goal.at.read_object-requires-clause-unread g c).After-words) c.requires.live c.args.o
-    c.requires.unheld
+read_object-requires-clause-unread g c = (unheld g (goal.at.read_object-requires-clause-unread g c).After-words).unread
 
 pub read_object-requires-clause-fresh : goal.read_object-requires-clause-fresh
-read_object-requires-clause-fresh g c =
-    first_fresh (begun g (goal.at.read_object-requires-clause-fresh g c).After-words) c.requires.live c.args.o
-    c.requires.unheld
+read_object-requires-clause-fresh g c = (unheld g (goal.at.read_object-requires-clause-fresh g c).After-words).fresh
 
 pub read_object-requires-clause-room : goal.read_object-requires-clause-room
-read_object-requires-clause-room g c =
-    first_room (begun g (goal.at.read_object-requires-clause-room g c).After-words) c.requires.live c.args.o
-    c.requires.unheld c.requires.exists
+read_object-requires-clause-room g c = (unheld g (goal.at.read_object-requires-clause-room g c).After-words).room
 
 pub invariant_of-self : goal.invariant_of-self
 invariant_of-self g c =

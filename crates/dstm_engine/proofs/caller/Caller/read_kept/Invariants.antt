@@ -1,4 +1,4 @@
-use Rattle.dstm_engine.proofs.Words.{Doing, Reading, number_or, view_of}
+use Rattle.dstm_engine.proofs.Base.{Doing, Reading, number_or, view_of}
 use Rattle.dstm_steps.proofs.Stepping.{began_as}
 use Rattle.dstm_engine.proofs.caller.Caller.read_kept.Given as goal
 

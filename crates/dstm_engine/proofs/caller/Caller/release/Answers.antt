@@ -1,6 +1,6 @@
 use Rattle.std.proofs.Common.{rules, ◌∙◌, ◌≡◌, ap, true, None}
 use Rattle.std.specs.Prelude.{is_some, not, ◌&&◌}
-use Rattle.dstm_engine.proofs.Words.{LocalState, drop_read, now, read_of}
+use Rattle.dstm_engine.proofs.Base.{LocalState, drop_read, now, read_of}
 use Rattle.dstm_engine.proofs.AtCall.{AtCall, at_call, at_home, ends_at, state_at}
 use Rattle.dstm_engine.proofs.Released.{holds_without, read_there, released_place, released_tied, released_widens}
 use Rattle.dstm_engine.specs.Callers.{Called, held, is_opened, state}

@@ -1,5 +1,5 @@
 use Rattle.std.proofs.Common.{rules, ◌*◌, ◌+◌, ◌<◌, ◌∙◌, ◌≡◌, ap, arith, refl, subst, sym, true}
-use Rattle.dstm_engine.proofs.Words.{Steps, Writing}
+use Rattle.dstm_engine.proofs.Base.{Steps, Writing}
 use Rattle.dstm_core.proofs.Columns.{in_table}
 use Rattle.dstm_engine.proofs.AtCall.{AtCall, at_call}
 use Rattle.dstm_engine.proofs.FirstOpens.{first_stopped_tied, first_stops, first_write_marked, first_write_opens, first_write_tied, locator_there, write_fresh, write_room}

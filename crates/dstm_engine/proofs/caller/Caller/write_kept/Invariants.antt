@@ -1,4 +1,4 @@
-use Rattle.dstm_engine.proofs.Words.{Doing, Writing, number_or, view_of}
+use Rattle.dstm_engine.proofs.Base.{Doing, Writing, number_or, view_of}
 use Rattle.dstm_steps.proofs.Stepping.{began_as}
 use Rattle.dstm_engine.proofs.caller.Caller.write_kept.Given as goal
 

@@ -1,5 +1,5 @@
 use Rattle.std.proofs.Common.{◌≡◌, ◌∙◌, Some, ap, sym, subst, ◌<◌}
-use Rattle.dstm_engine.proofs.Words.{Add, CallersWord, DeciderState, Enrol, Home, Makes, View, given_part, place}
+use Rattle.dstm_engine.proofs.Base.{Add, CallersWord, DeciderState, Enrol, Home, Makes, View, given_part, place}
 use Rattle.dstm_engine.specs.Enrolled.{enrolled_as}
 use Rattle.dstm_engine.specs.Tables.{Founding}
 use Rattle.dstm_engine.proofs.Enrolling.{enrols, founder_is, caller_is}

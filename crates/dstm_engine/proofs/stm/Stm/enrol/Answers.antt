@@ -1,5 +1,5 @@
 use Rattle.std.proofs.Common.{◌≡◌, Some, ap, sym, ◌∙◌}
-use Rattle.dstm_engine.proofs.Words.{Add, Enrol, LocalState, View, number_or}
+use Rattle.dstm_engine.proofs.Base.{Add, Enrol, LocalState, View, number_or}
 use Rattle.dstm_words.specs.Seats.{state_by}
 use Rattle.dstm_words.proofs.Seats.{state_after}
 use Rattle.dstm_engine.proofs.stm.Stm.enrol.Goals as goal

@@ -1,5 +1,5 @@
 use Rattle.std.proofs.Common.{◌≡◌, ◌<◌, ◌≤◌, [], None}
-use Rattle.dstm_tl2_engine.proofs.Words.{Beginning, ClockWord, Done, Under, begin, now, place, table_of, view_of}
+use Rattle.dstm_tl2_engine.proofs.Base.{Beginning, ClockWord, Done, Under, begin, now, place, table_of, view_of}
 use Rattle.dstm_tl2_engine.proofs.Begins.{anew_tied, begins_anew, begun_here, begun_nothing, freed_here, freed_tied, nothing_back, since_begin_of, spent_by, spent_from, top_here, unspent_by}
 use Rattle.dstm_tl2_engine.proofs.Tying.{at_words, ends_here}
 use Rattle.dstm_tl2_engine.specs.Began.{began_of}

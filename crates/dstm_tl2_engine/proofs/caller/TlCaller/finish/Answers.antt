@@ -1,5 +1,5 @@
 use Rattle.std.proofs.Common.{rules, ◌≡◌, Some, refl, subst, sym, true}
-use Rattle.dstm_tl2_engine.proofs.Words.{Doing, Finishing, Home, is_valid, now}
+use Rattle.dstm_tl2_engine.proofs.Base.{Doing, Finishing, Home, is_valid, now}
 use Rattle.dstm_tl2_engine.proofs.Committing.{Finished, Left, finished_commits, finished_stays, finished_tied, finished_told, free_here, law_there, left_here, left_leaves, left_tied, left_told}
 use Rattle.dstm_tl2_engine.proofs.Told.{locked_made}
 use Rattle.dstm_tl2_engine.proofs.Tying.{at_words, ends_here, kept}

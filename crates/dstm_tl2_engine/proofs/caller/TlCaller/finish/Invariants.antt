@@ -1,4 +1,4 @@
-use Rattle.dstm_tl2_engine.proofs.Words.{Doing, Finishing}
+use Rattle.dstm_tl2_engine.proofs.Base.{Doing, Finishing}
 use Rattle.dstm_tl2_engine.proofs.Calling.{begun_as}
 use Rattle.dstm_tl2_engine.proofs.caller.TlCaller.finish.Given as goal
 

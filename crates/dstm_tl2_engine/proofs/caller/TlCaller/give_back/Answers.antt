@@ -1,5 +1,5 @@
 use Rattle.std.proofs.Common.{◌∙◌, None, ap, sym, subst}
-use Rattle.dstm_tl2_engine.proofs.Words.{Done, Returning, Under, now}
+use Rattle.dstm_tl2_engine.proofs.Base.{Done, Returning, Under, now}
 use Rattle.dstm_tl2_engine.proofs.Begins.{freed_here, freed_tied, nothing_back, returned_nothing, returns_done}
 use Rattle.dstm_tl2_engine.proofs.Tying.{at_words, ends_here}
 use Rattle.dstm_tl2_engine.specs.Attempts.{done}

@@ -1,5 +1,5 @@
 use Rattle.std.proofs.Common.{rules, ◌∙◌, ap, length, refl, subst, sym}
-use Rattle.dstm_tl2_engine.proofs.Words.{AtRest, Doing, Locking}
+use Rattle.dstm_tl2_engine.proofs.Base.{AtRest, Doing, Locking}
 use Rattle.dstm_tl2_engine.proofs.Committing.{Left, Locked, has_locked, left_here, left_leaves, left_tied, left_told, locked_done, locked_here, locked_kept, locked_stays, locked_tied, locked_told, locks_here}
 use Rattle.dstm_tl2_engine.proofs.Told.{rest_can, rest_made}
 use Rattle.dstm_tl2_engine.proofs.Tying.{at_words, ends_here, kept}

@@ -1,4 +1,4 @@
-use Rattle.dstm_tl2_engine.proofs.Words.{Doing, Locking}
+use Rattle.dstm_tl2_engine.proofs.Base.{Doing, Locking}
 use Rattle.dstm_tl2_engine.proofs.Calling.{begun_as}
 use Rattle.dstm_tl2_engine.proofs.caller.TlCaller.lock.Given as goal
 

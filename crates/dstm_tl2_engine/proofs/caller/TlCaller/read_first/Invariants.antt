@@ -1,4 +1,4 @@
-use Rattle.dstm_tl2_engine.proofs.Words.{Doing, Opening}
+use Rattle.dstm_tl2_engine.proofs.Base.{Doing, Opening}
 use Rattle.dstm_tl2_engine.proofs.Calling.{begun_as}
 use Rattle.dstm_tl2_engine.proofs.caller.TlCaller.read_first.Given as goal
 

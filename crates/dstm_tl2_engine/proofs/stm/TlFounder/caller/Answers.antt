@@ -1,5 +1,5 @@
 use Rattle.std.proofs.Common.{◌≡◌, ◌∙◌, Some, ap, sym, subst, ◌<◌}
-use Rattle.dstm_tl2_engine.proofs.Words.{Add, CallersWord, Enrol, Home, Makes, View, first, given_part, local, place, table_of}
+use Rattle.dstm_tl2_engine.proofs.Base.{Add, CallersWord, Enrol, Home, Makes, View, first, given_part, local, place, table_of}
 use Rattle.dstm_tl2_engine.specs.Tables.{TlFounding}
 use Rattle.dstm_tl2_engine.proofs.Enrolling.{caller_is, enrols, founder_is}
 use Rattle.dstm_tl2_engine.proofs.stm.TlFounder.caller.Goals as goal

@@ -1,5 +1,5 @@
 use Rattle.std.proofs.Common.{◌≡◌, Some, ap, sym, ◌∙◌}
-use Rattle.dstm_tl2_engine.proofs.Words.{Add, Enrol, LocalState, View, number_or, table_of, tl2}
+use Rattle.dstm_tl2_engine.proofs.Base.{Add, Enrol, LocalState, View, number_or, table_of, tl2}
 use Rattle.dstm_seats.specs.Seats.{state_by}
 use Rattle.dstm_tl2_words.proofs.Seats.{state_after}
 use Rattle.dstm_tl2_engine.proofs.stm.TlStm.enrol.Goals as goal

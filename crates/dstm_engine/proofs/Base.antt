@@ -1,4 +1,4 @@
--- The words of the layers below that the proofs of this crate speak in, gathered from where they stand.
+-- What the proofs speak of: the words of the layers below, gathered from where they stand.
 pub use Rattle.dstm_core.specs.Counts.{begin_count, is_begin}
 pub use Rattle.dstm_core.specs.Events.{Event}
 pub use Rattle.dstm_core.specs.Histories.{CoreRun, IsSight, entry_of, history_of, new_value, new_values, old_values, read_values, seen, version_value, will_of}

@@ -1,4 +1,4 @@
--- The words of the layers below that the proofs of this crate speak in, gathered from where they stand.
+-- What the proofs speak of: the words of the layers below, gathered from where they stand.
 pub use Rattle.dstm_machines.specs.Traces.{IsPastOf, events_of}
 pub use Rattle.dstm_machines.specs.Traces.Access.{Add, Load}
 pub use Rattle.dstm_mem.specs.Memory.{AgreesWith, HoldsAlso, MarksAtMost, value_in, with_set}
