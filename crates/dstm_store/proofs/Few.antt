@@ -5,7 +5,7 @@ use Rattle.std.specs.Prelude.{IsTrue, Result, Ok, Err, IfOk, OnOk, IsSome, Conta
 use Rattle.std.proofs.lemmas.Bool.{cases_eq, cases_Bool}
 use Rattle.std.proofs.lemmas.List.Elements.{Contains-append_left, Contains-append_right}
 use Rattle.dstm_model.specs.declared.layout.Layout.{Layout}
-use Rattle.dstm_model.specs.declared.op.Op.TheVariants.{Insert, Remove, Member}
+use Rattle.dstm_model.specs.declared.op.Op.TheVariants.{Member}
 use Rattle.dstm_model.specs.declared.op.Which.TheVariants as which
 use Rattle.dstm_model.specs.declared.reply.Reply.{Reply}
 use Rattle.dstm_model.specs.declared.reply.Reply.TheVariants.{Yes}
@@ -20,11 +20,17 @@ use Rattle.dstm_release_list.specs.Walk.{AddsAtMost, most_of_insert, most_of_rem
 use Rattle.dstm_release_list.proofs.Adding.{then_first, then_other}
 use Rattle.dstm_store.specs.Keeps.{IsTouched, TouchesAtMost}
 
--- how many reads a reply adds at most that is not Yes
-few_unless_yes : (reply : Reply) →
-    (reply ≡ Yes) ⊎ ((reply ≢ Yes) × (most_of_insert reply ≤ 5) × (most_of_remove reply ≤ 4))
-few_unless_yes Yes = inl refl
-few_unless_yes reply = inr ((λ e. cc), omega arith, omega arith)
+cases_Yes : (reply : Reply) → (reply ≡ Yes) ⊎ (reply ≢ Yes)
+cases_Yes Yes = inl refl
+cases_Yes reply = inr (λ e. cc)
+
+pub inserts_few : (reply : Reply) → reply ≢ Yes → most_of_insert reply ≤ 5
+inserts_few Yes other = absurd (other refl)
+inserts_few reply other = omega arith
+
+pub removes_few : (reply : Reply) → reply ≢ Yes → most_of_remove reply ≤ 4
+removes_few Yes other = absurd (other refl)
+removes_few reply other = omega arith
 
 module _ {S E : Type 0} (M : Ghosts S E) where
   -- ---- of one operation
@@ -97,33 +103,21 @@ module _ {S E : Type 0} (M : Ghosts S E) where
         ];
       }
 
-  pub touches-insert : (old new : S) (layout : Layout) (key : ℕ) (r : Result Reply E) →
-      IfOk r (λ reply. AddsAtMost (most_of_insert reply) M old new) →
-      Applies M (IsOfList layout) (IsList layout) (Insert which.List key) old new r →
+  -- a change, whose answer says how many reads it adds at most: it sets three objects where it says Yes, and else none
+  pub touches-change : (old new : S) (layout : Layout) (most : ℕ) (most_of : Reply → ℕ) (r : Result Reply E) →
+      most_of Yes + 3 ≤ most → ((reply : Reply) → reply ≢ Yes → most_of reply ≤ most) →
+      IfOk r (λ reply. AddsAtMost (most_of reply) M old new) → IfOk r (λ reply. Unit {0} → OpensToSet M old new) →
+      IfOk r (λ reply. reply ≢ Yes → OnlyReads M old new) →
       OnOk r (SameButThree layout (M.written old) (M.written new)) → M.all_write (M.place old) ≡ false →
-      OnOk r (TouchesAtMost 5 M old new)
-  touches-insert old new layout key (Ok reply) adds done same off =
-      elim (few_unless_yes reply) [
+      OnOk r (TouchesAtMost most M old new)
+  touches-change old new layout most most_of (Ok reply) fits_yes fits adds marks quiet same off =
+      elim (cases_Yes reply) [
         | inl is_yes ↦
-            touches-sets layout 5 2 (omega arith) off (done.marks tt) same
-            (subst (λ (r : Reply). AddsAtMost (most_of_insert r) M old new) is_yes adds)
-        | inr other ↦ touches-reads 5 (most_of_insert reply) other.1 off (done.quiet other.0) adds
+            touches-sets layout most (most_of Yes) fits_yes off (marks tt) same
+            (subst (λ (r : Reply). AddsAtMost (most_of r) M old new) is_yes adds)
+        | inr other ↦ touches-reads most (most_of reply) (fits reply other) off (quiet other) adds
       ]
-  touches-insert old new layout key (Err e) adds done same off = tt
-
-  pub touches-remove : (old new : S) (layout : Layout) (key : ℕ) (r : Result Reply E) →
-      IfOk r (λ reply. AddsAtMost (most_of_remove reply) M old new) →
-      Applies M (IsOfList layout) (IsList layout) (Remove which.List key) old new r →
-      OnOk r (SameButThree layout (M.written old) (M.written new)) → M.all_write (M.place old) ≡ false →
-      OnOk r (TouchesAtMost 4 M old new)
-  touches-remove old new layout key (Ok reply) adds done same off =
-      elim (few_unless_yes reply) [
-        | inl is_yes ↦
-            touches-sets layout 4 1 (omega arith) off (done.marks tt) same
-            (subst (λ (r : Reply). AddsAtMost (most_of_remove r) M old new) is_yes adds)
-        | inr other ↦ touches-reads 4 (most_of_remove reply) other.2 off (done.quiet other.0) adds
-      ]
-  touches-remove old new layout key (Err e) adds done same off = tt
+  touches-change old new layout most most_of (Err e) fits_yes fits adds marks quiet same off = tt
 
   pub touches-member : (old new : S) (layout : Layout) (key : ℕ) (r : Result Reply E) →
       OnOk r (AddsAtMost 3 M old new) →
