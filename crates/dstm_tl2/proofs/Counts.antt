@@ -73,12 +73,12 @@ clock_bound t es run =
     omega arith
 
 -- no Enrol and no Draw wraps
-pub add_fits : (t : Table) (es : List Event) (e : Event) → t.callers ≤ 64 → t.attempts ≤ 65536 → Run t es →
+pub add_fits : (t : Table) (es : List Event) (e : Event) → t.callers ≤ 64 → t.attempts ≤ 18014398509481984 → Run t es →
     Fits t es e → (e.kind ≡ Enrol) ⊎ (is_draw e.kind ≡ true) → e.found + 1 < 2 ^ 64
 add_fits t es e c a run fits (inl k) = let f = fits.enrolled k in let l = fits.caller in omega arith
 add_fits t es e c a run fits (inr k) = elim (clock_step t es e fits) [
   | inr x ↦ absurd (let y = x.kind in cc)
   | inl x ↦
       let f = x.found in let b = clock_bound t es run in
-      let m : t.callers * t.attempts ≤ 64 * 65536 = mul-le _ _ _ _ c a in omega arith
+      let m : t.callers * t.attempts ≤ 64 * 18014398509481984 = mul-le _ _ _ _ c a in omega arith
 ]

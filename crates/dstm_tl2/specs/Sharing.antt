@@ -20,7 +20,7 @@ module _ {L : Type 0} where
   -- the log is a run of a table that was told these terms, which are sound
   pub record IsRunOf (holds : L → List Val → Type 0) (terms : Terms L) (log : List Event) : Type 0 where
     pub callers : terms.callers ≤ 64
-    pub attempts : terms.attempts ≤ 65536
+    pub attempts : terms.attempts ≤ 18014398509481984
     pub objects : length terms.start.value.items ≤ 1048576
     pub lawful : holds terms.law.value terms.start.value.items
     pub run : LawfulRun (table_of terms) (holds terms.law.value) log

@@ -31,7 +31,7 @@ pub struct TlCaller<L: Law> {
     terms: Terms<L>,
     steps: Steps<L>,
     number: u32,
-    begun: u32,
+    begun: u64,
     // How many objects are still locked: the first ones of those open for writing.
     locked: u32,
     left: Option<TlAgain>,
@@ -88,6 +88,13 @@ impl<L: Law> TlCaller<L> {
         ensures { result ≡ is_live self.now }
     {
         self.left.is_none()
+    }
+
+    /// How many numbers had been drawn as its last attempt began.
+    pub fn sample(&self) -> u64
+        ensures { result ≡ (state self.now).sample }
+    {
+        self.steps.sample
     }
 
     // What is known of its last attempt. It takes no step.

@@ -28,7 +28,7 @@ pub struct TlStm<L: Law> {
     words: Words<L>,
     start: Vec<Val>,
     callers: u32,
-    attempts: u32,
+    attempts: u64,
     law: L,
 }
 
@@ -117,6 +117,27 @@ impl<L: Law> TlStm<L> {
         ensures start { IfOk result (λ t. t.0.terms.start.value.items ≡ start.items) }
         ensures founder { IfOk result (λ t. t.1 ≡ founded t.0) }
     {
+        TlStm::make_long(alloc, start, callers, u64::from(attempts), law)
+    }
+
+    /// The same for more attempts: up to 2^54 of each caller, which no program uses up.
+    pub fn make_long(
+        alloc: Global,
+        start: Vec<Val>,
+        callers: u32,
+        attempts: u64,
+        law: L,
+    ) -> Result<(TlStm<L>, TlFounder<L>), AllocError>
+        requires objects { length start.items ≤ 1048576 }
+        requires callers { (1 ≤ callers) × (callers ≤ 64) }
+        requires attempts { (1 ≤ attempts) × (attempts ≤ 18014398509481984) }
+        requires lawful { L.holds law start.items }
+        ensures callers { IfOk result (λ t. t.0.terms.callers ≡ callers) }
+        ensures attempts { IfOk result (λ t. t.0.terms.attempts ≡ attempts) }
+        ensures law { IfOk result (λ t. t.0.terms.law.value ≡ law) }
+        ensures start { IfOk result (λ t. t.0.terms.start.value.items ≡ start.items) }
+        ensures founder { IfOk result (λ t. t.1 ≡ founded t.0) }
+    {
         let terms = Terms {
             callers,
             attempts,
@@ -159,11 +180,18 @@ impl<L: Law> TlStm<L> {
         }
     }
 
-    // How many objects the table has.
-    fn objects(&self) -> u32
+    /// How many objects the table has.
+    pub fn objects(&self) -> u32
         ensures { result ≡ length self.now.terms.start.value.items }
     {
         self.start.len() as u32
+    }
+
+    /// How many attempts each caller has.
+    pub fn attempts(&self) -> u64
+        ensures { result ≡ self.now.terms.attempts }
+    {
+        self.attempts
     }
 
     // Draws the number of a caller whose seat has none.

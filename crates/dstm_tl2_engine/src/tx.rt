@@ -47,6 +47,16 @@ impl<L: Law> TlCaller<L> {
         self.begin_one(stm)?;
         Ok(TlAttempt { caller: self, stm })
     }
+
+    /// Goes on with the last attempt, as it was left: its `TlTx` was dropped before its end.
+    pub fn resume<'a>(&'a mut self, stm: &'a TlStm<L>) -> TlTx<'a, L>
+        requires table { self.old.home ≡ stm.now }
+        ensures same { result.caller.ghost_name ≡ self.entry.ghost_name }
+        ensures table { result.stm.now ≡ stm.now }
+        ensures attempt { result.caller.now ≡ self.old }
+    {
+        TlAttempt { caller: self, stm }
+    }
 }
 
 impl<'a, L: Law, S: TlTable<L>> TlAttempt<'a, L, S> {

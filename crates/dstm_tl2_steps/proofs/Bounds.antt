@@ -74,7 +74,7 @@ module _ {L : Type 0} {holds : L → List Val → Type 0} {home : Home L} {b : B
   clock_below : clock (table_of home.terms) (view_of steps.seat).log < 2 ^ 61
   clock_below =
       let bound = clock_bound (table_of home.terms) (view_of steps.seat).log u.run.run.run in
-      let most : home.terms.callers * home.terms.attempts ≤ 64 * 65536 = mul-le _ _ _ _ u.run.callers u.run.attempts in
+      let most : home.terms.callers * home.terms.attempts ≤ 64 * 18014398509481984 = mul-le _ _ _ _ u.run.callers u.run.attempts in
       omega arith
 
   -- A NUMBER DRAWN is far below 2^63, so that twice that number, plus 2, is a word.

@@ -33,12 +33,12 @@ impl<L: Law> Words<L> {
     pub fn make(
         alloc: Global,
         callers: u32,
-        attempts: u32,
+        attempts: u64,
         law: L,
         start: &[Val],
     ) -> Result<(Words<L>, Tl2Seat<L>), AllocError>
         requires callers { callers ≤ 64 }
-        requires attempts { attempts ≤ 65536 }
+        requires attempts { attempts ≤ 18014398509481984 }
         requires objects { length start.now ≤ 1048576 }
         requires lawful { L.holds law start.now }
         ensures callers { IfOk result (λ t. t.0.terms.callers ≡ callers) }
@@ -66,7 +66,7 @@ impl<L: Law> Words<L> {
     ) -> Result<(Words<L>, Tl2Seat<L>), AllocError>
         requires start { terms.now.start.value.items ≡ start.now }
         requires callers { terms.now.callers ≤ 64 }
-        requires attempts { terms.now.attempts ≤ 65536 }
+        requires attempts { terms.now.attempts ≤ 18014398509481984 }
         requires objects { length start.now ≤ 1048576 }
         requires lawful { L.holds terms.now.law.value start.now }
         ensures terms { IfOk result (λ t. t.0.terms ≡ terms.now) }
