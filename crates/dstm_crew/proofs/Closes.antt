@@ -11,18 +11,18 @@ use Rattle.dstm_report.specs.declared.report.Row.{Row}
 use Rattle.dstm_report.specs.Lawful.{store_after}
 use Rattle.dstm_report.specs.Turns.{Turning}
 use Rattle.dstm_options.specs.declared.options.Options.{Options}
-use Rattle.dstm_tables.specs.declared.founding.Founder.{Founder}
-use Rattle.dstm_tables.specs.declared.tables.Caller.{Caller}
-use Rattle.dstm_tables.specs.declared.tables.Table.{Table}
-use Rattle.dstm_tables.specs.Callers.{CameByCalls, begun, done, let_go, number_of, round_of}
-use Rattle.dstm_tables.proofs.Calls.{by_calls, calls_at_close, came_on}
-use Rattle.dstm_tables.specs.Founders.{TakesBack, first_of, seen_by}
-use Rattle.dstm_tables.specs.Tells as known
-use Rattle.dstm_tables.specs.Tells.{ByCalls, IsPast, IsSpent, all_done, begun_of, callers_of, committed_of, done_of, let_go_by, start_of, values_of}
-use Rattle.dstm_tables.proofs.Closing.{done_at_close, let_go_at_close, spent_at_close}
-use Rattle.dstm_tables.proofs.History.{sights_agree}
-use Rattle.dstm_tables.proofs.Staying.{attempts_past}
-use Rattle.dstm_tables.proofs.Same.{callers_past, first_past, first_seen, layout_is, layout_past, locators_past, number_below, of_past, only_tells_all, start_past, writes_past}
+use Rattle.dstm_jobs.specs.declared.founding.Founder.{Founder}
+use Rattle.dstm_jobs.specs.declared.tables.Caller.{Caller}
+use Rattle.dstm_jobs.specs.declared.tables.Table.{Table}
+use Rattle.dstm_jobs.specs.Callers.{CameByCalls, begun, done, let_go, number_of, round_of}
+use Rattle.dstm_jobs.proofs.Calls.{by_calls, calls_at_close, came_on}
+use Rattle.dstm_jobs.specs.Founders.{TakesBack, first_of, seen_by}
+use Rattle.dstm_jobs.specs.Tells as known
+use Rattle.dstm_jobs.specs.Tells.{ByCalls, IsPast, IsSpent, all_done, begun_of, callers_of, committed_of, done_of, let_go_by, start_of, values_of}
+use Rattle.dstm_jobs.proofs.Closing.{done_at_close, let_go_at_close, spent_at_close}
+use Rattle.dstm_jobs.proofs.History.{sights_agree}
+use Rattle.dstm_jobs.proofs.Staying.{attempts_past}
+use Rattle.dstm_jobs.proofs.Same.{callers_past, first_past, first_seen, layout_is, layout_past, locators_past, number_below, of_past, only_tells_all, start_past, writes_past}
 use Rattle.dstm_records.specs.Records.{IsAlone, IsMade, IsRoundOf, IsRun, KeepsReads, TellOf, seed_for}
 use Rattle.dstm_records.specs.Rounds.{is_parallel, most_jobs, workers_left}
 use Rattle.dstm_records.specs.Running.{AddsRound, Begins, count_left, turns_behind}

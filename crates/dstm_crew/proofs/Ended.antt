@@ -6,15 +6,15 @@ use Rattle.dstm_model.specs.Answers.{Committed}
 use Rattle.dstm_workload.specs.declared.workload.Workload.{Workload}
 use Rattle.dstm_report.specs.Turns.{job_at}
 use Rattle.dstm_options.specs.declared.options.Options.{Options}
-use Rattle.dstm_tables.specs.declared.tables.Round.{Round}
-use Rattle.dstm_tables.specs.declared.tables.Table.{Table}
-use Rattle.dstm_tables.specs.Answers.{KeepsFew}
-use Rattle.dstm_tables.specs.Callers.{let_go, number_of, round_of}
-use Rattle.dstm_tables.specs.Tells.{ByCalls, IsPast, IsRun, SameOwn, done_of}
-use Rattle.dstm_tables.proofs.Calls.{by_calls, calls_at_close, came_on}
-use Rattle.dstm_tables.proofs.Closing.{done_at_close, let_go_at_close, none_at_close, stop_at_close}
-use Rattle.dstm_tables.proofs.Same.{callers_past, number_below}
-use Rattle.dstm_tables.proofs.Staying.{lets_go_past}
+use Rattle.dstm_jobs.specs.declared.tables.Round.{Round}
+use Rattle.dstm_jobs.specs.declared.tables.Table.{Table}
+use Rattle.dstm_jobs.specs.Answers.{KeepsFew}
+use Rattle.dstm_jobs.specs.Callers.{let_go, number_of, round_of}
+use Rattle.dstm_jobs.specs.Tells.{ByCalls, IsPast, IsRun, SameOwn, done_of}
+use Rattle.dstm_jobs.proofs.Calls.{by_calls, calls_at_close, came_on}
+use Rattle.dstm_jobs.proofs.Closing.{done_at_close, let_go_at_close, none_at_close, stop_at_close}
+use Rattle.dstm_jobs.proofs.Same.{callers_past, number_below}
+use Rattle.dstm_jobs.proofs.Staying.{lets_go_past}
 use Rattle.dstm_records.specs.Records.{KeepsReads, seed_for}
 use Rattle.dstm_crew.specs.declared.share.Share.{Share}
 use Rattle.dstm_crew.specs.declared.worker.Worker.{Worker}

@@ -14,7 +14,7 @@ use Rattle.dstm_report.specs.Lawful.{first_job, jobs_left}
 use Rattle.dstm_report.specs.Turns.{Turning, job_at, jobs_of, without_first}
 use Rattle.dstm_report.proofs.Rising.{rise_all, turn_ends}
 use Rattle.dstm_records.specs.Running.{turns_behind}
-use Rattle.dstm_tables.specs.declared.trying.Finished.{Finished}
+use Rattle.dstm_jobs.specs.declared.trying.Finished.{Finished}
 use Rattle.dstm_crew.specs.declared.share.Share.{Share}
 use Rattle.dstm_crew.specs.Collecting.{AreTaken, CanCollect, IsFit, IsRowOf, head, number_at}
 use Rattle.dstm_crew.proofs.Jobs.{first_of_jobs, other_turn, own_turn}

@@ -11,24 +11,24 @@ use Rattle.std.proofs.lemmas.Option.{get_or_from_slice_get, slice_get_within, sl
 use mathlib.Core.List.{reverse-cons}
 use Rattle.dstm_model.specs.declared.reply.Reply.{Reply}
 use Rattle.dstm_model.specs.Answers.{Committed, by_caller}
-use Rattle.dstm_tables.specs.declared.tables.Round.{Round}
+use Rattle.dstm_jobs.specs.declared.tables.Round.{Round}
 use Rattle.dstm_workload.specs.declared.workload.Job.{Job}
 use Rattle.dstm_workload.specs.declared.workload.Workload.{Workload}
 use Rattle.dstm_report.specs.declared.report.Row.{Row}
 use Rattle.dstm_report.specs.Lawful.{first_job, jobs_left}
 use Rattle.dstm_report.specs.Turns.{Turning, job_at, jobs_of, without_first}
 use Rattle.dstm_options.specs.declared.options.Options.{Options}
-use Rattle.dstm_tables.specs.Answers.{IsAnsweredBy}
+use Rattle.dstm_jobs.specs.Answers.{IsAnsweredBy}
 use Rattle.dstm_records.specs.Records.{IsReleasing, KeepsFewReads}
-use Rattle.dstm_tables.specs.Answers.{KeepsFew, IsDone}
+use Rattle.dstm_jobs.specs.Answers.{KeepsFew, IsDone}
 use Rattle.dstm_records.specs.Rounds.{has_job, left_by}
 use Rattle.dstm_records.specs.Told.{AreTold, IsTold}
 use Rattle.dstm_records.proofs.Told.{AreTold-push, Rise, rise_of, turn_names}
-use Rattle.dstm_tables.specs.declared.trying.Finished.{Finished}
+use Rattle.dstm_jobs.specs.declared.trying.Finished.{Finished}
 use Rattle.dstm_crew.specs.Workers.{AreDone, next_job}
 use Rattle.dstm_crew.specs.declared.share.Share.{Share}
-use Rattle.dstm_tables.specs.Tells.{lets_go, all_done, callers_of, committed_of, done_of}
-use Rattle.dstm_tables.proofs.History.{is_history}
+use Rattle.dstm_jobs.specs.Tells.{lets_go, all_done, callers_of, committed_of, done_of}
+use Rattle.dstm_jobs.proofs.History.{is_history}
 use Rattle.dstm_crew.specs.Collecting.{AreRunBy, AreTaken, CanCollect, HasCollected, IsFit, IsNext, IsRowOf, caller_of, head, number_at}
 use Rattle.dstm_crew.specs.Shares.{AreShared, IsShared}
 use Rattle.dstm_crew.proofs.Going.{Comes, Going, at_end, at_place, comes, drop_at, each_place, finished_at, found, get_drop, going_first, going_more, heads_at, same_line, same_turn, workers_apart}

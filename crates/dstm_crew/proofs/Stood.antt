@@ -15,11 +15,11 @@ use Rattle.dstm_report.specs.declared.report.Row.{Row}
 use Rattle.dstm_report.specs.Lawful.{first_job, store_after}
 use Rattle.dstm_report.specs.Turns.{Turning, job_at, jobs_of}
 use Rattle.dstm_options.specs.declared.options.Options.{Options}
-use Rattle.dstm_tables.specs.declared.tables.Round.{Round}
-use Rattle.dstm_tables.specs.declared.trying.Finished.{Finished}
-use Rattle.dstm_tables.specs.Jobs.{HadToStop, NoneWasted}
-use Rattle.dstm_tables.specs.Tells.{ByCalls, callers_of, committed_of, start_of}
-use Rattle.dstm_tables.proofs.History.{sights_agree}
+use Rattle.dstm_jobs.specs.declared.tables.Round.{Round}
+use Rattle.dstm_jobs.specs.declared.trying.Finished.{Finished}
+use Rattle.dstm_jobs.specs.Jobs.{HadToStop, NoneWasted}
+use Rattle.dstm_jobs.specs.Tells.{ByCalls, callers_of, committed_of, start_of}
+use Rattle.dstm_jobs.proofs.History.{sights_agree}
 use Rattle.dstm_records.specs.Records.{ArePaired, IsMade, IsParallel, IsRoundOf, TellOf, next_of, seed_for}
 use Rattle.dstm_records.specs.Rounds.{all_workers, greatest, has_job, is_parallel, left_by, most_jobs, workers_in, workers_left}
 use Rattle.dstm_records.specs.Running.{AddsRound, Begins, turns_behind}

@@ -25,29 +25,29 @@ use Rattle.dstm_report.proofs.Rising.{all_blocked, each-filter, first_holds, ris
 use Rattle.dstm_records.specs.Records.{WasAsked, count_done, is_blocked, is_given_up, most_tries}
 use Rattle.dstm_records.specs.Rounds.{attempts_for, has_job, is_parallel, left_by, workers_left}
 use Rattle.std.proofs.lemmas.Option.{none-some}
-use Rattle.dstm_tables.specs.Answers.{IsAnsweredBy, entries_of}
-use Rattle.dstm_tables.proofs.Entries.{entries_push}
-use Rattle.dstm_tables.proofs.History.{is_history}
+use Rattle.dstm_jobs.specs.Answers.{IsAnsweredBy, entries_of}
+use Rattle.dstm_jobs.proofs.Entries.{entries_push}
+use Rattle.dstm_jobs.proofs.History.{is_history}
 use Rattle.dstm_model.specs.Map.{Agrees, IsLegal}
 use Rattle.dstm_records.specs.Told.{AreTold, IsGivenUp, IsTold}
 use Rattle.dstm_records.proofs.Collecting.{Collected}
 use Rattle.dstm_records.proofs.Follows.{agrees_next, answers_there}
 use Rattle.dstm_records.proofs.Replies.{not_given_up}
 use Rattle.dstm_records.proofs.Told.{AreTold-push, rows_told}
-use Rattle.dstm_tables.specs.declared.tables.Caller.{Caller}
-use Rattle.dstm_tables.specs.declared.tables.Table.{Table}
-use Rattle.dstm_tables.specs.Callers.{AtRest, done, number_of, round_of}
-use Rattle.dstm_tables.specs.Callers as callers
-use Rattle.dstm_tables.specs.Jobs.{DidJob}
-use Rattle.dstm_tables.specs.OnlyCallers.{HasGivenUp, StoodAlone, left_by as values_left}
-use Rattle.dstm_tables.specs.Tells.{CannotBegin, IsSpent, all_done, attempts_of, callers_of, committed_of, done_of, start_of, used_by}
-use Rattle.dstm_tables.specs.Tries.{GoesOn, IsSpentFrom}
-use Rattle.dstm_tables.proofs.Staying.{goes_nowhere, goes_on, same_attempts}
-use Rattle.dstm_tables.proofs.Same.{callers_same, can_begin, law_same, locators_same, number_below, only_tells_all, start_same, writes_same}
-use Rattle.dstm_tables.specs.declared.style.Style.{Style}
-use Rattle.dstm_tables.specs.declared.style.Style.TheVariants.{Branches, Loose, Plain}
-use Rattle.dstm_tables.specs.Styles.{style_of}
-use Rattle.dstm_tables.specs.declared.trying.Finished.{Finished}
+use Rattle.dstm_jobs.specs.declared.tables.Caller.{Caller}
+use Rattle.dstm_jobs.specs.declared.tables.Table.{Table}
+use Rattle.dstm_jobs.specs.Callers.{AtRest, done, number_of, round_of}
+use Rattle.dstm_jobs.specs.Callers as callers
+use Rattle.dstm_jobs.specs.Jobs.{DidJob}
+use Rattle.dstm_jobs.specs.OnlyCallers.{HasGivenUp, StoodAlone, left_by as values_left}
+use Rattle.dstm_jobs.specs.Tells.{CannotBegin, IsSpent, all_done, attempts_of, callers_of, committed_of, done_of, start_of, used_by}
+use Rattle.dstm_jobs.specs.Tries.{GoesOn, IsSpentFrom}
+use Rattle.dstm_jobs.proofs.Staying.{goes_nowhere, goes_on, same_attempts}
+use Rattle.dstm_jobs.proofs.Same.{callers_same, can_begin, law_same, locators_same, number_below, only_tells_all, start_same, writes_same}
+use Rattle.dstm_jobs.specs.declared.style.Style.{Style}
+use Rattle.dstm_jobs.specs.declared.style.Style.TheVariants.{Branches, Loose, Plain}
+use Rattle.dstm_jobs.specs.Styles.{style_of}
+use Rattle.dstm_jobs.specs.declared.trying.Finished.{Finished}
 use Rattle.dstm_crew.specs.Alone.{CanRunAlone, blocked_so_far, Goes, HasRunAlone, Leads, MayStep, Sweeps, is_done, still_waiting}
 use Rattle.dstm_crew.specs.declared.sweeping.Swept.{Swept}
 use Rattle.dstm_crew.specs.declared.sweeping.Swept.TheVariants as swept

@@ -1,7 +1,7 @@
 -- What a worker has done, and how it is kept.
 use Rattle.std.specs.Prelude.{ℕ, ◌+◌, ◌*◌, ◌≤◌, List, length, map, All, slice_range, vec_capacity}
 use Rattle.dstm_model.specs.declared.reply.Reply.{Reply}
-use Rattle.dstm_tables.specs.declared.trying.Finished.{Finished}
+use Rattle.dstm_jobs.specs.declared.trying.Finished.{Finished}
 use Rattle.dstm_crew.specs.declared.done.Done.TheInside.{Inside}
 use Rattle.dstm_crew.specs.declared.done.Mark.{Mark}
 

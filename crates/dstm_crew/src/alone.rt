@@ -4,7 +4,7 @@ ghost use Rattle.dstm_workload.specs.Workload.{IsValidWorkload};
 ghost use Rattle.dstm_store.specs.Whole.{IsLawful};
 ghost use Rattle.dstm_records.specs.Records.{seed_for};
 ghost use Rattle.dstm_records.specs.Rounds.{is_parallel};
-ghost use Rattle.dstm_tables.specs.Callers.{CameByCalls, HasSeed};
+ghost use Rattle.dstm_jobs.specs.Callers.{CameByCalls, HasSeed};
 ghost use Rattle.dstm_crew.specs.Opened.{IsOpened, with_jobs};
 ghost use Rattle.dstm_crew.specs.Playing.{CanPlay, HasPlayed, WasBrokenOff};
 
@@ -17,7 +17,7 @@ use dstm_options::Options;
 use dstm_records::shape_for;
 use dstm_report::Turns;
 use dstm_store::StoreLaw;
-use dstm_tables::{Caller, Founder, Table, Zeros, make};
+use dstm_jobs::{Caller, Founder, Table, Zeros, make};
 use dstm_workload::Workload;
 use std::alloc::{AllocError, Global};
 use std::mem::replace;

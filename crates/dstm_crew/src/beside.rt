@@ -7,7 +7,7 @@ ghost use Rattle.dstm_workload.specs.Workload.{IsValidWorkload};
 use crate::gate::Gate;
 use crate::play::Play;
 use crate::worker::Worker;
-use dstm_tables::Table;
+use dstm_jobs::Table;
 use std::thread::{Threads, for_each_mut};
 
 /// Runs all workers beside one another, each in a thread of its own where one can be made. They pass the gate only if they

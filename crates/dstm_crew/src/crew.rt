@@ -15,7 +15,7 @@ use dstm_options::Options;
 use dstm_records::Rounds;
 use dstm_report::{Report, Row, Rows, Turns};
 use dstm_store::{opening, read_state};
-use dstm_tables::Zeros;
+use dstm_jobs::Zeros;
 use dstm_workload::Workload;
 use std::alloc::{AllocError, Global};
 use std::mem::replace;

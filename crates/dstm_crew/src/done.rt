@@ -3,7 +3,7 @@ ghost use Rattle.std.specs.List.{slice_get};
 ghost use Rattle.std.specs.Option.{option_map};
 
 use dstm_model::Reply;
-use dstm_tables::Finished;
+use dstm_jobs::Finished;
 use std::alloc::{AllocError, Global};
 use std::marker::Model;
 

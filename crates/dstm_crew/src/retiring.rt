@@ -1,11 +1,11 @@
 ghost use Rattle.std.specs.Prelude.{◌≡◌, [], length, map, All, IfOk};
-ghost use Rattle.dstm_tables.specs.Callers.{IsOver, home_of};
-ghost use Rattle.dstm_tables.specs.Founders.{TakesBack, home_there};
+ghost use Rattle.dstm_jobs.specs.Callers.{IsOver, home_of};
+ghost use Rattle.dstm_jobs.specs.Founders.{TakesBack, home_there};
 ghost use Rattle.dstm_crew.specs.Seats.{HasBack, RestsAt, share_of};
 
 use crate::share::Share;
 use crate::worker::Worker;
-use dstm_tables::{Founder, Table};
+use dstm_jobs::{Founder, Table};
 use std::alloc::{AllocError, Global};
 
 /// Retires the callers of all workers, in order, and gives back their shares.

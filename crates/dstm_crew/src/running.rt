@@ -1,5 +1,5 @@
 ghost use Rattle.std.specs.Prelude.{◌≡◌, ◌<◌, ◌≤◌, ◌++◌, ◌∷◌, [], true, length, vec_len, vec_capacity, All, IfOk, IfErr};
-ghost use Rattle.dstm_tables.specs.declared.tables.Round.{Round as Record};
+ghost use Rattle.dstm_jobs.specs.declared.tables.Round.{Round as Record};
 ghost use Rattle.dstm_store.specs.Whole.{IsLawful};
 ghost use Rattle.dstm_workload.specs.Workload.{IsValidWorkload};
 ghost use Rattle.dstm_records.specs.Rounds.{is_parallel};
@@ -15,7 +15,7 @@ use crate::share::Share;
 use crate::sizing::shape_for;
 use dstm_model::Val;
 use dstm_store::StoreLaw;
-use dstm_tables::{Round, Zeros, make};
+use dstm_jobs::{Round, Zeros, make};
 use std::alloc::{AllocError, Global};
 use std::thread::Threads;
 

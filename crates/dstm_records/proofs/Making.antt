@@ -5,7 +5,7 @@ use Rattle.dstm_words.specs.declared.terms.Terms as core_terms
 use Rattle.dstm_tl2.specs.declared.terms.Terms as tl2_terms
 use Rattle.dstm_store.specs.declared.law.StoreLaw.{StoreLaw}
 use Rattle.dstm_options.specs.declared.options.Engine.{Engine}
-use Rattle.dstm_tables.specs.Founders.{HasShape}
+use Rattle.dstm_jobs.specs.Founders.{HasShape}
 
 module _ (options : Options) (version number jobs : ℕ) where
   -- a table of such a shape

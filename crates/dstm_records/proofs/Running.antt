@@ -6,7 +6,7 @@ use Rattle.dstm_records.proofs.Base.{AddsRound, AreRoundsOf, Begins, IsClosed, I
 use Rattle.std.proofs.lemmas.List.{append-nil, length-append}
 use Rattle.std.proofs.lemmas.List.Elements.{recursion_from_All}
 use Rattle.dstm_report.proofs.Rising.{jobs_left-none}
-use Rattle.dstm_tables.proofs.History.{sights_agree}
+use Rattle.dstm_jobs.proofs.History.{sights_agree}
 use Rattle.dstm_records.proofs.MoreRounds.{rows_of, rows_of-push, left_after, left_after-push, AreRoundsOf-push}
 
 -- where a run stands before the round of this number; `more` tells whether there is one

@@ -8,7 +8,7 @@ use Rattle.dstm_records.proofs.Base.{Agrees, AreBelow, Committed, IsBefore, IsRu
 use Rattle.dstm_model.specs.Map.{state_after}
 use mathlib.Core.List.{reverse-cons}
 use Rattle.dstm_report.proofs.Rising.{find_line, length-without_first, rise_all, turn_ends}
-use Rattle.dstm_tables.proofs.History.{is_history}
+use Rattle.dstm_jobs.proofs.History.{is_history}
 use Rattle.dstm_records.specs.Told.{AreTold, IsTold}
 use Rattle.dstm_records.proofs.Collecting.{Collected, at_start, row_more, row_given_up}
 use Rattle.dstm_records.proofs.Follows.{agrees_next, answers_there}

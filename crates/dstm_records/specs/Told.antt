@@ -6,7 +6,7 @@ use Rattle.dstm_workload.specs.declared.workload.Job.{Job}
 use Rattle.dstm_workload.specs.declared.workload.Workload.{Workload}
 use Rattle.dstm_report.specs.declared.report.Row.{Row}
 use Rattle.dstm_report.specs.Lawful.{AllBlocked, first_job}
-use Rattle.dstm_tables.specs.Answers.{IsAnsweredBy}
+use Rattle.dstm_jobs.specs.Answers.{IsAnsweredBy}
 use Rattle.dstm_records.specs.Records.{IsGivenUpRightly}
 use Rattle.dstm_records.specs.Rounds.{left_by}
 

@@ -1,6 +1,6 @@
 ghost use Rattle.std.specs.Prelude.{◌≡◌, []};
 
-use dstm_tables::Round;
+use dstm_jobs::Round;
 use std::alloc::Global;
 use std::marker::Model;
 
@@ -12,7 +12,7 @@ pub struct Rounds {
 
 impl Model for Rounds {
     ghost use Rattle.std.specs.Prelude.{List};
-    ghost use Rattle.dstm_tables.specs.declared.tables.Round.{Round};
+    ghost use Rattle.dstm_jobs.specs.declared.tables.Round.{Round};
 
     ghost Value = { List Round };
 

@@ -1,6 +1,6 @@
 use Rattle.std.proofs.Common.{List, ap, subst, ◌∙◌}
 use Rattle.dstm_model.specs.declared.value.Val.{Val}
-use Rattle.dstm_tables.specs.Founders.{seen_by}
+use Rattle.dstm_jobs.specs.Founders.{seen_by}
 use Rattle.dstm_crew.specs.Opened.{IsOpened}
 use Rattle.dstm_crew.proofs.Closes.{adds_alone, can_run, least_came, opened_for}
 use Rattle.dstm_crew.proofs.alone.play_alone.Goals as goal

@@ -3,7 +3,7 @@ use Rattle.dstm_report.specs.declared.report.Row.{Row}
 use Rattle.dstm_report.specs.Lawful.{first_job}
 use Rattle.dstm_report.specs.Turns.{Turning}
 use Rattle.dstm_report.proofs.Rising.{first_own, length-without_first}
-use Rattle.dstm_tables.specs.Styles.{CanTry}
+use Rattle.dstm_jobs.specs.Styles.{CanTry}
 use Rattle.dstm_crew.specs.Releases.{releases}
 use Rattle.dstm_crew.proofs.Worked.{can_try}
 use Rattle.dstm_crew.specs.Alone.{MayStep, Sweeps}

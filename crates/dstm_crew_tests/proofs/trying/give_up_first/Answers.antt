@@ -4,8 +4,8 @@ use Rattle.std.proofs.lemmas.List.Elements.{All-get_or}
 use Rattle.dstm_workload.specs.declared.workload.Job.{Job}
 use Rattle.dstm_workload.specs.declared.workload.Workload.{Workload}
 use Rattle.dstm_workload.specs.Workload.{IsJob, IsValidWorkload}
-use Rattle.dstm_tables.specs.declared.style.Style.{Style}
-use Rattle.dstm_tables.specs.Styles.{CanTry, style_of}
+use Rattle.dstm_jobs.specs.declared.style.Style.{Style}
+use Rattle.dstm_jobs.specs.Styles.{CanTry, style_of}
 use Rattle.dstm_crew.proofs.Worked.{can_try}
 use Rattle.dstm_crew_tests.proofs.trying.give_up_first.Goals as goal
 

@@ -1,7 +1,7 @@
 use Rattle.std.proofs.Common.{◌+◌, ◌++◌, ◌∙◌, ◌∷◌, ◌≡◌, List, [], ap, length, length-append, ℕ}
 use Rattle.std.specs.Prelude.{vec_capacity}
 use Rattle.dstm_model.specs.declared.reply.Reply.{Reply}
-use Rattle.dstm_tables.specs.declared.trying.Finished.{Finished}
+use Rattle.dstm_jobs.specs.declared.trying.Finished.{Finished}
 use Rattle.dstm_crew.specs.declared.done.Mark.{Mark}
 use Rattle.dstm_crew.specs.Done.{DoneAs, told}
 use Rattle.dstm_crew.proofs.Kept.{told_push}

@@ -2,8 +2,8 @@ use Rattle.std.proofs.Common.{◌≡◌, ◌<◌, ◌≤◌, ◌+◌, ℕ, List,
 use Rattle.std.proofs.lemmas.List.{get_or_default}
 use Rattle.dstm_workload.specs.declared.workload.Job.{Job}
 use Rattle.dstm_report.specs.Turns.{job_at, no_job}
-use Rattle.dstm_tables.specs.declared.style.Style.{Style}
-use Rattle.dstm_tables.specs.declared.trying.Finished.{Finished}
+use Rattle.dstm_jobs.specs.declared.style.Style.{Style}
+use Rattle.dstm_jobs.specs.declared.trying.Finished.{Finished}
 use Rattle.dstm_crew.specs.Done.{DoneAs}
 use Rattle.dstm_crew.specs.Releases.{releases}
 use Rattle.dstm_crew.specs.Tries.{HasLeft}

@@ -1,0 +1,59 @@
+-- What an attempt that did a job leaves, under either engine.
+use Rattle.std.proofs.Common.{◌≡◌, ◌∷◌, true, List, refl, subst, sym, All}
+use Rattle.dstm_model.specs.declared.value.Val.{Val}
+use Rattle.dstm_model.specs.declared.layout.Layout.{Layout}
+use Rattle.dstm_model.specs.Answers.{Committed}
+use Rattle.dstm_model.specs.Store.{IsPlain}
+use Rattle.dstm_store.specs.Job.{Job as Body, DoesAll}
+use Rattle.dstm_store.specs.Whole.{IsLawful}
+use Rattle.dstm_compose.specs.declared.body.Outcome.TheVariants.{Ran}
+use Rattle.dstm_compose.specs.Compose.{IsRight}
+use Rattle.dstm_workload.specs.declared.workload.Job.{Job}
+use Rattle.dstm_jobs.specs.Answers.{IsAnsweredBy, KeepsFew}
+use Rattle.dstm_jobs.specs.declared.style.Style.{Style}
+use Rattle.dstm_jobs.specs.declared.style.Style.TheVariants.{Branches, Loose}
+use Rattle.dstm_jobs.specs.declared.tables.Caller.{Caller}
+use Rattle.dstm_jobs.specs.declared.trying.Finished.{Finished}
+use Rattle.dstm_jobs.specs.Callers.{done, law_of, number_of, round_of}
+use Rattle.dstm_jobs.specs.Jobs.{DidJob}
+use Rattle.dstm_jobs.specs.Tells.{lets_go}
+use Rattle.dstm_jobs.specs.Tries.{Did}
+use Rattle.dstm_jobs.proofs.Answered.{IsRightFor, answered_branch, answered_plain}
+
+-- where the attempts of a style let reads go, the newest transaction keeps few
+abbrev pub FewReads : Style → Job → (k n : Caller) → Type 0
+FewReads style job k n =
+    style ≡ Loose → lets_go (round_of n) ≡ true → (by : Committed) → done n ≡ by ∷ done k → KeepsFew job by
+
+module _ (layout : Layout) (job : Job) (k n : Caller) (finished : Finished) (law : (law_of k).layout ≡ layout) where
+  did_job : (style : Style) (is_right : List Val → List Val → Type 0) → (d : Did is_right k n finished.number) →
+      (IsRightFor is_right layout d.entry → IsAnsweredBy layout job.ops finished.replies d.entry) →
+      FewReads style job k n → DidJob style layout job k n finished
+  did_job style is_right d answered few =
+      let by : Committed = record { caller = number_of k; number = finished.number; entry = d.entry } in record {
+        made = d.made;
+        committed = d.committed;
+        by = by;
+        newest = d.newest;
+        is = record {
+          number = refl;
+          answered = answered (λ map lawful. d.right map (subst (λ (l : Layout). IsLawful l map) (sym law) lawful));
+        };
+        few_reads = λ loose lets. few loose lets by d.newest;
+      }
+
+  -- by its operations in order
+  pub did_plain : (style : Style) (body : Body) → body.task.layout ≡ layout → body.task.ops ≡ job.ops →
+      finished.replies ≡ body.replies → All IsPlain job.ops →
+      Did (λ before after. DoesAll body.task before after body.replies) k n finished.number → FewReads style job k n →
+      DidJob style layout job k n finished
+  did_plain style body same ops replies plain d few =
+      did_job style _ d (λ right.
+      rw replies (answered_plain layout job.ops body.replies d.entry plain (λ map lawful agrees.
+      rw (← same, ← ops) (right map lawful agrees)))) few
+
+  -- by its first open branch
+  pub did_branch :
+      Did (λ before after. IsRight (record { layout = layout; ops = job.ops }) before after (Ran finished.replies)) k n finished.number →
+      DidJob Branches layout job k n finished
+  did_branch d = did_job Branches _ d (answered_branch layout job.ops finished.replies d.entry) (λ loose. absurd (cc))

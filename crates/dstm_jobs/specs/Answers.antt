@@ -1,0 +1,40 @@
+-- What an attempt has made of a job, as its own transaction tells.
+use Rattle.std.specs.Prelude.{◌≡◌, ℕ, ◌≤◌, true, List, length, map, Option, None, All, IsSomeAnd, sum_by}
+use Rattle.dstm_model.specs.declared.value.Val.{Val}
+use Rattle.dstm_model.specs.declared.layout.Layout.{Layout}
+use Rattle.dstm_model.specs.declared.op.Op.{Op}
+use Rattle.dstm_model.specs.declared.reply.Reply.{Reply}
+use Rattle.dstm_model.specs.Answers.{Committed}
+use Rattle.dstm_model.specs.Job.{apply_job}
+use Rattle.dstm_model.specs.Map.{Entry, Agrees, with_writes}
+use Rattle.dstm_model.specs.Store.{Store}
+use Rattle.dstm_store.specs.Keeps.{is_of_list, most_kept}
+use Rattle.dstm_store.specs.Whole.{StandsFor}
+use Rattle.dstm_workload.specs.declared.workload.Job.{Job}
+use Rattle.dstm_jobs.specs.declared.trying.Finished.{Finished}
+
+abbrev pub entries_of : List Committed → List Entry
+entries_of committed = map (λ done. done.entry) committed
+
+-- On every lawful map on which the transaction could have run, the replies are the job's, and what the transaction
+-- leaves stands for the store that the job leaves.
+abbrev pub IsAnsweredBy : Layout → List Op → List Reply → Entry → Type 0
+IsAnsweredBy layout ops replies entry =
+    (map : List Val) (held : Store) → StandsFor layout map held → Agrees map entry.reads →
+    IsSomeAnd (apply_job ops held) (λ outcome. (replies ≡ outcome.replies)
+    × StandsFor layout (with_writes map entry.writes) outcome.store)
+
+-- what was done of a job, and the transaction that did it
+pub record IsDone (layout : Layout) (job : Job) (finished : Finished) (by : Committed) : Type 0 where
+  pub number : finished.number ≡ by.number
+  pub answered : IsAnsweredBy layout job.ops finished.replies by.entry
+
+-- a transaction of a job of operations on the list has at most the reads that these keep, one by one
+abbrev pub KeepsFew : Job → Committed → Type 0
+KeepsFew job by = All (λ op. is_of_list op ≡ true) job.ops → length by.entry.reads ≤ sum_by most_kept job.ops
+
+-- the job is blocked on every lawful map that has these values
+abbrev pub IsBlockedWith : Layout → List (ℕ × Val) → Option Job → Type 0
+IsBlockedWith layout values job =
+    IsSomeAnd job (λ j. (map : List Val) (held : Store) → StandsFor layout map held → Agrees map values →
+    apply_job j.ops held ≡ None)

@@ -1,0 +1,12 @@
+pub mod Styles
+pub mod Law
+pub mod Answers
+pub mod Attempts
+pub mod Rechecks
+pub mod Tells
+pub mod Callers
+pub mod Founders
+pub mod Tries
+pub mod Jobs
+pub mod OnlyCallers
+pub mod Laws
