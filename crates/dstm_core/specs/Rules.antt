@@ -7,7 +7,6 @@ use Rattle.dstm_core.specs.declared.event.Kind.TheVariants.{Enrol, Stamp, Rank, 
 use Rattle.dstm_core.specs.declared.shape.Manager.{Manager}
 use Rattle.dstm_core.specs.declared.shape.Manager.TheVariants.{Polite, Karma, Polka, Greedy}
 use Rattle.dstm_core.specs.declared.shape.Shape.{Shape}
-use Rattle.dstm_core.specs.declared.shape.TheConstants.{MAX_RANK}
 use Rattle.dstm_core.specs.declared.state.Phase.{Phase}
 use Rattle.dstm_core.specs.declared.state.Phase.TheVariants.{Outside, Running, Paused, Putting, Validating, Drawn}
 use Rattle.dstm_core.specs.declared.state.Resolution.{Resolution}
@@ -103,7 +102,7 @@ MayRank Outside shape state rank =
     (is_some state.number ≡ true) × (state.begun < shape.attempts) × MayRankFirst shape state rank
 MayRank Running shape state rank =
     (state.stale ≡ false) × Rises shape.manager × (state.owed ≡ true)
-    × (rank ≡ min (state.rank + 1) MAX_RANK)
+    × (rank ≡ min (state.rank + 1) 1023)
 MayRank phase shape state rank = ⊥
 
 -- under Greedy an enemy may be aborted only if it is younger, or waits

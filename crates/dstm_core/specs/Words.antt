@@ -1,7 +1,6 @@
 -- The words of a table: the name of each, its place, and which words a shape has.
 use Rattle.std.specs.Prelude.{◌≡◌, ℕ, ◌+◌, ◌*◌, ◌<◌, ◌≤◌}
 use Rattle.dstm_core.specs.declared.shape.Shape.{Shape}
-use Rattle.dstm_core.specs.declared.shape.TheConstants.{MAX_OBJECTS, MAX_CALLERS, MAX_ATTEMPTS, MAX_LOCATORS, MAX_WORDS}
 use Rattle.dstm_core.specs.declared.status.Status.{Status}
 use Rattle.dstm_core.specs.declared.status.Status.TheVariants as status
 
@@ -59,14 +58,14 @@ word_count shape = shape.objects + shape.callers * (2 * shape.attempts + 4 * sha
 
 -- each number of a shape is in its range, and there are not too many words
 pub record IsValid (shape : Shape) : Type 0 where
-  pub objects : shape.objects ≤ MAX_OBJECTS
+  pub objects : shape.objects ≤ 1048576
   pub some_caller : 1 ≤ shape.callers
-  pub callers : shape.callers ≤ MAX_CALLERS
+  pub callers : shape.callers ≤ 64
   pub some_attempt : 1 ≤ shape.attempts
-  pub attempts : shape.attempts ≤ MAX_ATTEMPTS
+  pub attempts : shape.attempts ≤ 65536
   pub some_locators : shape.objects ≤ shape.locators
-  pub locators : shape.locators ≤ MAX_LOCATORS
-  pub words : word_count shape ≤ MAX_WORDS
+  pub locators : shape.locators ≤ 2097152
+  pub words : word_count shape ≤ 268435456
 
 -- the number by which a status word names a status
 abbrev pub code_of : Status → ℕ

@@ -2,7 +2,6 @@
 use Rattle.std.specs.Prelude.{◌≡◌, ◌≢◌, ℕ, ◌+◌, ◌≤◌, List, [], ◌∷◌, length, sum}
 use Rattle.dstm_core.specs.declared.shape.Manager.{Manager}
 use Rattle.dstm_core.specs.declared.shape.Manager.TheVariants.{Polite, Karma, Polka, Greedy}
-use Rattle.dstm_core.specs.declared.shape.TheConstants.{MAX_RANK}
 use Rattle.dstm_core.specs.declared.status.Status.{Status}
 use Rattle.dstm_managers.specs.declared.decider.Choice.{Choice}
 use Rattle.dstm_managers.specs.declared.decider.Choice.TheVariants.{Kill, Wait}
@@ -31,8 +30,8 @@ waits_of manager own enemy moments = waits_from manager own enemy 0 moments
 
 -- the enemy's rank is one that an attempt can have. A stamp may be any number, and Polite looks at no rank.
 abbrev pub IsRank : Manager → ℕ → Type 0
-IsRank Karma enemy = enemy ≤ MAX_RANK
-IsRank Polka enemy = enemy ≤ MAX_RANK
+IsRank Karma enemy = enemy ≤ 1023
+IsRank Polka enemy = enemy ≤ 1023
 IsRank _ enemy = Unit {0}
 
 -- the greatest number of rounds of waiting for one enemy

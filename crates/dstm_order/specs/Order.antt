@@ -9,7 +9,6 @@ use Rattle.dstm_core.specs.declared.event.Kind.TheVariants.{Enrol, Stamp, Rank, 
 use Rattle.dstm_core.specs.declared.shape.Manager.{Manager}
 use Rattle.dstm_core.specs.declared.shape.Manager.TheVariants.{Polite, Karma, Polka, Greedy}
 use Rattle.dstm_core.specs.declared.shape.Shape.{Shape}
-use Rattle.dstm_core.specs.declared.shape.TheConstants.{MAX_RANK}
 use Rattle.dstm_core.specs.declared.state.Phase.{Phase}
 use Rattle.dstm_core.specs.declared.state.Phase.TheVariants.{Paused, Drawn}
 use Rattle.dstm_core.specs.declared.status.Status.TheVariants as status
@@ -179,7 +178,7 @@ when_resolved (Committing value) = Done
 -- After its pass an open raises the rank by 1 under Karma and Polka; there it ends, as a recheck does.
 abbrev pub when_passed : Work → Manager → LocalState → Due
 when_passed Rechecking manager state = Done
-when_passed work manager state = if rises manager then Step Rank (min (state.rank + 1) MAX_RANK) else Done
+when_passed work manager state = if rises manager then Step Rank (min (state.rank + 1) 1023) else Done
 
 abbrev pub when_put : Work → LocalState → Due
 when_put (Committing value) state = in_putting value state

@@ -5,7 +5,6 @@ use Rattle.dstm_core.specs.Events.{Event}
 use Rattle.dstm_core.specs.declared.event.Kind.{Kind}
 use Rattle.dstm_core.specs.declared.event.Kind.TheVariants.{Rank, Install, LookNumber, Check, LookSelf, Draw, Commit, Kill}
 use Rattle.dstm_core.specs.declared.shape.Shape.{Shape}
-use Rattle.dstm_core.specs.declared.shape.TheConstants.{MAX_RANK}
 use Rattle.dstm_core.specs.declared.state.Phase.TheVariants.{Running}
 use Rattle.dstm_core.specs.declared.state.Read.{Read}
 use Rattle.dstm_core.specs.Rules.{is_outside}
@@ -75,7 +74,7 @@ pub record EndsInRank (shape : Shape) (state : LocalState) (events : List Event)
   pub before : List Event
   pub are : events ≡ rank ∷ before
   pub is_rank : rank.kind ≡ Rank
-  pub raised : rank.put ≡ min ((state_after shape state before).rank + 1) MAX_RANK
+  pub raised : rank.put ≡ min ((state_after shape state before).rank + 1) 1023
   pub pass : EndsInPass shape state before
 
 -- AN OPEN ENDS WITH A COMPLETE PASS, and where ranks rise with a Rank after it, unless it has left the attempt.
