@@ -1,7 +1,16 @@
 -- What contracts see of the founder of a table, which gives out its callers.
-use Rattle.std.specs.Prelude.{ℕ}
+use Rattle.std.specs.Prelude.{ℕ, List}
+use Rattle.dstm_model.specs.declared.value.Val.{Val}
+use Rattle.dstm_model.specs.Map.{Entry}
+use Rattle.dstm_core.specs.Histories as core
+use Rattle.dstm_engine.specs.Tables as dstm
+use Rattle.dstm_tl2.specs.Histories as tl2_histories
+use Rattle.dstm_tl2.specs.Sharing.{table_of}
+use Rattle.dstm_tl2_engine.specs.Tables as tl2
 use Rattle.dstm_tables.specs.declared.founding.Founder.{Founder}
 use Rattle.dstm_tables.specs.declared.founding.Founder.TheVariants.{Dstm, Tl2}
+use Rattle.dstm_tables.specs.declared.tables.Caller.{Caller}
+use Rattle.dstm_tables.specs.declared.tables.Caller.TheVariants as caller
 use Rattle.dstm_tables.specs.declared.tables.Table.{Table}
 use Rattle.dstm_tables.specs.declared.tables.Table.TheVariants as table
 
@@ -15,3 +24,41 @@ module _ {L : Type 0} where
   abbrev pub made_of : Founder L → ℕ
   made_of (Dstm f) = f.made
   made_of (Tl2 f) = f.made
+
+  -- how many of these it has not taken back
+  abbrev pub out_of : Founder L → ℕ
+  out_of (Dstm f) = f.view.out
+  out_of (Tl2 f) = f.view.out
+
+  -- how many of them are guests, which DSTM alone has
+  abbrev pub guests_of : Founder L → ℕ
+  guests_of (Dstm f) = f.guests
+  guests_of (Tl2 f) = 0
+
+  -- the numbers of the callers that it has taken back
+  abbrev pub numbers_of : Founder L → List ℕ
+  numbers_of (Dstm f) = f.view.numbers
+  numbers_of (Tl2 f) = f.view.numbers
+
+  -- what took effect on its table, as its log tells, the oldest first
+  abbrev pub history_by : Founder L → List Entry
+  history_by (Dstm f) = core.history_of f.home.terms.shape f.home.terms.start.value.items f.view.log
+  history_by (Tl2 f) = tl2_histories.history_of (table_of f.home.terms) f.view.log
+
+  -- the founder of a new table
+  abbrev pub founded : Table L → Founder L
+  founded (table.Dstm h) = Dstm (dstm.founded h)
+  founded (table.Tl2 h) = Tl2 (tl2.founded h)
+
+  module _ (holds : L → List Val → Type 0) where
+    -- it has made a new caller, by DSTM of this seed
+    abbrev pub Enrols : (f g : Founder L) → (seed : ℕ) → Caller L → Type 0
+    Enrols (Dstm f) (Dstm g) seed (caller.Dstm k) = dstm.Enrols holds f g seed k
+    Enrols (Tl2 f) (Tl2 g) seed (caller.Tl2 k) = tl2.Enrols holds f g k
+    Enrols f g seed k = ⊥
+
+    -- it has taken a caller back
+    abbrev pub Retires : (f g : Founder L) → Caller L → Type 0
+    Retires (Dstm f) (Dstm g) (caller.Dstm k) = dstm.Retires holds f g k
+    Retires (Tl2 f) (Tl2 g) (caller.Tl2 k) = tl2.Retires holds f g k
+    Retires f g k = ⊥

@@ -5,5 +5,6 @@
 mod founding;
 mod tables;
 
-pub use founding::Founder;
+pub use dstm_engine::{EnrolError, Zeros};
+pub use founding::{Founder, make_dstm, make_tl2};
 pub use tables::{Caller, Round, Table};
