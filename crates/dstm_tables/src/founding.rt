@@ -2,11 +2,12 @@ ghost use Rattle.std.specs.Prelude.{◌≡◌, ◌↔◌, ◌<◌, ◌≤◌, If
 ghost use Rattle.dstm_core.specs.Words.{IsValid};
 ghost use Rattle.dstm_engine.specs.Tables.{IsFull};
 ghost use Rattle.dstm_model.specs.Map.{state_after};
-ghost use Rattle.dstm_tables.specs.Callers.{home_of};
-ghost use Rattle.dstm_tables.specs.Founders.{Enrols, Retires, founded, history_by, home_there, made_of, out_of};
+ghost use Rattle.dstm_tables.specs.Callers.{IsOver, home_of};
+ghost use Rattle.dstm_tables.specs.Founders.{Enrols, GivesOut, Retires, TakesBack, founded, guests_of, history_by, home_there, made_of, out_of, seen_by};
 ghost use Rattle.dstm_tables.specs.Tables.{IsByDstm, IsByTl2, callers_there, law_there, objects_there, start_there};
+ghost use Rattle.dstm_tables.specs.Tells.{IsRun, values_of};
 
-use crate::tables::{Caller, Table};
+use crate::tables::{Caller, Round, Table};
 use dstm_core::Shape;
 use dstm_engine::{EnrolError, Stm, Zeros};
 use dstm_model::{Law, Val};
@@ -77,6 +78,7 @@ impl<L: Law> Founder<L> {
         ensures same { IfErr result (λ e. self.new ≡ self.old) }
         ensures table { home_there self.new ≡ table.now }
         ensures home { IfOk result (λ k. home_of k ≡ table.now) }
+        ensures gives { IfOk result (GivesOut L.holds table.now self.old self.new seed) }
     {
         match self {
             Founder::Dstm(founder) => match table {
@@ -94,12 +96,31 @@ impl<L: Law> Founder<L> {
         }
     }
 
+    /// The same, where one is left to be made.
+    pub fn next_caller(
+        &mut self,
+        alloc: Global,
+        table: &Table<L>,
+        seed: u64,
+    ) -> Result<Caller<L>, AllocError>
+        requires table { home_there self.old ≡ table.now }
+        requires room { made_of self.old < callers_there table.now }
+        ensures { IfOk result (GivesOut L.holds table.now self.old self.new seed) }
+    {
+        match self.caller(alloc, table, seed) {
+            Ok(caller) => Ok(caller),
+            Err(EnrolError::Memory(error)) => Err(error),
+            Err(EnrolError::Full) => unreachable!(),
+        }
+    }
+
     /// Ends the attempt of a caller if it was dropped before its end, and takes in what the caller has seen.
     pub fn retire(&mut self, table: &Table<L>, caller: Caller<L>)
         requires table { home_there self.old ≡ table.now }
         requires caller { home_of caller ≡ table.now }
         ensures retired { Retires L.holds self.old self.new caller }
         ensures table { home_there self.new ≡ table.now }
+        ensures back { IsOver caller → TakesBack self.old self.new caller }
     {
         match self {
             Founder::Dstm(founder) => match table {
@@ -131,6 +152,39 @@ impl<L: Law> Founder<L> {
 }
 
 impl<L: Law> Table<L> {
+    /// The values of its objects, and what is kept of it. A table that had guests keeps no record; see `close_plain`. On want
+    /// of memory it is given up.
+    pub fn close(
+        self,
+        alloc: Global,
+        founder: Founder<L>,
+    ) -> Result<(Vec<Val>, Round<L>), AllocError>
+        requires founder { home_there founder ≡ self }
+        requires out { out_of founder ≡ 0 }
+        requires guests { guests_of founder ≡ 0 }
+        ensures round { IfOk result (λ t. t.1 ≡ seen_by founder) }
+        ensures run { IfOk result (λ t. IsRun L.holds t.1) }
+        ensures values { IfOk result (λ t. t.0.items ≡ values_of t.1) }
+        ensures lawful { IfOk result (λ t. L.holds (law_there self) t.0.items) }
+    {
+        match self {
+            Table::Dstm(stm) => match founder {
+                Founder::Dstm(founder) => {
+                    let (values, record) = stm.close(alloc, founder)?;
+                    Ok((values, Round::Dstm(record)))
+                }
+                Founder::Tl2(_) => unreachable!(),
+            },
+            Table::Tl2(stm) => match founder {
+                Founder::Tl2(founder) => {
+                    let (values, record) = stm.close(alloc, founder)?;
+                    Ok((values, Round::Tl2(record)))
+                }
+                Founder::Dstm(_) => unreachable!(),
+            },
+        }
+    }
+
     /// The values of its objects as they stand. On want of memory it is given up.
     pub fn close_plain(self, alloc: Global, founder: Founder<L>) -> Result<Vec<Val>, AllocError>
         requires founder { home_there founder ≡ self }

@@ -2,9 +2,12 @@
 //! these words alone, and the laws on them, look at which engine it is.
 #![tactic(auto)]
 
+mod attempting;
 mod founding;
+pub mod laws;
 mod tables;
 
+pub use attempting::{Ended, attempt};
 pub use dstm_engine::{EnrolError, Zeros};
 pub use founding::{Founder, make_dstm, make_tl2};
 pub use tables::{Caller, Round, Table};
