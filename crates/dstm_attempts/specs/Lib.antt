@@ -1,0 +1,3 @@
+pub mod Attempts
+pub mod Dstm
+pub mod Tl2

@@ -1,0 +1,246 @@
+ghost use Rattle.std.specs.Prelude.{◌≡◌, ◌<◌, List, true, false, IfErr, IfOk, OnOk};
+ghost use Rattle.dstm_model.specs.declared.value.Val.{Val};
+ghost use Rattle.dstm_tables.specs.Callers.{home_of};
+ghost use Rattle.dstm_attempts.specs.Attempts.{AddsNothing, Begins, Finds, Flags, IsClosed, IsLost, IsNotOpened, IsOpened, IsSpent, Keeps, LeavesLawful, LooksChanged, LooksSame, LooksSpent, MayBegin, Puts, Refuses, TakesEffect, attempts_of, begun, clock, is_under_way, objects_of, renewed};
+ghost use Rattle.dstm_attempts.specs.declared.error.Look.TheVariants as look;
+
+use crate::error::{Look, NotOpened, Spent};
+use crate::{dstm, tl2};
+use dstm_model::{Law, Val};
+use dstm_tables::{Caller, Table};
+
+/// What makes the attempts of a caller, one after the other, call by call.
+#[derive(Drop)]
+pub struct Attempts<L: Law> {
+    caller: Caller<L>,
+    // An attempt is under way: no call on it answered that it is over, and it has not committed.
+    going: bool,
+    ghost under_way: { Flags going caller },
+}
+
+impl<L: Law> Attempts<L> {
+    /// The attempts of a caller that has none under way.
+    pub fn of(caller: Caller<L>) -> Attempts<L>
+        requires closed { IsClosed caller }
+        ensures { result.caller ≡ caller }
+    {
+        Attempts {
+            caller,
+            going: false,
+        }
+    }
+
+    /// The caller.
+    pub fn into_caller(self) -> Caller<L>
+        ensures { result ≡ self.caller }
+    {
+        self.caller
+    }
+
+    /// An attempt is under way. By TL2 it is not told where the caller has none left.
+    pub fn is_under_way(&self) -> bool
+        ensures is { result ≡ true → is_under_way self.now.caller ≡ true }
+        ensures is_not { result ≡ false → IsClosed self.now.caller }
+    {
+        self.going
+    }
+
+    /// How many objects the table has.
+    pub fn objects(&self, table: &Table<L>) -> u32
+        requires table { home_of self.now.caller ≡ table.now }
+        ensures { result ≡ objects_of self.now.caller }
+    {
+        match &self.caller {
+            Caller::Dstm(_) => match table {
+                Table::Dstm(stm) => stm.shape().objects,
+                Table::Tl2(_) => unreachable!(),
+            },
+            Caller::Tl2(_) => match table {
+                Table::Tl2(stm) => stm.objects(),
+                Table::Dstm(_) => unreachable!(),
+            },
+        }
+    }
+
+    /// How many attempts the caller may begin.
+    pub fn attempts(&self, table: &Table<L>) -> u64
+        requires table { home_of self.now.caller ≡ table.now }
+        ensures { result ≡ attempts_of self.now.caller }
+    {
+        match &self.caller {
+            Caller::Dstm(_) => match table {
+                Table::Dstm(stm) => u64::from(stm.shape().attempts),
+                Table::Tl2(_) => unreachable!(),
+            },
+            Caller::Tl2(_) => match table {
+                Table::Tl2(stm) => stm.attempts(),
+                Table::Dstm(_) => unreachable!(),
+            },
+        }
+    }
+
+    /// By TL2 how many numbers had been drawn as the last attempt began; by DSTM zero.
+    pub fn clock(&self) -> u64
+        ensures { result ≡ clock self.now.caller }
+    {
+        match &self.caller {
+            Caller::Dstm(_) => 0,
+            Caller::Tl2(caller) => caller.sample(),
+        }
+    }
+
+    /// Makes the next attempt the first of a new transaction.
+    pub fn renew(&mut self)
+        ensures caller { self.new.caller ≡ renewed self.old.caller }
+        ensures going { self.new.going ≡ self.old.going }
+    {
+        match &mut self.caller {
+            Caller::Dstm(caller) => caller.next_transaction(),
+            Caller::Tl2(_) => {}
+        }
+    }
+
+    /// Begins an attempt.
+    pub fn begin(&mut self, table: &Table<L>) -> Result<(), Spent>
+        requires table { home_of self.old.caller ≡ table.now }
+        ensures begins { OnOk result (Begins L.holds self.old.caller self.new.caller) }
+        ensures spent { IfErr result (λ _. IsSpent self.new.caller) }
+        ensures none { IfErr result (λ _. begun self.new.caller ≡ begun self.old.caller) }
+        ensures nothing { AddsNothing self.old.caller self.new.caller }
+    {
+        match &mut self.caller {
+            Caller::Dstm(caller) => match table {
+                Table::Dstm(stm) => dstm::begin(caller, &mut self.going, stm),
+                Table::Tl2(_) => unreachable!(),
+            },
+            Caller::Tl2(caller) => match table {
+                Table::Tl2(stm) => tl2::begin(caller, &mut self.going, stm),
+                Table::Dstm(_) => unreachable!(),
+            },
+        }
+    }
+
+    /// Opens an object for reading, and answers its value.
+    pub fn read(&mut self, table: &Table<L>, object: u32) -> Result<Val, NotOpened>
+        requires table { home_of self.old.caller ≡ table.now }
+        ensures keeps { Keeps self.old.caller self.new.caller }
+        ensures stops { IfErr result (IsNotOpened L.holds false object self.old.caller self.new.caller) }
+        ensures refuses { Refuses self.old.caller object result }
+        ensures finds { IfOk result (Finds L.holds self.old.caller self.new.caller object) }
+        ensures may { OnOk result ((map : List Val) × MayBegin L.holds self.new.caller map) }
+    {
+        match &mut self.caller {
+            Caller::Dstm(caller) => match table {
+                Table::Dstm(stm) => dstm::read(caller, &mut self.going, stm, object),
+                Table::Tl2(_) => unreachable!(),
+            },
+            Caller::Tl2(caller) => match table {
+                Table::Tl2(stm) => tl2::read(caller, &mut self.going, stm, object),
+                Table::Dstm(_) => unreachable!(),
+            },
+        }
+    }
+
+    /// Opens an object for reading and writing, and answers its value.
+    pub fn write(&mut self, table: &Table<L>, object: u32) -> Result<Val, NotOpened>
+        requires table { home_of self.old.caller ≡ table.now }
+        ensures keeps { Keeps self.old.caller self.new.caller }
+        ensures stops { IfErr result (IsNotOpened L.holds true object self.old.caller self.new.caller) }
+        ensures refuses { Refuses self.old.caller object result }
+        ensures finds { IfOk result (Finds L.holds self.old.caller self.new.caller object) }
+        ensures may { OnOk result ((map : List Val) × MayBegin L.holds self.new.caller map) }
+        ensures going { OnOk result (self.new.going ≡ true) }
+        ensures exists { OnOk result (object < objects_of self.new.caller) }
+        ensures opened { OnOk result (IsOpened self.new.caller object) }
+    {
+        match &mut self.caller {
+            Caller::Dstm(caller) => match table {
+                Table::Dstm(stm) => dstm::write(caller, &mut self.going, stm, object),
+                Table::Tl2(_) => unreachable!(),
+            },
+            Caller::Tl2(caller) => match table {
+                Table::Tl2(stm) => tl2::write(caller, &mut self.going, stm, object),
+                Table::Dstm(_) => unreachable!(),
+            },
+        }
+    }
+
+    /// Sets the value of an object that is open for writing.
+    pub fn set(&mut self, table: &Table<L>, object: u32, value: Val)
+        requires table { home_of self.old.caller ≡ table.now }
+        requires going { self.old.going ≡ true }
+        requires exists { object < objects_of self.old.caller }
+        requires opened { IsOpened self.old.caller object }
+        ensures keeps { Keeps self.old.caller self.new.caller }
+        ensures puts { Puts L.holds self.old.caller self.new.caller object value }
+        ensures going { self.new.going ≡ true }
+        ensures opened { IsOpened self.new.caller object }
+    {
+        match &mut self.caller {
+            Caller::Dstm(caller) => match table {
+                Table::Dstm(stm) => dstm::set(caller, stm, object, value),
+                Table::Tl2(_) => unreachable!(),
+            },
+            Caller::Tl2(caller) => match table {
+                Table::Tl2(stm) => tl2::set(caller, stm, object, value),
+                Table::Dstm(_) => unreachable!(),
+            },
+        }
+    }
+
+    /// Commits the attempt, and tells whether it has taken effect.
+    pub fn commit(&mut self, table: &Table<L>) -> bool
+        requires table { home_of self.old.caller ≡ table.now }
+        requires lawful { LeavesLawful L.holds self.old.caller }
+        ensures takes { result ≡ true → TakesEffect L.holds self.old.caller self.new.caller }
+        ensures keeps { result ≡ false → Keeps self.old.caller self.new.caller }
+        ensures lost { result ≡ false → IsLost L.holds self.old.caller self.new.caller }
+        ensures home { home_of self.new.caller ≡ home_of self.old.caller }
+    {
+        match &mut self.caller {
+            Caller::Dstm(caller) => match table {
+                Table::Dstm(stm) => dstm::commit(caller, &mut self.going, stm),
+                Table::Tl2(_) => unreachable!(),
+            },
+            Caller::Tl2(caller) => match table {
+                Table::Tl2(stm) => tl2::commit(caller, &mut self.going, stm),
+                Table::Dstm(_) => unreachable!(),
+            },
+        }
+    }
+
+    /// Leaves the attempt. By TL2 there is nothing to do for it.
+    pub fn abandon(&mut self, table: &Table<L>)
+        requires table { home_of self.old.caller ≡ table.now }
+        ensures keeps { Keeps self.old.caller self.new.caller }
+    {
+        match &mut self.caller {
+            Caller::Dstm(caller) => match table {
+                Table::Dstm(stm) => dstm::abandon(caller, &mut self.going, stm),
+                Table::Tl2(_) => unreachable!(),
+            },
+            Caller::Tl2(_) => {}
+        }
+    }
+
+    /// One look whether something has changed. By DSTM it looks at what the attempt has read, and leaves it where that has
+    /// changed. By TL2 it begins an attempt, and something has changed where `since` is not its clock.
+    pub fn look(&mut self, table: &Table<L>, since: u64) -> Look
+        requires table { home_of self.old.caller ≡ table.now }
+        ensures same { result ≡ look.Same → LooksSame since self.old.caller self.new.caller }
+        ensures changed { result ≡ look.Changed → LooksChanged L.holds since self.old.caller self.new.caller }
+        ensures spent { result ≡ look.Spent → LooksSpent self.old.caller self.new.caller }
+        ensures nothing { AddsNothing self.old.caller self.new.caller }
+    {
+        match &mut self.caller {
+            Caller::Dstm(caller) => match table {
+                Table::Dstm(stm) => dstm::look(caller, &mut self.going, stm),
+                Table::Tl2(_) => unreachable!(),
+            },
+            Caller::Tl2(caller) => match table {
+                Table::Tl2(stm) => tl2::look(caller, &mut self.going, stm, since),
+                Table::Dstm(_) => unreachable!(),
+            },
+        }
+    }
+}
