@@ -1,18 +1,18 @@
 -- What an attempt under way has read and set, what a call on it leaves, and how it ends, by either engine.
-use Rattle.std.specs.Prelude.{◌≡◌, ◌≢◌, ◌⊎◌, inl, inr, ℕ, ◌+◌, ◌≤◌, Bool, true, false, List, Option, Result, Err, IsTrue, slice_set}
+use Rattle.std.specs.Prelude.{◌≡◌, ◌≢◌, ℕ, ◌+◌, ◌≤◌, Bool, true, false, List, Option, Result, Err, IsTrue, slice_set}
 use Rattle.dstm_model.specs.Answers.{Committed}
 use Rattle.dstm_model.specs.declared.value.Val.{Val}
 use Rattle.dstm_model.specs.Map.{value_at}
 use Rattle.dstm_mem.specs.Memory.{with_set}
 use Rattle.dstm_order.specs.Tasks.Work.{Rechecking}
 use Rattle.dstm_engine.specs.Attempts as dstm
-use Rattle.dstm_engine.specs.Callers as dstm
-use Rattle.dstm_engine.specs.Transactions as dstm
+use Rattle.dstm_engine.specs.Callers as dstm_callers
+use Rattle.dstm_engine.specs.Transactions as dstm_calls
 use Rattle.dstm_tl2.specs.Rules.{Event}
 use Rattle.dstm_tl2_order.specs.Tasks.Work.{Opening}
 use Rattle.dstm_tl2_engine.specs.Attempts as tl2
-use Rattle.dstm_tl2_engine.specs.Callers as tl2
-use Rattle.dstm_tl2_engine.specs.Transactions as tl2
+use Rattle.dstm_tl2_engine.specs.Callers as tl2_callers
+use Rattle.dstm_tl2_engine.specs.Transactions as tl2_calls
 use Rattle.dstm_tables.specs.Callers.{done, home_of, law_of, number_of}
 use Rattle.dstm_tables.specs.declared.tables.Caller.{Caller}
 use Rattle.dstm_tables.specs.declared.tables.Caller.TheVariants.{Dstm, Tl2}
@@ -23,40 +23,44 @@ use Rattle.dstm_attempts.specs.Tl2 as by_tl2
 use Rattle.dstm_attempts.specs.declared.error.NotOpened.{NotOpened}
 use Rattle.dstm_attempts.specs.declared.error.NotOpened.TheVariants.{Over, Foreign}
 
+-- how an attempt began: by TL2 the log tells it
+pub data Began : Type 0 where
+  ByDstm : Beginning → Began
+  ByTl2 : List Event → Began
+
 -- which attempt it is, of which caller of which table; and what this caller has committed before
 pub record Attempt (L : Type 0) : Type 0 where
   pub home : Table L
   pub number : ℕ
-  pub began : Beginning ⊎ List Event
+  pub began : Began
   pub done : List Committed
 
 module _ {L : Type 0} where
-  -- how it began: by TL2 the log tells it
-  abbrev pub began : Caller L → Beginning ⊎ List Event
-  began (Dstm k) = inl (beginning k)
-  began (Tl2 k) = inr (tl2.begun_log k.number k.log)
+  abbrev pub began : Caller L → Began
+  began (Dstm k) = ByDstm (beginning k)
+  began (Tl2 k) = ByTl2 (tl2_callers.begun_log k.number k.log)
 
   abbrev pub attempt : Caller L → Attempt L
   attempt k = record { home = home_of k; number = number_of k; began = began k; done = done k }
 
   -- how many objects its table has
   abbrev pub objects_of : Caller L → ℕ
-  objects_of (Dstm k) = (dstm.shape_of k).objects
-  objects_of (Tl2 k) = tl2.objects_of k
+  objects_of (Dstm k) = (dstm_callers.shape_of k).objects
+  objects_of (Tl2 k) = tl2_callers.objects_of k
 
   -- how many attempts it has, and how many of them it has begun
   abbrev pub attempts_of : Caller L → ℕ
-  attempts_of (Dstm k) = (dstm.shape_of k).attempts
-  attempts_of (Tl2 k) = (tl2.table_of_caller k).attempts
+  attempts_of (Dstm k) = (dstm_callers.shape_of k).attempts
+  attempts_of (Tl2 k) = (tl2_callers.table_of_caller k).attempts
 
   abbrev pub begun : Caller L → ℕ
-  begun (Dstm k) = (dstm.state k).begun
-  begun (Tl2 k) = (tl2.state k).begun
+  begun (Dstm k) = (dstm_callers.state k).begun
+  begun (Tl2 k) = (tl2_callers.state k).begun
 
   -- under TL2 how many numbers had been drawn as its last attempt began
   abbrev pub clock : Caller L → ℕ
   clock (Dstm k) = 0
-  clock (Tl2 k) = (tl2.state k).sample
+  clock (Tl2 k) = (tl2_callers.state k).sample
 
   -- the same, where its next attempt is the first of a new transaction; TL2 does not ask
   abbrev pub renewed : Caller L → Caller L
@@ -65,12 +69,12 @@ module _ {L : Type 0} where
 
   -- AN ATTEMPT IS UNDER WAY
   abbrev pub is_under_way : Caller L → Bool
-  is_under_way (Dstm k) = dstm.is_live k
+  is_under_way (Dstm k) = dstm_callers.is_live k
   is_under_way (Tl2 k) = by_tl2.is_under_way k
 
   -- a call on the attempt is made: one is under way, and by TL2 the caller has one left
   abbrev pub goes_on : Caller L → Bool
-  goes_on (Dstm k) = dstm.is_live k
+  goes_on (Dstm k) = dstm_callers.is_live k
   goes_on (Tl2 k) = by_tl2.goes_on k
 
   -- no call on an attempt is made
@@ -98,8 +102,8 @@ module _ {L : Type 0} where
 
   -- the value that was last set for an object
   abbrev pub written : Caller L → ℕ → Option Val
-  written (Dstm k) = dstm.written k
-  written (Tl2 k) = tl2.written k
+  written (Dstm k) = dstm_callers.written k
+  written (Tl2 k) = tl2_callers.written k
 
   -- these values with those that it has set
   abbrev pub seen : Caller L → List Val → List Val
@@ -111,8 +115,8 @@ module _ {L : Type 0} where
 
   -- an object is open for writing
   abbrev pub is_opened : Caller L → ℕ → Bool
-  is_opened (Dstm k) = dstm.is_opened k
-  is_opened (Tl2 k) = tl2.is_opened k
+  is_opened (Dstm k) = dstm_callers.is_opened k
+  is_opened (Tl2 k) = tl2_callers.is_opened k
 
   abbrev pub IsOpened : Caller L → ℕ → Type 0
   IsOpened k o = IsTrue (is_opened k o)
@@ -128,15 +132,15 @@ module _ {L : Type 0} where
   LooksSame since (Dstm old) (Dstm new) =
       Keeps (Dstm old) (Dstm new) × (dstm.sights new ≡ dstm.sights old + 1)
   LooksSame since (Tl2 old) (Tl2 new) =
-      AddsNothing (Tl2 old) (Tl2 new) × ((tl2.state new).begun ≡ (tl2.state old).begun + 1)
-      × ((tl2.state new).sample ≡ since)
+      AddsNothing (Tl2 old) (Tl2 new) × ((tl2_callers.state new).begun ≡ (tl2_callers.state old).begun + 1)
+      × ((tl2_callers.state new).sample ≡ since)
   LooksSame since old new = ⊥
 
   -- no attempt was left to look by
   abbrev pub LooksSpent : Caller L → Caller L → Type 0
   LooksSpent (Dstm old) (Dstm new) = ⊥
   LooksSpent (Tl2 old) (Tl2 new) =
-      AddsNothing (Tl2 old) (Tl2 new) × ((tl2.state new).begun ≡ (tl2.state old).begun) × by_tl2.IsSpent new
+      AddsNothing (Tl2 old) (Tl2 new) × ((tl2_callers.state new).begun ≡ (tl2_callers.state old).begun) × by_tl2.IsSpent new
   LooksSpent old new = ⊥
 
   module _ (holds : L → List Val → Type 0) where
@@ -151,8 +155,8 @@ module _ {L : Type 0} where
 
     -- an attempt has begun, in the engine's words
     abbrev pub BeginsAnew : Caller L → Caller L → Type 0
-    BeginsAnew (Dstm k) (Dstm n) = dstm.BeginsAnew holds k n
-    BeginsAnew (Tl2 k) (Tl2 n) = tl2.BeginsAnew holds k n
+    BeginsAnew (Dstm k) (Dstm n) = dstm_calls.BeginsAnew holds k n
+    BeginsAnew (Tl2 k) (Tl2 n) = tl2_calls.BeginsAnew holds k n
     BeginsAnew k n = ⊥
 
     -- AN ATTEMPT HAS BEGUN: it has set nothing, and there are values that the objects may have
@@ -187,7 +191,7 @@ module _ {L : Type 0} where
     -- THE ATTEMPT IS OVER: it was before, and nothing was done; or opening this object, for writing or for reading, has left it,
     -- for a cause of the engine
     abbrev pub IsOver : (writes : Bool) → ℕ → Caller L → Caller L → Type 0
-    IsOver writes o (Dstm old) (Dstm new) = by_dstm.IsOver holds (opening (dstm.shape_of old) writes o) old new
+    IsOver writes o (Dstm old) (Dstm new) = by_dstm.IsOver holds (opening (dstm_callers.shape_of old) writes o) old new
     IsOver writes o (Tl2 old) (Tl2 new) = by_tl2.IsOver holds (Opening o) old new
     IsOver writes o old new = ⊥
 
@@ -223,8 +227,8 @@ module _ {L : Type 0} where
     LooksChanged since (Dstm old) (Dstm new) =
         Keeps (Dstm old) (Dstm new) × by_dstm.IsOver holds Rechecking old new
     LooksChanged since (Tl2 old) (Tl2 new) =
-        AddsNothing (Tl2 old) (Tl2 new) × ((tl2.state new).begun ≡ (tl2.state old).begun + 1)
-        × ((tl2.state new).sample ≢ since)
+        AddsNothing (Tl2 old) (Tl2 new) × ((tl2_callers.state new).begun ≡ (tl2_callers.state old).begun + 1)
+        × ((tl2_callers.state new).sample ≢ since)
     LooksChanged since old new = ⊥
 
     -- the caller has committed an attempt more, and this is right for the values before and after it, in every run
