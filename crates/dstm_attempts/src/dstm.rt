@@ -53,7 +53,8 @@ pub(crate) fn read<L: Law>(
     if object >= stm.shape().objects {
         return Err(NotOpened::Foreign);
     }
-    match caller.resume(stm).open_read(object) {
+    let mut tx = caller.resume(stm);
+    match tx.open_read(object) {
         Ok(value) => Ok(value),
         Err(_) => {
             *going = false;
@@ -87,7 +88,8 @@ pub(crate) fn write<L: Law>(
     if object >= stm.shape().objects {
         return Err(NotOpened::Foreign);
     }
-    match caller.resume(stm).open_write(object) {
+    let mut tx = caller.resume(stm);
+    match tx.open_write(object) {
         Ok(value) => Ok(value),
         Err(_) => {
             *going = false;

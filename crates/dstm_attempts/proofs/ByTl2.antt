@@ -1,0 +1,119 @@
+-- What a call on an attempt by TL2 leaves of it.
+use Rattle.std.proofs.Common.{◌≡◌, ◌∙◌, ◌∷◌, ◌<◌, ◌+◌, ◌≤◌, ℕ, List, ap, arith, false, length, refl, subst, sym, true}
+use Rattle.std.specs.Prelude.{None, Some, nat_lt, not}
+use Rattle.std.proofs.lemmas.Bool.Decides.{nat_tests}
+use base.Fml.{GName}
+use Rattle.dstm_model.specs.Answers.{Committed}
+use Rattle.dstm_model.specs.declared.value.Val.{Val}
+use Rattle.dstm_mem.specs.Memory.{SetsOnly, value_in, with_set}
+use Rattle.dstm_mem.proofs.WithSet.{value_at-opened, with_set-set}
+use Rattle.dstm_tl2.specs.Rules.{Event}
+use Rattle.dstm_tl2.specs.Runs.{local}
+use Rattle.dstm_tl2.specs.Sharing.{table_of}
+use Rattle.dstm_tl2_words.specs.Seats.{Home}
+use Rattle.dstm_tl2_engine.specs.Attempts.{Settles, done}
+use Rattle.dstm_tl2_engine.specs.Callers.{TlCalled, begun_log, handed, held, objects_of, state, table_of_caller, written}
+use Rattle.dstm_tl2_engine.specs.Transactions.{BeginsAnew, TxPlace}
+use Rattle.dstm_tl2_engine.proofs.Begun.{begun_count}
+use Rattle.dstm_tl2_engine.proofs.Made.{set_admits, settled}
+use Rattle.dstm_tables.specs.declared.tables.Caller.TheVariants.{Tl2}
+use Rattle.dstm_tables.specs.declared.tables.Table.{Table}
+use Rattle.dstm_tables.specs.declared.tables.Table.TheVariants as table
+use Rattle.dstm_attempts.specs.Attempts.{AddsNothing, Attempt, Began, Finds, IsSpent, Keeps, MayBegin, Puts, SetsNothing, begun, seen}
+use Rattle.dstm_attempts.specs.Attempts.Began.{ByDstm, ByTl2}
+use Rattle.dstm_attempts.specs.Tl2.{TakesEffect}
+
+abbrev log_in : List Event → Began → List Event
+log_in other (ByDstm b) = other
+log_in other (ByTl2 log) = log
+
+module _ {L : Type 0} where
+  abbrev home_in : Home L → Table L → Home L
+  home_in other (table.Dstm h) = other
+  home_in other (table.Tl2 h) = h
+
+  -- one whose attempt stays the same begins none
+  pub begins_none : (k n : TlCalled L) → Keeps (Tl2 k) (Tl2 n) → begun (Tl2 n) ≡ begun (Tl2 k)
+  begins_none k n same =
+      begun_count (table_of_caller n) n.number n.log
+      ∙ ap (λ (a : Attempt L).
+      (local (table_of (home_in k.home a.home).terms) (log_in (begun_log k.number k.log) a.began) a.number).begun) same
+      ∙ sym (begun_count (table_of_caller k) k.number k.log)
+
+  -- one that has begun as many attempts as it has is spent
+  pub spent_at : (k : TlCalled L) (attempts : ℕ) → attempts ≡ (table_of_caller k).attempts → attempts ≤ (state k).begun →
+      IsSpent (Tl2 k)
+  spent_at k attempts all many =
+      let none : nat_lt (state k).begun (table_of_caller k).attempts ≡ false = grind (arith, nat_tests) in
+      subst (λ b. not b ≡ true) (sym none) refl
+
+  module _ (holds : L → List Val → Type 0) where
+    -- a caller that has set the same, and may have begun at no other values, sets nothing
+    pub sets_nothing : (k n : TlCalled L) → n.set ≡ k.set →
+        ((map : List Val) → MayBegin holds (Tl2 n) map → MayBegin holds (Tl2 k) map) → SetsNothing holds (Tl2 k) (Tl2 n)
+    sets_nothing k n set narrows = record {
+      narrows = narrows;
+      same = λ map. ap (λ (s : List (ℕ × Val)). with_set map (value_in s)) set;
+    }
+
+    -- what an open finds
+    pub finds : (k n : TlCalled L) (o : ℕ) (v : Val) → n.set ≡ k.set → o < objects_of k →
+        ((map : List Val) → MayBegin holds (Tl2 n) map → MayBegin holds (Tl2 k) map) → Some v ≡ handed n o →
+        Finds holds (Tl2 k) (Tl2 n) o v
+    finds k n o v set within narrows value = record {
+      value = λ map may.
+          let size = (narrows map may).length in
+          let inside : o < length map = omega (arith, size, within) in
+          value_at-opened map (written n) (written n) (held n) o v inside may.agrees (λ p. refl) value;
+      narrows = narrows;
+      same = λ map. ap (λ (s : List (ℕ × Val)). with_set map (value_in s)) set;
+    }
+
+    -- what a set leaves
+    pub puts : (k n : TlCalled L) (o : ℕ) (v : Val) → n ≡ record k { writes = n.writes; set = n.set } →
+        SetsOnly o v (written k) (written n) → Puts holds (Tl2 k) (Tl2 n) o v
+    puts k n o v kept sets = record {
+      narrows = λ map may. (set_admits holds k {n = n} kept map).0 may;
+      puts = λ map. with_set-set map (written k) (written n) o v sets;
+    }
+
+    -- which attempt it is, in the engine's words
+    abbrev place_of : GName → Home L → TlCalled L → Attempt L → TxPlace L
+    place_of name table k a = record {
+      reference = name;
+      table = table;
+      home = home_in k.home a.home;
+      number = a.number;
+      began = log_in (begun_log k.number k.log) a.began;
+      done = a.done;
+    }
+
+    -- what an attempt has committed, a caller has committed that had added nothing before it
+    settles_from : (k before n : TlCalled L) (is_right : List Val → List Val → Type 0) (number : ℕ) →
+        AddsNothing (Tl2 k) (Tl2 before) → Settles holds is_right before n number → Settles holds is_right k n number
+    settles_from k before n is_right number same s = record {
+      entry = s.entry;
+      done =
+          s.done
+          ∙ ap (λ c. record { caller = c; number = number; entry = s.entry } ∷ done before) same.number
+          ∙ ap (λ (xs : List Committed). record { caller = k.number; number = number; entry = s.entry } ∷ xs) same.done;
+      right = λ map size lawful agrees.
+          s.right map (size ∙ ap (λ (h : Home L). length h.terms.start.value.items) (at_home same))
+          (subst (λ (h : Home L). holds h.terms.law.value map) (at_home same) lawful) agrees;
+      in_runs = s.in_runs;
+    }
+      where
+        at_home : AddsNothing (Tl2 k) (Tl2 before) → k.home ≡ before.home
+        at_home it = sym (ap (home_in k.home) it.home)
+
+    -- An attempt of a caller that had added nothing before it has taken effect: what is right for all values at which it may
+    -- have begun, and those that it leaves, is right in every run.
+    pub settles_right : (name : GName) (k before began ended n : TlCalled L) (number : ℕ) →
+        AddsNothing (Tl2 k) (Tl2 before) → BeginsAnew holds before began → Keeps (Tl2 began) (Tl2 ended) →
+        TakesEffect holds ended n number → (is_right : List Val → List Val → Type 0) →
+        ((map : List Val) → MayBegin holds (Tl2 ended) map → is_right map (seen (Tl2 ended) map)) →
+        Settles holds is_right k n number
+    settles_right name k before began ended n number same begins keeps t is_right right =
+        settles_from k before n is_right number same
+        (settled holds before began ended name name before.home before.home begins (ap (place_of name before.home began) keeps)
+        is_right n number None t.kept t.run t.commits right)

@@ -1,0 +1,118 @@
+-- What a caller has added, and what an open and a set leave of an attempt, by either engine.
+use Rattle.std.proofs.Common.{◌≡◌, ◌≤◌, ◌<◌, ◌∙◌, ℕ, List, ap, arith, length, refl, slice_set, subst, sym}
+use Rattle.std.proofs.lemmas.List.{ext_get_or}
+use Rattle.dstm_model.specs.declared.value.Val.{Val}
+use Rattle.dstm_model.specs.Map.{no_value, value_at}
+use Rattle.dstm_tables.specs.Callers.{home_of, law_of}
+use Rattle.dstm_tables.specs.declared.tables.Caller.{Caller}
+use Rattle.dstm_tables.specs.declared.tables.Caller.TheVariants.{Dstm, Tl2}
+use Rattle.dstm_tables.specs.declared.tables.Table.{Table}
+use Rattle.dstm_tables.specs.declared.tables.Table.TheVariants as table
+use Rattle.dstm_attempts.specs.Attempts.{AddsNothing, Attempt, Exchanges, Finds, IsSpent, Keeps, MayBegin, Puts, SetsNothing, attempt, attempts_of, begun, objects_of, seen}
+use Rattle.dstm_attempts.proofs.ByDstm as by_dstm
+use Rattle.dstm_attempts.proofs.ByTl2 as by_tl2
+
+module _ {L : Type 0} where
+  -- one whose attempt stays the same adds nothing
+  pub adds_nothing : (k n : Caller L) → Keeps k n → AddsNothing k n
+  adds_nothing k n same = record {
+    home = ap (λ (a : Attempt L). a.home) same;
+    number = ap (λ (a : Attempt L). a.number) same;
+    done = ap (λ (a : Attempt L). a.done) same;
+  }
+
+  pub nothing_twice : (k m n : Caller L) → AddsNothing k m → AddsNothing m n → AddsNothing k n
+  nothing_twice k m n first second = record {
+    home = second.home ∙ first.home;
+    number = second.number ∙ first.number;
+    done = second.done ∙ first.done;
+  }
+
+  -- ---- its table
+
+  abbrev objects_there : Table L → ℕ
+  objects_there (table.Dstm h) = h.terms.shape.objects
+  objects_there (table.Tl2 h) = length h.terms.start.value.items
+
+  abbrev law_there : Table L → L
+  law_there (table.Dstm h) = h.terms.law.value
+  law_there (table.Tl2 h) = h.terms.law.value
+
+  objects_are : (k : Caller L) → objects_of k ≡ objects_there (home_of k)
+  objects_are (Dstm k) = refl
+  objects_are (Tl2 k) = refl
+
+  law_is : (k : Caller L) → law_of k ≡ law_there (home_of k)
+  law_is (Dstm k) = refl
+  law_is (Tl2 k) = refl
+
+  -- callers of one table have the same objects
+  pub same_objects : (k n : Caller L) → home_of n ≡ home_of k → objects_of n ≡ objects_of k
+  same_objects k n same = objects_are n ∙ ap objects_there same ∙ sym (objects_are k)
+
+  -- and the same law
+  pub same_law : (k n : Caller L) → home_of n ≡ home_of k → law_of n ≡ law_of k
+  same_law k n same = law_is n ∙ ap law_there same ∙ sym (law_is k)
+
+  -- ---- how many attempts it has begun
+
+  -- one whose attempt stays the same begins none
+  pub begins_none : (k n : Caller L) → Keeps k n → begun n ≡ begun k
+  begins_none (Dstm k) (Dstm n) same = by_dstm.begins_none k n same
+  begins_none (Tl2 k) (Tl2 n) same = by_tl2.begins_none k n same
+  begins_none (Dstm k) (Tl2 n) same = absurd (apart (ap (λ (a : Attempt L). a.home) same))
+    where
+      apart : table.Tl2 n.home ≡ table.Dstm k.home → ⊥
+      apart is = cc
+  begins_none (Tl2 k) (Dstm n) same = absurd (apart (ap (λ (a : Attempt L). a.home) same))
+    where
+      apart : table.Dstm n.home ≡ table.Tl2 k.home → ⊥
+      apart is = cc
+
+  -- one that has begun as many attempts as it has is spent
+  pub spent_at : (k : Caller L) (attempts : ℕ) → attempts ≡ attempts_of k → attempts ≤ begun k → IsSpent k
+  spent_at (Dstm k) attempts all begun = by_dstm.spent_at k attempts all begun
+  spent_at (Tl2 k) attempts all begun = by_tl2.spent_at k attempts all begun
+
+  module _ (holds : L → List Val → Type 0) where
+    -- values at which an attempt may have begun are so many, and lawful
+    pub may_length : (k : Caller L) (map : List Val) → MayBegin holds k map → length map ≡ objects_of k
+    may_length (Dstm k) map may = may.length
+    may_length (Tl2 k) map may = may.length
+
+    pub may_lawful : (k : Caller L) (map : List Val) → MayBegin holds k map → holds (law_of k) map
+    may_lawful (Dstm k) map may = may.lawful
+    may_lawful (Tl2 k) map may = may.lawful
+
+    -- what is found sets nothing
+    pub found_unset : (k n : Caller L) (o : ℕ) (v : Val) → Finds holds k n o v → SetsNothing holds k n
+    found_unset k n o v found = record { narrows = found.narrows; same = found.same }
+
+    -- an object was found, and then set
+    pub exchanges : (k m n : Caller L) (o : ℕ) (had v : Val) → Finds holds k m o had → Puts holds m n o v →
+        Exchanges holds k n o had v
+    exchanges k m n o had v found put = record {
+      value = λ map may.
+          ap (λ (xs : List Val). value_at xs o) (sym (found.same map)) ∙ found.value map (put.narrows map may);
+      puts = record {
+        narrows = λ map may. found.narrows map (put.narrows map may);
+        puts = λ map. put.puts map ∙ ap (λ (xs : List Val). slice_set xs o v) (found.same map);
+      };
+    }
+
+    -- values that are those of a map at which the attempt may have begun, for each object, are this map
+    pub all_values : (k n : Caller L) (values map : List Val) (o objects : ℕ) → Keeps k n → objects ≡ objects_of k →
+        o ≡ objects → length values ≡ o → MayBegin holds n map →
+        ((p : ℕ) → p < o → value_at values p ≡ value_at map p) → map ≡ values
+    all_values k n values map o objects same all end size may each =
+        let objects_same = same_objects k n (adds_nothing k n same).home in
+        sym
+        (ext_get_or no_value values map (size ∙ end ∙ all ∙ sym objects_same ∙ sym (may_length n map may))
+        (λ i within. each i (omega (arith, size, within))))
+
+    -- and lawful
+    pub all_lawful : (k n : Caller L) (values map : List Val) → Keeps k n → map ≡ values → MayBegin holds n map →
+        holds (law_of k) values
+    all_lawful k n values map same is may =
+        subst (λ (l : L). holds l values) (same_law k n (adds_nothing k n same).home)
+        (subst (holds (law_of n)) is (may_lawful n map may))
