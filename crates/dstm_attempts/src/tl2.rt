@@ -1,7 +1,9 @@
 //! Attempts by TL2. A flag tells whether one is under way, since a commit leaves the caller live.
 
-ghost use Rattle.std.specs.Prelude.{◌≡◌, ◌<◌, ℕ, List, true, false, IfErr, IfOk, OnOk};
+ghost use Rattle.std.specs.Prelude.{◌≡◌, ◌<◌, ℕ, List, true, false, IfErr, IfOk, IsTrue, OnOk};
 ghost use Rattle.dstm_model.specs.declared.value.Val.{Val};
+ghost use Rattle.dstm_tl2_engine.specs.Callers.{is_live, state};
+ghost use Rattle.dstm_tl2_steps.specs.Reads.{AtRest};
 ghost use Rattle.dstm_tables.specs.declared.tables.Caller.TheVariants.{Tl2};
 ghost use Rattle.dstm_attempts.specs.Attempts.{AddsNothing, Begins, Finds, Flags, IsLost, IsNotOpened, IsOpened, IsSpent, Keeps, LeavesLawful, LooksChanged, LooksSame, LooksSpent, MayBegin, Puts, Refuses, TakesEffect, begun, is_under_way, objects_of};
 ghost use Rattle.dstm_attempts.specs.declared.error.Look.TheVariants as look;
@@ -154,8 +156,11 @@ fn may_open<L: Law>(
 ) -> Result<(), NotOpened>
     requires table { caller.now.home ≡ stm.now }
     requires flags { Flags going (Tl2 caller.now) }
-    ensures may { OnOk result ((is_under_way (Tl2 caller.now) ≡ true) × (object < objects_of (Tl2 caller.now))) }
-    ensures may_not { IfErr result (IsNotOpened L.holds false object (Tl2 caller.now) (Tl2 caller.now)) }
+    ensures going { OnOk result ((going ≡ true) × (is_under_way (Tl2 caller.now) ≡ true)) }
+    ensures rest { OnOk result (IsTrue (is_live caller.now) × AtRest (state caller.now)) }
+    ensures exists { OnOk result (object < objects_of (Tl2 caller.now)) }
+    ensures unread { IfErr result (IsNotOpened L.holds false object (Tl2 caller.now) (Tl2 caller.now)) }
+    ensures unwritten { IfErr result (IsNotOpened L.holds true object (Tl2 caller.now) (Tl2 caller.now)) }
     ensures refuses { Refuses (Tl2 caller.now) object result }
 {
     if !going {
