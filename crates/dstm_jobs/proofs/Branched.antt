@@ -1,5 +1,5 @@
 -- What an attempt at a job with branches leaves, from the clauses of its calls.
-use Rattle.std.proofs.Common.{◌≡◌, ◌≢◌, ◌∙◌, ◌+◌, ◌<◌, ◌≤◌, ◌++◌, ◌∷◌, ℕ, Bool, List, [], None, Some, true, false, refl, sym, ap, subst, arith, length, add-zero, Option, if◌then◌else◌, ◌&&◌}
+use Rattle.std.proofs.Common.{◌≡◌, ◌≢◌, ◌∙◌, ◌+◌, ◌<◌, ◌≤◌, ◌++◌, ◌∷◌, ℕ, Bool, List, [], None, Some, true, false, refl, sym, ap, subst, arith, add-zero, Option, if◌then◌else◌, ◌&&◌}
 use Rattle.std.proofs.lemmas.Bool.{cond_both}
 use Rattle.dstm_model.specs.declared.value.Val.{Val}
 use Rattle.dstm_model.specs.declared.layout.Layout.{Layout}
@@ -52,7 +52,7 @@ use Rattle.dstm_compose.specs.Compose.{IsRight}
 use Rattle.dstm_compose.specs.declared.body.Outcome.{Outcome}
 use Rattle.dstm_compose.specs.declared.body.Outcome.TheVariants.{Ran, Blocked}
 use Rattle.dstm_workload.specs.declared.workload.Job.{Job}
-use Rattle.dstm_jobs.specs.Attempts.{is_quit, quits, seen_last}
+use Rattle.dstm_tables.specs.Attempts.{is_quit, quits, seen_last}
 use Rattle.dstm_jobs.specs.declared.style.Style.TheVariants.{Branches}
 use Rattle.dstm_jobs.specs.declared.trying.Finished.{Finished}
 use Rattle.dstm_jobs.specs.Rechecks.{HasRechecked}
@@ -61,21 +61,20 @@ use Rattle.dstm_order.specs.Retries.{TriesAgain, is_new}
 use Rattle.dstm_engine.proofs.AddingUp.{makes_both, makes_one}
 use Rattle.dstm_engine.proofs.Attempting.{told_makes}
 use Rattle.dstm_engine.proofs.Anew.{new_committed, same_aborted}
-use Rattle.dstm_jobs.specs.declared.tables.Caller.TheVariants.{Dstm}
-use Rattle.dstm_jobs.specs.declared.tables.Table.TheVariants as table
-use Rattle.dstm_jobs.specs.Callers.{AtRest}
+use Rattle.dstm_tables.specs.declared.tables.Caller.TheVariants.{Dstm}
+use Rattle.dstm_tables.specs.declared.tables.Table.TheVariants as table
+use Rattle.dstm_jobs.specs.Tables.{AtRest, OneMore, WasKept}
 use Rattle.dstm_jobs.specs.Jobs.{DidJob, StoodAt}
-use Rattle.dstm_jobs.specs.Tries.{OneMore, WasKept}
 use Rattle.dstm_jobs.specs.Law.{keeps}
 use Rattle.dstm_jobs.proofs.Doing as doing
 use Rattle.dstm_engine.proofs.BegunThere.{begun_there, count_later}
 use Rattle.dstm_engine.proofs.FewSights.{count_kinds, none_looks, sights_more}
 use Rattle.dstm_engine.proofs.Rechecking.{NoSelf}
-use Rattle.dstm_jobs.proofs.Made.{did, not_committed, numbered, run_there}
-use Rattle.dstm_jobs.proofs.SeenLast.{seen_last-agrees, seen_last-skips}
+use Rattle.dstm_tables.proofs.Made.{did, not_committed, numbered, run_there}
+use Rattle.dstm_tables.proofs.SeenLast.{seen_last-agrees, seen_last-skips}
 use Rattle.dstm_jobs.proofs.Rechecking.{runs}
-use Rattle.dstm_jobs.proofs.StayingByDstm.{in_range}
-use Rattle.dstm_jobs.proofs.Unused.{beginning_installs, installed_there, leaving_commits, leaving_installs, no_writes}
+use Rattle.dstm_tables.proofs.StayingByDstm.{in_range}
+use Rattle.dstm_tables.proofs.Unused.{beginning_installs, installed_there, leaving_commits, leaving_installs, no_writes}
 
 -- what the body's outcome was right for
 pub right_for : (layout : Layout) (ops : List Op) (task : JobTask) (outcome is : Outcome) (before after : List Val) →

@@ -12,12 +12,12 @@ use Rattle.dstm_workload.specs.declared.workload.Job.{Job}
 use Rattle.dstm_jobs.specs.Answers.{IsAnsweredBy, KeepsFew}
 use Rattle.dstm_jobs.specs.declared.style.Style.{Style}
 use Rattle.dstm_jobs.specs.declared.style.Style.TheVariants.{Branches, Loose}
-use Rattle.dstm_jobs.specs.declared.tables.Caller.{Caller}
+use Rattle.dstm_jobs.specs.Tables.{Caller, Did}
 use Rattle.dstm_jobs.specs.declared.trying.Finished.{Finished}
-use Rattle.dstm_jobs.specs.Callers.{done, law_of, number_of, round_of}
+use Rattle.dstm_tables.specs.Callers.{done, law_of, number_of, round_of}
 use Rattle.dstm_jobs.specs.Jobs.{DidJob}
-use Rattle.dstm_jobs.specs.Tells.{lets_go}
-use Rattle.dstm_jobs.specs.Tries.{Did}
+use Rattle.dstm_tables.specs.Tells.{lets_go}
+use Rattle.dstm_jobs.proofs.Same.{objects_of_law}
 use Rattle.dstm_jobs.proofs.Answered.{IsRightFor, answered_branch, answered_plain}
 
 -- where the attempts of a style let reads go, the newest transaction keeps few
@@ -37,7 +37,8 @@ module _ (layout : Layout) (job : Job) (k n : Caller) (finished : Finished) (law
         newest = d.newest;
         is = record {
           number = refl;
-          answered = answered (λ map lawful. d.right map (subst (λ (l : Layout). IsLawful l map) (sym law) lawful));
+          answered = answered (λ map lawful. d.right map (objects_of_law layout k n map law d.made.on lawful)
+              (subst (λ (l : Layout). IsLawful l map) (sym law) lawful));
         };
         few_reads = λ loose lets. few loose lets by d.newest;
       }

@@ -37,12 +37,11 @@ use Rattle.dstm_tl2_engine.proofs.Living.{makes_both, makes_one, told_makes}
 use Rattle.dstm_tl2_order.specs.Made.{LocksItsWrites}
 use Rattle.dstm_tl2_order.specs.Tasks.Task.{Beginning}
 use Rattle.dstm_tl2_engine.proofs.Made as made
-use Rattle.dstm_jobs.specs.declared.tables.Caller.TheVariants.{Tl2}
-use Rattle.dstm_jobs.specs.Callers.{AtRest}
+use Rattle.dstm_tables.specs.declared.tables.Caller.TheVariants.{Tl2}
+use Rattle.dstm_jobs.specs.Tables.{AtRest, OneMore}
 use Rattle.dstm_jobs.specs.Jobs.{StoodAt}
-use Rattle.dstm_jobs.specs.Tries.{OneMore}
 use Rattle.dstm_jobs.specs.Law.{keeps}
-use Rattle.dstm_jobs.proofs.ByTl2.{tl2_on}
+use Rattle.dstm_tables.proofs.ByTl2.{tl2_on}
 
 -- ---- an attempt that is given up
 

@@ -30,9 +30,10 @@ use Rattle.dstm_model.specs.Job.{apply_job}
 use Rattle.dstm_model.specs.Store.{Store}
 use Rattle.dstm_store.specs.Whole.{IsLawful, StandsFor}
 use Rattle.dstm_workload.specs.declared.workload.Job.{Job}
-use Rattle.dstm_jobs.specs.Attempts.{HasCommitted, seen_last}
-use Rattle.dstm_jobs.specs.Answers.{IsBlockedWith, entries_of}
-use Rattle.dstm_jobs.proofs.Entries.{entries_reverse, one_more}
+use Rattle.dstm_tables.specs.Attempts.{HasCommitted, seen_last}
+use Rattle.dstm_jobs.specs.Answers.{IsBlockedWith}
+use Rattle.dstm_tables.specs.Tells.{entries_of}
+use Rattle.dstm_tables.proofs.Entries.{entries_reverse, one_more}
 
 -- from the attempt of this number on none of a caller has committed
 abbrev pub NoneCommitted : Shape → List Event → (c i : ℕ) → Type 0

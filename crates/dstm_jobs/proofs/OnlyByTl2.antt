@@ -6,8 +6,8 @@ use Rattle.dstm_model.specs.declared.value.Val.{Val}
 use Rattle.dstm_model.specs.Answers.{Committed, by_caller}
 use Rattle.dstm_model.specs.Map.{Agrees, state_after}
 use Rattle.dstm_machines.specs.Histories as histories
-use Rattle.dstm_jobs.specs.Answers.{entries_of}
-use Rattle.dstm_jobs.proofs.Entries.{entries_reverse, one_more}
+use Rattle.dstm_tables.specs.Tells.{entries_of}
+use Rattle.dstm_tables.proofs.Entries.{entries_reverse, one_more}
 use Rattle.dstm_machines.proofs.Own.{local_mine}
 use Rattle.dstm_tl2.specs.declared.kind.Kind.{Kind}
 use Rattle.dstm_tl2.specs.declared.kind.Kind.TheVariants.{Sample, Draw}

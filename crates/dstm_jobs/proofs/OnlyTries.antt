@@ -1,16 +1,15 @@
 -- A try of a table's only caller, under either engine, and by TL2.
-use Rattle.std.proofs.Common.{◌≡◌, ◌∙◌, ◌<◌, ◌⊎◌, ◌∷◌, ℕ, List, [], Bool, false, Option, None, Some, is_some, refl, sym, ap, subst, arith, inl, inr, reverse, ◌&&◌, ◌==◌, if◌then◌else◌}
-use Rattle.std.proofs.lemmas.Bool.{and_parts, cases_eq}
+use Rattle.std.proofs.Common.{◌≡◌, ◌∙◌, ◌<◌, ℕ, List, Bool, false, Option, None, Some, is_some, refl, sym, ap, subst, arith, reverse, ◌&&◌, ◌==◌, if◌then◌else◌}
+use Rattle.std.proofs.lemmas.Bool.{and_parts}
 use Rattle.dstm_model.specs.declared.value.Val.{Val}
 use Rattle.dstm_model.specs.declared.layout.Layout.{Layout}
 use Rattle.dstm_model.specs.Map.{Agrees, state_after}
 use Rattle.dstm_mem.specs.Memory.{value_in, with_set}
 use Rattle.dstm_mem.proofs.WithSet.{with_set-nothing}
-use Rattle.dstm_jobs.specs.Answers.{entries_of}
-use Rattle.dstm_machines.proofs.Runs as runs
+use Rattle.dstm_tables.specs.Tells.{entries_of}
 use Rattle.dstm_tl2.specs.Histories.{LawfulRun, is_draw, read_values}
 use Rattle.dstm_tl2.specs.Rules.{Event}
-use Rattle.dstm_tl2.specs.Runs.{Run, local, tl2}
+use Rattle.dstm_tl2.specs.Runs.{local}
 use Rattle.dstm_tl2.specs.State.{LocalState}
 use Rattle.dstm_tl2.specs.Words.{Table}
 use Rattle.dstm_tl2.specs.declared.terms.Terms.{Terms}
@@ -26,25 +25,13 @@ use Rattle.dstm_store.specs.declared.law.StoreLaw.{StoreLaw}
 use Rattle.dstm_workload.specs.declared.workload.Job.{Job}
 use Rattle.dstm_jobs.specs.declared.style.Style.{Style}
 use Rattle.dstm_jobs.proofs.Sole.{opened_none}
-use Rattle.dstm_jobs.specs.declared.tables.Caller.TheVariants.{Tl2}
-use Rattle.dstm_jobs.specs.Callers.{AtRest}
+use Rattle.dstm_tables.specs.declared.tables.Caller.TheVariants.{Tl2}
+use Rattle.dstm_jobs.specs.Tables.{OneMore}
 use Rattle.dstm_jobs.specs.Jobs.{StoodAt}
 use Rattle.dstm_jobs.specs.OnlyCallers.{HasGivenUp, StoodAlone}
 use Rattle.dstm_jobs.specs.Law.{keeps}
-use Rattle.dstm_jobs.specs.Tries.{OneMore}
 use Rattle.dstm_jobs.proofs.OnlyByTl2.{only_agrees}
-
--- a caller that has its number is one of the table's
-number_below : (t : Table) (es : List Event) (c : ℕ) → Run t es → (local t es c).number ≡ Some c → c < t.callers
-number_below t [] c run has = absurd (cc)
-number_below t (e ∷ es) c run has = go (cases_eq e.caller c) (number_below t es c run.0)
-  where
-    go : (e.caller ≡ c) ⊎ (e.caller ≡ c → ⊥) → ((local t es c).number ≡ Some c → c < t.callers) → c < t.callers
-    go (inl q) ih = subst (λ n. n < t.callers) q run.1.caller
-    go (inr q) ih = ih (ap (λ (l : LocalState). l.number) (sym (runs.local_other tl2 t es e c q)) ∙ has)
-
-pub tl2_number_below : (k : TlCalled StoreLaw) → AtRest (Tl2 k) → k.number < k.home.terms.callers
-tl2_number_below k rest = number_below (table_of_caller k) k.log k.number rest.run.run.run rest.enrolled
+use Rattle.dstm_tables.proofs.ByTl2.{tl2_number_below}
 
 -- an attempt with no Draw has drawn nothing
 undrawn_of : (t : Table) (es : List Event) (c : ℕ) → HasNoDraw t es c (local t es c).begun → (local t es c).drawn ≡ None

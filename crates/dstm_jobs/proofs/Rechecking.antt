@@ -35,10 +35,10 @@ use Rattle.dstm_engine.specs.Attempts.{completes_pass, is_look_self}
 use Rattle.dstm_engine.specs.Callers.{Called, is_live, is_running, shape_of, start_of, state}
 use Rattle.dstm_engine.specs.Calls.{Performs}
 use Rattle.dstm_store.specs.declared.law.StoreLaw.{StoreLaw}
-use Rattle.dstm_jobs.specs.Attempts.{seen_last}
+use Rattle.dstm_tables.specs.Attempts.{seen_last}
 use Rattle.dstm_jobs.specs.Rechecks.{SeesAll}
 use Rattle.dstm_jobs.specs.Law.{keeps}
-use Rattle.dstm_jobs.proofs.SeenLast.{seen_last-sight, seen_last-skips}
+use Rattle.dstm_tables.proofs.SeenLast.{seen_last-sight, seen_last-skips}
 
 runs_if_live : (p : Phase) → is_running p ≡ true → p ≡ Running
 runs_if_live Running live = refl

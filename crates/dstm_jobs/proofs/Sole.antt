@@ -18,19 +18,18 @@ use Rattle.dstm_engine.specs.Transactions.{BeginsAnew}
 use Rattle.dstm_store.specs.declared.law.StoreLaw.{StoreLaw}
 use Rattle.dstm_store.specs.Whole.{IsLawful, StandsFor}
 use Rattle.dstm_workload.specs.declared.workload.Job.{Job}
-use Rattle.dstm_jobs.specs.Attempts.{HasCommitted, seen_last}
-use Rattle.dstm_jobs.specs.Answers.{IsBlockedWith, entries_of}
+use Rattle.dstm_tables.specs.Attempts.{HasCommitted, seen_last}
+use Rattle.dstm_jobs.specs.Answers.{IsBlockedWith}
+use Rattle.dstm_tables.specs.Tells.{entries_of}
 use Rattle.dstm_jobs.proofs.OnlyByDstm.{NoneCommitted, only_blocked}
 use Rattle.dstm_jobs.specs.declared.style.Style.{Style}
-use Rattle.dstm_jobs.specs.declared.tables.Caller.{Caller}
-use Rattle.dstm_jobs.specs.declared.tables.Caller.TheVariants.{Dstm}
-use Rattle.dstm_jobs.specs.Callers as callers
-use Rattle.dstm_jobs.specs.Callers.{AtRest}
+use Rattle.dstm_jobs.specs.Tables.{AtRest, Caller, OneMore}
+use Rattle.dstm_tables.specs.declared.tables.Caller.TheVariants.{Dstm}
+use Rattle.dstm_tables.specs.Callers as callers
 use Rattle.dstm_jobs.specs.Jobs.{StoodAt}
 use Rattle.dstm_jobs.specs.OnlyCallers.{HasGivenUp, StoodAlone}
-use Rattle.dstm_jobs.specs.Tries.{OneMore}
 use Rattle.dstm_jobs.specs.Law.{keeps}
-use Rattle.dstm_jobs.proofs.StayingByDstm.{in_range}
+use Rattle.dstm_tables.proofs.StayingByDstm.{in_range}
 
 -- its number is 0
 pub zeroth : (n : Called StoreLaw) → AtRest (Dstm n) → (shape_of n).callers ≡ 1 → n.number ≡ 0

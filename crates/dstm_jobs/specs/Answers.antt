@@ -1,5 +1,5 @@
 -- What an attempt has made of a job, as its own transaction tells.
-use Rattle.std.specs.Prelude.{◌≡◌, ℕ, ◌≤◌, true, List, length, map, Option, None, All, IsSomeAnd, sum_by}
+use Rattle.std.specs.Prelude.{◌≡◌, ℕ, ◌≤◌, true, List, length, Option, None, All, IsSomeAnd, sum_by}
 use Rattle.dstm_model.specs.declared.value.Val.{Val}
 use Rattle.dstm_model.specs.declared.layout.Layout.{Layout}
 use Rattle.dstm_model.specs.declared.op.Op.{Op}
@@ -12,9 +12,6 @@ use Rattle.dstm_store.specs.Keeps.{is_of_list, most_kept}
 use Rattle.dstm_store.specs.Whole.{StandsFor}
 use Rattle.dstm_workload.specs.declared.workload.Job.{Job}
 use Rattle.dstm_jobs.specs.declared.trying.Finished.{Finished}
-
-abbrev pub entries_of : List Committed → List Entry
-entries_of committed = map (λ done. done.entry) committed
 
 -- On every lawful map on which the transaction could have run, the replies are the job's, and what the transaction
 -- leaves stands for the store that the job leaves.

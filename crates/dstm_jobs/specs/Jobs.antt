@@ -10,11 +10,9 @@ use Rattle.dstm_jobs.specs.declared.style.Style.TheVariants.{Branches, Loose}
 use Rattle.dstm_jobs.specs.declared.trying.Finished.{Finished}
 use Rattle.dstm_jobs.specs.declared.trying.Tried.{Tried}
 use Rattle.dstm_jobs.specs.declared.trying.Tried.TheVariants as tried
-use Rattle.dstm_jobs.specs.declared.tables.Caller.{Caller}
-use Rattle.dstm_jobs.specs.declared.tables.Round.{Round}
-use Rattle.dstm_jobs.specs.Callers.{begun, done, number_of, round_of}
-use Rattle.dstm_jobs.specs.Tells.{HasCommitted, IsSpent, WasDisturbed, WasGivenUpAfter, begun_of, lets_go, seen_of, used_by, writes_all}
-use Rattle.dstm_jobs.specs.Tries.{IsSpentFrom, OneMore, WasKept}
+use Rattle.dstm_jobs.specs.Tables.{Caller, IsSpentFrom, OneMore, Round, WasKept}
+use Rattle.dstm_tables.specs.Callers.{begun, done, number_of, round_of}
+use Rattle.dstm_tables.specs.Tells.{HasCommitted, IsSpent, WasDisturbed, WasGivenUpAfter, begun_of, lets_go, seen_of, used_by, writes_all}
 
 -- ---- attempts at the job that is next
 
@@ -38,10 +36,6 @@ NoneWasted workload next round c =
 abbrev pub HadToStop : Workload → Option Job → Round → ℕ → Type 0
 HadToStop workload next round c =
     IsSpent round c ⊎ ((0 < begun_of round c) × Waited workload next round c (begun_of round c))
-
--- attempt i of the caller committed, or others kept it from that
-abbrev pub WasNotWasted : Caller → ℕ → Type 0
-WasNotWasted k i = HasCommitted (round_of k) (number_of k) i ⊎ WasDisturbed (round_of k) (number_of k) i
 
 -- ---- one attempt
 

@@ -1,12 +1,9 @@
 pub mod Styles
 pub mod Law
-pub mod Answers
-pub mod Attempts
-pub mod Rechecks
-pub mod Tells
-pub mod Callers
+pub mod Tables
 pub mod Founders
-pub mod Tries
+pub mod Answers
+pub mod Rechecks
 pub mod Jobs
 pub mod OnlyCallers
 pub mod Laws

@@ -8,16 +8,14 @@ use Rattle.dstm_model.specs.Map.{state_after}
 use Rattle.dstm_model.specs.Store.{Store}
 use Rattle.dstm_store.specs.Whole.{StandsFor}
 use Rattle.dstm_workload.specs.declared.workload.Job.{Job}
-use Rattle.dstm_jobs.specs.Answers.{entries_of}
+use Rattle.dstm_tables.specs.Tells.{entries_of, start_of, used_by, writes_all}
 use Rattle.dstm_jobs.specs.declared.only.OnlyTried.{OnlyTried}
 use Rattle.dstm_jobs.specs.declared.only.OnlyTried.TheVariants as tried
 use Rattle.dstm_jobs.specs.declared.style.Style.{Style}
 use Rattle.dstm_jobs.specs.declared.style.Style.TheVariants.{Branches}
-use Rattle.dstm_jobs.specs.declared.tables.Caller.{Caller}
-use Rattle.dstm_jobs.specs.Callers.{done, number_of, round_of}
+use Rattle.dstm_jobs.specs.Tables.{Caller, IsSpentFrom, OneMore}
+use Rattle.dstm_tables.specs.Callers.{done, number_of, round_of}
 use Rattle.dstm_jobs.specs.Jobs.{DidJob}
-use Rattle.dstm_jobs.specs.Tells.{start_of, used_by, writes_all}
-use Rattle.dstm_jobs.specs.Tries.{IsSpentFrom, OneMore}
 
 -- what the caller's transactions have left in the objects
 abbrev pub left_by : Caller → List Val

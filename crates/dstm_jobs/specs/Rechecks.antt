@@ -4,7 +4,7 @@ use Rattle.dstm_words.specs.Seats.{IsRunOf}
 use Rattle.dstm_engine.specs.Attempts.{looks, sights}
 use Rattle.dstm_engine.specs.Callers.{Called, entry, held, is_live, shape_of, start_of, state}
 use Rattle.dstm_store.specs.declared.law.StoreLaw.{StoreLaw}
-use Rattle.dstm_jobs.specs.Attempts.{seen_last}
+use Rattle.dstm_tables.specs.Attempts.{seen_last}
 use Rattle.dstm_jobs.specs.Law.{keeps}
 
 -- the newest sight of the attempt covers all that it holds

@@ -12,15 +12,15 @@ ghost use Rattle.dstm_mem.specs.Memory.{with_set};
 ghost use Rattle.dstm_mem.specs.Operations.{IsFresh, Leads, OnlyReads};
 ghost use Rattle.dstm_model.specs.declared.value.Val.{Val};
 ghost use Rattle.dstm_store.specs.Whole.{IsLawful};
-ghost use Rattle.dstm_jobs.specs.Callers.{AtRest, law_of, let_go};
+ghost use Rattle.dstm_jobs.specs.Tables.{AtRest, IsSpentFrom};
+ghost use Rattle.dstm_tables.specs.Callers.{law_of, let_go};
 ghost use Rattle.dstm_jobs.specs.Jobs.{HasTried};
 ghost use Rattle.dstm_jobs.specs.Law.{keeps};
 ghost use Rattle.dstm_jobs.specs.OnlyCallers.{HasGivenUp};
 ghost use Rattle.dstm_jobs.specs.Rechecks.{HasRechecked};
 ghost use Rattle.dstm_jobs.specs.Styles.{CanTry};
-ghost use Rattle.dstm_jobs.specs.Tries.{IsSpentFrom};
 ghost use Rattle.dstm_jobs.specs.declared.style.Style.TheVariants.{Branches, Loose};
-ghost use Rattle.dstm_jobs.specs.declared.tables.Caller.TheVariants.{Dstm};
+ghost use Rattle.dstm_tables.specs.declared.tables.Caller.TheVariants.{Dstm};
 
 use crate::trying::{Finished, Tried};
 use dstm_compose::{CompBody, Outcome};

@@ -1,9 +1,9 @@
 ghost use Rattle.std.specs.Prelude.{◌≡◌, ◌≢◌, IfNone, IfSome};
-ghost use Rattle.dstm_jobs.specs.Callers.{AtRest, home_of, law_of, let_go, round_of};
+ghost use Rattle.dstm_jobs.specs.Tables.{AtRest, IsSpentFrom};
+ghost use Rattle.dstm_tables.specs.Callers.{home_of, law_of, let_go, round_of};
 ghost use Rattle.dstm_jobs.specs.OnlyCallers.{HasGivenUp, HasTriedAlone};
 ghost use Rattle.dstm_jobs.specs.Styles.{CanTry};
-ghost use Rattle.dstm_jobs.specs.Tells.{callers_of};
-ghost use Rattle.dstm_jobs.specs.Tries.{IsSpentFrom};
+ghost use Rattle.dstm_tables.specs.Tells.{callers_of};
 ghost use Rattle.dstm_jobs.specs.declared.style.Style.TheVariants.{Loose};
 
 use crate::style::Style;

@@ -1,13 +1,13 @@
 //! Trying jobs by TL2.
 
 ghost use Rattle.std.specs.Prelude.{◌≡◌, ℕ, IfNone, IfSome};
-ghost use Rattle.dstm_jobs.specs.Callers.{AtRest, law_of, let_go};
+ghost use Rattle.dstm_jobs.specs.Tables.{AtRest, IsSpentFrom};
+ghost use Rattle.dstm_tables.specs.Callers.{law_of, let_go};
 ghost use Rattle.dstm_jobs.specs.Jobs.{HasTried};
 ghost use Rattle.dstm_jobs.specs.OnlyCallers.{HasGivenUp};
 ghost use Rattle.dstm_jobs.specs.Styles.{CanTry};
-ghost use Rattle.dstm_jobs.specs.Tries.{IsSpentFrom};
 ghost use Rattle.dstm_jobs.specs.declared.style.Style.TheVariants.{Branches};
-ghost use Rattle.dstm_jobs.specs.declared.tables.Caller.TheVariants.{Tl2};
+ghost use Rattle.dstm_tables.specs.declared.tables.Caller.TheVariants.{Tl2};
 
 use crate::trying::{Finished, Tried};
 use dstm_compose::{CompBody, Outcome};

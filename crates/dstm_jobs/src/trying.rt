@@ -1,15 +1,16 @@
 ghost use Rattle.std.specs.Prelude.{◌≡◌, ◌≢◌, ◌<◌};
-ghost use Rattle.dstm_jobs.specs.Callers.{AtRest, home_of, law_of, let_go};
+ghost use Rattle.dstm_jobs.specs.Tables.{AtRest};
+ghost use Rattle.dstm_tables.specs.Callers.{home_of, law_of, let_go};
 ghost use Rattle.dstm_jobs.specs.Jobs.{HasTried};
 ghost use Rattle.dstm_jobs.specs.Styles.{CanTry};
 ghost use Rattle.dstm_jobs.specs.declared.style.Style.TheVariants.{Branches, Loose, Plain};
 
-use crate::attempting::{Ended, attempt};
 use crate::style::Style;
 use crate::tables::{Caller, Table};
 use crate::{dstm, tl2};
 use dstm_model::{Layout, Replies};
 use dstm_store::JobBody;
+use dstm_tables::{Ended, attempt};
 use dstm_workload::Job;
 
 /// How often a blocked attempt makes sure that what it has read stands, before it is given up.

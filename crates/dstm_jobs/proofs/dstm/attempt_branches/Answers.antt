@@ -21,7 +21,8 @@ use Rattle.dstm_jobs.specs.Law.{keeps}
 use Rattle.dstm_order.specs.Tasks.Task.{Beginning, Leaving}
 use Rattle.dstm_order.specs.Retries.{TriesAgain}
 use Rattle.dstm_engine.proofs.AddingUp.{makes_both, makes_one}
-use Rattle.dstm_jobs.proofs.Made.{is_spent_from, objects_are, run_there}
+use Rattle.dstm_tables.proofs.Made.{is_spent_from, run_there}
+use Rattle.dstm_jobs.proofs.Made.{objects_are}
 use Rattle.dstm_jobs.proofs.Branched.{aborted_fresh, aborts, calls_by, did_commit, one_more_by, rests, right_for, stood_at, unopened_by, was_dead, was_left}
 use Rattle.dstm_engine.proofs.LettingGo.{lets_none_go}
 use Rattle.dstm_engine.proofs.Looked.{begins_few}

@@ -4,9 +4,10 @@ use Rattle.dstm_engine.specs.Endings.{EndsBy}
 use Rattle.dstm_engine.specs.declared.error.Ended.{Ended}
 use Rattle.dstm_jobs.specs.declared.style.Style.TheVariants.{Loose}
 use Rattle.dstm_jobs.specs.Law.{keeps}
-use Rattle.dstm_jobs.specs.declared.tables.Caller.TheVariants.{Dstm}
+use Rattle.dstm_tables.specs.declared.tables.Caller.TheVariants.{Dstm}
 use Rattle.dstm_jobs.proofs.Doing.{did_plain}
-use Rattle.dstm_jobs.proofs.Made.{did, few_loose, is_spent_from, one_more, was_kept}
+use Rattle.dstm_tables.proofs.Made.{did, is_spent_from, one_more, was_kept}
+use Rattle.dstm_jobs.proofs.Made.{few_loose}
 use Rattle.dstm_jobs.proofs.dstm.attempt_releasing.Goals as goal
 
 pub returns-in-Ok : goal.returns-in-Ok

@@ -3,12 +3,12 @@ use Rattle.dstm_order.specs.Tasks.Task.{Beginning}
 use Rattle.dstm_engine.proofs.LettingGo.{lets_none_go}
 use Rattle.dstm_engine.proofs.Made.{Tried, keeps_reads, tried}
 use Rattle.dstm_engine.specs.Callers.{Called}
-use Rattle.dstm_jobs.specs.declared.tables.Caller.TheVariants.{Dstm}
+use Rattle.dstm_tables.specs.declared.tables.Caller.TheVariants.{Dstm}
 use Rattle.dstm_jobs.specs.OnlyCallers.{HasGivenUp}
 use Rattle.dstm_jobs.specs.Law.{keeps}
 use Rattle.dstm_jobs.proofs.Sole.{gave_up, stays_lawful}
 use Rattle.dstm_jobs.proofs.Branched.{one_committed}
-use Rattle.dstm_jobs.proofs.Made.{is_spent_from}
+use Rattle.dstm_tables.proofs.Made.{is_spent_from}
 use Rattle.dstm_jobs.proofs.dstm.give_up.Goals.{After-caller-2-1}
 use Rattle.dstm_jobs.proofs.dstm.give_up.Goals as goal
 

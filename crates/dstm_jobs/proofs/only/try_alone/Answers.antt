@@ -2,12 +2,12 @@ use Rattle.std.proofs.Common.{◌≡◌}
 use Rattle.dstm_model.specs.declared.layout.Layout.{Layout}
 use Rattle.dstm_workload.specs.declared.workload.Job.{Job}
 use Rattle.dstm_jobs.specs.declared.style.Style.{Style}
-use Rattle.dstm_jobs.specs.declared.tables.Caller.{Caller}
-use Rattle.dstm_jobs.specs.declared.tables.Caller.TheVariants.{Dstm, Tl2}
-use Rattle.dstm_jobs.specs.Callers.{law_of, round_of}
+use Rattle.dstm_jobs.specs.Tables.{Caller}
+use Rattle.dstm_tables.specs.declared.tables.Caller.TheVariants.{Dstm, Tl2}
+use Rattle.dstm_tables.specs.Callers.{law_of, round_of}
 use Rattle.dstm_jobs.specs.Jobs.{StoodAt}
 use Rattle.dstm_jobs.specs.OnlyCallers.{StoodAlone}
-use Rattle.dstm_jobs.specs.Tells.{callers_of}
+use Rattle.dstm_tables.specs.Tells.{callers_of}
 use Rattle.dstm_jobs.proofs.OnlyTries as by_tl2
 use Rattle.dstm_jobs.proofs.Sole as by_dstm
 use Rattle.dstm_jobs.proofs.only.try_alone.Goals as goal

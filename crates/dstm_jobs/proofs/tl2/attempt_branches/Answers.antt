@@ -9,11 +9,11 @@ use Rattle.dstm_tl2_engine.specs.Callers.{TlCalled}
 use Rattle.dstm_tl2_engine.specs.Outcomes.{IsLeft}
 use Rattle.dstm_jobs.specs.declared.style.Style.TheVariants.{Branches}
 use Rattle.dstm_jobs.proofs.Branched.{right_for}
-use Rattle.dstm_jobs.specs.declared.tables.Caller.TheVariants.{Tl2}
+use Rattle.dstm_tables.specs.declared.tables.Caller.TheVariants.{Tl2}
 use Rattle.dstm_jobs.specs.Jobs.{DidJob, StoodAt}
 use Rattle.dstm_jobs.specs.Law.{keeps}
-use Rattle.dstm_jobs.specs.Tries.{WasKept}
-use Rattle.dstm_jobs.proofs.ByTl2.{tl2_did, tl2_kept, tl2_spent}
+use Rattle.dstm_jobs.specs.Tables.{WasKept}
+use Rattle.dstm_tables.proofs.ByTl2.{tl2_did, tl2_kept, tl2_spent}
 use Rattle.dstm_jobs.proofs.Doing.{did_branch}
 use Rattle.dstm_jobs.proofs.JobsByTl2.{stood_at}
 use Rattle.dstm_jobs.proofs.tl2.attempt_branches.Goals as goal

@@ -2,10 +2,10 @@ use Rattle.std.proofs.Common.{refl}
 use Rattle.dstm_mem.proofs.InTheEnd.{in_the_end}
 use Rattle.dstm_tl2_engine.proofs.Made.{made, same_name}
 use Rattle.dstm_tl2_engine.specs.Callers.{TlCalled}
-use Rattle.dstm_jobs.specs.declared.tables.Caller.TheVariants.{Tl2}
+use Rattle.dstm_tables.specs.declared.tables.Caller.TheVariants.{Tl2}
 use Rattle.dstm_jobs.specs.OnlyCallers.{HasGivenUp}
 use Rattle.dstm_jobs.specs.Law.{keeps}
-use Rattle.dstm_jobs.proofs.ByTl2.{tl2_more, tl2_spent}
+use Rattle.dstm_tables.proofs.ByTl2.{tl2_more, tl2_spent}
 use Rattle.dstm_jobs.proofs.OnlyTries.{gave_up, stays_lawful}
 use Rattle.dstm_jobs.proofs.tl2.give_up.Goals as goal
 
