@@ -24,11 +24,12 @@ pub use Rattle.dstm_report.specs.Lawful.{AllBlocked, AnswersWhere, IsBefore, IsG
 pub use Rattle.dstm_report.specs.Lawful.{after_rows, first_job, is_named, jobs_left, last_row, store_after, store_left}
 pub use Rattle.dstm_report.specs.declared.report.Row.{Row}
 pub use Rattle.dstm_store.specs.Whole.{StandsFor}
-pub use Rattle.dstm_jobs.specs.Answers.{IsAnsweredBy, entries_of}
-pub use Rattle.dstm_jobs.specs.Tells.{IsOf, IsPast, IsRun, SameOwn, all_done, attempts_of, begun_of, callers_of}
-pub use Rattle.dstm_jobs.specs.Tells.{committed_of, lets_go, start_of, values_of}
-pub use Rattle.dstm_jobs.specs.declared.tables.Round.{Round}
-pub use Rattle.dstm_jobs.specs.declared.tables.Round.TheVariants.{Dstm, Tl2}
+pub use Rattle.dstm_jobs.specs.Answers.{IsAnsweredBy}
+pub use Rattle.dstm_tables.specs.Tells.{entries_of}
+pub use Rattle.dstm_jobs.specs.Tables.{IsOf, IsRun, Round}
+pub use Rattle.dstm_tables.specs.Tells.{IsPast, SameOwn, all_done, attempts_of, begun_of, callers_of}
+pub use Rattle.dstm_tables.specs.Tells.{committed_of, lets_go, start_of, values_of}
+pub use Rattle.dstm_tables.specs.declared.tables.Round.TheVariants.{Dstm, Tl2}
 pub use Rattle.dstm_workload.specs.Workload.{IsJob, IsValidWorkload}
 pub use Rattle.dstm_workload.specs.declared.workload.Job.{Job}
 pub use Rattle.dstm_workload.specs.declared.workload.Workload.{Workload}

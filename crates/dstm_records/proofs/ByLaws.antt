@@ -3,8 +3,8 @@ use Rattle.std.proofs.Common.{ℕ}
 use Rattle.dstm_managers.specs.Choices.{started}
 use Rattle.dstm_progress.proofs.Keeping.{retries_keep}
 use Rattle.dstm_jobs.specs.Law.{keeps}
-use Rattle.dstm_jobs.specs.Tells.{ByCalls}
-use Rattle.dstm_jobs.specs.Tells as known
+use Rattle.dstm_tables.specs.Tells.{ByCalls}
+use Rattle.dstm_jobs.specs.Tables as known
 use Rattle.dstm_records.proofs.Base.{Dstm, Round, Tl2}
 use Rattle.dstm_records.specs.Laws.{EachIsBoundedWhenAlone, EachIsSafeWhenOldest, EachKeepsItsRank, EachKillsAsChosen, EachWasHandedRightly, IsBoundedWhenAlone, IsSafeWhenOldest, KeepsItsRank, KillsAsChosen, WasHandedRightly}
 use Rattle.dstm_records.proofs.AloneAttempts.{bounded_alone}

@@ -7,8 +7,8 @@ use Rattle.std.proofs.lemmas.List.{length-map}
 use Rattle.std.proofs.lemmas.Map.Steps.{length-le_from_distinct_below}
 use Rattle.std.proofs.lemmas.List.Elements.{All-contains, All-from_recursion}
 use Rattle.dstm_store.specs.Opening.{opening_values}
-use Rattle.dstm_jobs.specs.Tells.{ByCalls}
-use Rattle.dstm_jobs.specs.Tells as known
+use Rattle.dstm_tables.specs.Tells.{ByCalls}
+use Rattle.dstm_jobs.specs.Tables as known
 use Rattle.dstm_records.specs.Laws.{EachIsByCalls, OfEachCaller}
 use Rattle.dstm_records.specs.Records.{IsAlone}
 use Rattle.dstm_records.proofs.WorkersLeft.{AreEarlier, earlier_more, earlier_none, some_left}

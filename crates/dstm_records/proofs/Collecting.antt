@@ -6,7 +6,7 @@ use Rattle.std.proofs.lemmas.List.{append-nil}
 use Rattle.dstm_records.proofs.Base.{Agrees, AllBlocked, AnswersWhere, Committed, Entry, GiveUpRightly, IsAnsweredBy, IsBefore, IsGivenUpRightly, IsGoodRow, IsLegal, Job, JobOutcome, Row, RowsAreGood, StandsFor, TellOf, TellsOf, Val, Workload, apply_job, entries_of, first_job, is_given_up, job_of, jobs_left, last_row, store_after, store_left, with_writes}
 use Rattle.dstm_model.specs.Map.{state_after}
 use Rattle.dstm_records.specs.Told.{IsGivenUp}
-use Rattle.dstm_jobs.proofs.Entries.{entries_push}
+use Rattle.dstm_tables.proofs.Entries.{entries_push}
 use Rattle.dstm_records.proofs.Follows.{tells, good_row, store_push, TellOf-push, agrees_next}
 
 -- where the rows of a round stand; `left` are the transactions that no row tells of yet

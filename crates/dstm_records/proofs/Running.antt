@@ -6,8 +6,9 @@ use Rattle.dstm_records.proofs.Base.{AddsRound, AreRoundsOf, Begins, IsClosed, I
 use Rattle.std.proofs.lemmas.List.{append-nil, length-append}
 use Rattle.std.proofs.lemmas.List.Elements.{recursion_from_All}
 use Rattle.dstm_report.proofs.Rising.{jobs_left-none}
-use Rattle.dstm_jobs.proofs.History.{sights_agree}
+use Rattle.dstm_tables.proofs.History.{sights_agree}
 use Rattle.dstm_records.proofs.MoreRounds.{rows_of, rows_of-push, left_after, left_after-push, AreRoundsOf-push}
+use Rattle.dstm_jobs.specs.Law.{keeps}
 
 -- where a run stands before the round of this number; `more` tells whether there is one
 pub record Reached (workload : Workload) (options : Options) (start : List Val) (old new : List Round) (rows : List Row)
@@ -130,6 +131,6 @@ pub each_closed : (workload : Workload) (options : Options) (rows : List Row) (n
     AllByRecursion (IsClosed workload.layout) rounds
 each_closed workload options rows number before values [] are = tt
 each_closed workload options rows number before values (round ∷ rounds) are = (
-  record { run = are.0.run; sights = sights_agree round are.0.run.run },
+  record { run = are.0.run; sights = sights_agree keeps round are.0.run.run },
   each_closed workload options rows (number + 1) (before ++ rows_in number rows) (values_of round) rounds are.1,
 )

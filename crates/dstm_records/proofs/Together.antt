@@ -2,7 +2,7 @@
 use Rattle.std.proofs.Common.{◌≡◌, ◌∙◌, List, [], ◌∷◌, ◌++◌, ℕ, refl, sym, subst, ap, reverse}
 use Rattle.dstm_records.proofs.Base.{Agrees, Committed, Entry, StoodTogether, Val, entries_of}
 use Rattle.dstm_model.specs.Map.{state_after}
-use Rattle.dstm_jobs.proofs.Entries.{entries_reverse}
+use Rattle.dstm_tables.proofs.Entries.{entries_reverse}
 
 -- transactions whose entries are in two parts
 record AreSplit (xs : List Committed) (front : List Entry) : Type 0 where

@@ -8,11 +8,12 @@ use Rattle.dstm_records.proofs.Base.{Agrees, AreBelow, Committed, IsBefore, IsRu
 use Rattle.dstm_model.specs.Map.{state_after}
 use mathlib.Core.List.{reverse-cons}
 use Rattle.dstm_report.proofs.Rising.{find_line, length-without_first, rise_all, turn_ends}
-use Rattle.dstm_jobs.proofs.History.{is_history}
+use Rattle.dstm_tables.proofs.History.{is_history}
 use Rattle.dstm_records.specs.Told.{AreTold, IsTold}
 use Rattle.dstm_records.proofs.Collecting.{Collected, at_start, row_more, row_given_up}
 use Rattle.dstm_records.proofs.Follows.{agrees_next, answers_there}
 use Rattle.dstm_records.proofs.Replies.{not_given_up}
+use Rattle.dstm_jobs.specs.Law.{keeps}
 
 -- the numbers rise, from this one on
 abbrev pub Rise : ℕ → List Committed → Type 0
@@ -154,7 +155,7 @@ pub rows_told : (workload : Workload) (before rows : List Row) (r : Round) (numb
     AreTold workload before rows (committed_of r) → AllByRecursion (λ row. row.round ≡ number) rows →
     Collected workload before rows (start_of r) (committed_of r) []
 rows_told workload before rows r number valid run earlier stands told in_round =
-    let history = is_history r run in
+    let history = is_history keeps r run in
     let none : before ++ [] ≡ before = append-nil before in
     all_told rows number 0 valid (at_start workload before (committed_of r) stands history.legal)
     (subst (λ (b : List Row). AreTold workload b rows (committed_of r)) (sym none) told) in_round

@@ -18,7 +18,7 @@ use Rattle.dstm_tl2.specs.Runs as tl2
 use Rattle.dstm_tl2.specs.State.{look_of}
 use Rattle.dstm_tl2.specs.Words.{Table}
 use Rattle.dstm_tl2.specs.declared.kind.Kind.TheVariants.{LookAgain}
-use Rattle.dstm_jobs.specs.Answers.{entries_of}
+use Rattle.dstm_tables.specs.Tells.{entries_of}
 
 -- these values stood together: in the state after the first some of these transactions
 pub record StoodTogether (start : List Val) (committed : List Committed) (values : List (ℕ × Val)) : Type 0 where

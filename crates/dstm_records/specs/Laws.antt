@@ -13,9 +13,9 @@ use Rattle.dstm_tl2.specs.Sharing.{table_of}
 use Rattle.dstm_workload.specs.Workload.{IsValidWorkload}
 use Rattle.dstm_workload.specs.declared.workload.Workload.{Workload}
 use Rattle.dstm_options.specs.declared.options.Options.{Options}
-use Rattle.dstm_jobs.specs.declared.tables.Round.{Round}
-use Rattle.dstm_jobs.specs.declared.tables.Round.TheVariants.{Dstm, Tl2}
-use Rattle.dstm_jobs.specs.Tells.{ByCalls, callers_of}
+use Rattle.dstm_jobs.specs.Tables.{Round}
+use Rattle.dstm_tables.specs.declared.tables.Round.TheVariants.{Dstm, Tl2}
+use Rattle.dstm_tables.specs.Tells.{ByCalls, callers_of}
 use Rattle.dstm_records.specs.Alone.{IsBoundedAlone, WasAlone}
 use Rattle.dstm_records.specs.Handed.{DstmHanded, Tl2Handed}
 use Rattle.dstm_records.specs.Oldest.{WasOldest}

@@ -21,12 +21,12 @@ use Rattle.dstm_report.specs.declared.report.Report.{Report}
 use Rattle.dstm_report.specs.Lawful.{RowsAreGood, first_job, store_after}
 use Rattle.dstm_options.specs.declared.options.Engine.TheVariants as engine
 use Rattle.dstm_options.specs.declared.options.Options.{Options}
-use Rattle.dstm_jobs.specs.declared.tables.Round.{Round}
-use Rattle.dstm_jobs.specs.declared.tables.Round.TheVariants.{Dstm, Tl2}
+use Rattle.dstm_jobs.specs.Tables.{IsOf, Round, layout_of}
+use Rattle.dstm_tables.specs.declared.tables.Round.TheVariants.{Dstm, Tl2}
 use Rattle.dstm_jobs.specs.Answers.{KeepsFew}
 use Rattle.dstm_jobs.specs.Jobs.{HadToStop, NoneWasted}
-use Rattle.dstm_jobs.specs.Tells as known
-use Rattle.dstm_jobs.specs.Tells.{ByCalls, IsOf, IsSpent, begun_of, callers_of, committed_of, layout_of, let_go_by, start_of, values_of}
+use Rattle.dstm_jobs.specs.Tables as known
+use Rattle.dstm_tables.specs.Tells.{ByCalls, IsSpent, begun_of, callers_of, committed_of, let_go_by, start_of, values_of}
 use Rattle.dstm_records.specs.Rounds.{is_parallel, rows_in, left_by, has_job, workers_in, workers_left, most_jobs, attempts_for, locators_for, all_workers}
 
 -- its table has the store's law and objects, and what happened on it is a run of its engine

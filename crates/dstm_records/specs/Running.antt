@@ -9,9 +9,9 @@ use Rattle.dstm_report.specs.Lawful.{RowsAreGood, jobs_left, store_after}
 use Rattle.dstm_report.specs.Turns.{Turning}
 use Rattle.dstm_store.specs.Whole.{StandsFor}
 use Rattle.dstm_options.specs.declared.options.Options.{Options}
-use Rattle.dstm_jobs.specs.declared.tables.Round.{Round}
+use Rattle.dstm_jobs.specs.Tables.{Round}
 use Rattle.dstm_records.specs.Records.{IsRoundOf, IsRun, AreRoundsOf}
-use Rattle.dstm_jobs.specs.Tells.{values_of, SightsAgree}
+use Rattle.dstm_tables.specs.Tells.{values_of, SightsAgree}
 use Rattle.dstm_records.specs.Rounds.{is_parallel}
 
 -- whose turn it is behind these rows

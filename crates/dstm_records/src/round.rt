@@ -12,7 +12,7 @@ pub struct Rounds {
 
 impl Model for Rounds {
     ghost use Rattle.std.specs.Prelude.{List};
-    ghost use Rattle.dstm_jobs.specs.declared.tables.Round.{Round};
+    ghost use Rattle.dstm_jobs.specs.Tables.{Round};
 
     ghost Value = { List Round };
 
