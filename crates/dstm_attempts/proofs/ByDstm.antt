@@ -15,10 +15,11 @@ use Rattle.dstm_engine.proofs.Made.{set_admits, settled}
 use Rattle.dstm_engine.specs.Attempts.{Settles, done}
 use Rattle.dstm_engine.specs.Callers.{Called, handed, held, is_live, shape_of, state, written}
 use Rattle.dstm_engine.specs.Transactions.{BeginsAnew, Leaves, TxPlace}
+use Rattle.dstm_tables.specs.Callers.{begun}
 use Rattle.dstm_tables.specs.declared.tables.Caller.TheVariants.{Dstm}
 use Rattle.dstm_tables.specs.declared.tables.Table.{Table}
 use Rattle.dstm_tables.specs.declared.tables.Table.TheVariants as table
-use Rattle.dstm_attempts.specs.Attempts.{AddsNothing, Attempt, Began, Finds, IsNotOpened, IsSpent, Keeps, MayBegin, Puts, SetsNothing, begun, seen}
+use Rattle.dstm_attempts.specs.Attempts.{AddsNothing, Attempt, Began, Finds, IsNotOpened, IsSpent, Keeps, MayBegin, Puts, SetsNothing, seen}
 use Rattle.dstm_attempts.specs.Attempts.Began.{ByDstm, ByTl2}
 use Rattle.dstm_attempts.specs.Dstm.{Beginning, TakesEffect, beginning, opening}
 use Rattle.dstm_attempts.specs.declared.error.NotOpened.TheVariants.{Over}

@@ -1,5 +1,5 @@
 -- What a call on an attempt by TL2 leaves of it.
-use Rattle.std.proofs.Common.{◌≡◌, ◌∙◌, ◌∷◌, ◌<◌, ◌+◌, ◌≤◌, ℕ, List, ap, arith, false, length, refl, subst, sym, true}
+use Rattle.std.proofs.Common.{◌≡◌, ◌∙◌, ◌∷◌, ◌<◌, ◌≤◌, ℕ, List, ap, arith, false, length, refl, subst, sym, true}
 use Rattle.std.specs.Prelude.{None, Some, nat_lt, not}
 use Rattle.std.proofs.lemmas.Bool.Decides.{nat_tests}
 use base.Fml.{GName}
@@ -16,10 +16,11 @@ use Rattle.dstm_tl2_engine.specs.Callers.{TlCalled, begun_log, handed, held, obj
 use Rattle.dstm_tl2_engine.specs.Transactions.{BeginsAnew, TxPlace}
 use Rattle.dstm_tl2_engine.proofs.Begun.{begun_count}
 use Rattle.dstm_tl2_engine.proofs.Made.{set_admits, settled}
+use Rattle.dstm_tables.specs.Callers.{begun}
 use Rattle.dstm_tables.specs.declared.tables.Caller.TheVariants.{Tl2}
 use Rattle.dstm_tables.specs.declared.tables.Table.{Table}
 use Rattle.dstm_tables.specs.declared.tables.Table.TheVariants as table
-use Rattle.dstm_attempts.specs.Attempts.{AddsNothing, Attempt, Began, Finds, IsSpent, Keeps, MayBegin, Puts, SetsNothing, begun, seen}
+use Rattle.dstm_attempts.specs.Attempts.{AddsNothing, Attempt, Began, Finds, IsSpent, Keeps, MayBegin, Puts, SetsNothing, seen}
 use Rattle.dstm_attempts.specs.Attempts.Began.{ByDstm, ByTl2}
 use Rattle.dstm_attempts.specs.Tl2.{TakesEffect}
 

@@ -3,12 +3,12 @@ use Rattle.std.proofs.Common.{◌≡◌, ◌≤◌, ◌<◌, ◌∙◌, ℕ, Lis
 use Rattle.std.proofs.lemmas.List.{ext_get_or}
 use Rattle.dstm_model.specs.declared.value.Val.{Val}
 use Rattle.dstm_model.specs.Map.{no_value, value_at}
-use Rattle.dstm_tables.specs.Callers.{home_of, law_of}
+use Rattle.dstm_tables.specs.Callers.{begun, home_of, law_of}
+use Rattle.dstm_tables.specs.Tables.{law_there, objects_there}
 use Rattle.dstm_tables.specs.declared.tables.Caller.{Caller}
 use Rattle.dstm_tables.specs.declared.tables.Caller.TheVariants.{Dstm, Tl2}
-use Rattle.dstm_tables.specs.declared.tables.Table.{Table}
 use Rattle.dstm_tables.specs.declared.tables.Table.TheVariants as table
-use Rattle.dstm_attempts.specs.Attempts.{AddsNothing, Attempt, Exchanges, Finds, IsSpent, Keeps, MayBegin, Puts, SetsNothing, attempt, attempts_of, begun, objects_of, seen}
+use Rattle.dstm_attempts.specs.Attempts.{AddsNothing, Attempt, Exchanges, Finds, IsSpent, Keeps, MayBegin, Puts, SetsNothing, attempts_of, objects_of}
 use Rattle.dstm_attempts.proofs.ByDstm as by_dstm
 use Rattle.dstm_attempts.proofs.ByTl2 as by_tl2
 
@@ -30,25 +30,14 @@ module _ {L : Type 0} where
 
   -- ---- its table
 
-  abbrev objects_there : Table L → ℕ
-  objects_there (table.Dstm h) = h.terms.shape.objects
-  objects_there (table.Tl2 h) = length h.terms.start.value.items
-
-  abbrev law_there : Table L → L
-  law_there (table.Dstm h) = h.terms.law.value
-  law_there (table.Tl2 h) = h.terms.law.value
-
-  objects_are : (k : Caller L) → objects_of k ≡ objects_there (home_of k)
-  objects_are (Dstm k) = refl
-  objects_are (Tl2 k) = refl
-
+  -- the law of a caller is its table's
   law_is : (k : Caller L) → law_of k ≡ law_there (home_of k)
   law_is (Dstm k) = refl
   law_is (Tl2 k) = refl
 
   -- callers of one table have the same objects
   pub same_objects : (k n : Caller L) → home_of n ≡ home_of k → objects_of n ≡ objects_of k
-  same_objects k n same = objects_are n ∙ ap objects_there same ∙ sym (objects_are k)
+  same_objects k n same = ap objects_there same
 
   -- and the same law
   pub same_law : (k n : Caller L) → home_of n ≡ home_of k → law_of n ≡ law_of k

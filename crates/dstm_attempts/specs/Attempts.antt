@@ -14,6 +14,8 @@ use Rattle.dstm_tl2_engine.specs.Attempts as tl2
 use Rattle.dstm_tl2_engine.specs.Callers as tl2_callers
 use Rattle.dstm_tl2_engine.specs.Transactions as tl2_calls
 use Rattle.dstm_tables.specs.Callers.{done, home_of, law_of, number_of}
+pub use Rattle.dstm_tables.specs.Callers.{begun}
+use Rattle.dstm_tables.specs.Tables.{attempts_there, objects_there}
 use Rattle.dstm_tables.specs.declared.tables.Caller.{Caller}
 use Rattle.dstm_tables.specs.declared.tables.Caller.TheVariants.{Dstm, Tl2}
 use Rattle.dstm_tables.specs.declared.tables.Table.{Table}
@@ -43,19 +45,12 @@ module _ {L : Type 0} where
   abbrev pub attempt : Caller L → Attempt L
   attempt k = record { home = home_of k; number = number_of k; began = began k; done = done k }
 
-  -- how many objects its table has
+  -- how many objects its table has, and how many attempts it may begin there
   abbrev pub objects_of : Caller L → ℕ
-  objects_of (Dstm k) = (dstm_callers.shape_of k).objects
-  objects_of (Tl2 k) = tl2_callers.objects_of k
+  objects_of k = objects_there (home_of k)
 
-  -- how many attempts it has, and how many of them it has begun
   abbrev pub attempts_of : Caller L → ℕ
-  attempts_of (Dstm k) = (dstm_callers.shape_of k).attempts
-  attempts_of (Tl2 k) = (tl2_callers.table_of_caller k).attempts
-
-  abbrev pub begun : Caller L → ℕ
-  begun (Dstm k) = (dstm_callers.state k).begun
-  begun (Tl2 k) = (tl2_callers.state k).begun
+  attempts_of k = attempts_there (home_of k)
 
   -- under TL2 how many numbers had been drawn as its last attempt began
   abbrev pub clock : Caller L → ℕ

@@ -1,7 +1,7 @@
 ghost use Rattle.std.specs.Prelude.{◌≡◌, ◌<◌, List, true, false, IfErr, IfOk, OnOk};
 ghost use Rattle.dstm_model.specs.declared.value.Val.{Val};
-ghost use Rattle.dstm_tables.specs.Callers.{home_of};
-ghost use Rattle.dstm_attempts.specs.Attempts.{AddsNothing, Begins, Finds, Flags, IsClosed, IsLost, IsNotOpened, IsOpened, IsSpent, Keeps, LeavesLawful, LooksChanged, LooksSame, LooksSpent, MayBegin, Puts, Refuses, TakesEffect, attempts_of, begun, clock, is_under_way, objects_of, renewed};
+ghost use Rattle.dstm_tables.specs.Callers.{begun, home_of};
+ghost use Rattle.dstm_attempts.specs.Attempts.{AddsNothing, Begins, Finds, Flags, IsClosed, IsLost, IsNotOpened, IsOpened, IsSpent, Keeps, LeavesLawful, LooksChanged, LooksSame, LooksSpent, MayBegin, Puts, Refuses, TakesEffect, attempts_of, clock, is_under_way, objects_of, renewed};
 ghost use Rattle.dstm_attempts.specs.declared.error.Look.TheVariants as look;
 
 use crate::error::{Look, NotOpened, Spent};
