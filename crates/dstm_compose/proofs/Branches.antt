@@ -19,7 +19,7 @@ use Rattle.dstm_model.specs.Store.{Store, apply, yes_or_no, is_member}
 use Rattle.dstm_model.specs.Job.{is_open, holds_in}
 use Rattle.dstm_mem.specs.Operates.{IsLook}
 use Rattle.dstm_store.specs.Concerns.{Concerns}
-use Rattle.dstm_compose.specs.Compose.{condition_of, look_of, shows, IsAwaited}
+use Rattle.dstm_compose.specs.Compose.{condition_of, look_of, shows, up_to_open, IsAwaited}
 
 shows-yes : (which : Which) (key : ℕ) (b : Bool) → shows (cond.Key which key) (yes_or_no b) ≡ b
 shows-yes which key true = refl
@@ -98,12 +98,29 @@ later_among all ops None among is = tt
 later_among all ops (Some a) among is =
     λ x has. among x (Contains-dropped is.0 ops x (subst (λ (l : List Op). Contains l x) is.1 has))
 
--- ---- a branch that is found
-
--- it is among the job's branches
 Contains-later : {X : Type 0} (y : X) (ys : List X) (x : X) → Contains ys x → Contains (y ∷ ys) x
 Contains-later y ys x has = Contains-append_right (y ∷ []) ys x has
 
+-- ---- the branches up to the open one
+
+-- the first that is left is one of them,
+pub first-tried : (store : Store) (left : List (List Op)) (branch : List Op) (rest : List (List Op)) →
+    left ≡ branch ∷ rest → Contains (up_to_open store left) branch
+first-tried store left branch rest split =
+    subst (λ (l : List (List Op)). Contains (up_to_open store l) branch) (sym split) (0, omega arith, refl)
+
+-- and where it is closed each that is one of those behind it
+pub later-tried : (store : Store) (left : List (List Op)) (branch : List Op) (rest : List (List Op)) →
+    left ≡ branch ∷ rest → is_open store branch ≡ false → (b : List Op) → Contains (up_to_open store rest) b →
+    Contains (up_to_open store left) b
+later-tried store left branch rest split closed b has =
+    let behind = cond-false (is_open store branch) [] (up_to_open store rest) closed in
+    subst (λ (l : List (List Op)). Contains (up_to_open store l) b) (sym split)
+    (Contains-later branch _ b (subst (λ (l : List (List Op)). Contains l b) (sym behind) has))
+
+-- ---- a branch that is found
+
+-- it is among the job's branches
 pub Contains-found : {X : Type 0} (f : X → Bool) (xs : List X) (x : X) → find f xs ≡ Some x → Contains xs x
 Contains-found f [] x is = absurd (cc is)
 Contains-found f (y ∷ ys) x is =

@@ -1,5 +1,6 @@
 -- What a job with branches does on a map: what the branch that is taken does, or nothing.
-use Rattle.std.specs.Prelude.{◌≡◌, ◌<◌, ℕ, Bool, true, false, nat_le, List, ◌∷◌, All, Contains, Option, Some, None}
+use Rattle.std.specs.Prelude.{◌≡◌, ◌<◌, ℕ, Bool, true, false, nat_le, List, [], ◌∷◌, All, Contains, Option, Some, None}
+use Rattle.std.specs.Prelude.{IsSomeAnd, if◌then◌else◌}
 use Rattle.dstm_model.specs.declared.value.Val.{Val}
 use Rattle.dstm_model.specs.declared.layout.Layout.{Layout}
 use Rattle.dstm_model.specs.declared.op.Cond.{Cond}
@@ -10,7 +11,7 @@ use Rattle.dstm_model.specs.declared.reply.Reply.{Reply}
 use Rattle.dstm_model.specs.declared.reply.Reply.TheVariants.{Number, Yes}
 use Rattle.dstm_model.specs.Layout.{IsValid, FitsLayout}
 use Rattle.dstm_model.specs.Store.{Store}
-use Rattle.dstm_model.specs.Job.{JobOutcome, apply_job, branches_of}
+use Rattle.dstm_model.specs.Job.{JobOutcome, apply_job, branches_of, is_open, open_branch}
 use Rattle.dstm_store.specs.declared.job.JobTask.{JobTask}
 use Rattle.dstm_store.specs.Whole.{StandsFor}
 use Rattle.dstm_store.specs.Concerns.{Concerns}
@@ -56,6 +57,11 @@ pub record Audits (task : JobTask) (outcome : Outcome) (account : ℕ) : Type 0 
   pub totals : All (λ branch. Contains branch Total) (branches_of task.ops)
   pub within : account < task.layout.accounts
 
+-- an account of a job whose open branch in this store asks for the total, which reads every account
+abbrev pub AuditsIn : JobTask → Store → ℕ → Type 0
+AuditsIn task store account =
+    IsSomeAnd (open_branch task.ops store) (λ branch. Contains branch Total) × (account < task.layout.accounts)
+
 -- the condition that a branch begins with
 abbrev pub condition_of : List Op → Option Cond
 condition_of (Await c ∷ ops) = Some c
@@ -69,6 +75,16 @@ look_of (cond.Key which key) = Member which key
 -- a condition among these operations is about object o: this is its account, or any object of its structure
 abbrev pub IsAwaited : Layout → List Op → ℕ → Type 0
 IsAwaited layout ops o = (c : Cond) × Contains ops (Await c) × Concerns layout (look_of c) o
+
+-- of these branches, those up to the first that is open; all, where none is
+abbrev pub up_to_open : Store → List (List Op) → List (List Op)
+up_to_open store [] = []
+up_to_open store (branch ∷ later) = branch ∷ (if is_open store branch then [] else up_to_open store later)
+
+-- one of these branches up to the first that is open awaits object o
+abbrev pub IsAwaitedFirst : Layout → Store → List (List Op) → ℕ → Type 0
+IsAwaitedFirst layout store branches o =
+    (branch : List Op) × Contains (up_to_open store branches) branch × IsAwaited layout branch o
 
 -- its reply shows that the condition holds
 abbrev pub shows : Cond → Reply → Bool

@@ -1,12 +1,13 @@
 ghost use Rattle.std.specs.Prelude.{◌≡◌, ℕ, ◌≤◌, List, [], length, All, IsSome, IfOk, IfErr, OnOk};
 ghost use Rattle.dstm_model.specs.declared.value.Val.{Val};
 ghost use Rattle.dstm_model.specs.Layout.{IsValid, FitsLayout};
+ghost use Rattle.dstm_model.specs.Store.{Store};
 ghost use Rattle.dstm_model.specs.Objects.{objects_of};
 ghost use Rattle.dstm_mem.specs.Memory.{with_set};
 ghost use Rattle.dstm_mem.specs.Operates.{IsUntouched};
 ghost use Rattle.dstm_mem.specs.Operations.{IsFresh, IsReady, Leads, OnlyReads};
 ghost use Rattle.dstm_store.specs.Whole.{StandsFor, IsLawful};
-ghost use Rattle.dstm_compose.specs.Compose.{IsRight, Audits, IsAwaited};
+ghost use Rattle.dstm_compose.specs.Compose.{IsRight, Audits, AuditsIn, IsAwaited};
 
 use crate::branch::open_branch;
 use dstm_mem::{Body, Mem};
@@ -87,8 +88,8 @@ impl Body<StoreLaw> for CompBody {
 
     ghost leaves = { λ body held opened. (o : ℕ) → Audits body.task body.outcome o → IsSome (held o) };
 
-    // The clauses of the trait, and that a run which ends blocked has only read, and only what its job's conditions are
-    // about.
+    // The clauses of the trait, that a run which ends blocked has only read, and only what its job's conditions are
+    // about, and that a total of the branch that is taken reads every account.
     fn run<M: Mem>(&mut self, mem: &mut M) -> Result<(), M::Err>
         requires fresh { IsFresh M.Mem mem.old }
         requires lawful { (map : List Val) → M.Admits mem.old map → IsLawful self.old.task.layout map }
@@ -105,6 +106,9 @@ impl Body<StoreLaw> for CompBody {
         ensures looks { OnOk result (self.new.outcome ≡ Outcome.Blocked → OnlyReads M.Mem mem.old mem.new) }
         ensures awaited { OnOk result (self.new.outcome ≡ Outcome.Blocked →
             (o : ℕ) → ¬ (IsAwaited self.new.task.layout self.new.task.ops o) → IsUntouched M.Mem o mem.old mem.new) }
+        ensures totals { OnOk result ((map : List Val) → M.Admits mem.new map → (store : Store) →
+            StandsFor self.new.task.layout map store → (o : ℕ) → AuditsIn self.new.task store o →
+            IsSome (M.held mem.new o)) }
     {
         self.outcome = run_job(mem, &self.task.layout, self.task.ops.as_slice())?;
         Ok(())
@@ -130,6 +134,9 @@ fn run_job<M: Mem>(mem: &mut M, layout: &Layout, ops: &[Op]) -> Result<Outcome, 
         (o : ℕ) → ¬ (IsAwaited layout.now ops.now o) → IsUntouched M.Mem o mem.old mem.new) }
     ensures audits { IfOk result (λ outcome. (o : ℕ) →
         Audits (record { layout = layout.now; ops = ops.now }) outcome o → IsSome (M.held mem.new o)) }
+    ensures totals { OnOk result ((map : List Val) → M.Admits mem.new map → (store : Store) →
+        StandsFor layout.now (with_set map (M.written mem.old)) store → (o : ℕ) →
+        AuditsIn (record { layout = layout.now; ops = ops.now }) store o → IsSome (M.held mem.new o)) }
 
     ensures leads { Leads M.Mem mem.old mem.new result }
 {

@@ -2,14 +2,14 @@ ghost use Rattle.std.specs.Prelude.{◌≡◌, ℕ, ◌≤◌, List, length, All
 ghost use Rattle.dstm_model.specs.declared.value.Val.{Val};
 ghost use Rattle.dstm_model.specs.Layout.{IsValid, FitsLayout, FitsCond};
 ghost use Rattle.dstm_model.specs.Store.{Store};
-ghost use Rattle.dstm_model.specs.Job.{open_branch, is_open, holds_in};
+ghost use Rattle.dstm_model.specs.Job.{open_branch, is_open, holds_in, branches_of};
 ghost use Rattle.dstm_model.specs.Objects.{objects_of};
 ghost use Rattle.dstm_mem.specs.Memory.{with_set};
 ghost use Rattle.dstm_mem.specs.Operations.{IsReady, Leads, OnlyReads};
 ghost use Rattle.dstm_mem.specs.Operates.{IsUntouched};
 ghost use Rattle.dstm_store.specs.Concerns.{Concerns};
 ghost use Rattle.dstm_store.specs.Whole.{StandsFor};
-ghost use Rattle.dstm_compose.specs.Compose.{condition_of, look_of, shows, IsAwaited};
+ghost use Rattle.dstm_compose.specs.Compose.{condition_of, look_of, shows, IsAwaited, IsAwaitedFirst};
 
 use dstm_mem::Mem;
 use dstm_model::{Cond, Layout, Op, Reply, first_branch};
@@ -35,6 +35,9 @@ pub fn open_branch<'a, M: Mem>(
     ensures looks { OnOk result (OnlyReads M.Mem mem.old mem.new) }
     ensures awaited { OnOk result ((o : ℕ) → ¬ (IsAwaited layout.now ops.now o) →
         IsUntouched M.Mem o mem.old mem.new) }
+    ensures first { OnOk result ((map : List Val) → M.Admits mem.new map → (store : Store) →
+        StandsFor layout.now (with_set map (M.written mem.old)) store → (o : ℕ) →
+        ¬ (IsAwaitedFirst layout.now store (branches_of ops.now) o) → IsUntouched M.Mem o mem.old mem.new) }
 
     ensures leads { Leads M.Mem mem.old mem.new result }
 {

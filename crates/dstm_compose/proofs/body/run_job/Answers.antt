@@ -1,5 +1,5 @@
 use Rattle.std.proofs.Common.{List, sym, ◌∙◌, ap, subst, option_copied, Bor}
-use Rattle.std.specs.Prelude.{Ok, Option, Contains}
+use Rattle.std.specs.Prelude.{Ok, Option, Contains, IsSomeAnd}
 use Rattle.std.proofs.lemmas.List.Elements.{All-contains}
 use Rattle.dstm_model.specs.declared.value.Val.{Val}
 use Rattle.dstm_model.specs.declared.op.Op.{Op}
@@ -12,6 +12,10 @@ use Rattle.dstm_store.specs.Job.{DoesAll}
 use Rattle.dstm_compose.proofs.Branches.{Contains-found}
 use Rattle.dstm_compose.proofs.Runs.{right-ran, right-blocked}
 use Rattle.dstm_compose.proofs.body.run_job.Goals as goal
+
+-- the branch that is taken asks for the total
+abbrev AsksTotal : Option (List Op) → Type 0
+AsksTotal taken = IsSomeAnd taken (λ branch. Contains branch Total)
 
 pub run_all-requires-clause-ready : goal.run_all-requires-clause-ready
 run_all-requires-clause-ready g c =
@@ -50,6 +54,21 @@ returns-in_ok-replies-in-Some-clause-audits g c o audits =
       All-contains (λ (b : List Op). Contains b Total) (branches_of ops) branch audits.totals among,
       audits.within,
     )
+
+pub returns-in_ok-replies-in-Some-clause-totals : goal.returns-in_ok-replies-in-Some-clause-totals
+returns-in_ok-replies-in-Some-clause-totals g c map admitted store stands o audits =
+    let found = c.in_ok-branch.ensures in
+    let ran = c.in_ok-replies-in-Some.ensures in
+    let taken = sym (found.found map (ran.leads.narrows map admitted) store stands)
+    ∙ ap (λ (b : Option (Bor (List Op))). option_copied b) c.in-Some.is in
+    ran.audits o (subst AsksTotal taken audits.0, audits.1)
+
+pub returns-in-None-clause-totals : goal.returns-in-None-clause-totals
+returns-in-None-clause-totals g c map admitted store stands o audits =
+    let found = c.in_ok-branch.ensures in
+    let none = sym (found.found map admitted store stands)
+    ∙ ap (λ (b : Option (Bor (List Op))). option_copied b) c.in-None.is in
+    absurd (subst AsksTotal none audits.0)
 
 pub returns-in-None-clause-right : goal.returns-in-None-clause-right
 returns-in-None-clause-right g c map admitted =

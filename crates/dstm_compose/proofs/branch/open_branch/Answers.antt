@@ -9,7 +9,8 @@ use Rattle.dstm_mem.proofs.Operations.{leads-answers, leads-then, only_reads-the
 use Rattle.dstm_mem.proofs.Operating.{untouched-then}
 use Rattle.dstm_mem.proofs.WithSet.{with_set-same}
 use Rattle.dstm_store.specs.Whole.{StandsFor}
-use Rattle.dstm_compose.proofs.Branches.{AreOf, found-open, found-later, later_fits, later_short, later_among, awaited_of-branch}
+use Rattle.dstm_compose.proofs.Branches.{AreOf, found-open, found-later, later_fits, later_short, later_among}
+use Rattle.dstm_compose.proofs.Branches.{awaited_of-branch, first-tried, later-tried}
 use Rattle.dstm_compose.proofs.branch.open_branch.Goals as goal
 
 pub is_open-requires-clause-ready : goal.is_open-requires-clause-ready
@@ -55,6 +56,20 @@ loop-rest-preserved g c =
           (told.awaited o (λ awaits. apart
           (awaited_of-branch c.args.layout.now c.args.ops.now c.in-Some.ops.now c.first_branch.result.0.now o
           (subst (AreOf c.args.ops.now) c.in-Some.is so_far.among) ahead.first awaits)));
+      tried = λ map admitted store stands branch has.
+          let same = with_set-same map (M.written c.args.mem.now) (M.written c.loop-rest.mem) so_far.looks.sets in
+          let now = subst (λ (values : List Val). StandsFor c.args.layout.now values store) (sym same) stands in
+          let branches = ap (λ (rest : Option (Bor (List Op))). branches_left (option_copied rest)) c.in-Some.is
+          ∙ ahead.branches in
+          so_far.tried map (told.leads.narrows map admitted) store stands branch
+          (later-tried store _ _ _ branches (sym (told.tells map admitted store now) ∙ c.if-branch.false) branch has);
+      first = λ map admitted store stands o apart.
+          let before = told.leads.narrows map admitted in
+          let branches = ap (λ (rest : Option (Bor (List Op))). branches_left (option_copied rest)) c.in-Some.is
+          ∙ ahead.branches in
+          untouched-then M (so_far.first map before store stands o apart)
+          (told.awaited o (λ awaits. apart
+          (c.first_branch.result.0.now, so_far.tried map before store stands _ (first-tried store _ _ _ branches), awaits)));
       short = later_short (length c.args.ops.now) c.in-Some.ops.now c.first_branch.result.1
           (subst (λ (rest : Option (Bor (List Op))). IfSome rest (λ ops. length ops.now ≤ length c.args.ops.now))
           c.in-Some.is so_far.short) ahead.after;
@@ -74,3 +89,15 @@ returns-then-branch-clause-awaited g c o apart =
     (c.in_ok-is_open.ensures.awaited o (λ awaits. apart
     (awaited_of-branch c.args.layout.now c.args.ops.now c.in-Some.ops.now c.first_branch.result.0.now o
     (subst (AreOf c.args.ops.now) c.in-Some.is so_far.among) c.first_branch.ensures.first awaits)))
+
+pub returns-then-branch-clause-first : goal.returns-then-branch-clause-first
+returns-then-branch-clause-first g c map admitted store stands o apart =
+    let M = g.M.Mem in
+    let so_far = c.loop-rest.invariant in
+    let told = c.in_ok-is_open.ensures in
+    let before = told.leads.narrows map admitted in
+    let branches = ap (λ (rest : Option (Bor (List Op))). branches_left (option_copied rest)) c.in-Some.is
+    ∙ c.first_branch.ensures.branches in
+    untouched-then M (so_far.first map before store stands o apart)
+    (told.awaited o (λ awaits. apart
+    (c.first_branch.result.0.now, so_far.tried map before store stands _ (first-tried store _ _ _ branches), awaits)))
